@@ -1,0 +1,1094 @@
+-- The code of a function has at most one branch for each `If` and no EBREAK,
+-- and each field of its instructions is in the range of its form.
+use Rattle.std.proofs.Common.{◌≡◌, ℕ, zero, suc, ◌+◌, ◌≤◌, Bool, false, true, List, [], ◌∷◌, ◌++◌, Option, None, Some}
+use Rattle.std.proofs.Common.{refl, sym, ◌∙◌, ap, subst, arith, pos, map, cond, ◌*◌, ◌%◌, ◌^◌, ◌<◌, ℤ, negsuc, rules}
+use Rattle.std.proofs.Common.{length, All, ltb-true, leb-true, nat_lt}
+use Rattle.std.specs.Prelude.{not, if◌then◌else◌, ◌&&◌, int_le, neg_ℤ, ◌≤ℤ◌, nat_le, slice_get}
+use Rattle.std.specs.List.{count_by, list_all}
+use Rattle.std.proofs.lemmas.Bool.{and_from}
+use Rattle.std.proofs.lemmas.List.Folds.{list_all-append, list_all-map}
+use Rattle.std.proofs.lemmas.List.Sums.{sum_by-append}
+use Rattle.std.proofs.lemmas.Int.{ints}
+use Rattle.std.proofs.lemmas.List.Elements.{All-nil, All-cons}
+use Rattle.rv_code.specs.declared.instr.Instr.{Instr}
+use Rattle.rv_code.specs.declared.instr.Instr.TheVariants.{Branch, Ebreak, Store, Load, OpImm}
+use Rattle.rv_code.specs.declared.instr.BranchOp.TheVariants.{Bne}
+use Rattle.rv_code.specs.declared.instr.StoreOp.TheVariants.{Sw}
+use Rattle.rv_code.specs.declared.instr.LoadOp.TheVariants.{Lw}
+use Rattle.rv_code.specs.declared.instr.OpImmOp.TheVariants.{Addi}
+use Rattle.rv_code.specs.Prelude.{IsReg, IsImmediate, IsUpper, IsJumpOffset, IsBranchOffset, IsInstr}
+use Rattle.rv_code.proofs.Numbers.{IsImmediate-signed}
+use Rattle.sc_word.specs.Prelude.{sub_word, signed_of}
+use Rattle.sc_base.proofs.Bools.{and_first, and_rest}
+use Rattle.sc_base.specs.declared.op.BinaryOp.{BinaryOp}
+use Rattle.sc_base.specs.declared.op.BinaryOp.TheVariants as op
+use Rattle.sc_base.specs.declared.op.UnaryOp.{UnaryOp}
+use Rattle.sc_base.specs.declared.op.UnaryOp.TheVariants as unary
+use Rattle.sc_core.proofs.Induction.{Each, everywhere}
+use Rattle.sc_core.specs.Prelude.{total, most_params}
+use Rattle.sc_event.specs.declared.row.Entry.{Entry}
+use Rattle.sc_event.specs.declared.row.Entry.TheVariants.{Main, Export}
+use Rattle.sc_tac.specs.declared.frame.FrameTree.{FrameTree}
+use Rattle.sc_tac.specs.declared.function.TacFnTree.{TacFnTree}
+use Rattle.sc_tac.specs.declared.place.Place.{Place}
+use Rattle.sc_tac.specs.declared.place.Place.TheVariants.{Register, Slot}
+use Rattle.sc_tac.specs.declared.stmt.TacOp.{TacOp}
+use Rattle.sc_tac.specs.declared.stmt.TacOp.TheVariants as tacop
+use Rattle.sc_tac.specs.declared.stmt.TacStmt.{TacStmt, TacStmt-F, map-TacStmt, fold-roll-TacStmt, fold-TacStmt}
+unfoldable use Rattle.sc_tac.specs.declared.stmt.TacStmt.{roll-TacStmt}
+use Rattle.sc_tac.specs.declared.stmt.TacStmt.TheOpen as tac
+use Rattle.sc_tac.specs.Branches.{branch_step, branches, stmt_branches}
+use Rattle.sc_tac.proofs.Induction.{Inside, stmt_induction}
+use Rattle.sc_tac.specs.Functions.{passes_few}
+use Rattle.sc_tac.specs.Parts.{all_hold, with_parts}
+use Rattle.sc_tac.specs.Places.{ArePlaces, is_place, register_count}
+use Rattle.sc_select.specs.Lines.{Line, plain, plainly}
+use Rattle.sc_select.specs.Operators.{unary_code, binary_code, op_code, bytes_of}
+use Rattle.sc_select.specs.Pieces.{first_scratch, second_scratch, address_scratch, register_of, is_short, loading}
+use Rattle.sc_select.specs.Pieces.{moved_by, load_word, store_word, frame_taken, frame_left, ra, sp, a0, a7, upper_part}
+use Rattle.sc_select.specs.Pieces.{lower_part}
+use Rattle.sc_select.specs.Selection.{Piece, straight, followed, in_order, jump_over, jump_back, round_begins, taken}
+use Rattle.sc_select.specs.Selection.{kept, brought, put, copied, slot_offset, object_offset, place_of, take, at_hand}
+use Rattle.sc_select.specs.Selection.{operand, result_register, keep, take_second, second_operand, operation, load_from}
+use Rattle.sc_select.specs.Selection.{store_to, place_of_global, pass, receive, call_own, call_cross, return, choice}
+use Rattle.sc_select.specs.Selection.{fork, cycle, environment_call, word_of_constant, select_step, select, select_all}
+use Rattle.sc_select.specs.Selection.{store_arguments, entrance, closing, function_lines, code_of}
+use Rattle.sc_select.specs.Bounds.{Fits, most_lines}
+use Rattle.sc_relation.proofs.Registers.{register_there}
+use Rattle.sc_emit.specs.Shapes.{is_branch, is_ebreak, code_branches, has_no_ebreak}
+
+-- TESTS
+pub all_append : {X : Type 0} (test : X → Bool) (xs ys : List X) → list_all test xs ≡ true → list_all test ys ≡ true →
+    list_all test (xs ++ ys) ≡ true
+all_append test xs ys hx hy = list_all-append test xs ys ∙ and_from (list_all test xs) (list_all test ys) hx hy
+
+pub all_weaker : {X : Type 0} (strong weak : X → Bool) → ((x : X) → strong x ≡ true → weak x ≡ true) → (xs : List X) →
+    list_all strong xs ≡ true → list_all weak xs ≡ true
+all_weaker strong weak h [] hx = refl
+all_weaker strong weak h (x ∷ xs) hx =
+    and_from (weak x) (list_all weak xs) (h x (and_first (strong x) (list_all strong xs) hx))
+    (all_weaker strong weak h xs (and_rest (strong x) (list_all strong xs) hx))
+
+-- PIECES
+-- neither a branch nor EBREAK
+abbrev is_straight : Instr → Bool
+is_straight (Branch o rs1 rs2 imm) = false
+is_straight Ebreak = false
+is_straight _ = true
+
+abbrev Straight : List Instr → Type 0
+Straight instrs = list_all {X = Instr} is_straight instrs ≡ true
+
+both : (xs ys : List Instr) → Straight xs → Straight ys → Straight (xs ++ ys)
+both xs ys hx hy = all_append is_straight xs ys hx hy
+
+either : (b : Bool) (xs ys : List Instr) → Straight xs → Straight ys → Straight (if b then xs else ys)
+either true xs ys hx hy = hx
+either false xs ys hx hy = hy
+
+loading_straight : (rd word : ℕ) → Straight (loading rd word)
+loading_straight rd word = either (is_short word) _ _ refl refl
+
+moved_straight : (rd rs bytes : ℕ) → Straight (moved_by rd rs bytes)
+moved_straight rd rs bytes =
+    either (is_short bytes) _ _ refl
+    (both (loading address_scratch bytes) _ (loading_straight address_scratch bytes) refl)
+
+load_straight : (rd offset : ℕ) → Straight (load_word rd offset)
+load_straight rd offset = either (is_short offset) _ _ refl refl
+
+store_straight : (rs offset : ℕ) → Straight (store_word rs offset)
+store_straight rs offset = either (is_short offset) _ _ refl refl
+
+taken_frame_straight : (bytes : ℕ) → Straight (frame_taken bytes)
+taken_frame_straight bytes =
+    let size = sub_word 0 bytes in
+    both (moved_by sp sp size) (Store Sw sp ra (pos 0) ∷ []) (moved_straight sp sp size) refl
+
+left_frame_straight : (bytes : ℕ) → Straight (frame_left bytes)
+left_frame_straight bytes = both (moved_by sp sp bytes) _ (moved_straight sp sp bytes) refl
+
+-- OPERATORS
+unary_straight : (rd rs : ℕ) (o : UnaryOp) → Straight (unary_code rd rs o)
+unary_straight rd rs unary.Minus = refl
+unary_straight rd rs unary.Plus = refl
+unary_straight rd rs unary.Not = refl
+unary_straight rd rs unary.BitNot = refl
+
+binary_straight : (rd left right : ℕ) (unsigned : Bool) (o : BinaryOp) →
+    Straight (binary_code rd left right unsigned o)
+binary_straight rd left right unsigned op.OrElse = refl
+binary_straight rd left right unsigned op.AndAlso = refl
+binary_straight rd left right unsigned op.BitOr = refl
+binary_straight rd left right unsigned op.BitXor = refl
+binary_straight rd left right unsigned op.BitAnd = refl
+binary_straight rd left right unsigned op.Equal = refl
+binary_straight rd left right unsigned op.NotEqual = refl
+binary_straight rd left right unsigned op.Less = refl
+binary_straight rd left right unsigned op.Greater = refl
+binary_straight rd left right unsigned op.LessEqual = refl
+binary_straight rd left right unsigned op.GreaterEqual = refl
+binary_straight rd left right unsigned op.ShiftLeft = refl
+binary_straight rd left right unsigned op.ShiftRight = refl
+binary_straight rd left right unsigned op.Add = refl
+binary_straight rd left right unsigned op.Sub = refl
+binary_straight rd left right unsigned op.Mul = refl
+binary_straight rd left right unsigned op.Div = refl
+binary_straight rd left right unsigned op.Rem = refl
+
+op_straight : (rd left right : ℕ) (o : TacOp) → Straight (op_code rd left right o)
+op_straight rd left right (tacop.Unary o scalar) = unary_straight rd left o
+op_straight rd left right (tacop.Binary o scalar) = binary_straight rd left right _ o
+op_straight rd left right tacop.PointerNot = refl
+op_straight rd left right (tacop.PointerMove minus cells index) =
+    both (loading address_scratch (bytes_of cells)) _ (loading_straight address_scratch (bytes_of cells)) refl
+op_straight rd left right (tacop.PointerMember offset) = moved_straight rd left (bytes_of offset)
+op_straight rd left right (tacop.PointerDifference cells) =
+    both (loading address_scratch (bytes_of cells)) _ (loading_straight address_scratch (bytes_of cells)) refl
+op_straight rd left right (tacop.PointerCompare o) = binary_straight rd left right true o
+
+-- PLACES
+module _ (frame : FrameTree) where
+  taken_straight : (scratch : ℕ) (place : Option Place) → Straight (taken frame scratch place)
+  taken_straight scratch (Some (Slot slot)) = load_straight scratch (slot_offset frame slot)
+  taken_straight scratch (Some (Register r)) = refl
+  taken_straight scratch None = refl
+
+  kept_straight : (place : Option Place) → Straight (kept frame place)
+  kept_straight (Some (Slot slot)) = store_straight first_scratch (slot_offset frame slot)
+  kept_straight (Some (Register r)) = refl
+  kept_straight None = refl
+
+  brought_straight : (rd : ℕ) (place : Option Place) → Straight (brought frame rd place)
+  brought_straight rd (Some (Slot slot)) = load_straight rd (slot_offset frame slot)
+  brought_straight rd (Some (Register r)) = refl
+  brought_straight rd None = refl
+
+  put_straight : (rs : ℕ) (place : Option Place) → Straight (put frame rs place)
+  put_straight rs (Some (Slot slot)) = store_straight rs (slot_offset frame slot)
+  put_straight rs (Some (Register r)) = refl
+  put_straight rs None = refl
+
+  copied_straight : (dest from : Option Place) → Straight (copied frame dest from)
+  copied_straight (Some (Register r)) from = brought_straight (register_of r) from
+  copied_straight (Some (Slot slot)) from =
+      both (taken frame first_scratch from) _ (taken_straight first_scratch from)
+      (store_straight (at_hand first_scratch from) (slot_offset frame slot))
+  copied_straight None from = refl
+
+-- LINES
+abbrev is_straight_line : Line → Bool
+is_straight_line line = is_straight line.instr
+
+abbrev StraightLines : List Line → Type 0
+StraightLines lines = list_all {X = Line} is_straight_line lines ≡ true
+
+plainly_straight : (instrs : List Instr) → Straight instrs → StraightLines (plainly instrs)
+plainly_straight instrs h = list_all-map is_straight_line plain instrs ∙ h
+
+both_lines : (xs ys : List Line) → StraightLines xs → StraightLines ys → StraightLines (xs ++ ys)
+both_lines xs ys hx hy = all_append is_straight_line xs ys hx hy
+
+-- STATEMENTS
+module _ (frame : FrameTree) (places : List Place) where
+  take_straight : (scratch t : ℕ) → Straight (take frame places scratch t)
+  take_straight scratch t = taken_straight frame scratch (place_of frame places t)
+
+  keep_straight : (dest : ℕ) → Straight (keep frame places dest)
+  keep_straight dest = kept_straight frame (place_of frame places dest)
+
+  second_straight : (t : Option ℕ) → Straight (take_second frame places t)
+  second_straight None = refl
+  second_straight (Some t) = take_straight second_scratch t
+
+  operation_straight : (dest : ℕ) (o : TacOp) (left : ℕ) (right : Option ℕ) →
+      Straight (operation frame places dest o left right)
+  operation_straight dest o left right =
+      let rd = result_register frame places dest in
+      let a = operand frame places first_scratch left in
+      let b = second_operand frame places right in
+      let front : List Instr = take frame places first_scratch left ++ take_second frame places right in
+      both (front ++ op_code rd a b o) (keep frame places dest)
+      (both front (op_code rd a b o)
+      (both (take frame places first_scratch left) (take_second frame places right) (take_straight first_scratch left)
+      (second_straight right)) (op_straight rd a b o)) (keep_straight dest)
+
+  load_from_straight : (dest place : ℕ) → Straight (load_from frame places dest place)
+  load_from_straight dest place =
+      both (take frame places first_scratch place) _ (take_straight first_scratch place) (keep_straight dest)
+
+  store_to_straight : (place value : ℕ) → Straight (store_to frame places place value)
+  store_to_straight place value =
+      both (take frame places first_scratch place ++ take frame places second_scratch value) _
+      (both (take frame places first_scratch place) (take frame places second_scratch value)
+      (take_straight first_scratch place) (take_straight second_scratch value)) refl
+
+  pass_straight : (rd : ℕ) (args : List ℕ) → Straight (pass frame places rd args)
+  pass_straight rd [] = refl
+  pass_straight rd (t ∷ ts) =
+      both (brought frame rd (place_of frame places t)) _ (brought_straight frame rd (place_of frame places t))
+      (pass_straight (suc rd) ts)
+
+  receive_straight : (dest : Option ℕ) → Straight (receive frame places dest)
+  receive_straight None = refl
+  receive_straight (Some dest) = put_straight frame a0 (place_of frame places dest)
+
+  own_straight : (dest : Option ℕ) (function : ℕ) (args : List ℕ) →
+      StraightLines (call_own frame places dest function args)
+  own_straight dest function args =
+      both_lines (plainly (pass frame places a0 args)) _
+      (plainly_straight (pass frame places a0 args) (pass_straight a0 args))
+      (plainly_straight (receive frame places dest) (receive_straight dest))
+
+  cross_straight : (dest : Option ℕ) (comp index : ℕ) (args : List ℕ) →
+      StraightLines (call_cross frame places dest comp index args)
+  cross_straight dest comp index args =
+      both_lines (plainly (pass frame places a0 args)) _
+      (plainly_straight (pass frame places a0 args) (pass_straight a0 args))
+      (plainly_straight (receive frame places dest) (receive_straight dest))
+
+  return_straight : (value : Option ℕ) → Straight (return frame places value)
+  return_straight None = left_frame_straight frame.bytes
+  return_straight (Some t) =
+      both (brought frame a0 (place_of frame places t)) _ (brought_straight frame a0 (place_of frame places t))
+      (left_frame_straight frame.bytes)
+
+  loaded_straight : (dest word : ℕ) →
+      Straight (loading (result_register frame places dest) word ++ keep frame places dest)
+  loaded_straight dest word =
+      let rd = result_register frame places dest in
+      both (loading rd word) (keep frame places dest) (loading_straight rd word) (keep_straight dest)
+
+  object_straight : (dest object : ℕ) → Straight
+      (moved_by (result_register frame places dest) sp (object_offset frame object) ++ keep frame places dest)
+  object_straight dest object =
+      let rd = result_register frame places dest in
+      let offset = object_offset frame object in
+      both (moved_by rd sp offset) (keep frame places dest) (moved_straight rd sp offset) (keep_straight dest)
+
+  global_straight : (dest global : ℕ) → StraightLines (place_of_global frame places dest global)
+  global_straight dest global = plainly_straight (keep frame places dest) (keep_straight dest)
+
+  output_straight : (value : ℕ) → Straight (brought frame a0 (place_of frame places value) ++ environment_call 2)
+  output_straight value =
+      both (brought frame a0 (place_of frame places value)) _
+      (brought_straight frame a0 (place_of frame places value)) refl
+
+  store_arguments_straight : (params from : ℕ) → Straight (store_arguments frame places params from)
+  store_arguments_straight zero from = refl
+  store_arguments_straight (suc params) from =
+      both (store_word (a0 + from) (object_offset frame from)) _
+      (store_straight (a0 + from) (object_offset frame from)) (store_arguments_straight params (suc from))
+
+  entrance_straight : (params : ℕ) → Straight (entrance frame places params)
+  entrance_straight params =
+      both (frame_taken frame.bytes) _ (taken_frame_straight frame.bytes) (store_arguments_straight params 0)
+
+  closing_straight : (entry : Option Entry) → Straight (closing frame places entry)
+  closing_straight (Some Main) = left_frame_straight frame.bytes
+  closing_straight (Some (Export index)) = left_frame_straight frame.bytes
+  closing_straight None = left_frame_straight frame.bytes
+
+-- COUNTS
+-- 1 for a branch, else 0
+abbrev one_if_branch : Instr → ℕ
+one_if_branch instr = cond (is_branch instr) 1 0
+
+abbrev count : List Line → ℕ
+count [] = 0
+count (line ∷ lines) = one_if_branch line.instr + count lines
+
+count_append : (xs ys : List Line) → count (xs ++ ys) ≡ count xs + count ys
+count_append [] ys = omega arith
+count_append (x ∷ xs) ys = by (one_if_branch x.instr) (count xs) (count ys) _ (count_append xs ys) where
+  by : (a b c d : ℕ) → d ≡ b + c → a + d ≡ a + b + c
+  by a b c d h = omega (arith, h)
+
+is_no_branch : (i : Instr) → is_straight i ≡ true → one_if_branch i ≡ 0
+is_no_branch (Branch o rs1 rs2 imm) h = absurd (cc)
+is_no_branch _ h = refl
+
+straight_count : (lines : List Line) → StraightLines lines → count lines ≡ 0
+straight_count [] h = refl
+straight_count (x ∷ xs) h =
+    by (one_if_branch x.instr) (count xs)
+    (is_no_branch x.instr (and_first (is_straight x.instr) (list_all {X = Line} is_straight_line xs) h))
+    (straight_count xs (and_rest (is_straight x.instr) (list_all {X = Line} is_straight_line xs) h))
+  where
+    by : (a b : ℕ) → a ≡ 0 → b ≡ 0 → a + b ≡ 0
+    by a b h k = omega (arith, h, k)
+
+one_branch : (instrs : List Instr) (rs : ℕ) → Straight instrs →
+    count (plainly (instrs ++ Branch Bne rs 0 (pos 8) ∷ [])) ≤ 1
+one_branch [] rs h = omega arith
+one_branch (i ∷ is) rs h =
+    by (one_if_branch i) _ (is_no_branch i (and_first (is_straight i) (list_all {X = Instr} is_straight is) h))
+    (one_branch is rs (and_rest (is_straight i) (list_all {X = Instr} is_straight is) h))
+  where
+    by : (a b : ℕ) → a ≡ 0 → b ≤ 1 → a + b ≤ 1
+    by a b h k = omega (arith, h, k)
+
+-- as many as the instructions have
+count_is : (lines : List Line) → count_by {X = Instr} is_branch (map (λ line. line.instr) lines) ≡ count lines
+count_is [] = refl
+count_is (x ∷ xs) =
+    let rest : List Instr = map (λ line. line.instr) xs in
+    let first = one_if_branch x.instr in
+    by first (count xs) (count_by {X = Instr} is_branch rest) _ (count_is xs)
+    (sum_by-append one_if_branch (x.instr ∷ []) rest)
+  where
+    by : (a b c d : ℕ) → c ≡ b → d ≡ 0 + a + c → d ≡ a + b
+    by a b c d h k = omega (arith, h, k)
+
+-- PASSING
+-- all lines of a piece pass a test
+pub record PassesAll (test : Line → Bool) (piece : Piece) : Type 0 where
+  pub passes : (to_break to_continue : ℕ) → list_all test (piece.lines to_break to_continue) ≡ true
+
+pub followed_passes : (test : Line → Bool) (e f : Piece) → PassesAll test e → PassesAll test f →
+    PassesAll test (followed e f)
+followed_passes test e f he hf = record {
+  passes = λ b c.
+      all_append test (e.lines (f.size + b) (f.size + c)) (f.lines b c) (he.passes (f.size + b) (f.size + c))
+      (hf.passes b c);
+}
+
+-- a test that instructions pass that refer to nothing and aren't EBREAK
+pub record IsMild (test : Line → Bool) : Type 0 where
+  pub mild : (instr : Instr) → is_ebreak instr ≡ false → test (plain instr) ≡ true
+
+module _ (test : Line → Bool) (mild : IsMild test) (frame : FrameTree) (places : List Place) where
+  straight_mild : (instr : Instr) → is_straight instr ≡ true → test (plain instr) ≡ true
+  straight_mild instr h = mild.mild instr (by instr h) where
+    by : (i : Instr) → is_straight i ≡ true → is_ebreak i ≡ false
+    by Ebreak h = absurd (cc)
+    by _ h = refl
+
+  pub plainly_passes : (instrs : List Instr) → Straight instrs → list_all test (plainly instrs) ≡ true
+  plainly_passes instrs h =
+      list_all-map test plain instrs ∙ all_weaker is_straight (λ i. test (plain i)) straight_mild instrs h
+
+  choice_passes : (cond : ℕ) → list_all test (plainly (choice frame places cond)) ≡ true
+  choice_passes cond =
+      let instrs : List Instr = take frame places first_scratch cond in
+      let branch : Instr = Branch Bne (operand frame places first_scratch cond) 0 (pos 8) in
+      list_all-map test plain (instrs ++ branch ∷ []) ∙
+      all_append (λ i. test (plain i)) instrs (branch ∷ [])
+      (all_weaker is_straight (λ i. test (plain i)) straight_mild instrs
+      (take_straight frame places first_scratch cond))
+      (and_from (test (plain branch)) true (mild.mild branch refl) refl)
+
+  pub fork_passes : (cond : ℕ) (e f : Piece) → PassesAll test e → PassesAll test f →
+      PassesAll test (fork frame places cond e f)
+  fork_passes cond e f he hf = record {
+    passes = λ b c.
+        let first : List Line = e.lines (suc (f.size + b)) (suc (f.size + c)) in
+        let second : List Line = jump_over f.size ∷ f.lines b c in
+        all_append test (plainly (choice frame places cond)) (jump_over (suc e.size) ∷ (first ++ second))
+        (choice_passes cond)
+        (and_from (test (jump_over (suc e.size))) (list_all test (first ++ second)) (mild.mild _ refl)
+        (all_append test first second (he.passes (suc (f.size + b)) (suc (f.size + c)))
+        (and_from (test (jump_over f.size)) (list_all test (f.lines b c)) (mild.mild _ refl) (hf.passes b c))));
+  }
+
+  pub cycle_passes : (h b n : Piece) → PassesAll test h → PassesAll test b → PassesAll test n →
+      PassesAll test (cycle frame places h b n)
+  cycle_passes h b n hh hb hn = record {
+    passes = λ to_break to_continue.
+        let back : List Line = jump_back (suc (h.size + (b.size + n.size))) ∷ [] in
+        let last : List Line = n.lines 1 0 ++ back in
+        let middle : List Line = b.lines (suc n.size) 0 ++ last in
+        let head : List Line = h.lines (b.size + suc n.size) 0 in
+        and_from (test round_begins) (list_all test (head ++ middle)) (mild.mild _ refl)
+        (all_append test head middle (hh.passes (b.size + suc n.size) 0)
+        (all_append test (b.lines (suc n.size) 0) last (hb.passes (suc n.size) 0)
+        (all_append test (n.lines 1 0) back (hn.passes 1 0)
+        (and_from (test (jump_back (suc (h.size + (b.size + n.size))))) true (mild.mild _ refl) refl))));
+  }
+
+-- BRANCHES AND EBREAKS
+abbrev is_no_ebreak : Line → Bool
+is_no_ebreak line = not (is_ebreak line.instr)
+
+-- at most so many branches, and no EBREAK
+record IsShaped (most : ℕ) (piece : Piece) : Type 0 where
+  few : (to_break to_continue : ℕ) → count (piece.lines to_break to_continue) ≤ most
+  no_ebreak : PassesAll is_no_ebreak piece
+
+no_ebreak_mild : IsMild is_no_ebreak
+no_ebreak_mild = record { mild = λ instr h. ap not h }
+
+no_ebreak_here : (line : Line) → is_straight_line line ≡ true → is_no_ebreak line ≡ true
+no_ebreak_here line h = by line.instr h where
+  by : (i : Instr) → is_straight i ≡ true → not (is_ebreak i) ≡ true
+  by Ebreak h = absurd (cc)
+  by _ h = refl
+
+straight_shaped : (lines : List Line) → StraightLines lines → IsShaped 0 (straight lines)
+straight_shaped lines h = record {
+  few = λ b c. omega (arith, straight_count lines h);
+  no_ebreak = record { passes = λ b c. all_weaker is_straight_line is_no_ebreak no_ebreak_here lines h };
+}
+
+followed_shaped : (n m : ℕ) (e f : Piece) → IsShaped n e → IsShaped m f → IsShaped (n + m) (followed e f)
+followed_shaped n m e f he hf = record {
+  few = λ b c.
+      omega (
+        arith,
+        count_append (e.lines (f.size + b) (f.size + c)) (f.lines b c),
+        he.few (f.size + b) (f.size + c),
+        hf.few b c,
+      );
+  no_ebreak = followed_passes is_no_ebreak e f he.no_ebreak hf.no_ebreak;
+}
+
+module _ (frame : FrameTree) (places : List Place) where
+  fork_shaped : (cond n m : ℕ) (e f : Piece) → IsShaped n e → IsShaped m f →
+      IsShaped (suc (n + m)) (fork frame places cond e f)
+  fork_shaped cond n m e f he hf = record {
+    few = λ b c.
+        let first : List Line = e.lines (suc (f.size + b)) (suc (f.size + c)) in
+        let second : List Line = jump_over f.size ∷ f.lines b c in
+        omega (
+          arith,
+          count_append (plainly (choice frame places cond)) (jump_over (suc e.size) ∷ (first ++ second)),
+          one_branch (take frame places first_scratch cond) (operand frame places first_scratch cond)
+              (take_straight frame places first_scratch cond),
+          count_append first second,
+          he.few (suc (f.size + b)) (suc (f.size + c)),
+          hf.few b c,
+        );
+    no_ebreak = fork_passes is_no_ebreak no_ebreak_mild frame places cond e f he.no_ebreak hf.no_ebreak;
+  }
+
+  cycle_shaped : (k n m : ℕ) (h b e : Piece) → IsShaped k h → IsShaped n b → IsShaped m e →
+      IsShaped (k + (n + (m + 0))) (cycle frame places h b e)
+  cycle_shaped k n m h b e hh hb he = record {
+    few = λ to_break to_continue.
+        let back : List Line = jump_back (suc (h.size + (b.size + e.size))) ∷ [] in
+        let last : List Line = e.lines 1 0 ++ back in
+        let middle : List Line = b.lines (suc e.size) 0 ++ last in
+        omega (
+          arith,
+          count_append (h.lines (b.size + suc e.size) 0) middle,
+          count_append (b.lines (suc e.size) 0) last,
+          count_append (e.lines 1 0) back,
+          hh.few (b.size + suc e.size) 0,
+          hb.few (suc e.size) 0,
+          he.few 1 0,
+        );
+    no_ebreak =
+        cycle_passes is_no_ebreak no_ebreak_mild frame places h b e hh.no_ebreak hb.no_ebreak he.no_ebreak;
+  }
+
+  abbrev Shaped : TacStmt → Type 0
+  Shaped stmt = IsShaped (stmt_branches stmt) (select frame places stmt)
+
+  row_shaped : (stmts : List TacStmt) → Each Shaped stmts →
+      IsShaped (total (map stmt_branches stmts)) (in_order (map (select frame places) stmts))
+  row_shaped [] h = straight_shaped [] refl
+  row_shaped (stmt ∷ rest) h =
+      followed_shaped (stmt_branches stmt) (total (map stmt_branches rest)) (select frame places stmt)
+      (in_order (map (select frame places) rest)) h.0 (row_shaped rest h.1)
+
+  -- those without statements inside
+  plainly_shaped : (instrs : List Instr) → Straight instrs → IsShaped 0 (straight (plainly instrs))
+  plainly_shaped instrs h = straight_shaped (plainly instrs) (plainly_straight instrs h)
+
+  layer_shaped : (layer : TacStmt-F TacStmt) → Inside Shaped layer →
+      IsShaped (branch_step (map-TacStmt _ _ stmt_branches layer))
+      (select_step frame places (map-TacStmt _ _ (select frame places) layer))
+  layer_shaped (tac.Const dest value) h = plainly_shaped _ (loaded_straight frame places dest (word_of_constant value))
+  layer_shaped (tac.Copy dest from) h =
+      plainly_shaped _ (copied_straight frame (place_of frame places dest) (place_of frame places from))
+  layer_shaped (tac.Op dest o left right) h = plainly_shaped _ (operation_straight frame places dest o left right)
+  layer_shaped (tac.ObjectPlace dest object) h = plainly_shaped _ (object_straight frame places dest object)
+  layer_shaped (tac.GlobalPlace dest global) h =
+      straight_shaped (place_of_global frame places dest global) (global_straight frame places dest global)
+  layer_shaped (tac.Load dest place pointer) h = plainly_shaped _ (load_from_straight frame places dest place)
+  layer_shaped (tac.Store place value) h = plainly_shaped _ (store_to_straight frame places place value)
+  layer_shaped (tac.If cond first second) h =
+      fork_shaped cond _ _ _ _ (row_shaped first h.0) (row_shaped second h.1)
+  layer_shaped (tac.Loop head body next) h =
+      cycle_shaped _ _ _ _ _ _ (row_shaped head h.0) (row_shaped body h.1) (row_shaped next h.2)
+  layer_shaped tac.Break h = record { few = λ b c. omega arith; no_ebreak = record { passes = λ b c. refl } }
+  layer_shaped tac.Continue h = record { few = λ b c. omega arith; no_ebreak = record { passes = λ b c. refl } }
+  layer_shaped (tac.CallOwn dest function args) h =
+      straight_shaped (call_own frame places dest function args) (own_straight frame places dest function args)
+  layer_shaped (tac.CallCross dest comp index args) h =
+      straight_shaped (call_cross frame places dest comp index args) (cross_straight frame places dest comp index args)
+  layer_shaped (tac.Input dest) h =
+      plainly_shaped (environment_call 1 ++ receive frame places dest) (receive_straight frame places dest)
+  layer_shaped (tac.Output value) h = plainly_shaped _ (output_straight frame places value)
+  layer_shaped (tac.Return value) h = plainly_shaped _ (return_straight frame places value)
+
+  stmt_shaped : (stmt : TacStmt) → Shaped stmt
+  stmt_shaped = stmt_induction Shaped (λ layer h.
+      subst (λ n. IsShaped n (select frame places (roll-TacStmt layer)))
+      (sym (fold-roll-TacStmt ℕ branch_step layer))
+      (subst (IsShaped (branch_step (map-TacStmt _ _ stmt_branches layer)))
+      (sym (fold-roll-TacStmt Piece (select_step frame places) layer)) (layer_shaped layer h)))
+
+  body_shaped : (stmts : List TacStmt) → IsShaped (branches stmts) (select_all frame places stmts)
+  body_shaped stmts = row_shaped stmts (everywhere Shaped stmt_shaped stmts)
+
+  -- the lines of a function
+  pub function_passes : (test : Line → Bool) → IsMild test → (f : TacFnTree) →
+      PassesAll test (select_all frame places f.body) → list_all test (function_lines frame places f) ≡ true
+  function_passes test mild f h =
+      let front : List Line = plainly (entrance frame places f.params) in
+      let body : List Line = (select_all frame places f.body).lines 0 0 in
+      all_append test (front ++ body) (plainly (closing frame places f.entry))
+      (all_append test front body
+      (plainly_passes test mild frame places (entrance frame places f.params) (entrance_straight frame places f.params))
+      (h.passes 0 0))
+      (plainly_passes test mild frame places (closing frame places f.entry) (closing_straight frame places f.entry))
+
+  function_count : (f : TacFnTree) → count (function_lines frame places f) ≤ branches f.body
+  function_count f =
+      let entered : List Instr = entrance frame places f.params in
+      let left : List Instr = closing frame places f.entry in
+      let front : List Line = plainly entered in
+      let body : List Line = (select_all frame places f.body).lines 0 0 in
+      let back : List Line = plainly left in
+      omega (
+        arith,
+        count_append (front ++ body) back,
+        count_append front body,
+        straight_count front (plainly_straight entered (entrance_straight frame places f.params)),
+        straight_count back (plainly_straight left (closing_straight frame places f.entry)),
+        (body_shaped f.body).few 0 0,
+      )
+
+pub few_branches : (f : TacFnTree) (places : List Place) (frame : FrameTree) →
+    code_branches (code_of f places frame) ≤ branches f.body
+few_branches f places frame =
+    omega (arith, count_is (function_lines frame places f), function_count frame places f)
+
+pub no_ebreak : (f : TacFnTree) (places : List Place) (frame : FrameTree) →
+    has_no_ebreak (code_of f places frame) ≡ true
+no_ebreak f places frame =
+    list_all-map (λ i. not (is_ebreak i)) (λ line. line.instr) (function_lines frame places f) ∙
+    function_passes frame places is_no_ebreak no_ebreak_mild f (body_shaped frame places f.body).no_ebreak
+
+-- FIELDS
+-- each field is in the range of its form
+abbrev AreInstrs : List Instr → Type 0
+AreInstrs instrs = Each IsInstr instrs
+
+both_instrs : (xs ys : List Instr) → AreInstrs xs → AreInstrs ys → AreInstrs (xs ++ ys)
+both_instrs [] ys hx hy = hy
+both_instrs (x ∷ xs) ys hx hy = (hx.0, both_instrs xs ys hx.1 hy)
+
+if_instrs : (b : Bool) (xs ys : List Instr) → (b ≡ true → AreInstrs xs) → AreInstrs ys →
+    AreInstrs (if b then xs else ys)
+if_instrs true xs ys hx hy = hx refl
+if_instrs false xs ys hx hy = hy
+
+x0_there : IsReg 0
+x0_there = omega arith
+
+ra_there : IsReg ra
+ra_there = omega arith
+
+sp_there : IsReg sp
+sp_there = omega arith
+
+first_there : IsReg first_scratch
+first_there = omega arith
+
+second_there : IsReg second_scratch
+second_there = omega arith
+
+address_there : IsReg address_scratch
+address_there = omega arith
+
+a0_there : IsReg a0
+a0_there = omega arith
+
+a7_there : IsReg a7
+a7_there = omega arith
+
+small_immediate : (n : ℕ) → n ≤ 2047 → IsImmediate (pos n)
+small_immediate n l = record { least = search rules; greatest = omega (arith, ints) }
+
+no_immediate : IsImmediate (pos 0)
+no_immediate = small_immediate 0 (omega arith)
+
+one_immediate : IsImmediate (pos 1)
+one_immediate = small_immediate 1 (omega arith)
+
+minus_one : IsImmediate (negsuc 0)
+minus_one = record { least = omega (arith, ints); greatest = search rules }
+
+int_le_true : (x y : ℤ) → int_le x y ≡ true → x ≤ℤ y
+int_le_true x y h = record { le = rw h tt }
+
+short_immediate : (z : ℤ) → (int_le (negsuc 2047) z && int_le z (pos 2047)) ≡ true → IsImmediate z
+short_immediate z h = record {
+  least = int_le_true (negsuc 2047) z (and_first (int_le (negsuc 2047) z) (int_le z (pos 2047)) h);
+  greatest = int_le_true z (pos 2047) (and_rest (int_le (negsuc 2047) z) (int_le z (pos 2047)) h);
+}
+
+short_fits : (word : ℕ) → is_short word ≡ true → IsImmediate (signed_of word)
+short_fits word h = short_immediate (signed_of word) h
+
+upper_fits : (word : ℕ) → IsUpper (upper_part word)
+upper_fits word = record { word = omega arith; low = omega arith }
+
+lower_fits : (word : ℕ) → IsImmediate (lower_part word)
+lower_fits word = IsImmediate-signed (word % 2 ^ 12) (omega arith)
+
+over_fits : (lines : ℕ) → lines < 262143 → IsJumpOffset (pos (4 * suc lines))
+over_fits lines h = record { least = search rules; greatest = omega (arith, ints); even = omega arith }
+
+back_by : (bytes : ℕ) → bytes ≤ 1048576 → bytes % 2 ≡ 0 → IsJumpOffset (neg_ℤ (pos bytes))
+back_by zero h e = record { least = search rules; greatest = search rules; even = refl }
+back_by (suc bytes) h e = record { least = omega (arith, ints); greatest = search rules; even = omega arith }
+
+back_fits : (lines : ℕ) → lines ≤ 262144 → IsJumpOffset (neg_ℤ (pos (4 * lines)))
+back_fits lines h = back_by (4 * lines) (omega arith) (omega arith)
+
+branch_fits : IsBranchOffset (pos 8)
+branch_fits = record { least = search rules; greatest = omega (arith, ints); even = refl }
+
+no_jump : IsJumpOffset (pos 0)
+no_jump = record { least = search rules; greatest = search rules; even = refl }
+
+no_upper : IsUpper 0
+no_upper = record { word = omega arith; low = refl }
+
+-- pieces
+loading_instrs : (rd word : ℕ) → IsReg rd → AreInstrs (loading rd word)
+loading_instrs rd word h =
+    if_instrs (is_short word) (OpImm Addi rd 0 (signed_of word) ∷ []) _ (λ s. ((h, x0_there, short_fits word s), tt))
+    ((h, upper_fits word), ((h, h, lower_fits word), tt))
+
+moved_instrs : (rd rs bytes : ℕ) → IsReg rd → IsReg rs → AreInstrs (moved_by rd rs bytes)
+moved_instrs rd rs bytes h k =
+    if_instrs (is_short bytes) (OpImm Addi rd rs (signed_of bytes) ∷ []) _ (λ s. ((h, k, short_fits bytes s), tt))
+    (both_instrs (loading address_scratch bytes) _ (loading_instrs address_scratch bytes address_there)
+    ((h, k, address_there), tt))
+
+load_instrs : (rd offset : ℕ) → IsReg rd → AreInstrs (load_word rd offset)
+load_instrs rd offset h =
+    if_instrs (is_short offset) (Load Lw rd sp (signed_of offset) ∷ []) _
+    (λ s. ((h, sp_there, short_fits offset s), tt)) (
+      (address_there, upper_fits offset),
+      (
+        (address_there, address_there, sp_there),
+        ((h, address_there, lower_fits offset), tt),
+      ),
+    )
+
+store_instrs : (rs offset : ℕ) → IsReg rs → AreInstrs (store_word rs offset)
+store_instrs rs offset h =
+    if_instrs (is_short offset) (Store Sw sp rs (signed_of offset) ∷ []) _
+    (λ s. ((sp_there, h, short_fits offset s), tt)) (
+      (address_there, upper_fits offset),
+      (
+        (address_there, address_there, sp_there),
+        ((address_there, h, lower_fits offset), tt),
+      ),
+    )
+
+taken_frame_instrs : (bytes : ℕ) → AreInstrs (frame_taken bytes)
+taken_frame_instrs bytes =
+    let size = sub_word 0 bytes in
+    both_instrs (moved_by sp sp size) (Store Sw sp ra (pos 0) ∷ []) (moved_instrs sp sp size sp_there sp_there)
+    ((sp_there, ra_there, no_immediate), tt)
+
+left_frame_instrs : (bytes : ℕ) → AreInstrs (frame_left bytes)
+left_frame_instrs bytes = (
+  (ra_there, sp_there, no_immediate),
+  both_instrs (moved_by sp sp bytes) _ (moved_instrs sp sp bytes sp_there sp_there)
+      ((x0_there, ra_there, no_immediate), tt),
+)
+
+-- operators
+unary_instrs : (rd rs : ℕ) (o : UnaryOp) → IsReg rd → IsReg rs → AreInstrs (unary_code rd rs o)
+unary_instrs rd rs unary.Minus h k = ((h, x0_there, k), tt)
+unary_instrs rd rs unary.Plus h k = ((h, k, no_immediate), tt)
+unary_instrs rd rs unary.Not h k = ((h, k, one_immediate), tt)
+unary_instrs rd rs unary.BitNot h k = ((h, k, minus_one), tt)
+
+module _ (rd left right : ℕ) (h : IsReg rd) (l : IsReg left) (r : IsReg right) where
+  binary_instrs : (unsigned : Bool) (o : BinaryOp) → AreInstrs (binary_code rd left right unsigned o)
+  binary_instrs unsigned op.OrElse = ((first_there, l, r), ((h, x0_there, first_there), tt))
+  binary_instrs unsigned op.AndAlso =
+      ((first_there, x0_there, l), ((second_there, x0_there, r), ((h, first_there, second_there), tt)))
+  binary_instrs unsigned op.BitOr = ((h, l, r), tt)
+  binary_instrs unsigned op.BitXor = ((h, l, r), tt)
+  binary_instrs unsigned op.BitAnd = ((h, l, r), tt)
+  binary_instrs unsigned op.Equal = ((first_there, l, r), ((h, first_there, one_immediate), tt))
+  binary_instrs unsigned op.NotEqual = ((first_there, l, r), ((h, x0_there, first_there), tt))
+  binary_instrs unsigned op.Less = ((h, l, r), tt)
+  binary_instrs unsigned op.Greater = ((h, r, l), tt)
+  binary_instrs unsigned op.LessEqual = ((first_there, r, l), ((h, first_there, one_immediate), tt))
+  binary_instrs unsigned op.GreaterEqual = ((first_there, l, r), ((h, first_there, one_immediate), tt))
+  binary_instrs unsigned op.ShiftLeft = ((h, l, r), tt)
+  binary_instrs unsigned op.ShiftRight = ((h, l, r), tt)
+  binary_instrs unsigned op.Add = ((h, l, r), tt)
+  binary_instrs unsigned op.Sub = ((h, l, r), tt)
+  binary_instrs unsigned op.Mul = ((h, l, r), tt)
+  binary_instrs unsigned op.Div = ((h, l, r), tt)
+  binary_instrs unsigned op.Rem = ((h, l, r), tt)
+
+  scaled : (cells : ℕ) → AreInstrs (loading address_scratch (bytes_of cells))
+  scaled cells = loading_instrs address_scratch (bytes_of cells) address_there
+
+  op_instrs : (o : TacOp) → AreInstrs (op_code rd left right o)
+  op_instrs (tacop.Unary o scalar) = unary_instrs rd left o h l
+  op_instrs (tacop.Binary o scalar) = binary_instrs _ o
+  op_instrs tacop.PointerNot = ((h, l, one_immediate), tt)
+  op_instrs (tacop.PointerMove minus cells index) =
+      both_instrs (loading address_scratch (bytes_of cells)) _ (scaled cells)
+      ((second_there, r, address_there), ((h, l, second_there), tt))
+  op_instrs (tacop.PointerMember offset) = moved_instrs rd left (bytes_of offset) h l
+  op_instrs (tacop.PointerDifference cells) = (
+    (first_there, l, r),
+    both_instrs (loading address_scratch (bytes_of cells)) _ (scaled cells)
+        ((h, first_there, address_there), tt),
+  )
+  op_instrs (tacop.PointerCompare o) = binary_instrs true o
+
+-- places: a register is one of those for temporaries
+abbrev IsThere : Option Place → Type 0
+IsThere (Some (Register r)) = r < register_count
+IsThere (Some (Slot slot)) = Unit {0}
+IsThere None = Unit {0}
+
+place_there : (temps : ℕ) (places : List Place) (t : ℕ) → list_all (is_place temps) places ≡ true →
+    IsThere (slice_get places t)
+place_there temps [] t h = tt
+place_there temps (Register r ∷ places) zero h =
+    ltb-true r register_count (and_first (nat_lt r register_count) (list_all (is_place temps) places) h)
+place_there temps (Slot slot ∷ places) zero h = tt
+place_there temps (place ∷ places) (suc t) h =
+    place_there temps places t (and_rest (is_place temps place) (list_all (is_place temps) places) h)
+
+at_hand_there : (scratch : ℕ) (place : Option Place) → IsReg scratch → IsThere place → IsReg (at_hand scratch place)
+at_hand_there scratch (Some (Register r)) h there = register_there r there
+at_hand_there scratch (Some (Slot slot)) h there = h
+at_hand_there scratch None h there = h
+
+module _ (frame : FrameTree) where
+  taken_instrs : (scratch : ℕ) (place : Option Place) → IsReg scratch → AreInstrs (taken frame scratch place)
+  taken_instrs scratch (Some (Slot slot)) h = load_instrs scratch (slot_offset frame slot) h
+  taken_instrs scratch (Some (Register r)) h = tt
+  taken_instrs scratch None h = tt
+
+  kept_instrs : (place : Option Place) → AreInstrs (kept frame place)
+  kept_instrs (Some (Slot slot)) = store_instrs first_scratch (slot_offset frame slot) first_there
+  kept_instrs (Some (Register r)) = tt
+  kept_instrs None = tt
+
+  brought_instrs : (rd : ℕ) (place : Option Place) → IsReg rd → IsThere place → AreInstrs (brought frame rd place)
+  brought_instrs rd (Some (Slot slot)) h there = load_instrs rd (slot_offset frame slot) h
+  brought_instrs rd (Some (Register r)) h there = ((h, register_there r there, no_immediate), tt)
+  brought_instrs rd None h there = tt
+
+  put_instrs : (rs : ℕ) (place : Option Place) → IsReg rs → IsThere place → AreInstrs (put frame rs place)
+  put_instrs rs (Some (Slot slot)) h there = store_instrs rs (slot_offset frame slot) h
+  put_instrs rs (Some (Register r)) h there = ((register_there r there, h, no_immediate), tt)
+  put_instrs rs None h there = tt
+
+  copied_instrs : (dest from : Option Place) → IsThere dest → IsThere from → AreInstrs (copied frame dest from)
+  copied_instrs (Some (Register r)) from h there = brought_instrs (register_of r) from (register_there r h) there
+  copied_instrs (Some (Slot slot)) from h there =
+      both_instrs (taken frame first_scratch from) _ (taken_instrs first_scratch from first_there)
+      (store_instrs (at_hand first_scratch from) (slot_offset frame slot)
+      (at_hand_there first_scratch from first_there there))
+  copied_instrs None from h there = tt
+
+-- lines
+abbrev AreInstrLines : List Line → Type 0
+AreInstrLines lines = Each {A = Line} (λ line. IsInstr line.instr) lines
+
+both_instr_lines : (xs ys : List Line) → AreInstrLines xs → AreInstrLines ys → AreInstrLines (xs ++ ys)
+both_instr_lines [] ys hx hy = hy
+both_instr_lines (x ∷ xs) ys hx hy = (hx.0, both_instr_lines xs ys hx.1 hy)
+
+plainly_instrs : (instrs : List Instr) → AreInstrs instrs → AreInstrLines (plainly instrs)
+plainly_instrs [] h = tt
+plainly_instrs (i ∷ is) h = (h.0, plainly_instrs is h.1)
+
+all_instrs : (lines : List Line) → AreInstrLines lines → All IsInstr (map (λ line. line.instr) lines)
+all_instrs [] h = All-nil IsInstr
+all_instrs (x ∷ xs) h = All-cons IsInstr x.instr (map (λ line. line.instr) xs) h.0 (all_instrs xs h.1)
+
+-- where its jumps reach, a piece is made of instructions
+record IsEncodable (piece : Piece) : Type 0 where
+  encodable : (to_break to_continue : ℕ) → piece.size + to_break < most_lines →
+      piece.size + to_continue < most_lines → AreInstrLines (piece.lines to_break to_continue)
+
+straight_encodable : (lines : List Line) → AreInstrLines lines → IsEncodable (straight lines)
+straight_encodable lines h = record { encodable = λ b c hb hc. h }
+
+plainly_encodable : (instrs : List Instr) → AreInstrs instrs → IsEncodable (straight (plainly instrs))
+plainly_encodable instrs h = straight_encodable (plainly instrs) (plainly_instrs instrs h)
+
+followed_encodable : (e f : Piece) → IsEncodable e → IsEncodable f → IsEncodable (followed e f)
+followed_encodable e f he hf = record {
+  encodable = λ b c hb hc.
+      both_instr_lines (e.lines (f.size + b) (f.size + c)) (f.lines b c)
+      (he.encodable (f.size + b) (f.size + c) (omega (arith, hb)) (omega (arith, hc)))
+      (hf.encodable b c (omega (arith, hb)) (omega (arith, hc)));
+}
+
+module _ (frame : FrameTree) (places : List Place) (there : (t : ℕ) → IsThere (slice_get places t)) where
+  operand_there : (scratch t : ℕ) → IsReg scratch → IsReg (operand frame places scratch t)
+  operand_there scratch t h = at_hand_there scratch (slice_get places t) h (there t)
+
+  take_instrs : (scratch t : ℕ) → IsReg scratch → AreInstrs (take frame places scratch t)
+  take_instrs scratch t h = taken_instrs frame scratch (slice_get places t) h
+
+  first_taken : (t : ℕ) → AreInstrs (take frame places first_scratch t)
+  first_taken t = take_instrs first_scratch t first_there
+
+  first_at : (t : ℕ) → IsReg (operand frame places first_scratch t)
+  first_at t = operand_there first_scratch t first_there
+
+  keep_instrs : (dest : ℕ) → AreInstrs (keep frame places dest)
+  keep_instrs dest = kept_instrs frame (slice_get places dest)
+
+  second_taken : (t : Option ℕ) → AreInstrs (take_second frame places t)
+  second_taken None = tt
+  second_taken (Some t) = take_instrs second_scratch t second_there
+
+  second_at : (t : Option ℕ) → IsReg (second_operand frame places t)
+  second_at None = x0_there
+  second_at (Some t) = operand_there second_scratch t second_there
+
+  operation_instrs : (dest : ℕ) (o : TacOp) (left : ℕ) (right : Option ℕ) →
+      AreInstrs (operation frame places dest o left right)
+  operation_instrs dest o left right =
+      let rd = result_register frame places dest in
+      let a = operand frame places first_scratch left in
+      let b = second_operand frame places right in
+      let front : List Instr = take frame places first_scratch left ++ take_second frame places right in
+      both_instrs (front ++ op_code rd a b o) (keep frame places dest)
+      (both_instrs front (op_code rd a b o)
+      (both_instrs (take frame places first_scratch left) (take_second frame places right) (first_taken left)
+      (second_taken right)) (op_instrs rd a b (first_at dest) (first_at left) (second_at right) o))
+      (keep_instrs dest)
+
+  load_from_instrs : (dest place : ℕ) → AreInstrs (load_from frame places dest place)
+  load_from_instrs dest place =
+      both_instrs (take frame places first_scratch place) _ (first_taken place)
+      ((first_at dest, first_at place, no_immediate), keep_instrs dest)
+
+  store_to_instrs : (place value : ℕ) → AreInstrs (store_to frame places place value)
+  store_to_instrs place value =
+      both_instrs (take frame places first_scratch place ++ take frame places second_scratch value) _
+      (both_instrs (take frame places first_scratch place) (take frame places second_scratch value) (first_taken place)
+      (take_instrs second_scratch value second_there))
+      ((first_at place, operand_there second_scratch value second_there, no_immediate), tt)
+
+  loaded_instrs : (dest word : ℕ) →
+      AreInstrs (loading (result_register frame places dest) word ++ keep frame places dest)
+  loaded_instrs dest word =
+      let rd = result_register frame places dest in
+      both_instrs (loading rd word) (keep frame places dest) (loading_instrs rd word (first_at dest)) (keep_instrs dest)
+
+  object_instrs : (dest object : ℕ) → AreInstrs
+      (moved_by (result_register frame places dest) sp (object_offset frame object) ++ keep frame places dest)
+  object_instrs dest object =
+      let rd = result_register frame places dest in
+      let offset = object_offset frame object in
+      both_instrs (moved_by rd sp offset) (keep frame places dest)
+      (moved_instrs rd sp offset (first_at dest) sp_there) (keep_instrs dest)
+
+  pass_instrs : (rd : ℕ) (args : List ℕ) → rd + length args ≤ 32 → AreInstrs (pass frame places rd args)
+  pass_instrs rd [] h = tt
+  pass_instrs rd (t ∷ ts) h =
+      both_instrs (brought frame rd (slice_get places t)) (pass frame places (suc rd) ts)
+      (brought_instrs frame rd (slice_get places t) (omega (arith, h)) (there t))
+      (pass_instrs (suc rd) ts (omega (arith, h)))
+
+  receive_instrs : (dest : Option ℕ) → AreInstrs (receive frame places dest)
+  receive_instrs None = tt
+  receive_instrs (Some dest) = put_instrs frame a0 (slice_get places dest) a0_there (there dest)
+
+  passed_instrs : (args : List ℕ) → nat_le (length args) 8 ≡ true →
+      AreInstrLines (plainly (pass frame places a0 args))
+  passed_instrs args few =
+      let short : length args ≤ 8 = leb-true (length args) 8 few in
+      plainly_instrs (pass frame places a0 args) (pass_instrs a0 args (omega (arith, short)))
+
+  received_instrs : (dest : Option ℕ) → AreInstrLines (plainly (receive frame places dest))
+  received_instrs dest = plainly_instrs (receive frame places dest) (receive_instrs dest)
+
+  own_instrs : (dest : Option ℕ) (function : ℕ) (args : List ℕ) → nat_le (length args) 8 ≡ true →
+      AreInstrLines (call_own frame places dest function args)
+  own_instrs dest function args few =
+      both_instr_lines (plainly (pass frame places a0 args)) _ (passed_instrs args few)
+      ((ra_there, no_jump), received_instrs dest)
+
+  cross_instrs : (dest : Option ℕ) (comp index : ℕ) (args : List ℕ) → nat_le (length args) 8 ≡ true →
+      AreInstrLines (call_cross frame places dest comp index args)
+  cross_instrs dest comp index args few =
+      both_instr_lines (plainly (pass frame places a0 args)) _ (passed_instrs args few)
+      ((first_there, no_upper), ((ra_there, first_there, no_immediate), received_instrs dest))
+
+  global_instrs : (dest global : ℕ) → AreInstrLines (place_of_global frame places dest global)
+  global_instrs dest global = (
+    (first_at dest, no_upper),
+    ((first_at dest, first_at dest, no_immediate), plainly_instrs (keep frame places dest) (keep_instrs dest)),
+  )
+
+  input_instrs : (dest : Option ℕ) → AreInstrs (environment_call 1 ++ receive frame places dest)
+  input_instrs dest = ((a7_there, x0_there, one_immediate), (tt, receive_instrs dest))
+
+  output_instrs : (value : ℕ) → AreInstrs (brought frame a0 (slice_get places value) ++ environment_call 2)
+  output_instrs value =
+      both_instrs (brought frame a0 (slice_get places value)) (environment_call 2)
+      (brought_instrs frame a0 (slice_get places value) a0_there (there value))
+      ((a7_there, x0_there, small_immediate 2 (omega arith)), (tt, tt))
+
+  return_instrs : (value : Option ℕ) → AreInstrs (return frame places value)
+  return_instrs None = left_frame_instrs frame.bytes
+  return_instrs (Some t) =
+      both_instrs (brought frame a0 (slice_get places t)) _
+      (brought_instrs frame a0 (slice_get places t) a0_there (there t)) (left_frame_instrs frame.bytes)
+
+  store_arguments_instrs : (params from : ℕ) → a0 + from + params ≤ 32 →
+      AreInstrs (store_arguments frame places params from)
+  store_arguments_instrs zero from h = tt
+  store_arguments_instrs (suc params) from h =
+      both_instrs (store_word (a0 + from) (object_offset frame from)) _
+      (store_instrs (a0 + from) (object_offset frame from) (omega (arith, h)))
+      (store_arguments_instrs params (suc from) (omega (arith, h)))
+
+  entrance_instrs : (params : ℕ) → params ≤ 8 → AreInstrs (entrance frame places params)
+  entrance_instrs params h =
+      both_instrs (frame_taken frame.bytes) _ (taken_frame_instrs frame.bytes)
+      (store_arguments_instrs params 0 (omega (arith, h)))
+
+  closing_instrs : (entry : Option Entry) → AreInstrs (closing frame places entry)
+  closing_instrs (Some Main) = ((a0_there, x0_there, no_immediate), left_frame_instrs frame.bytes)
+  closing_instrs (Some (Export index)) = left_frame_instrs frame.bytes
+  closing_instrs None = left_frame_instrs frame.bytes
+
+  choice_instrs : (cond : ℕ) → AreInstrLines (plainly (choice frame places cond))
+  choice_instrs cond =
+      plainly_instrs (choice frame places cond) (both_instrs (take frame places first_scratch cond) _
+      (first_taken cond) ((first_at cond, x0_there, branch_fits), tt))
+
+  fork_encodable : (cond : ℕ) (e f : Piece) → IsEncodable e → IsEncodable f →
+      IsEncodable (fork frame places cond e f)
+  fork_encodable cond e f he hf = record {
+    encodable = λ b c hb hc.
+        let first : List Line = e.lines (suc (f.size + b)) (suc (f.size + c)) in
+        let second : List Line = jump_over f.size ∷ f.lines b c in
+        both_instr_lines (plainly (choice frame places cond)) (jump_over (suc e.size) ∷ (first ++ second))
+        (choice_instrs cond) (
+          (x0_there, over_fits (suc e.size) (omega (arith, hb))),
+          both_instr_lines first second
+              (he.encodable (suc (f.size + b)) (suc (f.size + c)) (omega (arith, hb)) (omega (arith, hc))) (
+                (x0_there, over_fits f.size (omega (arith, hb))),
+                hf.encodable b c (omega (arith, hb)) (omega (arith, hc)),
+              ),
+        );
+  }
+
+  cycle_encodable : (h b n : Piece) → IsEncodable h → IsEncodable b → IsEncodable n →
+      IsEncodable (cycle frame places h b n)
+  cycle_encodable h b n eh eb en = record {
+    encodable = λ to_break to_continue hb hc.
+        let back : List Line = jump_back (suc (h.size + (b.size + n.size))) ∷ [] in
+        let last : List Line = n.lines 1 0 ++ back in
+        let middle : List Line = b.lines (suc n.size) 0 ++ last in
+        let head : List Line = h.lines (b.size + suc n.size) 0 in (
+          (x0_there, x0_there, no_immediate),
+          both_instr_lines head middle
+              (eh.encodable (b.size + suc n.size) 0 (omega (arith, hb)) (omega (arith, hb)))
+              (both_instr_lines (b.lines (suc n.size) 0) last
+              (eb.encodable (suc n.size) 0 (omega (arith, hb)) (omega (arith, hb)))
+              (both_instr_lines (n.lines 1 0) back (en.encodable 1 0 (omega (arith, hb)) (omega (arith, hb)))
+              ((x0_there, back_fits (suc (h.size + (b.size + n.size))) (omega (arith, hb))), tt))),
+        );
+  }
+
+  abbrev few_inside : TacStmt → Bool
+  few_inside = fold-TacStmt Bool (with_parts passes_few)
+
+  abbrev Encodable : TacStmt → Type 0
+  Encodable stmt = few_inside stmt ≡ true → IsEncodable (select frame places stmt)
+
+  row_encodable : (stmts : List TacStmt) → Each Encodable stmts → all_hold (map few_inside stmts) ≡ true →
+      IsEncodable (in_order (map (select frame places) stmts))
+  row_encodable [] h all = straight_encodable [] tt
+  row_encodable (stmt ∷ rest) h all =
+      followed_encodable (select frame places stmt) (in_order (map (select frame places) rest))
+      (h.0 (and_first (few_inside stmt) (all_hold (map few_inside rest)) all))
+      (row_encodable rest h.1 (and_rest (few_inside stmt) (all_hold (map few_inside rest)) all))
+
+  layer_encodable : (layer : TacStmt-F TacStmt) → Inside Encodable layer →
+      with_parts passes_few (map-TacStmt _ _ few_inside layer) ≡ true →
+      IsEncodable (select_step frame places (map-TacStmt _ _ (select frame places) layer))
+  layer_encodable (tac.Const dest value) h all = plainly_encodable _ (loaded_instrs dest (word_of_constant value))
+  layer_encodable (tac.Copy dest from) h all =
+      plainly_encodable _
+      (copied_instrs frame (slice_get places dest) (slice_get places from) (there dest) (there from))
+  layer_encodable (tac.Op dest o left right) h all = plainly_encodable _ (operation_instrs dest o left right)
+  layer_encodable (tac.ObjectPlace dest object) h all = plainly_encodable _ (object_instrs dest object)
+  layer_encodable (tac.GlobalPlace dest global) h all =
+      straight_encodable (place_of_global frame places dest global) (global_instrs dest global)
+  layer_encodable (tac.Load dest place pointer) h all = plainly_encodable _ (load_from_instrs dest place)
+  layer_encodable (tac.Store place value) h all = plainly_encodable _ (store_to_instrs place value)
+  layer_encodable (tac.If cond first second) h all =
+      let a = all_hold (map few_inside first) in
+      let b = all_hold (map few_inside second) in
+      fork_encodable cond (select_all frame places first) (select_all frame places second)
+      (row_encodable first h.0 (and_first a (b && true) all))
+      (row_encodable second h.1 (and_first b true (and_rest a (b && true) all)))
+  layer_encodable (tac.Loop head body next) h all =
+      let a = all_hold (map few_inside head) in
+      let b = all_hold (map few_inside body) in
+      let c = all_hold (map few_inside next) in
+      let rest = and_rest a (b && (c && true)) all in
+      cycle_encodable (select_all frame places head) (select_all frame places body) (select_all frame places next)
+      (row_encodable head h.0 (and_first a (b && (c && true)) all))
+      (row_encodable body h.1 (and_first b (c && true) rest))
+      (row_encodable next h.2 (and_first c true (and_rest b (c && true) rest)))
+  layer_encodable tac.Break h all = record {
+    encodable = λ b c hb hc. ((x0_there, over_fits b (omega (arith, hb))), tt);
+  }
+  layer_encodable tac.Continue h all = record {
+    encodable = λ b c hb hc. ((x0_there, over_fits c (omega (arith, hc))), tt);
+  }
+  layer_encodable (tac.CallOwn dest function args) h all =
+      straight_encodable (call_own frame places dest function args)
+      (own_instrs dest function args (and_first (nat_le (length args) 8) true all))
+  layer_encodable (tac.CallCross dest comp index args) h all =
+      straight_encodable (call_cross frame places dest comp index args)
+      (cross_instrs dest comp index args (and_first (nat_le (length args) 8) true all))
+  layer_encodable (tac.Input dest) h all =
+      plainly_encodable (environment_call 1 ++ receive frame places dest) (input_instrs dest)
+  layer_encodable (tac.Output value) h all = plainly_encodable _ (output_instrs value)
+  layer_encodable (tac.Return value) h all = plainly_encodable _ (return_instrs value)
+
+  stmt_encodable : (stmt : TacStmt) → Encodable stmt
+  stmt_encodable = stmt_induction Encodable (λ layer h all.
+      subst IsEncodable (sym (fold-roll-TacStmt Piece (select_step frame places) layer))
+      (layer_encodable layer h (sym (fold-roll-TacStmt Bool (with_parts passes_few) layer) ∙ all)))
+
+  function_instrs : (f : TacFnTree) → f.params ≤ 8 → Fits frame places f.body 0 0 →
+      AreInstrLines (function_lines frame places f)
+  function_instrs f few fits =
+      let entered : List Instr = entrance frame places f.params in
+      let left : List Instr = closing frame places f.entry in
+      let body : List Line = (select_all frame places f.body).lines 0 0 in
+      let whole = row_encodable f.body (everywhere Encodable stmt_encodable f.body) fits.few_arguments in
+      both_instr_lines (plainly entered ++ body) (plainly left)
+      (both_instr_lines (plainly entered) body (plainly_instrs entered (entrance_instrs f.params few))
+      (whole.encodable 0 0 fits.breaks fits.continues)) (plainly_instrs left (closing_instrs f.entry))
+
+-- each is an instruction, where temporaries lie in registers that there are, and jumps reach
+pub are_instrs : (f : TacFnTree) (places : List Place) (frame : FrameTree) → ArePlaces places → f.params ≤ most_params →
+    Fits frame places f.body 0 0 → All IsInstr (code_of f places frame).instrs
+are_instrs f places frame known few fits =
+    let there : (t : ℕ) → IsThere (slice_get places t) =
+    λ t. place_there (length places) places t known.known in
+    all_instrs (function_lines frame places f) (function_instrs frame places there f few fits)

@@ -1,0 +1,478 @@
+-- Calls of functions, of the own compartment and of others.
+use Rattle.std.proofs.Common.{◌≡◌, ◌≢◌, ℕ, suc, ◌+◌, ◌-ℤ◌, ◌*◌, ◌/◌, ◌%◌, ◌^◌, ◌<◌, ◌≤◌, true, false, List, []}
+use Rattle.std.proofs.Common.{◌∷◌, ◌++◌, length}
+use Rattle.std.proofs.Common.{Option, None, Some, refl, sym, ◌∙◌, ap, subst, arith, inl, inr, ⊎_elim, All, pos}
+use Rattle.std.proofs.Common.{append_assoc}
+use Rattle.std.specs.Prelude.{slice_get}
+use Rattle.std.specs.Option.{unwrap_or}
+use Rattle.std.proofs.lemmas.Bool.{ne_eqb}
+use Rattle.std.proofs.lemmas.List.{length-append}
+use Rattle.std.proofs.lemmas.Option.{slice_get_within}
+use Rattle.rv_code.specs.declared.instr.Instr.{Instr}
+use Rattle.rv_code.specs.declared.instr.Instr.TheVariants.{Jal, Jalr, Upper}
+use Rattle.rv_code.specs.declared.instr.UpperOp.TheVariants.{Lui}
+use Rattle.sc_word.specs.Prelude.{word_of, add_word}
+use Rattle.sc_word.proofs.Words.{word_of-unsigned_sub}
+use Rattle.sc_core.specs.declared.expr.CallTarget.{CallTarget}
+use Rattle.sc_core.specs.declared.expr.CallTarget.TheVariants.{Own, Cross}
+use Rattle.sc_core.specs.declared.value.Value.{Value}
+use Rattle.sc_core.specs.Value.{wrapping}
+use Rattle.sc_core.specs.Words.{State as Meant, Calls, Piece, Reached, Stopped, Left, Next, and_then, leave}
+use Rattle.sc_laws.specs.Growth.{Goes}
+use Rattle.sc_laws.proofs.Growing.{stays, then_goes, then_from}
+use Rattle.sc_image.specs.Step.{jalr_target}
+use Rattle.sc_image.specs.WellFormed.{IsWord, IsWellFormed}
+use Rattle.sc_hart.specs.Code.{CodeAt}
+use Rattle.sc_hart.specs.Hart.{Registers}
+use Rattle.sc_hart.specs.Words.{put_word}
+use Rattle.sc_hart.proofs.Fetching.{front_at, back_at}
+use Rattle.sc_tac.specs.declared.frame.FrameTree.{FrameTree}
+use Rattle.sc_tac.specs.declared.machine_code.Target.TheVariants.{Function, Entry}
+use Rattle.sc_tac.specs.declared.place.Place.{Place}
+use Rattle.sc_tac.specs.declared.place.Place.TheVariants.{Register, Slot}
+use Rattle.sc_tac.specs.declared.stmt.TacStmt.TheOpen as tac
+use Rattle.sc_tac.specs.Code.{Temps, Codes, with_temp, received, call_does, read_all, code_step}
+use Rattle.sc_tac.specs.Places.{IsClear}
+use Rattle.sc_tac.specs.Flow.{is_one}
+use Rattle.sc_tac.specs.Points.{Point, Lives, Trail, plain_points, live_across, trail_step}
+use Rattle.sc_select.specs.Lines.{Line, linked, plainly}
+use Rattle.sc_select.specs.Pieces.{ra, sp, first_scratch, a0, register_of, move, store_word, upper_part, lower_part}
+use Rattle.sc_select.specs.Selection.{straight, put, pass, receive}
+use Rattle.sc_select.specs.Selection.{call_own, call_cross, select_step}
+use Rattle.sc_pieces.specs.Pieces.{Does, Computes, Stores}
+use Rattle.sc_pieces.proofs.Loading.{moves}
+use Rattle.sc_pieces.proofs.NearSp.{stores_word}
+use Rattle.sc_pieces.proofs.Numbers.{two_parts}
+use Rattle.sc_pieces.proofs.Rows.{in_row, look_at, upper}
+use Rattle.sc_relation.specs.Blocks.{StandsFor}
+use Rattle.sc_relation.specs.Calls.{ArePassed, ComesBack, CallGives, CallStands, CallsFollow}
+use Rattle.sc_relation.specs.Frames.{Activation, IsActivation, FrameMatches}
+use Rattle.sc_relation.specs.Linking.{Addresses, completed, low_after}
+use Rattle.sc_relation.specs.Stretches.{Setting, Joint, Standpoint, Overflows, GivenBack}
+use Rattle.sc_relation.specs.Following.{Running, Ends, seen_from, Ready, Arrives, Comes, Follows, live_at}
+use Rattle.sc_relation.proofs.Following.{IsBack, is_back}
+use Rattle.sc_relation.proofs.Frames.{each_at}
+use Rattle.sc_relation.proofs.Lines.{completed_plainly, completed_length, low_append, low_plainly}
+use Rattle.sc_relation.proofs.Registers.{HasNoOtherUse, no_other_use, register_there}
+use Rattle.sc_relation.proofs.Settling.{moved}
+use Rattle.sc_relation.proofs.Straight.{assigns_register, assigns_slot, assigned_at, MovesOn, moves_on}
+use Rattle.sc_relation.proofs.Straight.{live_plain, or_left, call_from, settled_to}
+use Rattle.sc_relation.proofs.Stretches.{leads_none, comes_after, shows_less, overflows_with, arrives_with}
+use Rattle.sc_emit.proofs.Arguments.{AreRead, read_all_goes, comes_read_all, Passes, passes, read_length}
+use Rattle.sc_emit.proofs.Straight.{ComesStraight, lines_follow}
+use Rattle.sc_emit.proofs.Operands.{IsPlace, ArePlaced, slot_from_sp, world, walks_to}
+
+-- Lines of which some are linked.
+
+module _ (addresses : Addresses) where
+  -- lines behind those that refer to nothing
+  completed_behind : (pc : ℕ) (instrs : List Instr) (lines : List Line) →
+      completed addresses pc None (plainly instrs ++ lines) ≡
+      instrs ++ completed addresses (pc + 4 * length instrs) None lines
+  completed_behind pc [] lines =
+      let e : pc ≡ pc + 4 * 0 = omega arith in ap (λ p. completed addresses p None lines) e
+  completed_behind pc (i ∷ is) lines =
+      let e : pc + 4 + 4 * length is ≡ pc + 4 * suc (length is) = omega arith in
+      ap (λ is. i ∷ is)
+      (completed_behind (pc + 4) is lines ∙ ap (λ p. is ++ completed addresses p None lines) e)
+
+  low_behind_plain : (instrs : List Instr) (lines : List Line) → low_after addresses None (plainly instrs ++ lines) ≡
+      low_after addresses None lines
+  low_behind_plain instrs lines =
+      low_append addresses None (plainly instrs) lines ∙
+      ap (λ low. low_after addresses low lines) (low_plainly addresses instrs)
+
+module _ (T : Setting) (R : Running) where
+  -- straight code follows a statement, where the linker completes its lines to these instructions
+  pub linked_follows : (does : Codes) (lines : List Line) (instrs : ℕ → List Instr) (trail : Trail) →
+      ((pc : ℕ) → completed (T.addresses R.activation.here.comp) pc None lines ≡ instrs pc) →
+      low_after (T.addresses R.activation.here.comp) None lines ≡ None → ((temps : Temps) → Goes (does temps)) →
+      ((lives : Lives) (temps : Temps) (x : Joint) (left : ℕ) → Ready T R (live_at trail lives) temps x →
+      All (IsClear R.places) (trail.points lives) → CodeAt T.image R.activation.here.comp x.pc (instrs x.pc) →
+      ComesStraight T R lives x (instrs x.pc) left (does temps x.meant)) →
+      Follows T R does (straight lines) trail
+  linked_follows does lines instrs trail whole closed goes runs =
+      lines_follow T R does lines trail closed goes
+      (λ lives temps x left ready clear at ends e f.
+      (let long : length (instrs x.pc) ≡ length lines =
+      ap length (sym (whole x.pc)) ∙ completed_length (T.addresses R.activation.here.comp) x.pc None lines in
+      subst (λ n. Comes T R lives x (n + left) ends (does temps x.meant)) long
+      (runs lives temps x left ready clear (subst (CodeAt T.image R.activation.here.comp x.pc) (whole x.pc) at) ends e
+      (f ∙ ap (λ n. x.pc + 4 * n) (sym long)))))
+
+-- Where a call's value goes.
+
+-- a value is given where one is wanted
+abbrev pub IsGiven : Option ℕ → Option Value → Type 0
+IsGiven None v = Unit {0}
+IsGiven (Some dest) None = ⊥
+IsGiven (Some dest) (Some v) = Unit {0}
+
+-- a call that comes back gives one where one is wanted
+abbrev pub Answers : Option ℕ → Piece (Option Value) → Type 0
+Answers dest (Reached v s) = IsGiven dest v
+Answers dest (Stopped end s) = Unit {0}
+
+pub none_wanted : (piece : Piece (Option Value)) → Answers None piece
+none_wanted (Reached v s) = tt
+none_wanted (Stopped end s) = tt
+
+-- what is wanted has a place
+abbrev pub HasPlace : List Place → Option ℕ → Type 0
+HasPlace places None = Unit {0}
+HasPlace places (Some dest) = (place : Place) × (slice_get places dest ≡ Some place)
+
+-- the last point of a statement, behind what it assigns
+abbrev pub last_point : Option ℕ → Lives → Point
+last_point dest lives = record { assigned = dest; calls = false; live = lives.behind }
+
+module _ (T : Setting) (R : Running) (formed : IsWellFormed T.image) (inputs : All IsWord T.inputs) (cells : List ℕ)
+    (nodes : ℕ) (is : IsActivation T.performs cells R.places nodes R.activation) (placed : ArePlaced R) where
+  abbrev A : Activation
+  A = R.activation
+
+  abbrev P : Standpoint
+  P = seen_from R.activation
+
+  abbrev frame : FrameTree
+  frame = R.activation.frame
+
+  positive : (q : ℕ) → q ≢ 0 → 0 < q
+  positive q h = omega (arith, h)
+
+  across_behind : (reads : List ℕ) (lives : Lives) (dest t : ℕ) → lives.behind t ≡ true → t ≢ dest →
+      live_across reads true (Some dest) lives t ≡ true
+  across_behind reads lives dest t on other =
+      rw (ne_eqb dest t (λ e. other (sym e))) on
+
+  module _ (lives : Lives) (temps : Temps) (y : Joint) (left : ℕ) (reads : List ℕ) where
+    -- behind the code that brings the value to its place
+    abbrev Behind : List Instr → Temps → Type 0
+    Behind code after =
+        Arrives T R lives.behind y (length code + left) left after y.meant (y.pc + 4 * length code)
+
+    receives_by : (dest : ℕ) (place : Place) (v : Value) →
+        Ready T R (live_across reads true (Some dest) lives) temps y →
+        IsClear R.places (last_point (Some dest) lives) → StandsFor (y.inj A.here.comp) (y.regs a0) v →
+        slice_get R.places dest ≡ Some place → IsPlace A place →
+        CodeAt T.image A.here.comp y.pc (put frame a0 (Some place)) →
+        Behind (put frame a0 (Some place)) (with_temp dest v temps)
+    receives_by dest (Register r) v ready clear stands its small code =
+        let piece : Computes T.image T.inputs (world T R y) (move (register_of r) a0 ∷ []) [] y.regs y.bytes
+        (register_of r) (y.regs a0) =
+        moves T.image T.inputs (world T R y) y.bytes y.regs (register_of r) a0 (y.regs a0)
+        (record { above = positive (register_of r) (no_other_use r).zero; below = register_there r small })
+        (omega arith) (look_at y.regs a0 (omega arith)) stands.word in
+        assigned_at T R formed inputs cells nodes is (live_across reads true (Some dest) lives)
+        (last_point (Some dest) lives) temps y 1 left dest (y.pc + 4 * 1) (Register r) v piece.after y.bytes ready clear
+        refl its (across_behind reads lives dest)
+        (assigns_register T R y r v piece.after
+        (piece.others sp ((λ e. (no_other_use r).sp (sym e)), tt))
+        (subst (λ w. StandsFor (y.inj A.here.comp) w v) (sym piece.result) stands) (λ q h n. piece.others q (n, tt)))
+        (walks_to T R y (move (register_of r) a0 ∷ []) piece.after y.bytes piece.does code)
+    receives_by dest (Slot k) v ready clear stands its there code =
+        let offset : ℕ = there.0 in
+        let same_code : put frame a0 (Some (Slot k)) ≡ store_word a0 offset =
+        ap (λ o. store_word a0 (unwrap_or o 0)) there.1 in
+        let stores : Stores T.image T.inputs (world T R y) (store_word a0 offset) (7 ∷ []) y.regs y.bytes
+        (A.sp + offset) (y.regs a0) =
+        stores_word T.image T.inputs (world T R y) y.bytes y.regs a0 offset (A.sp + offset) (y.regs a0) (omega arith)
+        (λ e. omega (arith, e)) (look_at y.regs a0 (omega arith))
+        (slot_from_sp T R y cells nodes is placed ready.frame ready.sp y.regs k offset there.1 refl) in
+        subst (λ code. Behind code (with_temp dest v temps)) (sym same_code)
+        (assigned_at T R formed inputs cells nodes is (live_across reads true (Some dest) lives)
+        (last_point (Some dest) lives) temps y (length (store_word a0 offset)) left dest
+        (y.pc + 4 * length (store_word a0 offset)) (Slot k) v stores.after
+        (put_word y.bytes (A.sp + offset) (y.regs a0)) ready clear refl its (across_behind reads lives dest)
+        (assigns_slot T R formed inputs cells nodes is (live_across reads true (Some dest) lives) temps y k offset
+        (y.regs a0) v stores.after ready there.1 (stores.others sp ((λ e. omega (arith, e)), tt)) stands
+        (λ q h. stores.others q (h.address, tt)))
+        (walks_to T R y (store_word a0 offset) stores.after (put_word y.bytes (A.sp + offset) (y.regs a0)) stores.does
+        (subst (CodeAt T.image A.here.comp y.pc) same_code code)))
+
+    -- what a call gave goes to where it is wanted
+    receives : (dest : Option ℕ) (v : Option Value) → Ready T R (live_across reads true dest lives) temps y →
+        IsClear R.places (last_point dest lives) → GivenBack T (y.inj A.here.comp) (y.regs a0) v → IsGiven dest v →
+        HasPlace R.places dest → CodeAt T.image A.here.comp y.pc (receive frame R.places dest) →
+        Behind (receive frame R.places dest) (received dest v temps)
+    receives None v ready clear back given there code = record {
+      y = y;
+      meant_is = refl;
+      pc_is = omega arith;
+      leads = leads_none T P y (0 + left) left (omega arith);
+      ready = record {
+        settled = ready.settled;
+        frame = ready.frame;
+        held = λ t v on e. ready.held t v on e;
+        sp = ready.sp;
+      };
+    }
+    receives (Some dest) None ready clear back given there code = absurd given
+    receives (Some dest) (Some v) ready clear back given there code =
+        subst (λ o. Behind (put frame a0 o) (with_temp dest v temps)) (sym there.1)
+        (receives_by dest there.0 v ready clear back there.1 (placed dest there.0 there.1)
+        (subst (λ o. CodeAt T.image A.here.comp y.pc (put frame a0 o)) there.1 code))
+
+  -- The call.
+
+  -- code makes the registers as a call needs them
+  pub record Prepares (target : CallTarget) (x : Joint) (before : List Instr) (vs : List Value) : Type 0 where
+    pub after : Registers
+    pub does : Does T.image T.inputs (world T R x) before x.regs x.bytes after x.bytes
+    pub passed : ArePassed (x.inj A.here.comp) after vs
+    pub same : after sp ≡ x.regs sp
+    pub others : (q : ℕ) → HasNoOtherUse q → after q ≡ x.regs q
+    pub stands : x.pc + 4 * length before < 2 ^ 32 →
+        CallStands T (call_from T R) (moved x (x.pc + 4 * length before) after x.bytes) target
+
+  module _ (calls : Calls) (follow : CallsFollow T calls) (target : CallTarget) (dest : Option ℕ) (args : List ℕ) where
+    goes_on : (temps : Temps) (result : Option Value) → Goes (leave Next (received dest result temps))
+    goes_on temps result = stays (record { exit = Next; carried = received dest result temps })
+
+    pub goes : (temps : Temps) → Goes (call_does A.here calls dest target args temps)
+    goes temps s =
+        then_goes s (read_all A.here args temps s)
+        (λ vs s. and_then (calls A.here.comp target vs s) (λ result s. leave Next (received dest result temps) s))
+        (read_all_goes A.here args temps s)
+        (λ vs s. then_goes s (calls A.here.comp target vs s) (λ result s. leave Next (received dest result temps) s)
+        (follow.goes A.here.comp target vs s) (goes_on temps))
+
+    module _ (there : HasPlace R.places dest) (made : T.makes A.here.comp target (length args) ≡ true)
+        (answers : (vs : List Value) (s : Meant) → Answers dest (calls A.here.comp target vs s)) (lives : Lives)
+        (temps : Temps) (clear : IsClear R.places (last_point dest lives))
+        (back : (y : Joint) (left : ℕ) (v : Option Value) (s : Meant) → Ready T R (live_plain args dest lives) temps y →
+        ComesBack T (call_from T R) y target v s → IsBack T R args dest lives temps y left v s) where
+      abbrev to_place : List Instr
+      to_place = receive frame R.places dest
+
+      abbrev onwards : Option Value → Meant → Piece (Left Temps)
+      onwards result s = leave Next (received dest result temps) s
+
+      module _ (y : Joint) (left : ℕ) (ends : Ends) (left_is : ends.left ≡ left)
+          (behind_is : ends.behind ≡ y.pc + 4 + 4 * length to_place)
+          (code : CodeAt T.image A.here.comp (y.pc + 4) to_place)
+          (ready : Ready T R (live_plain args dest lives) temps y) where
+        abbrev budget : ℕ
+        budget = 1 + (length to_place + left)
+
+        came_back : (piece : Piece (Option Value)) → Answers dest piece → CallGives T (call_from T R) y target piece →
+            Comes T R lives y budget ends (and_then piece onwards)
+        came_back (Reached v s) given g =
+            let k : IsBack T R args dest lives temps y (length to_place + left) v s =
+            back y (length to_place + left) v s ready g in
+            let at : CodeAt T.image A.here.comp k.y.pc to_place =
+            subst (λ pc. CodeAt T.image A.here.comp pc to_place) (sym k.pc) code in
+            comes_after T R lives y k.y budget (length to_place + left) ends (onwards v s) ready.settled k.leads
+            (inl (subst (λ s. Arrives T R lives.behind k.y (length to_place + left) ends.left (received dest v temps) s
+            ends.behind) k.meant_is
+            (arrives_with T R lives.behind k.y (length to_place + left) (length to_place + left) left ends.left
+            (received dest v temps) k.y.meant (k.y.pc + 4 * length to_place) ends.behind (omega arith)
+            (omega (arith, left_is)) (omega (arith, k.pc, behind_is))
+            (receives lives temps k.y left args dest v k.ready clear k.value given there at))))
+        came_back (Stopped end s) given g =
+            inl (shows_less T P y 1 budget s (omega arith) (record {
+              steps = g.steps;
+              reached = g.reached;
+              run = g.run;
+              trace = g.trace;
+              costs = g.costs;
+            }))
+
+        overflowed : (piece : Piece (Option Value)) → Overflows T (call_from T R) y 1 piece →
+            Overflows T P y budget (and_then piece onwards)
+        overflowed piece o =
+            overflows_with T P y 1 budget piece (and_then piece onwards) (omega arith)
+            (then_from piece onwards (goes_on temps)) (record {
+              steps = o.steps;
+              reached = o.reached;
+              run = o.run;
+              traps = o.traps;
+              honest = o.honest;
+              begun = o.begun;
+              trace = o.trace;
+              deep = o.deep;
+              grown = o.grown;
+              costs = o.costs;
+            })
+
+        pub call_comes : (vs : List Value) → length vs ≡ length args → ArePassed (y.inj A.here.comp) y.regs vs →
+            CallStands T (call_from T R) y target →
+            Comes T R lives y budget ends (and_then (calls A.here.comp target vs y.meant) onwards)
+        call_comes vs count passed stands =
+            ⊎_elim (came_back (calls A.here.comp target vs y.meant) (answers vs y.meant))
+            (λ o. inr (overflowed (calls A.here.comp target vs y.meant) o))
+            (follow.follow (call_from T R) y target vs is.honest
+            (subst (λ n. T.makes A.here.comp target n ≡ true) (sym count) made) (settled_to T R y ready.settled)
+            (record { floor = is.floor; aligned = is.aligned; high = omega (arith, is.high) }) ready.sp passed stands)
+
+      -- the registers are prepared, the call is made, and its value goes to where it is wanted
+      pub call_runs : (x : Joint) (before : List Instr) (call : Instr) (left : ℕ) (ends : Ends) → ends.left ≡ left →
+          ends.behind ≡ x.pc + 4 * length (before ++ call ∷ to_place) →
+          CodeAt T.image A.here.comp x.pc (before ++ call ∷ to_place) → Ready T R (live_plain args dest lives) temps x →
+          ((vs : List Value) → AreRead temps args vs → Prepares target x before vs) →
+          Comes T R lives x (length (before ++ call ∷ to_place) + left) ends
+          (call_does A.here calls dest target args temps x.meant)
+      call_runs x before call left ends left_is behind_is code ready prepares =
+          comes_read_all T R lives x (length (before ++ call ∷ to_place) + left) ends A.here args temps
+          (λ vs s. and_then (calls A.here.comp target vs s) onwards)
+          (λ vs read.
+          (let p : Prepares target x before vs = prepares vs read in
+          let n : ℕ = length before in
+          let long : length (before ++ call ∷ to_place) ≡ n + suc (length to_place) =
+          length-append before (call ∷ to_place) in
+          let rest : ℕ = 1 + (length to_place + left) in
+          let whole : n + rest ≡ length (before ++ call ∷ to_place) + left = omega (arith, long) in
+          let m : MovesOn T R formed inputs cells nodes is (live_plain args dest lives) temps x n rest (x.pc + 4 * n)
+          p.after =
+          moves_on T R formed inputs cells nodes is (live_plain args dest lives) temps x n rest (x.pc + 4 * n) p.after
+          ready p.same p.others
+          (walks_to T R x before p.after x.bytes p.does
+          (front_at T.image A.here.comp x.pc before (call ∷ to_place) code)) in
+          let y : Joint = moved x (x.pc + 4 * n) p.after x.bytes in
+          subst (λ b. Comes T R lives x b ends (and_then (calls A.here.comp target vs x.meant) onwards)) whole
+          (comes_after T R lives x y (n + rest) rest ends (and_then (calls A.here.comp target vs x.meant) onwards)
+          ready.settled m.leads
+          (call_comes y left ends left_is (behind_is ∙ omega (arith, long))
+          (back_at T.image A.here.comp x.pc before (call ∷ to_place) code).1 m.ready vs (read_length temps args vs read)
+          p.passed
+          (p.stands m.ready.settled.steady.pc)))))
+
+  -- The arguments, and what else is prepared.
+
+  pub passes_args : (args : List ℕ) (dest : Option ℕ) (lives : Lives) (temps : Temps) (x : Joint) (vs : List Value) →
+      length args ≤ 8 → (ready : Ready T R (live_plain args dest lives) temps x) → AreRead temps args vs →
+      Passes T R cells nodes is placed x ready.frame ready.sp x.regs a0 args vs
+  passes_args args dest lives temps x vs few ready read =
+      passes T R cells nodes is placed x ready.frame ready.sp (live_plain args dest lives) temps ready.held x.regs a0
+      args vs (omega arith) (omega (arith, few)) (λ t e. or_left (is_one t args) _ e) read refl (λ q h. refl)
+
+  -- the arguments, and then another register that no temporary has and no argument
+  pub prepared : (args : List ℕ) (x : Joint) (vs : List Value)
+      (frame_is : FrameMatches T.image A x.inj x.meant.memory x.bytes) (sp_is : x.regs sp ≡ A.sp)
+      (p : Passes T R cells nodes is placed x frame_is sp_is x.regs a0 args vs)
+      (target : CallTarget) (one : List Instr) (r w : ℕ) →
+      (u : Computes T.image T.inputs (world T R x) one [] p.after x.bytes r w) → sp ≢ r →
+      ((q : ℕ) → HasNoOtherUse q → q ≢ r) → ((i : ℕ) → i < length vs → a0 + i ≢ r) →
+      (x.pc + 4 * length (pass frame R.places a0 args ++ one) < 2 ^ 32 → u.after r ≡ w → CallStands T (call_from T R)
+      (moved x (x.pc + 4 * length (pass frame R.places a0 args ++ one)) u.after x.bytes) target) →
+      Prepares target x (pass frame R.places a0 args ++ one) vs
+  prepared args x vs frame_is sp_is p target one r w u not_sp not_held not_passed stands = record {
+    after = u.after;
+    does = in_row T.image T.inputs (world T R x) p.does u.does;
+    passed = λ i v e. subst (λ w. StandsFor (x.inj A.here.comp) w v)
+        (sym (u.others (a0 + i) (not_passed i (slice_get_within vs i v e), tt))) (p.passed i v e);
+    same = u.others sp (not_sp, tt) ∙ p.below sp (omega arith) (λ e. omega (arith, e));
+    others = λ q h. u.others q (not_held q h, tt) ∙ p.others q h;
+    stands = λ low. stands low u.result;
+  }
+
+  jump_to : (pc target : ℕ) → pc < 2 ^ 32 → target < 2 ^ 32 → add_word pc (word_of (pos target -ℤ pos pc)) ≡ target
+  jump_to pc target low below =
+      ap (add_word pc) (word_of-unsigned_sub target pc below low) ∙ omega (arith, low, below)
+
+  jalr_to : (base target : ℕ) → base ≡ upper_part target → target < 2 ^ 32 → target % 2 ≡ 0 →
+      jalr_target base (lower_part target) ≡ target
+  jalr_to base target is_upper below even =
+      ap (λ b. add_word b (word_of (lower_part target)) / 2 * 2) is_upper ∙
+      ap (λ a. a / 2 * 2) (two_parts target below) ∙ omega (arith, even)
+
+  module _ (calls : Calls) (follow : CallsFollow T calls) (dest : Option ℕ) (there : HasPlace R.places dest) where
+    abbrev addresses : Addresses
+    addresses = T.addresses A.here.comp
+
+    abbrev own_call : (function : ℕ) → (args : List ℕ) → (pc : ℕ) → Instr
+    own_call function args pc =
+        Jal ra (pos (addresses.function function) -ℤ pos (pc + 4 * length (pass frame R.places a0 args)))
+
+    pub call_own_follows : (function : ℕ) (args : List ℕ) → length args ≤ 8 → addresses.function function < 2 ^ 32 →
+        T.makes A.here.comp (Own function) (length args) ≡ true →
+        ((vs : List Value) (s : Meant) → Answers dest (calls A.here.comp (Own function) vs s)) →
+        Follows T R (code_step wrapping A.here calls (tac.CallOwn dest function args))
+        (select_step frame R.places (tac.CallOwn dest function args)) (trail_step (tac.CallOwn dest function args))
+    call_own_follows function args few below made answers =
+        let before : List Instr = pass frame R.places a0 args in
+        linked_follows T R (code_step wrapping A.here calls (tac.CallOwn dest function args))
+        (call_own frame R.places dest function args)
+        (λ pc. before ++ own_call function args pc ∷ receive frame R.places dest)
+        (trail_step (tac.CallOwn dest function args))
+        (λ pc. completed_behind addresses pc before
+        (linked (Function function) (Jal ra (pos 0)) ∷ plainly (receive frame R.places dest)) ∙
+        ap (λ instrs. before ++ own_call function args pc ∷ instrs)
+        (completed_plainly addresses (pc + 4 * length before + 4) (receive frame R.places dest)))
+        (low_behind_plain addresses before
+        (linked (Function function) (Jal ra (pos 0)) ∷ plainly (receive frame R.places dest)) ∙
+        low_plainly addresses (receive frame R.places dest))
+        (goes calls follow (Own function) dest args)
+        (λ lives temps x left ready clear code ends left_is behind_is.
+        call_runs calls follow (Own function) dest args there made answers lives temps
+        (each_at (IsClear R.places) (plain_points args true dest lives) 2 _ clear refl)
+        (λ y left v s ready b. is_back T R args dest lives temps y (Own function) left v s is.honest ready clear b) x
+        before
+        (own_call function args x.pc) left ends left_is behind_is code ready
+        (λ vs read.
+        (let p : Passes T R cells nodes is placed x ready.frame ready.sp x.regs a0 args vs =
+        passes_args args dest lives temps x vs few ready read in
+        record {
+          after = p.after;
+          does = p.does;
+          passed = p.passed;
+          same = p.below sp (omega arith) (λ e. omega (arith, e));
+          others = p.others;
+          stands = λ low. (
+            pos (addresses.function function) -ℤ pos (x.pc + 4 * length before),
+            (back_at T.image A.here.comp x.pc before
+                (own_call function args x.pc ∷ receive frame R.places dest) code).0,
+            jump_to (x.pc + 4 * length before) (addresses.function function) low below,
+          );
+        })))
+
+    -- the address goes into a scratch register, but for what the jump adds
+    abbrev entry_call : (address : ℕ) → List Instr
+    entry_call address = Jalr ra first_scratch (lower_part address) ∷ receive frame R.places dest
+
+    pub call_cross_follows : (comp index : ℕ) (args : List ℕ) → length args ≤ 8 → addresses.entry comp index < 2 ^ 32 →
+        addresses.entry comp index % 2 ≡ 0 →
+        T.makes A.here.comp (Cross comp index) (length args) ≡ true →
+        ((vs : List Value) (s : Meant) → Answers dest (calls A.here.comp (Cross comp index) vs s)) →
+        Follows T R (code_step wrapping A.here calls (tac.CallCross dest comp index args))
+        (select_step frame R.places (tac.CallCross dest comp index args))
+        (trail_step (tac.CallCross dest comp index args))
+    call_cross_follows comp index args few below even made answers =
+        let arguments : List Instr = pass frame R.places a0 args in
+        let address : ℕ = addresses.entry comp index in
+        let high : List Instr = Upper Lui first_scratch (upper_part address) ∷ [] in
+        let before : List Instr = arguments ++ high in
+        let lines : List Line =
+        linked (Entry comp index) (Upper Lui first_scratch 0) ∷
+        plainly (Jalr ra first_scratch (pos 0) ∷ receive frame R.places dest) in
+        linked_follows T R (code_step wrapping A.here calls (tac.CallCross dest comp index args))
+        (call_cross frame R.places dest comp index args) (λ pc. before ++ entry_call address)
+        (trail_step (tac.CallCross dest comp index args))
+        (λ pc. completed_behind addresses pc arguments lines ∙
+        ap (λ instrs. arguments ++ (high ++ Jalr ra first_scratch (lower_part address) ∷ instrs))
+        (completed_plainly addresses (pc + 4 * length arguments + 4 + 4) (receive frame R.places dest)) ∙
+        sym (append_assoc arguments high (entry_call address)))
+        (low_behind_plain addresses arguments lines ∙ low_plainly addresses (receive frame R.places dest))
+        (goes calls follow (Cross comp index) dest args)
+        (λ lives temps x left ready clear code ends left_is behind_is.
+        call_runs calls follow (Cross comp index) dest args there made answers lives temps
+        (each_at (IsClear R.places) (plain_points args true dest lives) 2 _ clear refl)
+        (λ y left v s ready b.
+        is_back T R args dest lives temps y (Cross comp index) left v s is.honest ready clear b) x
+        before (Jalr ra first_scratch (lower_part address)) left ends left_is behind_is code ready
+        (λ vs read.
+        (let p : Passes T R cells nodes is placed x ready.frame ready.sp x.regs a0 args vs =
+        passes_args args dest lives temps x vs few ready read in
+        prepared args x vs ready.frame ready.sp p (Cross comp index) high first_scratch (upper_part address)
+        (upper T.image T.inputs (world T R x) p.after x.bytes first_scratch (upper_part address)
+        (record { above = omega arith; below = omega arith })) (λ e. omega (arith, e)) (λ q h. h.first)
+        (λ i l e. omega (arith, e))
+        (λ low is_upper. (
+          first_scratch,
+          (
+            lower_part address,
+            (back_at T.image A.here.comp x.pc before (entry_call address) code).0,
+            (let there : first_scratch < 32 = omega arith in there),
+            jalr_to _ address is_upper below even,
+          ),
+        )))))

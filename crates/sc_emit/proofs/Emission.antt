@@ -1,0 +1,185 @@
+-- The code that is selected keeps what code keeps.
+use Rattle.std.proofs.Common.{◌≡◌, ℕ, zero, suc, ◌+◌, ◌<◌, ◌≤◌, true, List, [], ◌∷◌, ◌++◌, map, length, Some}
+use Rattle.std.proofs.Common.{Result, Ok, Err, IfOk, refl, sym, ◌∙◌, ap, subst, arith}
+use Rattle.std.specs.Prelude.{slice_get, max}
+use Rattle.std.specs.List.{list_all, range_with_len}
+use Rattle.std.proofs.lemmas.Bool.{and_parts, ltb-true}
+use Rattle.std.proofs.lemmas.List.FromFn.{length-range_with_len}
+use Rattle.std.proofs.lemmas.Option.{same_Some, slice_get-get_or}
+use Rattle.std.proofs.lemmas.List.{length-map, length-append, map-append, append_assoc}
+use Rattle.rv_code.specs.declared.instr.Instr.{Instr}
+use Rattle.sc_core.specs.Growth.{Front}
+use Rattle.sc_core.specs.Value.{wrapping}
+use Rattle.sc_tac.specs.declared.frame.FrameTree.{FrameTree}
+use Rattle.sc_tac.specs.declared.function.TacFnTree.{TacFnTree}
+use Rattle.sc_tac.specs.declared.machine_code.CodeTree.{CodeTree}
+use Rattle.sc_tac.specs.declared.place.Place.{Place}
+use Rattle.sc_tac.specs.declared.place.Place.TheVariants.{Register, Slot}
+use Rattle.sc_tac.specs.Code.{code_does, code_function}
+use Rattle.sc_tac.specs.Frames.{IsFrame, HasRoom, slots_of, slots_up_to}
+use Rattle.sc_tac.specs.Functions.{IsFunction, names_own_temps}
+use Rattle.sc_tac.specs.Intervals.{interval_of, intervals_of}
+use Rattle.sc_tac.specs.Parts.{everywhere}
+use Rattle.sc_tac.specs.Places.{ArePlaces, IsAssignment, is_place, register_count}
+use Rattle.sc_tac.specs.Points.{function_points, trail}
+use Rattle.sc_tac.specs.Weights.{entry_weight, weight}
+use Rattle.sc_select.specs.Lines.{Line, plainly}
+use Rattle.sc_select.specs.Pieces.{frame_taken}
+use Rattle.sc_select.specs.Selection.{code_of, function_lines, entrance, closing, select_all, store_arguments}
+use Rattle.sc_select.proofs.Sizes.{row_is_sized}
+use Rattle.sc_hart.specs.Code.{CodeAt}
+use Rattle.sc_relation.specs.Calls.{FunctionFollows}
+use Rattle.sc_relation.specs.Following.{Running, row, Follows}
+use Rattle.sc_relation.specs.Frames.{Activation}
+use Rattle.sc_relation.specs.Stretches.{Setting}
+use Rattle.sc_relation.proofs.Linking.{linked_is}
+use Rattle.sc_emit.specs.Emission.{IsPlaced, IsEmitted}
+use Rattle.sc_emit.specs.Naming.{calls_only, AreReached}
+use Rattle.sc_emit.proofs.Branches.{few_branches, no_ebreak}
+use Rattle.sc_emit.proofs.Functions.{in_call, BodyFollows, code_follows}
+use Rattle.sc_emit.proofs.Operands.{ArePlaced}
+use Rattle.sc_emit.proofs.Returns.{brace_returns}
+use Rattle.sc_emit.proofs.Statements.{body_follows}
+use Rattle.sc_emit.proofs.Targets.{targets_named}
+
+-- a slot that a place names is below their number
+slot_below : (places : List Place) (t k : ℕ) → slice_get places t ≡ Some (Slot k) → k < slots_of places
+slot_below [] t k h = cc h
+slot_below (place ∷ places) zero k h =
+    let same : place ≡ Slot k = same_Some place (Slot k) h in
+    subst (λ place. k < max (slots_up_to place) (slots_of places)) (sym same) (omega arith)
+slot_below (place ∷ places) (suc t) k h =
+    let below : k < slots_of places = slot_below places t k h in omega (arith, below)
+
+register_below : (n : ℕ) (places : List Place) (t r : ℕ) → list_all (is_place n) places ≡ true →
+    slice_get places t ≡ Some (Register r) → r < register_count
+register_below n [] t r h e = cc e
+register_below n (place ∷ places) zero r h e =
+    let same : place ≡ Register r = same_Some place (Register r) e in
+    let here : is_place n place ≡ true = (and_parts (is_place n place) (list_all (is_place n) places) h).0 in
+    ltb-true r register_count (subst (λ place. is_place n place ≡ true) same here)
+register_below n (place ∷ places) (suc t) r h e =
+    register_below n places t r (and_parts (is_place n place) (list_all (is_place n) places) h).1 e
+
+module _ (f : TacFnTree) (places : List Place) (frame : FrameTree) (rules : IsFunction f) (whole : IsFrame frame)
+    (kept : ArePlaces places) (room : HasRoom f.objects places f.nodes frame) (small : frame.bytes ≤ 32768)
+    (assigned : IsAssignment (intervals_of f) places) where
+  abbrev code : CodeTree
+  code = code_of f places frame
+
+  abbrev lines : List Line
+  lines = function_lines frame places f
+
+  all_instrs : length code.instrs ≡ length lines
+  all_instrs = length-map lines (λ line. line.instr)
+
+  body_within : (select_all frame places f.body).size ≤ length lines
+  body_within = omega (
+    arith,
+    length-append (plainly (entrance frame places f.params) ++ (select_all frame places f.body).lines 0 0)
+        (plainly (closing frame places f.entry)),
+    length-append (plainly (entrance frame places f.params)) ((select_all frame places f.body).lines 0 0),
+    (row_is_sized frame places f.body).sized 0 0,
+  )
+
+  temps_are : f.temps ≡ length places
+  temps_are = sym (assigned.each ∙ length-map (range_with_len 0 f.temps) (interval_of (function_points f)) ∙
+      length-range_with_len 0 f.temps)
+
+  all_placed : (A : Activation) (last : ℕ) → A.frame ≡ frame →
+      ArePlaced (record { activation = A; places = places; last = last })
+  all_placed A last same t (Register r) e = register_below (length places) places t r kept.known e
+  all_placed A last same t (Slot k) e =
+      let below : k < length frame.slots = omega (arith, slot_below places t k e, room.slots) in
+      (_, ap (λ (frame : FrameTree). slice_get frame.slots k) same ∙ slice_get-get_or frame.slots k 0 below)
+
+  module _ (T : Setting) (comp address : ℕ) (is : IsPlaced T comp address f code) where
+    body : BodyFollows T f frame places comp
+    body calls follow A last run gapless =
+        let R : Running = in_call T f frame places A last in
+        let size : (select_all A.frame places f.body).size ≤ T.turn_pays =
+        subst (λ (frame : FrameTree). (select_all frame places f.body).size ≤ T.turn_pays) (sym run.frame_is)
+        (omega (arith, body_within, all_instrs, is.paid)) in
+        let reached : AreReached T A.here.comp is.function is.entry is.global =
+        subst (λ c. AreReached T c is.function is.entry is.global) (sym run.comp_is) is.reached in
+        let made : everywhere (calls_only (T.makes A.here.comp) (T.gives A.here.comp)) f.body ≡ true =
+        subst (λ c. everywhere (calls_only (T.makes c) (T.gives c)) f.body ≡ true) (sym run.comp_is) is.calls in
+        let temps : everywhere (names_own_temps (length places)) f.body ≡ true =
+        subst (λ n. everywhere (names_own_temps n) f.body ≡ true) temps_are rules.own_temps in
+        subst (λ frame. Follows T R (code_does wrapping A.here calls f.body) (select_all frame places f.body)
+        (row (map trail f.body))) run.frame_is
+        (body_follows T R is.image is.inputs f.objects f.nodes run.is (all_placed A last run.frame_is) gapless calls
+        follow
+        is.function is.entry is.global reached f.body (
+          temps,
+          (
+            rules.own_objects,
+            (
+              rules.operands,
+              (
+                rules.few_arguments,
+                (
+                  rules.words,
+                  (
+                    rules.elements,
+                    (is.names, (made, tt)),
+                  ),
+                ),
+              ),
+            ),
+          ),
+        ) size)
+
+    follows : FunctionFollows T comp address (length code.instrs) f.params (code_function wrapping f)
+    follows =
+        code_follows T f frame places is.image is.inputs rules whole room small assigned is.words comp address
+        (length code.instrs)
+        (subst (CodeAt T.image comp address) (linked_is (T.addresses comp) address lines) is.stands) (omega (
+          arith,
+          all_instrs,
+        ))
+        body (brace_returns T f frame places is.image is.inputs comp)
+
+  -- the way in stands in front
+  enters : Front (frame_taken frame.bytes) code.instrs
+  enters =
+      let later : List Line = (select_all frame places f.body).lines 0 0 ++ plainly (closing frame places f.entry) in
+      let stores : List Instr = store_arguments frame places f.params 0 in
+      let instr : Line → Instr = λ line. line.instr in
+      record {
+        more = stores ++ map instr later;
+        is =
+            ap (map instr) (append_assoc (plainly (entrance frame places f.params))
+            ((select_all frame places f.body).lines 0 0) (plainly (closing frame places f.entry))) ∙
+            map-append instr (plainly (entrance frame places f.params)) later ∙
+            ap (λ is. is ++ map instr later) (plain_instrs (entrance frame places f.params)) ∙
+            append_assoc (frame_taken frame.bytes) stores (map instr later);
+      }
+    where
+      plain_instrs : (instrs : List Instr) → map (λ line. line.instr) (plainly instrs) ≡ instrs
+      plain_instrs [] = refl
+      plain_instrs (i ∷ is) = ap (λ is. i ∷ is) (plain_instrs is)
+
+  pub is_emitted : length code.instrs ≤ entry_weight f.params + weight f.body → IsEmitted f frame code
+  is_emitted light = record {
+    follows = follows;
+    enters = enters;
+    light = light;
+    short = omega (arith, light, rules.light);
+    branches = few_branches f places frame;
+    no_ebreak = no_ebreak f places frame;
+    names = λ function entry global h. targets_named function entry global f places frame h;
+  }
+
+-- and so does what comes of selecting it
+pub result_emitted : {F : Type 0} (f : TacFnTree) (places : List Place) (frame : FrameTree) → IsFunction f →
+    IsFrame frame → ArePlaces places → HasRoom f.objects places f.nodes frame → frame.bytes ≤ 32768 →
+    IsAssignment (intervals_of f) places → (result : Result CodeTree F) →
+    IfOk result (λ code. code ≡ code_of f places frame) →
+    IfOk result (λ code. length code.instrs ≤ entry_weight f.params + weight f.body) →
+    IfOk result (IsEmitted f frame)
+result_emitted f places frame rules whole kept room small assigned (Ok found) is light =
+    subst (IsEmitted f frame) (sym is)
+    (is_emitted f places frame rules whole kept room small assigned
+    (subst (λ (code : CodeTree). length code.instrs ≤ entry_weight f.params + weight f.body) is light))
+result_emitted f places frame rules whole kept room small assigned (Err e) is light = tt

@@ -1,0 +1,152 @@
+-- Calls of the environment.
+use Rattle.std.proofs.Common.{◌≡◌, ℕ, ◌+◌, ◌*◌, ◌^◌, ◌<◌, ◌≤◌, true, false, List, [], ◌∷◌, ◌++◌, length, Option, None}
+use Rattle.std.proofs.Common.{refl, sym, ◌∙◌, ap, subst, arith, All, pos, append_assoc, append-nil}
+use Rattle.rv_code.specs.declared.instr.Instr.{Instr}
+use Rattle.rv_code.specs.declared.instr.Instr.TheVariants.{Ecall, OpImm}
+use Rattle.rv_code.specs.declared.instr.OpImmOp.TheVariants.{Addi}
+use Rattle.sc_core.specs.declared.expr.CallTarget.{CallTarget}
+use Rattle.sc_core.specs.declared.expr.CallTarget.TheVariants.{Input, Output}
+use Rattle.sc_core.specs.declared.value.Value.{Value}
+use Rattle.sc_core.specs.Value.{wrapping}
+use Rattle.sc_core.specs.Words.{State as Meant, Calls}
+use Rattle.sc_image.specs.WellFormed.{IsWord, IsWellFormed}
+use Rattle.sc_hart.specs.Code.{Fetches, CodeAt}
+use Rattle.sc_hart.proofs.Fetching.{back_at}
+use Rattle.sc_tac.specs.declared.frame.FrameTree.{FrameTree}
+use Rattle.sc_tac.specs.declared.stmt.TacStmt.TheOpen as tac
+use Rattle.sc_tac.specs.Code.{Temps, call_does, code_step}
+use Rattle.sc_tac.specs.Places.{IsClear}
+use Rattle.sc_tac.specs.Points.{Lives, plain_points, trail_step}
+use Rattle.sc_select.specs.Pieces.{a0, a7}
+use Rattle.sc_select.specs.Selection.{pass, receive, place_of, brought, environment_call, select_step}
+use Rattle.sc_pieces.specs.Pieces.{Computes}
+use Rattle.sc_pieces.proofs.Rows.{with_number}
+use Rattle.sc_relation.specs.Calls.{of_environment, ComesBack, CallStands, CallsFollow}
+use Rattle.sc_relation.specs.Frames.{Activation, IsActivation}
+use Rattle.sc_relation.specs.Stretches.{Setting, Joint, Standpoint, Leads}
+use Rattle.sc_relation.specs.Following.{Running, seen_from, Ready, Follows}
+use Rattle.sc_relation.proofs.Following.{IsBack, leads_more}
+use Rattle.sc_relation.proofs.Frames.{each_at}
+use Rattle.sc_relation.proofs.Settling.{moved}
+use Rattle.sc_relation.proofs.Straight.{live_plain, across_live, call_from, asked, leads_from}
+use Rattle.sc_emit.proofs.Arguments.{AreRead, read_length, Passes}
+use Rattle.sc_emit.proofs.Calls.{Answers, none_wanted, HasPlace, last_point, Prepares, goes, call_runs, passes_args}
+use Rattle.sc_emit.proofs.Calls.{prepared}
+use Rattle.sc_emit.proofs.Operands.{ArePlaced, world}
+use Rattle.sc_emit.proofs.Straight.{ComesStraight, straight_follows}
+
+module _ (T : Setting) (R : Running) (formed : IsWellFormed T.image) (inputs : All IsWord T.inputs) (cells : List ℕ)
+    (nodes : ℕ) (is : IsActivation T.performs cells R.places nodes R.activation) (placed : ArePlaced R) where
+  abbrev A : Activation
+  A = R.activation
+
+  abbrev P : Standpoint
+  P = seen_from R.activation
+
+  abbrev frame : FrameTree
+  frame = R.activation.frame
+
+  -- the environment leaves all that temporaries hold
+  asked_back : (reads : List ℕ) (dest : Option ℕ) (lives : Lives) (temps : Temps) (x : Joint) (target : CallTarget)
+      (left : ℕ) (v : Option Value) (meant : Meant) → of_environment target ≡ true →
+      Ready T R (live_plain reads dest lives) temps x → ComesBack T (call_from T R) x target v meant →
+      IsBack T R reads dest lives temps x left v meant
+  asked_back reads dest lives temps x target left v meant environment ready b =
+      let none : 0 + left ≡ left = omega arith in
+      let r : Ready T R (live_plain reads dest lives) temps b.y =
+      asked T R is.honest x b.y b.leads.effect (live_plain reads dest lives) temps ready b.settled b.sp
+      (λ q h. b.registers environment q (λ e. omega (arith, h.argument, e))) in
+      record {
+        y = b.y;
+        meant_is = b.meant_is;
+        pc = b.pc;
+        value = b.value;
+        leads = subst (Leads T P x b.y (1 + left)) none
+            (leads_more T P x b.y 1 0 left (leads_from T R x b.y 1 0 b.leads));
+        ready = record {
+          settled = r.settled;
+          frame = r.frame;
+          held = λ t v on e. r.held t v (across_live reads dest lives t on) e;
+          sp = r.sp;
+        };
+      }
+
+  module _ (calls : Calls) (follow : CallsFollow T calls) where
+    -- a7 says what is asked for
+    abbrev ask : ℕ → List Instr
+    ask number = OpImm Addi a7 0 (pos number) ∷ []
+
+    abbrev asking : (number : ℕ) → (dest : Option ℕ) → (args : List ℕ) → List Instr
+    asking number dest args = (pass frame R.places a0 args ++ ask number) ++ Ecall ∷ receive frame R.places dest
+
+    -- the number in a7 is that of the call
+    abbrev IsAsked : CallTarget → ℕ → Type 0
+    IsAsked target number =
+        (y : Joint) → Fetches T.image A.here.comp y.pc Ecall → y.regs a7 ≡ number →
+        CallStands T (call_from T R) y target
+
+    asks_prepared : (target : CallTarget) (number : ℕ) (dest : Option ℕ) (args : List ℕ) → length args ≤ 1 →
+        number < 2 ^ 32 → IsAsked target number → (lives : Lives) (temps : Temps) (x : Joint) →
+        Ready T R (live_plain args dest lives) temps x →
+        CodeAt T.image A.here.comp x.pc (asking number dest args) → (vs : List Value) → AreRead temps args vs →
+        Prepares T R formed inputs cells nodes is placed target x (pass frame R.places a0 args ++ ask number) vs
+    asks_prepared target number dest args few small stands lives temps x ready code vs read =
+        let before : List Instr = pass frame R.places a0 args ++ ask number in
+        let p : Passes T R cells nodes is placed x ready.frame ready.sp x.regs a0 args vs =
+        passes_args T R formed inputs cells nodes is placed args dest lives temps x vs (omega (arith, few)) ready
+        read in
+        let u : Computes T.image T.inputs (world T R x) (ask number) [] p.after x.bytes a7 number =
+        with_number T.image T.inputs (world T R x) p.after x.bytes Addi a7 0 (pos number) 0 number
+        (record { above = omega arith; below = omega arith }) (omega arith) refl (omega (arith, small)) in
+        prepared T R formed inputs cells nodes is placed args x vs ready.frame ready.sp p target (ask number) a7 number
+        u (λ e. omega (arith, e)) (λ q h e. omega (arith, h.argument, e))
+        (λ i l e. omega (arith, l, e, few, read_length temps args vs read))
+        (λ low is_number. stands (moved x (x.pc + 4 * length before) u.after x.bytes)
+        (back_at T.image A.here.comp x.pc before (Ecall ∷ receive frame R.places dest) code).0 is_number)
+
+    asks : (target : CallTarget) (number : ℕ) (dest : Option ℕ) (args : List ℕ) → of_environment target ≡ true →
+        length args ≤ 1 → number < 2 ^ 32 → IsAsked target number →
+        HasPlace R.places dest → T.makes A.here.comp target (length args) ≡ true →
+        ((vs : List Value) (s : Meant) → Answers dest (calls A.here.comp target vs s)) →
+        (lives : Lives) (temps : Temps) (x : Joint) (left : ℕ) → Ready T R (live_plain args dest lives) temps x →
+        IsClear R.places (last_point dest lives) → CodeAt T.image A.here.comp x.pc (asking number dest args) →
+        ComesStraight T R lives x (asking number dest args) left (call_does A.here calls dest target args temps x.meant)
+    asks target number dest args environment few small stands there made answers lives temps x left ready clear code ends
+        left_is behind_is =
+        call_runs T R formed inputs cells nodes is placed calls follow target dest args there made answers lives temps clear
+        (λ y left v s ready b. asked_back args dest lives temps y target left v s environment ready b) x
+        (pass frame R.places a0 args ++ ask number) Ecall left ends left_is behind_is code ready
+        (asks_prepared target number dest args few small stands lives temps x ready code)
+
+    pub input_follows : (dest : Option ℕ) → HasPlace R.places dest → T.makes A.here.comp Input 0 ≡ true →
+        ((vs : List Value) (s : Meant) → Answers dest (calls A.here.comp Input vs s)) →
+        Follows T R (code_step wrapping A.here calls (tac.Input dest)) (select_step frame R.places (tac.Input dest))
+        (trail_step (tac.Input dest))
+    input_follows dest there made answers =
+        straight_follows T R (code_step wrapping A.here calls (tac.Input dest))
+        (environment_call 1 ++ receive frame R.places dest) (trail_step (tac.Input dest))
+        (goes T R formed inputs cells nodes is placed calls follow Input dest [])
+        (λ lives temps x left ready clear code.
+        asks Input 1 dest [] refl (omega arith) (omega arith) (λ y f e. (
+          f,
+          e,
+        )) there made answers lives temps x left ready
+        (each_at (IsClear R.places) (plain_points [] false dest lives) 1 _ clear refl) code)
+
+    pub output_follows : (value : ℕ) → T.makes A.here.comp Output 1 ≡ true →
+        Follows T R (code_step wrapping A.here calls (tac.Output value)) (select_step frame R.places (tac.Output value))
+        (trail_step (tac.Output value))
+    output_follows value made =
+        let first : List Instr = brought frame a0 (place_of frame R.places value) in
+        let whole : asking 2 None (value ∷ []) ≡ first ++ environment_call 2 =
+        ap (λ code. (code ++ ask 2) ++ Ecall ∷ []) (append-nil first) ∙ append_assoc first (ask 2) (Ecall ∷ []) in
+        straight_follows T R (code_step wrapping A.here calls (tac.Output value)) (first ++ environment_call 2)
+        (trail_step (tac.Output value))
+        (goes T R formed inputs cells nodes is placed calls follow Output None (value ∷ []))
+        (λ lives temps x left ready clear code.
+        subst (λ code. ComesStraight T R lives x code left
+        (call_does A.here calls None Output (value ∷ []) temps x.meant)) whole
+        (asks Output 2 None (value ∷ []) refl (omega arith) (omega arith) (λ y f e. (f, e)) tt made
+        (λ vs s. none_wanted (calls A.here.comp Output vs s)) lives temps x left ready
+        (each_at (IsClear R.places) (plain_points (value ∷ []) false None lives) 1 _ clear refl)
+        (subst (CodeAt T.image A.here.comp x.pc) (sym whole) code)))

@@ -1,0 +1,17 @@
+pub mod Arguments
+pub mod Branches
+pub mod Calls
+pub mod Choices
+pub mod Emission
+pub mod Entering
+pub mod Environment
+pub mod Functions
+pub mod Gaps
+pub mod Operands
+pub mod Operations
+pub mod Passing
+pub mod Plain
+pub mod Returns
+pub mod Statements
+pub mod Straight
+pub mod Targets

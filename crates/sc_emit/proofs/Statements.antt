@@ -1,0 +1,287 @@
+-- The code of statements follows what they do: by induction over their layers.
+use Rattle.std.proofs.Common.{◌≡◌, ℕ, ◌^◌, ◌<◌, ◌≤◌, Bool, true, false, List, [], ◌∷◌, map, length, Option}
+use Rattle.std.proofs.Common.{◌++◌, None, Some, refl, sym, subst, arith, All}
+use Rattle.std.specs.Prelude.{nat_lt, is_some, not, ◌||◌}
+use Rattle.std.specs.Bool.{beq}
+use Rattle.std.specs.List.{list_all}
+use Rattle.std.proofs.lemmas.Bool.{and_parts, ltb-true, leb-true}
+use Rattle.std.proofs.lemmas.Option.{slice_get-get_or}
+use Rattle.sc_core.specs.declared.expr.CallTarget.{CallTarget}
+use Rattle.sc_core.specs.declared.expr.CallTarget.TheVariants.{Own, Cross, Input, Output}
+use Rattle.sc_core.specs.declared.value.Value.{Value}
+use Rattle.sc_core.specs.Value.{wrapping}
+use Rattle.sc_core.specs.Words.{State as Meant, Here, Piece, Reached, Stopped, Calls, all_do}
+use Rattle.sc_image.specs.WellFormed.{IsWord, IsWellFormed}
+use Rattle.sc_tac.specs.declared.frame.FrameTree.{FrameTree}
+use Rattle.sc_tac.specs.declared.place.Place.TheVariants.{Register}
+use Rattle.sc_tac.specs.declared.stmt.Constant.{Constant}
+use Rattle.sc_tac.specs.declared.stmt.Constant.TheVariants as constant
+use Rattle.sc_tac.specs.declared.stmt.TacOp.{TacOp}
+use Rattle.sc_tac.specs.declared.stmt.TacOp.TheVariants as tacop
+use Rattle.sc_tac.specs.declared.stmt.TacStmt.{TacStmt, TacStmt-F, fold-roll-TacStmt, roll-TacStmt, map-TacStmt}
+use Rattle.sc_tac.specs.declared.stmt.TacStmt.TheOpen as tac
+use Rattle.sc_tac.specs.Code.{Codes, code_step, stmt_does, code_does}
+use Rattle.sc_tac.specs.Functions.{names_own_temps, names_own_object, has_operands, passes_few, has_words, has_elements}
+use Rattle.sc_tac.specs.Functions.{takes_two, counts_elements}
+use Rattle.sc_tac.specs.Parts.{one_or_none}
+use Rattle.sc_tac.specs.Points.{Trail, trail, trail_step}
+use Rattle.sc_tac.proofs.Induction.{Inside, stmt_induction}
+use Rattle.sc_select.specs.Selection.{Piece as Code, in_order, select, select_all, select_step, word_of_constant}
+use Rattle.sc_relation.specs.Calls.{CallsFollow, GivesValue}
+use Rattle.sc_relation.specs.Frames.{IsActivation}
+use Rattle.sc_relation.specs.Operators.{IsSound}
+use Rattle.sc_relation.specs.Stretches.{Setting}
+use Rattle.sc_relation.specs.Following.{Running, row, Follows}
+use Rattle.sc_relation.proofs.Frames.{object_there, object_inside}
+use Rattle.sc_relation.proofs.Jumps.{HasNoGap, break_follows, continue_follows}
+use Rattle.sc_relation.proofs.Loops.{loop_follows}
+use Rattle.sc_relation.proofs.Rows.{nothing_follows, row_follows}
+use Rattle.sc_emit.specs.Naming.{is_call, calls_only, AreReached}
+use Rattle.sc_emit.specs.Shapes.{names_only}
+use Rattle.sc_emit.proofs.Calls.{Answers, HasPlace, call_own_follows, call_cross_follows}
+use Rattle.sc_emit.proofs.Choices.{fork_follows}
+use Rattle.sc_emit.proofs.Environment.{input_follows, output_follows}
+use Rattle.sc_emit.proofs.Operands.{ArePlaced}
+use Rattle.sc_emit.proofs.Operations.{op_follows, load_follows, store_follows}
+use Rattle.sc_emit.proofs.Passing.{Test, PassesAll, AllPass, PassesHere, first_passes, rest_pass, passes_here}
+use Rattle.sc_emit.proofs.Passing.{choice_passes}
+use Rattle.sc_emit.proofs.Passing.{loop_passes}
+use Rattle.sc_emit.proofs.Plain.{const_follows, copy_follows, object_follows, global_follows}
+use Rattle.sc_emit.proofs.Returns.{return_follows}
+use Rattle.sc_core.proofs.Induction.{Each, everywhere}
+
+beq_same : (a b : Bool) → beq a b ≡ true → a ≡ b
+beq_same true true h = refl
+beq_same true false h = cc h
+beq_same false true h = cc h
+beq_same false false h = refl
+
+module _ (T : Setting) (R : Running) (formed : IsWellFormed T.image) (inputs : All IsWord T.inputs) (cells : List ℕ)
+    (nodes : ℕ) (is : IsActivation T.performs cells R.places nodes R.activation) (placed : ArePlaced R)
+    (gapless : HasNoGap T R) (calls : Calls) (follow : CallsFollow T calls) (function : ℕ → Bool)
+    (entry : (comp index : ℕ) → Bool) (global : ℕ → Bool)
+    (reached : AreReached T R.activation.here.comp function entry global) where
+  abbrev here : Here
+  here = R.activation.here
+
+  abbrev frame : FrameTree
+  frame = R.activation.frame
+
+  -- what statements of the function keep
+  abbrev tests : List Test
+  tests =
+      names_own_temps (length R.places) ∷ names_own_object (length cells) ∷ has_operands ∷ passes_few ∷ has_words ∷
+      has_elements ∷ names_only function entry global ∷ calls_only (T.makes here.comp) (T.gives here.comp) ∷ []
+
+  abbrev does : TacStmt → Codes
+  does = stmt_does wrapping here calls
+
+  abbrev code : TacStmt → Code
+  code = select frame R.places
+
+  abbrev Followed : TacStmt → Type 0
+  Followed stmt =
+      PassesAll tests stmt → (code stmt).size ≤ T.turn_pays → Follows T R (does stmt) (code stmt) (trail stmt)
+
+  -- Statements in order.
+  row_of : (stmts : List TacStmt) → Each Followed stmts → AllPass tests stmts →
+      (in_order (map code stmts)).size ≤ T.turn_pays →
+      Follows T R (all_do (map does stmts)) (in_order (map code stmts)) (row (map trail stmts))
+  row_of [] each pass few = nothing_follows T R
+  row_of (stmt ∷ rest) each pass few =
+      row_follows T R (does stmt) (all_do (map does rest)) (code stmt) (in_order (map code rest)) (trail stmt)
+      (map trail rest) (each.0 (first_passes tests stmt rest pass) (omega (arith, few)))
+      (row_of rest each.1 (rest_pass tests stmt rest pass) (omega (arith, few)))
+
+  -- A statement by its outermost layer.
+  abbrev Shape : TacStmt-F TacStmt → Type 0
+  Shape layer =
+      PassesHere tests layer → PassesAll tests (roll-TacStmt layer) →
+      (select_step frame R.places (map-TacStmt _ _ code layer)).size ≤ T.turn_pays →
+      Follows T R (code_step wrapping here calls (map-TacStmt _ _ does layer))
+      (select_step frame R.places (map-TacStmt _ _ code layer)) (trail_step (map-TacStmt _ _ trail layer))
+
+  -- shut in a record: the kernel compares clauses' types, and would open an abbreviation there
+  record Level (layer : TacStmt-F TacStmt) : Type 0 where
+    holds : Shape layer
+
+  -- the place of a temporary that a statement names first
+  place_there : (t : ℕ) (rest : List ℕ) → list_all (λ t. nat_lt t (length R.places)) (t ∷ rest) ≡ true →
+      HasPlace R.places (Some t)
+  place_there t rest h =
+      let below : t < length R.places =
+      ltb-true t (length R.places) (and_parts (nat_lt t (length R.places)) _ h).0 in
+      (_, slice_get-get_or R.places t (Register 0) below)
+
+  place_wanted : (dest : Option ℕ) (rest : List ℕ) →
+      list_all (λ t. nat_lt t (length R.places)) (one_or_none dest ++ rest) ≡ true → HasPlace R.places dest
+  place_wanted None rest h = tt
+  place_wanted (Some dest) rest h = place_there dest rest h
+
+  -- a constant is a word
+  is_word : (dest : ℕ) (value : Constant) → has_words (tac.Const dest value) ≡ true → word_of_constant value < 2 ^ 32
+  is_word dest (constant.Word w) h = ltb-true w (2 ^ 32) h
+  is_word dest constant.Null h = omega arith
+
+  -- a call may be made, and gives a value where one is wanted
+  made : (dest : Option ℕ) (target : CallTarget) (args : ℕ) →
+      is_call (T.makes here.comp) (T.gives here.comp) target args dest ≡ true → T.makes here.comp target args ≡ true
+  made dest target args h = (and_parts (T.makes here.comp target args) _ h).0
+
+  answers_by : (dest : Option ℕ) (target : CallTarget) (piece : Piece (Option Value)) →
+      (not (is_some dest) || T.gives here.comp target) ≡ true → (T.gives here.comp target ≡ true → GivesValue piece) →
+      Answers dest piece
+  answers_by None target (Reached v s) h g = tt
+  answers_by None target (Stopped end s) h g = tt
+  answers_by (Some dest) target (Reached None s) h g = let never : false ≡ true = g h in cc never
+  answers_by (Some dest) target (Reached (Some v) s) h g = tt
+  answers_by (Some dest) target (Stopped end s) h g = tt
+
+  answers : (dest : Option ℕ) (target : CallTarget) (args : ℕ) →
+      is_call (T.makes here.comp) (T.gives here.comp) target args dest ≡ true → (vs : List Value) (s : Meant) →
+      Answers dest (calls here.comp target vs s)
+  answers dest target args h vs s =
+      answers_by dest target (calls here.comp target vs s) (and_parts (T.makes here.comp target args) _ h).1
+      (follow.answers here.comp target vs s)
+
+  const_level : (dest : ℕ) (value : Constant) → Shape (tac.Const dest value)
+  const_level dest value h all few =
+      let place = place_there dest [] h.0 in
+      const_follows T R formed inputs cells nodes is placed calls dest value place.0 place.1
+      (is_word dest value h.1.1.1.1.0)
+
+  copy_level : (dest from : ℕ) → Shape (tac.Copy dest from)
+  copy_level dest from h all few =
+      let place = place_there dest (from ∷ []) h.0 in
+      copy_follows T R formed inputs cells nodes is placed calls dest from place.0 place.1
+
+  object_level : (dest object : ℕ) → Shape (tac.ObjectPlace dest object)
+  object_level dest object h all few =
+      let place = place_there dest [] h.0 in
+      let below : object < length cells = ltb-true object (length cells) h.1.0 in
+      let its = slice_get-get_or cells object 0 below in
+      let there = object_there cells R.places nodes frame is.room object _ its in
+      object_follows T R formed inputs cells nodes is placed calls dest object there.0 place.0 place.1 there.1
+      (omega (arith, object_inside cells R.places nodes frame is.room object there.0 _ there.1 its))
+
+  global_level : (dest number : ℕ) → Shape (tac.GlobalPlace dest number)
+  global_level dest number h all few =
+      let place = place_there dest [] h.0 in
+      global_follows T R formed inputs cells nodes is placed calls dest number place.0 place.1
+      (reached.globals number h.1.1.1.1.1.1.0) (reached.places number h.1.1.1.1.1.1.0)
+
+  load_level : (dest place : ℕ) (pointer : Bool) → Shape (tac.Load dest place pointer)
+  load_level dest place pointer h all few =
+      let to = place_there dest (place ∷ []) h.0 in
+      load_follows T R formed inputs cells nodes is placed calls dest place pointer to.0 to.1
+
+  own_level : (dest : Option ℕ) (number : ℕ) (args : List ℕ) → Shape (tac.CallOwn dest number args)
+  own_level dest number args h all few =
+      let address = reached.functions number h.1.1.1.1.1.1.0 in
+      call_own_follows T R formed inputs cells nodes is placed calls follow dest (place_wanted dest args
+      h.0) number args
+      (leb-true (length args) 8 h.1.1.1.0) (omega (arith, address.low))
+      (made dest (Own number) (length args) h.1.1.1.1.1.1.1.0)
+      (answers dest (Own number) (length args) h.1.1.1.1.1.1.1.0)
+
+  cross_level : (dest : Option ℕ) (comp index : ℕ) (args : List ℕ) → Shape (tac.CallCross dest comp index args)
+  cross_level dest comp index args h all few =
+      let address = reached.entries comp index h.1.1.1.1.1.1.0 in
+      call_cross_follows T R formed inputs cells nodes is placed calls follow dest (place_wanted dest args
+      h.0) comp index
+      args (leb-true (length args) 8 h.1.1.1.0) (omega (arith, address.low)) (omega (arith, address.aligned))
+      (made dest (Cross comp index) (length args) h.1.1.1.1.1.1.1.0)
+      (answers dest (Cross comp index) (length args) h.1.1.1.1.1.1.1.0)
+
+  input_level : (dest : Option ℕ) → Shape (tac.Input dest)
+  input_level dest h all few =
+      input_follows T R formed inputs cells nodes is placed calls follow dest (place_wanted dest [] h.0)
+      (made dest Input 0 h.1.1.1.1.1.1.1.0) (answers dest Input 0 h.1.1.1.1.1.1.1.0)
+
+  if_level : (cond : ℕ) (first second : List TacStmt) → Each Followed first → Each Followed second →
+      Shape (tac.If cond first second)
+  if_level cond first second each each' h all few =
+      let pass = choice_passes tests cond first second all in
+      fork_follows T R formed inputs cells nodes is placed gapless cond (all_do (map does first)) (all_do (map does
+      second))
+      (in_order (map code first)) (in_order (map code second)) (map trail first) (map trail second)
+      (row_of first each pass.0 (omega (arith, few))) (row_of second each' pass.1 (omega (arith, few)))
+
+  loop_level : (head body next : List TacStmt) → Each Followed head → Each Followed body → Each Followed next →
+      Shape (tac.Loop head body next)
+  loop_level head body next each each' each'' h all few =
+      let pass = loop_passes tests head body next all in
+      loop_follows T R formed inputs (all_do (map does head)) (all_do (map does body)) (all_do (map does next))
+      (in_order (map code head)) (in_order (map code body)) (in_order (map code next)) (map trail head) (map trail body)
+      (map trail next) (row_of head each pass.0 (omega (arith, few))) (row_of body each' pass.1 (omega (arith, few)))
+      (row_of next each'' pass.2 (omega (arith, few))) few
+
+  -- the operator counts elements of few cells, if it counts any
+  is_sound : (o : TacOp) → counts_elements o ≡ true → IsSound o
+  is_sound (tacop.Unary o scalar) h = tt
+  is_sound (tacop.Binary o scalar) h = tt
+  is_sound tacop.PointerNot h = tt
+  is_sound (tacop.PointerMove minus cells index) h = tt
+  is_sound (tacop.PointerMember offset) h = tt
+  is_sound (tacop.PointerDifference cells) h =
+      let both = and_parts (nat_lt 0 cells) (nat_lt cells (2 ^ 29)) h in
+      record { some = ltb-true 0 cells both.0; few = ltb-true cells (2 ^ 29) both.1 }
+  is_sound (tacop.PointerCompare o) h = tt
+
+  op_level : (dest : ℕ) (o : TacOp) (left : ℕ) (right : Option ℕ) → Shape (tac.Op dest o left right)
+  op_level dest o left right h all few =
+      let place = place_there dest (left ∷ one_or_none right) h.0 in
+      op_follows T R formed inputs cells nodes is placed calls dest o left place.0 place.1 right
+      (beq_same (is_some right) (takes_two o) h.1.1.0) (is_sound o h.1.1.1.1.1.0)
+
+  level : (layer : TacStmt-F TacStmt) → Inside Followed layer → Level layer
+  level (tac.Const dest value) inner = record { holds = const_level dest value }
+  level (tac.Copy dest from) inner = record { holds = copy_level dest from }
+  level (tac.Op dest o left right) inner = record { holds = op_level dest o left right }
+  level (tac.ObjectPlace dest object) inner = record { holds = object_level dest object }
+  level (tac.GlobalPlace dest number) inner = record { holds = global_level dest number }
+  level (tac.Load dest place pointer) inner = record { holds = load_level dest place pointer }
+  level (tac.Store place value) inner =
+      record { holds = λ h all few. store_follows T R formed inputs cells nodes is placed calls place value }
+  level (tac.If cond first second) inner = record { holds = if_level cond first second inner.0 inner.1 }
+  level (tac.Loop head body next) inner = record { holds = loop_level head body next inner.0 inner.1 inner.2 }
+  level tac.Break inner = record { holds = λ h all few. break_follows T R formed inputs gapless }
+  level tac.Continue inner = record { holds = λ h all few. continue_follows T R formed inputs gapless }
+  level (tac.CallOwn dest number args) inner = record { holds = own_level dest number args }
+  level (tac.CallCross dest comp index args) inner = record { holds = cross_level dest comp index args }
+  level (tac.Input dest) inner = record { holds = input_level dest }
+  level (tac.Output value) inner =
+      record {
+        holds = λ h all few. output_follows T R formed inputs cells nodes is placed calls follow value (made
+            None Output 1 h.1.1.1.1.1.1.1.0);
+      }
+  level (tac.Return value) inner =
+      record { holds = λ h all few. return_follows T R formed inputs cells nodes is placed calls value }
+
+  from_level : (layer : TacStmt-F TacStmt) → Level layer → Followed (roll-TacStmt layer)
+  from_level layer l pass few =
+      let c : code (roll-TacStmt layer) ≡ select_step frame R.places (map-TacStmt _ _ code layer) =
+      fold-roll-TacStmt Code (select_step frame R.places) layer in
+      let d : does (roll-TacStmt layer) ≡ code_step wrapping here calls (map-TacStmt _ _ does layer) =
+      fold-roll-TacStmt Codes (code_step wrapping here calls) layer in
+      let t : trail (roll-TacStmt layer) ≡ trail_step (map-TacStmt _ _ trail layer) =
+      fold-roll-TacStmt Trail trail_step layer in
+      subst (λ d. Follows T R d (code (roll-TacStmt layer)) (trail (roll-TacStmt layer))) (sym d)
+      (subst (λ c. Follows T R (code_step wrapping here calls (map-TacStmt _ _ does layer)) c (trail (roll-TacStmt
+      layer)))
+      (sym c)
+      (subst (λ t. Follows T R (code_step wrapping here calls (map-TacStmt _ _ does layer))
+      (select_step frame R.places (map-TacStmt _ _ code layer)) t) (sym t)
+      (l.holds (passes_here tests layer pass) pass (subst (λ c. c.size ≤ T.turn_pays) c few))))
+
+  pub stmt_follows : (stmt : TacStmt) → Followed stmt
+  stmt_follows = stmt_induction Followed (λ layer inner. from_level layer (level layer inner))
+
+  -- statements in order
+  pub body_follows : (stmts : List TacStmt) → AllPass tests stmts → (select_all frame R.places
+      stmts).size ≤ T.turn_pays →
+      Follows T R (code_does wrapping here calls stmts) (select_all frame R.places stmts) (row (map trail stmts))
+  body_follows stmts pass few = row_of stmts (every stmts) pass few
+    where
+      every : (stmts : List TacStmt) → Each Followed stmts
+      every stmts = everywhere Followed stmt_follows stmts

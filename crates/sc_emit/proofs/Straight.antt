@@ -1,0 +1,83 @@
+-- Statements without others inside, as straight code.
+use Rattle.std.proofs.Common.{◌≡◌, ℕ, ◌+◌, ◌*◌, List, length, None}
+use Rattle.std.proofs.Common.{Result, Ok, Err, refl, sym, ap, subst, inl, All}
+use Rattle.std.proofs.lemmas.List.{length-map}
+use Rattle.rv_code.specs.declared.instr.Instr.{Instr}
+use Rattle.sc_core.specs.declared.cause.Cause.{Cause}
+use Rattle.sc_core.specs.declared.value.Value.{Value}
+use Rattle.sc_core.specs.Words.{State as Meant, Here, Piece, Reached, Left, Next, and_then, computed}
+use Rattle.sc_laws.specs.Growth.{Goes}
+use Rattle.sc_laws.proofs.Growing.{same}
+use Rattle.sc_hart.specs.Code.{CodeAt}
+use Rattle.sc_tac.specs.Code.{Temps, Codes, known, read}
+use Rattle.sc_tac.specs.Places.{IsClear}
+use Rattle.sc_tac.specs.Points.{Lives, Trail}
+use Rattle.sc_select.specs.Lines.{Line, plain, plainly}
+use Rattle.sc_select.specs.Selection.{straight, straightly}
+use Rattle.sc_relation.specs.Linking.{completed, low_after}
+use Rattle.sc_relation.specs.Stretches.{Setting, Joint}
+use Rattle.sc_relation.specs.Following.{Running, Ends, ends_of, live_at, Ready, Arrives, Comes, Follows}
+use Rattle.sc_relation.proofs.Lines.{low_plainly, plainly_at}
+
+-- what is computed only goes on
+pub computed_goes : {V W : Type 0} (here : Here) (result : Result V Cause) (go : V → Meant → Piece W) →
+    ((v : V) → Goes (go v)) → Goes (λ s. and_then (computed here 0 result s) go)
+computed_goes here (Ok v) go h s = h v s
+computed_goes here (Err cause) go h s = record { grown = same s; stop = tt }
+
+pub read_goes : {W : Type 0} (here : Here) (t : ℕ) (temps : Temps) (go : Value → Meant → Piece W) →
+    ((v : Value) → Goes (go v)) → Goes (λ s. and_then (read here t temps s) go)
+read_goes here t temps go h = computed_goes here (known (temps t)) go h
+
+module _ (T : Setting) (R : Running) where
+  -- what straight code comes to, wherever else its ends lead
+  abbrev pub ComesStraight : Lives → Joint → (instrs : List Instr) → (left : ℕ) → Piece (Left Temps) → Type 0
+  ComesStraight lives x instrs left piece =
+      (ends : Ends) → ends.left ≡ left → ends.behind ≡ x.pc + 4 * length instrs →
+      Comes T R lives x (length instrs + left) ends piece
+
+  -- it arrives behind
+  pub comes_behind : (lives : Lives) (x : Joint) (instrs : List Instr) (left : ℕ) (temps : Temps) (s : Meant) →
+      Arrives T R lives.behind x (length instrs + left) left temps s (x.pc + 4 * length instrs) →
+      ComesStraight lives x instrs left (Reached (record { exit = Next; carried = temps }) s)
+  comes_behind lives x instrs left temps s g ends e f =
+      inl (subst (λ pc. Arrives T R lives.behind x (length instrs + left) ends.left temps s pc) (sym f)
+      (subst (λ n. Arrives T R lives.behind x (length instrs + left) n temps s (x.pc + 4 * length instrs)) (sym e) g))
+
+  -- lines, some of which the linker completes, follow a statement
+  pub lines_follow : (does : Codes) (lines : List Line) (trail : Trail) →
+      low_after (T.addresses R.activation.here.comp) None lines ≡ None → ((temps : Temps) → Goes (does temps)) →
+      ((lives : Lives) (temps : Temps) (x : Joint) (left : ℕ) → Ready T R (live_at trail lives) temps x →
+      All (IsClear R.places) (trail.points lives) →
+      CodeAt T.image R.activation.here.comp x.pc
+      (completed (T.addresses R.activation.here.comp) x.pc None lines) → (ends : Ends) → ends.left ≡ left →
+      ends.behind ≡ x.pc + 4 * length lines →
+      Comes T R lives x (length lines + left) ends (does temps x.meant)) → Follows T R does (straight lines) trail
+  lines_follow does lines trail closed goes runs = record {
+    sized = λ to_break to_continue. refl;
+    closed = λ to_break to_continue. closed;
+    goes = goes;
+    runs = λ lives temps x left to_break to_continue starts.
+        runs lives temps x left starts.ready starts.clear starts.stands
+        (ends_of (straight lines) x.pc left to_break to_continue) refl refl;
+  }
+
+  -- straight code follows a statement
+  pub straight_follows : (does : Codes) (instrs : List Instr) (trail : Trail) → ((temps : Temps) → Goes (does temps)) →
+      ((lives : Lives) (temps : Temps) (x : Joint) (left : ℕ) → Ready T R (live_at trail lives) temps x →
+      All (IsClear R.places) (trail.points lives) → CodeAt T.image R.activation.here.comp x.pc instrs →
+      ComesStraight lives x instrs left (does temps x.meant)) →
+      Follows T R does (straightly R.activation.frame R.places instrs) trail
+  straight_follows does instrs trail goes runs = record {
+    sized = λ to_break to_continue. refl;
+    closed = λ to_break to_continue. low_plainly (T.addresses R.activation.here.comp) instrs;
+    goes = goes;
+    runs = λ lives temps x left to_break to_continue starts.
+        (let long : length (plainly instrs) ≡ length instrs = length-map instrs plain in
+        let ends : Ends =
+        ends_of (straightly R.activation.frame R.places instrs) x.pc left to_break to_continue in
+        subst (λ n. Comes T R lives x (n + left) ends (does temps x.meant)) (sym long)
+        (runs lives temps x left starts.ready starts.clear
+        (plainly_at (T.addresses R.activation.here.comp) T.image R.activation.here.comp x.pc instrs starts.stands) ends
+        refl (ap (λ n. x.pc + 4 * n) long)));
+  }

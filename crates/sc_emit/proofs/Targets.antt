@@ -1,0 +1,149 @@
+-- The relocations of a function's code name what its statements name.
+use Rattle.std.proofs.Common.{◌≡◌, ℕ, suc, Bool, true, List, [], ◌∷◌, ◌++◌, Option, None, Some, refl}
+use Rattle.std.proofs.Common.{sym, ◌∙◌, subst, map}
+use Rattle.std.specs.List.{list_all}
+use Rattle.std.specs.Prelude.{◌&&◌}
+use Rattle.std.proofs.lemmas.Bool.{and_from}
+use Rattle.rv_code.specs.declared.instr.Instr.{Instr}
+use Rattle.sc_base.proofs.Bools.{and_first, and_rest}
+use Rattle.sc_core.proofs.Induction.{Each, everywhere as each_of}
+use Rattle.sc_tac.specs.declared.frame.FrameTree.{FrameTree}
+use Rattle.sc_tac.specs.declared.function.TacFnTree.{TacFnTree}
+use Rattle.sc_tac.specs.declared.machine_code.Relocation.{Relocation}
+use Rattle.sc_tac.specs.declared.machine_code.Target.{Target}
+use Rattle.sc_tac.specs.declared.place.Place.{Place}
+use Rattle.sc_tac.specs.declared.stmt.TacStmt.{TacStmt, TacStmt-F, map-TacStmt, fold-TacStmt, fold-roll-TacStmt}
+unfoldable use Rattle.sc_tac.specs.declared.stmt.TacStmt.{roll-TacStmt}
+use Rattle.sc_tac.specs.declared.stmt.TacStmt.TheOpen as tac
+use Rattle.sc_tac.specs.Parts.{all_hold, everywhere, with_parts}
+use Rattle.sc_tac.proofs.Induction.{Inside, stmt_induction}
+use Rattle.sc_select.specs.Lines.{Line, plainly, relocation_of, relocations_from}
+use Rattle.sc_select.specs.Pieces.{a0}
+use Rattle.sc_select.specs.Selection.{Piece, straight, in_order, keep, pass, receive, call_own, call_cross}
+use Rattle.sc_select.specs.Selection.{environment_call}
+use Rattle.sc_select.specs.Selection.{place_of_global, select_step, select, select_all, function_lines, code_of}
+use Rattle.sc_emit.specs.Shapes.{names_only, is_named, refers_only}
+use Rattle.sc_emit.proofs.Branches.{all_append, PassesAll, IsMild, followed_passes, fork_passes, cycle_passes}
+use Rattle.sc_emit.proofs.Branches.{function_passes}
+
+module _ (function : ℕ → Bool) (entry : (comp index : ℕ) → Bool) (global : ℕ → Bool) where
+  abbrev own : TacStmt-F Bool → Bool
+  own = names_only function entry global
+
+  abbrev is_named_target : Option Target → Bool
+  is_named_target None = true
+  is_named_target (Some target) = is_named function entry global target
+
+  abbrev is_named_line : Line → Bool
+  is_named_line line = is_named_target line.target
+
+  named_mild : IsMild is_named_line
+  named_mild = record { mild = λ instr h. refl }
+
+  plainly_named : (instrs : List Instr) → list_all is_named_line (plainly instrs) ≡ true
+  plainly_named [] = refl
+  plainly_named (i ∷ is) = plainly_named is
+
+  -- RELOCATIONS
+  abbrev AllNamed : List Relocation → Type 0
+  AllNamed relocations = list_all {X = Relocation} (λ r. is_named function entry global r.target) relocations ≡ true
+
+  relocation_named : (at : ℕ) (target : Option Target) → is_named_target target ≡ true →
+      AllNamed (relocation_of at target)
+  relocation_named at None h = refl
+  relocation_named at (Some target) h = and_from (is_named function entry global target) true h refl
+
+  relocations_named : (at : ℕ) (lines : List Line) → list_all is_named_line lines ≡ true →
+      AllNamed (relocations_from at lines)
+  relocations_named at [] h = refl
+  relocations_named at (line ∷ lines) h =
+      all_append (λ r. is_named function entry global r.target) (relocation_of at line.target)
+      (relocations_from (suc at) lines)
+      (relocation_named at line.target (and_first (is_named_line line) (list_all is_named_line lines) h))
+      (relocations_named (suc at) lines (and_rest (is_named_line line) (list_all is_named_line lines) h))
+
+  -- STATEMENTS
+  module _ (frame : FrameTree) (places : List Place) where
+    abbrev named_inside : TacStmt → Bool
+    named_inside = fold-TacStmt Bool (with_parts own)
+
+    abbrev Named : TacStmt → Type 0
+    Named stmt = named_inside stmt ≡ true → PassesAll is_named_line (select frame places stmt)
+
+    row_named : (stmts : List TacStmt) → Each Named stmts → all_hold (map named_inside stmts) ≡ true →
+        PassesAll is_named_line (in_order (map (select frame places) stmts))
+    row_named [] h all = record { passes = λ b c. refl }
+    row_named (stmt ∷ rest) h all =
+        followed_passes is_named_line (select frame places stmt) (in_order (map (select frame places) rest))
+        (h.0 (and_first (named_inside stmt) (all_hold (map named_inside rest)) all))
+        (row_named rest h.1 (and_rest (named_inside stmt) (all_hold (map named_inside rest)) all))
+
+    straight_named : (lines : List Line) → list_all is_named_line lines ≡ true →
+        PassesAll is_named_line (straight lines)
+    straight_named lines h = record { passes = λ b c. h }
+
+    unlinked : (instrs : List Instr) → PassesAll is_named_line (straight (plainly instrs))
+    unlinked instrs = straight_named (plainly instrs) (plainly_named instrs)
+
+    global_named : (dest number : ℕ) → global number ≡ true →
+        PassesAll is_named_line (straight (place_of_global frame places dest number))
+    global_named dest number h = straight_named (place_of_global frame places dest number)
+        (and_from (global number) _ h (plainly_named (keep frame places dest)))
+
+    own_named : (dest : Option ℕ) (number : ℕ) (args : List ℕ) → function number ≡ true →
+        PassesAll is_named_line (straight (call_own frame places dest number args))
+    own_named dest number args h = straight_named (call_own frame places dest number args)
+        (all_append is_named_line (plainly (pass frame places a0 args)) _ (plainly_named (pass frame places a0 args))
+        (and_from (function number) _ h (plainly_named (receive frame places dest))))
+
+    cross_named : (dest : Option ℕ) (comp index : ℕ) (args : List ℕ) → entry comp index ≡ true →
+        PassesAll is_named_line (straight (call_cross frame places dest comp index args))
+    cross_named dest comp index args h = straight_named (call_cross frame places dest comp index args)
+        (all_append is_named_line (plainly (pass frame places a0 args)) _ (plainly_named (pass frame places a0 args))
+        (and_from (entry comp index) _ h (plainly_named (receive frame places dest))))
+
+    layer_named : (layer : TacStmt-F TacStmt) → Inside Named layer →
+        with_parts own (map-TacStmt _ _ named_inside layer) ≡ true →
+        PassesAll is_named_line (select_step frame places (map-TacStmt _ _ (select frame places) layer))
+    layer_named (tac.Const dest value) h all = unlinked _
+    layer_named (tac.Copy dest from) h all = unlinked _
+    layer_named (tac.Op dest o left right) h all = unlinked _
+    layer_named (tac.ObjectPlace dest object) h all = unlinked _
+    layer_named (tac.GlobalPlace dest number) h all = global_named dest number (and_first (global number) true all)
+    layer_named (tac.Load dest place pointer) h all = unlinked _
+    layer_named (tac.Store place value) h all = unlinked _
+    layer_named (tac.If cond first second) h all =
+        let a = all_hold (map named_inside first) in
+        let b = all_hold (map named_inside second) in
+        fork_passes is_named_line named_mild frame places cond (select_all frame places first)
+        (select_all frame places second) (row_named first h.0 (and_first a (b && true) all))
+        (row_named second h.1 (and_first b true (and_rest a (b && true) all)))
+    layer_named (tac.Loop head body next) h all =
+        let a = all_hold (map named_inside head) in
+        let b = all_hold (map named_inside body) in
+        let c = all_hold (map named_inside next) in
+        cycle_passes is_named_line named_mild frame places (select_all frame places head)
+        (select_all frame places body) (select_all frame places next)
+        (row_named head h.0 (and_first a (b && (c && true)) all))
+        (row_named body h.1 (and_first b (c && true) (and_rest a (b && (c && true)) all)))
+        (row_named next h.2 (and_first c true (and_rest b (c && true) (and_rest a (b && (c && true)) all))))
+    layer_named tac.Break h all = record { passes = λ b c. refl }
+    layer_named tac.Continue h all = record { passes = λ b c. refl }
+    layer_named (tac.CallOwn dest number args) h all = own_named dest number args (and_first (function number) true all)
+    layer_named (tac.CallCross dest comp index args) h all =
+        cross_named dest comp index args (and_first (entry comp index) true all)
+    layer_named (tac.Input dest) h all = unlinked (environment_call 1 ++ receive frame places dest)
+    layer_named (tac.Output value) h all = unlinked _
+    layer_named (tac.Return value) h all = unlinked _
+
+    stmt_named : (stmt : TacStmt) → Named stmt
+    stmt_named = stmt_induction Named (λ layer h all.
+        subst (PassesAll is_named_line) (sym (fold-roll-TacStmt Piece (select_step frame places) layer))
+        (layer_named layer h (sym (fold-roll-TacStmt Bool (with_parts own) layer) ∙ all)))
+
+  pub targets_named : (f : TacFnTree) (places : List Place) (frame : FrameTree) → everywhere own f.body ≡ true →
+      refers_only function entry global (code_of f places frame) ≡ true
+  targets_named f places frame h =
+      relocations_named 0 (function_lines frame places f)
+      (function_passes frame places is_named_line named_mild f
+      (row_named frame places f.body (each_of (Named frame places) (stmt_named frame places) f.body) h))

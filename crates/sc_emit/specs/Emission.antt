@@ -1,0 +1,56 @@
+-- What the code of a function keeps.
+use Rattle.std.specs.Prelude.{ℕ, ◌+◌, ◌*◌, ◌<◌, ◌≤◌, Bool, length, All, IsTrue}
+use Rattle.sc_core.specs.Growth.{Front}
+use Rattle.sc_core.specs.Value.{wrapping}
+use Rattle.sc_image.specs.WellFormed.{IsWord, IsWellFormed}
+use Rattle.sc_tac.specs.declared.frame.FrameTree.{FrameTree}
+use Rattle.sc_tac.specs.declared.function.TacFnTree.{TacFnTree}
+use Rattle.sc_tac.specs.declared.machine_code.CodeTree.{CodeTree}
+use Rattle.sc_tac.specs.Branches.{branches}
+use Rattle.sc_tac.specs.Code.{code_function}
+use Rattle.sc_tac.specs.Functions.{passes_words}
+use Rattle.sc_tac.specs.Parts.{everywhere}
+use Rattle.sc_tac.specs.Weights.{entry_weight, weight}
+use Rattle.sc_select.specs.Pieces.{frame_taken}
+use Rattle.sc_hart.specs.Code.{CodeAt}
+use Rattle.sc_relation.specs.Calls.{FunctionFollows}
+use Rattle.sc_relation.specs.Linking.{linked}
+use Rattle.sc_relation.specs.Stretches.{Setting}
+use Rattle.sc_emit.specs.Naming.{calls_only, AreReached}
+use Rattle.sc_emit.specs.Shapes.{code_branches, has_no_ebreak, names_only, refers_only}
+
+-- the linked code of a function stands at an address of a compartment, all that it names is where it can be reached, it
+-- makes the calls that may be made, its parameters are words, and a turn pays for it
+pub record IsPlaced (T : Setting) (comp address : ℕ) (f : TacFnTree) (code : CodeTree) : Type 0 where
+  pub image : IsWellFormed T.image
+  pub inputs : All IsWord T.inputs
+  pub function : ℕ → Bool
+  pub entry : (comp index : ℕ) → Bool
+  pub global : ℕ → Bool
+  pub names : IsTrue (everywhere (names_only function entry global) f.body)
+  pub calls : IsTrue (everywhere (calls_only (T.makes comp) (T.gives comp)) f.body)
+  pub reached : AreReached T comp function entry global
+  pub words : IsTrue (passes_words f.params f.objects)
+  pub paid : length code.instrs ≤ T.turn_pays
+  pub stands : CodeAt T.image comp address (linked (T.addresses comp) address code)
+
+-- wherever it is placed, the machine follows the function, whatever set of compartments performs
+abbrev pub CodeFollows : TacFnTree → CodeTree → Type 0
+CodeFollows f code =
+    (T : Setting) (comp address : ℕ) → IsPlaced T comp address f code →
+    FunctionFollows T comp address (length code.instrs) f.params (code_function wrapping f)
+
+pub record IsEmitted (f : TacFnTree) (frame : FrameTree) (code : CodeTree) : Type 0 where
+  -- steps are at least as many as turns, since each round of a loop begins with one; and, turns apart, at most as many
+  -- as
+  -- instructions, since none is executed twice without a turn between
+  pub follows : CodeFollows f code
+  -- the frame is taken, and ra stored at its bottom, before anything else
+  pub enters : Front (frame_taken frame.bytes) code.instrs
+  pub light : length code.instrs ≤ entry_weight f.params + weight f.body
+  pub short : length code.instrs < 24 * f.nodes
+  pub branches : code_branches code ≤ branches f.body
+  pub no_ebreak : IsTrue (has_no_ebreak code)
+  -- relocations name what statements name
+  pub names : (function : ℕ → Bool) (entry : (comp index : ℕ) → Bool) (global : ℕ → Bool) →
+      IsTrue (everywhere (names_only function entry global) f.body) → IsTrue (refers_only function entry global code)

@@ -1,0 +1,29 @@
+//! Emission: the code of a function, which a machine follows wherever the linker puts it.
+#![tactic(auto)]
+
+ghost use Rattle.std.specs.Prelude.{◌≡◌, ◌≤◌, ◌*◌, IfOk};
+ghost use Rattle.sc_tac.specs.Frames.{HasRoom};
+ghost use Rattle.sc_tac.specs.Intervals.{intervals_of};
+ghost use Rattle.sc_tac.specs.Places.{IsAssignment};
+ghost use Rattle.sc_select.specs.Selection.{code_of};
+ghost use Rattle.sc_emit.specs.Emission.{IsEmitted};
+
+use sc_base::OutOfMemory;
+use sc_tac::{Code, Frame, Places, TacFn};
+use std::alloc::Global;
+
+/// The code of a function whose temporaries lie in these places, with this frame.
+pub fn emit(alloc: Global, f: &TacFn, places: &Places, frame: &Frame) -> Result<Code, OutOfMemory>
+    requires reach { 96 * f.now.nodes ≤ 1048576 }
+    requires places { IsAssignment (intervals_of f.now) places.now }
+    requires room { HasRoom f.now.objects places.now f.now.nodes frame.now }
+    requires small { frame.now.bytes ≤ 32768 }
+    ensures code { IfOk result (λ code. code ≡ code_of f.now places.now frame.now) }
+    ensures emitted { IfOk result (IsEmitted f.now frame.now) }
+{
+    // That these keep their rules is told by reading them.
+    let _function = f.tree();
+    let _places = places.as_slice();
+    let _frame = frame.tree();
+    sc_select::select(alloc, f, places, frame)
+}

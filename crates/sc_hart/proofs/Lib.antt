@@ -1,0 +1,6 @@
+pub mod Fetching
+pub mod Inside
+pub mod Registers
+pub mod Steady
+pub mod Steps
+pub mod Words

@@ -1,0 +1,4 @@
+pub mod Code
+pub mod Hart
+pub mod Laws
+pub mod Words

@@ -1,0 +1,81 @@
+-- Words of the frame, near the stack pointer and far from it.
+use Rattle.std.proofs.Common.{◌≡◌, ◌≢◌, ℕ, ◌+◌, ◌^◌, ◌<◌, List, [], ◌∷◌, ◌++◌, Bool, true, false, if◌then◌else◌}
+use Rattle.std.proofs.Common.{refl, ◌∙◌, ap, arith}
+use Rattle.sc_word.specs.Prelude.{word_of, signed_of, add_word}
+use Rattle.rv_code.specs.declared.instr.Instr.TheVariants.{Load, Store}
+use Rattle.rv_code.specs.declared.instr.LoadOp.TheVariants.{Lw}
+use Rattle.rv_code.specs.declared.instr.StoreOp.TheVariants.{Sw}
+use Rattle.rv_code.specs.declared.instr.OpOp.TheVariants.{Add}
+use Rattle.sc_store.specs.Memory.{Memory}
+use Rattle.sc_image.specs.declared.parts.ImageParts.{ImageParts}
+use Rattle.sc_hart.specs.Hart.{Registers, look, World}
+use Rattle.sc_hart.specs.Words.{word}
+use Rattle.sc_select.specs.Pieces.{is_short, upper_part, lower_part, far_from_sp, load_word, store_word}
+use Rattle.sc_pieces.specs.Pieces.{IsWritable, IsFromSp, Computes, Stores}
+use Rattle.sc_pieces.proofs.Rows.{followed_by, stores_behind, computes, stored, looked, upper, of_two, loads, stores}
+use Rattle.sc_pieces.proofs.Numbers.{word_of-signed_of, parts}
+
+module _ (image : ImageParts) (inputs : List ℕ) (world : World) (memory : Memory) where
+  -- all of the address but for what the access adds
+  comes_near : (regs : Registers) (offset : ℕ) →
+      Computes image inputs world (far_from_sp offset) [] regs memory 7 (add_word (upper_part offset) (regs 2))
+  comes_near regs offset =
+      let first = upper image inputs world regs memory 7 (upper_part offset) (omega arith) in
+      let second = of_two image inputs world first.after memory Add 7 7 2 (upper_part offset) (regs 2)
+      (add_word (upper_part offset) (regs 2)) (omega arith) (omega arith) (omega arith) first.result
+      (first.others 2 (omega arith)) refl in
+      computes image inputs world [] (add_word (upper_part offset) (regs 2))
+      (followed_by image inputs world first second) refl (λ q k. (k.0, (k.0, tt)))
+
+  far_address : (regs : Registers) (offset a : ℕ) → IsFromSp image world regs offset a →
+      add_word (add_word (upper_part offset) (regs 2)) (word_of (lower_part offset)) ≡ a
+  far_address regs offset a at =
+      let sum : regs 2 + offset ≡ a = at.sum in
+      let below : a < 2 ^ 32 = at.below in
+      parts offset (regs 2) (omega arith) (omega arith) ∙ omega arith
+
+  near_address : (regs : Registers) (offset a : ℕ) → IsFromSp image world regs offset a →
+      add_word (regs 2) (word_of (signed_of offset)) ≡ a
+  near_address regs offset a at =
+      let sum : regs 2 + offset ≡ a = at.sum in
+      let below : a < 2 ^ 32 = at.below in
+      ap (add_word (regs 2)) (word_of-signed_of offset (omega arith)) ∙ omega arith
+
+  loads_by : (b : Bool) (regs : Registers) (rd offset a : ℕ) → IsWritable rd → IsFromSp image world regs offset a →
+      Computes image inputs world (if b then Load Lw rd 2 (signed_of offset) ∷ []
+      else far_from_sp offset ++ Load Lw rd 7 (lower_part offset) ∷ []) (7 ∷ []) regs memory rd (word memory a)
+  loads_by true regs rd offset a h at =
+      let near = loads image inputs world regs memory rd 2 (signed_of offset) a h (omega arith)
+      (near_address regs offset a at) at.owned in
+      computes image inputs world (7 ∷ []) (word memory a) near refl (λ q k. (k.0, tt))
+  loads_by false regs rd offset a h at =
+      let first = comes_near regs offset in
+      let second = loads image inputs world first.after memory rd 7 (lower_part offset) a h (omega arith)
+      (ap (λ x. add_word x (word_of (lower_part offset))) first.result ∙ far_address regs offset a at) at.owned in
+      followed_by image inputs world first second
+
+  -- the word at an offset from sp into a register
+  pub loads_word : (regs : Registers) (rd offset a : ℕ) → IsWritable rd → IsFromSp image world regs offset a →
+      Computes image inputs world (load_word rd offset) (7 ∷ []) regs memory rd (word memory a)
+  loads_word regs rd offset a h at = loads_by (is_short offset) regs rd offset a h at
+
+  stores_by : (b : Bool) (regs : Registers) (rs offset a v : ℕ) → rs < 32 → rs ≢ 7 → look regs rs ≡ v →
+      IsFromSp image world regs offset a →
+      Stores image inputs world (if b then Store Sw 2 rs (signed_of offset) ∷ []
+      else far_from_sp offset ++ Store Sw 7 rs (lower_part offset) ∷ []) (7 ∷ []) regs memory a v
+  stores_by true regs rs offset a v h not is at =
+      let near = stores image inputs world regs memory 2 rs (signed_of offset) a v (omega arith) h
+      (near_address regs offset a at) is at.owned in
+      stored image inputs world (7 ∷ []) near (λ q k. tt)
+  stores_by false regs rs offset a v h not is at =
+      let first = comes_near regs offset in
+      let second = stores image inputs world first.after memory 7 rs (lower_part offset) a v (omega arith) h
+      (ap (λ x. add_word x (word_of (lower_part offset))) first.result ∙ far_address regs offset a at)
+      (looked first.after regs rs v (first.others rs (not, tt)) is) at.owned in
+      stores_behind image inputs world first second
+
+  -- a register into the word at an offset from sp
+  pub stores_word : (regs : Registers) (rs offset a v : ℕ) → rs < 32 → rs ≢ 7 → look regs rs ≡ v →
+      IsFromSp image world regs offset a →
+      Stores image inputs world (store_word rs offset) (7 ∷ []) regs memory a v
+  stores_word regs rs offset a v h not is at = stores_by (is_short offset) regs rs offset a v h not is at

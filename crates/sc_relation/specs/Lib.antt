@@ -1,0 +1,7 @@
+pub mod Blocks
+pub mod Calls
+pub mod Following
+pub mod Frames
+pub mod Linking
+pub mod Stretches
+pub mod Operators

@@ -1,0 +1,70 @@
+-- Lines of code as the linker completes them: with the addresses of what they refer to.
+use Rattle.std.specs.Prelude.{ℕ, suc, pos, ◌+◌, ◌-ℤ◌, ◌==◌, if◌then◌else◌, List, [], ◌∷◌, Option, None, Some}
+use Rattle.rv_code.specs.declared.instr.Instr.{Instr}
+use Rattle.rv_code.specs.declared.instr.Instr.TheVariants.{Upper, Jal, Jalr, OpImm}
+use Rattle.sc_tac.specs.declared.machine_code.CodeTree.{CodeTree}
+use Rattle.sc_tac.specs.declared.machine_code.Relocation.{Relocation}
+use Rattle.sc_tac.specs.declared.machine_code.Target.{Target}
+use Rattle.sc_tac.specs.declared.machine_code.Target.TheVariants.{Function, Entry, Global}
+use Rattle.sc_select.specs.Lines.{Line}
+use Rattle.sc_select.specs.Pieces.{upper_part, lower_part}
+
+-- where what a compartment's code refers to begins: its functions, the entries of others, its globals
+pub record Addresses : Type 0 where
+  pub function : (number : ℕ) → ℕ
+  pub entry : (comp index : ℕ) → ℕ
+  pub global : (number : ℕ) → ℕ
+
+-- the instruction behind a LUI of an address adds its low 12 bits
+abbrev pub with_low : Option ℕ → Instr → Instr
+with_low (Some address) (OpImm op rd rs1 imm) = OpImm op rd rs1 (lower_part address)
+with_low (Some address) (Jalr rd rs1 imm) = Jalr rd rs1 (lower_part address)
+with_low low instr = instr
+
+module _ (addresses : Addresses) where
+  -- a jump to a function is as far as that is from pc; a LUI loads the high 20 bits
+  abbrev pub with_target : (pc : ℕ) → Option Target → Instr → Instr
+  with_target pc (Some (Function number)) (Jal rd imm) = Jal rd (pos (addresses.function number) -ℤ pos pc)
+  with_target pc (Some (Entry comp index)) (Upper op rd imm) = Upper op rd (upper_part (addresses.entry comp index))
+  with_target pc (Some (Global number)) (Upper op rd imm) = Upper op rd (upper_part (addresses.global number))
+  with_target pc target instr = instr
+
+  -- the address whose low 12 bits the next line adds
+  abbrev pub low_behind : Option Target → Option ℕ
+  low_behind (Some (Entry comp index)) = Some (addresses.entry comp index)
+  low_behind (Some (Global number)) = Some (addresses.global number)
+  low_behind target = None
+
+  -- the instructions of lines from pc on
+  abbrev pub completed : (pc : ℕ) → Option ℕ → List Line → List Instr
+  completed pc low [] = []
+  completed pc low (line ∷ lines) =
+      with_low low (with_target pc line.target line.instr) ∷ completed (pc + 4) (low_behind line.target) lines
+
+  -- what the line behind these adds
+  abbrev pub low_after : Option ℕ → List Line → Option ℕ
+  low_after low [] = low
+  low_after low (line ∷ lines) = low_after (low_behind line.target) lines
+
+  -- The same by the relocations of code, whose instructions are counted from a number on.
+
+  -- what the instruction at a number refers to, where it is the next to refer to something; and the relocations behind
+  -- it
+  abbrev pub target_at : ℕ → List Relocation → Option Target
+  target_at at [] = None
+  target_at at (relocation ∷ relocations) = if relocation.at == at then Some relocation.target else None
+
+  abbrev pub relocations_behind : ℕ → List Relocation → List Relocation
+  relocations_behind at [] = []
+  relocations_behind at (relocation ∷ relocations) =
+      if relocation.at == at then relocations else relocation ∷ relocations
+
+  abbrev pub linked_from : (pc at : ℕ) → Option ℕ → List Instr → List Relocation → List Instr
+  linked_from pc at low [] relocations = []
+  linked_from pc at low (instr ∷ instrs) relocations =
+      with_low low (with_target pc (target_at at relocations) instr) ∷
+      linked_from (pc + 4) (suc at) (low_behind (target_at at relocations)) instrs (relocations_behind at relocations)
+
+  -- the code of a function as it stands at an address
+  abbrev pub linked : (address : ℕ) → CodeTree → List Instr
+  linked address code = linked_from address 0 None code.instrs code.relocations
