@@ -14,12 +14,13 @@ use Rattle.sc_lower.proofs.Common.{is_plain_name, is_some, is_type, is_well_type
 use Rattle.sc_lower.proofs.Common.{length-append, length-map, list_all, list_any, local_fits, lowered_function, lt-ltb}
 use Rattle.sc_lower.proofs.Common.{main_fits, main_name, map, most_cells, most_exports, most_nodes, most_params}
 use Rattle.sc_lower.proofs.Common.{named_so, names_own_object, names_own_temps, nat_le, nat_lt, nodes, not, one_or_none}
-use Rattle.sc_lower.proofs.Common.{option_map, option_signature, own_names_differ, passed_fits, passes_few}
-use Rattle.sc_lower.proofs.Common.{passes_words, position, proto_signature, refl, result_fits, returns_result}
-use Rattle.sc_lower.proofs.Common.{same_base, same_import, same_signature, same_ty, same_types, scalar_ty, scope_of}
-use Rattle.sc_lower.proofs.Common.{signature_of, slice_get, slice_get-map, slice_index_or, stray_break, stray_continue}
-use Rattle.sc_lower.proofs.Common.{structs_fit, subst, suc, sym, takes_two, target_signature, total, true, type_within}
-use Rattle.sc_lower.proofs.Common.{variable_fits, variables, zero, ℕ, ◌&&◌, ◌++◌, ◌+◌, ◌<◌, ◌==◌, ◌∙◌, ◌∷◌, ◌≡◌, ◌≤◌}
+use Rattle.sc_lower.proofs.Common.{option_and_then, option_map, option_signature, own_names_differ, passed_fits}
+use Rattle.sc_lower.proofs.Common.{passes_few, passes_words, position, proto_signature, refl, result_fits}
+use Rattle.sc_lower.proofs.Common.{returns_result, same_base, same_import, same_signature, same_ty, same_types}
+use Rattle.sc_lower.proofs.Common.{scalar_ty, scope_of, signature_of, slice_get, slice_get-map, slice_index_or}
+use Rattle.sc_lower.proofs.Common.{stray_break, stray_continue, structs_fit, subst, suc, sym, takes_two}
+use Rattle.sc_lower.proofs.Common.{target_signature, total, true, type_within, variable_fits, variables, zero, ℕ, ◌&&◌}
+use Rattle.sc_lower.proofs.Common.{◌++◌, ◌+◌, ◌<◌, ◌==◌, ◌∙◌, ◌∷◌, ◌≡◌, ◌≤◌}
 use Rattle.std.proofs.lemmas.List.Sums.{AllPass-from_list_all}
 use Rattle.sc_tac.specs.declared.stmt.TacOp.TheVariants as tacop
 use Rattle.sc_event.specs.declared.interface.Import.TheVariants as import

@@ -4,7 +4,7 @@ use Rattle.sc_tac.proofs.Common.{Point, Share, Some, Span, TacFnTree, Within, []
 use Rattle.sc_tac.proofs.Common.{from_here, function_points, get_or, has_call, if◌then◌else◌, interval_of, intervals_of}
 use Rattle.sc_tac.proofs.Common.{is_one, is_used, list_any, map, one_or_none, or_first, or_left, or_right}
 use Rattle.sc_tac.proofs.Common.{range_with_len, refl, slice_get, span_from, subst, suc, take, true, zero, ℕ, ◌+◌, ◌-◌}
-use Rattle.sc_tac.proofs.Common.{◌<◌, ◌==◌, ◌∙◌, ◌∷◌, ◌≡◌, ◌≤◌}
+use Rattle.sc_tac.proofs.Common.{◌<◌, ◌==◌, ◌||◌, ◌∙◌, ◌∷◌, ◌≡◌, ◌≤◌}
 use Rattle.std.proofs.lemmas.Option.{same_Some, slice_get-get_or}
 use Rattle.sc_tac.specs.declared.place.Place.{Place}
 use Rattle.sc_tac.proofs.Owned.{OwnPoint, points_own}

@@ -2,7 +2,7 @@
 pub use Rattle.std.proofs.Common.{Bool, Err, IsTrue, List, None, Option, Result, Some, [], ap, arith, codes, drop}
 pub use Rattle.std.proofs.Common.{eq-eqb, eqb-true, false, get_or, if◌then◌else◌, ltb-true, map, nat_lt, not, refl}
 pub use Rattle.std.proofs.Common.{slice_get, subst, suc, sym, take, true, zero, ℕ, ⊎_elim, ◌&&◌, ◌*◌, ◌++◌, ◌+◌, ◌-◌}
-pub use Rattle.std.proofs.Common.{◌<◌, ◌==◌, ◌∙◌, ◌∷◌, ◌≡◌, ◌≤◌}
+pub use Rattle.std.proofs.Common.{◌<◌, ◌==◌, ◌||◌, ◌∙◌, ◌∷◌, ◌≡◌, ◌≤◌}
 pub use Rattle.std.proofs.lemmas.Bool.{or_cases, or_left, or_right}
 pub use Rattle.std.specs.List.{list_all, list_any, range_with_len}
 pub use Rattle.sc_event.specs.declared.interface.Interfaces.{Interfaces}

@@ -1,5 +1,5 @@
 -- What the code of a function keeps.
-use Rattle.std.specs.Prelude.{◌<◌, ℕ, suc, Bool, true, false, ◌==◌, List, length, All, AllPairs, Option, Some}
+use Rattle.std.specs.Prelude.{◌<◌, ℕ, suc, Bool, true, false, ◌==◌, List, length, All, AllPairs, Option, None, Some}
 use Rattle.std.specs.Prelude.{slice_get, IsTrue}
 use Rattle.rv_code.specs.declared.instr.Instr.{Instr}
 use Rattle.rv_code.specs.declared.instr.Instr.TheVariants.{Upper, Jal, Jalr, OpImm}
