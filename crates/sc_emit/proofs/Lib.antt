@@ -1,4 +1,5 @@
 pub mod Arguments
+pub mod AtStart
 pub mod Branches
 pub mod Calls
 pub mod Choices

@@ -88,9 +88,9 @@ module _ (T : Setting) where
     pub keeps : (k q : ℕ) → Protected P x.inj x.meant.memory k q → word y.bytes q ≡ word x.bytes q
     pub rooms : (k : ℕ) → open_room k y.meant ≡ open_room k x.meant
 
-  -- every compartment runs its code: only then is there an upper bound on steps
+  -- every compartment of the image runs its code: only then is there an upper bound on steps
   abbrev pub AllHonest : Type 0
-  AllHonest = (k : ℕ) → T.performs k ≡ false
+  AllHonest = (k : ℕ) → k < length T.image.comps → T.performs k ≡ false
 
   -- so many steps lead on both sides from x, with a budget of so many steps, to where this much of it and so many turns
   -- are left: a turn pays for steps
