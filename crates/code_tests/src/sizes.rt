@@ -117,7 +117,8 @@ fn long_text(alloc: Global, statements: usize) -> Result<Vec<u8>, OutOfMemory> {
     Ok(text)
 }
 
-// What a frame of so many slots takes, also where it doesn't fit: the return address, the slots and the cells of objects.
+// What a frame of so many slots takes, also where it doesn't fit: the return address, the slots and the cells of
+// objects.
 fn frame_bytes(slots: u32, objects: &[u32]) -> u32 {
     let mut cells = slots.saturating_add(1);
     for count in objects {
