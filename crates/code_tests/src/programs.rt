@@ -1,4 +1,5 @@
-//! Programs whose code is looked at: one for each way in which compartments and functions meet, and each kind of statement.
+//! Programs whose code is looked at: one for each way in which compartments and functions meet, and each kind of
+//! statement.
 
 const STORE: &[u8] = b"#pragma compartment Main
 #pragma import Net put

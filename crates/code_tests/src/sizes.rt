@@ -58,33 +58,51 @@ fn choices_of(text: &[u8]) -> u32 {
     count
 }
 
+// The text up to the end of its first function, and the rest, which begins at that end.
+fn split_function(text: &[u8]) -> (&[u8], &[u8]) {
+    for at in 1..text.len() {
+        if text[at..].starts_with(b"\n}\n") {
+            return text.split_at(at);
+        }
+    }
+    (text, b"")
+}
+
 #[test]
 fn functions_are_within_their_bounds(rt: HostRuntime) -> Result<(), Fail> {
     let alloc = rt.alloc();
+    let (mut all_branches, mut all_choices) = (0u32, 0u32);
     for text in PROGRAMS {
         let source = SourceText::read(alloc, text)?;
         let code = lower(alloc, source.program())?;
-        let mut branches = 0u32;
+        let mut rest: &[u8] = text;
         for section in code.tree().sections.as_slice() {
             for function in section.functions.as_slice() {
+                let (own, behind) = split_function(rest);
+                rest = behind;
                 let (temps, nodes) = (function.tree().temps, function.tree().nodes);
-                let weight = function.weight();
-                branches = branches.wrapping_add(function.branches());
+                let (weight, branches) = (function.weight(), function.branches());
+                let choices = choices_of(own);
                 assert!(rt; temps <= nodes);
                 assert!(rt; u64::from(weight) < 24 * u64::from(nodes));
+                assert_eq!(rt; branches, choices);
+                all_branches = all_branches.wrapping_add(branches);
                 let homes = homes_of(alloc, function)?.expect(&rt, "a frame that fits");
+                let _ = print!(rt;
+                    "{temps} temporaries of {nodes}, weight {weight}, {branches} branches of {choices}: "
+                );
                 let Homes {
                     registers,
                     slots,
                     bytes,
                 } = homes;
-                let _ = println!(rt;
-                    "{temps} temporaries of {nodes}, weight {weight}: {registers} in registers, {slots} slots, {bytes} bytes"
-                );
+                let _ = println!(rt; "{registers} in registers, {slots} slots, {bytes} bytes");
             }
         }
-        assert_eq!(rt; branches, choices_of(text));
+        all_choices = all_choices.wrapping_add(choices_of(text));
     }
+    let _ = println!(rt; "{all_branches} branches of {all_choices} in all");
+    assert_eq!(rt; all_branches, all_choices);
     Ok(())
 }
 
@@ -97,6 +115,16 @@ fn long_text(alloc: Global, statements: usize) -> Result<Vec<u8>, OutOfMemory> {
     }
     text.extend_from_slice(b"  return x;\n}\n")?;
     Ok(text)
+}
+
+// What a frame of so many slots takes, also where it doesn't fit: the return address, the slots and the cells of
+// objects.
+fn frame_bytes(slots: u32, objects: &[u32]) -> u32 {
+    let mut cells = slots.saturating_add(1);
+    for count in objects {
+        cells = cells.saturating_add(*count);
+    }
+    cells.saturating_mul(4)
 }
 
 #[test]
@@ -116,9 +144,10 @@ fn a_hundred_thousand_temporaries(rt: HostRuntime) -> Result<(), Fail> {
                 }
             }
             let temps = function.tree().temps;
+            let bytes = frame_bytes(slots, function.tree().objects.as_slice());
             assert!(rt; temps >= 100_000);
             assert_eq!(rt; slots, 0);
-            let _ = println!(rt; "{temps} temporaries in registers, {slots} slots, 4 bytes");
+            let _ = println!(rt; "{temps} temporaries in registers, {slots} slots, {bytes} bytes");
         }
     }
     Ok(())
