@@ -1,6 +1,5 @@
 -- The premises can be met: a function that names nothing and makes no call stands alone in an image, and is followed
--- from
--- the start of a run.
+-- from the start of a run.
 use Rattle.std.proofs.Common.{◌≡◌, ℕ, Bool, true, false, not, List, [], ◌∷◌, map, length}
 use Rattle.std.proofs.Common.{None, refl, sym, ◌∙◌, ap, arith, inl, All, append-nil}
 use Rattle.std.specs.Prelude.{◌⊎◌, ◌==◌, if◌then◌else◌}

@@ -42,8 +42,7 @@ CodeFollows f code =
 
 pub record IsEmitted (f : TacFnTree) (frame : FrameTree) (code : CodeTree) : Type 0 where
   -- steps are at least as many as turns, since each round of a loop begins with one; and, turns apart, at most as many
-  -- as
-  -- instructions, since none is executed twice without a turn between
+  -- as instructions, since none is executed twice without a turn between
   pub follows : CodeFollows f code
   -- the frame is taken, and ra stored at its bottom, before anything else
   pub enters : Front (frame_taken frame.bytes) code.instrs

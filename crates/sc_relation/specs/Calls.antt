@@ -83,8 +83,7 @@ module _ (T : Setting) where
   -- Functions.
 
   -- what a call of a function begins with: sp is the frame of its compartment's call before, or the top of its stack,
-  -- and
-  -- ra is where it returns to
+  -- and ra is where it returns to
   pub record Begins (P : Standpoint) (f : Function) (args : List Value) (address ra_is : ℕ) (x : Joint) : Type 0 where
     pub honest : T.performs P.comp ≡ false
     pub settled : Settled T P x

@@ -22,8 +22,7 @@ use Rattle.sc_relation.specs.Linking.{Addresses}
 use Rattle.sc_relation.specs.Blocks.{Injection, StandsFor, LiveAt, BlocksMatch, Guarded}
 
 -- what stays for a whole run: the image and the inputs, the compartments that perform in place of running their code,
--- how
--- many steps a turn pays for, where what code refers to lies, how many globals each compartment has, which calls
+-- how many steps a turn pays for, where what code refers to lies, how many globals each compartment has, which calls
 -- its code makes with so many arguments, and which of them come back with a value
 pub record Setting : Type 0 where
   pub image : ImageParts
@@ -46,8 +45,7 @@ pub record Joint : Type 0 where
   pub input : ℕ
 
 -- from where a stretch is seen: the active compartment, the open cross calls, the address from which on its stack
--- belongs
--- to calls before, and the floor of each compartment
+-- belongs to calls before, and the floor of each compartment
 pub record Standpoint : Type 0 where
   pub comp : ℕ
   pub cross : List Crossing
@@ -113,8 +111,7 @@ module _ (T : Setting) where
     pub costs : Costs steps budget 0 x.meant meant
 
   -- the one exception: a call has begun whose frame goes below its stack, and the machine stands trapped at its first
-  -- store.
-  -- The meaning goes on from there
+  -- store. The meaning goes on from there
   pub record Overflows {V : Type 0} (P : Standpoint) (x : Joint) (budget : ℕ) (piece : Piece V) : Type 0 where
     pub steps : ℕ
     pub reached : State

@@ -1,4 +1,3 @@
 //! How a state of the machine stands for a state of three-address code, and what it is for code to follow what
-//! statements
-//! and functions do (a simulation: Leroy, Formal verification of a realistic compiler).
+//! statements and functions do (a simulation: Leroy, Formal verification of a realistic compiler).
 #![tactic(auto)]
