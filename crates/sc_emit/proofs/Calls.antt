@@ -56,7 +56,7 @@ use Rattle.sc_relation.proofs.Lines.{completed_plainly, completed_length, low_ap
 use Rattle.sc_relation.proofs.Registers.{HasNoOtherUse, no_other_use, register_there}
 use Rattle.sc_relation.proofs.Settling.{moved}
 use Rattle.sc_relation.proofs.Straight.{assigns_register, assigns_slot, assigned_at, MovesOn, moves_on}
-use Rattle.sc_relation.proofs.Straight.{live_plain, or_left, call_from, settled_to}
+use Rattle.sc_relation.proofs.Straight.{live_plain, or_left, call_from, settled_to, shows_from, overflows_from}
 use Rattle.sc_relation.proofs.Stretches.{leads_none, comes_after, shows_less, overflows_with, arrives_with}
 use Rattle.sc_emit.proofs.Arguments.{AreRead, read_all_goes, comes_read_all, Passes, passes, read_length}
 use Rattle.sc_emit.proofs.Straight.{ComesStraight, lines_follow}
@@ -270,30 +270,13 @@ module _ (T : Setting) (R : Running) (formed : IsWellFormed T.image) (inputs : A
             (omega (arith, left_is)) (omega (arith, k.pc, behind_is))
             (receives lives temps k.y left args dest v k.ready clear k.value given there at))))
         came_back (Stopped end s) given g =
-            inl (shows_less T P y 1 budget s (omega arith) (record {
-              steps = g.steps;
-              reached = g.reached;
-              run = g.run;
-              trace = g.trace;
-              costs = g.costs;
-            }))
+            inl (shows_less T P y 1 budget s (omega arith) (shows_from T R y 1 s g))
 
         overflowed : (piece : Piece (Option Value)) → Overflows T (call_from T R) y 1 piece →
             Overflows T P y budget (and_then piece onwards)
         overflowed piece o =
             overflows_with T P y 1 budget piece (and_then piece onwards) (omega arith)
-            (then_from piece onwards (goes_on temps)) (record {
-              steps = o.steps;
-              reached = o.reached;
-              run = o.run;
-              traps = o.traps;
-              honest = o.honest;
-              begun = o.begun;
-              trace = o.trace;
-              deep = o.deep;
-              grown = o.grown;
-              costs = o.costs;
-            })
+            (then_from piece onwards (goes_on temps)) (overflows_from T R y 1 piece o)
 
         pub call_comes : (vs : List Value) → length vs ≡ length args → ArePassed (y.inj A.here.comp) y.regs vs →
             CallStands T (call_from T R) y target →

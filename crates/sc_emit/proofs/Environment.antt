@@ -23,12 +23,12 @@ use Rattle.sc_pieces.specs.Pieces.{Computes}
 use Rattle.sc_pieces.proofs.Rows.{with_number}
 use Rattle.sc_relation.specs.Calls.{of_environment, ComesBack, CallStands, CallsFollow}
 use Rattle.sc_relation.specs.Frames.{Activation, IsActivation}
-use Rattle.sc_relation.specs.Stretches.{Setting, Joint, Standpoint, Leads}
+use Rattle.sc_relation.specs.Stretches.{Setting, Joint, Standpoint}
 use Rattle.sc_relation.specs.Following.{Running, seen_from, Ready, Follows}
-use Rattle.sc_relation.proofs.Following.{IsBack, leads_more}
+use Rattle.sc_relation.proofs.Following.{IsBack, back_with}
 use Rattle.sc_relation.proofs.Frames.{each_at}
 use Rattle.sc_relation.proofs.Settling.{moved}
-use Rattle.sc_relation.proofs.Straight.{live_plain, across_live, call_from, asked, leads_from}
+use Rattle.sc_relation.proofs.Straight.{live_plain, across_live, call_from, asked}
 use Rattle.sc_emit.proofs.Arguments.{AreRead, read_length, Passes}
 use Rattle.sc_emit.proofs.Calls.{Answers, none_wanted, HasPlace, last_point, Prepares, goes, call_runs, passes_args}
 use Rattle.sc_emit.proofs.Calls.{prepared}
@@ -52,24 +52,16 @@ module _ (T : Setting) (R : Running) (formed : IsWellFormed T.image) (inputs : A
       Ready T R (live_plain reads dest lives) temps x → ComesBack T (call_from T R) x target v meant →
       IsBack T R reads dest lives temps x left v meant
   asked_back reads dest lives temps x target left v meant environment ready b =
-      let none : 0 + left ≡ left = omega arith in
       let r : Ready T R (live_plain reads dest lives) temps b.y =
       asked T R is.honest x b.y b.leads.effect (live_plain reads dest lives) temps ready b.settled b.sp
       (λ q h. b.registers environment q (λ e. omega (arith, h.argument, e))) in
-      record {
-        y = b.y;
-        meant_is = b.meant_is;
-        pc = b.pc;
-        value = b.value;
-        leads = subst (Leads T P x b.y (1 + left)) none
-            (leads_more T P x b.y 1 0 left (leads_from T R x b.y 1 0 b.leads));
-        ready = record {
-          settled = r.settled;
-          frame = r.frame;
-          held = λ t v on e. r.held t v (across_live reads dest lives t on) e;
-          sp = r.sp;
-        };
-      }
+      back_with T R reads dest lives temps x target left v meant b
+      (record {
+        settled = r.settled;
+        frame = r.frame;
+        held = λ t v on e. r.held t v (across_live reads dest lives t on) e;
+        sp = r.sp;
+      })
 
   module _ (calls : Calls) (follow : CallsFollow T calls) where
     -- a7 says what is asked for

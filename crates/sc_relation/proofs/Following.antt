@@ -60,12 +60,10 @@ module _ (T : Setting) (R : Running) where
     pub leads : Leads T P x y (1 + left) left
     pub ready : Ready T R (live_across reads true dest lives) temps y
 
-  pub is_back : (reads : List ℕ) (dest : Option ℕ) (lives : Lives) (temps : Temps) (x : Joint) (target : CallTarget)
-      (left : ℕ) (v : Option Value) (meant : Meant) → T.performs R.activation.here.comp ≡ false →
-      Ready T R (live_plain reads dest lives) temps x →
-      All (IsClear R.places) (plain_points reads true dest lives) → ComesBack T (call_from T R) x target v meant →
-      IsBack reads dest lives temps x left v meant
-  is_back reads dest lives temps x target left v meant honest ready clear b =
+  pub back_with : (reads : List ℕ) (dest : Option ℕ) (lives : Lives) (temps : Temps) (x : Joint) (target : CallTarget)
+      (left : ℕ) (v : Option Value) (meant : Meant) (b : ComesBack T (call_from T R) x target v meant) →
+      Ready T R (live_across reads true dest lives) temps b.y → IsBack reads dest lives temps x left v meant
+  back_with reads dest lives temps x target left v meant b ready =
       let none : 0 + left ≡ left = omega arith in
       record {
         y = b.y;
@@ -74,5 +72,14 @@ module _ (T : Setting) (R : Running) where
         value = b.value;
         leads = subst (Leads T P x b.y (1 + left)) none
             (leads_more T P x b.y 1 0 left (leads_from T R x b.y 1 0 b.leads));
-        ready = called T R honest x b.y b.leads.effect reads dest lives temps ready clear b.settled b.sp;
+        ready = ready;
       }
+
+  pub is_back : (reads : List ℕ) (dest : Option ℕ) (lives : Lives) (temps : Temps) (x : Joint) (target : CallTarget)
+      (left : ℕ) (v : Option Value) (meant : Meant) → T.performs R.activation.here.comp ≡ false →
+      Ready T R (live_plain reads dest lives) temps x →
+      All (IsClear R.places) (plain_points reads true dest lives) → ComesBack T (call_from T R) x target v meant →
+      IsBack reads dest lives temps x left v meant
+  is_back reads dest lives temps x target left v meant honest ready clear b =
+      back_with reads dest lives temps x target left v meant b
+      (called T R honest x b.y b.leads.effect reads dest lives temps ready clear b.settled b.sp)

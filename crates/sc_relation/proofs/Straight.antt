@@ -7,7 +7,7 @@ use Rattle.sc_core.specs.declared.value.Pointer.{Pointer}
 use Rattle.sc_core.specs.declared.value.Value.{Value}
 use Rattle.sc_core.specs.declared.value.Value.TheVariants.{Word, Null, Ptr}
 use Rattle.sc_core.specs.Memory.{Blocks, load, store}
-use Rattle.sc_core.specs.Words.{with_memory}
+use Rattle.sc_core.specs.Words.{State as Meant, Piece, with_memory}
 use Rattle.sc_store.specs.Memory.{Memory as Bytes}
 use Rattle.sc_image.specs.Walks.{Walks}
 use Rattle.sc_image.specs.WellFormed.{IsWord, IsWellFormed}
@@ -25,6 +25,7 @@ use Rattle.sc_hart.proofs.Words.{word_same}
 use Rattle.sc_relation.specs.Blocks.{StandsFor, Guarded}
 use Rattle.sc_relation.specs.Frames.{Activation, own_words, IsActivation, FrameMatches, InPlace}
 use Rattle.sc_relation.specs.Stretches.{Setting, Joint, Standpoint, machine, Settled, Protected, Effect, Leads}
+use Rattle.sc_relation.specs.Stretches.{Shows, Overflows}
 use Rattle.sc_relation.specs.Following.{Running, seen_from, Ready, Arrives}
 use Rattle.sc_relation.proofs.Frames.{each_at, own_inside}
 use Rattle.sc_relation.proofs.Held.{PlaceKept, frame_kept, kept_but_register, kept_but_slot, kept_all}
@@ -341,6 +342,30 @@ module _ (T : Setting) (R : Running) where
       });
       rooms = l.effect.rooms;
     };
+  }
+
+  pub shows_from : (x : Joint) (budget : ℕ) (meant : Meant) → Shows T call_from x budget meant → Shows T P x budget meant
+  shows_from x budget meant g = record {
+    steps = g.steps;
+    reached = g.reached;
+    run = g.run;
+    trace = g.trace;
+    costs = g.costs;
+  }
+
+  pub overflows_from : {V : Type 0} (x : Joint) (budget : ℕ) (piece : Piece V) → Overflows T call_from x budget piece →
+      Overflows T P x budget piece
+  overflows_from x budget piece o = record {
+    steps = o.steps;
+    reached = o.reached;
+    run = o.run;
+    traps = o.traps;
+    honest = o.honest;
+    begun = o.begun;
+    trace = o.trace;
+    deep = o.deep;
+    grown = o.grown;
+    costs = o.costs;
   }
 
   module _ (honest : T.performs R.activation.here.comp ≡ false) (x y : Joint) (effect : Effect T call_from x y) where
