@@ -16,8 +16,7 @@ use Rattle.sc_core.specs.Memory.{Blocks, with_blocks, cell_of, ended}
 use Rattle.sc_core.specs.Words.{Opened, Closed, State, Here, Piece, Reached, Stopped, and_then, turn, tell, Calls}
 
 -- a function as a call sees it, whatever it is written in: the cells of its variables, parameters first, the bytes of
--- its
--- frame at most, and what it does by what its calls do
+-- its frame at most, and what it does by what its calls do
 pub record Function : Type 0 where
   pub cells : List ℕ
   pub room : ℕ

@@ -1,6 +1,5 @@
 //! Elaboration: the program of a text is built from the trees of its sections, and the rules of types are judged on
-//! what
-//! is built.
+//! what is built.
 #![tactic(auto)]
 
 mod callees;

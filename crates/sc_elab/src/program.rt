@@ -45,8 +45,7 @@ fn build_sections(
 }
 
 /// The program of the sections of a text, whose interfaces are these; it needs no rule of the language to hold. There
-/// is
-/// no memory for a type with 2^64 or more `*`, nor for a list with more than 4294967295 names.
+/// is no memory for a type with 2^64 or more `*`, nor for a list with more than 4294967295 names.
 pub fn build_program(
     alloc: Global,
     sections: &[SectionTree],

@@ -40,7 +40,7 @@ use Rattle.sc_tac.specs.declared.stmt.TacStmt.TheOpen as tac
 use Rattle.sc_tac.specs.Branches.{branch_step, branches, stmt_branches}
 use Rattle.sc_tac.proofs.Induction.{Inside, stmt_induction}
 use Rattle.sc_tac.specs.Functions.{passes_few}
-use Rattle.sc_tac.specs.Parts.{all_hold, with_parts}
+use Rattle.sc_tac.specs.Parts.{all_true, with_parts}
 use Rattle.sc_tac.specs.Places.{ArePlaces, is_place, register_count}
 use Rattle.sc_select.specs.Lines.{Line, plain, plainly}
 use Rattle.sc_select.specs.Operators.{unary_code, binary_code, op_code, bytes_of}
@@ -1016,13 +1016,13 @@ module _ (frame : FrameTree) (places : List Place) (there : (t : ℕ) → IsTher
   abbrev Encodable : TacStmt → Type 0
   Encodable stmt = few_inside stmt ≡ true → IsEncodable (select frame places stmt)
 
-  row_encodable : (stmts : List TacStmt) → Each Encodable stmts → all_hold (map few_inside stmts) ≡ true →
+  row_encodable : (stmts : List TacStmt) → Each Encodable stmts → all_true (map few_inside stmts) ≡ true →
       IsEncodable (in_order (map (select frame places) stmts))
   row_encodable [] h all = straight_encodable [] tt
   row_encodable (stmt ∷ rest) h all =
       followed_encodable (select frame places stmt) (in_order (map (select frame places) rest))
-      (h.0 (and_first (few_inside stmt) (all_hold (map few_inside rest)) all))
-      (row_encodable rest h.1 (and_rest (few_inside stmt) (all_hold (map few_inside rest)) all))
+      (h.0 (and_first (few_inside stmt) (all_true (map few_inside rest)) all))
+      (row_encodable rest h.1 (and_rest (few_inside stmt) (all_true (map few_inside rest)) all))
 
   layer_encodable : (layer : TacStmt-F TacStmt) → Inside Encodable layer →
       with_parts passes_few (map-TacStmt _ _ few_inside layer) ≡ true →
@@ -1038,15 +1038,15 @@ module _ (frame : FrameTree) (places : List Place) (there : (t : ℕ) → IsTher
   layer_encodable (tac.Load dest place pointer) h all = plainly_encodable _ (load_from_instrs dest place)
   layer_encodable (tac.Store place value) h all = plainly_encodable _ (store_to_instrs place value)
   layer_encodable (tac.If cond first second) h all =
-      let a = all_hold (map few_inside first) in
-      let b = all_hold (map few_inside second) in
+      let a = all_true (map few_inside first) in
+      let b = all_true (map few_inside second) in
       fork_encodable cond (select_all frame places first) (select_all frame places second)
       (row_encodable first h.0 (and_first a (b && true) all))
       (row_encodable second h.1 (and_first b true (and_rest a (b && true) all)))
   layer_encodable (tac.Loop head body next) h all =
-      let a = all_hold (map few_inside head) in
-      let b = all_hold (map few_inside body) in
-      let c = all_hold (map few_inside next) in
+      let a = all_true (map few_inside head) in
+      let b = all_true (map few_inside body) in
+      let c = all_true (map few_inside next) in
       let rest = and_rest a (b && (c && true)) all in
       cycle_encodable (select_all frame places head) (select_all frame places body) (select_all frame places next)
       (row_encodable head h.0 (and_first a (b && (c && true)) all))

@@ -35,7 +35,7 @@ use Rattle.sc_tac.specs.Code.{Temps, Codes, with_temp, received, call_does, read
 use Rattle.sc_tac.specs.Places.{IsClear}
 use Rattle.sc_tac.specs.Flow.{is_one}
 use Rattle.sc_tac.specs.Points.{Point, Lives, Trail, plain_points, live_across, trail_step}
-use Rattle.sc_select.specs.Lines.{Line, linked, plainly}
+use Rattle.sc_select.specs.Lines.{Line, plainly, referring}
 use Rattle.sc_select.specs.Pieces.{ra, sp, first_scratch, a0, register_of, move, store_word, upper_part, lower_part}
 use Rattle.sc_select.specs.Selection.{straight, put, pass, receive}
 use Rattle.sc_select.specs.Selection.{call_own, call_cross, select_step}
@@ -379,11 +379,11 @@ module _ (T : Setting) (R : Running) (formed : IsWellFormed T.image) (inputs : A
         (λ pc. before ++ own_call function args pc ∷ receive frame R.places dest)
         (trail_step (tac.CallOwn dest function args))
         (λ pc. completed_behind addresses pc before
-        (linked (Function function) (Jal ra (pos 0)) ∷ plainly (receive frame R.places dest)) ∙
+        (referring (Function function) (Jal ra (pos 0)) ∷ plainly (receive frame R.places dest)) ∙
         ap (λ instrs. before ++ own_call function args pc ∷ instrs)
         (completed_plainly addresses (pc + 4 * length before + 4) (receive frame R.places dest)))
         (low_behind_plain addresses before
-        (linked (Function function) (Jal ra (pos 0)) ∷ plainly (receive frame R.places dest)) ∙
+        (referring (Function function) (Jal ra (pos 0)) ∷ plainly (receive frame R.places dest)) ∙
         low_plainly addresses (receive frame R.places dest))
         (goes calls follow (Own function) dest args)
         (λ lives temps x left ready clear code ends left_is behind_is.
@@ -426,7 +426,7 @@ module _ (T : Setting) (R : Running) (formed : IsWellFormed T.image) (inputs : A
         let high : List Instr = Upper Lui first_scratch (upper_part address) ∷ [] in
         let before : List Instr = arguments ++ high in
         let lines : List Line =
-        linked (Entry comp index) (Upper Lui first_scratch 0) ∷
+        referring (Entry comp index) (Upper Lui first_scratch 0) ∷
         plainly (Jalr ra first_scratch (pos 0) ∷ receive frame R.places dest) in
         linked_follows T R (code_step wrapping A.here calls (tac.CallCross dest comp index args))
         (call_cross frame R.places dest comp index args) (λ pc. before ++ entry_call address)

@@ -2,7 +2,7 @@
 use Rattle.std.proofs.Common.{◌≡◌, ℕ, Bool, true, List, [], ◌∷◌, map, sym, ◌∙◌}
 use Rattle.std.proofs.lemmas.Bool.{and_parts}
 use Rattle.std.specs.List.{list_all}
-use Rattle.sc_tac.specs.Parts.{all_hold}
+use Rattle.sc_tac.specs.Parts.{all_true}
 use Rattle.sc_tac.specs.declared.stmt.TacStmt.{TacStmt, TacStmt-F, fold-TacStmt, fold-roll-TacStmt, roll-TacStmt}
 use Rattle.sc_tac.specs.declared.stmt.TacStmt.{map-TacStmt}
 use Rattle.sc_tac.specs.declared.stmt.TacStmt.TheOpen as tac
@@ -23,7 +23,7 @@ PassesAll (test ∷ tests) stmt = (passes test stmt ≡ true) × PassesAll tests
 -- and so do all of these
 abbrev pub AllPass : List Test → List TacStmt → Type 0
 AllPass [] stmts = Unit {0}
-AllPass (test ∷ tests) stmts = (all_hold (map (passes test) stmts) ≡ true) × AllPass tests stmts
+AllPass (test ∷ tests) stmts = (all_true (map (passes test) stmts) ≡ true) × AllPass tests stmts
 
 -- a statement of which this is the outermost layer passes each by itself
 abbrev pub PassesHere : List Test → TacStmt-F TacStmt → Type 0
@@ -34,13 +34,13 @@ pub first_passes : (tests : List Test) (stmt : TacStmt) (rest : List TacStmt) �
     PassesAll tests stmt
 first_passes [] stmt rest h = tt
 first_passes (test ∷ tests) stmt rest h =
-    ((and_parts (passes test stmt) (all_hold (map (passes test) rest)) h.0).0, first_passes tests stmt rest h.1)
+    ((and_parts (passes test stmt) (all_true (map (passes test) rest)) h.0).0, first_passes tests stmt rest h.1)
 
 pub rest_pass : (tests : List Test) (stmt : TacStmt) (rest : List TacStmt) → AllPass tests (stmt ∷ rest) →
     AllPass tests rest
 rest_pass [] stmt rest h = tt
 rest_pass (test ∷ tests) stmt rest h =
-    ((and_parts (passes test stmt) (all_hold (map (passes test) rest)) h.0).1, rest_pass tests stmt rest h.1)
+    ((and_parts (passes test stmt) (all_true (map (passes test) rest)) h.0).1, rest_pass tests stmt rest h.1)
 
 -- the test of a statement by its layer
 layer_is : (test : Test) (layer : TacStmt-F TacStmt) → passes test (roll-TacStmt layer) ≡ true →
@@ -52,24 +52,24 @@ pub passes_here : (tests : List Test) (layer : TacStmt-F TacStmt) → PassesAll 
 passes_here [] layer h = tt
 passes_here (test ∷ tests) layer h = (
   (and_parts (test (map-TacStmt _ _ (passes test) layer))
-      (list_all all_hold (parts (map-TacStmt _ _ (passes test) layer))) (layer_is test layer h.0)).0,
+      (list_all all_true (parts (map-TacStmt _ _ (passes test) layer))) (layer_is test layer h.0)).0,
   passes_here tests layer h.1,
 )
 
 -- the parts of a choice and of a loop
 parts_hold : (test : Test) (layer : TacStmt-F TacStmt) → passes test (roll-TacStmt layer) ≡ true →
-    list_all all_hold (parts (map-TacStmt _ _ (passes test) layer)) ≡ true
+    list_all all_true (parts (map-TacStmt _ _ (passes test) layer)) ≡ true
 parts_hold test layer h =
     (and_parts (test (map-TacStmt _ _ (passes test) layer))
-    (list_all all_hold (parts (map-TacStmt _ _ (passes test) layer))) (layer_is test layer h)).1
+    (list_all all_true (parts (map-TacStmt _ _ (passes test) layer))) (layer_is test layer h)).1
 
 pub choice_passes : (tests : List Test) (cond : ℕ) (first second : List TacStmt) →
     PassesAll tests (roll-TacStmt (tac.If cond first second)) → AllPass tests first × AllPass tests second
 choice_passes [] cond first second h = (tt, tt)
 choice_passes (test ∷ tests) cond first second h =
     let all = parts_hold test (tac.If cond first second) h.0 in
-    let one = and_parts (all_hold (map (passes test) first)) _ all in
-    let two = and_parts (all_hold (map (passes test) second)) _ one.1 in
+    let one = and_parts (all_true (map (passes test) first)) _ all in
+    let two = and_parts (all_true (map (passes test) second)) _ one.1 in
     let more = choice_passes tests cond first second h.1 in
     ((one.0, more.0), (two.0, more.1))
 
@@ -79,8 +79,8 @@ pub loop_passes : (tests : List Test) (head body next : List TacStmt) →
 loop_passes [] head body next h = (tt, tt, tt)
 loop_passes (test ∷ tests) head body next h =
     let all = parts_hold test (tac.Loop head body next) h.0 in
-    let one = and_parts (all_hold (map (passes test) head)) _ all in
-    let two = and_parts (all_hold (map (passes test) body)) _ one.1 in
-    let three = and_parts (all_hold (map (passes test) next)) _ two.1 in
+    let one = and_parts (all_true (map (passes test) head)) _ all in
+    let two = and_parts (all_true (map (passes test) body)) _ one.1 in
+    let three = and_parts (all_true (map (passes test) next)) _ two.1 in
     let more = loop_passes tests head body next h.1 in
     ((one.0, more.0), (two.0, more.1), (three.0, more.2))

@@ -15,7 +15,7 @@ use Rattle.sc_tac.specs.declared.place.Place.{Place}
 use Rattle.sc_tac.specs.declared.stmt.TacStmt.{TacStmt, TacStmt-F, map-TacStmt, fold-TacStmt, fold-roll-TacStmt}
 unfoldable use Rattle.sc_tac.specs.declared.stmt.TacStmt.{roll-TacStmt}
 use Rattle.sc_tac.specs.declared.stmt.TacStmt.TheOpen as tac
-use Rattle.sc_tac.specs.Parts.{all_hold, everywhere, with_parts}
+use Rattle.sc_tac.specs.Parts.{all_true, everywhere, with_parts}
 use Rattle.sc_tac.proofs.Induction.{Inside, stmt_induction}
 use Rattle.sc_select.specs.Lines.{Line, plainly, relocation_of, relocations_from}
 use Rattle.sc_select.specs.Pieces.{a0}
@@ -70,13 +70,13 @@ module _ (function : ℕ → Bool) (entry : (comp index : ℕ) → Bool) (global
     abbrev Named : TacStmt → Type 0
     Named stmt = named_inside stmt ≡ true → PassesAll is_named_line (select frame places stmt)
 
-    row_named : (stmts : List TacStmt) → Each Named stmts → all_hold (map named_inside stmts) ≡ true →
+    row_named : (stmts : List TacStmt) → Each Named stmts → all_true (map named_inside stmts) ≡ true →
         PassesAll is_named_line (in_order (map (select frame places) stmts))
     row_named [] h all = record { passes = λ b c. refl }
     row_named (stmt ∷ rest) h all =
         followed_passes is_named_line (select frame places stmt) (in_order (map (select frame places) rest))
-        (h.0 (and_first (named_inside stmt) (all_hold (map named_inside rest)) all))
-        (row_named rest h.1 (and_rest (named_inside stmt) (all_hold (map named_inside rest)) all))
+        (h.0 (and_first (named_inside stmt) (all_true (map named_inside rest)) all))
+        (row_named rest h.1 (and_rest (named_inside stmt) (all_true (map named_inside rest)) all))
 
     straight_named : (lines : List Line) → list_all is_named_line lines ≡ true →
         PassesAll is_named_line (straight lines)
@@ -113,15 +113,15 @@ module _ (function : ℕ → Bool) (entry : (comp index : ℕ) → Bool) (global
     layer_named (tac.Load dest place pointer) h all = unlinked _
     layer_named (tac.Store place value) h all = unlinked _
     layer_named (tac.If cond first second) h all =
-        let a = all_hold (map named_inside first) in
-        let b = all_hold (map named_inside second) in
+        let a = all_true (map named_inside first) in
+        let b = all_true (map named_inside second) in
         fork_passes is_named_line named_mild frame places cond (select_all frame places first)
         (select_all frame places second) (row_named first h.0 (and_first a (b && true) all))
         (row_named second h.1 (and_first b true (and_rest a (b && true) all)))
     layer_named (tac.Loop head body next) h all =
-        let a = all_hold (map named_inside head) in
-        let b = all_hold (map named_inside body) in
-        let c = all_hold (map named_inside next) in
+        let a = all_true (map named_inside head) in
+        let b = all_true (map named_inside body) in
+        let c = all_true (map named_inside next) in
         cycle_passes is_named_line named_mild frame places (select_all frame places head)
         (select_all frame places body) (select_all frame places next)
         (row_named head h.0 (and_first a (b && (c && true)) all))

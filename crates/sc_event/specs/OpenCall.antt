@@ -7,8 +7,7 @@ use Rattle.sc_event.specs.declared.row.Entry.TheVariants.{Export}
 use Rattle.sc_event.specs.Standing.{Standing, at_start, stands_behind}
 
 -- so many calls have returned behind an event: how many have behind the event before it, `None` where the event is a
--- call
--- that hasn't returned itself
+-- call that hasn't returned itself
 abbrev pub returned_before : Event → (returned : ℕ) → Option ℕ
 returned_before (Call from to index args) zero = None
 returned_before (Call from to index args) (suc returned) = Some returned

@@ -1,6 +1,6 @@
 -- What a step can come to, in two states at once that a compartment can't tell apart: the same registers, pc, inputs
--- and events, and the same
--- bytes at its addresses. A relation between the outcomes holds if it holds of each kind of outcome.
+-- and events, and the same bytes at its addresses. A relation between the outcomes holds if it holds of each kind of
+-- outcome.
 use Rattle.sc_image.proofs.Common.{Auipc, BadCall, BadJump, Bool, Branch, Breakpoint, Crossing, Ebreak, Ecall, Event}
 use Rattle.sc_image.proofs.Common.{Fence, Goes, HasWord, HoldsBytes, Illegal, ImageParts, Instr, IsWellFormed, IsWord}
 use Rattle.sc_image.proofs.Common.{Jal, Jalr, List, Load, LoadOp, Lui, Memory, Misaligned, NoImport, None, Op, OpImm}

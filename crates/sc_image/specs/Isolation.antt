@@ -71,9 +71,8 @@ LeavesOthers =
     own image (after_step image inputs state) d ≡ own image state d
 
 -- Two states that a compartment can't tell apart: it is active in both, with the same events before and the same own
--- parts. So the same
--- calls are open. All that belongs to others may differ: their data, their saved sps and their numbers on the cross
--- stack.
+-- parts. So the same calls are open. All that belongs to others may differ: their data, their saved sps and their
+-- numbers on the cross stack.
 pub record LooksSame (image : ImageParts) (c : ℕ) (one other : State) : Type 0 where
   pub one_steady : IsSteady image one
   pub other_steady : IsSteady image other

@@ -3,8 +3,7 @@
 ghost use Rattle.sc_kinds.specs.Kinds.{ResultsHaveKinds, ValuesHaveKinds};
 
 /// What an expression gives is a word where its type is an integer, and a pointer or null where it is a pointer (C11
-/// 6.5),
-/// so no operator meets an operand that C has no meaning for.
+/// 6.5), so no operator meets an operand that C has no meaning for.
 pub fn values_have_kinds()
     ensures { ValuesHaveKinds }
 {}

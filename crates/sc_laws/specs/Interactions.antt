@@ -46,8 +46,7 @@ abbrev pub GoFrom : ℕ → Calls → Type 0
 GoFrom comp by = (target : CallTarget) (args : List Value) → Goes (by comp target args)
 
 -- with fewer turns than a number this is done as the tree of that number says: a loop takes a turn each round, so it
--- has
--- no more rounds than that
+-- has no more rounds than that
 pub record Plays {V : Type 0} (here : Here) (does : Doing V) (tree : ℕ → Interaction V) : Type 0 where
   pub lasts : (n : ℕ) → Lasts n (tree n)
   pub is : (n : ℕ) (by : Calls) → GoFrom here.comp by → (s : State) → s.turns < n →

@@ -7,8 +7,7 @@ ghost use Rattle.sc_laws.specs.Prelude.{OtherLinesAgree, ProgramsObey, RoomsAreK
 ghost use Rattle.sc_laws.specs.Prelude.{TurnsOutMeansTurns, WrappedAgrees, WrappingAgrees};
 
 /// What the functions of a program do is a tree: what is given or blamed, what the blocks of the compartment decide,
-/// and
-/// what comes after new blocks, after a turn and after a call. Libraries of such functions have all laws.
+/// and what comes after new blocks, after a turn and after a call. Libraries of such functions have all laws.
 pub fn programs_obey()
     ensures { ProgramsObey }
 {}
@@ -26,8 +25,7 @@ pub fn fixed_point()
 {}
 
 /// More turns and more events extend a run in which some compartments perform a script, and change none that came to
-/// its
-/// end or to a blame.
+/// its end or to a blame.
 pub fn more_goes_on()
     ensures { MoreGoesOn }
 {}
@@ -89,8 +87,7 @@ pub fn chains_rise()
 {}
 
 /// Where every set tells the trace or is blamed outside of itself along it, there is a chain, of at most as many links
-/// as
-/// there are compartments.
+/// as there are compartments.
 pub fn chain_exists()
     ensures { ChainExists }
 {}
@@ -111,8 +108,7 @@ pub fn turns_out_means_turns()
 {}
 
 /// Two libraries whose functions agree, one by one, up to the lines of blames show the same up to that line and take
-/// the
-/// same room, whatever their functions carry and whichever compartments perform.
+/// the same room, whatever their functions carry and whichever compartments perform.
 pub fn agreeing_run_alike()
     ensures { AgreeingRunAlike }
 {}

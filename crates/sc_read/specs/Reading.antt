@@ -1,6 +1,5 @@
 -- How a text is read: it is split into its preamble and its sections, these parts are cut into tokens, and the tokens
--- of
--- each section spell its tree.
+-- of each section spell its tree.
 use Rattle.sc_read.specs.Common.{IsCut, IsParsed, IsSplit, RefusesBytes, RefusesHeading, Section, SectionTree, Token}
 use Rattle.sc_read.specs.Common.{lexemes_of, line_after, line_at}
 use Rattle.std.specs.Prelude.{◌≡◌, ℕ, ◌-◌, List, [], ◌∷◌, map, Any}
@@ -50,8 +49,7 @@ pub record Reads (text : List ℕ) (trees : List SectionTree) : Type 0 where
   pub each : AllZip (IsRead text) sections trees
 
 -- The part isn't cut: in this line of the text stands the first place that begins neither white space, nor a comment,
--- nor
--- a token.
+-- nor a token.
 abbrev pub IsUncut : List ℕ → ℕ → Part → Type 0
 IsUncut text line part = RefusesBytes part.bytes (line_at text part.start) (record { phase = phase.Lex; line = line })
 

@@ -11,7 +11,7 @@ pub use Rattle.sc_word.specs.Prelude.{sub_word}
 pub use Rattle.sc_core.proofs.Induction.{Each, everywhere}
 pub use Rattle.rv_code.specs.declared.instr.BranchOp.TheVariants.{Bne}
 pub use Rattle.sc_tac.proofs.Induction.{Inside, stmt_induction}
-pub use Rattle.sc_tac.specs.Prelude.{IsCode, IsFunction, all_hold, entry_weight, frame_of, has_operands, is_address}
+pub use Rattle.sc_tac.specs.Prelude.{IsCode, IsFunction, all_true, entry_weight, frame_of, has_operands, is_address}
 pub use Rattle.sc_tac.specs.Prelude.{is_jal, is_linkable, is_unsigned, op_weight, passes_few, stmt_weight, takes_two}
 pub use Rattle.sc_tac.specs.Prelude.{weight, weight_step, with_parts}
 pub use Rattle.sc_tac.specs.declared.function.TacFnTree.{TacFnTree}
@@ -26,7 +26,7 @@ pub use Rattle.sc_select.specs.Prelude.{Add, Addi, Fits, Jal, Line, Load, Op, Op
 pub use Rattle.sc_select.specs.Prelude.{binary_code, brought, bytes_of, call_cross, call_own, choice, closing, code_of}
 pub use Rattle.sc_select.specs.Prelude.{code_of_lines, copied, cycle, entrance, environment_call, followed, fork}
 pub use Rattle.sc_select.specs.Prelude.{frame_left, frame_taken, function_lines, in_order, is_short, jump_back}
-pub use Rattle.sc_select.specs.Prelude.{jump_over, keep, kept, lines_of, linked, load_from, load_word, loading}
+pub use Rattle.sc_select.specs.Prelude.{jump_over, keep, kept, lines_of, referring, load_from, load_word, loading}
 pub use Rattle.sc_select.specs.Prelude.{moved_by, object_offset, op_code, operand, operation, pass, place_of_global}
 pub use Rattle.sc_select.specs.Prelude.{plain, plainly, pointer_difference, pointer_move, put, receive, register_of}
 pub use Rattle.sc_select.specs.Prelude.{relocation_of, relocations_from, result_register, return, round_begins}

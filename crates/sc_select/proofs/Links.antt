@@ -6,7 +6,7 @@ use Rattle.sc_select.proofs.Common.{append-nil, arith, brought, call_cross, call
 use Rattle.sc_select.proofs.Common.{copied, cycle, entrance, environment_call, eq-eqb, everywhere as each_holds, false}
 use Rattle.sc_select.proofs.Common.{fold-roll-TacStmt, followed, fork, frame_taken, function_lines, in_order}
 use Rattle.sc_select.proofs.Common.{is_address, is_jal, is_linkable, jump_back, jump_over, keep, length, length-append}
-use Rattle.sc_select.proofs.Common.{length-map, linked, load_from, loading, map, map-TacStmt, moved_by, object_offset}
+use Rattle.sc_select.proofs.Common.{length-map, referring, load_from, loading, map, map-TacStmt, moved_by, object_offset}
 use Rattle.sc_select.proofs.Common.{operation, pass, place_of_global, plain, plainly, pos, receive, refl, relocation_of}
 use Rattle.sc_select.proofs.Common.{relocations_from, result_register, return, select, select_all, select_step}
 use Rattle.sc_select.proofs.Common.{slice_get, stmt_induction, store_arguments, store_to, straightly, sub_word, subst}
@@ -100,14 +100,14 @@ module _ (frame : FrameTree) (places : List Place) where
       all_complete (call_own frame places dest function args) ≡ true
   own_complete dest function args =
       joined (plainly (pass frame places 10 args))
-      (linked (Function function) (Jal 1 (pos 0)) ∷ plainly (receive frame places dest))
+      (referring (Function function) (Jal 1 (pos 0)) ∷ plainly (receive frame places dest))
       (plain_complete (pass frame places 10 args)) (plain_complete (receive frame places dest))
 
   cross_complete : (dest : Option ℕ) (comp index : ℕ) (args : List ℕ) →
       all_complete (call_cross frame places dest comp index args) ≡ true
   cross_complete dest comp index args =
       joined (plainly (pass frame places 10 args))
-      (linked (Entry comp index) (Upper Lui 5 0) ∷ plainly (Jalr 1 5 (pos 0) ∷ receive frame places dest))
+      (referring (Entry comp index) (Upper Lui 5 0) ∷ plainly (Jalr 1 5 (pos 0) ∷ receive frame places dest))
       (plain_complete (pass frame places 10 args)) (plain_complete (receive frame places dest))
 
   straightly_complete : (instrs : List Instr) → IsComplete (straightly frame places instrs)

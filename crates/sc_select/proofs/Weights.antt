@@ -2,12 +2,12 @@
 use Rattle.sc_select.proofs.Common.{Add, Bne, Bool, Branch, Div, Each, Entry as EntryOf, Fits, FrameTree, Function}
 use Rattle.sc_select.proofs.Common.{Inside, Instr, IsFunction, Jal, Jalr, Line, List, Load, Lui, Lw, Mul, None, Op}
 use Rattle.sc_select.proofs.Common.{Option, Piece, Place, Register, Slot, Some, Store, Sw, TacFnTree, TacOp, TacStmt}
-use Rattle.sc_select.proofs.Common.{TacStmt-F, Upper, [], all_hold, and_first, and_rest, arith, at_hand, binary_code}
+use Rattle.sc_select.proofs.Common.{TacStmt-F, Upper, [], all_true, and_first, and_rest, arith, at_hand, binary_code}
 use Rattle.sc_select.proofs.Common.{brought, bytes_of, call_cross, call_own, choice, closing, code_of, copied, entrance}
 use Rattle.sc_select.proofs.Common.{entry_weight, environment_call, everywhere as each_holds, false, fold-TacStmt}
 use Rattle.sc_select.proofs.Common.{fold-roll-TacStmt, frame_left, frame_taken, function_lines, has_operands}
 use Rattle.sc_select.proofs.Common.{if◌then◌else◌, in_order, is_short, is_some, is_unsigned, keep, kept, length}
-use Rattle.sc_select.proofs.Common.{length-append, length-map, linked, load_from, load_word, loading, map, map-TacStmt}
+use Rattle.sc_select.proofs.Common.{length-append, length-map, referring, load_from, load_word, loading, map, map-TacStmt}
 use Rattle.sc_select.proofs.Common.{moved_by, object_offset, op_code, op_weight, operand, operation, pass}
 use Rattle.sc_select.proofs.Common.{place_of_global, plain, plainly, pointer_difference, pointer_move, pos, put}
 use Rattle.sc_select.proofs.Common.{receive, refl, register_of, result_register, return, roll-TacStmt, second_operand}
@@ -260,7 +260,7 @@ module _ (frame : FrameTree) (places : List Place) where
   own_few : (dest : Option ℕ) (function : ℕ) (args : List ℕ) →
       length (call_own frame places dest function args) ≤ 3 * length args + 5
   own_few dest function args =
-      let rest : List Line = linked (Function function) (Jal 1 (pos 0)) ∷ plainly (receive frame places dest) in
+      let rest : List Line = referring (Function function) (Jal 1 (pos 0)) ∷ plainly (receive frame places dest) in
       omega (
         arith,
         length-append (plainly (pass frame places 10 args)) rest,
@@ -273,7 +273,7 @@ module _ (frame : FrameTree) (places : List Place) where
   cross_few : (dest : Option ℕ) (comp index : ℕ) (args : List ℕ) →
       length (call_cross frame places dest comp index args) ≤ 3 * length args + 5
   cross_few dest comp index args =
-      let rest : List Line = linked (EntryOf comp index) (Upper Lui 5 0) ∷
+      let rest : List Line = referring (EntryOf comp index) (Upper Lui 5 0) ∷
       plainly (Jalr 1 5 (pos 0) ∷ receive frame places dest) in
       omega (
         arith,
@@ -315,14 +315,14 @@ module _ (frame : FrameTree) (places : List Place) where
   abbrev Small : TacStmt → Type 0
   Small stmt = has stmt ≡ true → (select frame places stmt).size ≤ stmt_weight stmt
 
-  row_small : (stmts : List TacStmt) → Each Small stmts → all_hold (map has stmts) ≡ true →
+  row_small : (stmts : List TacStmt) → Each Small stmts → all_true (map has stmts) ≡ true →
       (in_order (map (select frame places) stmts)).size ≤ total (map stmt_weight stmts)
   row_small [] h is = omega arith
   row_small (stmt ∷ rest) h is =
       omega (
         arith,
-        h.0 (and_first (has stmt) (all_hold (map has rest)) is),
-        row_small rest h.1 (and_rest (has stmt) (all_hold (map has rest)) is),
+        h.0 (and_first (has stmt) (all_true (map has rest)) is),
+        row_small rest h.1 (and_rest (has stmt) (all_true (map has rest)) is),
       )
 
   layer_small : (layer : TacStmt-F TacStmt) → Inside Small layer →
@@ -343,17 +343,17 @@ module _ (frame : FrameTree) (places : List Place) where
       omega (
         arith,
         choice_few cond,
-        row_small first h.0 (and_first (all_hold (map has first)) (all_hold (map has second) && true) is),
-        row_small second h.1 (and_first (all_hold (map has second)) true
-            (and_rest (all_hold (map has first)) (all_hold (map has second) && true) is)),
+        row_small first h.0 (and_first (all_true (map has first)) (all_true (map has second) && true) is),
+        row_small second h.1 (and_first (all_true (map has second)) true
+            (and_rest (all_true (map has first)) (all_true (map has second) && true) is)),
       )
   layer_small (tac.Loop head body next) h is =
-      let b : Bool = all_hold (map has body) in
-      let n : Bool = all_hold (map has next) in
-      let rest : (b && (n && true)) ≡ true = and_rest (all_hold (map has head)) (b && (n && true)) is in
+      let b : Bool = all_true (map has body) in
+      let n : Bool = all_true (map has next) in
+      let rest : (b && (n && true)) ≡ true = and_rest (all_true (map has head)) (b && (n && true)) is in
       omega (
         arith,
-        row_small head h.0 (and_first (all_hold (map has head)) (b && (n && true)) is),
+        row_small head h.0 (and_first (all_true (map has head)) (b && (n && true)) is),
         row_small body h.1 (and_first b (n && true) rest),
         row_small next h.2 (and_first n true (and_rest b (n && true) rest)),
       )

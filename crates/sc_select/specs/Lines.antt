@@ -15,8 +15,8 @@ plain instr = record { instr = instr; target = None }
 abbrev pub plainly : List Instr → List Line
 plainly instrs = map plain instrs
 
-abbrev pub linked : Target → Instr → Line
-linked target instr = record { instr = instr; target = Some target }
+abbrev pub referring : Target → Instr → Line
+referring target instr = record { instr = instr; target = Some target }
 
 -- Helping: lines from their instructions and targets
 abbrev pub lines_of : List Instr → List (Option Target) → List Line

@@ -5,7 +5,7 @@ pub use Rattle.rv_code.specs.declared.instr.OpImmOp.TheVariants.{Addi, Sltiu, Xo
 pub use Rattle.rv_code.specs.declared.instr.OpOp.TheVariants.{Add, Slt, Sltu}
 pub use Rattle.sc_tac.specs.Prelude.{IsCode, IsFunction, entry_weight, is_place, is_unsigned, register_count, weight}
 pub use Rattle.sc_select.specs.Bounds.{Fits}
-pub use Rattle.sc_select.specs.Lines.{Line, code_of_lines, lines_of, linked, plain, plainly, relocation_of}
+pub use Rattle.sc_select.specs.Lines.{Line, code_of_lines, lines_of, referring, plain, plainly, relocation_of}
 pub use Rattle.sc_select.specs.Lines.{relocations_from}
 pub use Rattle.sc_select.specs.Operators.{binary_code, by_sign, bytes_of, inverted, is_not_zero, is_zero, op_code}
 pub use Rattle.sc_select.specs.Operators.{pointer_difference, pointer_move, stepped, unary_code}

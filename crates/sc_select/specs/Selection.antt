@@ -13,7 +13,7 @@ use Rattle.sc_tac.specs.declared.place.Place.TheVariants.{Register, Slot}
 use Rattle.sc_tac.specs.declared.stmt.Constant.{Constant}
 use Rattle.sc_tac.specs.declared.stmt.Constant.TheVariants as constant
 use Rattle.sc_tac.specs.declared.stmt.TacStmt.TheOpen as tac
-use Rattle.sc_select.specs.Lines.{Line, plain, plainly, linked, code_of_lines}
+use Rattle.sc_select.specs.Lines.{Line, plain, plainly, referring, code_of_lines}
 use Rattle.sc_select.specs.Pieces.{ra, sp, first_scratch, second_scratch, a0, a7, register_of, move, loading, moved_by}
 use Rattle.sc_select.specs.Pieces.{load_word, store_word, frame_taken, frame_left}
 use Rattle.sc_select.specs.Operators.{op_code}
@@ -143,7 +143,7 @@ module _ (frame : FrameTree) (places : List Place) where
 
   abbrev pub place_of_global : (dest global : ℕ) → List Line
   place_of_global dest global =
-      linked (Global global) (Upper Lui (result_register dest) 0) ∷
+      referring (Global global) (Upper Lui (result_register dest) 0) ∷
       plainly (OpImm Addi (result_register dest) (result_register dest) (pos 0) ∷ keep dest)
 
   -- arguments into the registers from this one on
@@ -158,11 +158,11 @@ module _ (frame : FrameTree) (places : List Place) where
 
   abbrev pub call_own : (dest : Option ℕ) → (function : ℕ) → (args : List ℕ) → List Line
   call_own dest function args =
-      plainly (pass a0 args) ++ linked (Function function) (Jal ra (pos 0)) ∷ plainly (receive dest)
+      plainly (pass a0 args) ++ referring (Function function) (Jal ra (pos 0)) ∷ plainly (receive dest)
 
   abbrev pub call_cross : (dest : Option ℕ) → (comp index : ℕ) → (args : List ℕ) → List Line
   call_cross dest comp index args =
-      plainly (pass a0 args) ++ linked (EntryOf comp index) (Upper Lui first_scratch 0) ∷
+      plainly (pass a0 args) ++ referring (EntryOf comp index) (Upper Lui first_scratch 0) ∷
       plainly (Jalr ra first_scratch (pos 0) ∷ receive dest)
 
   abbrev pub return : Option ℕ → List Instr

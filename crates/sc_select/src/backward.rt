@@ -1,5 +1,5 @@
 ghost use Rattle.std.specs.Prelude.{◌≡◌, ◌<◌, ◌++◌, [], ◌∷◌, List, length, MatchOption, OnOk};
-ghost use Rattle.sc_select.specs.Lines.{Line, plain, linked};
+ghost use Rattle.sc_select.specs.Lines.{Line, plain, referring};
 
 use rv_code::Instr;
 use sc_base::OutOfMemory;
@@ -65,8 +65,8 @@ impl Backward {
     }
 
     /// Puts an instruction in front that refers to a target.
-    pub fn linked(&mut self, target: Target, instr: Instr) -> Result<(), OutOfMemory>
-        ensures { OnOk result (self.new ≡ linked target instr ∷ self.old) }
+    pub fn referring(&mut self, target: Target, instr: Instr) -> Result<(), OutOfMemory>
+        ensures { OnOk result (self.new ≡ referring target instr ∷ self.old) }
     {
         self.prepend(instr, Some(target))
     }

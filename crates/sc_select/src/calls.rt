@@ -1,5 +1,6 @@
 //! Calls of functions.
 
+ghost use Rattle.sc_select.specs.Pieces.{a0};
 ghost use Rattle.sc_select.specs.Prelude.{Jal, call_cross, call_own, pass, plainly, receive};
 ghost use Rattle.std.specs.Prelude.{◌≡◌, ◌≤◌, ◌++◌, OnOk, length};
 
@@ -16,7 +17,7 @@ impl Backward {
     fn pass(&mut self, homes: &Homes, args: &Temps) -> Result<(), OutOfMemory>
         requires { length args.now ≤ 8 }
         ensures { OnOk result (self.new ≡
-            plainly (pass homes.now.frame.now homes.now.places.now 10 args.now) ++ self.old) }
+            plainly (pass homes.now.frame.now homes.now.places.now a0 args.now) ++ self.old) }
     {
         let args = args.as_slice();
         for at in (0..args.len()).rev() {
@@ -38,7 +39,7 @@ impl Backward {
             call_own homes.now.frame.now homes.now.places.now dest function args.now ++ self.old) }
     {
         self.receive(homes, dest)?;
-        self.linked(
+        self.referring(
             Target::Function(function),
             Instr::Jal {
                 rd: register(RA),
@@ -68,7 +69,7 @@ impl Backward {
             rs1: scratch,
             imm: immediate(0),
         })?;
-        self.linked(Target::Entry(comp, index), upper(scratch))?;
+        self.referring(Target::Entry(comp, index), upper(scratch))?;
         self.pass(homes, args)
     }
 }

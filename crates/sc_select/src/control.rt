@@ -1,5 +1,6 @@
 //! Statements in order, choices and loops.
 
+ghost use Rattle.sc_select.specs.Bounds.{most_lines};
 ghost use Rattle.sc_select.specs.Prelude.{Addi, Fits, IsJumpOffset, Jal, Line, OpImm, jump_back, jump_over, plain};
 ghost use Rattle.sc_select.specs.Prelude.{round_begins, select, select_all};
 ghost use Rattle.sc_tac.specs.declared.stmt.TacStmt;
@@ -31,14 +32,14 @@ fn jump(bytes: i32) -> Instr
 }
 
 fn jump_over(lines: usize) -> Instr
-    requires { lines < 262143 }
+    requires { lines < most_lines }
     ensures { plain result ≡ jump_over lines }
 {
     jump(4 * (lines as i32 + 1))
 }
 
 fn jump_back(lines: usize) -> Instr
-    requires { lines < 262143 }
+    requires { lines < most_lines }
     ensures { plain result ≡ jump_back lines }
 {
     jump(-4 * lines as i32)

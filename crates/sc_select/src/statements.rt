@@ -1,5 +1,6 @@
 //! Statements without others inside. Code is written from its end: what is done first is written last.
 
+ghost use Rattle.sc_select.specs.Pieces.{a0};
 ghost use Rattle.sc_select.specs.Prelude.{brought, choice, copied, environment_call, keep, load_from, loading};
 ghost use Rattle.sc_select.specs.Prelude.{moved_by, object_offset, operation, place_of_global, plainly, put, receive};
 ghost use Rattle.sc_select.specs.Prelude.{result_register, return, second_operand, store_to, take, take_second};
@@ -160,7 +161,7 @@ impl Backward {
         let rd = homes.operand(register(FIRST_SCRATCH), dest);
         self.keep(homes, dest)?;
         self.plain(addi(rd, rd, immediate(0)))?;
-        self.linked(Target::Global(global), upper(rd))
+        self.referring(Target::Global(global), upper(rd))
     }
 
     /// A temporary gets the word at an address.
@@ -251,7 +252,7 @@ impl Backward {
     /// A call of `output`.
     pub fn output(&mut self, homes: &Homes, value: u32) -> Result<(), OutOfMemory>
         ensures { OnOk result (self.new ≡
-            plainly (brought homes.now.frame.now 10 (slice_get homes.now.places.now value) ++ environment_call 2) ++
+            plainly (brought homes.now.frame.now a0 (slice_get homes.now.places.now value) ++ environment_call 2) ++
             self.old) }
     {
         self.environment_call(2)?;

@@ -6,16 +6,14 @@ use Rattle.sc_tac.specs.declared.program.TacTree.{TacTree}
 use Rattle.sc_tac.specs.Code.{code_library, code_run, scripted_code_run}
 
 -- what functions of code do is such trees as the laws of libraries want, and in the arithmetic that wraps the same but
--- for
--- blames for arithmetic
+-- for blames for arithmetic
 pub record CodeObeys : Type 0 where
   pub itself : (arith : Arith) (program : TacTree) → Obedient (code_library arith program)
   pub wraps : (program : TacTree) →
       LibrariesMatch IsArithmetic (code_library c_arith program) (code_library wrapping program)
 
 -- the arithmetic that wraps gives the same run up to the first blame for arithmetic, also where some compartments
--- perform,
--- and no compartment gets less deep
+-- perform, and no compartment gets less deep
 pub record WrappedCodeAgrees : Type 0 where
   pub meaning : (program : TacTree) (inputs : List ℕ) (turns : ℕ) →
       AgreesInRoom (code_run c_arith program inputs turns) (code_run wrapping program inputs turns)

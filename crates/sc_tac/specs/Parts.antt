@@ -56,13 +56,13 @@ module _ {R : Type 0} where
   parts (tac.Loop head body next) = head ∷ body ∷ next ∷ []
   parts _ = []
 
-abbrev pub all_hold : List Bool → Bool
-all_hold tests = list_all (λ holds. holds) tests
+abbrev pub all_true : List Bool → Bool
+all_true tests = list_all (λ holds. holds) tests
 
 -- it passes a test by itself, and so do those inside
 abbrev pub with_parts : (TacStmt-F Bool → Bool) → TacStmt-F Bool → Bool
-with_parts test stmt = test stmt && list_all all_hold (parts stmt)
+with_parts test stmt = test stmt && list_all all_true (parts stmt)
 
 -- a test of each statement by itself, over all that stand in these statements
 abbrev pub everywhere : (TacStmt-F Bool → Bool) → List TacStmt → Bool
-everywhere test stmts = all_hold (map (fold-TacStmt Bool (with_parts test)) stmts)
+everywhere test stmts = all_true (map (fold-TacStmt Bool (with_parts test)) stmts)
