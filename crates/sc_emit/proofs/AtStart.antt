@@ -23,7 +23,7 @@ use Rattle.sc_tac.specs.declared.machine_code.CodeTree.{CodeTree}
 use Rattle.sc_tac.specs.Code.{code_function}
 use Rattle.sc_tac.specs.Parts.{everywhere}
 use Rattle.sc_relation.specs.Calls.{CallsFollow, FunctionGives, runs_with}
-use Rattle.sc_relation.specs.Linking.{Addresses, linked}
+use Rattle.sc_select.specs.Linking.{Addresses, linked}
 use Rattle.sc_relation.specs.Stretches.{Setting, Joint, Standpoint, Overflows}
 use Rattle.sc_relation.proofs.Stretches.{shows_here}
 use Rattle.sc_emit.specs.Emission.{IsPlaced, CodeFollows}
@@ -143,7 +143,12 @@ module _ (comp : CompPart) (inputs : List ℕ) (words : All IsWord inputs) (turn
             steady = runs_are_steady.first image formed;
             room = λ k h. omega arith;
           };
-          base = record { floor = refl; aligned = omega arith; high = omega arith };
+          base = record {
+            floor = refl;
+            aligned = omega arith;
+            high = omega arith;
+            floors = record { aligned = λ k honest. omega arith; high = λ k honest. omega arith };
+          };
           pc = refl;
           sp = refl;
           ra = refl;

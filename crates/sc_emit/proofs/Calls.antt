@@ -47,7 +47,7 @@ use Rattle.sc_pieces.proofs.Rows.{in_row, look_at, upper}
 use Rattle.sc_relation.specs.Blocks.{StandsFor}
 use Rattle.sc_relation.specs.Calls.{ArePassed, ComesBack, CallGives, CallStands, CallsFollow}
 use Rattle.sc_relation.specs.Frames.{Activation, IsActivation, FrameMatches}
-use Rattle.sc_relation.specs.Linking.{Addresses, completed, low_after}
+use Rattle.sc_select.specs.Linking.{Addresses, completed, low_after}
 use Rattle.sc_relation.specs.Stretches.{Setting, Joint, Standpoint, Overflows, GivenBack}
 use Rattle.sc_relation.specs.Following.{Running, Ends, seen_from, Ready, Arrives, Comes, Follows, live_at}
 use Rattle.sc_relation.proofs.Following.{IsBack, is_back}
@@ -286,7 +286,8 @@ module _ (T : Setting) (R : Running) (formed : IsWellFormed T.image) (inputs : A
             (λ o. inr (overflowed (calls A.here.comp target vs y.meant) o))
             (follow.follow (call_from T R) y target vs is.honest
             (subst (λ n. T.makes A.here.comp target n ≡ true) (sym count) made) (settled_to T R y ready.settled)
-            (record { floor = is.floor; aligned = is.aligned; high = omega (arith, is.high) }) ready.sp passed stands)
+            (record { floor = is.floor; aligned = is.aligned; high = omega (arith, is.high); floors = is.floors })
+            ready.sp passed stands)
 
       -- the registers are prepared, the call is made, and its value goes to where it is wanted
       pub call_runs : (x : Joint) (before : List Instr) (call : Instr) (left : ℕ) (ends : Ends) → ends.left ≡ left →

@@ -33,7 +33,7 @@ use Rattle.sc_select.specs.Pieces.{sp, first_scratch}
 use Rattle.sc_select.specs.Selection.{Piece as Code, choice, fork, jump_over, take, operand}
 use Rattle.sc_relation.specs.Blocks.{StandsFor}
 use Rattle.sc_relation.specs.Frames.{IsActivation}
-use Rattle.sc_relation.specs.Linking.{completed, low_after}
+use Rattle.sc_select.specs.Linking.{completed, low_after}
 use Rattle.sc_relation.specs.Stretches.{Setting, Joint, Standpoint, Settled}
 use Rattle.sc_relation.specs.Following.{Running, Ends, ends_of, seen_from, row, live_at, Ready, Arrives, Comes}
 use Rattle.sc_relation.specs.Following.{ExitGives, StandsAt, Starts, Follows}

@@ -40,7 +40,7 @@ use Rattle.sc_select.specs.Pieces.{frame_taken}
 use Rattle.sc_select.specs.Selection.{Piece as Code, store_arguments, entrance, select_all, closing, function_lines}
 use Rattle.sc_hart.specs.Code.{CodeAt}
 use Rattle.sc_relation.specs.Calls.{CallsFollow, Begins, FunctionGives, runs_with, FunctionFollows}
-use Rattle.sc_relation.specs.Linking.{completed}
+use Rattle.sc_select.specs.Linking.{completed}
 use Rattle.sc_relation.specs.Frames.{Activation, IsActivation}
 use Rattle.sc_relation.specs.Stretches.{Setting, Joint, Standpoint, Settled, Shows, Overflows}
 use Rattle.sc_relation.specs.Following.{Running, Ends, ends_of, Follows, row, seen_from, Ready, Arrives, Returns}

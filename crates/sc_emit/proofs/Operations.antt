@@ -236,7 +236,12 @@ module _ (T : Setting) (R : Running) (formed : IsWellFormed T.image) (inputs : A
                 Gone s (and_then (computed R.activation.here 0 result s)
                 (λ blocks s. leave Next temps (with_memory R.activation.here.comp blocks s)))
             by (Ok blocks) = record {
-              grown = record { events = front_same s.trace; frames = front_same s.frames; turns = omega arith };
+              grown = record {
+                events = front_same s.trace;
+                frames = front_same s.frames;
+                late = tt;
+                turns = omega arith;
+              };
               stop = tt;
             }
             by (Err cause) = record { grown = same s; stop = tt }

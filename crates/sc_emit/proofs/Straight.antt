@@ -14,7 +14,7 @@ use Rattle.sc_tac.specs.Places.{IsClear}
 use Rattle.sc_tac.specs.Points.{Lives, Trail}
 use Rattle.sc_select.specs.Lines.{Line, plain, plainly}
 use Rattle.sc_select.specs.Selection.{straight, straightly}
-use Rattle.sc_relation.specs.Linking.{completed, low_after}
+use Rattle.sc_select.specs.Linking.{completed, low_after}
 use Rattle.sc_relation.specs.Stretches.{Setting, Joint}
 use Rattle.sc_relation.specs.Following.{Running, Ends, ends_of, live_at, Ready, Arrives, Comes, Follows}
 use Rattle.sc_relation.proofs.Lines.{low_plainly, plainly_at}

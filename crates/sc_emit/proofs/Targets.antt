@@ -22,7 +22,8 @@ use Rattle.sc_select.specs.Pieces.{a0}
 use Rattle.sc_select.specs.Selection.{Piece, straight, in_order, keep, pass, receive, call_own, call_cross}
 use Rattle.sc_select.specs.Selection.{environment_call}
 use Rattle.sc_select.specs.Selection.{place_of_global, select_step, select, select_all, function_lines, code_of}
-use Rattle.sc_emit.specs.Shapes.{names_only, is_named, refers_only}
+use Rattle.sc_select.specs.Linking.{is_named, refers_only}
+use Rattle.sc_emit.specs.Shapes.{names_only}
 use Rattle.sc_emit.proofs.Branches.{all_append, PassesAll, IsMild, followed_passes, fork_passes, cycle_passes}
 use Rattle.sc_emit.proofs.Branches.{function_passes}
 

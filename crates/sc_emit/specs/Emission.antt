@@ -14,10 +14,10 @@ use Rattle.sc_tac.specs.Weights.{entry_weight, weight}
 use Rattle.sc_select.specs.Pieces.{frame_taken}
 use Rattle.sc_hart.specs.Code.{CodeAt}
 use Rattle.sc_relation.specs.Calls.{FunctionFollows}
-use Rattle.sc_relation.specs.Linking.{linked}
+use Rattle.sc_select.specs.Linking.{linked, refers_only}
 use Rattle.sc_relation.specs.Stretches.{Setting}
 use Rattle.sc_emit.specs.Naming.{calls_only, AreReached}
-use Rattle.sc_emit.specs.Shapes.{code_branches, has_no_ebreak, names_only, refers_only}
+use Rattle.sc_emit.specs.Shapes.{code_branches, has_no_ebreak, names_only}
 
 -- the linked code of a function stands at an address of a compartment, all that it names is where it can be reached, it
 -- makes the calls that may be made, its parameters are words, and a turn pays for it

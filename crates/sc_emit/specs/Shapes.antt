@@ -1,12 +1,9 @@
--- What the code of a function consists of: its branches, that no instruction is EBREAK, and what its relocations name.
+-- What the code of a function consists of: its branches, that no instruction is EBREAK, and what statements name.
 use Rattle.std.specs.Prelude.{ℕ, Bool, true, false, not}
 use Rattle.std.specs.List.{count_by, list_all}
 use Rattle.rv_code.specs.declared.instr.Instr.{Instr}
 use Rattle.rv_code.specs.declared.instr.Instr.TheVariants.{Branch, Ebreak}
 use Rattle.sc_tac.specs.declared.machine_code.CodeTree.{CodeTree}
-use Rattle.sc_tac.specs.declared.machine_code.Relocation.{Relocation}
-use Rattle.sc_tac.specs.declared.machine_code.Target.{Target}
-use Rattle.sc_tac.specs.declared.machine_code.Target.TheVariants.{Function, Entry, Global}
 use Rattle.sc_tac.specs.declared.stmt.TacStmt.{TacStmt-F}
 use Rattle.sc_tac.specs.declared.stmt.TacStmt.TheOpen as tac
 
@@ -32,12 +29,3 @@ module _ (function : ℕ → Bool) (entry : (comp index : ℕ) → Bool) (global
   names_only (tac.CallCross dest comp index args) = entry comp index
   names_only (tac.GlobalPlace dest number) = global number
   names_only _ = true
-
-  abbrev pub is_named : Target → Bool
-  is_named (Function number) = function number
-  is_named (Entry comp index) = entry comp index
-  is_named (Global number) = global number
-
-  -- no relocation names another
-  abbrev pub refers_only : CodeTree → Bool
-  refers_only code = list_all {X = Relocation} (λ relocation. is_named relocation.target) code.relocations

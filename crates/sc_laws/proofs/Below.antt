@@ -3,7 +3,9 @@ use Rattle.sc_laws.proofs.Common.{Blamed, Cause, Ended, Err, EventsOut, Front, G
 use Rattle.sc_laws.proofs.Common.{Reached, Result, RunEnd, State, Stopped, TurnsOut, and_then, ap, arith, computed, inl}
 use Rattle.sc_laws.proofs.Common.{inr, last, refl, subst, suc, sym, turn, turn_of, with_blocks, zero, ℕ, ◌+◌, ◌<◌, ◌∙◌}
 use Rattle.sc_laws.proofs.Common.{◌≡◌, ◌≤◌, ◌⊎◌}
-use Rattle.sc_laws.proofs.Growing.{front_same, front_more, then_from}
+use Rattle.std.specs.Prelude.{length}
+use Rattle.sc_laws.specs.Rooms.{AllFrom}
+use Rattle.sc_laws.proofs.Growing.{front_same, front_more, then_from, late_more}
 use Rattle.sc_laws.proofs.Twins.{Kept, KeptAt}
 use Rattle.sc_laws.proofs.Expressions.{Keeps, alike, blamed}
 
@@ -19,9 +21,10 @@ richer_piece d (Stopped end s) = Stopped end (richer d s)
 pub record Later (s t : State) : Type 0 where
   pub events : Front s.trace t.trace
   pub frames : Front s.frames t.frames
+  pub late : AllFrom (length s.trace) frames.more
 
 pub later : (s t : State) → Grown s t → Later s t
-later s t g = record { events = g.events; frames = g.frames }
+later s t g = record { events = g.events; frames = g.frames; late = g.late }
 
 later_more : (s t u : State) → Later s t → Grown t u → Later s u
 later_more s t u h g =
@@ -29,6 +32,7 @@ later_more s t u h g =
       events = front_more s.trace t.trace u.trace h.events g.events;
       frames = front_more s.frames t.frames
           u.frames h.frames g.frames;
+      late = late_more s t h.frames.more g.frames.more h.events h.late g.late;
     }
 
 -- by how many turns the second is richer, for which causes it goes on where the first is blamed, and whether it does
@@ -106,7 +110,7 @@ module _ (d : ℕ) (Soft : Cause → Type 0) (Turns : Type 0) where
       passes (inr turns) = passed TurnsOut s refl turns (on (goes tt (record s { turns = m' })).grown) where
         on : Grown (record s { turns = m' }) (last (l tt (record s { turns = m' }))) →
             Later s (last (l tt (record s { turns = m' })))
-        on g = record { events = g.events; frames = g.frames }
+        on g = record { events = g.events; frames = g.frames; late = g.late }
 
     turned : (W : Type 0) (k l : Unit {0} → State → Piece W) → ((v : Unit {0}) → Goes (k v)) →
         ((v : Unit {0}) → Goes (l v)) → (s s' : State) → Ahead n n' s s'
@@ -132,8 +136,8 @@ module _ (d : ℕ) (Soft : Cause → Type 0) (Turns : Type 0) where
     computed_below V here line r r' s (blamed cause soft is) =
         passed (Blamed here.comp cause line) s (ap (λ x. computed here line x s) is) soft (stays r') where
           stays : (r : Result V Cause) → Later s (last (computed here line r (richer d s)))
-          stays (Ok v) = record { events = front_same s.trace; frames = front_same s.frames }
-          stays (Err cause) = record { events = front_same s.trace; frames = front_same s.frames }
+          stays (Ok v) = record { events = front_same s.trace; frames = front_same s.frames; late = tt }
+          stays (Err cause) = record { events = front_same s.trace; frames = front_same s.frames; late = tt }
 
     pub below_at : (here : Here) → KeptAt (Ahead n n') Below Soft here
     below_at here =
@@ -143,10 +147,8 @@ module _ (d : ℕ) (Soft : Cause → Type 0) (Turns : Type 0) where
               (computed_below V here line (e (s.memory here.comp)) (e' (s.memory here.comp)) s
               (h (s.memory here.comp)));
           passed = λ V cause line soft s s' a p g. passed (Blamed here.comp cause line) s refl soft
-              (record {
-                events = subst (λ x. Front x.trace (last p).trace) a.state g.grown.events;
-                frames = subst (λ x. Front x.frames (last p).frames) a.state g.grown.frames;
-              });
+              (let on = later (richer d s) (last p) (subst (λ x. Grown x (last p)) a.state g.grown) in
+              record { events = on.events; frames = on.frames; late = on.late });
           stored =
               λ blocks s s' a. record {
                 state = ap {A = State} {B = State}

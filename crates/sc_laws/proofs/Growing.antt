@@ -8,19 +8,50 @@ use Rattle.sc_laws.proofs.Common.{begun, call_cross, call_own, called, calls, cr
 use Rattle.sc_laws.proofs.Common.{first_word, follow, found, function, if◌then◌else◌, is_number, last, length, map}
 use Rattle.sc_laws.proofs.Common.{may_call, next_input, option_value, performs, read_input, refl, rows_left, run_in}
 use Rattle.sc_laws.proofs.Common.{run_step, scripted_step, suc, sym, tell, true, turn, turn_of, within, word_in, zero}
-use Rattle.sc_laws.proofs.Common.{ℕ, ◌++◌, ◌∙◌, ◌∷◌, ◌≡◌, ◌≤◌}
+use Rattle.sc_laws.proofs.Common.{FrameChange, length-append, ℕ, ◌++◌, ◌+◌, ◌∙◌, ◌∷◌, ◌≡◌, ◌≤◌}
+use Rattle.sc_laws.specs.Rooms.{AllFrom}
 use Rattle.sc_core.specs.Prelude.{Out, take}
 use Rattle.sc_event.specs.declared.row.Action.TheVariants as act
 
-pub front_same : {A : Type 0} (xs : List A) → Front xs xs
+abbrev pub front_same : {A : Type 0} (xs : List A) → Front xs xs
 front_same xs = record { more = []; is = sym (append-nil xs) }
 
-pub front_more : {A : Type 0} (xs ys zs : List A) → Front xs ys → Front ys zs → Front xs zs
+abbrev pub front_more : {A : Type 0} (xs ys zs : List A) → Front xs ys → Front ys zs → Front xs zs
 front_more xs ys zs a b =
     record { more = a.more ++ b.more; is = b.is ∙ ap (λ x. x ++ b.more) a.is ∙ append_assoc xs a.more b.more }
 
 pub same : (s : State) → Grown s s
-same s = record { events = front_same s.trace; frames = front_same s.frames; turns = omega arith }
+same s = record { events = front_same s.trace; frames = front_same s.frames; late = tt; turns = omega arith }
+
+-- moments at which changes were made
+
+pub from_less : (events more : ℕ) → events ≤ more → (changes : List FrameChange) → AllFrom more changes →
+    AllFrom events changes
+from_less events more le [] h = tt
+from_less events more le (Opened told c room ∷ changes) h = (
+  (let first : more ≤ told = h.0 in omega (arith, le, first)),
+  from_less events more le changes h.1,
+)
+from_less events more le (Closed told c room ∷ changes) h = (
+  (let first : more ≤ told = h.0 in omega (arith, le, first)),
+  from_less events more le changes h.1,
+)
+
+pub from_append : (events : ℕ) (first second : List FrameChange) → AllFrom events first → AllFrom events second →
+    AllFrom events (first ++ second)
+from_append events [] second h k = k
+from_append events (Opened told c room ∷ first) second h k = (h.0, from_append events first second h.1 k)
+from_append events (Closed told c room ∷ first) second h k = (h.0, from_append events first second h.1 k)
+
+pub front_no_longer : {A : Type 0} (xs ys : List A) → Front xs ys → length xs ≤ length ys
+front_no_longer xs ys h =
+    let long : length ys ≡ length xs + length h.more = ap length h.is ∙ length-append xs h.more in omega (arith, long)
+
+pub late_more : (s t : State) (first second : List FrameChange) → Front s.trace t.trace →
+    AllFrom (length s.trace) first → AllFrom (length t.trace) second → AllFrom (length s.trace) (first ++ second)
+late_more s t first second events h k =
+    from_append (length s.trace) first second h
+    (from_less (length s.trace) (length t.trace) (front_no_longer s.trace t.trace events) second k)
 
 pub more : (s t u : State) → Grown s t → Grown t u → Grown s u
 more s t u a b =
@@ -28,6 +59,7 @@ more s t u a b =
       events = front_more s.trace t.trace u.trace a.events b.events;
       frames = front_more s.frames t.frames
           u.frames a.frames b.frames;
+      late = late_more s t a.frames.more b.frames.more a.events a.late b.late;
       turns =
           (let p : t.turns ≤ s.turns = a.turns in let q : u.turns ≤ t.turns = b.turns in omega (arith, p, q));
     }
@@ -77,6 +109,7 @@ turn_of_goes (suc n) s is =
     reached tt s (record s { turns = n }) (record {
       events = front_same s.trace;
       frames = front_same s.frames;
+      late = tt;
       turns = omega (arith, is);
     })
 
@@ -87,6 +120,7 @@ pub told : (event : Event) (s : State) → Grown s (tell event s)
 told event s = record {
   events = record { more = event ∷ []; is = refl };
   frames = front_same s.frames;
+  late = tt;
   turns = omega arith;
 }
 
@@ -116,6 +150,7 @@ begun_goes comp f args s =
         more = Opened (length s.trace) comp f.room ∷ [];
         is = refl;
       };
+      late = (omega arith, tt);
       turns = omega arith;
     }
 
@@ -127,6 +162,7 @@ done_goes comp f first s =
         more = Closed (length s.trace) comp f.room ∷ [];
         is = refl;
       };
+      late = (omega arith, tt);
       turns = omega arith;
     }
 
@@ -135,6 +171,7 @@ read_goes comp s =
     record {
       events = record { more = In comp (next_input s.inputs) ∷ []; is = refl };
       frames = front_same s.frames;
+      late = tt;
       turns = omega arith;
     }
 

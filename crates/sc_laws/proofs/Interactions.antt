@@ -73,7 +73,8 @@ played_goes (Stores blocks next) by here go s =
     earlier s (with_memory here.comp blocks s) (played next by here (with_memory here.comp blocks s)) (unseen s)
     (played_goes next by here go (with_memory here.comp blocks s)) where
       unseen : (s : State) → Grown s (with_memory here.comp blocks s)
-      unseen s = record { events = (same s).events; frames = (same s).frames; turns = (same s).turns }
+      unseen s =
+          record { events = (same s).events; frames = (same s).frames; late = (same s).late; turns = (same s).turns }
 played_goes (Spends next) by here go s =
     then_goes s (turn s) (λ _. played next by here) (turn_goes s) (λ u. played_goes next by here go)
 played_goes (Asks target args next) by here go s =

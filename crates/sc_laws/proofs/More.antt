@@ -28,7 +28,7 @@ module _ (d : ℕ) (one other : Run) (events more_events : ℕ) (le : events ≤
   front_events : RunsBelow d Never (Unit {0}) one other → Front shorter.trace longer.trace
   front_events (goes.same_run is) = subst (λ z. Front shorter.trace z.behaviour.trace) (sym is)
       (front_same shorter.trace)
-  front_events (goes.goes_past end is stop passes front ended frames) = front
+  front_events (goes.goes_past end is stop passes front ended frames late) = front
 
   final_at : (b : Bool) → reaches events shorter shorter.end ≡ b →
       IsFinal (if b then record { trace = take events shorter.trace; end = EventsOut } else shorter).end →
@@ -42,7 +42,7 @@ module _ (d : ℕ) (one other : Run) (events more_events : ℕ) (le : events ≤
       ap (λ z. stopped_at more_events z.behaviour) equal
       ∙ ap (λ b. if b then record { trace = take more_events shorter.trace; end = EventsOut } else shorter)
       (still_unreached events more_events shorter shorter.end le is)
-  final_at false is final (goes.goes_past end ends stop passes front ended frames) =
+  final_at false is final (goes.goes_past end ends stop passes front ended frames late) =
       absurd (no_end end passes (subst IsFinal ends final)) where
         no_end : (end : RunEnd) → Passes d Never (Unit {0}) end → IsFinal end → ⊥
         no_end Ended passes final = passes
@@ -131,25 +131,25 @@ module _ (one other : Run) (events : ℕ) where
 
   agrees : RunsBelow 0 IsArithmetic ⊥ one other → AgreesUntilBlame (stopped_at events x) (stopped_at events y)
   agrees (goes.same_run is) = same (ap (λ z. stopped_at events z.behaviour) is)
-  agrees (goes.goes_past Ended ends stop passes front ended frames) = absurd passes
-  agrees (goes.goes_past (Blamed comp cause line) ends stop passes front ended frames) =
+  agrees (goes.goes_past Ended ends stop passes front ended frames late) = absurd passes
+  agrees (goes.goes_past (Blamed comp cause line) ends stop passes front ended frames late) =
       blamed_at comp cause line ends passes front ended (reaches events x x.end) refl
-  agrees (goes.goes_past TurnsOut ends stop passes front ended frames) = absurd passes
-  agrees (goes.goes_past EventsOut ends stop passes front ended frames) = absurd passes
+  agrees (goes.goes_past TurnsOut ends stop passes front ended frames late) = absurd passes
+  agrees (goes.goes_past EventsOut ends stop passes front ended frames late) = absurd passes
 
 module _ (one other : Run) where
   whole_agrees : RunsBelow 0 IsArithmetic ⊥ one other → RunsUntilBlame one other
   whole_agrees (goes.same_run is) = same_run is
-  whole_agrees (goes.goes_past Ended ends stop passes front ended frames) = absurd passes
-  whole_agrees (goes.goes_past (Blamed comp cause line) ends stop passes front ended frames) =
-      blamed_run comp cause line ends passes front frames
-  whole_agrees (goes.goes_past TurnsOut ends stop passes front ended frames) = absurd passes
-  whole_agrees (goes.goes_past EventsOut ends stop passes front ended frames) = absurd passes
+  whole_agrees (goes.goes_past Ended ends stop passes front ended frames late) = absurd passes
+  whole_agrees (goes.goes_past (Blamed comp cause line) ends stop passes front ended frames late) =
+      blamed_run comp cause line ends passes front frames late
+  whole_agrees (goes.goes_past TurnsOut ends stop passes front ended frames late) = absurd passes
+  whole_agrees (goes.goes_past EventsOut ends stop passes front ended frames late) = absurd passes
 
   no_deeper : RunsUntilBlame one other → (events comp : ℕ) → depth_in one events comp ≤ depth_in other events comp
   no_deeper (same_run is) events comp =
       subst (λ z. depth_in one events comp ≤ depth_in z events comp) (sym is) (omega arith)
-  no_deeper (blamed_run c cause line ends soft front frames) events comp =
+  no_deeper (blamed_run c cause line ends soft front frames late) events comp =
       subst (λ z. depth_in one events comp ≤ deepest events comp 0 z) (sym frames.is)
       (deepest_more events comp 0 one.frames frames.more)
 

@@ -5,7 +5,8 @@ use Rattle.sc_laws.proofs.Common.{RunEnd, Some, SourceRun, State, Step, Stopped,
 use Rattle.sc_laws.proofs.Common.{ap, arith, call_own, exit_word, false, first_state, found, if◌then◌else◌, last}
 use Rattle.sc_laws.proofs.Common.{le-ltb, leb-false, length, length-append, lt-leb, ltb-false, reaches, refl, run_by}
 use Rattle.sc_laws.proofs.Common.{run_step, run_to, scripted_step, stopped_at, subst, suc, sym, take, take_all, true}
-use Rattle.sc_laws.proofs.Common.{within, zero, ℕ, ◌++◌, ◌+◌, ◌<◌, ◌∙◌, ◌∷◌, ◌≡◌, ◌≤◌, ◌⊎◌}
+use Rattle.sc_laws.proofs.Common.{FrameChange, within, zero, ℕ, ◌++◌, ◌+◌, ◌<◌, ◌∙◌, ◌∷◌, ◌≡◌, ◌≤◌, ◌⊎◌}
+use Rattle.sc_laws.specs.Rooms.{AllFrom}
 use Rattle.sc_laws.proofs.Growing.{front_more, StepGoes, then_goes, found_goes, own_goes, within_goes}
 use Rattle.sc_laws.proofs.Libraries.{Anywhere}
 use Rattle.sc_laws.proofs.Matching.{library_twins}
@@ -74,7 +75,7 @@ module _ (d : ℕ) (Soft : Cause → Type 0) (Turns : Type 0) where
     goes_past : (end : RunEnd) → x.behaviour.end ≡ end → IsStop end → Passes d Soft Turns end →
         Front x.behaviour.trace y.behaviour.trace → (y.behaviour.end ≡ Ended →
         length x.behaviour.trace < length y.behaviour.trace) →
-        Front x.frames y.frames → RunsBelow x y
+        (frames : Front x.frames y.frames) → AllFrom (length x.behaviour.trace) frames.more → RunsBelow x y
 
   run_to_same : (main : ℕ) (o : Piece (Option Value)) → run_to main (richer_piece d o) ≡ run_to main o
   run_to_same main (Reached v s) = refl
@@ -101,6 +102,10 @@ module _ (d : ℕ) (Soft : Cause → Type 0) (Turns : Type 0) where
   frames_are main (Reached v s) = refl
   frames_are main (Stopped end s) = refl
 
+  -- frames that go on, where they change at so many events and later
+  abbrev FramesOn : ℕ → List FrameChange → List FrameChange → Type 0
+  FramesOn events before after = (front : Front before after) × AllFrom events front.more
+
   pub run_to_below : (main : ℕ) (o p : Piece (Option Value)) → StopsSo o → StopsSo p →
       Below d Soft Turns (Option Value) o p → RunsBelow (run_to main o) (run_to main p)
   run_to_below main o p stop stop' (along is) = same_run (ap (run_to main) is ∙ run_to_same main o)
@@ -109,9 +114,12 @@ module _ (d : ℕ) (Soft : Cause → Type 0) (Turns : Type 0) where
       let more =
       past main (run_to main o).behaviour.trace p stop' (subst (λ x. Front x (last p).trace) (sym ends) on.events) in
       let frames : (run_to main o).frames ≡ s.frames = ap (λ x. (run_to main x).frames) is in
-      goes_past end (ap (λ x. (run_to main x).behaviour.end) is) (subst StopsSo is stop) passes more.0 more.1
-      (subst (λ x. Front x (run_to main p).frames) (sym frames) (subst (Front s.frames) (sym (frames_are main p))
-      on.frames))
+      let late : FramesOn (length (run_to main o).behaviour.trace) (run_to main o).frames (run_to main p).frames =
+      subst (λ n. FramesOn n (run_to main o).frames (run_to main p).frames) (sym (ap length ends))
+      (subst (λ x. FramesOn (length s.trace) x (run_to main p).frames) (sym frames)
+      (subst (FramesOn (length s.trace) s.frames) (sym (frames_are main p)) (on.frames, on.late))) in
+      goes_past end (ap (λ x. (run_to main x).behaviour.end) is) (subst StopsSo is stop) passes more.0 more.1 late.0
+      late.1
 
   module _ (spent : (d ≡ 0) ⊎ Turns) (L M : Library) (match : LibrariesMatch Soft L M) where
     pub libraries : (n n' : ℕ) → LibrariesBelow d Soft Turns spent n n' L M

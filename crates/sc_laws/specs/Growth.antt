@@ -1,11 +1,14 @@
 -- How a run goes on: events are appended, turns are spent, and it stops for a blame or for want of turns alone.
 use Rattle.sc_laws.specs.Common.{Front, IsStop, Piece, Reached, State, Stopped}
-use Rattle.std.specs.Prelude.{◌≤◌}
+use Rattle.std.specs.Prelude.{◌≤◌, length}
+use Rattle.sc_laws.specs.Rooms.{AllFrom}
 
--- a state that comes after another: its events and its frames go on from the other's, and it has no more turns
+-- a state that comes after another: its events and its frames go on from the other's, where a change of frames is of the
+-- moment at which it was made, and it has no more turns
 pub record Grown (s t : State) : Type 0 where
   pub events : Front s.trace t.trace
   pub frames : Front s.frames t.frames
+  pub late : AllFrom (length s.trace) frames.more
   pub turns : t.turns ≤ s.turns
 
 -- the state to which a piece comes

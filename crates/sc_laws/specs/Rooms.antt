@@ -1,6 +1,6 @@
 -- How much room the open frames of a compartment take.
 use Rattle.sc_laws.specs.Common.{Closed, FrameChange, Opened, State}
-use Rattle.std.specs.Prelude.{ℕ, ◌+◌, ◌-◌, ◌<◌, ◌==◌, if◌then◌else◌, List, [], ◌∷◌}
+use Rattle.std.specs.Prelude.{ℕ, ◌+◌, ◌-◌, ◌<◌, ◌≤◌, ◌==◌, if◌then◌else◌, List, [], ◌∷◌}
 
 -- the room after these changes, where the compartment's frames take this room before them
 abbrev pub room_after : ℕ → ℕ → List FrameChange → ℕ
@@ -19,3 +19,9 @@ abbrev pub AllBefore : ℕ → List FrameChange → Type 0
 AllBefore events [] = Unit {0}
 AllBefore events (Opened told c more ∷ changes) = (told < events) × AllBefore events changes
 AllBefore events (Closed told c less ∷ changes) = (told < events) × AllBefore events changes
+
+-- each change was made when at least so many events were told
+abbrev pub AllFrom : ℕ → List FrameChange → Type 0
+AllFrom events [] = Unit {0}
+AllFrom events (Opened told c more ∷ changes) = (events ≤ told) × AllFrom events changes
+AllFrom events (Closed told c less ∷ changes) = (events ≤ told) × AllFrom events changes

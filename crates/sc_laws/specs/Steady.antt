@@ -1,6 +1,7 @@
 -- Runs with as many open calls as they have turns, and runs that say more of one another.
 use Rattle.sc_laws.specs.Common.{Blamed, Body, Cause, Front, Run, SourceRun, Step, depth_in, stopped_at, within}
-use Rattle.std.specs.Prelude.{◌≡◌, ℕ, suc, ◌≤◌}
+use Rattle.std.specs.Prelude.{◌≡◌, ℕ, suc, ◌≤◌, length}
+use Rattle.sc_laws.specs.Rooms.{AllFrom}
 use Rattle.sc_laws.specs.Ends.{IsFinal, IsArithmetic}
 
 -- what functions do that may have as many calls open as they have turns: there are never more
@@ -24,11 +25,12 @@ pub data AgreesUntilBlame (run other : SourceRun) : Type 0 where
       Front run.trace other.trace → AgreesUntilBlame run other
 
 -- the same of whole runs: the second is the first, or the first was blamed for arithmetic, and the second goes on in
--- its events and its frames
+-- its events and its frames, which change there at later moments alone
 pub data RunsUntilBlame (run other : Run) : Type 0 where
   same_run : other ≡ run → RunsUntilBlame run other
   blamed_run : (comp : ℕ) (cause : Cause) (line : ℕ) → run.behaviour.end ≡ Blamed comp cause line → IsArithmetic cause →
-      Front run.behaviour.trace other.behaviour.trace → Front run.frames other.frames → RunsUntilBlame run other
+      Front run.behaviour.trace other.behaviour.trace → (frames : Front run.frames other.frames) →
+      AllFrom (length run.behaviour.trace) frames.more → RunsUntilBlame run other
 
 -- so they agree wherever they are stopped, and no compartment gets deeper in the first
 pub record AgreesInRoom (run other : Run) : Type 0 where

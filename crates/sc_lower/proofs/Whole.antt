@@ -336,6 +336,9 @@ module _ (arith : Arith) (program : ProgramTree) (typed : is_well_typed program 
       gives = step_gives (within tree_step n) (within code_step n) (within_both n);
     }
 
+    pub bodies_kept : (n : ℕ) → BodiesAgree (within tree_step n) (within code_step n)
+    bodies_kept n = (within_both n).agree
+
     globals_same : globals_of program.sections ≡ code_globals lowered
     globals_same =
         λ i comp. (by comp (slice_get program.sections comp)
@@ -385,4 +388,6 @@ keeps_meaning = record {
       (meaning_kept arith program typed inputs turns).frames;
   scripted_depth = λ arith program typed set trace inputs turns events comp.
       ap (deepest events comp 0) (scripted_kept arith program typed inputs turns set trace).frames;
+  entered = λ arith program typed. entered_same program typed;
+  bodies = λ arith program typed roles. bodies_kept arith program typed roles;
 }

@@ -2,9 +2,14 @@
 use Rattle.sc_lower.specs.Common.{Arith, IsFunction, IsProgram, IsWellTyped, ProgramTree, TypedFunction, TypedSection}
 use Rattle.sc_lower.specs.Common.{code_depth_by, code_run, depth_by, run_of, scripted_code_depth_by, scripted_code_run}
 use Rattle.sc_lower.specs.Common.{scripted_depth_by, scripted_run_of}
-use Rattle.sc_laws.specs.Prelude.{RunsAgree}
+use Rattle.sc_core.specs.Calls.{run_step, within}
+use Rattle.sc_core.specs.Meaning.{library_of}
+use Rattle.sc_core.specs.Scripts.{Roles, scripted_step}
+use Rattle.sc_laws.specs.Prelude.{BodiesAgree, RunsAgree}
+use Rattle.sc_tac.specs.Code.{code_library}
 use Rattle.std.specs.Prelude.{◌≡◌, ℕ, Bool, List, Some, slice_get}
 use Rattle.sc_event.specs.declared.event.Event.{Event}
+use Rattle.sc_event.specs.declared.row.Entry.{Entry}
 use Rattle.sc_lower.specs.Programs.{lowered_function, lowered_program}
 
 -- The code of a well-typed program runs as the program does, in each arithmetic: its traces, its ends and the
@@ -26,6 +31,14 @@ pub record KeepsMeaning : Type 0 where
       (set : ℕ → Bool) (trace : List Event) (inputs : List ℕ) (turns events comp : ℕ) →
       scripted_depth_by arith program set trace inputs turns events comp
       ≡ scripted_code_depth_by arith (lowered_program program) set trace inputs turns events comp
+  -- entries lead to the same functions, and these do the same, whoever performs and however many calls may be open
+  pub entered : (arith : Arith) (program : ProgramTree) → IsWellTyped program → (comp : ℕ) (entry : Entry) →
+      (library_of arith program).entered comp entry ≡ (code_library arith (lowered_program program)).entered comp entry
+  pub bodies : (arith : Arith) (program : ProgramTree) → IsWellTyped program → (roles : Roles) (open_calls : ℕ) →
+      let tree = library_of arith program in
+      let code = code_library arith (lowered_program program) in
+      BodiesAgree (within (scripted_step tree roles (run_step tree)) open_calls)
+      (within (scripted_step code roles (run_step code)) open_calls)
 
 -- The code of a well-typed program keeps what three-address code keeps. Of each function: its temporaries and variables
 -- are its own, each temporary is assigned before it is read, there are at most as many as nodes, and the code weighs

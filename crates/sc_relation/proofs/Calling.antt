@@ -1,5 +1,5 @@
 -- A call of a function, from its first instruction to its jump back: what its code begins with, and what is left of it.
-use Rattle.std.proofs.Common.{◌≡◌, ◌≢◌, ℕ, ◌+◌, ◌<◌, ◌≤◌, false, List, All, length}
+use Rattle.std.proofs.Common.{◌≡◌, ◌≢◌, ℕ, ◌+◌, ◌%◌, ◌<◌, ◌≤◌, false, List, All, length}
 use Rattle.std.proofs.Common.{Option, Some, refl, sym, ◌∙◌, ap, subst, arith, ⊎_elim, inr}
 use Rattle.std.specs.Prelude.{◌⊎◌, slice_get}
 use Rattle.std.proofs.lemmas.Bool.{cases_eq, eq-eqb, ne_eqb}
@@ -81,6 +81,10 @@ module _ (T : Setting) (formed : IsWellFormed T.image) (inputs : All IsWord T.in
     abbrev pub A : Activation
     A = activated P x frame low ra_is
 
+    at_floor : (Q : ℕ → Type 0) (k : ℕ) → (k ≡ P.comp → Q low) → Q (P.floor k) → Q (A.floor k)
+    at_floor Q k here there =
+        ⊎_elim (λ e. rw (eq-eqb k P.comp e) (here e)) (λ d. rw (ne_eqb k P.comp d) there) (cases_eq k P.comp)
+
     pub is_activation : IsActivation T.performs f.cells places nodes A
     is_activation = record {
       honest = begins.honest;
@@ -91,6 +95,13 @@ module _ (T : Setting) (formed : IsWellFormed T.image) (inputs : All IsWord T.in
       low = start;
       high = omega (arith, begins.base.high, bound_is);
       floor = rw (eq-eqb P.comp P.comp refl) refl;
+      floors = record {
+        aligned = λ k honest. at_floor (λ a. a % 4 ≡ 0) k
+            (λ e. omega (arith, begins.base.aligned, bound_is, whole.bytes)) (begins.base.floors.aligned k honest);
+        high = λ k honest. at_floor (λ a. a ≤ stack_top k) k
+            (λ e. subst (λ j. low ≤ stack_top j) (sym e) (omega (arith, begins.base.high, bound_is)))
+            (begins.base.floors.high k honest);
+      };
     }
 
     -- what the code of the way in has done, in so many steps

@@ -6,7 +6,7 @@ use Rattle.sc_image.specs.declared.parts.ImageParts.{ImageParts}
 use Rattle.sc_select.specs.Lines.{Line, plainly}
 use Rattle.sc_hart.specs.Code.{CodeAt}
 use Rattle.sc_hart.proofs.Fetching.{front_at, back_at}
-use Rattle.sc_relation.specs.Linking.{Addresses, with_low, with_target, low_behind, completed, low_after}
+use Rattle.sc_select.specs.Linking.{Addresses, with_low, with_target, low_behind, completed, low_after}
 
 module _ (addresses : Addresses) where
   pub completed_length : (pc : ℕ) (low : Option ℕ) (lines : List Line) → length (completed addresses pc low lines) ≡

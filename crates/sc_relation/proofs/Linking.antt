@@ -6,8 +6,8 @@ use Rattle.rv_code.specs.declared.instr.Instr.{Instr}
 use Rattle.sc_tac.specs.declared.machine_code.Relocation.{Relocation}
 use Rattle.sc_tac.specs.declared.machine_code.Target.{Target}
 use Rattle.sc_select.specs.Lines.{Line, relocation_of, relocations_from, code_of_lines}
-use Rattle.sc_relation.specs.Linking.{Addresses, with_low, with_target, low_behind, completed, target_at}
-use Rattle.sc_relation.specs.Linking.{relocations_behind, linked_from, linked}
+use Rattle.sc_select.specs.Linking.{Addresses, with_low, with_target, low_behind, completed, target_at}
+use Rattle.sc_select.specs.Linking.{relocations_behind, linked_from, linked}
 
 module _ (A : Addresses) where
   -- no later line refers to something at an earlier number

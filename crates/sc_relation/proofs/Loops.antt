@@ -26,7 +26,7 @@ use Rattle.sc_tac.specs.Points.{Point, Set, Lives, Trail, ahead_at, readings, li
 use Rattle.sc_tac.specs.Points.{live_at_start, in_next, in_body, in_head, loop_points, trail_step}
 use Rattle.sc_select.specs.Lines.{Line}
 use Rattle.sc_select.specs.Selection.{Piece as Code, cycle, jump_back}
-use Rattle.sc_relation.specs.Linking.{low_after}
+use Rattle.sc_select.specs.Linking.{low_after}
 use Rattle.sc_relation.specs.Stretches.{Setting, Joint, Standpoint, machine, Settled, Leads, Overflows}
 use Rattle.sc_relation.specs.Following.{Running, Ends, ends_of, seen_from, row, Ready, Arrives}
 use Rattle.sc_relation.specs.Following.{ExitGives, Gives, Comes, StandsAt, Starts, Follows}

@@ -10,7 +10,7 @@ use Rattle.sc_tac.specs.Code.{Temps, Codes}
 use Rattle.sc_tac.specs.Places.{IsClear}
 use Rattle.sc_tac.specs.Points.{Lives, Trail, live_before, row_points}
 use Rattle.sc_select.specs.Selection.{Piece as Code, nothing, followed}
-use Rattle.sc_relation.specs.Linking.{low_after}
+use Rattle.sc_select.specs.Linking.{low_after}
 use Rattle.sc_relation.specs.Stretches.{Setting, Joint, Overflows}
 use Rattle.sc_relation.specs.Following.{Running, Ends, ends_of, seen_from, row, Ready}
 use Rattle.sc_relation.specs.Following.{ExitGives, Gives, Comes, StandsAt, Starts, Follows}

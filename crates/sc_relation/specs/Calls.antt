@@ -15,6 +15,7 @@ use Rattle.sc_image.specs.Step.{jalr_target}
 use Rattle.sc_select.specs.Pieces.{ra, sp, a0, a7}
 use Rattle.sc_hart.specs.Code.{Fetches}
 use Rattle.sc_relation.specs.Blocks.{StandsFor}
+use Rattle.sc_relation.specs.Frames.{AreFloors}
 use Rattle.sc_relation.specs.Stretches.{Setting, Joint, Standpoint, Settled, Leads, Shows, Overflows, GivenBack}
 
 -- a call of the environment
@@ -23,12 +24,6 @@ of_environment (Own number) = false
 of_environment (Cross to index) = false
 of_environment Input = true
 of_environment Output = true
-
--- calls of a compartment whose latest frame, or the top of whose stack, this is
-pub record IsBase (P : Standpoint) : Type 0 where
-  pub floor : P.floor P.comp ≡ P.bound
-  pub aligned : P.bound % 4 ≡ 0
-  pub high : P.bound ≤ stack_top P.comp
 
 -- it comes back with a value, or the meaning ends
 abbrev pub GivesValue : Piece (Option Value) → Type 0
@@ -40,6 +35,13 @@ abbrev pub ArePassed : (ℕ → Option ℕ) → (ℕ → ℕ) → List Value →
 ArePassed place regs args = (i : ℕ) (v : Value) → slice_get args i ≡ Some v → StandsFor place (regs (a0 + i)) v
 
 module _ (T : Setting) where
+  -- calls of a compartment whose latest frame, or the top of whose stack, this is
+  pub record IsBase (P : Standpoint) : Type 0 where
+    pub floor : P.floor P.comp ≡ P.bound
+    pub aligned : P.bound % 4 ≡ 0
+    pub high : P.bound ≤ stack_top P.comp
+    pub floors : AreFloors T.performs P.floor
+
   -- Calls, as the code sees them that makes them.
 
   -- a call came back: with a value in a0, and the rest as it was. The environment leaves all registers but that one

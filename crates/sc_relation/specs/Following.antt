@@ -13,7 +13,7 @@ use Rattle.sc_select.specs.Pieces.{ra, sp, a0}
 use Rattle.sc_select.specs.Selection.{Piece as Code}
 use Rattle.sc_hart.specs.Code.{Fetches, CodeAt}
 use Rattle.sc_relation.specs.Frames.{Activation, FrameMatches, AreHeld}
-use Rattle.sc_relation.specs.Linking.{completed, low_after}
+use Rattle.sc_select.specs.Linking.{completed, low_after}
 use Rattle.sc_relation.specs.Stretches.{Setting, Joint, Standpoint, Settled, Leads, Shows, Overflows, GivenBack}
 
 -- statements in order as one

@@ -28,6 +28,11 @@ pub record Activation : Type 0 where
   pub cross : List Crossing
   pub floor : ℕ → ℕ
 
+-- the floor of each compartment that runs its code is a word of its stack, or the top of it
+pub record AreFloors (performs : ℕ → Bool) (floor : ℕ → ℕ) : Type 0 where
+  pub aligned : (k : ℕ) → performs k ≡ false → floor k % 4 ≡ 0
+  pub high : (k : ℕ) → performs k ≡ false → floor k ≤ stack_top k
+
 -- the offsets of the words that a frame keeps for itself: the return address and the slots
 abbrev pub own_words : FrameTree → List ℕ
 own_words frame = 0 ∷ frame.slots
@@ -43,6 +48,7 @@ pub record IsActivation (performs : ℕ → Bool) (cells : List ℕ) (places : L
   pub low : data_start A.here.comp ≤ A.sp
   pub high : A.sp + A.frame.bytes ≤ stack_top A.here.comp
   pub floor : A.floor A.here.comp ≡ A.sp
+  pub floors : AreFloors performs A.floor
 
 -- the frame in memory: the return address, and where variables are; no variable meets a word of its own
 pub record FrameMatches (image : ImageParts) (A : Activation) (inj : Injection) (memory : Memory) (bytes : Bytes) :

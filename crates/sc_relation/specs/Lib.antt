@@ -2,6 +2,5 @@ pub mod Blocks
 pub mod Calls
 pub mod Following
 pub mod Frames
-pub mod Linking
 pub mod Stretches
 pub mod Operators

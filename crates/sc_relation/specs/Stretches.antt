@@ -18,7 +18,7 @@ use Rattle.sc_image.specs.Steady.{IsSteady}
 use Rattle.sc_image.specs.Walks.{Walks}
 use Rattle.sc_hart.specs.Hart.{Registers, at}
 use Rattle.sc_hart.specs.Words.{word}
-use Rattle.sc_relation.specs.Linking.{Addresses}
+use Rattle.sc_select.specs.Linking.{Addresses}
 use Rattle.sc_relation.specs.Blocks.{Injection, StandsFor, LiveAt, BlocksMatch, Guarded}
 
 -- what stays for a whole run: the image and the inputs, the compartments that perform in place of running their code,

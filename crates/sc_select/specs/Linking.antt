@@ -1,5 +1,6 @@
 -- Lines of code as the linker completes them: with the addresses of what they refer to.
-use Rattle.std.specs.Prelude.{ℕ, suc, pos, ◌+◌, ◌-ℤ◌, ◌==◌, if◌then◌else◌, List, [], ◌∷◌, Option, None, Some}
+use Rattle.std.specs.Prelude.{ℕ, suc, pos, ◌+◌, ◌-ℤ◌, ◌==◌, if◌then◌else◌, Bool, List, [], ◌∷◌, Option, None, Some}
+use Rattle.std.specs.List.{list_all}
 use Rattle.rv_code.specs.declared.instr.Instr.{Instr}
 use Rattle.rv_code.specs.declared.instr.Instr.TheVariants.{Upper, Jal, Jalr, OpImm}
 use Rattle.sc_tac.specs.declared.machine_code.CodeTree.{CodeTree}
@@ -68,3 +69,13 @@ module _ (addresses : Addresses) where
   -- the code of a function as it stands at an address
   abbrev pub linked : (address : ℕ) → CodeTree → List Instr
   linked address code = linked_from address 0 None code.instrs code.relocations
+
+-- no relocation names a function, an entry or a global but those that pass these tests
+module _ (function : ℕ → Bool) (entry : (comp index : ℕ) → Bool) (global : ℕ → Bool) where
+  abbrev pub is_named : Target → Bool
+  is_named (Function number) = function number
+  is_named (Entry comp index) = entry comp index
+  is_named (Global number) = global number
+
+  abbrev pub refers_only : CodeTree → Bool
+  refers_only code = list_all {X = Relocation} (λ relocation. is_named relocation.target) code.relocations
