@@ -15,3 +15,4 @@ pub use control::Distances;
 pub use function::select;
 pub use homes::Homes;
 pub use operators::Operands;
+pub use pieces::{lower_part, upper_part};

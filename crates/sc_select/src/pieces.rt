@@ -52,14 +52,16 @@ pub(crate) fn immediate(value: i32) -> Immediate
     Immediate::new(value).unwrap()
 }
 
-// Rounded to the nearest multiple of 4096, since what is added is signed.
-fn upper_part(word: u32) -> UpperImmediate
+/// What LUI loads of a word whose low 12 bits another instruction adds: the word rounded to the nearest multiple of
+/// 4096, since what is added is signed (RISC-V Unprivileged ISA, 2.4).
+pub fn upper_part(word: u32) -> UpperImmediate
     ensures { result ≡ upper_part word }
 {
     UpperImmediate::new(word.wrapping_add(0x800) / 0x1000 * 0x1000).unwrap()
 }
 
-fn lower_part(word: u32) -> Immediate
+/// The low 12 bits of a word, as the signed number that is added to its upper part.
+pub fn lower_part(word: u32) -> Immediate
     ensures { result ≡ lower_part word }
 {
     let low = (word % 0x1000) as i32;
