@@ -142,6 +142,7 @@ module _ (comp : CompPart) (inputs : List ℕ) (words : All IsWord inputs) (turn
             inputs = refl;
             steady = runs_are_steady.first image formed;
             room = λ k h. omega arith;
+            told = tt;
           };
           base = record {
             floor = refl;

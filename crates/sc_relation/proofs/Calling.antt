@@ -28,7 +28,7 @@ use Rattle.sc_relation.specs.Stretches.{Setting, Joint, Standpoint, machine, Set
 use Rattle.sc_relation.specs.Following.{seen_from, Ready, Returns}
 use Rattle.sc_relation.specs.Calls.{Begins, IsLeft}
 use Rattle.sc_relation.proofs.Ending.{lives_on, length_closed, LivesOn, room_begun, room_begun_else, room_done}
-use Rattle.sc_relation.proofs.Ending.{room_done_else}
+use Rattle.sc_relation.proofs.Ending.{room_done_else, told_closed, told_opened}
 use Rattle.sc_relation.proofs.Held.{held_at_entry}
 use Rattle.sc_relation.proofs.Opening.{Prepared, injection_opened, other_range, lived_before}
 use Rattle.sc_relation.proofs.Opening.{blocks_opened, injection_grows, own_guarded, above_guarded, objects_placed}
@@ -170,6 +170,7 @@ module _ (T : Setting) (formed : IsWellFormed T.image) (inputs : All IsWord T.in
         inputs = begins.settled.inputs;
         steady = walks_steady T.image T.inputs formed inputs n _ _ enters.walks begins.settled.steady;
         room = room_opened;
+        told = told_opened (length x.meant.trace) P.comp f.room x.meant.frames begins.settled.told;
       }
 
       pub frame_entered : FrameMatches T.image A y.inj y.meant.memory y.bytes
@@ -312,6 +313,7 @@ module _ (T : Setting) (formed : IsWellFormed T.image) (inputs : All IsWord T.in
           inputs = settled.inputs;
           steady = settled.steady;
           room = λ k honest. omega (arith, begins.settled.room k honest, rooms_same k);
+          told = told_closed (length z.meant.trace) P.comp f.room z.meant.frames settled.told;
         }
 
       -- at the jump back the call is left

@@ -10,7 +10,7 @@ use Rattle.sc_core.specs.declared.value.Value.{Value}
 use Rattle.sc_core.specs.Calls.{Function, begun, done}
 use Rattle.sc_core.specs.Memory.{Block, Blocks, Memory, with_blocks, ended}
 use Rattle.sc_core.specs.Words.{State as Meant, FrameChange, Opened, Closed}
-use Rattle.sc_laws.specs.Rooms.{room_after, open_room}
+use Rattle.sc_laws.specs.Rooms.{room_after, open_room, AllBefore}
 use Rattle.sc_relation.specs.Blocks.{LiveAt}
 use Rattle.sc_relation.proofs.Access.{LivesIn}
 
@@ -108,3 +108,19 @@ module _ (k comp : ℕ) (f : Function) (s : Meant) where
   pub room_done_else : (first : ℕ) → k ≢ comp → open_room k (done comp f first s) ≡ open_room k s
   room_done_else first n =
       last_change k 0 s.frames (Closed (length s.trace) comp f.room) ∙ rw (ne_eqb comp k (λ e. n (sym e))) refl
+
+-- the changes of frames that were made within the trace, and one more
+
+next_told : (n : ℕ) (changes : List FrameChange) (change : FrameChange) → AllBefore (suc n) (change ∷ []) →
+    AllBefore (suc n) changes → AllBefore (suc n) (changes ++ change ∷ [])
+next_told n [] change one h = one
+next_told n (Opened told c room ∷ changes) change one h = (h.0, next_told n changes change one h.1)
+next_told n (Closed told c room ∷ changes) change one h = (h.0, next_told n changes change one h.1)
+
+pub told_opened : (n comp room : ℕ) (changes : List FrameChange) → AllBefore (suc n) changes →
+    AllBefore (suc n) (changes ++ Opened n comp room ∷ [])
+told_opened n comp room changes h = next_told n changes (Opened n comp room) (omega arith, tt) h
+
+pub told_closed : (n comp room : ℕ) (changes : List FrameChange) → AllBefore (suc n) changes →
+    AllBefore (suc n) (changes ++ Closed n comp room ∷ [])
+told_closed n comp room changes h = next_told n changes (Closed n comp room) (omega arith, tt) h

@@ -23,6 +23,7 @@ use Rattle.sc_hart.proofs.Steps.{then_go}
 use Rattle.sc_relation.specs.Stretches.{Setting, Joint, Standpoint, machine, Shows, Overflows}
 use Rattle.sc_relation.specs.Following.{Running, seen_from, Returns}
 use Rattle.sc_relation.specs.Calls.{Begins, FunctionGives}
+use Rattle.sc_relation.proofs.Ending.{told_opened}
 use Rattle.sc_relation.proofs.Calling.{activated, entered, Enters, is_left, too_deep}
 
 module _ (T : Setting) (formed : IsWellFormed T.image) (inputs : All IsWord T.inputs) (P : Standpoint) (f : Function)
@@ -50,6 +51,7 @@ module _ (T : Setting) (formed : IsWellFormed T.image) (inputs : All IsWord T.in
     trace = trace;
     deep = subst (λ c. stack_size < open_room c (begun P.comp f args x.meant)) (sym active)
         (too_deep T formed inputs P f args address ra_is x begins frame roomy low);
+    told = told_opened (length x.meant.trace) P.comp f.room x.meant.frames begins.settled.told;
     grown = grown;
     costs = record { least = omega arith; most = λ all. omega (arith, few) };
   }
@@ -102,6 +104,7 @@ module _ (T : Setting) (formed : IsWellFormed T.image) (inputs : All IsWord T.in
       begun = o.begun;
       trace = o.trace;
       deep = o.deep;
+      told = o.told;
       grown = more o.begun (last piece) (last (with_end piece)) o.grown
           (then_from piece (λ v t. Reached v (done P.comp f first t))
           (λ v t. reached v t (done P.comp f first t) (done_goes P.comp f first t)));

@@ -77,6 +77,7 @@ module _ (T : Setting) (R : Running) (formed : IsWellFormed T.image) (words : Al
             walks_steady T.image T.inputs formed words leads.steps (machine P x) (machine P (record x { pc = pc }))
             leads.run ready.settled.steady;
         room = ready.settled.room;
+        told = ready.settled.told;
       };
       frame = ready.frame;
       held = ready.held;

@@ -224,6 +224,7 @@ module _ (T : Setting) (R : Running) (formed : IsWellFormed T.image) (words : Al
               (walks_steady T.image T.inputs formed words leads.steps (machine P x) (machine P y) leads.run
               ready.settled.steady);
           room = ready.settled.room;
+          told = ready.settled.told;
         };
         frame = ready.frame;
         held = λ t v on. ready.held t v (less t on);
@@ -381,6 +382,7 @@ module _ (T : Setting) (R : Running) (formed : IsWellFormed T.image) (words : Al
               inputs = ready.settled.inputs;
               steady = ready.settled.steady;
               room = ready.settled.room;
+              told = ready.settled.told;
             };
             frame = ready.frame;
             held = ready.held;

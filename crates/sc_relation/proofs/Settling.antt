@@ -45,6 +45,7 @@ module _ (T : Setting) (formed : IsWellFormed T.image) (inputs : All IsWord T.in
     inputs = s.inputs;
     steady = walks_steady T.image T.inputs formed inputs n _ _ walks s.steady;
     room = s.room;
+    told = s.told;
   }
 
   -- a stretch that leaves protected words alone
@@ -84,6 +85,7 @@ module _ (T : Setting) (formed : IsWellFormed T.image) (inputs : All IsWord T.in
       inputs = s.inputs;
       steady = walks_steady T.image T.inputs formed inputs n _ _ walks s.steady;
       room = s.room;
+      told = s.told;
     }
 
     pub leads_stored : (left : ℕ) → Walks T.image T.inputs n (machine P x) (machine P stored_at) →

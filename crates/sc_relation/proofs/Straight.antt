@@ -313,6 +313,7 @@ module _ (T : Setting) (R : Running) where
     inputs = s.inputs;
     steady = s.steady;
     room = s.room;
+    told = s.told;
   }
 
   pub settled_to : (x : Joint) → Settled T P x → Settled T call_from x
@@ -323,6 +324,7 @@ module _ (T : Setting) (R : Running) where
     inputs = s.inputs;
     steady = s.steady;
     room = s.room;
+    told = s.told;
   }
 
   -- what lies above the frame lies above what is called
@@ -364,6 +366,7 @@ module _ (T : Setting) (R : Running) where
     begun = o.begun;
     trace = o.trace;
     deep = o.deep;
+    told = o.told;
     grown = o.grown;
     costs = o.costs;
   }

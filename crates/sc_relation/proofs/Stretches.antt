@@ -139,6 +139,7 @@ module _ (T : Setting) (P : Standpoint) where
     begun = o.begun;
     trace = o.trace;
     deep = o.deep;
+    told = o.told;
     grown = o.grown;
     costs = costs_then l.steps o.steps a b 0 x.meant y.meant o.begun l.costs o.costs;
   }
@@ -154,6 +155,7 @@ module _ (T : Setting) (P : Standpoint) where
     begun = o.begun;
     trace = o.trace;
     deep = o.deep;
+    told = o.told;
     grown = more o.begun (last piece) (last whole) o.grown goes;
     costs = costs_less o.steps a 0 c 0 x.meant o.begun h (omega arith) o.costs;
   }

@@ -1,5 +1,5 @@
 -- Stretches of a run on both sides: of the machine, and of a meaning whose state stands beside the machine's.
-use Rattle.std.specs.Prelude.{◌≡◌, ◌≢◌, ℕ, ◌+◌, ◌*◌, ◌<◌, ◌≤◌, Bool, false, List, length, drop, Option, None, Some}
+use Rattle.std.specs.Prelude.{◌≡◌, ◌≢◌, ℕ, suc, ◌+◌, ◌*◌, ◌<◌, ◌≤◌, Bool, false, List, length, drop, Option, None, Some}
 use Rattle.std.specs.Prelude.{slice_index}
 use Rattle.sc_base.specs.declared.stop.TrapReason.TheVariants.{Owner}
 use Rattle.sc_core.specs.declared.expr.CallTarget.{CallTarget}
@@ -8,7 +8,7 @@ use Rattle.sc_core.specs.declared.value.Value.{Value}
 use Rattle.sc_core.specs.Memory.{Memory}
 use Rattle.sc_core.specs.Words.{State as Meant, Piece}
 use Rattle.sc_laws.specs.Growth.{Grown, last}
-use Rattle.sc_laws.specs.Rooms.{open_room}
+use Rattle.sc_laws.specs.Rooms.{open_room, AllBefore}
 use Rattle.sc_store.specs.Memory.{Memory as Bytes}
 use Rattle.sc_image.specs.declared.parts.ImageParts.{ImageParts}
 use Rattle.sc_image.specs.Layout.{stack_size, stack_top}
@@ -69,6 +69,8 @@ module _ (T : Setting) where
     pub steady : IsSteady T.image (machine P x)
     -- what is open of a stack is no more than the room of the frames that the meaning has open
     pub room : (k : ℕ) → T.performs k ≡ false → stack_top k ≤ P.floor k + open_room k x.meant
+    -- each change of frames was made within the trace
+    pub told : AllBefore (suc (length x.meant.trace)) x.meant.frames
 
   -- a word that belongs to what lies above: to calls before, or to another compartment
   pub record Protected (P : Standpoint) (inj : Injection) (memory : Memory) (k q : ℕ) : Type 0 where
@@ -121,6 +123,7 @@ module _ (T : Setting) where
     pub begun : Meant
     pub trace : reached.trace ≡ begun.trace
     pub deep : stack_size < open_room reached.active begun
+    pub told : AllBefore (suc (length begun.trace)) begun.frames
     pub grown : Grown begun (last piece)
     pub costs : Costs steps budget 0 x.meant begun
 
