@@ -1,0 +1,6 @@
+pub mod Bodies
+pub mod Linked
+pub mod Outcomes
+pub mod Results
+pub mod Runs
+pub mod Simulation

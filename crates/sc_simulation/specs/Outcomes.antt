@@ -1,0 +1,52 @@
+-- What the machine does from its start, beside a run of code.
+use Rattle.std.specs.Prelude.{◌≡◌, ℕ, suc, ◌*◌, ◌<◌, ◌≤◌, List, length}
+use Rattle.sc_base.specs.declared.stop.TrapReason.TheVariants.{Owner}
+use Rattle.sc_core.specs.declared.run.RunEnd.TheVariants.{Ended, TurnsOut}
+use Rattle.sc_core.specs.Growth.{Front}
+use Rattle.sc_core.specs.Meaning.{Run}
+use Rattle.sc_core.specs.Words.{FrameChange, IsStop}
+use Rattle.sc_laws.specs.Rooms.{AllBefore, AllFrom, room_after}
+use Rattle.sc_image.specs.declared.parts.ImageParts.{ImageParts}
+use Rattle.sc_image.specs.Cross.{ended}
+use Rattle.sc_image.specs.Layout.{stack_size}
+use Rattle.sc_image.specs.State.{State, start}
+use Rattle.sc_image.specs.Step.{Goes, Traps, step}
+use Rattle.sc_image.specs.Walks.{Walks}
+
+-- the machine reaches a state within a bound on steps
+pub record Reaches (image : ImageParts) (inputs : List ℕ) (bound : ℕ) : Type 0 where
+  pub steps : ℕ
+  pub reached : State
+  pub walks : Walks image inputs steps (start image) reached
+  pub within : steps < bound
+
+module _ (image : ImageParts) (inputs : List ℕ) (bound turns : ℕ) (run : Run) where
+  -- `main` returns on both sides: the next step is the end
+  pub record Finishes : Type 0 where
+    pub place : Reaches image inputs bound
+    pub ends : step image inputs place.reached ≡ Goes (ended place.reached)
+    pub trace : (ended place.reached).trace ≡ run.behaviour.trace
+    pub end : run.behaviour.end ≡ Ended
+
+  -- the run stops, and the machine has shown its events; where that is for want of turns, it has taken as many steps
+  pub record Stands : Type 0 where
+    pub place : Reaches image inputs bound
+    pub trace : place.reached.trace ≡ run.behaviour.trace
+    pub end : IsStop run.behaviour.end
+    pub spent : run.behaviour.end ≡ TurnsOut → turns ≤ place.steps
+
+  -- the machine stands trapped, since a stack is full: at that moment the run's frames were that deep, too
+  pub record IsFull : Type 0 where
+    pub place : Reaches image inputs bound
+    pub traps : step image inputs place.reached ≡ Traps Owner
+    pub trace : Front place.reached.trace run.behaviour.trace
+    pub frames : List FrameChange
+    pub front : Front frames run.frames
+    pub before : AllBefore (suc (length place.reached.trace)) frames
+    pub behind : AllFrom (length place.reached.trace) front.more
+    pub deep : stack_size < room_after place.reached.active 0 frames
+
+  pub data Outcome : Type 0 where
+    finishes : Finishes → Outcome
+    stands : Stands → Outcome
+    is_full : IsFull → Outcome

@@ -1,0 +1,36 @@
+-- What the functions of a program give back, whoever performs and however many calls may be open.
+use Rattle.std.specs.Prelude.{◌≡◌, ℕ, true, false, Option, Some, slice_get, IsSome}
+use Rattle.sc_event.specs.Prelude.{export_at}
+use Rattle.sc_event.specs.declared.interface.Proto.{Proto}
+use Rattle.sc_event.specs.declared.row.Entry.TheVariants.{Export, Main}
+use Rattle.sc_core.specs.declared.value.Value.{Value}
+use Rattle.sc_core.specs.declared.value.Value.TheVariants.{Word}
+use Rattle.sc_core.specs.Calls.{Body, crossing, option_value, run_step, within}
+use Rattle.sc_core.specs.Scripts.{Roles, scripted_step}
+use Rattle.sc_core.specs.Value.{wrapping}
+use Rattle.sc_core.specs.Words.{Here, Reached, State}
+use Rattle.sc_tac.specs.declared.function.TacFnTree.{TacFnTree}
+use Rattle.sc_tac.specs.declared.program.TacTree.{TacTree}
+use Rattle.sc_tac.specs.Code.{code_library, function_entered}
+use Rattle.sc_simulation.specs.Linked.{functions_in}
+
+-- what its functions do where at most so many calls may be open and some compartments perform
+abbrev pub bodies : TacTree → Roles → (open_calls : ℕ) → Body
+bodies program roles =
+    within (scripted_step (code_library wrapping program) roles (run_step (code_library wrapping program)))
+
+pub record GivesResults (program : TacTree) (roles : Roles) : Type 0 where
+  -- a function with a result gives a value
+  pub given : (open_calls number : ℕ) (here : Here) (f : TacFnTree) (s t : State) (v : Option Value) →
+      roles.scripted here.comp ≡ false → slice_get (functions_in program here.comp) number ≡ Some f →
+      f.result ≡ true → bodies program roles open_calls number here s ≡ Reached v t → IsSome v
+  -- what an export gives is what crosses: a word where its prototype has a result, and else nothing
+  pub crosses : (open_calls index number : ℕ) (here : Here) (proto : Proto) (s t : State) (v : Option Value) →
+      roles.scripted here.comp ≡ false → export_at program.interfaces here.comp index ≡ Some proto →
+      function_entered (Export index) (slice_get program.sections here.comp) ≡ Some number →
+      bodies program roles open_calls number here s ≡ Reached v t → option_value (crossing (Some proto) v) ≡ v
+  -- `main` gives a word
+  pub ends : (open_calls number : ℕ) (here : Here) (s t : State) (v : Option Value) →
+      roles.scripted here.comp ≡ false → here.comp ≡ program.interfaces.main →
+      function_entered Main (slice_get program.sections here.comp) ≡ Some number →
+      bodies program roles open_calls number here s ≡ Reached v t → (w : ℕ) × (v ≡ Some (Word w))

@@ -1,0 +1,48 @@
+-- What the machine's runs show of a program's run, wherever either is stopped.
+use Rattle.std.specs.Prelude.{◌≡◌, ℕ, ◌<◌, ◌≤◌, ◌⊎◌, List, All}
+use Rattle.sc_base.specs.declared.stop.Stop.TheVariants.{Trap}
+use Rattle.sc_base.specs.declared.stop.TrapReason.TheVariants.{Owner}
+use Rattle.sc_core.specs.declared.run.RunEnd.{RunEnd}
+use Rattle.sc_core.specs.declared.run.RunEnd.TheVariants.{Blamed, Ended, EventsOut, TurnsOut}
+use Rattle.sc_core.specs.Growth.{Front}
+use Rattle.sc_core.specs.Meaning.{Run, depth_in}
+use Rattle.sc_core.specs.Run.{stopped_at}
+use Rattle.sc_laws.specs.Agreement.{RunsAgree}
+use Rattle.sc_laws.specs.Steady.{AgreesInRoom}
+use Rattle.sc_image.specs.declared.parts.ImageParts.{ImageParts}
+use Rattle.sc_image.specs.Layout.{stack_size}
+use Rattle.sc_image.specs.Machine.{Run as MachineRun, machine}
+use Rattle.sc_image.specs.WellFormed.{IsWellFormed, IsWord}
+use Rattle.sc_simulation.specs.Outcomes.{Outcome}
+
+abbrev pub IsBlamed : RunEnd → Type 0
+IsBlamed (Blamed comp cause line) = Unit {0}
+IsBlamed Ended = ⊥
+IsBlamed TurnsOut = ⊥
+IsBlamed EventsOut = ⊥
+
+-- the machine stands trapped in a compartment that the run, stopped at so many events, takes deeper than a stack is; it
+-- has shown a front of the run
+pub record TrapsFull (machine : MachineRun) (run : Run) (events : ℕ) : Type 0 where
+  pub stop : machine.stop ≡ Trap Owner machine.state.pc
+  pub deep : stack_size < depth_in run events machine.state.active
+  pub trace : Front machine.state.trace (stopped_at events run.behaviour).trace
+
+pub record ShowsRun (image : ImageParts) (inputs : List ℕ) (bound turns : ℕ) (run : Run) : Type 0 where
+  -- within the bound on steps the machine shows all that the run shows, or it stands trapped since a stack is full
+  pub forward : (events : ℕ) →
+      Front (stopped_at events run.behaviour).trace (machine image inputs bound events).state.trace
+      ⊎ TrapsFull (machine image inputs bound events) run events
+  -- in no more steps than the run had turns it shows nothing else, unless the run is blamed where it has shown all of it
+  pub backward : (steps events : ℕ) → steps ≤ turns →
+      Front (machine image inputs steps events).state.trace (stopped_at events run.behaviour).trace
+      ⊎ (IsBlamed (stopped_at events run.behaviour).end ×
+      Front (stopped_at events run.behaviour).trace (machine image inputs steps events).state.trace)
+
+-- from the outcome beside a run, for each run that agrees with it up to a blame for arithmetic and the lines of blames
+pub record OutcomesShow : Type 0 where
+  pub shows : (image : ImageParts) (inputs : List ℕ) (bound turns : ℕ) (one other : Run) → IsWellFormed image →
+      All IsWord inputs → AgreesInRoom one other → Outcome image inputs bound turns other →
+      ShowsRun image inputs bound turns one
+  pub along : (image : ImageParts) (inputs : List ℕ) (bound turns : ℕ) (run other : Run) → RunsAgree run other →
+      ShowsRun image inputs bound turns other → ShowsRun image inputs bound turns run

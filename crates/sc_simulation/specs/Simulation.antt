@@ -1,0 +1,36 @@
+-- The machine on a linked image does what the code of its program does.
+use Rattle.std.specs.Prelude.{◌≡◌, ℕ, suc, ◌*◌, false, List, [], All, Some, slice_get}
+use Rattle.sc_core.specs.Meaning.{Run}
+use Rattle.sc_core.specs.Scripts.{Roles}
+use Rattle.sc_core.specs.Value.{wrapping}
+use Rattle.sc_image.specs.declared.parts.ImageParts.{ImageParts}
+use Rattle.sc_image.specs.WellFormed.{IsWord}
+use Rattle.sc_tac.specs.declared.function.TacFnTree.{TacFnTree}
+use Rattle.sc_tac.specs.declared.program.TacTree.{TacTree}
+use Rattle.sc_tac.specs.Code.{code_run}
+use Rattle.sc_tac.specs.Functions.{IsFunction}
+use Rattle.sc_tac.specs.Programs.{IsProgram}
+use Rattle.sc_select.specs.Linking.{Addresses}
+use Rattle.sc_simulation.specs.Linked.{IsLinked, functions_in}
+use Rattle.sc_simulation.specs.Outcomes.{Outcome}
+use Rattle.sc_simulation.specs.Results.{GivesResults}
+
+-- nobody performs
+abbrev pub nobody : Roles
+nobody = record { scripted = λ comp. false; rows = λ comp. [] }
+
+-- a program and an image in which its code stands
+pub record IsBuilt (program : TacTree) (image : ImageParts) (turn_pays : ℕ) : Type 0 where
+  pub rules : IsProgram program
+  pub functions : (comp number : ℕ) (f : TacFnTree) → slice_get (functions_in program comp) number ≡ Some f →
+      IsFunction f
+  pub results : GivesResults program nobody
+  pub addresses : ℕ → Addresses
+  pub linked : IsLinked program image turn_pays addresses
+
+-- from the start the machine runs beside the code in which every operation gives a word, and takes no more steps than
+-- its turns, and the start, pay for
+abbrev pub Simulates : Type 0
+Simulates = (program : TacTree) (image : ImageParts) (turn_pays : ℕ) → IsBuilt program image turn_pays →
+    (inputs : List ℕ) (turns : ℕ) → All IsWord inputs →
+    Outcome image inputs (turn_pays * suc turns) turns (code_run wrapping program inputs turns)

@@ -1,0 +1,6 @@
+//! Simulation: the machine on a linked image beside the runs of its program's code.
+#![tactic(auto)]
+
+mod laws;
+
+pub use laws::{outcomes_show, simulates};
