@@ -240,7 +240,7 @@ module _ (base : State) where
   module _ (library : Library) (body : Body) (notes : BodyNotes body) (rooms : Rooms) where
     run_notes : (comp number : ℕ) (args : List Value) (back : Option Value → State → Piece (Option Value)) →
         ((v : Option Value) (s : State) → Noted base rooms s → Kept (noting base rooms) (back v s)) → (s : State) →
-            Noted base rooms s →
+        Noted base rooms s →
         Kept (noting base rooms) (run_in library body comp number args back s)
     run_notes comp number args back b s h =
         found_kept (noting base rooms) (function library comp number) s _ h.told (λ f is.
@@ -308,7 +308,7 @@ module _ (base : State) where
         ((s : State) → Noted base rooms s → Kept (noting base rooms) (next s)) →
         ((s : State) → Noted base rooms s → Kept (noting base rooms) (again s))
         → (comp : ℕ) (s : State) → Noted base rooms s → Kept (noting base rooms) (acts library body action next again
-            comp s)
+        comp s)
     acts_note (act.Call to index args) next again n a comp s h =
         then_kept (noting base rooms) (asks library body comp (Cross to index) (map (λ w. Word w) args) s)
         _ (asks_note comp (Cross to index) (map (λ w. Word w) args) s h) (λ v s h. a s h)
