@@ -6,13 +6,14 @@ use Rattle.std.specs.Prelude.{slice_get}
 use Rattle.std.specs.List.{list_any}
 use Rattle.std.specs.Option.{option_map_or}
 use Rattle.std.proofs.Math.Nat.{suc-add}
+use Rattle.sc_base.specs.declared.stop.Stop.{Stop}
 use Rattle.sc_base.specs.declared.stop.Stop.TheVariants.{EventsOut}
 use Rattle.sc_event.specs.Prelude.{is_end}
 use Rattle.sc_event.specs.declared.event.Event.{Event}
 use Rattle.sc_event.specs.declared.event.Event.TheVariants.{Call, End, In, Out, Ret}
 use Rattle.sc_core.specs.Growth.{Front}
 use Rattle.sc_laws.specs.Rooms.{has_no_end}
-use Rattle.sc_laws.proofs.Growing.{front_same}
+use Rattle.sc_laws.proofs.Growing.{front_more, front_same}
 use Rattle.sc_laws.proofs.Runs.{front_long, take_fronts}
 use Rattle.sc_image.specs.declared.parts.ImageParts.{ImageParts}
 use Rattle.sc_image.specs.Calls.{has_result}
@@ -23,7 +24,7 @@ use Rattle.sc_image.specs.Step.{Goes, Outcome, Traps, step}
 use Rattle.sc_image.specs.Walks.{then_on, walk}
 use Rattle.sc_image.specs.WellFormed.{IsWellFormed}
 use Rattle.sc_image.proofs.Cases.{step_of}
-use Rattle.sc_image.proofs.Running.{run_goes, run_out, run_stopped}
+use Rattle.sc_image.proofs.Running.{run_goes, run_out, run_stopped, run_traps}
 use Rattle.sc_image.proofs.Stretches.{IsFront, goes_adds, not_stopped, walk_adds}
 
 -- LISTS
@@ -127,7 +128,7 @@ module _ (image : ImageParts) (inputs : List ℕ) (formed : IsWellFormed image) 
   module _ (events : ℕ) where
     pub no_steps : (state : State) → (run image inputs events 0 state).state ≡ state
     no_steps state = by (stopped events state.trace) refl where
-      by : (o : Option _) → stopped events state.trace ≡ o → (run image inputs events 0 state).state ≡ state
+      by : (o : Option Stop) → stopped events state.trace ≡ o → (run image inputs events 0 state).state ≡ state
       by None is = ap (λ r. r.state) (run_out image inputs events state is)
       by (Some stop) is = ap (λ r. r.state) (run_stopped image inputs events 0 state stop is)
 
@@ -229,9 +230,23 @@ module _ (image : ImageParts) (inputs : List ℕ) (formed : IsWellFormed image) 
           along_by n from (step image inputs from) refl goes (walk_front (suc n) from to goes) short (along n)
 
   -- a run only adds to the trace
+  run_front_by : (events n : ℕ) (from : State) (outcome : Outcome) → step image inputs from ≡ outcome →
+      ((next : State) → Front next.trace (run image inputs events n next).state.trace) →
+      (o : Option Stop) → stopped events from.trace ≡ o →
+      Front from.trace (run image inputs events (suc n) from).state.trace
+  run_front_by events n from outcome is later (Some stop) early =
+      subst (λ r. Front from.trace r.state.trace) (sym (run_stopped image inputs events (suc n) from stop early))
+      (front_same from.trace)
+  run_front_by events n from (Goes next) is later None early =
+      subst (λ r. Front from.trace r.state.trace) (sym (run_goes image inputs events n from next early is))
+      (front_more from.trace next.trace (run image inputs events n next).state.trace (goes_front from next is)
+      (later next))
+  run_front_by events n from (Traps reason) is later None early =
+      subst (λ r. Front from.trace r.state.trace) (sym (run_traps image inputs events n from reason early is))
+      (front_same from.trace)
+
   pub run_front : (events n : ℕ) (from : State) → Front from.trace (run image inputs events n from).state.trace
-  run_front events n from = by n (stopped events from.trace) refl where
-    by : (n : ℕ) (o : Option _) → stopped events from.trace ≡ o →
-        Front from.trace (run image inputs events n from).state.trace
-    by n (Some stop) is = ?
-    by n None is = ?
+  run_front events zero from =
+      subst (λ s. Front from.trace s.trace) (sym (no_steps events from)) (front_same from.trace)
+  run_front events (suc n) from =
+      run_front_by events n from (step image inputs from) refl (run_front events n) (stopped events from.trace) refl
