@@ -12,10 +12,10 @@ use Rattle.sc_core.specs.declared.run.RunEnd.{RunEnd}
 use Rattle.sc_core.specs.declared.run.RunEnd.TheVariants.{Blamed, Ended, EventsOut, TurnsOut}
 use Rattle.sc_core.specs.declared.run.SourceRun.{SourceRun}
 use Rattle.sc_core.specs.Growth.{Front}
-use Rattle.sc_core.specs.Meaning.{Run, depth_in}
+use Rattle.sc_core.specs.Meaning.{Run, deepest, depth_in}
 use Rattle.sc_core.specs.Run.{reaches, stopped_at}
 use Rattle.sc_core.specs.Words.{Closed, FrameChange, IsStop, Opened}
-use Rattle.sc_laws.specs.Agreement.{RunsAgree}
+use Rattle.sc_laws.specs.Agreement.{RunsAgree, without_line}
 use Rattle.sc_laws.specs.Rooms.{AllBefore, AllFrom, has_no_end, room_after}
 use Rattle.sc_laws.specs.Steady.{AgreesInRoom, AgreesUntilBlame, RunsUntilBlame, blamed, blamed_run, same, same_run}
 use Rattle.sc_laws.proofs.Growing.{front_more, front_same}
@@ -33,7 +33,7 @@ use Rattle.sc_image.proofs.Running.{run_goes, run_stopped, run_traps}
 use Rattle.sc_image.proofs.Stretches.{not_stopped}
 use Rattle.sc_image.proofs.Telling.{telling_composes, steps_tell}
 use Rattle.sc_simulation.specs.Outcomes.{Reaches, Finishes, Stands, IsFull, Outcome, finishes, stands, is_full}
-use Rattle.sc_simulation.specs.Runs.{IsBlamed, ShowsRun, TrapsFull}
+use Rattle.sc_simulation.specs.Runs.{IsBlamed, OutcomesShow, ShowsRun, TrapsFull}
 use Rattle.sc_simulation.proofs.Along.{Along, along, front_taken, not_over, run_front, take_front}
 
 -- FRAMES
@@ -311,3 +311,207 @@ module _ (image : ImageParts) (inputs : List ℕ) (formed : IsWellFormed image) 
       by true is = past (full_shows steps (ltb-true f.place.steps steps is))
       by false is =
           uncovered bound f.place events run.behaviour.trace f.trace steps (ltb-false f.place.steps steps is)
+
+    -- the run's depth at that moment
+    full_deep : (one : Run) → Front f.frames one.frames → length stuck.trace < events →
+        stack_size < depth_in one events stuck.active
+    full_deep one front short =
+        let there : room_after stuck.active 0 f.frames ≤ deepest events stuck.active 0 (f.frames ++ front.more) =
+        deepest_is_reached events stuck.active f.frames front.more
+        (before_more (suc (length stuck.trace)) events (omega (arith, short)) f.frames f.before) in
+        subst (λ changes. stack_size < deepest events stuck.active 0 changes) (sym front.is)
+        (omega (arith, f.deep, there))
+
+    full_traps : (one : Run) → Front f.frames one.frames → Front stuck.trace one.behaviour.trace → (steps : ℕ) →
+        length stuck.trace < events →
+        machine image inputs steps events ≡ record { state = stuck; stop = Trap Owner stuck.pc } →
+        TrapsFull (machine image inputs steps events) one events
+    full_traps one frames trace steps short is =
+        subst (λ r. TrapsFull r one events) (sym is) (record {
+          stop = refl;
+          deep = full_deep one frames short;
+          trace = subst (Front stuck.trace) (sym (trace_is events one.behaviour))
+              (front_taken events stuck.trace one.behaviour.trace trace (omega (arith, short)));
+        })
+
+  -- ALL OUTCOMES
+  module _ (bound turns : ℕ) (run : Run) where
+    abbrev cut : ℕ → List Event
+    cut events = (stopped_at events run.behaviour).trace
+
+    abbrev seen : (steps events : ℕ) → List Event
+    seen steps events = (machine image inputs steps events).state.trace
+
+    as_cut : (events : ℕ) (trace : List Event) → Front (take events run.behaviour.trace) trace → Front (cut events) trace
+    as_cut events trace = subst (λ t. Front t trace) (sym (trace_is events run.behaviour))
+
+    to_cut : (events : ℕ) (trace : List Event) → Front trace (take events run.behaviour.trace) → Front trace (cut events)
+    to_cut events trace = subst (Front trace) (sym (trace_is events run.behaviour))
+
+    equal_cut : (events : ℕ) (trace : List Event) → trace ≡ take events run.behaviour.trace → Front (cut events) trace
+    equal_cut events trace is =
+        as_cut events trace (subst (Front (take events run.behaviour.trace)) (sym is)
+        (front_same (take events run.behaviour.trace)))
+
+    own_forward : Outcome image inputs bound turns run → (events : ℕ) →
+        Front (cut events) (seen bound events) ⊎ TrapsFull (machine image inputs bound events) run events
+    own_forward (finishes f) events =
+        inl (equal_cut events (seen bound events) (finish_is bound turns run f events bound f.place.within))
+    own_forward (stands f) events =
+        let within : f.place.steps < bound = f.place.within in
+        inl (as_cut events (seen bound events) (stand_shows bound turns run f events bound (omega (arith, within))))
+    own_forward (is_full f) events =
+        ⊎_elim (λ is. inl (equal_cut events (seen bound events) is))
+        (λ there. inr (full_traps bound turns run f events run f.front f.trace bound there.0 there.1))
+        (full_shows bound turns run f events bound f.place.within)
+
+    own_backward : Outcome image inputs bound turns run → (steps events : ℕ) → steps ≤ turns →
+        Front (seen steps events) (cut events)
+        ⊎ (IsBlamed (stopped_at events run.behaviour).end × Front (cut events) (seen steps events))
+    own_backward (finishes f) steps events le =
+        inl (to_cut events (seen steps events) (finish_back bound turns run f events steps))
+    own_backward (stands f) steps events le =
+        ⊎_elim (λ h. inl (to_cut events (seen steps events) h))
+        (λ h. inr (h.0, as_cut events (seen steps events) h.1)) (stand_back bound turns run f events steps le)
+    own_backward (is_full f) steps events le =
+        inl (to_cut events (seen steps events) (full_back bound turns run f events steps))
+
+  -- A RUN THAT IS BLAMED FOR ARITHMETIC, BESIDE ONE THAT GOES ON
+  module _ (bound turns : ℕ) (one other : Run) (trace : Front one.behaviour.trace other.behaviour.trace)
+      (frames : Front one.frames other.frames)
+      (late : AllFrom (length one.behaviour.trace) frames.more) where
+    cuts : (events : ℕ) (shown : List Event) → Front (stopped_at events other.behaviour).trace shown →
+        Front (stopped_at events one.behaviour).trace shown
+    cuts events shown h =
+        front_more (stopped_at events one.behaviour).trace (stopped_at events other.behaviour).trace shown
+        (as_cut bound turns one events (stopped_at events other.behaviour).trace (to_cut bound turns other events
+        (take events one.behaviour.trace) (take_fronts events events one.behaviour.trace other.behaviour.trace
+        (omega arith) trace))) h
+
+    module _ (f : IsFull image inputs bound turns other) (events : ℕ) where
+      abbrev fixed : State
+      fixed = f.place.reached
+
+      blamed_trap : length fixed.trace < events →
+          machine image inputs bound events ≡ record { state = fixed; stop = Trap Owner fixed.pc } →
+          Front (stopped_at events one.behaviour).trace (machine image inputs bound events).state.trace
+          ⊎ TrapsFull (machine image inputs bound events) one events
+      blamed_trap short is = by (nat_le (length one.behaviour.trace) (length fixed.trace)) refl where
+        by : (b : Bool) → nat_le (length one.behaviour.trace) (length fixed.trace) ≡ b →
+            Front (stopped_at events one.behaviour).trace (machine image inputs bound events).state.trace
+            ⊎ TrapsFull (machine image inputs bound events) one events
+        by true b =
+            let less : length one.behaviour.trace ≤ length fixed.trace =
+            leb-true (length one.behaviour.trace) (length fixed.trace) b in
+            inl (subst (λ r. Front (stopped_at events one.behaviour).trace r.state.trace) (sym is)
+            (as_cut bound turns one events fixed.trace (subst (λ t. Front t fixed.trace)
+            (sym (take_all events one.behaviour.trace (omega (arith, less, short))))
+            (shorter_first one.behaviour.trace fixed.trace other.behaviour.trace trace f.trace less))))
+        by false b =
+            let more : length fixed.trace < length one.behaviour.trace =
+            leb-false (length one.behaviour.trace) (length fixed.trace) b in
+            inr (full_traps bound turns other f events one
+            (earlier_first (suc (length fixed.trace)) (length one.behaviour.trace) (omega (arith, more)) f.frames
+            one.frames f.front.more frames.more (sym f.front.is ∙ frames.is) f.before late)
+            (shorter_first fixed.trace one.behaviour.trace other.behaviour.trace f.trace trace (omega (arith, more)))
+            bound short is)
+
+    blamed_forward : Outcome image inputs bound turns other → (events : ℕ) →
+        Front (stopped_at events one.behaviour).trace (machine image inputs bound events).state.trace
+        ⊎ TrapsFull (machine image inputs bound events) one events
+    blamed_forward (finishes f) events =
+        inl (cuts events _ (equal_cut bound turns other events (machine image inputs bound events).state.trace
+        (finish_is bound turns other f events bound f.place.within)))
+    blamed_forward (stands f) events =
+        let within : f.place.steps < bound = f.place.within in
+        inl (cuts events _ (as_cut bound turns other events (machine image inputs bound events).state.trace
+        (stand_shows bound turns other f events bound (omega (arith, within)))))
+    blamed_forward (is_full f) events =
+        ⊎_elim (λ is. inl (cuts events _ (equal_cut bound turns other events
+        (machine image inputs bound events).state.trace is)))
+        (λ there. blamed_trap f events there.0 there.1) (full_shows bound turns other f events bound f.place.within)
+
+  module _ (bound turns : ℕ) (one other : Run) (agrees : AgreesInRoom one other)
+      (outcome : Outcome image inputs bound turns other) where
+    forward : RunsUntilBlame one other → (events : ℕ) →
+        Front (stopped_at events one.behaviour).trace (machine image inputs bound events).state.trace
+        ⊎ TrapsFull (machine image inputs bound events) one events
+    forward (same_run is) events =
+        own_forward bound turns one (subst (Outcome image inputs bound turns) is outcome) events
+    forward (blamed_run comp cause line ends soft front frames late) events =
+        blamed_forward bound turns one other front frames late outcome events
+
+    module _ (steps events : ℕ) where
+      abbrev told : List Event
+      told = (machine image inputs steps events).state.trace
+
+      -- it shows a front of this, or all of it, where it is blamed
+      abbrev Behind : SourceRun → Type 0
+      Behind r = Front told r.trace ⊎ (IsBlamed r.end × Front r.trace told)
+
+      sorted : (r : SourceRun) → IsBlamed r.end → (whole : List Event) → Front r.trace whole → Front told whole →
+          (b : Bool) → nat_le (length told) (length r.trace) ≡ b → Behind r
+      sorted r ends whole a h true is =
+          inl (shorter_first told r.trace whole h a (leb-true (length told) (length r.trace) is))
+      sorted r ends whole a h false is =
+          let less : length r.trace < length told = leb-false (length told) (length r.trace) is in
+          inr (ends, shorter_first r.trace told whole a h (omega (arith, less)))
+
+      behind : Behind (stopped_at events other.behaviour) →
+          AgreesUntilBlame (stopped_at events one.behaviour) (stopped_at events other.behaviour) →
+          Behind (stopped_at events one.behaviour)
+      behind h (same is) = subst Behind is h
+      behind h (blamed comp cause line ends soft front) =
+          let blame : IsBlamed (stopped_at events one.behaviour).end = subst IsBlamed (sym ends) tt in
+          ⊎_elim (λ h. sorted (stopped_at events one.behaviour) blame (stopped_at events other.behaviour).trace front h
+          (nat_le (length told) (length (stopped_at events one.behaviour).trace)) refl)
+          (λ h. inr (blame, front_more (stopped_at events one.behaviour).trace (stopped_at events other.behaviour).trace
+          told front h.1)) h
+
+    backward : (steps events : ℕ) → steps ≤ turns → Behind steps events (stopped_at events one.behaviour)
+    backward steps events le =
+        behind steps events (own_backward bound turns other outcome steps events le) (agrees.behaviour events)
+
+    pub shows : ShowsRun image inputs bound turns one
+    shows = record { forward = forward agrees.whole; backward = backward }
+
+-- RUNS THAT AGREE UP TO LINES
+blamed_too : (end other : RunEnd) → without_line end ≡ without_line other → IsBlamed other → IsBlamed end
+blamed_too Ended (Blamed comp cause line) is h = cc is
+blamed_too TurnsOut (Blamed comp cause line) is h = cc is
+blamed_too EventsOut (Blamed comp cause line) is h = cc is
+blamed_too (Blamed comp cause line) other is h = tt
+blamed_too end Ended is h = absurd h
+blamed_too end TurnsOut is h = absurd h
+blamed_too end EventsOut is h = absurd h
+
+module _ (image : ImageParts) (inputs : List ℕ) (bound turns : ℕ) (run other : Run) (agree : RunsAgree run other)
+    (shown : ShowsRun image inputs bound turns other) where
+  pub shows_too : ShowsRun image inputs bound turns run
+  shows_too = record {
+    forward = λ events. ⊎_elim
+        (λ h. inl (subst (λ t. Front t (machine image inputs bound events).state.trace)
+        (sym (agree.behaviour events).trace) h))
+        (λ h. inr (record {
+          stop = h.stop;
+          deep = subst (λ changes. stack_size < deepest events (machine image inputs bound events).state.active 0 changes)
+              (sym agree.frames) h.deep;
+          trace = subst (Front (machine image inputs bound events).state.trace) (sym (agree.behaviour events).trace)
+              h.trace;
+        })) (shown.forward events);
+    backward = λ steps events le. ⊎_elim
+        (λ h. inl (subst (Front (machine image inputs steps events).state.trace) (sym (agree.behaviour events).trace)
+        h))
+        (λ h. inr (
+          blamed_too (stopped_at events run.behaviour).end (stopped_at events other.behaviour).end
+              (agree.behaviour events).end h.0,
+          subst (λ t. Front t (machine image inputs steps events).state.trace) (sym (agree.behaviour events).trace) h.1,
+        )) (shown.backward steps events le);
+  }
+
+pub outcomes_show : OutcomesShow
+outcomes_show = record {
+  shows = λ image inputs bound turns one other formed words agrees outcome.
+      shows image inputs formed bound turns one other agrees outcome;
+  along = λ image inputs bound turns run other agree shown. shows_too image inputs bound turns run other agree shown;
+}
