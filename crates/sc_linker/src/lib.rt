@@ -5,6 +5,10 @@ ghost use Rattle.std.specs.Prelude.{◌≡◌, IfOk};
 ghost use Rattle.sc_linker.specs.Image.{linked_image};
 ghost use Rattle.sc_linker.specs.Linkable.{IsLinkable};
 
+mod laws;
+
+pub use laws::linked_images_hold;
+
 use sc_base::OutOfMemory;
 use sc_core::Program;
 use sc_image::Image;
