@@ -1,0 +1,11 @@
+pub mod Places
+pub mod Comps
+pub mod Codes
+pub mod Instrs
+pub mod Linked
+pub mod Cells
+pub mod Starts
+pub mod Exports
+pub mod Ready
+pub mod Imported
+pub mod Formed
