@@ -2,9 +2,11 @@
 use Rattle.std.proofs.Common.{◌≡◌, ℕ, zero, suc, ◌+◌, ◌*◌, ◌<◌, ◌≤◌, ◌⊎◌, Bool, true, false, ◌&&◌, ◌==◌, List, []}
 use Rattle.std.proofs.Common.{◌∷◌, ◌++◌, length, map, slice_get, Option, None, Some, option_map, nat_le, refl, sym}
 use Rattle.std.proofs.Common.{subst, ap, ◌∙◌, arith, inl, inr, codes as text, IsTrue}
+use Rattle.std.proofs.Common.{leb-true, option_and_then}
 use Rattle.std.proofs.lemmas.Bool.{false≢true}
+use Rattle.std.proofs.lemmas.Option.{slice_get_within}
 use Rattle.sc_base.proofs.Bools.{and_first, and_rest}
-use Rattle.sc_event.specs.Prelude.{comp_at}
+use Rattle.sc_event.specs.Prelude.{comp_at, export_at}
 use Rattle.sc_event.specs.declared.interface.Interface.{Interface}
 use Rattle.sc_event.specs.declared.interface.Interfaces.{Interfaces}
 use Rattle.sc_event.specs.declared.interface.Proto.{Proto}
@@ -193,3 +195,28 @@ module _ (program : ProgramTree) (codes : List CodeTree) (c : ℕ) (fits : Fits 
 
   pub part_is : slice_get (linked_image program codes).comps c ≡ Some part
   part_is = part_there program codes c fits.interface fits.face
+
+-- a number of a compartment is small
+pub number_below : (program : ProgramTree) → IsWellTyped program → (c : ℕ) → Fits program c → c < 32
+number_below program typed c fits =
+    omega (arith, slice_get_within program.sections c fits.section fits.is,
+      leb-true (length program.sections) most_compartments (few_so program typed))
+
+-- an export that there is is one of a compartment that there is
+module _ (program : ProgramTree) (typed : IsWellTyped program) (c index : ℕ) (proto : Proto)
+    (is : export_at program.interfaces c index ≡ Some proto)
+  where
+    pub of_export : Fits program c
+    of_export = by (fits_or_none program typed c) where
+      by : Fits program c ⊎ ((comp_at program.interfaces c ≡ None) × (slice_get program.sections c ≡ None)) →
+          Fits program c
+      by (inl fits) = fits
+      by (inr none) =
+          let never : Some proto ≡ None =
+          sym is ∙ ap (λ o. option_and_then (λ (found : Interface). slice_get found.exports index) o) none.0 in
+          absurd (cc)
+
+    pub export_there : Fits program c → slice_get (exports_at program c) index ≡ Some proto
+    export_there fits =
+        ap (λ ps. slice_get ps index) (exports_are program c fits)
+        ∙ sym (ap (λ o. option_and_then (λ (found : Interface). slice_get found.exports index) o) fits.face) ∙ is

@@ -9,3 +9,6 @@ pub mod Exports
 pub mod Ready
 pub mod Imported
 pub mod Formed
+pub mod Functions
+pub mod Entries
+pub mod Permitted
