@@ -12,3 +12,6 @@ pub mod Formed
 pub mod Functions
 pub mod Entries
 pub mod Permitted
+pub mod Loaded
+pub mod Globals
+pub mod Whole

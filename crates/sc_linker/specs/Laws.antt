@@ -14,6 +14,7 @@ use Rattle.sc_event.specs.declared.row.Entry.TheVariants.{Export, Main}
 use Rattle.sc_core.specs.declared.program.ProgramTree.{ProgramTree}
 use Rattle.sc_core.specs.declared.section.TypedFunction.{TypedFunction}
 use Rattle.sc_core.specs.declared.section.TypedGlobal.{TypedGlobal}
+use Rattle.sc_core.specs.declared.section.TypedSection.{TypedSection}
 use Rattle.sc_core.specs.declared.value.Cell.{Cell}
 use Rattle.sc_core.specs.declared.value.Cell.TheVariants as cell
 use Rattle.sc_core.specs.Meaning.{entry_in, globals_of}
@@ -43,6 +44,12 @@ pub record AreNamed (interfaces : Interfaces) : Type 0 where
   pub comps : All {X = Interface} (λ interface. IsTrue (is_name interface.name)) interfaces.comps
   pub exports : All {X = Interface}
       (λ interface. All {X = Proto} (λ proto. IsTrue (is_name proto.name)) interface.exports) interfaces.comps
+
+-- the values that globals are declared with are words
+abbrev pub AreGivenWords : List TypedSection → Type 0
+AreGivenWords sections =
+    All {X = TypedSection}
+    (λ section. All {X = TypedGlobal} (λ g. All (λ word. word < 2 ^ 32) g.init) section.globals) sections
 
 -- code that can be linked, of instructions that there are
 pub record IsWhole (code : CodeTree) : Type 0 where
@@ -135,5 +142,5 @@ pub record LinkedImagesHold : Type 0 where
   pub entries : (program : ProgramTree) (codes : List CodeTree) → IsWellTyped program → All IsWhole codes →
       IsLinkable program codes → EntriesStand program codes
   pub imports : (program : ProgramTree) (codes : List CodeTree) → IsWellTyped program → ImportsStand program codes
-  pub globals : (program : ProgramTree) (codes : List CodeTree) → IsWellTyped program → IsLinkable program codes →
-      GlobalsStand program codes
+  pub globals : (program : ProgramTree) (codes : List CodeTree) → IsWellTyped program →
+      AreGivenWords program.sections → IsLinkable program codes → GlobalsStand program codes
