@@ -1,20 +1,16 @@
 -- The cells of globals: as many as their types take.
-use Rattle.std.proofs.Common.{◌≡◌, ℕ, zero, suc, ◌+◌, ◌-◌, ◌*◌, ◌<◌, ◌≤◌, ◌⊎◌, Bool, true, ◌&&◌, ◌==◌, nat_le, nat_lt}
-use Rattle.std.proofs.Common.{List, [], ◌∷◌, ◌++◌, length, map, take, slice_get, slice_index_or, get_or, Option, None}
-use Rattle.std.proofs.Common.{Some, flat_map, All, refl, sym, subst, ap, ◌∙◌, arith, eqb-true, ltb-true, ⊎_elim}
+use Rattle.std.proofs.Common.{◌≡◌, ℕ, zero, suc, ◌+◌, ◌*◌, ◌<◌, true, ◌==◌, nat_le}
+use Rattle.std.proofs.Common.{List, [], ◌∷◌, ◌++◌, length, slice_get, slice_index_or}
+use Rattle.std.proofs.Common.{refl, sym, ap, ◌∙◌, arith, eqb-true, ltb-true, ⊎_elim}
 use Rattle.std.proofs.lemmas.Bool.{cases_lt}
-use Rattle.std.proofs.lemmas.List.{get_or_append_left, length-append, length-map, get_or-append-add}
-use Rattle.std.specs.List.{list_all}
+use Rattle.std.proofs.lemmas.List.{get_or_append_left, length-append, get_or-append-add}
 use Rattle.sc_base.proofs.Bools.{and_first, and_rest}
-use Rattle.sc_core.specs.Prelude.{base_cells, base_within, cells_of, global_fits, members_fit, most_cells, starred_cells}
-use Rattle.sc_core.specs.Prelude.{starred_within, struct_cells, struct_fits, structs_fit, total, type_within}
+use Rattle.sc_core.specs.Prelude.{base_cells, base_within, cells_of, members_fit, starred_cells}
+use Rattle.sc_core.specs.Prelude.{starred_within, struct_cells, struct_fits, structs_fit, type_within}
 use Rattle.sc_core.specs.Prelude.{variable_fits}
-use Rattle.sc_core.specs.Meaning.{base_zeros, first_blocks, global_block, member_zeros, repeated, starred_zeros}
+use Rattle.sc_core.specs.Meaning.{base_zeros, member_zeros, repeated, starred_zeros}
 use Rattle.sc_core.specs.Meaning.{struct_zeros, with_words, zeros_of}
-use Rattle.sc_core.specs.Memory.{Block}
-use Rattle.sc_core.specs.declared.section.TypedGlobal.{TypedGlobal}
 use Rattle.sc_core.specs.declared.section.TypedMember.{TypedMember}
-use Rattle.sc_core.specs.declared.section.TypedSection.{TypedSection}
 use Rattle.sc_core.specs.declared.section.TypedStruct.{TypedStruct}
 use Rattle.sc_core.specs.declared.ty.BaseTy.{BaseTy}
 use Rattle.sc_core.specs.declared.ty.BaseTy.TheVariants as base

@@ -1,6 +1,6 @@
 -- Which codes a compartment has, and where each stands among its instructions.
-use Rattle.std.proofs.Common.{◌≡◌, ℕ, zero, suc, ◌+◌, ◌-◌, ◌*◌, ◌<◌, ◌≤◌, List, [], ◌∷◌, ◌++◌, length, map, take, drop}
-use Rattle.std.proofs.Common.{slice_get, Option, None, Some, All, refl, sym, subst, ap, ◌∙◌, arith}
+use Rattle.std.proofs.Common.{◌≡◌, ℕ, zero, suc, ◌+◌, ◌*◌, ◌≤◌, List, [], ◌∷◌, length, map, take, drop}
+use Rattle.std.proofs.Common.{slice_get, Option, None, Some, All, refl, sym, ap, ◌∙◌, arith}
 use Rattle.std.proofs.lemmas.List.{length-append, length-drop, length-take}
 use Rattle.std.proofs.lemmas.List.Elements.{All-drop, All-nil, All-take}
 use Rattle.rv_code.specs.declared.instr.Instr.{Instr}

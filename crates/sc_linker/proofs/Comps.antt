@@ -1,7 +1,7 @@
 -- Compartments of a linked image, by their numbers: what each consists of, and which interface and section it has.
-use Rattle.std.proofs.Common.{◌≡◌, ℕ, zero, suc, ◌+◌, ◌*◌, ◌<◌, ◌≤◌, ◌⊎◌, Bool, true, false, ◌&&◌, ◌==◌, List, []}
-use Rattle.std.proofs.Common.{◌∷◌, ◌++◌, length, map, slice_get, Option, None, Some, option_map, nat_le, refl, sym}
-use Rattle.std.proofs.Common.{subst, ap, ◌∙◌, arith, inl, inr, codes as text, IsTrue}
+use Rattle.std.proofs.Common.{◌≡◌, ℕ, zero, suc, ◌+◌, ◌<◌, ◌⊎◌, true, ◌&&◌, ◌==◌, List, []}
+use Rattle.std.proofs.Common.{◌∷◌, length, map, slice_get, Option, None, Some, option_map, nat_le, refl, sym}
+use Rattle.std.proofs.Common.{subst, ap, ◌∙◌, arith, inl, inr, codes as text}
 use Rattle.std.proofs.Common.{leb-true, option_and_then}
 use Rattle.std.proofs.lemmas.Bool.{false≢true}
 use Rattle.std.proofs.lemmas.Option.{slice_get_within}
@@ -10,13 +10,11 @@ use Rattle.sc_event.specs.Prelude.{comp_at, export_at}
 use Rattle.sc_event.specs.declared.interface.Interface.{Interface}
 use Rattle.sc_event.specs.declared.interface.Interfaces.{Interfaces}
 use Rattle.sc_event.specs.declared.interface.Proto.{Proto}
-use Rattle.sc_core.specs.Prelude.{IsWellTyped, are_distinct, interface_fits, is_well_typed, main_fits, mains_in}
+use Rattle.sc_core.specs.Prelude.{IsWellTyped, are_distinct, interface_fits, main_fits, mains_in}
 use Rattle.sc_core.specs.Prelude.{most_compartments, section_fits, sections_fit}
 use Rattle.sc_core.specs.declared.program.ProgramTree.{ProgramTree}
 use Rattle.sc_core.specs.declared.section.TypedSection.{TypedSection}
 use Rattle.sc_image.specs.declared.parts.CompPart.{CompPart}
-use Rattle.sc_image.specs.Calls.{exports_of, imports_of}
-use Rattle.sc_image.specs.Layout.{code_of, globals_of}
 use Rattle.sc_tac.specs.declared.machine_code.CodeTree.{CodeTree}
 use Rattle.sc_linker.specs.Image.{comp_part, comp_parts, linked_image}
 use Rattle.sc_linker.specs.Layout.{exports_at, exports_in, section_at, section_or_none}
@@ -199,8 +197,11 @@ module _ (program : ProgramTree) (codes : List CodeTree) (c : ℕ) (fits : Fits 
 -- a number of a compartment is small
 pub number_below : (program : ProgramTree) → IsWellTyped program → (c : ℕ) → Fits program c → c < 32
 number_below program typed c fits =
-    omega (arith, slice_get_within program.sections c fits.section fits.is,
-      leb-true (length program.sections) most_compartments (few_so program typed))
+    omega (
+      arith,
+      slice_get_within program.sections c fits.section fits.is,
+      leb-true (length program.sections) most_compartments (few_so program typed),
+    )
 
 -- an export that there is is one of a compartment that there is
 module _ (program : ProgramTree) (typed : IsWellTyped program) (c index : ℕ) (proto : Proto)

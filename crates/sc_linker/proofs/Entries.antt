@@ -1,7 +1,7 @@
 -- In a linked image each export has an entry, which jumps to its function.
-use Rattle.std.proofs.Common.{◌≡◌, ℕ, zero, suc, ◌+◌, ◌-◌, ◌*◌, ◌%◌, ◌^◌, ◌<◌, ◌≤◌, ◌==◌, ℤ, pos, ◌-ℤ◌, Bool, true}
+use Rattle.std.proofs.Common.{◌≡◌, ℕ, zero, suc, ◌+◌, ◌^◌, ◌<◌, ◌==◌, ℤ, pos, ◌-ℤ◌, true}
 use Rattle.std.proofs.Common.{false, List, [], ◌∷◌, length, slice_get, position, cond, Option, None, Some, is_some}
-use Rattle.std.proofs.Common.{option_map, All, refl, sym, subst, ap, ◌∙◌, arith, eq-eqb}
+use Rattle.std.proofs.Common.{option_map, All, refl, sym, ap, ◌∙◌, arith, eq-eqb}
 use Rattle.std.proofs.lemmas.Bool.{ne_eqb}
 use Rattle.std.proofs.lemmas.Option.{slice_get_within}
 use Rattle.std.specs.Option.{option_map_or}
@@ -15,7 +15,6 @@ use Rattle.sc_event.specs.declared.row.Entry.TheVariants.{Export}
 use Rattle.sc_core.specs.Meaning.{entry_in, place_named, place_of_export}
 use Rattle.sc_core.specs.Prelude.{IsWellTyped}
 use Rattle.sc_core.specs.declared.program.ProgramTree.{ProgramTree}
-use Rattle.sc_core.specs.declared.section.TypedSection.{TypedSection}
 use Rattle.sc_image.specs.declared.parts.CompPart.{CompPart}
 use Rattle.sc_image.specs.declared.parts.ExportPart.{ExportPart}
 use Rattle.sc_image.specs.Calls.{export_at as image_export, exports_of, has_result, params_of}
@@ -88,8 +87,12 @@ module _ (program : ProgramTree) (codes : List CodeTree) (typed : IsWellTyped pr
 
     low : entry_address c index < 2 ^ 26
     low =
-        omega (arith, number_below program typed c fits, slice_get_within fits.interface.exports index proto own,
-          few_exports program.interfaces c fits.interface fits.section fits.faces)
+        omega (
+          arith,
+          number_below program typed c fits,
+          slice_get_within fits.interface.exports index proto own,
+          few_exports program.interfaces c fits.interface fits.section fits.faces,
+        )
 
   module _ (whole : All IsWhole codes) (linkable : IsLinkable program codes) where
     abbrev Jumps : (c index number : ℕ) → Type 0
@@ -113,16 +116,15 @@ module _ (program : ProgramTree) (codes : List CodeTree) (typed : IsWellTyped pr
         let passing = found_passes _ (section_at program c).functions number named in
         let within : IsWithin _ ((addresses_at program codes c).function number) =
         function_within c (exports_at program c) (section_at program c) (codes_at program codes c) can number
-        (slice_get_within (section_at program c).functions number passing.item passing.is) in
-        (
+        (slice_get_within (section_at program c).functions number passing.item passing.is) in (
           pos target -ℤ pos (entry_address c index),
           stands program codes c of index (entry_address c index)
-          (entry_jump (addresses_at program codes c) c index (section_at program c) proto) refl
-          (jump_there c (exports_at program c) (section_at program c) (codes_at program codes c) index proto there)
-          (entry_instr c (exports_at program c) (section_at program c) (codes_at program codes c) can index proto there),
+              (entry_jump (addresses_at program codes c) c index (section_at program c) proto) refl
+              (jump_there c (exports_at program c) (section_at program c) (codes_at program codes c) index proto there)
+              (entry_instr c (exports_at program c) (section_at program c) (codes_at program codes c) can index proto there),
           jump_to (entry_address c index) target
-          (omega (arith, low c index proto is))
-          (omega (arith, leads, within.inside, number_below program typed c of)) ∙ leads,
+              (omega (arith, low c index proto is))
+              (omega (arith, leads, within.inside, number_below program typed c of)) ∙ leads,
         )
 
     jump_by : (c index number : ℕ) → entry_in program c (Export index) ≡ Some number → Jumps c index number

@@ -1,7 +1,7 @@
 -- Exports of a compartment: each is of a function of its section, takes few words, and has its place in the image.
-use Rattle.std.proofs.Common.{◌≡◌, ◌≢◌, ℕ, zero, suc, ◌+◌, ◌*◌, ◌<◌, ◌≤◌, Bool, true, false, not, ◌&&◌, List, [], ◌∷◌}
+use Rattle.std.proofs.Common.{◌≡◌, ℕ, zero, suc, ◌+◌, ◌<◌, ◌≤◌, Bool, true, not, ◌&&◌, List, [], ◌∷◌}
 use Rattle.std.proofs.Common.{◌++◌, length, map, slice_get, Option, None, Some, is_some, option_map, bytes_eq, nat_le}
-use Rattle.std.proofs.Common.{refl, sym, subst, ap, ◌∙◌, arith, leb-true}
+use Rattle.std.proofs.Common.{refl, sym, ap, ◌∙◌, arith, leb-true}
 use Rattle.std.proofs.lemmas.Bool.{false≢true}
 use Rattle.std.proofs.lemmas.List.{length-map}
 use Rattle.std.proofs.lemmas.Option.{slice_get_within}
@@ -12,7 +12,7 @@ use Rattle.sc_event.specs.declared.interface.Interfaces.{Interfaces}
 use Rattle.sc_event.specs.declared.interface.Proto.{Proto}
 use Rattle.sc_core.specs.Meaning.{main_name, place_named}
 use Rattle.sc_core.specs.Prelude.{are_distinct, callable_in, export_fits, function_fits, global_fits, import_fits}
-use Rattle.sc_core.specs.Prelude.{import_name, interface_fits, is_plain_name, most_exports, most_params, nodes}
+use Rattle.sc_core.specs.Prelude.{import_name, interface_fits, is_plain_name, most_exports, most_params}
 use Rattle.sc_core.specs.Prelude.{proto_signature, same_signature, same_ty, same_types, scalar_ty, section_fits}
 use Rattle.sc_core.specs.Prelude.{signature_of, structs_fit}
 use Rattle.sc_core.specs.declared.section.TypedFunction.{TypedFunction}

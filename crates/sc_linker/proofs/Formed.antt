@@ -1,7 +1,7 @@
 -- A linked image is well formed.
-use Rattle.std.proofs.Common.{◌≡◌, ◌≢◌, ℕ, zero, suc, ◌+◌, ◌*◌, ◌<◌, ◌≤◌, ◌⊎◌, Bool, true, false, not, ◌&&◌, List, []}
-use Rattle.std.proofs.Common.{◌∷◌, ◌++◌, length, map, flat_map, slice_get, Option, None, Some, is_some, option_map}
-use Rattle.std.proofs.Common.{bytes_eq, codes as text, IsTrue, IsSome, All, refl, sym, subst, ap, ◌∙◌, arith, inl, inr}
+use Rattle.std.proofs.Common.{◌≡◌, ◌≢◌, ℕ, zero, suc, ◌+◌, ◌<◌, ◌≤◌, ◌⊎◌, true, not, List, []}
+use Rattle.std.proofs.Common.{◌∷◌, length, map, flat_map, slice_get, Option, None, Some, is_some, option_map}
+use Rattle.std.proofs.Common.{bytes_eq, codes as text, IsTrue, All, refl, sym, subst, ap, ◌∙◌, arith, inl, inr}
 use Rattle.std.proofs.Common.{leb-true}
 use Rattle.std.proofs.lemmas.Bool.{false≢true}
 use Rattle.std.proofs.lemmas.List.{length-map}
@@ -18,17 +18,17 @@ use Rattle.sc_event.specs.Prelude.{comp_at}
 use Rattle.sc_event.specs.declared.interface.Interface.{Interface}
 use Rattle.sc_event.specs.declared.interface.Proto.{Proto}
 use Rattle.sc_event.specs.declared.row.Entry.TheVariants.{Main}
-use Rattle.sc_core.specs.Meaning.{entry_in, first_blocks, main_name, place_named, struct_zeros}
-use Rattle.sc_core.specs.Prelude.{IsWellTyped, are_distinct, import_name, is_main, main_fits}
-use Rattle.sc_core.specs.Prelude.{most_compartments, same_signature, signature_of}
+use Rattle.sc_core.specs.Meaning.{entry_in, main_name, place_named, struct_zeros}
+use Rattle.sc_core.specs.Prelude.{IsWellTyped, are_distinct, is_main, main_fits}
+use Rattle.sc_core.specs.Prelude.{most_compartments}
 use Rattle.sc_core.specs.declared.program.ProgramTree.{ProgramTree}
 use Rattle.sc_core.specs.declared.section.TypedFunction.{TypedFunction}
 use Rattle.sc_core.specs.declared.section.TypedSection.{TypedSection}
 use Rattle.sc_image.specs.declared.parts.CompPart.{CompPart}
 use Rattle.sc_image.specs.declared.parts.ExportPart.{ExportPart}
 use Rattle.sc_image.specs.declared.parts.ImageParts.{ImageParts}
-use Rattle.sc_image.specs.Layout.{most_globals, word_at}
-use Rattle.sc_image.specs.WellFormed.{IsByte, IsComp, IsDistinct, IsEntry, IsExport, IsWellFormed, IsWord}
+use Rattle.sc_image.specs.Layout.{most_globals}
+use Rattle.sc_image.specs.WellFormed.{IsComp, IsDistinct, IsEntry, IsExport, IsWellFormed, IsWord}
 use Rattle.sc_tac.specs.declared.machine_code.CodeTree.{CodeTree}
 use Rattle.sc_kinds.proofs.Sections.{any_along, first_of}
 use Rattle.sc_linker.specs.Image.{comp_code, comp_part, comp_parts, export_parts, function_address, global_words}
@@ -39,7 +39,7 @@ use Rattle.sc_linker.specs.Laws.{AreNamed, IsWhole}
 use Rattle.sc_linker.specs.Linkable.{IsLinkable}
 use Rattle.sc_linker.proofs.Comps.{Fits, comps_length, exports_are, few_so, fits_or_none, main_so, names_so, of_section}
 use Rattle.sc_linker.proofs.Comps.{part_at, part_is, same_count, section_is}
-use Rattle.sc_linker.proofs.Exports.{callable_apart, export_part, few_exports, few_imports, few_params, globals_so}
+use Rattle.sc_linker.proofs.Exports.{callable_apart, few_exports, few_imports, few_params, globals_so}
 use Rattle.sc_linker.proofs.Exports.{imports_so, name_of, names_apart, part_of, parts_length, structs_so}
 use Rattle.sc_linker.proofs.Imported.{each_once, few_parts, of_others}
 use Rattle.sc_linker.proofs.Linked.{CanLink, code_instrs, code_length, jump_there}

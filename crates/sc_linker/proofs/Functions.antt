@@ -1,16 +1,12 @@
 -- In a linked image each function's code stands where the layout says.
-use Rattle.std.proofs.Common.{◌≡◌, ℕ, zero, suc, ◌+◌, ◌*◌, ◌%◌, ◌^◌, ◌<◌, ◌≤◌, ◌⊎◌, List, [], ◌∷◌, length, take}
-use Rattle.std.proofs.Common.{slice_get, Option, None, Some, All, refl, sym, subst, ap, ◌∙◌, arith, inl, inr}
+use Rattle.std.proofs.Common.{◌≡◌, ℕ, ◌+◌, ◌*◌, ◌≤◌, ◌⊎◌, List, length, take}
+use Rattle.std.proofs.Common.{slice_get, None, Some, All, sym, ap, ◌∙◌, arith, inl, inr}
 use Rattle.std.proofs.lemmas.Option.{slice_get_within}
-use Rattle.rv_code.specs.declared.instr.Instr.{Instr}
 use Rattle.rv_code.specs.Prelude.{IsInstr}
 use Rattle.sc_event.specs.Prelude.{comp_at}
-use Rattle.sc_event.specs.declared.row.Entry.TheVariants.{Main}
-use Rattle.sc_core.specs.Meaning.{entry_in}
 use Rattle.sc_core.specs.Prelude.{IsWellTyped}
 use Rattle.sc_core.specs.declared.program.ProgramTree.{ProgramTree}
 use Rattle.sc_core.specs.declared.section.TypedFunction.{TypedFunction}
-use Rattle.sc_core.specs.declared.section.TypedSection.{TypedSection}
 use Rattle.sc_tac.specs.declared.machine_code.CodeTree.{CodeTree}
 use Rattle.sc_select.specs.Linking.{linked}
 use Rattle.sc_linker.specs.Image.{comp_code, function_address, linked_image}
@@ -19,7 +15,7 @@ use Rattle.sc_linker.specs.Laws.{FunctionsStand, IsWhole, StandFrom}
 use Rattle.sc_linker.specs.Linkable.{IsLinkable}
 use Rattle.sc_linker.proofs.Codes.{codes_none}
 use Rattle.sc_linker.proofs.Comps.{Fits, fits_or_none}
-use Rattle.sc_linker.proofs.Linked.{CanLink, code_instrs, instr_there}
+use Rattle.sc_linker.proofs.Linked.{code_instrs, instr_there}
 use Rattle.sc_linker.proofs.Places.{all_here, there, total_take}
 use Rattle.sc_linker.proofs.Ready.{can_link, stands}
 
@@ -61,8 +57,11 @@ module _ (program : ProgramTree) (codes : List CodeTree) (typed : IsWellTyped pr
           (code : CodeTree) × (slice_get (codes_at program codes comp) number ≡ Some code)
       by (inl fits) =
           there (codes_at program codes comp) number
-          (omega (arith, (can_link program codes whole linkable comp fits).counted,
-            slice_get_within (section_at program comp).functions number f is))
+          (omega (
+            arith,
+            (can_link program codes whole linkable comp fits).counted,
+            slice_get_within (section_at program comp).functions number f is,
+          ))
       by (inr none) =
           let never : None ≡ Some f =
           sym (ap (λ o. slice_get (section_or_none o).functions number) none.1) ∙ is in

@@ -1,7 +1,7 @@
 -- In a linked image each global lies at its place in its compartment's data, and holds its words at the start.
-use Rattle.std.proofs.Common.{◌≡◌, ◌≢◌, ℕ, zero, suc, ◌+◌, ◌*◌, ◌%◌, ◌^◌, ◌<◌, ◌≤◌, ◌⊎◌, true, List, [], ◌∷◌, length}
-use Rattle.std.proofs.Common.{map, flat_map, take, slice_get, Option, None, Some, All, option_map, refl, sym, subst, ap}
-use Rattle.std.proofs.Common.{◌∙◌, arith, inl, inr, ⊎_elim}
+use Rattle.std.proofs.Common.{◌≡◌, ◌≢◌, ℕ, ◌+◌, ◌*◌, ◌^◌, ◌<◌, ◌≤◌, ◌⊎◌, true, List, [], length}
+use Rattle.std.proofs.Common.{flat_map, take, slice_get, Option, None, Some, All, option_map, refl, sym, subst, ap}
+use Rattle.std.proofs.Common.{◌∙◌, arith, inl, inr}
 use Rattle.std.proofs.lemmas.Bool.{cases_lt}
 use Rattle.std.proofs.lemmas.Option.{slice_get-map}
 use Rattle.std.specs.List.{list_all}
@@ -10,11 +10,10 @@ use Rattle.byteorder.specs.Endian.{little_bytes}
 use Rattle.sc_event.specs.Prelude.{comp_at}
 use Rattle.sc_core.specs.Memory.{Block}
 use Rattle.sc_core.specs.Meaning.{first_blocks, global_block, globals_of, struct_zeros}
-use Rattle.sc_core.specs.Prelude.{IsWellTyped, cells_of, global_fits, structs_fit, total}
+use Rattle.sc_core.specs.Prelude.{IsWellTyped, cells_of, global_fits, structs_fit}
 use Rattle.sc_core.specs.declared.program.ProgramTree.{ProgramTree}
 use Rattle.sc_core.specs.declared.section.TypedGlobal.{TypedGlobal}
 use Rattle.sc_core.specs.declared.section.TypedSection.{TypedSection}
-use Rattle.sc_core.specs.declared.section.TypedStruct.{TypedStruct}
 use Rattle.sc_core.specs.declared.value.Cell.{Cell}
 use Rattle.sc_core.specs.declared.value.Cell.TheVariants as cell
 use Rattle.sc_store.specs.Memory.{load_of}
@@ -73,13 +72,12 @@ module _ (section : TypedSection) (fit : structs_fit section.structs 0 section.s
     cells_are : (number : ℕ) (cs : List Cell) → slice_get (first_blocks (Some section)) number ≡ Some (live cs) →
         (g : TypedGlobal) × (slice_get section.globals number ≡ Some g) × (size g ≡ length cs)
     cells_are number cs is =
-        let of = is_of section number (live cs) is in
-        (
+        let of = is_of section number (live cs) is in (
           of.global,
           of.is,
           sym (all_here (λ (g : TypedGlobal). length (global_block (struct_zeros [] section.structs) g).cells ≡ size g)
-          section.globals are_sized number of.global of.is)
-          ∙ ap (λ (b : Block). length b.cells) of.same,
+              section.globals are_sized number of.global of.is)
+              ∙ ap (λ (b : Block). length b.cells) of.same,
         )
 
     inside : (number : ℕ) (cs : List Cell) → slice_get (first_blocks (Some section)) number ≡ Some (live cs) →
@@ -170,18 +168,23 @@ module _ (program : ProgramTree) (codes : List CodeTree) (typed : IsWellTyped pr
         stack_top comp + length (globals_in (linked_image program codes) comp)
     high_by comp number cs is =
         let fits = has_block comp number cs is in
-        omega (arith, bytes_long comp fits,
+        omega (
+          arith,
+          bytes_long comp fits,
           inside (section_at program comp) (structs_own comp fits) (globals_own comp fits) number cs
-          (block_own comp fits number cs is))
+              (block_own comp fits number cs is),
+        )
 
     ahead : (comp number other : ℕ) (cs : List Cell) → number < other → Begins comp number cs →
         (addresses_at program codes comp).global number + 4 * length cs ≤
         (addresses_at program codes comp).global other
     ahead comp number other cs earlier is =
         let fits = has_block comp number cs is in
-        omega (arith,
+        omega (
+          arith,
           ordered (section_at program comp) (structs_own comp fits) (globals_own comp fits) number other cs earlier
-          (block_own comp fits number cs is))
+              (block_own comp fits number cs is),
+        )
 
     apart_by : (comp number other : ℕ) (cs more : List Cell) → number ≢ other → Begins comp number cs →
         Begins comp other more →

@@ -1,7 +1,7 @@
 -- Imports of a compartment as parts of its image: exports of others, each once, and what they let it call.
-use Rattle.std.proofs.Common.{◌≡◌, ◌≢◌, ℕ, zero, suc, ◌+◌, ◌<◌, ◌≤◌, Bool, true, false, not, ◌&&◌, ◌||◌, ◌==◌, List, []}
-use Rattle.std.proofs.Common.{◌∷◌, ◌++◌, length, map, slice_get, Option, None, Some, is_some, option_map, bytes_eq}
-use Rattle.std.proofs.Common.{flat_map, All, AllPairs, IsSomeAnd, refl, sym, subst, ap, ◌∙◌, arith}
+use Rattle.std.proofs.Common.{◌≡◌, ◌≢◌, ℕ, ◌<◌, ◌≤◌, Bool, true, false, not, ◌&&◌, ◌||◌, ◌==◌, List, []}
+use Rattle.std.proofs.Common.{◌∷◌, ◌++◌, length, map, slice_get, Option, None, Some, is_some, bytes_eq}
+use Rattle.std.proofs.Common.{flat_map, All, IsSomeAnd, refl, sym, subst, ap, ◌∙◌, arith}
 use Rattle.std.proofs.lemmas.Bool.{false≢true, not-true}
 use Rattle.std.proofs.lemmas.List.Elements.{All-cons, All-nil}
 use Rattle.std.proofs.lemmas.List.Kept.{AllPairs-cons}
@@ -22,7 +22,7 @@ use Rattle.sc_image.specs.declared.parts.CompPart.{CompPart}
 use Rattle.sc_image.specs.declared.parts.ImportPart.{ImportPart}
 use Rattle.sc_image.specs.WellFormed.{IsDistinct, IsImport}
 use Rattle.sc_tac.specs.declared.machine_code.CodeTree.{CodeTree}
-use Rattle.sc_linker.specs.Image.{comp_part, import_part, linked_image}
+use Rattle.sc_linker.specs.Image.{import_part, linked_image}
 use Rattle.sc_linker.proofs.Comps.{part_there}
 use Rattle.sc_linker.proofs.Exports.{parts_length}
 

@@ -1,21 +1,18 @@
 -- What the linker completes are instructions that there are: jumps reach, and the parts of an address fit.
-use Rattle.std.proofs.Common.{◌≡◌, ℕ, zero, suc, ◌+◌, ◌-◌, ◌*◌, ◌%◌, ◌/◌, ◌^◌, ◌<◌, ◌≤◌, ℤ, pos, negsuc, ◌-ℤ◌, Bool}
-use Rattle.std.proofs.Common.{true, false, ◌&&◌, ◌==◌, nat_lt, List, [], ◌∷◌, ◌++◌, length, slice_get, Option, None, Some}
-use Rattle.std.proofs.Common.{All, refl, sym, subst, ap, ◌∙◌, arith, rules, if◌then◌else◌, ltb-true, ltb-false, ⊎_elim}
+use Rattle.std.proofs.Common.{◌≡◌, ℕ, suc, ◌+◌, ◌-◌, ◌*◌, ◌%◌, ◌^◌, ◌<◌, ◌≤◌, pos, negsuc, ◌-ℤ◌, Bool}
+use Rattle.std.proofs.Common.{true, false, ◌==◌, nat_lt, List, [], ◌∷◌, length, Option, None, Some}
+use Rattle.std.proofs.Common.{All, refl, subst, arith, rules, if◌then◌else◌, ltb-true, ltb-false, ⊎_elim}
 use Rattle.std.proofs.lemmas.Bool.{cases_lt}
 use Rattle.std.proofs.lemmas.Int.{ints}
-use Rattle.std.proofs.lemmas.List.Elements.{All-append, All-cons, All-head, All-nil, All-tail}
-use Rattle.std.specs.List.{list_all}
-use Rattle.sc_base.proofs.Bools.{and_first, and_rest}
+use Rattle.std.proofs.lemmas.List.Elements.{All-cons, All-head, All-nil, All-tail}
 use Rattle.rv_code.specs.declared.instr.Instr.{Instr}
 use Rattle.rv_code.specs.declared.instr.Instr.TheVariants.{Upper, Jal, Jalr, Branch, Load, Store, OpImm, Shift, Op}
 use Rattle.rv_code.specs.declared.instr.Instr.TheVariants.{Fence, Ecall, Ebreak}
 use Rattle.rv_code.specs.Prelude.{IsImmediate, IsInstr, IsJumpOffset, IsUpper}
-use Rattle.sc_tac.specs.declared.machine_code.CodeTree.{CodeTree}
 use Rattle.sc_tac.specs.declared.machine_code.Relocation.{Relocation}
 use Rattle.sc_tac.specs.declared.machine_code.Target.{Target}
 use Rattle.sc_tac.specs.declared.machine_code.Target.TheVariants.{Function, Entry, Global}
-use Rattle.sc_select.specs.Linking.{Addresses, linked, linked_from, low_behind, relocations_behind, target_at}
+use Rattle.sc_select.specs.Linking.{Addresses, linked_from, low_behind, relocations_behind, target_at}
 use Rattle.sc_select.specs.Linking.{with_low, with_target}
 use Rattle.sc_select.specs.Pieces.{lower_part, upper_part}
 

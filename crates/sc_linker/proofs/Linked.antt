@@ -1,13 +1,12 @@
 -- The code of a compartment that can be linked, by its exports, its section and its codes: how long it is, what stands
 -- where in it, and that it consists of instructions that there are.
-use Rattle.std.proofs.Common.{◌≡◌, ℕ, zero, suc, ◌+◌, ◌*◌, ◌%◌, ◌<◌, ◌≤◌, ◌^◌, pos, ◌-ℤ◌, Bool, true, false, List, []}
-use Rattle.std.proofs.Common.{◌∷◌, ◌++◌, length, map, take, slice_get, Option, None, Some, All, refl, sym, subst, ap}
+use Rattle.std.proofs.Common.{◌≡◌, ℕ, suc, ◌+◌, ◌*◌, ◌%◌, ◌<◌, ◌≤◌, ◌^◌, List, []}
+use Rattle.std.proofs.Common.{◌∷◌, ◌++◌, length, take, slice_get, None, Some, All, refl, sym, subst}
 use Rattle.std.proofs.Common.{◌∙◌, arith, lit<}
 use Rattle.std.proofs.lemmas.List.{length-append}
 use Rattle.std.proofs.lemmas.List.Elements.{All-append, All-cons, All-nil}
 use Rattle.std.proofs.lemmas.Option.{slice_get_within}
 use Rattle.rv_code.specs.declared.instr.Instr.{Instr}
-use Rattle.rv_code.specs.declared.instr.Instr.TheVariants.{Jal}
 use Rattle.rv_code.specs.Prelude.{IsInstr}
 use Rattle.sc_event.specs.declared.interface.Proto.{Proto}
 use Rattle.sc_core.specs.Meaning.{place_named}
@@ -20,9 +19,9 @@ use Rattle.sc_select.specs.Linking.{Addresses, linked}
 use Rattle.sc_linker.specs.Image.{entry_jump, entry_jumps, function_address, linked_codes}
 use Rattle.sc_linker.specs.Layout.{entry_address, instructions, section_addresses}
 use Rattle.sc_linker.specs.Laws.{IsWhole}
-use Rattle.sc_linker.proofs.Codes.{codes_length, instr_at, jump_at, jumps_length, linked_length}
+use Rattle.sc_linker.proofs.Codes.{codes_length, instr_at, jump_at, jumps_length}
 use Rattle.sc_linker.proofs.Instrs.{AllReach, IsWithin, Reaches, from_instrs, jump_reaches}
-use Rattle.sc_linker.proofs.Places.{all_from, all_here, get_after, get_before, there, total_take, total_upto}
+use Rattle.sc_linker.proofs.Places.{all_from, all_here, get_after, get_before, there, total_upto}
 
 -- it refers to functions of the section
 abbrev pub RefersTo : ℕ → CodeTree → Type 0

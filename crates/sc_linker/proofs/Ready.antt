@@ -1,7 +1,7 @@
 -- Each compartment of a program that is linkable can be linked, and what stands in its code stands in the image.
-use Rattle.std.proofs.Common.{◌≡◌, ℕ, zero, suc, ◌+◌, ◌-◌, ◌*◌, ◌/◌, ◌%◌, ◌<◌, ◌≤◌, Bool, true, nat_eq, nat_le, nat_lt}
-use Rattle.std.proofs.Common.{List, [], ◌∷◌, ◌++◌, length, map, take, slice_get, Option, None, Some, is_some, option_map}
-use Rattle.std.proofs.Common.{All, refl, sym, subst, ap, ◌∙◌, arith, eq-eqb, le-leb, ltb-true}
+use Rattle.std.proofs.Common.{◌≡◌, ℕ, ◌+◌, ◌-◌, ◌*◌, ◌/◌, ◌%◌, ◌<◌, true, nat_eq, nat_le, nat_lt}
+use Rattle.std.proofs.Common.{List, [], length, map, take, slice_get, Some, is_some, option_map}
+use Rattle.std.proofs.Common.{All, sym, subst, ap, ◌∙◌, arith, eq-eqb, le-leb, ltb-true}
 use Rattle.std.proofs.lemmas.List.Elements.{All-weaker}
 use Rattle.std.proofs.lemmas.Option.{slice_get-map}
 use Rattle.std.specs.Option.{option_map_or}
@@ -10,7 +10,6 @@ use Rattle.rv_code.specs.declared.instr.Instr.{Instr}
 use Rattle.rv_code.specs.Prelude.{IsInstr, word_of}
 use Rattle.sc_event.specs.Prelude.{export_at}
 use Rattle.sc_event.specs.declared.interface.Proto.{Proto}
-use Rattle.sc_core.specs.Prelude.{IsWellTyped}
 use Rattle.sc_core.specs.declared.program.ProgramTree.{ProgramTree}
 use Rattle.sc_core.specs.declared.section.TypedSection.{TypedSection}
 use Rattle.sc_image.specs.declared.parts.CompPart.{CompPart}
@@ -18,7 +17,6 @@ use Rattle.sc_image.specs.declared.parts.ImageParts.{ImageParts}
 use Rattle.sc_image.specs.Layout.{code_of, code_start, word_at}
 use Rattle.sc_tac.specs.declared.machine_code.CodeTree.{CodeTree}
 use Rattle.sc_tac.specs.declared.machine_code.Relocation.{Relocation}
-use Rattle.sc_tac.specs.declared.machine_code.Target.TheVariants.{Function}
 use Rattle.sc_select.specs.Linking.{is_named, linked}
 use Rattle.sc_kinds.proofs.Sections.{all_at}
 use Rattle.sc_linker.specs.Image.{comp_code, linked_image}

@@ -1,6 +1,6 @@
 -- The words that a section's globals begin with: as many as their cells, each at its place, and the bytes of them.
-use Rattle.std.proofs.Common.{◌≡◌, ℕ, zero, suc, ◌+◌, ◌*◌, ◌<◌, ◌≤◌, ◌^◌, Bool, true, List, [], ◌∷◌, ◌++◌, length, map}
-use Rattle.std.proofs.Common.{take, slice_get, slice_index_or, Option, None, Some, flat_map, All, refl, sym, subst, ap}
+use Rattle.std.proofs.Common.{◌≡◌, ℕ, zero, suc, ◌+◌, ◌*◌, ◌<◌, ◌^◌, true, List, [], ◌∷◌, ◌++◌, length, map}
+use Rattle.std.proofs.Common.{take, slice_get, slice_index_or, Some, flat_map, All, refl, ap}
 use Rattle.std.proofs.Common.{◌∙◌, arith, option_map}
 use Rattle.std.proofs.lemmas.List.{length-append, length-map}
 use Rattle.std.proofs.lemmas.List.Elements.{All-append, All-cons, All-head, All-nil, All-tail}
@@ -8,8 +8,8 @@ use Rattle.std.proofs.lemmas.Option.{slice_get-map}
 use Rattle.std.specs.List.{list_all}
 use Rattle.std.specs.Int.{byte_at, bytes_low_first}
 use Rattle.byteorder.specs.Endian.{little_bytes}
-use Rattle.sc_base.proofs.Bools.{and_first, and_rest}
-use Rattle.sc_core.specs.Prelude.{cells_of, global_fits, structs_fit, total, variable_fits}
+use Rattle.sc_base.proofs.Bools.{and_first}
+use Rattle.sc_core.specs.Prelude.{cells_of, global_fits, structs_fit, variable_fits}
 use Rattle.sc_core.specs.Meaning.{base_zeros, global_block, member_zeros, repeated, starred_zeros, struct_zeros}
 use Rattle.sc_core.specs.Meaning.{with_words, zeros_of}
 use Rattle.sc_core.specs.Memory.{Block}

@@ -22,7 +22,7 @@ use Rattle.sc_core.specs.Prelude.{IsWellTyped}
 use Rattle.sc_store.specs.Memory.{load_of}
 use Rattle.sc_image.specs.declared.parts.ImageParts.{ImageParts}
 use Rattle.sc_image.specs.Calls.{export_at as image_export, has_result, may_call, may_input, may_output, params_of}
-use Rattle.sc_image.specs.Layout.{data_start, globals_of as globals_in, stack_top, word_at}
+use Rattle.sc_image.specs.Layout.{globals_of as globals_in, stack_top, word_at}
 use Rattle.sc_image.specs.State.{start_memory}
 use Rattle.sc_image.specs.WellFormed.{IsWellFormed}
 use Rattle.sc_tac.specs.declared.machine_code.CodeTree.{CodeTree}
