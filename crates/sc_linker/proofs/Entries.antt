@@ -121,7 +121,8 @@ module _ (program : ProgramTree) (codes : List CodeTree) (typed : IsWellTyped pr
           stands program codes c of index (entry_address c index)
               (entry_jump (addresses_at program codes c) c index (section_at program c) proto) refl
               (jump_there c (exports_at program c) (section_at program c) (codes_at program codes c) index proto there)
-              (entry_instr c (exports_at program c) (section_at program c) (codes_at program codes c) can index proto there),
+              (entry_instr c (exports_at program c) (section_at program c) (codes_at program codes c) can index proto
+              there),
           jump_to (entry_address c index) target
               (omega (arith, low c index proto is))
               (omega (arith, leads, within.inside, number_below program typed c of)) ∙ leads,

@@ -132,8 +132,8 @@ module _ (program : ProgramTree) (codes : List CodeTree) (typed : IsWellTyped pr
           (globals_so program.interfaces c interface fits.section fits.fits))) in
           omega (arith, fit, bytes_count (global_words (section_at program c)), linkable.globals c)
 
-      code_count : length (map word_of (comp_code program codes c)) ≡ length (exports_at program c) + instructions (codes_at
-          program codes c)
+      code_count : length (map word_of (comp_code program codes c)) ≡
+          length (exports_at program c) + instructions (codes_at program codes c)
       code_count =
           length-map (comp_code program codes c) word_of
           ∙ code_length c (exports_at program c) (section_at program c) (codes_at program codes c)

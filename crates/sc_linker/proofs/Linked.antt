@@ -87,7 +87,8 @@ module _ (c : ℕ) (exports : List Proto) (section : TypedSection) (cs : List Co
     reach_all : (code : CodeTree) → RefersTo (length section.functions) code →
         AllReach addresses (code_start c) code.relocations
     reach_all code refers =
-        all_from (λ (r : Relocation). Reaches addresses (code_start c) (Some r.target)) code.relocations (λ i r is n e. function_within n (refers i r is n (by r n e))) where
+        all_from (λ (r : Relocation). Reaches addresses (code_start c) (Some r.target)) code.relocations
+        (λ i r is n e. function_within n (refers i r is n (by r n e))) where
           by : (r : Relocation) (n : ℕ) → Some r.target ≡ Some (Function n) → r.target ≡ Function n
           by r n e = cc
 
