@@ -1,24 +1,38 @@
--- The image of a thin program: it has one compartment.
-use Rattle.sc_compile.specs.Common.{ImageParts, ThinProgram, code_start, word_of}
-use Rattle.std.specs.Prelude.{ℕ, List, [], ◌∷◌, map, codes, true, false}
-use Rattle.sc_image.specs.declared.parts.CompPart.{CompPart}
-use Rattle.sc_compile.specs.Code.{thin_code}
+-- The image of a program, pass by pass.
+use Rattle.std.specs.Prelude.{List, map, flat_map, Option, None, Some, Result, Ok, Err}
+use Rattle.sc_core.specs.declared.program.ProgramTree.{ProgramTree}
+use Rattle.sc_image.specs.declared.parts.ImageParts.{ImageParts}
+use Rattle.sc_tac.specs.declared.function.TacFnTree.{TacFnTree}
+use Rattle.sc_tac.specs.declared.machine_code.CodeTree.{CodeTree}
+use Rattle.sc_tac.specs.declared.program.TacSection.{TacSection}
+use Rattle.sc_tac.specs.declared.program.TacTree.{TacTree}
+use Rattle.sc_tac.specs.Frames.{frame_of}
+use Rattle.sc_tac.specs.Intervals.{intervals_of}
+use Rattle.sc_lower.specs.Programs.{lowered_program}
+use Rattle.sc_alloc.specs.Places.{assigned}
+use Rattle.sc_select.specs.Selection.{code_of}
+use Rattle.sc_linker.specs.Image.{linked_image}
+use Rattle.sc_compile.specs.declared.fault.CompileFault.{CompileFault}
+use Rattle.sc_compile.specs.Sizes.{too_large}
 
--- the compartment of this code, which may output
-abbrev pub main_comp : (code : List ℕ) → CompPart
-main_comp code = record {
-  name = codes "Main";
-  input = false;
-  output = true;
-  exports = [];
-  imports = [];
-  code = code;
-  globals = [];
-}
+-- of a function: places by linear scan for its least intervals, the frame with its slots, and its instructions
+abbrev pub function_code : TacFnTree → CodeTree
+function_code f =
+    let places = assigned (intervals_of f) in
+    code_of f places (frame_of f.objects places)
 
--- the run starts where that compartment's code begins
-abbrev pub image_of : (code : List ℕ) → ImageParts
-image_of code = record { main = 0; entry = code_start 0; comps = main_comp code ∷ [] }
+-- of all functions, section by section
+abbrev pub all_codes : TacTree → List CodeTree
+all_codes program = flat_map (λ (section : TacSection). map function_code section.functions) program.sections
 
-abbrev pub thin_image : ThinProgram → ImageParts
-thin_image program = image_of (map word_of (thin_code program))
+-- the image of a program that fits
+abbrev pub built_image : ProgramTree → ImageParts
+built_image program = linked_image program (all_codes (lowered_program program))
+
+abbrev pub unless_large : Option CompileFault → ImageParts → Result ImageParts CompileFault
+unless_large None image = Ok image
+unless_large (Some fault) image = Err fault
+
+-- the image of a program, or what of it is too large
+abbrev pub image_of : ProgramTree → Result ImageParts CompileFault
+image_of program = unless_large (too_large program) (built_image program)

@@ -1,4 +1,3 @@
-pub mod Common
-pub mod Code
+pub mod Compiled
 pub mod Image
-pub mod Correct
+pub mod Sizes

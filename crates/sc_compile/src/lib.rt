@@ -1,7 +1,8 @@
-//! The compiler of thin programs: from a program to the image that the machine runs.
+//! The compiler: from a program to the image that the machine runs.
 #![tactic(auto)]
 
-mod code;
-mod image;
+mod compile;
+mod fault;
 
-pub use image::compile;
+pub use compile::compile;
+pub use fault::CompileFault;

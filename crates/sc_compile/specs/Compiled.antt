@@ -1,0 +1,74 @@
+-- What an image does, and what its program means.
+use Rattle.std.specs.Prelude.{◌≡◌, ℕ, suc, ◌+◌, ◌*◌, ◌<◌, ◌≤◌, ◌⊎◌, Bool, true, false, List, map, length, All, Option, None, Some}
+use Rattle.std.specs.Prelude.{slice_get}
+use Rattle.std.specs.List.{count_by}
+use Rattle.rv_code.specs.declared.instr.Instr.{Instr}
+use Rattle.rv_code.specs.Prelude.{decoded}
+use Rattle.sc_base.specs.declared.stop.Stop.TheVariants.{Trap}
+use Rattle.sc_base.specs.declared.stop.TrapReason.TheVariants.{Owner}
+use Rattle.sc_event.specs.Prelude.{legal}
+use Rattle.sc_core.specs.declared.program.ProgramTree.{ProgramTree}
+use Rattle.sc_core.specs.declared.run.SourceRun.{SourceRun}
+use Rattle.sc_core.specs.declared.section.TypedSection.{TypedSection}
+use Rattle.sc_core.specs.Growth.{Front}
+use Rattle.sc_core.specs.Prelude.{nodes, total}
+use Rattle.sc_core.specs.Meaning.{depth_by, meaning, meaning_by}
+use Rattle.sc_core.specs.Value.{Arith, c_arith, wrapping}
+use Rattle.sc_image.specs.declared.parts.ImageParts.{ImageParts}
+use Rattle.sc_image.specs.Layout.{code_of, stack_size}
+use Rattle.sc_image.specs.Machine.{Run, machine}
+use Rattle.sc_image.specs.WellFormed.{IsWord}
+use Rattle.sc_lower.specs.Branches.{branches}
+use Rattle.sc_emit.specs.Shapes.{is_branch, is_ebreak}
+use Rattle.sc_simulation.specs.Runs.{IsBlamed}
+
+-- the nodes of all functions
+abbrev pub program_nodes : ProgramTree → ℕ
+program_nodes program = total (map {A = TypedSection} (λ section. total (map nodes section.functions)) program.sections)
+
+-- the machine stands trapped in a compartment which this depth says to be deeper than a stack, and has shown a front of
+-- this trace
+pub record StackIsFull (run : Run) (depth : ℕ → ℕ) (meant : SourceRun) : Type 0 where
+  pub stop : run.stop ≡ Trap Owner run.state.pc
+  pub deep : stack_size < depth run.state.active
+  pub trace : Front run.state.trace meant.trace
+
+-- Within 24 steps a node for each turn, and for the start, the machine shows all that the program does in this
+-- arithmetic, wherever that run is stopped and however it ends. The one exception is a full stack.
+abbrev pub ShowsAll : Arith → ProgramTree → ImageParts → Type 0
+ShowsAll arith program image = (inputs : List ℕ) (turns events : ℕ) → All IsWord inputs →
+    let run = machine image inputs (24 * suc turns * program_nodes program) events in
+    let meant = meaning_by arith program inputs turns events in
+    Front meant.trace run.state.trace ⊎ StackIsFull run (depth_by arith program inputs turns events) meant
+
+-- In any number of steps the machine shows nothing that the program doesn't show in as many turns, unless the program is
+-- blamed and the machine has shown all of it.
+abbrev pub ShowsNothingElse : ProgramTree → ImageParts → Type 0
+ShowsNothingElse program image = (inputs : List ℕ) (steps events : ℕ) → All IsWord inputs →
+    let shown = (machine image inputs steps events).state.trace in
+    let meant = meaning program inputs steps events in
+    Front shown meant.trace ⊎ (IsBlamed meant.end × Front meant.trace shown)
+
+abbrev pub test_word : (Instr → Bool) → ℕ → Bool
+test_word test word = holds (decoded word) where
+  holds : Option Instr → Bool
+  holds None = false
+  holds (Some instr) = test instr
+
+-- each word of a section's code is an instruction, none is EBREAK, and branches are no more than the `if`, `while`,
+-- `for`, `&&` and `||` of its functions: none is left for a test of undefined behaviour
+pub record HasNoTests (section : TypedSection) (code : List ℕ) : Type 0 where
+  pub instructions : All (λ word. test_word (λ instr. true) word ≡ true) code
+  pub no_ebreak : All (λ word. test_word is_ebreak word ≡ false) code
+  pub branches : count_by (test_word is_branch) code ≤ total (map branches section.functions)
+
+pub record IsCompiled (program : ProgramTree) (image : ImageParts) : Type 0 where
+  pub forward : ShowsAll c_arith program image
+  -- after undefined arithmetic the code goes on with what the machine's operations give
+  pub wrapped : ShowsAll wrapping program image
+  pub backward : ShowsNothingElse program image
+  pub no_tests : (comp : ℕ) (section : TypedSection) → slice_get program.sections comp ≡ Some section →
+      HasNoTests section (code_of image comp)
+  -- what the machine shows is allowed by the program's interfaces
+  pub allowed : (inputs : List ℕ) (steps events : ℕ) → All IsWord inputs →
+      legal program.interfaces (machine image inputs steps events).state.trace ≡ true

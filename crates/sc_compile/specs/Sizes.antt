@@ -1,0 +1,63 @@
+-- What of a program is too large to be compiled: first the globals of a section, then the frame of a function, then the
+-- code of a section.
+use Rattle.std.specs.Prelude.{ℕ, suc, ◌+◌, ◌*◌, nat_lt, if◌then◌else◌, List, [], ◌∷◌, ◌++◌, map, flat_map, Option, None, Some}
+use Rattle.sc_core.specs.declared.program.ProgramTree.{ProgramTree}
+use Rattle.sc_core.specs.declared.section.TypedFunction.{TypedFunction}
+use Rattle.sc_core.specs.declared.section.TypedGlobal.{TypedGlobal}
+use Rattle.sc_core.specs.declared.section.TypedSection.{TypedSection}
+use Rattle.sc_core.specs.Prelude.{cells_of, code_bound, frame_bound, nodes, total, variables}
+use Rattle.sc_compile.specs.declared.fault.CompileFault.{CompileFault}
+use Rattle.sc_compile.specs.declared.fault.CompileFault.TheVariants.{CodeTooLarge, DataTooLarge, FrameTooLarge}
+
+abbrev pub most_data : ℕ
+most_data = 458752
+
+abbrev pub most_frame : ℕ
+most_frame = 32768
+
+abbrev pub most_code : ℕ
+most_code = 1048576
+
+-- this fault, where a size is above its limit
+abbrev pub above : (limit size : ℕ) → CompileFault → List CompileFault
+above limit size fault = if nat_lt limit size then fault ∷ [] else []
+
+abbrev pub data_bytes : TypedSection → ℕ
+data_bytes section = 4 * total (map {A = TypedGlobal} (λ g. cells_of section.structs g.ty) section.globals)
+
+abbrev pub frame_bytes : TypedSection → TypedFunction → ℕ
+frame_bytes section f = frame_bound (variables section.structs f) (nodes f)
+
+abbrev pub code_bytes : TypedSection → ℕ
+code_bytes section = code_bound (map nodes section.functions)
+
+abbrev pub large_data : (comp : ℕ) → TypedSection → List CompileFault
+large_data comp section =
+    above most_data (data_bytes section) (DataTooLarge (record { comp = comp; bytes = data_bytes section }))
+
+abbrev pub large_frame : (comp : ℕ) → TypedSection → TypedFunction → List CompileFault
+large_frame comp section f =
+    above most_frame (frame_bytes section f)
+    (FrameTooLarge (record { comp = comp; function = f.name; bound = frame_bytes section f }))
+
+abbrev pub large_frames : (comp : ℕ) → TypedSection → List CompileFault
+large_frames comp section = flat_map (large_frame comp section) section.functions
+
+abbrev pub large_code : (comp : ℕ) → TypedSection → List CompileFault
+large_code comp section =
+    above most_code (code_bytes section) (CodeTooLarge (record { comp = comp; bound = code_bytes section }))
+
+-- what is found in sections, from this number on
+abbrev pub found_in : (ℕ → TypedSection → List CompileFault) → ℕ → List TypedSection → List CompileFault
+found_in find comp [] = []
+found_in find comp (section ∷ sections) = find comp section ++ found_in find (suc comp) sections
+
+abbrev pub first : List CompileFault → Option CompileFault
+first [] = None
+first (fault ∷ later) = Some fault
+
+-- what is too large first, if anything is
+abbrev pub too_large : ProgramTree → Option CompileFault
+too_large program =
+    first (found_in large_data 0 program.sections ++
+    (found_in large_frames 0 program.sections ++ found_in large_code 0 program.sections))
