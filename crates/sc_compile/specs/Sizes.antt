@@ -33,19 +33,19 @@ code_bytes section = code_bound (map nodes section.functions)
 
 abbrev pub large_data : (comp : ℕ) → TypedSection → List CompileFault
 large_data comp section =
-    above most_data (data_bytes section) (DataTooLarge (record { comp = comp; bytes = data_bytes section }))
+    above most_data (data_bytes section) (DataTooLarge comp (data_bytes section))
 
 abbrev pub large_frame : (comp : ℕ) → TypedSection → TypedFunction → List CompileFault
 large_frame comp section f =
     above most_frame (frame_bytes section f)
-    (FrameTooLarge (record { comp = comp; function = f.name; bound = frame_bytes section f }))
+    (FrameTooLarge comp f.name (frame_bytes section f))
 
 abbrev pub large_frames : (comp : ℕ) → TypedSection → List CompileFault
 large_frames comp section = flat_map (large_frame comp section) section.functions
 
 abbrev pub large_code : (comp : ℕ) → TypedSection → List CompileFault
 large_code comp section =
-    above most_code (code_bytes section) (CodeTooLarge (record { comp = comp; bound = code_bytes section }))
+    above most_code (code_bytes section) (CodeTooLarge comp (code_bytes section))
 
 -- what is found in sections, from this number on
 abbrev pub found_in : (ℕ → TypedSection → List CompileFault) → ℕ → List TypedSection → List CompileFault

@@ -1,8 +1,8 @@
 //! The compiler: from a program to the image that the machine runs.
 #![tactic(auto)]
 
-mod compile;
 mod fault;
+mod passes;
 
-pub use compile::compile;
 pub use fault::CompileFault;
+pub use passes::compile;
