@@ -1,0 +1,178 @@
+-- What the functions of lowered code give back: values of the kinds that their sources promise.
+use Rattle.std.proofs.Common.{◌≡◌, ℕ, zero, suc, Bool, true, false, ◌&&◌, List, [], ◌∷◌, map, refl, sym, ◌∙◌, ap, subst}
+use Rattle.std.proofs.Common.{Option, None, Some, is_some, IsSome, bytes_eq}
+use Rattle.std.specs.Prelude.{slice_get}
+use Rattle.std.specs.Option.{option_map}
+use Rattle.sc_event.specs.Prelude.{export_at}
+use Rattle.sc_event.specs.declared.interface.Proto.{Proto}
+use Rattle.sc_event.specs.declared.row.Entry.TheVariants.{Export, Main}
+use Rattle.sc_core.specs.declared.program.ProgramTree.{ProgramTree}
+use Rattle.sc_core.specs.declared.section.TypedFunction.{TypedFunction}
+use Rattle.sc_core.specs.declared.section.TypedSection.{TypedSection}
+use Rattle.sc_core.specs.declared.ty.Ty.{Ty}
+use Rattle.sc_core.specs.declared.ty.Ty.TheVariants as ty
+use Rattle.sc_core.specs.declared.value.Value.{Value}
+use Rattle.sc_core.specs.declared.value.Value.TheVariants.{Null, Ptr, Word}
+use Rattle.sc_core.specs.Calls.{crossing, option_value, run_step, within}
+use Rattle.sc_core.specs.Meaning.{entry_in, library_of, main_name, place_named}
+use Rattle.sc_core.specs.Prelude.{IsWellTyped, are_distinct, import_name, main_fits, main_signature, same_results}
+use Rattle.sc_core.specs.Prelude.{same_signature, same_types, signature_of}
+use Rattle.sc_core.specs.Value.{wrapping}
+use Rattle.sc_core.specs.Words.{Here, Piece, Reached, State, Stopped}
+use Rattle.sc_kinds.specs.Kinds.{function_at, returns_kind, section_functions}
+use Rattle.sc_kinds.proofs.Results.{results_have_kinds}
+use Rattle.sc_kinds.proofs.Sections.{found_passes, named_so, own_names_differ}
+use Rattle.sc_laws.specs.Agreement.{piece_without_line}
+use Rattle.sc_tac.specs.declared.function.TacFnTree.{TacFnTree}
+use Rattle.sc_tac.specs.Code.{function_entered}
+use Rattle.sc_lower.specs.Programs.{lowered_function, lowered_program, lowered_section}
+use Rattle.sc_lower.proofs.Entries.{first_at}
+use Rattle.sc_lower.proofs.Whole.{keeps_meaning}
+use Rattle.sc_linker.proofs.Comps.{Fits, main_so, of_section}
+use Rattle.sc_simulation.specs.Linked.{functions_in, functions_or_none}
+use Rattle.sc_simulation.specs.Results.{GivesResults, bodies}
+use Rattle.sc_simulation.specs.Simulation.{nobody}
+
+mapped : {A B : Type 0} (g : A → B) (xs : List A) (n : ℕ) (y : B) → slice_get (map g xs) n ≡ Some y →
+    (x : A) × ((slice_get xs n ≡ Some x) × (g x ≡ y))
+mapped g [] n y h = absurd (cc)
+mapped g (x ∷ xs) zero y h = (x, (refl, cc))
+mapped g (x ∷ xs) (suc n) y h = mapped g xs n y h
+
+-- two pieces that agree come to the same value
+came_too : (o p : Piece (Option Value)) (v : Option Value) (t : State) →
+    piece_without_line o ≡ piece_without_line p → p ≡ Reached v t → o ≡ Reached v t
+came_too (Reached w s) p v t same is = same ∙ ap piece_without_line is
+came_too (Stopped end s) p v t same is =
+    let never : Stopped _ s ≡ Reached v t = same ∙ ap piece_without_line is in cc never
+
+some_given : (v : Option Value) (result : Option Ty) → returns_kind result v ≡ true → is_some result ≡ true → IsSome v
+some_given (Some v) result kind some = tt
+some_given None None kind some = cc some
+some_given None (Some t) kind some = cc kind
+
+-- a value of a function of type `int`
+word_given : (v : Option Value) → returns_kind (Some ty.Int) v ≡ true → (w : ℕ) × (v ≡ Some (Word w))
+word_given None kind = cc kind
+word_given (Some (Word w)) kind = (w, refl)
+word_given (Some Null) kind = cc kind
+word_given (Some (Ptr p)) kind = cc kind
+
+int_only : (result : Option Ty) → same_results result (Some ty.Int) ≡ true → result ≡ Some ty.Int
+int_only None h = cc h
+int_only (Some ty.Int) h = refl
+int_only (Some ty.Unsigned) h = cc h
+int_only (Some (ty.Struct n)) h = cc h
+int_only (Some (ty.Pointer stars base)) h = cc h
+int_only (Some (ty.Array stars base length)) h = cc h
+
+both_rest : (a b : Bool) → (a && b) ≡ true → b ≡ true
+both_rest true b h = h
+both_rest false b h = cc h
+
+both_first : (a b : Bool) → (a && b) ≡ true → a ≡ true
+both_first true b h = refl
+both_first false b h = cc h
+
+module _ (program : ProgramTree) (typed : IsWellTyped program) where
+  -- a function of the code, with its source
+  pub record Source (comp number : ℕ) (f : TacFnTree) : Type 0 where
+    pub section : TypedSection
+    pub is : slice_get program.sections comp ≡ Some section
+    pub source : TypedFunction
+    pub its : slice_get section.functions number ≡ Some source
+    pub same : lowered_function program.interfaces comp section.structs source ≡ f
+
+  source_by : (comp number : ℕ) (f : TacFnTree) (o : Option TypedSection) → slice_get program.sections comp ≡ o →
+      slice_get (functions_or_none (option_map (lowered_section program.interfaces comp) o)) number ≡ Some f →
+      Source comp number f
+  source_by comp number f None is h = absurd (cc)
+  source_by comp number f (Some section) is h =
+      let found = mapped (lowered_function program.interfaces comp section.structs) section.functions number f h in
+      record { section = section; is = is; source = found.0; its = found.1.0; same = found.1.1 }
+
+  pub source_of : (comp number : ℕ) (f : TacFnTree) →
+      slice_get (functions_in (lowered_program program) comp) number ≡ Some f → Source comp number f
+  source_of comp number f h =
+      source_by comp number f (slice_get program.sections comp) refl
+      (ap (λ o. slice_get (functions_or_none o) number)
+      (sym (first_at program.interfaces program.sections comp)) ∙ h)
+
+  -- what code comes to its source comes to
+  from_code : (open_calls number : ℕ) (here : Here) (s t : State) (v : Option Value) →
+      bodies (lowered_program program) nobody open_calls number here s ≡ Reached v t →
+      within (run_step (library_of wrapping program)) open_calls number here s ≡ Reached v t
+  from_code open_calls number here s t v is =
+      came_too (within (run_step (library_of wrapping program)) open_calls number here s)
+      (bodies (lowered_program program) nobody open_calls number here s) v t
+      (keeps_meaning.bodies wrapping program typed nobody open_calls number here s).same is
+
+  function_there : (comp number : ℕ) (section : TypedSection) (f : TypedFunction) →
+      slice_get program.sections comp ≡ Some section → slice_get section.functions number ≡ Some f →
+      function_at program comp number ≡ Some f
+  function_there comp number section f is its = ap (λ o. slice_get (section_functions o) number) is ∙ its
+
+  given : (open_calls number : ℕ) (here : Here) (f : TacFnTree) (s t : State) (v : Option Value) →
+      slice_get (functions_in (lowered_program program) here.comp) number ≡ Some f → f.result ≡ true →
+      bodies (lowered_program program) nobody open_calls number here s ≡ Reached v t → IsSome v
+  given open_calls number here f s t v there result is =
+      let from = source_of here.comp number f there in
+      some_given v from.source.result
+      (results_have_kinds.returned wrapping program typed open_calls number here from.source
+      (function_there here.comp number from.section from.source from.is from.its) s t v
+      (from_code open_calls number here s t v is))
+      (ap (λ (g : TacFnTree). g.result) from.same ∙ result)
+
+  crosses : (open_calls index number : ℕ) (here : Here) (proto : Proto) (s t : State) (v : Option Value) →
+      export_at program.interfaces here.comp index ≡ Some proto →
+      function_entered (Export index) (slice_get (lowered_program program).sections here.comp) ≡ Some number →
+      bodies (lowered_program program) nobody open_calls number here s ≡ Reached v t →
+      option_value (crossing (Some proto) v) ≡ v
+  crosses open_calls index number here proto s t v export entered is =
+      results_have_kinds.crosses wrapping program typed open_calls index number here proto export
+      (keeps_meaning.entered wrapping program typed here.comp (Export index) ∙ entered) s t v
+      (from_code open_calls number here s t v is)
+
+  -- `main` is of type `int`
+  main_int : (section : TypedSection) → slice_get program.sections program.interfaces.main ≡ Some section →
+      (number : ℕ) → place_named main_name (Some section) ≡ Some number →
+      (f : TypedFunction) × ((slice_get section.functions number ≡ Some f) × (f.result ≡ Some ty.Int))
+  main_int section is number place =
+      let found = found_passes (λ f. bytes_eq f.name main_name) section.functions number place in
+      let fits = of_section program typed program.interfaces.main section is in
+      let same : fits.section ≡ section = cc in
+      let any : main_fits (Some section) ≡ true = subst (λ o. main_fits o ≡ true) is (main_so program typed) in
+      let names = map (import_name program.interfaces) fits.interface.imports in
+      let distinct = own_names_differ names fits.section.functions (both_first _ _ fits.faces) in
+      let signature = named_so main_name (λ f. same_signature (signature_of f) main_signature) section.functions
+      (subst (λ (s : TypedSection). are_distinct (map {A = TypedFunction} (λ f. f.name) s.functions) ≡ true) same
+      distinct) any number found.item found.is found.passes in
+      (found.item, (found.is, int_only found.item.result
+      (both_rest (same_types (signature_of found.item).params []) _ signature)))
+
+  ends : (open_calls number : ℕ) (here : Here) (s t : State) (v : Option Value) →
+      here.comp ≡ program.interfaces.main →
+      function_entered Main (slice_get (lowered_program program).sections here.comp) ≡ Some number →
+      bodies (lowered_program program) nobody open_calls number here s ≡ Reached v t → (w : ℕ) × (v ≡ Some (Word w))
+  ends open_calls number here s t v main entered is =
+      by (slice_get program.sections here.comp) refl
+      (keeps_meaning.entered wrapping program typed here.comp Main ∙ entered) where
+        by : (o : Option TypedSection) → slice_get program.sections here.comp ≡ o → place_named main_name o ≡ Some
+            number → (w : ℕ) × (v ≡ Some (Word w))
+        by None there place = absurd (cc)
+        by (Some section) there place =
+            let f = main_int section (subst (λ c. slice_get program.sections c ≡ Some section) main there) number
+            place in
+            word_given v (subst (λ r. returns_kind r v ≡ true) f.1.1
+            (results_have_kinds.returned wrapping program typed open_calls number here f.0
+            (function_there here.comp number section f.0 there f.1.0) s t v
+            (from_code open_calls number here s t v is)))
+
+  pub gives_results : GivesResults (lowered_program program) nobody
+  gives_results = record {
+    given = λ open_calls number here f s t v plain there result is.
+        given open_calls number here f s t v there result is;
+    crosses = λ open_calls index number here proto s t v plain export entered is.
+        crosses open_calls index number here proto s t v export entered is;
+    ends = λ open_calls number here s t v plain main entered is. ends open_calls number here s t v main entered is;
+  }
