@@ -86,8 +86,8 @@ module _ (T : Setting) (formed : IsWellFormed T.image) (inputs : All IsWord T.in
     }
 
     -- What comes of the function, comes of the call.
-    module _ (behind : IsSome (word_at T.image P.comp (x.pc + 4))) (at_base : x.regs sp ≡ P.bound) (budget : ℕ)
-        (paid : budget < T.turn_pays) where
+    module _ (number : ℕ) (behind : IsSome (word_at T.image P.comp (x.pc + 4))) (at_base : x.regs sp ≡ P.bound)
+        (budget : ℕ) (paid : budget < T.turn_pays) where
       module _ (v : Option Value) (s : Meant) (g : IsLeft T P entered budget (x.pc + 4) v s) where
         abbrev z : Joint
         z = record g.y { pc = x.pc + 4 }
@@ -112,7 +112,7 @@ module _ (T : Setting) (formed : IsWellFormed T.image) (inputs : All IsWord T.in
             (back_to (g.y.regs ra) (x.pc + 4) g.ra (omega (arith, place_behind.low)) (omega (arith, place_behind.aligned)))
             place_behind.aligned word_behind.1
 
-        comes_back : ComesBack T P x (Own address) v s
+        comes_back : ComesBack T P x (Own number) v s
         comes_back = record {
           y = z;
           meant_is = g.meant_is;
@@ -147,25 +147,13 @@ module _ (T : Setting) (formed : IsWellFormed T.image) (inputs : All IsWord T.in
           };
         }
 
-      gives : (number : ℕ) (piece : Piece (Option Value)) → FunctionGives T P entered budget (x.pc + 4) piece →
+      gives : (piece : Piece (Option Value)) → FunctionGives T P entered budget (x.pc + 4) piece →
           CallGives T P x (Own number) piece
-      gives number (Reached v s) g =
-          let b : ComesBack T P x (Own address) v s = comes_back v s g in
-          record {
-            y = b.y;
-            meant_is = b.meant_is;
-            pc = b.pc;
-            sp = b.sp;
-            value = b.value;
-            registers = λ e. cc e;
-            leads = b.leads;
-            settled = b.settled;
-          }
-      gives number (Stopped end s) g = shows_in T P P x entered 1 goes_in budget paid s g
+      gives (Reached v s) g = comes_back v s g
+      gives (Stopped end s) g = shows_in T P P x entered 1 goes_in budget paid s g
 
-      pub own_comes : (number : ℕ) (piece : Piece (Option Value)) →
+      pub own_comes : (piece : Piece (Option Value)) →
           FunctionGives T P entered budget (x.pc + 4) piece ⊎ Overflows T P entered budget piece →
           CallGives T P x (Own number) piece ⊎ Overflows T P x 1 piece
-      own_comes number piece g =
-          ⊎_elim (λ h. inl (gives number piece h)) (λ o. inr (overflows_in T P P x entered 1 goes_in budget paid piece o))
-          g
+      own_comes piece g =
+          ⊎_elim (λ h. inl (gives piece h)) (λ o. inr (overflows_in T P P x entered 1 goes_in budget paid piece o)) g
