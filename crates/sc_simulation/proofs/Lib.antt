@@ -1,3 +1,5 @@
 pub mod Environment
 pub mod OwnCalls
+pub mod Placing
+pub mod Sections
 pub mod Turning
