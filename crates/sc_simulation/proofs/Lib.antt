@@ -1,3 +1,4 @@
+pub mod Answers
 pub mod Environment
 pub mod OwnCalls
 pub mod Placing

@@ -1,13 +1,19 @@
 -- A call takes a turn, and that pays for what is called.
-use Rattle.std.proofs.Common.{◌≡◌, ℕ, suc, ◌+◌, ◌*◌, ◌<◌, ◌≤◌, List, [], ◌∷◌, ◌++◌, length, Option, refl, ap, subst, arith}
+use Rattle.std.proofs.Common.{◌≡◌, ℕ, zero, suc, ◌+◌, ◌*◌, ◌<◌, ◌≤◌, Bool, true, false, List, [], ◌∷◌, ◌++◌, length}
+use Rattle.std.proofs.Common.{Option, if◌then◌else◌, refl, ap, subst, arith, inl}
+use Rattle.std.specs.Prelude.{◌⊎◌}
 use Rattle.std.proofs.lemmas.List.{length_push}
 use Rattle.sc_event.specs.declared.event.Event.{Event}
+use Rattle.sc_core.specs.declared.expr.CallTarget.{CallTarget}
+use Rattle.sc_core.specs.declared.run.RunEnd.{RunEnd}
 use Rattle.sc_core.specs.declared.value.Value.{Value}
-use Rattle.sc_core.specs.Words.{State as Meant, Piece, FrameChange, Opened, Closed}
+use Rattle.sc_core.specs.Words.{State as Meant, Piece, FrameChange, Opened, Closed, Stopped, and_then, turn_of}
 use Rattle.sc_laws.specs.Rooms.{AllBefore}
 use Rattle.sc_image.specs.Walks.{Walks}
 use Rattle.sc_hart.proofs.Steps.{then_go}
+use Rattle.sc_relation.specs.Calls.{CallGives}
 use Rattle.sc_relation.specs.Stretches.{Setting, Joint, Standpoint, machine, Costs, Shows, Overflows}
+use Rattle.sc_relation.proofs.Stretches.{shows_here}
 
 -- what was told by then was told by later
 pub before_more : (n m : ℕ) → n ≤ m → (changes : List FrameChange) → AllBefore n changes → AllBefore m changes
@@ -79,3 +85,19 @@ module _ (T : Setting) (P Q : Standpoint) (x y : Joint) where
     pub costs_back : (steps : ℕ) (s : Meant) → Costs T steps budget 1 y.meant s →
         Costs T (n + (steps + 1)) 1 0 x.meant s
     costs_back steps s costs = costs_in steps 1 s (omega arith) costs
+
+-- A call is made where it may be made, and where a turn is left.
+module _ (T : Setting) (P : Standpoint) (x : Joint) (target : CallTarget) where
+  abbrev pub CallComes : Piece (Option Value) → Type 0
+  CallComes piece = CallGives T P x target piece ⊎ Overflows T P x 1 piece
+
+  pub where_made : (may : Bool) (end : RunEnd) (piece : Piece (Option Value)) → (may ≡ true → CallComes piece) →
+      CallComes (if may then piece else Stopped end x.meant)
+  where_made true end piece h = h refl
+  where_made false end piece h = inl (shows_here T P x 1)
+
+  pub where_turns : (turns : ℕ) (go : Meant → Piece (Option Value)) →
+      ((left : ℕ) → turns ≡ suc left → CallComes (go (turned left x.meant))) →
+      CallComes (and_then (turn_of turns x.meant) (λ u s. go s))
+  where_turns zero go h = inl (shows_here T P x 1)
+  where_turns (suc left) go h = h left refl
