@@ -1,4 +1,6 @@
 pub mod Answers
+pub mod Bodies
+pub mod CrossCalls
 pub mod Environment
 pub mod OwnCalls
 pub mod Placing
