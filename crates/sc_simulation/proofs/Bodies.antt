@@ -2,7 +2,7 @@
 -- in which one more may be open.
 use Rattle.std.proofs.Common.{◌≡◌, ℕ, zero, suc, ◌<◌, ◌≤◌, ◌+◌, Bool, true, false, not, ◌&&◌, ◌||◌, ◌==◌, List, [], ◌∷◌, All}
 use Rattle.std.proofs.Common.{length, Option, None, Some, if◌then◌else◌, refl, sym, ◌∙◌, ap, subst, arith, inl, pos}
-use Rattle.std.specs.Prelude.{◌⊎◌, slice_get, is_some, nat_lt, IsSome, IsTrue}
+use Rattle.std.specs.Prelude.{◌⊎◌, slice_get, is_some, nat_lt}
 use Rattle.std.specs.List.{list_all}
 use Rattle.std.proofs.lemmas.Bool.{and_parts, eqb-true, ltb-true}
 use Rattle.std.proofs.lemmas.List.{length-append}
@@ -112,9 +112,7 @@ module _ (program : TacTree) (image : ImageParts) (inputs : List ℕ) (roles : R
         length-append (moved_by sp sp (sub_word 0 code.frame.bytes)) (Store Sw sp ra (pos 0) ∷ []),
       )) code.stands
 
-  module _ (n : ℕ) (runs : BodiesFollow program roles T n) (perform : PerformersFollow program roles T n)
-      (behind : (P : Standpoint) (x : Joint) (number : ℕ) → CallStands T P x (Own number) →
-      IsSome (word_at image P.comp (x.pc + 4))) where
+  module _ (n : ℕ) (runs : BodiesFollow program roles T n) (perform : PerformersFollow program roles T n) where
     module _ (P : Standpoint) (x : Joint) (args : List Value) (honest : T.performs P.comp ≡ false)
         (settled : Settled T P x) (base : IsBase T P) (at_base : x.regs sp ≡ P.bound)
         (passed : ArePassed (x.inj P.comp) x.regs args) where
@@ -137,7 +135,7 @@ module _ (program : TacTree) (image : ImageParts) (inputs : List ℕ) (roles : R
           (begins T linked.formed words P x address left few stands.0 stands.1 stands.2 word.0 word.1
           (code_function wrapping own.f) args honest settled base at_base passed) in
           own_comes T linked.formed words P x address left few stands.0 stands.1 stands.2 word.0 word.1 number
-          (behind P x number stands) at_base run.0 run.1.0 (ran program roles n P.comp number own.f args y.meant)
+          stands.3 at_base run.0 run.1.0 (ran program roles n P.comp number own.f args y.meant)
           run.1.1)))
 
       input_follows : T.makes P.comp Input (length args) ≡ true → CallStands T P x Input →
@@ -201,9 +199,7 @@ module _ (program : TacTree) (image : ImageParts) (inputs : List ℕ) (roles : R
           follow P x args honest settled base at_base passed target makes stands;
     }
 
-  module _ (perform : (n : ℕ) → PerformersFollow program roles T n)
-      (behind : (P : Standpoint) (x : Joint) (number : ℕ) → CallStands T P x (Own number) →
-      IsSome (word_at image P.comp (x.pc + 4))) where
+  module _ (perform : (n : ℕ) → PerformersFollow program roles T n) where
     -- what a function does where one more call may be open
     does_is : (n number : ℕ) (here : Here) (f : TacFnTree) (s : Meant) → roles.scripted here.comp ≡ false →
         slice_get (functions_in program here.comp) number ≡ Some f →
@@ -252,6 +248,6 @@ module _ (program : TacTree) (image : ImageParts) (inputs : List ℕ) (roles : R
                 (code.emitted.follows T P.comp ((addresses P.comp).function number)
                 (is_placed program image inputs roles.scripted turn_pays addresses rules linked words P.comp number f
                 honest its passes code) (calls_of program roles n)
-                (calls_follow n (bodies_follow n) (perform n) behind) P x args ra_is refl long starts),
+                (calls_follow n (bodies_follow n) (perform n)) P x args ra_is refl long starts),
           ),
         )

@@ -1,6 +1,7 @@
 pub mod Answers
 pub mod Bodies
 pub mod CrossCalls
+pub mod Crossing
 pub mod Environment
 pub mod OwnCalls
 pub mod Placing
