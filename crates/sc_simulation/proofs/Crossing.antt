@@ -15,7 +15,7 @@ use Rattle.sc_image.specs.Layout.{gate}
 use Rattle.sc_image.specs.State.{written}
 use Rattle.sc_select.specs.Pieces.{ra, sp, a0}
 use Rattle.sc_hart.specs.Hart.{Registers, listed, put, words_from}
-use Rattle.sc_hart.proofs.Registers.{put_there, write_listed}
+use Rattle.sc_hart.proofs.Registers.{put_here, put_there, write_listed}
 use Rattle.sc_relation.specs.Blocks.{StandsFor}
 use Rattle.sc_relation.specs.Calls.{ArePassed}
 use Rattle.sc_relation.specs.Stretches.{Setting, GivenBack}
@@ -44,6 +44,17 @@ called_regs params low regs = put (put (kept_ones (is_argument params) regs) ra 
 
 abbrev pub returned_regs : (result : Bool) → (high : ℕ) → Registers → Registers
 returned_regs result high regs = put (kept_ones (is_result result) regs) sp high
+
+pub called_sp : (params low : ℕ) (regs : Registers) → called_regs params low regs sp ≡ low
+called_sp params low regs = put_here (put (kept_ones (is_argument params) regs) ra gate) sp low
+
+pub called_ra : (params low : ℕ) (regs : Registers) → called_regs params low regs ra ≡ gate
+called_ra params low regs =
+    put_there (put (kept_ones (is_argument params) regs) ra gate) sp low ra (λ e. omega (arith, e)) ∙
+    put_here (kept_ones (is_argument params) regs) ra gate
+
+pub returned_sp : (result : Bool) (high : ℕ) (regs : Registers) → returned_regs result high regs sp ≡ high
+returned_sp result high regs = put_here (kept_ones (is_result result) regs) sp high
 
 pub called_listed : (params low : ℕ) (regs : Registers) →
     written (written (cleared_for_call params (listed regs)) ra gate) sp low ≡ listed (called_regs params low regs)

@@ -1,3 +1,4 @@
+pub mod Across
 pub mod Answers
 pub mod Bodies
 pub mod CrossCalls

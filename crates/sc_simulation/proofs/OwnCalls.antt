@@ -29,7 +29,7 @@ is_some_of : (o : Option ℕ) → IsSome o → (v : ℕ) × (o ≡ Some v)
 is_some_of None h = cc h
 is_some_of (Some v) h = (v, refl)
 
-back_to : (base a : ℕ) → base ≡ a → a < 2 ^ 32 → a % 2 ≡ 0 → jalr_target base (pos 0) ≡ a
+pub back_to : (base a : ℕ) → base ≡ a → a < 2 ^ 32 → a % 2 ≡ 0 → jalr_target base (pos 0) ≡ a
 back_to base a is below even =
     ap (λ b. add_word b (word_of (pos 0)) / 2 * 2) is ∙ omega (arith, below, even)
 
