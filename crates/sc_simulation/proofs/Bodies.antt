@@ -1,15 +1,10 @@
 -- The induction on open calls: calls are followed where bodies with as many open calls are, and so bodies are followed
 -- in which one more may be open.
 use Rattle.std.proofs.Common.{◌≡◌, ℕ, zero, suc, ◌<◌, ◌≤◌, ◌+◌, Bool, true, false, not, ◌&&◌, ◌||◌, ◌==◌, List, [], ◌∷◌, All}
-use Rattle.std.proofs.Common.{length, Option, None, Some, if◌then◌else◌, refl, sym, ◌∙◌, ap, subst, arith, inl, pos}
+use Rattle.std.proofs.Common.{length, Option, None, Some, if◌then◌else◌, refl, sym, ◌∙◌, ap, subst, arith, inl}
 use Rattle.std.specs.Prelude.{◌⊎◌, slice_get, is_some, nat_lt}
 use Rattle.std.specs.List.{list_all}
 use Rattle.std.proofs.lemmas.Bool.{and_parts, eqb-true, ltb-true}
-use Rattle.std.proofs.lemmas.List.{length-append}
-use Rattle.rv_code.specs.declared.instr.Instr.{Instr}
-use Rattle.rv_code.specs.declared.instr.Instr.TheVariants.{Store}
-use Rattle.rv_code.specs.declared.instr.StoreOp.TheVariants.{Sw}
-use Rattle.sc_word.specs.Prelude.{sub_word}
 use Rattle.sc_event.specs.Prelude.{imports, is_input, is_output}
 use Rattle.sc_core.specs.declared.cause.Cause.TheVariants.{BadType}
 use Rattle.sc_core.specs.declared.expr.CallTarget.{CallTarget}
@@ -22,17 +17,14 @@ use Rattle.sc_core.specs.Scripts.{Roles, performs, rows_left}
 use Rattle.sc_core.specs.Value.{wrapping}
 use Rattle.sc_core.specs.Words.{Here, State as Meant, Piece, Reached, Stopped, and_then, turn}
 use Rattle.sc_image.specs.declared.parts.ImageParts.{ImageParts}
-use Rattle.sc_image.specs.Layout.{word_at}
 use Rattle.sc_image.specs.WellFormed.{IsWord}
 use Rattle.sc_tac.specs.declared.function.TacFnTree.{TacFnTree}
-use Rattle.sc_tac.specs.declared.machine_code.Relocation.{Relocation}
 use Rattle.sc_tac.specs.declared.program.TacTree.{TacTree}
 use Rattle.sc_tac.specs.Code.{code_function, code_library}
 use Rattle.sc_tac.specs.Functions.{IsFunction, passes_words}
 use Rattle.sc_tac.specs.Programs.{IsProgram, own_call_fits}
-use Rattle.sc_select.specs.Linking.{Addresses, linked_from}
-use Rattle.sc_select.specs.Pieces.{ra, sp, frame_taken, moved_by}
-use Rattle.sc_hart.specs.Code.{CodeAt}
+use Rattle.sc_select.specs.Linking.{Addresses}
+use Rattle.sc_select.specs.Pieces.{sp}
 use Rattle.sc_hart.proofs.Steps.{stay}
 use Rattle.sc_relation.specs.Blocks.{StandsFor}
 use Rattle.sc_relation.specs.Stretches.{Setting, Joint, Standpoint, machine, Settled, Shows, Overflows}
@@ -45,7 +37,7 @@ use Rattle.sc_simulation.proofs.Answers.{answers, calls_only_go, own_is}
 use Rattle.sc_simulation.proofs.CrossCalls.{cross_follows}
 use Rattle.sc_simulation.proofs.Environment.{input_comes, output_comes}
 use Rattle.sc_simulation.proofs.OwnCalls.{begins, entered, own_comes}
-use Rattle.sc_simulation.proofs.Placing.{is_placed}
+use Rattle.sc_simulation.proofs.Placing.{is_placed, word_there}
 use Rattle.sc_simulation.proofs.Sections.{function_found}
 use Rattle.sc_simulation.proofs.Turning.{CallComes, turned, where_made, where_turns}
 
@@ -56,14 +48,6 @@ not_true false h = refl
 first_false : (a b : Bool) → (a || b) ≡ false → a ≡ false
 first_false true b h = cc h
 first_false false b h = refl
-
--- the first word of linked code
-first_word : (image : ImageParts) (A : Addresses) (comp address pc at : ℕ) (low : Option ℕ) (instrs : List Instr)
-    (relocations : List Relocation) → 1 ≤ length instrs →
-    CodeAt image comp address (linked_from A pc at low instrs relocations) →
-    (w : ℕ) × (word_at image comp address ≡ Some w)
-first_word image A comp address pc at low [] relocations some code = absurd (omega (arith, some))
-first_word image A comp address pc at low (instr ∷ instrs) relocations some code = (code.0.word, code.0.fetched)
 
 -- an own function that may be called with so many arguments
 record IsOwn (program : TacTree) (comp number count : ℕ) : Type 0 where
@@ -99,19 +83,6 @@ module _ (program : TacTree) (image : ImageParts) (inputs : List ℕ) (roles : R
   not_scripted : (k : ℕ) → T.performs k ≡ false → roles.scripted k ≡ false
   not_scripted k h = first_false (roles.scripted k) (not (nat_lt k (length image.comps))) h
 
-  word_there : (comp number : ℕ) (f : TacFnTree) → HasCode image (addresses comp) turn_pays comp number f →
-      (w : ℕ) × (word_at image comp ((addresses comp).function number) ≡ Some w)
-  word_there comp number f code =
-      let A : Addresses = addresses comp in
-      let front = code.emitted.enters in
-      first_word image A comp (A.function number) (A.function number) 0 None code.code.instrs code.code.relocations
-      (omega (
-        arith,
-        ap length front.is,
-        length-append (frame_taken code.frame.bytes) front.more,
-        length-append (moved_by sp sp (sub_word 0 code.frame.bytes)) (Store Sw sp ra (pos 0) ∷ []),
-      )) code.stands
-
   module _ (n : ℕ) (runs : BodiesFollow program roles T n) (perform : PerformersFollow program roles T n) where
     module _ (P : Standpoint) (x : Joint) (args : List Value) (honest : T.performs P.comp ≡ false)
         (settled : Settled T P x) (base : IsBase T P) (at_base : x.regs sp ≡ P.bound)
@@ -124,7 +95,7 @@ module _ (program : TacTree) (image : ImageParts) (inputs : List ℕ) (roles : R
           let code : HasCode image (addresses P.comp) turn_pays P.comp number own.f =
           linked.functions P.comp number own.f own.its in
           let address : ℕ = (addresses P.comp).function number in
-          let word = word_there P.comp number own.f code in
+          let word = word_there image (addresses P.comp) turn_pays P.comp number own.f code in
           let ra_is : ℕ = x.pc + 4 in
           subst (CallComes T P x (Own number)) (sym (own_is program roles n P.comp number own.f args x.meant own.its))
           (where_turns T P x (Own number) x.meant.turns (λ s. ran program roles n P.comp number own.f args s)

@@ -1,18 +1,23 @@
 -- The code of a function of a program is placed where a linked image has it.
-use Rattle.std.proofs.Common.{◌≡◌, ℕ, suc, ◌<◌, Bool, true, false, not, ◌&&◌, ◌||◌, ◌==◌, List, [], ◌∷◌, map, length, All}
+use Rattle.std.proofs.Common.{◌≡◌, ℕ, suc, ◌<◌, ◌≤◌, pos, Bool, true, false, not, ◌&&◌, ◌||◌, ◌==◌, List, [], ◌∷◌, map, length, All}
 use Rattle.std.proofs.Common.{Option, None, Some, refl, sym, ◌∙◌, ap, subst, arith}
 use Rattle.std.specs.Prelude.{slice_get, is_some, nat_lt}
 use Rattle.std.specs.List.{list_all}
 use Rattle.std.specs.Option.{option_map}
 use Rattle.std.proofs.lemmas.Bool.{and_parts, ltb-true}
-use Rattle.std.proofs.lemmas.List.{length-map}
+use Rattle.std.proofs.lemmas.List.{length-append, length-map}
 use Rattle.std.proofs.lemmas.Option.{slice_get-map, slice_get_within}
+use Rattle.rv_code.specs.declared.instr.Instr.{Instr}
+use Rattle.rv_code.specs.declared.instr.Instr.TheVariants.{Store}
+use Rattle.rv_code.specs.declared.instr.StoreOp.TheVariants.{Sw}
+use Rattle.sc_word.specs.Prelude.{sub_word}
 use Rattle.sc_event.specs.Prelude.{export_at, imports, is_function}
 use Rattle.sc_event.specs.declared.interface.Proto.{Proto}
 use Rattle.sc_core.specs.declared.expr.CallTarget.{CallTarget}
 use Rattle.sc_core.specs.declared.expr.CallTarget.TheVariants.{Own, Cross, Input, Output}
 use Rattle.sc_core.proofs.Induction.{Each, everywhere as of_each}
 use Rattle.sc_image.specs.declared.parts.ImageParts.{ImageParts}
+use Rattle.sc_image.specs.Layout.{word_at}
 use Rattle.sc_image.specs.WellFormed.{IsWord}
 use Rattle.sc_tac.specs.declared.function.TacFnTree.{TacFnTree}
 use Rattle.sc_tac.specs.declared.program.TacSection.{TacSection}
@@ -25,7 +30,10 @@ use Rattle.sc_tac.specs.Parts.{all_true, everywhere, with_parts}
 use Rattle.sc_tac.specs.Programs.{IsProgram, calls_exports, calls_imports, calls_own, cross_call_fits, names_own_global}
 use Rattle.sc_tac.specs.Programs.{own_call_fits, takes_result}
 use Rattle.sc_tac.proofs.Induction.{Inside, stmt_induction}
-use Rattle.sc_select.specs.Linking.{Addresses}
+use Rattle.sc_tac.specs.declared.machine_code.Relocation.{Relocation}
+use Rattle.sc_select.specs.Linking.{Addresses, linked_from}
+use Rattle.sc_select.specs.Pieces.{ra, sp, frame_taken, moved_by}
+use Rattle.sc_hart.specs.Code.{CodeAt}
 use Rattle.sc_relation.specs.Blocks.{IsAddress}
 use Rattle.sc_relation.specs.Stretches.{Setting}
 use Rattle.sc_relation.proofs.Frames.{is_there}
@@ -37,6 +45,27 @@ use Rattle.sc_emit.proofs.Passing.{passes, passes_here, rest_pass}
 use Rattle.sc_simulation.specs.Linked.{HasCode, IsLinked, functions_in, functions_or_none, gives, gives_result, makes}
 use Rattle.sc_simulation.specs.Linked.{promises_result, setting}
 use Rattle.sc_simulation.proofs.Sections.{InSection, in_functions, its_section}
+
+-- the first word of linked code
+first_word : (image : ImageParts) (A : Addresses) (comp address pc at : ℕ) (low : Option ℕ) (instrs : List Instr)
+    (relocations : List Relocation) → 1 ≤ length instrs →
+    CodeAt image comp address (linked_from A pc at low instrs relocations) →
+    (w : ℕ) × (word_at image comp address ≡ Some w)
+first_word image A comp address pc at low [] relocations some code = absurd (omega (arith, some))
+first_word image A comp address pc at low (instr ∷ instrs) relocations some code = (code.0.word, code.0.fetched)
+
+-- a word of code stands where a function begins
+pub word_there : (image : ImageParts) (A : Addresses) (turn_pays comp number : ℕ) (f : TacFnTree) →
+    HasCode image A turn_pays comp number f → (w : ℕ) × (word_at image comp (A.function number) ≡ Some w)
+word_there image A turn_pays comp number f code =
+    let front = code.emitted.enters in
+    first_word image A comp (A.function number) (A.function number) 0 None code.code.instrs code.code.relocations
+    (omega (
+      arith,
+      ap length front.is,
+      length-append (frame_taken code.frame.bytes) front.more,
+      length-append (moved_by sp sp (sub_word 0 code.frame.bytes)) (Store Sw sp ra (pos 0) ∷ []),
+    )) code.stands
 
 pub both : (a b : Bool) → a ≡ true → b ≡ true → (a && b) ≡ true
 both true b is h = h
