@@ -1,5 +1,5 @@
 -- A call of a function of another compartment, into it and back.
-use Rattle.std.proofs.Common.{◌≡◌, ◌≢◌, ℕ, suc, ◌+◌, ◌*◌, ◌/◌, ◌%◌, ◌^◌, ◌<◌, ◌≤◌, Bool, true, false, pos, ℤ, List, []}
+use Rattle.std.proofs.Common.{◌≡◌, ◌≢◌, ℕ, suc, ◌+◌, ◌<◌, ◌≤◌, Bool, true, false, pos, ℤ, List, []}
 use Rattle.std.proofs.Common.{◌∷◌, ◌++◌, All, length, map, Option, None, Some, refl, sym, ◌∙◌, ap, subst, arith, ⊎_elim}
 use Rattle.std.proofs.Common.{inl, inr, if◌then◌else◌}
 use Rattle.std.specs.Prelude.{◌⊎◌, slice_index, slice_set, is_some}
@@ -7,11 +7,9 @@ use Rattle.std.specs.List.{list_all}
 use Rattle.std.proofs.lemmas.Bool.{cases_eq}
 use Rattle.std.proofs.lemmas.List.{get_or-set_same, get_or-set_other}
 use Rattle.rv_code.specs.declared.instr.Instr.TheVariants.{Jalr}
-use Rattle.sc_event.specs.declared.event.Event.{Event}
 use Rattle.sc_event.specs.declared.event.Event.TheVariants.{Call, Ret}
 use Rattle.sc_event.specs.declared.interface.Interfaces.{Interfaces}
 use Rattle.sc_event.specs.declared.interface.Proto.{Proto}
-use Rattle.sc_event.specs.declared.interface.Scalar.{Scalar}
 use Rattle.sc_event.specs.declared.row.Entry.TheVariants.{Export}
 use Rattle.sc_event.specs.Prelude.{export_at as export_of}
 use Rattle.sc_core.specs.declared.expr.CallTarget.TheVariants.{Cross}
@@ -19,7 +17,7 @@ use Rattle.sc_core.specs.declared.value.Value.{Value}
 use Rattle.sc_core.specs.Calls.{Function, back_cross, crossed, crossing, is_word, option_value, word_back, word_in}
 use Rattle.sc_core.specs.Words.{State as Meant, Piece, Reached, Stopped, and_then, tell}
 use Rattle.sc_image.specs.Calls.{export_at, has_result, may_call, params_of}
-use Rattle.sc_image.specs.Cross.{arguments, called, cleared_for_call, cleared_for_return, given_back, returned_to}
+use Rattle.sc_image.specs.Cross.{arguments, cleared_for_call, returned_to}
 use Rattle.sc_image.specs.Layout.{gate, word_at}
 use Rattle.sc_image.specs.State.{State, Crossing, reg, written}
 use Rattle.sc_image.specs.Step.{jalr_target}
@@ -29,13 +27,12 @@ use Rattle.sc_image.proofs.Reached.{called_other}
 use Rattle.sc_image.proofs.Telling.{steps_tell}
 use Rattle.sc_select.specs.Pieces.{ra, sp, a0}
 use Rattle.sc_hart.specs.Code.{Fetches}
-use Rattle.sc_hart.specs.Hart.{Registers, listed, look, put}
+use Rattle.sc_hart.specs.Hart.{listed, look}
 use Rattle.sc_hart.proofs.Inside.{code_inside}
 use Rattle.sc_hart.proofs.Registers.{read_listed}
 use Rattle.sc_hart.proofs.Steady.{walks_steady}
 use Rattle.sc_hart.proofs.Steps.{jal, then_go}
-use Rattle.sc_relation.specs.Stretches.{Setting, Joint, Standpoint, machine, Settled, Protected, Effect, Leads, Overflows}
-use Rattle.sc_relation.specs.Stretches.{GivenBack}
+use Rattle.sc_relation.specs.Stretches.{Setting, Joint, Standpoint, machine, Settled, Protected, Leads, Overflows}
 use Rattle.sc_relation.specs.Calls.{ArePassed, Begins, CallGives, ComesBack, FunctionGives, IsBase, IsLeft}
 use Rattle.sc_relation.proofs.Stretches.{overflows_then}
 use Rattle.sc_laws.proofs.Growing.{back_goes}

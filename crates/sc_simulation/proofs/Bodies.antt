@@ -1,11 +1,10 @@
 -- The induction on open calls: calls are followed where bodies with as many open calls are, and so bodies are followed
 -- in which one more may be open.
-use Rattle.std.proofs.Common.{◌≡◌, ℕ, zero, suc, ◌<◌, ◌≤◌, ◌+◌, Bool, true, false, not, ◌&&◌, ◌||◌, ◌==◌, List, [], ◌∷◌, All}
+use Rattle.std.proofs.Common.{◌≡◌, ℕ, zero, suc, ◌+◌, Bool, true, false, not, ◌||◌, ◌==◌, List, [], ◌∷◌, All}
 use Rattle.std.proofs.Common.{length, Option, None, Some, if◌then◌else◌, refl, sym, ◌∙◌, ap, subst, arith, inl}
-use Rattle.std.specs.Prelude.{◌⊎◌, slice_get, is_some, nat_lt}
-use Rattle.std.specs.List.{list_all}
-use Rattle.std.proofs.lemmas.Bool.{and_parts, eqb-true, ltb-true}
-use Rattle.sc_event.specs.Prelude.{imports, is_input, is_output}
+use Rattle.std.specs.Prelude.{◌⊎◌, slice_get, nat_lt}
+use Rattle.std.proofs.lemmas.Bool.{and_parts, eqb-true}
+use Rattle.sc_event.specs.Prelude.{imports, is_output}
 use Rattle.sc_core.specs.declared.cause.Cause.TheVariants.{BadType}
 use Rattle.sc_core.specs.declared.expr.CallTarget.{CallTarget}
 use Rattle.sc_core.specs.declared.expr.CallTarget.TheVariants.{Own, Cross, Input, Output}
@@ -15,7 +14,7 @@ use Rattle.sc_core.specs.declared.value.Value.TheVariants.{Word, Null, Ptr}
 use Rattle.sc_core.specs.Calls.{Function, Library, begun, called, done, found, may_call, run_step}
 use Rattle.sc_core.specs.Scripts.{Roles, performs, rows_left}
 use Rattle.sc_core.specs.Value.{wrapping}
-use Rattle.sc_core.specs.Words.{Here, State as Meant, Piece, Reached, Stopped, and_then, turn}
+use Rattle.sc_core.specs.Words.{Here, State as Meant, Piece, Reached, and_then}
 use Rattle.sc_image.specs.declared.parts.ImageParts.{ImageParts}
 use Rattle.sc_image.specs.WellFormed.{IsWord}
 use Rattle.sc_tac.specs.declared.function.TacFnTree.{TacFnTree}
@@ -26,20 +25,18 @@ use Rattle.sc_tac.specs.Programs.{IsProgram, own_call_fits}
 use Rattle.sc_select.specs.Linking.{Addresses}
 use Rattle.sc_select.specs.Pieces.{sp}
 use Rattle.sc_hart.proofs.Steps.{stay}
-use Rattle.sc_relation.specs.Blocks.{StandsFor}
-use Rattle.sc_relation.specs.Stretches.{Setting, Joint, Standpoint, machine, Settled, Shows, Overflows}
-use Rattle.sc_relation.specs.Calls.{ArePassed, Begins, CallGives, CallStands, CallsFollow, FunctionGives, IsBase}
-use Rattle.sc_relation.proofs.Stretches.{shows_here}
+use Rattle.sc_relation.specs.Stretches.{Setting, Joint, Standpoint, machine, Settled, Overflows}
+use Rattle.sc_relation.specs.Calls.{ArePassed, CallStands, CallsFollow, FunctionGives, IsBase}
 use Rattle.sc_simulation.specs.Bodies.{BodiesFollow, IsRun, PerformersFollow, calls_of, ran}
 use Rattle.sc_simulation.specs.Linked.{HasCode, IsLinked, functions_in, gives, setting}
 use Rattle.sc_simulation.specs.Results.{GivesResults, bodies}
-use Rattle.sc_simulation.proofs.Answers.{answers, calls_only_go, own_is}
+use Rattle.sc_simulation.proofs.Answering.{answers, calls_only_go, own_is}
 use Rattle.sc_simulation.proofs.CrossCalls.{cross_follows}
 use Rattle.sc_simulation.proofs.Environment.{input_comes, output_comes}
 use Rattle.sc_simulation.proofs.OwnCalls.{begins, entered, own_comes}
 use Rattle.sc_simulation.proofs.Placing.{is_placed, word_there}
 use Rattle.sc_simulation.proofs.Sections.{function_found}
-use Rattle.sc_simulation.proofs.Turning.{CallComes, turned, where_made, where_turns}
+use Rattle.sc_simulation.proofs.Turning.{CallComes, where_made, where_turns}
 
 not_true : (b : Bool) → not b ≡ true → b ≡ false
 not_true true h = cc h
@@ -185,8 +182,7 @@ module _ (program : TacTree) (image : ImageParts) (inputs : List ℕ) (roles : R
     pub bodies_follow : (n : ℕ) → BodiesFollow program roles T n
     bodies_follow zero P x number f args ra_is its passes long starts =
         let code : HasCode image (addresses P.comp) turn_pays P.comp number f =
-        linked.functions P.comp number f its in
-        (
+        linked.functions P.comp number f its in (
           length code.code.instrs,
           (
             code.paid,
@@ -208,8 +204,7 @@ module _ (program : TacTree) (image : ImageParts) (inputs : List ℕ) (roles : R
         let here : Here = record { comp = P.comp; first = first } in
         let start : Meant = begun P.comp F args x.meant in
         let end : Option Value → Meant → Piece (Option Value) = λ v t. Reached v (done P.comp F first t) in
-        let honest : roles.scripted P.comp ≡ false = not_scripted P.comp starts.honest in
-        (
+        let honest : roles.scripted P.comp ≡ false = not_scripted P.comp starts.honest in (
           budget,
           (
             code.paid,

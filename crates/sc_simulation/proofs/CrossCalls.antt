@@ -1,7 +1,7 @@
 -- Calls of functions of other compartments of a program.
-use Rattle.std.proofs.Common.{◌≡◌, ℕ, suc, ◌<◌, ◌≤◌, Bool, true, false, not, ◌&&◌, ◌||◌, ◌==◌, List, All, length, map, Option}
+use Rattle.std.proofs.Common.{◌≡◌, ℕ, suc, ◌≤◌, Bool, true, false, not, ◌||◌, ◌==◌, List, All, length, map, Option}
 use Rattle.std.proofs.Common.{None, Some, refl, sym, ◌∙◌, ap, subst, arith}
-use Rattle.std.specs.Prelude.{◌⊎◌, slice_get, is_some, nat_lt}
+use Rattle.std.specs.Prelude.{slice_get, is_some, nat_lt}
 use Rattle.std.specs.List.{list_all}
 use Rattle.std.specs.Option.{option_map}
 use Rattle.std.proofs.lemmas.Bool.{and_parts, eqb-true, lt-ltb}
@@ -15,7 +15,7 @@ use Rattle.sc_core.specs.declared.expr.CallTarget.TheVariants.{Cross}
 use Rattle.sc_core.specs.declared.run.RunEnd.TheVariants.{Blamed}
 use Rattle.sc_core.specs.declared.value.Value.{Value}
 use Rattle.sc_core.specs.Calls.{Function, Library, back_cross, begun, call_cross, called, crossed, crossing, done, found}
-use Rattle.sc_core.specs.Calls.{function, is_word, leads, may_call, option_value, run_in, word_in}
+use Rattle.sc_core.specs.Calls.{is_word, leads, may_call, option_value, run_in, word_in}
 use Rattle.sc_core.specs.Scripts.{Roles}
 use Rattle.sc_core.specs.Value.{wrapping}
 use Rattle.sc_core.specs.Words.{Here, State as Meant, Piece, Reached, Stopped, and_then, tell}

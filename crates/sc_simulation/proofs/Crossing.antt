@@ -1,5 +1,5 @@
 -- What passes between compartments at a call and at its return.
-use Rattle.std.proofs.Common.{◌≡◌, ◌≢◌, ℕ, zero, suc, ◌+◌, ◌^◌, ◌<◌, ◌≤◌, Bool, true, false, ◌&&◌, List, [], ◌∷◌, length}
+use Rattle.std.proofs.Common.{◌≡◌, ℕ, zero, suc, ◌+◌, ◌^◌, ◌<◌, ◌≤◌, Bool, true, false, List, [], ◌∷◌, length}
 use Rattle.std.proofs.Common.{map, take, Option, None, Some, if◌then◌else◌, refl, sym, ◌∙◌, ap, ap₂, subst, arith}
 use Rattle.std.specs.Prelude.{slice_get, is_some}
 use Rattle.std.specs.List.{list_all}
@@ -133,13 +133,12 @@ crossed_passed place other args low regs all passed i v e =
     let keeps : ℕ → Bool = is_argument params in
     crossed_at place other regs (called_regs params low regs) v (slice_get args i) i
     (λ u at.
-    (let below : i < params = slice_get_within args i u at in
-    (
+    (let below : i < params = slice_get_within args i u at in (
       passed i u at,
       all_words args i u all at,
       put_there (put (kept_ones keeps regs) ra gate) sp low (a0 + i) (λ e. omega (arith, e)) ∙
-      put_there (kept_ones keeps regs) ra gate (a0 + i) (λ e. omega (arith, e)) ∙
-      rw (le-leb a0 (a0 + i) (omega arith), lt-ltb (a0 + i) (a0 + params) (omega (arith, below))) refl,
+          put_there (kept_ones keeps regs) ra gate (a0 + i) (λ e. omega (arith, e)) ∙
+          rw (le-leb a0 (a0 + i) (omega arith), lt-ltb (a0 + i) (a0 + params) (omega (arith, below))) refl,
     )))
     (sym (slice_get-map (λ v. Word (word_in v)) args i) ∙ e)
 

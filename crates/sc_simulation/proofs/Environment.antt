@@ -1,15 +1,12 @@
 -- Calls of the environment.
-use Rattle.std.proofs.Common.{◌≡◌, ◌≢◌, ℕ, zero, suc, ◌+◌, ◌^◌, ◌<◌, true, List, [], ◌∷◌, ◌++◌, All, length, drop, Option}
+use Rattle.std.proofs.Common.{◌≡◌, ℕ, zero, suc, ◌+◌, true, List, [], ◌∷◌, ◌++◌, All, drop}
 use Rattle.std.proofs.Common.{None, Some, refl, sym, ◌∙◌, ap, subst, arith}
-use Rattle.std.specs.Prelude.{slice_get}
-use Rattle.std.specs.Option.{unwrap_or}
 use Rattle.rv_code.specs.declared.instr.Instr.TheVariants.{Ecall}
 use Rattle.sc_event.specs.declared.event.Event.TheVariants.{In, Out}
 use Rattle.sc_core.specs.declared.expr.CallTarget.TheVariants.{Input, Output}
-use Rattle.sc_core.specs.declared.value.Value.{Value}
 use Rattle.sc_core.specs.declared.value.Value.TheVariants.{Word}
 use Rattle.sc_core.specs.Calls.{next_input, read_input}
-use Rattle.sc_core.specs.Words.{State as Meant, tell}
+use Rattle.sc_core.specs.Words.{tell}
 use Rattle.sc_image.specs.Calls.{may_input, may_output}
 use Rattle.sc_image.specs.Cross.{input_at}
 use Rattle.sc_image.specs.State.{State, written}
@@ -18,11 +15,11 @@ use Rattle.sc_image.specs.WellFormed.{IsWord, IsWellFormed}
 use Rattle.sc_image.proofs.Telling.{steps_tell}
 use Rattle.sc_select.specs.Pieces.{sp, a0, a7}
 use Rattle.sc_hart.specs.Code.{Fetches}
-use Rattle.sc_hart.specs.Hart.{Registers, put, listed}
+use Rattle.sc_hart.specs.Hart.{put, listed}
 use Rattle.sc_hart.proofs.Registers.{put_here, put_there, read_listed, write_listed}
 use Rattle.sc_hart.proofs.Steady.{walks_steady}
 use Rattle.sc_relation.specs.Blocks.{StandsFor}
-use Rattle.sc_relation.specs.Stretches.{Setting, Joint, Standpoint, machine, Settled, Leads}
+use Rattle.sc_relation.specs.Stretches.{Setting, Joint, Standpoint, machine, Settled}
 use Rattle.sc_relation.specs.Calls.{ComesBack}
 use Rattle.sc_simulation.proofs.Turning.{before_told}
 

@@ -1,5 +1,5 @@
 pub mod Across
-pub mod Answers
+pub mod Answering
 pub mod Bodies
 pub mod CrossCalls
 pub mod Crossing

@@ -1,8 +1,7 @@
 -- Calls of functions of the own compartment.
-use Rattle.std.proofs.Common.{◌≡◌, ◌≢◌, ℕ, suc, ◌+◌, ◌*◌, ◌/◌, ◌%◌, ◌^◌, ◌<◌, ◌≤◌, pos, ℤ, false, List, All, length}
+use Rattle.std.proofs.Common.{◌≡◌, ℕ, suc, ◌+◌, ◌*◌, ◌/◌, ◌%◌, ◌^◌, ◌<◌, pos, ℤ, false, List, All}
 use Rattle.std.proofs.Common.{Option, None, Some, refl, sym, ◌∙◌, ap, subst, arith, ⊎_elim, inl, inr}
-use Rattle.std.specs.Prelude.{◌⊎◌, slice_get, IsSome}
-use Rattle.std.proofs.lemmas.Option.{slice_get_within}
+use Rattle.std.specs.Prelude.{◌⊎◌, IsSome}
 use Rattle.rv_code.specs.declared.instr.Instr.TheVariants.{Jal}
 use Rattle.sc_word.specs.Prelude.{add_word, word_of}
 use Rattle.sc_core.specs.declared.expr.CallTarget.TheVariants.{Own}
@@ -15,13 +14,13 @@ use Rattle.sc_image.specs.Walks.{Walks}
 use Rattle.sc_image.specs.WellFormed.{IsWord, IsWellFormed}
 use Rattle.sc_select.specs.Pieces.{ra, sp, a0}
 use Rattle.sc_hart.specs.Code.{Fetches}
-use Rattle.sc_hart.specs.Hart.{Registers, put}
+use Rattle.sc_hart.specs.Hart.{put}
 use Rattle.sc_hart.proofs.Inside.{IsInside, code_inside}
 use Rattle.sc_hart.proofs.Registers.{put_there, put_here}
 use Rattle.sc_hart.proofs.Steady.{walks_steady}
 use Rattle.sc_hart.proofs.Steps.{jal, jalr, then_go}
 use Rattle.sc_relation.specs.Blocks.{StandsFor}
-use Rattle.sc_relation.specs.Stretches.{Setting, Joint, Standpoint, machine, Settled, Effect, Leads, Overflows}
+use Rattle.sc_relation.specs.Stretches.{Setting, Joint, Standpoint, machine, Settled, Overflows}
 use Rattle.sc_relation.specs.Calls.{ArePassed, Begins, CallGives, ComesBack, FunctionGives, IsBase, IsLeft}
 use Rattle.sc_simulation.proofs.Turning.{GoesIn, turned, shows_in, overflows_in, costs_back}
 

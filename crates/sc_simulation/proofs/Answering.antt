@@ -1,8 +1,7 @@
 -- What calls of functions of a program do: whatever they do, they only go on, and they answer where a value is promised.
-use Rattle.std.proofs.Common.{◌≡◌, ℕ, zero, suc, Bool, true, false, not, ◌&&◌, ◌||◌, List, length, map, Option, None, Some, refl}
-use Rattle.std.proofs.Common.{if◌then◌else◌, sym, ◌∙◌, ap, subst}
+use Rattle.std.proofs.Common.{◌≡◌, ℕ, Bool, true, false, List, length, map, Option, None, Some, refl}
+use Rattle.std.proofs.Common.{if◌then◌else◌, sym, ap, subst}
 use Rattle.std.specs.Prelude.{slice_get, is_some, IsSome}
-use Rattle.std.proofs.lemmas.Bool.{and_parts}
 use Rattle.sc_event.specs.Prelude.{export_at}
 use Rattle.sc_event.specs.declared.event.Event.TheVariants.{Call}
 use Rattle.sc_event.specs.declared.interface.Proto.{Proto}
@@ -15,7 +14,7 @@ use Rattle.sc_core.specs.declared.run.RunEnd.{RunEnd}
 use Rattle.sc_core.specs.declared.run.RunEnd.TheVariants.{Blamed}
 use Rattle.sc_core.specs.declared.value.Value.{Value}
 use Rattle.sc_core.specs.Calls.{Function, Library, back_cross, back_own, begun, called, crossed, crossing, done}
-use Rattle.sc_core.specs.Calls.{found, function, may_call, option_value, run_in, run_step, within, word_back, word_in}
+use Rattle.sc_core.specs.Calls.{found, function, may_call, option_value, run_in, run_step, word_back, word_in}
 use Rattle.sc_core.specs.Scripts.{Roles, scripted_step}
 use Rattle.sc_core.specs.Value.{wrapping}
 use Rattle.sc_core.specs.Words.{Here, State as Meant, Piece, Reached, Stopped, and_then, tell, turn}
@@ -58,11 +57,6 @@ module _ (program : TacTree) (roles : Roles) (n : ℕ) where
       (begun comp f args s)) (λ v t.
       back_own v (done comp f (length (s.memory comp)) t))))
       else Stopped (Blamed comp BadType 0) s) (function_found program comp number f its)
-
-  -- so does a call of another compartment's, between its event and that of its return
-  abbrev pub crosses_by : (from to index number : ℕ) → TacFnTree → List Value → Meant → Piece (Option Value)
-  crosses_by from to index number f args s =
-      and_then (ran program roles n to number f (crossed args) s) (back_cross program.interfaces from to index)
 
   -- Values.
 
