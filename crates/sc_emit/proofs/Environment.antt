@@ -103,10 +103,10 @@ module _ (T : Setting) (R : Running) (formed : IsWellFormed T.image) (inputs : A
         (lives : Lives) (temps : Temps) (x : Joint) (left : ℕ) → Ready T R (live_plain args dest lives) temps x →
         IsClear R.places (last_point dest lives) → CodeAt T.image A.here.comp x.pc (asking number dest args) →
         ComesStraight T R lives x (asking number dest args) left (call_does A.here calls dest target args temps x.meant)
-    asks target number dest args environment few small stands there made answers lives temps x left ready clear code ends
-        left_is behind_is =
-        call_runs T R formed inputs cells nodes is placed calls follow target dest args there made answers lives temps clear
-        (λ y left v s ready b. asked_back args dest lives temps y target left v s environment ready b) x
+    asks target number dest args environment few small stands there made answers lives temps x left ready clear code
+        ends left_is behind_is =
+        call_runs T R formed inputs cells nodes is placed calls follow target dest args there made answers lives temps
+        clear (λ y left v s ready b. asked_back args dest lives temps y target left v s environment ready b) x
         (pass frame R.places a0 args ++ ask number) Ecall left ends left_is behind_is code ready
         (asks_prepared target number dest args few small stands lives temps x ready code)
 

@@ -11,7 +11,16 @@ use Rattle.sc_laws.proofs.Common.{rows_left, run_by, run_in, run_step, run_to, s
 use Rattle.sc_laws.proofs.Common.{then_kept, true, turn, turn_of, within, word_in, zero, ℕ, ◌&&◌, ◌++◌, ◌+◌, ◌-◌, ◌==◌}
 use Rattle.sc_laws.proofs.Common.{◌∙◌, ◌∷◌, ◌≡◌, ◌≤◌}
 use Rattle.sc_event.specs.declared.row.Action.TheVariants as act
-use Rattle.sc_laws.specs.Rooms.{room_after, open_room, AllBefore}
+use Rattle.std.proofs.Common.{not, sym, ◌||◌}
+use Rattle.std.specs.List.{list_any}
+use Rattle.sc_core.specs.Calls.{read_input}
+use Rattle.sc_core.specs.Memory.{with_blocks}
+use Rattle.sc_core.specs.Meaning.{exit_word}
+use Rattle.sc_event.specs.Prelude.{is_end}
+use Rattle.sc_event.specs.declared.event.Event.TheVariants.{End}
+use Rattle.sc_laws.specs.Growth.{last}
+use Rattle.sc_laws.specs.Laws.{TellsNoEnd}
+use Rattle.sc_laws.specs.Rooms.{room_after, open_room, AllBefore, has_no_end}
 use Rattle.sc_laws.proofs.Growing.{BodyGoes, StepGoes, calls_go, within_goes}
 use Rattle.sc_laws.proofs.Matching.{run_goes_on, scripted_goes_on}
 use Rattle.sc_laws.proofs.Keeping.{IsKept, function_keeps}
@@ -123,213 +132,295 @@ deepest_is_reached events comp before after h = deepest_from events comp 0 befor
 abbrev Rooms : Type 0
 Rooms = ℕ → ℕ
 
--- the changes so far are of moments within the trace, and these rooms are open
-record Noted (rooms : Rooms) (s : State) : Type 0 where
-  pub told : AllBefore (suc (length s.trace)) s.frames
+-- the changes so far are of moments within the trace and no end was told, where that was so at the beginning
+record Told (base s : State) : Type 0 where
+  pub moments : AllBefore (suc (length base.trace)) base.frames → AllBefore (suc (length s.trace)) s.frames
+  pub endless : has_no_end base.trace ≡ true → has_no_end s.trace ≡ true
+
+-- and these rooms are open
+record Noted (base : State) (rooms : Rooms) (s : State) : Type 0 where
+  pub told : Told base s
   pub open_ : (c : ℕ) → open_room c s ≡ rooms c
 
-abbrev noting : Rooms → Property
-noting rooms = record { Goes = λ s. Noted rooms s; Ends = λ end s. AllBefore (suc (length s.trace)) s.frames }
+abbrev noting : State → Rooms → Property
+noting base rooms = record { Goes = λ s. Noted base rooms s; Ends = λ end s. Told base s }
 
-turned : (rooms : Rooms) (n : ℕ) (s : State) → Noted rooms s → Kept (noting rooms) (turn_of n s)
-turned rooms zero s h = record { after = h.told }
-turned rooms (suc n) s h = record { after = record { told = h.told; open_ = h.open_ } }
+-- an event that isn't the end
+endless_more : (xs : List Event) (e : Event) → is_end e ≡ false → has_no_end xs ≡ true →
+    has_no_end (xs ++ e ∷ []) ≡ true
+endless_more [] e plain h = rw plain refl
+endless_more (x ∷ xs) e plain h = by (is_end x) (endless_more xs e plain) h where
+  by : (b : Bool) → (has_no_end xs ≡ true → has_no_end (xs ++ e ∷ []) ≡ true) →
+      not (b || list_any is_end xs) ≡ true → not (b || list_any is_end (xs ++ e ∷ [])) ≡ true
+  by true later h = h
+  by false later h = later h
 
-is_kept : (rooms : Rooms) (here : Here) → IsKept (noting rooms) here
-is_kept rooms here =
-    record {
-      memory = λ s blocks h. record { told = h.told; open_ = h.open_ };
-      turned = λ s h. turned rooms s.turns s h;
-      blamed = λ s cause line h. h.told;
-    }
+module _ (base : State) where
+  told_again : (s t : State) → t.trace ≡ s.trace → t.frames ≡ s.frames → Told base s → Told base t
+  told_again s t trace frames h = record {
+    moments = λ first. subst (λ x. AllBefore (suc (length t.trace)) x) (sym frames)
+        (subst (λ x. AllBefore (suc (length x)) s.frames) (sym trace) (h.moments first));
+    endless = λ first. subst (λ x. has_no_end x ≡ true) (sym trace) (h.endless first);
+  }
 
-told_noted : (rooms : Rooms) (e : Event) (s : State) → Noted rooms s → Noted rooms (tell e s)
-told_noted rooms e s h =
-    record {
-      told = before_more (suc (length s.trace)) (suc (length (s.trace ++ e ∷ [])))
-          (omega (arith, length-append s.trace (e ∷ []))) s.frames h.told;
-      open_ = h.open_;
-    }
+  turned : (rooms : Rooms) (n : ℕ) (s : State) → Noted base rooms s → Kept (noting base rooms) (turn_of n s)
+  turned rooms zero s h = record { after = h.told }
+  turned rooms (suc n) s h =
+      record { after = record { told = told_again s (record s { turns = n }) refl refl h.told; open_ = h.open_ } }
 
--- the rooms where a frame of a compartment is open besides
-abbrev wider : ℕ → ℕ → Rooms → Rooms
-wider comp room rooms c = if comp == c then rooms c + room else rooms c
-
-begun_noted : (rooms : Rooms) (comp : ℕ) (f : Function) (args : List Value) (s : State) → Noted rooms s →
-    Noted (wider comp f.room rooms) (begun comp f args s)
-begun_noted rooms comp f args s h = record {
-  told = before_append (suc (length s.trace)) s.frames (Opened (length s.trace) comp f.room ∷ []) h.told
-      (omega arith, tt);
-  open_ = λ c. room_append c 0 s.frames (Opened (length s.trace) comp f.room ∷ [])
-      ∙ ap (λ room. if comp == c then room + f.room else room) (h.open_ c);
-}
-
-done_noted : (rooms : Rooms) (comp : ℕ) (f : Function) (first : ℕ) (s : State) → Noted (wider comp f.room rooms) s →
-    Noted rooms (done comp f first s)
-done_noted rooms comp f first s h = record {
-  told = before_append (suc (length s.trace)) s.frames (Closed (length s.trace) comp f.room ∷ []) h.told
-      (omega arith, tt);
-  open_ = λ c. room_append c 0 s.frames (Closed (length s.trace) comp f.room ∷ [])
-      ∙ (ap (λ room. if comp == c then room - f.room else room) (h.open_ c) ∙ narrower (comp == c) (rooms c) f.room);
-} where
-  narrower : (b : Bool) (room more : ℕ) →
-      (if b then (if b then room + more else room) - more else (if b then room + more else room)) ≡ room
-  narrower true room more = omega arith
-  narrower false room more = refl
-
--- RUNS
-
--- a piece at wider rooms, and back
-then_back : {X Y : Type 0} (inner outer : Rooms) (piece : Piece X) (go : X → State → Piece Y) →
-    Kept (noting inner) piece → ((v : X) (s : State) → Noted inner s → Kept (noting outer) (go v s)) →
-    Kept (noting outer) (and_then piece go)
-then_back inner outer (Reached v s) go h k = k v s h.after
-then_back inner outer (Stopped end s) go h k = record { after = h.after }
-
-abbrev BodyNotes : Body → Type 0
-BodyNotes body = (rooms : Rooms) (number : ℕ) (here : Here) (s : State) → Noted rooms s →
-    Kept (noting rooms) (body number here s)
-
-module _ (library : Library) (body : Body) (notes : BodyNotes body) (rooms : Rooms) where
-  run_notes : (comp number : ℕ) (args : List Value) (back : Option Value → State → Piece (Option Value)) →
-      ((v : Option Value) (s : State) → Noted rooms s → Kept (noting rooms) (back v s)) → (s : State) → Noted rooms s →
-      Kept (noting rooms) (run_in library body comp number args back s)
-  run_notes comp number args back b s h =
-      found_kept (noting rooms) (function library comp number) s _ h.told (λ f is.
-      then_back (wider comp f.room rooms) rooms (body number (record { comp = comp; first = length (s.memory comp) })
-      (begun comp f args s)) _
-      (notes (wider comp f.room rooms) number (record { comp = comp; first = length (s.memory comp) })
-      (begun comp f args s) (begun_noted rooms comp f args s h))
-      (λ v t g. b v (done comp f (length (s.memory comp)) t) (done_noted rooms comp f (length (s.memory comp)) t g)))
-
-  own_notes : (comp number : ℕ) (args : List Value) (s : State) → Noted rooms s →
-      Kept (noting rooms) (call_own library body comp number args s)
-  own_notes comp number args s h = run_notes comp number args back_own (λ v s h. record { after = h }) s h
-
-  cross_notes : (from to index : ℕ) (args : List Value) (s : State) → Noted rooms s →
-      Kept (noting rooms) (call_cross library body from to index args s)
-  cross_notes from to index args s h =
-      found_kept (noting rooms) (library.entered to (Export index)) s _ h.told (λ number is.
-      run_notes to number (crossed args) (back_cross library.interfaces from to index)
-      (λ v s h. record {
-        after = told_noted rooms (Ret to from (crossing (export_at library.interfaces to index) v)) s h;
-      })
-      (tell (Call from to index (map word_in args)) s) (told_noted rooms (Call from to index (map word_in args)) s h))
-
-  called_notes : (from : ℕ) (target : CallTarget) (args : List Value) (s : State) → Noted rooms s →
-      Kept (noting rooms) (called library body from target args s)
-  called_notes from (Own number) args s h =
-      then_kept (noting rooms) (turn s) (λ _ s. call_own library body from number args s) (turned rooms s.turns s h)
-      (λ _ s h. own_notes from number args s h)
-  called_notes from (Cross to index) args s h =
-      then_kept (noting rooms) (turn s) (λ _ s. call_cross library body from to index args s) (turned rooms s.turns s h)
-      (λ _ s h. cross_notes from to index args s h)
-  called_notes from Input args s h =
+  is_kept : (rooms : Rooms) (here : Here) → IsKept (noting base rooms) here
+  is_kept rooms here =
       record {
-        after = let told = told_noted rooms (In from (next_input s.inputs)) s h in
-            record { told = told.told; open_ = told.open_ };
+        memory = λ s blocks h. record {
+          told = told_again s (record s { memory = with_blocks here.comp blocks s.memory }) refl refl h.told;
+          open_ = h.open_;
+        };
+        turned = λ s h. turned rooms s.turns s h;
+        blamed = λ s cause line h. h.told;
       }
-  called_notes from Output args s h = record { after = told_noted rooms (Out from (first_word args)) s h }
 
-  calls_note : (from : ℕ) (target : CallTarget) (args : List Value) (s : State) → Noted rooms s →
-      Kept (noting rooms) (calls library body from target args s)
-  calls_note from target args s h = by (may_call library from target args) where
-    by : (b : Bool) →
-        Kept (noting rooms) (if b then called library body from target args s else Stopped (Blamed from BadType 0) s)
-    by true = called_notes from target args s h
-    by false = record { after = h.told }
+  told_noted : (rooms : Rooms) (e : Event) (s : State) → is_end e ≡ false → Noted base rooms s →
+      Noted base rooms (tell e s)
+  told_noted rooms e s plain h =
+      record {
+        told = record {
+          moments = λ first. before_more (suc (length s.trace)) (suc (length (s.trace ++ e ∷ [])))
+              (omega (arith, length-append s.trace (e ∷ []))) s.frames (h.told.moments first);
+          endless = λ first. endless_more s.trace e plain (h.told.endless first);
+        };
+        open_ = h.open_;
+      }
 
--- scripts
-module _ (library : Library) (body : Body) (notes : BodyNotes body) (rooms : Rooms) where
-  asks_note : (comp : ℕ) (target : CallTarget) (args : List Value) (s : State) → Noted rooms s →
-      Kept (noting rooms) (asks library body comp target args s)
-  asks_note comp target args s h = by (may_call library comp target args) where
-    by : (b : Bool) → Kept (noting rooms) (if b then calls library body comp target args s else Stopped TurnsOut s)
-    by true = calls_note library body notes rooms comp target args s h
-    by false = record { after = h.told }
+  -- the rooms where a frame of a compartment is open besides
+  abbrev wider : ℕ → ℕ → Rooms → Rooms
+  wider comp room rooms c = if comp == c then rooms c + room else rooms c
 
-  acts_note : (action : Action) (next again : State → Piece (Option Value)) →
-      ((s : State) → Noted rooms s → Kept (noting rooms) (next s)) →
-      ((s : State) → Noted rooms s → Kept (noting rooms) (again s))
-      → (comp : ℕ) (s : State) → Noted rooms s → Kept (noting rooms) (acts library body action next again comp s)
-  acts_note (act.Call to index args) next again n a comp s h =
-      then_kept (noting rooms) (asks library body comp (Cross to index) (map (λ w. Word w) args) s)
-      _ (asks_note comp (Cross to index) (map (λ w. Word w) args) s h) (λ v s h. a s h)
-  acts_note (act.Ret v) next again n a comp s h = record { after = h }
-  acts_note (act.Out w) next again n a comp s h =
-      then_kept (noting rooms) (asks library body comp Output (Word w ∷ []) s) _ (asks_note comp Output (Word w ∷ []) s
-      h) (λ v s h. n s h)
-  acts_note (act.In w) next again n a comp s h =
-      then_kept (noting rooms) (asks library body comp Input [] s) _ (asks_note comp Input [] s h) (λ v s h. n s h)
-  acts_note (act.End w) next again n a comp s h = record { after = h }
+  begun_noted : (rooms : Rooms) (comp : ℕ) (f : Function) (args : List Value) (s : State) → Noted base rooms s →
+      Noted base (wider comp f.room rooms) (begun comp f args s)
+  begun_noted rooms comp f args s h = record {
+    told = record {
+      moments = λ first. before_append (suc (length s.trace)) s.frames (Opened (length s.trace) comp f.room ∷ [])
+          (h.told.moments first) (omega arith, tt);
+      endless = h.told.endless;
+    };
+    open_ = λ c. room_append c 0 s.frames (Opened (length s.trace) comp f.room ∷ [])
+        ∙ ap (λ room. if comp == c then room + f.room else room) (h.open_ c);
+  }
 
-  performs_note : (rows : List Row) (number : ℕ) (here : Here) (s : State) → Noted rooms s →
-      Kept (noting rooms) (performs library body rows number here s)
-  performs_note [] number here s h = record { after = h.told }
-  performs_note (row ∷ rest) number here s h =
-      by (performs_note rest number here) (is_number number (library.entered here.comp row.entry)) where
-        by : ((s : State) → Noted rooms s → Kept (noting rooms) (performs library body rest number here s)) →
-            (b : Bool) →
-            Kept (noting rooms) (if b then acts library body row.action (performs library body rest number here)
-            (body number here) here.comp s else Stopped TurnsOut s)
-        by next true = acts_note row.action (performs library body rest number here) (body number here) next
-            (λ s h. notes rooms number here s h) here.comp s h
-        by next false = record { after = h.told }
+  done_noted : (rooms : Rooms) (comp : ℕ) (f : Function) (first : ℕ) (s : State) → Noted base (wider comp f.room rooms)
+      s →
+      Noted base rooms (done comp f first s)
+  done_noted rooms comp f first s h = record {
+    told = record {
+      moments = λ first. before_append (suc (length s.trace)) s.frames (Closed (length s.trace) comp f.room ∷ [])
+          (h.told.moments first) (omega arith, tt);
+      endless = h.told.endless;
+    };
+    open_ = λ c. room_append c 0 s.frames (Closed (length s.trace) comp f.room ∷ [])
+        ∙ (ap (λ room. if comp == c then room - f.room else room) (h.open_ c) ∙ narrower (comp == c) (rooms c) f.room);
+  } where
+    narrower : (b : Bool) (room more : ℕ) →
+        (if b then (if b then room + more else room) - more else (if b then room + more else room)) ≡ room
+    narrower true room more = omega arith
+    narrower false room more = refl
 
-abbrev StepNotes : Step → Type 0
-StepNotes step = (body : Body) → BodyGoes body → BodyNotes body → BodyNotes (step body)
+  -- RUNS
+
+  -- a piece at wider rooms, and back
+  then_back : {X Y : Type 0} (inner outer : Rooms) (piece : Piece X) (go : X → State → Piece Y) →
+      Kept (noting base inner) piece → ((v : X) (s : State) → Noted base inner s → Kept (noting base outer) (go v s)) →
+      Kept (noting base outer) (and_then piece go)
+  then_back inner outer (Reached v s) go h k = k v s h.after
+  then_back inner outer (Stopped end s) go h k = record { after = h.after }
+
+  abbrev BodyNotes : Body → Type 0
+  BodyNotes body = (rooms : Rooms) (number : ℕ) (here : Here) (s : State) → Noted base rooms s →
+      Kept (noting base rooms) (body number here s)
+
+  module _ (library : Library) (body : Body) (notes : BodyNotes body) (rooms : Rooms) where
+    run_notes : (comp number : ℕ) (args : List Value) (back : Option Value → State → Piece (Option Value)) →
+        ((v : Option Value) (s : State) → Noted base rooms s → Kept (noting base rooms) (back v s)) → (s : State) →
+        Noted base rooms s →
+        Kept (noting base rooms) (run_in library body comp number args back s)
+    run_notes comp number args back b s h =
+        found_kept (noting base rooms) (function library comp number) s _ h.told (λ f is.
+        then_back (wider comp f.room rooms) rooms (body number (record { comp = comp; first = length (s.memory comp) })
+        (begun comp f args s)) _
+        (notes (wider comp f.room rooms) number (record { comp = comp; first = length (s.memory comp) })
+        (begun comp f args s) (begun_noted rooms comp f args s h))
+        (λ v t g. b v (done comp f (length (s.memory comp)) t) (done_noted rooms comp f (length (s.memory comp)) t g)))
+
+    own_notes : (comp number : ℕ) (args : List Value) (s : State) → Noted base rooms s →
+        Kept (noting base rooms) (call_own library body comp number args s)
+    own_notes comp number args s h = run_notes comp number args back_own (λ v s h. record { after = h }) s h
+
+    cross_notes : (from to index : ℕ) (args : List Value) (s : State) → Noted base rooms s →
+        Kept (noting base rooms) (call_cross library body from to index args s)
+    cross_notes from to index args s h =
+        found_kept (noting base rooms) (library.entered to (Export index)) s _ h.told (λ number is.
+        run_notes to number (crossed args) (back_cross library.interfaces from to index)
+        (λ v s h. record {
+          after = told_noted rooms (Ret to from (crossing (export_at library.interfaces to index) v)) s refl h;
+        })
+        (tell (Call from to index (map word_in args)) s) (told_noted rooms (Call from to index (map word_in args)) s
+        refl h))
+
+    called_notes : (from : ℕ) (target : CallTarget) (args : List Value) (s : State) → Noted base rooms s →
+        Kept (noting base rooms) (called library body from target args s)
+    called_notes from (Own number) args s h =
+        then_kept (noting base rooms) (turn s) (λ _ s. call_own library body from number args s) (turned rooms s.turns s
+        h)
+        (λ _ s h. own_notes from number args s h)
+    called_notes from (Cross to index) args s h =
+        then_kept (noting base rooms) (turn s) (λ _ s. call_cross library body from to index args s) (turned rooms
+        s.turns s h)
+        (λ _ s h. cross_notes from to index args s h)
+    called_notes from Input args s h =
+        record {
+          after = let told = told_noted rooms (In from (next_input s.inputs)) s refl h in
+              record {
+                told = told_again (tell (In from (next_input s.inputs)) s) (read_input from s) refl refl told.told;
+                open_ = told.open_;
+              };
+        }
+    called_notes from Output args s h = record { after = told_noted rooms (Out from (first_word args)) s refl h }
+
+    calls_note : (from : ℕ) (target : CallTarget) (args : List Value) (s : State) → Noted base rooms s →
+        Kept (noting base rooms) (calls library body from target args s)
+    calls_note from target args s h = by (may_call library from target args) where
+      by : (b : Bool) →
+          Kept (noting base rooms) (if b then called library body from target args s else Stopped (Blamed from BadType
+          0) s)
+      by true = called_notes from target args s h
+      by false = record { after = h.told }
+
+  -- scripts
+  module _ (library : Library) (body : Body) (notes : BodyNotes body) (rooms : Rooms) where
+    asks_note : (comp : ℕ) (target : CallTarget) (args : List Value) (s : State) → Noted base rooms s →
+        Kept (noting base rooms) (asks library body comp target args s)
+    asks_note comp target args s h = by (may_call library comp target args) where
+      by : (b : Bool) → Kept (noting base rooms) (if b then calls library body comp target args s else Stopped TurnsOut
+          s)
+      by true = calls_note library body notes rooms comp target args s h
+      by false = record { after = h.told }
+
+    acts_note : (action : Action) (next again : State → Piece (Option Value)) →
+        ((s : State) → Noted base rooms s → Kept (noting base rooms) (next s)) →
+        ((s : State) → Noted base rooms s → Kept (noting base rooms) (again s))
+        → (comp : ℕ) (s : State) → Noted base rooms s → Kept (noting base rooms) (acts library body action next again
+        comp s)
+    acts_note (act.Call to index args) next again n a comp s h =
+        then_kept (noting base rooms) (asks library body comp (Cross to index) (map (λ w. Word w) args) s)
+        _ (asks_note comp (Cross to index) (map (λ w. Word w) args) s h) (λ v s h. a s h)
+    acts_note (act.Ret v) next again n a comp s h = record { after = h }
+    acts_note (act.Out w) next again n a comp s h =
+        then_kept (noting base rooms) (asks library body comp Output (Word w ∷ []) s) _ (asks_note comp Output (Word w ∷
+        []) s
+        h) (λ v s h. n s h)
+    acts_note (act.In w) next again n a comp s h =
+        then_kept (noting base rooms) (asks library body comp Input [] s) _ (asks_note comp Input [] s h) (λ v s h. n s
+        h)
+    acts_note (act.End w) next again n a comp s h = record { after = h }
+
+    performs_note : (rows : List Row) (number : ℕ) (here : Here) (s : State) → Noted base rooms s →
+        Kept (noting base rooms) (performs library body rows number here s)
+    performs_note [] number here s h = record { after = h.told }
+    performs_note (row ∷ rest) number here s h =
+        by (performs_note rest number here) (is_number number (library.entered here.comp row.entry)) where
+          by : ((s : State) → Noted base rooms s → Kept (noting base rooms) (performs library body rest number here s))
+              →
+              (b : Bool) →
+              Kept (noting base rooms) (if b then acts library body row.action (performs library body rest number here)
+              (body number here) here.comp s else Stopped TurnsOut s)
+          by next true = acts_note row.action (performs library body rest number here) (body number here) next
+              (λ s h. notes rooms number here s h) here.comp s h
+          by next false = record { after = h.told }
+
+  abbrev StepNotes : Step → Type 0
+  StepNotes step = (body : Body) → BodyGoes body → BodyNotes body → BodyNotes (step body)
+
+  module _ (library : Library) (obedient : Obedient library) where
+    run_step_notes : (body : Body) → BodyGoes body → BodyNotes body → BodyNotes (run_step library body)
+    run_step_notes body goes notes rooms number here s h =
+        found_kept (noting base rooms) (function library here.comp number) s (λ f s. f.does (calls library body) here s)
+        h.told
+        (λ f is.
+        function_keeps library obedient here.comp number f is (noting base rooms) here (is_kept rooms here)
+        (calls library body) (calls_go library body goes) (λ target args s h. calls_note library body notes rooms
+        here.comp target args s h) s h)
+
+    scripted_notes : (roles : Roles) → StepNotes (scripted_step library roles (run_step library))
+    scripted_notes roles body goes notes rooms number here s h = by (roles.scripted here.comp) where
+      by : (b : Bool) →
+          Kept (noting base rooms) (if b then performs library body (rows_left roles here.comp s.trace) number here
+          s else run_step library body number here s)
+      by true = performs_note library body notes rooms (rows_left roles here.comp s.trace) number here s h
+      by false = run_step_notes body goes notes rooms number here s h
+
+    module _ (step : Step) (goes : StepGoes step) (notes : StepNotes step) where
+      within_notes : (n : ℕ) → BodyNotes (within step n)
+      within_notes zero rooms number here s h = record { after = h.told }
+      within_notes (suc n) rooms number here s h =
+          notes (within step n) (within_goes step goes n) (within_notes n) rooms number here s h
 
 module _ (library : Library) (obedient : Obedient library) where
-  run_step_notes : (body : Body) → BodyGoes body → BodyNotes body → BodyNotes (run_step library body)
-  run_step_notes body goes notes rooms number here s h =
-      found_kept (noting rooms) (function library here.comp number) s (λ f s. f.does (calls library body) here s) h.told
-      (λ f is.
-      function_keeps library obedient here.comp number f is (noting rooms) here (is_kept rooms here)
-      (calls library body) (calls_go library body goes) (λ target args s h. calls_note library body notes rooms
-      here.comp target args s h) s h)
+  module _ (step : Step) (goes : StepGoes step) (notes : (base : State) → StepNotes base step) where
+    -- a call from a state in which these rooms are open
+    own_kept : (n comp number : ℕ) (args : List Value) (s : State) →
+        Kept (noting s (λ c. open_room c s)) (call_own library (within step n) comp number args s)
+    own_kept n comp number args s =
+        own_notes s library (within step n) (within_notes s library obedient step goes (notes s) n)
+        (λ c. open_room c s) comp number args s
+        (record { told = record { moments = λ h. h; endless = λ h. h }; open_ = λ c. refl })
 
-  scripted_notes : (roles : Roles) → StepNotes (scripted_step library roles (run_step library))
-  scripted_notes roles body goes notes rooms number here s h = by (roles.scripted here.comp) where
-    by : (b : Bool) →
-        Kept (noting rooms) (if b then performs library body (rows_left roles here.comp s.trace) number here
-        s else run_step library body number here s)
-    by true = performs_note library body notes rooms (rows_left roles here.comp s.trace) number here s h
-    by false = run_step_notes body goes notes rooms number here s h
+    last_told : (base : State) (rooms : Rooms) (piece : Piece (Option Value)) → Kept (noting base rooms) piece →
+        Told base (last piece)
+    last_told base rooms (Reached v s) h = h.after.told
+    last_told base rooms (Stopped end s) h = h.after
 
-  module _ (step : Step) (goes : StepGoes step) (notes : StepNotes step) where
-    within_notes : (n : ℕ) → BodyNotes (within step n)
-    within_notes zero rooms number here s h = record { after = h.told }
-    within_notes (suc n) rooms number here s h =
-        notes (within step n) (within_goes step goes n) (within_notes n) rooms number here s h
-
-    run_to_notes : (main : ℕ) (piece : Piece (Option Value)) → Kept (noting (λ c. 0)) piece →
+    run_to_notes : (base : State) (rooms : Rooms) (main : ℕ) (piece : Piece (Option Value)) →
+        AllBefore (suc (length base.trace)) base.frames → Kept (noting base rooms) piece →
         AreTold (run_to main piece)
-    run_to_notes main (Reached v s) h = (told_noted (λ c. 0) _ s h.after).told
-    run_to_notes main (Stopped end s) h = h.after
+    run_to_notes base rooms main (Reached v s) first h =
+        before_more (suc (length s.trace)) (suc (length (s.trace ++ End main (exit_word v) ∷ [])))
+        (omega (arith, length-append s.trace (End main (exit_word v) ∷ []))) s.frames (h.after.told.moments first)
+    run_to_notes base rooms main (Stopped end s) first h = h.after.moments first
 
     run_by_notes : (globals : Memory) (inputs : List ℕ) (turns : ℕ) → AreTold (run_by library step globals inputs turns)
     run_by_notes globals inputs turns =
-        run_to_notes library.interfaces.main _ (found_kept (noting (λ c. 0)) (library.entered library.interfaces.main
-        Main) (first_state globals inputs turns) _ tt (λ number is.
-        own_notes library (within step (suc turns)) (within_notes (suc turns)) (λ c. 0) library.interfaces.main number
-        [] (first_state globals inputs turns) (record { told = tt; open_ = λ c. refl })))
+        let base : State = first_state globals inputs turns in
+        run_to_notes base (λ c. 0) library.interfaces.main _ tt
+        (found_kept (noting base (λ c. 0)) (library.entered library.interfaces.main Main) base _
+        (record { moments = λ h. h; endless = λ h. h })
+        (λ number is. own_kept (suc turns) library.interfaces.main number [] base))
 
     leaves_rooms : LeavesRooms library step
     leaves_rooms n comp number args v s t told is =
         (reached_noted (λ c. open_room c s) (call_own library (within step n) comp number args s) v t is
-        (own_notes library (within step n) (within_notes n) (λ c. open_room c s) comp number args s
-        (record { told = told; open_ = λ c. refl }))).open_ where
+        (own_kept n comp number args s)).open_ where
           reached_noted : (rooms : Rooms) (piece : Piece (Option Value)) (v : Option Value) (t : State) →
-              piece ≡ Reached v t → Kept (noting rooms) piece → Noted rooms t
-          reached_noted rooms piece v t is h = (subst (λ p. Kept (noting rooms) p) is h).after
+              piece ≡ Reached v t → Kept (noting s rooms) piece → Noted s rooms t
+          reached_noted rooms piece v t is h = (subst (λ p. Kept (noting s rooms) p) is h).after
+
+    tells_no_end : TellsNoEnd library step
+    tells_no_end n comp number args s h =
+        (last_told s (λ c. open_room c s) (call_own library (within step n) comp number args s)
+        (own_kept n comp number args s)).endless h
 
   pub keeps_rooms : KeepsRooms library
   keeps_rooms = record {
-    told = run_by_notes (run_step library) (run_goes_on library obedient) run_step_notes;
+    told = run_by_notes (run_step library) (run_goes_on library obedient) (λ base. run_step_notes base library
+        obedient);
     scripted_told = λ globals inputs turns roles. run_by_notes (scripted_step library roles (run_step library))
-        (scripted_goes_on library obedient roles) (scripted_notes roles) globals inputs turns;
-    returns = leaves_rooms (run_step library) (run_goes_on library obedient) run_step_notes;
+        (scripted_goes_on library obedient roles) (λ base. scripted_notes base library obedient roles) globals inputs
+        turns;
+    returns = leaves_rooms (run_step library) (run_goes_on library obedient)
+        (λ base. run_step_notes base library obedient);
     scripted_returns =
         λ roles. leaves_rooms (scripted_step library roles (run_step library)) (scripted_goes_on library obedient roles)
-        (scripted_notes roles);
+        (λ base. scripted_notes base library obedient roles);
+    no_end = tells_no_end (run_step library) (run_goes_on library obedient)
+        (λ base. run_step_notes base library obedient);
+    scripted_no_end = λ roles. tells_no_end (scripted_step library roles (run_step library))
+        (scripted_goes_on library obedient roles) (λ base. scripted_notes base library obedient roles);
   }

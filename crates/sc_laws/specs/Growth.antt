@@ -3,8 +3,8 @@ use Rattle.sc_laws.specs.Common.{Front, IsStop, Piece, Reached, State, Stopped}
 use Rattle.std.specs.Prelude.{◌≤◌, length}
 use Rattle.sc_laws.specs.Rooms.{AllFrom}
 
--- a state that comes after another: its events and its frames go on from the other's, where a change of frames is of the
--- moment at which it was made, and it has no more turns
+-- a state that comes after another: its events and its frames go on from the other's, where each change of frames is of
+-- the moment at which it was made, and it has no more turns
 pub record Grown (s t : State) : Type 0 where
   pub events : Front s.trace t.trace
   pub frames : Front s.frames t.frames

@@ -9,9 +9,9 @@ use Rattle.std.specs.Prelude.{◌≡◌, ◌⊎◌, ℕ, suc, ◌<◌, ◌≤◌
 use Rattle.sc_laws.specs.Chains.{Set, IsWithin, nobody, Link, IsBlamedOutside, performed, IsChain, IsRising, AreFresh}
 use Rattle.sc_laws.specs.Chains.{Includes, PassesBlame}
 use Rattle.sc_laws.specs.Ends.{IsArithmetic}
-use Rattle.sc_laws.specs.Growth.{Gone}
+use Rattle.sc_laws.specs.Growth.{Gone, last}
 use Rattle.sc_laws.specs.Interactions.{LibrariesMatch, Obedient}
-use Rattle.sc_laws.specs.Rooms.{room_after, open_room, AllBefore}
+use Rattle.sc_laws.specs.Rooms.{room_after, open_room, AllBefore, has_no_end}
 use Rattle.sc_laws.specs.Runs.{library_run, roles_run, performed_by}
 use Rattle.sc_laws.specs.Steady.{now, ExtendedByMore, AgreesInRoom}
 
@@ -199,6 +199,11 @@ LeavesRooms library step = (open_calls comp number : ℕ) (args : List Value) (v
     call_own library (within step open_calls) comp number args s ≡ Reached v t →
     (c : ℕ) → open_room c t ≡ open_room c s
 
+-- and it tells no end: that is told of a whole run alone
+abbrev pub TellsNoEnd : Library → Step → Type 0
+TellsNoEnd library step = (open_calls comp number : ℕ) (args : List Value) (s : State) → has_no_end s.trace ≡ true →
+    has_no_end (last (call_own library (within step open_calls) comp number args s)).trace ≡ true
+
 -- so it is of the functions of a library, and where some compartments perform
 pub record KeepsRooms (library : Library) : Type 0 where
   pub told : (globals : Memory) (inputs : List ℕ) (turns : ℕ) → AreTold (library_run library globals inputs turns)
@@ -206,6 +211,8 @@ pub record KeepsRooms (library : Library) : Type 0 where
       AreTold (roles_run library globals inputs turns roles)
   pub returns : LeavesRooms library (run_step library)
   pub scripted_returns : (roles : Roles) → LeavesRooms library (scripted_step library roles (run_step library))
+  pub no_end : TellsNoEnd library (run_step library)
+  pub scripted_no_end : (roles : Roles) → TellsNoEnd library (scripted_step library roles (run_step library))
 
 pub record RoomsAreKept : Type 0 where
   pub libraries : (library : Library) → Obedient library → KeepsRooms library

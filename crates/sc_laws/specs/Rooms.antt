@@ -1,6 +1,9 @@
 -- How much room the open frames of a compartment take.
 use Rattle.sc_laws.specs.Common.{Closed, FrameChange, Opened, State}
-use Rattle.std.specs.Prelude.{ℕ, ◌+◌, ◌-◌, ◌<◌, ◌≤◌, ◌==◌, if◌then◌else◌, List, [], ◌∷◌}
+use Rattle.std.specs.List.{list_any}
+use Rattle.sc_event.specs.Prelude.{is_end}
+use Rattle.sc_event.specs.declared.event.Event.{Event}
+use Rattle.std.specs.Prelude.{Bool, not, ℕ, ◌+◌, ◌-◌, ◌<◌, ◌≤◌, ◌==◌, if◌then◌else◌, List, [], ◌∷◌}
 
 -- the room after these changes, where the compartment's frames take this room before them
 abbrev pub room_after : ℕ → ℕ → List FrameChange → ℕ
@@ -25,3 +28,7 @@ abbrev pub AllFrom : ℕ → List FrameChange → Type 0
 AllFrom events [] = Unit {0}
 AllFrom events (Opened told c more ∷ changes) = (events ≤ told) × AllFrom events changes
 AllFrom events (Closed told c less ∷ changes) = (events ≤ told) × AllFrom events changes
+
+-- none of these events is the end of the run
+abbrev pub has_no_end : List Event → Bool
+has_no_end trace = not (list_any is_end trace)

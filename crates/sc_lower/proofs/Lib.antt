@@ -8,6 +8,7 @@ pub mod Entries
 pub mod Expressions
 pub mod Flowing
 pub mod Gives
+pub mod HeadRows
 pub mod Hollow
 pub mod Lowered
 pub mod Lowering

@@ -346,7 +346,8 @@ module _ (T : Setting) (R : Running) where
     };
   }
 
-  pub shows_from : (x : Joint) (budget : ℕ) (meant : Meant) → Shows T call_from x budget meant → Shows T P x budget meant
+  pub shows_from : (x : Joint) (budget : ℕ) (meant : Meant) → Shows T call_from x budget meant → Shows T P x budget
+      meant
   shows_from x budget meant g = record {
     steps = g.steps;
     reached = g.reached;

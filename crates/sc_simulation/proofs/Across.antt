@@ -37,8 +37,10 @@ use Rattle.sc_relation.specs.Calls.{ArePassed, Begins, CallGives, ComesBack, Fun
 use Rattle.sc_relation.proofs.Stretches.{overflows_then}
 use Rattle.sc_laws.proofs.Growing.{back_goes}
 use Rattle.sc_simulation.specs.Linked.{EntersBy}
-use Rattle.sc_simulation.proofs.Crossing.{arguments_are, called_listed, called_ra, called_regs, called_sp, crossed_passed}
-use Rattle.sc_simulation.proofs.Crossing.{given_back as given_value, given_is, returned_listed, returned_regs, returned_sp}
+use Rattle.sc_simulation.proofs.Crossing.{arguments_are, called_listed, called_ra, called_regs, called_sp}
+use Rattle.sc_simulation.proofs.Crossing.{crossed_passed}
+use Rattle.sc_simulation.proofs.Crossing.{given_back as given_value, given_is, returned_listed, returned_regs}
+use Rattle.sc_simulation.proofs.Crossing.{returned_sp}
 use Rattle.sc_simulation.proofs.OwnCalls.{back_to}
 use Rattle.sc_simulation.proofs.Turning.{CallComes, GoesIn, before_told, costs_back, overflows_in, shows_in, turned}
 

@@ -1,4 +1,5 @@
--- What calls of functions of a program do: whatever they do, they only go on, and they answer where a value is promised.
+-- What calls of functions of a program do: whatever that is, they only go on, and they answer where a value is
+-- promised.
 use Rattle.std.proofs.Common.{◌≡◌, ℕ, Bool, true, false, List, length, map, Option, None, Some, refl}
 use Rattle.std.proofs.Common.{if◌then◌else◌, sym, ap, subst}
 use Rattle.std.specs.Prelude.{slice_get, is_some, IsSome}

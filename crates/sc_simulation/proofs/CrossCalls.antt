@@ -14,7 +14,8 @@ use Rattle.sc_core.specs.declared.cause.Cause.TheVariants.{BadType}
 use Rattle.sc_core.specs.declared.expr.CallTarget.TheVariants.{Cross}
 use Rattle.sc_core.specs.declared.run.RunEnd.TheVariants.{Blamed}
 use Rattle.sc_core.specs.declared.value.Value.{Value}
-use Rattle.sc_core.specs.Calls.{Function, Library, back_cross, begun, call_cross, called, crossed, crossing, done, found}
+use Rattle.sc_core.specs.Calls.{Function, Library, back_cross, begun, call_cross, called, crossed, crossing, done}
+use Rattle.sc_core.specs.Calls.{found}
 use Rattle.sc_core.specs.Calls.{is_word, leads, may_call, option_value, run_in, word_in}
 use Rattle.sc_core.specs.Scripts.{Roles}
 use Rattle.sc_core.specs.Value.{wrapping}

@@ -10,7 +10,8 @@ use Rattle.sc_event.specs.declared.interface.Scalar.{Scalar}
 use Rattle.sc_core.specs.declared.value.Value.{Value}
 use Rattle.sc_core.specs.declared.value.Value.TheVariants.{Word, Null, Ptr}
 use Rattle.sc_core.specs.Calls.{crossed, is_word, option_value, word_back, word_in}
-use Rattle.sc_image.specs.Cross.{arguments, cleared_for_call, cleared_for_return, is_argument, is_result, kept, kept_from}
+use Rattle.sc_image.specs.Cross.{arguments, cleared_for_call, cleared_for_return, is_argument, is_result, kept}
+use Rattle.sc_image.specs.Cross.{kept_from}
 use Rattle.sc_image.specs.Layout.{gate}
 use Rattle.sc_image.specs.State.{written}
 use Rattle.sc_select.specs.Pieces.{ra, sp, a0}

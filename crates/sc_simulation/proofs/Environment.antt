@@ -74,7 +74,8 @@ module _ (T : Setting) (formed : IsWellFormed T.image) (inputs : All IsWord T.in
     walks =
         subst (λ regs. Walks T.image T.inputs 1 (machine P x) (read regs w)) (write_listed x.regs a0 w (omega arith))
         (subst (λ word. Walks T.image T.inputs 1 (machine P x) (read (written (listed x.regs) a0 word) word)) word_is
-        (steps_tell.inputs T.image T.inputs (machine P x) is_at (read_listed x.regs a7 (omega arith) ∙ asked) may).walks)
+        (steps_tell.inputs T.image T.inputs (machine P x) is_at (read_listed x.regs a7 (omega arith) ∙ asked)
+        may).walks)
 
     settled_read : Settled T P z
     settled_read = record {
@@ -134,7 +135,8 @@ module _ (T : Setting) (formed : IsWellFormed T.image) (inputs : All IsWord T.in
     walks' : Walks T.image T.inputs 1 (machine P x) (machine P z')
     walks' =
         subst (λ word. Walks T.image T.inputs 1 (machine P x) (shown word)) (read_listed x.regs a0 (omega arith) ∙ is)
-        (steps_tell.outputs T.image T.inputs (machine P x) is_at (read_listed x.regs a7 (omega arith) ∙ asked) may).walks
+        (steps_tell.outputs T.image T.inputs (machine P x) is_at (read_listed x.regs a7 (omega arith) ∙ asked)
+        may).walks
 
     pub output_comes : ComesBack T P x Output None (tell (Out P.comp w) x.meant)
     output_comes = record {

@@ -1,4 +1,5 @@
 pub mod Across
+pub mod Along
 pub mod Answering
 pub mod Bodies
 pub mod CrossCalls
@@ -7,4 +8,5 @@ pub mod Environment
 pub mod OwnCalls
 pub mod Placing
 pub mod Sections
+pub mod Shows
 pub mod Turning

@@ -68,8 +68,8 @@ module _ (T : Setting) (formed : IsWellFormed T.image) (inputs : All IsWord T.in
     passed_in : (args : List Value) → ArePassed (x.inj P.comp) x.regs args →
         ArePassed (x.inj P.comp) entered.regs args
     passed_in args passed i v e =
-        subst (λ w. StandsFor (x.inj P.comp) w v) (sym (put_there x.regs ra (x.pc + 4) (a0 + i) (λ k. omega (arith, k))))
-        (passed i v e)
+        subst (λ w. StandsFor (x.inj P.comp) w v)
+        (sym (put_there x.regs ra (x.pc + 4) (a0 + i) (λ k. omega (arith, k)))) (passed i v e)
 
     pub begins : (f : Function) (args : List Value) → T.performs P.comp ≡ false → Settled T P x → IsBase T P →
         x.regs sp ≡ P.bound → ArePassed (x.inj P.comp) x.regs args →
@@ -108,8 +108,8 @@ module _ (T : Setting) (formed : IsWellFormed T.image) (inputs : All IsWord T.in
               trace = g.y.meant.trace;
             }) 0 ra (pos 0)
             (x.pc + 4) word_behind.0 (omega arith) (omega arith) g.jump
-            (back_to (g.y.regs ra) (x.pc + 4) g.ra (omega (arith, place_behind.low)) (omega (arith, place_behind.aligned)))
-            place_behind.aligned word_behind.1
+            (back_to (g.y.regs ra) (x.pc + 4) g.ra (omega (arith, place_behind.low))
+            (omega (arith, place_behind.aligned))) place_behind.aligned word_behind.1
 
         comes_back : ComesBack T P x (Own number) v s
         comes_back = record {

@@ -1,11 +1,11 @@
 -- What the machine does from its start, beside a run of code.
-use Rattle.std.specs.Prelude.{◌≡◌, ℕ, suc, ◌*◌, ◌<◌, ◌≤◌, List, length}
+use Rattle.std.specs.Prelude.{◌≡◌, ℕ, suc, ◌<◌, ◌≤◌, true, List, length}
 use Rattle.sc_base.specs.declared.stop.TrapReason.TheVariants.{Owner}
 use Rattle.sc_core.specs.declared.run.RunEnd.TheVariants.{Ended, TurnsOut}
 use Rattle.sc_core.specs.Growth.{Front}
 use Rattle.sc_core.specs.Meaning.{Run}
 use Rattle.sc_core.specs.Words.{FrameChange, IsStop}
-use Rattle.sc_laws.specs.Rooms.{AllBefore, AllFrom, room_after}
+use Rattle.sc_laws.specs.Rooms.{AllBefore, AllFrom, has_no_end, room_after}
 use Rattle.sc_image.specs.declared.parts.ImageParts.{ImageParts}
 use Rattle.sc_image.specs.Cross.{ended}
 use Rattle.sc_image.specs.Layout.{stack_size}
@@ -13,12 +13,13 @@ use Rattle.sc_image.specs.State.{State, start}
 use Rattle.sc_image.specs.Step.{Goes, Traps, step}
 use Rattle.sc_image.specs.Walks.{Walks}
 
--- the machine reaches a state within a bound on steps
+-- the machine reaches a state within a bound on steps, and no end was told on the way
 pub record Reaches (image : ImageParts) (inputs : List ℕ) (bound : ℕ) : Type 0 where
   pub steps : ℕ
   pub reached : State
   pub walks : Walks image inputs steps (start image) reached
   pub within : steps < bound
+  pub going : has_no_end reached.trace ≡ true
 
 module _ (image : ImageParts) (inputs : List ℕ) (bound turns : ℕ) (run : Run) where
   -- `main` returns on both sides: the next step is the end

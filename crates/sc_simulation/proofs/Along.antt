@@ -1,0 +1,252 @@
+-- Runs along a stretch on which no end is told.
+use Rattle.std.proofs.Common.{◌≡◌, ℕ, zero, suc, ◌+◌, ◌<◌, ◌≤◌, Bool, true, false, not, ◌||◌, List, [], ◌∷◌, ◌++◌}
+use Rattle.std.proofs.Common.{length, take, Option, None, Some, refl, sym, ◌∙◌, ap, subst, arith, nat_le}
+use Rattle.std.proofs.Common.{◌-◌, length-append, zero-add, leb-false, le-leb, leb-true}
+use Rattle.std.specs.Prelude.{slice_get}
+use Rattle.std.specs.List.{list_any}
+use Rattle.std.specs.Option.{option_map_or}
+use Rattle.std.proofs.Math.Nat.{suc-add}
+use Rattle.sc_base.specs.declared.stop.Stop.{Stop}
+use Rattle.sc_base.specs.declared.stop.Stop.TheVariants.{EventsOut}
+use Rattle.sc_event.specs.Prelude.{is_end}
+use Rattle.sc_event.specs.declared.event.Event.{Event}
+use Rattle.sc_event.specs.declared.event.Event.TheVariants.{Call, End, In, Out, Ret}
+use Rattle.sc_core.specs.Growth.{Front}
+use Rattle.sc_laws.specs.Rooms.{has_no_end}
+use Rattle.sc_laws.proofs.Growing.{front_more, front_same}
+use Rattle.sc_laws.proofs.Runs.{front_long, take_fronts}
+use Rattle.sc_image.specs.declared.parts.ImageParts.{ImageParts}
+use Rattle.sc_image.specs.Calls.{has_result}
+use Rattle.sc_image.specs.Cross.{given_back, returned}
+use Rattle.sc_image.specs.Machine.{is_end as ends, is_ended, run, stopped}
+use Rattle.sc_image.specs.State.{Crossing, State, a0, reg}
+use Rattle.sc_image.specs.Step.{Goes, Outcome, Traps, step}
+use Rattle.sc_image.specs.Walks.{then_on, walk}
+use Rattle.sc_image.specs.WellFormed.{IsWellFormed}
+use Rattle.sc_image.proofs.Cases.{step_of}
+use Rattle.sc_image.proofs.Running.{run_goes, run_out, run_stopped, run_traps}
+use Rattle.sc_image.proofs.Stretches.{IsFront, goes_adds, not_stopped, walk_adds}
+
+-- LISTS
+
+take_exactly : {A : Type 0} (xs more : List A) → take (length xs) (xs ++ more) ≡ xs
+take_exactly [] [] = refl
+take_exactly [] (y ∷ more) = refl
+take_exactly (x ∷ xs) more = ap (λ ys. x ∷ ys) (take_exactly xs more)
+
+-- a front that is as long as this
+pub take_front : {A : Type 0} (n : ℕ) (xs ys : List A) → Front xs ys → length xs ≡ n → take n ys ≡ xs
+take_front n xs ys front long =
+    ap (take n) front.is ∙ ap (λ m. take m (xs ++ front.more)) (sym long) ∙ take_exactly xs front.more
+
+-- and one that is no longer
+pub front_taken : {A : Type 0} (n : ℕ) (xs ys : List A) → Front xs ys → length xs ≤ n → Front xs (take n ys)
+front_taken n xs ys front short =
+    subst (λ zs. Front zs (take n ys)) (take_short n xs short) (take_fronts n n xs ys (omega arith) front) where
+      take_short : {A : Type 0} (n : ℕ) (xs : List A) → length xs ≤ n → take n xs ≡ xs
+      take_short zero [] h = refl
+      take_short zero (x ∷ xs) h = absurd (omega (arith, h))
+      take_short (suc n) [] h = refl
+      take_short (suc n) (x ∷ xs) h = ap (λ ys. x ∷ ys) (take_short n xs (omega (arith, h)))
+
+-- NO END
+
+same_end : (e : Event) → ends e ≡ is_end e
+same_end (Call from to index args) = refl
+same_end (Ret from to value) = refl
+same_end (Out comp value) = refl
+same_end (In comp value) = refl
+same_end (End comp value) = refl
+
+none_at : (k : ℕ) (xs : List Event) → has_no_end xs ≡ true → option_map_or ends (slice_get xs k) false ≡ false
+none_at k [] h = refl
+none_at zero (x ∷ xs) h = same_end x ∙ by (is_end x) h where
+  by : (b : Bool) → not (b || list_any is_end xs) ≡ true → b ≡ false
+  by true h = cc h
+  by false h = refl
+none_at (suc k) (x ∷ xs) h = none_at k xs (by (is_end x) h) where
+  by : (b : Bool) → not (b || list_any is_end xs) ≡ true → has_no_end xs ≡ true
+  by true h = cc h
+  by false h = h
+
+pub not_over : (trace : List Event) → has_no_end trace ≡ true → is_ended trace ≡ false
+not_over trace h = none_at (length trace - 1) trace h
+
+pub front_endless : (xs ys : List Event) → Front xs ys → has_no_end ys ≡ true → has_no_end xs ≡ true
+front_endless xs ys front h = fewer xs (subst (λ zs. has_no_end zs ≡ true) front.is h) where
+  fewer : (xs : List Event) → has_no_end (xs ++ front.more) ≡ true → has_no_end xs ≡ true
+  fewer [] h = refl
+  fewer (x ∷ xs) h = by (is_end x) (fewer xs) h where
+    by : (b : Bool) → (has_no_end (xs ++ front.more) ≡ true → has_no_end xs ≡ true) →
+        not (b || list_any is_end (xs ++ front.more)) ≡ true → not (b || list_any is_end xs) ≡ true
+    by true later h = h
+    by false later h = later h
+
+-- STEPS
+
+-- a step tells one event at most
+abbrev AddsOne : List Event → Outcome → Type 0
+AddsOne trace (Goes next) = length next.trace ≤ suc (length trace)
+AddsOne trace (Traps reason) = Unit {0}
+
+one_more : (trace : List Event) (e : Event) → length (trace ++ e ∷ []) ≤ suc (length trace)
+one_more trace e = omega (arith, length-append trace (e ∷ []))
+
+return_adds : (image : ImageParts) (state : State) (cross : List Crossing) →
+    length (returned image state cross).trace ≤ suc (length state.trace)
+return_adds image state [] = one_more state.trace (End state.active (reg state a0))
+return_adds image state (x ∷ xs) =
+    one_more state.trace (Ret state.active x.caller (given_back (has_result image x.callee x.entry) state))
+
+module _ (image : ImageParts) (inputs : List ℕ) (formed : IsWellFormed image) where
+  step_adds : (state : State) → AddsOne state.trace (step image inputs state)
+  step_adds state = step_of image inputs formed state (AddsOne state.trace) (record {
+    same = λ a owned. refl;
+    traps = λ reason. tt;
+    quiet = λ regs pc moves. omega arith;
+    stores = λ op a word allowed. omega arith;
+    calls = λ to index target at may. one_more state.trace _;
+    returns = return_adds image state state.cross;
+    outputs = λ may. one_more state.trace _;
+    reads = λ may. one_more state.trace _;
+  })
+
+  goes_one : (state next : State) → step image inputs state ≡ Goes next →
+      length next.trace ≤ suc (length state.trace)
+  goes_one state next goes = subst (AddsOne state.trace) goes (step_adds state)
+
+  as_front : (xs ys : List Event) → IsFront xs ys → Front xs ys
+  as_front xs ys h = record { more = h.0; is = sym h.1 }
+
+  pub goes_front : (state next : State) → step image inputs state ≡ Goes next → Front state.trace next.trace
+  goes_front state next goes = as_front state.trace next.trace (goes_adds image inputs formed state next goes)
+
+  pub walk_front : (n : ℕ) (from to : State) → walk image inputs n from ≡ Goes to → Front from.trace to.trace
+  walk_front n from to goes = as_front from.trace to.trace (walk_adds image inputs formed n from to goes)
+
+  -- RUNS
+  module _ (events : ℕ) where
+    pub no_steps : (state : State) → (run image inputs events 0 state).state ≡ state
+    no_steps state = by (stopped events state.trace) refl where
+      by : (o : Option Stop) → stopped events state.trace ≡ o → (run image inputs events 0 state).state ≡ state
+      by None is = ap (λ r. r.state) (run_out image inputs events state is)
+      by (Some stop) is = ap (λ r. r.state) (run_stopped image inputs events 0 state stop is)
+
+    full_stops : (trace : List Event) → is_ended trace ≡ false → events ≤ length trace →
+        stopped events trace ≡ Some EventsOut
+    unfolding stopped
+    full_stops trace going le = rw (going, le-leb events (length trace) le) refl
+
+    -- a run that has its events, and one that hasn't
+    pub at_full : (n : ℕ) (state : State) → is_ended state.trace ≡ false → events ≤ length state.trace →
+        (run image inputs events n state).state ≡ state
+    at_full n state going le =
+        ap (λ r. r.state) (run_stopped image inputs events n state EventsOut (full_stops state.trace going le))
+
+    module _ (to : State) (going : has_no_end to.trace ≡ true) where
+      -- what a run of this many steps, and more or fewer, shows of a stretch from this state
+      pub record Along (n : ℕ) (from : State) : Type 0 where
+        pub fewer : (m : ℕ) → m ≤ n → Front (run image inputs events m from).state.trace (take events to.trace)
+        pub full : (m : ℕ) → n ≤ m → events ≤ length to.trace →
+            (run image inputs events m from).state.trace ≡ take events to.trace
+        pub room : (k : ℕ) → length to.trace < events →
+            run image inputs events (n + k) from ≡ run image inputs events k to
+
+      before : (from : State) → Front from.trace to.trace → is_ended from.trace ≡ false
+      before from front = not_over from.trace (front_endless from.trace to.trace front going)
+
+      here : length to.trace ≤ events → Along 0 to
+      here short = record {
+        fewer = λ m le. subst (λ k. Front (run image inputs events k to).state.trace (take events to.trace))
+            (sym (zero_is m le)) (subst (λ t. Front t (take events to.trace)) (sym (ap (λ s. s.trace) (no_steps to)))
+            (front_taken events to.trace to.trace (front_same to.trace) short));
+        full = λ m le full. ap (λ s. s.trace) (at_full m to (not_over to.trace going) full) ∙
+            sym (take_front events to.trace to.trace (front_same to.trace) (omega (arith, short, full)));
+        room = λ k less. ap (λ j. run image inputs events j to) (zero-add k);
+      } where
+        zero_is : (m : ℕ) → m ≤ 0 → m ≡ 0
+        zero_is m le = omega (arith, le)
+
+      -- the run has its events already
+      done : (n : ℕ) (from : State) → Front from.trace to.trace → length from.trace ≤ events →
+          events ≤ length from.trace → Along n from
+      done n from front short full =
+          let whole : take events to.trace ≡ from.trace =
+          take_front events from.trace to.trace front (omega (arith, short, full)) in
+          let stays : (m : ℕ) → (run image inputs events m from).state.trace ≡ take events to.trace =
+          λ m. ap (λ s. s.trace) (at_full m from (before from front) full) ∙ sym whole in
+          record {
+            fewer = λ m le. subst (λ t. Front t (take events to.trace)) (sym (stays m))
+                (front_same (take events to.trace));
+            full = λ m le long. stays m;
+            room = λ k less. absurd (omega (arith, less, full, front_long from.trace to.trace front));
+          }
+
+      -- it goes on by a step
+      further : (n : ℕ) (from next : State) → Front from.trace to.trace → length from.trace < events →
+          step image inputs from ≡ Goes next → Along n next → Along (suc n) from
+      further n from next front short goes rest =
+          let early = not_stopped image inputs formed events from.trace (before from front) short in
+          let on : (m : ℕ) → run image inputs events (suc m) from ≡ run image inputs events m next =
+          λ m. run_goes image inputs events m from next early goes in
+          record {
+            fewer = λ m le. fewer_at on m le;
+            full = λ m le long. full_at on m le long;
+            room = λ k less. ap (λ j. run image inputs events j from) (suc-add n k) ∙ on (n + k) ∙ rest.room k less;
+          }
+        where
+          fewer_at : ((m : ℕ) → run image inputs events (suc m) from ≡ run image inputs events m next) → (m : ℕ) →
+              m ≤ suc n → Front (run image inputs events m from).state.trace (take events to.trace)
+          fewer_at on zero le =
+              subst (λ t. Front t (take events to.trace)) (sym (ap (λ s. s.trace) (no_steps from)))
+              (front_taken events from.trace to.trace front (omega (arith, short)))
+          fewer_at on (suc m) le =
+              subst (λ r. Front r.state.trace (take events to.trace)) (sym (on m)) (rest.fewer m (omega (arith, le)))
+
+          full_at : ((m : ℕ) → run image inputs events (suc m) from ≡ run image inputs events m next) → (m : ℕ) →
+              suc n ≤ m → events ≤ length to.trace →
+              (run image inputs events m from).state.trace ≡ take events to.trace
+          full_at on zero le long = absurd (omega (arith, le))
+          full_at on (suc m) le long = ap (λ r. r.state.trace) (on m) ∙ rest.full m (omega (arith, le)) long
+
+      along_by : (n : ℕ) (from : State) (outcome : Outcome) → step image inputs from ≡ outcome →
+          then_on outcome (walk image inputs n) ≡ Goes to → Front from.trace to.trace → length from.trace ≤ events →
+          ((next : State) → walk image inputs n next ≡ Goes to → length next.trace ≤ events → Along n next) →
+          Along (suc n) from
+      along_by n from (Goes next) is goes front short later = by (nat_le events (length from.trace)) refl where
+        by : (b : Bool) → nat_le events (length from.trace) ≡ b → Along (suc n) from
+        by true full = done (suc n) from front short (leb-true events (length from.trace) full)
+        by false full =
+            let less : length from.trace < events = leb-false events (length from.trace) full in
+            further n from next front less is (later next goes (omega (arith, less, goes_one from next is)))
+      along_by n from (Traps reason) is goes front short later = cc goes
+
+      pub along : (n : ℕ) (from : State) → walk image inputs n from ≡ Goes to → length from.trace ≤ events →
+          Along n from
+      along zero from goes short =
+          let same : from ≡ to = cc goes in
+          subst (λ s. Along 0 s) (sym same) (here (subst (λ s. length s.trace ≤ events) same short))
+      along (suc n) from goes short =
+          along_by n from (step image inputs from) refl goes (walk_front (suc n) from to goes) short (along n)
+
+  -- a run only adds to the trace
+  run_front_by : (events n : ℕ) (from : State) (outcome : Outcome) → step image inputs from ≡ outcome →
+      ((next : State) → Front next.trace (run image inputs events n next).state.trace) →
+      (o : Option Stop) → stopped events from.trace ≡ o →
+      Front from.trace (run image inputs events (suc n) from).state.trace
+  run_front_by events n from outcome is later (Some stop) early =
+      subst (λ r. Front from.trace r.state.trace) (sym (run_stopped image inputs events (suc n) from stop early))
+      (front_same from.trace)
+  run_front_by events n from (Goes next) is later None early =
+      subst (λ r. Front from.trace r.state.trace) (sym (run_goes image inputs events n from next early is))
+      (front_more from.trace next.trace (run image inputs events n next).state.trace (goes_front from next is)
+      (later next))
+  run_front_by events n from (Traps reason) is later None early =
+      subst (λ r. Front from.trace r.state.trace) (sym (run_traps image inputs events n from reason early is))
+      (front_same from.trace)
+
+  pub run_front : (events n : ℕ) (from : State) → Front from.trace (run image inputs events n from).state.trace
+  run_front events zero from =
+      subst (λ s. Front from.trace s.trace) (sym (no_steps events from)) (front_same from.trace)
+  run_front events (suc n) from =
+      run_front_by events n from (step image inputs from) refl (run_front events n) (stopped events from.trace) refl
