@@ -465,11 +465,8 @@ module _ (image : ImageParts) (inputs : List ℕ) (formed : IsWellFormed image) 
           let blame : IsBlamed (stopped_at events one.behaviour).end = subst IsBlamed (sym ends) tt in
           ⊎_elim (λ h. sorted (stopped_at events one.behaviour) blame (stopped_at events other.behaviour).trace front h
           (nat_le (length told) (length (stopped_at events one.behaviour).trace)) refl)
-          (λ h. inr (
-            blame,
-            front_more (stopped_at events one.behaviour).trace (stopped_at events other.behaviour).trace
-                told front h.1,
-          )) h
+          (λ h. inr (blame, front_more (stopped_at events one.behaviour).trace (stopped_at events other.behaviour).trace
+          told front h.1)) h
 
     backward : (steps events : ℕ) → steps ≤ turns → Behind steps events (stopped_at events one.behaviour)
     backward steps events le =
