@@ -1,2 +1,7 @@
 pub mod Along
+pub mod Environment
+pub mod OwnCalls
+pub mod Placing
+pub mod Sections
 pub mod Shows
+pub mod Turning

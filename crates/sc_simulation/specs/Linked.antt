@@ -61,7 +61,8 @@ module _ (program : TacTree) where
   gives comp Input = true
   gives comp Output = false
 
-  -- a run of an image in which some compartments perform in place of running the program's code
+  -- a run of an image in which some compartments perform in place of running the program's code; what a script gives
+  -- back is not known
   abbrev pub setting : ImageParts → List ℕ → (performs : ℕ → Bool) → (turn_pays : ℕ) → (ℕ → Addresses) → Setting
   setting image inputs performs turn_pays addresses = record {
     image = image;
@@ -71,7 +72,7 @@ module _ (program : TacTree) where
     addresses = addresses;
     globals = λ k. length (code_globals program.sections k);
     makes = makes;
-    gives = gives;
+    gives = λ comp target. not (performs comp) && gives comp target;
   }
 
 -- the code of a function stands where it begins, and a turn pays for it and one step more
