@@ -4,4 +4,5 @@ pub mod OwnCalls
 pub mod Placing
 pub mod Sections
 pub mod Shows
+pub mod Start
 pub mod Turning
