@@ -1,8 +1,10 @@
 pub mod Along
 pub mod Environment
+pub mod Finish
 pub mod OwnCalls
 pub mod Placing
 pub mod Sections
 pub mod Shows
 pub mod Start
 pub mod Turning
+pub mod Whole

@@ -1,7 +1,8 @@
 -- Where both sides stand at the start of a run: the machine, and the meaning of the program whose code it has.
-use Rattle.std.proofs.Common.{◌≡◌, ◌≢◌, ℕ, zero, suc, ◌+◌, ◌*◌, ◌<◌, ◌≤◌, Bool, true, false, not, ◌&&◌, ◌||◌, ◌==◌, List}
-use Rattle.std.proofs.Common.{[], ◌∷◌, length, Option, None, Some, refl, sym, ◌∙◌, ap, subst, arith, cond, zero-add}
-use Rattle.std.specs.Prelude.{◌⊎◌, if◌then◌else◌, nat_lt, slice_get, slice_index, IsTrue}
+use Rattle.std.proofs.Common.{◌≡◌, ℕ, zero, suc, ◌+◌, ◌*◌, ◌<◌, ◌≤◌, Bool, true, false, not, ◌||◌, ◌==◌}
+use Rattle.std.proofs.Common.{List, [], ◌∷◌, length, Option, None, Some, refl, sym, ◌∙◌, ap, subst, arith, cond}
+use Rattle.std.proofs.Common.{zero-add}
+use Rattle.std.specs.Prelude.{◌⊎◌, if◌then◌else◌, nat_lt, slice_get, slice_index}
 use Rattle.std.specs.List.{position}
 use Rattle.std.specs.Option.{option_map}
 use Rattle.std.proofs.lemmas.Bool.{and_parts, eqb-true, lt-ltb, ltb-true}
@@ -17,7 +18,6 @@ use Rattle.sc_image.specs.declared.parts.CompPart.{CompPart}
 use Rattle.sc_image.specs.declared.parts.ImageParts.{ImageParts}
 use Rattle.sc_image.specs.Layout.{gate, stack_top}
 use Rattle.sc_image.specs.State.{stack_tops, start, start_memory}
-use Rattle.sc_image.specs.Steady.{IsSteady}
 use Rattle.sc_image.proofs.Reached.{runs_are_steady}
 use Rattle.sc_tac.specs.declared.function.TacFnTree.{TacFnTree}
 use Rattle.sc_tac.specs.declared.program.TacSection.{TacSection}
@@ -27,10 +27,10 @@ use Rattle.sc_tac.specs.Programs.{IsProgram, are_headed, count, has_head, main_e
 use Rattle.sc_select.specs.Linking.{Addresses}
 use Rattle.sc_hart.specs.Hart.{Registers}
 use Rattle.sc_hart.specs.Words.{word}
-use Rattle.sc_relation.specs.Blocks.{BlocksMatch, InCell, Injection, LiveAt, Placed}
+use Rattle.sc_relation.specs.Blocks.{BlocksMatch, InCell, Injection, Placed}
 use Rattle.sc_relation.specs.Calls.{Begins, IsBase}
 use Rattle.sc_relation.specs.Stretches.{Joint, Setting, Settled, Standpoint, machine}
-use Rattle.sc_simulation.specs.Linked.{GlobalStands, IsLinked, functions_in, functions_or_none, setting}
+use Rattle.sc_simulation.specs.Linked.{IsLinked, functions_in, functions_or_none, setting}
 use Rattle.sc_simulation.proofs.Sections.{all_at, position_at}
 
 -- THE FUNCTION OF `main`
