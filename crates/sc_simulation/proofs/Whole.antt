@@ -15,10 +15,10 @@ use Rattle.sc_simulation.specs.Results.{GivesResults}
 use Rattle.sc_simulation.specs.Simulation.{Simulates, nobody}
 use Rattle.sc_simulation.proofs.Finish.{outcome}
 
--- functions are followed by their code on every linked image, where what performs is
+-- functions are followed by their code on every linked image, where those that perform are followed
 abbrev pub AllFollow : Type 0
-AllFollow = (program : TacTree) (image : ImageParts) (turn_pays : ℕ) (addresses : ℕ → Addresses) (inputs : List ℕ)
-    (roles : Roles) → IsProgram program →
+AllFollow = (program : TacTree) (image : ImageParts) (inputs : List ℕ) (roles : Roles) (turn_pays : ℕ)
+    (addresses : ℕ → Addresses) → IsProgram program →
     ((comp number : ℕ) (f : TacFnTree) → slice_get (functions_in program comp) number ≡ Some f → IsFunction f) →
     GivesResults program roles → IsLinked program image turn_pays addresses → All IsWord inputs →
     ((n : ℕ) → PerformersFollow program roles (setting program image inputs roles.scripted turn_pays addresses) n) →
@@ -28,5 +28,5 @@ AllFollow = (program : TacTree) (image : ImageParts) (turn_pays : ℕ) (addresse
 pub simulates_by : AllFollow → Simulates
 simulates_by follow program image turn_pays built inputs turns words =
     outcome program image turn_pays built inputs turns
-    (follow program image turn_pays built.addresses inputs nobody built.rules built.functions built.results built.linked
+    (follow program image inputs nobody turn_pays built.addresses built.rules built.functions built.results built.linked
     words (λ n P x to index args honest scripted makes settled base at passed stands. cc scripted))
