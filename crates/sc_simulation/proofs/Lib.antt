@@ -5,8 +5,11 @@ pub mod Bodies
 pub mod CrossCalls
 pub mod Crossing
 pub mod Environment
+pub mod Finish
 pub mod OwnCalls
 pub mod Placing
 pub mod Sections
 pub mod Shows
+pub mod Start
 pub mod Turning
+pub mod Whole
