@@ -36,7 +36,8 @@ all_at test (y ∷ ys) zero x h e =
 all_at test (y ∷ ys) (suc i) x h e = all_at test ys i x (and_parts (test y) (list_all test ys) h).1 e
 
 pub numbered_at : (test : ℕ → TacSection → Bool) (first : ℕ) (sections : List TacSection) (k : ℕ)
-    (section : TacSection) → numbered test first sections ≡ true → slice_get sections k ≡ Some section → test (first + k) section ≡ true
+    (section : TacSection) → numbered test first sections ≡ true → slice_get sections k ≡ Some section →
+    test (first + k) section ≡ true
 numbered_at test first [] k section h e = cc e
 numbered_at test first (one ∷ others) zero section h e =
     let here : first ≡ first + 0 = omega arith in

@@ -108,10 +108,12 @@ pub record IsLinked (program : TacTree) (image : ImageParts) (turn_pays : ℕ) (
       HasCode image (addresses comp) turn_pays comp number f
   pub function_at : (comp number : ℕ) → number < length (functions_in program comp) →
       IsCodeAddress ((addresses comp).function number)
-  pub main_at : (number : ℕ) → function_entered Main (slice_get program.sections program.interfaces.main) ≡ Some number →
+  pub main_at : (number : ℕ) →
+      function_entered Main (slice_get program.sections program.interfaces.main) ≡ Some number →
       image.entry ≡ (addresses program.interfaces.main).function number
   -- entries
-  pub entries : (from to index number : ℕ) → function_entered (Export index) (slice_get program.sections to) ≡ Some number →
+  pub entries : (from to index number : ℕ) →
+      function_entered (Export index) (slice_get program.sections to) ≡ Some number →
       EntersBy image to ((addresses from).entry to index) ((addresses to).function number)
   pub entry_at : (from to index : ℕ) (proto : Proto) → export_at program.interfaces to index ≡ Some proto →
       IsCodeAddress ((addresses from).entry to index)
