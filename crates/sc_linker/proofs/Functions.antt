@@ -1,0 +1,81 @@
+-- In a linked image each function's code stands where the layout says.
+use Rattle.std.proofs.Common.{◌≡◌, ℕ, ◌+◌, ◌*◌, ◌≤◌, ◌⊎◌, List, length, take}
+use Rattle.std.proofs.Common.{slice_get, None, Some, All, sym, ap, ◌∙◌, arith, inl, inr}
+use Rattle.std.proofs.lemmas.Option.{slice_get_within}
+use Rattle.rv_code.specs.Prelude.{IsInstr}
+use Rattle.sc_event.specs.Prelude.{comp_at}
+use Rattle.sc_core.specs.Prelude.{IsWellTyped}
+use Rattle.sc_core.specs.declared.program.ProgramTree.{ProgramTree}
+use Rattle.sc_core.specs.declared.section.TypedFunction.{TypedFunction}
+use Rattle.sc_tac.specs.declared.machine_code.CodeTree.{CodeTree}
+use Rattle.sc_select.specs.Linking.{linked}
+use Rattle.sc_linker.specs.Image.{comp_code, function_address, linked_image}
+use Rattle.sc_linker.specs.Layout.{addresses_at, codes_at, exports_at, instructions, section_at, section_or_none}
+use Rattle.sc_linker.specs.Laws.{FunctionsStand, IsWhole, StandFrom}
+use Rattle.sc_linker.specs.Linkable.{IsLinkable}
+use Rattle.sc_linker.proofs.Codes.{codes_none}
+use Rattle.sc_linker.proofs.Comps.{Fits, fits_or_none}
+use Rattle.sc_linker.proofs.Linked.{code_instrs, instr_there}
+use Rattle.sc_linker.proofs.Places.{all_here, there, total_take}
+use Rattle.sc_linker.proofs.Ready.{can_link, stands}
+
+module _ (program : ProgramTree) (codes : List CodeTree) (typed : IsWellTyped program) (whole : All IsWhole codes)
+    (linkable : IsLinkable program codes)
+  where
+    code_stands : (comp : ℕ) → Fits program comp → (number : ℕ) (code : CodeTree) →
+        slice_get (codes_at program codes comp) number ≡ Some code →
+        StandFrom (linked_image program codes) comp ((addresses_at program codes comp).function number)
+        (linked (addresses_at program codes comp) ((addresses_at program codes comp).function number) code)
+    code_stands comp fits number code is i instr at =
+        let cs : List CodeTree = codes_at program codes comp in
+        let k : ℕ = length (exports_at program comp) + instructions (take number cs) + i in
+        let placed : slice_get (comp_code program codes comp) k ≡ Some instr =
+        instr_there comp (exports_at program comp) (section_at program comp) cs number code i instr is at in
+        stands program codes comp fits k ((addresses_at program codes comp).function number + 4 * i) instr (omega arith)
+        placed
+        (all_here IsInstr (comp_code program codes comp)
+        (code_instrs comp (exports_at program comp) (section_at program comp) cs
+        (can_link program codes whole linkable comp fits)) k instr placed)
+
+    code_by : (comp number : ℕ) (code : CodeTree) → slice_get (codes_at program codes comp) number ≡ Some code →
+        StandFrom (linked_image program codes) comp ((addresses_at program codes comp).function number)
+        (linked (addresses_at program codes comp) ((addresses_at program codes comp).function number) code)
+    code_by comp number code is = by (fits_or_none program typed comp) where
+      by : Fits program comp ⊎ ((comp_at program.interfaces comp ≡ None) × (slice_get program.sections comp ≡ None)) →
+          StandFrom (linked_image program codes) comp ((addresses_at program codes comp).function number)
+          (linked (addresses_at program codes comp) ((addresses_at program codes comp).function number) code)
+      by (inl fits) = code_stands comp fits number code is
+      by (inr none) =
+          let never : None ≡ Some code =
+          sym (ap (λ cs. slice_get cs number) (codes_none comp program.sections codes none.1)) ∙ is in
+          absurd (cc)
+
+    there_by : (comp number : ℕ) (f : TypedFunction) → slice_get (section_at program comp).functions number ≡ Some f →
+        (code : CodeTree) × (slice_get (codes_at program codes comp) number ≡ Some code)
+    there_by comp number f is = by (fits_or_none program typed comp) where
+      by : Fits program comp ⊎ ((comp_at program.interfaces comp ≡ None) × (slice_get program.sections comp ≡ None)) →
+          (code : CodeTree) × (slice_get (codes_at program codes comp) number ≡ Some code)
+      by (inl fits) =
+          there (codes_at program codes comp) number
+          (omega (
+            arith,
+            (can_link program codes whole linkable comp fits).counted,
+            slice_get_within (section_at program comp).functions number f is,
+          ))
+      by (inr none) =
+          let never : None ≡ Some f =
+          sym (ap (λ o. slice_get (section_or_none o).functions number) none.1) ∙ is in
+          absurd (cc)
+
+    pub functions_stand : FunctionsStand program codes
+    functions_stand = record {
+      code = code_by;
+      there = there_by;
+      aligned = λ comp number. omega arith;
+      low = λ comp number below.
+          let upto : instructions (take number (codes_at program codes comp)) ≤ instructions (codes_at program codes
+          comp) =
+          total_take (λ (code : CodeTree). length code.instrs) (codes_at program codes comp) number in
+          omega (arith, below, upto, linkable.code comp);
+      main = λ number is. ap (function_address (addresses_at program codes program.interfaces.main)) is;
+    }

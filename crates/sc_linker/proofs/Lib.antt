@@ -1,0 +1,17 @@
+pub mod Places
+pub mod Comps
+pub mod Codes
+pub mod Instrs
+pub mod Linked
+pub mod Cells
+pub mod Starts
+pub mod Exports
+pub mod Ready
+pub mod Imported
+pub mod Formed
+pub mod Functions
+pub mod Entries
+pub mod Permitted
+pub mod Loaded
+pub mod Globals
+pub mod Whole

@@ -1,0 +1,72 @@
+-- Words that a compartment's globals begin with are loaded from the memory of the start.
+use Rattle.std.proofs.Common.{◌≡◌, ℕ, zero, suc, ◌+◌, ◌-◌, ◌*◌, ◌%◌, ◌^◌, ◌<◌, ◌≤◌, false, nat_lt}
+use Rattle.std.proofs.Common.{List, [], ◌∷◌, ◌++◌, length, flat_map, slice_get, Some, refl, ap, ◌∙◌, arith}
+use Rattle.std.proofs.Common.{le-ltb}
+use Rattle.std.proofs.lemmas.Option.{slice_get_within}
+use Rattle.byteorder.specs.Endian.{little_bytes}
+use Rattle.sc_store.specs.Memory.{Memory, byte_of, load_of}
+use Rattle.sc_image.proofs.AtStart.{start_is}
+use Rattle.sc_image.specs.declared.parts.CompPart.{CompPart}
+use Rattle.sc_image.specs.declared.parts.ImageParts.{ImageParts}
+use Rattle.sc_image.specs.Layout.{comp_of_data, data_start, most_globals, stack_size, stack_top, stretch}
+use Rattle.sc_image.specs.State.{start_memory}
+
+-- THE BYTES OF WORDS
+first_byte : (word : ℕ) (others : List ℕ) (j : ℕ) → j < 4 →
+    slice_get (little_bytes 4 word ++ others) j ≡ Some (byte_of word j)
+first_byte word others zero within = ap Some (omega arith)
+first_byte word others (suc zero) within = refl
+first_byte word others (suc (suc zero)) within = refl
+first_byte word others (suc (suc (suc zero))) within = refl
+first_byte word others (suc (suc (suc (suc j)))) within = absurd (omega (arith, within))
+
+word_byte : (words : List ℕ) (k j at word : ℕ) → at ≡ 4 * k + j → j < 4 → slice_get words k ≡ Some word →
+    slice_get (flat_map (little_bytes 4) words) at ≡ Some (byte_of word j)
+word_byte [] k j at word e within is = absurd (cc)
+word_byte (first ∷ words) zero j at word e within is =
+    let same : first ≡ word = cc in
+    let place : at ≡ j = omega (arith, e) in
+    ap (slice_get (flat_map (little_bytes 4) (first ∷ words))) place
+    ∙ first_byte first (flat_map (little_bytes 4) words) j within ∙ ap (λ w. Some (byte_of w j)) same
+word_byte (first ∷ words) (suc k) j at word e within is =
+    let place : at ≡ suc (suc (suc (suc (4 * k + j)))) = omega (arith, e) in
+    ap (slice_get (flat_map (little_bytes 4) (first ∷ words))) place
+    ∙ word_byte words k j (4 * k + j) word refl within is
+
+-- four bytes are the number that they make
+four_bytes : (word : ℕ) → word < 2 ^ 32 →
+    0 + byte_of word 0 * 256 ^ 0 + byte_of word 1 * 256 ^ 1 + byte_of word 2 * 256 ^ 2 + byte_of word 3 * 256 ^ 3 ≡ word
+four_bytes word below = omega (arith, below)
+
+load_is : (memory : Memory) (a word : ℕ) → word < 2 ^ 32 →
+    ((j : ℕ) → j < 4 → memory (a + j) ≡ Some (byte_of word j)) → load_of memory a 4 ≡ word
+load_is memory a word below bytes =
+    rw (bytes 0 (omega arith), bytes 1 (omega arith), bytes 2 (omega arith), bytes 3 (omega arith))
+    (four_bytes word below)
+
+-- IN MEMORY
+module _ (image : ImageParts) (c : ℕ) (comp : CompPart) (found : slice_get image.comps c ≡ Some comp)
+    (short : length comp.globals ≤ most_globals)
+  where
+    global_byte : (k address : ℕ) → k < length comp.globals → address ≡ stack_top c + k →
+        start_memory image address ≡ slice_get comp.globals k
+    global_byte k address below e =
+        let at : address ≡ data_start c + (stack_size + k) = omega (arith, e) in
+        let from : nat_lt (data_start c + (stack_size + k)) (data_start 0) ≡ false = le-ltb _ _ (omega arith) in
+        let number : comp_of_data (data_start c + (stack_size + k)) ≡ c = omega (arith, below, short) in
+        let offset : (data_start c + (stack_size + k) - data_start 0) % stretch ≡ stack_size + k =
+        omega (arith, below, short) in
+        let high : nat_lt (stack_size + k) stack_size ≡ false = le-ltb _ _ (omega arith) in
+        let place : stack_size + k - stack_size ≡ k = omega arith in
+        ap (start_memory image) at ∙ start_is (data_start c + (stack_size + k)) image
+        ∙ rw (from, number, offset, found, high, place) refl
+
+    pub word_loaded : (words : List ℕ) (k word address : ℕ) → comp.globals ≡ flat_map (little_bytes 4) words →
+        slice_get words k ≡ Some word → word < 2 ^ 32 → address ≡ stack_top c + 4 * k →
+        load_of (start_memory image) address 4 ≡ word
+    word_loaded words k word address bytes is below e =
+        load_is (start_memory image) address word below (λ j within.
+        let byte : slice_get comp.globals (4 * k + j) ≡ Some (byte_of word j) =
+        ap (λ bs. slice_get bs (4 * k + j)) bytes ∙ word_byte words k j (4 * k + j) word refl within is in
+        global_byte (4 * k + j) (address + j) (slice_get_within comp.globals (4 * k + j) (byte_of word j) byte)
+        (omega (arith, e)) ∙ byte)

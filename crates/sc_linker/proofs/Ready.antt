@@ -1,0 +1,112 @@
+-- Each compartment of a program that is linkable can be linked, and what stands in its code stands in the image.
+use Rattle.std.proofs.Common.{◌≡◌, ℕ, ◌+◌, ◌-◌, ◌*◌, ◌/◌, ◌%◌, ◌<◌, true, nat_eq, nat_le, nat_lt}
+use Rattle.std.proofs.Common.{List, [], length, map, take, slice_get, Some, is_some, option_map}
+use Rattle.std.proofs.Common.{All, sym, subst, ap, ◌∙◌, arith, eq-eqb, le-leb, ltb-true}
+use Rattle.std.proofs.lemmas.List.Elements.{All-weaker}
+use Rattle.std.proofs.lemmas.Option.{slice_get-map}
+use Rattle.std.specs.Option.{option_map_or}
+use Rattle.rv_code.proofs.OneEach.{decoded-word_of}
+use Rattle.rv_code.specs.declared.instr.Instr.{Instr}
+use Rattle.rv_code.specs.Prelude.{IsInstr, word_of}
+use Rattle.sc_event.specs.Prelude.{export_at}
+use Rattle.sc_event.specs.declared.interface.Proto.{Proto}
+use Rattle.sc_core.specs.declared.program.ProgramTree.{ProgramTree}
+use Rattle.sc_core.specs.declared.section.TypedSection.{TypedSection}
+use Rattle.sc_image.specs.declared.parts.CompPart.{CompPart}
+use Rattle.sc_image.specs.declared.parts.ImageParts.{ImageParts}
+use Rattle.sc_image.specs.Layout.{code_of, code_start, word_at}
+use Rattle.sc_tac.specs.declared.machine_code.CodeTree.{CodeTree}
+use Rattle.sc_tac.specs.declared.machine_code.Relocation.{Relocation}
+use Rattle.sc_select.specs.Linking.{is_named, linked}
+use Rattle.sc_kinds.proofs.Sections.{all_at}
+use Rattle.sc_linker.specs.Image.{comp_code, linked_image}
+use Rattle.sc_linker.specs.Layout.{addresses_at, codes_at, exports_at, instructions, section_at}
+use Rattle.sc_linker.specs.Laws.{IsWhole, StandsAt}
+use Rattle.sc_linker.specs.Linkable.{IsLinkable, RefersInside}
+use Rattle.sc_linker.proofs.Codes.{codes_all, codes_count, linked_length}
+use Rattle.sc_linker.proofs.Comps.{Fits, exports_are, part_is, section_is}
+use Rattle.sc_linker.proofs.Exports.{Named, export_named}
+use Rattle.sc_linker.proofs.Linked.{CanLink, RefersTo, instr_there}
+use Rattle.sc_linker.proofs.Places.{all_here, there}
+
+module _ (program : ProgramTree) (codes : List CodeTree) (whole : All IsWhole codes)
+    (linkable : IsLinkable program codes) (c : ℕ) (fits : Fits program c)
+  where
+    abbrev functions : ℕ
+    functions = length (section_at program c).functions
+
+    refers_to : (code : CodeTree) → RefersInside program c code → RefersTo functions code
+    refers_to code inside i r is n e =
+        ltb-true n functions
+        (sym (ap (is_named (λ number. nat_lt number functions)
+        (λ to index. is_some (export_at program.interfaces to index))
+        (λ number. nat_lt number (length (section_at program c).globals))) e)
+        ∙ all_at (λ (r : Relocation). is_named (λ number. nat_lt number functions)
+        (λ to index. is_some (export_at program.interfaces to index))
+        (λ number. nat_lt number (length (section_at program c).globals)) r.target) code.relocations inside i r is)
+
+    named : (i : ℕ) (proto : Proto) → slice_get (exports_at program c) i ≡ Some proto →
+        Named (section_at program c) proto.name
+    named i proto is =
+        subst (λ s. Named s proto.name) (sym (section_is program c fits))
+        (export_named program.interfaces c fits.interface fits.section fits.faces i proto
+        (ap (λ ps. slice_get ps i) (sym (exports_are program c fits)) ∙ is))
+
+    pub can_link : CanLink c (exports_at program c) (section_at program c) (codes_at program codes c)
+    can_link = record {
+      short = linkable.code c;
+      counted = codes_count c program.sections codes fits.section (omega (arith, linkable.each)) fits.is
+          ∙ ap (λ (s : TypedSection). length s.functions) (sym (section_is program c fits));
+      whole = codes_all IsWhole c program.sections codes whole;
+      inside = All-weaker (RefersInside program c) (RefersTo functions) refers_to (codes_at program codes c)
+          (linkable.inside c);
+      named = λ i proto is. let n = named i proto is in (n.number, n.found, n.within);
+    }
+
+-- IN THE IMAGE
+word_of_code : (image : ImageParts) (c k word : ℕ) → slice_get (code_of image c) k ≡ Some word →
+    word_at image c (code_start c + 4 * k) ≡ Some word
+unfolding word_at
+word_of_code image c k word is =
+    let aligned : nat_eq ((code_start c + 4 * k) % 4) 0 ≡ true = eq-eqb _ _ (omega arith) in
+    let from : nat_le (code_start c) (code_start c + 4 * k) ≡ true = le-leb _ _ (omega arith) in
+    let place : (code_start c + 4 * k - code_start c) / 4 ≡ k = omega arith in
+    rw (aligned, from, place) is
+
+module _ (program : ProgramTree) (codes : List CodeTree) (c : ℕ) (fits : Fits program c) where
+  code_is : code_of (linked_image program codes) c ≡ map word_of (comp_code program codes c)
+  code_is = ap (λ o. option_map_or (λ (comp : CompPart). comp.code) o []) (part_is program codes c fits)
+
+  pub word_there : (k address : ℕ) (instr : Instr) → address ≡ code_start c + 4 * k →
+      slice_get (comp_code program codes c) k ≡ Some instr →
+      word_at (linked_image program codes) c address ≡ Some (word_of instr)
+  word_there k address instr e is =
+      ap (word_at (linked_image program codes) c) e
+      ∙ word_of_code (linked_image program codes) c k (word_of instr)
+      (ap (λ ws. slice_get ws k) code_is ∙ slice_get-map word_of (comp_code program codes c) k ∙
+      ap (option_map word_of) is)
+
+  pub stands : (k address : ℕ) (instr : Instr) → address ≡ code_start c + 4 * k →
+      slice_get (comp_code program codes c) k ≡ Some instr → IsInstr instr →
+      StandsAt (linked_image program codes) c address instr
+  stands k address instr e is h = record {
+    word = word_of instr;
+    fetched = word_there k address instr e is;
+    decodes = decoded-word_of instr h;
+  }
+
+  -- where a function begins there is a word
+  pub function_starts : CanLink c (exports_at program c) (section_at program c) (codes_at program codes c) →
+      (n : ℕ) → n < length (section_at program c).functions →
+      (word : ℕ) × (word_at (linked_image program codes) c ((addresses_at program codes c).function n) ≡ Some word)
+  function_starts can n within =
+      let cs : List CodeTree = codes_at program codes c in
+      let one = there cs n (omega (arith, within, can.counted)) in
+      let some = (all_here IsWhole cs can.whole n one.0 one.1).rules.some in
+      let at = (addresses_at program codes c).function n in
+      let first = there (linked (addresses_at program codes c) at one.0) 0
+      (omega (arith, some, linked_length (addresses_at program codes c) at one.0)) in (
+        word_of first.0,
+        word_there (length (exports_at program c) + instructions (take n cs) + 0) at first.0 (omega arith)
+            (instr_there c (exports_at program c) (section_at program c) cs n one.0 0 first.0 one.1 first.1),
+      )

@@ -1,0 +1,111 @@
+-- The image of a program, from the codes of its functions.
+use Rattle.std.specs.Prelude.{ℕ, suc, pos, ◌+◌, ◌*◌, ◌-ℤ◌, List, [], ◌∷◌, ◌++◌, length, map, flat_map, Option}
+use Rattle.std.specs.Prelude.{None, Some, is_some}
+use Rattle.byteorder.specs.Endian.{little_bytes}
+use Rattle.rv_code.specs.declared.instr.Instr.{Instr}
+use Rattle.rv_code.specs.declared.instr.Instr.TheVariants.{Jal}
+use Rattle.rv_code.specs.Prelude.{word_of}
+use Rattle.sc_event.specs.Prelude.{imports, is_input, is_output}
+use Rattle.sc_event.specs.declared.interface.Import.{Import}
+use Rattle.sc_event.specs.declared.interface.Import.TheVariants as import
+use Rattle.sc_event.specs.declared.interface.Interface.{Interface}
+use Rattle.sc_event.specs.declared.interface.Proto.{Proto}
+use Rattle.sc_event.specs.declared.row.Entry.TheVariants.{Main}
+use Rattle.sc_core.specs.declared.program.ProgramTree.{ProgramTree}
+use Rattle.sc_core.specs.declared.section.TypedSection.{TypedSection}
+use Rattle.sc_core.specs.declared.value.Cell.{Cell}
+use Rattle.sc_core.specs.declared.value.Cell.TheVariants as cell
+use Rattle.sc_core.specs.Meaning.{entry_in, first_blocks, place_named}
+use Rattle.sc_image.specs.declared.parts.CompPart.{CompPart}
+use Rattle.sc_image.specs.declared.parts.ExportPart.{ExportPart}
+use Rattle.sc_image.specs.declared.parts.ImageParts.{ImageParts}
+use Rattle.sc_image.specs.declared.parts.ImportPart.{ImportPart}
+use Rattle.sc_tac.specs.declared.machine_code.CodeTree.{CodeTree}
+use Rattle.sc_select.specs.Linking.{Addresses, linked}
+use Rattle.sc_linker.specs.Layout.{addresses_at, codes_at, entry_address, exports_at, section_at}
+
+module _ (addresses : Addresses) where
+  -- where a function begins; every entry of a program leads to one
+  abbrev pub function_address : Option ℕ → ℕ
+  function_address None = 0
+  function_address (Some number) = addresses.function number
+
+  -- the jump at an entry, to the function of the export's name
+  abbrev pub entry_jump : (comp index : ℕ) → TypedSection → Proto → Instr
+  entry_jump comp index section proto =
+      Jal 0 (pos (function_address (place_named proto.name (Some section))) -ℤ pos (entry_address comp index))
+
+  -- those of exports from this index on
+  abbrev pub entry_jumps : (comp index : ℕ) → TypedSection → List Proto → List Instr
+  entry_jumps comp index section [] = []
+  entry_jumps comp index section (proto ∷ protos) =
+      entry_jump comp index section proto ∷ entry_jumps comp (suc index) section protos
+
+  -- codes one after the other, from an address on
+  abbrev pub linked_codes : (address : ℕ) → List CodeTree → List Instr
+  linked_codes address [] = []
+  linked_codes address (code ∷ codes) =
+      linked addresses address code ++ linked_codes (address + 4 * length code.instrs) codes
+
+-- exports from this index on
+abbrev pub export_parts : (comp index : ℕ) → List Proto → List ExportPart
+export_parts comp index [] = []
+export_parts comp index (proto ∷ protos) =
+    record {
+      name = proto.name;
+      params = length proto.params;
+      result = is_some proto.result;
+      entry = entry_address comp index;
+    } ∷ export_parts comp (suc index) protos
+
+-- what is imported of other compartments
+abbrev pub import_part : Import → List ImportPart
+import_part import.Input = []
+import_part import.Output = []
+import_part (import.Function comp index) = record { comp = comp; index = index } ∷ []
+
+-- the word that a cell begins with: 0 for null
+abbrev pub cell_word : Cell → ℕ
+cell_word cell.Undef = 0
+cell_word (cell.Word w) = w
+cell_word cell.Null = 0
+cell_word (cell.Ptr p) = 0
+
+-- the words of a section's globals at the start, in order of declaration
+abbrev pub global_words : TypedSection → List ℕ
+global_words section = flat_map (λ block. map cell_word block.cells) (first_blocks (Some section))
+
+module _ (program : ProgramTree) (codes : List CodeTree) where
+  -- a compartment's code: its entries, then the codes of its functions
+  abbrev pub comp_code : (comp : ℕ) → List Instr
+  comp_code comp =
+      let exports = exports_at program comp in
+      let addresses = addresses_at program codes comp in
+      entry_jumps addresses comp 0 (section_at program comp) exports ++
+      linked_codes addresses (entry_address comp (length exports)) (codes_at program codes comp)
+
+  abbrev pub comp_part : (comp : ℕ) → Interface → CompPart
+  comp_part comp interface = record {
+    name = interface.name;
+    input = imports program.interfaces comp is_input;
+    output = imports program.interfaces comp is_output;
+    exports = export_parts comp 0 interface.exports;
+    imports = flat_map import_part interface.imports;
+    code = map word_of (comp_code comp);
+    globals = flat_map (little_bytes 4) (global_words (section_at program comp));
+  }
+
+  -- compartments from this number on
+  abbrev pub comp_parts : (comp : ℕ) → List Interface → List CompPart
+  comp_parts comp [] = []
+  comp_parts comp (interface ∷ interfaces) = comp_part comp interface ∷ comp_parts (suc comp) interfaces
+
+  -- the run starts at `main` itself
+  abbrev pub linked_image : ImageParts
+  linked_image =
+      let main = program.interfaces.main in
+      record {
+        main = main;
+        entry = function_address (addresses_at program codes main) (entry_in program main Main);
+        comps = comp_parts 0 program.interfaces.comps;
+      }

@@ -1,0 +1,4 @@
+pub mod Image
+pub mod Laws
+pub mod Layout
+pub mod Linkable
