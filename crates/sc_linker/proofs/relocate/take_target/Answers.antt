@@ -1,0 +1,1 @@
+use Rattle.sc_linker.proofs.relocate.take_target.Goals as goal
