@@ -1,1 +1,2 @@
 pub mod Relocating
+pub mod Jumps

@@ -1,5 +1,6 @@
 //! Linking: the image of a program, from the codes of its functions.
 #![tactic(auto)]
 
+mod entries;
 mod layout;
 mod relocate;
