@@ -1,2 +1,4 @@
 pub mod Relocating
 pub mod Jumps
+pub mod Starts
+pub mod Agreeing

@@ -74,8 +74,8 @@ room_behind comp pc i xs within room =
     let here = length-drop i xs in
     let next = length-drop (i + 1) xs in
     record {
-      comp_number = room.comp_number;
       least = omega arith;
       greatest = omega arith;
+      word = omega arith;
       whole = omega arith;
     }

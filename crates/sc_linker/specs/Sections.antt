@@ -1,5 +1,5 @@
 -- Helping: a section's part of an image, by what it is made of.
-use Rattle.std.specs.Prelude.{◌≡◌, ℕ, pos, ◌-ℤ◌, ◌+◌, ◌*◌, ◌-◌, ◌%◌, ◌<◌, ◌≤◌, Bool, true, nat_lt, List, [], ◌∷◌, ◌++◌, length, map}
+use Rattle.std.specs.Prelude.{◌≡◌, ℕ, pos, ◌-ℤ◌, ◌+◌, ◌*◌, ◌-◌, ◌%◌, ◌^◌, ◌<◌, ◌≤◌, Bool, true, nat_lt, List, [], ◌∷◌, ◌++◌, length, map}
 use Rattle.std.specs.Prelude.{replicate, slice_index, All, IsTrue, IsSome, Some}
 use Rattle.std.specs.List.{list_all}
 use Rattle.rv_code.specs.declared.instr.Instr.{Instr}
@@ -47,16 +47,15 @@ addresses_of layout = record {
 
 -- an instruction of a compartment may stand at this address
 pub record IsCodeAddress (comp address : ℕ) : Type 0 where
-  pub comp_number : comp < 32
   pub least : code_start comp ≤ address
   pub greatest : address < code_start comp + stretch
   pub whole : address % 4 ≡ 0
 
 -- so many may stand from this address on
 pub record HasRoom (comp address count : ℕ) : Type 0 where
-  pub comp_number : comp < 32
   pub least : code_start comp ≤ address
   pub greatest : address + 4 * count ≤ code_start comp + stretch
+  pub word : address + 4 * count < 2 ^ 32
   pub whole : address % 4 ≡ 0
 
 -- a function or a global that there is, where there are so many

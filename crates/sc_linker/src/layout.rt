@@ -1,6 +1,7 @@
 //! Where the functions and the globals of a section begin.
 
 ghost use Rattle.std.specs.Prelude.{◌≡◌, ◌+◌, ◌*◌, ◌<◌, ◌≤◌, ◌^◌, All, IfOk, length, slice_index};
+ghost use Rattle.sc_tac.specs.declared.machine_code.CodeTree.{CodeTree};
 ghost use Rattle.sc_image.specs.Prelude.{most_globals, stack_top, stretch};
 ghost use Rattle.sc_linker.specs.Layout.{cells, entry_address, instructions};
 ghost use Rattle.sc_linker.specs.Sections.{IsCodeAddress, code_sizes, global_sizes, section_layout, starts};
@@ -30,7 +31,9 @@ pub fn entry_address(comp: CompId, index: u16) -> u32
 // Where the codes of functions begin that stand from an address on.
 fn function_starts(alloc: Global, address: u32, codes: &[Code]) -> Result<Words, OutOfMemory>
     requires { address + 4 * instructions codes.now < 2 ^ 32 }
-    ensures { IfOk result (λ functions. functions ≡ starts address (code_sizes codes.now)) }
+    ensures starts { IfOk result (λ functions. functions ≡ starts address (code_sizes codes.now)) }
+    // No code is empty.
+    ensures some { IfOk result (λ _. All {X = CodeTree} (λ code. 0 < length code.instrs) codes.now) }
 {
     let mut functions = Words::new(alloc);
     let mut next = address;
@@ -71,7 +74,8 @@ impl SectionLayout {
     ) -> Result<SectionLayout, OutOfMemory>
         requires code { 4 * (exports + instructions codes.now) ≤ stretch }
         requires globals { 4 * cells section.now.structs section.now.globals ≤ most_globals }
-        ensures { IfOk result (λ layout. layout ≡ section_layout comp exports section.now codes.now) }
+        ensures layout { IfOk result (λ layout. layout ≡ section_layout comp exports section.now codes.now) }
+        ensures functions { IfOk result (λ layout. All (IsCodeAddress comp) layout.functions) }
     {
         let structs = section.structs.as_slice();
         let globals = section.globals.as_slice();

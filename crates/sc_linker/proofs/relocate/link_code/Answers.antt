@@ -16,7 +16,7 @@ completed-instr-requires-clause-known c =
 pub overflow_add-pc : goal.overflow_add-pc
 overflow_add-pc c =
     let left = length-drop c.loop-instr.instr-index c.args.code.now.instrs in
-    record { fits = omega arith }
+    record { fits = omega (arith, c.loop-instr.invariant.room.word, ap length c.as_slice-instr-items.ensures) }
 
 pub loop-instr-preserved : goal.loop-instr-preserved
 loop-instr-preserved c =
