@@ -2,3 +2,4 @@ pub mod Relocating
 pub mod Jumps
 pub mod Starts
 pub mod Agreeing
+pub mod Zeros

@@ -30,6 +30,10 @@ code_sizes codes = map {A = CodeTree} (λ code. length code.instrs) codes
 abbrev pub global_sizes : List TypedStruct → List TypedGlobal → List ℕ
 global_sizes structs globals = map {A = TypedGlobal} (λ g. cells_of structs g.ty) globals
 
+-- the words of a global: those that it begins with, and zeros behind them
+abbrev pub initial_words : List TypedStruct → TypedGlobal → List ℕ
+initial_words structs g = g.init ++ replicate (cells_of structs g.ty - length g.init) 0
+
 abbrev pub section_layout : (comp exports : ℕ) → TypedSection → List CodeTree → SectionLayout
 section_layout comp exports section codes = record {
   comp = comp;

@@ -2,6 +2,9 @@
 #![tactic(auto)]
 
 mod code;
+mod comp;
 mod entries;
+mod globals;
 mod layout;
 mod relocate;
+mod sections;

@@ -1,0 +1,10 @@
+use Rattle.std.proofs.Common.{drop, ◌++◌, ◌≡◌}
+use Rattle.sc_linker.specs.Image.{export_parts}
+use Rattle.sc_linker.proofs.comp.export_parts.Given as goal
+
+-- the exports from this one on are left
+abbrev pub invariant-loop-proto : goal.invariant-loop-proto
+invariant-loop-proto l = record {
+  number : l.index ≡ l.proto-index;
+  parts : l.parts ++ export_parts l.comp l.index (drop l.proto-index l.exports) ≡ export_parts l.comp 0 l.exports;
+}
