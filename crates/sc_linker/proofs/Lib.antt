@@ -3,3 +3,4 @@ pub mod Jumps
 pub mod Starts
 pub mod Agreeing
 pub mod Zeros
+pub mod Fitting

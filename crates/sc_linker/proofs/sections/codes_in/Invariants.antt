@@ -10,5 +10,5 @@ invariant-loop-section l = record {
   each :
       length l.rest ≡
       total (map {A = TypedSection} (λ section. length section.functions) (drop l.section-index l.sections));
-  own : codes_in l.before (drop l.section-index l.sections) l.rest ≡ codes_in l.comp l.sections l.codes;
+  own : codes_in l.before (drop l.section-index l.sections) l.rest ≡ codes_in l.fn.comp l.sections l.codes;
 }
