@@ -29,10 +29,10 @@ use Rattle.sc_linker.specs.Layout.{entry_address, section_addresses}
 use Rattle.sc_linker.specs.Sections.{AreKnown, CanBeLinked, IsKnown, addresses_of, code_sizes, global_sizes, section_code}
 use Rattle.sc_linker.specs.Sections.{section_layout, starts}
 use Rattle.sc_linker.proofs.Relocating.{known_at, known_behind}
-use Rattle.sc_linker.proofs.Starts.{starts_at, starts_length}
+use Rattle.sc_linker.proofs.Beginnings.{starts_at, starts_length}
 
 -- the same addresses, as far as there are functions and globals
-record Agree (A B : Addresses) (functions globals : ℕ) : Type 0 where
+pub record Agree (A B : Addresses) (functions globals : ℕ) : Type 0 where
   pub function : (number : ℕ) → number < functions → A.function number ≡ B.function number
   pub entry : (comp index : ℕ) → A.entry comp index ≡ B.entry comp index
   pub global : (number : ℕ) → number < globals → A.global number ≡ B.global number
@@ -122,7 +122,7 @@ module _ (comp exports : ℕ) (section : TypedSection) (codes : List CodeTree) w
   abbrev cells : List ℕ
   cells = global_sizes section.structs section.globals
 
-  layout_agrees : Agree (addresses_of (section_layout comp exports section codes))
+  pub layout_agrees : Agree (addresses_of (section_layout comp exports section codes))
       (section_addresses comp exports section codes) (length codes) (length section.globals)
   layout_agrees = record {
     function = λ number within.

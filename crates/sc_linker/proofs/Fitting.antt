@@ -118,7 +118,7 @@ exports_named section exports fit k d within =
     proto)) (λ (f : TypedFunction). bytes_eq f.name proto.name) (λ f h. and_first (bytes_eq f.name proto.name) _ h)
     section.functions (and_rest (not (bytes_eq proto.name main_name)) _ (and_rest (is_plain_name proto.name) _ fits))
 
-abbrev functions_count : TypedSection → ℕ
+abbrev pub functions_count : TypedSection → ℕ
 functions_count section = length section.functions
 
 -- a section has a code for each function

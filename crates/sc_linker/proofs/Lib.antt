@@ -1,6 +1,9 @@
 pub mod Relocating
 pub mod Jumps
-pub mod Starts
+pub mod Beginnings
 pub mod Agreeing
 pub mod Zeros
 pub mod Fitting
+pub mod MainAddress
+pub mod Compartments
+pub mod Formed

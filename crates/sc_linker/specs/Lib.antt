@@ -1,4 +1,5 @@
 pub mod Image
+pub mod Laws
 pub mod Layout
 pub mod Linkable
 pub mod Sections

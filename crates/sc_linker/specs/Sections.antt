@@ -4,6 +4,8 @@ use Rattle.std.specs.Prelude.{replicate, slice_index, All, IsTrue, IsSome, Some}
 use Rattle.std.specs.List.{list_all}
 use Rattle.rv_code.specs.declared.instr.Instr.{Instr}
 use Rattle.rv_code.specs.declared.instr.Instr.TheVariants.{Jal, Upper}
+use Rattle.sc_base.specs.Prelude.{is_name}
+use Rattle.sc_event.specs.declared.interface.Interface.{Interface}
 use Rattle.sc_event.specs.declared.interface.Proto.{Proto}
 use Rattle.sc_core.specs.declared.section.TypedGlobal.{TypedGlobal}
 use Rattle.sc_core.specs.declared.section.TypedSection.{TypedSection}
@@ -100,3 +102,8 @@ pub record CanBeLinked (comp : ℕ) (exports : List Proto) (section : TypedSecti
   pub inside : All {X = CodeTree}
       (λ code. AreKnown (length section.functions) (length section.globals) code.relocations) codes
   pub named : All {X = Proto} (λ proto. IsSome (place_named proto.name (Some section))) exports
+
+-- a compartment and its exports are called by names
+pub record IsNamed (interface : Interface) : Type 0 where
+  pub name : IsTrue (is_name interface.name)
+  pub exports : All {X = Proto} (λ proto. IsTrue (is_name proto.name)) interface.exports

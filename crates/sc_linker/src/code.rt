@@ -4,10 +4,11 @@ ghost use Rattle.std.specs.Prelude.{◌≡◌, ◌++◌, All, IfOk, OnOk, length
 ghost use Rattle.rv_code.specs.Prelude.{word_of};
 ghost use Rattle.sc_tac.specs.declared.machine_code.CodeTree.{CodeTree};
 ghost use Rattle.sc_linker.specs.Image.{linked_codes};
+ghost use Rattle.sc_linker.specs.Laws.{IsWhole};
 ghost use Rattle.sc_linker.specs.Layout.{instructions};
 ghost use Rattle.sc_linker.specs.Sections.{AreKnown, CanBeLinked, HasRoom, IsCodeAddress, addresses_of, section_code};
 
-use crate::entries::push_entries;
+use crate::entry::push_entries;
 use crate::layout::{SectionLayout, entry_address};
 use crate::relocate::link_code;
 use sc_base::{OutOfMemory, Words};
@@ -27,8 +28,9 @@ fn push_codes(
     requires room { HasRoom layout.now.comp address (instructions codes.now) }
     requires known { All {X = CodeTree} (λ code.
         AreKnown (length layout.now.functions) (length layout.now.globals) code.relocations) codes.now }
-    ensures { OnOk result (words.new ≡ words.old ++
+    ensures words { OnOk result (words.new ≡ words.old ++
         map word_of (linked_codes (addresses_of layout.now) address codes.now)) }
+    ensures whole { OnOk result (All IsWhole codes.now) }
 {
     let mut next = address;
     for code in codes {
@@ -48,7 +50,9 @@ pub fn section_code(
     codes: &[Code],
 ) -> Result<Words, OutOfMemory>
     requires { CanBeLinked comp exports.now section.now codes.now }
-    ensures { IfOk result (λ words. words ≡ map word_of (section_code comp exports.now section.now codes.now)) }
+    ensures words { IfOk result (λ words. words ≡ map word_of (section_code comp exports.now section.now codes.now)) }
+    // Code is made of instructions.
+    ensures whole { IfOk result (λ _. All IsWhole codes.now) }
 {
     let entries = exports.len() as u16;
     let layout = SectionLayout::new(alloc, comp, entries, section, codes)?;

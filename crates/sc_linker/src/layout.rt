@@ -87,20 +87,20 @@ impl SectionLayout {
     }
 
     /// Where the function of this number begins.
-    pub fn function(&self, number: u32) -> u32
+    pub fn function(&self, number: usize) -> u32
         requires known { number < length self.now.functions }
         requires all { All (IsCodeAddress self.now.comp) self.now.functions }
         ensures address { result ≡ slice_index self.now.functions number }
         ensures within { IsCodeAddress self.now.comp result }
     {
-        self.functions.as_slice()[number as usize]
+        self.functions.as_slice()[number]
     }
 
     /// Where the global of this number begins.
-    pub fn global(&self, number: u32) -> u32
+    pub fn global(&self, number: usize) -> u32
         requires { number < length self.now.globals }
         ensures { result ≡ slice_index self.now.globals number }
     {
-        self.globals.as_slice()[number as usize]
+        self.globals.as_slice()[number]
     }
 }

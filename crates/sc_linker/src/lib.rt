@@ -1,10 +1,13 @@
 //! Linking: the image of a program, from the codes of its functions.
 #![tactic(auto)]
 
+mod bytes;
 mod code;
 mod comp;
-mod entries;
-mod globals;
+mod entry;
+mod image;
 mod layout;
 mod relocate;
 mod sections;
+
+pub use image::link;

@@ -1,7 +1,7 @@
 //! Code with the addresses of what it refers to.
 
 ghost use Rattle.std.specs.Prelude.{◌≡◌, ◌≤◌, ◌++◌, drop, pos, ◌-ℤ◌, All, IfSome, Some, OnOk, length, map};
-ghost use Rattle.rv_code.specs.Prelude.{IsJumpOffset, word_of};
+ghost use Rattle.rv_code.specs.Prelude.{IsInstr, IsJumpOffset, word_of};
 ghost use Rattle.sc_select.specs.Linking.{Addresses, linked, low_behind, relocations_behind, target_at, with_low, with_target};
 ghost use Rattle.sc_select.specs.Pieces.{upper_part};
 ghost use Rattle.sc_linker.specs.Sections.{AreKnown, HasRoom, IsCodeAddress, IsKnown, addresses_of, with_jump};
@@ -78,13 +78,13 @@ fn referring(
     ensures low { result.1 ≡ low_behind (addresses_of layout.now) (Some target) }
 {
     match target {
-        Target::Function(number) => (with_jump(pc, layout.function(number), instr), None),
+        Target::Function(number) => (with_jump(pc, layout.function(number as usize), instr), None),
         Target::Entry(comp, index) => {
             let address = entry_address(comp, index);
             (with_upper(address, instr), Some(address))
         }
         Target::Global(number) => {
-            let address = layout.global(number);
+            let address = layout.global(number as usize);
             (with_upper(address, instr), Some(address))
         }
     }
@@ -102,6 +102,8 @@ fn completed(
     requires known { IfSome target (IsKnown (length layout.now.functions) (length layout.now.globals)) }
     ensures instr { result.0 ≡ with_target (addresses_of layout.now) pc target instr }
     ensures low { result.1 ≡ low_behind (addresses_of layout.now) target }
+    // It is made of registers and immediates.
+    ensures known { IsInstr instr }
 {
     match target {
         None => (instr, None),
@@ -141,7 +143,9 @@ pub fn link_code(
     requires functions { All (IsCodeAddress layout.now.comp) layout.now.functions }
     requires room { HasRoom layout.now.comp address (length code.now.instrs) }
     requires known { AreKnown (length layout.now.functions) (length layout.now.globals) code.now.relocations }
-    ensures { OnOk result (words.new ≡ words.old ++ map word_of (linked (addresses_of layout.now) address code.now)) }
+    ensures words { OnOk result (words.new ≡ words.old ++
+        map word_of (linked (addresses_of layout.now) address code.now)) }
+    ensures instrs { OnOk result (All IsInstr code.now.instrs) }
 {
     let relocations = code.relocations.as_slice();
     let mut next = 0;

@@ -3,10 +3,10 @@
 ghost use Rattle.std.specs.Prelude.{◌≡◌, ◌<◌, length, map};
 ghost use Rattle.sc_core.specs.Prelude.{total};
 ghost use Rattle.sc_core.specs.declared.section.TypedSection.{TypedSection};
-ghost use Rattle.sc_linker.specs.Layout.{codes_in, section_at};
+ghost use Rattle.sc_linker.specs.Layout.{codes_in, exports_at, section_at};
 
 use sc_core::{ProgramTree, TypedSection};
-use sc_event::CompId;
+use sc_event::{CompId, Proto};
 use sc_tac::Code;
 
 /// The section of a compartment.
@@ -15,6 +15,16 @@ pub fn section_at(program: &ProgramTree, comp: CompId) -> &TypedSection
     ensures { result.now ≡ section_at program.now comp }
 {
     &program.sections.as_slice()[comp.number() as usize]
+}
+
+/// What a compartment exports.
+pub fn exports_at(program: &ProgramTree, comp: CompId) -> &[Proto]
+    ensures { result.now ≡ exports_at program.now comp }
+{
+    match program.interfaces.comp(comp) {
+        None => &[],
+        Some(interface) => interface.exports.as_slice(),
+    }
 }
 
 /// The codes of a compartment's functions.

@@ -1,7 +1,7 @@
 use Rattle.std.proofs.Common.{arith, length, take_all, subst, All, ◌<◌}
 use Rattle.std.proofs.lemmas.Grind.{common_steps}
 use Rattle.sc_tac.specs.declared.machine_code.CodeTree.{CodeTree}
-use Rattle.sc_linker.proofs.Starts.{all_more}
+use Rattle.sc_linker.proofs.Beginnings.{all_more}
 use Rattle.sc_linker.proofs.layout.function_starts.Goals as goal
 
 pub loop-code-preserved : goal.loop-code-preserved

@@ -1,8 +1,9 @@
 use Rattle.std.proofs.Common.{List, ap, arith, get_or, length, length-drop, subst, ◌<◌, ◌∙◌, ◌≡◌}
 use Rattle.rv_code.specs.declared.instr.Instr.{Instr}
-use Rattle.rv_code.specs.Prelude.{word_of}
+use Rattle.rv_code.specs.Prelude.{IsInstr, word_of}
 use Rattle.sc_select.specs.Linking.{with_low}
 use Rattle.sc_linker.specs.Sections.{addresses_of}
+use Rattle.sc_linker.proofs.Beginnings.{all_more}
 use Rattle.sc_linker.proofs.Relocating.{known_at, known_behind, one_linked, room_behind}
 use Rattle.sc_linker.proofs.relocate.link_code.Goals as goal
 
@@ -35,6 +36,8 @@ loop-instr-preserved c =
       room = room_behind layout.comp now.pc now.instr-index c.args.code.now.instrs within now.invariant.room;
       known = known_behind addresses (length layout.functions) (length layout.globals) now.at _ _
           (c.take_target-target.ensures.behind addresses) now.invariant.known;
+      instrs = all_more IsInstr c.args.code.now.instrs now.instr-index instr within item now.invariant.instrs
+          c.completed-instr.ensures.known;
       words = one_linked addresses c.args.code.now.instrs now.instr-index instr within item now.words c.push.new.self _
           now.pc now.at now.low c.completed-instr.result.1 c.take_target-target.result _ _ c.encode.result
           (c.take_target-target.ensures.target addresses) (c.take_target-target.ensures.behind addresses)

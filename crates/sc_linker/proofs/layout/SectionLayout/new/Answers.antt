@@ -1,6 +1,6 @@
 use Rattle.std.proofs.Common.{All, List, arith, subst, sym, ℕ}
 use Rattle.sc_linker.specs.Sections.{IsCodeAddress}
-use Rattle.sc_linker.proofs.Starts.{starts_in_code}
+use Rattle.sc_linker.proofs.Beginnings.{starts_in_code}
 use Rattle.sc_linker.proofs.layout.SectionLayout.new.Goals as goal
 
 pub returns-clause-functions : goal.returns-clause-functions

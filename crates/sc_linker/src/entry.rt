@@ -43,7 +43,7 @@ fn entry_jump(layout: &SectionLayout, names: &NameList, index: u16, proto: &Prot
         rd: Reg::new(0).unwrap(),
         imm: jump_offset(
             entry_address(layout.comp, index),
-            layout.function(number),
+            layout.function(number as usize),
         ),
     }
 }

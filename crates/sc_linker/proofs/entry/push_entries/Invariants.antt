@@ -2,7 +2,7 @@ use Rattle.std.proofs.Common.{drop, length, map, ◌*◌, ◌++◌, ◌+◌, ◌
 use Rattle.rv_code.specs.Prelude.{word_of}
 use Rattle.sc_linker.specs.Image.{entry_jumps}
 use Rattle.sc_linker.specs.Sections.{addresses_of}
-use Rattle.sc_linker.proofs.entries.push_entries.Given as goal
+use Rattle.sc_linker.proofs.entry.push_entries.Given as goal
 
 -- the entries from this one on are left
 abbrev pub invariant-loop-proto : goal.invariant-loop-proto

@@ -1,7 +1,7 @@
 -- Where functions and globals begin.
 use Rattle.std.proofs.Common.{◌≡◌, ℕ, zero, suc, ◌+◌, ◌*◌, ◌<◌, ◌≤◌, All, List, [], ◌∷◌, ◌++◌, map, length, take, get_or}
 use Rattle.std.proofs.Common.{slice_index, refl, sym, subst, ap, arith, ◌∙◌}
-use Rattle.std.proofs.lemmas.List.{length-map, take-map}
+use Rattle.std.proofs.lemmas.List.{take_all}
 use Rattle.std.proofs.lemmas.List.Elements.{All-append, All-cons, All-head, All-nil, All-tail}
 use Rattle.sc_base.proofs.Lists.{take-step}
 use Rattle.sc_core.specs.Prelude.{total}
@@ -15,6 +15,10 @@ pub all_more : {X : Type 0} (P : X → Type 0) (xs : List X) (i : ℕ) (x : X) �
 all_more P xs i x within item so_far here =
     subst (All P) (sym (take-step xs i x within item))
     (All-append P (take i xs) (x ∷ []) so_far (All-cons P x [] here (All-nil P)))
+
+-- all pass
+pub all_done : {X : Type 0} (P : X → Type 0) (xs : List X) (i : ℕ) → length xs ≤ i → All P (take i xs) → All P xs
+all_done P xs i past so_far = subst (All P) (take_all i xs past) so_far
 
 pub starts_length : (address : ℕ) (sizes : List ℕ) → length (starts address sizes) ≡ length sizes
 starts_length address [] = refl

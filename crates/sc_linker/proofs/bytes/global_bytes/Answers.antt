@@ -2,7 +2,7 @@ use Rattle.std.proofs.Common.{ap, arith, flat_map, length, take_all, ◌∙◌}
 use Rattle.byteorder.specs.Endian.{little_bytes}
 use Rattle.sc_linker.specs.Sections.{initial_words}
 use Rattle.sc_linker.proofs.Zeros.{words_are}
-use Rattle.sc_linker.proofs.globals.global_bytes.Goals as goal
+use Rattle.sc_linker.proofs.bytes.global_bytes.Goals as goal
 
 pub returns : goal.returns
 returns c =

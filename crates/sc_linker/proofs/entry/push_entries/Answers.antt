@@ -2,7 +2,7 @@ use Rattle.std.proofs.Common.{ap, arith, map, ◌∙◌, ◌≡◌}
 use Rattle.sc_core.specs.declared.section.TypedFunction.{TypedFunction}
 use Rattle.sc_linker.specs.Sections.{addresses_of}
 use Rattle.sc_linker.proofs.Jumps.{has_function, one_jump}
-use Rattle.sc_linker.proofs.entries.push_entries.Goals as goal
+use Rattle.sc_linker.proofs.entry.push_entries.Goals as goal
 
 pub entry_jump-requires-clause-named : goal.entry_jump-requires-clause-named
 entry_jump-requires-clause-named c =
