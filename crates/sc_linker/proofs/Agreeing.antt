@@ -1,7 +1,7 @@
 -- Code that is linked by a layout's addresses is linked by those of its section.
-use Rattle.std.proofs.Common.{◌≡◌, ℕ, suc, pos, ◌-ℤ◌, ◌+◌, ◌*◌, ◌<◌, ◌==◌, Bool, true, false, if◌then◌else◌, nat_lt, ltb-true}
-use Rattle.std.proofs.Common.{All, IfSome, IsSome, IsTrue, List, [], ◌∷◌, ◌++◌, map, length, take, Option, None, Some, refl, sym, subst}
-use Rattle.std.proofs.Common.{ap, ap₂, arith, bytes_eq, position, slice_index, ◌∙◌}
+use Rattle.std.proofs.Common.{◌≡◌, ℕ, suc, pos, ◌-ℤ◌, ◌+◌, ◌*◌, ◌<◌, ◌==◌, Bool, true, false, if◌then◌else◌, nat_lt}
+use Rattle.std.proofs.Common.{ltb-true, All, IfSome, IsSome, IsTrue, List, [], ◌∷◌, ◌++◌, map, length, take, Option}
+use Rattle.std.proofs.Common.{None, Some, refl, sym, subst, ap, ap₂, arith, bytes_eq, position, slice_index, ◌∙◌}
 use Rattle.std.proofs.lemmas.Bool.{false≢true}
 use Rattle.std.proofs.lemmas.List.{length-map, map-append, take-map}
 use Rattle.std.proofs.lemmas.List.Elements.{All-head, All-tail}
@@ -26,8 +26,8 @@ use Rattle.sc_image.specs.Layout.{stack_top}
 use Rattle.sc_linker.specs.declared.layout.SectionLayout.{SectionLayout}
 use Rattle.sc_linker.specs.Image.{entry_jump, entry_jumps, function_address, linked_codes}
 use Rattle.sc_linker.specs.Layout.{entry_address, section_addresses}
-use Rattle.sc_linker.specs.Sections.{AreKnown, CanBeLinked, IsKnown, addresses_of, code_sizes, global_sizes, section_code}
-use Rattle.sc_linker.specs.Sections.{section_layout, starts}
+use Rattle.sc_linker.specs.Sections.{AreKnown, CanBeLinked, IsKnown, addresses_of, code_sizes, global_sizes}
+use Rattle.sc_linker.specs.Sections.{section_code, section_layout, starts}
 use Rattle.sc_linker.proofs.Relocating.{known_at, known_behind}
 use Rattle.sc_linker.proofs.Beginnings.{starts_at, starts_length}
 
@@ -102,13 +102,15 @@ module _ (A B : Addresses) (functions globals : ℕ) (agree : Agree A B function
   same_function (Some number) within = agree.function number within
 
   same_jumps : (comp index : ℕ) (section : TypedSection) (exports : List Proto) →
-      length section.functions ≡ functions → entry_jumps A comp index section exports ≡ entry_jumps B comp index section exports
+      length section.functions ≡ functions →
+      entry_jumps A comp index section exports ≡ entry_jumps B comp index section exports
   same_jumps comp index section [] each = refl
   same_jumps comp index section (proto ∷ exports) each =
+      let place = place_named proto.name (Some section) in
       ap₂ (λ address rest. Jal 0 (pos address -ℤ pos (entry_address comp index)) ∷ rest)
-      (same_function (place_named proto.name (Some section)) (named_within (place_named proto.name (Some section)) refl))
-      (same_jumps comp (suc index) section exports each) where
-        named_within : (place : Option ℕ) → place_named proto.name (Some section) ≡ place → IfSome place (λ n. n < functions)
+      (same_function place (named_within place refl)) (same_jumps comp (suc index) section exports each) where
+        named_within : (found : Option ℕ) → place_named proto.name (Some section) ≡ found →
+            IfSome found (λ n. n < functions)
         named_within None is = tt
         named_within (Some n) is =
             subst (λ m. n < m) each
@@ -158,7 +160,8 @@ module _ (comp : ℕ) (exports : List Proto) (section : TypedSection) (codes : L
 
   pub function_for_each : (used : SectionLayout) → used ≡ layout → length used.functions ≡ length section.functions
   function_for_each used is =
-      ap (λ (l : SectionLayout). length l.functions) is ∙ functions_length comp (length exports) section codes ∙ can.each
+      ap (λ (l : SectionLayout). length l.functions) is ∙ functions_length comp (length exports) section codes ∙
+      can.each
 
   -- what the codes refer to is in the layout
   pub known_in_layout : (used : SectionLayout) → used ≡ layout →

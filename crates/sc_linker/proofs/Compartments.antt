@@ -1,7 +1,7 @@
 -- The compartments of an image, one after the other.
-use Rattle.std.proofs.Common.{◌≡◌, ℕ, zero, suc, true, ◌+◌, ◌<◌, ◌≤◌, All, IsTrue, List, [], ◌∷◌, ◌++◌, map, length, take, drop, get_or, Option}
-use Rattle.std.proofs.Common.{None, Some, slice_get, refl, sym, subst, ap, arith, inl, inr, ◌∙◌, ◌⊎◌, add-one, append_assoc, leb-true}
-use Rattle.std.proofs.Common.{length-drop, take-append-drop}
+use Rattle.std.proofs.Common.{◌≡◌, ℕ, zero, suc, true, ◌+◌, ◌<◌, ◌≤◌, All, IsTrue, List, [], ◌∷◌, ◌++◌, map, length}
+use Rattle.std.proofs.Common.{take, drop, get_or, Option, None, Some, slice_get, refl, sym, subst, ap, arith, inl, inr}
+use Rattle.std.proofs.Common.{◌∙◌, ◌⊎◌, add-one, append_assoc, leb-true, length-drop, take-append-drop}
 use Rattle.std.proofs.lemmas.Bool.{cases_lt, false≢true}
 use Rattle.std.proofs.lemmas.List.Elements.{All-append}
 use Rattle.sc_base.proofs.Bools.{and_first, and_rest}

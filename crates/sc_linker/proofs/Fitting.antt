@@ -1,7 +1,8 @@
 -- The section of each compartment of a well-typed program can be linked.
-use Rattle.std.proofs.Common.{◌≡◌, ℕ, zero, suc, ◌+◌, ◌*◌, ◌<◌, ◌≤◌, ◌&&◌, ◌||◌, ◌==◌, Bool, true, false, bytes_eq, not, nat_le, nat_lt, leb-true}
-use Rattle.std.proofs.Common.{All, IsSome, IsTrue, List, [], ◌∷◌, ◌++◌, map, length, take, drop, Option, None, Some, is_some, position}
-use Rattle.std.proofs.Common.{slice_get, slice_index_or, get_or, cond, refl, sym, subst, ap, ap₂, arith, length-take-le, length-drop, ◌∙◌}
+use Rattle.std.proofs.Common.{◌≡◌, ℕ, zero, suc, ◌+◌, ◌*◌, ◌<◌, ◌≤◌, ◌&&◌, ◌||◌, ◌==◌, Bool, true, false, bytes_eq, not}
+use Rattle.std.proofs.Common.{nat_le, nat_lt, leb-true, All, IsSome, IsTrue, List, [], ◌∷◌, ◌++◌, map, length, take}
+use Rattle.std.proofs.Common.{drop, Option, None, Some, is_some, position, slice_get, slice_index_or, get_or, cond}
+use Rattle.std.proofs.Common.{refl, sym, subst, ap, ap₂, arith, length-take-le, length-drop, ◌∙◌}
 use Rattle.std.proofs.lemmas.Bool.{false≢true}
 use Rattle.std.proofs.lemmas.List.Elements.{All-weaker}
 use Rattle.std.proofs.lemmas.List.Sums.{AllPass-from_list_all}
@@ -15,9 +16,9 @@ use Rattle.sc_event.specs.declared.interface.Interface.{Interface}
 use Rattle.sc_event.specs.declared.interface.Interfaces.{Interfaces}
 use Rattle.sc_event.specs.declared.interface.Proto.{Proto}
 use Rattle.sc_core.specs.Prelude.{IsWellTyped, callable_in, export_fits, function_fits, global_fits, has_distinct_names}
-use Rattle.sc_core.specs.Prelude.{has_few_compartments, import_fits, interface_fits, is_plain_name, is_well_typed, main_name}
-use Rattle.sc_core.specs.Prelude.{most_exports, place_named, proto_signature, same_signature, section_fits, sections_fit}
-use Rattle.sc_core.specs.Prelude.{signature_of, structs_fit, total, are_distinct}
+use Rattle.sc_core.specs.Prelude.{has_few_compartments, import_fits, interface_fits, is_plain_name, is_well_typed}
+use Rattle.sc_core.specs.Prelude.{main_name, most_exports, place_named, proto_signature, same_signature, section_fits}
+use Rattle.sc_core.specs.Prelude.{sections_fit, signature_of, structs_fit, total, are_distinct}
 use Rattle.sc_core.specs.WellTyped.{callable_names, export_names, has_fitting_sections, is_defined_in}
 use Rattle.sc_core.specs.declared.program.ProgramTree.{ProgramTree}
 use Rattle.sc_core.specs.declared.section.TypedFunction.{TypedFunction}
@@ -28,7 +29,8 @@ use Rattle.sc_tac.specs.declared.machine_code.Target.{Target}
 use Rattle.sc_tac.specs.declared.machine_code.Target.TheVariants.{Function, Entry, Global}
 use Rattle.sc_select.specs.Linking.{is_named}
 use Rattle.sc_image.specs.Layout.{stretch}
-use Rattle.sc_linker.specs.Layout.{codes_at, codes_in, exports_at, exports_in, instructions, section_at, section_or_none}
+use Rattle.sc_linker.specs.Layout.{codes_at, codes_in, exports_at, exports_in, instructions, section_at}
+use Rattle.sc_linker.specs.Layout.{section_or_none}
 use Rattle.sc_linker.specs.Linkable.{IsLinkable, RefersInside}
 use Rattle.sc_linker.specs.Sections.{AreKnown, CanBeLinked, is_known}
 
@@ -169,8 +171,9 @@ module _ (program : ProgramTree) (codes : List CodeTree) (comp : ℕ) (interface
     code = subst (λ (exports : List Proto).
         4 * (length exports + instructions (codes_at program codes comp)) ≤ stretch) exports_are (linkable.code comp);
     globals = linkable.globals comp;
-    inside = All-weaker (RefersInside program comp) (λ (code : CodeTree).
-        AreKnown (length (section_at program comp).functions) (length (section_at program comp).globals) code.relocations)
+    inside = All-weaker (RefersInside program comp)
+        (λ (code : CodeTree). AreKnown (length (section_at program comp).functions)
+        (length (section_at program comp).globals) code.relocations)
         (λ code inside. list_all_along {A = Relocation} _ _
         (λ relocation h. target_known program (section_at program comp) relocation.target h) code.relocations inside)
         (codes_at program codes comp) (linkable.inside comp);

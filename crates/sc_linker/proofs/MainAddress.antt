@@ -1,6 +1,6 @@
 -- Where `main` begins.
-use Rattle.std.proofs.Common.{◌≡◌, ℕ, zero, suc, ◌<◌, ◌≤◌, ◌&&◌, true, bytes_eq, List, [], ◌∷◌, length, Option, None, Some, position}
-use Rattle.std.proofs.Common.{slice_get, slice_index, refl, sym, subst, ap, ap₂, arith, ◌∙◌}
+use Rattle.std.proofs.Common.{◌≡◌, ℕ, zero, suc, ◌<◌, ◌≤◌, ◌&&◌, true, bytes_eq, List, [], ◌∷◌, length, Option, None}
+use Rattle.std.proofs.Common.{Some, position, slice_get, slice_index, refl, sym, subst, ap, ap₂, arith, ◌∙◌}
 use Rattle.std.proofs.lemmas.Bool.{false≢true}
 use Rattle.sc_base.proofs.Bools.{and_first, and_rest}
 use Rattle.sc_event.specs.Prelude.{comp_at}
@@ -8,8 +8,8 @@ use Rattle.sc_event.specs.declared.interface.Interface.{Interface}
 use Rattle.sc_event.specs.declared.interface.Interfaces.{Interfaces}
 use Rattle.sc_event.specs.declared.interface.Proto.{Proto}
 use Rattle.sc_event.specs.declared.row.Entry.TheVariants.{Main}
-use Rattle.sc_core.specs.Prelude.{IsWellTyped, entry_in, has_distinct_names, has_few_compartments, has_main, interface_fits}
-use Rattle.sc_core.specs.Prelude.{main_fits, main_name, place_named, section_fits, sections_fit}
+use Rattle.sc_core.specs.Prelude.{IsWellTyped, entry_in, has_distinct_names, has_few_compartments, has_main}
+use Rattle.sc_core.specs.Prelude.{interface_fits, main_fits, main_name, place_named, section_fits, sections_fit}
 use Rattle.sc_core.specs.WellTyped.{has_fitting_sections}
 use Rattle.sc_core.specs.declared.program.ProgramTree.{ProgramTree}
 use Rattle.sc_core.specs.declared.section.TypedFunction.{TypedFunction}
@@ -17,8 +17,7 @@ use Rattle.sc_core.specs.declared.section.TypedSection.{TypedSection}
 use Rattle.sc_tac.specs.declared.machine_code.CodeTree.{CodeTree}
 use Rattle.sc_linker.specs.declared.layout.SectionLayout.{SectionLayout}
 use Rattle.sc_linker.specs.Image.{function_address}
-use Rattle.sc_linker.specs.Layout.{addresses_at, codes_at, exports_at, exports_in, section_addresses}
-use Rattle.sc_linker.specs.Layout.{section_at}
+use Rattle.sc_linker.specs.Layout.{addresses_at, codes_at, exports_at, exports_in, section_addresses, section_at}
 use Rattle.sc_linker.specs.Linkable.{IsLinkable}
 use Rattle.sc_linker.specs.Sections.{CanBeLinked, section_layout}
 use Rattle.sc_linker.proofs.Agreeing.{functions_length, layout_agrees, place_within}

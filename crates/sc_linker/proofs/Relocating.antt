@@ -1,7 +1,7 @@
 -- One instruction of code is linked, and the next is looked at.
-use Rattle.std.proofs.Common.{◌≡◌, ◌≢◌, ℕ, zero, suc, ◌+◌, ◌*◌, ◌<◌, ◌≤◌, ◌&&◌, ◌==◌, Bool, true, false, if◌then◌else◌, IfSome, IsTrue, List, []}
-use Rattle.std.proofs.Common.{◌∷◌, ◌++◌, map, length, drop, get_or, Option, None, Some, refl, sym, subst, ap, arith, ◌∙◌}
-use Rattle.std.proofs.Common.{add-one, append_assoc, eq-eqb, length-drop, ne_eqb}
+use Rattle.std.proofs.Common.{◌≡◌, ◌≢◌, ℕ, zero, suc, ◌+◌, ◌*◌, ◌<◌, ◌≤◌, ◌&&◌, ◌==◌, Bool, true, false, if◌then◌else◌}
+use Rattle.std.proofs.Common.{IfSome, IsTrue, List, [], ◌∷◌, ◌++◌, map, length, drop, get_or, Option, None, Some, refl}
+use Rattle.std.proofs.Common.{sym, subst, ap, arith, ◌∙◌, add-one, append_assoc, eq-eqb, length-drop, ne_eqb}
 use Rattle.std.proofs.lemmas.Option.{get_or_from_slice_get, slice_get_within}
 use Rattle.std.specs.List.{slice_get}
 use Rattle.rv_code.specs.declared.instr.Instr.{Instr}

@@ -1,9 +1,9 @@
 -- The words of globals at the start are those of their initialisers, and zeros behind them.
-use Rattle.std.proofs.Common.{◌≡◌, ℕ, zero, suc, ◌+◌, ◌-◌, ◌*◌, ◌<◌, ◌≤◌, ◌&&◌, ◌==◌, Bool, true, false, nat_le, nat_lt, leb-true, ltb-true}
-use Rattle.std.proofs.Common.{List, [], ◌∷◌, ◌++◌, append_assoc, append-nil, flat_map, map, length, replicate, Some, refl, sym, subst, ap, ap₂}
-use Rattle.std.proofs.Common.{add-one, arith, inl, inr, slice_get, slice_index_or, eqb-true, ◌∙◌, ◌⊎◌}
-use Rattle.std.proofs.lemmas.Bool.{false≢true}
-use Rattle.std.proofs.lemmas.Bool.{cases_lt}
+use Rattle.std.proofs.Common.{◌≡◌, ℕ, zero, suc, ◌+◌, ◌-◌, ◌*◌, ◌<◌, ◌≤◌, ◌&&◌, ◌==◌, Bool, true, false, nat_le, nat_lt}
+use Rattle.std.proofs.Common.{leb-true, ltb-true, List, [], ◌∷◌, ◌++◌, append_assoc, append-nil, flat_map, map, length}
+use Rattle.std.proofs.Common.{replicate, Some, refl, sym, subst, ap, ap₂, add-one, arith, inl, inr, slice_get}
+use Rattle.std.proofs.Common.{slice_index_or, eqb-true, ◌∙◌, ◌⊎◌}
+use Rattle.std.proofs.lemmas.Bool.{false≢true, cases_lt}
 use Rattle.std.proofs.lemmas.List.{get_or_append_left, length_push, map-append, replicate-append-replicate}
 use Rattle.std.proofs.Math.Seq.{get_or-append_seam}
 use Rattle.std.proofs.Math.Nat.{suc-mul, zero-mul}
@@ -20,10 +20,10 @@ use Rattle.sc_core.specs.declared.section.TypedGlobal.{TypedGlobal}
 use Rattle.sc_core.specs.declared.section.TypedMember.{TypedMember}
 use Rattle.sc_core.specs.declared.section.TypedSection.{TypedSection}
 use Rattle.sc_core.specs.declared.section.TypedStruct.{TypedStruct}
-use Rattle.sc_core.specs.Prelude.{base_within, base_zeros, base_cells, cells_of, global_block, global_fits, member_zeros}
-use Rattle.sc_core.specs.Prelude.{members_fit, repeated, starred_cells, starred_within, starred_zeros, struct_cells}
-use Rattle.sc_core.specs.Prelude.{struct_fits, struct_zeros, structs_fit, type_within, variable_fits, with_words, words_fit}
-use Rattle.sc_core.specs.Prelude.{zeros_of}
+use Rattle.sc_core.specs.Prelude.{base_within, base_zeros, base_cells, cells_of, global_block, global_fits}
+use Rattle.sc_core.specs.Prelude.{member_zeros, members_fit, repeated, starred_cells, starred_within, starred_zeros}
+use Rattle.sc_core.specs.Prelude.{struct_cells, struct_fits, struct_zeros, structs_fit, type_within, variable_fits}
+use Rattle.sc_core.specs.Prelude.{with_words, words_fit, zeros_of}
 use Rattle.sc_linker.specs.Image.{cell_word, global_words}
 use Rattle.sc_linker.specs.Sections.{initial_words}
 

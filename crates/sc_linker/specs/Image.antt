@@ -1,6 +1,6 @@
 -- The image of a program, from the codes of its functions.
-use Rattle.std.specs.Prelude.{ℕ, suc, pos, ◌+◌, ◌*◌, ◌-ℤ◌, List, [], ◌∷◌, ◌++◌, length, map, flat_map, slice_get, Option}
-use Rattle.std.specs.Prelude.{None, Some, is_some}
+use Rattle.std.specs.Prelude.{ℕ, suc, pos, ◌+◌, ◌*◌, ◌-ℤ◌, List, [], ◌∷◌, ◌++◌, length, map, flat_map, slice_get}
+use Rattle.std.specs.Prelude.{Option, None, Some, is_some}
 use Rattle.byteorder.specs.Endian.{little_bytes}
 use Rattle.rv_code.specs.declared.instr.Instr.{Instr}
 use Rattle.rv_code.specs.declared.instr.Instr.TheVariants.{Jal}

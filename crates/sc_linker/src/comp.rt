@@ -11,8 +11,8 @@ ghost use Rattle.sc_linker.specs.Layout.{codes_at};
 ghost use Rattle.sc_linker.specs.Linkable.{IsLinkable};
 ghost use Rattle.sc_linker.specs.Sections.{IsNamed};
 
-use crate::code::section_code;
 use crate::bytes::global_bytes;
+use crate::code::section_code;
 use crate::layout::entry_address;
 use crate::sections::{codes_in, section_at};
 use sc_base::{Name, OutOfMemory};
@@ -31,11 +31,7 @@ fn named(name: &Name) -> Name
     *name
 }
 
-fn export_parts(
-    alloc: Global,
-    comp: CompId,
-    exports: &[Proto],
-) -> Result<ExportParts, OutOfMemory>
+fn export_parts(alloc: Global, comp: CompId, exports: &[Proto]) -> Result<ExportParts, OutOfMemory>
     requires { length exports.now ≤ 4096 }
     ensures parts { IfOk result (λ parts. parts ≡ export_parts comp 0 exports.now) }
     ensures named { IfOk result (λ _. All {X = Proto} (λ proto. IsTrue (is_name proto.name)) exports.now) }

@@ -54,11 +54,7 @@ fn main_number(functions: &[TypedFunction]) -> Option<usize>
 }
 
 // The address of `main`.
-fn main_address(
-    alloc: Global,
-    program: &ProgramTree,
-    codes: &[Code],
-) -> Result<u32, OutOfMemory>
+fn main_address(alloc: Global, program: &ProgramTree, codes: &[Code]) -> Result<u32, OutOfMemory>
     requires typed { IsWellTyped program.now }
     requires linkable { IsLinkable program.now codes.now }
     ensures { IfOk result (λ address. let main = program.now.interfaces.main in

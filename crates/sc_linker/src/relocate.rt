@@ -2,7 +2,8 @@
 
 ghost use Rattle.std.specs.Prelude.{◌≡◌, ◌≤◌, ◌++◌, drop, pos, ◌-ℤ◌, All, IfSome, Some, OnOk, length, map};
 ghost use Rattle.rv_code.specs.Prelude.{IsInstr, IsJumpOffset, word_of};
-ghost use Rattle.sc_select.specs.Linking.{Addresses, linked, low_behind, relocations_behind, target_at, with_low, with_target};
+ghost use Rattle.sc_select.specs.Linking.{Addresses, linked, low_behind, relocations_behind, target_at, with_low};
+ghost use Rattle.sc_select.specs.Linking.{with_target};
 ghost use Rattle.sc_select.specs.Pieces.{upper_part};
 ghost use Rattle.sc_linker.specs.Sections.{AreKnown, HasRoom, IsCodeAddress, IsKnown, addresses_of, with_jump};
 ghost use Rattle.sc_linker.specs.Sections.{with_upper};
@@ -65,12 +66,7 @@ fn with_upper(address: u32, instr: Instr) -> Instr
 }
 
 // The instruction at an address that refers to this, and the address whose low 12 bits the next one adds.
-fn referring(
-    layout: &SectionLayout,
-    pc: u32,
-    target: Target,
-    instr: Instr,
-) -> (Instr, Option<u32>)
+fn referring(layout: &SectionLayout, pc: u32, target: Target, instr: Instr) -> (Instr, Option<u32>)
     requires functions { All (IsCodeAddress layout.now.comp) layout.now.functions }
     requires here { IsCodeAddress layout.now.comp pc }
     requires known { IsKnown (length layout.now.functions) (length layout.now.globals) target }

@@ -1,4 +1,4 @@
-use Rattle.std.proofs.Common.{flat_map, take, ◌++◌, ◌≡◌}
+use Rattle.std.proofs.Common.{flat_map, take, ◌≡◌}
 use Rattle.byteorder.specs.Endian.{little_bytes}
 use Rattle.sc_linker.specs.Sections.{initial_words}
 use Rattle.sc_linker.proofs.bytes.global_bytes.Given as goal

@@ -14,5 +14,6 @@ push_codes-requires-clause-known c =
 pub returns-clause-words : goal.returns-clause-words
 returns-clause-words c =
     code_by_layout c.args.comp c.args.exports.now c.args.section.now c.args.codes.now c.requires c.new-words.result
-    c.push_entries.new.words c.push_codes.new.words c.in_ok-layout.layout c.entry_address.result c.in_ok-layout.ensures.layout c.entry_address.ensures
-    c.new-words.ensures c.in_ok-push_entries.ensures c.in_ok-push_codes.ensures.words
+    c.push_entries.new.words c.push_codes.new.words c.in_ok-layout.layout c.entry_address.result
+    c.in_ok-layout.ensures.layout c.entry_address.ensures c.new-words.ensures c.in_ok-push_entries.ensures
+    c.in_ok-push_codes.ensures.words

@@ -1,4 +1,4 @@
-use Rattle.std.proofs.Common.{drop, length, map, ◌*◌, ◌++◌, ◌+◌, ◌≡◌, ◌≤◌}
+use Rattle.std.proofs.Common.{drop, map, ◌++◌, ◌≡◌}
 use Rattle.rv_code.specs.Prelude.{word_of}
 use Rattle.sc_linker.specs.Image.{entry_jumps}
 use Rattle.sc_linker.specs.Sections.{addresses_of}

@@ -1,1 +1,0 @@
-use Rattle.sc_linker.proofs.relocate.take_target.Goals as goal
