@@ -1,8 +1,7 @@
 -- Code that is linked by a layout's addresses is linked by those of its section.
-use Rattle.std.proofs.Common.{◌≡◌, ℕ, suc, pos, ◌-ℤ◌, ◌+◌, ◌*◌, ◌<◌, ◌==◌, Bool, true, false, if◌then◌else◌, nat_lt}
-use Rattle.std.proofs.Common.{ltb-true, All, IfSome, IsSome, IsTrue, List, [], ◌∷◌, ◌++◌, map, length, take, Option}
+use Rattle.std.proofs.Common.{◌≡◌, ℕ, suc, pos, ◌-ℤ◌, ◌+◌, ◌*◌, ◌<◌, Bool}
+use Rattle.std.proofs.Common.{ltb-true, All, IfSome, List, [], ◌∷◌, ◌++◌, map, length, take, Option}
 use Rattle.std.proofs.Common.{None, Some, refl, sym, subst, ap, ap₂, arith, bytes_eq, position, slice_index, ◌∙◌}
-use Rattle.std.proofs.lemmas.Bool.{false≢true}
 use Rattle.std.proofs.lemmas.List.{length-map, map-append, take-map}
 use Rattle.std.proofs.lemmas.List.Elements.{All-head, All-tail}
 use Rattle.std.proofs.lemmas.List.Quantifiers.{position-Some}
@@ -24,7 +23,7 @@ use Rattle.sc_select.specs.Linking.{with_target}
 use Rattle.sc_select.specs.Pieces.{upper_part}
 use Rattle.sc_image.specs.Layout.{stack_top}
 use Rattle.sc_linker.specs.declared.layout.SectionLayout.{SectionLayout}
-use Rattle.sc_linker.specs.Image.{entry_jump, entry_jumps, function_address, linked_codes}
+use Rattle.sc_linker.specs.Image.{entry_jumps, function_address, linked_codes}
 use Rattle.sc_linker.specs.Layout.{entry_address, section_addresses}
 use Rattle.sc_linker.specs.Sections.{AreKnown, CanBeLinked, IsKnown, addresses_of, code_sizes, global_sizes}
 use Rattle.sc_linker.specs.Sections.{section_code, section_layout, starts}

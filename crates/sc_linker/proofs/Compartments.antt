@@ -1,15 +1,13 @@
 -- The compartments of an image, one after the other.
-use Rattle.std.proofs.Common.{◌≡◌, ℕ, zero, suc, true, ◌+◌, ◌<◌, ◌≤◌, All, IsTrue, List, [], ◌∷◌, ◌++◌, map, length}
-use Rattle.std.proofs.Common.{take, drop, get_or, Option, None, Some, slice_get, refl, sym, subst, ap, arith, inl, inr}
+use Rattle.std.proofs.Common.{◌≡◌, ℕ, suc, true, ◌+◌, ◌<◌, ◌≤◌, All, List, [], ◌∷◌, ◌++◌, map, length}
+use Rattle.std.proofs.Common.{take, drop, get_or, refl, sym, subst, ap, arith, inl, inr}
 use Rattle.std.proofs.Common.{◌∙◌, ◌⊎◌, add-one, append_assoc, leb-true, length-drop, take-append-drop}
 use Rattle.std.proofs.lemmas.Bool.{cases_lt, false≢true}
 use Rattle.std.proofs.lemmas.List.Elements.{All-append}
 use Rattle.sc_base.proofs.Bools.{and_first, and_rest}
 use Rattle.sc_base.proofs.Lists.{drop-step}
-use Rattle.sc_base.specs.Prelude.{is_name}
 use Rattle.sc_event.specs.declared.interface.Interface.{Interface}
 use Rattle.sc_event.specs.declared.interface.Interfaces.{Interfaces}
-use Rattle.sc_event.specs.declared.interface.Proto.{Proto}
 use Rattle.sc_event.specs.declared.row.Entry.TheVariants.{Main}
 use Rattle.sc_core.specs.Prelude.{IsWellTyped, has_distinct_names, has_few_compartments, interface_fits, section_fits}
 use Rattle.sc_core.specs.Prelude.{entry_in, sections_fit, total}

@@ -1,8 +1,8 @@
 -- The section of each compartment of a well-typed program can be linked.
-use Rattle.std.proofs.Common.{◌≡◌, ℕ, zero, suc, ◌+◌, ◌*◌, ◌<◌, ◌≤◌, ◌&&◌, ◌||◌, ◌==◌, Bool, true, false, bytes_eq, not}
-use Rattle.std.proofs.Common.{nat_le, nat_lt, leb-true, All, IsSome, IsTrue, List, [], ◌∷◌, ◌++◌, map, length, take}
-use Rattle.std.proofs.Common.{drop, Option, None, Some, is_some, position, slice_get, slice_index_or, get_or, cond}
-use Rattle.std.proofs.Common.{refl, sym, subst, ap, ap₂, arith, length-take-le, length-drop, ◌∙◌}
+use Rattle.std.proofs.Common.{◌≡◌, ℕ, zero, suc, ◌+◌, ◌*◌, ◌<◌, ◌≤◌, ◌&&◌, ◌||◌, Bool, true, false, bytes_eq, not}
+use Rattle.std.proofs.Common.{nat_le, nat_lt, leb-true, All, IsSome, List, [], ◌∷◌, map, length}
+use Rattle.std.proofs.Common.{drop, Option, None, Some, is_some, position, slice_get, get_or, cond}
+use Rattle.std.proofs.Common.{refl, sym, subst, ap, arith, length-take-le, length-drop, ◌∙◌}
 use Rattle.std.proofs.lemmas.Bool.{false≢true}
 use Rattle.std.proofs.lemmas.List.Elements.{All-weaker}
 use Rattle.std.proofs.lemmas.List.Sums.{AllPass-from_list_all}
@@ -15,11 +15,11 @@ use Rattle.sc_event.specs.Prelude.{comp_at, export_at}
 use Rattle.sc_event.specs.declared.interface.Interface.{Interface}
 use Rattle.sc_event.specs.declared.interface.Interfaces.{Interfaces}
 use Rattle.sc_event.specs.declared.interface.Proto.{Proto}
-use Rattle.sc_core.specs.Prelude.{IsWellTyped, callable_in, export_fits, function_fits, global_fits, has_distinct_names}
-use Rattle.sc_core.specs.Prelude.{has_few_compartments, import_fits, interface_fits, is_plain_name, is_well_typed}
+use Rattle.sc_core.specs.Prelude.{IsWellTyped, export_fits, global_fits, has_distinct_names}
+use Rattle.sc_core.specs.Prelude.{has_few_compartments, import_fits, interface_fits, is_plain_name}
 use Rattle.sc_core.specs.Prelude.{main_name, most_exports, place_named, proto_signature, same_signature, section_fits}
 use Rattle.sc_core.specs.Prelude.{sections_fit, signature_of, structs_fit, total, are_distinct}
-use Rattle.sc_core.specs.WellTyped.{callable_names, export_names, has_fitting_sections, is_defined_in}
+use Rattle.sc_core.specs.WellTyped.{callable_names, export_names, has_fitting_sections}
 use Rattle.sc_core.specs.declared.program.ProgramTree.{ProgramTree}
 use Rattle.sc_core.specs.declared.section.TypedFunction.{TypedFunction}
 use Rattle.sc_core.specs.declared.section.TypedSection.{TypedSection}

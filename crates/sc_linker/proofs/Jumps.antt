@@ -1,6 +1,6 @@
 -- The jumps at a compartment's entries.
 use Rattle.std.proofs.Common.{◌≡◌, ℕ, suc, pos, ◌-ℤ◌, ◌+◌, ◌<◌, cond, nat_eq, bytes_eq, All, IsSome, List, [], ◌∷◌}
-use Rattle.std.proofs.Common.{◌++◌, map, length, drop, get_or, position, Option, Some, refl, sym, subst, ap, ◌∙◌}
+use Rattle.std.proofs.Common.{◌++◌, map, length, drop, get_or, position, Some, refl, sym, subst, ap, ◌∙◌}
 use Rattle.std.proofs.Common.{add-one, append_assoc}
 use Rattle.std.specs.Cmp.Lexicographic.{pointwise}
 use Rattle.std.specs.Option.{option_map}

@@ -1,6 +1,6 @@
 -- Where `main` begins.
-use Rattle.std.proofs.Common.{◌≡◌, ℕ, zero, suc, ◌<◌, ◌≤◌, ◌&&◌, true, bytes_eq, List, [], ◌∷◌, length, Option, None}
-use Rattle.std.proofs.Common.{Some, position, slice_get, slice_index, refl, sym, subst, ap, ap₂, arith, ◌∙◌}
+use Rattle.std.proofs.Common.{◌≡◌, ℕ, zero, suc, ◌<◌, ◌≤◌, true, bytes_eq, List, [], ◌∷◌, length, Option, None}
+use Rattle.std.proofs.Common.{Some, position, slice_get, slice_index, refl, sym, subst, ap, ◌∙◌}
 use Rattle.std.proofs.lemmas.Bool.{false≢true}
 use Rattle.sc_base.proofs.Bools.{and_first, and_rest}
 use Rattle.sc_event.specs.Prelude.{comp_at}

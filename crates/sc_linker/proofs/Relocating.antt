@@ -1,9 +1,7 @@
 -- One instruction of code is linked, and the next is looked at.
-use Rattle.std.proofs.Common.{◌≡◌, ◌≢◌, ℕ, zero, suc, ◌+◌, ◌*◌, ◌<◌, ◌≤◌, ◌&&◌, ◌==◌, Bool, true, false, if◌then◌else◌}
-use Rattle.std.proofs.Common.{IfSome, IsTrue, List, [], ◌∷◌, ◌++◌, map, length, drop, get_or, Option, None, Some, refl}
-use Rattle.std.proofs.Common.{sym, subst, ap, arith, ◌∙◌, add-one, append_assoc, eq-eqb, length-drop, ne_eqb}
-use Rattle.std.proofs.lemmas.Option.{get_or_from_slice_get, slice_get_within}
-use Rattle.std.specs.List.{slice_get}
+use Rattle.std.proofs.Common.{◌≡◌, ℕ, ◌+◌, ◌<◌, ◌==◌, Bool, true, false, if◌then◌else◌}
+use Rattle.std.proofs.Common.{IfSome, List, [], ◌∷◌, ◌++◌, map, length, drop, get_or, Option, None, Some}
+use Rattle.std.proofs.Common.{sym, subst, ap, arith, ◌∙◌, add-one, append_assoc, length-drop}
 use Rattle.rv_code.specs.declared.instr.Instr.{Instr}
 use Rattle.rv_code.specs.Prelude.{word_of}
 use Rattle.sc_base.proofs.Bools.{and_first, and_rest}

@@ -1,9 +1,9 @@
 -- The words of globals at the start are those of their initialisers, and zeros behind them.
-use Rattle.std.proofs.Common.{◌≡◌, ℕ, zero, suc, ◌+◌, ◌-◌, ◌*◌, ◌<◌, ◌≤◌, ◌&&◌, ◌==◌, Bool, true, false, nat_le, nat_lt}
+use Rattle.std.proofs.Common.{◌≡◌, ℕ, zero, suc, ◌+◌, ◌-◌, ◌*◌, ◌<◌, ◌≤◌, ◌&&◌, ◌==◌, true, nat_le}
 use Rattle.std.proofs.Common.{leb-true, ltb-true, List, [], ◌∷◌, ◌++◌, append_assoc, append-nil, flat_map, map, length}
 use Rattle.std.proofs.Common.{replicate, Some, refl, sym, subst, ap, ap₂, add-one, arith, inl, inr, slice_get}
 use Rattle.std.proofs.Common.{slice_index_or, eqb-true, ◌∙◌, ◌⊎◌}
-use Rattle.std.proofs.lemmas.Bool.{false≢true, cases_lt}
+use Rattle.std.proofs.lemmas.Bool.{cases_lt}
 use Rattle.std.proofs.lemmas.List.{get_or_append_left, length_push, map-append, replicate-append-replicate}
 use Rattle.std.proofs.Math.Seq.{get_or-append_seam}
 use Rattle.std.proofs.Math.Nat.{suc-mul, zero-mul}
