@@ -3,7 +3,7 @@ use Rattle.std.proofs.Common.{◌≡◌, ◌≢◌, ℕ, suc, ◌+◌, ◌-ℤ�
 use Rattle.std.proofs.Common.{◌∷◌, ◌++◌, length}
 use Rattle.std.proofs.Common.{Option, None, Some, refl, sym, ◌∙◌, ap, subst, arith, inl, inr, ⊎_elim, All, pos}
 use Rattle.std.proofs.Common.{append_assoc}
-use Rattle.std.specs.Prelude.{slice_get}
+use Rattle.std.specs.Prelude.{is_some, slice_get, IsSome}
 use Rattle.std.specs.Option.{unwrap_or}
 use Rattle.std.proofs.lemmas.Bool.{ne_eqb}
 use Rattle.std.proofs.lemmas.List.{length-append}
@@ -20,12 +20,14 @@ use Rattle.sc_core.specs.Value.{wrapping}
 use Rattle.sc_core.specs.Words.{State as Meant, Calls, Piece, Reached, Stopped, Left, Next, and_then, leave}
 use Rattle.sc_laws.specs.Growth.{Goes}
 use Rattle.sc_laws.proofs.Growing.{stays, then_goes, then_from}
+use Rattle.sc_image.specs.Layout.{word_at}
 use Rattle.sc_image.specs.Step.{jalr_target}
 use Rattle.sc_image.specs.WellFormed.{IsWord, IsWellFormed}
 use Rattle.sc_hart.specs.Code.{CodeAt}
 use Rattle.sc_hart.specs.Hart.{Registers}
 use Rattle.sc_hart.specs.Words.{put_word}
 use Rattle.sc_hart.proofs.Fetching.{front_at, back_at}
+use Rattle.sc_hart.proofs.Inside.{IsInside, code_inside}
 use Rattle.sc_tac.specs.declared.frame.FrameTree.{FrameTree}
 use Rattle.sc_tac.specs.declared.machine_code.Target.TheVariants.{Function, Entry}
 use Rattle.sc_tac.specs.declared.place.Place.{Place}
@@ -52,6 +54,7 @@ use Rattle.sc_relation.specs.Stretches.{Setting, Joint, Standpoint, Overflows, G
 use Rattle.sc_relation.specs.Following.{Running, Ends, seen_from, Ready, Arrives, Comes, Follows, live_at}
 use Rattle.sc_relation.proofs.Following.{IsBack, is_back}
 use Rattle.sc_relation.proofs.Frames.{each_at}
+use Rattle.sc_relation.proofs.Jumps.{HasNoGap}
 use Rattle.sc_relation.proofs.Lines.{completed_plainly, completed_length, low_append, low_plainly}
 use Rattle.sc_relation.proofs.Registers.{HasNoOtherUse, no_other_use, register_there}
 use Rattle.sc_relation.proofs.Settling.{moved}
@@ -89,16 +92,16 @@ module _ (T : Setting) (R : Running) where
       low_after (T.addresses R.activation.here.comp) None lines ≡ None → ((temps : Temps) → Goes (does temps)) →
       ((lives : Lives) (temps : Temps) (x : Joint) (left : ℕ) → Ready T R (live_at trail lives) temps x →
       All (IsClear R.places) (trail.points lives) → CodeAt T.image R.activation.here.comp x.pc (instrs x.pc) →
-      ComesStraight T R lives x (instrs x.pc) left (does temps x.meant)) →
+      x.pc + 4 * length (instrs x.pc) ≤ R.last → ComesStraight T R lives x (instrs x.pc) left (does temps x.meant)) →
       Follows T R does (straight lines) trail
   linked_follows does lines instrs trail whole closed goes runs =
       lines_follow T R does lines trail closed goes
-      (λ lives temps x left ready clear at ends e f.
+      (λ lives temps x left ready clear at inside ends e f.
       (let long : length (instrs x.pc) ≡ length lines =
       ap length (sym (whole x.pc)) ∙ completed_length (T.addresses R.activation.here.comp) x.pc None lines in
       subst (λ n. Comes T R lives x (n + left) ends (does temps x.meant)) long
-      (runs lives temps x left ready clear (subst (CodeAt T.image R.activation.here.comp x.pc) (whole x.pc) at) ends e
-      (f ∙ ap (λ n. x.pc + 4 * n) (sym long)))))
+      (runs lives temps x left ready clear (subst (CodeAt T.image R.activation.here.comp x.pc) (whole x.pc) at)
+      (omega (arith, inside, long)) ends e (f ∙ ap (λ n. x.pc + 4 * n) (sym long)))))
 
 -- Where a call's value goes.
 
@@ -368,12 +371,27 @@ module _ (T : Setting) (R : Running) (formed : IsWellFormed T.image) (inputs : A
     own_call function args pc =
         Jal ra (pos (addresses.function function) -ℤ pos (pc + 4 * length (pass frame R.places a0 args)))
 
-    pub call_own_follows : (function : ℕ) (args : List ℕ) → length args ≤ 8 → addresses.function function < 2 ^ 32 →
+    -- behind the jump there is code
+    has_behind : (pc : ℕ) (before : List Instr) (instr : Instr) (after : List Instr) → HasNoGap T R →
+        CodeAt T.image A.here.comp pc (before ++ instr ∷ after) →
+        pc + 4 * length (before ++ instr ∷ after) ≤ R.last →
+        IsSome (word_at T.image A.here.comp (pc + 4 * length before + 4))
+    has_behind pc before instr after gapless code inside =
+        let at = (back_at T.image A.here.comp pc before (instr ∷ after) code).0 in
+        let here : IsInside (pc + 4 * length before) =
+        code_inside T.image formed A.here.comp (pc + 4 * length before) at.word at.fetched in
+        let long : length (before ++ instr ∷ after) ≡ length before + suc (length after) =
+        length-append before (instr ∷ after) in
+        ap is_some (gapless (pc + 4 * length before) (pc + 4 * length before + 4) (ap is_some at.fetched) (omega arith)
+        (omega (arith, inside, long)) (omega (arith, here.aligned))).1
+
+    pub call_own_follows : HasNoGap T R → (function : ℕ) (args : List ℕ) → length args ≤ 8 →
+        addresses.function function < 2 ^ 32 →
         T.makes A.here.comp (Own function) (length args) ≡ true →
         ((vs : List Value) (s : Meant) → Answers dest (calls A.here.comp (Own function) vs s)) →
         Follows T R (code_step wrapping A.here calls (tac.CallOwn dest function args))
         (select_step frame R.places (tac.CallOwn dest function args)) (trail_step (tac.CallOwn dest function args))
-    call_own_follows function args few below made answers =
+    call_own_follows gapless function args few below made answers =
         let before : List Instr = pass frame R.places a0 args in
         linked_follows T R (code_step wrapping A.here calls (tac.CallOwn dest function args))
         (call_own frame R.places dest function args)
@@ -387,7 +405,7 @@ module _ (T : Setting) (R : Running) (formed : IsWellFormed T.image) (inputs : A
         (referring (Function function) (Jal ra (pos 0)) ∷ plainly (receive frame R.places dest)) ∙
         low_plainly addresses (receive frame R.places dest))
         (goes calls follow (Own function) dest args)
-        (λ lives temps x left ready clear code ends left_is behind_is.
+        (λ lives temps x left ready clear code inside ends left_is behind_is.
         call_runs calls follow (Own function) dest args there made answers lives temps
         (each_at (IsClear R.places) (plain_points args true dest lives) 2 _ clear refl)
         (λ y left v s ready b. is_back T R args dest lives temps y (Own function) left v s is.honest ready clear b) x
@@ -407,6 +425,7 @@ module _ (T : Setting) (R : Running) (formed : IsWellFormed T.image) (inputs : A
             (back_at T.image A.here.comp x.pc before
                 (own_call function args x.pc ∷ receive frame R.places dest) code).0,
             jump_to (x.pc + 4 * length before) (addresses.function function) low below,
+            has_behind x.pc before (own_call function args x.pc) (receive frame R.places dest) gapless code inside,
           );
         })))
 
@@ -438,7 +457,7 @@ module _ (T : Setting) (R : Running) (formed : IsWellFormed T.image) (inputs : A
         sym (append_assoc arguments high (entry_call address)))
         (low_behind_plain addresses arguments lines ∙ low_plainly addresses (receive frame R.places dest))
         (goes calls follow (Cross comp index) dest args)
-        (λ lives temps x left ready clear code ends left_is behind_is.
+        (λ lives temps x left ready clear code inside ends left_is behind_is.
         call_runs calls follow (Cross comp index) dest args there made answers lives temps
         (each_at (IsClear R.places) (plain_points args true dest lives) 2 _ clear refl)
         (λ y left v s ready b.

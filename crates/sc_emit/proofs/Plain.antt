@@ -305,7 +305,7 @@ module _ (T : Setting) (R : Running) (formed : IsWellFormed T.image) (inputs : A
         lines_follow T R (code_step wrapping R.activation.here calls (tac.GlobalPlace dest global)) lines
         (trail_step (tac.GlobalPlace dest global)) (low_plainly (T.addresses comp) (keep frame R.places dest))
         (λ temps. stays (record { exit = Next; carried = with_temp dest (start_of global) temps }))
-        (λ lives temps x left ready clear at ends e f.
+        (λ lives temps x left ready clear at inside ends e f.
         (let pc : ℕ = x.pc + 4 + 4 in
         let stands : CodeAt T.image comp x.pc (code ++ keep frame R.places dest) = (
           at.0,

@@ -179,7 +179,7 @@ module _ (T : Setting) (R : Running) (formed : IsWellFormed T.image) (inputs : A
   own_level dest number args h all few =
       let address = reached.functions number h.1.1.1.1.1.1.0 in
       call_own_follows T R formed inputs cells nodes is placed calls follow dest (place_wanted dest args
-      h.0) number args
+      h.0) gapless number args
       (leb-true (length args) 8 h.1.1.1.0) (omega (arith, address.low))
       (made dest (Own number) (length args) h.1.1.1.1.1.1.1.0)
       (answers dest (Own number) (length args) h.1.1.1.1.1.1.1.0)

@@ -1,6 +1,6 @@
 -- Statements without others inside, as straight code.
-use Rattle.std.proofs.Common.{◌≡◌, ℕ, ◌+◌, ◌*◌, List, length, None}
-use Rattle.std.proofs.Common.{Result, Ok, Err, refl, sym, ap, subst, inl, All}
+use Rattle.std.proofs.Common.{◌≡◌, ℕ, ◌+◌, ◌*◌, ◌≤◌, List, length, None}
+use Rattle.std.proofs.Common.{Result, Ok, Err, refl, sym, ap, subst, arith, inl, All}
 use Rattle.std.proofs.lemmas.List.{length-map}
 use Rattle.rv_code.specs.declared.instr.Instr.{Instr}
 use Rattle.sc_core.specs.declared.cause.Cause.{Cause}
@@ -50,15 +50,15 @@ module _ (T : Setting) (R : Running) where
       ((lives : Lives) (temps : Temps) (x : Joint) (left : ℕ) → Ready T R (live_at trail lives) temps x →
       All (IsClear R.places) (trail.points lives) →
       CodeAt T.image R.activation.here.comp x.pc
-      (completed (T.addresses R.activation.here.comp) x.pc None lines) → (ends : Ends) → ends.left ≡ left →
-      ends.behind ≡ x.pc + 4 * length lines →
+      (completed (T.addresses R.activation.here.comp) x.pc None lines) → x.pc + 4 * length lines ≤ R.last →
+      (ends : Ends) → ends.left ≡ left → ends.behind ≡ x.pc + 4 * length lines →
       Comes T R lives x (length lines + left) ends (does temps x.meant)) → Follows T R does (straight lines) trail
   lines_follow does lines trail closed goes runs = record {
     sized = λ to_break to_continue. refl;
     closed = λ to_break to_continue. closed;
     goes = goes;
     runs = λ lives temps x left to_break to_continue starts.
-        runs lives temps x left starts.ready starts.clear starts.stands
+        runs lives temps x left starts.ready starts.clear starts.stands (omega (arith, starts.breaks))
         (ends_of (straight lines) x.pc left to_break to_continue) refl refl;
   }
 

@@ -2,3 +2,4 @@ pub mod Image
 pub mod Laws
 pub mod Layout
 pub mod Linkable
+pub mod Sections

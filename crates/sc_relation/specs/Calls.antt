@@ -10,10 +10,11 @@ use Rattle.sc_core.specs.declared.value.Value.{Value}
 use Rattle.sc_core.specs.Calls.{Function, begun, done}
 use Rattle.sc_core.specs.Words.{State as Meant, Piece, Reached, Stopped, Calls, and_then}
 use Rattle.sc_laws.specs.Growth.{Goes}
-use Rattle.sc_image.specs.Layout.{stack_top}
+use Rattle.sc_image.specs.Layout.{stack_top, word_at}
 use Rattle.sc_image.specs.Step.{jalr_target}
 use Rattle.sc_select.specs.Pieces.{ra, sp, a0, a7}
 use Rattle.sc_hart.specs.Code.{Fetches}
+use Rattle.sc_hart.specs.Hart.{look}
 use Rattle.sc_relation.specs.Blocks.{StandsFor}
 use Rattle.sc_relation.specs.Frames.{AreFloors}
 use Rattle.sc_relation.specs.Stretches.{Setting, Joint, Standpoint, Settled, Leads, Shows, Overflows, GivenBack}
@@ -60,14 +61,14 @@ module _ (T : Setting) where
   CallGives P x target (Reached v s) = ComesBack P x target v s
   CallGives P x target (Stopped end s) = Shows T P x 1 s
 
-  -- the instruction of a call of each kind, at the pc
+  -- the instruction of a call of each kind, at the pc; behind that of an own function there is code, to come back to
   abbrev pub CallStands : Standpoint → Joint → CallTarget → Type 0
   CallStands P x (Own number) =
       (imm : ℤ) × Fetches T.image P.comp x.pc (Jal ra imm) ×
-      (add_word x.pc (word_of imm) ≡ (T.addresses P.comp).function number)
+      (add_word x.pc (word_of imm) ≡ (T.addresses P.comp).function number) × IsSome (word_at T.image P.comp (x.pc + 4))
   CallStands P x (Cross to index) =
       (rs : ℕ) × ((imm : ℤ) × Fetches T.image P.comp x.pc (Jalr ra rs imm) × (rs < 32) ×
-      (jalr_target (x.regs rs) imm ≡ (T.addresses P.comp).entry to index))
+      (jalr_target (look x.regs rs) imm ≡ (T.addresses P.comp).entry to index))
   CallStands P x Input = Fetches T.image P.comp x.pc Ecall × (x.regs a7 ≡ 1)
   CallStands P x Output = Fetches T.image P.comp x.pc Ecall × (x.regs a7 ≡ 2)
 

@@ -1,2 +1,15 @@
+pub mod Across
 pub mod Along
+pub mod Answering
+pub mod Bodies
+pub mod CrossCalls
+pub mod Crossing
+pub mod Environment
+pub mod Finish
+pub mod OwnCalls
+pub mod Placing
+pub mod Sections
 pub mod Shows
+pub mod Start
+pub mod Turning
+pub mod Whole

@@ -1,10 +1,11 @@
 -- What the machine's runs show, by what it does beside a run.
-use Rattle.std.proofs.Common.{◌≡◌, ℕ, zero, suc, ◌+◌, ◌-◌, ◌<◌, ◌≤◌, Bool, true, false, List, [], ◌∷◌, ◌++◌, All}
-use Rattle.std.proofs.Common.{length, take, Some, None, refl, sym, ◌∙◌, ap, subst, arith, inl, inr, nat_le, nat_lt}
-use Rattle.std.proofs.Common.{take_all, leb-true, leb-false, ltb-true, ltb-false, length-append, drop, take-append-drop, ⊎_elim}
-use Rattle.std.specs.Prelude.{◌⊎◌, if◌then◌else◌}
+use Rattle.std.proofs.Common.{◌≡◌, ℕ, zero, suc, ◌+◌, ◌-◌, ◌<◌, ◌≤◌, Bool, true, false, List, [], ◌∷◌, ◌++◌}
+use Rattle.std.proofs.Common.{length, take, None, refl, sym, ◌∙◌, ap, subst, arith, inl, inr, nat_le, nat_lt}
+use Rattle.std.proofs.Common.{take_all, leb-true, leb-false, ltb-true, ltb-false, length-append, drop}
+use Rattle.std.proofs.Common.{take-append-drop, ⊎_elim}
+use Rattle.std.specs.Prelude.{◌⊎◌}
 use Rattle.std.proofs.lemmas.Bool.{lt-leb}
-use Rattle.sc_base.specs.declared.stop.Stop.TheVariants.{Ended as EndedStop, EventsOut as FullStop, Trap}
+use Rattle.sc_base.specs.declared.stop.Stop.TheVariants.{Ended as EndedStop, Trap}
 use Rattle.sc_base.specs.declared.stop.TrapReason.TheVariants.{Owner}
 use Rattle.sc_event.specs.declared.event.Event.{Event}
 use Rattle.sc_event.specs.declared.event.Event.TheVariants.{End}
@@ -16,12 +17,11 @@ use Rattle.sc_core.specs.Meaning.{Run, deepest, depth_in}
 use Rattle.sc_core.specs.Run.{reaches, stopped_at}
 use Rattle.sc_core.specs.Words.{Closed, FrameChange, IsStop, Opened}
 use Rattle.sc_laws.specs.Agreement.{RunsAgree, without_line}
-use Rattle.sc_laws.specs.Rooms.{AllBefore, AllFrom, has_no_end, room_after}
+use Rattle.sc_laws.specs.Rooms.{AllBefore, AllFrom, room_after}
 use Rattle.sc_laws.specs.Steady.{AgreesInRoom, AgreesUntilBlame, RunsUntilBlame, blamed, blamed_run, same, same_run}
 use Rattle.sc_laws.proofs.Growing.{front_more, front_same}
 use Rattle.sc_laws.proofs.Rooms.{deepest_is_reached}
-use Rattle.sc_laws.proofs.Rows.{fronts_meet}
-use Rattle.sc_laws.proofs.Runs.{front_long, take_fronts, trace_is}
+use Rattle.sc_laws.proofs.Runs.{take_fronts, trace_is}
 use Rattle.sc_image.specs.declared.parts.ImageParts.{ImageParts}
 use Rattle.sc_image.specs.Cross.{ended}
 use Rattle.sc_image.specs.Layout.{stack_size}
@@ -31,10 +31,10 @@ use Rattle.sc_image.specs.Step.{Goes, Traps, step}
 use Rattle.sc_image.specs.WellFormed.{IsWellFormed}
 use Rattle.sc_image.proofs.Running.{run_goes, run_stopped, run_traps}
 use Rattle.sc_image.proofs.Stretches.{not_stopped}
-use Rattle.sc_image.proofs.Telling.{telling_composes, steps_tell}
+use Rattle.sc_image.proofs.Telling.{steps_tell}
 use Rattle.sc_simulation.specs.Outcomes.{Reaches, Finishes, Stands, IsFull, Outcome, finishes, stands, is_full}
 use Rattle.sc_simulation.specs.Runs.{IsBlamed, OutcomesShow, ShowsRun, TrapsFull}
-use Rattle.sc_simulation.proofs.Along.{Along, along, front_taken, not_over, run_front, take_front}
+use Rattle.sc_simulation.proofs.Along.{Along, along, front_taken, not_over, run_front}
 
 -- FRAMES
 
@@ -87,7 +87,10 @@ shorter_first xs ys zs a b le =
     let begins : take (length xs) ys ≡ xs =
     take_same (length xs) ys zs b le ∙ sym (take_same (length xs) xs zs a (omega arith)) ∙
     take_all (length xs) xs (omega arith) in
-    record { more = drop (length xs) ys; is = sym (take-append-drop (length xs) ys) ∙ ap (λ t. t ++ drop (length xs) ys) begins }
+    record {
+      more = drop (length xs) ys;
+      is = sym (take-append-drop (length xs) ys) ∙ ap (λ t. t ++ drop (length xs) ys) begins;
+    }
 
 -- STOPPED RUNS
 unstopped_by : (events : ℕ) (run : SourceRun) (end : RunEnd) → IsStop end → length run.trace < events →
@@ -342,10 +345,12 @@ module _ (image : ImageParts) (inputs : List ℕ) (formed : IsWellFormed image) 
     abbrev seen : (steps events : ℕ) → List Event
     seen steps events = (machine image inputs steps events).state.trace
 
-    as_cut : (events : ℕ) (trace : List Event) → Front (take events run.behaviour.trace) trace → Front (cut events) trace
+    as_cut : (events : ℕ) (trace : List Event) → Front (take events run.behaviour.trace) trace →
+        Front (cut events) trace
     as_cut events trace = subst (λ t. Front t trace) (sym (trace_is events run.behaviour))
 
-    to_cut : (events : ℕ) (trace : List Event) → Front trace (take events run.behaviour.trace) → Front trace (cut events)
+    to_cut : (events : ℕ) (trace : List Event) → Front trace (take events run.behaviour.trace) →
+        Front trace (cut events)
     to_cut events trace = subst (Front trace) (sym (trace_is events run.behaviour))
 
     equal_cut : (events : ℕ) (trace : List Event) → trace ≡ take events run.behaviour.trace → Front (cut events) trace
@@ -465,8 +470,11 @@ module _ (image : ImageParts) (inputs : List ℕ) (formed : IsWellFormed image) 
           let blame : IsBlamed (stopped_at events one.behaviour).end = subst IsBlamed (sym ends) tt in
           ⊎_elim (λ h. sorted (stopped_at events one.behaviour) blame (stopped_at events other.behaviour).trace front h
           (nat_le (length told) (length (stopped_at events one.behaviour).trace)) refl)
-          (λ h. inr (blame, front_more (stopped_at events one.behaviour).trace (stopped_at events other.behaviour).trace
-          told front h.1)) h
+          (λ h. inr (
+            blame,
+            front_more (stopped_at events one.behaviour).trace (stopped_at events other.behaviour).trace
+                told front h.1,
+          )) h
 
     backward : (steps events : ℕ) → steps ≤ turns → Behind steps events (stopped_at events one.behaviour)
     backward steps events le =
@@ -494,7 +502,8 @@ module _ (image : ImageParts) (inputs : List ℕ) (bound turns : ℕ) (run other
         (sym (agree.behaviour events).trace) h))
         (λ h. inr (record {
           stop = h.stop;
-          deep = subst (λ changes. stack_size < deepest events (machine image inputs bound events).state.active 0 changes)
+          deep = subst
+              (λ changes. stack_size < deepest events (machine image inputs bound events).state.active 0 changes)
               (sym agree.frames) h.deep;
           trace = subst (Front (machine image inputs bound events).state.trace) (sym (agree.behaviour events).trace)
               h.trace;

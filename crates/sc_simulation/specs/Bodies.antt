@@ -1,5 +1,5 @@
 -- What functions do, with all that they call, is followed by their code.
-use Rattle.std.specs.Prelude.{◌≡◌, ℕ, suc, ◌<◌, ◌⊎◌, Bool, true, false, List, length, All, IsTrue, Option, Some, slice_get}
+use Rattle.std.specs.Prelude.{◌≡◌, ℕ, ◌<◌, ◌⊎◌, true, false, List, length, IsTrue, Option, Some, slice_get}
 use Rattle.sc_core.specs.declared.expr.CallTarget.TheVariants.{Cross}
 use Rattle.sc_core.specs.declared.value.Value.{Value}
 use Rattle.sc_core.specs.Calls.{begun, calls, done}
@@ -37,7 +37,8 @@ module _ (program : TacTree) (roles : Roles) where
         ⊎ Overflows T P x budget (ran open_calls P.comp number f args x.meant)))
 
     abbrev pub BodiesFollow : (open_calls : ℕ) → Type 0
-    BodiesFollow open_calls = (P : Standpoint) (x : Joint) (number : ℕ) (f : TacFnTree) (args : List Value) (ra_is : ℕ) →
+    BodiesFollow open_calls =
+        (P : Standpoint) (x : Joint) (number : ℕ) (f : TacFnTree) (args : List Value) (ra_is : ℕ) →
         slice_get (functions_in program P.comp) number ≡ Some f → IsTrue (passes_words f.params f.objects) →
         length args ≡ f.params →
         Begins T P (code_function wrapping f) args ((T.addresses P.comp).function number) ra_is x →

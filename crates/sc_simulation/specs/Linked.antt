@@ -61,7 +61,8 @@ module _ (program : TacTree) where
   gives comp Input = true
   gives comp Output = false
 
-  -- a run of an image in which some compartments perform in place of running the program's code
+  -- a run of an image in which some compartments perform in place of running the program's code; what a script gives
+  -- back is not known
   abbrev pub setting : ImageParts → List ℕ → (performs : ℕ → Bool) → (turn_pays : ℕ) → (ℕ → Addresses) → Setting
   setting image inputs performs turn_pays addresses = record {
     image = image;
@@ -71,7 +72,7 @@ module _ (program : TacTree) where
     addresses = addresses;
     globals = λ k. length (code_globals program.sections k);
     makes = makes;
-    gives = gives;
+    gives = λ comp target. not (performs comp) && gives comp target;
   }
 
 -- the code of a function stands where it begins, and a turn pays for it and one step more
@@ -107,10 +108,12 @@ pub record IsLinked (program : TacTree) (image : ImageParts) (turn_pays : ℕ) (
       HasCode image (addresses comp) turn_pays comp number f
   pub function_at : (comp number : ℕ) → number < length (functions_in program comp) →
       IsCodeAddress ((addresses comp).function number)
-  pub main_at : (number : ℕ) → function_entered Main (slice_get program.sections program.interfaces.main) ≡ Some number →
+  pub main_at : (number : ℕ) →
+      function_entered Main (slice_get program.sections program.interfaces.main) ≡ Some number →
       image.entry ≡ (addresses program.interfaces.main).function number
   -- entries
-  pub entries : (from to index number : ℕ) → function_entered (Export index) (slice_get program.sections to) ≡ Some number →
+  pub entries : (from to index number : ℕ) →
+      function_entered (Export index) (slice_get program.sections to) ≡ Some number →
       EntersBy image to ((addresses from).entry to index) ((addresses to).function number)
   pub entry_at : (from to index : ℕ) (proto : Proto) → export_at program.interfaces to index ≡ Some proto →
       IsCodeAddress ((addresses from).entry to index)

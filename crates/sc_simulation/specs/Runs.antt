@@ -33,7 +33,7 @@ pub record ShowsRun (image : ImageParts) (inputs : List ℕ) (bound turns : ℕ)
   pub forward : (events : ℕ) →
       Front (stopped_at events run.behaviour).trace (machine image inputs bound events).state.trace
       ⊎ TrapsFull (machine image inputs bound events) run events
-  -- in no more steps than the run had turns it shows nothing else, unless the run is blamed where it has shown all of it
+  -- in no more steps than the run had turns it shows nothing else, unless the run is blamed and it has shown all of it
   pub backward : (steps events : ℕ) → steps ≤ turns →
       Front (machine image inputs steps events).state.trace (stopped_at events run.behaviour).trace
       ⊎ (IsBlamed (stopped_at events run.behaviour).end ×

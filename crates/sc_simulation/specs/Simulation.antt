@@ -1,6 +1,5 @@
 -- The machine on a linked image does what the code of its program does.
 use Rattle.std.specs.Prelude.{◌≡◌, ℕ, suc, ◌*◌, false, List, [], All, Some, slice_get}
-use Rattle.sc_core.specs.Meaning.{Run}
 use Rattle.sc_core.specs.Scripts.{Roles}
 use Rattle.sc_core.specs.Value.{wrapping}
 use Rattle.sc_image.specs.declared.parts.ImageParts.{ImageParts}

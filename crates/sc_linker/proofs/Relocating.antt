@@ -1,0 +1,79 @@
+-- One instruction of code is linked, and the next is looked at.
+use Rattle.std.proofs.Common.{◌≡◌, ℕ, ◌+◌, ◌<◌, ◌==◌, Bool, true, false, if◌then◌else◌}
+use Rattle.std.proofs.Common.{IfSome, List, [], ◌∷◌, ◌++◌, map, length, drop, get_or, Option, None, Some}
+use Rattle.std.proofs.Common.{sym, subst, ap, arith, ◌∙◌, add-one, append_assoc, length-drop}
+use Rattle.rv_code.specs.declared.instr.Instr.{Instr}
+use Rattle.rv_code.specs.Prelude.{word_of}
+use Rattle.sc_base.proofs.Bools.{and_first, and_rest}
+use Rattle.sc_base.proofs.Lists.{drop-step}
+use Rattle.sc_tac.specs.declared.machine_code.Relocation.{Relocation}
+use Rattle.sc_tac.specs.declared.machine_code.Target.{Target}
+use Rattle.sc_select.specs.Linking.{Addresses, linked_from, low_behind, relocations_behind, target_at, with_low}
+use Rattle.sc_select.specs.Linking.{with_target}
+use Rattle.sc_linker.specs.Sections.{AreKnown, HasRoom, IsKnown, is_known}
+
+module _ (A : Addresses) (functions globals : ℕ) where
+  -- what an instruction refers to is known
+  pub known_at : (at : ℕ) (relocations : List Relocation) (target : Option Target) →
+      target ≡ target_at A at relocations → AreKnown functions globals relocations →
+      IfSome target (IsKnown functions globals)
+  known_at at [] target is known = subst (λ t. IfSome t (IsKnown functions globals)) (sym is) tt
+  known_at at (relocation ∷ relocations) target is known =
+      subst (λ t. IfSome t (IsKnown functions globals)) (sym is) (by (relocation.at == at)) where
+        by : (b : Bool) → IfSome (if b then Some relocation.target else None) (IsKnown functions globals)
+        by true = and_first (is_known functions globals relocation.target) _ known
+        by false = tt
+
+  -- and so is what those behind it refer to
+  pub known_behind : (at : ℕ) (relocations rest : List Relocation) → relocations_behind A at relocations ≡ rest →
+      AreKnown functions globals relocations → AreKnown functions globals rest
+  known_behind at [] rest is known = subst (AreKnown functions globals) is known
+  known_behind at (relocation ∷ relocations) rest is known =
+      subst (AreKnown functions globals) is (by (relocation.at == at)) where
+        by : (b : Bool) → AreKnown functions globals (if b then relocations else relocation ∷ relocations)
+        by true = and_rest (is_known functions globals relocation.target) _ known
+        by false = known
+
+-- one more instruction is linked
+module _ (A : Addresses) (instrs : List Instr) (i : ℕ) (instr : Instr) (within : i < length instrs)
+    (item : instr ≡ get_or instrs i instr) where
+  pub one_linked : (words more whole : List ℕ) (pc at : ℕ) (low next : Option ℕ) (target : Option Target)
+      (relocations rest : List Relocation) (word : ℕ) → target ≡ target_at A at relocations →
+      relocations_behind A at relocations ≡ rest → next ≡ low_behind A target →
+      word ≡ word_of (with_low low (with_target A pc target instr)) → more ≡ words ++ word ∷ [] →
+      words ++ map word_of (linked_from A pc at low (drop i instrs) relocations) ≡ whole →
+      more ++ map word_of (linked_from A (pc + 4) (at + 1) next (drop (i + 1) instrs) rest) ≡ whole
+  one_linked words more whole pc at low next target relocations rest word is left behind made pushed so_far =
+      ap (λ ws. ws ++ later) (pushed ∙ ap (λ w. words ++ w ∷ []) made) ∙
+      append_assoc words (here ∷ []) later ∙
+      ap (λ ws. words ++ ws) (sym (ap (λ is. map word_of (linked_from A pc at low is relocations)) split ∙ first)) ∙
+      so_far where
+        split : drop i instrs ≡ instr ∷ drop (i + 1) instrs
+        split = drop-step instrs i instr within item
+
+        here : ℕ
+        here = word_of (with_low low (with_target A pc target instr))
+
+        later : List ℕ
+        later = map word_of (linked_from A (pc + 4) (at + 1) next (drop (i + 1) instrs) rest)
+
+        low_next : low_behind A (target_at A at relocations) ≡ next
+        low_next = ap (low_behind A) (sym is) ∙ sym behind
+
+        first : map word_of (linked_from A pc at low (instr ∷ drop (i + 1) instrs) relocations) ≡ here ∷ later
+        first = λ k.
+            word_of (with_low low (with_target A pc (sym is k) instr)) ∷
+            map word_of (linked_from A (pc + 4) (sym (add-one at) k) (low_next k) (drop (i + 1) instrs) (left k))
+
+-- there is room for the instructions behind one
+pub room_behind : {X : Type 0} (comp pc i : ℕ) (xs : List X) → i < length xs → HasRoom comp pc (length (drop i xs)) →
+    HasRoom comp (pc + 4) (length (drop (i + 1) xs))
+room_behind comp pc i xs within room =
+    let here = length-drop i xs in
+    let next = length-drop (i + 1) xs in
+    record {
+      least = omega arith;
+      greatest = omega arith;
+      word = omega arith;
+      whole = omega arith;
+    }

@@ -1,0 +1,17 @@
+use Rattle.std.proofs.Common.{All, drop, map, take, ◌++◌, ◌≡◌}
+use Rattle.rv_code.specs.Prelude.{word_of}
+use Rattle.sc_linker.specs.Image.{linked_codes}
+use Rattle.sc_linker.specs.Laws.{IsWhole}
+use Rattle.sc_linker.specs.Layout.{instructions}
+use Rattle.sc_linker.specs.Sections.{HasRoom, addresses_of}
+use Rattle.sc_linker.proofs.code.push_codes.Given as goal
+
+-- the codes from this one on stand at `next`
+abbrev pub invariant-loop-code : goal.invariant-loop-code
+invariant-loop-code l = record {
+  room : HasRoom l.layout.comp l.next (instructions (drop l.code-index l.codes));
+  whole : All IsWhole (take l.code-index l.codes);
+  words :
+      l.words ++ map word_of (linked_codes (addresses_of l.layout) l.next (drop l.code-index l.codes)) ≡
+      l.initial.words ++ map word_of (linked_codes (addresses_of l.layout) l.address l.codes);
+}

@@ -1,0 +1,18 @@
+use Rattle.std.proofs.Common.{arith, length, take_all, subst, All, ◌<◌}
+use Rattle.std.proofs.lemmas.Grind.{common_steps}
+use Rattle.sc_tac.specs.declared.machine_code.CodeTree.{CodeTree}
+use Rattle.sc_linker.proofs.Beginnings.{all_more}
+use Rattle.sc_linker.proofs.layout.function_starts.Goals as goal
+
+pub loop-code-preserved : goal.loop-code-preserved
+loop-code-preserved c = record {
+  starts = grind (arith, common_steps);
+  some = all_more {X = CodeTree} (λ code. 0 < length code.instrs) c.args.codes.now c.loop-code.code-index
+      c.code-item.result c.loop-code-test.true c.code-item.is c.loop-code.invariant.some c.tree.ensures.rules.some;
+  room = grind (arith, common_steps);
+}
+
+pub returns-clause-some : goal.returns-clause-some
+returns-clause-some c =
+    subst (All {X = CodeTree} (λ code. 0 < length code.instrs))
+    (take_all c.loop-code.code-index c.args.codes.now (omega arith)) c.loop-code.invariant.some

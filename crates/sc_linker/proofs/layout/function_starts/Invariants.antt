@@ -1,0 +1,14 @@
+use Rattle.std.proofs.Common.{All, drop, length, take, ◌*◌, ◌++◌, ◌+◌, ◌<◌, ◌≡◌}
+use Rattle.sc_tac.specs.declared.machine_code.CodeTree.{CodeTree}
+use Rattle.sc_linker.specs.Layout.{instructions}
+use Rattle.sc_linker.specs.Sections.{code_sizes, starts}
+use Rattle.sc_linker.proofs.layout.function_starts.Given as goal
+
+-- the codes from this one on begin at `next`
+abbrev pub invariant-loop-code : goal.invariant-loop-code
+invariant-loop-code l = record {
+  starts :
+      l.functions ++ starts l.next (code_sizes (drop l.code-index l.codes)) ≡ starts l.address (code_sizes l.codes);
+  some : All {X = CodeTree} (λ code. 0 < length code.instrs) (take l.code-index l.codes);
+  room : l.next + 4 * instructions (drop l.code-index l.codes) ≡ l.address + 4 * instructions l.codes;
+}

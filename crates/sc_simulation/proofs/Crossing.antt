@@ -1,0 +1,168 @@
+-- What passes between compartments at a call and at its return.
+use Rattle.std.proofs.Common.{◌≡◌, ℕ, zero, suc, ◌+◌, ◌^◌, ◌<◌, ◌≤◌, Bool, true, false, List, [], ◌∷◌, length}
+use Rattle.std.proofs.Common.{map, take, Option, None, Some, if◌then◌else◌, refl, sym, ◌∙◌, ap, ap₂, subst, arith}
+use Rattle.std.specs.Prelude.{slice_get, is_some}
+use Rattle.std.specs.List.{list_all}
+use Rattle.std.specs.Option.{option_map}
+use Rattle.std.proofs.lemmas.Bool.{and_parts, le-leb, lt-ltb}
+use Rattle.std.proofs.lemmas.Option.{same_Some, slice_get-map, slice_get_within}
+use Rattle.sc_event.specs.declared.interface.Scalar.{Scalar}
+use Rattle.sc_core.specs.declared.value.Value.{Value}
+use Rattle.sc_core.specs.declared.value.Value.TheVariants.{Word, Null, Ptr}
+use Rattle.sc_core.specs.Calls.{crossed, is_word, option_value, word_back, word_in}
+use Rattle.sc_image.specs.Cross.{arguments, cleared_for_call, cleared_for_return, is_argument, is_result, kept}
+use Rattle.sc_image.specs.Cross.{kept_from}
+use Rattle.sc_image.specs.Layout.{gate}
+use Rattle.sc_image.specs.State.{written}
+use Rattle.sc_select.specs.Pieces.{ra, sp, a0}
+use Rattle.sc_hart.specs.Hart.{Registers, listed, put, words_from}
+use Rattle.sc_hart.proofs.Registers.{put_here, put_there, write_listed}
+use Rattle.sc_relation.specs.Blocks.{StandsFor}
+use Rattle.sc_relation.specs.Calls.{ArePassed}
+use Rattle.sc_relation.specs.Stretches.{Setting, GivenBack}
+
+-- Registers of which some are kept.
+
+abbrev pub kept_ones : (ℕ → Bool) → Registers → Registers
+kept_ones keeps regs r = if keeps r then regs r else 0
+
+kept_words : (keeps : ℕ → Bool) (count first : ℕ) (regs : Registers) →
+    kept_from keeps first (words_from count first regs) ≡ words_from count first (kept_ones keeps regs)
+kept_words keeps zero first regs = refl
+kept_words keeps (suc count) first regs = ap (λ xs. kept_ones keeps regs first ∷ xs)
+    (kept_words keeps count (suc first) regs)
+
+zero_if : (b : Bool) → ◌≡◌ {A = ℕ} (if b then 0 else 0) 0
+zero_if true = refl
+zero_if false = refl
+
+kept_listed : (keeps : ℕ → Bool) (regs : Registers) → kept keeps (listed regs) ≡ listed (kept_ones keeps regs)
+kept_listed keeps regs = ap₂ (λ x xs. x ∷ xs) (zero_if (keeps 0)) (kept_words keeps 31 1 regs)
+
+-- those with which a function of another compartment begins, and those with which its caller goes on
+abbrev pub called_regs : (params low : ℕ) → Registers → Registers
+called_regs params low regs = put (put (kept_ones (is_argument params) regs) ra gate) sp low
+
+abbrev pub returned_regs : (result : Bool) → (high : ℕ) → Registers → Registers
+returned_regs result high regs = put (kept_ones (is_result result) regs) sp high
+
+pub called_sp : (params low : ℕ) (regs : Registers) → called_regs params low regs sp ≡ low
+called_sp params low regs = put_here (put (kept_ones (is_argument params) regs) ra gate) sp low
+
+pub called_ra : (params low : ℕ) (regs : Registers) → called_regs params low regs ra ≡ gate
+called_ra params low regs =
+    put_there (put (kept_ones (is_argument params) regs) ra gate) sp low ra (λ e. omega (arith, e)) ∙
+    put_here (kept_ones (is_argument params) regs) ra gate
+
+pub returned_sp : (result : Bool) (high : ℕ) (regs : Registers) → returned_regs result high regs sp ≡ high
+returned_sp result high regs = put_here (kept_ones (is_result result) regs) sp high
+
+pub called_listed : (params low : ℕ) (regs : Registers) →
+    written (written (cleared_for_call params (listed regs)) ra gate) sp low ≡ listed (called_regs params low regs)
+called_listed params low regs =
+    let keeps : ℕ → Bool = is_argument params in
+    ap (λ words. written (written words ra gate) sp low) (kept_listed keeps regs) ∙
+    ap (λ words. written words sp low) (write_listed (kept_ones keeps regs) ra gate (omega arith)) ∙
+    write_listed (put (kept_ones keeps regs) ra gate) sp low (omega arith)
+
+pub returned_listed : (result : Bool) (high : ℕ) (regs : Registers) →
+    written (cleared_for_return result (listed regs)) sp high ≡ listed (returned_regs result high regs)
+returned_listed result high regs =
+    ap (λ words. written words sp high) (kept_listed (is_result result) regs) ∙
+    write_listed (kept_ones (is_result result) regs) sp high (omega arith)
+
+-- Arguments.
+
+take_words : (n count first : ℕ) (regs : Registers) → n ≤ count →
+    take n (words_from count first regs) ≡ words_from n first regs
+take_words zero count first regs h = refl
+take_words (suc n) zero first regs h = absurd (omega (arith, h))
+take_words (suc n) (suc count) first regs h =
+    ap (λ xs. regs first ∷ xs) (take_words n count (suc first) regs (omega (arith, h)))
+
+pub word_means : (place : ℕ → Option ℕ) (w : ℕ) (v : Value) → is_word v ≡ true → StandsFor place w v → w ≡ word_in v
+word_means place w (Word n) is stands = stands.means
+word_means place w Null is stands = stands.means
+word_means place w (Ptr p) is stands = cc is
+
+words_are : (place : ℕ → Option ℕ) (args : List Value) (first : ℕ) (regs : Registers) →
+    list_all is_word args ≡ true →
+    ((i : ℕ) (v : Value) → slice_get args i ≡ Some v → StandsFor place (regs (first + i)) v) →
+    words_from (length args) first regs ≡ map word_in args
+words_are place [] first regs all passed = refl
+words_are place (v ∷ args) first regs all passed =
+    let both = and_parts (is_word v) (list_all is_word args) all in
+    let here : first + 0 ≡ first = omega arith in
+    ap₂ (λ x xs. x ∷ xs)
+    (word_means place (regs first) v both.0 (subst (λ r. StandsFor place (regs r) v) here (passed 0 v refl)))
+    (words_are place args (suc first) regs both.1
+    (λ i u e. (let there : first + suc i ≡ suc first + i = omega arith in
+    subst (λ r. StandsFor place (regs r) u) there (passed (suc i) u e))))
+
+-- the event of a call tells them
+pub arguments_are : (place : ℕ → Option ℕ) (args : List Value) (regs : Registers) → length args ≤ 8 →
+    list_all is_word args ≡ true → ArePassed place regs args →
+    arguments (length args) (listed regs) ≡ map word_in args
+arguments_are place args regs few all passed =
+    take_words (length args) 22 a0 regs (omega (arith, few)) ∙ words_are place args a0 regs all passed
+
+-- and they are passed
+crossed_at : (place other : ℕ → Option ℕ) (regs after : Registers) (v : Value) (o : Option Value) (i : ℕ) →
+    ((u : Value) → o ≡ Some u → StandsFor place (regs (a0 + i)) u × (is_word u ≡ true) ×
+    (after (a0 + i) ≡ regs (a0 + i))) →
+    option_map (λ v. Word (word_in v)) o ≡ Some v → StandsFor other (after (a0 + i)) v
+crossed_at place other regs after v None i h e = cc e
+crossed_at place other regs after v (Some u) i h e =
+    let its = h u refl in
+    subst (StandsFor other (after (a0 + i))) (same_Some (Word (word_in u)) v e) (record {
+      word = subst (λ w. w < 2 ^ 32) (sym its.2) its.0.word;
+      means = its.2 ∙ word_means place (regs (a0 + i)) u its.1 its.0;
+    })
+
+pub all_words : (args : List Value) (i : ℕ) (v : Value) → list_all is_word args ≡ true → slice_get args i ≡ Some v →
+    is_word v ≡ true
+all_words [] i v all e = cc e
+all_words (w ∷ args) zero v all e =
+    subst (λ v. is_word v ≡ true) (same_Some w v e) (and_parts (is_word w) (list_all is_word args) all).0
+all_words (w ∷ args) (suc i) v all e = all_words args i v (and_parts (is_word w) (list_all is_word args) all).1 e
+
+pub crossed_passed : (place other : ℕ → Option ℕ) (args : List Value) (low : ℕ) (regs : Registers) →
+    list_all is_word args ≡ true → ArePassed place regs args →
+    ArePassed other (called_regs (length args) low regs) (crossed args)
+crossed_passed place other args low regs all passed i v e =
+    let params : ℕ = length args in
+    let keeps : ℕ → Bool = is_argument params in
+    crossed_at place other regs (called_regs params low regs) v (slice_get args i) i
+    (λ u at.
+    (let below : i < params = slice_get_within args i u at in (
+      passed i u at,
+      all_words args i u all at,
+      put_there (put (kept_ones keeps regs) ra gate) sp low (a0 + i) (λ e. omega (arith, e)) ∙
+          put_there (kept_ones keeps regs) ra gate (a0 + i) (λ e. omega (arith, e)) ∙
+          rw (le-leb a0 (a0 + i) (omega arith), lt-ltb (a0 + i) (a0 + params) (omega (arith, below))) refl,
+    )))
+    (sym (slice_get-map (λ v. Word (word_in v)) args i) ∙ e)
+
+-- Results.
+
+-- what the machine gives back is what the meaning does
+pub given_is : (T : Setting) (place : ℕ → Option ℕ) (w : ℕ) (result : Option Scalar) (v : Option Value) →
+    option_value (word_back result v) ≡ v → GivenBack T place w v →
+    (if is_some result then Some w else None) ≡ word_back result v
+given_is T place w None v same given = refl
+given_is T place w (Some scalar) None same given = cc same
+given_is T place w (Some scalar) (Some (Word n)) same given = ap Some given.means
+given_is T place w (Some scalar) (Some Null) same given = ap Some given.means
+given_is T place w (Some scalar) (Some (Ptr p)) same given = cc same
+
+pub given_back : (T : Setting) (place other : ℕ → Option ℕ) (w high : ℕ) (regs : Registers) (result : Option Scalar)
+    (v : Option Value) → regs a0 ≡ w → option_value (word_back result v) ≡ v → GivenBack T place w v →
+    GivenBack T other (returned_regs (is_some result) high regs a0) (option_value (word_back result v))
+given_back T place other w high regs None v is same given = tt
+given_back T place other w high regs (Some scalar) None is same given = cc same
+given_back T place other w high regs (Some scalar) (Some (Word n)) is same given = record {
+  word = subst (λ w. w < 2 ^ 32) (sym is) given.word;
+  means = is ∙ given.means;
+}
+given_back T place other w high regs (Some scalar) (Some Null) is same given = cc same
+given_back T place other w high regs (Some scalar) (Some (Ptr p)) is same given = cc same

@@ -1,0 +1,169 @@
+-- Calls of the environment.
+use Rattle.std.proofs.Common.{◌≡◌, ℕ, zero, suc, ◌+◌, true, List, [], ◌∷◌, ◌++◌, All, drop}
+use Rattle.std.proofs.Common.{None, Some, refl, sym, ◌∙◌, ap, subst, arith}
+use Rattle.rv_code.specs.declared.instr.Instr.TheVariants.{Ecall}
+use Rattle.sc_event.specs.declared.event.Event.TheVariants.{In, Out}
+use Rattle.sc_core.specs.declared.expr.CallTarget.TheVariants.{Input, Output}
+use Rattle.sc_core.specs.declared.value.Value.TheVariants.{Word}
+use Rattle.sc_core.specs.Calls.{next_input, read_input}
+use Rattle.sc_core.specs.Words.{tell}
+use Rattle.sc_image.specs.Calls.{may_input, may_output}
+use Rattle.sc_image.specs.Cross.{input_at}
+use Rattle.sc_image.specs.State.{State, written}
+use Rattle.sc_image.specs.Walks.{Walks, IsAt}
+use Rattle.sc_image.specs.WellFormed.{IsWord, IsWellFormed}
+use Rattle.sc_image.proofs.Telling.{steps_tell}
+use Rattle.sc_select.specs.Pieces.{sp, a0, a7}
+use Rattle.sc_hart.specs.Code.{Fetches}
+use Rattle.sc_hart.specs.Hart.{put, listed}
+use Rattle.sc_hart.proofs.Registers.{put_here, put_there, read_listed, write_listed}
+use Rattle.sc_hart.proofs.Steady.{walks_steady}
+use Rattle.sc_relation.specs.Blocks.{StandsFor}
+use Rattle.sc_relation.specs.Stretches.{Setting, Joint, Standpoint, machine, Settled}
+use Rattle.sc_relation.specs.Calls.{ComesBack}
+use Rattle.sc_simulation.proofs.Turning.{before_told}
+
+-- The next input.
+
+next_at : (inputs : List ℕ) (k : ℕ) → next_input (drop k inputs) ≡ input_at inputs k
+next_at [] zero = refl
+next_at [] (suc k) = refl
+next_at (w ∷ inputs) zero = refl
+next_at (w ∷ inputs) (suc k) = next_at inputs k
+
+drop_next : (inputs : List ℕ) (k : ℕ) → drop 1 (drop k inputs) ≡ drop (suc k) inputs
+drop_next [] zero = refl
+drop_next [] (suc k) = refl
+drop_next (w ∷ inputs) zero = refl
+drop_next (w ∷ inputs) (suc k) = drop_next inputs k
+
+module _ (T : Setting) (formed : IsWellFormed T.image) (inputs : All IsWord T.inputs) (P : Standpoint) (x : Joint)
+    (settled : Settled T P x) (asks : Fetches T.image P.comp x.pc Ecall) where
+  is_at : IsAt T.image (machine P x) Ecall
+  is_at = record { word = asks.word; fetched = asks.fetched; decodes = asks.decodes }
+
+  module _ (asked : x.regs a7 ≡ 1) (may : may_input T.image P.comp ≡ true) where
+    abbrev w : ℕ
+    w = next_input x.meant.inputs
+
+    -- with these registers, and this word read
+    abbrev read : List ℕ → ℕ → State
+    read regs word = record {
+      regs = regs;
+      pc = x.pc + 4;
+      active = P.comp;
+      saved = x.saved;
+      memory = x.bytes;
+      cross = P.cross;
+      input = suc x.input;
+      trace = x.meant.trace ++ In P.comp word ∷ [];
+    }
+
+    abbrev z : Joint
+    z = record x {
+      meant = read_input P.comp x.meant;
+      pc = x.pc + 4;
+      regs = put x.regs a0 w;
+      input = suc x.input;
+    }
+
+    word_is : input_at T.inputs x.input ≡ w
+    word_is = sym (ap next_input settled.inputs ∙ next_at T.inputs x.input)
+
+    walks : Walks T.image T.inputs 1 (machine P x) (machine P z)
+    walks =
+        subst (λ regs. Walks T.image T.inputs 1 (machine P x) (read regs w)) (write_listed x.regs a0 w (omega arith))
+        (subst (λ word. Walks T.image T.inputs 1 (machine P x) (read (written (listed x.regs) a0 word) word)) word_is
+        (steps_tell.inputs T.image T.inputs (machine P x) is_at (read_listed x.regs a7 (omega arith) ∙ asked)
+        may).walks)
+
+    settled_read : Settled T P z
+    settled_read = record {
+      blocks = settled.blocks;
+      globals = settled.globals;
+      saved = settled.saved;
+      inputs = ap (drop 1) settled.inputs ∙ drop_next T.inputs x.input;
+      steady = walks_steady T.image T.inputs formed inputs 1 _ _ walks settled.steady;
+      room = settled.room;
+      told = before_told x.meant.trace (In P.comp w) x.meant.frames settled.told;
+    }
+
+    stands : StandsFor (x.inj P.comp) (put x.regs a0 w a0) (Word w)
+    stands = record {
+      word = subst IsWord (read_listed (put x.regs a0 w) a0 (omega arith)) (settled_read.steady.words a0);
+      means = put_here x.regs a0 w;
+    }
+
+    pub input_comes : ComesBack T P x Input (Some (Word w)) (read_input P.comp x.meant)
+    input_comes = record {
+      y = z;
+      meant_is = refl;
+      pc = refl;
+      sp = put_there x.regs a0 w sp (λ e. omega (arith, e));
+      value = stands;
+      registers = λ e q n. put_there x.regs a0 w q n;
+      leads = record {
+        steps = 1;
+        run = walks;
+        costs = record { least = omega arith; most = λ all. omega arith };
+        effect = record {
+          grows = λ k b a e. e;
+          lived = λ k b cells h live. (cells, live, refl);
+          keeps = λ k q p. refl;
+          rooms = λ k. refl;
+        };
+      };
+      settled = settled_read;
+    }
+
+  module _ (asked : x.regs a7 ≡ 2) (may : may_output T.image P.comp ≡ true) (w : ℕ) (is : x.regs a0 ≡ w) where
+    abbrev shown : ℕ → State
+    shown word = record {
+      regs = listed x.regs;
+      pc = x.pc + 4;
+      active = P.comp;
+      saved = x.saved;
+      memory = x.bytes;
+      cross = P.cross;
+      input = x.input;
+      trace = x.meant.trace ++ Out P.comp word ∷ [];
+    }
+
+    abbrev z' : Joint
+    z' = record x { meant = tell (Out P.comp w) x.meant; pc = x.pc + 4 }
+
+    walks' : Walks T.image T.inputs 1 (machine P x) (machine P z')
+    walks' =
+        subst (λ word. Walks T.image T.inputs 1 (machine P x) (shown word)) (read_listed x.regs a0 (omega arith) ∙ is)
+        (steps_tell.outputs T.image T.inputs (machine P x) is_at (read_listed x.regs a7 (omega arith) ∙ asked)
+        may).walks
+
+    pub output_comes : ComesBack T P x Output None (tell (Out P.comp w) x.meant)
+    output_comes = record {
+      y = z';
+      meant_is = refl;
+      pc = refl;
+      sp = refl;
+      value = tt;
+      registers = λ e q n. refl;
+      leads = record {
+        steps = 1;
+        run = walks';
+        costs = record { least = omega arith; most = λ all. omega arith };
+        effect = record {
+          grows = λ k b a e. e;
+          lived = λ k b cells h live. (cells, live, refl);
+          keeps = λ k q p. refl;
+          rooms = λ k. refl;
+        };
+      };
+      settled = record {
+        blocks = settled.blocks;
+        globals = settled.globals;
+        saved = settled.saved;
+        inputs = settled.inputs;
+        steady = walks_steady T.image T.inputs formed inputs 1 _ _ walks' settled.steady;
+        room = settled.room;
+        told = before_told x.meant.trace (Out P.comp w) x.meant.frames settled.told;
+      };
+    }

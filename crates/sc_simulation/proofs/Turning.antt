@@ -1,0 +1,103 @@
+-- A call takes a turn, and that pays for what is called.
+use Rattle.std.proofs.Common.{◌≡◌, ℕ, zero, suc, ◌+◌, ◌*◌, ◌<◌, ◌≤◌, Bool, true, false, List, [], ◌∷◌, ◌++◌, length}
+use Rattle.std.proofs.Common.{Option, if◌then◌else◌, refl, ap, subst, arith, inl}
+use Rattle.std.specs.Prelude.{◌⊎◌}
+use Rattle.std.proofs.lemmas.List.{length_push}
+use Rattle.sc_event.specs.declared.event.Event.{Event}
+use Rattle.sc_core.specs.declared.expr.CallTarget.{CallTarget}
+use Rattle.sc_core.specs.declared.run.RunEnd.{RunEnd}
+use Rattle.sc_core.specs.declared.value.Value.{Value}
+use Rattle.sc_core.specs.Words.{State as Meant, Piece, FrameChange, Opened, Closed, Stopped, and_then, turn_of}
+use Rattle.sc_laws.specs.Rooms.{AllBefore}
+use Rattle.sc_image.specs.Walks.{Walks}
+use Rattle.sc_hart.proofs.Steps.{then_go}
+use Rattle.sc_relation.specs.Calls.{CallGives}
+use Rattle.sc_relation.specs.Stretches.{Setting, Joint, Standpoint, machine, Costs, Shows, Overflows}
+use Rattle.sc_relation.proofs.Stretches.{shows_here}
+
+-- what was told by then was told by later
+pub before_more : (n m : ℕ) → n ≤ m → (changes : List FrameChange) → AllBefore n changes → AllBefore m changes
+before_more n m le [] h = tt
+before_more n m le (Opened told c room ∷ changes) h =
+    let first : told < n = h.0 in (omega (arith, le, first), before_more n m le changes h.1)
+before_more n m le (Closed told c room ∷ changes) h =
+    let first : told < n = h.0 in (omega (arith, le, first), before_more n m le changes h.1)
+
+pub before_told : (trace : List Event) (event : Event) (changes : List FrameChange) →
+    AllBefore (suc (length trace)) changes → AllBefore (suc (length (trace ++ event ∷ []))) changes
+before_told trace event changes h =
+    before_more (suc (length trace)) (suc (length (trace ++ event ∷ []))) (omega (arith, length_push trace event))
+    changes h
+
+-- one turn less
+abbrev pub turned : ℕ → Meant → Meant
+turned turns s = record s { turns = turns }
+
+module _ (T : Setting) (P Q : Standpoint) (x y : Joint) where
+  -- a few steps lead into what is called, and a turn is taken
+  pub record GoesIn (n : ℕ) : Type 0 where
+    pub walks : Walks T.image T.inputs n (machine P x) (machine Q y)
+    pub turn : x.meant.turns ≡ suc y.meant.turns
+    pub some : 1 ≤ n
+    pub few : n ≤ 2
+
+  module _ (n : ℕ) (goes : GoesIn n) (budget : ℕ) (paid : budget < T.turn_pays) where
+    costs_in : (steps left : ℕ) (s : Meant) → left ≤ 1 → Costs T steps budget left y.meant s →
+        Costs T (n + (steps + left)) 1 0 x.meant s
+    costs_in steps left s h costs =
+        let turn : T.turn_pays * x.meant.turns ≡ T.turn_pays * suc y.meant.turns =
+        ap (λ m. T.turn_pays * m) goes.turn in
+        record {
+          least = omega (arith, goes.turn, goes.some, costs.least);
+          most = λ all. omega (arith, turn, goes.few, paid, costs.most all);
+        }
+
+    -- where it ends there, it ends
+    pub shows_in : (s : Meant) → Shows T Q y budget s → Shows T P x 1 s
+    shows_in s g =
+        let whole : n + (g.steps + 0) ≡ n + g.steps = omega arith in
+        record {
+          steps = n + g.steps;
+          reached = g.reached;
+          run = then_go T.image T.inputs goes.walks g.run;
+          trace = g.trace;
+          costs = subst (λ k. Costs T k 1 0 x.meant s) whole (costs_in g.steps 0 s (omega arith) g.costs);
+        }
+
+    pub overflows_in : {V : Type 0} (piece : Piece V) → Overflows T Q y budget piece → Overflows T P x 1 piece
+    overflows_in piece o =
+        let whole : n + (o.steps + 0) ≡ n + o.steps = omega arith in
+        record {
+          steps = n + o.steps;
+          reached = o.reached;
+          run = then_go T.image T.inputs goes.walks o.run;
+          traps = o.traps;
+          honest = o.honest;
+          begun = o.begun;
+          trace = o.trace;
+          deep = o.deep;
+          told = o.told;
+          grown = o.grown;
+          costs = subst (λ k. Costs T k 1 0 x.meant o.begun) whole (costs_in o.steps 0 o.begun (omega arith) o.costs);
+        }
+
+    -- and one step more comes back
+    pub costs_back : (steps : ℕ) (s : Meant) → Costs T steps budget 1 y.meant s →
+        Costs T (n + (steps + 1)) 1 0 x.meant s
+    costs_back steps s costs = costs_in steps 1 s (omega arith) costs
+
+-- A call is made where it may be made, and where a turn is left.
+module _ (T : Setting) (P : Standpoint) (x : Joint) (target : CallTarget) where
+  abbrev pub CallComes : Piece (Option Value) → Type 0
+  CallComes piece = CallGives T P x target piece ⊎ Overflows T P x 1 piece
+
+  pub where_made : (may : Bool) (end : RunEnd) (piece : Piece (Option Value)) → (may ≡ true → CallComes piece) →
+      CallComes (if may then piece else Stopped end x.meant)
+  where_made true end piece h = h refl
+  where_made false end piece h = inl (shows_here T P x 1)
+
+  pub where_turns : (turns : ℕ) (go : Meant → Piece (Option Value)) →
+      ((left : ℕ) → turns ≡ suc left → CallComes (go (turned left x.meant))) →
+      CallComes (and_then (turn_of turns x.meant) (λ u s. go s))
+  where_turns zero go h = inl (shows_here T P x 1)
+  where_turns (suc left) go h = h left refl
