@@ -1,6 +1,13 @@
 // The laws, each the contract of a function with nothing to do.
 
 ghost use Rattle.sc_simulation.specs.Runs.{OutcomesShow};
+ghost use Rattle.sc_simulation.specs.Simulation.{Simulates};
+
+/// From its start, the machine on an image in which the code of a program stands shows what a run of that code shows,
+/// unless a stack is full; and it takes no more steps than the turns pay for.
+pub fn simulates()
+    ensures { Simulates }
+{}
 
 /// What the machine does beside a run, in steps, is what its runs show wherever they are stopped: all that the run
 /// shows within a bound on steps, or a full stack, and nothing else in as many steps as the run has turns.

@@ -3,4 +3,4 @@
 
 mod laws;
 
-pub use laws::outcomes_show;
+pub use laws::{outcomes_show, simulates};
