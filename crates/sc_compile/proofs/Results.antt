@@ -15,12 +15,13 @@ use Rattle.sc_core.specs.declared.value.Value.{Value}
 use Rattle.sc_core.specs.declared.value.Value.TheVariants.{Null, Ptr, Word}
 use Rattle.sc_core.specs.Calls.{crossing, option_value, run_step, within}
 use Rattle.sc_core.specs.Meaning.{entry_in, library_of, main_name, place_named}
-use Rattle.sc_core.specs.Prelude.{IsWellTyped, are_distinct, import_name, main_fits, main_signature, same_results}
+use Rattle.sc_core.specs.Prelude.{IsWellTyped, are_distinct, import_name, main_fits, same_results}
 use Rattle.sc_core.specs.Prelude.{same_signature, same_types, signature_of}
 use Rattle.sc_core.specs.Value.{wrapping}
+use Rattle.sc_core.specs.WellTyped.{main_signature}
 use Rattle.sc_core.specs.Words.{Here, Piece, Reached, State, Stopped}
 use Rattle.sc_kinds.specs.Kinds.{function_at, returns_kind, section_functions}
-use Rattle.sc_kinds.proofs.Results.{results_have_kinds}
+use Rattle.sc_kinds.proofs.Kinded.{results_have_kinds}
 use Rattle.sc_kinds.proofs.Sections.{found_passes, named_so, own_names_differ}
 use Rattle.sc_laws.specs.Agreement.{piece_without_line}
 use Rattle.sc_tac.specs.declared.function.TacFnTree.{TacFnTree}
@@ -47,7 +48,7 @@ came_too (Stopped end s) p v t same is =
     let never : Stopped _ s ≡ Reached v t = same ∙ ap piece_without_line is in cc never
 
 some_given : (v : Option Value) (result : Option Ty) → returns_kind result v ≡ true → is_some result ≡ true → IsSome v
-some_given (Some v) result kind some = tt
+some_given (Some v) result kind some = refl
 some_given None None kind some = cc some
 some_given None (Some t) kind some = cc kind
 

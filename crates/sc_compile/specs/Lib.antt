@@ -1,3 +1,4 @@
 pub mod Compiled
 pub mod Image
+pub mod Passes
 pub mod Sizes
