@@ -1,4 +1,5 @@
 pub mod Compiled
+pub mod Counting
 pub mod Image
 pub mod Passes
 pub mod Sizes

@@ -3,6 +3,7 @@
 
 mod fault;
 mod passes;
+mod sizes;
 
 pub use fault::CompileFault;
 pub use passes::compile;

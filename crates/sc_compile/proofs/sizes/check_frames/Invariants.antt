@@ -1,0 +1,8 @@
+use Rattle.std.proofs.Common.{drop, flat_map, ◌≡◌}
+use Rattle.sc_compile.specs.Counting.{counted_frame, counted_frames}
+use Rattle.sc_compile.proofs.sizes.check_frames.Given as goal
+
+-- those so far fit
+abbrev pub invariant-loop-function : goal.invariant-loop-function
+invariant-loop-function l =
+    counted_frames l.comp l.section ≡ flat_map (counted_frame l.comp) (drop l.function-index l.function-items)

@@ -1,0 +1,7 @@
+use Rattle.std.proofs.Common.{drop, ◌+◌, ◌≡◌}
+use Rattle.sc_core.specs.Prelude.{total}
+use Rattle.sc_compile.proofs.sizes.frame_bytes.Given as goal
+
+-- what is summed and what is left to sum is all
+abbrev pub invariant-loop-object : goal.invariant-loop-object
+invariant-loop-object l = l.cells + total (drop l.object-index l.object-items) ≡ l.f.nodes + total l.f.objects
