@@ -21,9 +21,12 @@ function_code f =
     let places = assigned (intervals_of f) in
     code_of f places (frame_of f.objects places)
 
+abbrev pub section_codes : TacSection → List CodeTree
+section_codes section = map function_code section.functions
+
 -- of all functions, section by section
 abbrev pub all_codes : TacTree → List CodeTree
-all_codes program = flat_map (λ (section : TacSection). map function_code section.functions) program.sections
+all_codes program = flat_map section_codes program.sections
 
 -- the image of a program that fits
 abbrev pub built_image : ProgramTree → ImageParts

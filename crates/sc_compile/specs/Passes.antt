@@ -1,7 +1,9 @@
 -- What the passes give of a program's functions.
-use Rattle.std.specs.Prelude.{◌≡◌, ℕ, All, Some, slice_get}
+use Rattle.std.specs.Prelude.{◌≡◌, ◌≤◌, ◌*◌, ℕ, All, Some, slice_get}
 use Rattle.sc_core.specs.declared.program.ProgramTree.{ProgramTree}
+use Rattle.sc_core.specs.Prelude.{frame_bound}
 use Rattle.sc_tac.specs.declared.function.TacFnTree.{TacFnTree}
+use Rattle.sc_tac.specs.declared.program.TacSection.{TacSection}
 use Rattle.sc_tac.specs.Frames.{frame_of}
 use Rattle.sc_tac.specs.Intervals.{intervals_of}
 use Rattle.sc_lower.specs.Programs.{lowered_program}
@@ -10,10 +12,26 @@ use Rattle.sc_emit.specs.Emission.{IsEmitted}
 use Rattle.sc_linker.specs.Laws.{IsWhole}
 use Rattle.sc_simulation.specs.Linked.{functions_in}
 use Rattle.sc_compile.specs.Image.{all_codes, function_code}
+use Rattle.sc_compile.specs.Sizes.{most_code, most_frame}
 
--- the code of each function keeps what emission promises, and consists of instructions that there are
+-- a function that isn't too large
+pub record Fits (f : TacFnTree) : Type 0 where
+  pub code : 96 * f.nodes ≤ most_code
+  pub frame : frame_bound f.objects f.nodes ≤ most_frame
+
+abbrev pub FitAll : TacSection → Type 0
+FitAll section = All Fits section.functions
+
+-- the code of a function keeps what emission promises
+abbrev pub EmitsSo : TacFnTree → Type 0
+EmitsSo f = IsEmitted f (frame_of f.objects (assigned (intervals_of f))) (function_code f)
+
+abbrev pub EmitsAll : TacSection → Type 0
+EmitsAll section = All EmitsSo section.functions
+
+-- that of each function of a program does, and consists of instructions that there are
 pub record AreEmitted (program : ProgramTree) : Type 0 where
   pub functions : (comp number : ℕ) (f : TacFnTree) →
       slice_get (functions_in (lowered_program program) comp) number ≡ Some f →
-      IsEmitted f (frame_of f.objects (assigned (intervals_of f))) (function_code f)
+      EmitsSo f
   pub whole : All IsWhole (all_codes (lowered_program program))

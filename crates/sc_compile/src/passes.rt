@@ -1,11 +1,79 @@
-ghost use Rattle.std.specs.Prelude.{◌≡◌, ◌⊎◌, Ok, Err, IfErr, IfOk};
+//! The passes of the compiler, one after the other.
+
+ghost use Rattle.std.specs.Prelude.{◌≡◌, ◌≤◌, ◌⊎◌, ◌*◌, ◌++◌, Ok, Err, None, All, IfErr, IfOk, OnOk, flat_map, map};
+ghost use Rattle.sc_core.specs.Prelude.{IsWellTyped, frame_bound};
+ghost use Rattle.sc_emit.specs.Emission.{IsEmitted};
+ghost use Rattle.sc_linker.specs.Laws.{AreGivenWords, AreNamed, IsWhole};
+ghost use Rattle.sc_lower.specs.Programs.{lowered_program};
+ghost use Rattle.sc_tac.specs.declared.program.TacSection.{TacSection};
 ghost use Rattle.sc_compile.specs.Compiled.{IsCompiled};
-ghost use Rattle.sc_compile.specs.Image.{image_of};
+ghost use Rattle.sc_compile.specs.Image.{function_code, image_of, section_codes};
+ghost use Rattle.sc_compile.specs.Passes.{EmitsAll, EmitsSo, Fits, FitAll};
+ghost use Rattle.sc_compile.specs.Sizes.{too_large};
 
 use crate::fault::CompileFault;
-use sc_core::Program;
+use crate::sizes::check_sizes;
+use sc_alloc::assign;
+use sc_base::OutOfMemory;
+use sc_core::{Program, ProgramTree};
+use sc_emit::emit;
+use sc_frame::lay;
 use sc_image::Image;
+use sc_linker::link;
+use sc_live::intervals;
+use sc_lower::lower;
+use sc_tac::{Code, Tac, TacFn, TacSection};
+use sqlite_items::Items;
 use std::alloc::Global;
+
+/// Codes of functions in order.
+type Codes = Items<Code>;
+
+// The code of a function: its temporaries' intervals, a place for each, the frame, and the instructions.
+fn function_code(alloc: Global, f: &TacFn) -> Result<Code, OutOfMemory>
+    requires { Fits f.now }
+    ensures code { IfOk result (λ code. code ≡ function_code f.now) }
+    ensures emitted { OnOk result (EmitsSo f.now) }
+    ensures whole { IfOk result IsWhole }
+{
+    let intervals = intervals(alloc, f)?;
+    let places = assign(alloc, &intervals)?;
+    let frame = lay(alloc, f, &places)?;
+    emit(alloc, f, &places, &frame)
+}
+
+// Those of a section's functions, behind others.
+fn add_codes(alloc: Global, codes: &mut Codes, functions: &[TacFn]) -> Result<(), OutOfMemory>
+    requires { All Fits functions.now }
+    ensures codes { OnOk result (codes.new ≡ codes.old ++ map function_code functions.now) }
+    ensures emitted { OnOk result (All EmitsSo functions.now) }
+    ensures whole { All IsWhole codes.old → OnOk result (All IsWhole codes.new) }
+{
+    for function in functions {
+        codes.push(function_code(alloc, function)?)?;
+    }
+    Ok(())
+}
+
+// The codes of all functions, section by section.
+fn all_codes(alloc: Global, sections: &[TacSection]) -> Result<Codes, OutOfMemory>
+    requires { All FitAll sections.now }
+    ensures codes { IfOk result (λ codes. codes ≡ flat_map section_codes sections.now) }
+    ensures emitted { OnOk result (All EmitsAll sections.now) }
+    ensures whole { IfOk result (All IsWhole) }
+{
+    let mut codes = Codes::new(alloc);
+    for section in sections {
+        add_codes(alloc, &mut codes, section.functions.as_slice())?;
+    }
+    Ok(codes)
+}
+
+// What a program's type keeps: its names are names, and its numbers are words.
+fn told(program: &ProgramTree)
+    ensures named { AreNamed program.now.interfaces }
+    ensures words { AreGivenWords program.now.sections }
+{}
 
 /// The image of a program: lowered to three-address code, with registers by linear scan, frames laid out, instructions
 /// selected and linked.
@@ -14,5 +82,10 @@ pub fn compile(alloc: Global, program: &Program) -> Result<Image, CompileFault>
     ensures fault { IfErr result (λ fault. (image_of program.now ≡ Err fault) ⊎ (fault ≡ CompileFault.OutOfMemory)) }
     ensures compiled { IfOk result (IsCompiled program.now) }
 {
-    Err(CompileFault::OutOfMemory)
+    told(program.tree());
+    let tac = lower(alloc, program)?;
+    let sections = tac.tree().sections.as_slice();
+    check_sizes(sections)?;
+    let codes = all_codes(alloc, sections)?;
+    Ok(link(alloc, codes.as_slice(), program)?)
 }
