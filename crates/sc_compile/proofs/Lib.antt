@@ -1,1 +1,6 @@
+pub mod Codes
+pub mod Fitting
+pub mod Linkable
+pub mod Lists
+pub mod Names
 pub mod Results
