@@ -136,10 +136,10 @@ module _ (program : ProgramTree) (typed : IsWellTyped program) (fits : too_large
     code_of_section comp there =
         let lower : TypedFunction → TacFnTree =
         lowered_function program.interfaces comp there.section.structs in
-        let made : codes_at program codes comp ≡ map function_code (map lower there.section.functions) =
+        let its : List CodeTree = map function_code (map lower there.section.functions) in
+        let made : codes_at program codes comp ≡ its =
         codes_are program comp ∙ ap (map function_code) (functions_are comp there.section there.is) in
-        let short : length there.section.functions + instructions (map function_code (map lower there.section.functions))
-        ≤ 24 * total (map nodes there.section.functions) =
+        let short : length there.section.functions + instructions its ≤ 24 * total (map nodes there.section.functions) =
         all_short function_code lower nodes there.section.functions
         (its_code_is_short comp there.section there.is) in
         omega (
