@@ -34,7 +34,7 @@ use Rattle.sc_simulation.specs.Linked.{functions_in, functions_or_none}
 use Rattle.sc_simulation.specs.Results.{GivesResults, bodies}
 use Rattle.sc_simulation.specs.Simulation.{nobody}
 
-mapped : {A B : Type 0} (g : A → B) (xs : List A) (n : ℕ) (y : B) → slice_get (map g xs) n ≡ Some y →
+pub mapped : {A B : Type 0} (g : A → B) (xs : List A) (n : ℕ) (y : B) → slice_get (map g xs) n ≡ Some y →
     (x : A) × ((slice_get xs n ≡ Some x) × (g x ≡ y))
 mapped g [] n y h = absurd (cc)
 mapped g (x ∷ xs) zero y h = (x, (refl, cc))

@@ -1,0 +1,72 @@
+-- What isn't too large: where nothing is found in a program, each section is within the limits.
+use Rattle.std.proofs.Common.{◌≡◌, ℕ, zero, suc, ◌+◌, ◌≤◌, Bool, true, false, List, [], ◌∷◌, ◌++◌, refl}
+use Rattle.std.proofs.Common.{subst, arith, None, Some, nat_lt, ltb-false, if◌then◌else◌}
+use Rattle.std.specs.Prelude.{slice_get}
+use Rattle.sc_core.specs.declared.program.ProgramTree.{ProgramTree}
+use Rattle.sc_core.specs.declared.section.TypedSection.{TypedSection}
+use Rattle.sc_compile.specs.declared.fault.CompileFault.{CompileFault}
+use Rattle.sc_compile.specs.Sizes.{above, code_bytes, data_bytes, first, found_in, large_code, large_data, large_frames}
+use Rattle.sc_compile.specs.Sizes.{most_code, most_data, too_large}
+
+front_none : (xs ys : List CompileFault) → xs ++ ys ≡ [] → xs ≡ []
+front_none [] ys none = refl
+front_none (x ∷ xs) ys none = absurd (cc)
+
+rest_none : (xs ys : List CompileFault) → xs ++ ys ≡ [] → ys ≡ []
+rest_none [] ys none = none
+rest_none (x ∷ xs) ys none = absurd (cc)
+
+none_first : (xs : List CompileFault) → first xs ≡ None → xs ≡ []
+none_first [] none = refl
+none_first (x ∷ xs) none = absurd (cc)
+
+found_none : (find : ℕ → TypedSection → List CompileFault) (k number : ℕ) (sections : List TypedSection) (n : ℕ)
+    (section : TypedSection) → number ≡ k + n → found_in find k sections ≡ [] → slice_get sections n ≡ Some section →
+    find number section ≡ []
+found_none find k number [] n section e none is = absurd (cc)
+found_none find k number (s ∷ sections) zero section e none is =
+    let same : s ≡ section = cc in
+    let own : k ≡ number = omega (arith, e) in
+    subst (λ n. find n section ≡ []) own
+    (subst (λ s. find k s ≡ []) same (front_none (find k s) (found_in find (suc k) sections) none))
+found_none find k number (s ∷ sections) (suc n) section e none is =
+    found_none find (suc k) number sections n section (omega (arith, e))
+    (rest_none (find k s) (found_in find (suc k) sections) none) is
+
+within : (limit size : ℕ) (fault : CompileFault) → above limit size fault ≡ [] → size ≤ limit
+within limit size fault none = by (nat_lt limit size) refl none where
+  by : (b : Bool) → nat_lt limit size ≡ b → (if b then fault ∷ [] else []) ≡ [] → size ≤ limit
+  by true is none = absurd (cc)
+  by false is none = ltb-false limit size is
+
+module _ (program : ProgramTree) (fits : too_large program ≡ None) (comp : ℕ) (section : TypedSection)
+    (is : slice_get program.sections comp ≡ Some section)
+  where
+    abbrev data_found : List CompileFault
+    data_found = found_in large_data 0 program.sections
+
+    abbrev frames_found : List CompileFault
+    frames_found = found_in large_frames 0 program.sections
+
+    abbrev code_found : List CompileFault
+    code_found = found_in large_code 0 program.sections
+
+    nothing : data_found ++ (frames_found ++ code_found) ≡ []
+    nothing = none_first (data_found ++ (frames_found ++ code_found)) fits
+
+    pub data_fits : data_bytes section ≤ most_data
+    data_fits =
+        within most_data (data_bytes section) _
+        (found_none large_data 0 comp program.sections comp section (omega arith)
+        (front_none data_found (frames_found ++ code_found) nothing) is)
+
+    pub code_fits : code_bytes section ≤ most_code
+    code_fits =
+        within most_code (code_bytes section) _
+        (found_none large_code 0 comp program.sections comp section (omega arith)
+        (rest_none frames_found code_found (rest_none data_found (frames_found ++ code_found) nothing)) is)
+
+    pub frames_fit : large_frames comp section ≡ []
+    frames_fit =
+        found_none large_frames 0 comp program.sections comp section (omega arith)
+        (front_none frames_found code_found (rest_none data_found (frames_found ++ code_found) nothing)) is

@@ -1,0 +1,237 @@
+-- The code of a program stands in its image.
+use Rattle.std.proofs.Common.{◌≡◌, ℕ, suc, ◌+◌, ◌*◌, ◌<◌, ◌≤◌, ◌⊎◌, true, List, [], ◌∷◌, length, map}
+use Rattle.std.proofs.Common.{refl, sym, ◌∙◌, ap, subst, arith, inl, inr, Option, None, Some}
+use Rattle.std.specs.Prelude.{slice_get}
+use Rattle.std.specs.Option.{option_map}
+use Rattle.rv_code.specs.declared.instr.Instr.{Instr}
+use Rattle.sc_event.specs.Prelude.{comp_at}
+use Rattle.sc_event.specs.declared.row.Entry.{Entry}
+use Rattle.sc_event.specs.declared.row.Entry.TheVariants.{Export, Main}
+use Rattle.sc_core.specs.declared.program.ProgramTree.{ProgramTree}
+use Rattle.sc_core.specs.declared.section.TypedGlobal.{TypedGlobal}
+use Rattle.sc_core.specs.declared.section.TypedSection.{TypedSection}
+use Rattle.sc_core.specs.declared.value.Cell.{Cell}
+use Rattle.sc_core.specs.declared.value.Cell.TheVariants as cell
+use Rattle.sc_core.specs.Meaning.{entry_in, first_blocks, global_block, globals_of, struct_zeros}
+use Rattle.sc_core.specs.Memory.{Block}
+use Rattle.sc_core.specs.Prelude.{IsWellTyped, nodes, total}
+use Rattle.sc_core.specs.Value.{wrapping}
+use Rattle.sc_store.specs.Memory.{Memory, load_of}
+use Rattle.sc_image.specs.declared.parts.ImageParts.{ImageParts}
+use Rattle.sc_image.specs.State.{start_memory}
+use Rattle.sc_tac.specs.declared.function.TacFnTree.{TacFnTree}
+use Rattle.sc_tac.specs.declared.machine_code.CodeTree.{CodeTree}
+use Rattle.sc_tac.specs.declared.program.TacTree.{TacTree}
+use Rattle.sc_tac.specs.Code.{code_globals, function_entered, first_blocks as code_blocks}
+use Rattle.sc_tac.specs.Frames.{frame_of}
+use Rattle.sc_tac.specs.Intervals.{intervals_of}
+use Rattle.sc_lower.specs.Programs.{lowered_program, lowered_section}
+use Rattle.sc_lower.proofs.Entries.{first_at}
+use Rattle.sc_lower.proofs.Whole.{keeps_meaning}
+use Rattle.sc_alloc.specs.Places.{assigned}
+use Rattle.sc_select.specs.Linking.{Addresses}
+use Rattle.sc_hart.specs.Code.{CodeAt, Fetches}
+use Rattle.sc_hart.specs.Words.{word}
+use Rattle.sc_relation.specs.Blocks.{InCell}
+use Rattle.sc_emit.specs.Naming.{IsCodeAddress}
+use Rattle.sc_linker.specs.Image.{cell_word, linked_image}
+use Rattle.sc_linker.specs.Laws.{AreGivenWords, AreNamed, EntriesStand, FunctionsStand, GlobalsStand, ImportsStand}
+use Rattle.sc_linker.specs.Laws.{IsStart, StandFrom, StandsAt}
+use Rattle.sc_linker.specs.Layout.{addresses_at, section_or_none}
+use Rattle.sc_linker.specs.Linkable.{IsLinkable}
+use Rattle.sc_linker.proofs.Comps.{Fits, comps_length, fits_or_none, number_below}
+use Rattle.sc_linker.proofs.Places.{total_upto}
+use Rattle.sc_linker.proofs.Whole.{linked_images_hold}
+use Rattle.sc_simulation.specs.Linked.{EntersBy, GlobalStands, HasCode, IsLinked, functions_in, functions_or_none}
+use Rattle.sc_compile.specs.Compiled.{program_nodes}
+use Rattle.sc_compile.specs.Image.{all_codes, built_image, function_code}
+use Rattle.sc_compile.specs.Passes.{AreEmitted}
+use Rattle.sc_compile.specs.Sizes.{too_large}
+use Rattle.sc_compile.proofs.Codes.{code_there}
+use Rattle.sc_compile.proofs.Linkable.{is_linkable}
+use Rattle.sc_compile.proofs.Results.{mapped, source_of}
+
+fetches : (image : ImageParts) (comp address to : ℕ) (instr : Instr) → address ≡ to →
+    StandsAt image comp address instr → Fetches image comp to instr
+fetches image comp address to instr same stands =
+    subst (λ a. Fetches image comp a instr) same
+    (record { word = stands.word; fetched = stands.fetched; decodes = stands.decodes })
+
+code_at : (image : ImageParts) (comp address : ℕ) (instrs : List Instr) → StandFrom image comp address instrs →
+    CodeAt image comp address instrs
+code_at image comp address [] stand = tt
+code_at image comp address (instr ∷ instrs) stand = (
+  fetches image comp (address + 4 * 0) address instr (omega arith) (stand 0 instr refl),
+  code_at image comp (address + 4) instrs (λ i one is.
+      let same : address + 4 * suc i ≡ address + 4 + 4 * i = omega arith in
+      subst (λ a. StandsAt image comp a one) same (stand (suc i) one is)),
+)
+
+word_is : (memory : Memory) (a : ℕ) → word memory a ≡ load_of memory a 4
+unfolding word
+word_is memory a = refl
+
+-- what a global's cell holds at the start
+in_cell : (one : Cell) (w : ℕ) → IsStart one → w ≡ cell_word one → InCell (λ b. None) w one
+in_cell cell.Undef w known same = tt
+in_cell (cell.Word n) w known same = record { word = omega (arith, known, same); means = same }
+in_cell cell.Null w known same = record { word = omega (arith, same); means = same }
+in_cell (cell.Ptr p) w known same = absurd known
+
+-- a block of the start is of a global
+global_there : (o : Option TypedSection) (number : ℕ) (block : Block) →
+    slice_get (first_blocks o) number ≡ Some block →
+    (g : TypedGlobal) × (slice_get (section_or_none o).globals number ≡ Some g)
+global_there None number block is = absurd (cc)
+global_there (Some section) number block is =
+    let found = mapped (global_block (struct_zeros [] section.structs)) section.globals number block is in
+    (found.0, found.1.0)
+
+module _ (program : ProgramTree) (typed : IsWellTyped program) where
+  abbrev code : TacTree
+  code = lowered_program program
+
+  abbrev codes : List CodeTree
+  codes = all_codes code
+
+  abbrev addresses : ℕ → Addresses
+  addresses comp = addresses_at program codes comp
+
+  same_blocks : (comp : ℕ) (o : Option TypedSection) →
+      code_blocks (option_map (lowered_section program.interfaces comp) o) ≡ first_blocks o
+  same_blocks comp None = refl
+  same_blocks comp (Some section) = refl
+
+  globals_same : (comp : ℕ) → code_globals code.sections comp ≡ globals_of program.sections comp
+  globals_same comp =
+      ap code_blocks (first_at program.interfaces program.sections comp)
+      ∙ same_blocks comp (slice_get program.sections comp)
+
+  entered : (comp number : ℕ) (entry : Entry) → function_entered entry (slice_get code.sections comp) ≡ Some number →
+      entry_in program comp entry ≡ Some number
+  entered comp number entry is = keeps_meaning.entered wrapping program typed comp entry ∙ is
+
+  -- a function is of a compartment that there is
+  number_low : (comp number : ℕ) → number < length (functions_in code comp) → comp < 32
+  number_low comp number within = by (fits_or_none program typed comp) where
+    by : Fits program comp ⊎ ((comp_at program.interfaces comp ≡ None) × (slice_get program.sections comp ≡ None)) →
+        comp < 32
+    by (inl there) = number_below program typed comp there
+    by (inr none) =
+        let nothing : functions_in code comp ≡ [] =
+        ap functions_or_none (first_at program.interfaces program.sections comp
+        ∙ ap (option_map (lowered_section program.interfaces comp)) none.1) in
+        absurd (omega (arith, within, ap length nothing))
+
+  its_nodes : (comp number : ℕ) (f : TacFnTree) → slice_get (functions_in code comp) number ≡ Some f →
+      f.nodes ≤ program_nodes program
+  its_nodes comp number f its =
+      let from = source_of program typed comp number f its in
+      omega (
+        arith,
+        ap (λ (g : TacFnTree). g.nodes) from.same,
+        total_upto nodes from.section.functions number from.source from.its,
+        total_upto (λ (section : TypedSection). total (map nodes section.functions)) program.sections comp from.section
+            from.is,
+      )
+
+  module _ (emitted : AreEmitted program) (linkable : IsLinkable program codes) where
+    abbrev image : ImageParts
+    image = linked_image program codes
+
+    functions : FunctionsStand program codes
+    functions = linked_images_hold.functions program codes typed emitted.whole linkable
+
+    entries : EntriesStand program codes
+    entries = linked_images_hold.entries program codes typed emitted.whole linkable
+
+    has_code : (comp number : ℕ) (f : TacFnTree) → slice_get (functions_in code comp) number ≡ Some f →
+        HasCode image (addresses comp) (24 * program_nodes program) comp number f
+    has_code comp number f its =
+        let done = emitted.functions comp number f its in
+        record {
+          frame = frame_of f.objects (assigned (intervals_of f));
+          code = function_code f;
+          emitted = done;
+          stands = code_at image comp ((addresses comp).function number) _
+              (functions.code comp number (function_code f) (code_there program comp number f its));
+          paid = omega (arith, done.short, its_nodes comp number f its);
+        }
+
+    function_address : (comp number : ℕ) → number < length (functions_in code comp) →
+        IsCodeAddress ((addresses comp).function number)
+    function_address comp number within = record {
+      aligned = functions.aligned comp number;
+      low = functions.low comp number (number_low comp number within);
+    }
+
+    enters : (from to index number : ℕ) →
+        function_entered (Export index) (slice_get code.sections to) ≡ Some number →
+        EntersBy image to ((addresses from).entry to index) ((addresses to).function number)
+    enters from to index number is =
+        let jump = entries.jump to index number (entered to number (Export index) is) in
+        record { imm = jump.0; jump = fetches image to _ _ _ refl jump.1; leads = jump.2 }
+
+    module _ (given : AreGivenWords program.sections) where
+      globals : GlobalsStand program codes
+      globals = linked_images_hold.globals program codes typed given linkable
+
+      its_block : (comp number : ℕ) (block : Block) → slice_get (code_globals code.sections comp) number ≡ Some block →
+          slice_get (globals_of program.sections comp) number ≡ Some block
+      its_block comp number block is = ap (λ blocks. slice_get blocks number) (sym (globals_same comp)) ∙ is
+
+      stands : (comp number : ℕ) (cells : List Cell) →
+          slice_get (globals_of program.sections comp) number ≡ Some (record { live = true; cells = cells }) →
+          GlobalStands image comp ((addresses comp).global number) cells
+      stands comp number cells is =
+          let g = global_there (slice_get program.sections comp) number _ is in
+          record {
+            placed = record {
+              aligned = globals.aligned comp number;
+              above = globals.low comp number;
+              low = omega (arith, globals.low comp number);
+              high = globals.high comp number cells is;
+            };
+            is_address = record {
+              above = omega (arith, globals.low comp number);
+              below = globals.there comp number g.0 g.1;
+            };
+            holds = λ i one at.
+                in_cell one (word (start_memory image) ((addresses comp).global number + 4 * i))
+                (globals.known comp number i cells one is at)
+                (word_is (start_memory image) ((addresses comp).global number + 4 * i) ∙
+                globals.words comp number i cells one is at);
+          }
+
+      module _ (named : AreNamed program.interfaces) where
+        imports : ImportsStand program codes
+        imports = linked_images_hold.imports program codes typed
+
+        linked : IsLinked code image (24 * program_nodes program) addresses
+        linked = record {
+          formed = linked_images_hold.well_formed program codes typed named emitted.whole linkable;
+          main = refl;
+          comps = comps_length program codes;
+          functions = has_code;
+          function_at = function_address;
+          main_at = λ number is. functions.main number (entered program.interfaces.main number Main is);
+          entries = enters;
+          entry_at = λ from to index proto is. record { aligned = omega arith; low = entries.low to index proto is };
+          exports = λ from to index proto is. entries.index to index proto is;
+          params = entries.params;
+          result = entries.result;
+          calls = λ from to index is. imports.function from to index ∙ is;
+          inputs = λ comp is. imports.input comp ∙ is;
+          outputs = λ comp is. imports.output comp ∙ is;
+          globals = λ comp number cells is. stands comp number cells (its_block comp number _ is);
+          globals_apart = λ comp number other cells more differ is at.
+              globals.apart comp number other cells more differ (its_block comp number _ is)
+              (its_block comp other _ at);
+        }
+
+pub is_linked : (program : ProgramTree) → IsWellTyped program → AreNamed program.interfaces →
+    AreGivenWords program.sections → too_large program ≡ None → AreEmitted program →
+    IsLinked (lowered_program program) (built_image program) (24 * program_nodes program)
+    (addresses_at program (all_codes (lowered_program program)))
+is_linked program typed named given fits emitted =
+    linked program typed emitted (is_linkable program typed fits emitted) given named
