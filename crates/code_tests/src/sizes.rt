@@ -38,6 +38,17 @@ fn homes_of(alloc: Global, function: &TacFn) -> Result<Option<Homes>, OutOfMemor
     }))
 }
 
+// How two of the long texts begin.
+const RETURNING: &[u8] = b"#pragma compartment Main
+int main(void) {
+  return ";
+
+const OUTPUTTING: &[u8] = b"#pragma compartment Main
+#pragma import Env output
+void output(int v);
+int main(void) {
+";
+
 // How often a word stands in a text.
 fn count_of(text: &[u8], word: &[u8]) -> u32 {
     let mut count = 0u32;
@@ -68,11 +79,43 @@ fn split_function(text: &[u8]) -> (&[u8], &[u8]) {
     (text, b"")
 }
 
+// A text with a part so often in its middle, and another so often behind it.
+fn long_row(alloc: Global, parts: [&[u8]; 4], count: usize) -> Result<Vec<u8>, OutOfMemory> {
+    let [before, opening, middle, closing] = parts;
+    let mut text: Vec<u8> = Vec::new(alloc);
+    text.extend_from_slice(before)?;
+    for _ in 0..count {
+        text.extend_from_slice(opening)?;
+    }
+    text.extend_from_slice(middle)?;
+    for _ in 0..count {
+        text.extend_from_slice(closing)?;
+    }
+    text.extend_from_slice(b";\n}\n")?;
+    Ok(text)
+}
+
 #[test]
 fn functions_are_within_their_bounds(rt: HostRuntime) -> Result<(), Fail> {
     let alloc = rt.alloc();
+    let deep = long_row(alloc, [RETURNING, b"~", b"1", b""], 254)?;
+    let bracketed = long_row(alloc, [RETURNING, b"(", b"1", b")"], 1_023)?;
+    let outputs = long_row(
+        alloc,
+        [OUTPUTTING, b"  output(1);\n", b"  return 0", b""],
+        1_023,
+    )?;
+    let more_outputs = long_row(
+        alloc,
+        [OUTPUTTING, b"  output(1);\n", b"  return 0", b""],
+        1_024,
+    )?;
+    let mut texts: Vec<&[u8]> = Vec::new(alloc);
+    texts.extend_from_slice(PROGRAMS)?;
+    texts.extend_from_slice(&[deep.as_slice(), bracketed.as_slice()])?;
+    texts.extend_from_slice(&[outputs.as_slice(), more_outputs.as_slice()])?;
     let (mut all_branches, mut all_choices) = (0u32, 0u32);
-    for text in PROGRAMS {
+    for text in texts.as_slice() {
         let source = SourceText::read(alloc, text)?;
         let code = lower(alloc, source.program())?;
         let mut rest: &[u8] = text;
