@@ -1,7 +1,8 @@
 //! Programs whose code is looked at: one for each way in which compartments and functions meet, and each kind of
 //! statement.
 
-const STORE: &[u8] = b"#pragma compartment Main
+/// A compartment calls another, which stores past the end of an array.
+pub const STORE: &[u8] = b"#pragma compartment Main
 #pragma import Net put
 #pragma import Env output
 int put(int i, int v);
@@ -331,7 +332,8 @@ int main(void) {
 }
 ";
 
-const LEFT_OUT: &[u8] = b"#pragma compartment M
+/// What `&&` and `||` leave out isn't evaluated.
+pub const LEFT_OUT: &[u8] = b"#pragma compartment M
 int main(void) {
   return (0 && 1 / 0) + (2 || 1 / 0) + (3 && 4);
 }
@@ -368,7 +370,8 @@ int main(void) {
 }
 ";
 
-const LOOPS: &[u8] = b"#pragma compartment M
+/// A `for` and a `while`, which `continue`, `break` and `return` leave.
+pub const LOOPS: &[u8] = b"#pragma compartment M
 int main(void) {
   int i;
   int sum = 0;
@@ -459,7 +462,8 @@ int main(void) {
 }
 ";
 
-const MEMBERS: &[u8] = b"#pragma compartment M
+/// Pointers to a struct, to its members and to the elements of an array in it.
+pub const MEMBERS: &[u8] = b"#pragma compartment M
 struct S {
   int a;
   int b[2];
@@ -552,7 +556,7 @@ int main(void) {
 ";
 
 /// Each of the programs.
-pub(crate) const PROGRAMS: &[&[u8]] = &[
+pub const PROGRAMS: &[&[u8]] = &[
     STORE,
     TWO_STORES,
     REENTRY,
