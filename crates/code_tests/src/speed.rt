@@ -41,15 +41,18 @@ const MAIN: &[u8] = b"int main(void) {
 }
 ";
 
-// A program of so many small functions, each with a loop, a branch and an array.
+// A small function with a loop, a branch and an array.
+fn append_function(text: &mut Vec<u8>, number: u32) -> Result<(), OutOfMemory> {
+    append(text, &[b"int f", &digits(number), FUNCTION])
+}
+
+// A program of so many small functions.
 fn many_functions(alloc: Global, count: u32) -> Result<Vec<u8>, OutOfMemory> {
-    let mut text = Vec::new(alloc);
-    append(&mut text, &[BEGIN])?;
+    let mut text = Vec::from_slice(alloc, BEGIN)?;
     for number in 0..count {
-        let digits = digits(number);
-        append(&mut text, &[b"int f", digits.as_slice(), FUNCTION])?;
+        append_function(&mut text, number)?;
     }
-    append(&mut text, &[MAIN])?;
+    text.extend_from_slice(MAIN)?;
     Ok(text)
 }
 

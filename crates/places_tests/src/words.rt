@@ -22,6 +22,14 @@ struct Counted {
     fits: bool,
 }
 
+impl Counted {
+    fn is_within(&self) -> bool {
+        self.fits
+            && self.words as u64 <= u64::from(self.weight)
+            && self.branches as u64 <= u64::from(self.most_branches)
+    }
+}
+
 fn is_branch(instr: &Instr) -> bool {
     match instr {
         Instr::Branch { .. } => true,
@@ -73,17 +81,9 @@ fn words_are_within_their_bounds(rt: HostRuntime) -> Result<(), Fail> {
         let code = lowered(rt.alloc(), text)?;
         let all = all_counted(rt.alloc(), &code)?.expect(&rt, "frames that fit");
         for counted in all.as_slice() {
-            let Counted {
-                words,
-                weight,
-                branches,
-                most_branches,
-                fits,
-            } = *counted;
-            assert!(rt; fits);
-            assert!(rt; words as u64 <= u64::from(weight));
-            assert!(rt; branches as u64 <= u64::from(most_branches));
-            let _ = println!(rt; "{words} words, weight {weight}, {branches} branches");
+            let (words, weight) = (counted.words, counted.weight);
+            let _ = println!(rt; "{words} words, weight {weight}");
+            assert!(rt; counted.is_within());
         }
     }
     Ok(())
