@@ -1,6 +1,6 @@
 use Rattle.sc_tac.specs.Prelude.{AreIntervals}
 use Rattle.std.proofs.Common.{◌≡◌, length}
-use Rattle.code_tests.proofs.places.numbered.Given as goal
+use Rattle.places_tests.proofs.places.numbered.Given as goal
 
 abbrev pub invariant-loop-span : goal.invariant-loop-span
 invariant-loop-span l = record {

@@ -47,7 +47,7 @@ fn is_slot(place: &Place) -> bool {
     }
 }
 
-fn is_register(place: &Place) -> bool {
+pub(crate) fn is_register(place: &Place) -> bool {
     !is_slot(place)
 }
 
@@ -121,7 +121,8 @@ fn is_apart(alloc: Global, spans: &[Interval], places: &[Place], place: Place) -
     Some(true)
 }
 
-fn slot_count(places: &[Place]) -> u32 {
+/// How many slots places take.
+pub(crate) fn slot_count(places: &[Place]) -> u32 {
     let mut count = 0;
     for place in places {
         if let Place::Slot(slot) = place {

@@ -1,7 +1,8 @@
 //! Programs whose code is looked at: one for each way in which compartments and functions meet, and each kind of
 //! statement.
 
-const STORE: &[u8] = b"#pragma compartment Main
+/// A compartment calls another, which stores past the end of an array.
+pub const STORE: &[u8] = b"#pragma compartment Main
 #pragma import Net put
 #pragma import Env output
 int put(int i, int v);
@@ -331,7 +332,8 @@ int main(void) {
 }
 ";
 
-const LEFT_OUT: &[u8] = b"#pragma compartment M
+/// What `&&` and `||` leave out isn't evaluated.
+pub const LEFT_OUT: &[u8] = b"#pragma compartment M
 int main(void) {
   return (0 && 1 / 0) + (2 || 1 / 0) + (3 && 4);
 }
@@ -368,7 +370,8 @@ int main(void) {
 }
 ";
 
-const LOOPS: &[u8] = b"#pragma compartment M
+/// A `for` and a `while`, which `continue`, `break` and `return` leave.
+pub const LOOPS: &[u8] = b"#pragma compartment M
 int main(void) {
   int i;
   int sum = 0;
@@ -459,7 +462,8 @@ int main(void) {
 }
 ";
 
-const MEMBERS: &[u8] = b"#pragma compartment M
+/// Pointers to a struct, to its members and to the elements of an array in it.
+pub const MEMBERS: &[u8] = b"#pragma compartment M
 struct S {
   int a;
   int b[2];
@@ -481,8 +485,78 @@ int main(void) {
 }
 ";
 
+const SHORT_LOOP: &[u8] = b"#pragma compartment Main
+int main(void) {
+  while (1) { }
+}
+";
+
+const GREATEST_OUTPUT: &[u8] = b"#pragma compartment Main
+#pragma import Env output
+void output(int v);
+int main(void) {
+  output(2147483647);
+  return 0;
+}
+";
+
+const DIVISION_BY_ZERO: &[u8] = b"#pragma compartment Main
+#pragma import Env output
+void output(int v);
+int main(void) {
+  output(1 / 0);
+  return 0;
+}
+";
+
+const CONSTANTS: &[u8] = b"#pragma compartment Main
+#pragma import Env output
+void output(int v);
+int main(void) {
+  output(2 + 3 * 4);
+  return 0;
+}
+";
+
+const MANY_SECTIONS: &[u8] = b"#pragma compartment S0
+int main(void) {
+  return 0;
+}
+#pragma compartment S1
+#pragma compartment S2
+#pragma compartment S3
+#pragma compartment S4
+#pragma compartment S5
+#pragma compartment S6
+#pragma compartment S7
+#pragma compartment S8
+#pragma compartment S9
+#pragma compartment S10
+#pragma compartment S11
+#pragma compartment S12
+#pragma compartment S13
+#pragma compartment S14
+#pragma compartment S15
+#pragma compartment S16
+#pragma compartment S17
+#pragma compartment S18
+#pragma compartment S19
+#pragma compartment S20
+#pragma compartment S21
+#pragma compartment S22
+#pragma compartment S23
+#pragma compartment S24
+#pragma compartment S25
+#pragma compartment S26
+#pragma compartment S27
+#pragma compartment S28
+#pragma compartment S29
+#pragma compartment S30
+#pragma compartment S31
+";
+
 /// Each of the programs.
-pub(crate) const PROGRAMS: &[&[u8]] = &[
+pub const PROGRAMS: &[&[u8]] = &[
     STORE,
     TWO_STORES,
     REENTRY,
@@ -508,4 +582,9 @@ pub(crate) const PROGRAMS: &[&[u8]] = &[
     SEVEN,
     ENDLESS_OUTPUT,
     MEMBERS,
+    SHORT_LOOP,
+    GREATEST_OUTPUT,
+    DIVISION_BY_ZERO,
+    CONSTANTS,
+    MANY_SECTIONS,
 ];

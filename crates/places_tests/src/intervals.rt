@@ -1,7 +1,9 @@
 // The intervals of temporaries in the code of whole programs.
+use code_texts::{lowered, repeated};
+use sc_base::OutOfMemory;
 use sc_live::intervals;
-use sc_lower::lower;
-use sc_types::SourceText;
+use sc_tac::Tac;
+use std::alloc::Global;
 use std::test::Fail;
 
 /// Of an interval: its first point and its last.
@@ -22,18 +24,23 @@ int main(void) {
 }
 ";
 
-#[test]
-fn intervals_end_where_a_value_is_read(rt: HostRuntime) -> Result<(), Fail> {
-    let source = SourceText::read(rt.alloc(), LOOP)?;
-    let code = lower(rt.alloc(), source.program())?;
-    let mut found: Vec<Ends> = Vec::new(rt.alloc());
+// The intervals of each function, one function behind the other.
+fn ends_in(alloc: Global, code: &Tac) -> Result<Vec<Ends>, OutOfMemory> {
+    let mut found = Vec::new(alloc);
     for section in code.tree().sections.as_slice() {
         for function in section.functions.as_slice() {
-            for interval in intervals(rt.alloc(), function)?.as_slice() {
+            for interval in intervals(alloc, function)?.as_slice() {
                 found.push((interval.first, interval.last))?;
             }
         }
     }
+    Ok(found)
+}
+
+#[test]
+fn intervals_end_where_a_value_is_read(rt: HostRuntime) -> Result<(), Fail> {
+    let code = lowered(rt.alloc(), LOOP)?;
+    let found = ends_in(rt.alloc(), &code)?;
     let want: [Ends; 17] = [
         (1, 8),
         (5, 8),
@@ -57,26 +64,24 @@ fn intervals_end_where_a_value_is_read(rt: HostRuntime) -> Result<(), Fail> {
     Ok(())
 }
 
+const BEGIN: &[u8] = b"#pragma compartment M
+int main(void) {
+  int x = 0;
+";
+
+const END: &[u8] = b"  return x;
+}
+";
+
 // Each of these statements has the same code, so its intervals are those of the one in front of it, further on.
 #[test]
 fn many_temporaries(rt: HostRuntime) -> Result<(), Fail> {
-    let mut text: Vec<u8> = Vec::new(rt.alloc());
-    text.extend_from_slice(b"#pragma compartment M\nint main(void) {\n  int x = 0;\n")?;
-    for _ in 0..1_000 {
-        text.extend_from_slice(b"  x = x + 1;\n")?;
+    let text = repeated(rt.alloc(), BEGIN, b"  x = x + 1;\n", 1_000, END)?;
+    let code = lowered(rt.alloc(), text.as_slice())?;
+    let found = ends_in(rt.alloc(), &code)?;
+    for (first, last) in found.as_slice() {
+        assert!(rt; last.wrapping_sub(*first) < 8);
     }
-    text.extend_from_slice(b"  return x;\n}\n")?;
-    let source = SourceText::read(rt.alloc(), text.as_slice())?;
-    let code = lower(rt.alloc(), source.program())?;
-    let mut count = 0u32;
-    for section in code.tree().sections.as_slice() {
-        for function in section.functions.as_slice() {
-            for interval in intervals(rt.alloc(), function)?.as_slice() {
-                assert!(rt; interval.last.wrapping_sub(interval.first) < 8);
-                count = count.wrapping_add(1);
-            }
-        }
-    }
-    assert_eq!(rt; count, 4_003);
+    assert_eq!(rt; found.len(), 4_003);
     Ok(())
 }
