@@ -7,6 +7,7 @@ use Rattle.sc_alloc.proofs.Common.{length, length_permutation, list_all, map, op
 use Rattle.sc_alloc.proofs.Common.{slice_get-get_or, slice_get-map, slice_get_within, subst, suc, sum_by-IsPermutation}
 use Rattle.sc_alloc.proofs.Common.{sym, zero, ℕ, ⊎_elim, ◌<◌, ◌∙◌, ◌∷◌, ◌≡◌, ◌≤◌}
 use Rattle.sc_alloc.proofs.Counts.{one, only, once_from, has_temp}
+use Rattle.sc_alloc.proofs.Lists.{all_at}
 
 abbrev interval_of : Given → Interval
 interval_of g = g.interval
@@ -34,11 +35,6 @@ some_at : {A : Type 0} (xs : List A) (i : ℕ) → i < length xs → (x : A) × 
 some_at [] i less = absurd (omega arith)
 some_at (x ∷ xs) zero less = (x, refl)
 some_at (x ∷ xs) (suc i) less = some_at xs i (omega (arith, less))
-
-all_at : {A : Type 0} (test : A → Bool) (xs : List A) → ((i : ℕ) (x : A) → slice_get xs i ≡ Some x → IsTrue (test x)) →
-    IsTrue (list_all test xs)
-all_at test [] h = refl
-all_at test (x ∷ xs) h = rw (h 0 x refl) (all_at test xs (λ i. h (suc i)))
 
 -- intervals in order keep what all keep
 pub all_ordered : (intervals order : List Interval) → AreIntervals intervals → IsPermutation intervals order →

@@ -5,3 +5,4 @@ pub mod Counts
 pub mod FreeRegisters
 pub mod FreeSlots
 pub mod Lists
+pub mod SoonestSlot

@@ -1,5 +1,5 @@
 -- Lists that grow at their end.
-use Rattle.sc_alloc.proofs.Common.{Bool, List, None, Option, Some, [], ap, arith, false, inl, inr, length, option_map}
+use Rattle.sc_alloc.proofs.Common.{Bool, IsTrue, List, list_all, None, Option, Some, [], ap, arith, false, inl, inr, length, option_map}
 use Rattle.sc_alloc.proofs.Common.{position, position-cons, refl, replicate, same_Some, slice_get, slice_set, suc, sym}
 use Rattle.sc_alloc.proofs.Common.{true, zero, ℕ, ⊎_elim, ◌++◌, ◌<◌, ◌∙◌, ◌∷◌, ◌≡◌, ◌≢◌, ◌⊎◌}
 
@@ -54,3 +54,9 @@ all_fail p [] i x none e = absurd (cc e)
 all_fail p (z ∷ xs) zero x none e =
     ap p (sym (same_Some z x e)) ∙ (first_fails p z xs (p z) refl none).0
 all_fail p (z ∷ xs) (suc i) x none e = all_fail p xs i x (first_fails p z xs (p z) refl none).1 e
+
+-- a test that each element passes
+pub all_at : {A : Type 0} (test : A → Bool) (xs : List A) → ((i : ℕ) (x : A) → slice_get xs i ≡ Some x → IsTrue (test x)) →
+    IsTrue (list_all test xs)
+all_at test [] h = refl
+all_at test (x ∷ xs) h = rw (h 0 x refl) (all_at test xs (λ i. h (suc i)))
