@@ -5,7 +5,7 @@ use Rattle.sc_alloc.proofs.Common.{cond, count_by, eq-eqb, get_or, is_of, length
 use Rattle.sc_alloc.proofs.Common.{ne_eqb, refl, subst, suc, sum_by-cons, sum_by_popped, sum_by_pushed, sym, with_place}
 use Rattle.sc_alloc.proofs.Common.{ℕ, ⊎_elim, ◌+◌, ◌<◌, ◌∙◌, ◌∷◌, ◌≡◌, ◌≢◌, ◌≤◌}
 use Rattle.std.specs.declared.cmp.Reverse.{Reverse}
-use Rattle.std.proofs.lemmas.List.Elements.{All-nil, All-cons, All-tail}
+use Rattle.std.proofs.lemmas.List.Elements.{All-cons, All-nil, All-tail}
 use Rattle.sc_alloc.specs.declared.slots.SlotEnd.{SlotEnd}
 use Rattle.sc_alloc.proofs.Lists.{get_pushed}
 use Rattle.sc_alloc.proofs.FreeRegisters.{all_over_pushed}

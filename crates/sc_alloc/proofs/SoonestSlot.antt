@@ -1,10 +1,10 @@
 -- The slot that is free soonest: it is the greatest of the heap, and leaves it and comes back.
-use Rattle.sc_alloc.proofs.Common.{All, All-permutation, Bool, Given, HasEnds, Interval, IsHeap, IsPermutation, LacksOne}
-use Rattle.sc_alloc.proofs.Common.{List, Some, [], ap, arith, cases_eq, count_by, drop, false, get_or, is_lt, is_of}
-use Rattle.sc_alloc.proofs.Common.{get_or_from_slice_get, is_soonest, length, list_all, max, list_all_at, nat_le, nat_cmp, nat_lt, nat_tests, ordering_then}
-use Rattle.sc_alloc.proofs.Common.{position_or_len_is, refl, same_Some, slice_get, slice_get-get_or, slice_get_within}
-use Rattle.sc_alloc.proofs.Common.{slot_for, soonest_first, subst, suc, sum_by-cons, sum_by_popped, sum_by_pushed, sym}
-use Rattle.sc_alloc.proofs.Common.{take, true, with_slot, zero, ℕ, ⊎_elim, ◌&&◌, ◌++◌, ◌+◌, ◌<◌, ◌∙◌, ◌∷◌, ◌≡◌}
+use Rattle.sc_alloc.proofs.Common.{All, All-permutation, Bool, HasEnds, IsHeap, IsPermutation, LacksOne, List, Some, []}
+use Rattle.sc_alloc.proofs.Common.{ap, arith, cases_eq, count_by, false, get_or, get_or_from_slice_get, is_lt, is_of}
+use Rattle.sc_alloc.proofs.Common.{is_soonest, length, list_all, list_all_at, max, nat_cmp, nat_le, nat_lt, nat_tests}
+use Rattle.sc_alloc.proofs.Common.{ordering_then, position_or_len_is, refl, same_Some, slice_get, slice_get-get_or}
+use Rattle.sc_alloc.proofs.Common.{slice_get_within, slot_for, soonest_first, subst, suc, sum_by-cons, sum_by_popped}
+use Rattle.sc_alloc.proofs.Common.{sum_by_pushed, sym, true, with_slot, zero, ℕ, ⊎_elim, ◌&&◌, ◌+◌, ◌<◌, ◌∙◌, ◌∷◌, ◌≡◌}
 use Rattle.sc_alloc.proofs.Common.{◌≢◌, ◌≤◌}
 use Rattle.std.specs.declared.cmp.Reverse.{Reverse}
 use Rattle.std.proofs.lemmas.List.Elements.{All-cons, All-tail}
@@ -122,8 +122,13 @@ new_out slots ends count has = record {
   within = omega (arith, has.all);
   all = omega (arith, has.all);
   ordered = has.ordered;
-  out = λ k d less same. omega
-      (arith, slice_get_within slots (get_or ends k d).0.slot (get_or ends k d).0.last (has.each k d less), same, has.all);
+  out = λ k d less same. omega (
+    arith,
+    has.all,
+    same,
+    slice_get_within slots (get_or ends k d).0.slot (get_or ends k d).0.last
+        (has.each k d less),
+  );
   each = has.each;
   once = λ slot less other. has.once slot less;
 }

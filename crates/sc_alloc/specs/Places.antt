@@ -18,8 +18,8 @@ abbrev pub sorted_by : {A : Type 0} → (A → ℕ) → List A → List A
 sorted_by key [] = []
 sorted_by key (x ∷ xs) = insert_by key x (sorted_by key xs)
 
--- how far the scan has come: the intervals with the places that they got, and where the interval ends that got each
--- register last, and each of the slots so far
+-- how far the scan has come: the intervals with the places that they got, and of each register and each slot so far the
+-- end of the interval that got it last
 pub record Scanned : Type 0 where
   pub given : List Given
   pub registers : List (Option ℕ)
@@ -50,18 +50,20 @@ is_soonest at slots last = nat_lt last at && list_all (nat_le last) slots
 abbrev pub slot_for : ℕ → List ℕ → ℕ
 slot_for at slots = position_or_len (is_soonest at slots) slots
 
--- the slots where an interval ended up in this one, which may be new
+-- the ends of slots with that of an interval that gets this slot, which may be the new one
 abbrev pub with_slot : List ℕ → ℕ → ℕ → List ℕ
 with_slot slots k last = take k slots ++ last ∷ drop (suc k) slots
 
+-- an interval gets this register
 abbrev pub in_register : Scanned → Interval → ℕ → Scanned
 in_register s x r =
     record s { given = with_place s.given x (Register r); registers = slice_set s.registers r (Some x.last) }
 
+-- an interval gets this slot
 abbrev pub in_slot : Scanned → Interval → ℕ → Scanned
 in_slot s x k = record s { given = with_place s.given x (Slot k); slots = with_slot s.slots k x.last }
 
--- an interval is in the register, if there is one, and else in a slot
+-- an interval gets the register, if there is one for it, and else a slot
 abbrev pub in_place : Scanned → Interval → Option ℕ → Scanned
 in_place s x None = in_slot s x (slot_for x.first s.slots)
 in_place s x (Some r) = in_register s x r
@@ -70,7 +72,8 @@ in_place s x (Some r) = in_register s x r
 abbrev pub scan_next : Scanned → Interval → Scanned
 scan_next s x = in_place s x (register_for x s.registers)
 
--- the places of the intervals by the numbers of their temporaries: they get them in the order in which they begin
+-- the places of the intervals, by the numbers of their temporaries: they get them in the order in which they begin, and
+-- those that begin together as they stand in the list
 abbrev pub assigned : List Interval → List Place
 assigned intervals =
     map (λ g. g.place)

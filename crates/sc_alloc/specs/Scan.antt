@@ -3,7 +3,7 @@ use Rattle.sc_tac.specs.Prelude.{is_place, register_count}
 use Rattle.std.specs.Prelude.{◌≡◌, ◌≢◌, ◌≤◌, ◌<◌, ◌==◌, ℕ, suc, max, Bool, true, false, List, length, All, Option}
 use Rattle.std.specs.Prelude.{None, Some, MatchOption, slice_get, IsTrue}
 use Rattle.std.specs.BinaryHeap.{IsHeap, heap_items}
-use Rattle.std.specs.List.{count_by, slice_set}
+use Rattle.std.specs.List.{count_by}
 use Rattle.std.specs.Ordering.{nat_cmp, ordering_then}
 use Rattle.std.specs.declared.cmp.Ordering.{Ordering}
 use Rattle.std.specs.declared.cmp.Reverse.{Reverse}
@@ -73,14 +73,14 @@ pub record IsOut (given : List Given) (ends : List (Reverse SlotEnd)) (count at 
 abbrev pub soonest_first : Reverse SlotEnd → Reverse SlotEnd → Ordering
 soonest_first x y = ordering_then (nat_cmp y.0.last x.0.last) (nat_cmp y.0.slot x.0.slot)
 
--- where these slots end, each once, the one that is free soonest in front
+-- the heap has the end of each of these slots, once
 pub record HasEnds (slots : List ℕ) (ends : List (Reverse SlotEnd)) (count : ℕ) : Type 0 where
   pub all : count ≡ length slots
   pub ordered : IsHeap soonest_first ends
   pub each : All (λ end. slice_get slots end.0.slot ≡ Some end.0.last) ends
   pub once : (slot : ℕ) → slot < length slots → count_by (is_of slot) ends ≡ 1
 
--- the same of all but one, which may be new
+-- the heap has the end of each but one, which may be new
 pub record LacksOne (slots : List ℕ) (ends : List (Reverse SlotEnd)) (count own : ℕ) : Type 0 where
   pub within : own ≤ length slots
   pub all : count ≡ max (length slots) (suc own)
@@ -93,11 +93,11 @@ pub record LacksOne (slots : List ℕ) (ends : List (Reverse SlotEnd)) (count ow
 abbrev pub IsTaken : List ℕ → List (Reverse SlotEnd) → ℕ → ℕ → ℕ → Type 0
 IsTaken slots ends count at slot = (slot ≡ slot_for at slots) × LacksOne slots ends count slot
 
--- where no slot is free there, it is a new one
+-- no slot is free at this point, so that the slot for what begins there is a new one
 abbrev pub NoneFree : List ℕ → List (Reverse SlotEnd) → ℕ → ℕ → Type 0
 NoneFree slots ends count at = (slot_for at slots ≡ length slots) × HasEnds slots ends count
 
--- an interval has the slot for it
+-- an interval has got the slot for it
 abbrev pub HasSlot : List ℕ → Interval → List (Reverse SlotEnd) → ℕ → ℕ → Type 0
 HasSlot slots x ends count slot = (slot ≡ slot_for x.first slots) × HasEnds (with_slot slots slot x.last) ends count
 

@@ -36,7 +36,8 @@ impl Registers {
         self.lasts.iter().position(|last| is_over(at, last))
     }
 
-    /// A register that is free where the interval begins, and belongs to it from then on. One over a call gets none.
+    /// The first register that is free where the interval begins, and belongs to it from then on. One over a call gets
+    /// none.
     pub fn give(&mut self, interval: &Interval) -> Option<u8>
         requires { interval.now.first ≤ interval.now.last }
         ensures register { result ≡ register_for interval.now self.old.lasts }

@@ -60,7 +60,8 @@ impl Slots {
         Some(soonest.slot)
     }
 
-    // A slot that is free at this point: a new one where no other is. There is no memory for more than 4294967295.
+    // The slot that is free soonest, where it is free at this point, and else a new one. There is no memory for more
+    // than 4294967295.
     fn take(&mut self, at: u32) -> Result<u32, OutOfMemory>
         ensures slot { (slots : List ℕ) → HasEnds slots (heap_items self.old.ends) self.old.count →
             IfOk result (IsTaken slots (heap_items self.new.ends) self.new.count at) }
@@ -77,7 +78,8 @@ impl Slots {
         }
     }
 
-    /// A slot that is free where the interval begins, and belongs to it from then on.
+    /// The slot that is free soonest, if it is free where the interval begins, and else a new one. It belongs to the
+    /// interval from then on.
     pub fn give(&mut self, interval: &Interval) -> Result<u32, OutOfMemory>
         requires { interval.now.first ≤ interval.now.last }
         ensures slot { (slots : List ℕ) → HasEnds slots (heap_items self.old.ends) self.old.count →

@@ -1,5 +1,5 @@
-use Rattle.sc_alloc.proofs.Common.{HasEnds, IsHeap, IsPermutation, Some, get_or, heap_items, heap_len, length, rules}
-use Rattle.sc_alloc.proofs.Common.{slice_get, soonest_first, subst, sym, ◌<◌, ◌∷◌, ◌≡◌}
+use Rattle.sc_alloc.proofs.Common.{IsHeap, IsPermutation, Some, get_or, heap_items, heap_len, length, rules, slice_get}
+use Rattle.sc_alloc.proofs.Common.{soonest_first, subst, sym, ◌<◌, ◌∷◌, ◌≡◌}
 use Rattle.std.specs.declared.cmp.Reverse.{Reverse}
 use Rattle.std.proofs.lemmas.List.Elements.{All-from_recursion}
 use Rattle.sc_alloc.specs.declared.slots.SlotEnd.{SlotEnd}
