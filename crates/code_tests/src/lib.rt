@@ -4,18 +4,8 @@
 #[cfg(test)]
 mod code;
 #[cfg(test)]
-mod intervals;
-#[cfg(test)]
 mod lowering;
 #[cfg(test)]
 mod parts;
 #[cfg(test)]
-mod places;
-#[cfg(test)]
-mod programs;
-#[cfg(test)]
-mod sizes;
-#[cfg(test)]
 mod speed;
-#[cfg(test)]
-mod words;

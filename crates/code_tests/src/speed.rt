@@ -1,4 +1,5 @@
 // Lowering takes time in proportion to a program's nodes. The times are printed, and not tested.
+use code_texts::append;
 use sc_base::OutOfMemory;
 use sc_lower::lower;
 use sc_tac::Tac;
@@ -17,21 +18,41 @@ fn digits(number: u32) -> [u8; 4] {
     ]
 }
 
-// A program of so many small functions, each with a loop, a branch and an array.
-fn many_functions(alloc: Global, count: u32) -> Result<Vec<u8>, OutOfMemory> {
-    let mut text: Vec<u8> = Vec::new(alloc);
-    text.extend_from_slice(b"#pragma compartment Main\nint table[16];\n")?;
-    for number in 0..count {
-        text.extend_from_slice(b"int f")?;
-        text.extend_from_slice(digits(number).as_slice())?;
-        text.extend_from_slice(
-            b"(int a, int b) {\n  int i;\n  int sum = 0;\n  for (i = 0; i < b; i++) {\n    sum = sum + a * i;\n",
-        )?;
-        text.extend_from_slice(
-            b"    if (sum > 1000 && i != 7) {\n      table[i & 15] = sum - table[a & 15];\n    }\n  }\n  return sum;\n}\n",
-        )?;
+const BEGIN: &[u8] = b"#pragma compartment Main
+int table[16];
+";
+
+// What stands behind the number in the name of a function.
+const FUNCTION: &[u8] = b"(int a, int b) {
+  int i;
+  int sum = 0;
+  for (i = 0; i < b; i++) {
+    sum = sum + a * i;
+    if (sum > 1000 && i != 7) {
+      table[i & 15] = sum - table[a & 15];
     }
-    text.extend_from_slice(b"int main(void) {\n  return 0;\n}\n")?;
+  }
+  return sum;
+}
+";
+
+const MAIN: &[u8] = b"int main(void) {
+  return 0;
+}
+";
+
+// A small function with a loop, a branch and an array.
+fn append_function(text: &mut Vec<u8>, number: u32) -> Result<(), OutOfMemory> {
+    append(text, &[b"int f", &digits(number), FUNCTION])
+}
+
+// A program of so many small functions.
+fn many_functions(alloc: Global, count: u32) -> Result<Vec<u8>, OutOfMemory> {
+    let mut text = Vec::from_slice(alloc, BEGIN)?;
+    for number in 0..count {
+        append_function(&mut text, number)?;
+    }
+    text.extend_from_slice(MAIN)?;
     Ok(text)
 }
 

@@ -1,27 +1,28 @@
 -- Places that were given fairly are an assignment, and a sparing one.
 use Rattle.sc_alloc.proofs.Common.{All, All-permutation, AreFair, AreIntervals, AreKnown, AreNumbered, ArePlaced}
-use Rattle.sc_alloc.proofs.Common.{ArePlaces, Bool, Contains, Contains-permutation, Given, Interval, IsAssignment}
+use Rattle.sc_alloc.proofs.Common.{ArePlaces, Contains, Contains-permutation, Given, Interval, IsAssignment}
 use Rattle.sc_alloc.proofs.Common.{IsPermutation, IsPermutation-sym, IsSparing, IsTrue, List, Place, Slot, Some, [], ap}
 use Rattle.sc_alloc.proofs.Common.{arith, cases_order, count_by, eq-eqb, get_or, get_or_from_slice_get, is_place}
-use Rattle.sc_alloc.proofs.Common.{length, length_permutation, list_all, map, option_map, refl, same_Some, slice_get}
+use Rattle.sc_alloc.proofs.Common.{length, length_permutation, map, option_map, refl, same_Some, slice_get}
 use Rattle.sc_alloc.proofs.Common.{slice_get-get_or, slice_get-map, slice_get_within, subst, suc, sum_by-IsPermutation}
 use Rattle.sc_alloc.proofs.Common.{sym, zero, ℕ, ⊎_elim, ◌<◌, ◌∙◌, ◌∷◌, ◌≡◌, ◌≤◌}
-use Rattle.sc_alloc.proofs.Counts.{one, only, once_from, has_temp}
+use Rattle.sc_alloc.proofs.Counts.{has_temp, once_from, one, only}
+use Rattle.sc_alloc.proofs.Lists.{all_at}
 
 abbrev interval_of : Given → Interval
 interval_of g = g.interval
 
-abbrev intervals_of : List Given → List Interval
+abbrev pub intervals_of : List Given → List Interval
 intervals_of given = map interval_of given
 
 as_many : (given : List Given) → length (intervals_of given) ≡ length given
 as_many [] = refl
 as_many (g ∷ given) = ap suc (as_many given)
 
-contained : {A : Type 0} (xs : List A) (i : ℕ) (x : A) → slice_get xs i ≡ Some x → Contains xs x
+pub contained : {A : Type 0} (xs : List A) (i : ℕ) (x : A) → slice_get xs i ≡ Some x → Contains xs x
 contained xs i x at = (i, slice_get_within xs i x at, get_or_from_slice_get xs i x x at)
 
-container : {A : Type 0} (xs : List A) (x : A) (c : Contains xs x) → slice_get xs c.0 ≡ Some x
+pub container : {A : Type 0} (xs : List A) (x : A) (c : Contains xs x) → slice_get xs c.0 ≡ Some x
 container xs x c = slice_get-get_or xs c.0 x c.1 ∙ ap Some c.2
 
 unmapped : (given : List Given) (i : ℕ) (x : Interval) → slice_get (intervals_of given) i ≡ Some x →
@@ -30,15 +31,10 @@ unmapped [] i x at = absurd (cc at)
 unmapped (g ∷ given) zero x at = (g, refl, same_Some g.interval x at)
 unmapped (g ∷ given) (suc i) x at = unmapped given i x at
 
-some_at : {A : Type 0} (xs : List A) (i : ℕ) → i < length xs → (x : A) × (slice_get xs i ≡ Some x)
+pub some_at : {A : Type 0} (xs : List A) (i : ℕ) → i < length xs → (x : A) × (slice_get xs i ≡ Some x)
 some_at [] i less = absurd (omega arith)
 some_at (x ∷ xs) zero less = (x, refl)
 some_at (x ∷ xs) (suc i) less = some_at xs i (omega (arith, less))
-
-all_at : {A : Type 0} (test : A → Bool) (xs : List A) → ((i : ℕ) (x : A) → slice_get xs i ≡ Some x → IsTrue (test x)) →
-    IsTrue (list_all test xs)
-all_at test [] h = refl
-all_at test (x ∷ xs) h = rw (h 0 x refl) (all_at test xs (λ i. h (suc i)))
 
 -- intervals in order keep what all keep
 pub all_ordered : (intervals order : List Interval) → AreIntervals intervals → IsPermutation intervals order →
@@ -68,7 +64,7 @@ module _ (intervals : List Interval) (given : List Given) (are : AreIntervals in
       let its : slice_get intervals c.0 ≡ Some g.interval = container intervals g.interval c in
       subst (λ t. slice_get intervals t ≡ Some g.interval) (sym (are.numbered c.0 g.interval its)) its)
 
-  few : (t : ℕ) → count_by (has_temp t) (intervals_of given) ≤ 1
+  pub few : (t : ℕ) → count_by (has_temp t) (intervals_of given) ≤ 1
   few t =
       (let same : count_by (has_temp t) (intervals_of given) ≡ count_by (has_temp t) intervals =
       sum_by-IsPermutation (one (has_temp t)) intervals (intervals_of given) moved in
@@ -76,7 +72,7 @@ module _ (intervals : List Interval) (given : List Given) (are : AreIntervals in
       once_from t 0 intervals (λ i x at. omega (arith, are.numbered i x at)) in
       omega (arith, same, once))
 
-  mapped_at : (i : ℕ) (g : Given) → slice_get given i ≡ Some g → slice_get (intervals_of given) i ≡ Some g.interval
+  pub mapped_at : (i : ℕ) (g : Given) → slice_get given i ≡ Some g → slice_get (intervals_of given) i ≡ Some g.interval
   mapped_at i g at = slice_get-map interval_of given i ∙ ap (option_map interval_of) at
 
   pub numbered : AreNumbered given

@@ -5,24 +5,24 @@ use Rattle.sc_alloc.proofs.Common.{cond, count_by, eq-eqb, get_or, is_of, length
 use Rattle.sc_alloc.proofs.Common.{ne_eqb, refl, subst, suc, sum_by-cons, sum_by_popped, sum_by_pushed, sym, with_place}
 use Rattle.sc_alloc.proofs.Common.{ℕ, ⊎_elim, ◌+◌, ◌<◌, ◌∙◌, ◌∷◌, ◌≡◌, ◌≢◌, ◌≤◌}
 use Rattle.std.specs.declared.cmp.Reverse.{Reverse}
-use Rattle.std.proofs.lemmas.List.Elements.{All-nil, All-cons, All-tail}
+use Rattle.std.proofs.lemmas.List.Elements.{All-cons, All-nil, All-tail}
 use Rattle.sc_alloc.specs.declared.slots.SlotEnd.{SlotEnd}
 use Rattle.sc_alloc.proofs.Lists.{get_pushed}
 use Rattle.sc_alloc.proofs.FreeRegisters.{all_over_pushed}
 
-abbrev one_of : ℕ → Reverse SlotEnd → ℕ
+abbrev pub one_of : ℕ → Reverse SlotEnd → ℕ
 one_of slot end = cond (is_of slot end) 1 0
 
-abbrev IsOther : ℕ → Reverse SlotEnd → Type 0
+abbrev pub IsOther : ℕ → Reverse SlotEnd → Type 0
 IsOther slot end = end.0.slot ≢ slot
 
-is_one : (slot : ℕ) (end : Reverse SlotEnd) → end.0.slot ≡ slot → one_of slot end ≡ 1
+pub is_one : (slot : ℕ) (end : Reverse SlotEnd) → end.0.slot ≡ slot → one_of slot end ≡ 1
 is_one slot end same = rw (eq-eqb end.0.slot slot same) refl
 
-is_none : (slot : ℕ) (end : Reverse SlotEnd) → end.0.slot ≢ slot → one_of slot end ≡ 0
+pub is_none : (slot : ℕ) (end : Reverse SlotEnd) → end.0.slot ≢ slot → one_of slot end ≡ 0
 is_none slot end other = rw (ne_eqb end.0.slot slot other) refl
 
-none_of : (slot : ℕ) (ends : List (Reverse SlotEnd)) → count_by (is_of slot) ends ≡ 0 → All (IsOther slot) ends
+pub none_of : (slot : ℕ) (ends : List (Reverse SlotEnd)) → count_by (is_of slot) ends ≡ 0 → All (IsOther slot) ends
 none_of slot [] h = All-nil (IsOther slot)
 none_of slot (end ∷ ends) h =
     (let split : count_by (is_of slot) (end ∷ ends) ≡ one_of slot end + count_by (is_of slot) ends =
@@ -30,7 +30,7 @@ none_of slot (end ∷ ends) h =
     All-cons (IsOther slot) end ends (λ same. omega (arith, h, split, is_one slot end same))
     (none_of slot ends (omega (arith, h, split))))
 
-counts_none : (slot : ℕ) (ends : List (Reverse SlotEnd)) → All (IsOther slot) ends → count_by (is_of slot) ends ≡ 0
+pub counts_none : (slot : ℕ) (ends : List (Reverse SlotEnd)) → All (IsOther slot) ends → count_by (is_of slot) ends ≡ 0
 counts_none slot [] h = refl
 counts_none slot (end ∷ ends) h =
     (let split : count_by (is_of slot) (end ∷ ends) ≡ one_of slot end + count_by (is_of slot) ends =
@@ -163,12 +163,12 @@ slots_kept given x ends count r slots = record {
   };
 }
 
--- what `pop` takes where `peek` saw it
-pub popped : (result : Option (Reverse SlotEnd)) (ends rest : List (Reverse SlotEnd)) (count : ℕ)
-    (top : Reverse SlotEnd) → IfNone result (count ≡ 0) → 0 < count → IfSome result (λ x. x ≡ get_or ends 0 x) →
-    IfSome result (λ x. IsPermutation ends (x ∷ rest)) → top ≡ get_or ends 0 top → IsPermutation ends (top ∷ rest)
-popped None ends rest count top none some first moved is = absurd (omega (arith, none, some))
-popped (Some x) [] rest count top none some first moved is =
+-- what is said of what `pop` takes, where `peek` saw it
+pub popped : (P : Reverse SlotEnd → Type 0) (result : Option (Reverse SlotEnd)) (ends rest : List (Reverse SlotEnd))
+    (count : ℕ) (top : Reverse SlotEnd) → IfNone result (count ≡ 0) → 0 < count →
+    IfSome result (λ x. x ≡ get_or ends 0 x) → IfSome result (λ x. IsPermutation ends (x ∷ rest)) →
+    top ≡ get_or ends 0 top → IfSome result P → P top
+popped P None ends rest count top none some first moved is said = absurd (omega (arith, none, some))
+popped P (Some x) [] rest count top none some first moved is said =
     absurd (let same : suc (length rest) ≡ 0 = length_permutation [] (x ∷ rest) moved in omega (arith, same))
-popped (Some x) (z ∷ ends) rest count top none some first moved is =
-    subst (λ x. IsPermutation (z ∷ ends) (x ∷ rest)) (first ∙ sym is) moved
+popped P (Some x) (z ∷ ends) rest count top none some first moved is said = subst P (first ∙ sym is) said

@@ -1,7 +1,10 @@
 pub mod Common
 pub mod Assignment
+pub mod ByTemp
 pub mod Choices
 pub mod Counts
 pub mod FreeRegisters
 pub mod FreeSlots
 pub mod Lists
+pub mod SoonestSlot
+pub mod Sorting

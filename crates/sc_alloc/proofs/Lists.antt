@@ -1,7 +1,7 @@
--- Lists that grow at their end.
-use Rattle.sc_alloc.proofs.Common.{Bool, List, None, Option, Some, [], ap, arith, false, inl, inr, length, option_map}
-use Rattle.sc_alloc.proofs.Common.{position, position-cons, refl, replicate, same_Some, slice_get, slice_set, suc, sym}
-use Rattle.sc_alloc.proofs.Common.{true, zero, ℕ, ⊎_elim, ◌++◌, ◌<◌, ◌∙◌, ◌∷◌, ◌≡◌, ◌≢◌, ◌⊎◌}
+-- Lists that grow at their end, and what is at each place.
+use Rattle.sc_alloc.proofs.Common.{Bool, IsTrue, List, None, Option, Some, [], ap, arith, false, inl, inr, length}
+use Rattle.sc_alloc.proofs.Common.{list_all, option_map, position, position-cons, refl, replicate, same_Some, slice_get}
+use Rattle.sc_alloc.proofs.Common.{slice_set, suc, sym, true, zero, ℕ, ⊎_elim, ◌++◌, ◌<◌, ◌∙◌, ◌∷◌, ◌≡◌, ◌≢◌, ◌⊎◌}
 
 -- an element of a list with one more at its end
 pub get_pushed : {A : Type 0} (xs : List A) (x y : A) (i : ℕ) → slice_get (xs ++ x ∷ []) i ≡ Some y →
@@ -54,3 +54,18 @@ all_fail p [] i x none e = absurd (cc e)
 all_fail p (z ∷ xs) zero x none e =
     ap p (sym (same_Some z x e)) ∙ (first_fails p z xs (p z) refl none).0
 all_fail p (z ∷ xs) (suc i) x none e = all_fail p xs i x (first_fails p z xs (p z) refl none).1 e
+
+-- a test that each element passes
+pub all_at : {A : Type 0} (test : A → Bool) (xs : List A) →
+    ((i : ℕ) (x : A) → slice_get xs i ≡ Some x → IsTrue (test x)) → IsTrue (list_all test xs)
+all_at test [] h = refl
+all_at test (x ∷ xs) h = rw (h 0 x refl) (all_at test xs (λ i. h (suc i)))
+
+-- lists with the same element at each place
+pub same_all : {A : Type 0} (xs ys : List A) → ((i : ℕ) → slice_get xs i ≡ slice_get ys i) → xs ≡ ys
+same_all [] [] same = refl
+same_all [] (y ∷ ys) same = absurd (let e : None ≡ Some y = same 0 in cc)
+same_all (x ∷ xs) [] same = absurd (let e : Some x ≡ None = same 0 in cc)
+same_all (x ∷ xs) (y ∷ ys) same =
+    (let first : x ≡ y = same_Some x y (same 0) in
+    let rest : xs ≡ ys = same_all xs ys (λ i. same (suc i)) in cc)

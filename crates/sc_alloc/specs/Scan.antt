@@ -1,9 +1,11 @@
 -- What a linear scan keeps, of the intervals that got a place so far, in the order in which they begin.
 use Rattle.sc_tac.specs.Prelude.{is_place, register_count}
-use Rattle.std.specs.Prelude.{◌≡◌, ◌≢◌, ◌≤◌, ◌<◌, ◌==◌, ℕ, suc, Bool, true, false, nat_lt, List, [], ◌∷◌, ◌++◌, length}
-use Rattle.std.specs.Prelude.{All, Option, None, Some, MatchOption, slice_get, IsTrue}
-use Rattle.std.specs.BinaryHeap.{heap_items}
+use Rattle.std.specs.Prelude.{◌≡◌, ◌≢◌, ◌≤◌, ◌<◌, ◌==◌, ℕ, suc, max, Bool, true, false, List, length, All, Option}
+use Rattle.std.specs.Prelude.{None, Some, MatchOption, slice_get, IsTrue}
+use Rattle.std.specs.BinaryHeap.{IsHeap, heap_items}
 use Rattle.std.specs.List.{count_by}
+use Rattle.std.specs.Ordering.{nat_cmp, ordering_then}
+use Rattle.std.specs.declared.cmp.Ordering.{Ordering}
 use Rattle.std.specs.declared.cmp.Reverse.{Reverse}
 use Rattle.sc_tac.specs.declared.interval.Interval.{Interval}
 use Rattle.sc_tac.specs.declared.place.Place.{Place}
@@ -13,20 +15,12 @@ use Rattle.sc_alloc.specs.declared.registers.Registers.{Registers}
 use Rattle.sc_alloc.specs.declared.scan.Scan.{Scan}
 use Rattle.sc_alloc.specs.declared.slots.SlotEnd.{SlotEnd}
 use Rattle.sc_alloc.specs.declared.slots.Slots.{Slots}
+use Rattle.sc_alloc.specs.Places.{Scanned, scan_next, slot_for, with_place, with_slot}
 
 -- each that got this place ends before this point
 abbrev pub AllOver : List Given → Place → ℕ → Type 0
 AllOver given place at =
     (i : ℕ) (g : Given) → slice_get given i ≡ Some g → g.place ≡ place → g.interval.last < at
-
--- one more interval has a place
-abbrev pub with_place : List Given → Interval → Place → List Given
-with_place given x place = given ++ record { interval = x; place = place } ∷ []
-
--- the interval that had a register last ends before this point
-abbrev pub is_over : ℕ → Option ℕ → Bool
-is_over at None = true
-is_over at (Some last) = nat_lt last at
 
 -- an interval with this register lasts to some point
 pub record IsHeld (given : List Given) (r at : ℕ) : Type 0 where
@@ -75,6 +69,38 @@ pub record IsOut (given : List Given) (ends : List (Reverse SlotEnd)) (count at 
   pub out : All (λ end. end.0.slot ≢ slot) ends
   pub free : AllOver given (Slot slot) at
 
+-- the order of the heap: the slot that is free soonest is the greatest, and the first of those
+abbrev pub soonest_first : Reverse SlotEnd → Reverse SlotEnd → Ordering
+soonest_first x y = ordering_then (nat_cmp y.0.last x.0.last) (nat_cmp y.0.slot x.0.slot)
+
+-- the heap has the end of each of these slots, once
+pub record HasEnds (slots : List ℕ) (ends : List (Reverse SlotEnd)) (count : ℕ) : Type 0 where
+  pub all : count ≡ length slots
+  pub ordered : IsHeap soonest_first ends
+  pub each : All (λ end. slice_get slots end.0.slot ≡ Some end.0.last) ends
+  pub once : (slot : ℕ) → slot < length slots → count_by (is_of slot) ends ≡ 1
+
+-- the heap has the end of each but one, which may be new
+pub record LacksOne (slots : List ℕ) (ends : List (Reverse SlotEnd)) (count own : ℕ) : Type 0 where
+  pub within : own ≤ length slots
+  pub all : count ≡ max (length slots) (suc own)
+  pub ordered : IsHeap soonest_first ends
+  pub out : All (λ end. end.0.slot ≢ own) ends
+  pub each : All (λ end. slice_get slots end.0.slot ≡ Some end.0.last) ends
+  pub once : (slot : ℕ) → slot < length slots → slot ≢ own → count_by (is_of slot) ends ≡ 1
+
+-- the slot for an interval that begins here was taken out
+abbrev pub IsTaken : List ℕ → List (Reverse SlotEnd) → ℕ → ℕ → ℕ → Type 0
+IsTaken slots ends count at slot = (slot ≡ slot_for at slots) × LacksOne slots ends count slot
+
+-- no slot is free at this point, so that the slot for what begins there is a new one
+abbrev pub NoneFree : List ℕ → List (Reverse SlotEnd) → ℕ → ℕ → Type 0
+NoneFree slots ends count at = (slot_for at slots ≡ length slots) × HasEnds slots ends count
+
+-- an interval has got the slot for it
+abbrev pub HasSlot : List ℕ → Interval → List (Reverse SlotEnd) → ℕ → ℕ → Type 0
+HasSlot slots x ends count slot = (slot ≡ slot_for x.first slots) × HasEnds (with_slot slots slot x.last) ends count
+
 -- an interval gets a free slot
 abbrev pub GivesSlot : List Given → Interval → List (Reverse SlotEnd) → ℕ → ℕ → Type 0
 GivesSlot given x ends count slot =
@@ -108,6 +134,21 @@ pub record IsChosen (given : List Given) (x : Interval) (r : Registers) (s : Slo
   pub fair : IsFair given x place
   pub registers : AreRegisters (with_place given x place) r.lasts
   pub slots : AreSlots (with_place given x place) (heap_items s.ends) s.count
+
+-- registers and slots are as far as the scan has come
+pub record HasCome (s : Scanned) (registers : Registers) (slots : Slots) : Type 0 where
+  pub lasts : registers.lasts ≡ s.registers
+  pub ends : HasEnds s.slots (heap_items slots.ends) slots.count
+
+-- the next interval gets this place
+pub record IsNext (s : Scanned) (x : Interval) (registers : Registers) (slots : Slots) (place : Place) : Type 0 where
+  pub given : (scan_next s x).given ≡ with_place s.given x place
+  pub come : HasCome (scan_next s x) registers slots
+
+-- a scan is as far as this
+pub record IsAt (s : Scanned) (scan : Scan) : Type 0 where
+  pub given : scan.given ≡ s.given
+  pub come : HasCome s scan.registers scan.slots
 
 -- what a scan keeps
 pub record IsScan (scan : Scan) : Type 0 where

@@ -1,7 +1,9 @@
 ghost use Rattle.sc_tac.specs.Prelude.{IsAssignment, IsSparing};
 ghost use Rattle.std.specs.Prelude.{◌≡◌, ◌≤◌, map, All, IfOk};
+ghost use Rattle.std.specs.List.{fold};
 ghost use Rattle.std.specs.List.Sorted.{IsNonDecreasingBy, IsPermutation};
 ghost use Rattle.sc_tac.specs.declared.interval.Interval.{Interval};
+ghost use Rattle.sc_alloc.specs.Places.{assigned, at_first, scan_next, sorted_by};
 ghost use Rattle.sc_alloc.specs.Scan.{AreFair, AreKnown, AreNumbered, ArePlaced};
 ghost use Rattle.sc_alloc.specs.declared.given.Given.{Given};
 
@@ -15,6 +17,7 @@ use std::alloc::Global;
 fn by_start(alloc: Global, intervals: &[Interval]) -> Result<Vec<Interval>, OutOfMemory>
     ensures same { IfOk result (λ order. IsPermutation intervals.now order.items) }
     ensures rising { IfOk result (λ order. IsNonDecreasingBy {X = Interval} (λ x. x.first) order.items) }
+    ensures sorted { IfOk result (λ order. order.items ≡ sorted_by {A = Interval} (λ x. x.first) intervals.now) }
 {
     let mut order = Vec::from_slice(alloc, intervals)?;
     order.sort_by_key(|interval| interval.first)?;
@@ -25,6 +28,7 @@ fn by_start(alloc: Global, intervals: &[Interval]) -> Result<Vec<Interval>, OutO
 fn scan(alloc: Global, order: &[Interval]) -> Result<Items<Given>, OutOfMemory>
     requires ordered { All (λ (x : Interval). x.first ≤ x.last) order.now }
     requires rising { IsNonDecreasingBy {X = Interval} (λ x. x.first) order.now }
+    ensures places { IfOk result (λ given. given ≡ (fold scan_next at_first order.now).given) }
     ensures each { IfOk result (λ given. map {A = Given} (λ g. g.interval) given ≡ order.now) }
     ensures fair { IfOk result AreFair }
     ensures known { IfOk result AreKnown }
@@ -48,9 +52,10 @@ fn by_temp(alloc: Global, given: &[Given]) -> Result<Items<Place>, OutOfMemory>
     Ok(places)
 }
 
-/// A place for each interval, by linear scan: in the order in which they begin, each gets a register that is free
-/// there, else a slot that is, else a new slot.
+/// A place for each interval, by linear scan: in the order in which they begin, each gets the first register that is
+/// free there, else the slot that is free soonest, if it is free there, else a new slot.
 pub fn assign(alloc: Global, intervals: &Intervals) -> Result<Places, OutOfMemory>
+    ensures places { IfOk result (λ places. places ≡ assigned intervals.now) }
     ensures assignment { IfOk result (IsAssignment intervals.now) }
     ensures sparing { IfOk result (IsSparing intervals.now) }
 {

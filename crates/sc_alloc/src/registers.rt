@@ -1,6 +1,8 @@
-ghost use Rattle.std.specs.Prelude.{◌≡◌, ◌≤◌, [], List};
-ghost use Rattle.std.specs.List.{position};
-ghost use Rattle.sc_alloc.specs.Scan.{is_over, AreRegisters, GivesRegister};
+ghost use Rattle.std.specs.Prelude.{◌≡◌, ◌≤◌, [], List, Some, None, MatchOption, replicate};
+ghost use Rattle.std.specs.List.{position, slice_set};
+ghost use Rattle.sc_tac.specs.Prelude.{register_count};
+ghost use Rattle.sc_alloc.specs.Places.{is_over, register_for};
+ghost use Rattle.sc_alloc.specs.Scan.{AreRegisters, GivesRegister};
 ghost use Rattle.sc_alloc.specs.declared.given.Given.{Given};
 
 use sc_tac::Interval;
@@ -22,7 +24,8 @@ fn is_over(at: u32, last: &Option<u32>) -> bool
 
 impl Registers {
     pub fn new() -> Registers
-        ensures { AreRegisters [] result.lasts }
+        ensures none { result.lasts ≡ replicate register_count None }
+        ensures rules { AreRegisters [] result.lasts }
     {
         Registers { lasts: [None; 18] }
     }
@@ -33,10 +36,14 @@ impl Registers {
         self.lasts.iter().position(|last| is_over(at, last))
     }
 
-    /// A register that is free where the interval begins, and belongs to it from then on. One over a call gets none.
+    /// The first register that is free where the interval begins, and belongs to it from then on. One over a call gets
+    /// none.
     pub fn give(&mut self, interval: &Interval) -> Option<u8>
         requires { interval.now.first ≤ interval.now.last }
-        ensures { (given : List Given) → AreRegisters given self.old.lasts →
+        ensures register { result ≡ register_for interval.now self.old.lasts }
+        ensures lasts { MatchOption result (self.new.lasts ≡ self.old.lasts)
+            (λ r. self.new.lasts ≡ slice_set self.old.lasts r (Some interval.now.last)) }
+        ensures rules { (given : List Given) → AreRegisters given self.old.lasts →
             GivesRegister given interval.now self.new.lasts result }
     {
         if interval.spans_call {

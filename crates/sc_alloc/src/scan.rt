@@ -1,5 +1,6 @@
 ghost use Rattle.std.specs.Prelude.{◌≡◌, ◌≤◌, [], ◌++◌, ◌∷◌, map, IfOk, OnOk};
-ghost use Rattle.sc_alloc.specs.Scan.{AllBegun, AreFair, AreKnown, IsChosen, IsScan};
+ghost use Rattle.sc_alloc.specs.Places.{Scanned, at_first, scan_next};
+ghost use Rattle.sc_alloc.specs.Scan.{AllBegun, AreFair, AreKnown, HasCome, IsAt, IsChosen, IsNext, IsScan};
 ghost use Rattle.sc_alloc.specs.declared.given.Given.{Given};
 
 use crate::given::Given;
@@ -21,6 +22,7 @@ pub struct Scan {
 impl Scan {
     pub fn new(alloc: Global) -> Scan
         ensures given { result.given ≡ [] }
+        ensures at { IsAt at_first result }
         ensures rules { IsScan result }
     {
         Scan {
@@ -35,6 +37,8 @@ impl Scan {
         requires ordered { interval.now.first ≤ interval.now.last }
         requires rules { IsScan self.old }
         ensures given { self.new.given ≡ self.old.given }
+        ensures next { (s : Scanned) → HasCome s self.old.registers self.old.slots →
+            IfOk result (IsNext s interval.now self.new.registers self.new.slots) }
         ensures chosen { IfOk result (IsChosen self.old.given interval.now self.new.registers self.new.slots) }
     {
         match self.registers.give(interval) {
@@ -50,6 +54,7 @@ impl Scan {
         requires rules { IsScan self.old }
         ensures given { OnOk result (map {A = Given} (λ g. g.interval) self.new.given ≡
             map {A = Given} (λ g. g.interval) self.old.given ++ interval ∷ []) }
+        ensures at { (s : Scanned) → IsAt s self.old → OnOk result (IsAt (scan_next s interval) self.new) }
         ensures rules { OnOk result (IsScan self.new) }
     {
         let place = self.choose(&interval)?;

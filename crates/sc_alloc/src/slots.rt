@@ -1,6 +1,6 @@
-ghost use Rattle.std.specs.Prelude.{◌≡◌, ◌≤◌, suc, [], List, IfOk, MatchOption};
+ghost use Rattle.std.specs.Prelude.{◌≡◌, ◌≤◌, ℕ, suc, [], List, IfOk, MatchOption};
 ghost use Rattle.std.specs.BinaryHeap.{heap_items};
-ghost use Rattle.sc_alloc.specs.Scan.{AreSlots, IsOut, GivesSlot};
+ghost use Rattle.sc_alloc.specs.Scan.{AreSlots, HasEnds, HasSlot, IsOut, IsTaken, GivesSlot, NoneFree};
 ghost use Rattle.sc_alloc.specs.declared.given.Given.{Given};
 
 use sc_base::OutOfMemory;
@@ -34,7 +34,8 @@ fn one_more(number: u32) -> Result<u32, OutOfMemory>
 
 impl Slots {
     pub fn new(alloc: Global) -> Slots
-        ensures { AreSlots [] (heap_items result.ends) result.count }
+        ensures none { HasEnds [] (heap_items result.ends) result.count }
+        ensures rules { AreSlots [] (heap_items result.ends) result.count }
     {
         Slots {
             ends: BinaryHeap::new(alloc),
@@ -44,7 +45,10 @@ impl Slots {
 
     // The slot that is free soonest, where it is free at this point.
     fn take_free(&mut self, at: u32) -> Option<u32>
-        ensures { (given : List Given) → AreSlots given (heap_items self.old.ends) self.old.count →
+        ensures soonest { (slots : List ℕ) → HasEnds slots (heap_items self.old.ends) self.old.count →
+            MatchOption result (NoneFree slots (heap_items self.new.ends) self.new.count at)
+            (IsTaken slots (heap_items self.new.ends) self.new.count at) }
+        ensures rules { (given : List Given) → AreSlots given (heap_items self.old.ends) self.old.count →
             MatchOption result (AreSlots given (heap_items self.new.ends) self.new.count)
             (IsOut given (heap_items self.new.ends) self.new.count at) }
     {
@@ -56,9 +60,12 @@ impl Slots {
         Some(soonest.slot)
     }
 
-    // A slot that is free at this point: a new one where no other is. There is no memory for more than 4294967295.
+    // The slot that is free soonest, where it is free at this point, and else a new one. There is no memory for more
+    // than 4294967295.
     fn take(&mut self, at: u32) -> Result<u32, OutOfMemory>
-        ensures { (given : List Given) → AreSlots given (heap_items self.old.ends) self.old.count →
+        ensures slot { (slots : List ℕ) → HasEnds slots (heap_items self.old.ends) self.old.count →
+            IfOk result (IsTaken slots (heap_items self.new.ends) self.new.count at) }
+        ensures rules { (given : List Given) → AreSlots given (heap_items self.old.ends) self.old.count →
             IfOk result (IsOut given (heap_items self.new.ends) self.new.count at) }
     {
         match self.take_free(at) {
@@ -71,10 +78,13 @@ impl Slots {
         }
     }
 
-    /// A slot that is free where the interval begins, and belongs to it from then on.
+    /// The slot that is free soonest, if it is free where the interval begins, and else a new one. It belongs to the
+    /// interval from then on.
     pub fn give(&mut self, interval: &Interval) -> Result<u32, OutOfMemory>
         requires { interval.now.first ≤ interval.now.last }
-        ensures { (given : List Given) → AreSlots given (heap_items self.old.ends) self.old.count →
+        ensures slot { (slots : List ℕ) → HasEnds slots (heap_items self.old.ends) self.old.count →
+            IfOk result (HasSlot slots interval.now (heap_items self.new.ends) self.new.count) }
+        ensures rules { (given : List Given) → AreSlots given (heap_items self.old.ends) self.old.count →
             IfOk result (GivesSlot given interval.now (heap_items self.new.ends) self.new.count) }
     {
         let slot = self.take(interval.first)?;

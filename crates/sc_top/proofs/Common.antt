@@ -40,8 +40,8 @@ pub use Rattle.sc_core.specs.Prelude.{State, all_do, and_then, back_own, begun, 
 pub use Rattle.sc_core.specs.Prelude.{done, first_state, follow, function_of, globals_of, in_order, leave, library_of}
 pub use Rattle.sc_core.specs.Prelude.{main_fits, meaning, most_nodes, run_of, run_step, run_to, sections_fit, stmt_does}
 pub use Rattle.sc_core.specs.Prelude.{stmt_nodes, stopped_at, tell, thin_meaning, total, whole_run, within}
-pub use Rattle.sc_elab.specs.Prelude.{Callees, Visible, callees_of, program_of, scope_in, typed_stmt, types_broken}
-pub use Rattle.sc_elab.specs.Prelude.{visible_of}
+pub use Rattle.sc_elab_stmt.specs.Prelude.{typed_stmt}
+pub use Rattle.sc_elab.specs.Prelude.{callees_of, program_of, scope_in, types_broken, visible_of}
 pub use Rattle.sc_types.specs.Prelude.{Accepts, Fails, counts_broken}
 pub use Rattle.sc_image.specs.Prelude.{BytesNameOneImage, IsComp, IsExport, IsImage, IsWellFormed, IsWord}
 pub use Rattle.sc_image.specs.Prelude.{TracesAreLegal, bad, bit, cause_number, cause_of, code_bytes, comp_bytes}

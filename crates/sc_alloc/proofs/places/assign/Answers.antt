@@ -1,6 +1,7 @@
 use Rattle.sc_alloc.proofs.Common.{All, AreNumbered, ArePlaced, Given, Interval, IsAssignment, IsPermutation, IsSparing}
-use Rattle.sc_alloc.proofs.Common.{List, subst, sym, ◌≤◌}
-use Rattle.sc_alloc.proofs.Assignment.{all_ordered, moved_to, numbered, is_assignment, is_sparing, are_places}
+use Rattle.sc_alloc.proofs.Common.{List, ap, at_first, fold, map, scan_next, sorted_by, subst, sym, ◌∙◌, ◌≡◌, ◌≤◌}
+use Rattle.sc_alloc.proofs.Assignment.{all_ordered, are_places, is_assignment, is_sparing, moved_to, numbered}
+use Rattle.sc_alloc.proofs.ByTemp.{by_temps, place_of, temp_of}
 use Rattle.sc_alloc.proofs.places.assign.Goals as goal
 
 pub scan-requires-clause-ordered : goal.scan-requires-clause-ordered
@@ -51,3 +52,21 @@ returns-clause-sparing c =
     c.as_slice.ensures.list c.in_ok-order.ensures.same c.as_slice-2.ensures.value c.in_ok-given.ensures.each)
     places c.in_ok-given.ensures.fair c.in_ok-given.ensures.known
     (subst (λ (given : List Given). ArePlaced given places) c.as_slice-3.ensures c.in_ok-by_temp.ensures))
+
+pub returns-clause-places : goal.returns-clause-places
+returns-clause-places c =
+    let given = c.in_ok-given.given in
+    let places = c.in_ok-by_temp.field-0 in
+    let placed : ArePlaced given places =
+    subst (λ (given : List Given). ArePlaced given places) c.as_slice-3.ensures c.in_ok-by_temp.ensures in
+    let sorted : c.as_slice-2.result.now ≡ sorted_by (λ (x : Interval). x.first) c.args.intervals.now =
+    c.as_slice-2.ensures.value ∙ c.in_ok-order.ensures.sorted ∙
+    ap (sorted_by (λ (x : Interval). x.first)) c.as_slice.ensures.list in
+    let scanned : given ≡ (fold scan_next at_first (sorted_by (λ (x : Interval). x.first) c.args.intervals.now)).given =
+    c.in_ok-given.ensures.places ∙ ap (λ order. (fold scan_next at_first order).given) sorted in
+    c.new.ensures ∙
+    by_temps c.args.intervals.now given c.as_slice.ensures.rules
+    (moved_to c.args.intervals.now c.as_slice.result.now c.in_ok-order.order.items c.as_slice-2.result.now given
+    c.as_slice.ensures.list c.in_ok-order.ensures.same c.as_slice-2.ensures.value c.in_ok-given.ensures.each)
+    places placed ∙
+    ap (λ given. map place_of (sorted_by temp_of given)) scanned

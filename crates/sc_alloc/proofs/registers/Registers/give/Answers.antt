@@ -3,12 +3,12 @@ use Rattle.std.proofs.lemmas.List.Quantifiers.{position-Some}
 use Rattle.sc_alloc.proofs.FreeRegisters.{all_held, found_over, register_given}
 use Rattle.sc_alloc.proofs.registers.Registers.give.Goals as goal
 
-pub returns-in-None : goal.returns-in-None
-returns-in-None c given regs =
+pub returns-in-None-clause-rules : goal.returns-in-None-clause-rules
+returns-in-None-clause-rules c given regs =
     (regs, λ no. all_held given c.args.self.now.lasts c.args.interval.now.first regs (sym c.in-None.ensures))
 
-pub returns-in-Some : goal.returns-in-Some
-returns-in-Some c given regs =
+pub returns-in-Some-clause-rules : goal.returns-in-Some-clause-rules
+returns-in-Some-clause-rules c given regs =
     let lasts = c.args.self.now.lasts in
     let at = c.args.interval.now.first in
     let r = c.in-Some.register in

@@ -10,7 +10,7 @@ returns-in-Some-clause-chosen c =
     let x = c.args.interval.now in
     let r = c.in-Some.register in
     let slots = c.args.self.now.slots in
-    let got = c.in-Some.ensures given c.requires.rules.registers in
+    let got = c.in-Some.ensures.rules given c.requires.rules.registers in
     record {
       fair = register_fair given x r got.1 got.2;
       registers = got.0;
@@ -22,8 +22,8 @@ returns-in_ok-give-in-None-clause-chosen c =
     let given = c.args.self.now.given in
     let x = c.args.interval.now in
     let k = c.in_ok-give-in-None.field-0 in
-    let left = c.in-None.ensures given c.requires.rules.registers in
-    let got = c.in_ok-give-in-None.ensures given c.requires.rules.slots in
+    let left = c.in-None.ensures.rules given c.requires.rules.registers in
+    let got = c.in_ok-give-in-None.ensures.rules given c.requires.rules.slots in
     record {
       fair = slot_fair given x k got.1 left.1;
       registers = registers_kept given x c.give.new.self.lasts k left.0;

@@ -1,10 +1,20 @@
 use Rattle.sc_alloc.proofs.Common.{heap_items}
 use Rattle.sc_alloc.proofs.FreeSlots.{slot_given}
+use Rattle.sc_alloc.proofs.SoonestSlot.{come_back}
 use Rattle.sc_alloc.proofs.slots.Slots.give.Goals as goal
 
-pub returns : goal.returns
-returns c given slots =
-    let out = c.in_ok-slot.ensures given slots in (
+pub returns-clause-slot : goal.returns-clause-slot
+returns-clause-slot c slots has =
+    let out = c.in_ok-slot.ensures.slot slots has in (
+      out.0,
+      come_back slots (heap_items c.take.new.self.ends) (heap_items c.push.new.self) c.take.new.self.count
+          c.args.interval.now.last c.in_ok-slot.slot out.1 c.in_ok-push.ensures.permutation
+          (c.in_ok-push.ensures.heap_order out.1.ordered),
+    )
+
+pub returns-clause-rules : goal.returns-clause-rules
+returns-clause-rules c given slots =
+    let out = c.in_ok-slot.ensures.rules given slots in (
       slot_given given c.args.interval.now (heap_items c.take.new.self.ends) (heap_items c.push.new.self)
           c.take.new.self.count c.in_ok-slot.slot out c.requires c.in_ok-push.ensures.permutation,
       out.free,

@@ -1,0 +1,10 @@
+//! Texts of programs and their three-address code, for the crates that are tests alone.
+#![tactic(auto)]
+
+mod code;
+mod long;
+mod programs;
+
+pub use code::lowered;
+pub use long::{append, repeated};
+pub use programs::{LEFT_OUT, LOOPS, MEMBERS, PROGRAMS, STORE};
