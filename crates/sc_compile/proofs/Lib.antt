@@ -1,1 +1,3 @@
+pub mod Allowed
+pub mod NoTests
 pub mod Results

@@ -1,0 +1,2 @@
+-- The code of a section.
+use Rattle.std.proofs.Common.{ℕ}
