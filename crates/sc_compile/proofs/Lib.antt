@@ -1,3 +1,5 @@
 pub mod Allowed
+pub mod Codes
+pub mod Lists
 pub mod NoTests
 pub mod Results

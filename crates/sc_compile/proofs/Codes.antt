@@ -1,0 +1,76 @@
+-- The codes of a program's functions, section by section.
+use Rattle.std.proofs.Common.{◌≡◌, ℕ, zero, suc, List, [], ◌∷◌, ◌++◌, length, map, take, drop, refl, sym, ◌∙◌}
+use Rattle.std.proofs.Common.{ap, arith, Some}
+use Rattle.std.specs.Prelude.{flat_map, slice_get}
+use Rattle.std.specs.Option.{option_map}
+use Rattle.std.proofs.lemmas.List.{length-append, length-map}
+use Rattle.std.proofs.lemmas.Option.{slice_get-map}
+use Rattle.sc_event.specs.declared.interface.Interfaces.{Interfaces}
+use Rattle.sc_core.specs.declared.program.ProgramTree.{ProgramTree}
+use Rattle.sc_core.specs.declared.section.TypedSection.{TypedSection}
+use Rattle.sc_core.specs.Prelude.{total}
+use Rattle.sc_tac.specs.declared.function.TacFnTree.{TacFnTree}
+use Rattle.sc_tac.specs.declared.machine_code.CodeTree.{CodeTree}
+use Rattle.sc_tac.specs.declared.program.TacSection.{TacSection}
+use Rattle.sc_lower.specs.Programs.{lowered_function, lowered_program, lowered_section, lowered_sections}
+use Rattle.sc_linker.specs.Layout.{codes_at, codes_in}
+use Rattle.sc_simulation.specs.Linked.{functions_in, functions_or_none}
+use Rattle.sc_compile.specs.Image.{all_codes, function_code}
+use Rattle.sc_compile.proofs.Lists.{drop_front, take_front}
+
+abbrev section_codes : TacSection → List CodeTree
+section_codes section = map function_code section.functions
+
+module _ (interfaces : Interfaces) where
+  count_is : (k : ℕ) (section : TypedSection) →
+      length (section_codes (lowered_section interfaces k section)) ≡ length section.functions
+  count_is k section =
+      length-map (lowered_section interfaces k section).functions function_code
+      ∙ length-map section.functions (lowered_function interfaces k section.structs)
+
+  codes_along : (k comp : ℕ) (sections : List TypedSection) →
+      codes_in comp sections (flat_map section_codes (lowered_sections interfaces k sections)) ≡
+      map function_code (functions_or_none (slice_get (lowered_sections interfaces k sections) comp))
+  codes_along k zero [] = refl
+  codes_along k (suc comp) [] = refl
+  codes_along k zero (section ∷ sections) =
+      let here : List CodeTree = section_codes (lowered_section interfaces k section) in
+      let rest : List CodeTree = flat_map section_codes (lowered_sections interfaces (suc k) sections) in
+      ap (λ n. take n (here ++ rest)) (sym (count_is k section)) ∙ take_front here rest
+  codes_along k (suc comp) (section ∷ sections) =
+      let here : List CodeTree = section_codes (lowered_section interfaces k section) in
+      let rest : List CodeTree = flat_map section_codes (lowered_sections interfaces (suc k) sections) in
+      ap (codes_in comp sections) (ap (λ n. drop n (here ++ rest)) (sym (count_is k section)) ∙ drop_front here rest)
+      ∙ codes_along (suc k) comp sections
+
+  counted : (k : ℕ) (sections : List TypedSection) →
+      length (flat_map section_codes (lowered_sections interfaces k sections)) ≡
+      total (map {A = TypedSection} (λ section. length section.functions) sections)
+  counted k [] = refl
+  counted k (section ∷ sections) =
+      omega (
+        arith,
+        length-append (section_codes (lowered_section interfaces k section))
+            (flat_map section_codes (lowered_sections interfaces (suc k) sections)),
+        count_is k section,
+        counted (suc k) sections,
+      )
+
+module _ (program : ProgramTree) where
+  -- those of a compartment are of its functions, in order
+  pub codes_are : (comp : ℕ) → codes_at program (all_codes (lowered_program program)) comp ≡
+      map function_code (functions_in (lowered_program program) comp)
+  codes_are comp = codes_along program.interfaces 0 comp program.sections
+
+  -- a code for each function
+  pub one_for_each : length (all_codes (lowered_program program)) ≡
+      total (map {A = TypedSection} (λ section. length section.functions) program.sections)
+  one_for_each = counted program.interfaces 0 program.sections
+
+  pub code_there : (comp number : ℕ) (f : TacFnTree) →
+      slice_get (functions_in (lowered_program program) comp) number ≡ Some f →
+      slice_get (codes_at program (all_codes (lowered_program program)) comp) number ≡ Some (function_code f)
+  code_there comp number f is =
+      ap (λ codes. slice_get codes number) (codes_are comp)
+      ∙ slice_get-map function_code (functions_in (lowered_program program) comp) number
+      ∙ ap (option_map function_code) is
