@@ -1,7 +1,7 @@
--- A program's interfaces allow what its image shows: which traces are legal doesn't look at the types of scalars, nor at
--- the order of imports.
-use Rattle.std.proofs.Common.{◌≡◌, ℕ, suc, Bool, true, false, ◌&&◌, ◌||◌, ◌==◌, if◌then◌else◌, List, [], ◌∷◌, ◌++◌}
-use Rattle.std.proofs.Common.{length, map, flat_map, replicate, slice_get, All, Option, None, Some, is_some, option_map}
+-- A program's interfaces allow what its image shows: which traces are legal doesn't look at the types of scalars, nor
+-- at the order of imports.
+use Rattle.std.proofs.Common.{◌≡◌, ℕ, Bool, true, false, ◌&&◌, ◌||◌, ◌==◌, if◌then◌else◌, List, [], ◌∷◌, ◌++◌}
+use Rattle.std.proofs.Common.{length, map, flat_map, slice_get, All, Option, None, Some, is_some, option_map}
 use Rattle.std.proofs.Common.{option_and_then, refl, sym, ap, ap₂, ◌∙◌}
 use Rattle.std.proofs.lemmas.List.{length-replicate}
 use Rattle.std.proofs.lemmas.Option.{slice_get-map}
@@ -22,8 +22,6 @@ use Rattle.sc_event.specs.declared.interface.Scalar.TheVariants.{Int}
 use Rattle.sc_event.specs.declared.row.Entry.{Entry}
 use Rattle.sc_event.specs.declared.row.Entry.TheVariants.{Export, Main}
 use Rattle.sc_core.specs.declared.program.ProgramTree.{ProgramTree}
-use Rattle.sc_image.specs.declared.parts.CompPart.{CompPart}
-use Rattle.sc_image.specs.declared.parts.ExportPart.{ExportPart}
 use Rattle.sc_image.specs.declared.parts.ImportPart.{ImportPart}
 use Rattle.sc_image.specs.Interfaces.{import_of, interface_of, interfaces_of, proto_of}
 use Rattle.sc_image.specs.Machine.{machine}

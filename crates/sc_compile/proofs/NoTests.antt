@@ -1,17 +1,17 @@
--- The code of a section consists of instructions, none of them EBREAK, and no more of them branch than its functions do.
-use Rattle.std.proofs.Common.{◌≡◌, ℕ, ℤ, suc, pos, ◌-ℤ◌, ◌+◌, ◌*◌, ◌≤◌, Bool, true, false, not, ◌&&◌, cond, List, [], ◌∷◌, ◌++◌}
-use Rattle.std.proofs.Common.{length, map, slice_get, All, Option, None, Some, refl, sym, subst, ap, ◌∙◌, arith}
+-- The code of a section consists of instructions, none of them EBREAK, and has no more branches than its functions.
+use Rattle.std.proofs.Common.{◌≡◌, ℕ, ℤ, suc, pos, ◌-ℤ◌, ◌+◌, ◌*◌, ◌≤◌, Bool, true, false, not, cond, List, []}
+use Rattle.std.proofs.Common.{◌∷◌, ◌++◌, length, map, slice_get, All, Option, None, Some, refl, sym, subst, ap, ◌∙◌}
+use Rattle.std.proofs.Common.{arith}
 use Rattle.std.proofs.lemmas.List.Elements.{All-head, All-map, All-tail, All-weaker, All-nil, All-cons}
 use Rattle.std.proofs.lemmas.List.Sums.{sum_by-append, sum_by-cons}
 use Rattle.std.specs.List.{count_by, list_all}
 use Rattle.std.specs.Option.{option_map, option_map_or}
 use Rattle.rv_code.proofs.OneEach.{decoded-word_of}
 use Rattle.rv_code.specs.declared.instr.Instr.{Instr}
-use Rattle.rv_code.specs.declared.instr.Instr.TheVariants.{Branch, Ebreak, Ecall, Fence, Jal, Jalr, Load, Op, OpImm}
-use Rattle.rv_code.specs.declared.instr.Instr.TheVariants.{Shift, Store, Upper}
+use Rattle.rv_code.specs.declared.instr.Instr.TheVariants.{Jal, Jalr, OpImm, Upper}
 use Rattle.rv_code.specs.declared.instr.OpImmOp.{OpImmOp}
 use Rattle.rv_code.specs.declared.instr.UpperOp.{UpperOp}
-use Rattle.rv_code.specs.Prelude.{IsInstr, decoded, word_of}
+use Rattle.rv_code.specs.Prelude.{IsInstr, word_of}
 use Rattle.sc_base.proofs.Bools.{and_first, and_rest}
 use Rattle.sc_event.specs.declared.interface.Interfaces.{Interfaces}
 use Rattle.sc_event.specs.declared.interface.Proto.{Proto}
@@ -37,9 +37,8 @@ use Rattle.sc_lower.specs.Branches.{branches, ifs, ifs_step}
 use Rattle.sc_lower.specs.Programs.{body_code, lowered_function, lowered_program, lowered_section}
 use Rattle.sc_lower.proofs.Branches.{keeps_branches}
 use Rattle.sc_lower.proofs.Entries.{first_at}
-use Rattle.sc_emit.specs.Emission.{IsEmitted}
 use Rattle.sc_emit.specs.Shapes.{is_branch, is_ebreak}
-use Rattle.sc_linker.specs.Image.{comp_code, entry_jump, entry_jumps, linked_codes, linked_image}
+use Rattle.sc_linker.specs.Image.{comp_code, entry_jump, entry_jumps, linked_codes}
 use Rattle.sc_linker.specs.Layout.{addresses_at, codes_at, entry_address, exports_at, section_at}
 use Rattle.sc_linker.specs.Linkable.{IsLinkable}
 use Rattle.sc_linker.proofs.Comps.{Fits, of_section, part_is}
@@ -63,14 +62,14 @@ counted_append test xs ys = sum_by-append (λ y. cond (test y) 1 0) xs ys
 from_zero : (n : ℕ) → 0 + n ≡ n
 from_zero n = omega arith
 
-sum : (a b c d e : ℕ) → a ≡ b + c → c ≡ d → e ≡ b + d → a ≡ e
-sum a b c d e first same whole = omega (arith, first, same, whole)
+summed : (a b c d e : ℕ) → a ≡ b + c → c ≡ d → e ≡ b + d → a ≡ e
+summed a b c d e first same whole = omega (arith, first, same, whole)
 
 -- one more, which is counted as another is
 one_more : {X Y : Type 0} (test : X → Bool) (other : Y → Bool) (x : X) (y : Y) (xs : List X) (ys : List Y) →
     test x ≡ other y → count_by test xs ≡ count_by other ys → count_by test (x ∷ xs) ≡ count_by other (y ∷ ys)
 one_more test other x y xs ys same rest =
-    sum (count_by test (x ∷ xs)) (cond (test x) 1 0) (count_by test xs) (count_by other ys) (count_by other (y ∷ ys))
+    summed (count_by test (x ∷ xs)) (cond (test x) 1 0) (count_by test xs) (count_by other ys) (count_by other (y ∷ ys))
     (counted test x xs) rest (counted other y ys ∙ ap (λ b. cond b 1 0 + count_by other ys) (sym same))
 
 passed_over : {X : Type 0} (test : X → Bool) (x : X) (xs : List X) → test x ≡ false → count_by test xs ≡ 0 →
@@ -78,7 +77,7 @@ passed_over : {X : Type 0} (test : X → Bool) (x : X) (xs : List X) → test x 
 passed_over test x xs fails rest =
     counted test x xs ∙ ap (λ b. cond b 1 0 + count_by test xs) fails ∙ from_zero (count_by test xs) ∙ rest
 
--- what isn't counted first
+-- where nothing is counted, neither the first is nor what is behind it
 first_fails : {X : Type 0} (test : X → Bool) (x : X) (xs : List X) → count_by test (x ∷ xs) ≡ 0 → test x ≡ false
 first_fails test x xs none = by (test x) (count_by test xs) (sym (counted test x xs) ∙ none) where
   by : (b : Bool) (n : ℕ) → cond b 1 0 + n ≡ 0 → b ≡ false
@@ -120,8 +119,8 @@ none_passes test (instr ∷ instrs) all none =
     (none_passes test instrs (All-tail IsInstr instr instrs all) (later_fail test instr instrs none))
 
 -- LINKED CODE
--- the instructions that the linker changes
-pub record AreSkipped (test : Instr → Bool) : Type 0 where
+-- a test fails for the instructions that the linker changes
+record AreSkipped (test : Instr → Bool) : Type 0 where
   pub jal : (rd : ℕ) (imm : ℤ) → test (Jal rd imm) ≡ false
   pub jalr : (rd rs1 : ℕ) (imm : ℤ) → test (Jalr rd rs1 imm) ≡ false
   pub upper : (op : UpperOp) (rd imm : ℕ) → test (Upper op rd imm) ≡ false
@@ -169,7 +168,7 @@ module _ (test : Instr → Bool) (skipped : AreSkipped test) where
     codes_counted address (code ∷ codes) =
         let first : List Instr = linked A address code in
         let rest : List Instr = linked_codes A (address + 4 * length code.instrs) codes in
-        sum (count_by test (first ++ rest)) (count_by test first) (count_by test rest) _ _
+        summed (count_by test (first ++ rest)) (count_by test first) (count_by test rest) _ _
         (counted_append test first rest) (codes_counted (address + 4 * length code.instrs) codes)
         (ap (λ n. n + total (map {A = CodeTree} (λ c. count_by test c.instrs) codes))
         (sym (from_counted address 0 None code.instrs code.relocations)))
@@ -213,7 +212,7 @@ ebreak_skipped = record {
 }
 
 -- FUNCTIONS
--- codes have no more than is said of the functions that they are of
+-- codes that have no more than a bound each, which belongs to what they are the code of, have no more together
 totals : {X : Type 0} (code : X → CodeTree) (size : CodeTree → ℕ) (bound : X → ℕ) (xs : List X) →
     ((i : ℕ) (x : X) → slice_get xs i ≡ Some x → size (code x) ≤ bound x) →
     total (map size (map code xs)) ≤ total (map bound xs)
@@ -238,7 +237,7 @@ none_counted (instr ∷ instrs) all =
       by true h = absurd (cc)
       by false h = refl
 
--- `If`s of code, counted in two ways
+-- the `If`s of code are counted alike where they are defined twice
 steps_agree : (layer : TacStmt-F ℕ) → branch_step layer ≡ ifs_step layer
 steps_agree (tac.If cond first second) = refl
 steps_agree (tac.Loop head body next) = by (total head) (total body) (total next) where
