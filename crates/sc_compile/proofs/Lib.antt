@@ -1,7 +1,9 @@
+pub mod Allowed
 pub mod Codes
 pub mod Fitting
 pub mod Linkable
 pub mod Linked
 pub mod Lists
 pub mod Names
+pub mod NoTests
 pub mod Results

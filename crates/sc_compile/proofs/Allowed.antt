@@ -1,0 +1,215 @@
+-- A program's interfaces allow what its image shows: which traces are legal doesn't look at the types of scalars, nor
+-- at the order of imports.
+use Rattle.std.proofs.Common.{◌≡◌, ℕ, Bool, true, false, ◌&&◌, ◌||◌, ◌==◌, if◌then◌else◌, List, [], ◌∷◌, ◌++◌}
+use Rattle.std.proofs.Common.{length, map, flat_map, slice_get, All, Option, None, Some, is_some, option_map}
+use Rattle.std.proofs.Common.{option_and_then, refl, sym, ap, ap₂, ◌∙◌}
+use Rattle.std.proofs.lemmas.List.{length-replicate}
+use Rattle.std.proofs.lemmas.Option.{slice_get-map}
+use Rattle.std.specs.List.{list_any}
+use Rattle.std.specs.Option.{option_map_or}
+use Rattle.sc_event.specs.Prelude.{at_start, awaits, comp_at, export_at, fits_result, imports, is_function, is_input}
+use Rattle.sc_event.specs.Prelude.{is_legal_from, is_output, legal, may_perform, may_return, performer, stands_after}
+use Rattle.sc_event.specs.Prelude.{Standing, takes}
+use Rattle.sc_event.specs.declared.event.Event.{Event}
+use Rattle.sc_event.specs.declared.event.Event.TheVariants.{Call, Ret, Out, In, End}
+use Rattle.sc_event.specs.declared.interface.Import.{Import}
+use Rattle.sc_event.specs.declared.interface.Import.TheVariants.{Input, Output, Function}
+use Rattle.sc_event.specs.declared.interface.Interface.{Interface}
+use Rattle.sc_event.specs.declared.interface.Interfaces.{Interfaces}
+use Rattle.sc_event.specs.declared.interface.Proto.{Proto}
+use Rattle.sc_event.specs.declared.interface.Scalar.{Scalar}
+use Rattle.sc_event.specs.declared.interface.Scalar.TheVariants.{Int}
+use Rattle.sc_event.specs.declared.row.Entry.{Entry}
+use Rattle.sc_event.specs.declared.row.Entry.TheVariants.{Export, Main}
+use Rattle.sc_core.specs.declared.program.ProgramTree.{ProgramTree}
+use Rattle.sc_image.specs.declared.parts.ImportPart.{ImportPart}
+use Rattle.sc_image.specs.Interfaces.{import_of, interface_of, interfaces_of, proto_of}
+use Rattle.sc_image.specs.Machine.{machine}
+use Rattle.sc_image.specs.WellFormed.{IsWellFormed, IsWord}
+use Rattle.sc_image.proofs.Traces.{all_traces_legal}
+use Rattle.sc_tac.specs.declared.machine_code.CodeTree.{CodeTree}
+use Rattle.sc_linker.specs.Image.{comp_part, import_part, linked_image}
+use Rattle.sc_linker.proofs.Comps.{part_at}
+use Rattle.sc_linker.proofs.Exports.{export_part, part_first}
+
+-- IMPORTS
+-- as an image says them: input, output, and then functions
+abbrev shown_imports : (input output : Bool) → List ImportPart → List Import
+shown_imports input output parts =
+    (if input then Input ∷ [] else []) ++ ((if output then Output ∷ [] else []) ++ map import_of parts)
+
+no_input : (parts : List ImportPart) → list_any is_input (map import_of parts) ≡ false
+no_input [] = refl
+no_input (part ∷ parts) = no_input parts
+
+no_output : (parts : List ImportPart) → list_any is_output (map import_of parts) ≡ false
+no_output [] = refl
+no_output (part ∷ parts) = no_output parts
+
+input_shown : (input output : Bool) (parts : List ImportPart) →
+    list_any is_input (shown_imports input output parts) ≡ input
+input_shown true output parts = refl
+input_shown false true parts = no_input parts
+input_shown false false parts = no_input parts
+
+output_shown : (input output : Bool) (parts : List ImportPart) →
+    list_any is_output (shown_imports input output parts) ≡ output
+output_shown true true parts = refl
+output_shown false true parts = refl
+output_shown true false parts = no_output parts
+output_shown false false parts = no_output parts
+
+functions_shown : (to index : ℕ) (each : List Import) →
+    list_any (is_function to index) (map import_of (flat_map import_part each)) ≡ list_any (is_function to index) each
+functions_shown to index [] = refl
+functions_shown to index (Input ∷ each) = functions_shown to index each
+functions_shown to index (Output ∷ each) = functions_shown to index each
+functions_shown to index (Function comp place ∷ each) =
+    ap (λ b. (comp == to && place == index) || b) (functions_shown to index each)
+
+function_shown : (to index : ℕ) (input output : Bool) (each : List Import) →
+    list_any (is_function to index) (shown_imports input output (flat_map import_part each))
+    ≡ list_any (is_function to index) each
+function_shown to index true true each = functions_shown to index each
+function_shown to index true false each = functions_shown to index each
+function_shown to index false true each = functions_shown to index each
+function_shown to index false false each = functions_shown to index each
+
+-- EXPORTS
+fits_by : (result : Option Scalar) (value : Option ℕ) →
+    fits_result (if is_some result then Some Int else None) value ≡ fits_result result value
+fits_by None None = refl
+fits_by None (Some word) = refl
+fits_by (Some type) None = refl
+fits_by (Some type) (Some word) = refl
+
+module _ (program : ProgramTree) (codes : List CodeTree) where
+  abbrev shown : Interfaces
+  shown = interfaces_of (linked_image program codes)
+
+  abbrev wanted : Interfaces
+  wanted = program.interfaces
+
+  abbrev face : (comp : ℕ) → Interface → Interface
+  face comp interface = interface_of (comp_part program codes comp interface)
+
+  face_by : (comp : ℕ) (found : Option Interface) →
+      option_map interface_of (option_map (comp_part program codes comp) found) ≡ option_map (face comp) found
+  face_by comp None = refl
+  face_by comp (Some interface) = refl
+
+  same_comp : (comp : ℕ) → comp_at shown comp ≡ option_map (face comp) (comp_at wanted comp)
+  same_comp comp =
+      slice_get-map interface_of (linked_image program codes).comps comp
+      ∙ ap (option_map interface_of) (part_at program codes comp) ∙ face_by comp (comp_at wanted comp)
+
+  abbrev any_import : (Import → Bool) → Option Interface → Bool
+  any_import is_it found = list_any is_it (option_map_or (λ (i : Interface). i.imports) found [])
+
+  same_input : (comp : ℕ) → imports shown comp is_input ≡ imports wanted comp is_input
+  same_input comp = ap (any_import is_input) (same_comp comp) ∙ by (comp_at wanted comp) refl where
+    by : (o : Option Interface) → comp_at wanted comp ≡ o →
+        any_import is_input (option_map (face comp) o) ≡ imports wanted comp is_input
+    by None at = sym (ap (any_import is_input) at)
+    by (Some interface) at =
+        input_shown (imports wanted comp is_input) (imports wanted comp is_output) (flat_map import_part
+        interface.imports)
+
+  same_output : (comp : ℕ) → imports shown comp is_output ≡ imports wanted comp is_output
+  same_output comp = ap (any_import is_output) (same_comp comp) ∙ by (comp_at wanted comp) refl where
+    by : (o : Option Interface) → comp_at wanted comp ≡ o →
+        any_import is_output (option_map (face comp) o) ≡ imports wanted comp is_output
+    by None at = sym (ap (any_import is_output) at)
+    by (Some interface) at =
+        output_shown (imports wanted comp is_input) (imports wanted comp is_output) (flat_map import_part
+        interface.imports)
+
+  same_function : (comp to index : ℕ) →
+      imports shown comp (is_function to index) ≡ imports wanted comp (is_function to index)
+  same_function comp to index =
+      ap (any_import (is_function to index)) (same_comp comp) ∙ by (comp_at wanted comp) where
+        by : (o : Option Interface) →
+            any_import (is_function to index) (option_map (face comp) o) ≡ any_import (is_function to index) o
+        by None = refl
+        by (Some interface) =
+            function_shown to index (imports wanted comp is_input) (imports wanted comp is_output) interface.imports
+
+  -- exports
+
+  abbrev export_in : ℕ → Option Interface → Option Proto
+  export_in index found = option_and_then (λ (i : Interface). slice_get i.exports index) found
+
+  part_by : (comp index : ℕ) (found : Option Proto) →
+      option_map proto_of (option_map (export_part comp index) found)
+      ≡ option_map (λ proto. proto_of (export_part comp index proto)) found
+  part_by comp index None = refl
+  part_by comp index (Some proto) = refl
+
+  export_by : (comp index : ℕ) (found : Option Interface) →
+      export_in index (option_map (face comp) found)
+      ≡ option_map (λ proto. proto_of (export_part comp index proto)) (export_in index found)
+  export_by comp index None = refl
+  export_by comp index (Some interface) =
+      slice_get-map proto_of (comp_part program codes comp interface).exports index
+      ∙ ap (option_map proto_of) (part_first comp interface.exports index)
+      ∙ part_by comp index (slice_get interface.exports index)
+
+  same_export : (comp index : ℕ) → export_at shown comp index
+      ≡ option_map (λ proto. proto_of (export_part comp index proto)) (export_at wanted comp index)
+  same_export comp index = ap (export_in index) (same_comp comp) ∙ export_by comp index (comp_at wanted comp)
+
+  abbrev takes_so_many : ℕ → Option Proto → Bool
+  takes_so_many count found = option_map_or (λ (p : Proto). length p.params == count) found false
+
+  takes_by : (comp index count : ℕ) (found : Option Proto) →
+      takes_so_many count (option_map (λ proto. proto_of (export_part comp index proto)) found)
+      ≡ takes_so_many count found
+  takes_by comp index count None = refl
+  takes_by comp index count (Some proto) = ap (λ (n : ℕ). n == count) (length-replicate (length proto.params) Int)
+
+  same_takes : (comp index count : ℕ) → takes shown comp index count ≡ takes wanted comp index count
+  same_takes comp index count =
+      ap (takes_so_many count) (same_export comp index) ∙ takes_by comp index count (export_at wanted comp index)
+
+  abbrev gives_back : Option ℕ → Option Proto → Bool
+  gives_back value found = option_map_or (λ (p : Proto). fits_result p.result value) found false
+
+  result_by : (comp index : ℕ) (value : Option ℕ) (found : Option Proto) →
+      gives_back value (option_map (λ proto. proto_of (export_part comp index proto)) found) ≡ gives_back value found
+  result_by comp index value None = refl
+  result_by comp index value (Some proto) = fits_by proto.result value
+
+  same_return : (comp : ℕ) (entry : Entry) (value : Option ℕ) →
+      may_return shown comp entry value ≡ may_return wanted comp entry value
+  same_return comp Main value = refl
+  same_return comp (Export index) value =
+      ap (gives_back value) (same_export comp index) ∙ result_by comp index value (export_at wanted comp index)
+
+  -- events
+
+  same_event : (at : Standing) (event : Event) → may_perform shown at event ≡ may_perform wanted at event
+  same_event at (Call from to index args) =
+      ap₂ (λ x y. x && y) (same_function from to index) (same_takes to index (length args))
+  same_event at (Ret from to value) = ap (λ x. awaits at.waiting to && x) (same_return from at.active.entry value)
+  same_event at (Out comp value) = same_output comp
+  same_event at (In comp value) = same_input comp
+  same_event at (End comp value) = refl
+
+  same_from : (at : Option Standing) (trace : List Event) →
+      is_legal_from shown at trace ≡ is_legal_from wanted at trace
+  same_from at [] = refl
+  same_from None (event ∷ later) = refl
+  same_from (Some at) (event ∷ later) =
+      ap₂ (λ x y. (performer event == at.active.comp && x) && y) (same_event at event)
+      (same_from (stands_after at event) later)
+
+  -- a linked image's interfaces allow the traces that its program's allow
+  pub same_legal : (trace : List Event) → legal shown trace ≡ legal wanted trace
+  same_legal trace = same_from (at_start wanted.main) trace
+
+pub allowed : (program : ProgramTree) (codes : List CodeTree) → IsWellFormed (linked_image program codes) →
+    (inputs : List ℕ) (steps events : ℕ) → All IsWord inputs →
+    legal program.interfaces (machine (linked_image program codes) inputs steps events).state.trace ≡ true
+allowed program codes formed inputs steps events words =
+    sym (same_legal program codes (machine (linked_image program codes) inputs steps events).state.trace)
+    ∙ all_traces_legal (linked_image program codes) inputs steps events formed words
