@@ -8,11 +8,11 @@ use Rattle.sc_compile.specs.declared.fault.CompileFault.{CompileFault}
 use Rattle.sc_compile.specs.Sizes.{above, code_bytes, data_bytes, first, found_in, large_code, large_data, large_frames}
 use Rattle.sc_compile.specs.Sizes.{most_code, most_data, too_large}
 
-front_none : (xs ys : List CompileFault) → xs ++ ys ≡ [] → xs ≡ []
+pub front_none : (xs ys : List CompileFault) → xs ++ ys ≡ [] → xs ≡ []
 front_none [] ys none = refl
 front_none (x ∷ xs) ys none = absurd (cc)
 
-rest_none : (xs ys : List CompileFault) → xs ++ ys ≡ [] → ys ≡ []
+pub rest_none : (xs ys : List CompileFault) → xs ++ ys ≡ [] → ys ≡ []
 rest_none [] ys none = none
 rest_none (x ∷ xs) ys none = absurd (cc)
 
@@ -33,7 +33,7 @@ found_none find k number (s ∷ sections) (suc n) section e none is =
     found_none find (suc k) number sections n section (omega (arith, e))
     (rest_none (find k s) (found_in find (suc k) sections) none) is
 
-within : (limit size : ℕ) (fault : CompileFault) → above limit size fault ≡ [] → size ≤ limit
+pub within : (limit size : ℕ) (fault : CompileFault) → above limit size fault ≡ [] → size ≤ limit
 within limit size fault none = by (nat_lt limit size) refl none where
   by : (b : Bool) → nat_lt limit size ≡ b → (if b then fault ∷ [] else []) ≡ [] → size ≤ limit
   by true is none = absurd (cc)

@@ -1,5 +1,6 @@
 pub mod Allowed
 pub mod Codes
+pub mod Counted
 pub mod Fitting
 pub mod Linkable
 pub mod Linked

@@ -36,7 +36,7 @@ use Rattle.sc_simulation.specs.Linked.{functions_in, functions_or_none}
 use Rattle.sc_simulation.proofs.Placing.{implied_everywhere}
 use Rattle.sc_simulation.proofs.Sections.{InSection, in_functions, its_section}
 use Rattle.sc_compile.specs.Image.{all_codes, function_code}
-use Rattle.sc_compile.specs.Passes.{AreEmitted}
+use Rattle.sc_compile.specs.Passes.{EachEmits}
 use Rattle.sc_compile.specs.Sizes.{too_large}
 use Rattle.sc_compile.proofs.Codes.{codes_are, one_for_each}
 use Rattle.sc_compile.proofs.Fitting.{code_fits, data_fits}
@@ -104,7 +104,7 @@ module _ (program : TacTree) (comp : ℕ) (section : TacSection) where
   names_all stmts all = implied_everywhere rules_of (names_only function entry global) names_here stmts all
 
 module _ (program : ProgramTree) (typed : IsWellTyped program) (fits : too_large program ≡ None)
-    (emitted : AreEmitted program)
+    (emitted : EachEmits program)
   where
     abbrev code : TacTree
     code = lowered_program program
@@ -127,7 +127,7 @@ module _ (program : ProgramTree) (typed : IsWellTyped program) (fits : too_large
         length (function_code (lowered_function program.interfaces comp section.structs f)).instrs < 24 * nodes f
     its_code_is_short comp section is n f its =
         let lower : TypedFunction → TacFnTree = lowered_function program.interfaces comp section.structs in
-        (emitted.functions comp n (lower f)
+        (emitted comp n (lower f)
         (ap (λ fs. slice_get fs n) (functions_are comp section is) ∙ slice_get-map lower section.functions n
         ∙ ap (option_map lower) its)).short
 
@@ -195,7 +195,7 @@ module _ (program : ProgramTree) (typed : IsWellTyped program) (fits : too_large
         Refers comp (length at.section.functions) (length at.section.globals) (function_code f)
     refers comp number f at its =
         let rules : IsProgram code = keeps_rules.programs program typed in
-        (emitted.functions comp number f its).names (function code comp at.section) (entry code comp at.section)
+        (emitted comp number f its).names (function code comp at.section) (entry code comp at.section)
         (global code comp at.section)
         (names_all code comp at.section f.body (
           in_functions code (names_own_global program.interfaces) comp number f at rules.globals,
@@ -227,6 +227,6 @@ module _ (program : ProgramTree) (typed : IsWellTyped program) (fits : too_large
           (λ number one is. inside_at comp number one is);
     }
 
-pub is_linkable : (program : ProgramTree) → IsWellTyped program → too_large program ≡ None → AreEmitted program →
+pub is_linkable : (program : ProgramTree) → IsWellTyped program → too_large program ≡ None → EachEmits program →
     IsLinkable program (all_codes (lowered_program program))
 is_linkable program typed fits emitted = linkable program typed fits emitted

@@ -234,4 +234,4 @@ pub is_linked : (program : ProgramTree) → IsWellTyped program → AreNamed pro
     IsLinked (lowered_program program) (built_image program) (24 * program_nodes program)
     (addresses_at program (all_codes (lowered_program program)))
 is_linked program typed named given fits emitted =
-    linked program typed emitted (is_linkable program typed fits emitted) given named
+    linked program typed emitted (is_linkable program typed fits emitted.functions) given named

@@ -29,9 +29,12 @@ EmitsSo f = IsEmitted f (frame_of f.objects (assigned (intervals_of f))) (functi
 abbrev pub EmitsAll : TacSection → Type 0
 EmitsAll section = All EmitsSo section.functions
 
--- that of each function of a program does, and consists of instructions that there are
+-- that of each function of a program does
+abbrev pub EachEmits : ProgramTree → Type 0
+EachEmits program = (comp number : ℕ) (f : TacFnTree) →
+    slice_get (functions_in (lowered_program program) comp) number ≡ Some f → EmitsSo f
+
+-- and consists of instructions that there are
 pub record AreEmitted (program : ProgramTree) : Type 0 where
-  pub functions : (comp number : ℕ) (f : TacFnTree) →
-      slice_get (functions_in (lowered_program program) comp) number ≡ Some f →
-      EmitsSo f
+  pub functions : EachEmits program
   pub whole : All IsWhole (all_codes (lowered_program program))

@@ -2,6 +2,7 @@
 #![tactic(auto)]
 
 mod fault;
+mod globals;
 mod passes;
 mod sizes;
 

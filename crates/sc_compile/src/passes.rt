@@ -3,7 +3,6 @@
 ghost use Rattle.std.specs.Prelude.{◌≡◌, ◌≤◌, ◌⊎◌, ◌*◌, ◌++◌, Ok, Err, None, All, IfErr, IfOk, OnOk, flat_map, map};
 ghost use Rattle.sc_core.specs.Prelude.{IsWellTyped, frame_bound};
 ghost use Rattle.sc_emit.specs.Emission.{IsEmitted};
-ghost use Rattle.sc_linker.specs.Laws.{AreGivenWords, AreNamed, IsWhole};
 ghost use Rattle.sc_lower.specs.Programs.{lowered_program};
 ghost use Rattle.sc_tac.specs.declared.program.TacSection.{TacSection};
 ghost use Rattle.sc_compile.specs.Compiled.{IsCompiled};
@@ -12,10 +11,11 @@ ghost use Rattle.sc_compile.specs.Passes.{EmitsAll, EmitsSo, Fits, FitAll};
 ghost use Rattle.sc_compile.specs.Sizes.{too_large};
 
 use crate::fault::CompileFault;
+use crate::globals::are_given_words;
 use crate::sizes::check_sizes;
 use sc_alloc::assign;
 use sc_base::OutOfMemory;
-use sc_core::{Program, ProgramTree};
+use sc_core::Program;
 use sc_emit::emit;
 use sc_frame::lay;
 use sc_image::Image;
@@ -34,7 +34,6 @@ fn function_code(alloc: Global, f: &TacFn) -> Result<Code, OutOfMemory>
     requires { Fits f.now }
     ensures code { IfOk result (λ code. code ≡ function_code f.now) }
     ensures emitted { OnOk result (EmitsSo f.now) }
-    ensures whole { IfOk result IsWhole }
 {
     let intervals = intervals(alloc, f)?;
     let places = assign(alloc, &intervals)?;
@@ -47,7 +46,6 @@ fn add_codes(alloc: Global, codes: &mut Codes, functions: &[TacFn]) -> Result<()
     requires { All Fits functions.now }
     ensures codes { OnOk result (codes.new ≡ codes.old ++ map function_code functions.now) }
     ensures emitted { OnOk result (All EmitsSo functions.now) }
-    ensures whole { All IsWhole codes.old → OnOk result (All IsWhole codes.new) }
 {
     for function in functions {
         codes.push(function_code(alloc, function)?)?;
@@ -60,7 +58,6 @@ fn all_codes(alloc: Global, sections: &[TacSection]) -> Result<Codes, OutOfMemor
     requires { All FitAll sections.now }
     ensures codes { IfOk result (λ codes. codes ≡ flat_map section_codes sections.now) }
     ensures emitted { OnOk result (All EmitsAll sections.now) }
-    ensures whole { IfOk result (All IsWhole) }
 {
     let mut codes = Codes::new(alloc);
     for section in sections {
@@ -69,12 +66,6 @@ fn all_codes(alloc: Global, sections: &[TacSection]) -> Result<Codes, OutOfMemor
     Ok(codes)
 }
 
-// What a program's type keeps: its names are names, and its numbers are words.
-fn told(program: &ProgramTree)
-    ensures named { AreNamed program.now.interfaces }
-    ensures words { AreGivenWords program.now.sections }
-{}
-
 /// The image of a program: lowered to three-address code, with registers by linear scan, frames laid out, instructions
 /// selected and linked.
 pub fn compile(alloc: Global, program: &Program) -> Result<Image, CompileFault>
@@ -82,7 +73,7 @@ pub fn compile(alloc: Global, program: &Program) -> Result<Image, CompileFault>
     ensures fault { IfErr result (λ fault. (image_of program.now ≡ Err fault) ⊎ (fault ≡ CompileFault.OutOfMemory)) }
     ensures compiled { IfOk result (IsCompiled program.now) }
 {
-    told(program.tree());
+    are_given_words(program.tree().sections.as_slice());
     let tac = lower(alloc, program)?;
     let sections = tac.tree().sections.as_slice();
     check_sizes(sections)?;

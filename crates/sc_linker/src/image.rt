@@ -74,7 +74,10 @@ fn main_address(alloc: Global, program: &ProgramTree, codes: &[Code]) -> Result<
 /// The image of a program whose functions have these codes, in the order of sections and functions.
 pub fn link(alloc: Global, codes: &[Code], program: &Program) -> Result<Image, OutOfMemory>
     requires { IsLinkable program.now codes.now }
-    ensures { IfOk result (λ image. image ≡ linked_image program.now codes.now) }
+    ensures image { IfOk result (λ image. image ≡ linked_image program.now codes.now) }
+    // Names are names, and code is made of instructions.
+    ensures named { IfOk result (λ _. AreNamed program.now.interfaces) }
+    ensures whole { IfOk result (λ _. All IsWhole codes.now) }
 {
     let program = program.tree();
     Ok(Image::new(ImageParts {

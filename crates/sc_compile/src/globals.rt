@@ -1,0 +1,28 @@
+//! What the types of a program's globals tell: the numbers that they begin with are words.
+
+ghost use Rattle.std.specs.Prelude.{◌<◌, ◌^◌, All};
+ghost use Rattle.sc_core.specs.declared.section.TypedGlobal.{TypedGlobal};
+ghost use Rattle.sc_linker.specs.Laws.{AreGivenWords};
+
+use sc_core::{TypedGlobal, TypedSection};
+
+fn are_words(words: &[u32])
+    ensures { All (λ word. word < 2 ^ 32) words.now }
+{}
+
+fn begin_as_words(globals: &[TypedGlobal])
+    ensures { All {X = TypedGlobal} (λ g. All (λ word. word < 2 ^ 32) g.init) globals.now }
+{
+    for global in globals {
+        are_words(global.init.as_slice());
+    }
+}
+
+/// Tells proofs that globals are declared with words; it does nothing.
+pub fn are_given_words(sections: &[TypedSection])
+    ensures { AreGivenWords sections.now }
+{
+    for section in sections {
+        begin_as_words(section.globals.as_slice());
+    }
+}
