@@ -1,7 +1,7 @@
 -- Sizes on lowered code are those of the program, no count passes a word of 64 bits, and where nothing is too large each
 -- function fits.
-use Rattle.std.proofs.Common.{◌≡◌, ℕ, zero, suc, ◌+◌, ◌*◌, ◌^◌, ◌<◌, ◌≤◌, Bool, true, false, not, ◌&&◌, List, [], ◌∷◌, ◌++◌}
-use Rattle.std.proofs.Common.{All, IsTrue, length, map, flat_map, refl, sym, ◌∙◌, ap, subst, arith, Option, None, Some, nat_le}
+use Rattle.std.proofs.Common.{◌≡◌, ℕ, zero, suc, ◌+◌, ◌*◌, ◌^◌, ◌<◌, ◌≤◌, Bool, true, false, ◌&&◌, List, [], ◌∷◌, ◌++◌}
+use Rattle.std.proofs.Common.{All, length, map, flat_map, refl, sym, ◌∙◌, ap, subst, arith, Option, None, Some, nat_le}
 use Rattle.std.proofs.Common.{leb-true}
 use Rattle.std.specs.Prelude.{slice_get}
 use Rattle.std.specs.List.{list_all}
@@ -15,24 +15,25 @@ use Rattle.sc_core.specs.declared.section.TypedLocal.{TypedLocal}
 use Rattle.sc_core.specs.declared.section.TypedParam.{TypedParam}
 use Rattle.sc_core.specs.declared.section.TypedSection.{TypedSection}
 use Rattle.sc_core.specs.declared.section.TypedStruct.{TypedStruct}
-use Rattle.sc_core.specs.Prelude.{IsWellTyped, cells_of, code_bound, frame_bound, global_fits, nodes, structs_fit, total}
+use Rattle.sc_core.specs.Prelude.{IsWellTyped, cells_of, frame_bound, global_fits, nodes, structs_fit, total}
 use Rattle.sc_core.specs.Prelude.{variables}
-use Rattle.sc_core.specs.Sizes.{local_nodes, stmt_nodes}
+use Rattle.sc_core.specs.Sizes.{local_nodes}
 use Rattle.sc_core.specs.WellTyped.{callable_in, decl_count, function_fits, local_fits, most_cells, most_nodes, most_params}
 use Rattle.sc_core.specs.WellTyped.{params_fit, passed_fits, result_fits, scope_of, section_fits, variable_fits}
 use Rattle.sc_kinds.proofs.Sections.{all_at}
 use Rattle.sc_tac.specs.declared.function.TacFnTree.{TacFnTree}
 use Rattle.sc_tac.specs.declared.program.TacSection.{TacSection}
+use Rattle.sc_tac.specs.declared.program.TacTree.{TacTree}
 use Rattle.sc_lower.specs.Programs.{lowered_function, lowered_program, lowered_section, lowered_sections}
 use Rattle.sc_lower.proofs.Entries.{first_at}
 use Rattle.sc_linker.proofs.Comps.{Fits as FitsIn, few_so, of_section}
-use Rattle.sc_simulation.specs.Linked.{functions_in, functions_or_none}
+use Rattle.sc_simulation.specs.Linked.{functions_or_none}
 use Rattle.sc_compile.specs.declared.fault.CompileFault.{CompileFault}
 use Rattle.sc_compile.specs.declared.fault.CompileFault.TheVariants.{CodeTooLarge}
 use Rattle.sc_compile.specs.Counting.{IsCounted, cells_in, counted_all, counted_code, counted_data, counted_frame}
-use Rattle.sc_compile.specs.Counting.{counted_frames, counted_in, nodes_in}
+use Rattle.sc_compile.specs.Counting.{counted_frames, counted_in}
 use Rattle.sc_compile.specs.Passes.{EachEmits, EmitsAll, EmitsSo, FitAll, Fits}
-use Rattle.sc_compile.specs.Sizes.{above, code_bytes, first, found_in, large_code, large_data, large_frame, large_frames}
+use Rattle.sc_compile.specs.Sizes.{above, first, found_in, large_code, large_data, large_frame, large_frames}
 use Rattle.sc_compile.specs.Sizes.{most_code, most_frame, too_large}
 use Rattle.sc_compile.proofs.Fitting.{code_fits, frames_fit, front_none, rest_none, within}
 use Rattle.sc_compile.proofs.Results.{mapped}
@@ -266,8 +267,12 @@ module _ (program : ProgramTree) (typed : IsWellTyped program) (comp : ℕ) (sou
     function_fits_so : (f : TypedFunction) (number : ℕ) → slice_get source.functions number ≡ Some f →
         Fits (lowered_function program.interfaces comp source.structs f)
     function_fits_so f number its = record {
-      code = omega (arith, few (nodes f) (map nodes source.functions) number (at number f its), code_fits program small
-          comp source is);
+      code = omega (
+        arith,
+        few (nodes f) (map nodes source.functions) number (at number f its),
+        code_fits program small
+            comp source is,
+      );
       frame = within most_frame (frame_bound (variables source.structs f) (nodes f)) _
           (none_at (large_frame comp source) source.functions number f (frames_fit program small comp source is) its);
     } where
@@ -318,3 +323,10 @@ module _ (program : ProgramTree) (typed : IsWellTyped program) where
     by (Some section) is at =
         of_all EmitsSo section.functions number f
         (of_all EmitsAll (lowered_program program).sections comp section all is) at
+
+-- the sections of the code, by way of what it is read from
+pub sections_are : (program : ProgramTree) (tree tac : TacTree) (sections : List TacSection) →
+    sections ≡ tree.sections → tree ≡ tac → tac ≡ lowered_program program →
+    sections ≡ (lowered_program program).sections
+sections_are program tree tac sections is read lowered =
+    is ∙ ap (λ (t : TacTree). t.sections) read ∙ ap (λ (t : TacTree). t.sections) lowered

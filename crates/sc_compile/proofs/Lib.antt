@@ -1,6 +1,8 @@
 pub mod Allowed
+pub mod Building
 pub mod Codes
 pub mod Counted
+pub mod Emitting
 pub mod Fitting
 pub mod Linkable
 pub mod Linked
@@ -8,3 +10,4 @@ pub mod Lists
 pub mod Names
 pub mod NoTests
 pub mod Results
+pub mod Shown

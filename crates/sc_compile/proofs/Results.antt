@@ -14,7 +14,7 @@ use Rattle.sc_core.specs.declared.ty.Ty.TheVariants as ty
 use Rattle.sc_core.specs.declared.value.Value.{Value}
 use Rattle.sc_core.specs.declared.value.Value.TheVariants.{Null, Ptr, Word}
 use Rattle.sc_core.specs.Calls.{crossing, option_value, run_step, within}
-use Rattle.sc_core.specs.Meaning.{entry_in, library_of, main_name, place_named}
+use Rattle.sc_core.specs.Meaning.{library_of, main_name, place_named}
 use Rattle.sc_core.specs.Prelude.{IsWellTyped, are_distinct, import_name, main_fits, same_results}
 use Rattle.sc_core.specs.Prelude.{same_signature, same_types, signature_of}
 use Rattle.sc_core.specs.Value.{wrapping}
@@ -29,7 +29,7 @@ use Rattle.sc_tac.specs.Code.{function_entered}
 use Rattle.sc_lower.specs.Programs.{lowered_function, lowered_program, lowered_section}
 use Rattle.sc_lower.proofs.Entries.{first_at}
 use Rattle.sc_lower.proofs.Whole.{keeps_meaning}
-use Rattle.sc_linker.proofs.Comps.{Fits, main_so, of_section}
+use Rattle.sc_linker.proofs.Comps.{main_so, of_section}
 use Rattle.sc_simulation.specs.Linked.{functions_in, functions_or_none}
 use Rattle.sc_simulation.specs.Results.{GivesResults, bodies}
 use Rattle.sc_simulation.specs.Simulation.{nobody}
@@ -147,9 +147,14 @@ module _ (program : ProgramTree) (typed : IsWellTyped program) where
       let distinct = own_names_differ names fits.section.functions (both_first _ _ fits.faces) in
       let signature = named_so main_name (λ f. same_signature (signature_of f) main_signature) section.functions
       (subst (λ (s : TypedSection). are_distinct (map {A = TypedFunction} (λ f. f.name) s.functions) ≡ true) same
-      distinct) any number found.item found.is found.passes in
-      (found.item, (found.is, int_only found.item.result
-      (both_rest (same_types (signature_of found.item).params []) _ signature)))
+      distinct) any number found.item found.is found.passes in (
+        found.item,
+        (
+          found.is,
+          int_only found.item.result
+              (both_rest (same_types (signature_of found.item).params []) _ signature),
+        ),
+      )
 
   ends : (open_calls number : ℕ) (here : Here) (s t : State) (v : Option Value) →
       here.comp ≡ program.interfaces.main →

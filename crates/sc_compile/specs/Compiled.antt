@@ -1,5 +1,5 @@
 -- What an image does, and what its program means.
-use Rattle.std.specs.Prelude.{◌≡◌, ℕ, suc, ◌+◌, ◌*◌, ◌<◌, ◌≤◌, ◌⊎◌, Bool, true, false, List, map, length, All, Option, None, Some}
+use Rattle.std.specs.Prelude.{◌≡◌, ℕ, suc, ◌*◌, ◌<◌, ◌≤◌, ◌⊎◌, Bool, true, false, List, map, All, Option, None, Some}
 use Rattle.std.specs.Prelude.{slice_get}
 use Rattle.std.specs.List.{count_by}
 use Rattle.rv_code.specs.declared.instr.Instr.{Instr}
@@ -37,7 +37,7 @@ pub record StackIsFull (run : Run) (depth : ℕ → ℕ) (meant : SourceRun) : T
 -- arithmetic, wherever that run is stopped and however it ends. The one exception is a full stack.
 abbrev pub ShowsAll : Arith → ProgramTree → ImageParts → Type 0
 ShowsAll arith program image = (inputs : List ℕ) (turns events : ℕ) → All IsWord inputs →
-    let run = machine image inputs (24 * suc turns * program_nodes program) events in
+    let run = machine image inputs (24 * program_nodes program * suc turns) events in
     let meant = meaning_by arith program inputs turns events in
     Front meant.trace run.state.trace ⊎ StackIsFull run (depth_by arith program inputs turns events) meant
 

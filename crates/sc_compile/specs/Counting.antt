@@ -1,7 +1,7 @@
 -- Sizes as they are counted on lowered code.
-use Rattle.std.specs.Prelude.{ℕ, suc, ◌+◌, ◌*◌, ◌^◌, ◌<◌, List, [], ◌∷◌, ◌++◌, map, flat_map, All, Option, None, Some}
+use Rattle.std.specs.Prelude.{ℕ, suc, ◌+◌, ◌*◌, ◌^◌, ◌<◌, List, [], ◌∷◌, ◌++◌, map, flat_map, All, Option}
 use Rattle.sc_core.specs.declared.section.TypedGlobal.{TypedGlobal}
-use Rattle.sc_core.specs.Prelude.{cells_of, code_bound, frame_bound, total}
+use Rattle.sc_core.specs.Prelude.{cells_of, frame_bound, total}
 use Rattle.sc_tac.specs.declared.function.TacFnTree.{TacFnTree}
 use Rattle.sc_tac.specs.declared.program.TacSection.{TacSection}
 use Rattle.sc_compile.specs.declared.fault.CompileFault.{CompileFault}

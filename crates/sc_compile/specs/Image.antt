@@ -1,5 +1,5 @@
 -- The image of a program, pass by pass.
-use Rattle.std.specs.Prelude.{List, map, flat_map, Option, None, Some, Result, Ok, Err}
+use Rattle.std.specs.Prelude.{◌≡◌, List, map, flat_map, Option, None, Some, Result, Ok, Err}
 use Rattle.sc_core.specs.declared.program.ProgramTree.{ProgramTree}
 use Rattle.sc_image.specs.declared.parts.ImageParts.{ImageParts}
 use Rattle.sc_tac.specs.declared.function.TacFnTree.{TacFnTree}
@@ -13,6 +13,7 @@ use Rattle.sc_alloc.specs.Places.{assigned}
 use Rattle.sc_select.specs.Selection.{code_of}
 use Rattle.sc_linker.specs.Image.{linked_image}
 use Rattle.sc_compile.specs.declared.fault.CompileFault.{CompileFault}
+use Rattle.sc_compile.specs.declared.fault.CompileFault.TheVariants.{OutOfMemory}
 use Rattle.sc_compile.specs.Sizes.{too_large}
 
 -- of a function: places by linear scan for its least intervals, the frame with its slots, and its instructions
@@ -39,3 +40,8 @@ unless_large (Some fault) image = Err fault
 -- the image of a program, or what of it is too large
 abbrev pub image_of : ProgramTree → Result ImageParts CompileFault
 image_of program = unless_large (too_large program) (built_image program)
+
+-- why a program has no image: what of it is too large, or that memory ran out
+abbrev pub IsFault : ProgramTree → CompileFault → Type 0
+IsFault program OutOfMemory = Unit {0}
+IsFault program fault = image_of program ≡ Err fault

@@ -1,12 +1,12 @@
 //! The passes of the compiler, one after the other.
 
-ghost use Rattle.std.specs.Prelude.{◌≡◌, ◌≤◌, ◌⊎◌, ◌*◌, ◌++◌, Ok, Err, None, All, IfErr, IfOk, OnOk, flat_map, map};
+ghost use Rattle.std.specs.Prelude.{◌≡◌, ◌++◌, Ok, None, Some, All, IfErr, IfOk, OnOk, flat_map, map};
 ghost use Rattle.sc_core.specs.Prelude.{IsWellTyped, frame_bound};
 ghost use Rattle.sc_emit.specs.Emission.{IsEmitted};
 ghost use Rattle.sc_lower.specs.Programs.{lowered_program};
 ghost use Rattle.sc_tac.specs.declared.program.TacSection.{TacSection};
 ghost use Rattle.sc_compile.specs.Compiled.{IsCompiled};
-ghost use Rattle.sc_compile.specs.Image.{function_code, image_of, section_codes};
+ghost use Rattle.sc_compile.specs.Image.{IsFault, built_image, function_code, image_of, section_codes};
 ghost use Rattle.sc_compile.specs.Passes.{EmitsAll, EmitsSo, Fits, FitAll};
 ghost use Rattle.sc_compile.specs.Sizes.{too_large};
 
@@ -38,7 +38,8 @@ fn function_code(alloc: Global, f: &TacFn) -> Result<Code, OutOfMemory>
     let intervals = intervals(alloc, f)?;
     let places = assign(alloc, &intervals)?;
     let frame = lay(alloc, f, &places)?;
-    emit(alloc, f, &places, &frame)
+    let code = emit(alloc, f, &places, &frame)?;
+    Ok(code)
 }
 
 // Those of a section's functions, behind others.
@@ -66,17 +67,43 @@ fn all_codes(alloc: Global, sections: &[TacSection]) -> Result<Codes, OutOfMemor
     Ok(codes)
 }
 
+// The image of a program that fits, of this code.
+fn build(alloc: Global, program: &Program, tac: &Tac) -> Result<Image, OutOfMemory>
+    requires lowered { tac.now ≡ lowered_program program.now }
+    requires fits { too_large program.now ≡ None }
+    ensures image { IfOk result (λ image. image ≡ built_image program.now) }
+    ensures compiled { IfOk result (IsCompiled program.now) }
+{
+    are_given_words(program.tree().sections.as_slice());
+    let codes = all_codes(alloc, tac.tree().sections.as_slice())?;
+    let image = link(alloc, codes.as_slice(), program)?;
+    Ok(image)
+}
+
+// Whether the program fits, by its code.
+fn check(program: &Program, tac: &Tac) -> Result<(), CompileFault>
+    requires { tac.now ≡ lowered_program program.now }
+    ensures none { IfOk result (λ _. too_large program.now ≡ None) }
+    ensures found { IfErr result (λ fault. too_large program.now ≡ Some fault) }
+{
+    // Every program is well typed, so that its sizes can be counted.
+    let _tree = program.tree();
+    check_sizes(tac.tree().sections.as_slice())
+}
+
 /// The image of a program: lowered to three-address code, with registers by linear scan, frames laid out, instructions
 /// selected and linked.
 pub fn compile(alloc: Global, program: &Program) -> Result<Image, CompileFault>
     ensures image { IfOk result (λ image. image_of program.now ≡ Ok image) }
-    ensures fault { IfErr result (λ fault. (image_of program.now ≡ Err fault) ⊎ (fault ≡ CompileFault.OutOfMemory)) }
+    ensures fault { IfErr result (IsFault program.now) }
     ensures compiled { IfOk result (IsCompiled program.now) }
 {
-    are_given_words(program.tree().sections.as_slice());
-    let tac = lower(alloc, program)?;
-    let sections = tac.tree().sections.as_slice();
-    check_sizes(sections)?;
-    let codes = all_codes(alloc, sections)?;
-    Ok(link(alloc, codes.as_slice(), program)?)
+    let Ok(tac) = lower(alloc, program) else {
+        return Err(CompileFault::OutOfMemory);
+    };
+    check(program, &tac)?;
+    match build(alloc, program, &tac) {
+        Ok(image) => Ok(image),
+        Err(_) => Err(CompileFault::OutOfMemory),
+    }
 }

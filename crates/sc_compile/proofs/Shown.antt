@@ -1,0 +1,107 @@
+-- What is compiled does what its program means.
+use Rattle.std.proofs.Common.{◌≡◌, ℕ, suc, ◌*◌, List, All, None, refl, subst, arith, inl, inr, ⊎_elim}
+use Rattle.sc_core.specs.declared.program.ProgramTree.{ProgramTree}
+use Rattle.sc_core.specs.Meaning.{Run, run_of}
+use Rattle.sc_core.specs.Prelude.{IsWellTyped}
+use Rattle.sc_core.specs.Value.{Arith, c_arith, wrapping}
+use Rattle.sc_laws.specs.Steady.{AgreesInRoom, same, same_run}
+use Rattle.sc_image.specs.declared.parts.ImageParts.{ImageParts}
+use Rattle.sc_image.specs.WellFormed.{IsWord}
+use Rattle.sc_tac.specs.Code.{code_run}
+use Rattle.sc_tac.specs.Functions.{IsFunction}
+use Rattle.sc_tac.proofs.Matching.{wrapped_code_agrees}
+use Rattle.sc_lower.specs.Programs.{lowered_program}
+use Rattle.sc_lower.proofs.Programs.{keeps_rules}
+use Rattle.sc_lower.proofs.Whole.{keeps_meaning}
+use Rattle.sc_linker.specs.Laws.{AreGivenWords, AreNamed, IsWhole}
+use Rattle.sc_linker.specs.Layout.{addresses_at}
+use Rattle.sc_linker.specs.Linkable.{IsLinkable}
+use Rattle.sc_simulation.specs.Linked.{IsLinked}
+use Rattle.sc_simulation.specs.Runs.{ShowsRun}
+use Rattle.sc_simulation.specs.Simulation.{IsBuilt}
+use Rattle.sc_simulation.proofs.Shows.{outcomes_show}
+use Rattle.sc_simulation.proofs.Whole.{simulates}
+use Rattle.sc_compile.specs.Compiled.{IsCompiled, ShowsAll, program_nodes}
+use Rattle.sc_compile.specs.Image.{all_codes, built_image}
+use Rattle.sc_compile.specs.Passes.{AreEmitted, EachEmits}
+use Rattle.sc_compile.specs.Sizes.{too_large}
+use Rattle.sc_compile.proofs.Allowed.{allowed}
+use Rattle.sc_compile.proofs.Linkable.{is_linkable}
+use Rattle.sc_compile.proofs.Linked.{is_linked}
+use Rattle.sc_compile.proofs.NoTests.{no_tests}
+use Rattle.sc_compile.proofs.Results.{gives_results, source_of}
+
+-- a run agrees with itself
+itself : (run : Run) → AgreesInRoom run run
+itself run = record {
+  whole = same_run refl;
+  behaviour = λ events. same refl;
+  depth = λ events comp. omega arith;
+}
+
+module _ (program : ProgramTree) (typed : IsWellTyped program) (named : AreNamed program.interfaces)
+    (words : AreGivenWords program.sections) (fits : too_large program ≡ None) (each : EachEmits program)
+    (whole : All IsWhole (all_codes (lowered_program program))) where
+  abbrev image : ImageParts
+  image = built_image program
+
+  abbrev turn_pays : ℕ
+  turn_pays = 24 * program_nodes program
+
+  emitted : AreEmitted program
+  emitted = record { functions = each; whole = whole }
+
+  linkable : IsLinkable program (all_codes (lowered_program program))
+  linkable = is_linkable program typed fits each
+
+  linked : IsLinked (lowered_program program) image turn_pays (addresses_at program (all_codes (lowered_program program)))
+  linked = is_linked program typed named words fits emitted
+
+  built : IsBuilt (lowered_program program) image turn_pays
+  built = record {
+    rules = keeps_rules.programs program typed;
+    functions = λ comp number f is.
+        let from = source_of program typed comp number f is in
+        subst IsFunction from.same
+        (keeps_rules.functions program typed comp from.section from.is number from.source from.its);
+    results = gives_results program typed;
+    addresses = addresses_at program (all_codes (lowered_program program));
+    linked = linked;
+  }
+
+  -- beside a run of the code that agrees with the one in which every operation gives a word
+  shows_by : (arith' : Arith) (inputs : List ℕ) (turns : ℕ) → All IsWord inputs →
+      AgreesInRoom (code_run arith' (lowered_program program) inputs turns)
+      (code_run wrapping (lowered_program program) inputs turns) →
+      ShowsRun image inputs (turn_pays * suc turns) turns (run_of arith' program inputs turns)
+  shows_by arith' inputs turns are agrees =
+      outcomes_show.along image inputs (turn_pays * suc turns) turns (run_of arith' program inputs turns)
+      (code_run arith' (lowered_program program) inputs turns) (keeps_meaning.meaning arith' program typed inputs turns)
+      (outcomes_show.shows image inputs (turn_pays * suc turns) turns
+      (code_run arith' (lowered_program program) inputs turns)
+      (code_run wrapping (lowered_program program) inputs turns) linked.formed are agrees
+      (simulates (lowered_program program) image turn_pays built inputs turns are))
+
+  all_by : (arith' : Arith) → ((inputs : List ℕ) (turns : ℕ) → All IsWord inputs →
+      ShowsRun image inputs (turn_pays * suc turns) turns (run_of arith' program inputs turns)) →
+      ShowsAll arith' program image
+  all_by arith' shown inputs turns events are =
+      ⊎_elim (λ front. inl front)
+      (λ full. inr (record { stop = full.stop; deep = full.deep; trace = full.trace }))
+      ((shown inputs turns are).forward events)
+
+  shows_c : (inputs : List ℕ) (turns : ℕ) → All IsWord inputs →
+      ShowsRun image inputs (turn_pays * suc turns) turns (run_of c_arith program inputs turns)
+  shows_c inputs turns are =
+      shows_by c_arith inputs turns are (wrapped_code_agrees.meaning (lowered_program program) inputs turns)
+
+  pub compiled : IsCompiled program image
+  compiled = record {
+    forward = all_by c_arith shows_c;
+    wrapped = all_by wrapping (λ inputs turns are. shows_by wrapping inputs turns are
+        (itself (code_run wrapping (lowered_program program) inputs turns)));
+    backward = λ inputs steps events are. (shows_c inputs steps are).backward steps events (omega arith);
+    no_tests = no_tests program typed linkable emitted;
+    allowed = λ inputs steps events are.
+        allowed program (all_codes (lowered_program program)) linked.formed inputs steps events are;
+  }
