@@ -1,5 +1,5 @@
--- Sizes on lowered code are those of the program, no count passes a word of 64 bits, and where nothing is too large each
--- function fits.
+-- Sizes on lowered code are those of the program, no count passes a word of 64 bits, and where nothing is too large
+-- each function fits.
 use Rattle.std.proofs.Common.{◌≡◌, ℕ, zero, suc, ◌+◌, ◌*◌, ◌^◌, ◌<◌, ◌≤◌, Bool, true, false, ◌&&◌, List, [], ◌∷◌, ◌++◌}
 use Rattle.std.proofs.Common.{All, length, map, flat_map, refl, sym, ◌∙◌, ap, subst, arith, Option, None, Some, nat_le}
 use Rattle.std.proofs.Common.{leb-true}
@@ -18,7 +18,8 @@ use Rattle.sc_core.specs.declared.section.TypedStruct.{TypedStruct}
 use Rattle.sc_core.specs.Prelude.{IsWellTyped, cells_of, frame_bound, global_fits, nodes, structs_fit, total}
 use Rattle.sc_core.specs.Prelude.{variables}
 use Rattle.sc_core.specs.Sizes.{local_nodes}
-use Rattle.sc_core.specs.WellTyped.{callable_in, decl_count, function_fits, local_fits, most_cells, most_nodes, most_params}
+use Rattle.sc_core.specs.WellTyped.{callable_in, decl_count, function_fits, local_fits, most_cells, most_nodes}
+use Rattle.sc_core.specs.WellTyped.{most_params}
 use Rattle.sc_core.specs.WellTyped.{params_fit, passed_fits, result_fits, scope_of, section_fits, variable_fits}
 use Rattle.sc_kinds.proofs.Sections.{all_at}
 use Rattle.sc_tac.specs.declared.function.TacFnTree.{TacFnTree}

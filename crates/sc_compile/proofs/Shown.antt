@@ -54,7 +54,8 @@ module _ (program : ProgramTree) (typed : IsWellTyped program) (named : AreNamed
   linkable : IsLinkable program (all_codes (lowered_program program))
   linkable = is_linkable program typed fits each
 
-  linked : IsLinked (lowered_program program) image turn_pays (addresses_at program (all_codes (lowered_program program)))
+  linked : IsLinked (lowered_program program) image turn_pays
+      (addresses_at program (all_codes (lowered_program program)))
   linked = is_linked program typed named words fits emitted
 
   built : IsBuilt (lowered_program program) image turn_pays

@@ -41,8 +41,8 @@ ShowsAll arith program image = (inputs : List ℕ) (turns events : ℕ) → All 
     let meant = meaning_by arith program inputs turns events in
     Front meant.trace run.state.trace ⊎ StackIsFull run (depth_by arith program inputs turns events) meant
 
--- In any number of steps the machine shows nothing that the program doesn't show in as many turns, unless the program is
--- blamed and the machine has shown all of it.
+-- In any number of steps the machine shows nothing that the program doesn't show in as many turns, unless the program
+-- is blamed and the machine has shown all of it.
 abbrev pub ShowsNothingElse : ProgramTree → ImageParts → Type 0
 ShowsNothingElse program image = (inputs : List ℕ) (steps events : ℕ) → All IsWord inputs →
     let shown = (machine image inputs steps events).state.trace in

@@ -1,5 +1,6 @@
 pub mod Compiled
 pub mod Counting
+pub mod Globals
 pub mod Image
 pub mod Passes
 pub mod Sizes

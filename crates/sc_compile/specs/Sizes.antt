@@ -1,6 +1,7 @@
 -- What of a program is too large to be compiled: first the globals of a section, then the frame of a function, then the
 -- code of a section.
-use Rattle.std.specs.Prelude.{ℕ, suc, ◌*◌, nat_lt, if◌then◌else◌, List, [], ◌∷◌, ◌++◌, map, flat_map, Option, None, Some}
+use Rattle.std.specs.Prelude.{ℕ, suc, ◌*◌, nat_lt, if◌then◌else◌, List, [], ◌∷◌, ◌++◌, map, flat_map, Option, None}
+use Rattle.std.specs.Prelude.{Some}
 use Rattle.sc_core.specs.declared.program.ProgramTree.{ProgramTree}
 use Rattle.sc_core.specs.declared.section.TypedFunction.{TypedFunction}
 use Rattle.sc_core.specs.declared.section.TypedGlobal.{TypedGlobal}

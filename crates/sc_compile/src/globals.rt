@@ -1,8 +1,8 @@
 //! What the types of a program's globals tell: the numbers that they begin with are words.
 
 ghost use Rattle.std.specs.Prelude.{◌<◌, ◌^◌, All};
-ghost use Rattle.sc_core.specs.declared.section.TypedGlobal.{TypedGlobal};
 ghost use Rattle.sc_linker.specs.Laws.{AreGivenWords};
+ghost use Rattle.sc_compile.specs.Globals.{BeginsAsWords};
 
 use sc_core::{TypedGlobal, TypedSection};
 
@@ -11,7 +11,7 @@ fn are_words(words: &[u32])
 {}
 
 fn begin_as_words(globals: &[TypedGlobal])
-    ensures { All {X = TypedGlobal} (λ g. All (λ word. word < 2 ^ 32) g.init) globals.now }
+    ensures { All BeginsAsWords globals.now }
 {
     for global in globals {
         are_words(global.init.as_slice());

@@ -1,6 +1,6 @@
 //! What of a program is too large to be compiled, found on its lowered code.
 
-ghost use Rattle.std.specs.Prelude.{◌≡◌, ◌≤◌, ◌<◌, ◌+◌, ◌*◌, ◌^◌, ◌⊎◌, [], length, map, flat_map, All, IfErr, IfOk, None, Some};
+ghost use Rattle.std.specs.Prelude.{◌≡◌, ◌≤◌, ◌<◌, ◌+◌, ◌^◌, [], length, map, All, IfErr, IfOk, None, Some};
 ghost use Rattle.sc_core.specs.Prelude.{cells_of, frame_bound, total};
 ghost use Rattle.sc_core.specs.declared.section.TypedGlobal.{TypedGlobal};
 ghost use Rattle.sc_tac.specs.declared.function.TacFnTree.{TacFnTree};

@@ -1,13 +1,14 @@
 use Rattle.std.proofs.Common.{All, subst, ◌<◌, ◌^◌}
-use Rattle.sc_core.specs.declared.section.TypedGlobal.{TypedGlobal}
 use Rattle.sc_linker.proofs.Beginnings.{all_done, all_more}
+use Rattle.sc_compile.specs.Globals.{BeginsAsWords}
 use Rattle.sc_compile.proofs.globals.begin_as_words.Goals as goal
 
 pub loop-global-preserved : goal.loop-global-preserved
 loop-global-preserved c =
-    all_more (λ (g : TypedGlobal). All (λ word. word < 2 ^ 32) g.init) c.args.globals.now c.loop-global.global-index c.global-item.result c.loop-global-test.true
-    c.global-item.is c.loop-global.invariant (subst (All (λ word. word < 2 ^ 32)) c.as_slice.ensures c.are_words.ensures)
+    all_more BeginsAsWords c.args.globals.now c.loop-global.global-index c.global-item.result c.loop-global-test.true
+    c.global-item.is c.loop-global.invariant
+    (subst (All (λ word. word < 2 ^ 32)) c.as_slice.ensures c.are_words.ensures)
 
 pub returns : goal.returns
 returns c =
-    all_done (λ (g : TypedGlobal). All (λ word. word < 2 ^ 32) g.init) c.args.globals.now c.loop-global.global-index c.loop-global-test.false c.loop-global.invariant
+    all_done BeginsAsWords c.args.globals.now c.loop-global.global-index c.loop-global-test.false c.loop-global.invariant
