@@ -3,12 +3,11 @@ use Rattle.sc_elab.proofs.Common.{BrokenLines, ExprTree, FunctionScope, Function
 use Rattle.sc_elab.proofs.Common.{OnOk, Option, Result, SectionScope, SectionTree, Some, Stands, StandsIn, Suits, Ty}
 use Rattle.sc_elab.proofs.Common.{ap, concat, drop, drop-step, drop_all, function_lines, get_or, global_lines}
 use Rattle.sc_elab.proofs.Common.{init_fits, init_goes, init_holds, is_sized, length, local_holds, locals_from, map}
-use Rattle.sc_elab.proofs.Common.{refl, result_of, scope_in, stmt_lines, subst, suc, sym, tags, type_of, typed_init}
-use Rattle.sc_elab.proofs.Common.{unless, visible, visible_in, with_lines, with_lines-append, with_lines-nil, ℕ, ◌&&◌}
-use Rattle.sc_elab.proofs.Common.{◌++◌, ◌+◌, ◌<◌, ◌∙◌, ◌≡◌, ◌≤◌}
-use Rattle.sc_elab.specs.Statements as statements
+use Rattle.sc_elab.proofs.Common.{on_ok, refl, result_of, scope_in, stmt_lines, subst, suc, sym, tags, two, type_of}
+use Rattle.sc_elab.proofs.Common.{typed_init, unless, visible, visible_in, with_lines, with_lines-append}
+use Rattle.sc_elab.proofs.Common.{with_lines-nil, ℕ, ◌&&◌, ◌++◌, ◌+◌, ◌<◌, ◌∙◌, ◌≡◌, ◌≤◌}
+use Rattle.sc_elab_expr.specs.Calls as calls
 use Rattle.sc_elab.proofs.Functions.{next_place, seen}
-use Rattle.sc_elab.proofs.Noted.{two, on_ok}
 use Rattle.sc_elab.proofs.Suiting.{suiting}
 
 module _ (scope : SectionScope) (section : SectionTree) (stands : Stands scope section) where
@@ -25,7 +24,7 @@ module _ (scope : SectionScope) (section : SectionTree) (stands : Stands scope s
       subst (λ v. Suits v (scope_in section tree)) (sym (seen scope section stands tree count function within))
       (suiting section tree count)
 
-  module _ (callees : statements.Callees) where
+  module _ (callees : calls.Callees) where
     abbrev after : ℕ → List ℕ
     after i = locals_from section callees tree i (drop i tree.locals)
 

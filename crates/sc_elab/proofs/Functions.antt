@@ -1,12 +1,13 @@
 -- What stands for a function while it is built gives its typed form.
 use Rattle.sc_elab.proofs.Common.{ExprTree, FunctionScope, FunctionTree, List, LocalTree, None, Option, SectionScope}
 use Rattle.sc_elab.proofs.Common.{SectionTree, Some, Stands, StandsIn, Ty, TypedLocal, [], ap, arith, called, drop}
-use Rattle.sc_elab.proofs.Common.{drop-step, get_or, going_to, length, local_in, local_variable, map, option_map, refl}
-use Rattle.sc_elab.proofs.Common.{stmt_in, suc, sym, tags, take, take-suc, type_of, type_of_name, typed, typed_function}
+use Rattle.sc_elab.proofs.Common.{drop-step, get_or, going_to, length, local_in, local_variable, map, refl, stmt_in}
+use Rattle.sc_elab.proofs.Common.{suc, sym, tags, take, take-suc, type_of, type_of_name, typed, typed_function}
 use Rattle.sc_elab.proofs.Common.{typed_init, typed_local, typed_locals, typed_param, typed_stmt, value_in, visible}
 use Rattle.sc_elab.proofs.Common.{visible_in, ℕ, ◌++◌, ◌+◌, ◌<◌, ◌∙◌, ◌∷◌, ◌≡◌}
+use Rattle.std.specs.Option.{option_map}
 use Rattle.sc_core.specs.declared.section.TypedFunction.{TypedFunction}
-use Rattle.sc_elab.proofs.Loops.{one_more, all_done}
+use Rattle.sc_elab_stmt.proofs.Loops.{one_more, all_done}
 
 pub next_place : (i : ℕ) → suc i ≡ i + 1
 next_place i = omega arith

@@ -1,19 +1,25 @@
 -- What a function sees suits the scope that its statements are judged in.
-use Rattle.sc_elab.proofs.Common.{BaseTy, Bool, Found, FunctionTree, GlobalTree, List, None, Option, Scope, SectionTree}
-use Rattle.sc_elab.proofs.Common.{Some, StructTree, Suits, Ty, TypedMember, TypedParam, TypedStruct, VarRef, Visible}
-use Rattle.sc_elab.proofs.Common.{[], and-false, ap, arith, base_of, bytes_eq, end_of_member, false, found_in}
-use Rattle.sc_elab.proofs.Common.{global_variable, globals_in, has_member, is_some, is_type, list_any, local_variable}
-use Rattle.sc_elab.proofs.Common.{map, map_twice, members_from, ne_eqb, no_ty, option_and_then, option_map, or_else}
-use Rattle.sc_elab.proofs.Common.{position, refl, same_base, same_ty, scope_in, slice_get, slice_get-map, starred}
-use Rattle.sc_elab.proofs.Common.{structs_in, suc, sym, take, true, true≢false, type_of, type_with, typed_param}
-use Rattle.sc_elab.proofs.Common.{typed_struct, typed_structs, variable_ty, visible_in, zero, ℕ, ◌&&◌, ◌++◌, ◌+◌, ◌==◌}
-use Rattle.sc_elab.proofs.Common.{◌||◌, ◌∙◌, ◌∷◌, ◌≡◌}
+use Rattle.sc_elab.proofs.Common.{Bool, Found, FunctionTree, GlobalTree, List, None, Option, Scope, SectionTree, Some}
+use Rattle.sc_elab.proofs.Common.{StructTree, Suits, Ty, TypedStruct, Visible, [], ap, arith, base_of, bytes_eq}
+use Rattle.sc_elab.proofs.Common.{end_of_member, false, found_in, global_variable, globals_in, has_member, is_some}
+use Rattle.sc_elab.proofs.Common.{is_type, list_any, local_variable, map, map_twice, members_from, ne_eqb, no_ty}
+use Rattle.sc_elab.proofs.Common.{option_and_then, or_else, position, refl, same_base, same_ty, scope_in, slice_get}
+use Rattle.sc_elab.proofs.Common.{starred, structs_in, suc, sym, take, true, true≢false, type_of, type_with}
+use Rattle.sc_elab.proofs.Common.{typed_param, typed_struct, typed_structs, variable_ty, visible_in, zero, ℕ, ◌&&◌}
+use Rattle.sc_elab.proofs.Common.{◌++◌, ◌+◌, ◌==◌, ◌||◌, ◌∙◌, ◌∷◌, ◌≡◌}
+use Rattle.sc_core.specs.declared.ty.BaseTy.{BaseTy}
+use Rattle.sc_core.specs.declared.section.TypedMember.{TypedMember}
+use Rattle.sc_core.specs.declared.section.TypedParam.{TypedParam}
+use Rattle.sc_core.specs.declared.expr.VarRef.{VarRef}
+use Rattle.std.proofs.Math.Bool.{and-false}
+use Rattle.std.specs.Option.{option_map}
+use Rattle.std.proofs.lemmas.Option.{slice_get-map}
 use Rattle.sc_ast.specs.declared.section.MemberTree.{MemberTree}
 use Rattle.sc_ast.specs.declared.types.TypeTree.{TypeTree}
 use Rattle.sc_core.specs.declared.ty.BaseTy.TheVariants as base
 use Rattle.sc_core.specs.declared.expr.VarRef.TheVariants as var
 use Rattle.sc_elab.specs.Sections as sections
-use Rattle.sc_elab.proofs.Parts.{same_ty-refl}
+use Rattle.sc_elab_expr.proofs.Parts.{same_ty-refl}
 
 module _ (tags : List (List ℕ)) where
   starred-some : (stars : ℕ) (b : BaseTy) → same_ty (starred stars b) no_ty ≡ false

@@ -1,26 +1,9 @@
--- What the names of calls stand for in a section.
-use Rattle.sc_elab.specs.Common.{CallTarget, Decl, FunctionTree, HeadTree, Import, ImportLine, Own, SectionTree}
-use Rattle.sc_elab.specs.Common.{Signature, StructTree, functions_in, head_of, heads_in, number_of}
-use Rattle.std.specs.Prelude.{◌≡◌, ℕ, List, ◌++◌, map, Option, Some, None, slice_get}
-use Rattle.std.specs.Option.{option_and_then}
-use Rattle.sc_elab.specs.Sections.{target_or, signature_by, import_target}
-use Rattle.sc_elab.specs.Statements as statements
-use Rattle.sc_elab.specs.declared.callees.Callees.{Callees}
-
--- a target, where there is one
-abbrev pub or_first_own : Option CallTarget → CallTarget
-or_first_own None = Own 0
-or_first_own (Some target) = target
-
--- who is called by the first import of a name
-abbrev pub imported : Callees → List ℕ → Option CallTarget
-imported callees name = option_and_then (slice_get callees.targets) (number_of callees.imports name)
-
-abbrev pub called : Callees → statements.Callees
-called callees = record {
-  signature = λ name. option_and_then (slice_get callees.signatures) (number_of callees.heads name);
-  target = λ name. target_or (number_of callees.functions name) (or_first_own (imported callees name));
-}
+-- What a section's tables of calls hold.
+use Rattle.sc_elab.specs.Common.{Decl, FunctionTree, HeadTree, Import, ImportLine, SectionTree, Signature, StructTree}
+use Rattle.sc_elab.specs.Common.{functions_in, head_of, heads_in}
+use Rattle.std.specs.Prelude.{◌≡◌, ℕ, List, ◌++◌, map}
+use Rattle.sc_elab.specs.Sections.{signature_by, import_target}
+use Rattle.sc_elab_expr.specs.declared.callees.Callees.{Callees}
 
 abbrev pub function_name : FunctionTree → List ℕ
 function_name tree = tree.head.name

@@ -1,12 +1,5 @@
 pub mod Common
 pub mod Prelude
-pub mod Args
 pub mod Called
-pub mod Expressions
-pub mod Judging
-pub mod Placed
-pub mod Scopes
 pub mod Sections
-pub mod Seen
 pub mod Stands
-pub mod Statements

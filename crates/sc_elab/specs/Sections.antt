@@ -1,10 +1,19 @@
 -- Sections and programs with their types, and the lines of the declarations that break the rules of types.
-use Rattle.sc_elab.specs.Common.{CallTarget, Cross, Decl, ExprTree, FunctionTree, HeadTree, Import, ImportLine, Input}
-use Rattle.sc_elab.specs.Common.{LocalTree, Output, Own, Scope, SectionTree, Signature, StructTree, Ty, TypedExpr}
-use Rattle.sc_elab.specs.Common.{TypedLocal, TypedMember, TypedParam, TypedStruct, cells_of, function_named}
-use Rattle.sc_elab.specs.Common.{function_names, functions_in, globals_in, head_of, heads_in, import_of, init_fits}
-use Rattle.sc_elab.specs.Common.{interfaces_of, limited, line_of_text, number_of, number_or_zero, starred, struct_names}
-use Rattle.sc_elab.specs.Common.{structs_in, unless}
+use Rattle.sc_elab.specs.Common.{Decl, FunctionTree, HeadTree, Import, ImportLine, LocalTree, Scope, SectionTree}
+use Rattle.sc_elab.specs.Common.{Signature, StructTree, TypedLocal, cells_of, function_named, function_names}
+use Rattle.sc_elab.specs.Common.{functions_in, globals_in, head_of, heads_in, import_of, init_fits, interfaces_of}
+use Rattle.sc_elab.specs.Common.{limited, line_of_text, number_or_zero, starred, stmt_lines, struct_names, structs_in}
+use Rattle.sc_elab.specs.Common.{typed_stmt, unless}
+use Rattle.sc_base.specs.Prelude.{number_of}
+use Rattle.sc_elab_expr.specs.Prelude.{Callees, Visible, going_to, target_or, typed}
+use Rattle.sc_core.specs.declared.expr.CallTarget.{CallTarget}
+use Rattle.sc_core.specs.declared.expr.CallTarget.TheVariants.{Cross, Input, Output, Own}
+use Rattle.sc_ast.specs.declared.expr.ExprTree.{ExprTree}
+use Rattle.sc_core.specs.declared.ty.Ty.{Ty}
+use Rattle.sc_core.specs.declared.expr.TypedExpr.{TypedExpr}
+use Rattle.sc_core.specs.declared.section.TypedMember.{TypedMember}
+use Rattle.sc_core.specs.declared.section.TypedParam.{TypedParam}
+use Rattle.sc_core.specs.declared.section.TypedStruct.{TypedStruct}
 use Rattle.std.specs.Prelude.{ℕ, zero, suc, ◌+◌, ◌-◌, ◌%◌, ◌^◌, Bool, true, false, ◌&&◌, not, nat_eq, nat_le, bytes_eq}
 use Rattle.std.specs.Prelude.{List, [], ◌∷◌, ◌++◌, length, map, take, Option, Some, None, if◌then◌else◌}
 use Rattle.std.specs.List.{concat, list_all}
@@ -29,9 +38,6 @@ use Rattle.sc_core.specs.declared.section.TypedGlobal.{TypedGlobal}
 use Rattle.sc_core.specs.declared.section.TypedFunction.{TypedFunction}
 use Rattle.sc_core.specs.declared.section.TypedSection.{TypedSection}
 use Rattle.sc_core.specs.declared.program.ProgramTree.{ProgramTree}
-use Rattle.sc_elab.specs.Scopes.{Visible}
-use Rattle.sc_elab.specs.Expressions.{typed, going_to}
-use Rattle.sc_elab.specs.Statements.{Callees, typed_stmt, stmt_lines}
 
 -- Types. A struct is known by its tag's place among the section's structs.
 
@@ -151,11 +157,6 @@ import_named name (line ∷ lines) = if bytes_eq line.name name then Some line e
 abbrev pub imported_target : List SectionTree → ℕ → Option ImportLine → CallTarget
 imported_target sections number None = Own 0
 imported_target sections number (Some line) = import_target (import_of sections number line)
-
--- who is called: a function of the section, or what it imports
-abbrev pub target_or : Option ℕ → CallTarget → CallTarget
-target_or None imported = imported
-target_or (Some place) imported = Own place
 
 abbrev pub callees_of : List SectionTree → ℕ → SectionTree → Callees
 callees_of sections number section = record {

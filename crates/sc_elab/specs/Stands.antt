@@ -1,12 +1,11 @@
 -- Helping: what stands for the declarations of a section while its functions are built.
-use Rattle.sc_elab.specs.Common.{FunctionTree, LocalTree, SectionTree, TypedLocal, globals_in}
+use Rattle.sc_elab.specs.Common.{FunctionTree, LocalTree, SectionTree, TypedLocal, globals_in, value_in}
 use Rattle.std.specs.Prelude.{◌≡◌, ℕ, map, take}
 use Rattle.std.specs.Option.{option_map}
 use Rattle.sc_elab.specs.Sections.{type_of, global_variable, typed_param, local_variable, result_of}
 use Rattle.sc_elab.specs.Sections as sections
-use Rattle.sc_elab.specs.declared.scope.SectionScope.{SectionScope}
-use Rattle.sc_elab.specs.declared.scope.FunctionScope.{FunctionScope}
-use Rattle.sc_elab.specs.Seen.{value_in}
+use Rattle.sc_elab_expr.specs.declared.scope.SectionScope.{SectionScope}
+use Rattle.sc_elab_expr.specs.declared.scope.FunctionScope.{FunctionScope}
 
 -- the tags, the structs and the globals of the section
 pub record Stands (scope : SectionScope) (section : SectionTree) : Type 0 where

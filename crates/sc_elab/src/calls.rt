@@ -5,11 +5,11 @@ ghost use Rattle.sc_elab.specs.Prelude.{head_name, head_of, heads_in, import_lin
 ghost use Rattle.sc_elab.specs.Prelude.{param_ty, signature_by};
 ghost use Rattle.std.specs.Prelude.{◌≡◌, ◌++◌, ◌∷◌, [], map, IfOk, OnOk};
 
-use crate::callees::{Callees, Signature};
 use crate::tree_ty::{type_of_name, type_of_result};
 use sc_ast::{Decl, FunctionHead, FunctionParam, HeadTree, ImportLine, ParamTree, SectionTree};
 use sc_base::{Name, NameList, OutOfMemory};
 use sc_core::{CallTarget, Ty};
+use sc_elab_expr::{Callees, Signature};
 use sc_event::Import;
 use sqlite_items::Items;
 use std::alloc::Global;

@@ -1,13 +1,15 @@
 //! Globals and what they begin with.
 
-ghost use Rattle.sc_elab.specs.Prelude.{global_variable, globals_in, init_words, typed_global, word_of_const};
+ghost use Rattle.sc_elab.specs.Prelude.{global_variable, globals_in, init_holds, init_words, is_null, typed_global};
+ghost use Rattle.sc_elab.specs.Prelude.{word_of_const};
 ghost use Rattle.std.specs.Prelude.{◌≡◌, ◌-◌, ◌%◌, ◌^◌, ◌++◌, ◌∷◌, [], map, IfOk};
+ghost use Rattle.sc_ast.specs.declared.section.InitTree;
 
 use crate::tree_ty::type_of;
-use crate::variables::Variables;
 use sc_ast::{ConstTree, Decl, GlobalTree, InitTree};
 use sc_base::{NameList, OutOfMemory, Words};
-use sc_core::{TypedGlobal, TypedGlobals, TypedParam};
+use sc_core::{BaseTy, Ty, TypedGlobal, TypedGlobals, TypedParam};
+use sc_elab_expr::Variables;
 use sqlite_items::Items;
 use std::alloc::Global;
 
@@ -130,4 +132,47 @@ pub fn global_variables(
         variables = with_variable(tags, variables, decl)?;
     }
     Ok(variables)
+}
+
+fn is_null(constant: &ConstTree) -> bool
+    ensures { result ≡ is_null constant.now }
+{
+    !constant.negative && constant.literal.value() == 0
+}
+
+// Whether a global of this type may begin with one constant.
+fn is_one(ty: Ty, constant: &ConstTree) -> bool
+    ensures { result ≡ init_holds ty (InitTree.One constant.now) }
+{
+    match ty {
+        Ty::Int => true,
+        Ty::Unsigned => true,
+        Ty::Pointer { .. } => is_null(constant),
+        _ => false,
+    }
+}
+
+// Whether a global of this type may begin with a list of constants.
+fn is_list(ty: Ty, constants: &[ConstTree]) -> bool
+    ensures { result ≡ init_holds ty (InitTree.Many constants.now) }
+{
+    match ty {
+        Ty::Array {
+            stars: 0,
+            base: BaseTy::Int | BaseTy::Unsigned,
+            length,
+        } => constants.len() <= length as usize,
+        _ => false,
+    }
+}
+
+/// Whether a global of this type may begin with this (C11 6.7.9).
+pub fn init_holds(ty: Ty, init: &InitTree) -> bool
+    ensures { result ≡ init_holds ty init.now }
+{
+    match init {
+        InitTree::Absent => true,
+        InitTree::One(constant) => is_one(ty, constant),
+        InitTree::Many(constants) => is_list(ty, constants.as_slice()),
+    }
 }

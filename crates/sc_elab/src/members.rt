@@ -4,11 +4,11 @@ ghost use Rattle.sc_elab.specs.Prelude.{cells_from, cells_of, limited, member_na
 ghost use Rattle.sc_elab.specs.Prelude.{structs_in, typed_struct, typed_structs};
 ghost use Rattle.std.specs.Prelude.{◌≡◌, ◌+◌, ◌∷◌, [], IfOk};
 
-use crate::structs::Structs;
 use crate::tree_ty::type_of;
 use sc_ast::{Decl, MemberTree, StructTree};
 use sc_base::{NameList, OutOfMemory};
 use sc_core::{Ty, TypedMember, TypedMembers, TypedStruct};
+use sc_elab_expr::Structs;
 use sqlite_items::Items;
 use std::alloc::Global;
 

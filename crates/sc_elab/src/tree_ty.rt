@@ -1,6 +1,6 @@
 //! The types that declarations write.
 
-ghost use Rattle.sc_elab.specs.Prelude.{base_of, type_of, type_of_name};
+ghost use Rattle.sc_elab.specs.Prelude.{base_of, is_sized, type_of, type_of_name};
 ghost use Rattle.std.specs.Prelude.{◌≡◌};
 ghost use Rattle.std.specs.Option.{option_map};
 
@@ -48,5 +48,15 @@ pub fn type_of(tags: &NameList, ty: &TypeTree) -> Ty
             base,
             length: length.elements(),
         },
+    }
+}
+
+/// Whether an array has an element (C11 6.7.6.2p1).
+pub fn is_sized(ty: &TypeTree) -> bool
+    ensures { result ≡ is_sized ty.now }
+{
+    match ty.length {
+        None => true,
+        Some(length) => length.elements() >= 1,
     }
 }

@@ -9,12 +9,13 @@ ghost use Rattle.std.specs.List.{concat, list_all};
 ghost use Rattle.sc_ast.specs.declared.section.MemberTree.{MemberTree};
 
 use crate::function::{head_scope, with_local};
-use crate::rules::{Place, init_holds, is_sized};
-use crate::scope::{FunctionScope, SectionScope};
+use crate::globals::init_holds;
 use crate::section::build_scope;
-use crate::tree_ty::type_of;
+use crate::tree_ty::{is_sized, type_of};
 use sc_ast::{Decl, FunctionTree, GlobalTree, LocalTree, MemberTree, SectionTree, StructTree};
 use sc_base::OutOfMemory;
+use sc_elab_expr::{FunctionScope, SectionScope};
+use sc_elab_stmt::Place;
 use sc_scope::BrokenLines;
 use std::alloc::Global;
 
@@ -67,7 +68,7 @@ fn note_decls(
     Ok(())
 }
 
-#[tactic(auto, using(crate::proofs::Noted::nothing))]
+#[tactic(auto, using(sc_elab_stmt::proofs::Noted::nothing))]
 fn note_decl(
     alloc: Global,
     scope: &SectionScope,

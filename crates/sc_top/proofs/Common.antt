@@ -46,8 +46,8 @@ pub use Rattle.sc_compile.specs.Compiled.{IsCompiled}
 pub use Rattle.sc_compile.specs.Image.{image_of}
 pub use Rattle.sc_compile.specs.Sizes.{too_large}
 pub use Rattle.sc_compile.specs.declared.fault.CompileFault.{CompileFault}
-pub use Rattle.sc_elab.specs.Prelude.{Callees, Visible, callees_of, program_of, scope_in, typed_stmt, types_broken}
-pub use Rattle.sc_elab.specs.Prelude.{visible_of}
+pub use Rattle.sc_elab_stmt.specs.Prelude.{typed_stmt}
+pub use Rattle.sc_elab.specs.Prelude.{callees_of, program_of, scope_in, types_broken, visible_of}
 pub use Rattle.sc_types.specs.Prelude.{Accepts, Fails, counts_broken}
 pub use Rattle.sc_image.specs.Prelude.{BytesNameOneImage, IsComp, IsExport, IsImage, IsWellFormed, IsWord}
 pub use Rattle.sc_image.specs.Prelude.{TracesAreLegal, bad, bit, cause_number, cause_of, code_bytes, comp_bytes}

@@ -1,11 +1,11 @@
 -- The tree of a thin text breaks no rule.
-use Rattle.sc_top.proofs.Common.{Callees, FunctionTree, List, Scope, SectionTree, Some, StmtTree, Visible, [], ap, ap₂}
-use Rattle.sc_top.proofs.Common.{arith, callees_of, codes, concat, counts_broken, false, le-leb, length, map}
-use Rattle.sc_top.proofs.Common.{most_nodes, nat_le, program_of, refl, rules, scope_in, stmt_nodes, thin_interfaces}
-use Rattle.sc_top.proofs.Common.{total, true, typed_stmt, types_broken, visible_of, ℕ, ◌&&◌, ◌*◌, ◌++◌, ◌+◌, ◌∙◌, ◌∷◌}
-use Rattle.sc_top.proofs.Common.{◌≡◌, ◌≤◌}
+use Rattle.sc_top.proofs.Common.{FunctionTree, List, Scope, SectionTree, Some, StmtTree, [], ap, ap₂, arith, callees_of}
+use Rattle.sc_top.proofs.Common.{codes, concat, counts_broken, false, le-leb, length, map, most_nodes, nat_le}
+use Rattle.sc_top.proofs.Common.{program_of, refl, rules, scope_in, stmt_nodes, thin_interfaces, total, true}
+use Rattle.sc_top.proofs.Common.{typed_stmt, types_broken, visible_of, ℕ, ◌&&◌, ◌*◌, ◌++◌, ◌+◌, ◌∙◌, ◌∷◌, ◌≡◌, ◌≤◌}
 use Rattle.sc_scope.specs.Prelude.{Known, line_of_text, names_broken, unless}
 use Rattle.sc_interfaces.specs.Prelude.{interface_broken}
+use Rattle.sc_elab_expr.specs.Prelude.{Callees, Visible}
 use Rattle.sc_ast.specs.declared.expr.ExprTree as exprs
 use Rattle.sc_ast.specs.declared.stmt.StmtTree as stmts
 use Rattle.sc_ast.specs.declared.stmt.StmtKind as kinds
@@ -15,7 +15,7 @@ use Rattle.sc_core.specs.declared.stmt.TypedStmt as typed_stmts
 use Rattle.sc_core.specs.declared.stmt.TypedStmtKind as typed_stmt_kinds
 use Rattle.sc_core.specs.declared.ty.Ty.TheVariants as ty
 use Rattle.sc_scope.specs.Names as names
-use Rattle.sc_elab.specs.Statements as elab
+use Rattle.sc_elab_stmt.specs.Statements as elab
 use Rattle.sc_elab.specs.Sections as sections
 use Rattle.sc_types.specs.Counts as counts
 use Rattle.sc_top.proofs.Bodies.{AreSmall}

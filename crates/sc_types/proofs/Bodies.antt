@@ -19,7 +19,7 @@ use Rattle.sc_core.specs.declared.expr.TypedKind.TheOpen as term
 use Rattle.sc_core.specs.declared.stmt.TypedStmtKind.TheOpen as layer
 use Rattle.sc_core.proofs.Induction.{expr_induction}
 use Rattle.sc_scope.specs.Names as names
-use Rattle.sc_elab.specs.Expressions as elab
+use Rattle.sc_elab_expr.specs.Expressions as elab
 use Rattle.sc_types.proofs.Basics.{rule_holds, front_empty, back_empty}
 use Rattle.sc_core.proofs.Judged.{judged_ty}
 

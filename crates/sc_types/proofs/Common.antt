@@ -90,17 +90,19 @@ pub use Rattle.sc_core.specs.declared.stmt.TypedStmtKind.{TypedStmtKind, TypedSt
 unfoldable pub use Rattle.sc_core.specs.declared.stmt.TypedStmtKind.{roll-TypedStmtKind}
 pub use Rattle.sc_core.specs.declared.ty.BaseTy.{BaseTy}
 pub use Rattle.sc_core.specs.declared.ty.Ty.{Ty}
-pub use Rattle.sc_elab.specs.Prelude.{Callees, Found, Visible, assign_call_holds, base_of, beside, call_holds}
-pub use Rattle.sc_elab.specs.Prelude.{callees_of, cells_from, cond_holds, decl_lines, end_of_member, found, going_to}
-pub use Rattle.sc_elab.specs.Prelude.{going_to_all, going_to_some, head_named, import_named, import_target}
-pub use Rattle.sc_elab.specs.Prelude.{imported_target, init_holds, init_words, is_null, is_sized, is_zero, kind_lines}
-pub use Rattle.sc_elab.specs.Prelude.{kind_step, local_holds, locals_from, members_from, or_first, param_ty, params_of}
-pub use Rattle.sc_elab.specs.Prelude.{part_lines, program_of, result_of, return_call_holds, scope_in, sections_from}
-pub use Rattle.sc_elab.specs.Prelude.{signature_by, simple_holds, step, stmt_lines, stmt_step, struct_lines, structs}
-pub use Rattle.sc_elab.specs.Prelude.{tags, target_or, type_of, type_of_name, type_with, typed_args, typed_call}
-pub use Rattle.sc_elab.specs.Prelude.{typed_function, typed_global, typed_init, typed_local, typed_param, typed_section}
-pub use Rattle.sc_elab.specs.Prelude.{typed_simple, typed_simple_kind, typed_stmt, typed_struct, typed_value}
-pub use Rattle.sc_elab.specs.Prelude.{types_broken, variable_typed, visible_in, visible_of, word_of_const}
+pub use Rattle.sc_elab_expr.specs.Prelude.{Callees, Found, Visible, beside, found, going_to, is_zero, step, target_or}
+pub use Rattle.sc_elab_expr.specs.Prelude.{variable_typed}
+pub use Rattle.sc_elab_stmt.specs.Prelude.{assign_call_holds, call_holds, cond_holds, going_to_all, going_to_some}
+pub use Rattle.sc_elab_stmt.specs.Prelude.{kind_lines, kind_step, params_of, part_lines, return_call_holds}
+pub use Rattle.sc_elab_stmt.specs.Prelude.{simple_holds, stmt_lines, stmt_step, typed_args, typed_call, typed_simple}
+pub use Rattle.sc_elab_stmt.specs.Prelude.{typed_simple_kind, typed_stmt, typed_value}
+pub use Rattle.sc_elab.specs.Prelude.{base_of, callees_of, cells_from, decl_lines, end_of_member, head_named}
+pub use Rattle.sc_elab.specs.Prelude.{import_named, import_target, imported_target, init_holds, init_words, is_null}
+pub use Rattle.sc_elab.specs.Prelude.{is_sized, local_holds, locals_from, members_from, or_first, param_ty, program_of}
+pub use Rattle.sc_elab.specs.Prelude.{result_of, scope_in, sections_from, signature_by, struct_lines, structs, tags}
+pub use Rattle.sc_elab.specs.Prelude.{type_of, type_of_name, type_with, typed_function, typed_global, typed_init}
+pub use Rattle.sc_elab.specs.Prelude.{typed_local, typed_param, typed_section, typed_struct, types_broken, visible_in}
+pub use Rattle.sc_elab.specs.Prelude.{visible_of, word_of_const}
 unfoldable pub use Rattle.sc_elab.specs.Prelude.{typed_locals, typed_structs}
 pub use Rattle.sc_types.specs.Common.{FunctionTree, LocalTree, ProgramTree, Section, SectionTree}
 pub use Rattle.sc_types.specs.Prelude.{Accepts, AreLow, AreStarts, Fails, FailsRules, FailsTyped, IsKept, IsSource}

@@ -19,7 +19,7 @@ use Rattle.sc_ast.proofs.Induction as tree_induction
 use Rattle.sc_ast.proofs.Layers as tree_layers
 use Rattle.sc_core.specs.declared.expr.TypedKind.TheOpen as term
 use Rattle.sc_core.specs.declared.stmt.TypedStmtKind.TheOpen as layer
-use Rattle.sc_elab.specs.Expressions as elab
+use Rattle.sc_elab_expr.specs.Expressions as elab
 
 one_more : (n : ℕ) → suc n ≡ n + 1
 one_more n = omega arith

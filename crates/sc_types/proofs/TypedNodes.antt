@@ -11,7 +11,7 @@ use Rattle.sc_types.proofs.Common.{stmt_induction, stmt_nodes, stmt_step as type
 use Rattle.sc_types.proofs.Common.{total, true, typed_call, typed_function, typed_init, typed_locals, typed_section}
 use Rattle.sc_types.proofs.Common.{typed_simple, typed_simple_kind, typed_stmt, variable_typed, visible_in, visible_of}
 use Rattle.sc_types.proofs.Common.{ℕ, ◌&&◌, ◌+◌, ◌∙◌, ◌∷◌, ◌≡◌}
-use Rattle.sc_elab.specs.Prelude.{typed}
+use Rattle.sc_elab_expr.specs.Prelude.{typed}
 use Rattle.sc_types.specs.Prelude.{kind_step, stmt_step}
 use Rattle.sc_base.specs.declared.op.BinaryOp.TheVariants as tree_op
 use Rattle.sc_ast.specs.declared.expr.ExprTree.TheOpen as tree

@@ -9,5 +9,5 @@ pub use Rattle.sc_scope.specs.Prelude.{struct_names, structs_in, unless}
 pub use Rattle.sc_core.specs.Prelude.{cells_of, most_cells, most_compartments, most_exports, most_nodes, most_params}
 pub use Rattle.sc_core.specs.Prelude.{nodes, total}
 pub use Rattle.sc_core.specs.declared.program.ProgramTree.{ProgramTree}
-pub use Rattle.sc_elab.specs.Prelude.{Callees, callees_of, program_of, structs, type_of, type_of_name, typed_section}
+pub use Rattle.sc_elab.specs.Prelude.{callees_of, program_of, structs, type_of, type_of_name, typed_section}
 pub use Rattle.sc_elab.specs.Prelude.{types_broken}

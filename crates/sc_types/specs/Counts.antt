@@ -1,8 +1,9 @@
 -- How much a program may hold, and the lines at which a text holds more.
-use Rattle.sc_types.specs.Common.{Callees, FunctionTree, LocalTree, SectionTree, callees_of, cells_of, functions_in}
-use Rattle.sc_types.specs.Common.{globals_in, heads_in, line_of_text, most_cells, most_compartments, most_exports}
-use Rattle.sc_types.specs.Common.{most_nodes, most_params, nodes, struct_names, structs, structs_in, total, type_of}
-use Rattle.sc_types.specs.Common.{type_of_name, typed_section, unless}
+use Rattle.sc_types.specs.Common.{FunctionTree, LocalTree, SectionTree, callees_of, cells_of, functions_in, globals_in}
+use Rattle.sc_types.specs.Common.{heads_in, line_of_text, most_cells, most_compartments, most_exports, most_nodes}
+use Rattle.sc_types.specs.Common.{most_params, nodes, struct_names, structs, structs_in, total, type_of, type_of_name}
+use Rattle.sc_types.specs.Common.{typed_section, unless}
+use Rattle.sc_elab_expr.specs.Prelude.{Callees}
 use Rattle.std.specs.Prelude.{ℕ, suc, Bool, ◌&&◌, nat_le, List, [], ◌∷◌, ◌++◌, length, map, slice_get, Option, Some}
 use Rattle.std.specs.Prelude.{None}
 use Rattle.std.specs.List.{concat, list_all}

@@ -1,6 +1,6 @@
-ghost use Rattle.sc_types.specs.Prelude.{AreLow, FailsRules, IsTyped, counts_broken, names_broken, program_of};
-ghost use Rattle.sc_types.specs.Prelude.{types_broken};
+ghost use Rattle.sc_types.specs.Prelude.{AreLow, FailsRules, IsTyped, counts_broken, names_broken};
 ghost use Rattle.sc_interfaces.specs.Prelude.{interface_broken};
+ghost use Rattle.sc_elab.specs.Prelude.{program_of, types_broken};
 ghost use Rattle.std.specs.Prelude.{◌≡◌, [], None, Some, OnOk, IfOk, IsErrOf};
 ghost use Rattle.sc_lex.specs.declared.refusal.Refusal.{Refusal};
 

@@ -1,7 +1,8 @@
 //! Sections, and the whole phase.
 
-ghost use Rattle.sc_types.specs.Prelude.{Callees, counts_broken, decls_nodes, line_beyond, line_of_text};
-ghost use Rattle.sc_types.specs.Prelude.{most_compartments, most_nodes, refused_at, section_lines, with_lines};
+ghost use Rattle.sc_types.specs.Prelude.{counts_broken, decls_nodes, line_beyond, line_of_text, most_compartments};
+ghost use Rattle.sc_types.specs.Prelude.{most_nodes, refused_at, section_lines, with_lines};
+ghost use Rattle.sc_elab_expr.specs.Prelude.{Callees};
 ghost use Rattle.std.specs.Prelude.{◌≡◌, ◌&&◌, nat_le, length, IfOk, OnOk};
 ghost use Rattle.sc_ast.specs.declared.section.SectionTree.{SectionTree};
 

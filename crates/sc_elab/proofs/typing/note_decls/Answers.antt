@@ -1,5 +1,4 @@
-use Rattle.sc_elab.proofs.Common.{called, decl_lines}
-use Rattle.sc_elab.proofs.Noted.{noted-next, noted-all}
+use Rattle.sc_elab.proofs.Common.{called, decl_lines, noted-all, noted-next}
 use Rattle.sc_elab.proofs.typing.note_decls.Goals as goal
 
 pub loop-decl-preserved : goal.loop-decl-preserved

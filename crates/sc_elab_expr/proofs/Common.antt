@@ -1,0 +1,14 @@
+-- The names that several proofs of this crate cite, passed on from one place. Declares nothing.
+pub use Rattle.std.proofs.Common.{Bool, Err, IfOk, List, None, Ok, Option, Result, Some, [], ap, arith, bytes_eq, codes}
+pub use Rattle.std.proofs.Common.{cond, eq-eqb, false, if◌then◌else◌, is_some, map, position, refl, rules, slice_get}
+pub use Rattle.std.proofs.Common.{subst, suc, sym, true, true≢false, zero, ℕ, ◌&&◌, ◌==◌, ◌||◌, ◌∙◌, ◌∷◌, ◌≡◌}
+pub use Rattle.std.specs.Option.{option_and_then, option_map}
+pub use Rattle.sc_core.specs.Prelude.{Judged, Scope, binary_fits, decayed, has_member, is_address, is_int, is_pointer}
+pub use Rattle.sc_core.specs.Prelude.{is_type, judged, literal_fits, member_of, pointer_to, same_base, same_ty, target}
+pub use Rattle.sc_core.specs.Prelude.{term_judged, unary_fits, variable_ty}
+pub use Rattle.sc_core.specs.declared.expr.VarRef.{VarRef}
+pub use Rattle.sc_elab_expr.specs.Common.{Global, Local, Param, Ty, TypedExpr, TypedMember, TypedParam, TypedStruct}
+pub use Rattle.sc_elab_expr.specs.Prelude.{Found, Suits, Visible, binary_ty, binary_typed, found, found_in, is_zero}
+pub use Rattle.sc_elab_expr.specs.Prelude.{literal_typed, member_named, member_names, member_offset, member_ty, no_ty}
+pub use Rattle.sc_elab_expr.specs.Prelude.{placed, step, struct_of, unary_ty, variable_names, variable_typed, visible}
+pub use Rattle.sc_elab_expr.specs.Prelude.{zero_step}

@@ -1,0 +1,5 @@
+pub mod Common
+pub mod Computed
+pub mod Examples
+pub mod Parts
+pub mod Scopes

@@ -1,0 +1,50 @@
+-- Variables and members are found by their names' first places.
+use Rattle.sc_elab_expr.proofs.Common.{Bool, Found, List, None, Option, Some, Ty, TypedParam, TypedStruct, VarRef, []}
+use Rattle.sc_elab_expr.proofs.Common.{ap, bytes_eq, cond, found_in, map, member_named, member_names, option_and_then}
+use Rattle.sc_elab_expr.proofs.Common.{option_map, placed, position, refl, slice_get, suc, sym, variable_names, ℕ, ◌∙◌}
+use Rattle.sc_elab_expr.proofs.Common.{◌∷◌, ◌≡◌}
+use Rattle.sc_base.specs.Prelude.{number_of}
+use Rattle.sc_base.proofs.Lists.{position-cons}
+use Rattle.std.proofs.lemmas.Option.{slice_get-map}
+
+pub position-map : {A B : Type 0} (f : A → B) (p : B → Bool) (xs : List A) →
+    position p (map f xs) ≡ position (λ x. p (f x)) xs
+position-map f p [] = refl
+position-map f p (x ∷ xs) =
+    position-cons p (f x) (map f xs)
+    ∙ ap (λ o. cond (p (f x)) (Some 0) (option_map suc o)) (position-map f p xs)
+    ∙ sym (position-cons (λ x. p (f x)) x xs)
+
+-- a variable at its place
+abbrev pub found_at : (ℕ → VarRef) → (ℕ × Ty) → Found
+found_at reference p = record { variable = reference p.0; ty = p.1 }
+
+-- a variable of this kind at a place
+abbrev pub found_with : (ℕ → VarRef) → ℕ → TypedParam → Found
+found_with reference place variable = record { variable = reference place; ty = variable.ty }
+
+pub found_in_placed : (reference : ℕ → VarRef) (variables : List TypedParam) (name : List ℕ) →
+    found_in reference variables name ≡ option_map (found_at reference) (placed variables name)
+found_in_placed reference variables name =
+    ap (option_and_then (λ place. option_map (found_with reference place) (slice_get variables place)))
+    (sym (position-map (λ variable. variable.name) (bytes_eq name) variables))
+    ∙ each (number_of (variable_names variables) name)
+  where
+    at : (place : ℕ) (o : Option TypedParam) → option_map (found_with reference place) o ≡
+        option_map (found_at reference) (option_map (λ variable. (place, variable.ty)) o)
+    at place None = refl
+    at place (Some variable) = refl
+
+    each : (o : Option ℕ) → option_and_then (λ place.
+        option_map (found_with reference place) (slice_get variables place)) o ≡
+        option_map (found_at reference) (option_and_then
+        (λ place. option_map (λ variable. (place, variable.ty)) (slice_get variables place)) o)
+    each None = refl
+    each (Some place) = at place (slice_get variables place)
+
+pub member_placed : (name : List ℕ) (tree : TypedStruct) →
+    member_named name (Some tree) ≡ option_and_then (slice_get tree.members) (number_of (member_names tree) name)
+member_placed name tree = ap (option_and_then (slice_get tree.members))
+    (sym (position-map (λ member. member.name) (bytes_eq name) tree.members))
+
+pub ruleset members = (member_placed, slice_get-map)

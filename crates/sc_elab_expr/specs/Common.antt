@@ -1,0 +1,13 @@
+-- The names from below that several definitions of this crate cite, passed on from one place. Declares nothing.
+pub use Rattle.sc_base.specs.Prelude.{number_of}
+pub use Rattle.sc_ast.specs.declared.expr.ExprTree.{ExprTree, ExprTree-F, fold-ExprTree}
+pub use Rattle.sc_core.specs.Prelude.{Scope, Signature, common, decayed, has_member, is_pointer, is_type, pointer_to}
+pub use Rattle.sc_core.specs.Prelude.{target, variable_ty}
+pub use Rattle.sc_core.specs.declared.expr.CallTarget.{CallTarget}
+pub use Rattle.sc_core.specs.declared.expr.CallTarget.TheVariants.{Own}
+pub use Rattle.sc_core.specs.declared.expr.TypedExpr.{TypedExpr, fold-TypedExpr}
+pub use Rattle.sc_core.specs.declared.expr.VarRef.TheVariants.{Global, Local, Param}
+pub use Rattle.sc_core.specs.declared.section.TypedMember.{TypedMember}
+pub use Rattle.sc_core.specs.declared.section.TypedParam.{TypedParam}
+pub use Rattle.sc_core.specs.declared.section.TypedStruct.{TypedStruct}
+pub use Rattle.sc_core.specs.declared.ty.Ty.{Ty}

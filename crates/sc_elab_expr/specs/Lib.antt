@@ -1,0 +1,9 @@
+pub mod Common
+pub mod Prelude
+pub mod Called
+pub mod Calls
+pub mod Expressions
+pub mod Judging
+pub mod Placed
+pub mod Scopes
+pub mod Seen

@@ -1,0 +1,18 @@
+//! Expressions with their types: what their names stand for where they stand, how they are built, and what is judged of
+//! them.
+#![tactic(auto)]
+
+mod callees;
+mod expr;
+mod judged;
+mod scope;
+mod structs;
+mod ty;
+mod variables;
+
+pub use callees::{Callees, Signature};
+pub use expr::{Built, build_expr, going_to};
+pub use judged::Judged;
+pub use scope::{FunctionScope, SectionScope};
+pub use structs::Structs;
+pub use variables::{Found, Variables};
