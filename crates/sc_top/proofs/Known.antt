@@ -5,6 +5,7 @@ use Rattle.sc_top.proofs.Common.{TracesAreLegal, [], and_parts, ap, arith, c_ari
 use Rattle.sc_top.proofs.Common.{image_bytes, interface_of, interfaces_of, length, length-map, machine_run}
 use Rattle.sc_top.proofs.Common.{machine_text, main_fits, map, meant, refl, run_text, sections_fit, slice_get, subst}
 use Rattle.sc_top.proofs.Common.{suc, sym, word_of, zero, ℕ, ◌<◌, ◌∙◌, ◌∷◌, ◌≡◌}
+use Rattle.std.specs.Prelude.{ℤ}
 use Rattle.sc_laws.specs.Prelude.{TracesAreLegal as SourceTracesAreLegal}
 use Rattle.sc_event.specs.declared.interface.Interface.{Interface}
 use Rattle.sc_compile.specs.Compiled.{IsCompiled}
@@ -41,21 +42,31 @@ main_there [] main fit = absurd (false≢true fit)
 main_there (section ∷ sections) zero fit = omega arith
 main_there (section ∷ sections) (suc main) fit = let less = main_there sections main fit in omega (arith, less)
 
+-- of a program both hold
+record HasMain (program : ProgramTree) : Type 0 where
+  as_many : length program.interfaces.comps ≡ length program.sections
+  main : program.interfaces.main < length program.sections
+
+has_main : (program : ProgramTree) → IsWellTyped program → HasMain program
+has_main program typed =
+    let behind = (and_parts _ _ (and_parts _ _ typed).1).1 in
+    let fit = (and_parts _ _ behind).0 in
+    let main = (and_parts _ _ (and_parts _ _ behind).1).0 in
+    record {
+      as_many = as_many program.interfaces 0 program.interfaces.comps program.sections fit;
+      main = main_there program.sections program.interfaces.main main;
+    }
+
 pub sections_are : (program : ProgramTree) → IsWellTyped program →
     length program.interfaces.comps ≡ length program.sections
-sections_are program typed =
-    let behind = (and_parts _ _ (and_parts _ _ typed).1).1 in
-    as_many program.interfaces 0 program.interfaces.comps program.sections (and_parts _ _ behind).0
+sections_are program typed = (has_main program typed).as_many
 
 program_main : (program : ProgramTree) → IsWellTyped program →
     IsSome (comp_at program.interfaces program.interfaces.main)
 program_main program typed =
-    let behind = (and_parts _ _ (and_parts _ _ typed).1).1 in
-    let main = (and_parts _ _ (and_parts _ _ behind).1).0 in
+    let has = has_main program typed in
     within program.interfaces.comps program.interfaces.main
-    (subst (λ n. program.interfaces.main < n)
-    (sym (sections_are program typed))
-    (main_there program.sections program.interfaces.main main))
+    (subst (λ n. program.interfaces.main < n) (sym has.as_many) has.main)
 
 -- what a program shows is known by its names: such traces are legal
 pub meant_known : SourceTracesAreLegal → (options : MeaningOptions) (program : ProgramTree) → IsWellTyped program →
@@ -65,7 +76,7 @@ meant_known legal options program typed =
     (legal.meaning c_arith program (map word_of options.inputs) options.turns options.events)
 
 -- words of inputs are words
-pub inputs_are_words : (inputs : List ℕ) → All IsWord (map word_of inputs)
+pub inputs_are_words : (inputs : List ℤ) → All IsWord (map word_of inputs)
 inputs_are_words inputs = All-map IsWord word_of inputs (λ i d within. word_of-lt (get_or inputs i d))
 
 -- what the machine shows on the image of a program is known by the program's names: such traces are legal

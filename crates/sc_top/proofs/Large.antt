@@ -74,25 +74,25 @@ pub named_fault : (program : ProgramTree) → IsWellTyped program → (fault : C
 named_fault program typed fault of =
     ⊎_elim (λ is. first_named program.interfaces all_faults fault all (large_of (too_large program)
     (built_image program) fault is)) (λ is. subst (IsNamed program.interfaces) (sym is) tt) of where
-  few : 0 + length program.sections ≤ length program.interfaces.comps
-  few = let as_many = sections_are program typed in omega (arith, as_many)
+      few : 0 + length program.sections ≤ length program.interfaces.comps
+      few = let as_many = sections_are program typed in omega (arith, as_many)
 
-  all_faults : List CompileFault
-  all_faults = found_in large_data 0 program.sections ++
-      (found_in large_frames 0 program.sections ++ found_in large_code 0 program.sections)
+      all_faults : List CompileFault
+      all_faults = found_in large_data 0 program.sections ++
+          (found_in large_frames 0 program.sections ++ found_in large_code 0 program.sections)
 
-  all : AllByRecursion (IsNamed program.interfaces) all_faults
-  all =
-      named_append program.interfaces (found_in large_data 0 program.sections)
-      (found_in large_frames 0 program.sections ++ found_in large_code 0 program.sections)
-      (named_found program.interfaces large_data (λ comp section is. named_above program.interfaces most_data
-      (data_bytes section) (DataTooLarge comp (data_bytes section)) is) 0 program.sections few)
-      (named_append program.interfaces (found_in large_frames 0 program.sections)
-      (found_in large_code 0 program.sections)
-      (named_found program.interfaces large_frames (λ comp section is. named_frames program.interfaces comp section
-      section.functions is) 0 program.sections few)
-      (named_found program.interfaces large_code (λ comp section is. named_above program.interfaces most_code
-      (code_bytes section) (CodeTooLarge comp (code_bytes section)) is) 0 program.sections few))
+      all : AllByRecursion (IsNamed program.interfaces) all_faults
+      all =
+          named_append program.interfaces (found_in large_data 0 program.sections)
+          (found_in large_frames 0 program.sections ++ found_in large_code 0 program.sections)
+          (named_found program.interfaces large_data (λ comp section is. named_above program.interfaces most_data
+          (data_bytes section) (DataTooLarge comp (data_bytes section)) is) 0 program.sections few)
+          (named_append program.interfaces (found_in large_frames 0 program.sections)
+          (found_in large_code 0 program.sections)
+          (named_found program.interfaces large_frames (λ comp section is. named_frames program.interfaces comp section
+          section.functions is) 0 program.sections few)
+          (named_found program.interfaces large_code (λ comp section is. named_above program.interfaces most_code
+          (code_bytes section) (CodeTooLarge comp (code_bytes section)) is) 0 program.sections few))
 
 -- so it is why the program isn't compiled
 told_fault : (program : ProgramTree) (fault : CompileFault) → too_large program ≡ Some fault →
