@@ -1,5 +1,5 @@
 -- What comes of accepted texts: outputs and their causes, what `explain` claims of thin ones, and that an output is one.
-use Rattle.sc_top.proofs.Common.{Accepts, Bool, BytesNameOneImage, Command, Event, Fails, Failure, Front, HasImage}
+use Rattle.sc_top.proofs.Common.{Accepts, Bool, BytesNameOneImage, Command, CompileFault, Event, Failure, Front, HasImage}
 use Rattle.sc_top.proofs.Common.{ImageParts, IsAccounted, IsBuilt, IsCompiled, IsCompiling, IsExecuted, IsOutput}
 use Rattle.sc_top.proofs.Common.{IsOutputCause, IsTextOutput, IsThin, IsThinProgram, IsThinReading, IsThinText, IsTrue}
 use Rattle.sc_top.proofs.Common.{IsUnfit, List, Ok, Option, ProgramTree, Refusal, Refuses, Result, RunOptions, Some}
@@ -119,19 +119,25 @@ compiled_output command bytes text program image accepted built compiled written
     }
 
 -- why a program isn't compiled is why a command that compiles has no output for its text
-pub compiled_cause : (command : Command) (bytes : List ℕ) (program : ProgramTree) (f : Failure) →
-    Accepts bytes program → IsBuilt command bytes → IsTrue (compiles command) → IsCompiling program f →
-    IsOutputCause command bytes f
-compiled_cause command bytes program failure.Usage accepted built compiled why = why
-compiled_cause command bytes program (failure.Refused refusal) accepted built compiled why = absurd why
-compiled_cause command bytes program (failure.TooLarge fault) accepted built compiled why =
+unfit_cause : (command : Command) (bytes : List ℕ) (program : ProgramTree) (f : Failure) → Accepts bytes program →
+    IsBuilt command bytes → IsTrue (compiles command) → IsCompiling program f → IsOutputCause command bytes f
+unfit_cause command bytes program failure.Usage accepted built compiled why = why
+unfit_cause command bytes program (failure.Refused refusal) accepted built compiled why = absurd why
+unfit_cause command bytes program (failure.TooLarge fault) accepted built compiled why =
     record { program = program; accepted = accepted; built = built; compiled = compiled; found = why }
-compiled_cause command bytes program (failure.TooLong limit) accepted built compiled why = why
-compiled_cause command bytes program (failure.BadImage cause) accepted built compiled why = absurd why
-compiled_cause command bytes program failure.ReadFault accepted built compiled why = why
-compiled_cause command bytes program failure.WriteFault accepted built compiled why = why
-compiled_cause command bytes program failure.OutOfMemory accepted built compiled why = tt
-compiled_cause command bytes program failure.NotBuilt accepted built compiled why = absurd why
+unfit_cause command bytes program (failure.TooLong limit) accepted built compiled why = why
+unfit_cause command bytes program (failure.BadImage cause) accepted built compiled why = absurd why
+unfit_cause command bytes program failure.ReadFault accepted built compiled why = why
+unfit_cause command bytes program failure.WriteFault accepted built compiled why = why
+unfit_cause command bytes program failure.OutOfMemory accepted built compiled why = tt
+unfit_cause command bytes program failure.NotBuilt accepted built compiled why = absurd why
+
+pub compiled_cause : (command : Command) (bytes : List ℕ) (program other : ProgramTree) (f : Failure) →
+    other ≡ program → Accepts bytes program → IsBuilt command bytes → IsTrue (compiles command) → IsCompiling other f →
+    IsOutputCause command bytes f
+compiled_cause command bytes program other f same accepted built compiled why =
+    unfit_cause command bytes program f accepted built compiled
+    (subst (λ (p : ProgramTree). IsCompiling p f) same why)
 
 -- why a text isn't read as a thin program is why `explain` has no output for it
 pub thin_cause : (options : RunOptions) (show : Option ℕ) (bytes : List ℕ) (f : Failure) → IsThinReading bytes f →

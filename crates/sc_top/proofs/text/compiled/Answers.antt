@@ -1,13 +1,11 @@
-use Rattle.sc_top.proofs.Common.{Compile, HasImage, IsCompiling, ProgramTree, refl, rules, subst}
+use Rattle.sc_top.proofs.Common.{Compile, HasImage, ProgramTree, refl, rules, subst}
 use Rattle.sc_top.proofs.Explained.{compiled_cause, compiled_output}
 use Rattle.sc_top.proofs.text.compiled.Goals as goal
 
 pub returns-in_err-image-clause-cause : goal.returns-in_err-image-clause-cause
 returns-in_err-image-clause-cause c =
-    let why = subst (λ (program : ProgramTree). IsCompiling program _) c.program.ensures.program
-    c.in_err-image.ensures.cause in
-    let cause = compiled_cause Compile c.args.bytes.now c.in_ok-source.source.program _
-    c.in_ok-source.ensures.accepted.1 tt refl why in
+    let cause = compiled_cause Compile c.args.bytes.now c.in_ok-source.source.program _ _ c.program.ensures.program
+    c.in_ok-source.ensures.accepted.1 tt refl c.in_err-image.ensures.cause in
     search (rules, cause)
 
 pub returns-clause-ok : goal.returns-clause-ok

@@ -1,4 +1,4 @@
-use Rattle.sc_top.proofs.Common.{Explain, HasImage, IsCompiling, IsTextOutput, None, ProgramTree, Some, ap, codes}
+use Rattle.sc_top.proofs.Common.{Explain, HasImage, IsTextOutput, None, ProgramTree, Some, ap, codes}
 use Rattle.sc_top.proofs.Common.{machine_text, refl, rules, subst, sym, ◌++◌, ◌∙◌}
 use Rattle.sc_top.proofs.Explained.{accounted, compiled_cause, compiled_output, thin_cause}
 use Rattle.sc_top.proofs.text.explain.Goals as goal
@@ -11,10 +11,8 @@ returns-in_err-source-clause-cause c =
 pub returns-in_err-image-clause-cause : goal.returns-in_err-image-clause-cause
 returns-in_err-image-clause-cause c =
     let is = c.in_ok-source.ensures.thin in
-    let why = subst (λ (program : ProgramTree). IsCompiling program _) c.program-program.ensures.program
-    c.in_err-image.ensures.cause in
-    let cause = compiled_cause (Explain c.args.options.now c.args.show) c.args.bytes.now c.in_ok-source.source.program _
-    is.accepted (is.thin, is.spelled) refl why in
+    let cause = compiled_cause (Explain c.args.options.now c.args.show) c.args.bytes.now c.in_ok-source.source.program _ _
+    c.program-program.ensures.program is.accepted (is.thin, is.spelled) refl c.in_err-image.ensures.cause in
     search (rules, cause)
 
 pub returns-in-None-clause-ok : goal.returns-in-None-clause-ok

@@ -1,13 +1,11 @@
-use Rattle.sc_top.proofs.Common.{HasImage, IsCompiling, ProgramTree, Run, ap, machine_text, refl, rules, subst, ◌∙◌}
+use Rattle.sc_top.proofs.Common.{HasImage, ProgramTree, Run, ap, machine_text, refl, rules, subst, ◌∙◌}
 use Rattle.sc_top.proofs.Explained.{compiled_cause, compiled_output}
 use Rattle.sc_top.proofs.text.run.Goals as goal
 
 pub returns-in_err-image-clause-cause : goal.returns-in_err-image-clause-cause
 returns-in_err-image-clause-cause c =
-    let why = subst (λ (program : ProgramTree). IsCompiling program _) c.program-program.ensures.program
-    c.in_err-image.ensures.cause in
-    let cause = compiled_cause (Run c.args.options.now) c.args.bytes.now c.in_ok-source.source.program _
-    c.in_ok-source.ensures.accepted.1 tt refl why in
+    let cause = compiled_cause (Run c.args.options.now) c.args.bytes.now c.in_ok-source.source.program _ _
+    c.program-program.ensures.program c.in_ok-source.ensures.accepted.1 tt refl c.in_err-image.ensures.cause in
     search (rules, cause)
 
 pub returns-clause-ok : goal.returns-clause-ok
