@@ -2,8 +2,6 @@
 #![tactic(auto)]
 
 #[cfg(test)]
-mod compiling;
-#[cfg(test)]
 mod gates;
 #[cfg(test)]
 mod images;

@@ -1,12 +1,13 @@
 -- What an answer says, from what was read.
 use Rattle.sc_top.proofs.Common.{Accepts, Answers, Check, Command, Compile, Exec, Explain, Fails, Failure, FindsBad}
-use Rattle.sc_top.proofs.Common.{GivesUp, HasImage, ImageParts, IsAnswer, IsErrOf, IsGood, IsGoodText, IsImage, IsInput}
-use Rattle.sc_top.proofs.Common.{IsOutput, IsTextOutput, IsTrue, IsUndisturbed, IsUnfit, IsWhole, IsWithin}
+use Rattle.sc_top.proofs.Common.{GivesUp, IsAnswer, IsBuilt, IsErrOf, IsGood, IsGoodText, IsImage, IsInput, IsOutput}
+use Rattle.sc_top.proofs.Common.{IsTextOutput, IsThin, IsTrue, IsUndisturbed, IsUnfit, IsWhole, IsWithin}
 use Rattle.sc_top.proofs.Common.{IsWithinLimit, List, Meaning, None, Option, ProgramTree, Refusal, Refuses, Result, Run}
-use Rattle.sc_top.proofs.Common.{SameAnswer, Says, Some, Status, Takes, Traffic, [], ap, append-nil, arith, bad}
-use Rattle.sc_top.proofs.Common.{cause_in, cause_number, cause_of, compiles, false≢true, inl, inr, length}
-use Rattle.sc_top.proofs.Common.{length-append, limit_of, none-some, refl, status_by, subst, sym, ℕ, ⊎_elim, ◌++◌, ◌+◌}
-use Rattle.sc_top.proofs.Common.{◌∙◌, ◌≡◌, ◌≤◌, ◌⊎◌}
+use Rattle.sc_top.proofs.Common.{SameAnswer, Says, Some, Status, Takes, ThinProgram, Traffic, [], ap, append-nil, arith}
+use Rattle.sc_top.proofs.Common.{bad, by_name, cause_in, cause_number, cause_of, compiles, false≢true, inl, inr}
+use Rattle.sc_top.proofs.Common.{large_in, length, length-append, limit_of, none-some, refl, status_by, subst, sym}
+use Rattle.sc_top.proofs.Common.{too_large, ℕ, ⊎_elim, ◌++◌, ◌+◌, ◌∙◌, ◌≡◌, ◌≤◌, ◌⊎◌}
+use Rattle.std.specs.Prelude.{option_and_then}
 use Rattle.std.specs.Option.{option_map}
 use Rattle.sc_lex.specs.declared.refusal.Phase.{Phase}
 use Rattle.sc_lex.specs.declared.refusal.Phase.TheVariants.{Syntax}
@@ -15,7 +16,8 @@ use Rattle.sc_words.specs.declared.command.Command.TheVariants.{Make}
 use Rattle.sc_top.specs.declared.failure.Failure.TheVariants as failure
 use Rattle.sc_top.specs.declared.status.Status.TheVariants as status
 use Rattle.sc_top.specs.declared.status.TooLarge.{TooLarge}
-use Rattle.sc_top.specs.Sizes.{too_large}
+use Rattle.sc_compile.specs.Image.{built_image}
+use Rattle.sc_top.proofs.Large.{fits_of}
 use Rattle.sc_top.proofs.Lengths.{image_is_short}
 
 -- words that are no command are answered so
@@ -119,15 +121,15 @@ answered c t text s says is calm = go s says where
   go status.OutOfMemory h = inr refl
 
 -- a thin text is within the limit of each command that compiles
-pub thin_within : (c : Command) (text : List ℕ) (image : ImageParts) → IsTrue (compiles c) → HasImage text image →
+pub thin_within : (c : Command) (text : List ℕ) (program : ThinProgram) → IsTrue (compiles c) → IsThin text program →
     IsWithin c text
-thin_within Check text image compiled has = absurd (false≢true compiled)
-thin_within (Meaning options) text image compiled has = absurd (false≢true compiled)
-thin_within (Exec options) text image compiled has = absurd (false≢true compiled)
-thin_within (Make options) text image compiled has = absurd (false≢true compiled)
-thin_within Compile text image compiled has = let short = has.spelled.short in omega (arith, short)
-thin_within (Run options) text image compiled has = let short = has.spelled.short in omega (arith, short)
-thin_within (Explain options show) text image compiled has = let short = has.spelled.short in omega (arith, short)
+thin_within Check text program compiled is = absurd (false≢true compiled)
+thin_within (Meaning options) text program compiled is = absurd (false≢true compiled)
+thin_within (Exec options) text program compiled is = absurd (false≢true compiled)
+thin_within (Make options) text program compiled is = absurd (false≢true compiled)
+thin_within Compile text program compiled is = let short = is.short in omega (arith, short)
+thin_within (Run options) text program compiled is = let short = is.short in omega (arith, short)
+thin_within (Explain options show) text program compiled is = let short = is.short in omega (arith, short)
 
 pub image_within : (bytes : List ℕ) → IsImage bytes → length bytes ≤ 67108864
 image_within bytes is =
@@ -164,6 +166,7 @@ record OfImage (c : Command) (bytes : List ℕ) : Type 0 where
   pub output : (out : List ℕ) → IsOutput c bytes out → IsImage bytes
   pub refuses : (refusal : Refusal) → Refuses c bytes refusal → ⊥
   pub bad : (cause : ℕ) → FindsBad c bytes cause → cause_in bytes ≡ Some cause
+  pub built : IsBuilt c bytes
   pub compiles : IsTrue (compiles c) → ⊥
   pub reads : limit_of c ≡ None → ⊥
   pub proper : IsGood c bytes → IsImage bytes
@@ -197,6 +200,7 @@ sort (Exec options) bytes =
       output = λ out o. o.read;
       refuses = λ r f. f;
       bad = λ cause b. b;
+      built = tt;
       compiles = λ h. false≢true h;
       reads = λ none. none-some 67108864 (sym none);
       proper = λ g. g;
@@ -217,14 +221,21 @@ module _
     pub bad : (cause : ℕ) → FindsBad c text cause → ⊥
     pub beyond : GivesUp c text → ⊥
 
-  sound_text : (c : Command) (text : List ℕ) (of : OfText c text) (program : ProgramTree) (image : ImageParts) →
-      Accepts text program → (IsTrue (compiles c) → HasImage text image) → Sound c text
-  sound_text c text of program image accepted compiled =
+  fits_or_large : (text : List ℕ) (program other : ProgramTree) (fault : TooLarge) → Accepts text program →
+      Accepts text other → too_large program ≡ None → large_in other ≡ Some fault → ⊥
+  fits_or_large text program other fault is known fits found =
+      let same = one_program text program other is known in
+      let none : too_large other ≡ None = subst (λ p. too_large p ≡ None) same fits in
+      none-some fault (ap (option_and_then (by_name other.interfaces)) (sym none) ∙ found)
+
+  sound_text : (c : Command) (text : List ℕ) (of : OfText c text) (program : ProgramTree) → Accepts text program →
+      IsBuilt c text → (IsTrue (compiles c) → too_large program ≡ None) → Sound c text
+  sound_text c text of program accepted built fits =
       record {
         refused = λ r f. accepted_or_refused text program r.phase r.line accepted (of.refuses r f);
-        unfit = λ fault u. u.imageless image (compiled u.compiled);
+        unfit = λ fault u. fits_or_large text program u.program fault accepted u.accepted (fits u.compiled) u.found;
         bad = of.good;
-        beyond = λ g. ⊎_elim of.reads (λ b. b.imageless image (compiled b.compiled)) g;
+        beyond = λ g. ⊎_elim of.reads (λ b. b.unbuilt built) g;
       }
 
   sound_image : (c : Command) (bytes : List ℕ) → OfImage c bytes → IsImage bytes → Sound c bytes
@@ -233,14 +244,17 @@ module _
         refused = of.refuses;
         unfit = λ fault u. of.compiles u.compiled;
         bad = λ cause b. image_bad bytes cause is (of.bad cause b);
-        beyond = λ g. ⊎_elim of.reads (λ b. of.compiles b.compiled) g;
+        beyond = λ g. ⊎_elim of.reads (λ b. b.unbuilt of.built) g;
       }
 
   -- where there is an output there is no cause
   sound_output : (c : Command) (text out : List ℕ) → IsOutput c text out → Sound c text
   sound_output c text out o = go (sort c text) where
     go : Sort c text → Sound c text
-    go (takes_text of) = let d = of.output out o in sound_text c _ of d.program d.image d.accepted d.compiled
+    go (takes_text of) =
+        let d = of.output out o in
+        sound_text c _ of d.program d.accepted d.built
+        (λ compiled. fits_of (too_large d.program) (built_image d.program) d.image (d.compiled compiled).compiled)
     go (takes_image of) = sound_image c _ of (of.output out o)
     go (takes_nothing reads plain bare) = absurd (reads.output _ out o)
 
@@ -294,7 +308,7 @@ module _
   unfit_beyond : (c : Command) (text : List ℕ) (fault : TooLarge) → IsUnfit c text fault → GivesUp c text → ⊥
   unfit_beyond c text fault u g = go (sort c text) where
     go : Sort c text → ⊥
-    go (takes_text of) = ⊎_elim of.reads u.built g
+    go (takes_text of) = ⊎_elim of.reads (λ b. b.unbuilt u.built) g
     go (takes_image of) = of.compiles u.compiled
     go (takes_nothing reads plain bare) = plain u.compiled
 
@@ -302,14 +316,14 @@ module _
   bad_beyond c text cause b g = go (sort c text) where
     go : Sort c text → ⊥
     go (takes_text of) = of.good cause b
-    go (takes_image of) = ⊎_elim of.reads (λ b. of.compiles b.compiled) g
+    go (takes_image of) = ⊎_elim of.reads (λ b. b.unbuilt of.built) g
     go (takes_nothing reads plain bare) = reads.bad _ cause b
 
   one_unfit : (c : Command) (text : List ℕ) (fault other : TooLarge) → IsUnfit c text fault → IsUnfit c text other →
       fault ≡ other
   one_unfit c text fault other u v =
       let same = one_program text u.program v.program u.accepted v.accepted in
-      same_some (too_large v.program) fault other (subst (λ p. too_large p ≡ Some fault) same u.found) v.found
+      same_some (large_in v.program) fault other (subst (λ p. large_in p ≡ Some fault) same u.found) v.found
 
   -- bytes have one answer
   pub one_answer : (c : Command) (text : List ℕ) (s t : Status) → IsAnswer c text s → IsAnswer c text t → SameAnswer s t
@@ -382,7 +396,7 @@ module _
   good_is_sound : (c : Command) (text : List ℕ) → IsGood c text → Sound c text
   good_is_sound c text g = go (sort c text) where
     go : Sort c text → Sound c text
-    go (takes_text of) = let d = of.proper g in sound_text c _ of d.program d.image d.accepted d.compiled
+    go (takes_text of) = let d = of.proper g in sound_text c _ of d.program d.accepted d.built d.fits
     go (takes_image of) = sound_image c _ of (of.proper g)
     go (takes_nothing reads plain bare) = absurd (bare g)
 

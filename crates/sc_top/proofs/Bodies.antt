@@ -1,8 +1,7 @@
 -- Statements one after another.
-use Rattle.sc_top.proofs.Common.{All-from_recursion, AllByRecursion, IsBody, IsStatement, IsThin, List, ThinProgram, []}
-use Rattle.sc_top.proofs.Common.{ap, append_assoc, append_cancel_left, arith, codes, decimal, head, length}
-use Rattle.sc_top.proofs.Common.{length-append, output_line, recursion_from_All, refl, return_line, slice_index, sym, ℕ}
-use Rattle.sc_top.proofs.Common.{◌++◌, ◌+◌, ◌∙◌, ◌∷◌, ◌≡◌, ◌≤◌}
+use Rattle.sc_top.proofs.Common.{All-from_recursion, AllByRecursion, IsBody, IsStatement, List, ThinProgram, [], ap}
+use Rattle.sc_top.proofs.Common.{append_assoc, append_cancel_left, arith, codes, decimal, output_line}
+use Rattle.sc_top.proofs.Common.{recursion_from_All, refl, return_line, slice_index, sym, ℕ, ◌++◌, ◌∙◌, ◌∷◌, ◌≡◌, ◌≤◌}
 use Rattle.std.proofs.Common.{flat_map}
 use Rattle.sc_top.proofs.Numbers.{same_number}
 use Rattle.sc_top.proofs.Statements.{same_statement}
@@ -88,17 +87,3 @@ a_body text outputs rest result end read is_return ends =
       outputs = All-from_recursion _ _ read.small;
       result = is_return.small;
     }
-
--- each output has a line, so there are no more outputs than bytes
-outputs_in_text : (outputs : List ℕ) → length outputs ≤ length (flat_map output_line outputs)
-outputs_in_text [] = omega arith
-outputs_in_text (word ∷ outputs) =
-    let rest = outputs_in_text outputs in rw length-append (omega arith)
-
-pub few_outputs : (text : List ℕ) (program : ThinProgram) → IsThin text program → length program.outputs ≤ 16384
-few_outputs text program thin =
-    let lines = outputs_in_text program.outputs in
-    let all : length text ≡ length head + length thin.statements =
-    ap length thin.whole ∙ length-append head thin.statements in
-    let body = ap length thin.body.spelled ∙ length-append (flat_map output_line program.outputs) _ in
-    let short = thin.short in omega arith

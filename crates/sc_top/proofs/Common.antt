@@ -40,6 +40,12 @@ pub use Rattle.sc_core.specs.Prelude.{State, all_do, and_then, back_own, begun, 
 pub use Rattle.sc_core.specs.Prelude.{done, first_state, follow, function_of, globals_of, in_order, leave, library_of}
 pub use Rattle.sc_core.specs.Prelude.{main_fits, meaning, most_nodes, run_of, run_step, run_to, sections_fit, stmt_does}
 pub use Rattle.sc_core.specs.Prelude.{stmt_nodes, stopped_at, tell, thin_meaning, total, whole_run, within}
+pub use Rattle.sc_core.specs.Prelude.{Front}
+pub use Rattle.sc_core.specs.declared.run.SourceRun.{SourceRun}
+pub use Rattle.sc_compile.specs.Compiled.{IsCompiled}
+pub use Rattle.sc_compile.specs.Image.{image_of}
+pub use Rattle.sc_compile.specs.Sizes.{too_large}
+pub use Rattle.sc_compile.specs.declared.fault.CompileFault.{CompileFault}
 pub use Rattle.sc_elab_stmt.specs.Prelude.{typed_stmt}
 pub use Rattle.sc_elab.specs.Prelude.{callees_of, program_of, scope_in, types_broken, visible_of}
 pub use Rattle.sc_types.specs.Prelude.{Accepts, Fails, counts_broken}
@@ -49,14 +55,15 @@ pub use Rattle.sc_image.specs.Prelude.{export_bytes, exports_bytes, flags, globa
 pub use Rattle.sc_image.specs.Prelude.{imports_bytes, interface_of, interfaces_of, name_bytes}
 pub use Rattle.sc_report.specs.Report.{meaning_text, run_text}
 pub use Rattle.sc_top.specs.Common.{Adds, ImageParts, Interfaces, IsAtEnd, ProgramTree, Refusal, Rose, RunOptions}
-pub use Rattle.sc_top.specs.Common.{Takes, thin_image}
+pub use Rattle.sc_top.specs.Common.{Takes}
 pub use Rattle.sc_top.specs.Prelude.{Answers, Check, Command, Compile, EndsNumber, Exec, Explain, Fetches, FindsBad}
-pub use Rattle.sc_top.specs.Prelude.{GivesUp, HasImage, IsAccounted, IsAnswer, IsBody, IsExecuted, IsGood, IsGoodText}
-pub use Rattle.sc_top.specs.Prelude.{IsInput, IsNumber, IsOutput, IsOutputCause, IsStatement, IsTextOutput, IsThin}
-pub use Rattle.sc_top.specs.Prelude.{IsThinMeant, IsThinProgram, IsThinReading, IsThinText, IsUndisturbed, IsUnfit}
-pub use Rattle.sc_top.specs.Prelude.{IsWhole, IsWithin, IsWithinLimit, Meaning, Refuses, Run, SameAnswer, Says, Status}
-pub use Rattle.sc_top.specs.Prelude.{Tells, ThinProgram, Traffic, Wrote, bytes_of, cause_in, compiles, limit_of}
-pub use Rattle.sc_top.specs.Prelude.{machine_run, machine_text, meant, output, output_line, own_text, owner_text}
-pub use Rattle.sc_top.specs.Prelude.{return_line, status_by, thin_interfaces}
+pub use Rattle.sc_top.specs.Prelude.{GivesUp, HasImage, IsAccounted, IsAnswer, IsBody, IsBuilt, IsCompiling, IsExecuted}
+pub use Rattle.sc_top.specs.Prelude.{IsGood, IsGoodText, IsInput, IsNamed, IsNumber, IsOutput, IsOutputCause}
+pub use Rattle.sc_top.specs.Prelude.{IsStatement, IsTextOutput, IsThin, IsThinProgram, IsThinReading, IsThinText}
+pub use Rattle.sc_top.specs.Prelude.{IsUndisturbed, IsUnfit, IsWhole, IsWithin, IsWithinLimit, Meaning, Refuses, Run}
+pub use Rattle.sc_top.specs.Prelude.{SameAnswer, Says, Status, Tells, ThinProgram, Traffic, Wrote, by_name, bytes_of}
+pub use Rattle.sc_top.specs.Prelude.{cause_in, compiles, large_in, limit_of, machine_run, machine_text, meant}
+pub use Rattle.sc_top.specs.Prelude.{of_compile_fault, output, output_line, own_text, owner_text, return_line}
+pub use Rattle.sc_top.specs.Prelude.{status_by}
 unfoldable pub use Rattle.sc_top.specs.Prelude.{head}
 pub use Rattle.sc_top.specs.declared.failure.Failure.{Failure}

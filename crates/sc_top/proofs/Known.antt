@@ -5,15 +5,17 @@ use Rattle.sc_top.proofs.Common.{TracesAreLegal, [], and_parts, ap, arith, c_ari
 use Rattle.sc_top.proofs.Common.{image_bytes, interface_of, interfaces_of, length, length-map, machine_run}
 use Rattle.sc_top.proofs.Common.{machine_text, main_fits, map, meant, refl, run_text, sections_fit, slice_get, subst}
 use Rattle.sc_top.proofs.Common.{suc, sym, word_of, zero, ℕ, ◌<◌, ◌∙◌, ◌∷◌, ◌≡◌}
+use Rattle.std.specs.Prelude.{ℤ}
 use Rattle.sc_laws.specs.Prelude.{TracesAreLegal as SourceTracesAreLegal}
 use Rattle.sc_event.specs.declared.interface.Interface.{Interface}
+use Rattle.sc_compile.specs.Compiled.{IsCompiled}
 use Rattle.sc_event.proofs.Known.{legal_is_known}
 use Rattle.sc_word.proofs.Words.{word_of-lt}
 use Rattle.sc_core.specs.declared.section.TypedSection.{TypedSection}
 use Rattle.sc_base.specs.declared.stop.Stop.{Stop}
 use Rattle.sc_words.specs.declared.command.MeaningOptions.{MeaningOptions}
 
-within : {A : Type 0} (xs : List A) (n : ℕ) → n < length xs → IsSome (slice_get xs n)
+pub within : {A : Type 0} (xs : List A) (n : ℕ) → n < length xs → IsSome (slice_get xs n)
 within [] n lt = absurd (omega arith)
 within (x ∷ xs) zero lt = refl
 within (x ∷ xs) (suc n) lt = within xs n (omega arith)
@@ -40,16 +42,31 @@ main_there [] main fit = absurd (false≢true fit)
 main_there (section ∷ sections) zero fit = omega arith
 main_there (section ∷ sections) (suc main) fit = let less = main_there sections main fit in omega (arith, less)
 
-program_main : (program : ProgramTree) → IsWellTyped program →
-    IsSome (comp_at program.interfaces program.interfaces.main)
-program_main program typed =
+-- of a program both hold
+record HasMain (program : ProgramTree) : Type 0 where
+  as_many : length program.interfaces.comps ≡ length program.sections
+  main : program.interfaces.main < length program.sections
+
+has_main : (program : ProgramTree) → IsWellTyped program → HasMain program
+has_main program typed =
     let behind = (and_parts _ _ (and_parts _ _ typed).1).1 in
     let fit = (and_parts _ _ behind).0 in
     let main = (and_parts _ _ (and_parts _ _ behind).1).0 in
+    record {
+      as_many = as_many program.interfaces 0 program.interfaces.comps program.sections fit;
+      main = main_there program.sections program.interfaces.main main;
+    }
+
+pub sections_are : (program : ProgramTree) → IsWellTyped program →
+    length program.interfaces.comps ≡ length program.sections
+sections_are program typed = (has_main program typed).as_many
+
+program_main : (program : ProgramTree) → IsWellTyped program →
+    IsSome (comp_at program.interfaces program.interfaces.main)
+program_main program typed =
+    let has = has_main program typed in
     within program.interfaces.comps program.interfaces.main
-    (subst (λ n. program.interfaces.main < n)
-    (sym (as_many program.interfaces 0 program.interfaces.comps program.sections fit))
-    (main_there program.sections program.interfaces.main main))
+    (subst (λ n. program.interfaces.main < n) (sym has.as_many) has.main)
 
 -- what a program shows is known by its names: such traces are legal
 pub meant_known : SourceTracesAreLegal → (options : MeaningOptions) (program : ProgramTree) → IsWellTyped program →
@@ -58,13 +75,23 @@ meant_known legal options program typed =
     legal_is_known program.interfaces (meant options program).trace (program_main program typed)
     (legal.meaning c_arith program (map word_of options.inputs) options.turns options.events)
 
+-- words of inputs are words
+pub inputs_are_words : (inputs : List ℤ) → All IsWord (map word_of inputs)
+inputs_are_words inputs = All-map IsWord word_of inputs (λ i d within. word_of-lt (get_or inputs i d))
+
+-- what the machine shows on the image of a program is known by the program's names: such traces are legal
+pub compiled_known : (options : RunOptions) (program : ProgramTree) (image : ImageParts) → IsWellTyped program →
+    IsCompiled program image → All (IsKnown program.interfaces) (machine_run options image).state.trace
+compiled_known options program image typed is =
+    legal_is_known program.interfaces (machine_run options image).state.trace (program_main program typed)
+    (is.allowed (map word_of options.inputs) options.steps options.events (inputs_are_words options.inputs))
+
 -- what the machine shows on an image is known by the image's names: such traces are legal
 pub machine_run_known : TracesAreLegal → (options : RunOptions) (image : ImageParts) → IsWellFormed image →
     All (IsKnown (interfaces_of image)) (machine_run options image).state.trace
 machine_run_known legal options image formed =
     legal_is_known (interfaces_of image) (machine_run options image).state.trace (main_known image formed)
-    (legal image (map word_of options.inputs) options.steps options.events formed
-    (All-map IsWord word_of options.inputs (λ i d within. word_of-lt (get_or options.inputs i d))))
+    (legal image (map word_of options.inputs) options.steps options.events formed (inputs_are_words options.inputs))
 
 -- the run's text, from what was found of the run
 pub shown_text : {E : Type 0} (r : Result (List ℕ) E) (names : Interfaces) (options : RunOptions) (image : ImageParts)

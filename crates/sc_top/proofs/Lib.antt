@@ -3,6 +3,7 @@ pub mod Answers
 pub mod Bodies
 pub mod Explained
 pub mod Known
+pub mod Large
 pub mod Lengths
 pub mod Numbers
 pub mod Statements

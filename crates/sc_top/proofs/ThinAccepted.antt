@@ -1,17 +1,17 @@
--- A thin text is accepted, as a program that means what its thin program means.
+-- A thin text is accepted, as a program that fits and means what its thin program means.
 use Rattle.sc_top.proofs.Common.{Accepts, IsThin, IsThinProgram, IsTrue, List, ProgramTree, Reads, SameButLines}
 use Rattle.sc_top.proofs.Common.{SaysAll, SectionSpells, SectionTree, ThinProgram, [], ap, arith, codes, decimal}
 use Rattle.sc_top.proofs.Common.{dense_text, flat_map, head, kept_section, length, length-append, output_line}
 use Rattle.sc_top.proofs.Common.{recursion_from_All, refl, return_line, section_height, section_words, subst, symbols}
-use Rattle.sc_top.proofs.Common.{ℕ, ◌++◌, ◌∙◌, ◌∷◌, ◌≡◌, ◌≤◌}
+use Rattle.sc_top.proofs.Common.{ℕ, ◌*◌, ◌++◌, ◌∙◌, ◌∷◌, ◌≡◌, ◌≤◌}
 use Rattle.sc_top.proofs.Bodies.{AreSmall}
 use Rattle.sc_top.proofs.ThinReads.{ThinReading, thin_reading}
 use Rattle.sc_top.proofs.ThinLines.{tree_at, IsThinTree, thin_tree}
-use Rattle.sc_top.proofs.ThinRules.{thin_names, thin_types, thin_interface, thin_counts, thin_faces}
+use Rattle.sc_top.proofs.ThinRules.{thin_names, thin_types, thin_interface, thin_counts, thin_fits}
 use Rattle.sc_top.proofs.ThinMeaning.{program, thin_means}
 
--- a text is longer than its outputs are many
-lines_long : (outputs : List ℕ) → length outputs ≤ length (flat_map output_line outputs)
+-- an output takes 12 bytes at least
+lines_long : (outputs : List ℕ) → 12 * length outputs ≤ length (flat_map output_line outputs)
 lines_long [] = omega arith
 lines_long (value ∷ outputs) =
     omega (
@@ -19,9 +19,10 @@ lines_long (value ∷ outputs) =
       lines_long outputs,
       length-append (output_line value) (flat_map output_line outputs),
       length-append (codes "  output(") (decimal value ++ codes ");\n"),
+      length-append (decimal value) (codes ");\n"),
     )
 
-few_outputs : (text : List ℕ) (thin : ThinProgram) → IsThin text thin → length thin.outputs ≤ 16384
+few_outputs : (text : List ℕ) (thin : ThinProgram) → IsThin text thin → length thin.outputs ≤ 1365
 few_outputs text thin h =
     let whole : length text ≡ length (head ++ (flat_map output_line thin.outputs ++
     (return_line thin.result ++ codes "}\n"))) = ap length (h.whole ∙ ap (λ b. head ++ b) h.body.spelled) in
@@ -57,7 +58,7 @@ module _ (cut : (tree : SectionTree) → IsTrue (kept_section tree) →
           };
         },
         record {
-          interfaces = thin_faces t.lines t.body;
+          fits = thin_fits t.lines t.body thin.outputs thin.result (few_outputs text thin h) t.statements;
           means = λ inputs turns events. thin_means t.lines t.body inputs turns thin.outputs thin.result t.statements
               events;
         },

@@ -1,7 +1,7 @@
--- The tree of a thin text breaks no rule.
-use Rattle.sc_top.proofs.Common.{FunctionTree, List, Scope, SectionTree, Some, StmtTree, [], ap, ap₂, arith, callees_of}
-use Rattle.sc_top.proofs.Common.{codes, concat, counts_broken, false, le-leb, length, map, most_nodes, nat_le}
-use Rattle.sc_top.proofs.Common.{program_of, refl, rules, scope_in, stmt_nodes, thin_interfaces, total, true}
+-- The tree of a thin text breaks no rule, and its program fits.
+use Rattle.sc_top.proofs.Common.{FunctionTree, List, None, Scope, SectionTree, Some, StmtTree, [], ap, ap₂, arith}
+use Rattle.sc_top.proofs.Common.{callees_of, codes, concat, counts_broken, false, le-leb, length, map, most_nodes, nat_le}
+use Rattle.sc_top.proofs.Common.{nat_lt, nat_tests, program_of, refl, rules, scope_in, stmt_nodes, too_large, total, true}
 use Rattle.sc_top.proofs.Common.{typed_stmt, types_broken, visible_of, ℕ, ◌&&◌, ◌*◌, ◌++◌, ◌+◌, ◌∙◌, ◌∷◌, ◌≡◌, ◌≤◌}
 use Rattle.sc_scope.specs.Prelude.{Known, line_of_text, names_broken, unless}
 use Rattle.sc_interfaces.specs.Prelude.{interface_broken}
@@ -18,6 +18,9 @@ use Rattle.sc_scope.specs.Names as names
 use Rattle.sc_elab_stmt.specs.Statements as elab
 use Rattle.sc_elab.specs.Sections as sections
 use Rattle.sc_types.specs.Counts as counts
+use Rattle.sc_core.specs.Prelude.{nodes}
+use Rattle.sc_compile.specs.declared.fault.CompileFault.TheVariants.{CodeTooLarge, FrameTooLarge}
+use Rattle.sc_compile.specs.Sizes as sizes
 use Rattle.sc_top.proofs.Bodies.{AreSmall}
 use Rattle.sc_top.proofs.ThinLines.{IsThinBody, last, more, Lines, tree_at, main_tree, output_at, return_at}
 
@@ -154,12 +157,12 @@ module _ (lines : Lines) (whole : List StmtTree) where
       (nat_le (counts.section_nodes tree callees) most_nodes && true) 1 ++ []
   counts_are = refl
 
-  few_nodes : (outputs : List ℕ) (result : ℕ) → length outputs ≤ 16384 → IsThinBody outputs result whole →
+  few_nodes : (outputs : List ℕ) (result : ℕ) → length outputs ≤ 1365 → IsThinBody outputs result whole →
       nat_le (counts.section_nodes tree callees) most_nodes ≡ true
   few_nodes outputs result few h = le-leb (counts.section_nodes tree callees) most_nodes
       (omega (arith, nodes_are, nodes_of_body outputs result whole h, few))
 
-  within_counts : (outputs : List ℕ) (result : ℕ) → length outputs ≤ 16384 → IsThinBody outputs result whole →
+  within_counts : (outputs : List ℕ) (result : ℕ) → length outputs ≤ 1365 → IsThinBody outputs result whole →
       counts.section_lines tree callees ≡ []
   within_counts outputs result few h = counts_are ∙ ap (λ b. unless (b && true) 1 ++ [])
       (few_nodes outputs result few h)
@@ -167,10 +170,39 @@ module _ (lines : Lines) (whole : List StmtTree) where
   counted : counts_broken (tree ∷ []) ≡ map (line_of_text lines.heading) (counts.section_lines tree callees) ++ []
   counted = refl
 
-  pub thin_counts : (outputs : List ℕ) (result : ℕ) → length outputs ≤ 16384 → IsThinBody outputs result whole →
+  pub thin_counts : (outputs : List ℕ) (result : ℕ) → length outputs ≤ 1365 → IsThinBody outputs result whole →
       counts_broken (tree ∷ []) ≡ []
   thin_counts outputs result few h = counted ∙ ap (λ x. map (line_of_text lines.heading) x ++ [])
       (within_counts outputs result few h)
 
-  pub thin_faces : (program_of (tree ∷ [])).interfaces ≡ thin_interfaces
-  thin_faces = refl
+  -- Sizes.
+  abbrev main_nodes : ℕ
+  main_nodes = nodes (sections.typed_function tree callees main)
+
+  main_nodes_are : main_nodes ≡ 1 + 0 + body_nodes whole
+  unfolding sections.typed_locals
+  main_nodes_are = refl
+
+  abbrev main_frame : ℕ
+  main_frame = 64 + 4 * (0 + main_nodes)
+
+  abbrev main_code : ℕ
+  main_code = 96 * (main_nodes + 0)
+
+  sizes_are : too_large (program_of (tree ∷ [])) ≡
+      sizes.first (((sizes.above sizes.most_frame main_frame (FrameTooLarge 0 (codes "main") main_frame) ++ []) ++ []) ++
+      (sizes.above sizes.most_code main_code (CodeTooLarge 0 main_code) ++ []))
+  unfolding sections.typed_structs sections.typed_locals
+  sizes_are = refl
+
+  not_above : (limit size : ℕ) → size ≤ limit → nat_lt limit size ≡ false
+  not_above limit size le = grind (arith, nat_tests)
+
+  pub thin_fits : (outputs : List ℕ) (result : ℕ) → length outputs ≤ 1365 → IsThinBody outputs result whole →
+      too_large (program_of (tree ∷ [])) ≡ None
+  thin_fits outputs result few h =
+      let all = nodes_of_body outputs result whole h in
+      sizes_are ∙ rw (
+        not_above sizes.most_frame main_frame (omega (arith, main_nodes_are, all, few)),
+        not_above sizes.most_code main_code (omega (arith, main_nodes_are, all, few)),
+      ) refl

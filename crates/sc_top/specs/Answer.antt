@@ -1,6 +1,6 @@
 -- What an answer says of the bytes that were read and written.
-use Rattle.sc_top.specs.Common.{Accepts, Adds, Command, Fails, ImageParts, IsAtEnd, IsImage, ProgramTree, Refusal, Rose}
-use Rattle.sc_top.specs.Common.{Takes, bad, cause_number}
+use Rattle.sc_top.specs.Common.{Accepts, Adds, Command, Fails, IsAtEnd, IsImage, ProgramTree, Refusal, Rose, Takes}
+use Rattle.sc_top.specs.Common.{bad, cause_number, too_large}
 use Rattle.std.specs.Prelude.{◌≡◌, ◌≢◌, ◌≤◌, ◌⊎◌, ◌+◌, ℕ, IsTrue, List, [], ◌++◌, length, Option, Some, None}
 use Rattle.std.specs.Prelude.{option_and_then}
 use Rattle.std.specs.Option.{option_map}
@@ -10,8 +10,8 @@ use Rattle.sc_top.specs.declared.status.Status.TheVariants.{Done, Usage, Refused
 use Rattle.sc_top.specs.declared.status.Status.TheVariants.{ReadFault, WriteFault, OutOfMemory, NotBuilt}
 use Rattle.sc_top.specs.declared.status.TooLarge as large
 use Rattle.sc_top.specs.Command.{Intake, Text, Image, Nothing, intake, limit_of}
-use Rattle.sc_top.specs.Output.{compiles, HasImage, IsOutput}
-use Rattle.sc_top.specs.Sizes.{too_large}
+use Rattle.sc_top.specs.Large.{large_in}
+use Rattle.sc_top.specs.Output.{compiles, IsBuilt, IsOutput}
 
 -- what a call saw of the outside: the bytes that were left to read and those that were written, where these are told,
 -- and the counts of faults, each before the call and after it
@@ -88,22 +88,19 @@ IsBadIn _ bytes cause = ⊥
 abbrev pub FindsBad : Command → List ℕ → (cause : ℕ) → Type 0
 FindsBad command bytes cause = IsBadIn (intake command) bytes cause
 
--- the text is accepted, and would be compiled, which isn't built yet for it
+-- the text is accepted, and the command isn't built for it yet
 pub record IsBeyond (command : Command) (bytes : List ℕ) : Type 0 where
-  pub compiled : IsTrue (compiles command)
   pub program : ProgramTree
   pub accepted : Accepts bytes program
-  pub imageless : (image : ImageParts) → HasImage bytes image → ⊥
+  pub unbuilt : IsBuilt command bytes → ⊥
 
--- the text is accepted, and its program doesn't fit where it would be compiled, so that it has no image. So far each
--- text without an image is beyond what is built
+-- the text is accepted, the command is built for it and compiles its program, which is too large
 pub record IsUnfit (command : Command) (bytes : List ℕ) (fault : large.TooLarge) : Type 0 where
-  pub compiled : IsTrue (compiles command)
   pub program : ProgramTree
   pub accepted : Accepts bytes program
-  pub found : too_large program ≡ Some fault
-  pub imageless : (image : ImageParts) → HasImage bytes image → ⊥
-  pub built : IsBeyond command bytes → ⊥
+  pub built : IsBuilt command bytes
+  pub compiled : IsTrue (compiles command)
+  pub found : large_in program ≡ Some fault
 
 -- the command isn't built yet, or isn't for this text
 abbrev pub GivesUp : Command → List ℕ → Type 0
@@ -148,12 +145,13 @@ IsAnswer command bytes (BadImage cause) = IsWithin command bytes × FindsBad com
 IsAnswer command bytes NotBuilt = IsWithin command bytes × GivesUp command bytes
 IsAnswer command bytes _ = ⊥
 
--- good input: a text that is accepted, and has an image where it is compiled; the bytes of an image
+-- good input: a text that is accepted, for which the command is built, and whose program fits where it is compiled; the
+-- bytes of an image
 pub record IsGoodText (command : Command) (bytes : List ℕ) : Type 0 where
   pub program : ProgramTree
-  pub image : ImageParts
   pub accepted : Accepts bytes program
-  pub compiled : IsTrue (compiles command) → HasImage bytes image
+  pub built : IsBuilt command bytes
+  pub fits : IsTrue (compiles command) → too_large program ≡ None
 
 abbrev pub IsGoodIn : Intake → Command → List ℕ → Type 0
 IsGoodIn (Text limit) command bytes = IsGoodText command bytes

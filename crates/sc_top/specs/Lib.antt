@@ -4,9 +4,8 @@ pub mod Answer
 pub mod Command
 pub mod Failure
 pub mod Fetching
-pub mod Names
+pub mod Large
 pub mod Output
-pub mod Sizes
 pub mod Statement
 pub mod Status
 pub mod Texts

@@ -1,8 +1,10 @@
 -- What each command writes for the program of a text and its image, or for an image.
 use Rattle.sc_top.specs.Common.{Accepts, Command, ImageParts, Interfaces, IsImage, ProgramTree, Run, RunOptions}
-use Rattle.sc_top.specs.Common.{ThinProgram, image_bytes, interfaces_of, machine, meaning, thin_image}
+use Rattle.sc_top.specs.Common.{ThinProgram, image_bytes, interfaces_of, machine, meaning}
 use Rattle.sc_word.specs.Prelude.{word_of}
-use Rattle.std.specs.Prelude.{◌≡◌, ℕ, Bool, true, false, IsTrue, List, [], ◌++◌, length, map, codes, Some, None}
+use Rattle.std.specs.Prelude.{◌≡◌, ℕ, Bool, true, false, IsTrue, List, [], ◌++◌, length, map, codes, Some, None, Ok}
+use Rattle.sc_compile.specs.Compiled.{IsCompiled}
+use Rattle.sc_compile.specs.Image.{image_of}
 use Rattle.sc_core.specs.declared.run.SourceRun.{SourceRun}
 use Rattle.sc_report.specs.Check.{check_text}
 use Rattle.sc_report.specs.Report.{meaning_text, run_text}
@@ -23,11 +25,10 @@ abbrev pub machine_text : Interfaces → RunOptions → ImageParts → List ℕ
 machine_text names options image = run_text names (machine_run options image).state.trace
     (machine_run options image).stop
 
--- the image that a program of this text has: so far only a thin text has one
-pub record HasImage (bytes : List ℕ) (image : ImageParts) : Type 0 where
-  pub thin : ThinProgram
-  pub spelled : IsThin bytes thin
-  pub compiled : image ≡ thin_image thin
+-- the program fits, and this is its image, on which the machine does what the program says
+pub record HasImage (program : ProgramTree) (image : ImageParts) : Type 0 where
+  pub compiled : image_of program ≡ Ok image
+  pub right : IsCompiled program image
 
 -- the commands that compile
 abbrev pub compiles : Command → Bool
@@ -35,6 +36,11 @@ compiles commands.Compile = true
 compiles (commands.Run options) = true
 compiles (commands.Explain options show) = true
 compiles _ = false
+
+-- which accepted texts a command is built for: so far `explain` is for thin ones alone, the others are for all
+abbrev pub IsBuilt : Command → List ℕ → Type 0
+IsBuilt (commands.Explain options show) bytes = (thin : ThinProgram) × IsThin bytes thin
+IsBuilt command bytes = Unit {0}
 
 -- what a command that takes a text writes for its bytes, its program and that one's image. Of the chain, which is the
 -- text alone, any text is that one
@@ -57,12 +63,14 @@ IsAccounted (commands.Explain options show) program image =
     (meaning program (map word_of options.inputs) options.steps (length trace)).trace ≡ trace
 IsAccounted _ program image = Unit {0}
 
--- the bytes are an accepted text, with an image where the command compiles, and this is the output for them
+-- the bytes are an accepted text for which the command is built, with an image where it compiles, and this is the
+-- output for them
 pub record IsTextOutput (command : Command) (bytes text : List ℕ) : Type 0 where
   pub program : ProgramTree
   pub image : ImageParts
   pub accepted : Accepts bytes program
-  pub compiled : IsTrue (compiles command) → HasImage bytes image
+  pub built : IsBuilt command bytes
+  pub compiled : IsTrue (compiles command) → HasImage program image
   pub written : text ≡ output command bytes program image
   pub accounted : IsAccounted command program image
 

@@ -10,13 +10,13 @@ pub use Rattle.sc_top.specs.Command.{limit_of}
 pub use Rattle.sc_top.specs.Failure.{IsInputCause, IsOutputCause, of_image_fault, of_read_fault, of_text_fault}
 pub use Rattle.sc_top.specs.Failure.{of_words_fault, status_by, status_of}
 pub use Rattle.sc_top.specs.Fetching.{Fetches}
-pub use Rattle.sc_top.specs.Names.{thin_interfaces}
-pub use Rattle.sc_top.specs.Output.{HasImage, IsAccounted, IsExecuted, IsOutput, IsTextOutput, compiles, machine_run}
-pub use Rattle.sc_top.specs.Output.{machine_text, meant, output}
+pub use Rattle.sc_top.specs.Large.{by_name, large_in}
+pub use Rattle.sc_top.specs.Output.{HasImage, IsAccounted, IsBuilt, IsExecuted, IsOutput, IsTextOutput, compiles}
+pub use Rattle.sc_top.specs.Output.{machine_run, machine_text, meant, output}
 pub use Rattle.sc_top.specs.Statement.{EndsNumber, IsNumber, IsStatement}
 pub use Rattle.sc_top.specs.Status.{bytes_of, fixed_text, kind_text, large_text, own_text, owner_text, phase_word}
 pub use Rattle.sc_top.specs.Status.{refusal_text, status_number, status_text}
-pub use Rattle.sc_top.specs.Texts.{IsReading, IsThinMeant, IsThinReading, IsThinText}
+pub use Rattle.sc_top.specs.Texts.{IsCompiling, IsNamed, IsReading, IsThinReading, IsThinText, of_compile_fault}
 pub use Rattle.sc_top.specs.Thin.{IsBody, IsThin, output_line, return_line}
 unfoldable pub use Rattle.sc_top.specs.Thin.{head}
 pub use Rattle.sc_top.specs.ThinMeaning.{IsThinProgram}

@@ -1,9 +1,12 @@
--- Helping: texts as the commands that compile read them.
-use Rattle.sc_top.specs.Common.{Accepts, Fails, ProgramTree, RunOptions, ThinProgram, thin_image, thin_meaning}
-use Rattle.std.specs.Prelude.{◌≡◌, ℕ, List, length}
+-- Helping: texts as commands read them, and what comes of compiling them.
+use Rattle.sc_top.specs.Common.{Accepts, CompileFault, Fails, Interfaces, ProgramTree, ThinProgram}
+use Rattle.std.specs.Prelude.{◌≡◌, ℕ, List, Option, None, Some, IsSome}
+use Rattle.sc_event.specs.Prelude.{comp_at}
+use Rattle.sc_compile.specs.declared.fault.CompileFault.TheVariants as compiling
 use Rattle.sc_top.specs.declared.failure.Failure.{Failure}
-use Rattle.sc_top.specs.declared.failure.Failure.TheVariants.{Refused, OutOfMemory, NotBuilt}
-use Rattle.sc_top.specs.Output.{machine_run}
+use Rattle.sc_top.specs.declared.failure.Failure.TheVariants.{Refused, TooLarge, OutOfMemory, NotBuilt}
+use Rattle.sc_top.specs.declared.status.TooLarge as large
+use Rattle.sc_top.specs.Large.{by_name, large_in}
 use Rattle.sc_top.specs.Thin.{IsThin}
 use Rattle.sc_top.specs.ThinMeaning.{IsThinProgram}
 
@@ -13,7 +16,7 @@ IsReading bytes (Refused refusal) = Fails bytes refusal.phase refusal.line
 IsReading bytes OutOfMemory = Unit {0}
 IsReading bytes _ = ⊥
 
--- a text is accepted, and has no image so far
+-- a text is accepted, and isn't thin
 pub record IsThick (bytes : List ℕ) : Type 0 where
   pub program : ProgramTree
   pub accepted : Accepts bytes program
@@ -26,13 +29,30 @@ IsThinReading bytes NotBuilt = IsThick bytes
 IsThinReading bytes OutOfMemory = Unit {0}
 IsThinReading bytes _ = ⊥
 
--- the bytes are accepted as this program, and they are the text of that thin one, which is the same
-pub record IsThinText (bytes : List ℕ) (program : ProgramTree) (thin : ThinProgram) : Type 0 where
+-- the bytes are accepted as this program, and they are the text of a thin one, which is the same
+pub record IsThinText (bytes : List ℕ) (program : ProgramTree) : Type 0 where
   pub accepted : Accepts bytes program
+  pub thin : ThinProgram
   pub spelled : IsThin bytes thin
   pub same : IsThinProgram program thin
 
--- within so many events as the machine shows, the meaning that a thin program has by itself has just this trace
-abbrev pub IsThinMeant : RunOptions → ThinProgram → Type 0
-IsThinMeant options thin =
-    let trace = (machine_run options (thin_image thin)).state.trace in (thin_meaning (length trace) thin).trace ≡ trace
+-- the compartment of which a fault tells is there
+abbrev pub IsNamed : Interfaces → CompileFault → Type 0
+IsNamed interfaces (compiling.CodeTooLarge comp bound) = IsSome (comp_at interfaces comp)
+IsNamed interfaces (compiling.DataTooLarge comp bytes) = IsSome (comp_at interfaces comp)
+IsNamed interfaces (compiling.FrameTooLarge comp function bound) = IsSome (comp_at interfaces comp)
+IsNamed interfaces compiling.OutOfMemory = Unit {0}
+
+abbrev pub of_large : Option large.TooLarge → Failure
+of_large None = OutOfMemory
+of_large (Some fault) = TooLarge fault
+
+-- a fault of the compiler, by the names of the program
+abbrev pub of_compile_fault : Interfaces → CompileFault → Failure
+of_compile_fault interfaces fault = of_large (by_name interfaces fault)
+
+-- why a program isn't compiled
+abbrev pub IsCompiling : ProgramTree → Failure → Type 0
+IsCompiling program (TooLarge fault) = large_in program ≡ Some fault
+IsCompiling program OutOfMemory = Unit {0}
+IsCompiling program _ = ⊥

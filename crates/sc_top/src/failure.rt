@@ -1,9 +1,13 @@
-ghost use Rattle.std.specs.Prelude.{◌≡◌};
+ghost use Rattle.std.specs.Prelude.{◌≡◌, IsSome};
+ghost use Rattle.sc_event.specs.Prelude.{comp_at, comp_name};
 ghost use Rattle.sc_top.specs.Failure.{of_words_fault, of_text_fault, of_image_fault, of_read_fault};
+ghost use Rattle.sc_top.specs.Texts.{IsNamed, of_compile_fault};
 
 use crate::TooLarge;
 use crate::input::ReadFault;
-use sc_base::OutOfMemory;
+use sc_base::{Name, OutOfMemory};
+use sc_compile::CompileFault;
+use sc_event::{CompId, Interfaces};
 use sc_image::ImageFault;
 use sc_lex::Refusal;
 use sc_types::TextFault;
@@ -77,4 +81,39 @@ impl From<ImageFault> for Failure {
             ImageFault::OutOfMemory => Failure::OutOfMemory,
         }
     }
+}
+
+/// The failure that a fault of the compiler is, by the names of the program.
+pub(crate) fn compile_failure(interfaces: &Interfaces, fault: CompileFault) -> Failure
+    requires { IsNamed interfaces.now fault }
+    ensures { result ≡ of_compile_fault interfaces.now fault }
+{
+    match fault {
+        CompileFault::CodeTooLarge { comp, bound } => Failure::TooLarge(TooLarge::Code {
+            comp: comp_name(interfaces, comp),
+            number: bound,
+        }),
+        CompileFault::DataTooLarge { comp, bytes } => Failure::TooLarge(TooLarge::Globals {
+            comp: comp_name(interfaces, comp),
+            number: bytes,
+        }),
+        CompileFault::FrameTooLarge {
+            comp,
+            function,
+            bound,
+        } => Failure::TooLarge(TooLarge::Frame {
+            comp: comp_name(interfaces, comp),
+            function,
+            number: bound,
+        }),
+        CompileFault::OutOfMemory => Failure::OutOfMemory,
+    }
+}
+
+// The name of a compartment.
+fn comp_name(interfaces: &Interfaces, comp: CompId) -> Name
+    requires { IsSome (comp_at interfaces.now comp) }
+    ensures { result ≡ comp_name interfaces.now comp }
+{
+    interfaces.comp(comp).unwrap().name
 }

@@ -1,6 +1,6 @@
 //! What holds of every text.
 
-ghost use Rattle.sc_top.specs.Prelude.{Accepts, Command, HasImage, IsAnswer, IsOutput, IsThin, IsThinProgram, IsWithin};
+ghost use Rattle.sc_top.specs.Prelude.{Accepts, Command, IsAnswer, IsOutput, IsThin, IsThinProgram, IsWithin};
 ghost use Rattle.sc_top.specs.Prelude.{SameAnswer, ThinProgram, compiles};
 ghost use Rattle.sc_image.specs.Prelude.{IsImage};
 ghost use Rattle.std.specs.Prelude.{◌≡◌, ◌≤◌, ℕ, List, length, IsTrue};
@@ -8,7 +8,6 @@ ghost use Rattle.sc_core.specs.declared.program.ProgramTree.{ProgramTree};
 ghost use Rattle.sc_ast.specs.declared.section.SectionTree.{SectionTree};
 ghost use Rattle.sc_read.specs.Reading.{Reads};
 ghost use Rattle.sc_top.specs.declared.status.Status.{Status};
-ghost use Rattle.sc_image.specs.declared.parts.ImageParts.{ImageParts};
 
 use sc_image::one_image;
 use sc_print::{dense_sections_are_cut, lines_add_no_height, words_of_sections_spell_them};
@@ -24,7 +23,7 @@ pub fn thin_texts_are_read()
     lines_add_no_height();
 }
 
-/// A thin text is accepted, as a program that means what its thin program means.
+/// A thin text is accepted, as a program that fits and means what its thin program means.
 pub fn thin_texts_are_accepted()
     ensures { (text : List ℕ) (thin : ThinProgram) → IsThin text thin →
         (program : ProgramTree) × Accepts text program × IsThinProgram program thin }
@@ -36,8 +35,8 @@ pub fn thin_texts_are_accepted()
 
 /// A thin text and an image are never longer than the commands take that read them alone.
 pub fn thin_texts_and_images_are_within()
-    ensures texts { (c : Command) (text : List ℕ) (image : ImageParts) →
-        IsTrue (compiles c) → HasImage text image → IsWithin c text }
+    ensures texts { (c : Command) (text : List ℕ) (program : ThinProgram) →
+        IsTrue (compiles c) → IsThin text program → IsWithin c text }
     ensures images { (bytes : List ℕ) → IsImage bytes → length bytes ≤ 67108864 }
 {}
 
@@ -56,7 +55,6 @@ pub fn one_output()
     ensures { (c : Command) (bytes text other : List ℕ) →
         IsOutput c bytes text → IsOutput c bytes other → text ≡ other }
 {
-    thin_texts_are_accepted();
     one_program();
     one_image();
 }

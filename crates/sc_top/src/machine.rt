@@ -1,13 +1,12 @@
-ghost use Rattle.sc_top.specs.Prelude.{IsThinMeant, machine_run, machine_text, thin_interfaces};
+ghost use Rattle.sc_top.specs.Prelude.{machine_run, machine_text};
+ghost use Rattle.sc_compile.specs.Compiled.{IsCompiled};
 ghost use Rattle.sc_event.specs.Prelude.{IsKnown};
-ghost use Rattle.std.specs.Prelude.{◌≡◌, ◌≤◌, length, All, IfOk, OnOk};
-ghost use Rattle.sc_compile.specs.Image.{thin_image};
+ghost use Rattle.std.specs.Prelude.{◌≡◌, All, IfOk};
 
 use sc_base::{OutOfMemory, Text};
-use sc_compile::compile;
-use sc_core::ThinProgram;
+use sc_core::Program;
 use sc_event::Interfaces;
-use sc_image::{Image, traces_are_legal};
+use sc_image::Image;
 use sc_machine::{LoadFault, Machine};
 use sc_store::FlatStore;
 use sc_words::RunOptions;
@@ -31,21 +30,17 @@ pub(crate) fn machine_text(
     sc_report::run_text(alloc, names, machine.trace(), stop)
 }
 
-/// What the machine shows on the compiled program, by the names of a thin program.
+/// What the machine shows on the image of a program, by the program's names.
 pub(crate) fn compiled_text(
     alloc: Global,
-    names: &Interfaces,
+    program: &Program,
     options: &RunOptions,
-    program: &ThinProgram,
+    image: Image,
 ) -> Result<Text, OutOfMemory>
-    requires few { length program.now.outputs ≤ 16384 }
-    requires thin { names.now ≡ thin_interfaces }
-    ensures text { IfOk result (λ text. text ≡ machine_text names.now options.now (thin_image program.now)) }
-    ensures meant { OnOk result (IsThinMeant options.now program.now) }
+    requires { IsCompiled program.now image }
+    ensures { IfOk result (λ text. text ≡ machine_text program.now.interfaces options.now image) }
 {
-    let image = compile(alloc, program)?;
-    // Every image is well formed, so that its traces are legal.
-    let _parts = image.parts();
-    traces_are_legal();
-    machine_text(alloc, names, options, image)
+    // Every program is well typed, so that its main compartment is there.
+    let _tree = program.tree();
+    machine_text(alloc, program.interfaces(), options, image)
 }

@@ -1,18 +1,18 @@
 //! The commands that read texts.
 
-ghost use Rattle.sc_top.specs.Prelude.{Accepts, Check, Compile, Explain, IsOutput, IsOutputCause, IsReading};
-ghost use Rattle.sc_top.specs.Prelude.{IsThinReading, IsThinText, Meaning, Run, meant};
-ghost use Rattle.std.specs.Prelude.{◌≡◌, ◌≤◌, length, IfOk, IfErr};
+ghost use Rattle.sc_top.specs.Prelude.{Accepts, Check, Compile, Explain, HasImage, IsCompiling, IsOutput};
+ghost use Rattle.sc_top.specs.Prelude.{IsOutputCause, IsReading, IsThinReading, IsThinText, Meaning, Run, meant};
+ghost use Rattle.std.specs.Prelude.{◌≡◌, IfOk, IfErr};
 ghost use Rattle.sc_report.specs.Report.{meaning_text};
 
-use crate::failure::Failure;
+use crate::failure::{Failure, compile_failure};
 use crate::laws::thin_texts_are_accepted;
 use crate::machine::compiled_text;
 use crate::thin::read_thin;
 use sc_base::{OutOfMemory, Text};
 use sc_compile::compile;
-use sc_core::{Program, ThinProgram};
-use sc_image::write_image;
+use sc_core::Program;
+use sc_image::{Image, write_image};
 use sc_laws::traces_are_legal;
 use sc_run::run_source;
 use sc_types::{SourceText, one_program};
@@ -64,26 +64,16 @@ fn meaning_text(
     sc_report::meaning_text(alloc, program.interfaces(), &run)
 }
 
-// A thin text, and its thin program.
-#[derive(Drop)]
-struct ThinText {
-    source: SourceText,
-    thin: ThinProgram,
-}
-
-// The accepted text, which must be thin.
-#[tactic(auto, using(crate::proofs::Bodies::few_outputs))]
-fn read_thin_text(alloc: Global, bytes: &[u8]) -> Result<ThinText, Failure>
-    ensures thin { IfOk result (λ text. IsThinText bytes.now text.source.program text.thin) }
-    ensures few { IfOk result (λ text. length text.thin.outputs ≤ 16384) }
-    ensures cause { IfErr result (IsThinReading bytes.now) }
+// The image of a program.
+fn compiled_image(alloc: Global, program: &Program) -> Result<Image, Failure>
+    ensures image { IfOk result (HasImage program.now) }
+    ensures cause { IfErr result (IsCompiling program.now) }
 {
-    thin_texts_are_accepted();
-    one_program();
-    let source = read_source(alloc, bytes)?;
-    match read_thin(alloc, bytes)? {
-        Some(thin) => Ok(ThinText { source, thin }),
-        None => Err(Failure::NotBuilt),
+    // Every program is well typed, so that each section has a compartment.
+    let _tree = program.tree();
+    match compile(alloc, program) {
+        Ok(image) => Ok(image),
+        Err(fault) => Err(compile_failure(program.interfaces(), fault)),
     }
 }
 
@@ -92,8 +82,8 @@ pub(crate) fn compiled(alloc: Global, bytes: &[u8]) -> Result<Text, Failure>
     ensures ok { IfOk result (IsOutput Compile bytes.now) }
     ensures cause { IfErr result (IsOutputCause Compile bytes.now) }
 {
-    let text = read_thin_text(alloc, bytes)?;
-    let image = compile(alloc, &text.thin)?;
+    let source = read_source(alloc, bytes)?;
+    let image = compiled_image(alloc, source.program())?;
     Ok(write_image(alloc, &image)?)
 }
 
@@ -102,12 +92,27 @@ pub(crate) fn run(alloc: Global, options: &RunOptions, bytes: &[u8]) -> Result<T
     ensures ok { IfOk result (IsOutput (Run options.now) bytes.now) }
     ensures cause { IfErr result (IsOutputCause (Run options.now) bytes.now) }
 {
-    let text = read_thin_text(alloc, bytes)?;
-    let names = text.source.program().interfaces();
-    Ok(compiled_text(alloc, names, options, &text.thin)?)
+    let source = read_source(alloc, bytes)?;
+    let program = source.program();
+    let image = compiled_image(alloc, program)?;
+    Ok(compiled_text(alloc, program, options, image)?)
 }
 
-/// The same, and an account of it by source programs; or one of these programs.
+// The accepted text, which must be thin.
+fn read_thin_text(alloc: Global, bytes: &[u8]) -> Result<SourceText, Failure>
+    ensures thin { IfOk result (λ source. IsThinText bytes.now source.program) }
+    ensures cause { IfErr result (IsThinReading bytes.now) }
+{
+    thin_texts_are_accepted();
+    one_program();
+    let source = read_source(alloc, bytes)?;
+    match read_thin(alloc, bytes)? {
+        Some(_) => Ok(source),
+        None => Err(Failure::NotBuilt),
+    }
+}
+
+/// The same for a thin text, and an account of it by source programs; or one of these programs.
 pub(crate) fn explain(
     alloc: Global,
     options: &RunOptions,
@@ -117,9 +122,10 @@ pub(crate) fn explain(
     ensures ok { IfOk result (IsOutput (Explain options.now show) bytes.now) }
     ensures cause { IfErr result (IsOutputCause (Explain options.now show) bytes.now) }
 {
-    let text = read_thin_text(alloc, bytes)?;
-    let names = text.source.program().interfaces();
-    let mut report = compiled_text(alloc, names, options, &text.thin)?;
+    let source = read_thin_text(alloc, bytes)?;
+    let program = source.program();
+    let image = compiled_image(alloc, program)?;
+    let mut report = compiled_text(alloc, program, options, image)?;
     report.append(b"chain 0\n")?;
     match show {
         None => Ok(report),

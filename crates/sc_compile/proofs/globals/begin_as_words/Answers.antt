@@ -11,4 +11,5 @@ loop-global-preserved c =
 
 pub returns : goal.returns
 returns c =
-    all_done BeginsAsWords c.args.globals.now c.loop-global.global-index c.loop-global-test.false c.loop-global.invariant
+    all_done BeginsAsWords c.args.globals.now c.loop-global.global-index c.loop-global-test.false
+    c.loop-global.invariant

@@ -8,4 +8,4 @@ returns-clause-ok c =
     let named = ap check_text c.interfaces.ensures ∙
     ap (λ (program : ProgramTree). check_text program.interfaces) c.program.ensures.program in
     plain_output Check c.args.bytes.now c.in_ok-check_text.field-0 c.in_ok-source.source.program (λ h. false≢true h)
-    c.in_ok-source.ensures.accepted.1 (c.in_ok-check_text.ensures ∙ named) tt
+    c.in_ok-source.ensures.accepted.1 tt (c.in_ok-check_text.ensures ∙ named) tt

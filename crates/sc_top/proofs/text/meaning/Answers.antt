@@ -8,4 +8,4 @@ returns-clause-ok c =
     (meant c.args.options.now program)) c.program.ensures.program in
     plain_output (Meaning c.args.options.now) c.args.bytes.now c.in_ok-meaning_text.field-0
     c.in_ok-source.source.program (λ h. false≢true h)
-    c.in_ok-source.ensures.accepted.1 (c.in_ok-meaning_text.ensures ∙ told) tt
+    c.in_ok-source.ensures.accepted.1 tt (c.in_ok-meaning_text.ensures ∙ told) tt

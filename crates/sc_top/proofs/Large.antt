@@ -1,0 +1,109 @@
+-- What is too large is in a compartment of the program, by whose name it is told.
+use Rattle.sc_top.proofs.Common.{AllByRecursion, Bool, Err, ImageParts, Interfaces, IsCompiling, IsNamed, IsSome}
+use Rattle.sc_top.proofs.Common.{IsWellTyped, List, None, Ok, Option, ProgramTree, Some, [], ap, arith, by_name, comp_at}
+use Rattle.sc_top.proofs.Common.{false, length, nat_lt, none-some, of_compile_fault, refl, subst, suc, sym, true, ℕ}
+use Rattle.sc_top.proofs.Common.{⊎_elim, ◌++◌, ◌+◌, ◌∷◌, ◌≡◌, ◌≤◌, ◌⊎◌}
+use Rattle.std.specs.Prelude.{flat_map, if◌then◌else◌, option_and_then}
+use Rattle.sc_core.specs.declared.section.TypedFunction.{TypedFunction}
+use Rattle.sc_core.specs.declared.section.TypedSection.{TypedSection}
+use Rattle.sc_compile.specs.declared.fault.CompileFault.{CompileFault}
+use Rattle.sc_compile.specs.declared.fault.CompileFault.TheVariants.{CodeTooLarge, DataTooLarge, FrameTooLarge}
+use Rattle.sc_compile.specs.declared.fault.CompileFault.TheVariants.{OutOfMemory}
+use Rattle.sc_compile.specs.Image.{built_image, image_of, unless_large}
+use Rattle.sc_compile.specs.Sizes.{above, code_bytes, data_bytes, first, found_in, frame_bytes, large_code, large_data}
+use Rattle.sc_compile.specs.Sizes.{large_frame, large_frames, most_code, most_data, most_frame, too_large}
+use Rattle.sc_top.proofs.Known.{sections_are, within}
+
+-- a program has an image exactly where nothing of it is too large
+pub fits_of : (found : Option CompileFault) (built image : ImageParts) → unless_large found built ≡ Ok image →
+    found ≡ None
+fits_of None built image is = refl
+fits_of (Some fault) built image is = absurd (cc)
+
+large_of : (found : Option CompileFault) (built : ImageParts) (fault : CompileFault) →
+    unless_large found built ≡ Err fault → found ≡ Some fault
+large_of None built fault is = absurd (cc)
+large_of (Some other) built fault is = cc
+
+-- a fault is one of the program, or memory ran out
+abbrev pub IsFaultOf : ProgramTree → CompileFault → Type 0
+IsFaultOf program fault = (image_of program ≡ Err fault) ⊎ (fault ≡ OutOfMemory)
+
+module _ (interfaces : Interfaces) where
+  abbrev AreNamed : List CompileFault → Type 0
+  AreNamed = AllByRecursion (IsNamed interfaces)
+
+  named_append : (xs ys : List CompileFault) → AreNamed xs → AreNamed ys → AreNamed (xs ++ ys)
+  named_append [] ys here behind = behind
+  named_append (x ∷ xs) ys here behind = (here.0, named_append xs ys here.1 behind)
+
+  named_above : (limit size : ℕ) (fault : CompileFault) → IsNamed interfaces fault → AreNamed (above limit size fault)
+  named_above limit size fault is = by (nat_lt limit size) where
+    by : (large : Bool) → AreNamed (if large then fault ∷ [] else [])
+    by true = (is, tt)
+    by false = tt
+
+  named_frames : (comp : ℕ) (section : TypedSection) (functions : List TypedFunction) →
+      IsSome (comp_at interfaces comp) → AreNamed (flat_map (large_frame comp section) functions)
+  named_frames comp section [] is = tt
+  named_frames comp section (f ∷ functions) is =
+      named_append (large_frame comp section f) (flat_map (large_frame comp section) functions)
+      (named_above most_frame (frame_bytes section f) (FrameTooLarge comp f.name (frame_bytes section f)) is)
+      (named_frames comp section functions is)
+
+  named_found : (find : ℕ → TypedSection → List CompileFault) →
+      ((comp : ℕ) (section : TypedSection) → IsSome (comp_at interfaces comp) → AreNamed (find comp section)) →
+      (comp : ℕ) (sections : List TypedSection) → comp + length sections ≤ length interfaces.comps →
+      AreNamed (found_in find comp sections)
+  named_found find each comp [] few = tt
+  named_found find each comp (section ∷ sections) few =
+      named_append (find comp section) (found_in find (suc comp) sections)
+      (each comp section (within interfaces.comps comp (omega (arith, few))))
+      (named_found find each (suc comp) sections (omega (arith, few)))
+
+  first_named : (faults : List CompileFault) (fault : CompileFault) → AreNamed faults → first faults ≡ Some fault →
+      IsNamed interfaces fault
+  first_named [] fault all is = absurd (none-some fault is)
+  first_named (found ∷ later) fault all is =
+      let same : found ≡ fault = cc in
+      subst (IsNamed interfaces) same all.0
+
+-- the compartment is one of the program's
+pub named_fault : (program : ProgramTree) → IsWellTyped program → (fault : CompileFault) → IsFaultOf program fault →
+    IsNamed program.interfaces fault
+named_fault program typed fault of =
+    ⊎_elim (λ is. first_named program.interfaces all_faults fault all (large_of (too_large program)
+    (built_image program) fault is)) (λ is. subst (IsNamed program.interfaces) (sym is) tt) of where
+      few : 0 + length program.sections ≤ length program.interfaces.comps
+      few = let as_many = sections_are program typed in omega (arith, as_many)
+
+      all_faults : List CompileFault
+      all_faults = found_in large_data 0 program.sections ++
+          (found_in large_frames 0 program.sections ++ found_in large_code 0 program.sections)
+
+      all : AllByRecursion (IsNamed program.interfaces) all_faults
+      all =
+          named_append program.interfaces (found_in large_data 0 program.sections)
+          (found_in large_frames 0 program.sections ++ found_in large_code 0 program.sections)
+          (named_found program.interfaces large_data (λ comp section is. named_above program.interfaces most_data
+          (data_bytes section) (DataTooLarge comp (data_bytes section)) is) 0 program.sections few)
+          (named_append program.interfaces (found_in large_frames 0 program.sections)
+          (found_in large_code 0 program.sections)
+          (named_found program.interfaces large_frames (λ comp section is. named_frames program.interfaces comp section
+          section.functions is) 0 program.sections few)
+          (named_found program.interfaces large_code (λ comp section is. named_above program.interfaces most_code
+          (code_bytes section) (CodeTooLarge comp (code_bytes section)) is) 0 program.sections few))
+
+-- so it is why the program isn't compiled
+told_fault : (program : ProgramTree) (fault : CompileFault) → too_large program ≡ Some fault →
+    IsCompiling program (of_compile_fault program.interfaces fault)
+told_fault program (CodeTooLarge comp bound) is = ap (option_and_then (by_name program.interfaces)) is
+told_fault program (DataTooLarge comp bytes) is = ap (option_and_then (by_name program.interfaces)) is
+told_fault program (FrameTooLarge comp function bound) is = ap (option_and_then (by_name program.interfaces)) is
+told_fault program OutOfMemory is = tt
+
+pub why_not_compiled : (program : ProgramTree) (fault : CompileFault) → IsFaultOf program fault →
+    IsCompiling program (of_compile_fault program.interfaces fault)
+why_not_compiled program fault of =
+    ⊎_elim (λ is. told_fault program fault (large_of (too_large program) (built_image program) fault is))
+    (λ is. subst (λ f. IsCompiling program (of_compile_fault program.interfaces f)) (sym is) tt) of
