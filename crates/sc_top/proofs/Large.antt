@@ -9,7 +9,8 @@ use Rattle.sc_core.specs.declared.section.TypedSection.{TypedSection}
 use Rattle.sc_compile.specs.declared.fault.CompileFault.{CompileFault}
 use Rattle.sc_compile.specs.declared.fault.CompileFault.TheVariants.{CodeTooLarge, DataTooLarge, FrameTooLarge}
 use Rattle.sc_compile.specs.declared.fault.CompileFault.TheVariants.{OutOfMemory}
-use Rattle.sc_compile.specs.Image.{built_image, image_of, unless_large}
+use Rattle.std.proofs.Common.{inl, inr}
+use Rattle.sc_compile.specs.Image.{IsFault, built_image, image_of, unless_large}
 use Rattle.sc_compile.specs.Sizes.{above, code_bytes, data_bytes, first, found_in, frame_bytes, large_code, large_data}
 use Rattle.sc_compile.specs.Sizes.{large_frame, large_frames, most_code, most_data, most_frame, too_large}
 use Rattle.sc_top.proofs.Known.{sections_are, within}
@@ -107,3 +108,10 @@ pub why_not_compiled : (program : ProgramTree) (fault : CompileFault) → IsFaul
 why_not_compiled program fault of =
     ⊎_elim (λ is. told_fault program fault (large_of (too_large program) (built_image program) fault is))
     (λ is. subst (λ f. IsCompiling program (of_compile_fault program.interfaces f)) (sym is) tt) of
+
+-- the same in two cases
+pub in_two_cases : (program : ProgramTree) (fault : CompileFault) → IsFault program fault → IsFaultOf program fault
+in_two_cases program (CodeTooLarge comp bound) is = inl is
+in_two_cases program (DataTooLarge comp bytes) is = inl is
+in_two_cases program (FrameTooLarge comp function bound) is = inl is
+in_two_cases program OutOfMemory is = inr refl
