@@ -2,10 +2,10 @@
 use Rattle.sc_top.proofs.Common.{Accepts, Bool, BytesNameOneImage, Command, CompileFault, Event, Failure, Front, HasImage}
 use Rattle.sc_top.proofs.Common.{ImageParts, IsAccounted, IsBuilt, IsCompiled, IsCompiling, IsExecuted, IsOutput}
 use Rattle.sc_top.proofs.Common.{IsOutputCause, IsTextOutput, IsThin, IsThinProgram, IsThinReading, IsThinText, IsTrue}
-use Rattle.sc_top.proofs.Common.{IsUnfit, List, Ok, Option, ProgramTree, Refusal, Refuses, Result, RunOptions, Some}
+use Rattle.sc_top.proofs.Common.{List, Ok, Option, ProgramTree, Result, RunOptions}
 use Rattle.sc_top.proofs.Common.{SourceRun, ThinProgram, [], ap, append-nil, append_assoc, arith, compiles, drop, false}
-use Rattle.sc_top.proofs.Common.{image_of, inr, interfaces_of, length, length-append, machine_run, machine_text, map}
-use Rattle.sc_top.proofs.Common.{meaning, nat_lt, output, refl, stopped_at, subst, sym, take, take-append-drop}
+use Rattle.sc_top.proofs.Common.{inr, interfaces_of, length, length-append, machine_run, machine_text, map}
+use Rattle.sc_top.proofs.Common.{meaning, nat_lt, output, refl, subst, sym, take, take-append-drop}
 use Rattle.sc_top.proofs.Common.{thin_meaning, true, whole_run, word_of, ℕ, ⊎_elim, ◌++◌, ◌∙◌, ◌∷◌, ◌≡◌, ◌≤◌}
 use Rattle.std.specs.Prelude.{if◌then◌else◌}
 use Rattle.std.proofs.Common.{ltb-false}
@@ -14,7 +14,6 @@ use Rattle.sc_core.specs.declared.run.RunEnd.TheVariants.{EventsOut}
 use Rattle.sc_simulation.specs.Runs.{IsBlamed}
 use Rattle.sc_words.specs.declared.command.Command.TheVariants as commands
 use Rattle.sc_top.specs.declared.failure.Failure.TheVariants as failure
-use Rattle.sc_top.specs.declared.status.TooLarge.{TooLarge}
 use Rattle.sc_top.proofs.Known.{inputs_are_words}
 
 -- WHAT `explain` CLAIMS
