@@ -6,6 +6,8 @@ mod blame;
 #[cfg(test)]
 mod check;
 #[cfg(test)]
+mod compiled;
+#[cfg(test)]
 mod exec;
 #[cfg(test)]
 mod machine;

@@ -47,7 +47,7 @@ fn a_compiled_program_is_run_and_explained(rt: HostRuntime) -> Result<(), Fail> 
 
 #[test]
 fn an_image_is_written_field_by_field(rt: HostRuntime) -> Result<(), Fail> {
-    let fields: [&[u8]; 14] = [
+    let fields: [&[u8]; 21] = [
         b"SCIM", // the mark
         &[1, 0], // the version
         &[1], // one compartment
@@ -58,9 +58,16 @@ fn an_image_is_written_field_by_field(rt: HostRuntime) -> Result<(), Fail> {
         &[2], // it imports `output`
         &[0, 0], // no exports
         &[0, 0], // no imports
-        &[20, 0, 0, 0], // the length of its code
-        &[0x13, 0x05, 0x70, 0, 0x93, 0x08, 0x20, 0, 0x73, 0, 0, 0], // addi a0,x0,7; addi a7,x0,2; ecall
-        &[0x13, 0x05, 0, 0, 0x67, 0x80, 0, 0], // addi a0,x0,0; jalr x0,0(ra)
+        &[60, 0, 0, 0], // the length of its code
+        &[0x13, 0x01, 0xc1, 0xff, 0x23, 0x20, 0x11, 0], // addi sp,sp,-4; sw ra,0(sp)
+        &[0x93, 0x01, 0x70, 0, 0x13, 0x85, 0x01, 0], // addi gp,x0,7; addi a0,gp,0
+        &[0x93, 0x08, 0x20, 0, 0x73, 0, 0, 0], // addi a7,x0,2; ecall
+        &[0x93, 0x01, 0, 0, 0x13, 0x85, 0x01, 0], // addi gp,x0,0; addi a0,gp,0
+        &[0x83, 0x20, 0x01, 0, 0x13, 0x01, 0x41, 0], // lw ra,0(sp); addi sp,sp,4
+        &[0x67, 0x80, 0, 0], // jalr x0,0(ra)
+        &[0x13, 0x05, 0, 0], // at the closing brace: addi a0,x0,0
+        &[0x83, 0x20, 0x01, 0, 0x13, 0x01, 0x41, 0], // lw ra,0(sp); addi sp,sp,4
+        &[0x67, 0x80, 0, 0], // jalr x0,0(ra)
         &[0, 0, 0, 0], // no globals
     ];
     let mut want = Vec::new(rt.alloc());

@@ -2,7 +2,7 @@
 use crate::program::Run;
 use std::test::Fail;
 
-const STORE: &[u8] = b"#pragma compartment Main
+pub const STORE: &[u8] = b"#pragma compartment Main
 #pragma import Net put
 #pragma import Env output
 int put(int i, int v);
@@ -23,7 +23,7 @@ int put(int i, int v) {
 }
 ";
 
-const TWO_STORES: &[u8] = b"#pragma compartment Main
+pub const TWO_STORES: &[u8] = b"#pragma compartment Main
 #pragma import A f
 #pragma import B g
 #pragma import Env output
@@ -263,7 +263,7 @@ int main(void) {
 }
 ";
 
-const MIN_BY_MINUS_ONE: &[u8] = b"#pragma compartment Main
+pub const MIN_BY_MINUS_ONE: &[u8] = b"#pragma compartment Main
 #pragma import Env output
 void output(int v);
 int main(void) {
@@ -287,7 +287,7 @@ int main(void) {
 }
 ";
 
-const INPUTS: &[u8] = b"#pragma compartment Main
+pub const INPUTS: &[u8] = b"#pragma compartment Main
 #pragma import Env input
 #pragma import Env output
 int input(void);

@@ -43,14 +43,14 @@ fn options_bound_what_is_told(rt: HostRuntime) -> Result<(), Fail> {
     let cases: [(&[&str], &[u8]); 8] = [
         (&["run", "--events", "0"], b"stop events\n"),
         (&["run", "--steps=0"], b"stop steps\n"),
-        (&["run", "--steps", "3"], b"out Main 7\nstop steps\n"),
+        (&["run", "--steps", "6"], b"out Main 7\nstop steps\n"),
         (
             &["meaning", "--events=1", "--in=-5,3"],
             b"out Main 7\nstop events\n",
         ),
         (&["meaning", "--turns", "00"], told),
         (
-            &["explain", "--steps=3"],
+            &["explain", "--steps=6"],
             b"out Main 7\nstop steps\nchain 0\n",
         ),
         (&["explain", "--show=32"], SEVEN),
