@@ -17,7 +17,7 @@ pub use Rattle.std.specs.Str.{IsUtf8, all_ascii_digits}
 unfoldable pub use Rattle.sc_base.specs.Prelude.{is_name, is_reserved}
 pub use Rattle.sc_event.specs.Prelude.{IsKnown, comp_at}
 pub use Rattle.sc_event.specs.declared.event.Event.{Event}
-pub use Rattle.sc_event.specs.declared.event.Event.TheVariants.{End, Out}
+pub use Rattle.sc_event.specs.declared.event.Event.TheVariants.{Out}
 pub use Rattle.sc_lex.specs.Prelude.{IsSection, IsSplit, NoHeading, begins_heading, begins_line, is_heading, name_at}
 pub use Rattle.sc_lex.specs.Prelude.{none, nothing, section}
 unfoldable pub use Rattle.sc_lex.specs.Prelude.{heading_name, words}
@@ -35,15 +35,14 @@ pub use Rattle.sc_print.specs.Prelude.{SaysAll, SectionSpells, are_kept, dense_t
 pub use Rattle.sc_print.specs.Prelude.{symbols, word_symbol}
 pub use Rattle.sc_read.specs.Reading.{Reads, part_of}
 pub use Rattle.sc_word.specs.Prelude.{word_of}
-pub use Rattle.sc_core.specs.Prelude.{Acts, Body, Function, Here, IsWellTyped, Left, Library, Next, Return, Scope}
-pub use Rattle.sc_core.specs.Prelude.{State, all_do, and_then, back_own, begun, block_does, c_arith, calls, closed}
-pub use Rattle.sc_core.specs.Prelude.{done, first_state, follow, function_of, globals_of, in_order, leave, library_of}
-pub use Rattle.sc_core.specs.Prelude.{main_fits, meaning, most_nodes, run_of, run_step, run_to, sections_fit, stmt_does}
-pub use Rattle.sc_core.specs.Prelude.{stmt_nodes, stopped_at, tell, thin_meaning, total, whole_run, within}
-pub use Rattle.sc_core.specs.Prelude.{Front}
+pub use Rattle.sc_core.specs.Prelude.{Acts, Body, Front, Function, Here, IsWellTyped, Left, Library, Next, Return}
+pub use Rattle.sc_core.specs.Prelude.{Scope, State, all_do, and_then, back_own, begun, block_does, c_arith, calls}
+pub use Rattle.sc_core.specs.Prelude.{closed, done, first_state, follow, function_of, globals_of, in_order, leave}
+pub use Rattle.sc_core.specs.Prelude.{library_of, main_fits, meaning, most_nodes, run_of, run_step, run_to}
+pub use Rattle.sc_core.specs.Prelude.{sections_fit, stmt_does, stmt_nodes, stopped_at, tell, thin_meaning, total}
+pub use Rattle.sc_core.specs.Prelude.{whole_run, within}
 pub use Rattle.sc_core.specs.declared.run.SourceRun.{SourceRun}
 pub use Rattle.sc_compile.specs.Compiled.{IsCompiled}
-pub use Rattle.sc_compile.specs.Image.{image_of}
 pub use Rattle.sc_compile.specs.Sizes.{too_large}
 pub use Rattle.sc_compile.specs.declared.fault.CompileFault.{CompileFault}
 pub use Rattle.sc_elab_stmt.specs.Prelude.{typed_stmt}

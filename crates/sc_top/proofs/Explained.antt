@@ -1,12 +1,13 @@
--- What comes of accepted texts: outputs and their causes, what `explain` claims of thin ones, and that an output is one.
-use Rattle.sc_top.proofs.Common.{Accepts, Bool, BytesNameOneImage, Command, CompileFault, Event, Failure, Front, HasImage}
-use Rattle.sc_top.proofs.Common.{ImageParts, IsAccounted, IsBuilt, IsCompiled, IsCompiling, IsExecuted, IsOutput}
-use Rattle.sc_top.proofs.Common.{IsOutputCause, IsTextOutput, IsThin, IsThinProgram, IsThinReading, IsThinText, IsTrue}
-use Rattle.sc_top.proofs.Common.{List, Ok, Option, ProgramTree, Result, RunOptions}
-use Rattle.sc_top.proofs.Common.{SourceRun, ThinProgram, [], ap, append-nil, append_assoc, arith, compiles, drop, false}
-use Rattle.sc_top.proofs.Common.{inr, interfaces_of, length, length-append, machine_run, machine_text, map}
-use Rattle.sc_top.proofs.Common.{meaning, nat_lt, output, refl, subst, sym, take, take-append-drop}
-use Rattle.sc_top.proofs.Common.{thin_meaning, true, whole_run, word_of, ℕ, ⊎_elim, ◌++◌, ◌∙◌, ◌∷◌, ◌≡◌, ◌≤◌}
+-- What comes of accepted texts: outputs and their causes, what `explain` claims of thin ones, and that an output is
+-- one.
+use Rattle.sc_top.proofs.Common.{Accepts, Bool, BytesNameOneImage, Command, CompileFault, Event, Failure, Front}
+use Rattle.sc_top.proofs.Common.{HasImage, ImageParts, IsAccounted, IsBuilt, IsCompiled, IsCompiling, IsExecuted}
+use Rattle.sc_top.proofs.Common.{IsOutput, IsOutputCause, IsTextOutput, IsThin, IsThinProgram, IsThinReading}
+use Rattle.sc_top.proofs.Common.{IsThinText, IsTrue, List, Ok, Option, ProgramTree, Result, RunOptions, SourceRun}
+use Rattle.sc_top.proofs.Common.{ThinProgram, [], ap, append-nil, append_assoc, arith, compiles, drop, false, inr}
+use Rattle.sc_top.proofs.Common.{interfaces_of, length, length-append, machine_run, machine_text, map, meaning, nat_lt}
+use Rattle.sc_top.proofs.Common.{output, refl, subst, sym, take, take-append-drop, thin_meaning, true, whole_run}
+use Rattle.sc_top.proofs.Common.{word_of, ℕ, ⊎_elim, ◌++◌, ◌∙◌, ◌∷◌, ◌≡◌, ◌≤◌}
 use Rattle.std.specs.Prelude.{if◌then◌else◌}
 use Rattle.std.proofs.Common.{ltb-false}
 use Rattle.std.proofs.Math.Seq.{take-append_seam}
@@ -188,7 +189,8 @@ same_output (commands.Make options) bytes program one other same = refl
 one_image : (program : ProgramTree) (one other : ImageParts) → HasImage program one → HasImage program other →
     one ≡ other
 one_image program one other is known =
-    let same : ◌≡◌ {A = Result ImageParts CompileFault} (Ok one) (Ok other) = sym is.compiled ∙ known.compiled in cc same
+    let same : ◌≡◌ {A = Result ImageParts CompileFault} (Ok one) (Ok other) = sym is.compiled ∙ known.compiled in
+    cc same
 
 module _
     (one_program : (text : List ℕ) (program other : ProgramTree) →

@@ -1,8 +1,8 @@
 -- What is too large is in a compartment of the program, by whose name it is told.
 use Rattle.sc_top.proofs.Common.{AllByRecursion, Bool, Err, ImageParts, Interfaces, IsCompiling, IsNamed, IsSome}
-use Rattle.sc_top.proofs.Common.{IsWellTyped, List, None, Ok, Option, ProgramTree, Some, [], ap, arith, by_name, comp_at}
-use Rattle.sc_top.proofs.Common.{false, length, nat_lt, none-some, of_compile_fault, refl, subst, suc, sym, true, ℕ}
-use Rattle.sc_top.proofs.Common.{⊎_elim, ◌++◌, ◌+◌, ◌∷◌, ◌≡◌, ◌≤◌, ◌⊎◌}
+use Rattle.sc_top.proofs.Common.{IsWellTyped, List, None, Ok, Option, ProgramTree, Some, [], ap, arith, by_name}
+use Rattle.sc_top.proofs.Common.{comp_at, false, length, nat_lt, none-some, of_compile_fault, refl, subst, suc, sym}
+use Rattle.sc_top.proofs.Common.{true, ℕ, ⊎_elim, ◌++◌, ◌+◌, ◌∷◌, ◌≡◌, ◌≤◌, ◌⊎◌}
 use Rattle.std.specs.Prelude.{flat_map, if◌then◌else◌, option_and_then}
 use Rattle.sc_core.specs.declared.section.TypedFunction.{TypedFunction}
 use Rattle.sc_core.specs.declared.section.TypedSection.{TypedSection}

@@ -1,8 +1,9 @@
 -- The tree of a thin text breaks no rule, and its program fits.
-use Rattle.sc_top.proofs.Common.{FunctionTree, List, None, Scope, SectionTree, Some, StmtTree, [], ap, ap₂, arith}
-use Rattle.sc_top.proofs.Common.{callees_of, codes, concat, counts_broken, false, le-leb, length, map, most_nodes, nat_le}
-use Rattle.sc_top.proofs.Common.{nat_lt, nat_tests, program_of, refl, rules, scope_in, stmt_nodes, too_large, total, true}
-use Rattle.sc_top.proofs.Common.{typed_stmt, types_broken, visible_of, ℕ, ◌&&◌, ◌*◌, ◌++◌, ◌+◌, ◌∙◌, ◌∷◌, ◌≡◌, ◌≤◌}
+use Rattle.sc_top.proofs.Common.{CompileFault, FunctionTree, List, None, Scope, SectionTree, Some, StmtTree, [], ap}
+use Rattle.sc_top.proofs.Common.{ap₂, arith, callees_of, codes, concat, counts_broken, false, le-leb, length, map}
+use Rattle.sc_top.proofs.Common.{most_nodes, nat_le, nat_lt, nat_tests, program_of, refl, rules, scope_in, stmt_nodes}
+use Rattle.sc_top.proofs.Common.{too_large, total, true, typed_stmt, types_broken, visible_of, ℕ, ◌&&◌, ◌*◌, ◌++◌, ◌+◌}
+use Rattle.sc_top.proofs.Common.{◌∙◌, ◌∷◌, ◌≡◌, ◌≤◌}
 use Rattle.sc_scope.specs.Prelude.{Known, line_of_text, names_broken, unless}
 use Rattle.sc_interfaces.specs.Prelude.{interface_broken}
 use Rattle.sc_elab_expr.specs.Prelude.{Callees, Visible}
@@ -189,9 +190,13 @@ module _ (lines : Lines) (whole : List StmtTree) where
   abbrev main_code : ℕ
   main_code = 96 * (main_nodes + 0)
 
-  sizes_are : too_large (program_of (tree ∷ [])) ≡
-      sizes.first (((sizes.above sizes.most_frame main_frame (FrameTooLarge 0 (codes "main") main_frame) ++ []) ++ []) ++
-      (sizes.above sizes.most_code main_code (CodeTooLarge 0 main_code) ++ []))
+  abbrev large_frame : List CompileFault
+  large_frame = sizes.above sizes.most_frame main_frame (FrameTooLarge 0 (codes "main") main_frame)
+
+  abbrev large_code : List CompileFault
+  large_code = sizes.above sizes.most_code main_code (CodeTooLarge 0 main_code)
+
+  sizes_are : too_large (program_of (tree ∷ [])) ≡ sizes.first (((large_frame ++ []) ++ []) ++ (large_code ++ []))
   unfolding sections.typed_structs sections.typed_locals
   sizes_are = refl
 

@@ -1,5 +1,5 @@
-use Rattle.sc_top.proofs.Common.{Explain, HasImage, IsTextOutput, None, ProgramTree, Some, ap, codes}
-use Rattle.sc_top.proofs.Common.{machine_text, refl, rules, subst, sym, ◌++◌, ◌∙◌}
+use Rattle.sc_top.proofs.Common.{Explain, HasImage, IsTextOutput, None, ProgramTree, Some, ap, codes, machine_text}
+use Rattle.sc_top.proofs.Common.{refl, rules, subst, sym, ◌++◌, ◌∙◌}
 use Rattle.sc_top.proofs.Explained.{accounted, compiled_cause, compiled_output, thin_cause}
 use Rattle.sc_top.proofs.text.explain.Goals as goal
 
@@ -11,7 +11,8 @@ returns-in_err-source-clause-cause c =
 pub returns-in_err-image-clause-cause : goal.returns-in_err-image-clause-cause
 returns-in_err-image-clause-cause c =
     let is = c.in_ok-source.ensures.thin in
-    let cause = compiled_cause (Explain c.args.options.now c.args.show) c.args.bytes.now c.in_ok-source.source.program _ _
+    let program = c.in_ok-source.source.program in
+    let cause = compiled_cause (Explain c.args.options.now c.args.show) c.args.bytes.now program _ _
     c.program-program.ensures.program is.accepted (is.thin, is.spelled) refl c.in_err-image.ensures.cause in
     search (rules, cause)
 
