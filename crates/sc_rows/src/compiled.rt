@@ -142,7 +142,7 @@ fn is_full(shown: &Ran) -> bool {
 
 #[test]
 fn a_defined_program_runs_as_it_means(rt: HostRuntime) -> Result<(), Fail> {
-    let mut same = 0;
+    let mut same: usize = 0;
     for text in PROGRAMS {
         let words = ["meaning", "--turns=20000", "--in=1,-2,3"];
         let meant = Run::new(&words, text).run(rt.alloc())?;
@@ -151,7 +151,7 @@ fn a_defined_program_runs_as_it_means(rt: HostRuntime) -> Result<(), Fail> {
             let shown = Run::new(&words, text).run(rt.alloc())?;
             if !is_full(&shown) {
                 assert!(rt; shown.out.as_slice() == meant.out.as_slice());
-                same += 1;
+                same = same.wrapping_add(1);
             }
         }
     }
