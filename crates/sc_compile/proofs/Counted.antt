@@ -32,10 +32,11 @@ use Rattle.sc_simulation.specs.Linked.{functions_or_none}
 use Rattle.sc_compile.specs.declared.fault.CompileFault.{CompileFault}
 use Rattle.sc_compile.specs.declared.fault.CompileFault.TheVariants.{CodeTooLarge}
 use Rattle.sc_compile.specs.Counting.{IsCounted, cells_in, counted_all, counted_code, counted_data, counted_frame}
-use Rattle.sc_compile.specs.Counting.{counted_frames, counted_in}
+use Rattle.sc_compile.specs.Counting.{counted_frames}
 use Rattle.sc_compile.specs.Passes.{EachEmits, EmitsAll, EmitsSo, FitAll, Fits}
 use Rattle.sc_compile.specs.Sizes.{above, first, found_in, large_code, large_data, large_frame, large_frames}
-use Rattle.sc_compile.specs.Sizes.{most_code, most_frame, too_large}
+use Rattle.sc_image.specs.Layout.{stretch}
+use Rattle.sc_compile.specs.Sizes.{most_frame, too_large}
 use Rattle.sc_compile.proofs.Fitting.{code_fits, frames_fit, front_none, rest_none, within}
 use Rattle.sc_compile.proofs.Results.{mapped}
 
@@ -76,7 +77,7 @@ none_at find (y ∷ ys) (suc i) x none is = none_at find ys i x (rest_none (find
 -- THE SAME SIZES
 module _ (interfaces : Interfaces) where
   data_same : (k : ℕ) (sections : List TypedSection) →
-      counted_in counted_data k (lowered_sections interfaces k sections) ≡ found_in large_data k sections
+      found_in counted_data k (lowered_sections interfaces k sections) ≡ found_in large_data k sections
   data_same k [] = refl
   data_same k (section ∷ sections) = ap (λ later. large_data k section ++ later) (data_same (suc k) sections)
 
@@ -87,7 +88,7 @@ module _ (interfaces : Interfaces) where
   functions_same k section (f ∷ fs) = ap (λ later. large_frame k section f ++ later) (functions_same k section fs)
 
   frames_same : (k : ℕ) (sections : List TypedSection) →
-      counted_in counted_frames k (lowered_sections interfaces k sections) ≡ found_in large_frames k sections
+      found_in counted_frames k (lowered_sections interfaces k sections) ≡ found_in large_frames k sections
   frames_same k [] = refl
   frames_same k (section ∷ sections) = λ i.
       functions_same k section section.functions i ++ frames_same (suc k) sections i
@@ -98,10 +99,10 @@ module _ (interfaces : Interfaces) where
   nodes_same k structs (f ∷ fs) = ap (λ n. nodes f + n) (nodes_same k structs fs)
 
   code_same : (k : ℕ) (sections : List TypedSection) →
-      counted_in counted_code k (lowered_sections interfaces k sections) ≡ found_in large_code k sections
+      found_in counted_code k (lowered_sections interfaces k sections) ≡ found_in large_code k sections
   code_same k [] = refl
   code_same k (section ∷ sections) = λ i.
-      above most_code (96 * nodes_same k section.structs section.functions i)
+      above stretch (96 * nodes_same k section.structs section.functions i)
       (CodeTooLarge k (96 * nodes_same k section.structs section.functions i)) ++ code_same (suc k) sections i
 
 pub counted_is : (program : ProgramTree) → counted_all (lowered_program program).sections ≡ too_large program

@@ -6,7 +6,8 @@ use Rattle.sc_core.specs.declared.program.ProgramTree.{ProgramTree}
 use Rattle.sc_core.specs.declared.section.TypedSection.{TypedSection}
 use Rattle.sc_compile.specs.declared.fault.CompileFault.{CompileFault}
 use Rattle.sc_compile.specs.Sizes.{above, code_bytes, data_bytes, first, found_in, large_code, large_data, large_frames}
-use Rattle.sc_compile.specs.Sizes.{most_code, most_data, too_large}
+use Rattle.sc_image.specs.Layout.{most_globals, stretch}
+use Rattle.sc_compile.specs.Sizes.{too_large}
 
 pub front_none : (xs ys : List CompileFault) → xs ++ ys ≡ [] → xs ≡ []
 front_none [] ys none = refl
@@ -54,15 +55,15 @@ module _ (program : ProgramTree) (fits : too_large program ≡ None) (comp : ℕ
     nothing : data_found ++ (frames_found ++ code_found) ≡ []
     nothing = none_first (data_found ++ (frames_found ++ code_found)) fits
 
-    pub data_fits : data_bytes section ≤ most_data
+    pub data_fits : data_bytes section ≤ most_globals
     data_fits =
-        within most_data (data_bytes section) _
+        within most_globals (data_bytes section) _
         (found_none large_data 0 comp program.sections comp section (omega arith)
         (front_none data_found (frames_found ++ code_found) nothing) is)
 
-    pub code_fits : code_bytes section ≤ most_code
+    pub code_fits : code_bytes section ≤ stretch
     code_fits =
-        within most_code (code_bytes section) _
+        within stretch (code_bytes section) _
         (found_none large_code 0 comp program.sections comp section (omega arith)
         (rest_none frames_found code_found (rest_none data_found (frames_found ++ code_found) nothing)) is)
 

@@ -2,11 +2,12 @@
 use Rattle.std.specs.Prelude.{ℕ, suc, ◌+◌, ◌*◌, ◌^◌, ◌<◌, List, [], ◌∷◌, ◌++◌, map, flat_map, All, Option}
 use Rattle.sc_core.specs.declared.section.TypedGlobal.{TypedGlobal}
 use Rattle.sc_core.specs.Prelude.{cells_of, frame_bound, total}
+use Rattle.sc_image.specs.Layout.{most_globals, stretch}
 use Rattle.sc_tac.specs.declared.function.TacFnTree.{TacFnTree}
 use Rattle.sc_tac.specs.declared.program.TacSection.{TacSection}
 use Rattle.sc_compile.specs.declared.fault.CompileFault.{CompileFault}
 use Rattle.sc_compile.specs.declared.fault.CompileFault.TheVariants.{CodeTooLarge, DataTooLarge, FrameTooLarge}
-use Rattle.sc_compile.specs.Sizes.{above, first, most_code, most_data, most_frame}
+use Rattle.sc_compile.specs.Sizes.{above, first, found_in, most_frame}
 
 abbrev pub cells_in : TacSection → ℕ
 cells_in section = total (map {A = TypedGlobal} (λ g. cells_of section.structs g.ty) section.globals)
@@ -15,7 +16,7 @@ abbrev pub nodes_in : TacSection → ℕ
 nodes_in section = total (map {A = TacFnTree} (λ f. f.nodes) section.functions)
 
 abbrev pub counted_data : (comp : ℕ) → TacSection → List CompileFault
-counted_data comp section = above most_data (4 * cells_in section) (DataTooLarge comp (4 * cells_in section))
+counted_data comp section = above most_globals (4 * cells_in section) (DataTooLarge comp (4 * cells_in section))
 
 abbrev pub counted_frame : (comp : ℕ) → TacFnTree → List CompileFault
 counted_frame comp f =
@@ -25,17 +26,12 @@ abbrev pub counted_frames : (comp : ℕ) → TacSection → List CompileFault
 counted_frames comp section = flat_map (counted_frame comp) section.functions
 
 abbrev pub counted_code : (comp : ℕ) → TacSection → List CompileFault
-counted_code comp section = above most_code (96 * nodes_in section) (CodeTooLarge comp (96 * nodes_in section))
-
--- what is found in sections, from this number on
-abbrev pub counted_in : (ℕ → TacSection → List CompileFault) → ℕ → List TacSection → List CompileFault
-counted_in find comp [] = []
-counted_in find comp (section ∷ sections) = find comp section ++ counted_in find (suc comp) sections
+counted_code comp section = above stretch (96 * nodes_in section) (CodeTooLarge comp (96 * nodes_in section))
 
 abbrev pub counted_all : List TacSection → Option CompileFault
 counted_all sections =
-    first (counted_in counted_data 0 sections ++
-    (counted_in counted_frames 0 sections ++ counted_in counted_code 0 sections))
+    first (found_in counted_data 0 sections ++
+    (found_in counted_frames 0 sections ++ found_in counted_code 0 sections))
 
 -- no count of a program passes what a word of 64 bits holds
 pub record IsCounted (section : TacSection) : Type 0 where

@@ -2,6 +2,7 @@
 use Rattle.std.specs.Prelude.{◌≡◌, ◌≤◌, ◌*◌, ℕ, All, Some, slice_get}
 use Rattle.sc_core.specs.declared.program.ProgramTree.{ProgramTree}
 use Rattle.sc_core.specs.Prelude.{frame_bound}
+use Rattle.sc_image.specs.Layout.{stretch}
 use Rattle.sc_tac.specs.declared.function.TacFnTree.{TacFnTree}
 use Rattle.sc_tac.specs.declared.program.TacSection.{TacSection}
 use Rattle.sc_tac.specs.Frames.{frame_of}
@@ -12,11 +13,11 @@ use Rattle.sc_emit.specs.Emission.{IsEmitted}
 use Rattle.sc_linker.specs.Laws.{IsWhole}
 use Rattle.sc_simulation.specs.Linked.{functions_in}
 use Rattle.sc_compile.specs.Image.{all_codes, function_code}
-use Rattle.sc_compile.specs.Sizes.{most_code, most_frame}
+use Rattle.sc_compile.specs.Sizes.{most_frame}
 
 -- a function that isn't too large
 pub record Fits (f : TacFnTree) : Type 0 where
-  pub code : 96 * f.nodes ≤ most_code
+  pub code : 96 * f.nodes ≤ stretch
   pub frame : frame_bound f.objects f.nodes ≤ most_frame
 
 abbrev pub FitAll : TacSection → Type 0

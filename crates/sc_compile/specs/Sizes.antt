@@ -7,17 +7,12 @@ use Rattle.sc_core.specs.declared.section.TypedFunction.{TypedFunction}
 use Rattle.sc_core.specs.declared.section.TypedGlobal.{TypedGlobal}
 use Rattle.sc_core.specs.declared.section.TypedSection.{TypedSection}
 use Rattle.sc_core.specs.Prelude.{cells_of, code_bound, frame_bound, nodes, total, variables}
+use Rattle.sc_image.specs.Layout.{most_globals, stretch}
 use Rattle.sc_compile.specs.declared.fault.CompileFault.{CompileFault}
 use Rattle.sc_compile.specs.declared.fault.CompileFault.TheVariants.{CodeTooLarge, DataTooLarge, FrameTooLarge}
 
-abbrev pub most_data : ℕ
-most_data = 458752
-
 abbrev pub most_frame : ℕ
 most_frame = 32768
-
-abbrev pub most_code : ℕ
-most_code = 1048576
 
 -- this fault, where a size is above its limit
 abbrev pub above : (limit size : ℕ) → CompileFault → List CompileFault
@@ -34,7 +29,7 @@ code_bytes section = code_bound (map nodes section.functions)
 
 abbrev pub large_data : (comp : ℕ) → TypedSection → List CompileFault
 large_data comp section =
-    above most_data (data_bytes section) (DataTooLarge comp (data_bytes section))
+    above most_globals (data_bytes section) (DataTooLarge comp (data_bytes section))
 
 abbrev pub large_frame : (comp : ℕ) → TypedSection → TypedFunction → List CompileFault
 large_frame comp section f =
@@ -46,10 +41,10 @@ large_frames comp section = flat_map (large_frame comp section) section.function
 
 abbrev pub large_code : (comp : ℕ) → TypedSection → List CompileFault
 large_code comp section =
-    above most_code (code_bytes section) (CodeTooLarge comp (code_bytes section))
+    above stretch (code_bytes section) (CodeTooLarge comp (code_bytes section))
 
 -- what is found in sections, from this number on
-abbrev pub found_in : (ℕ → TypedSection → List CompileFault) → ℕ → List TypedSection → List CompileFault
+abbrev pub found_in : {A : Type 0} → (ℕ → A → List CompileFault) → ℕ → List A → List CompileFault
 found_in find comp [] = []
 found_in find comp (section ∷ sections) = find comp section ++ found_in find (suc comp) sections
 

@@ -5,8 +5,8 @@ ghost use Rattle.sc_core.specs.Prelude.{cells_of, frame_bound, total};
 ghost use Rattle.sc_core.specs.declared.section.TypedGlobal.{TypedGlobal};
 ghost use Rattle.sc_tac.specs.declared.function.TacFnTree.{TacFnTree};
 ghost use Rattle.sc_compile.specs.Counting.{IsCounted, cells_in, counted_code, counted_data, counted_frame};
-ghost use Rattle.sc_compile.specs.Counting.{counted_all, counted_frames, counted_in, nodes_in};
-ghost use Rattle.sc_compile.specs.Sizes.{first};
+ghost use Rattle.sc_compile.specs.Counting.{counted_all, counted_frames, nodes_in};
+ghost use Rattle.sc_compile.specs.Sizes.{first, found_in};
 
 use crate::fault::CompileFault;
 use sc_core::{TypedGlobal, TypedStruct, cells_of};
@@ -110,8 +110,8 @@ fn check_code(comp: CompId, section: &TacSection) -> Result<(), CompileFault>
 fn check_all_data(sections: &[TacSection]) -> Result<(), CompileFault>
     requires few { length sections.now ≤ 32 }
     requires counted { All IsCounted sections.now }
-    ensures none { IfOk result (λ _. counted_in counted_data 0 sections.now ≡ []) }
-    ensures found { IfErr result (λ fault. first (counted_in counted_data 0 sections.now) ≡ Some fault) }
+    ensures none { IfOk result (λ _. found_in counted_data 0 sections.now ≡ []) }
+    ensures found { IfErr result (λ fault. first (found_in counted_data 0 sections.now) ≡ Some fault) }
 {
     for number in 0..sections.len() {
         check_data(comp_id(number), &sections[number])?;
@@ -122,8 +122,8 @@ fn check_all_data(sections: &[TacSection]) -> Result<(), CompileFault>
 fn check_all_frames(sections: &[TacSection]) -> Result<(), CompileFault>
     requires few { length sections.now ≤ 32 }
     requires counted { All IsCounted sections.now }
-    ensures none { IfOk result (λ _. counted_in counted_frames 0 sections.now ≡ []) }
-    ensures found { IfErr result (λ fault. first (counted_in counted_frames 0 sections.now) ≡ Some fault) }
+    ensures none { IfOk result (λ _. found_in counted_frames 0 sections.now ≡ []) }
+    ensures found { IfErr result (λ fault. first (found_in counted_frames 0 sections.now) ≡ Some fault) }
 {
     for number in 0..sections.len() {
         check_frames(comp_id(number), &sections[number])?;
@@ -134,8 +134,8 @@ fn check_all_frames(sections: &[TacSection]) -> Result<(), CompileFault>
 fn check_all_code(sections: &[TacSection]) -> Result<(), CompileFault>
     requires few { length sections.now ≤ 32 }
     requires counted { All IsCounted sections.now }
-    ensures none { IfOk result (λ _. counted_in counted_code 0 sections.now ≡ []) }
-    ensures found { IfErr result (λ fault. first (counted_in counted_code 0 sections.now) ≡ Some fault) }
+    ensures none { IfOk result (λ _. found_in counted_code 0 sections.now ≡ []) }
+    ensures found { IfErr result (λ fault. first (found_in counted_code 0 sections.now) ≡ Some fault) }
 {
     for number in 0..sections.len() {
         check_code(comp_id(number), &sections[number])?;

@@ -74,10 +74,11 @@ module _ (program : ProgramTree) (codes : List CodeTree) where
         let addresses = addresses_at program codes comp in
         StandFrom (linked_image program codes) comp (addresses.function number)
         (linked addresses (addresses.function number) code)
-    -- a function that there is has code, at an address that LUI and a jump reach
+    -- a function that there is has code
     pub there : (comp number : ℕ) (f : TypedFunction) →
         slice_get (section_at program comp).functions number ≡ Some f →
         (code : CodeTree) × (slice_get (codes_at program codes comp) number ≡ Some code)
+    -- at an address that LUI and a jump reach
     pub aligned : (comp number : ℕ) → (addresses_at program codes comp).function number % 4 ≡ 0
     pub low : (comp number : ℕ) → comp < 32 → (addresses_at program codes comp).function number < 2 ^ 26
     -- the run starts at `main`
@@ -128,7 +129,7 @@ module _ (program : ProgramTree) (codes : List CodeTree) where
     pub known : (comp number i : ℕ) (cells : List Cell) (one : Cell) →
         slice_get (globals_of program.sections comp) number ≡ Some (record { live = true; cells = cells }) →
         slice_get cells i ≡ Some one → IsStart one
-    -- each has a place, which isn't null's and lies below 2 ^ 31
+    -- each begins below 2 ^ 31
     pub there : (comp number : ℕ) (g : TypedGlobal) → slice_get (section_at program comp).globals number ≡ Some g →
         (addresses_at program codes comp).global number < 2 ^ 31
 

@@ -4,6 +4,7 @@ use Rattle.sc_top.proofs.Common.{IsWellTyped, List, None, Ok, Option, ProgramTre
 use Rattle.sc_top.proofs.Common.{comp_at, false, length, nat_lt, none-some, of_compile_fault, refl, subst, suc, sym}
 use Rattle.sc_top.proofs.Common.{true, ℕ, ⊎_elim, ◌++◌, ◌+◌, ◌∷◌, ◌≡◌, ◌≤◌, ◌⊎◌}
 use Rattle.std.specs.Prelude.{flat_map, if◌then◌else◌, option_and_then}
+use Rattle.sc_image.specs.Layout.{most_globals, stretch}
 use Rattle.sc_core.specs.declared.section.TypedFunction.{TypedFunction}
 use Rattle.sc_core.specs.declared.section.TypedSection.{TypedSection}
 use Rattle.sc_compile.specs.declared.fault.CompileFault.{CompileFault}
@@ -12,7 +13,7 @@ use Rattle.sc_compile.specs.declared.fault.CompileFault.TheVariants.{OutOfMemory
 use Rattle.std.proofs.Common.{inl, inr}
 use Rattle.sc_compile.specs.Image.{IsFault, built_image, image_of, unless_large}
 use Rattle.sc_compile.specs.Sizes.{above, code_bytes, data_bytes, first, found_in, frame_bytes, large_code, large_data}
-use Rattle.sc_compile.specs.Sizes.{large_frame, large_frames, most_code, most_data, most_frame, too_large}
+use Rattle.sc_compile.specs.Sizes.{large_frame, large_frames, most_frame, too_large}
 use Rattle.sc_top.proofs.Known.{sections_are, within}
 
 -- a program has an image exactly where nothing of it is too large
@@ -86,13 +87,13 @@ named_fault program typed fault of =
       all =
           named_append program.interfaces (found_in large_data 0 program.sections)
           (found_in large_frames 0 program.sections ++ found_in large_code 0 program.sections)
-          (named_found program.interfaces large_data (λ comp section is. named_above program.interfaces most_data
+          (named_found program.interfaces large_data (λ comp section is. named_above program.interfaces most_globals
           (data_bytes section) (DataTooLarge comp (data_bytes section)) is) 0 program.sections few)
           (named_append program.interfaces (found_in large_frames 0 program.sections)
           (found_in large_code 0 program.sections)
           (named_found program.interfaces large_frames (λ comp section is. named_frames program.interfaces comp section
           section.functions is) 0 program.sections few)
-          (named_found program.interfaces large_code (λ comp section is. named_above program.interfaces most_code
+          (named_found program.interfaces large_code (λ comp section is. named_above program.interfaces stretch
           (code_bytes section) (CodeTooLarge comp (code_bytes section)) is) 0 program.sections few))
 
 -- so it is why the program isn't compiled

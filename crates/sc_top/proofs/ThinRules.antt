@@ -19,6 +19,7 @@ use Rattle.sc_scope.specs.Names as names
 use Rattle.sc_elab_stmt.specs.Statements as elab
 use Rattle.sc_elab.specs.Sections as sections
 use Rattle.sc_types.specs.Counts as counts
+use Rattle.sc_image.specs.Layout.{stretch}
 use Rattle.sc_core.specs.Prelude.{nodes}
 use Rattle.sc_compile.specs.declared.fault.CompileFault.TheVariants.{CodeTooLarge, FrameTooLarge}
 use Rattle.sc_compile.specs.Sizes as sizes
@@ -194,7 +195,7 @@ module _ (lines : Lines) (whole : List StmtTree) where
   large_frame = sizes.above sizes.most_frame main_frame (FrameTooLarge 0 (codes "main") main_frame)
 
   abbrev large_code : List CompileFault
-  large_code = sizes.above sizes.most_code main_code (CodeTooLarge 0 main_code)
+  large_code = sizes.above stretch main_code (CodeTooLarge 0 main_code)
 
   sizes_are : too_large (program_of (tree ∷ [])) ≡ sizes.first (((large_frame ++ []) ++ []) ++ (large_code ++ []))
   unfolding sections.typed_structs sections.typed_locals
@@ -209,5 +210,5 @@ module _ (lines : Lines) (whole : List StmtTree) where
       let all = nodes_of_body outputs result whole h in
       sizes_are ∙ rw (
         not_above sizes.most_frame main_frame (omega (arith, main_nodes_are, all, few)),
-        not_above sizes.most_code main_code (omega (arith, main_nodes_are, all, few)),
+        not_above stretch main_code (omega (arith, main_nodes_are, all, few)),
       ) refl

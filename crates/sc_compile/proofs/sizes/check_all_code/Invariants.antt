@@ -1,8 +1,9 @@
 use Rattle.std.proofs.Common.{drop, ◌≡◌}
-use Rattle.sc_compile.specs.Counting.{counted_code, counted_in}
+use Rattle.sc_compile.specs.Counting.{counted_code}
+use Rattle.sc_compile.specs.Sizes.{found_in}
 use Rattle.sc_compile.proofs.sizes.check_all_code.Given as goal
 
 -- those so far fit
 abbrev pub invariant-loop-number : goal.invariant-loop-number
 invariant-loop-number l =
-    counted_in counted_code 0 l.sections ≡ counted_in counted_code l.number (drop l.number l.sections)
+    found_in counted_code 0 l.sections ≡ found_in counted_code l.number (drop l.number l.sections)
