@@ -1,3 +1,4 @@
 pub mod Values
 pub mod Text
 pub mod Near
+pub mod Step
