@@ -1,0 +1,6 @@
+pub mod Values
+pub mod Text
+pub mod Near
+pub mod Step
+pub mod Kept
+pub mod Crossing
