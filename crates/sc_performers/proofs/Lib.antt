@@ -1,0 +1,4 @@
+pub mod BareKinds
+pub mod BackTree
+pub mod Undone
+pub mod NamesKept

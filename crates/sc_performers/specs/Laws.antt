@@ -1,0 +1,16 @@
+-- The rules that a section keeps which performs a compartment's part of a trace.
+use Rattle.std.specs.Prelude.{◌≡◌, ℕ, List, []}
+use Rattle.sc_event.specs.declared.interface.Interface.{Interface}
+use Rattle.sc_event.specs.declared.interface.Interfaces.{Interfaces}
+use Rattle.sc_event.specs.declared.row.Row.{Row}
+use Rattle.sc_ast.specs.Prelude.{SameButLines}
+use Rattle.sc_ast.specs.declared.section.SectionTree.{SectionTree}
+use Rattle.sc_scope.specs.Names as names
+use Rattle.sc_back.specs.Tree.{back_tree}
+use Rattle.sc_performers.specs.Performer.{IsPerformer}
+
+-- it breaks no rule of names
+abbrev pub NamesHold : Type 0
+NamesHold = (interfaces : Interfaces) (comp : ℕ) (rows : List Row) (interface : Interface) (section : SectionTree) →
+    IsPerformer interfaces comp rows interface → SameButLines section (back_tree interfaces comp rows interface) →
+    names.section_lines section ≡ []

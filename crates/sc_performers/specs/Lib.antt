@@ -1,0 +1,2 @@
+pub mod Performer
+pub mod Laws

@@ -1,0 +1,8 @@
+// The laws, each the contract of a function with nothing to do.
+
+ghost use Rattle.sc_performers.specs.Laws.{NamesHold};
+
+/// A section that performs breaks no rule of names.
+pub fn names_hold()
+    ensures { NamesHold }
+{}

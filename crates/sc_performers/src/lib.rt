@@ -1,0 +1,6 @@
+//! Sections that perform: the text that performs a compartment's part of a trace is a section that keeps the rules.
+#![tactic(auto)]
+
+mod laws;
+
+pub use laws::names_hold;
