@@ -1,4 +1,9 @@
 pub mod BareKinds
 pub mod BackTree
 pub mod Undone
+pub mod Declared
+pub mod Distinct
+pub mod Uses
+pub mod RowNames
+pub mod SectionFacts
 pub mod NamesKept
