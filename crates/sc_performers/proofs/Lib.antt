@@ -7,3 +7,8 @@ pub mod Uses
 pub mod RowNames
 pub mod SectionFacts
 pub mod NamesKept
+pub mod TypedTrees
+pub mod TypedRows
+pub mod Judging
+pub mod SectionTypes
+pub mod TypesKept

@@ -1,6 +1,6 @@
 -- What the premises say of a section's functions, of what it imports and of its rows.
 use Rattle.std.proofs.Common.{Bool, List, None, Option, Some, [], ◌∷◌, ◌++◌, ◌≡◌, ◌∙◌, ◌==◌, ◌&&◌, ◌||◌, ℕ, suc, ap, ap₂}
-use Rattle.std.proofs.Common.{append-nil, false, if◌then◌else◌, length, map, refl, subst, sym, true, slice_get}
+use Rattle.std.proofs.Common.{append-nil, false, if◌then◌else◌, inl, inr, length, map, refl, subst, sym, true, slice_get, ◌⊎◌}
 use Rattle.std.proofs.lemmas.Bool.{false≢true}
 use Rattle.std.proofs.lemmas.Bool.Decides.{Decides-eqb}
 use Rattle.std.proofs.lemmas.List.{map-append}
@@ -30,6 +30,20 @@ use Rattle.sc_performers.proofs.BackTree.{entries_from, entries_of, main_entries
 pub data IsAmong {A : Type 0} (x : A) : List A → Type 0 where
   first : (xs : List A) → IsAmong x (x ∷ xs)
   later : (y : A) (xs : List A) → IsAmong x xs → IsAmong x (y ∷ xs)
+
+abbrev IsFirstOrLater : {A : Type 0} → A → List A → Type 0
+IsFirstOrLater x [] = ⊥
+IsFirstOrLater x (y ∷ ys) = (x ≡ y) ⊎ IsAmong x ys
+
+among_cases : {A : Type 0} (x : A) (all : List A) → IsAmong x all → IsFirstOrLater x all
+among_cases x all (first xs) = inl refl
+among_cases x all (later y xs h) = inr h
+
+pub none_among : {A B : Type 0} (x : A) → IsAmong x [] → B
+none_among x h = absurd (among_cases x [] h)
+
+pub is_first_or_later : {A : Type 0} (x y : A) (ys : List A) → IsAmong x (y ∷ ys) → (x ≡ y) ⊎ IsAmong x ys
+is_first_or_later x y ys h = among_cases x (y ∷ ys) h
 
 -- What is imported.
 

@@ -6,6 +6,8 @@ use Rattle.sc_event.specs.declared.row.Row.{Row}
 use Rattle.sc_ast.specs.Prelude.{SameButLines}
 use Rattle.sc_ast.specs.declared.section.SectionTree.{SectionTree}
 use Rattle.sc_scope.specs.Names as names
+use Rattle.sc_elab.specs.Sections as types
+use Rattle.sc_elab.specs.Prelude.{callees_of}
 use Rattle.sc_back.specs.Tree.{back_tree}
 use Rattle.sc_performers.specs.Performer.{IsPerformer}
 
@@ -14,3 +16,10 @@ abbrev pub NamesHold : Type 0
 NamesHold = (interfaces : Interfaces) (comp : ℕ) (rows : List Row) (interface : Interface) (section : SectionTree) →
     IsPerformer interfaces comp rows interface → SameButLines section (back_tree interfaces comp rows interface) →
     names.section_lines section ≡ []
+
+-- it breaks no rule of types, wherever it stands in a text
+abbrev pub TypesHold : Type 0
+TypesHold = (interfaces : Interfaces) (comp : ℕ) (rows : List Row) (interface : Interface) (section : SectionTree) →
+    IsPerformer interfaces comp rows interface → SameButLines section (back_tree interfaces comp rows interface) →
+    (sections : List SectionTree) (number : ℕ) →
+    types.section_lines section (callees_of sections number section) ≡ []

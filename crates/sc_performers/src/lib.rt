@@ -3,4 +3,4 @@
 
 mod laws;
 
-pub use laws::names_hold;
+pub use laws::{names_hold, types_hold};
