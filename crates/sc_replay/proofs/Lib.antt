@@ -4,3 +4,5 @@ pub mod Near
 pub mod Step
 pub mod Kept
 pub mod Crossing
+pub mod Recomposed
+pub mod Bodies
