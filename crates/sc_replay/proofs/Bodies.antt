@@ -122,7 +122,7 @@ module _ (roles : Roles) (L M : Library) (r : Recomposed roles L M) (obedient : 
                 (to_kept clear (L.entered to (Export index)) s s' near_e less near.trace)
 
     -- CALLS OF A COMPARTMENT THAT KEEPS ITS SECTION
-    own_both : (from number : ℕ) (args : List Value) (s s' : State) → roles.scripted from ≡ false → s.turns < most →
+    pub own_both : (from number : ℕ) (args : List Value) (s s' : State) → roles.scripted from ≡ false → s.turns < most →
         Near roles most s s' → Both R (call_own M a from number args s) (call_own L scripts from number args s')
     own_both from number args s s' clear less near =
         subst (λ x. Both R (and_then (found x s) (inside a from args back_own number))

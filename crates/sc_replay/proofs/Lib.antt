@@ -6,3 +6,4 @@ pub mod Kept
 pub mod Crossing
 pub mod Recomposed
 pub mod Bodies
+pub mod Runs
