@@ -7,3 +7,4 @@ pub mod Crossing
 pub mod Recomposed
 pub mod Bodies
 pub mod Runs
+pub mod Entries
