@@ -8,3 +8,5 @@ pub mod Recomposed
 pub mod Bodies
 pub mod Runs
 pub mod Entries
+pub mod Rows
+pub mod Replays
