@@ -1,6 +1,6 @@
 -- Bodies of functions in both runs, from what bodies do with one call less open.
-use Rattle.std.proofs.Common.{Bool, List, Option, Some, None, [], ap, ap₂, arith, drop, false, if◌then◌else◌, length}
-use Rattle.std.proofs.Common.{inl, inr, map, refl, slice_get, subst, suc, sym, true, zero, ℕ, ◌++◌, ◌<◌, ◌&&◌, ◌∙◌}
+use Rattle.std.proofs.Common.{Bool, List, Option, Some, None, [], ap, arith, drop, false, if◌then◌else◌, length}
+use Rattle.std.proofs.Common.{inl, inr, map, refl, slice_get, subst, suc, sym, true, ℕ, ◌++◌, ◌<◌, ◌&&◌, ◌∙◌}
 use Rattle.std.proofs.Common.{◌∷◌, ◌≡◌, ◌≤◌}
 use Rattle.std.specs.List.{list_all}
 use Rattle.std.specs.Prelude.{IsSome}
@@ -11,9 +11,10 @@ use Rattle.sc_event.specs.declared.event.Event.TheVariants.{Call, In, Out}
 use Rattle.sc_event.specs.declared.row.Entry.{Entry}
 use Rattle.sc_event.specs.declared.row.Entry.TheVariants.{Export}
 use Rattle.sc_core.specs.Prelude.{Body, Function, Here, Library, Piece, Reached, Roles, State, Step, Stopped, and_then}
-use Rattle.sc_core.specs.Prelude.{back_cross, back_own, begun, block_does, c_arith, call_cross, call_own, called, calls, crossed, done}
+use Rattle.sc_core.specs.Prelude.{back_cross, back_own, begun, block_does, c_arith, call_cross, call_own, called, calls}
+use Rattle.sc_core.specs.Prelude.{crossed, done}
 use Rattle.sc_core.specs.Prelude.{first_word, found, function, is_word, leads, may_call, next_input, read_input, run_in}
-use Rattle.sc_core.specs.Prelude.{run_step, scripted_step, tell, turn, word_in}
+use Rattle.sc_core.specs.Prelude.{run_step, scripted_step, tell, word_in}
 use Rattle.sc_core.specs.declared.cause.Cause.TheVariants.{BadType}
 use Rattle.sc_core.specs.declared.expr.CallTarget.{CallTarget}
 use Rattle.sc_core.specs.declared.expr.CallTarget.TheVariants.{Cross, Input, Output, Own}
@@ -30,9 +31,9 @@ use Rattle.sc_laws.proofs.Rows.{counts_its_own}
 use Rattle.sc_replay.specs.Replay.{proto_of}
 use Rattle.sc_replay.proofs.Near.{Both, Near, NearBy, Reaches, Returns, Told, ahead, both_so, both_then, counts, firsts}
 use Rattle.sc_replay.proofs.Near.{near_begun, near_done, near_told, reached, stopped, told_ahead, told_other}
-use Rattle.sc_replay.proofs.Step.{Back, IsOut, IsOutside, function_alike}
+use Rattle.sc_replay.proofs.Step.{Back, IsOut, function_alike}
 use Rattle.sc_replay.proofs.Kept.{Alike, IsKept, kept_twins, turn_both}
-use Rattle.sc_replay.proofs.Crossing.{BodiesMeet, Came, at, both_and, came_back, came_kept, cross_counts, inside}
+use Rattle.sc_replay.proofs.Crossing.{at, both_and, came_back, came_kept, cross_counts, inside}
 use Rattle.sc_replay.proofs.Crossing.{inside_cross}
 use Rattle.sc_replay.proofs.Recomposed.{Performed, Recomposed, may_same, taken}
 
@@ -68,8 +69,9 @@ module _ (roles : Roles) (L M : Library) (r : Recomposed roles L M) (obedient : 
           and_then (found number s) (λ k s. run_in N body to k (crossed args) back (tell e s))
 
       -- into a compartment that keeps its section
-      to_kept : roles.scripted to ≡ false → (number : Option ℕ) (s s' : State) → Near roles most (tell e s) (tell e s') →
-          s.turns < most → s.trace ≡ s'.trace → Both R (into M a number s) (into L scripts number s')
+      to_kept : roles.scripted to ≡ false → (number : Option ℕ) (s s' : State) →
+          Near roles most (tell e s) (tell e s') → s.turns < most → s.trace ≡ s'.trace →
+          Both R (into M a number s) (into L scripts number s')
       to_kept clear None s s' near less same = stopped TurnsOut same
       to_kept clear (Some k) s s' near less same =
           subst (λ x. Both R (and_then (found x (tell e s)) (inside a to (crossed args) back k))
@@ -223,7 +225,8 @@ module _ (roles : Roles) (L M : Library) (r : Recomposed roles L M) (obedient : 
         ap (λ u. count_of c (u ++ e ∷ [])) same_trace ∙ counts_its_own c s.trace e own in
         reached (record {
           near = near_told roles most (ahead c s.trace) t t' e e' same
-              (subst (Told roles most (ahead c s.trace) e) (sym same_trace) (told_ahead roles most c e s.trace own)) near;
+              (subst (Told roles most (ahead c s.trace) e) (sym same_trace)
+              (told_ahead roles most c e s.trace own)) near;
           least = omega (arith, count);
           exact = λ outside. count;
         })

@@ -1,7 +1,7 @@
 -- Entries of a well-typed program lead to functions, and different ones to different functions.
 use Rattle.std.proofs.Common.{Bool, List, Option, Some, None, [], ap, bytes_eq, codes, eqb-true, false, if◌then◌else◌}
-use Rattle.std.proofs.Common.{length, map, nat_le, not, position, refl, slice_get, slice_index_or, subst, suc, sym, true}
-use Rattle.std.proofs.Common.{zero, ℕ, ◌&&◌, ◌||◌, ◌==◌, ◌∙◌, ◌∷◌, ◌≡◌, is_some}
+use Rattle.std.proofs.Common.{length, map, nat_le, not, refl, slice_get, slice_index_or, subst, suc, sym, true}
+use Rattle.std.proofs.Common.{zero, ℕ, ◌&&◌, ◌||◌, ◌==◌, ◌∙◌, ◌∷◌, ◌≡◌}
 use Rattle.std.specs.List.{list_all, list_any}
 use Rattle.std.specs.Option.{option_map, option_map_or}
 use Rattle.std.specs.Prelude.{IsSome}
@@ -15,16 +15,17 @@ use Rattle.sc_event.specs.declared.interface.Interfaces.{Interfaces}
 use Rattle.sc_event.specs.declared.interface.Proto.{Proto}
 use Rattle.sc_event.specs.declared.row.Entry.{Entry}
 use Rattle.sc_event.specs.declared.row.Entry.TheVariants.{Export, Main}
-use Rattle.sc_core.specs.Prelude.{Arith, Function, IsWellTyped, Library, are_distinct, entry_in, export_fits, function}
-use Rattle.sc_core.specs.Prelude.{function_of, functions_in, functions_of, import_fits, import_name, is_main, is_number}
+use Rattle.sc_core.specs.Prelude.{Arith, IsWellTyped, are_distinct, entry_in, export_fits, function}
+use Rattle.sc_core.specs.Prelude.{function_of, functions_in, functions_of, is_main, is_number}
 use Rattle.sc_core.specs.Prelude.{is_plain_name, library_of, main_fits, main_name, mains_in, most_compartments}
-use Rattle.sc_core.specs.Prelude.{place_named, place_of_export, proto_signature, same_signature, sections_fit, signature_of}
-use Rattle.sc_core.specs.WellTyped.{callable_names, is_defined_in, main_signature}
+use Rattle.sc_core.specs.Prelude.{place_named, place_of_export, proto_signature, same_signature, sections_fit}
+use Rattle.sc_core.specs.Prelude.{signature_of}
+use Rattle.sc_core.specs.WellTyped.{callable_names, main_signature}
 use Rattle.sc_core.specs.declared.program.ProgramTree.{ProgramTree}
 use Rattle.sc_core.specs.declared.section.TypedFunction.{TypedFunction}
 use Rattle.sc_core.specs.declared.section.TypedSection.{TypedSection}
 use Rattle.sc_kinds.proofs.Results.{Behind, behind}
-use Rattle.sc_kinds.proofs.Sections.{First, Passing, all_at, any_along, first_of, for_interface, found_passes}
+use Rattle.sc_kinds.proofs.Sections.{First, all_at, any_along, first_of, for_interface, found_passes}
 use Rattle.sc_replay.specs.Replay.{main_proto, proto_of}
 
 -- NAMES OF EXPORTS

@@ -10,3 +10,4 @@ pub mod Runs
 pub mod Entries
 pub mod Rows
 pub mod Replays
+pub mod Example

@@ -1,6 +1,6 @@
--- Two libraries, of which the other has functions that perform rows by their texts, and which calls may be made in both.
-use Rattle.std.proofs.Common.{Bool, List, Option, Some, None, [], ap, false, is_some, length, refl, sym, true, ℕ, ◌&&◌}
-use Rattle.std.proofs.Common.{slice_get, ◌==◌, ◌∙◌, ◌∷◌, ◌≡◌, ◌⊎◌, inl, inr}
+-- Two libraries, of which the other has functions that perform rows by their texts: the same calls may be made in both.
+use Rattle.std.proofs.Common.{Bool, List, Option, Some, None, ap, false, is_some, length, refl, sym, true, ℕ, ◌&&◌}
+use Rattle.std.proofs.Common.{slice_get, ◌==◌, ◌∙◌, ◌≡◌, ◌⊎◌, inl, inr}
 use Rattle.std.specs.List.{list_all}
 use Rattle.std.specs.Option.{option_map_or}
 use Rattle.std.specs.Prelude.{IsSome}
@@ -10,7 +10,7 @@ use Rattle.sc_event.specs.declared.interface.Proto.{Proto}
 use Rattle.sc_event.specs.declared.interface.Scalar.{Scalar}
 use Rattle.sc_event.specs.declared.row.Entry.{Entry}
 use Rattle.sc_event.specs.declared.row.Entry.TheVariants.{Export}
-use Rattle.sc_core.specs.Prelude.{Calls, Function, Here, Left, Library, Piece, Reached, Return, Roles, State, and_then}
+use Rattle.sc_core.specs.Prelude.{Calls, Function, Left, Library, Piece, Reached, Return, Roles, State, and_then}
 use Rattle.sc_core.specs.Prelude.{block_does, c_arith, function, functions_of, is_number, is_word, leads, may_call}
 use Rattle.sc_core.specs.declared.expr.CallTarget.{CallTarget}
 use Rattle.sc_core.specs.declared.expr.CallTarget.TheVariants.{Cross, Input, Output, Own}

@@ -1,6 +1,6 @@
 -- Programs whose other form performs parts of a trace by texts mean what the scripted meaning says.
 use Rattle.std.proofs.Common.{Bool, List, Option, Some, None, [], ap, bytes_eq, false, is_some, length, map, refl}
-use Rattle.std.proofs.Common.{slice_get, subst, suc, sym, true, ℕ, ◌&&◌, ◌==◌, ◌∙◌, ◌∷◌, ◌≡◌}
+use Rattle.std.proofs.Common.{slice_get, subst, sym, true, ℕ, ◌&&◌, ◌==◌, ◌∙◌, ◌∷◌, ◌≡◌}
 use Rattle.std.specs.Option.{option_map_or}
 use Rattle.std.specs.Prelude.{IsSome}
 use Rattle.std.proofs.lemmas.Bool.{false≢true}
@@ -11,8 +11,8 @@ use Rattle.sc_event.specs.declared.interface.Proto.{Proto}
 use Rattle.sc_event.specs.declared.row.Entry.{Entry}
 use Rattle.sc_event.specs.declared.row.Entry.TheVariants.{Export, Main}
 use Rattle.sc_event.specs.declared.row.Row.{Row}
-use Rattle.sc_core.specs.Prelude.{Blocks, Calls, Here, Left, Library, Piece, Roles, State, and_then, block_does, c_arith}
-use Rattle.sc_core.specs.Prelude.{closed, entry_in, first_blocks, follow, function, function_of, functions_in}
+use Rattle.sc_core.specs.Prelude.{Blocks, Calls, Library, Roles, State, and_then, block_does, c_arith}
+use Rattle.sc_core.specs.Prelude.{closed, first_blocks, follow, function_of, functions_in}
 use Rattle.sc_core.specs.Prelude.{functions_of, global_block, globals_of, in_order, inits_do, leads, library_of}
 use Rattle.sc_core.specs.Prelude.{main_name, place_named, place_of_export, roles_in, scripted_meaning, all_do}
 use Rattle.sc_core.specs.Prelude.{stopped_at, struct_zeros}
@@ -21,15 +21,10 @@ use Rattle.sc_core.specs.declared.program.ProgramTree.{ProgramTree}
 use Rattle.sc_core.specs.declared.run.RunEnd.TheVariants.{Blamed}
 use Rattle.sc_core.specs.declared.section.TypedFunction.{TypedFunction}
 use Rattle.sc_core.specs.declared.section.TypedGlobal.{TypedGlobal}
-use Rattle.sc_core.specs.declared.section.TypedLocal.{TypedLocal}
 use Rattle.sc_core.specs.declared.section.TypedSection.{TypedSection}
 use Rattle.sc_core.specs.declared.section.TypedStruct.{TypedStruct}
-use Rattle.sc_core.specs.declared.ty.Ty.{Ty}
 use Rattle.sc_core.specs.declared.ty.Ty.TheVariants as ty
-use Rattle.sc_core.specs.declared.value.Value.{Value}
 use Rattle.sc_core.specs.Meaning as core
-use Rattle.sc_laws.specs.Interactions.{Obedient}
-use Rattle.sc_laws.specs.Laws.{NobodyWhoPerformsIsBlamed}
 use Rattle.sc_laws.proofs.ProgramLaws as laws
 use Rattle.sc_replay.specs.Replay.{HasReplaced, IsCounter, IsRecomposed, IsReplaced, IsReplay, Performs, TextsPerform}
 use Rattle.sc_replay.specs.Replay.{proto_of}
@@ -37,7 +32,7 @@ use Rattle.sc_replay.proofs.Text.{counting}
 use Rattle.sc_replay.proofs.Crossing.{at}
 use Rattle.sc_replay.proofs.Entries.{Leads, apart, entry_named, function_is, functions_are}
 use Rattle.sc_replay.proofs.Entries as entries
-use Rattle.sc_replay.proofs.Recomposed.{Performed, Performer, Recomposed}
+use Rattle.sc_replay.proofs.Recomposed.{Performed, Recomposed}
 use Rattle.sc_replay.proofs.Rows.{part_fair}
 use Rattle.sc_replay.proofs.Runs.{runs_same}
 

@@ -1,27 +1,28 @@
 -- The rows of a part of a legal trace: they are numbered, of entries that there are, and may be done.
-use Rattle.std.proofs.Common.{Bool, List, Option, Some, None, [], ap, arith, eqb-true, false, if◌then◌else◌, length, map, refl}
-use Rattle.std.proofs.Common.{subst, suc, sym, true, zero, ℕ, ◌&&◌, ◌==◌, ◌∙◌, ◌∷◌, ◌≡◌, eq-eqb, is_some}
+use Rattle.std.proofs.Common.{Bool, List, Option, Some, None, [], ap, arith, eqb-true, false, if◌then◌else◌, length}
+use Rattle.std.proofs.Common.{map, refl}
+use Rattle.std.proofs.Common.{subst, suc, sym, true, ℕ, ◌&&◌, ◌==◌, ◌∙◌, ◌∷◌, ◌≡◌, eq-eqb, is_some}
 use Rattle.std.specs.List.{AllByRecursion, list_all}
 use Rattle.std.specs.Option.{option_map_or}
-use Rattle.std.specs.Prelude.{All, IfSome, IsSome}
+use Rattle.std.specs.Prelude.{All, IsSome}
 use Rattle.std.proofs.lemmas.Bool.{and_from, and_parts, false≢true}
 use Rattle.std.proofs.lemmas.List.{length-map}
 use Rattle.std.proofs.lemmas.List.Elements.{recursion_from_All}
-use Rattle.sc_event.specs.Prelude.{Activation, Standing, action_of, at_start, awaits, export_at, imports, is_allowed}
-use Rattle.sc_event.specs.Prelude.{is_function, is_input, is_legal_from, is_output, legal, may_perform, may_return, part}
+use Rattle.sc_event.specs.Prelude.{Activation, Standing, action_of, at_start, export_at, imports, is_allowed}
+use Rattle.sc_event.specs.Prelude.{is_function, is_legal_from, is_output, legal, may_perform, part}
 use Rattle.sc_event.specs.Prelude.{performer, resumed, rows_from, stands_after, takes}
 use Rattle.sc_event.specs.declared.event.Event.{Event}
 use Rattle.sc_event.specs.declared.event.Event.TheVariants.{Call, Ret, Out, In, End}
 use Rattle.sc_event.specs.declared.interface.Interfaces.{Interfaces}
 use Rattle.sc_event.specs.declared.interface.Proto.{Proto}
 use Rattle.sc_event.specs.declared.interface.Scalar.{Scalar}
-use Rattle.sc_event.specs.declared.row.Entry.TheVariants.{Export, Main}
+use Rattle.sc_event.specs.declared.row.Entry.TheVariants.{Export}
 use Rattle.sc_core.specs.Prelude.{Library, is_word, leads, may_call}
-use Rattle.sc_core.specs.declared.expr.CallTarget.TheVariants.{Cross, Input, Output}
+use Rattle.sc_core.specs.declared.expr.CallTarget.TheVariants.{Cross}
 use Rattle.sc_core.specs.declared.value.Value.TheVariants.{Word}
 use Rattle.sc_replay.specs.Replay.{HasWords, IsWord, main_proto, proto_of}
 use Rattle.sc_replay.specs.Texts.{params_at}
-use Rattle.sc_replay.proofs.Step.{Fair, IsFair, MayAct, Suit}
+use Rattle.sc_replay.proofs.Step.{Fair, MayAct, Suit}
 
 -- WORDS
 words_cross : (words : List ℕ) → list_all is_word (map (λ w. Word w) words) ≡ true
@@ -104,19 +105,21 @@ module _ (L : Library)
 
   -- ROWS
   fair_from : (c number : ℕ) (at : Option Standing) (trace : List Event) → StandsEntered at →
-      is_legal_from faces at trace ≡ true → AllByRecursion HasWords trace → Fair L c number (rows_from c number at trace)
+      is_legal_from faces at trace ≡ true → AllByRecursion HasWords trace →
+      Fair L c number (rows_from c number at trace)
   fair_from c number at [] known is words = tt
   fair_from c number None (event ∷ later) known is words = tt
   fair_from c number (Some at) (event ∷ later) known is words =
       let parts = and_parts (is_allowed faces at event) (is_legal_from faces (stands_after at event) later) is in
       let allowed = and_parts (performer event == at.active.comp) (may_perform faces at event) parts.0 in
       let next = entered_after at event allowed.1 words.0 known in
-      by (eqb-true (performer event) at.active.comp allowed.0) (may_act at event allowed.1 words.0) (performer event == c)
-      refl
+      by (eqb-true (performer event) at.active.comp allowed.0) (may_act at event allowed.1 words.0)
+      (performer event == c) refl
       (fair_from c (suc number) (stands_after at event) later next parts.1 words.1)
       (fair_from c number (stands_after at event) later next parts.1 words.1) where
         by : performer event ≡ at.active.comp → MayAct L (performer event) (action_of event) → (mine : Bool) →
-            (performer event == c) ≡ mine → Fair L c (suc number) (rows_from c (suc number) (stands_after at event) later) →
+            (performer event == c) ≡ mine →
+            Fair L c (suc number) (rows_from c (suc number) (stands_after at event) later) →
             Fair L c number (rows_from c number (stands_after at event) later) →
             Fair L c number (if mine then record {
               entry = at.active.entry;
