@@ -1,6 +1,7 @@
 -- Calls across in both runs, once their functions are found.
-use Rattle.std.proofs.Common.{Bool, List, Option, Some, None, [], ap, arith, false, length, map, refl, subst, suc, sym, true}
-use Rattle.std.proofs.Common.{zero, ℕ, ◌++◌, ◌<◌, ◌==◌, ◌∙◌, ◌∷◌, ◌≡◌, ◌≤◌, length-append}
+use Rattle.std.proofs.Common.{Bool, List, Option, Some, None, [], ap, arith, false, length, map, refl, subst, suc, sym}
+use Rattle.std.proofs.Common.{true}
+use Rattle.std.proofs.Common.{ℕ, ◌++◌, ◌<◌, ◌==◌, ◌∷◌, ◌≡◌, ◌≤◌}
 use Rattle.std.specs.Prelude.{filter, if◌then◌else◌}
 use Rattle.sc_event.specs.Prelude.{count_of, export_at, performer}
 use Rattle.sc_event.specs.declared.event.Event.{Event}
@@ -11,7 +12,7 @@ use Rattle.sc_core.specs.Prelude.{back_cross, begun, call_cross, crossed, crossi
 use Rattle.sc_core.specs.Prelude.{tell, word_in}
 use Rattle.sc_core.specs.declared.value.Value.{Value}
 use Rattle.sc_event.specs.declared.row.Entry.TheVariants.{Export}
-use Rattle.sc_laws.specs.Growth.{Gone, Grown}
+use Rattle.sc_laws.specs.Growth.{Gone}
 use Rattle.sc_laws.proofs.Growing.{BodyGoes, back_goes, run_goes}
 use Rattle.sc_laws.proofs.Rows.{counts_its_own}
 use Rattle.sc_replay.proofs.Near.{Both, Firsts, Near, NearBy, Reaches, Returns, Told, ahead, both_so, both_then, counts}

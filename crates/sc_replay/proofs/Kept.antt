@@ -1,8 +1,8 @@
 -- Functions of the compartments that keep their sections do the same in both runs.
-use Rattle.std.proofs.Common.{Err, Ok, Option, Result, ap, arith, false, if◌then◌else◌, ne_eqb, refl, subst, suc, sym}
+use Rattle.std.proofs.Common.{Err, Ok, Result, ap, arith, false, if◌then◌else◌, ne_eqb, refl, subst, suc, sym}
 use Rattle.std.proofs.Common.{zero, ℕ, ◌<◌, ◌==◌, ◌∙◌, ◌≡◌}
 use Rattle.std.proofs.lemmas.Bool.{both_ways}
-use Rattle.sc_core.specs.Prelude.{Blocks, Here, Library, Piece, Reached, Roles, State, Stopped, and_then, computed, turn}
+use Rattle.sc_core.specs.Prelude.{Here, Library, Piece, Roles, State, and_then, computed, turn}
 use Rattle.sc_core.specs.Prelude.{turn_of}
 use Rattle.sc_core.specs.declared.cause.Cause.{Cause}
 use Rattle.sc_core.specs.declared.run.RunEnd.TheVariants.{Blamed, TurnsOut}

@@ -4,3 +4,10 @@ pub mod Near
 pub mod Step
 pub mod Kept
 pub mod Crossing
+pub mod Recomposed
+pub mod Bodies
+pub mod Runs
+pub mod Entries
+pub mod Rows
+pub mod Replays
+pub mod Example

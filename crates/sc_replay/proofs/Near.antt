@@ -1,6 +1,6 @@
 -- States of the run of the texts beside states of the run in which compartments perform, and pieces of both runs.
-use Rattle.std.proofs.Common.{Bool, List, Option, Some, None, [], ap, ap₂, arith, eq-eqb, false, if◌then◌else◌, length}
-use Rattle.std.proofs.Common.{ne_eqb, refl, subst, suc, sym, true, zero, ℕ, ⊎_elim, ◌++◌, ◌<◌, ◌==◌, ◌∙◌, ◌∷◌, ◌≡◌, ◌≤◌}
+use Rattle.std.proofs.Common.{Bool, List, Option, [], ap, ap₂, arith, eq-eqb, false, if◌then◌else◌, length}
+use Rattle.std.proofs.Common.{ne_eqb, refl, suc, sym, true, ℕ, ⊎_elim, ◌++◌, ◌==◌, ◌∙◌, ◌∷◌, ◌≡◌, ◌≤◌}
 use Rattle.std.specs.Prelude.{filter}
 use Rattle.std.proofs.lemmas.Bool.{both_ways, cases_eq}
 use Rattle.sc_event.specs.Prelude.{count_of, performer}

@@ -12,7 +12,7 @@ use Rattle.sc_event.specs.declared.row.Entry.{Entry}
 use Rattle.sc_event.specs.declared.row.Row.{Row}
 use Rattle.sc_core.specs.Prelude.{Blocks, Body, Calls, Here, Left, Library, Piece, Reached, Return, Roles, State, Step}
 use Rattle.sc_core.specs.Prelude.{Stopped, acts, all_do, and_then, calls, follow, in_order, is_number, may_call}
-use Rattle.sc_core.specs.Prelude.{option_value, performs, rows_left, scripted_step}
+use Rattle.sc_core.specs.Prelude.{performs, rows_left, scripted_step}
 use Rattle.sc_core.specs.declared.expr.CallTarget.{CallTarget}
 use Rattle.sc_core.specs.declared.expr.CallTarget.TheVariants.{Cross, Input, Output, Own}
 use Rattle.sc_core.specs.declared.run.RunEnd.TheVariants.{TurnsOut}
@@ -20,7 +20,6 @@ use Rattle.sc_core.specs.declared.section.TypedStruct.{TypedStruct}
 use Rattle.sc_core.specs.declared.stmt.TypedStmt.{TypedStmt}
 use Rattle.sc_core.specs.declared.value.Value.{Value}
 use Rattle.sc_core.specs.declared.value.Value.TheVariants.{Word}
-use Rattle.sc_core.proofs.Shapes.{Shape, way}
 use Rattle.sc_laws.specs.Laws.{IsFixed}
 use Rattle.sc_laws.specs.Steady.{now}
 use Rattle.sc_replay.specs.Replay.{IsWord, proto_of}
@@ -28,7 +27,7 @@ use Rattle.sc_replay.specs.Texts.{IsPerforming, ends, or_int, params_at, perform
 use Rattle.sc_replay.specs.Texts.{stmt_at, waits}
 use Rattle.sc_replay.proofs.Values.{int_gives, int_shape, word_gives, word_shape, word_shapes}
 use Rattle.sc_replay.proofs.Text.{Give, Halts, acts_there, action_does, call_does, counted, counting, does, none, one}
-use Rattle.sc_replay.proofs.Text.{passes, return_does, row_does, row_does_is, waits_halts}
+use Rattle.sc_replay.proofs.Text.{passes, return_does, row_does_is, waits_halts}
 use Rattle.sc_replay.proofs.Near.{Both, Near, NearBy, Returns, ahead, counts, both_then, near_counted, reached, stopped}
 
 -- a call that leaves its compartment, and one of the environment
@@ -165,7 +164,8 @@ module _ (roles : Roles) (most : ℕ) (L : Library) (step : Step) (fixed : IsFix
       -- the statement of an action, and what stands behind it
       abbrev acted : ℕ → Action → Piece (Option Value)
       acted line action =
-          and_then (follow in_order (all_do (action_does structs here params made L.interfaces result line action) tt s1)
+          and_then (follow in_order
+          (all_do (action_does structs here params made L.interfaces result line action) tt s1)
           (does structs here params made stmts)) close
 
       abbrev asked : CallTarget → List Value → (State → Piece (Option Value)) → Bool → Piece (Option Value)

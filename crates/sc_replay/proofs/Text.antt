@@ -1,16 +1,15 @@
 -- What the statements of a text that performs a part do, one by one.
-use Rattle.std.proofs.Common.{Bool, List, Ok, Option, Some, None, [], ap, arith, eq-eqb, false, if◌then◌else◌, length, map}
-use Rattle.std.proofs.Common.{ne_eqb, refl, suc, sym, true, zero, ℕ, ◌++◌, ◌<◌, ◌==◌, ◌∙◌, ◌∷◌, ◌≡◌}
+use Rattle.std.proofs.Common.{List, Ok, Option, Some, None, [], ap, eq-eqb, map}
+use Rattle.std.proofs.Common.{ne_eqb, refl, suc, sym, true, zero, ℕ, ◌++◌, ◌==◌, ◌∙◌, ◌∷◌, ◌≡◌}
 use Rattle.sc_base.specs.declared.op.BinaryOp.TheVariants as op
 use Rattle.sc_event.specs.declared.interface.Interfaces.{Interfaces}
 use Rattle.sc_event.specs.declared.interface.Scalar.{Scalar}
-use Rattle.sc_event.specs.declared.interface.Scalar.TheVariants as scalar
 use Rattle.sc_event.specs.declared.row.Action.{Action}
 use Rattle.sc_event.specs.declared.row.Action.TheVariants as act
 use Rattle.sc_event.specs.declared.row.Row.{Row}
 use Rattle.sc_core.specs.Prelude.{Acts, Blocks, Calls, Here, Left, Next, Piece, Reached, Return, State, Stopped, Ways}
 use Rattle.sc_core.specs.Prelude.{all_do, and_then, assign, block_does, c_arith, call_alone, choose, computed}
-use Rattle.sc_core.specs.Prelude.{evaluated, follow, in_order, leave, loop, of_bool, rounds, stmt_does, store, test}
+use Rattle.sc_core.specs.Prelude.{evaluated, follow, in_order, leave, of_bool, rounds, stmt_does, store, test}
 use Rattle.sc_core.specs.Prelude.{turn_of, values, variable_at, with_memory}
 use Rattle.sc_core.specs.Memory.{Block}
 use Rattle.sc_core.specs.declared.expr.CallTarget.{CallTarget}
@@ -32,8 +31,8 @@ use Rattle.sc_core.specs.declared.value.Value.TheVariants.{Word}
 use Rattle.sc_core.specs.declared.value.Want.TheVariants as want
 use Rattle.sc_core.proofs.Shapes.{AssignLine, CallLine, IfLine, Lines, Lit, NoLine, ReturnLine, ReturnValueLine, Shape}
 use Rattle.sc_core.proofs.Shapes.{Two, Var, WhileLine, expr, lines_are, lines_do, stmts, way}
-use Rattle.sc_replay.specs.Texts.{action_kind, calls_out, counter, counter_is, int_expr, literal, or_int, params_at}
-use Rattle.sc_replay.specs.Texts.{row_kind, stmt_at, waits, word_expr}
+use Rattle.sc_replay.specs.Texts.{action_kind, calls_out, counter, counter_is, or_int, params_at}
+use Rattle.sc_replay.specs.Texts.{row_kind, stmt_at, waits}
 use Rattle.sc_replay.proofs.Values.{Gives, int_is, int_shape, literal_is, word_is, word_shape, word_shapes, words_are}
 
 -- STATEMENTS BY SHAPES

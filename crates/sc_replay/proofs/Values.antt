@@ -1,16 +1,15 @@
 -- How a word is written as an expression, and that this gives the word.
-use Rattle.std.proofs.Common.{Bool, Err, List, Ok, [], ap, ap₂, arith, false, if◌then◌else◌, le-leb, leb-false, map}
-use Rattle.std.proofs.Common.{leb-true, nat_le, neg_ℤ, negsuc, pos, refl, subst, suc, sym, true, zero, ℕ, ℤ, ◌&&◌, ◌-◌}
-use Rattle.std.proofs.Common.{◌<◌, ◌==◌, ◌^◌, ◌∙◌, ◌∷◌, ◌≡◌, ◌≤◌}
-use Rattle.std.proofs.lemmas.Bool.{eq-eqb, eqb-true, ne_eqb}
+use Rattle.std.proofs.Common.{Bool, Err, List, Ok, [], ap, ap₂, arith, false, if◌then◌else◌, leb-false, map}
+use Rattle.std.proofs.Common.{nat_le, neg_ℤ, negsuc, pos, refl, suc, sym, true, zero, ℕ, ◌-◌}
+use Rattle.std.proofs.Common.{◌<◌, ◌==◌, ◌^◌, ◌∙◌, ◌∷◌, ◌≡◌}
+use Rattle.std.proofs.lemmas.Bool.{eq-eqb, eqb-true}
 use Rattle.sc_base.specs.declared.op.BinaryOp.TheVariants as op
 use Rattle.sc_base.specs.declared.op.UnaryOp.TheVariants as unary
 use Rattle.sc_event.specs.declared.interface.Scalar.{Scalar}
 use Rattle.sc_event.specs.declared.interface.Scalar.TheVariants as scalar
 use Rattle.sc_word.specs.Prelude.{fits_signed, neg_signed, signed_of, word_of}
 use Rattle.sc_word.specs.declared.fault.WordFault.TheVariants.{Overflow}
-use Rattle.sc_core.specs.Prelude.{Blocks, Here, as_word, c_arith, c_negated, or_cause, values}
-use Rattle.sc_core.specs.declared.expr.TypedExpr.{TypedExpr}
+use Rattle.sc_core.specs.Prelude.{Blocks, Here, as_word, c_arith, or_cause}
 use Rattle.sc_core.specs.declared.expr.TypedKind
 use Rattle.sc_core.specs.declared.expr.TypedKind.TheVariants.{rolls-Binary, rolls-Literal, rolls-Unary}
 use Rattle.sc_core.specs.declared.section.TypedStruct.{TypedStruct}

@@ -1,12 +1,12 @@
 -- Programs in which the sections of some compartments are replaced by ones that perform their parts of a trace.
-use Rattle.std.specs.Prelude.{◌≡◌, ℕ, ◌<◌, ◌^◌, ◌==◌, if◌then◌else◌, Bool, true, false, List, [], ◌∷◌, Option, Some, None}
+use Rattle.std.specs.Prelude.{◌≡◌, ℕ, ◌<◌, ◌^◌, ◌==◌, if◌then◌else◌, Bool, true, false, List, [], ◌∷◌, Option, Some}
+use Rattle.std.specs.Prelude.{None}
 use Rattle.std.specs.Prelude.{All, IfSome, slice_get}
 use Rattle.sc_event.specs.Prelude.{export_at, legal, part}
 use Rattle.sc_event.specs.declared.event.Event.{Event}
 use Rattle.sc_event.specs.declared.event.Event.TheVariants.{Call, Ret, Out, In, End}
 use Rattle.sc_event.specs.declared.interface.Interfaces.{Interfaces}
 use Rattle.sc_event.specs.declared.interface.Proto.{Proto}
-use Rattle.sc_event.specs.declared.interface.Scalar.{Scalar}
 use Rattle.sc_event.specs.declared.interface.Scalar.TheVariants as scalar
 use Rattle.sc_event.specs.declared.row.Entry.{Entry}
 use Rattle.sc_event.specs.declared.row.Entry.TheVariants.{Main, Export}
@@ -47,7 +47,6 @@ pub record Performs (interfaces : Interfaces) (entry : Entry) (proto : Proto) (r
 
 -- a section whose functions perform the rows of its compartment, each those of its entry
 pub record IsReplaced (interfaces : Interfaces) (comp : ℕ) (rows : List Row) (section : TypedSection) : Type 0 where
-  pub structs : section.structs ≡ []
   pub counter : TypedGlobal
   pub globals : section.globals ≡ counter ∷ []
   pub counts : IsCounter counter

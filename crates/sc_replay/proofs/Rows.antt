@@ -1,0 +1,147 @@
+-- The rows of a part of a legal trace: they are numbered, of entries that there are, and may be done.
+use Rattle.std.proofs.Common.{Bool, List, Option, Some, None, [], ap, arith, eqb-true, false, if◌then◌else◌, length}
+use Rattle.std.proofs.Common.{map, refl}
+use Rattle.std.proofs.Common.{subst, suc, sym, true, ℕ, ◌&&◌, ◌==◌, ◌∙◌, ◌∷◌, ◌≡◌, eq-eqb, is_some}
+use Rattle.std.specs.List.{AllByRecursion, list_all}
+use Rattle.std.specs.Option.{option_map_or}
+use Rattle.std.specs.Prelude.{All, IsSome}
+use Rattle.std.proofs.lemmas.Bool.{and_from, and_parts, false≢true}
+use Rattle.std.proofs.lemmas.List.{length-map}
+use Rattle.std.proofs.lemmas.List.Elements.{recursion_from_All}
+use Rattle.sc_event.specs.Prelude.{Activation, Standing, action_of, at_start, export_at, imports, is_allowed}
+use Rattle.sc_event.specs.Prelude.{is_function, is_legal_from, is_output, legal, may_perform, part}
+use Rattle.sc_event.specs.Prelude.{performer, resumed, rows_from, stands_after, takes}
+use Rattle.sc_event.specs.declared.event.Event.{Event}
+use Rattle.sc_event.specs.declared.event.Event.TheVariants.{Call, Ret, Out, In, End}
+use Rattle.sc_event.specs.declared.interface.Interfaces.{Interfaces}
+use Rattle.sc_event.specs.declared.interface.Proto.{Proto}
+use Rattle.sc_event.specs.declared.interface.Scalar.{Scalar}
+use Rattle.sc_event.specs.declared.row.Entry.TheVariants.{Export}
+use Rattle.sc_core.specs.Prelude.{Library, is_word, leads, may_call}
+use Rattle.sc_core.specs.declared.expr.CallTarget.TheVariants.{Cross}
+use Rattle.sc_core.specs.declared.value.Value.TheVariants.{Word}
+use Rattle.sc_replay.specs.Replay.{HasWords, IsWord, main_proto, proto_of}
+use Rattle.sc_replay.specs.Texts.{params_at}
+use Rattle.sc_replay.proofs.Step.{Fair, MayAct, Suit}
+
+-- WORDS
+words_cross : (words : List ℕ) → list_all is_word (map (λ w. Word w) words) ≡ true
+words_cross [] = refl
+words_cross (word ∷ words) = words_cross words
+
+suits : (params : List Scalar) (words : List ℕ) → length params ≡ length words → AllByRecursion IsWord words →
+    Suit params words
+suits [] [] same small = tt
+suits [] (word ∷ words) same small = absurd (omega (arith, same))
+suits (param ∷ params) [] same small = absurd (omega (arith, same))
+suits (param ∷ params) (word ∷ words) same small = (small.0, suits params words (omega (arith, same)) small.1)
+
+-- a library in which exports lead to functions
+module _ (L : Library)
+    (leads_so : (to index : ℕ) → IsSome (export_at L.interfaces to index) →
+    leads L to (L.entered to (Export index)) ≡ true) where
+  abbrev faces : Interfaces
+  faces = L.interfaces
+
+  taken_suits : (to index : ℕ) (words : List ℕ) → AllByRecursion IsWord words →
+      takes faces to index (length words) ≡ true →
+      IsSome (export_at faces to index) × Suit (params_at faces to index) words
+  taken_suits to index words small = by (export_at faces to index) where
+    by : (o : Option Proto) → option_map_or (λ found. length found.params == length words) o false ≡ true →
+        IsSome o × Suit (option_map_or (λ proto. proto.params) o []) words
+    by None h = absurd (false≢true h)
+    by (Some proto) h = (refl, suits proto.params words (eqb-true (length proto.params) (length words) h) small)
+
+  call_may : (from to index : ℕ) (words : List ℕ) → AllByRecursion IsWord words →
+      (imports faces from (is_function to index) && takes faces to index (length words)) ≡ true →
+      (may_call L from (Cross to index) (map (λ w. Word w) words) ≡ true) × Suit (params_at faces to index) words
+  call_may from to index words small h =
+      let parts = and_parts (imports faces from (is_function to index)) (takes faces to index (length words)) h in
+      let suit = taken_suits to index words small parts.1 in (
+        and_from (imports faces from (is_function to index)) _ parts.0
+            (and_from (takes faces to index (length (map (λ w. Word w) words))) _
+            (ap (takes faces to index) (length-map words (λ w. Word w)) ∙ parts.1)
+            (and_from (list_all is_word (map (λ w. Word w) words)) _ (words_cross words) (leads_so to index suit.0))),
+        suit.1,
+      )
+
+  may_act : (at : Standing) (event : Event) → may_perform faces at event ≡ true → HasWords event →
+      MayAct L (performer event) (action_of event)
+  may_act at (Call from to index args) may words =
+      call_may from to index args (recursion_from_All IsWord args words) may
+  may_act at (Ret from to None) may words = tt
+  may_act at (Ret from to (Some value)) may words = words
+  may_act at (Out comp value) may words = (and_from (imports faces comp is_output) true may refl, words)
+  may_act at (In comp value) may words = may
+  may_act at (End comp value) may words = words
+
+  -- ENTRIES of functions that were entered
+  abbrev IsEntered : Activation → Type 0
+  IsEntered a = IsSome (proto_of faces a.comp a.entry)
+
+  record AreEntered (at : Standing) : Type 0 where
+    pub active : IsEntered at.active
+    pub waiting : AllByRecursion IsEntered at.waiting
+
+  abbrev StandsEntered : Option Standing → Type 0
+  StandsEntered None = Unit {0}
+  StandsEntered (Some at) = AreEntered at
+
+  entered_after : (at : Standing) (event : Event) → may_perform faces at event ≡ true → HasWords event →
+      AreEntered at → StandsEntered (stands_after at event)
+  entered_after at (Call from to index args) may words known =
+      record {
+        active = (taken_suits to index args (recursion_from_All IsWord args words) (and_parts
+            (imports faces from (is_function to index)) (takes faces to index (length args)) may).1).0;
+        waiting = (known.active, known.waiting);
+      }
+  entered_after at (Ret from to value) may words known = resume at.waiting known.waiting where
+    resume : (waiting : List Activation) → AllByRecursion IsEntered waiting → StandsEntered (resumed waiting)
+    resume [] all = tt
+    resume (latest ∷ earlier) all = record { active = all.0; waiting = all.1 }
+  entered_after at (Out comp value) may words known = known
+  entered_after at (In comp value) may words known = known
+  entered_after at (End comp value) may words known = tt
+
+  -- ROWS
+  fair_from : (c number : ℕ) (at : Option Standing) (trace : List Event) → StandsEntered at →
+      is_legal_from faces at trace ≡ true → AllByRecursion HasWords trace →
+      Fair L c number (rows_from c number at trace)
+  fair_from c number at [] known is words = tt
+  fair_from c number None (event ∷ later) known is words = tt
+  fair_from c number (Some at) (event ∷ later) known is words =
+      let parts = and_parts (is_allowed faces at event) (is_legal_from faces (stands_after at event) later) is in
+      let allowed = and_parts (performer event == at.active.comp) (may_perform faces at event) parts.0 in
+      let next = entered_after at event allowed.1 words.0 known in
+      by (eqb-true (performer event) at.active.comp allowed.0) (may_act at event allowed.1 words.0)
+      (performer event == c) refl
+      (fair_from c (suc number) (stands_after at event) later next parts.1 words.1)
+      (fair_from c number (stands_after at event) later next parts.1 words.1) where
+        by : performer event ≡ at.active.comp → MayAct L (performer event) (action_of event) → (mine : Bool) →
+            (performer event == c) ≡ mine →
+            Fair L c (suc number) (rows_from c (suc number) (stands_after at event) later) →
+            Fair L c number (rows_from c number (stands_after at event) later) →
+            Fair L c number (if mine then record {
+              entry = at.active.entry;
+              number = number;
+              action = action_of event;
+            } ∷ rows_from c (suc number) (stands_after at event) later else
+            rows_from c number (stands_after at event) later)
+        by own may true is more less =
+            let same : performer event ≡ c = eqb-true (performer event) c is in (
+              record {
+                numbered = refl;
+                known = subst (λ n. IsSome (proto_of faces n at.active.entry)) (sym own ∙ same) known.active;
+                may = subst (λ n. MayAct L n (action_of event)) same may;
+              },
+              more,
+            )
+        by own may false is more less = less
+
+  pub part_fair : (c : ℕ) (trace : List Event) → legal faces trace ≡ true → All HasWords trace →
+      Fair L c 0 (part faces.main c trace)
+  part_fair c trace is words =
+      fair_from c 0 (at_start faces.main) trace (record {
+        active = ap (λ b. is_some (if b then Some main_proto else None)) (eq-eqb faces.main faces.main refl);
+        waiting = tt;
+      }) is (recursion_from_All HasWords trace words)
