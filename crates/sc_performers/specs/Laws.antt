@@ -1,5 +1,5 @@
 -- The rules that a section keeps which performs a compartment's part of a trace.
-use Rattle.std.specs.Prelude.{◌≡◌, ℕ, List, []}
+use Rattle.std.specs.Prelude.{◌≡◌, ℕ, List, [], All}
 use Rattle.sc_event.specs.declared.interface.Interface.{Interface}
 use Rattle.sc_event.specs.declared.interface.Interfaces.{Interfaces}
 use Rattle.sc_event.specs.declared.row.Row.{Row}
@@ -7,9 +7,10 @@ use Rattle.sc_ast.specs.Prelude.{SameButLines}
 use Rattle.sc_ast.specs.declared.section.SectionTree.{SectionTree}
 use Rattle.sc_scope.specs.Names as names
 use Rattle.sc_elab.specs.Sections as types
-use Rattle.sc_elab.specs.Prelude.{callees_of}
+use Rattle.sc_elab.specs.Prelude.{callees_of, typed_section}
 use Rattle.sc_back.specs.Tree.{back_tree}
-use Rattle.sc_performers.specs.Performer.{IsPerformer}
+use Rattle.sc_replay.specs.Replay.{IsReplaced}
+use Rattle.sc_performers.specs.Performer.{IsImportedAs, IsPerformer}
 
 -- it breaks no rule of names
 abbrev pub NamesHold : Type 0
@@ -23,3 +24,11 @@ TypesHold = (interfaces : Interfaces) (comp : ℕ) (rows : List Row) (interface 
     IsPerformer interfaces comp rows interface → SameButLines section (back_tree interfaces comp rows interface) →
     (sections : List SectionTree) (number : ℕ) →
     types.section_lines section (callees_of sections number section) ≡ []
+
+-- with its types, its functions perform the rows, each those of its entry, where its imports lead as they should
+abbrev pub RowsPerform : Type 0
+RowsPerform = (interfaces : Interfaces) (comp : ℕ) (rows : List Row) (interface : Interface)
+    (section : SectionTree) → IsPerformer interfaces comp rows interface →
+    SameButLines section (back_tree interfaces comp rows interface) → (sections : List SectionTree) (number : ℕ) →
+    All (IsImportedAs sections number interfaces) interface.imports →
+    IsReplaced interfaces comp rows (typed_section section (callees_of sections number section))
