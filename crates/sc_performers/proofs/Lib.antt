@@ -14,3 +14,6 @@ pub mod SectionTypes
 pub mod TypesKept
 pub mod Performing
 pub mod Replaced
+pub mod Shares
+pub mod Nodes
+pub mod CountsKept

@@ -29,7 +29,6 @@ use Rattle.sc_scope.specs.Prelude.{among, are_distinct, import_of}
 use Rattle.sc_elab_expr.specs.Prelude.{Callees}
 use Rattle.sc_elab_stmt.specs.Prelude.{typed_stmt}
 use Rattle.sc_elab.specs.Prelude.{callees_of, typed_function, typed_global, typed_section}
-unfoldable use Rattle.sc_elab.specs.Prelude.{typed_locals}
 use Rattle.sc_back.specs.Text.{imported, is_of, main_proto}
 use Rattle.sc_replay.specs.Replay.{IsCounter, IsReplaced, Performs, proto_of}
 use Rattle.sc_replay.specs.Texts.{IsPerforming}
@@ -41,8 +40,8 @@ use Rattle.sc_performers.proofs.Undone.{back_tree_is}
 use Rattle.sc_performers.proofs.Distinct.{first_new, front_distinct, is_false, not_both, rest_distinct}
 use Rattle.sc_performers.proofs.Performing.{HasTargets, performing}
 use Rattle.sc_performers.proofs.SectionFacts.{distinct_names, entries, entries_usable, entry_names, use_names}
-use Rattle.sc_performers.proofs.SectionTypes.{functions_are, no_counter, no_tags, one_global, result_is, signatures}
-use Rattle.sc_performers.proofs.SectionTypes.{structs_none, targets, typed_params, visible_is}
+use Rattle.sc_performers.proofs.SectionTypes.{body_is, functions_are, no_counter, no_locals, no_tags, one_global, signatures}
+use Rattle.sc_performers.proofs.SectionTypes.{targets, typed_params}
 use Rattle.sc_performers.proofs.TypedRows.{IsTypedBody, typed_body}
 use Rattle.sc_performers.proofs.Uses.{IsAmong, first, later, is_first_or_later, none_among, rows_fit}
 
@@ -206,17 +205,11 @@ module _ (interfaces : Interfaces) (comp : ℕ) (rows : List Row) (interface : I
       let absent = no_counter f.params usable.few in
       let fits = rows_fit interfaces comp rows interface is entry f named in
       subst (IsPerforming interfaces entry f.result rows)
-      (sym (λ i. map (typed_stmt (visible_is interfaces comp rows interface is section t callees f line close_line
-      body absent i) callees (result_is interfaces comp rows interface is section t f line close_line body i)) body))
+      (sym (body_is interfaces comp rows interface is section t callees f line close_line body absent))
       (performing callees interfaces comp rows interface is has_targets entry f.result rows _
       (typed_body (typed_params 0 f.params) absent callees interfaces comp rows interface is
       (signatures interfaces comp rows interface is section t sections number) f.result
       (filter (is_of entry) rows) body b fits) fits)
-
-  no_locals : (f : Proto) (line close_line : ℕ) (body : List StmtTree) →
-      (typed_function section callees (function_at f line close_line body)).locals ≡ []
-  unfolding typed_locals
-  no_locals f line close_line body = refl
 
   entry_performs : (entry : Entry) (f : Proto) → proto_of interfaces comp entry ≡ Some f →
       Performs interfaces entry f rows (typed_section section callees)
@@ -234,7 +227,7 @@ module _ (interfaces : Interfaces) (comp : ℕ) (rows : List Row) (interface : I
         named = subst (λ x. position {X = TypedFunction} (λ g. bytes_eq g.name f.name) x ≡ Some s.at) listed s.place;
         is = subst (λ x. slice_get x s.at ≡ Some (typed_function section callees
             (function_at f s.line s.close_line s.body))) listed s.got;
-        locals = no_locals f s.line s.close_line s.body;
+        locals = no_locals interfaces comp rows interface is section t callees f s.line s.close_line s.body;
         body = typed_performs entry f s.line s.close_line s.body s.does_rows named
             (entry_holds (entry, f) all (entries_usable interfaces comp rows interface is) there);
       }

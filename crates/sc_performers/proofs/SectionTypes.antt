@@ -38,8 +38,9 @@ use Rattle.sc_scope.specs.Prelude.{import_of, struct_names, structs_in}
 use Rattle.sc_elab_expr.specs.Prelude.{Callees, found_in, target_or}
 use Rattle.sc_elab.specs.Prelude.{callees_of, global_variable, head_named, import_named, import_target, imported_target, or_first}
 use Rattle.sc_elab.specs.Prelude.{param_ty, result_of, scope_in, signature_by, structs, tags, type_of, type_of_name}
-use Rattle.sc_elab.specs.Prelude.{typed_param, visible_of}
-unfoldable use Rattle.sc_elab.specs.Prelude.{typed_structs}
+use Rattle.sc_elab.specs.Prelude.{typed_function, typed_param, visible_of}
+use Rattle.sc_elab_stmt.specs.Prelude.{typed_stmt}
+unfoldable use Rattle.sc_elab.specs.Prelude.{typed_locals, typed_structs}
 use Rattle.sc_back.specs.Tree.{base_tree, counter_name, function_params, param_name, proto_params, type_name}
 use Rattle.sc_performers.specs.Performer.{IsPerformer}
 use Rattle.sc_performers.proofs.BackTree.{AreHeads, AreImports, IsBackTree, and_head, and_import, counter_at}
@@ -219,6 +220,19 @@ module _ (interfaces : Interfaces) (comp : ℕ) (rows : List Row) (interface : I
       result_of section (function_at f line close_line body) ≡ result_ty f.result
   result_is f line close_line body =
       ap (λ names. option_map (type_of_name names) (option_map type_name f.result)) no_tags ∙ result_typed f.result
+
+  -- a function has no locals, and its statements are typed by what is visible in it
+  pub no_locals : (callees : Callees) (f : Proto) (line close_line : ℕ) (body : List StmtTree) →
+      (typed_function section callees (function_at f line close_line body)).locals ≡ []
+  unfolding typed_locals
+  no_locals callees f line close_line body = refl
+
+  pub body_is : (callees : Callees) (f : Proto) (line close_line : ℕ) (body : List StmtTree)
+      (absent : found_in Param (typed_params 0 f.params) counter_name ≡ None) →
+      (typed_function section callees (function_at f line close_line body)).body ≡
+      map (typed_stmt (visible (typed_params 0 f.params) absent callees) callees (result_ty f.result)) body
+  body_is callees f line close_line body absent = λ i. map (typed_stmt
+      (visible_is callees f line close_line body absent i) callees (result_is f line close_line body i)) body
 
   abbrev used : List (Import × Proto)
   used = imported_uses interfaces comp rows interface is

@@ -8,6 +8,7 @@ use Rattle.sc_ast.specs.declared.section.SectionTree.{SectionTree}
 use Rattle.sc_scope.specs.Names as names
 use Rattle.sc_elab.specs.Sections as types
 use Rattle.sc_elab.specs.Prelude.{callees_of, typed_section}
+use Rattle.sc_types.specs.Counts as counts
 use Rattle.sc_back.specs.Tree.{back_tree}
 use Rattle.sc_replay.specs.Replay.{IsReplaced}
 use Rattle.sc_performers.specs.Performer.{IsImportedAs, IsPerformer}
@@ -32,3 +33,10 @@ RowsPerform = (interfaces : Interfaces) (comp : ℕ) (rows : List Row) (interfac
     SameButLines section (back_tree interfaces comp rows interface) → (sections : List SectionTree) (number : ℕ) →
     All (IsImportedAs sections number interfaces) interface.imports →
     IsReplaced interfaces comp rows (typed_section section (callees_of sections number section))
+
+-- it holds no more than a program may, wherever it stands in a text
+abbrev pub CountsHold : Type 0
+CountsHold = (interfaces : Interfaces) (comp : ℕ) (rows : List Row) (interface : Interface) (section : SectionTree) →
+    IsPerformer interfaces comp rows interface → SameButLines section (back_tree interfaces comp rows interface) →
+    (sections : List SectionTree) (number : ℕ) →
+    counts.section_lines section (callees_of sections number section) ≡ []

@@ -1,6 +1,6 @@
 // The laws, each the contract of a function with nothing to do.
 
-ghost use Rattle.sc_performers.specs.Laws.{NamesHold, RowsPerform, TypesHold};
+ghost use Rattle.sc_performers.specs.Laws.{CountsHold, NamesHold, RowsPerform, TypesHold};
 
 /// A section that performs breaks no rule of names.
 pub fn names_hold()
@@ -15,4 +15,9 @@ pub fn types_hold()
 /// With its types, it has a counter alone, and functions that perform its rows, each those of its entry.
 pub fn rows_perform()
     ensures { RowsPerform }
+{}
+
+/// It holds no more than a program may.
+pub fn counts_hold()
+    ensures { CountsHold }
 {}
