@@ -1,7 +1,7 @@
 -- A performing section holds no more than a program may.
-use Rattle.std.proofs.Common.{Bool, List, None, Option, Some, [], ◌∷◌, ◌++◌, ◌≡◌, ◌∙◌, ◌==◌, ◌&&◌, ◌+◌, ◌*◌, ◌<◌, ◌≤◌, ℕ, zero, suc, ap, ap₂, arith}
-use Rattle.std.proofs.Common.{false, if◌then◌else◌, le-leb, length, length-append, map, nat_le, refl, slice_get, subst, sym, true}
-use Rattle.std.proofs.lemmas.Bool.{and_from, false≢true}
+use Rattle.std.proofs.Common.{Bool, List, None, Option, Some, [], ◌∷◌, ◌++◌, ◌≡◌, ◌∙◌, ◌==◌, ◌+◌, ◌*◌, ◌≤◌, ℕ, zero, suc, ap, ap₂, arith}
+use Rattle.std.proofs.Common.{false, if◌then◌else◌, le-leb, length, length-append, map, nat_le, refl, slice_get, true}
+use Rattle.std.proofs.lemmas.Bool.{and_from}
 use Rattle.std.proofs.lemmas.List.{length-map}
 use Rattle.std.specs.Prelude.{filter}
 use Rattle.std.specs.List.{AllByRecursion, concat, list_all}
@@ -15,10 +15,8 @@ use Rattle.sc_event.specs.declared.row.Entry.{Entry}
 use Rattle.sc_event.specs.declared.row.Entry.TheVariants.{Main}
 use Rattle.sc_event.specs.declared.row.Row.{Row}
 use Rattle.sc_ast.specs.Prelude.{param_of}
-use Rattle.sc_ast.specs.declared.section.Decl.{Decl}
 use Rattle.sc_ast.specs.declared.section.Decl.TheVariants as decl
 use Rattle.sc_ast.specs.declared.section.ExportLine.{ExportLine}
-use Rattle.sc_ast.specs.declared.section.FunctionParam.{FunctionParam}
 use Rattle.sc_ast.specs.declared.section.FunctionTree.{FunctionTree}
 use Rattle.sc_ast.specs.declared.section.HeadTree.{HeadTree}
 use Rattle.sc_ast.specs.declared.section.ImportLine.{ImportLine}
@@ -26,7 +24,7 @@ use Rattle.sc_ast.specs.declared.section.SectionTree.{SectionTree}
 use Rattle.sc_ast.specs.declared.stmt.StmtTree.{StmtTree}
 use Rattle.sc_core.specs.Prelude.{local_nodes, most_nodes, most_params, nodes, stmt_nodes, total}
 use Rattle.sc_core.specs.declared.section.TypedFunction.{TypedFunction}
-use Rattle.sc_scope.specs.Prelude.{export_names, unless}
+use Rattle.sc_scope.specs.Prelude.{unless}
 use Rattle.sc_elab_expr.specs.Prelude.{Callees}
 use Rattle.sc_elab.specs.Prelude.{callees_of, struct_names, typed_function, typed_param}
 use Rattle.sc_types.specs.Counts.{function_lines, global_lines, head_lines, line_beyond, line_of_some, param_small}
@@ -35,7 +33,7 @@ use Rattle.sc_back.specs.Text.{is_of, main_proto}
 use Rattle.sc_back.specs.Tree.{function_params, proto_params}
 use Rattle.sc_replay.specs.Replay.{proto_of}
 use Rattle.sc_performers.specs.Laws.{CountsHold}
-use Rattle.sc_performers.specs.Performer.{IsPerformer, IsUsable, names_of}
+use Rattle.sc_performers.specs.Performer.{IsPerformer, IsUsable}
 use Rattle.sc_performers.proofs.BackTree.{AreFunctions, AreHeads, AreImports, IsBackBody, IsBackTree, and_function}
 use Rattle.sc_performers.proofs.BackTree.{and_head, and_import, counter_at, entries_from, function_at, main_entries}
 use Rattle.sc_performers.proofs.BackTree.{no_functions, no_heads, no_imports, use_of, uses}
@@ -43,7 +41,7 @@ use Rattle.sc_back.specs.Text.{imported}
 use Rattle.sc_performers.proofs.Undone.{back_tree_is}
 use Rattle.sc_performers.proofs.Declared.{heads_of}
 use Rattle.sc_performers.proofs.Nodes.{body_nodes}
-use Rattle.sc_performers.proofs.SectionFacts.{entries, entries_usable, imported_uses, uses_usable}
+use Rattle.sc_performers.proofs.SectionFacts.{entries, entries_usable, uses_usable}
 use Rattle.sc_performers.proofs.SectionTypes.{body_is, functions_are, heads_are, no_counter, no_locals, no_structs}
 use Rattle.sc_performers.proofs.SectionTypes.{one_global, signatures, typed_params}
 use Rattle.sc_performers.proofs.Shares.{shares, shares_within}
@@ -143,16 +141,24 @@ module _ (interfaces : Interfaces) (comp : ℕ) (rows : List Row) (interface : I
       total (map nodes (map typed trees)) ≤ 11 * length others + 40 * shares rows others
   functions_nodes others trees no_functions named usable = omega arith
   functions_nodes others trees (and_function entry f more rest line close body b h) named usable =
-      omega (arith, function_nodes entry f line close body b named.0 usable.0,
-      functions_nodes more rest h named.1 usable.1)
+      omega (
+        arith,
+        function_nodes entry f line close body b named.0 usable.0,
+        functions_nodes more rest h named.1 usable.1,
+      )
 
   abbrev all : List (Entry × Proto)
   all = entries interfaces comp rows interface is
 
   few_entries : length all ≤ 4097
   few_entries =
-      omega (arith, length-append (entries_from 0 interface.exports) (main_entries interfaces comp),
-      exports_length 0 interface.exports, main_length (comp == interfaces.main), is.few_exports)
+      omega (
+        arith,
+        length-append (entries_from 0 interface.exports) (main_entries interfaces comp),
+        exports_length 0 interface.exports,
+        main_length (comp == interfaces.main),
+        is.few_exports,
+      )
 
   few_nodes : nat_le (section_nodes section callees) most_nodes ≡ true
   few_nodes =

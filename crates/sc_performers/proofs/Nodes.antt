@@ -1,6 +1,6 @@
 -- How many nodes the statements of a performing section have.
-use Rattle.std.proofs.Common.{Bool, List, None, Option, Some, [], ◌∷◌, ◌++◌, ◌≡◌, ◌∙◌, ◌==◌, ◌+◌, ◌*◌, ◌<◌, ◌≤◌, ◌^◌, ◌-◌, ℕ, suc, ap, ap₂, arith}
-use Rattle.std.proofs.Common.{false, if◌then◌else◌, length, map, nat_le, refl, rules, subst, sym, true}
+use Rattle.std.proofs.Common.{Bool, List, None, Option, Some, [], ◌∷◌, ◌≡◌, ◌==◌, ◌+◌, ◌*◌, ◌≤◌, ◌^◌, ◌-◌, ℕ, suc, arith}
+use Rattle.std.proofs.Common.{false, if◌then◌else◌, length, map, nat_le, refl, rules, true}
 use Rattle.std.proofs.lemmas.Bool.{false≢true}
 use Rattle.std.specs.Option.{option_map_or}
 use Rattle.sc_event.specs.Prelude.{export_at, imports, is_function}
@@ -13,7 +13,7 @@ use Rattle.sc_event.specs.declared.interface.Scalar.TheVariants.{Int, Unsigned}
 use Rattle.sc_event.specs.declared.row.Action.{Action}
 use Rattle.sc_event.specs.declared.row.Action.TheVariants as action
 use Rattle.sc_event.specs.declared.row.Row.{Row}
-use Rattle.sc_core.specs.Prelude.{call_nodes, expr_nodes, stmt_nodes, total}
+use Rattle.sc_core.specs.Prelude.{expr_nodes, stmt_nodes, total}
 use Rattle.sc_core.specs.declared.expr.CallTarget.{CallTarget}
 use Rattle.sc_core.specs.declared.expr.TypedExpr.{TypedExpr}
 use Rattle.sc_core.specs.declared.expr.TypedExpr as typed_exprs
@@ -113,8 +113,12 @@ module _ (callees : Callees) (interfaces : Interfaces) (comp : ℕ) (all : List 
       let usable : IsUsable f =
       use_holds IsUsable (import.Function to index, f) (uses interfaces interface.imports)
       (uses_usable interfaces comp all interface is) (calls_use interfaces comp all interface is to index f h at) in
-      omega (arith, call_at line (callees.target f.name) (word_exprs f.params args), words_nodes f.params args,
-      usable.few)
+      omega (
+        arith,
+        call_at line (callees.target f.name) (word_exprs f.params args),
+        words_nodes f.params args,
+        usable.few,
+      )
 
   action_nodes : (result : Option Scalar) (a : Action) (line : ℕ) → MayDo interfaces comp result a →
       stmt_nodes (stmt_at line (action_typed callees interfaces result a)) ≤ 33
@@ -134,8 +138,13 @@ module _ (callees : Callees) (interfaces : Interfaces) (comp : ℕ) (all : List 
   row_nodes result row line set_line action_line may =
       let act = stmt_at action_line (action_typed callees interfaces result row.action) in
       let set = stmt_at set_line (kind.Assign counter (literal ty.Unsigned (suc row.number))) in
-      omega (arith, if_at line (counter_is row.number) set act, test_nodes row.number,
-      set_at set_line (suc row.number), action_nodes result row.action action_line may)
+      omega (
+        arith,
+        if_at line (counter_is row.number) set act,
+        test_nodes row.number,
+        set_at set_line (suc row.number),
+        action_nodes result row.action action_line may,
+      )
 
   -- a row has at most 40 nodes
   pub body_nodes : (result : Option Scalar) (done : List Row) (stmts : List TypedStmt) →

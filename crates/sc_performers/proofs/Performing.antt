@@ -1,9 +1,8 @@
 -- Typed statements that do the rows of an entry perform all rows of a compartment that are of it.
-use Rattle.std.proofs.Common.{Bool, List, None, Option, Some, [], ◌∷◌, ◌++◌, ◌≡◌, ◌∙◌, ◌==◌, ℕ, suc, ap, ap₂, false, if◌then◌else◌, length, map}
+use Rattle.std.proofs.Common.{Bool, List, None, Option, Some, [], ◌∷◌, ◌≡◌, ◌∙◌, ◌==◌, ℕ, suc, ap, false, if◌then◌else◌, length}
 use Rattle.std.proofs.Common.{refl, subst, sym, true}
 use Rattle.std.proofs.lemmas.Bool.{eq-eqb, false≢true}
 use Rattle.std.specs.Prelude.{filter}
-use Rattle.std.specs.List.{AllByRecursion}
 use Rattle.std.specs.Option.{option_map_or}
 use Rattle.sc_event.specs.Prelude.{export_at, imports, is_function}
 use Rattle.sc_event.specs.declared.interface.Import.{Import}
@@ -24,7 +23,7 @@ use Rattle.sc_elab_expr.specs.Prelude.{Callees}
 use Rattle.sc_elab.specs.Prelude.{import_target}
 use Rattle.sc_back.specs.Text.{input_proto, is_of, output_proto}
 use Rattle.sc_replay.specs.Texts.{IsPerforming, action_kind, calls_out, counter, counter_is, ends, int_expr, literal}
-use Rattle.sc_replay.specs.Texts.{performs, row_kind, skips, stmt_at, waits, word_exprs}
+use Rattle.sc_replay.specs.Texts.{performs, skips, stmt_at, word_exprs}
 use Rattle.sc_performers.specs.Performer.{IsPerformer, MayDo}
 use Rattle.sc_performers.proofs.BackTree.{uses}
 use Rattle.sc_performers.proofs.TypedRows.{IsTypedBody, action_typed, row_typed, then_does, waits_on}
@@ -104,22 +103,22 @@ module _ (callees : Callees) (interfaces : Interfaces) (comp : ℕ) (all : List 
   performing entry result [] stmts h fits = nothing_left entry result [] stmts h refl
   performing entry result (row ∷ rows) stmts h fits =
       by (is_of entry row) refl h fits (performing entry result rows) where
-    by : (b : Bool) → is_of entry row ≡ b →
-        IsTypedBody callees interfaces result
-        (if b then row ∷ filter (is_of entry) rows else filter (is_of entry) rows) stmts →
-        AllFit interfaces comp result
-        (if b then row ∷ filter (is_of entry) rows else filter (is_of entry) rows) →
-        ((rest : List TypedStmt) → IsTypedBody callees interfaces result (filter (is_of entry) rows) rest →
-        AllFit interfaces comp result (filter (is_of entry) rows) → IsPerforming interfaces entry result rows rest) →
-        IsPerforming interfaces entry result (row ∷ rows) stmts
-    by true here h fits more =
-        let b : BeginsWith result row (filter (is_of entry) rows) stmts =
-        begins result row (filter (is_of entry) rows) _ stmts h refl in
-        subst (IsPerforming interfaces entry result (row ∷ rows))
-        (sym (b.is_then ∙ ap (λ k. stmt_at b.line (kind.If (counter_is row.number)
-        (stmt_at b.set_line (kind.Assign counter (literal ty.Unsigned (suc row.number))) ∷
-        stmt_at b.action_line k ∷ []) []) ∷ b.rest) (leads result row.action fits.0.may)))
-        (performs row rows b.rest b.line b.set_line b.action_line (entry_is entry row here)
-        (more b.rest b.others_done fits.1))
-    by false elsewhere h fits more =
-        skips row rows stmts (λ e. false≢true (sym elsewhere ∙ of_entry entry row e)) (more stmts h fits)
+        by : (b : Bool) → is_of entry row ≡ b →
+            IsTypedBody callees interfaces result
+            (if b then row ∷ filter (is_of entry) rows else filter (is_of entry) rows) stmts →
+            AllFit interfaces comp result
+            (if b then row ∷ filter (is_of entry) rows else filter (is_of entry) rows) →
+            ((rest : List TypedStmt) → IsTypedBody callees interfaces result (filter (is_of entry) rows) rest →
+            AllFit interfaces comp result (filter (is_of entry) rows) → IsPerforming interfaces entry result rows rest) →
+            IsPerforming interfaces entry result (row ∷ rows) stmts
+        by true here h fits more =
+            let b : BeginsWith result row (filter (is_of entry) rows) stmts =
+            begins result row (filter (is_of entry) rows) _ stmts h refl in
+            subst (IsPerforming interfaces entry result (row ∷ rows))
+            (sym (b.is_then ∙ ap (λ k. stmt_at b.line (kind.If (counter_is row.number)
+            (stmt_at b.set_line (kind.Assign counter (literal ty.Unsigned (suc row.number))) ∷
+            stmt_at b.action_line k ∷ []) []) ∷ b.rest) (leads result row.action fits.0.may)))
+            (performs row rows b.rest b.line b.set_line b.action_line (entry_is entry row here)
+            (more b.rest b.others_done fits.1))
+        by false elsewhere h fits more =
+            skips row rows stmts (λ e. false≢true (sym elsewhere ∙ of_entry entry row e)) (more stmts h fits)

@@ -1,6 +1,6 @@
 -- A performing section with its types performs its rows.
 use Rattle.std.proofs.Common.{Bool, List, None, Option, Some, [], ◌∷◌, ◌++◌, ◌≡◌, ◌∙◌, ◌==◌, ◌+◌, ℕ, zero, suc, ap, ap₂, arith, bytes_eq, cond, false}
-use Rattle.std.proofs.Common.{if◌then◌else◌, inl, inr, length, map, refl, slice_get, subst, sym, true, ◌⊎◌, ◌||◌}
+use Rattle.std.proofs.Common.{if◌then◌else◌, inl, inr, map, refl, slice_get, subst, sym, true, ◌⊎◌, ◌||◌}
 use Rattle.std.proofs.lemmas.Bool.{or_right}
 use Rattle.std.proofs.lemmas.List.Elements.{recursion_from_All}
 use Rattle.std.proofs.lemmas.Option.{none-some}
@@ -13,24 +13,18 @@ use Rattle.sc_event.specs.declared.interface.Import.{Import}
 use Rattle.sc_event.specs.declared.interface.Interface.{Interface}
 use Rattle.sc_event.specs.declared.interface.Interfaces.{Interfaces}
 use Rattle.sc_event.specs.declared.interface.Proto.{Proto}
-use Rattle.sc_event.specs.declared.interface.Scalar.{Scalar}
 use Rattle.sc_event.specs.declared.row.Entry.{Entry}
 use Rattle.sc_event.specs.declared.row.Entry.TheVariants.{Export, Main}
 use Rattle.sc_event.specs.declared.row.Row.{Row}
 use Rattle.sc_ast.specs.declared.section.FunctionTree.{FunctionTree}
-use Rattle.sc_ast.specs.declared.section.GlobalTree.{GlobalTree}
 use Rattle.sc_ast.specs.declared.section.SectionTree.{SectionTree}
 use Rattle.sc_ast.specs.declared.stmt.StmtTree.{StmtTree}
-use Rattle.sc_core.specs.Prelude.{place_named}
 use Rattle.sc_core.specs.declared.section.TypedFunction.{TypedFunction}
-use Rattle.sc_core.specs.declared.section.TypedGlobal.{TypedGlobal}
-use Rattle.sc_core.specs.declared.section.TypedSection.{TypedSection}
 use Rattle.sc_scope.specs.Prelude.{among, are_distinct, import_of}
 use Rattle.sc_elab_expr.specs.Prelude.{Callees}
-use Rattle.sc_elab_stmt.specs.Prelude.{typed_stmt}
 use Rattle.sc_elab.specs.Prelude.{callees_of, typed_function, typed_global, typed_section}
 use Rattle.sc_back.specs.Text.{imported, is_of, main_proto}
-use Rattle.sc_replay.specs.Replay.{IsCounter, IsReplaced, Performs, proto_of}
+use Rattle.sc_replay.specs.Replay.{IsReplaced, Performs, proto_of}
 use Rattle.sc_replay.specs.Texts.{IsPerforming}
 use Rattle.sc_performers.specs.Laws.{RowsPerform}
 use Rattle.sc_performers.specs.Performer.{IsImportedAs, IsPerformer, IsUsable}
@@ -39,10 +33,10 @@ use Rattle.sc_performers.proofs.BackTree.{entries_of, function_at, import_at, ma
 use Rattle.sc_performers.proofs.Undone.{back_tree_is}
 use Rattle.sc_performers.proofs.Distinct.{first_new, front_distinct, is_false, not_both, rest_distinct}
 use Rattle.sc_performers.proofs.Performing.{HasTargets, performing}
-use Rattle.sc_performers.proofs.SectionFacts.{distinct_names, entries, entries_usable, entry_names, use_names}
+use Rattle.sc_performers.proofs.SectionFacts.{distinct_names, entries, entries_usable, entry_names}
 use Rattle.sc_performers.proofs.SectionTypes.{body_is, functions_are, no_counter, no_locals, no_tags, one_global, signatures}
 use Rattle.sc_performers.proofs.SectionTypes.{targets, typed_params}
-use Rattle.sc_performers.proofs.TypedRows.{IsTypedBody, typed_body}
+use Rattle.sc_performers.proofs.TypedRows.{typed_body}
 use Rattle.sc_performers.proofs.Uses.{IsAmong, first, later, is_first_or_later, none_among, rows_fit}
 
 -- An entry's function is among the functions of entries.
@@ -64,8 +58,8 @@ export_among [] start place index f e got = absurd (none-some f got)
 export_among (g ∷ exports) start zero index f e got =
     subst (λ x. IsAmong {A = Entry × Proto} (Export index, f) (x ∷ entries_from (suc start) exports))
     (λ i. (Export (e' i), same_some f g (sym got) i)) (first (entries_from (suc start) exports)) where
-  e' : index ≡ start
-  e' = omega (arith, e)
+      e' : index ≡ start
+      e' = omega (arith, e)
 export_among (g ∷ exports) start (suc place) index f e got =
     later (Export start, g) (entries_from (suc start) exports)
     (export_among exports (suc start) place index f (omega (arith, e)) got)

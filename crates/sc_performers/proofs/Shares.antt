@@ -1,8 +1,7 @@
 -- The rows of all entries are no more than the rows.
-use Rattle.std.proofs.Common.{Bool, List, [], ◌∷◌, ◌++◌, ◌≡◌, ◌∙◌, ◌==◌, ◌+◌, ◌*◌, ◌<◌, ◌≤◌, ℕ, suc, ap, ap₂, arith, false, if◌then◌else◌, length, map}
-use Rattle.std.proofs.Common.{refl, subst, sym, true}
+use Rattle.std.proofs.Common.{Bool, List, [], ◌∷◌, ◌++◌, ◌≡◌, ◌∙◌, ◌==◌, ◌+◌, ◌<◌, ◌≤◌, ℕ, suc, ap₂, arith, false, if◌then◌else◌, length, map}
+use Rattle.std.proofs.Common.{refl, true}
 use Rattle.std.proofs.lemmas.Bool.{eqb-true}
-use Rattle.std.proofs.lemmas.List.{map-append}
 use Rattle.std.specs.Prelude.{filter}
 use Rattle.sc_event.specs.declared.interface.Interface.{Interface}
 use Rattle.sc_event.specs.declared.interface.Interfaces.{Interfaces}
@@ -41,21 +40,21 @@ none_hit j number a start [] before = refl
 none_hit j number a start (f ∷ exports) before =
     ap₂ (λ b n. one_if b + n) (by (start == j) refl) (none_hit j number a (suc start) exports (omega arith)) ∙
     omega arith where
-  by : (b : Bool) → (start == j) ≡ b → b ≡ false
-  by true h = absurd (let e = eqb-true start j h in omega (arith, e, before))
-  by false h = refl
+      by : (b : Bool) → (start == j) ≡ b → b ≡ false
+      by true h = absurd (let e = eqb-true start j h in omega (arith, e, before))
+      by false h = refl
 
 one_hit : (j number : ℕ) (a : Action) (start : ℕ) (exports : List Proto) →
     hits (row_at (Export j) number a) (entries_from start exports) ≤ 1
 one_hit j number a start [] = omega arith
 one_hit j number a start (f ∷ exports) =
     by (start == j) refl (one_hit j number a (suc start) exports) (none_hit j number a (suc start) exports) where
-  by : (b : Bool) → (start == j) ≡ b → hits (row_at (Export j) number a) (entries_from (suc start) exports) ≤ 1 →
-      (j < suc start → hits (row_at (Export j) number a) (entries_from (suc start) exports) ≡ 0) →
-      one_if b + hits (row_at (Export j) number a) (entries_from (suc start) exports) ≤ 1
-  by true h some none =
-      let e = eqb-true start j h in let n = none (omega (arith, e)) in omega (arith, n)
-  by false h some none = omega (arith, some)
+      by : (b : Bool) → (start == j) ≡ b → hits (row_at (Export j) number a) (entries_from (suc start) exports) ≤ 1 →
+          (j < suc start → hits (row_at (Export j) number a) (entries_from (suc start) exports) ≡ 0) →
+          one_if b + hits (row_at (Export j) number a) (entries_from (suc start) exports) ≤ 1
+      by true h some none =
+          let e = eqb-true start j h in let n = none (omega (arith, e)) in omega (arith, n)
+      by false h some none = omega (arith, some)
 
 main_unhit : (number : ℕ) (a : Action) (start : ℕ) (exports : List Proto) →
     hits (row_at Main number a) (entries_from start exports) ≡ 0

@@ -1,5 +1,5 @@
 -- What the section that performs a compartment's part of a trace needs, so that it keeps the rules of its language.
-use Rattle.std.specs.Prelude.{◌≡◌, ℕ, suc, ◌<◌, ◌≤◌, ◌^◌, ◌==◌, Bool, true, if◌then◌else◌, List, [], ◌∷◌, ◌++◌, length}
+use Rattle.std.specs.Prelude.{◌≡◌, ℕ, suc, ◌≤◌, ◌==◌, true, if◌then◌else◌, List, [], ◌∷◌, ◌++◌, length}
 use Rattle.std.specs.Prelude.{map, All, Option, Some, None}
 use Rattle.std.specs.List.{filter_map}
 use Rattle.sc_event.specs.Prelude.{comp_at, fits_result, imports, is_function, is_input, is_output, takes}
