@@ -5,3 +5,4 @@ pub mod Actions
 pub mod Rows
 pub mod Heads
 pub mod Functions
+pub mod Performing
