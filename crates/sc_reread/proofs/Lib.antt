@@ -6,3 +6,4 @@ pub mod Rows
 pub mod Heads
 pub mod Functions
 pub mod Performing
+pub mod Reading

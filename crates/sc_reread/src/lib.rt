@@ -1,2 +1,6 @@
 //! Texts in which sections are replaced by ones that perform are read again.
 #![tactic(auto)]
+
+mod laws;
+
+pub use laws::performing_texts_are_read;
