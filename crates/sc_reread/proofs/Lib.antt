@@ -7,3 +7,4 @@ pub mod Heads
 pub mod Functions
 pub mod Performing
 pub mod Reading
+pub mod Headings
