@@ -42,7 +42,7 @@ unfolding last
 last_append d [] b = refl
 last_append d (x ∷ a) b = last_append x a b
 
-last_any : (d e : ℕ) (text : List ℕ) → 0 < length text → last d text ≡ last e text
+pub last_any : (d e : ℕ) (text : List ℕ) → 0 < length text → last d text ≡ last e text
 unfolding last
 last_any d e [] some = absurd (omega (arith, some))
 last_any d e (b ∷ text) some = refl
@@ -85,7 +85,7 @@ cross (b ∷ m) (c ∷ x ∷ text) behind rest inside e d l some =
     c l (omega arith) in
     (more.0, ap₂ (λ y ys. y ∷ ys) same more.1)
 
-begins_inside : (text behind : List ℕ) → 0 < length text → Ends text behind → begins_heading (text ++ behind) ≡ true →
+pub begins_inside : (text behind : List ℕ) → 0 < length text → Ends text behind → begins_heading (text ++ behind) ≡ true →
     begins_heading text ≡ true
 begins_inside text behind some ends h = elim ends [
   | inl none ↦ subst (λ b. begins_heading b ≡ true) (ap (λ x. text ++ x) none ∙ append-nil text) h
@@ -93,7 +93,7 @@ begins_inside text behind some ends h = elim ends [
       let c = cross mark text behind b.rest refl b.is 10 newline some in from_begins text c.0 c.1
 ]
 
-begins_outside : (text behind : List ℕ) → begins_heading text ≡ true → begins_heading (text ++ behind) ≡ true
+pub begins_outside : (text behind : List ℕ) → begins_heading text ≡ true → begins_heading (text ++ behind) ≡ true
 begins_outside text behind h =
     let b = to_begins text h in
     from_begins (text ++ behind) (b.rest ++ behind) (ap (λ x. x ++ behind) b.is ∙ append_assoc mark b.rest behind)

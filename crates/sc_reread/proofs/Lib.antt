@@ -8,3 +8,4 @@ pub mod Functions
 pub mod Performing
 pub mod Reading
 pub mod Headings
+pub mod Splitting
