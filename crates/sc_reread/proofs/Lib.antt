@@ -9,3 +9,4 @@ pub mod Performing
 pub mod Reading
 pub mod Headings
 pub mod Splitting
+pub mod Joining
