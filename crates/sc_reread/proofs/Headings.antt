@@ -33,29 +33,25 @@ pub from_begins : (text rest : List ℕ) → text ≡ mark ++ rest → begins_he
 from_begins text rest e = ap begins_heading e ∙ heading_begins rest
 
 -- the last byte, this one where there is none
-pub last : ℕ → List ℕ → ℕ
+abbrev pub last : ℕ → List ℕ → ℕ
 last d [] = d
 last d (b ∷ text) = last b text
 
 pub last_append : (d : ℕ) (a b : List ℕ) → last d (a ++ b) ≡ last (last d a) b
-unfolding last
 last_append d [] b = refl
 last_append d (x ∷ a) b = last_append x a b
 
 pub last_any : (d e : ℕ) (text : List ℕ) → 0 < length text → last d text ≡ last e text
-unfolding last
 last_any d e [] some = absurd (omega (arith, some))
 last_any d e (b ∷ text) some = refl
 
 last_drop : (d : ℕ) (text : List ℕ) (k : ℕ) → k < length text → last d (drop k text) ≡ last d text
-unfolding last
 last_drop d text zero low = refl
 last_drop d [] (suc k) low = absurd (omega (arith, low))
 last_drop d (b ∷ text) (suc k) low = last_drop d text k (omega (arith, low)) ∙
     last_any d b text (omega (arith, low))
 
 pub last_at : (d : ℕ) (text : List ℕ) → 0 < length text → last d text ≡ slice_index text (length text - 1)
-unfolding last
 last_at d [] some = absurd (omega (arith, some))
 last_at d (x ∷ []) some = refl
 last_at d (x ∷ y ∷ text) some =
@@ -71,7 +67,6 @@ Ends text behind = (behind ≡ []) ⊎ (last 10 text ≡ 10)
 -- what begins with these bytes of one line lies in the text, where this ends with a newline
 cross : (m text behind rest : List ℕ) → list_all is_inside_line m ≡ true → text ++ behind ≡ m ++ rest → (d : ℕ) →
     last d text ≡ 10 → 0 < length text → (more : List ℕ) × (text ≡ m ++ more)
-unfolding last
 cross [] text behind rest inside e d l some = (text, refl)
 cross (b ∷ m) [] behind rest inside e d l some = absurd (omega (arith, some))
 cross (b ∷ m) (c ∷ []) behind rest inside e d l some =
@@ -165,7 +160,6 @@ heading_first front text newline h =
 
 -- and the front is so, where a heading stands behind it
 pub front_ends : (front text : List ℕ) → is_heading (front ++ text) (length front) ≡ true → last 10 front ≡ 10
-unfolding last
 front_ends [] text h = refl
 front_ends (x ∷ front) text h =
     let parts = and_parts (begins_line ((x ∷ front) ++ text) (length (x ∷ front)))
@@ -183,7 +177,6 @@ heading_begins_behind front text h = subst (λ b. begins_heading b ≡ true) (dr
 -- the first line of a text that ends with a newline, or behind which nothing stands
 line_len_kept : (text behind : List ℕ) (d : ℕ) → last d text ≡ 10 → 0 < length text →
     (line_len (text ++ behind) ≡ line_len text) × (line_len text < length text)
-unfolding last
 line_len_kept [] behind d l some = absurd (omega (arith, some))
 line_len_kept (x ∷ []) behind d l some =
     let stop : (x == 10) ≡ true = eq-eqb x 10 l in

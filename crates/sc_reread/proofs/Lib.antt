@@ -10,3 +10,4 @@ pub mod Reading
 pub mod Headings
 pub mod Splitting
 pub mod Joining
+pub mod Headless

@@ -47,7 +47,7 @@ use Rattle.sc_expr.specs.Prelude.{open_after}
 
 -- Directives.
 
-ident_name : (name : List ℕ) → is_ident name ≡ true → is_name name ≡ true
+pub ident_name : (name : List ℕ) → is_ident name ≡ true → is_name name ≡ true
 ident_name name h = (and_parts (is_name name) (not (is_reserved name)) h).0
 
 -- directives that are kept, come to this text, and open no bracket
@@ -145,11 +145,11 @@ imports_are interfaces (import ∷ imports) h = import_first interfaces import i
 -- Declarations.
 
 -- declarations that are kept and low, and their words
-record AreDecls (decls : List Decl) (text : List ℕ) : Type 0 where
-  pieces : List Piece
-  kept : list_all is_kept_decl decls ≡ true
-  low : decls_height decls ≤ 5
-  same : Same 3 (flat_map decl_words decls) pieces text
+pub record AreDecls (decls : List Decl) (text : List ℕ) : Type 0 where
+  pub pieces : List Piece
+  pub kept : list_all is_kept_decl decls ≡ true
+  pub low : decls_height decls ≤ 5
+  pub same : Same 3 (flat_map decl_words decls) pieces text
 
 no_decls : AreDecls [] []
 no_decls = record { pieces = []; kept = refl; low = omega arith; same = same_none }
@@ -258,7 +258,7 @@ all_spoken interfaces [] h number n = tt
 all_spoken interfaces (row ∷ rows) h number n =
     ((h.0, subst (λ k. suc k < 2 ^ 32) (sym n.0) n.1), all_spoken interfaces rows h.1 (suc number) n.2)
 
-decls_are : (interfaces : Interfaces) (comp : ℕ) (rows : List Row) (interface : Interface) →
+pub decls_are : (interfaces : Interfaces) (comp : ℕ) (rows : List Row) (interface : Interface) →
     CanPerform interfaces rows interface → AreDecls (back_tree interfaces comp rows interface).decls
     (flat_map (proto_text interfaces) interface.imports ++ (codes "unsigned int bt_n;\n" ++
     (functions_text interfaces rows 0 interface.exports ++ main_text interfaces comp rows)))
