@@ -11,3 +11,4 @@ pub mod Headings
 pub mod Splitting
 pub mod Joining
 pub mod Headless
+pub mod Replaced
