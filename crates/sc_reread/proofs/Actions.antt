@@ -1,13 +1,12 @@
 -- Actions as statements: their words, and what these come to.
-use Rattle.sc_reread.proofs.Common.{ExprTree, IsTrue, List, None, Option, Piece, Some, StmtKind, StmtTree, [], and_from, ap}
-use Rattle.sc_reread.proofs.Common.{append-nil, append_assoc, arith, ap₂, blank, codes, expr_height, expr_words, exprs_height, flat_map}
+use Rattle.sc_reread.proofs.Common.{ExprTree, IsTrue, List, None, Option, Piece, Some, StmtKind, [], and_from, ap}
+use Rattle.sc_reread.proofs.Common.{append_assoc, arith, ap₂, blank, codes, expr_height, expr_words, exprs_height, flat_map}
 use Rattle.sc_reread.proofs.Common.{flat_map-append, is_ident, is_kept, is_kept_stmt, is_name, is_reserved, join_by}
-use Rattle.sc_reread.proofs.Common.{list_all, literal_text, comma, piece_text, refl, rules, stmt_height, stmt_layout}
-use Rattle.sc_reread.proofs.Common.{subst, suc, sym, text_of, true, word, ended, call_words, return_words, ℕ, ◌&&◌, ◌++◌}
+use Rattle.sc_reread.proofs.Common.{list_all, comma, piece_text, refl, rules, stmt_height, stmt_layout}
+use Rattle.sc_reread.proofs.Common.{suc, text_of, true, word, ended, call_words, return_words, ℕ, ◌&&◌, ◌++◌}
 use Rattle.sc_reread.proofs.Common.{◌∙◌, ◌∷◌, ◌≡◌, ◌≤◌}
 use Rattle.std.specs.List.{AllByRecursion}
 use Rattle.std.proofs.lemmas.List.Elements.{recursion_from_All}
-use Rattle.sc_base.specs.declared.op.BinaryOp.TheVariants as binary
 use Rattle.sc_event.specs.Prelude.{export_at}
 use Rattle.sc_event.specs.declared.interface.Interfaces.{Interfaces}
 use Rattle.sc_event.specs.declared.interface.Proto.{Proto}
@@ -17,18 +16,17 @@ use Rattle.sc_event.specs.declared.row.Action.{Action}
 use Rattle.sc_event.specs.declared.row.Action.TheVariants as action
 use Rattle.sc_ast.specs.declared.expr.CallTree.{CallTree}
 use Rattle.sc_ast.specs.declared.expr.ExprTree as exprs
-use Rattle.sc_ast.specs.declared.expr.ExprTree.TheVariants as expr
 use Rattle.sc_ast.specs.declared.stmt.StmtTree as stmts
 use Rattle.sc_ast.specs.declared.stmt.StmtKind as kinds
 use Rattle.sc_ast.specs.declared.stmt.StmtKind.TheVariants as stmt
 use Rattle.sc_expr.specs.declared.mark.Keyword.TheVariants as keyword
-use Rattle.sc_back.specs.Text.{action_text, call_text, input_proto, joined, output_proto, return_text, value_text}
+use Rattle.sc_back.specs.Text.{action_text, call_text, input_proto, joined, output_proto, return_text}
 use Rattle.sc_back.specs.Text.{value_texts}
 use Rattle.sc_back.specs.Tree.{action_kind, call_kind, return_kind, unlined, value_tree, value_trees}
-use Rattle.sc_back.specs.Sections.{IsCalled, IsSpoken, IsWord, IsWordOrNone}
+use Rattle.sc_back.specs.Sections.{IsSpoken, IsWord, IsWordOrNone}
 use Rattle.sc_reread.proofs.Nesting.{Nested, even_comma, even_ident, even_keyword, even_semicolon, nested_append}
 use Rattle.sc_reread.proofs.Nesting.{nested_blank, nested_even, nested_more, nested_none, nested_parens}
-use Rattle.sc_reread.proofs.Values.{IsExpr, value_is}
+use Rattle.sc_reread.proofs.Values.{value_is}
 
 -- Arguments.
 

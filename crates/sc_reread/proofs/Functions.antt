@@ -1,10 +1,10 @@
 -- Functions that perform: their words, and what these come to.
-use Rattle.sc_reread.proofs.Common.{Bool, IsTrue, List, Option, Piece, StmtTree, [], and_from, ap, append-nil, append_assoc}
+use Rattle.sc_reread.proofs.Common.{Bool, List, Option, Piece, StmtTree, [], and_from, ap, append_assoc}
 use Rattle.sc_reread.proofs.Common.{arith, ap₂, are_kept, blank, codes, false, filter, flat_map, flat_map-append, head_of}
 use Rattle.sc_reread.proofs.Common.{head_words, indent, is_kept_stmt, kept_function, kept_head, layouts, line_of, lines_at}
-use Rattle.sc_reread.proofs.Common.{literal_text, map, max, newline, piece_text, refl, rules, stmt_height, stmt_layout}
-use Rattle.sc_reread.proofs.Common.{stmts_height, subst, suc, sym, symbols, text_of, true, word, word_symbol, ℕ, ◌&&◌}
-use Rattle.sc_reread.proofs.Common.{function_words, if◌then◌else◌, ◌++◌, ◌<◌, ◌^◌, ◌∙◌, ◌∷◌, ◌≡◌, ◌≤◌}
+use Rattle.sc_reread.proofs.Common.{literal_text, newline, piece_text, refl, rules, stmt_height, stmt_layout}
+use Rattle.sc_reread.proofs.Common.{stmts_height, subst, sym, symbols, text_of, true, word, word_symbol, ℕ}
+use Rattle.sc_reread.proofs.Common.{function_words, if◌then◌else◌, ◌++◌, ◌∙◌, ◌∷◌, ◌≡◌, ◌≤◌}
 use Rattle.std.specs.Fmt.{digits}
 use Rattle.sc_event.specs.declared.interface.Interfaces.{Interfaces}
 use Rattle.sc_event.specs.declared.interface.Proto.{Proto}
@@ -21,13 +21,13 @@ use Rattle.sc_expr.specs.declared.mark.Keyword.TheVariants as keyword
 use Rattle.sc_print.proofs.Apart as apart
 use Rattle.sc_print.proofs.DeclSpacing.{head_tidy}
 use Rattle.sc_print.proofs.Reading.{joined_symbols}
-use Rattle.sc_print.proofs.Spacing.{Tidy, at_level, gap, line_end, next, none, tidy_append}
-use Rattle.sc_back.specs.Text.{function_text, head_text, is_of, row_text}
+use Rattle.sc_print.proofs.Spacing.{at_level, gap, line_end, next, none, tidy_append}
+use Rattle.sc_back.specs.Text.{function_text, is_of, row_text}
 use Rattle.sc_back.specs.Tree.{body_tree, function_head, function_tree, literal, proto_head, row_kind, unlined}
 use Rattle.sc_back.specs.Sections.{IsCalled}
 use Rattle.sc_reread.proofs.Nesting.{Nested, even_keyword, even_literal, nested_append, nested_blank, nested_curly}
 use Rattle.sc_reread.proofs.Nesting.{nested_even, nested_level, nested_line, nested_more, nested_none, nested_parens}
-use Rattle.sc_reread.proofs.Rows.{AreSpoken, IsRow, Same, literal_word, row_is}
+use Rattle.sc_reread.proofs.Rows.{AreSpoken, Same, literal_word, row_is}
 use Rattle.sc_reread.proofs.Heads.{head_is, heads_same}
 use Rattle.sc_reread.proofs.Values.{literal_number}
 
@@ -72,7 +72,7 @@ forever_same : Same 2 (line_of 1 ((stmt_layout forever).words 1)) forever_pieces
 forever_same = record {
   tidy = λ rest. at_level 1 (next (apart.keyword_word keyword.While _ refl) (gap (next (apart.open_paren _)
       (next (literal_word (literal_number 1) refl _ refl) (next (apart.close_paren _) (gap (next (apart.open_curly _)
-      (gap (next (apart.close_curly _) (line_end none)))))))))); 
+      (gap (next (apart.close_curly _) (line_end none))))))))));
   spelled = forever_text;
   says = sym (ap (λ ps. symbols (line_of 1 ps)) forever_laid);
   nested = nested_level 1 (nested_even (even_keyword keyword.While) (nested_blank (nested_parens
@@ -158,8 +158,7 @@ function_is interfaces rows entry f called h =
     let lines : List ℕ = flat_map (row_text interfaces f.result) own in
     let ending : text_of (b.0 ++ word (codes "}") ∷ newline ∷ []) ≡ lines ++ codes "  while (1) { }\n}\n" =
     flat_map-append piece_text b.0 (word (codes "}") ∷ newline ∷ []) ∙ ap (λ t. t ++ codes "}\n") body.same.spelled ∙
-    append_assoc lines (codes "  while (1) { }\n") (codes "}\n") in
-    (
+    append_assoc lines (codes "  while (1) { }\n") (codes "}\n") in (
       pieces,
       record {
         kept = and_from (kept_head (head_of (function_head f))) (are_kept tree.body) kept body.kept;

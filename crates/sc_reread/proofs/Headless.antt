@@ -1,8 +1,8 @@
 -- In the text of a performing section stands no other compartment line.
 use Rattle.sc_reread.proofs.Common.{Bool, IsTrue, List, None, Option, Piece, Some, [], and_from, and_parts, ap, append_assoc}
 use Rattle.sc_reread.proofs.Common.{arith, codes, drop, false, false≢true, filter, flat_map, is_name, is_name_byte, length}
-use Rattle.sc_reread.proofs.Common.{list_all, map, not, refl, slice_index, subst, suc, sym, take, text_of, true, zero, ℕ}
-use Rattle.sc_reread.proofs.Common.{if◌then◌else◌, option_map_or, ◌&&◌, ◌++◌, ◌+◌, ◌<◌, ◌==◌, ◌∙◌, ◌∷◌, ◌≡◌, ◌≤◌}
+use Rattle.sc_reread.proofs.Common.{list_all, not, refl, slice_index, subst, suc, sym, take, text_of, true, zero, ℕ}
+use Rattle.sc_reread.proofs.Common.{if◌then◌else◌, ◌&&◌, ◌++◌, ◌==◌, ◌∙◌, ◌∷◌, ◌≡◌, ◌≤◌}
 use Rattle.std.proofs.Common.{append-nil, is_some, nat_lt, replicate, ◌*◌}
 use Rattle.std.proofs.lemmas.List.{drop_all}
 use Rattle.std.proofs.Math.Seq.{take-append_seam}
@@ -19,7 +19,7 @@ use Rattle.sc_event.specs.declared.interface.Proto.{Proto}
 use Rattle.sc_event.specs.declared.row.Entry.{Entry}
 use Rattle.sc_event.specs.declared.row.Entry.TheVariants as entry
 use Rattle.sc_event.specs.declared.row.Row.{Row}
-use Rattle.sc_lex.specs.Prelude.{NoHeading, begins_heading, begins_line, is_directive, is_export, is_heading, is_import}
+use Rattle.sc_lex.specs.Prelude.{begins_heading, begins_line, is_directive, is_export, is_heading, is_import}
 use Rattle.sc_lex.specs.Prelude.{directive_kind, is_inside_line, is_pragma, mark_kind, marks}
 unfoldable use Rattle.sc_lex.specs.Prelude.{heading_name, is_mark, kind_of, line_kind, word_kind, words}
 use Rattle.sc_lex.specs.Lines.{first_line}
@@ -30,12 +30,11 @@ use Rattle.sc_print.proofs.Apart.{IsWord, run_is}
 use Rattle.sc_print.proofs.DirectiveWords.{heading_begins, heading_is, heading_line_is}
 use Rattle.sc_print.proofs.Literals.{no_table}
 use Rattle.sc_print.proofs.Spacing as spacing
-use Rattle.sc_back.specs.Text.{back_text, export_text, function_text, functions_text, head_text, import_text, imported}
+use Rattle.sc_back.specs.Text.{export_text, function_text, functions_text, head_text, import_text}
 use Rattle.sc_back.specs.Text.{is_of, main_proto, main_text, owner_name, proto_text, row_text, section_text}
-use Rattle.sc_back.specs.Tree.{back_tree}
 use Rattle.sc_back.specs.Sections.{CanPerform, IsCalled, IsImported}
-use Rattle.sc_reread.proofs.Headings.{Begins, last, last_append, mark, to_begins}
-use Rattle.sc_reread.proofs.Performing.{AreDecls, decls_are, ident_name}
+use Rattle.sc_reread.proofs.Headings.{last, last_append, mark, to_begins}
+use Rattle.sc_reread.proofs.Performing.{decls_are, ident_name}
 use Rattle.sc_reread.proofs.Splitting.{IsText}
 
 -- bytes without `#`

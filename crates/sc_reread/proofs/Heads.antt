@@ -1,9 +1,9 @@
 -- Heads of functions: their words, and what these come to.
-use Rattle.sc_reread.proofs.Common.{Bool, IsTrue, List, None, Option, Piece, Some, [], and_from, and_parts, ap, append-nil}
-use Rattle.sc_reread.proofs.Common.{append_assoc, arith, ap₂, blank, cases_lt, codes, comma, decimal, flat_map}
+use Rattle.sc_reread.proofs.Common.{Bool, List, None, Option, Piece, Some, [], and_from, and_parts, ap, append-nil}
+use Rattle.sc_reread.proofs.Common.{append_assoc, arith, ap₂, cases_lt, codes, comma, decimal, flat_map}
 use Rattle.sc_reread.proofs.Common.{flat_map-append, head_of, head_words, is_ident, is_name, is_reserved, kept_head}
 use Rattle.sc_reread.proofs.Common.{kept_param, length, list_all, map, option_map, param_of, param_words, params_words}
-use Rattle.sc_reread.proofs.Common.{piece_text, refl, result_words, subst, suc, sym, text_of, true, word, zero, ℕ, ⊎_elim}
+use Rattle.sc_reread.proofs.Common.{piece_text, refl, result_words, subst, suc, text_of, true, word, zero, ℕ, ⊎_elim}
 use Rattle.sc_reread.proofs.Common.{◌&&◌, ◌++◌, ◌+◌, ◌<◌, ◌∙◌, ◌∷◌, ◌≡◌, ◌≤◌}
 use Rattle.std.proofs.lemmas.Fmt.{decimal_digit}
 use Rattle.sc_event.specs.declared.interface.Proto.{Proto}

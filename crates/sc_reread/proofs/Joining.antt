@@ -1,10 +1,10 @@
 -- Joined texts of sections are split into them.
-use Rattle.sc_reread.proofs.Common.{IsTrue, List, Some, [], ap, append-nil, append_assoc, ap₂, arith, concat, drop, length}
-use Rattle.sc_reread.proofs.Common.{length-append, map, refl, slice_range, subst, suc, sym, take, true, ℕ, ◌++◌, ◌+◌, ◌-◌}
-use Rattle.sc_reread.proofs.Common.{◌<◌, ◌∙◌, ◌∷◌, ◌≡◌, ◌≤◌}
+use Rattle.sc_reread.proofs.Common.{List, [], ap, append-nil, append_assoc, ap₂, arith, concat, drop, length}
+use Rattle.sc_reread.proofs.Common.{length-append, map, refl, subst, sym, take, true, ℕ, ◌++◌, ◌+◌, ◌-◌}
+use Rattle.sc_reread.proofs.Common.{◌∙◌, ◌∷◌, ◌≡◌}
 use Rattle.std.proofs.Common.{inl, inr, take-append-drop, ◌⊎◌}
 use Rattle.std.proofs.Math.Seq.{drop-append_seam, take-append_seam}
-use Rattle.sc_lex.specs.Prelude.{AreSections, IsSection, IsSplit, NoHeading, begins_heading, is_heading, line_at, name_at}
+use Rattle.sc_lex.specs.Prelude.{AreSections, IsSection, IsSplit, is_heading, line_at}
 use Rattle.sc_lex.specs.Prelude.{none, section}
 unfoldable use Rattle.sc_lex.specs.Prelude.{heading_name}
 use Rattle.sc_lex.specs.Lines.{first_line}

@@ -12,3 +12,5 @@ pub mod Splitting
 pub mod Joining
 pub mod Headless
 pub mod Replaced
+pub mod Names
+mod Examples

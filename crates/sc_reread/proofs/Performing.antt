@@ -1,16 +1,15 @@
 -- Sections that perform: their words, and what these come to.
-use Rattle.sc_reread.proofs.Common.{IsTrue, List, Lexeme, None, Option, Piece, SameButLines, Some, Symbol, [], and_from}
+use Rattle.sc_reread.proofs.Common.{List, Option, Piece, Some, [], and_from}
 use Rattle.sc_reread.proofs.Common.{and_parts, ap, append-nil, append_assoc, arith, ap₂, codes, decl_words, export_words}
-use Rattle.sc_reread.proofs.Common.{filter_map, flat_map, flat_map-append, global_words, head_words, heading_words}
-use Rattle.sc_reread.proofs.Common.{import_words, is_ident, is_kept_decl, is_name, is_reserved, kept_export, kept_head}
-use Rattle.sc_reread.proofs.Common.{kept_import, kept_section, list_all, map, max, newline, not, option_map}
+use Rattle.sc_reread.proofs.Common.{filter_map, flat_map, flat_map-append, head_words, heading_words}
+use Rattle.sc_reread.proofs.Common.{import_words, is_ident, is_kept_decl, is_name, is_reserved, kept_export}
+use Rattle.sc_reread.proofs.Common.{kept_import, kept_section, list_all, map, newline, not, option_map}
 use Rattle.sc_reread.proofs.Common.{option_map_or, piece_text, refl, section_height, section_words, subst, suc, sym}
-use Rattle.sc_reread.proofs.Common.{symbols, text_of, true, word, word_symbol, ended, if◌then◌else◌, Bool, false, is_kept}
-use Rattle.sc_reread.proofs.Common.{ℕ, ◌&&◌, ◌++◌, ◌<◌, ◌==◌, ◌^◌, ◌∙◌, ◌∷◌, ◌≡◌, ◌≤◌, All, length}
+use Rattle.sc_reread.proofs.Common.{symbols, text_of, true, word, word_symbol, ended, if◌then◌else◌, Bool, false}
+use Rattle.sc_reread.proofs.Common.{ℕ, ◌++◌, ◌<◌, ◌==◌, ◌^◌, ◌∙◌, ◌∷◌, ◌≡◌, ◌≤◌}
 use Rattle.std.specs.List.{AllByRecursion}
 use Rattle.std.proofs.lemmas.List.Elements.{recursion_from_All}
 use Rattle.sc_event.specs.declared.interface.Import.{Import}
-use Rattle.sc_event.specs.declared.interface.Import.TheVariants as import
 use Rattle.sc_event.specs.declared.interface.Interface.{Interface}
 use Rattle.sc_event.specs.declared.interface.Interfaces.{Interfaces}
 use Rattle.sc_event.specs.declared.interface.Proto.{Proto}
@@ -21,17 +20,13 @@ use Rattle.sc_ast.specs.Height.{decl_height, decls_height}
 use Rattle.sc_ast.specs.declared.section.Decl.{Decl}
 use Rattle.sc_ast.specs.declared.section.Decl.TheVariants as decl
 use Rattle.sc_ast.specs.declared.section.FunctionTree.{FunctionTree}
-use Rattle.sc_ast.specs.declared.section.HeadTree.{HeadTree}
 use Rattle.sc_ast.specs.declared.section.ImportLine.{ImportLine}
 use Rattle.sc_ast.specs.declared.section.SectionTree.{SectionTree}
 use Rattle.sc_expr.specs.declared.mark.Keyword.TheVariants as keyword
-use Rattle.sc_print.proofs.Apart as apart
 use Rattle.sc_print.proofs.DeclSpacing.{decl_tidy}
 use Rattle.sc_print.proofs.DirectiveWords.{export_says, heading_line_is, heading_says, import_says}
 use Rattle.sc_print.proofs.Lined.{Lined, line, tidy}
 use Rattle.sc_print.proofs.Reading.{joined_symbols}
-use Rattle.sc_print.proofs.Spacing.{Tidy}
-use Rattle.sc_print.proofs.StmtSpacing.{Free}
 use Rattle.sc_print.proofs.Whole.{exports_lined, imports_lined}
 use Rattle.sc_back.specs.Text.{export_text, function_text, functions_text, head_text, import_text, imported, main_proto}
 use Rattle.sc_back.specs.Text.{main_text, owner_name, proto_text, section_text}
@@ -42,7 +37,7 @@ use Rattle.sc_reread.proofs.Nesting.{Even, Nested, even_ident, even_keyword, eve
 use Rattle.sc_reread.proofs.Nesting.{nested_even, nested_line, nested_more, nested_none}
 use Rattle.sc_reread.proofs.Rows.{AreSpoken, Same, counter_ident}
 use Rattle.sc_reread.proofs.Heads.{head_is}
-use Rattle.sc_reread.proofs.Functions.{IsFunction, function_is, same_append, same_none}
+use Rattle.sc_reread.proofs.Functions.{function_is, same_append, same_none}
 use Rattle.sc_expr.specs.Prelude.{open_after}
 
 -- Directives.
@@ -113,10 +108,6 @@ module _ (interfaces : Interfaces) (import : Import) (imports : List Import) (f 
   first_nested : Nested 0 (import_words first)
   unfolding import_words
   first_nested = nested_even (even_import (owner_name interfaces import) f.name owner name) (nested_line nested_none)
-
-  abbrev behind : Option ImportLine → List ImportLine
-  behind found = option_map_or (λ l. l ∷ filter_map (import_line interfaces) imports)
-      found (filter_map (import_line interfaces) imports)
 
   import_first : AreImports interfaces (import ∷ imports)
   import_first =

@@ -1,24 +1,19 @@
 -- The text of a section that performs is read as its tree.
-use Rattle.sc_reread.proofs.Common.{Lexeme, List, SameButLines, Some, Symbol, [], ap, arith, codes, map, option_map_or}
+use Rattle.sc_reread.proofs.Common.{Lexeme, List, [], ap, arith, codes, map}
 use Rattle.sc_reread.proofs.Common.{refl, section_height, section_words, subst, sym, symbol_of, symbols, text_of, ℕ, ◌++◌}
-use Rattle.sc_reread.proofs.Common.{flat_map, most_open, true, ◌∙◌, ◌∷◌, ◌≡◌, ◌≤◌}
-use Rattle.sc_event.specs.Prelude.{comp_at}
-use Rattle.sc_event.specs.declared.interface.Interface.{Interface}
-use Rattle.sc_event.specs.declared.interface.Interfaces.{Interfaces}
-use Rattle.sc_event.specs.declared.row.Row.{Row}
-use Rattle.sc_lex.specs.Prelude.{IsCut, begins_heading}
+use Rattle.sc_reread.proofs.Common.{flat_map, most_open, true, ◌∙◌, ◌∷◌, ◌≡◌}
+use Rattle.sc_lex.specs.Prelude.{begins_heading}
 use Rattle.sc_lex.specs.declared.token.Token.{Token}
 use Rattle.sc_ast.specs.declared.section.SectionTree.{SectionTree}
-use Rattle.sc_parse.specs.Prelude.{IsParsed, SpellsSection, lexemes_of}
+use Rattle.sc_parse.specs.Prelude.{SpellsSection, lexemes_of}
 use Rattle.sc_parse.specs.Sections as spell
 use Rattle.sc_print.proofs.Cut.{Found}
 use Rattle.sc_print.proofs.DirectiveWords.{heading_begins}
 use Rattle.sc_print.proofs.Heights.{sections_same}
-use Rattle.sc_print.proofs.Lined.{Lined, found_lines}
+use Rattle.sc_print.proofs.Lined.{found_lines}
 use Rattle.sc_print.proofs.Whole.{section_reads}
 use Rattle.sc_back.specs.Text.{back_text, export_text, functions_text, import_text, main_text, proto_text, section_text}
 use Rattle.sc_back.specs.Tree.{back_tree}
-use Rattle.sc_back.specs.Sections.{CanPerform}
 use Rattle.sc_reread.specs.Performing.{IsParsedAs, IsReadAs, PerformingTextsAreRead}
 use Rattle.sc_reread.proofs.Nesting.{AtMost, none_more, opens, opens_lexemes}
 use Rattle.sc_reread.proofs.Performing.{IsPerforming, section_is}

@@ -1,18 +1,17 @@
 -- Rows as lines of a text: the same words as those of the tree, on one line.
-use Rattle.sc_reread.proofs.Common.{ExprTree, IsTrue, List, Number, Option, Piece, StmtTree, [], and_from, ap, append-nil}
-use Rattle.sc_reread.proofs.Common.{append_assoc, arith, ap₂, are_kept, blank, codes, condition_words, expr_height}
-use Rattle.sc_reread.proofs.Common.{expr_words, filter, fits, flat_map, flat_map-append, indent, is_ident, is_kept}
-use Rattle.sc_reread.proofs.Common.{is_kept_stmt, is_name, is_reserved, layouts, line_of, lines_at, literal_text, map}
-use Rattle.sc_reread.proofs.Common.{newline, piece_text, refl, rules, stmt_height, stmt_layout, stmts_height, subst, suc}
-use Rattle.sc_reread.proofs.Common.{sym, symbols, text_of, true, word, word_symbol, ℕ, ◌&&◌, ◌++◌, ◌<◌, ◌∙◌, ◌∷◌, ◌≡◌}
+use Rattle.sc_reread.proofs.Common.{ExprTree, IsTrue, List, Number, Option, Piece, StmtTree, [], ap}
+use Rattle.sc_reread.proofs.Common.{append_assoc, arith, ap₂, blank, codes, condition_words, expr_height}
+use Rattle.sc_reread.proofs.Common.{expr_words, fits, flat_map-append, indent, is_ident, is_kept}
+use Rattle.sc_reread.proofs.Common.{is_kept_stmt, is_name, is_reserved, line_of, literal_text}
+use Rattle.sc_reread.proofs.Common.{newline, piece_text, refl, rules, stmt_height, stmt_layout, subst, suc}
+use Rattle.sc_reread.proofs.Common.{sym, symbols, text_of, true, word, word_symbol, ℕ, ◌++◌, ◌<◌, ◌∙◌, ◌∷◌, ◌≡◌}
 use Rattle.sc_reread.proofs.Common.{max, piece_symbols, ◌+◌, ◌^◌, ◌≤◌}
 use Rattle.std.specs.List.{AllByRecursion}
 use Rattle.sc_base.specs.declared.op.BinaryOp.TheVariants as binary
 use Rattle.sc_event.specs.declared.interface.Interfaces.{Interfaces}
 use Rattle.sc_event.specs.declared.interface.Scalar.{Scalar}
-use Rattle.sc_event.specs.declared.interface.Scalar.TheVariants as scalar
 use Rattle.sc_event.specs.declared.row.Row.{Row}
-use Rattle.sc_ast.specs.StmtWords.{Layout, block_words, else_words}
+use Rattle.sc_ast.specs.StmtWords.{block_words}
 use Rattle.sc_ast.specs.declared.expr.ExprTree as exprs
 use Rattle.sc_ast.specs.declared.expr.ExprTree.TheVariants as expr
 use Rattle.sc_ast.specs.declared.stmt.StmtTree as stmts
@@ -27,13 +26,13 @@ use Rattle.sc_print.proofs.Literals.{literal_kind, literal_some}
 use Rattle.sc_print.proofs.Leaves.{name_kind, name_some}
 use Rattle.sc_lex.specs.declared.token.TokenKind.TheVariants as kind
 use Rattle.sc_back.specs.Text.{action_text, row_text}
-use Rattle.sc_back.specs.Tree.{action_kind, body_tree, counter_name, literal, row_kind, unlined, value_tree}
-use Rattle.sc_back.specs.Sections.{IsSpoken, IsWord}
+use Rattle.sc_back.specs.Tree.{action_kind, counter_name, row_kind, unlined}
+use Rattle.sc_back.specs.Sections.{IsSpoken}
 use Rattle.sc_reread.proofs.Nesting.{Even, Nested, even_equal, even_ident, even_keyword, even_literal, even_semicolon}
 use Rattle.sc_reread.proofs.Nesting.{nested_append, nested_blank, nested_curly, nested_even, nested_level}
-use Rattle.sc_reread.proofs.Nesting.{nested_line, nested_more, nested_none, nested_parens}
+use Rattle.sc_reread.proofs.Nesting.{nested_line, nested_none, nested_parens}
 use Rattle.sc_reread.proofs.Values.{unsigned_fits}
-use Rattle.sc_reread.proofs.Actions.{IsStmt, action_is}
+use Rattle.sc_reread.proofs.Actions.{action_is}
 use Rattle.sc_expr.specs.Prelude.{open_after}
 
 abbrev pub counted : ℕ → Number

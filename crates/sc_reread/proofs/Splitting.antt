@@ -1,18 +1,18 @@
 -- Texts of sections, joined and split.
-use Rattle.sc_reread.proofs.Common.{IsTrue, List, Some, [], and_parts, ap, append-nil, append_assoc, ap₂, arith, cases_lt}
-use Rattle.sc_reread.proofs.Common.{concat, drop, false≢true, length, length-append, length-drop, map, refl, slice_range}
-use Rattle.sc_reread.proofs.Common.{subst, suc, sym, take, true, zero, ℕ, ⊎_elim, ◌++◌, ◌+◌, ◌-◌, ◌<◌, ◌∙◌, ◌∷◌, ◌≡◌}
+use Rattle.sc_reread.proofs.Common.{IsTrue, List, Some, [], ap, append_assoc, ap₂, arith}
+use Rattle.sc_reread.proofs.Common.{drop, length, length-append, length-drop, map, refl, slice_range}
+use Rattle.sc_reread.proofs.Common.{sym, take, true, ℕ, ◌++◌, ◌+◌, ◌-◌, ◌<◌, ◌∙◌, ◌∷◌, ◌≡◌}
 use Rattle.sc_reread.proofs.Common.{◌≤◌}
 use Rattle.std.proofs.Common.{drop-drop, inl, inr, take-append-drop, ◌⊎◌}
-use Rattle.std.proofs.Math.Seq.{drop-append_seam, take-append_seam}
+use Rattle.std.proofs.Math.Seq.{drop-append_seam}
 use Rattle.std.proofs.lemmas.List.{drop_all, length-take-le}
-use Rattle.sc_lex.specs.Prelude.{AreSections, IsSection, IsSplit, NoHeading, begins_heading, is_heading, line_at, name_at}
+use Rattle.sc_lex.specs.Prelude.{AreSections, IsSection, NoHeading, begins_heading, is_heading, name_at}
 use Rattle.sc_lex.specs.Prelude.{none, section}
 unfoldable use Rattle.sc_lex.specs.Prelude.{heading_name}
 use Rattle.sc_lex.specs.Lines.{first_line}
 use Rattle.sc_lex.specs.declared.section.Section.{Section}
-use Rattle.sc_reread.proofs.Headings.{Begins, Ends, begins_inside, begins_outside, first_line_kept, front_ends, heading_behind}
-use Rattle.sc_reread.proofs.Headings.{heading_begins_behind, heading_first, heading_inside, heading_outside, last, last_any}
+use Rattle.sc_reread.proofs.Headings.{Ends, begins_inside, first_line_kept, front_ends, heading_behind}
+use Rattle.sc_reread.proofs.Headings.{heading_begins_behind, heading_outside, last, last_any}
 use Rattle.sc_reread.proofs.Headings.{last_append, mark, to_begins}
 
 -- the bytes of a section, wherever it stands

@@ -1,8 +1,8 @@
 -- Values of a type as expressions: their words, and what these come to.
-use Rattle.sc_reread.proofs.Common.{Bool, ExprTree, IsTrue, List, Number, Piece, [], and_from, ap, append-nil, arith}
+use Rattle.sc_reread.proofs.Common.{Bool, ExprTree, List, Number, [], and_from, ap, append-nil, arith}
 use Rattle.sc_reread.proofs.Common.{blank, codes, decimal, eq-eqb, expr_height, expr_words, false, false≢true, fits}
 use Rattle.sc_reread.proofs.Common.{if◌then◌else◌, is_kept, le-leb, leb-false, leb-true, literal_text, nat_le, refl}
-use Rattle.sc_reread.proofs.Common.{rules, signed_text, subst, suc, sym, text_of, true, word, ℕ, ◌++◌, ◌-◌, ◌<◌, ◌==◌}
+use Rattle.sc_reread.proofs.Common.{rules, signed_text, subst, suc, sym, text_of, true, word, ℕ, ◌-◌, ◌<◌, ◌==◌}
 use Rattle.sc_reread.proofs.Common.{◌^◌, ◌∙◌, ◌∷◌, ◌≡◌, ◌≤◌}
 use Rattle.std.specs.Int.{w32, cast_signed}
 use Rattle.std.specs.Fmt.{digits}

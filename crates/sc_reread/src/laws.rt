@@ -1,5 +1,6 @@
 // The laws, each the contract of a function with nothing to do.
 
+ghost use Rattle.sc_reread.specs.Names.{NamesAreIdentifiers};
 ghost use Rattle.sc_reread.specs.Performing.{PerformingTextsAreRead};
 ghost use Rattle.sc_reread.specs.Replaced.{ReplacedTextsAreRead};
 
@@ -12,4 +13,9 @@ pub fn performing_texts_are_read()
 /// and the new sections, and those that are kept are read as the same trees at other lines.
 pub fn replaced_texts_are_read()
     ensures { ReplacedTextsAreRead }
+{}
+
+/// In the trees that a text is read as, sections, directives and functions have names of the language.
+pub fn names_are_identifiers()
+    ensures { NamesAreIdentifiers }
 {}

@@ -3,4 +3,4 @@
 
 mod laws;
 
-pub use laws::{performing_texts_are_read, replaced_texts_are_read};
+pub use laws::{names_are_identifiers, performing_texts_are_read, replaced_texts_are_read};
