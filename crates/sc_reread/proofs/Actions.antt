@@ -1,10 +1,10 @@
 -- Actions as statements: their words, and what these come to.
 use Rattle.sc_reread.proofs.Common.{ExprTree, IsTrue, List, None, Option, Piece, Some, StmtKind, [], and_from, ap}
-use Rattle.sc_reread.proofs.Common.{append_assoc, arith, ap₂, blank, codes, expr_height, expr_words, exprs_height, flat_map}
-use Rattle.sc_reread.proofs.Common.{flat_map-append, is_ident, is_kept, is_kept_stmt, is_name, is_reserved, join_by}
-use Rattle.sc_reread.proofs.Common.{list_all, comma, piece_text, refl, rules, stmt_height, stmt_layout}
-use Rattle.sc_reread.proofs.Common.{suc, text_of, true, word, ended, call_words, return_words, ℕ, ◌&&◌, ◌++◌}
-use Rattle.sc_reread.proofs.Common.{◌∙◌, ◌∷◌, ◌≡◌, ◌≤◌}
+use Rattle.sc_reread.proofs.Common.{append_assoc, arith, ap₂, blank, codes, expr_height, expr_words, exprs_height}
+use Rattle.sc_reread.proofs.Common.{flat_map, flat_map-append, is_ident, is_kept, is_kept_stmt, is_name, is_reserved}
+use Rattle.sc_reread.proofs.Common.{join_by, list_all, comma, piece_text, refl, rules, stmt_height, stmt_layout, suc}
+use Rattle.sc_reread.proofs.Common.{text_of, true, word, ended, call_words, return_words, ℕ, ◌&&◌, ◌++◌, ◌∙◌, ◌∷◌, ◌≡◌}
+use Rattle.sc_reread.proofs.Common.{◌≤◌}
 use Rattle.std.specs.List.{AllByRecursion}
 use Rattle.std.proofs.lemmas.List.Elements.{recursion_from_All}
 use Rattle.sc_event.specs.Prelude.{export_at}
@@ -146,8 +146,8 @@ value_return_is ty value h =
       laid = value_laid e;
       spelled = ap (λ x. codes "return " ++ x) (flat_map-append piece_text (expr_words e) (word (codes ";") ∷ []) ∙
           ap (λ x. x ++ codes ";") is.spelled);
-      nested = nested_even (even_keyword keyword.Return) (nested_blank (nested_append (nested_more (omega arith) is.nested)
-          (nested_even even_semicolon nested_none)));
+      nested = nested_even (even_keyword keyword.Return) (nested_blank
+          (nested_append (nested_more (omega arith) is.nested) (nested_even even_semicolon nested_none)));
       low = let low = is.low in omega (arith, value_low e);
     }
 

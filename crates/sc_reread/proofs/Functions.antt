@@ -1,8 +1,8 @@
 -- Functions that perform: their words, and what these come to.
-use Rattle.sc_reread.proofs.Common.{Bool, List, Option, Piece, StmtTree, [], and_from, ap, append_assoc}
-use Rattle.sc_reread.proofs.Common.{arith, ap₂, are_kept, blank, codes, false, filter, flat_map, flat_map-append, head_of}
-use Rattle.sc_reread.proofs.Common.{head_words, indent, is_kept_stmt, kept_function, kept_head, layouts, line_of, lines_at}
-use Rattle.sc_reread.proofs.Common.{literal_text, newline, piece_text, refl, rules, stmt_height, stmt_layout}
+use Rattle.sc_reread.proofs.Common.{Bool, List, Option, Piece, StmtTree, [], and_from, ap, append_assoc, arith, ap₂}
+use Rattle.sc_reread.proofs.Common.{are_kept, blank, codes, false, filter, flat_map, flat_map-append, head_of}
+use Rattle.sc_reread.proofs.Common.{head_words, indent, is_kept_stmt, kept_function, kept_head, layouts, line_of}
+use Rattle.sc_reread.proofs.Common.{lines_at, literal_text, newline, piece_text, refl, rules, stmt_height, stmt_layout}
 use Rattle.sc_reread.proofs.Common.{stmts_height, subst, sym, symbols, text_of, true, word, word_symbol, ℕ}
 use Rattle.sc_reread.proofs.Common.{function_words, if◌then◌else◌, ◌++◌, ◌∙◌, ◌∷◌, ◌≡◌, ◌≤◌}
 use Rattle.std.specs.Fmt.{digits}
@@ -135,7 +135,8 @@ block body = blank ∷ word (codes "{") ∷ newline ∷ (body ++ word (codes "}"
 
 block_says : (body printed : List Piece) → symbols body ≡ symbols printed →
     symbols (block body) ≡ symbols (block printed)
-block_says body printed e = ap (λ ss. word_symbol (codes "{") ∷ ss) (joined_symbols body (word (codes "}") ∷ newline ∷ []) ∙
+block_says body printed e = ap (λ ss. word_symbol (codes "{") ∷ ss)
+    (joined_symbols body (word (codes "}") ∷ newline ∷ []) ∙
     ap (λ ss. ss ++ word_symbol (codes "}") ∷ []) e ∙ sym (joined_symbols printed (word (codes "}") ∷ newline ∷ [])))
 
 block_nested : (body : List Piece) → Nested 2 body → Nested 3 (block body)

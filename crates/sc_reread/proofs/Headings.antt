@@ -79,8 +79,8 @@ cross (b ∷ m) (c ∷ x ∷ text) behind rest inside e d l some =
     c l (omega arith) in
     (more.0, ap₂ (λ y ys. y ∷ ys) same more.1)
 
-pub begins_inside : (text behind : List ℕ) → 0 < length text → Ends text behind → begins_heading (text ++ behind) ≡ true →
-    begins_heading text ≡ true
+pub begins_inside : (text behind : List ℕ) → 0 < length text → Ends text behind →
+    begins_heading (text ++ behind) ≡ true → begins_heading text ≡ true
 begins_inside text behind some ends h = elim ends [
   | inl none ↦ subst (λ b. begins_heading b ≡ true) (ap (λ x. text ++ x) none ∙ append-nil text) h
   | inr newline ↦ let b = to_begins (text ++ behind) h in

@@ -1,8 +1,8 @@
 -- In the text of a performing section stands no other compartment line.
-use Rattle.sc_reread.proofs.Common.{Bool, IsTrue, List, None, Option, Piece, Some, [], and_from, and_parts, ap, append_assoc}
-use Rattle.sc_reread.proofs.Common.{arith, codes, drop, false, false≢true, filter, flat_map, is_name, is_name_byte, length}
-use Rattle.sc_reread.proofs.Common.{list_all, not, refl, slice_index, subst, suc, sym, take, text_of, true, zero, ℕ}
-use Rattle.sc_reread.proofs.Common.{if◌then◌else◌, ◌&&◌, ◌++◌, ◌==◌, ◌∙◌, ◌∷◌, ◌≡◌, ◌≤◌}
+use Rattle.sc_reread.proofs.Common.{Bool, IsTrue, List, None, Option, Piece, Some, [], and_from, and_parts, ap}
+use Rattle.sc_reread.proofs.Common.{append_assoc, arith, codes, drop, false, false≢true, filter, flat_map, is_name}
+use Rattle.sc_reread.proofs.Common.{is_name_byte, length, list_all, not, refl, slice_index, subst, suc, sym, take}
+use Rattle.sc_reread.proofs.Common.{text_of, true, zero, ℕ, if◌then◌else◌, ◌&&◌, ◌++◌, ◌==◌, ◌∙◌, ◌∷◌, ◌≡◌, ◌≤◌}
 use Rattle.std.proofs.Common.{append-nil, is_some, nat_lt, replicate, ◌*◌}
 use Rattle.std.proofs.lemmas.List.{drop_all}
 use Rattle.std.proofs.Math.Seq.{take-append_seam}
@@ -89,8 +89,8 @@ kind_plain text k h never = by (word_kind text) refl h
     pragma true e = absurd (never (line_directive text k e))
     pragma false e = absurd (cc)
 
-    marked : (b : Bool) → is_mark text ≡ b → option_or (if b then Some kind.Mark else None) (directive_kind text) ≡ Some k →
-        plain text ≡ true
+    marked : (b : Bool) → is_mark text ≡ b →
+        option_or (if b then Some kind.Mark else None) (directive_kind text) ≡ Some k → plain text ≡ true
     marked true e h = mark_plain text e
     marked false e h = pragma (is_pragma text) h
 

@@ -93,7 +93,8 @@ params_spelled (ty ∷ types) =
 
 params_nested : (types : List Scalar) → length types ≤ 8 → Nested 0 (params_words (proto_params 0 types))
 params_nested [] few = nested_even (even_keyword keyword.Void) nested_none
-params_nested (ty ∷ types) few = nested_append (param_nested ty 0 (omega arith)) (next_nested 1 types (omega (arith, few)))
+params_nested (ty ∷ types) few = nested_append (param_nested ty 0 (omega arith))
+    (next_nested 1 types (omega (arith, few)))
 
 result_spelled : (result : Option Scalar) → text_of (result_words (option_map type_name result)) ≡
     result_text result ++ codes " "
@@ -115,11 +116,14 @@ head_kept : (result : Option Scalar) (name : List ℕ) (types : List Scalar) →
       line = 1;
     }) ≡ true
 head_kept None name types ident few =
-    and_from (is_ident name) (list_all kept_param (proto_params 0 types)) ident (params_kept 0 types (omega (arith, few)))
+    and_from (is_ident name) (list_all kept_param (proto_params 0 types)) ident
+    (params_kept 0 types (omega (arith, few)))
 head_kept (Some scalar.Int) name types ident few =
-    and_from (is_ident name) (list_all kept_param (proto_params 0 types)) ident (params_kept 0 types (omega (arith, few)))
+    and_from (is_ident name) (list_all kept_param (proto_params 0 types)) ident
+    (params_kept 0 types (omega (arith, few)))
 head_kept (Some scalar.Unsigned) name types ident few =
-    and_from (is_ident name) (list_all kept_param (proto_params 0 types)) ident (params_kept 0 types (omega (arith, few)))
+    and_from (is_ident name) (list_all kept_param (proto_params 0 types)) ident
+    (params_kept 0 types (omega (arith, few)))
 
 -- a head that is kept, comes to this text, and opens few brackets
 pub record IsHead (f : Proto) : Type 0 where
@@ -138,7 +142,8 @@ head_is f h =
       kept = head_kept f.result f.name f.params h.name h.few;
       spelled = flat_map-append piece_text (result_words (option_map type_name f.result)) behind ∙
           ap₂ (λ x y. x ++ y) (result_spelled f.result) behind_spelled ∙
-          append_assoc (result_text f.result) (codes " ") (f.name ++ (codes "(" ++ (params_text f.params ++ codes ")")));
+          append_assoc (result_text f.result) (codes " ")
+          (f.name ++ (codes "(" ++ (params_text f.params ++ codes ")")));
       nested = nested_append (result_nested f.result) (nested_even (even_ident f.name h.name)
           (nested_parens (params_nested f.params h.few) nested_none));
     }

@@ -87,7 +87,8 @@ to_sections front (u ∷ texts) (more t last_line others) ends =
       | inl e ↦ inl e
       | inr n ↦ inr (last_append 10 front u ∙ last_any (last 10 front) 10 u some ∙ n)
     ] in
-    let rest = subst (λ b. IsFound b (length (front ++ u)) texts) whole (to_sections (front ++ u) texts others further) in
+    let rest = subst (λ b. IsFound b (length (front ++ u)) texts) whole
+    (to_sections (front ++ u) texts others further) in
     record {
       found = here front u behind t newline (ends_of u texts last_line) ∷ rest.found;
       sections = section (here front u behind t newline (ends_of u texts last_line))

@@ -20,7 +20,8 @@ use Rattle.sc_ast.specs.declared.section.GlobalTree.{GlobalTree}
 use Rattle.sc_ast.specs.declared.section.HeadTree.{HeadTree}
 use Rattle.sc_ast.specs.declared.section.ImportLine.{ImportLine}
 use Rattle.sc_ast.specs.declared.section.SectionTree.{SectionTree}
-use Rattle.sc_expr.specs.Lexemes.{ident_in, import_of, or_unused, third_word, fourth_word, mark_of, keyword_of, number_in}
+use Rattle.sc_expr.specs.Lexemes.{ident_in, import_of, or_unused, third_word, fourth_word, mark_of, keyword_of}
+use Rattle.sc_expr.specs.Lexemes.{number_in}
 unfoldable use Rattle.sc_expr.specs.Lexemes.{says}
 use Rattle.sc_expr.specs.declared.lexeme.Symbol.TheVariants as symbol
 use Rattle.sc_parse.specs.Prelude.{Grouped, SpellsDecl, SpellsDirectives, SpellsFunction, SpellsHead, SpellsSection}
@@ -202,8 +203,8 @@ imports_named _ _ _ g (spell.«import» {ts = ts} {exports = exports} {imports =
 
 section_named : (line : ℕ) (lexemes : List Lexeme) (tree : SectionTree) → AllGood lexemes →
     SpellsSection line lexemes tree → IsNamedSection tree
-section_named line _ _ g (spell.section {ts = ts} {us = us} {exports = exports} {imports = imports} {decls = ds} t name is
-    directives declared) =
+section_named line _ _ g (spell.section {ts = ts} {us = us} {exports = exports} {imports = imports} {decls = ds}
+    t name is directives declared) =
     let front = front_good ts us g.1 in
     let named = decls_named us ds (back_good ts us g.1) declared in
     record {

@@ -1,7 +1,8 @@
 -- How many brackets are open along words.
-use Rattle.sc_reread.proofs.Common.{IsTrue, Lexeme, List, Number, Piece, Symbol, [], ap, append_assoc, arith, codes, fits}
-use Rattle.sc_reread.proofs.Common.{is_ident, literal_text, map, max, most_open, open_after, refl, subst, suc, sym, symbols}
-use Rattle.sc_reread.proofs.Common.{blank, indent, newline, word, word_symbol, ℕ, ◌++◌, ◌+◌, ◌-◌, ◌∙◌, ◌∷◌, ◌≡◌, ◌≤◌}
+use Rattle.sc_reread.proofs.Common.{IsTrue, Lexeme, List, Number, Piece, Symbol, [], ap, append_assoc, arith, codes}
+use Rattle.sc_reread.proofs.Common.{fits, is_ident, literal_text, map, max, most_open, open_after, refl, subst, suc}
+use Rattle.sc_reread.proofs.Common.{sym, symbols, blank, indent, newline, word, word_symbol, ℕ, ◌++◌, ◌+◌, ◌-◌, ◌∙◌}
+use Rattle.sc_reread.proofs.Common.{◌∷◌, ◌≡◌, ◌≤◌}
 use Rattle.sc_expr.specs.declared.mark.Keyword.{Keyword}
 use Rattle.sc_print.proofs.Tables as tables
 use Rattle.sc_print.proofs.Leaves.{name_says}

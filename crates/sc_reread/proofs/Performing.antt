@@ -1,12 +1,11 @@
 -- Sections that perform: their words, and what these come to.
-use Rattle.sc_reread.proofs.Common.{List, Option, Piece, Some, [], and_from}
-use Rattle.sc_reread.proofs.Common.{and_parts, ap, append-nil, append_assoc, arith, ap₂, codes, decl_words, export_words}
-use Rattle.sc_reread.proofs.Common.{filter_map, flat_map, flat_map-append, head_words, heading_words}
-use Rattle.sc_reread.proofs.Common.{import_words, is_ident, is_kept_decl, is_name, is_reserved, kept_export}
-use Rattle.sc_reread.proofs.Common.{kept_import, kept_section, list_all, map, newline, not, option_map}
-use Rattle.sc_reread.proofs.Common.{option_map_or, piece_text, refl, section_height, section_words, subst, suc, sym}
-use Rattle.sc_reread.proofs.Common.{symbols, text_of, true, word, word_symbol, ended, if◌then◌else◌, Bool, false}
-use Rattle.sc_reread.proofs.Common.{ℕ, ◌++◌, ◌<◌, ◌==◌, ◌^◌, ◌∙◌, ◌∷◌, ◌≡◌, ◌≤◌}
+use Rattle.sc_reread.proofs.Common.{List, Piece, Some, [], and_from, and_parts, ap, append-nil, append_assoc}
+use Rattle.sc_reread.proofs.Common.{arith, ap₂, codes, decl_words, export_words, filter_map, flat_map, flat_map-append}
+use Rattle.sc_reread.proofs.Common.{head_words, heading_words, import_words, is_ident, is_kept_decl, is_name}
+use Rattle.sc_reread.proofs.Common.{is_reserved, kept_export, kept_import, kept_section, list_all, map, newline, not}
+use Rattle.sc_reread.proofs.Common.{option_map, piece_text, refl, section_height, section_words, subst}
+use Rattle.sc_reread.proofs.Common.{suc, sym, symbols, text_of, true, word, word_symbol, ended, if◌then◌else◌, Bool}
+use Rattle.sc_reread.proofs.Common.{false, ℕ, ◌++◌, ◌<◌, ◌==◌, ◌^◌, ◌∙◌, ◌∷◌, ◌≡◌, ◌≤◌}
 use Rattle.std.specs.List.{AllByRecursion}
 use Rattle.std.proofs.lemmas.List.Elements.{recursion_from_All}
 use Rattle.sc_event.specs.declared.interface.Import.{Import}
@@ -30,11 +29,11 @@ use Rattle.sc_print.proofs.Reading.{joined_symbols}
 use Rattle.sc_print.proofs.Whole.{exports_lined, imports_lined}
 use Rattle.sc_back.specs.Text.{export_text, function_text, functions_text, head_text, import_text, imported, main_proto}
 use Rattle.sc_back.specs.Text.{main_text, owner_name, proto_text, section_text}
-use Rattle.sc_back.specs.Tree.{all_functions, back_tree, counter, export_line, function_tree, function_trees, import_head}
-use Rattle.sc_back.specs.Tree.{import_line, main_trees, proto_head}
+use Rattle.sc_back.specs.Tree.{all_functions, back_tree, counter, export_line, function_tree, function_trees}
+use Rattle.sc_back.specs.Tree.{import_head, import_line, main_trees, proto_head}
 use Rattle.sc_back.specs.Sections.{AreNumbered, CanPerform, IsCalled, IsImported, IsSpoken}
-use Rattle.sc_reread.proofs.Nesting.{Even, Nested, even_ident, even_keyword, even_semicolon, nested_append, nested_blank}
-use Rattle.sc_reread.proofs.Nesting.{nested_even, nested_line, nested_more, nested_none}
+use Rattle.sc_reread.proofs.Nesting.{Even, Nested, even_ident, even_keyword, even_semicolon, nested_append}
+use Rattle.sc_reread.proofs.Nesting.{nested_blank, nested_even, nested_line, nested_more, nested_none}
 use Rattle.sc_reread.proofs.Rows.{AreSpoken, Same, counter_ident}
 use Rattle.sc_reread.proofs.Heads.{head_is}
 use Rattle.sc_reread.proofs.Functions.{function_is, same_append, same_none}
@@ -260,7 +259,8 @@ decls_are interfaces comp rows interface can =
     (main_trees interfaces comp rows) (main_text interfaces comp rows) main in
     protos_are interfaces interface.imports (recursion_from_All _ _ can.imports)
     (decl.Global counter ∷ map decl.Function (all_functions interfaces comp rows interface))
-    (codes "unsigned int bt_n;\n" ++ (functions_text interfaces rows 0 interface.exports ++ main_text interfaces comp rows))
+    (codes "unsigned int bt_n;\n" ++ (functions_text interfaces rows 0 interface.exports ++
+    main_text interfaces comp rows))
     (one_decl (decl.Global counter) (map decl.Function (all_functions interfaces comp rows interface))
     (decl_words (decl.Global counter)) (codes "unsigned int bt_n;\n")
     (functions_text interfaces rows 0 interface.exports ++ main_text interfaces comp rows) counter_kept (omega arith)
@@ -312,6 +312,6 @@ section_is interfaces comp rows interface can =
       says = ap (λ ss. word_symbol (codes "#pragma compartment " ++ interface.name) ∷ ss)
           (same_behind e (i ++ decls.pieces) (i ++ ds) (same_behind i decls.pieces ds decls.same.says));
       nested = nested_even (even_heading interface.name can.name) (nested_line
-          (nested_append (nested_more (omega arith) exports.nested) (nested_append (nested_more (omega arith) imports.nested)
-          decls.same.nested)));
+          (nested_append (nested_more (omega arith) exports.nested)
+          (nested_append (nested_more (omega arith) imports.nested) decls.same.nested)));
     }

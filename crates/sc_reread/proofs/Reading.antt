@@ -1,7 +1,6 @@
 -- The text of a section that performs is read as its tree.
-use Rattle.sc_reread.proofs.Common.{Lexeme, List, [], ap, arith, codes, map}
-use Rattle.sc_reread.proofs.Common.{refl, section_height, section_words, subst, sym, symbol_of, symbols, text_of, ℕ, ◌++◌}
-use Rattle.sc_reread.proofs.Common.{flat_map, most_open, true, ◌∙◌, ◌∷◌, ◌≡◌}
+use Rattle.sc_reread.proofs.Common.{Lexeme, List, [], ap, arith, codes, map, refl, section_height, section_words, subst}
+use Rattle.sc_reread.proofs.Common.{sym, symbol_of, symbols, text_of, ℕ, ◌++◌, flat_map, most_open, true, ◌∙◌, ◌∷◌, ◌≡◌}
 use Rattle.sc_lex.specs.Prelude.{begins_heading}
 use Rattle.sc_lex.specs.declared.token.Token.{Token}
 use Rattle.sc_ast.specs.declared.section.SectionTree.{SectionTree}

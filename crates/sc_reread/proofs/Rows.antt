@@ -113,7 +113,8 @@ row_pieces n m action =
 
 -- the words of the action in the tree
 end_says : (action : List Piece) → symbols (row_end action) ≡
-    symbols (((((indent 2 ∷ (action ++ newline ∷ [])) ++ []) ++ indent 1 ∷ word (codes "}") ∷ []) ++ []) ++ newline ∷ [])
+    symbols
+    (((((indent 2 ∷ (action ++ newline ∷ [])) ++ []) ++ indent 1 ∷ word (codes "}") ∷ []) ++ []) ++ newline ∷ [])
 end_says [] = refl
 end_says (p ∷ action) = ap (λ ss. piece_symbols p ++ ss) (end_says action)
 
@@ -147,7 +148,8 @@ counter_word rest calm = apart.plain_word counter_name rest kind.Ident (name_som
     (name_kind counter_name counter_ident) calm
 
 pub literal_word : (n : Number) → fits n ≡ true → (rest : List ℕ) → apart.Calm rest → apart.IsWord (literal_text n) rest
-literal_word n k rest calm = apart.plain_word (literal_text n) rest kind.Integer (literal_some n k) (literal_kind n k) calm
+literal_word n k rest calm = apart.plain_word (literal_text n) rest kind.Integer (literal_some n k)
+    (literal_kind n k) calm
 
 row_tidy : (n m : Number) (action : List Piece) → fits n ≡ true → fits m ≡ true → Free action →
     Free (row_pieces n m action)
@@ -202,7 +204,8 @@ row_is interfaces result row h small =
     let free : Free act.words = λ rest. subst (λ ps. Tidy ps rest) (act.laid 1) (stmt_holds b act.kept 1 rest) in (
       row_pieces n m act.words,
       record {
-        kept = choice_kept (test n) (setting m) b (test_kept n k counter_ident) (setting_kept m l counter_ident) act.kept;
+        kept = choice_kept (test n) (setting m) b (test_kept n k counter_ident)
+            (setting_kept m l counter_ident) act.kept;
         low = let low = act.low in omega (arith, choice_low (test n) (setting m) b, test_low n, setting_low m);
         same = record {
           tidy = row_tidy n m act.words k l free;

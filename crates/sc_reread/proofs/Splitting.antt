@@ -103,7 +103,8 @@ section_text text at next s g follows =
     ] in (
       one_text p.front u p.behind s.name (ap₂ is_heading (sym p.is) p.long ∙ g.heading)
           (ap₂ name_at (sym p.is) p.long ∙ g.name) some ends
-          (λ k low high is. g.whole (at + k) (omega (arith, low)) (let size = p.size in let within = g.within.0 in omega (arith, high))
+          (λ k low high is. g.whole (at + k) (omega (arith, low))
+          (let size = p.size in let within = g.within.0 in omega (arith, high))
           (ap₂ is_heading p.is (ap (λ n. n + k) (sym p.long)) ∙ is)),
       newline,
     )
