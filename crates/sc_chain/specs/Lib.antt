@@ -1,0 +1,3 @@
+pub mod Recompose
+pub mod Replaced
+pub mod Sections

@@ -1,0 +1,36 @@
+-- Texts in which some sections are replaced, all else byte for byte.
+use Rattle.std.specs.Prelude.{ℕ, ◌==◌, Bool, if◌then◌else◌, List, [], ◌∷◌, ◌++◌, map, Option, None, Some}
+use Rattle.std.specs.List.{concat, list_any}
+use Rattle.sc_event.specs.Prelude.{part}
+use Rattle.sc_event.specs.declared.event.Event.{Event}
+use Rattle.sc_event.specs.declared.interface.Interfaces.{Interfaces}
+use Rattle.sc_types.specs.Source.{SourceParts}
+use Rattle.sc_back.specs.Text.{back_text}
+use Rattle.sc_back.specs.Sections.{new_texts}
+use Rattle.sc_chain.specs.declared.recompose.Replacement.{Replacement}
+
+-- the text of the first replacement of a compartment, if there is one
+abbrev pub text_for : List Replacement → (comp : ℕ) → Option (List ℕ)
+text_for [] comp = None
+text_for (replacement ∷ replacements) comp =
+    if replacement.comp == comp then Some replacement.text else text_for replacements comp
+
+-- the preamble and the sections, where those of some compartments are replaced by these texts
+abbrev pub joined : SourceParts → (replace : ℕ → Option (List ℕ)) → List ℕ
+joined source replace = source.preamble ++ concat (new_texts replace 0 source.sections)
+
+-- the compartments of a list
+abbrev pub among : List ℕ → (comp : ℕ) → Bool
+among comps comp = list_any (λ one. one == comp) comps
+
+-- the text by which a compartment performs its part of a trace
+abbrev pub performing_text : Interfaces → List Event → (comp : ℕ) → List ℕ
+performing_text interfaces trace comp = back_text interfaces comp (part interfaces.main comp trace)
+
+-- those of a set are replaced by it
+abbrev pub performing : Interfaces → List Event → (set : ℕ → Bool) → (comp : ℕ) → Option (List ℕ)
+performing interfaces trace set comp = if set comp then Some (performing_text interfaces trace comp) else None
+
+-- the text in which the compartments of a set perform their parts of a trace, and the others keep their sections
+abbrev pub recomposed : SourceParts → List Event → (set : ℕ → Bool) → List ℕ
+recomposed source trace set = joined source (performing source.program.interfaces trace set)

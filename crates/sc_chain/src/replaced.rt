@@ -1,0 +1,109 @@
+//! Texts in which compartments perform their parts of a trace.
+
+ghost use Rattle.std.specs.Prelude.{◌≡◌, ◌<◌, ◌≤◌, ◌^◌, true, length, map, All, IfOk};
+ghost use Rattle.sc_event.specs.Prelude.{legal, part};
+ghost use Rattle.sc_core.specs.declared.program.ProgramTree.{ProgramTree};
+ghost use Rattle.sc_types.specs.Acceptance.{Accepts};
+ghost use Rattle.sc_types.specs.Source.{IsSource};
+ghost use Rattle.sc_replay.specs.Replay.{HasWords, IsWord};
+ghost use Rattle.sc_chain.specs.Recompose.{among, performing_text, recomposed};
+ghost use Rattle.sc_chain.specs.Replaced.{IsReplaced};
+ghost use Rattle.sc_chain.specs.Sections.{replacement_of};
+
+use crate::recompose::{Replacement, recompose};
+use sc_back::back_section;
+use sc_base::{OutOfMemory, Text};
+use sc_event::{CompId, Event, Interfaces};
+use sc_script::part;
+use sc_types::SourceText;
+use sqlite_items::Items;
+use std::alloc::Global;
+
+fn are_words(words: &[u32])
+    ensures { All IsWord words.now }
+{}
+
+fn has_words(event: &Event)
+    ensures { HasWords event.now }
+{
+    if let Event::Call { args, .. } = event {
+        are_words(args.as_slice());
+    }
+}
+
+// Tells proofs that the values of events are words; it does nothing.
+fn have_words(events: &[Event])
+    ensures { All HasWords events.now }
+{
+    for event in events {
+        has_words(event);
+    }
+}
+
+// The text of a section by which a compartment performs its part of a trace.
+fn performing_text(
+    alloc: Global,
+    interfaces: &Interfaces,
+    trace: &[Event],
+    comp: CompId,
+) -> Result<Text, OutOfMemory>
+    requires { length trace.now ≤ 4096 }
+    ensures { IfOk result (λ text. text ≡ performing_text interfaces.now trace.now comp) }
+{
+    let script = part(alloc, trace, interfaces.main, comp)?;
+    let text = back_section(alloc, interfaces, comp, script.as_slice())?;
+    Ok(text)
+}
+
+fn replacements(
+    alloc: Global,
+    interfaces: &Interfaces,
+    trace: &[Event],
+    comps: &[CompId],
+) -> Result<Items<Replacement>, OutOfMemory>
+    requires { length trace.now ≤ 4096 }
+    ensures { IfOk result (λ items. items ≡ map (replacement_of interfaces.now trace.now) comps.now) }
+{
+    let mut items = Items::new(alloc);
+    for comp in comps {
+        let text = performing_text(alloc, interfaces, trace, *comp)?;
+        items.push(Replacement { comp: *comp, text })?;
+    }
+    Ok(items)
+}
+
+// Reads a text that is accepted, so that memory alone may be wanting.
+fn read_accepted(alloc: Global, text: &[u8]) -> Result<SourceText, OutOfMemory>
+    requires { (program : ProgramTree) × Accepts text.now program }
+    ensures bytes { IfOk result (λ new. new.bytes ≡ text.now) }
+    ensures source { IfOk result IsSource }
+{
+    match SourceText::read(alloc, text) {
+        Ok(new) => Ok(new),
+        Err(_) => Err(OutOfMemory),
+    }
+}
+
+/// The text in which these compartments perform their parts of a trace, in place of running their functions; it may name
+/// a compartment twice. It is accepted as every source is, and means what the compartments' scripts say.
+pub fn replaced(
+    alloc: Global,
+    source: &SourceText,
+    trace: &[Event],
+    comps: &[CompId],
+) -> Result<SourceText, OutOfMemory>
+    requires allowed { legal source.now.program.interfaces trace.now ≡ true }
+    requires few { length trace.now ≤ 4096 }
+    requires known { All (λ comp. comp < length source.now.program.interfaces.comps) comps.now }
+    ensures accepted { (program : ProgramTree) × Accepts (recomposed source.now trace.now (among comps.now)) program }
+    ensures source { IfOk result IsSource }
+    ensures replaced { IfOk result (IsReplaced source.now trace.now (among comps.now)) }
+{
+    have_words(trace);
+    let program = source.program();
+    let interfaces = &program.tree().interfaces;
+    let replacements = replacements(alloc, interfaces, trace, comps)?;
+    let text = recompose(alloc, source, replacements.as_slice())?;
+    let new = read_accepted(alloc, text.as_bytes())?;
+    Ok(new)
+}
