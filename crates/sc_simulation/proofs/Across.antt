@@ -43,6 +43,7 @@ use Rattle.sc_simulation.proofs.Crossing.{given_back as given_value, given_is, r
 use Rattle.sc_simulation.proofs.Crossing.{returned_sp}
 use Rattle.sc_simulation.proofs.OwnCalls.{back_to}
 use Rattle.sc_simulation.proofs.Turning.{CallComes, GoesIn, before_told, costs_back, overflows_in, shows_in, turned}
+use Rattle.sc_relation.proofs.Coming.{came_by}
 
 module _ (T : Setting) (formed : IsWellFormed T.image) (inputs : All IsWord T.inputs) (P : Standpoint) (x : Joint)
     (to index : ℕ) (args : List Value) where
@@ -154,6 +155,7 @@ module _ (T : Setting) (formed : IsWellFormed T.image) (inputs : All IsWord T.in
         saved = saved_across;
         inputs = settled.inputs;
         steady = walks_steady T.image T.inputs formed inputs 2 _ _ walks_across settled.steady;
+        came = came_by T 2 _ _ walks_across settled.came;
         room = settled.room;
         told = before_told x.meant.trace (Call P.comp to index (map word_in args)) x.meant.frames settled.told;
       }
@@ -250,6 +252,7 @@ module _ (T : Setting) (formed : IsWellFormed T.image) (inputs : All IsWord T.in
             saved = saved_back;
             inputs = g.settled.inputs;
             steady = walks_steady T.image T.inputs formed inputs 1 _ _ walks_back g.settled.steady;
+            came = came_by T 1 _ _ walks_back g.settled.came;
             room = g.settled.room;
             told = before_told g.y.meant.trace (Ret to P.comp told) g.y.meant.frames g.settled.told;
           }

@@ -22,6 +22,7 @@ use Rattle.sc_relation.specs.Blocks.{StandsFor}
 use Rattle.sc_relation.specs.Stretches.{Setting, Joint, Standpoint, machine, Settled}
 use Rattle.sc_relation.specs.Calls.{ComesBack}
 use Rattle.sc_simulation.proofs.Turning.{before_told}
+use Rattle.sc_relation.proofs.Coming.{came_by}
 
 -- The next input.
 
@@ -84,6 +85,7 @@ module _ (T : Setting) (formed : IsWellFormed T.image) (inputs : All IsWord T.in
       saved = settled.saved;
       inputs = ap (drop 1) settled.inputs ∙ drop_next T.inputs x.input;
       steady = walks_steady T.image T.inputs formed inputs 1 _ _ walks settled.steady;
+      came = came_by T 1 _ _ walks settled.came;
       room = settled.room;
       told = before_told x.meant.trace (In P.comp w) x.meant.frames settled.told;
     }
@@ -163,6 +165,7 @@ module _ (T : Setting) (formed : IsWellFormed T.image) (inputs : All IsWord T.in
         saved = settled.saved;
         inputs = settled.inputs;
         steady = walks_steady T.image T.inputs formed inputs 1 _ _ walks' settled.steady;
+        came = came_by T 1 _ _ walks' settled.came;
         room = settled.room;
         told = before_told x.meant.trace (Out P.comp w) x.meant.frames settled.told;
       };
