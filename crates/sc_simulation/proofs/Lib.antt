@@ -7,9 +7,11 @@ pub mod Crossing
 pub mod Environment
 pub mod Finish
 pub mod OwnCalls
+pub mod Placed
 pub mod Placing
 pub mod Sections
 pub mod Shows
 pub mod Start
 pub mod Turning
+pub mod UnknownSteps
 pub mod Whole
