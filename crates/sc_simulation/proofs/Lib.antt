@@ -13,5 +13,6 @@ pub mod Sections
 pub mod Shows
 pub mod Start
 pub mod Turning
+pub mod UnknownFrames
 pub mod UnknownSteps
 pub mod Whole
