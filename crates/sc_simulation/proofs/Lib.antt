@@ -13,6 +13,7 @@ pub mod Sections
 pub mod Shows
 pub mod Start
 pub mod Turning
+pub mod UnknownCalls
 pub mod UnknownFrames
 pub mod UnknownSteps
 pub mod Whole
