@@ -26,13 +26,13 @@ use Rattle.sc_relation.proofs.Coming.{came_by}
 
 -- The next input.
 
-next_at : (inputs : List ℕ) (k : ℕ) → next_input (drop k inputs) ≡ input_at inputs k
+pub next_at : (inputs : List ℕ) (k : ℕ) → next_input (drop k inputs) ≡ input_at inputs k
 next_at [] zero = refl
 next_at [] (suc k) = refl
 next_at (w ∷ inputs) zero = refl
 next_at (w ∷ inputs) (suc k) = next_at inputs k
 
-drop_next : (inputs : List ℕ) (k : ℕ) → drop 1 (drop k inputs) ≡ drop (suc k) inputs
+pub drop_next : (inputs : List ℕ) (k : ℕ) → drop 1 (drop k inputs) ≡ drop (suc k) inputs
 drop_next [] zero = refl
 drop_next [] (suc k) = refl
 drop_next (w ∷ inputs) zero = refl

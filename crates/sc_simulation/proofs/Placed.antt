@@ -7,8 +7,6 @@ use Rattle.std.proofs.lemmas.Bool.{and_parts}
 use Rattle.sc_event.specs.declared.event.Event.{Event}
 use Rattle.sc_event.specs.declared.event.Event.TheVariants.{Call, End, In, Out, Ret}
 use Rattle.sc_event.specs.declared.interface.Interfaces.{Interfaces}
-use Rattle.sc_event.specs.declared.row.Entry.{Entry}
-use Rattle.sc_event.specs.declared.row.Entry.TheVariants.{Main}
 use Rattle.sc_event.specs.declared.row.Row.{Row}
 use Rattle.sc_event.specs.Prelude.{Activation, Standing, at_start, count_of, is_allowed, is_legal_from, performer}
 use Rattle.sc_event.specs.Prelude.{rows_from, stands_after, stands_behind}
@@ -21,6 +19,7 @@ use Rattle.sc_image.specs.Step.{Goes, Outcome, Traps, step}
 use Rattle.sc_image.specs.Walks.{Walks, then_on, walk}
 use Rattle.sc_image.specs.WellFormed.{IsWellFormed}
 use Rattle.sc_image.proofs.Cases.{step_of}
+use Rattle.sc_simulation.specs.Bodies.{entered_by}
 
 -- THE REST OF A STRETCH
 
@@ -62,11 +61,7 @@ module _ (image : ImageParts) (inputs : List ℕ) where
 
 -- WHO IS ACTIVE
 
--- by which entry the active function was entered, and who waits
-abbrev pub entered_by : List Crossing → Entry
-entered_by [] = Main
-entered_by (x ∷ xs) = x.entry
-
+-- who waits
 abbrev pub waiting_in : List Crossing → List Activation
 waiting_in [] = []
 waiting_in (x ∷ xs) = record { comp = x.caller; entry = entered_by xs } ∷ waiting_in xs
