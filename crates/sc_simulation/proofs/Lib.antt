@@ -14,6 +14,7 @@ pub mod Shows
 pub mod Start
 pub mod Turning
 pub mod UnknownCalls
+pub mod UnknownCrossing
 pub mod UnknownFrames
 pub mod UnknownSteps
 pub mod Whole
