@@ -16,5 +16,6 @@ pub mod Turning
 pub mod UnknownCalls
 pub mod UnknownCrossing
 pub mod UnknownFrames
+pub mod UnknownRules
 pub mod UnknownSteps
 pub mod Whole
