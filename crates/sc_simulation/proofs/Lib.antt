@@ -15,6 +15,7 @@ pub mod Start
 pub mod Turning
 pub mod UnknownCalls
 pub mod UnknownCrossing
+pub mod UnknownEvents
 pub mod UnknownFrames
 pub mod UnknownRules
 pub mod UnknownSteps
