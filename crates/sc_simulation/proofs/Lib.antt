@@ -13,6 +13,7 @@ pub mod Sections
 pub mod Shows
 pub mod Start
 pub mod Turning
+pub mod Unknown
 pub mod UnknownCalls
 pub mod UnknownCrossing
 pub mod UnknownEvents
