@@ -6,7 +6,9 @@ pub mod CrossCalls
 pub mod Crossing
 pub mod Environment
 pub mod Finish
+pub mod Following
 pub mod OwnCalls
+pub mod Performing
 pub mod Placed
 pub mod Placing
 pub mod Sections
