@@ -1,48 +1,29 @@
 -- The induction on open calls where some compartments perform their parts of the machine's own trace: what they perform
 -- is followed, whatever code they have, and all others are followed by their code.
-use Rattle.std.proofs.Common.{◌≡◌, ◌≢◌, ℕ, zero, suc, ◌+◌, ◌≤◌, Bool, true, false, not, ◌||◌, ◌&&◌, List, All, length}
-use Rattle.std.proofs.Common.{Some, refl, sym, ◌∙◌, ap, subst, arith, inl, ⊎_elim, if◌then◌else◌}
-use Rattle.std.specs.Prelude.{◌⊎◌, nat_lt, slice_get}
-use Rattle.std.specs.List.{list_all}
-use Rattle.std.proofs.lemmas.Bool.{and_parts, cases_eq}
+use Rattle.std.proofs.Common.{◌≡◌, ℕ, zero, suc, Bool, true, List, All}
+use Rattle.std.proofs.Common.{Some, sym, ap, subst, inl, if◌then◌else◌}
+use Rattle.std.specs.Prelude.{slice_get}
 use Rattle.sc_event.specs.declared.event.Event.{Event}
-use Rattle.sc_event.specs.declared.row.Entry.TheVariants.{Export}
-use Rattle.sc_event.specs.Prelude.{export_at, imports, is_function, legal, takes}
-use Rattle.sc_core.specs.declared.cause.Cause.TheVariants.{BadType}
-use Rattle.sc_core.specs.declared.expr.CallTarget.TheVariants.{Cross}
-use Rattle.sc_core.specs.declared.run.RunEnd.TheVariants.{Blamed}
-use Rattle.sc_core.specs.declared.value.Value.{Value}
-use Rattle.sc_core.specs.Calls.{Library, call_cross, called, is_word, leads, may_call, run_step}
+use Rattle.sc_event.specs.Prelude.{legal}
+use Rattle.sc_core.specs.Calls.{run_step}
 use Rattle.sc_core.specs.Scripts.{Roles, performs, roles_in, rows_left}
 use Rattle.sc_core.specs.Value.{wrapping}
 use Rattle.sc_core.specs.Words.{Here, State as Meant}
 use Rattle.sc_image.specs.declared.parts.ImageParts.{ImageParts}
-use Rattle.sc_image.specs.Calls.{export_at as image_export}
-use Rattle.sc_image.specs.Step.{jalr_target}
 use Rattle.sc_image.specs.WellFormed.{IsWord}
-use Rattle.sc_image.proofs.Reached.{called_there}
-use Rattle.sc_image.proofs.Telling.{steps_tell}
 use Rattle.sc_tac.specs.declared.function.TacFnTree.{TacFnTree}
 use Rattle.sc_tac.specs.declared.program.TacTree.{TacTree}
 use Rattle.sc_tac.specs.Code.{code_library}
 use Rattle.sc_tac.specs.Functions.{IsFunction}
 use Rattle.sc_tac.specs.Programs.{IsProgram}
 use Rattle.sc_select.specs.Linking.{Addresses}
-use Rattle.sc_select.specs.Pieces.{sp}
-use Rattle.sc_hart.proofs.Registers.{read_listed}
-use Rattle.sc_relation.specs.Calls.{ArePassed, CallStands, IsBase}
-use Rattle.sc_relation.specs.Stretches.{Joint, Setting, Settled, Standpoint, machine}
+use Rattle.sc_relation.specs.Stretches.{Setting}
 use Rattle.sc_relation.proofs.Stretches.{shows_here}
-use Rattle.sc_simulation.specs.Bodies.{BodiesFollow, IsShown, IsUnknown, PerformersDo, PerformersFollow, UnknownComes}
+use Rattle.sc_simulation.specs.Bodies.{BodiesFollow, IsShown, PerformersDo, UnknownComes}
 use Rattle.sc_simulation.specs.Linked.{IsLinked, functions_in, setting}
 use Rattle.sc_simulation.specs.Results.{GivesResults, bodies}
 use Rattle.sc_simulation.proofs.Bodies.{more_follow, none_follow}
-use Rattle.sc_simulation.proofs.CrossCalls.{IsLed, IsOffered, led_by, offered_by}
-use Rattle.sc_simulation.proofs.Sections.{IsEntered, is_export}
-use Rattle.sc_simulation.proofs.Turning.{CallComes, turned, where_made, where_turns}
 use Rattle.sc_simulation.proofs.Unknown.{followed}
-use Rattle.sc_simulation.proofs.UnknownCalls.{IsMade}
-use Rattle.sc_simulation.proofs.UnknownCrossing.{into_unknown}
 use Rattle.sc_simulation.proofs.Performing.{performers_follow}
 
 module _ (program : TacTree) (image : ImageParts) (inputs : List ℕ) (set : ℕ → Bool) (t : List Event) (turn_pays : ℕ)

@@ -1,25 +1,22 @@
 -- Unknown code: whatever code the compartments have that perform their parts of the machine's own trace, the machine
 -- follows what they perform, and what all others do.
-use Rattle.std.proofs.Common.{◌≡◌, ◌≢◌, ℕ, zero, suc, ◌+◌, ◌-◌, ◌*◌, ◌^◌, ◌<◌, ◌≤◌, Bool, true, false, not, ◌||◌, ◌&&◌, List}
-use Rattle.std.proofs.Common.{[], ◌∷◌, ◌++◌, All, length, map, Option, None, Some, refl, sym, ◌∙◌, ap, subst, arith}
+use Rattle.std.proofs.Common.{◌≡◌, ◌≢◌, ℕ, zero, suc, ◌+◌, ◌-◌, ◌*◌, ◌<◌, ◌≤◌, Bool, true, false, not, ◌||◌, List}
+use Rattle.std.proofs.Common.{[], ◌∷◌, ◌++◌, All, length, Option, None, Some, refl, sym, ◌∙◌, ap, subst, arith}
 use Rattle.std.proofs.Common.{ap₂, append-nil, inl, inr, if◌then◌else◌, drop}
-use Rattle.std.specs.Prelude.{◌⊎◌, ◌==◌, nat_lt, slice_get, slice_index, is_some}
-use Rattle.std.specs.List.{list_all}
-use Rattle.std.proofs.lemmas.Bool.{cases_lt, lt-ltb}
-use Rattle.std.proofs.lemmas.List.{append_assoc, length-map}
-use Rattle.sc_base.specs.declared.stop.TrapReason.{TrapReason}
+use Rattle.std.specs.Prelude.{◌⊎◌, nat_lt, slice_get, slice_index}
+use Rattle.std.proofs.lemmas.Bool.{cases_lt}
+use Rattle.std.proofs.lemmas.List.{append_assoc}
 use Rattle.sc_event.specs.declared.event.Event.{Event}
 use Rattle.sc_event.specs.declared.event.Event.TheVariants.{Call, End, In, Out, Ret}
-use Rattle.sc_event.specs.Prelude.{Standing, at_start, is_allowed, is_function, imports, legal, stands_behind}
+use Rattle.sc_event.specs.Prelude.{at_start, is_allowed, legal, stands_behind}
 use Rattle.sc_core.specs.declared.expr.CallTarget.TheVariants.{Cross}
 use Rattle.sc_core.specs.declared.value.Value.{Value}
 use Rattle.sc_core.specs.declared.value.Value.TheVariants.{Word}
-use Rattle.sc_core.specs.Calls.{Function, Library, call_cross, next_input, option_value, read_input}
+use Rattle.sc_core.specs.Calls.{Library, call_cross, next_input, option_value, read_input}
 use Rattle.sc_core.specs.Growth.{Front}
-use Rattle.sc_core.specs.Scripts.{Roles, performs, roles_in, rows_left}
+use Rattle.sc_core.specs.Scripts.{Roles, roles_in}
 use Rattle.sc_core.specs.Value.{wrapping}
-use Rattle.sc_core.specs.Words.{Here, Piece, Reached, State as Meant, Stopped, and_then, tell, turn, turn_of}
-use Rattle.sc_laws.specs.Growth.{Goes}
+use Rattle.sc_core.specs.Words.{Here, Piece, Reached, State as Meant, Stopped, and_then, tell, turn}
 use Rattle.sc_image.specs.declared.parts.ImageParts.{ImageParts}
 use Rattle.sc_image.specs.Calls.{export_at as image_export, has_result, may_call as may_make, params_of}
 use Rattle.sc_image.specs.Cross.{arguments, called, given_back, input, input_at, output, returned}
@@ -27,8 +24,8 @@ use Rattle.sc_image.specs.State.{Crossing, State, reg, start, with_pc, written}
 use Rattle.sc_image.specs.Steady.{IsSteady}
 use Rattle.sc_image.specs.Step.{Goes as Steps, Traps, step}
 use Rattle.sc_image.specs.Walks.{Walks}
-use Rattle.sc_image.specs.WellFormed.{IsWord, IsWellFormed}
-use Rattle.sc_image.proofs.Walking.{walk_one, walk_together}
+use Rattle.sc_image.specs.WellFormed.{IsWord}
+use Rattle.sc_image.proofs.Walking.{walk_one}
 use Rattle.sc_store.specs.Memory.{Memory as Bytes}
 use Rattle.sc_tac.specs.declared.function.TacFnTree.{TacFnTree}
 use Rattle.sc_tac.specs.declared.program.TacTree.{TacTree}
@@ -36,21 +33,20 @@ use Rattle.sc_tac.specs.Code.{code_library}
 use Rattle.sc_tac.specs.Functions.{IsFunction}
 use Rattle.sc_tac.specs.Programs.{IsProgram}
 use Rattle.sc_select.specs.Linking.{Addresses}
-use Rattle.sc_select.specs.Pieces.{a0, sp}
+use Rattle.sc_select.specs.Pieces.{a0}
 use Rattle.sc_hart.specs.Hart.{listed}
 use Rattle.sc_hart.specs.Words.{word}
 use Rattle.sc_hart.proofs.Registers.{read_listed}
 use Rattle.sc_hart.proofs.Steady.{walks_steady}
-use Rattle.sc_relation.specs.Blocks.{LiveAt}
-use Rattle.sc_relation.specs.Calls.{ArePassed, CallGives, ComesBack}
+use Rattle.sc_relation.specs.Calls.{ComesBack}
 use Rattle.sc_relation.specs.Frames.{AreFloors}
-use Rattle.sc_relation.specs.Stretches.{AllHonest, Came, Joint, Leads, Overflows, Protected, Setting, Settled, Shows}
+use Rattle.sc_relation.specs.Stretches.{AllHonest, Joint, Leads, Overflows, Setting, Settled, Shows}
 use Rattle.sc_relation.specs.Stretches.{Standpoint, machine}
 use Rattle.sc_relation.proofs.Coming.{came_by}
 use Rattle.sc_relation.proofs.Settling.{leads_moved, settled_moved}
 use Rattle.sc_relation.proofs.Storing.{block_owned}
 use Rattle.sc_relation.proofs.Stretches.{leads_then, overflows_after, overflows_then, shows_after, shows_here}
-use Rattle.sc_simulation.specs.Bodies.{BodiesFollow, Departs, IsShown, IsUnknown, PerformersDo, UnknownComes}
+use Rattle.sc_simulation.specs.Bodies.{BodiesFollow, IsShown, PerformersDo, UnknownComes}
 use Rattle.sc_simulation.specs.Bodies.{UnknownGives, departing, entered_by}
 use Rattle.sc_simulation.specs.Linked.{IsLinked, functions_in, setting}
 use Rattle.sc_simulation.specs.Results.{GivesResults, bodies}
@@ -58,13 +54,13 @@ use Rattle.sc_simulation.proofs.Along.{walk_front}
 use Rattle.sc_simulation.proofs.Answering.{bodies_go}
 use Rattle.sc_simulation.proofs.CrossCalls.{IsLed, IsOffered}
 use Rattle.sc_simulation.proofs.Environment.{drop_next, next_at}
-use Rattle.sc_simulation.proofs.Placed.{Allows, StandsSo, StepsOn, allowed_next, first_step, stands_so, standing_in}
+use Rattle.sc_simulation.proofs.Placed.{Allows, StepsOn, allowed_next, first_step, stands_so, standing_in}
 use Rattle.sc_simulation.proofs.Placed.{walk_rest}
 use Rattle.sc_simulation.proofs.Sections.{IsEntered, is_export}
 use Rattle.sc_simulation.proofs.Turning.{CallComes, before_told, turned, where_turns}
 use Rattle.sc_simulation.proofs.UnknownCalls.{IsMade}
 use Rattle.sc_simulation.proofs.UnknownCrossing.{into_unknown, out_of_unknown}
-use Rattle.sc_simulation.proofs.UnknownEvents.{IsNext, call_is, end_is, enters, imported, input_is, offered, output_is}
+use Rattle.sc_simulation.proofs.UnknownEvents.{IsNext, call_is, end_is, enters, input_is, offered, output_is}
 use Rattle.sc_simulation.proofs.UnknownEvents.{return_is, work, work_done}
 use Rattle.sc_simulation.proofs.UnknownRules.{IsEnteredBy, are_words, as_values, entry_is, words_passed}
 use Rattle.sc_simulation.proofs.UnknownSteps.{KeepsOthers, StepIs, calls, leaves, listed_is, moves, reads, shows, step_is}

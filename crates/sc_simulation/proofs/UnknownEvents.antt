@@ -1,7 +1,7 @@
 -- What a compartment performs in the meaning, by the next event of the trace of which it performs its part.
-use Rattle.std.proofs.Common.{◌≡◌, ℕ, suc, ◌+◌, ◌≤◌, Bool, true, false, ◌&&◌, List, [], ◌∷◌, ◌++◌, length, map, drop}
-use Rattle.std.proofs.Common.{Option, None, Some, refl, sym, ◌∙◌, ap, subst, arith, if◌then◌else◌}
-use Rattle.std.specs.Prelude.{◌==◌, slice_get, is_some}
+use Rattle.std.proofs.Common.{◌≡◌, ℕ, ◌≤◌, Bool, true, List, [], ◌∷◌, ◌++◌, length, drop}
+use Rattle.std.proofs.Common.{Option, Some, refl, sym, ◌∙◌, ap, subst, if◌then◌else◌}
+use Rattle.std.specs.Prelude.{◌==◌, is_some}
 use Rattle.std.specs.List.{list_all}
 use Rattle.std.specs.Option.{option_map}
 use Rattle.std.proofs.lemmas.Bool.{and_from, and_parts, eq-eqb}
@@ -10,7 +10,7 @@ use Rattle.sc_event.specs.declared.event.Event.{Event}
 use Rattle.sc_event.specs.declared.event.Event.TheVariants.{Call, End, In, Out, Ret}
 use Rattle.sc_event.specs.declared.row.Entry.TheVariants.{Export}
 use Rattle.sc_event.specs.declared.row.Row.{Row}
-use Rattle.sc_event.specs.Prelude.{Standing, action_of, at_start, count_of, imports, is_allowed, is_function, is_input}
+use Rattle.sc_event.specs.Prelude.{Standing, action_of, at_start, count_of, imports, is_allowed, is_function}
 use Rattle.sc_event.specs.Prelude.{is_output, may_perform, part, performer, stands_behind, takes}
 use Rattle.sc_core.specs.declared.expr.CallTarget.{CallTarget}
 use Rattle.sc_core.specs.declared.expr.CallTarget.TheVariants.{Cross, Input, Output}
@@ -28,7 +28,6 @@ use Rattle.sc_laws.proofs.Rows.{Next, row_of_next, rows_behind}
 use Rattle.sc_tac.specs.declared.program.TacTree.{TacTree}
 use Rattle.sc_tac.specs.Code.{code_function, code_library}
 use Rattle.sc_tac.specs.Programs.{IsProgram}
-use Rattle.sc_simulation.specs.Linked.{functions_in}
 use Rattle.sc_simulation.specs.Results.{bodies}
 use Rattle.sc_simulation.proofs.Answering.{bodies_go}
 use Rattle.sc_simulation.proofs.CrossCalls.{IsOffered}
