@@ -148,7 +148,7 @@ module _ (program : TacTree) (image : ImageParts) (inputs : List ℕ) (roles : R
           perform P x to index args honest is makes settled base at_base passed stands
       cross_by false to index is makes stands =
           cross_follows program image inputs roles turn_pays addresses rules functions results linked words n runs P x
-          to index args honest is makes settled base at_base passed stands
+          to index args is makes settled base at_base passed stands
 
       follow : (target : CallTarget) → T.makes P.comp target (length args) ≡ true → CallStands T P x target →
           CallComes T P x target (calls_of program roles n P.comp target args x.meant)

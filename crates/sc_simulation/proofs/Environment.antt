@@ -21,8 +21,8 @@ use Rattle.sc_hart.proofs.Steady.{walks_steady}
 use Rattle.sc_relation.specs.Blocks.{StandsFor}
 use Rattle.sc_relation.specs.Stretches.{Setting, Joint, Standpoint, machine, Settled}
 use Rattle.sc_relation.specs.Calls.{ComesBack}
-use Rattle.sc_simulation.proofs.Turning.{before_told}
 use Rattle.sc_relation.proofs.Coming.{came_by}
+use Rattle.sc_simulation.proofs.Turning.{before_told}
 
 -- The next input.
 

@@ -16,7 +16,6 @@ pub mod Shows
 pub mod Start
 pub mod Turning
 pub mod Unknown
-pub mod UnknownCalls
 pub mod UnknownCrossing
 pub mod UnknownEvents
 pub mod UnknownFrames

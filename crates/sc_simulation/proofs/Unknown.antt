@@ -52,14 +52,14 @@ use Rattle.sc_simulation.specs.Linked.{IsLinked, functions_in, setting}
 use Rattle.sc_simulation.specs.Results.{GivesResults, bodies}
 use Rattle.sc_simulation.proofs.Along.{walk_front}
 use Rattle.sc_simulation.proofs.Answering.{bodies_go}
-use Rattle.sc_simulation.proofs.CrossCalls.{IsLed, IsOffered}
+use Rattle.sc_simulation.proofs.CrossCalls.{IsLed, IsOffered, into_code}
 use Rattle.sc_simulation.proofs.Environment.{drop_next, next_at}
 use Rattle.sc_simulation.proofs.Placed.{Allows, StepsOn, allowed_next, first_step, stands_so, standing_in}
 use Rattle.sc_simulation.proofs.Placed.{walk_rest}
 use Rattle.sc_simulation.proofs.Sections.{IsEntered, is_export}
 use Rattle.sc_simulation.proofs.Turning.{CallComes, before_told, turned, where_turns}
-use Rattle.sc_simulation.proofs.UnknownCalls.{IsMade}
-use Rattle.sc_simulation.proofs.UnknownCrossing.{into_unknown, out_of_unknown}
+use Rattle.sc_simulation.proofs.Across.{IsMade}
+use Rattle.sc_simulation.proofs.UnknownCrossing.{into_unknown}
 use Rattle.sc_simulation.proofs.UnknownEvents.{IsNext, call_is, end_is, enters, input_is, offered, output_is}
 use Rattle.sc_simulation.proofs.UnknownEvents.{return_is, work, work_done}
 use Rattle.sc_simulation.proofs.UnknownRules.{IsEnteredBy, are_words, as_values, entry_is, words_passed}
@@ -381,7 +381,6 @@ module _ (program : TacTree) (image : ImageParts) (inputs : List ℕ) (set : ℕ
             floors = floors;
             level = λ k honest same. absurd (other_than k honest (sym same));
             over = λ k q honest own there. there (λ same. other_than k honest (sym same));
-            never = never x settled;
           }
 
           callee_by : (performs : Bool) → set to ≡ performs → (left : ℕ) → x.meant.turns ≡ suc left →
@@ -391,7 +390,7 @@ module _ (program : TacTree) (image : ImageParts) (inputs : List ℕ) (set : ℕ
               into_unknown program image inputs roles turn_pays addresses rules functions results linked words n P x to
               index values offer led left target (made left turns) is perform
           callee_by false is left turns =
-              out_of_unknown program image inputs roles turn_pays addresses rules functions results linked words n P x
+              into_code program image inputs roles turn_pays addresses rules functions results linked words n P x
               to index values offer led left target (made left turns) is follow
               (entry_is image to index target ((addresses P.comp).entry to index) export
               (linked.exports P.comp to index offer.proto offer.export))
