@@ -15,6 +15,7 @@ use Rattle.sc_laws.proofs.Blames.{nobody_is_blamed}
 use Rattle.sc_laws.proofs.FollowingRuns.{tells_with_more, keeps_blames, passes_blames, least_is_chain}
 use Rattle.sc_laws.proofs.Chaining.{chain_rises, has_chain}
 use Rattle.sc_laws.proofs.Rooms.{keeps_rooms}
+use Rattle.sc_laws.proofs.Scripts.{spends_along}
 use Rattle.sc_laws.proofs.Turns.{spends_turns}
 
 pub programs_obey : ProgramsObey
@@ -131,4 +132,5 @@ pub turns_out_means_turns : TurnsOutMeansTurns
 turns_out_means_turns = record {
   libraries = spends_turns;
   programs = λ arith program. spends_turns (library_of arith program) (program_obeys arith program);
+  scripts = spends_along;
 }
