@@ -18,7 +18,7 @@ use Rattle.sc_linker.specs.Layout.{addresses_at}
 use Rattle.sc_linker.specs.Linkable.{IsLinkable}
 use Rattle.sc_simulation.specs.Linked.{IsLinked}
 use Rattle.sc_simulation.specs.Runs.{ShowsRun}
-use Rattle.sc_simulation.specs.Simulation.{IsBuilt, nobody}
+use Rattle.sc_simulation.specs.Simulation.{IsBuilt}
 use Rattle.sc_simulation.proofs.Shows.{outcomes_show}
 use Rattle.sc_simulation.proofs.Whole.{simulates}
 use Rattle.sc_compile.specs.Compiled.{IsCompiled, ShowsAll, program_nodes}
@@ -65,7 +65,7 @@ module _ (program : ProgramTree) (typed : IsWellTyped program) (named : AreNamed
         let from = source_of program typed comp number f is in
         subst IsFunction from.same
         (keeps_rules.functions program typed comp from.section from.is number from.source from.its);
-    results = gives_results program typed nobody;
+    results = gives_results program typed;
     addresses = addresses_at program (all_codes (lowered_program program));
     linked = linked;
   }

@@ -5,9 +5,12 @@ pub mod Bodies
 pub mod CrossCalls
 pub mod Crossing
 pub mod Environment
+pub mod Exports
 pub mod Finish
 pub mod OwnCalls
+pub mod Passing
 pub mod Placing
+pub mod Scripts
 pub mod Sections
 pub mod Shows
 pub mod Start

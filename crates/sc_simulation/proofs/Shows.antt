@@ -117,11 +117,11 @@ module _ (image : ImageParts) (inputs : List ℕ) (formed : IsWellFormed image) 
     way = along image inputs formed events reached place.going place.steps (start image) place.walks.by (omega arith)
 
     -- no more steps than the stretch has
-    few : (steps : ℕ) → steps ≤ place.steps → Front (shown steps) (take events reached.trace)
+    pub few : (steps : ℕ) → steps ≤ place.steps → Front (shown steps) (take events reached.trace)
     few steps le = way.fewer steps le
 
     -- more, and so many events are told on it
-    full : (steps : ℕ) → place.steps ≤ steps → events ≤ length reached.trace → shown steps ≡ take events reached.trace
+    pub full : (steps : ℕ) → place.steps ≤ steps → events ≤ length reached.trace → shown steps ≡ take events reached.trace
     full steps le long = way.full steps le long
 
     -- more, and so many events aren't told on it
@@ -142,7 +142,7 @@ module _ (image : ImageParts) (inputs : List ℕ) (formed : IsWellFormed image) 
         ap (λ k. machine image inputs k events) (sym (rest_is steps le)) ∙ room (steps - place.steps) short
 
     -- where one more step ends the run
-    ended_is : (steps : ℕ) → place.steps < steps → length reached.trace < events →
+    pub ended_is : (steps : ℕ) → place.steps < steps → length reached.trace < events →
         step image inputs reached ≡ Goes (ended reached) → shown steps ≡ (ended reached).trace
     ended_is steps less short goes =
         let one : steps - place.steps ≡ suc (steps - place.steps - 1) = omega (arith, less) in
@@ -153,7 +153,7 @@ module _ (image : ImageParts) (inputs : List ℕ) (formed : IsWellFormed image) 
         (steps_tell.ended_stops events reached))
 
     -- where one more step is a trap
-    trapped_is : (steps : ℕ) → place.steps < steps → length reached.trace < events →
+    pub trapped_is : (steps : ℕ) → place.steps < steps → length reached.trace < events →
         step image inputs reached ≡ Traps Owner →
         machine image inputs steps events ≡ record { state = reached; stop = Trap Owner reached.pc }
     trapped_is steps less short traps =
@@ -161,7 +161,7 @@ module _ (image : ImageParts) (inputs : List ℕ) (formed : IsWellFormed image) 
         on_from steps (omega (arith, less)) short ∙ ap (λ k. run image inputs events k reached) one ∙
         run_traps image inputs events (steps - place.steps - 1) reached Owner (early short) traps
 
-    later_front : (steps : ℕ) → place.steps ≤ steps → length reached.trace < events →
+    pub later_front : (steps : ℕ) → place.steps ≤ steps → length reached.trace < events →
         Front reached.trace (shown steps)
     later_front steps le short =
         subst (λ r. Front reached.trace r.state.trace) (sym (on_from steps le short))

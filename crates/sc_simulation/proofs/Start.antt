@@ -36,13 +36,13 @@ use Rattle.sc_simulation.proofs.Sections.{all_at, position_at}
 -- THE FUNCTION OF `main`
 
 -- the first of a list that passes a test
-record IsFirst {X : Type 0} (test : X → Bool) (xs : List X) : Type 0 where
+pub record IsFirst {X : Type 0} (test : X → Bool) (xs : List X) : Type 0 where
   pub number : ℕ
   pub it : X
   pub place : position test xs ≡ Some number
   pub its : slice_get xs number ≡ Some it
 
-first_of : {X : Type 0} (test : X → Bool) (xs : List X) → 0 < count test xs → IsFirst test xs
+pub first_of : {X : Type 0} (test : X → Bool) (xs : List X) → 0 < count test xs → IsFirst test xs
 first_of test [] h = absurd (omega (arith, h))
 first_of {X} test (x ∷ xs) h = by (first_of test xs) (test x) refl where
   by : (0 < count test xs → IsFirst test xs) → (b : Bool) → test x ≡ b → IsFirst test (x ∷ xs)

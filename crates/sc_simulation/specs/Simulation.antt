@@ -23,7 +23,7 @@ pub record IsBuilt (program : TacTree) (image : ImageParts) (turn_pays : ℕ) : 
   pub rules : IsProgram program
   pub functions : (comp number : ℕ) (f : TacFnTree) → slice_get (functions_in program comp) number ≡ Some f →
       IsFunction f
-  pub results : GivesResults program nobody
+  pub results : (roles : Roles) → GivesResults program roles
   pub addresses : ℕ → Addresses
   pub linked : IsLinked program image turn_pays addresses
 
