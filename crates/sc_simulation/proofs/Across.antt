@@ -17,7 +17,7 @@ use Rattle.sc_core.specs.declared.value.Value.{Value}
 use Rattle.sc_core.specs.Calls.{Function, back_cross, crossed, crossing, is_word, option_value, word_back, word_in}
 use Rattle.sc_core.specs.Words.{State as Meant, Piece, Reached, Stopped, and_then, tell}
 use Rattle.sc_image.specs.Calls.{export_at, has_result, may_call, params_of}
-use Rattle.sc_image.specs.Cross.{arguments, cleared_for_call, returned_to}
+use Rattle.sc_image.specs.Cross.{arguments, called, cleared_for_call, returned_to}
 use Rattle.sc_image.specs.Layout.{gate, word_at}
 use Rattle.sc_image.specs.State.{State, Crossing, reg, written}
 use Rattle.sc_image.specs.Step.{jalr_target}
@@ -43,6 +43,7 @@ use Rattle.sc_simulation.proofs.Crossing.{given_back as given_value, given_is, r
 use Rattle.sc_simulation.proofs.Crossing.{returned_sp}
 use Rattle.sc_simulation.proofs.OwnCalls.{back_to}
 use Rattle.sc_simulation.proofs.Turning.{CallComes, GoesIn, before_told, costs_back, overflows_in, shows_in, turned}
+use Rattle.sc_relation.proofs.Coming.{came_by}
 
 module _ (T : Setting) (formed : IsWellFormed T.image) (inputs : All IsWord T.inputs) (P : Standpoint) (x : Joint)
     (to index : ℕ) (args : List Value) where
@@ -76,14 +77,9 @@ module _ (T : Setting) (formed : IsWellFormed T.image) (inputs : All IsWord T.in
     saved = slice_set x.saved P.comp (x.regs sp);
   }
 
-  module _ (turns rs entry address : ℕ) (imm : ℤ) (jumps : Fetches T.image P.comp x.pc (Jalr ra rs imm))
-      (below : rs < 32) (leads_to : jalr_target (look x.regs rs) imm ≡ entry)
-      (export : export_at T.image to entry ≡ Some index) (may : may_call T.image P.comp to index ≡ true)
-      (takes : params_of T.image to index ≡ params) (few_args : params ≤ 8) (all : list_all is_word args ≡ true)
-      (passed : ArePassed (x.inj P.comp) x.regs args) where
-    other : P.comp ≢ to
-    other = called_other T.image P.comp to index formed may
-
+  -- what the machine does at a call, on both sides
+  module _ (turns entry : ℕ) (takes : params_of T.image to index ≡ params) (few_args : params ≤ 8)
+      (all : list_all is_word args ≡ true) (passed : ArePassed (x.inj P.comp) x.regs args) where
     -- with these registers, and these words told
     abbrev built : List ℕ → List ℕ → State
     built regs told = record {
@@ -97,8 +93,10 @@ module _ (T : Setting) (formed : IsWellFormed T.image) (inputs : All IsWord T.in
       trace = x.meant.trace ++ Call P.comp to index told ∷ [];
     }
 
-    walks_out : Walks T.image T.inputs 1 (machine P x) (machine Q (across turns entry))
-    walks_out =
+    pub walks_called :
+        Walks T.image T.inputs 1 (machine P x) (called (machine P x) to index (params_of T.image to index) entry) →
+        Walks T.image T.inputs 1 (machine P x) (machine Q (across turns entry))
+    walks_called goes =
         let low : ℕ = slice_index x.saved to in
         let regs : List ℕ = listed x.regs in
         subst (λ told. Walks T.image T.inputs 1 (machine P x) (built (listed (called_regs params low x.regs)) told))
@@ -106,11 +104,23 @@ module _ (T : Setting) (formed : IsWellFormed T.image) (inputs : All IsWord T.in
         (subst (λ list. Walks T.image T.inputs 1 (machine P x) (built list (arguments params regs)))
         (called_listed params low x.regs)
         (subst (λ n. Walks T.image T.inputs 1 (machine P x)
-        (built (written (written (cleared_for_call n regs) ra gate) sp low) (arguments n regs))) takes
+        (built (written (written (cleared_for_call n regs) ra gate) sp low) (arguments n regs))) takes goes))
+
+  module _ (turns rs entry address : ℕ) (imm : ℤ) (jumps : Fetches T.image P.comp x.pc (Jalr ra rs imm))
+      (below : rs < 32) (leads_to : jalr_target (look x.regs rs) imm ≡ entry)
+      (export : export_at T.image to entry ≡ Some index) (may : may_call T.image P.comp to index ≡ true)
+      (takes : params_of T.image to index ≡ params) (few_args : params ≤ 8) (all : list_all is_word args ≡ true)
+      (passed : ArePassed (x.inj P.comp) x.regs args) where
+    other : P.comp ≢ to
+    other = called_other T.image P.comp to index formed may
+
+    walks_out : Walks T.image T.inputs 1 (machine P x) (machine Q (across turns entry))
+    walks_out =
+        walks_called turns entry takes few_args all passed
         (steps_tell.jalr_calls T.image T.inputs (machine P x) rs imm to index entry formed
         (record { word = jumps.word; fetched = jumps.fetched; decodes = jumps.decodes })
         (ap (λ b. jalr_target b imm) (read_listed x.regs rs below) ∙ leads_to)
-        (record { entry = export; may = may })).walks))
+        (record { entry = export; may = may })).walks
 
     module _ (few : x.meant.turns ≡ suc turns) (enters : EntersBy T.image to entry address) (word : ℕ)
         (there : word_at T.image to address ≡ Some word) (settled : Settled T P x) (base : IsBase T P)
@@ -154,6 +164,7 @@ module _ (T : Setting) (formed : IsWellFormed T.image) (inputs : All IsWord T.in
         saved = saved_across;
         inputs = settled.inputs;
         steady = walks_steady T.image T.inputs formed inputs 2 _ _ walks_across settled.steady;
+        came = came_by T 2 _ _ walks_across settled.came;
         room = settled.room;
         told = before_told x.meant.trace (Call P.comp to index (map word_in args)) x.meant.frames settled.told;
       }
@@ -250,6 +261,7 @@ module _ (T : Setting) (formed : IsWellFormed T.image) (inputs : All IsWord T.in
             saved = saved_back;
             inputs = g.settled.inputs;
             steady = walks_steady T.image T.inputs formed inputs 1 _ _ walks_back g.settled.steady;
+            came = came_by T 1 _ _ walks_back g.settled.came;
             room = g.settled.room;
             told = before_told g.y.meant.trace (Ret to P.comp told) g.y.meant.frames g.settled.told;
           }

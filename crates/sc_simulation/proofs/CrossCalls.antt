@@ -44,12 +44,12 @@ use Rattle.sc_simulation.proofs.Sections.{IsEntered, function_found, function_is
 use Rattle.sc_simulation.proofs.Turning.{CallComes, turned, where_made, where_turns}
 
 -- an export that takes so many arguments
-record IsOffered (program : TacTree) (to index count : ℕ) : Type 0 where
-  proto : Proto
-  export : export_at program.interfaces to index ≡ Some proto
-  takes : length proto.params ≡ count
+pub record IsOffered (program : TacTree) (to index count : ℕ) : Type 0 where
+  pub proto : Proto
+  pub export : export_at program.interfaces to index ≡ Some proto
+  pub takes : length proto.params ≡ count
 
-offered_by : (program : TacTree) (to index count : ℕ) (o : Option Proto) → export_at program.interfaces to index ≡ o →
+pub offered_by : (program : TacTree) (to index count : ℕ) (o : Option Proto) → export_at program.interfaces to index ≡ o →
     cross_call_fits o None count ≡ true → IsOffered program to index count
 offered_by program to index count None e h = cc h
 offered_by program to index count (Some proto) e h = record {
@@ -58,17 +58,17 @@ offered_by program to index count (Some proto) e h = record {
   takes = eqb-true (length proto.params) count (and_parts (length proto.params == count) true h).0;
 }
 
-neither : (a b : Bool) → a ≡ false → b ≡ true → (a || not b) ≡ false
+pub neither : (a b : Bool) → a ≡ false → b ≡ true → (a || not b) ≡ false
 neither true b h k = cc h
 neither false true h k = refl
 neither false false h k = cc k
 
 -- what was reached before the variables ended
-record WasReached (piece : Piece (Option Value)) (v : Option Value) : Type 0 where
-  state : Meant
-  is : piece ≡ Reached v state
+pub record WasReached (piece : Piece (Option Value)) (v : Option Value) : Type 0 where
+  pub state : Meant
+  pub is : piece ≡ Reached v state
 
-was_reached : (piece : Piece (Option Value)) (end : Meant → Meant) (v : Option Value) (s : Meant) →
+pub was_reached : (piece : Piece (Option Value)) (end : Meant → Meant) (v : Option Value) (s : Meant) →
     and_then piece (λ v t. Reached v (end t)) ≡ Reached v s → WasReached piece v
 was_reached (Reached u t) end v s h =
     let same : u ≡ v = cc h in record { state = t; is = ap (λ u. Reached u t) same }
@@ -86,11 +86,11 @@ module _ (program : TacTree) (image : ImageParts) (inputs : List ℕ) (roles : R
   library = code_library wrapping program
 
   -- the function that an export leads to
-  record IsLed (to index : ℕ) : Type 0 where
-    number : ℕ
-    enters : function_entered (Export index) (slice_get program.sections to) ≡ Some number
-    f : TacFnTree
-    its : slice_get (functions_in program to) number ≡ Some f
+  pub record IsLed (to index : ℕ) : Type 0 where
+    pub number : ℕ
+    pub enters : function_entered (Export index) (slice_get program.sections to) ≡ Some number
+    pub f : TacFnTree
+    pub its : slice_get (functions_in program to) number ≡ Some f
 
   led_to : (to index number : ℕ) (o : Option TacFnTree) → slice_get (functions_in program to) number ≡ o →
       function_entered (Export index) (slice_get program.sections to) ≡ Some number →
@@ -98,7 +98,7 @@ module _ (program : TacTree) (image : ImageParts) (inputs : List ℕ) (roles : R
   led_to to index number None its enters h = cc h
   led_to to index number (Some f) its enters h = record { number = number; enters = enters; f = f; its = its }
 
-  led_by : (to index : ℕ) (o : Option ℕ) → function_entered (Export index) (slice_get program.sections to) ≡ o →
+  pub led_by : (to index : ℕ) (o : Option ℕ) → function_entered (Export index) (slice_get program.sections to) ≡ o →
       leads library to o ≡ true → IsLed to index
   led_by to index None enters h = cc h
   led_by to index (Some number) enters h =
@@ -107,7 +107,7 @@ module _ (program : TacTree) (image : ImageParts) (inputs : List ℕ) (roles : R
 
   module _ (n : ℕ) (run : BodiesFollow program roles T n) where
     -- what a call does once it has taken its turn
-    cross_is : (from to index number : ℕ) (f : TacFnTree) (args : List Value) (s : Meant) →
+    pub cross_is : (from to index number : ℕ) (f : TacFnTree) (args : List Value) (s : Meant) →
         function_entered (Export index) (slice_get program.sections to) ≡ Some number →
         slice_get (functions_in program to) number ≡ Some f →
         call_cross library (bodies program roles n) from to index args s ≡

@@ -9,10 +9,15 @@ pub mod Exports
 pub mod Finish
 pub mod OwnCalls
 pub mod Passing
+pub mod Placed
 pub mod Placing
 pub mod Scripts
 pub mod Sections
 pub mod Shows
 pub mod Start
 pub mod Turning
+pub mod UnknownCalls
+pub mod UnknownCrossing
+pub mod UnknownFrames
+pub mod UnknownSteps
 pub mod Whole

@@ -23,6 +23,7 @@ use Rattle.sc_relation.specs.Blocks.{StandsFor}
 use Rattle.sc_relation.specs.Stretches.{Setting, Joint, Standpoint, machine, Settled, Overflows}
 use Rattle.sc_relation.specs.Calls.{ArePassed, Begins, CallGives, ComesBack, FunctionGives, IsBase, IsLeft}
 use Rattle.sc_simulation.proofs.Turning.{GoesIn, turned, shows_in, overflows_in, costs_back}
+use Rattle.sc_relation.proofs.Coming.{came_by}
 
 is_some_of : (o : Option ℕ) → IsSome o → (v : ℕ) × (o ≡ Some v)
 is_some_of None h = cc h
@@ -61,6 +62,7 @@ module _ (T : Setting) (formed : IsWellFormed T.image) (inputs : All IsWord T.in
       saved = s.saved;
       inputs = s.inputs;
       steady = walks_steady T.image T.inputs formed inputs 1 _ _ walks_in s.steady;
+      came = came_by T 1 _ _ walks_in s.came;
       room = s.room;
       told = s.told;
     }
@@ -141,6 +143,7 @@ module _ (T : Setting) (formed : IsWellFormed T.image) (inputs : All IsWord T.in
             saved = g.settled.saved;
             inputs = g.settled.inputs;
             steady = walks_steady T.image T.inputs formed inputs 1 _ _ walks_back g.settled.steady;
+            came = came_by T 1 _ _ walks_back g.settled.came;
             room = g.settled.room;
             told = g.settled.told;
           };

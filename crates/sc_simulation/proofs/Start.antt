@@ -202,6 +202,7 @@ module _ (program : TacTree) (image : ImageParts) (inputs : List ℕ) (performs 
     saved = λ k other honest. tops_at 0 image.comps k (within k honest) ∙ ap stack_top (zero-add k);
     inputs = refl;
     steady = runs_are_steady.first image linked.formed;
+    came = record { steps = 0; walks = record { by = refl } };
     room = λ k honest. omega arith;
     told = tt;
   }

@@ -1,0 +1,247 @@
+-- A call of a function of another compartment, into it and back, where one of the two performs.
+use Rattle.std.proofs.Common.{◌≡◌, ◌≢◌, ℕ, suc, ◌+◌, ◌≤◌, Bool, true, false, List, [], ◌∷◌, ◌++◌, All, length, map}
+use Rattle.std.proofs.Common.{Option, None, Some, refl, sym, ◌∙◌, ap, subst, arith, ⊎_elim, if◌then◌else◌}
+use Rattle.std.specs.Prelude.{slice_index, slice_set, is_some}
+use Rattle.std.specs.List.{list_all}
+use Rattle.std.proofs.lemmas.Bool.{cases_eq}
+use Rattle.std.proofs.lemmas.List.{get_or-set_same, get_or-set_other}
+use Rattle.sc_event.specs.declared.event.Event.TheVariants.{Call, Ret}
+use Rattle.sc_event.specs.declared.interface.Proto.{Proto}
+use Rattle.sc_event.specs.declared.row.Entry.TheVariants.{Export}
+use Rattle.sc_core.specs.declared.expr.CallTarget.TheVariants.{Cross}
+use Rattle.sc_core.specs.declared.value.Value.{Value}
+use Rattle.sc_core.specs.Calls.{is_word, option_value, word_back, word_in}
+use Rattle.sc_core.specs.Words.{State as Meant, Piece, tell}
+use Rattle.sc_image.specs.Calls.{has_result, may_call, params_of}
+use Rattle.sc_image.specs.Cross.{called, returned_to}
+use Rattle.sc_image.specs.State.{State, Crossing}
+use Rattle.sc_image.specs.Walks.{Walks}
+use Rattle.sc_image.specs.WellFormed.{IsWord, IsWellFormed}
+use Rattle.sc_image.proofs.Reached.{called_other}
+use Rattle.sc_select.specs.Pieces.{sp, a0}
+use Rattle.sc_hart.specs.Hart.{listed}
+use Rattle.sc_hart.proofs.Steady.{walks_steady}
+use Rattle.sc_hart.proofs.Steps.{then_go}
+use Rattle.sc_relation.specs.Calls.{ArePassed, ComesBack}
+use Rattle.sc_relation.specs.Frames.{AreFloors}
+use Rattle.sc_relation.specs.Stretches.{AllHonest, Effect, GivenBack, Joint, Leads, Overflows, Protected, Setting}
+use Rattle.sc_relation.specs.Stretches.{Settled, Shows, Standpoint, machine}
+use Rattle.sc_relation.proofs.Coming.{came_by}
+use Rattle.sc_simulation.proofs.Across.{across, opened, seen_across, walks_called}
+use Rattle.sc_simulation.proofs.Crossing.{given_back as given_value, given_is, returned_listed, returned_regs}
+use Rattle.sc_simulation.proofs.Crossing.{returned_sp}
+use Rattle.sc_simulation.proofs.Turning.{before_told}
+
+module _ (T : Setting) (formed : IsWellFormed T.image) (inputs : All IsWord T.inputs) (P : Standpoint) (x : Joint)
+    (to index : ℕ) (args : List Value) where
+  abbrev Q : Standpoint
+  Q = seen_across T formed inputs P x to index args
+
+  -- the call is made: its step, and what is so before it
+  pub record IsMade (turns entry : ℕ) : Type 0 where
+    pub goes :
+        Walks T.image T.inputs 1 (machine P x) (called (machine P x) to index (params_of T.image to index) entry)
+    pub may : may_call T.image P.comp to index ≡ true
+    pub takes : params_of T.image to index ≡ length args
+    pub few_args : length args ≤ 8
+    pub all : list_all is_word args ≡ true
+    pub passed : ArePassed (x.inj P.comp) x.regs args
+    pub turn : x.meant.turns ≡ suc turns
+    pub settled : Settled T P x
+    pub floors : AreFloors T.performs P.floor
+    -- a caller that runs its code has its floor in sp
+    pub level : (k : ℕ) → T.performs k ≡ false → k ≡ P.comp → x.regs sp ≡ P.floor k
+    -- what lies above lies above the floor
+    pub over : (k q : ℕ) → T.performs k ≡ false → (k ≡ P.comp → P.bound ≤ q) → (k ≢ P.comp → P.floor k ≤ q) →
+        P.floor k ≤ q
+    pub never : AllHonest T → ⊥
+
+  module _ (turns entry : ℕ) (made : IsMade turns entry) where
+    other : P.comp ≢ to
+    other = called_other T.image P.comp to index formed made.may
+
+    abbrev entering : Joint
+    entering = across T formed inputs P x to index args turns entry
+
+    pub walks_in : Walks T.image T.inputs 1 (machine P x) (machine Q entering)
+    walks_in =
+        walks_called T formed inputs P x to index args turns entry made.takes made.few_args made.all made.passed
+        made.goes
+
+    saved_in : (k : ℕ) → k ≢ to → T.performs k ≡ false →
+        slice_index (slice_set x.saved P.comp (x.regs sp)) k ≡ P.floor k
+    saved_in k n h =
+        ⊎_elim
+        (λ e. subst (λ c. slice_index (slice_set x.saved P.comp (x.regs sp)) c ≡ P.floor k) (sym e)
+        (get_or-set_same x.saved P.comp (x.regs sp) 0
+        (omega (arith, made.settled.steady.saved, made.settled.steady.active)) ∙ made.level k h e))
+        (λ d. get_or-set_other x.saved P.comp k (x.regs sp) 0 d ∙ made.settled.saved k d h) (cases_eq k P.comp)
+
+    pub settled_in : Settled T Q entering
+    settled_in = record {
+      blocks = made.settled.blocks;
+      globals = made.settled.globals;
+      saved = saved_in;
+      inputs = made.settled.inputs;
+      steady = walks_steady T.image T.inputs formed inputs 1 _ _ walks_in made.settled.steady;
+      came = came_by T 1 _ _ walks_in made.settled.came;
+      room = made.settled.room;
+      told = before_told x.meant.trace (Call P.comp to index (map word_in args)) x.meant.frames made.settled.told;
+    }
+
+    -- a callee that runs its code gets its floor
+    pub low_is : T.performs to ≡ false → slice_index x.saved to ≡ P.floor to
+    low_is honest = made.settled.saved to (λ e. other (sym e)) honest
+
+    protected_in : (k q : ℕ) → Protected T P x.inj x.meant.memory k q → Protected T Q x.inj x.meant.memory k q
+    protected_in k q p = record {
+      honest = p.honest;
+      guard = p.guard;
+      own = λ e. subst (λ c. P.floor c ≤ q) e (made.over k q p.honest p.own p.other);
+      other = λ d. made.over k q p.honest p.own p.other;
+    }
+
+    -- so many steps lead into the code of the callee
+    module _ (n address : ℕ) (some : 1 ≤ n) (walks : Walks T.image T.inputs n (machine P x) (machine Q
+        (across T formed inputs P x to index args turns address))) where
+      abbrev y : Joint
+      y = across T formed inputs P x to index args turns address
+
+      pub shows_called : (budget : ℕ) (s : Meant) → Shows T Q y budget s → Shows T P x 1 s
+      shows_called budget s g = record {
+        steps = n + g.steps;
+        reached = g.reached;
+        run = then_go T.image T.inputs walks g.run;
+        trace = g.trace;
+        costs = record {
+          least = omega (arith, made.turn, some, g.costs.least);
+          most = λ all. absurd (made.never all);
+        };
+      }
+
+      pub overflows_called : {V : Type 0} (budget : ℕ) (piece : Piece V) → Overflows T Q y budget piece →
+          Overflows T P x 1 piece
+      overflows_called budget piece o = record {
+        steps = n + o.steps;
+        reached = o.reached;
+        run = then_go T.image T.inputs walks o.run;
+        traps = o.traps;
+        honest = o.honest;
+        begun = o.begun;
+        trace = o.trace;
+        deep = o.deep;
+        told = o.told;
+        grown = o.grown;
+        costs = record {
+          least = omega (arith, made.turn, some, o.costs.least);
+          most = λ all. absurd (made.never all);
+        };
+      }
+
+      -- the callee's code has come to its return
+      pub record IsDone (proto : Proto) (w : Joint) (v : Option Value) : Type 0 where
+        pub result_is : has_result T.image to (Export index) ≡ is_some proto.result
+        pub steps : ℕ
+        pub run : Walks T.image T.inputs steps (machine Q y) (machine Q w)
+        pub least : y.meant.turns ≤ w.meant.turns + steps
+        pub effect : Effect T Q y w
+        pub settled : Settled T Q w
+        pub given : GivenBack T (w.inj to) (w.regs a0) v
+        pub same : option_value (word_back proto.result v) ≡ v
+        pub leaves :
+            Walks T.image T.inputs 1 (machine Q w)
+            (returned_to (has_result T.image to (Export index)) (machine Q w)
+            (opened T formed inputs P x to index args) P.cross)
+
+      module _ (proto : Proto) (w : Joint) (v : Option Value) (g : IsDone proto w v) where
+        abbrev result : Bool
+        result = is_some proto.result
+
+        abbrev told : Option ℕ
+        told = word_back proto.result v
+
+        abbrev z : Joint
+        z = record w {
+          meant = tell (Ret to P.comp told) w.meant;
+          pc = x.pc + 4;
+          regs = returned_regs result (x.regs sp) w.regs;
+          saved = slice_set w.saved to (slice_index x.saved to);
+        }
+
+        -- with these registers, and this told
+        abbrev built_back : List ℕ → Option ℕ → State
+        built_back regs told = record {
+          regs = regs;
+          pc = x.pc + 4;
+          active = P.comp;
+          saved = slice_set w.saved to (slice_index x.saved to);
+          memory = w.bytes;
+          cross = P.cross;
+          input = w.input;
+          trace = w.meant.trace ++ Ret to P.comp told ∷ [];
+        }
+
+        walks_back : Walks T.image T.inputs 1 (machine Q w) (machine P z)
+        walks_back =
+            subst (λ told. Walks T.image T.inputs 1 (machine Q w)
+            (built_back (listed (returned_regs result (x.regs sp) w.regs)) told))
+            (given_is T (w.inj to) (w.regs a0) proto.result v g.same g.given)
+            (subst (λ list. Walks T.image T.inputs 1 (machine Q w)
+            (built_back list (if result then Some (w.regs a0) else None)))
+            (returned_listed result (x.regs sp) w.regs)
+            (subst (λ result. Walks T.image T.inputs 1 (machine Q w)
+            (returned_to result (machine Q w) (opened T formed inputs P x to index args) P.cross)) g.result_is
+            g.leaves))
+
+        saved_back : (k : ℕ) → k ≢ P.comp → T.performs k ≡ false →
+            slice_index (slice_set w.saved to (slice_index x.saved to)) k ≡ P.floor k
+        saved_back k n h =
+            ⊎_elim
+            (λ e. subst (λ c. slice_index (slice_set w.saved to (slice_index x.saved to)) c ≡ P.floor c) (sym e)
+            (get_or-set_same w.saved to (slice_index x.saved to) 0
+            (omega (arith, g.settled.steady.saved, g.settled.steady.active)) ∙
+            low_is (ap T.performs (sym e) ∙ h)))
+            (λ d. get_or-set_other w.saved to k (slice_index x.saved to) 0 d ∙ g.settled.saved k d h)
+            (cases_eq k to)
+
+        settled_back : Settled T P z
+        settled_back = record {
+          blocks = g.settled.blocks;
+          globals = g.settled.globals;
+          saved = saved_back;
+          inputs = g.settled.inputs;
+          steady = walks_steady T.image T.inputs formed inputs 1 _ _ walks_back g.settled.steady;
+          came = came_by T 1 _ _ walks_back g.settled.came;
+          room = g.settled.room;
+          told = before_told w.meant.trace (Ret to P.comp told) w.meant.frames g.settled.told;
+        }
+
+        leads_back : Leads T P x z 1 0
+        leads_back = record {
+          steps = n + (g.steps + 1);
+          run = then_go T.image T.inputs walks (then_go T.image T.inputs g.run walks_back);
+          costs = record {
+            least = omega (arith, made.turn, some, g.least);
+            most = λ all. absurd (made.never all);
+          };
+          effect = record {
+            grows = g.effect.grows;
+            lived = g.effect.lived;
+            keeps = λ k q p. g.effect.keeps k q (protected_in k q p);
+            rooms = g.effect.rooms;
+          };
+        }
+
+        -- and the call comes back
+        pub comes_back : ComesBack T P x (Cross to index) (option_value told) (tell (Ret to P.comp told) w.meant)
+        comes_back = record {
+          y = z;
+          meant_is = refl;
+          pc = refl;
+          sp = returned_sp result (x.regs sp) w.regs;
+          value = given_value T (w.inj to) (w.inj P.comp) (w.regs a0) (x.regs sp) w.regs proto.result v refl g.same
+              g.given;
+          registers = λ e. cc e;
+          leads = leads_back;
+          settled = settled_back;
+        }
