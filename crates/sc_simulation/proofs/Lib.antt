@@ -13,6 +13,7 @@ pub mod Placed
 pub mod Placing
 pub mod Scripts
 pub mod Sections
+pub mod Shown
 pub mod Shows
 pub mod Start
 pub mod Turning

@@ -3,6 +3,7 @@
 use Rattle.std.proofs.Common.{◌≡◌, ℕ, suc, ◌≤◌, Bool, true, false, List, [], ◌∷◌, ◌++◌, length}
 use Rattle.std.proofs.Common.{Option, Some, refl, sym, ◌∙◌, ap, ap₂, subst, arith, inl, inr, pos, ⊎_elim}
 use Rattle.std.specs.Prelude.{◌⊎◌, is_some, slice_get}
+use Rattle.sc_base.specs.declared.stop.TrapReason.TheVariants.{Owner}
 use Rattle.sc_event.specs.Prelude.{legal}
 use Rattle.sc_event.specs.declared.event.Event.{Event}
 use Rattle.sc_event.specs.declared.event.Event.TheVariants.{End}
@@ -11,9 +12,9 @@ use Rattle.sc_core.specs.declared.run.RunEnd.{RunEnd}
 use Rattle.sc_core.specs.declared.run.RunEnd.TheVariants.{TurnsOut}
 use Rattle.sc_core.specs.declared.value.Value.{Value}
 use Rattle.sc_core.specs.declared.value.Value.TheVariants.{Word}
-use Rattle.sc_core.specs.Calls.{Body, Library, begun, call_own, done, found, leads, run_step}
+use Rattle.sc_core.specs.Calls.{Body, Function, Library, begun, call_own, done, found, leads, run_step}
 use Rattle.sc_core.specs.Growth.{Front}
-use Rattle.sc_core.specs.Meaning.{run_to}
+use Rattle.sc_core.specs.Meaning.{exit_word, run_to}
 use Rattle.sc_core.specs.Memory.{Memory}
 use Rattle.sc_core.specs.Scripts.{Roles, roles_in, scripted_step}
 use Rattle.sc_core.specs.Value.{wrapping}
@@ -29,7 +30,7 @@ use Rattle.sc_image.specs.declared.parts.ImageParts.{ImageParts}
 use Rattle.sc_image.specs.Layout.{gate}
 use Rattle.sc_image.specs.Machine.{machine as ran_by}
 use Rattle.sc_image.specs.State.{State, a0, ra}
-use Rattle.sc_image.specs.Step.{jalr_target}
+use Rattle.sc_image.specs.Step.{Traps, jalr_target, step}
 use Rattle.sc_image.specs.Walks.{Walks}
 use Rattle.sc_image.proofs.Telling.{steps_tell}
 use Rattle.sc_tac.specs.declared.program.TacTree.{TacTree}
@@ -37,7 +38,7 @@ use Rattle.sc_tac.specs.Code.{code_function, code_globals, code_library, functio
 use Rattle.sc_tac.proofs.Matching.{code_obeys}
 use Rattle.sc_relation.specs.Calls.{FunctionGives, IsLeft}
 use Rattle.sc_relation.specs.Stretches.{Joint, Overflows, Setting, Shows, Standpoint, machine}
-use Rattle.sc_simulation.specs.Bodies.{BodiesFollow, IsRun, ran}
+use Rattle.sc_simulation.specs.Bodies.{BodiesFollow, Departs, IsRun, IsUnknown, PerformersDo, UnknownGives, ran}
 use Rattle.sc_simulation.specs.Linked.{functions_in, setting}
 use Rattle.sc_simulation.specs.Outcomes.{Reaches}
 use Rattle.sc_simulation.specs.Results.{bodies}
@@ -48,7 +49,8 @@ use Rattle.sc_simulation.proofs.Exports.{exports_lead}
 use Rattle.sc_simulation.proofs.Finish.{body_gave, run_front, word_given}
 use Rattle.sc_simulation.proofs.Passing.{shows_finish, shows_stop, shows_trap}
 use Rattle.sc_simulation.proofs.Sections.{function_found}
-use Rattle.sc_simulation.proofs.Start.{IsMain, P as P', begins, main_there, x as x'}
+use Rattle.sc_simulation.proofs.Start.{IsMain, P as P', base, begins, main_there, settled, x as x'}
+use Rattle.sc_simulation.proofs.UnknownFrames.{settled_started, started}
 
 module _ (program : TacTree) (image : ImageParts) (turn_pays : ℕ) (built : IsBuilt program image turn_pays)
     (inputs : List ℕ) (steps events : ℕ) (set : ℕ → Bool) where
@@ -139,8 +141,25 @@ module _ (program : TacTree) (image : ImageParts) (turn_pays : ℕ) (built : IsB
   MainGives (Reached v s) = Front trace (run_to main (Reached v s)).behaviour.trace
   MainGives (Stopped end s) = (budget : ℕ) × Shows T P x budget s
 
+  -- the machine stands trapped, and has shown a front of what is told
+  pub record IsTrapped (piece : Piece (Option Value)) : Type 0 where
+    pub taken : ℕ
+    pub reached : State
+    pub walks : Walks image inputs taken (machine P x) reached
+    pub traps : step image inputs reached ≡ Traps Owner
+    pub front : Front reached.trace (last piece).trace
+
+  overflow_traps : (budget : ℕ) (piece : Piece (Option Value)) → Overflows T P x budget piece → IsTrapped piece
+  overflow_traps budget piece over = record {
+    taken = over.steps;
+    reached = over.reached;
+    walks = over.run;
+    traps = over.traps;
+    front = subst (λ t. Front t (last piece).trace) (sym over.trace) over.grown.events;
+  }
+
   abbrev pub MainFollowed : Piece (Option Value) → Type 0
-  MainFollowed piece = MainGives piece ⊎ ((budget : ℕ) × Overflows T P x budget piece)
+  MainFollowed piece = MainGives piece ⊎ IsTrapped piece
 
   module _ (is_legal : legal program.interfaces trace ≡ true) where
     -- WHERE IT STOPS
@@ -170,15 +189,12 @@ module _ (program : TacTree) (image : ImageParts) (turn_pays : ℕ) (built : IsB
     keeps_by (Stopped end s) is shown = stops end s is shown.0 shown.1
 
     -- WHERE A STACK IS FULL
-    full : (budget : ℕ) → Overflows T P x budget whole → KeepsTo trace (run_to main whole).behaviour
-    full budget over =
-        let begins_so : Front over.reached.trace (last whole).trace =
-        subst (λ t. Front t (last whole).trace) (sym over.trace) over.grown.events in
-        inl (shows_trap image inputs built.linked.formed steps events (suc over.steps)
-        (reaches over.steps over.reached over.run
-        (front_endless over.reached.trace (last whole).trace begins_so no_end)) over.traps
-        (run_to main whole).behaviour.trace
-        (front_more over.reached.trace (last whole).trace (run_to main whole).behaviour.trace begins_so
+    full : IsTrapped whole → KeepsTo trace (run_to main whole).behaviour
+    full at =
+        inl (shows_trap image inputs built.linked.formed steps events (suc at.taken)
+        (reaches at.taken at.reached at.walks (front_endless at.reached.trace (last whole).trace at.front no_end))
+        at.traps (run_to main whole).behaviour.trace
+        (front_more at.reached.trace (last whole).trace (run_to main whole).behaviour.trace at.front
         (run_front main whole)))
 
     -- where `main` is followed, the run keeps to what the machine shows
@@ -186,7 +202,7 @@ module _ (program : TacTree) (image : ImageParts) (turn_pays : ℕ) (built : IsB
         KeepsTo trace (scripted_code_run wrapping program inputs steps set trace).behaviour
     keeps_trace followed =
         subst (λ r. KeepsTo trace r.behaviour) (sym run_is)
-        (⊎_elim (λ gives. keeps_by whole refl gives) (λ over. full over.0 over.1)
+        (⊎_elim (λ gives. keeps_by whole refl gives) full
         (subst MainFollowed (sym whole_ran) followed))
 
   -- WHERE `main` RUNS ITS CODE
@@ -231,4 +247,95 @@ module _ (program : TacTree) (image : ImageParts) (turn_pays : ℕ) (built : IsB
         follow (suc steps) P x there.number there.f [] gate its (rw there.alone refl) (sym there.alone)
         (begins program image inputs set turn_pays built.addresses built.linked steps honest there.number there.f
         there.enters) in
-        ⊎_elim (λ gives. inl (gives_by run.0 main_ran refl gives)) (λ over. inr (run.0, over)) run.1.1
+        ⊎_elim (λ gives. inl (gives_by run.0 main_ran refl gives)) (λ over. inr (overflow_traps run.0 main_ran over))
+        run.1.1
+
+  -- WHERE `main` PERFORMS
+  module _ (performing : set image.main ≡ true) where
+    unknown_main : T.performs image.main ≡ true
+    unknown_main = rw performing refl
+
+    abbrev F : Function
+    F = code_function wrapping there.f
+
+    -- its variables and its frame are there
+    abbrev opened : Joint
+    opened = started T P image.main unknown_main F [] x
+
+    abbrev its_first : ℕ
+    its_first = length (x.meant.memory image.main)
+
+    abbrev close : Meant → Meant
+    close = done image.main F its_first
+
+    unknown : IsUnknown program roles T P opened there.number
+    unknown = record {
+      performs = performing;
+      settled =
+          settled_started T P image.main unknown_main F [] x
+          (settled program image inputs set turn_pays built.addresses built.linked steps);
+      floors = (base program image inputs set turn_pays built.addresses built.linked steps).floors;
+      entered = ap (λ c. function_entered Main (slice_get program.sections c)) built.linked.main ∙ there.enters;
+    }
+
+    abbrev performed : Piece (Option Value)
+    performed =
+        bodies program roles (suc steps) there.number (record { comp = image.main; first = its_first }) opened.meant
+
+    abbrev closing : Piece (Option Value) → Piece (Option Value)
+    closing piece = and_then piece (λ v t. Reached v (close t))
+
+    departs : (v : Option Value) (s : Meant) → performed ≡ Reached v s → Departs program roles T P opened v s →
+        MainGives (Reached v (close s))
+    departs v s is left =
+        let y : State = machine P left.y in
+        let trace_is : y.trace ≡ s.trace = ap (λ m. m.trace) left.meant_is in
+        shows_finish image inputs built.linked.formed steps events (suc left.leads.steps)
+        (reaches left.leads.steps y left.leads.run
+        (ap has_no_end trace_is ∙ ap (λ p. has_no_end (last (closing p)).trace) (sym is) ∙
+        ap (λ p. has_no_end (last p).trace) (sym whole_ran) ∙ no_end))
+        left.goes (run_to main (Reached v (close s))).behaviour.trace
+        (ap₂ (λ t e. t ++ e ∷ []) trace_is (ap₂ End built.linked.main (sym (ap exit_word left.value))))
+
+    performs_by : (piece : Piece (Option Value)) → performed ≡ piece → UnknownGives program roles T P opened piece →
+        MainGives (closing piece)
+    performs_by (Reached v s) is left = departs v s is left
+    performs_by (Stopped end s) is shown = (
+      0,
+      record {
+        steps = shown.steps;
+        reached = shown.reached;
+        run = shown.run;
+        trace = shown.trace;
+        costs = record { least = shown.costs.least; most = shown.costs.most };
+      },
+    )
+
+    last_closed : (piece : Piece (Option Value)) → (last (closing piece)).trace ≡ (last piece).trace
+    last_closed (Reached v s) = refl
+    last_closed (Stopped end s) = refl
+
+    traps_by : Overflows T P opened 0 performed → IsTrapped (closing performed)
+    traps_by over = record {
+      taken = over.steps;
+      reached = over.reached;
+      walks = over.run;
+      traps = over.traps;
+      front = subst (Front over.reached.trace) (sym (last_closed performed))
+          (subst (λ t. Front t (last performed).trace) (sym over.trace) over.grown.events);
+    }
+
+    pub performs_rows : ((n : ℕ) → PerformersDo program roles T n) → MainFollowed main_ran
+    performs_rows perform =
+        ⊎_elim (λ gives. inl (performs_by performed refl gives)) (λ over. inr (traps_by over))
+        (perform (suc steps) P opened there.number its_first unknown)
+
+  -- where the functions of all compartments are followed, the run keeps to what the machine shows
+  pub keeps : legal program.interfaces trace ≡ true → ((n : ℕ) → BodiesFollow program roles T n) →
+      ((n : ℕ) → PerformersDo program roles T n) →
+      KeepsTo trace (scripted_code_run wrapping program inputs steps set trace).behaviour
+  keeps is_legal follow perform = by (set image.main) refl where
+    by : (b : Bool) → set image.main ≡ b →
+        KeepsTo trace (scripted_code_run wrapping program inputs steps set trace).behaviour
+    by true performing = keeps_trace is_legal (performs_rows performing perform)
+    by false honest = keeps_trace is_legal (runs_code honest follow)

@@ -14,7 +14,7 @@ use Rattle.sc_core.specs.Calls.{is_word, option_value, word_back, word_in}
 use Rattle.sc_core.specs.Words.{State as Meant, Piece, tell}
 use Rattle.sc_image.specs.Calls.{has_result, may_call, params_of}
 use Rattle.sc_image.specs.Cross.{called, returned_to}
-use Rattle.sc_image.specs.State.{State, Crossing}
+use Rattle.sc_image.specs.State.{State}
 use Rattle.sc_image.specs.Walks.{Walks}
 use Rattle.sc_image.specs.WellFormed.{IsWord, IsWellFormed}
 use Rattle.sc_image.proofs.Reached.{called_other}

@@ -1,18 +1,15 @@
 -- Calls across into compartments that perform, and out of them into those that run their code, are followed.
-use Rattle.std.proofs.Common.{◌≡◌, ◌≢◌, ℕ, suc, ◌+◌, ◌<◌, ◌≤◌, Bool, true, false, not, ◌||◌, List, ◌∷◌, All, length, map}
+use Rattle.std.proofs.Common.{◌≡◌, ℕ, Bool, true, false, not, ◌||◌, List, All, length, map}
 use Rattle.std.proofs.Common.{Option, None, Some, refl, sym, ◌∙◌, ap, subst, arith, inl, inr, pos, if◌then◌else◌}
 use Rattle.std.specs.Prelude.{◌⊎◌, nat_lt, slice_get, slice_index, is_some}
 use Rattle.std.proofs.lemmas.Bool.{lt-ltb}
 use Rattle.std.proofs.lemmas.List.{length-map}
-use Rattle.sc_event.specs.Prelude.{export_at}
 use Rattle.sc_event.specs.declared.event.Event.TheVariants.{Call, Ret}
-use Rattle.sc_event.specs.declared.interface.Proto.{Proto}
 use Rattle.sc_event.specs.declared.interface.Scalar.{Scalar}
 use Rattle.sc_event.specs.declared.row.Entry.TheVariants.{Export}
 use Rattle.sc_core.specs.declared.expr.CallTarget.TheVariants.{Cross}
 use Rattle.sc_core.specs.declared.value.Value.{Value}
-use Rattle.sc_core.specs.declared.value.Value.TheVariants.{Word}
-use Rattle.sc_core.specs.Calls.{Function, Library, back_cross, begun, call_cross, crossed, crossing, done, found, function}
+use Rattle.sc_core.specs.Calls.{Function, Library, back_cross, begun, call_cross, crossed, crossing, done, found}
 use Rattle.sc_core.specs.Calls.{option_value, run_in, word_back, word_in}
 use Rattle.sc_core.specs.Scripts.{Roles}
 use Rattle.sc_core.specs.Value.{wrapping}
@@ -21,7 +18,6 @@ use Rattle.sc_laws.specs.Growth.{Goes}
 use Rattle.sc_laws.proofs.Growing.{back_goes, done_goes, earlier}
 use Rattle.sc_image.specs.declared.parts.ImageParts.{ImageParts}
 use Rattle.sc_image.specs.Calls.{has_result}
-use Rattle.sc_image.specs.Cross.{returned_to}
 use Rattle.sc_image.specs.Layout.{gate, word_at}
 use Rattle.sc_image.specs.State.{reg}
 use Rattle.sc_image.specs.Walks.{Walks}
@@ -44,7 +40,7 @@ use Rattle.sc_relation.specs.Stretches.{GivenBack, Joint, Overflows, Setting, Se
 use Rattle.sc_relation.proofs.Settling.{settled_moved}
 use Rattle.sc_relation.proofs.Stretches.{overflows_then}
 use Rattle.sc_simulation.specs.Bodies.{BodiesFollow, Departs, IsRun, IsUnknown, PerformersDo, UnknownComes, UnknownGives}
-use Rattle.sc_simulation.specs.Bodies.{departing, ran}
+use Rattle.sc_simulation.specs.Bodies.{ran}
 use Rattle.sc_simulation.specs.Linked.{EntersBy, HasCode, IsLinked, functions_in, setting}
 use Rattle.sc_simulation.specs.Results.{GivesResults, bodies}
 use Rattle.sc_simulation.proofs.Across.{across, opened, seen_across}

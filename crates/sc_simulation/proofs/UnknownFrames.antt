@@ -1,16 +1,15 @@
 -- The variables and the frame of a function that performs, in the meaning alone: the machine knows nothing of them.
-use Rattle.std.proofs.Common.{◌≡◌, ◌≢◌, ℕ, suc, ◌+◌, ◌≤◌, Bool, true, false, List, ◌++◌, ◌∷◌, [], length, refl, sym, ◌∙◌}
-use Rattle.std.proofs.Common.{ap, subst, arith, ⊎_elim}
+use Rattle.std.proofs.Common.{◌≡◌, ◌≢◌, ℕ, suc, ◌≤◌, true, false, List, length, refl, sym, ◌∙◌}
+use Rattle.std.proofs.Common.{ap, arith, ⊎_elim}
 use Rattle.std.specs.Prelude.{slice_get}
 use Rattle.std.proofs.lemmas.Bool.{cases_eq, ne_eqb}
 use Rattle.sc_core.specs.declared.value.Cell.{Cell}
 use Rattle.sc_core.specs.declared.value.Value.{Value}
 use Rattle.sc_core.specs.Calls.{Function, begun, done}
 use Rattle.sc_core.specs.Memory.{Memory}
-use Rattle.sc_core.specs.Words.{FrameChange, State as Meant}
+use Rattle.sc_core.specs.Words.{FrameChange}
 use Rattle.sc_laws.specs.Rooms.{AllBefore, open_room, room_after}
-use Rattle.sc_image.specs.Layout.{stack_top}
-use Rattle.sc_relation.specs.Blocks.{Guarded, LiveAt}
+use Rattle.sc_relation.specs.Blocks.{LiveAt}
 use Rattle.sc_relation.specs.Stretches.{Effect, Joint, Protected, Setting, Settled, Standpoint}
 use Rattle.sc_relation.proofs.Ending.{length_closed, memory_closed, room_begun, room_begun_else, room_done}
 use Rattle.sc_relation.proofs.Ending.{room_done_else, told_closed, told_opened}
@@ -39,7 +38,7 @@ module _ (T : Setting) (Q : Standpoint) (comp : ℕ) (performs : T.performs comp
       Settled T Q y → Settled T Q (changed y memory frames)
   settled_elsewhere y memory frames else s =
       let live : (k b : ℕ) (cells : List Cell) → T.performs k ≡ false → LiveAt memory k b cells →
-          LiveAt y.meant.memory k b cells =
+      LiveAt y.meant.memory k b cells =
       λ k b cells honest. was_live y.meant.memory memory k b cells (else.same k (other_than k honest)) in
       record {
         blocks = record {

@@ -1,6 +1,6 @@
 -- What a step of a compartment comes to, whatever its code is: it touches no data of other compartments.
 use Rattle.std.proofs.Common.{◌≡◌, ◌≢◌, ℕ, zero, suc, ◌+◌, ◌<◌, true, List, [], ◌∷◌, length, Some, refl, sym, ◌∙◌}
-use Rattle.std.proofs.Common.{ap, ap₂, subst, arith}
+use Rattle.std.proofs.Common.{ap, ap₂, arith}
 use Rattle.std.specs.Prelude.{slice_index}
 use Rattle.sc_base.specs.declared.stop.TrapReason.{TrapReason}
 use Rattle.sc_store.specs.Memory.{Memory as Bytes, stored}
