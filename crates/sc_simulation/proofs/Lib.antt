@@ -7,6 +7,7 @@ pub mod Crossing
 pub mod Environment
 pub mod Exports
 pub mod Finish
+pub mod Kept
 pub mod OwnCalls
 pub mod Passing
 pub mod Placed

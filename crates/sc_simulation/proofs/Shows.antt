@@ -82,7 +82,7 @@ take_same : {A : Type 0} (n : ℕ) (xs ys : List A) → Front xs ys → n ≤ le
 take_same n xs ys front le = take_within n xs front.more le ∙ ap (take n) (sym front.is)
 
 -- of two fronts of a list the one that is no longer is a front of the other
-shorter_first : {A : Type 0} (xs ys zs : List A) → Front xs zs → Front ys zs → length xs ≤ length ys → Front xs ys
+pub shorter_first : {A : Type 0} (xs ys zs : List A) → Front xs zs → Front ys zs → length xs ≤ length ys → Front xs ys
 shorter_first xs ys zs a b le =
     let begins : take (length xs) ys ≡ xs =
     take_same (length xs) ys zs b le ∙ sym (take_same (length xs) xs zs a (omega arith)) ∙
@@ -101,7 +101,7 @@ unstopped_by events run TurnsOut stop short = lt-leb events (length run.trace) s
 unstopped_by events run EventsOut stop short = absurd stop
 
 -- one that has fewer events than it may is stopped by nothing
-unstopped : (events : ℕ) (run : SourceRun) → IsStop run.end → length run.trace < events → stopped_at events run ≡ run
+pub unstopped : (events : ℕ) (run : SourceRun) → IsStop run.end → length run.trace < events → stopped_at events run ≡ run
 unstopped events run stop short = rw (unstopped_by events run run.end stop short) refl
 
 module _ (image : ImageParts) (inputs : List ℕ) (formed : IsWellFormed image) where
@@ -484,7 +484,7 @@ module _ (image : ImageParts) (inputs : List ℕ) (formed : IsWellFormed image) 
     shows = record { forward = forward agrees.whole; backward = backward }
 
 -- RUNS THAT AGREE UP TO LINES
-blamed_too : (end other : RunEnd) → without_line end ≡ without_line other → IsBlamed other → IsBlamed end
+pub blamed_too : (end other : RunEnd) → without_line end ≡ without_line other → IsBlamed other → IsBlamed end
 blamed_too Ended (Blamed comp cause line) is h = cc is
 blamed_too TurnsOut (Blamed comp cause line) is h = cc is
 blamed_too EventsOut (Blamed comp cause line) is h = cc is
