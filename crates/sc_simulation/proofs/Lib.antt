@@ -7,9 +7,11 @@ pub mod Crossing
 pub mod Environment
 pub mod Exports
 pub mod Finish
+pub mod Following
 pub mod Kept
 pub mod OwnCalls
 pub mod Passing
+pub mod Performing
 pub mod Placed
 pub mod Placing
 pub mod Scripts
@@ -18,8 +20,11 @@ pub mod Shown
 pub mod Shows
 pub mod Start
 pub mod Turning
+pub mod Unknown
 pub mod UnknownCalls
 pub mod UnknownCrossing
+pub mod UnknownEvents
 pub mod UnknownFrames
+pub mod UnknownRules
 pub mod UnknownSteps
 pub mod Whole
