@@ -73,9 +73,9 @@ standing_in s = record {
 }
 
 -- what a trace tells has begun
-record HasStood (from : Option Standing) (trace : List Event) : Type 0 where
-  at : Standing
-  stood : stands_behind from trace ≡ Some at
+pub record HasStood (from : Option Standing) (trace : List Event) : Type 0 where
+  pub at : Standing
+  pub stood : stands_behind from trace ≡ Some at
 
 stood_before : (from : Option Standing) (xs ys : List Event) (at : Standing) → stands_behind from (xs ++ ys) ≡ Some at →
     HasStood from xs
@@ -162,28 +162,17 @@ module _ (image : ImageParts) (inputs : List ℕ) (formed : IsWellFormed image) 
 
 -- LEGAL TRACES
 
--- an event of a legal trace is allowed where it is told
-pub record Allows (interfaces : Interfaces) (from : Option Standing) (before : List Event) (event : Event) :
-    Type 0 where
-  pub at : Standing
-  pub stood : stands_behind from before ≡ Some at
-  pub allowed : is_allowed interfaces at event ≡ true
-
-pub allowed_next : (interfaces : Interfaces) (from : Option Standing) (before : List Event) (event : Event)
-    (more : List Event) → is_legal_from interfaces from (before ++ event ∷ more) ≡ true →
-    Allows interfaces from before event
-allowed_next interfaces None [] event more legal = cc legal
-allowed_next interfaces (Some at) [] event more legal = record {
-  at = at;
-  stood = refl;
-  allowed = (and_parts (is_allowed interfaces at event) _ legal).0;
-}
-allowed_next interfaces None (x ∷ before) event more legal = cc legal
-allowed_next interfaces (Some at) (x ∷ before) event more legal =
-    let rest : Allows interfaces (stands_after at x) before event =
-    allowed_next interfaces (stands_after at x) before event more
+-- what an event of a legal trace comes behind has not ended
+pub legal_stood : (interfaces : Interfaces) (from : Option Standing) (before : List Event) (event : Event)
+    (more : List Event) → is_legal_from interfaces from (before ++ event ∷ more) ≡ true → HasStood from before
+legal_stood interfaces None [] event more legal = cc legal
+legal_stood interfaces (Some at) [] event more legal = record { at = at; stood = refl }
+legal_stood interfaces None (x ∷ before) event more legal = cc legal
+legal_stood interfaces (Some at) (x ∷ before) event more legal =
+    let rest : HasStood (stands_after at x) before =
+    legal_stood interfaces (stands_after at x) before event more
     (and_parts (is_allowed interfaces at x) _ legal).1 in
-    record { at = rest.at; stood = rest.stood; allowed = rest.allowed }
+    record { at = rest.at; stood = rest.stood }
 
 -- ROWS
 

@@ -195,7 +195,7 @@ module _ (program : TacTree) (image : ImageParts) (inputs : List ℕ) (performs 
     known = λ k b a e. (placed_only (length (globals k)) (addresses k).global b a e).0;
   }
 
-  settled : Settled T P x
+  pub settled : Settled T P x
   settled = record {
     blocks = blocks;
     globals = λ k number honest below. placed_below (length (globals k)) (addresses k).global number below;
@@ -207,7 +207,7 @@ module _ (program : TacTree) (image : ImageParts) (inputs : List ℕ) (performs 
     told = tt;
   }
 
-  base : IsBase T P
+  pub base : IsBase T P
   base = record {
     floor = refl;
     aligned = omega arith;

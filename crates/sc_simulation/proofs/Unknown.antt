@@ -8,7 +8,7 @@ use Rattle.std.proofs.lemmas.Bool.{cases_lt}
 use Rattle.std.proofs.lemmas.List.{append_assoc}
 use Rattle.sc_event.specs.declared.event.Event.{Event}
 use Rattle.sc_event.specs.declared.event.Event.TheVariants.{Call, End, In, Out, Ret}
-use Rattle.sc_event.specs.Prelude.{at_start, is_allowed, legal, stands_behind}
+use Rattle.sc_event.specs.Prelude.{at_start, legal, stands_behind}
 use Rattle.sc_core.specs.declared.expr.CallTarget.TheVariants.{Cross}
 use Rattle.sc_core.specs.declared.value.Value.{Value}
 use Rattle.sc_core.specs.declared.value.Value.TheVariants.{Word}
@@ -17,6 +17,7 @@ use Rattle.sc_core.specs.Growth.{Front}
 use Rattle.sc_core.specs.Scripts.{Roles, roles_in}
 use Rattle.sc_core.specs.Value.{wrapping}
 use Rattle.sc_core.specs.Words.{Here, Piece, Reached, State as Meant, Stopped, and_then, tell, turn}
+use Rattle.sc_laws.proofs.Scripts.{allowed_at}
 use Rattle.sc_image.specs.declared.parts.ImageParts.{ImageParts}
 use Rattle.sc_image.specs.Calls.{export_at as image_export, has_result, may_call as may_make, params_of}
 use Rattle.sc_image.specs.Cross.{arguments, called, given_back, input, input_at, output, returned}
@@ -54,7 +55,8 @@ use Rattle.sc_simulation.proofs.Along.{walk_front}
 use Rattle.sc_simulation.proofs.Answering.{bodies_go}
 use Rattle.sc_simulation.proofs.CrossCalls.{IsLed, IsOffered, into_code}
 use Rattle.sc_simulation.proofs.Environment.{drop_next, next_at}
-use Rattle.sc_simulation.proofs.Placed.{Allows, StepsOn, allowed_next, first_step, stands_so, standing_in}
+use Rattle.sc_simulation.proofs.Exports.{IsExported}
+use Rattle.sc_simulation.proofs.Placed.{HasStood, StepsOn, first_step, legal_stood, stands_so, standing_in}
 use Rattle.sc_simulation.proofs.Placed.{walk_rest}
 use Rattle.sc_simulation.proofs.Sections.{IsEntered, is_export}
 use Rattle.sc_simulation.proofs.Turning.{CallComes, before_told, turned, where_turns}
@@ -62,7 +64,7 @@ use Rattle.sc_simulation.proofs.Across.{IsMade}
 use Rattle.sc_simulation.proofs.UnknownCrossing.{into_unknown}
 use Rattle.sc_simulation.proofs.UnknownEvents.{IsNext, call_is, end_is, enters, input_is, offered, output_is}
 use Rattle.sc_simulation.proofs.UnknownEvents.{return_is, work, work_done}
-use Rattle.sc_simulation.proofs.UnknownRules.{IsEnteredBy, are_words, as_values, entry_is, words_passed}
+use Rattle.sc_simulation.proofs.UnknownRules.{are_words, as_values, entry_is, words_passed}
 use Rattle.sc_simulation.proofs.UnknownSteps.{KeepsOthers, StepIs, calls, leaves, listed_is, moves, reads, shows, step_is}
 use Rattle.sc_simulation.proofs.UnknownSteps.{traps}
 
@@ -208,22 +210,28 @@ module _ (program : TacTree) (image : ImageParts) (inputs : List ℕ) (set : ℕ
           sym shown.trace_is ∙ front.is ∙ ap (λ z. z ++ front.more) tells ∙
           append_assoc x.meant.trace (event ∷ []) front.more
 
-      allows : Allows program.interfaces (at_start program.interfaces.main) x.meant.trace event
-      allows =
-          allowed_next program.interfaces (at_start program.interfaces.main) x.meant.trace event front.more
-          (subst (λ z. legal program.interfaces z ≡ true) whole lawful)
+      legal_whole : legal program.interfaces (x.meant.trace ++ event ∷ front.more) ≡ true
+      legal_whole = subst (λ z. legal program.interfaces z ≡ true) whole lawful
 
-      place : allows.at ≡ standing_in (machine P x)
+      has_stood : HasStood (at_start program.interfaces.main) x.meant.trace
+      has_stood =
+          legal_stood program.interfaces (at_start program.interfaces.main) x.meant.trace event front.more legal_whole
+
+      place : has_stood.at ≡ standing_in (machine P x)
       place =
-          (stands_so image inputs linked.formed settled.came.steps (machine P x) settled.came.walks).place allows.at
-          (ap (λ main. stands_behind (at_start main) x.meant.trace) linked.main ∙ allows.stood)
+          (stands_so image inputs linked.formed settled.came.steps (machine P x) settled.came.walks).place has_stood.at
+          (ap (λ main. stands_behind (at_start main) x.meant.trace) linked.main ∙ has_stood.stood)
+
+      stood_here : stands_behind (at_start program.interfaces.main) x.meant.trace ≡ Some (standing_in (machine P x))
+      stood_here = has_stood.stood ∙ ap Some place
 
       is_next : IsNext program set t n x.meant (standing_in (machine P x)) event
       is_next = record {
         more = front.more;
         whole = whole;
-        stood = allows.stood ∙ ap Some place;
-        allowed = subst (λ at. is_allowed program.interfaces at event ≡ true) place allows.allowed;
+        stood = stood_here;
+        allowed = allowed_at program.interfaces (at_start program.interfaces.main) x.meant.trace event front.more
+            (standing_in (machine P x)) legal_whole stood_here;
       }
 
     -- AN OUTPUT
@@ -347,7 +355,7 @@ module _ (program : TacTree) (image : ImageParts) (inputs : List ℕ) (set : ℕ
               offered program set t n P.comp number first x.meant (standing_in (machine P x)) entered rules to index
               passed next
 
-          entry : IsEnteredBy program to index
+          entry : IsExported program rules to index
           entry =
               enters program set t n P.comp number first x.meant (standing_in (machine P x)) entered rules to index
               passed next

@@ -1,9 +1,8 @@
 -- What a compartment performs in the meaning, by the next event of the trace of which it performs its part.
 use Rattle.std.proofs.Common.{◌≡◌, ℕ, ◌≤◌, Bool, true, List, [], ◌∷◌, ◌++◌, length, drop}
 use Rattle.std.proofs.Common.{Option, Some, refl, sym, ◌∙◌, ap, subst, if◌then◌else◌}
-use Rattle.std.specs.Prelude.{◌==◌, is_some}
+use Rattle.std.specs.Prelude.{◌==◌}
 use Rattle.std.specs.List.{list_all}
-use Rattle.std.specs.Option.{option_map}
 use Rattle.std.proofs.lemmas.Bool.{and_from, and_parts, eq-eqb}
 use Rattle.std.proofs.lemmas.List.{drop_all, length-map}
 use Rattle.sc_event.specs.declared.event.Event.{Event}
@@ -26,14 +25,14 @@ use Rattle.sc_core.specs.Words.{Here, Piece, Reached, State as Meant, Stopped, a
 use Rattle.sc_laws.proofs.Growing.{asks_is}
 use Rattle.sc_laws.proofs.Rows.{Next, row_of_next, rows_behind}
 use Rattle.sc_tac.specs.declared.program.TacTree.{TacTree}
-use Rattle.sc_tac.specs.Code.{code_function, code_library}
+use Rattle.sc_tac.specs.Code.{code_library}
 use Rattle.sc_tac.specs.Programs.{IsProgram}
 use Rattle.sc_simulation.specs.Results.{bodies}
 use Rattle.sc_simulation.proofs.Answering.{bodies_go}
 use Rattle.sc_simulation.proofs.CrossCalls.{IsOffered}
+use Rattle.sc_simulation.proofs.Exports.{IsExported, exported, exports_lead}
 use Rattle.sc_simulation.proofs.Placed.{few_rows}
-use Rattle.sc_simulation.proofs.Sections.{function_is}
-use Rattle.sc_simulation.proofs.UnknownRules.{IsEnteredBy, are_words, as_values, entered_somewhere, offered_if}
+use Rattle.sc_simulation.proofs.UnknownRules.{are_words, as_values, offered_if}
 
 module _ (program : TacTree) (set : ℕ → Bool) (t : List Event) (n : ℕ) where
   abbrev roles : Roles
@@ -146,13 +145,11 @@ module _ (program : TacTree) (set : ℕ → Bool) (t : List Event) (n : ℕ) whe
         pub offered : IsOffered program to index (length (as_values args))
         offered = offered_if program to index (length (as_values args)) taken
 
-        pub enters : IsEnteredBy program to index
-        enters = entered_somewhere program rules to index offered.proto offered.export
+        pub enters : IsExported program rules to index
+        enters = exported program rules to index offered.proto offered.export
 
         leads_there : leads library to (library.entered to (Export index)) ≡ true
-        leads_there =
-            ap (leads library to) enters.enters ∙
-            ap is_some (function_is program to enters.number ∙ ap (option_map (code_function wrapping)) enters.its)
+        leads_there = exports_lead program rules to index (length (as_values args)) taken
 
         may_call_it : may_call library comp (Cross to index) (as_values args) ≡ true
         may_call_it =

@@ -1,16 +1,14 @@
 -- What the rules of a program and of its image say of calls that any code makes.
-use Rattle.std.proofs.Common.{◌≡◌, ℕ, zero, suc, ◌+◌, ◌^◌, ◌<◌, ◌≤◌, Bool, true, false, List, [], ◌∷◌, length, map}
+use Rattle.std.proofs.Common.{◌≡◌, ℕ, zero, suc, ◌+◌, ◌^◌, ◌<◌, ◌≤◌, true, false, List, [], ◌∷◌, length, map}
 use Rattle.std.proofs.Common.{Option, None, Some, refl, sym, ◌∙◌, ap, subst, arith}
-use Rattle.std.specs.Prelude.{◌==◌, slice_get, slice_index, is_some}
+use Rattle.std.specs.Prelude.{◌==◌, slice_get, slice_index}
 use Rattle.std.specs.List.{list_all}
-use Rattle.std.specs.Option.{option_and_then, option_map_or}
-use Rattle.std.proofs.lemmas.Bool.{and_parts, eqb-true, ne_eqb}
+use Rattle.std.specs.Option.{option_map_or}
+use Rattle.std.proofs.lemmas.Bool.{eqb-true, ne_eqb}
 use Rattle.std.proofs.lemmas.List.Quantifiers.{position-Some}
 use Rattle.std.proofs.lemmas.Option.{same_Some}
-use Rattle.sc_event.specs.declared.interface.Interface.{Interface}
 use Rattle.sc_event.specs.declared.interface.Proto.{Proto}
-use Rattle.sc_event.specs.declared.row.Entry.TheVariants.{Export}
-use Rattle.sc_event.specs.Prelude.{comp_at, export_at, takes}
+use Rattle.sc_event.specs.Prelude.{export_at, takes}
 use Rattle.sc_core.specs.declared.value.Value.{Value}
 use Rattle.sc_core.specs.declared.value.Value.TheVariants.{Word}
 use Rattle.sc_core.specs.Calls.{is_word}
@@ -18,21 +16,15 @@ use Rattle.sc_image.specs.declared.parts.ExportPart.{ExportPart}
 use Rattle.sc_image.specs.declared.parts.ImageParts.{ImageParts}
 use Rattle.sc_image.specs.Calls.{export_at as image_export, exports_of}
 use Rattle.sc_image.specs.Cross.{arguments}
-use Rattle.sc_tac.specs.declared.function.TacFnTree.{TacFnTree}
-use Rattle.sc_tac.specs.declared.program.TacSection.{TacSection}
 use Rattle.sc_tac.specs.declared.program.TacTree.{TacTree}
-use Rattle.sc_tac.specs.Code.{function_entered}
-use Rattle.sc_tac.specs.Programs.{IsProgram, are_headed, count, exports_entered, same_entry}
+use Rattle.sc_tac.specs.Programs.{count}
 use Rattle.sc_select.specs.Pieces.{a0}
 use Rattle.sc_hart.specs.Hart.{Registers, listed, words_from}
 use Rattle.sc_hart.proofs.Registers.{read_listed}
 use Rattle.sc_relation.specs.Blocks.{StandsFor}
 use Rattle.sc_relation.specs.Calls.{ArePassed}
-use Rattle.sc_simulation.specs.Linked.{functions_in, functions_or_none}
 use Rattle.sc_simulation.proofs.CrossCalls.{IsOffered}
 use Rattle.sc_simulation.proofs.Crossing.{take_words}
-use Rattle.sc_simulation.proofs.Sections.{entered_of, numbered_at}
-use Rattle.sc_simulation.proofs.Start.{IsFirst, first_of}
 
 -- EXPORTS
 
@@ -50,66 +42,6 @@ pub offered_if : (program : TacTree) (to index count : ℕ) → takes program.in
     IsOffered program to index count
 offered_if program to index count h =
     offered_at program to index count (export_at program.interfaces to index) refl h
-
--- a function that an export leads to
-pub record IsEnteredBy (program : TacTree) (to index : ℕ) : Type 0 where
-  pub number : ℕ
-  pub enters : function_entered (Export index) (slice_get program.sections to) ≡ Some number
-  pub f : TacFnTree
-  pub its : slice_get (functions_in program to) number ≡ Some f
-
-record IsThere {A : Type 0} (xs : List A) (i : ℕ) : Type 0 where
-  it : A
-  its : slice_get xs i ≡ Some it
-
-there_at : {A : Type 0} (xs : List A) (i : ℕ) → i < length xs → IsThere xs i
-there_at [] i h = absurd (omega (arith, h))
-there_at (x ∷ xs) zero h = record { it = x; its = refl }
-there_at (x ∷ xs) (suc i) h =
-    let rest : IsThere xs i = there_at xs i (omega (arith, h)) in record { it = rest.it; its = rest.its }
-
-comp_below : (interfaces : List Interface) (i : ℕ) (one : Interface) → slice_get interfaces i ≡ Some one →
-    i < length interfaces
-comp_below [] i one h = cc h
-comp_below (x ∷ xs) zero one h = omega arith
-comp_below (x ∷ xs) (suc i) one h = omega (arith, comp_below xs i one h)
-
-interface_of : (o : Option Interface) (index : ℕ) (proto : Proto) →
-    option_and_then (λ (found : Interface). slice_get found.exports index) o ≡ Some proto →
-    (one : Interface) × (o ≡ Some one)
-interface_of None index proto h = cc h
-interface_of (Some one) index proto h = (one, refl)
-
-module _ (program : TacTree) (rules : IsProgram program) (to index : ℕ) (proto : Proto)
-    (export : export_at program.interfaces to index ≡ Some proto) where
-  entered_in : (section : TacSection) → slice_get program.sections to ≡ Some section → IsEnteredBy program to index
-  entered_in section here =
-      let same : 0 + to ≡ to = omega arith in
-      let entered : exports_entered (comp_at program.interfaces to) section ≡ true =
-      subst (λ c. exports_entered (comp_at program.interfaces c) section ≡ true) same
-      (numbered_at (λ comp section. exports_entered (comp_at program.interfaces comp) section) 0 program.sections to
-      section rules.exported here) in
-      let test : TacFnTree → Bool = λ f. same_entry (Export index) f.entry in
-      let parts = and_parts (count test section.functions == 1) (are_headed (Export index) (length proto.params)
-      (is_some proto.result) section.functions)
-      (entered_of program (comp_at program.interfaces to) index proto section entered export) in
-      let one : count test section.functions ≡ 1 = eqb-true (count test section.functions) 1 parts.0 in
-      let first : IsFirst test section.functions = first_of test section.functions (omega (arith, one)) in
-      record {
-        number = first.number;
-        enters = ap (function_entered (Export index)) here ∙ first.place;
-        f = first.it;
-        its = ap (λ o. slice_get (functions_or_none o) first.number) here ∙ first.its;
-      }
-
-  pub entered_somewhere : IsEnteredBy program to index
-  entered_somewhere =
-      let one = interface_of (comp_at program.interfaces to) index proto export in
-      let below : to < length program.interfaces.comps =
-      comp_below program.interfaces.comps to one.0 one.1 in
-      let section : IsThere program.sections to =
-      there_at program.sections to (omega (arith, below, rules.sections)) in
-      entered_in section.it section.its
 
 -- ENTRIES
 
