@@ -1,5 +1,5 @@
 -- The program in which a set performs its part of what the machine shows, by the run of its code.
-use Rattle.std.proofs.Common.{◌≡◌, ℕ, ◌<◌, ◌≤◌, Bool, true, false, List, length, take, refl, sym, ◌∙◌, ap, subst, arith}
+use Rattle.std.proofs.Common.{◌≡◌, ℕ, ◌<◌, Bool, true, false, List, length, refl, sym, ◌∙◌, ap, subst}
 use Rattle.std.proofs.Common.{inl, inr, nat_lt, ltb-true, ltb-false, ⊎_elim}
 use Rattle.sc_event.specs.declared.event.Event.{Event}
 use Rattle.sc_core.specs.declared.cause.Cause.{Cause}
@@ -10,10 +10,9 @@ use Rattle.sc_core.specs.declared.run.SourceRun.{SourceRun}
 use Rattle.sc_core.specs.Growth.{Front}
 use Rattle.sc_core.specs.Meaning.{Run, scripted_by, scripted_run_of}
 use Rattle.sc_core.specs.Prelude.{IsWellTyped}
-use Rattle.sc_core.specs.Run.{stopped_at}
 use Rattle.sc_core.specs.Value.{c_arith, wrapping}
 use Rattle.sc_core.specs.Words.{IsStop}
-use Rattle.sc_laws.specs.Chains.{IsBlamedOutside, Set}
+use Rattle.sc_laws.specs.Chains.{Set}
 use Rattle.sc_laws.proofs.ProgramLaws.{blamed_are_there, nobody_who_performs_is_blamed}
 use Rattle.sc_laws.proofs.Growing.{front_same}
 use Rattle.sc_laws.proofs.Runs.{trace_is}
