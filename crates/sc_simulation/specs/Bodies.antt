@@ -39,7 +39,7 @@ abbrev pub departing : ImageParts → ℕ → List Crossing → Option Value
 departing image w [] = Some (Word w)
 departing image w (x ∷ xs) = option_value (if has_result image x.callee x.entry then Some w else None)
 
--- the machine shows these events and no more, wherever it is stopped
+-- some steps from its start, the machine has shown these events
 pub record IsShown (image : ImageParts) (inputs : List ℕ) (trace : List Event) : Type 0 where
   pub steps : ℕ
   pub last : State
