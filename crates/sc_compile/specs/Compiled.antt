@@ -77,6 +77,12 @@ pub record IsCompiled (program : ProgramTree) (image : ImageParts) : Type 0 wher
   pub backward : ShowsNothingElse program image
   pub no_tests : (comp : ℕ) (section : TypedSection) → slice_get program.sections comp ≡ Some section →
       HasNoTests section (code_of image comp)
+  -- where a set of compartments performs its part of what the machine shows, in as many turns as there were steps, all
+  -- others show the same, or one of them is blamed before
+  pub scripted : (inputs : List ℕ) (steps events : ℕ) (set : Set) → All IsWord inputs →
+      let shown = (machine image inputs steps events).state.trace in
+      TellsOrBlames (length program.sections) set shown
+      (scripted_meaning program set shown inputs steps (length shown))
   -- what the machine shows is allowed by the program's interfaces
   pub allowed : (inputs : List ℕ) (steps events : ℕ) → All IsWord inputs →
       legal program.interfaces (machine image inputs steps events).state.trace ≡ true
