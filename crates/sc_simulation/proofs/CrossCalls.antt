@@ -62,8 +62,8 @@ pub record IsOffered (program : TacTree) (to index count : ℕ) : Type 0 where
   pub export : export_at program.interfaces to index ≡ Some proto
   pub takes : length proto.params ≡ count
 
-pub offered_by : (program : TacTree) (to index count : ℕ) (o : Option Proto) → export_at program.interfaces to index ≡ o →
-    cross_call_fits o None count ≡ true → IsOffered program to index count
+pub offered_by : (program : TacTree) (to index count : ℕ) (o : Option Proto) →
+    export_at program.interfaces to index ≡ o → cross_call_fits o None count ≡ true → IsOffered program to index count
 offered_by program to index count None e h = cc h
 offered_by program to index count (Some proto) e h = record {
   proto = proto;
@@ -156,7 +156,8 @@ module _ (program : TacTree) (image : ImageParts) (inputs : List ℕ) (roles : R
     export_is = linked.exports P.comp to index offered.proto offered.export
 
     head_there : IsEntered program led.f offered.proto
-    head_there = is_export program rules functions to index led.number offered.proto led.f offered.export led.enters led.its
+    head_there =
+        is_export program rules functions to index led.number offered.proto led.f offered.export led.enters led.its
 
     over_floor : (k q : ℕ) → (k ≡ P.comp → P.bound ≤ q) → (k ≢ P.comp → P.floor k ≤ q) → P.floor k ≤ q
     over_floor k q own there =

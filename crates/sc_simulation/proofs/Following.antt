@@ -45,11 +45,12 @@ module _ (program : TacTree) (image : ImageParts) (inputs : List ℕ) (set : ℕ
 
   performs_is : (n number : ℕ) (here : Here) (s : Meant) → set here.comp ≡ true →
       bodies program roles (suc n) number here s ≡
-      performs (code_library wrapping program) (bodies program roles n) (rows_left roles here.comp s.trace) number here s
+      performs (code_library wrapping program) (bodies program roles n) (rows_left roles here.comp s.trace) number here
+      s
   performs_is n number here s is =
       ap (λ b. if b then
-      performs (code_library wrapping program) (bodies program roles n) (rows_left roles here.comp s.trace) number here s
-      else run_step (code_library wrapping program) (bodies program roles n) number here s) is
+      performs (code_library wrapping program) (bodies program roles n) (rows_left roles here.comp s.trace) number here
+      s else run_step (code_library wrapping program) (bodies program roles n) number here s) is
 
   more_perform : (n : ℕ) → AllFollow n → PerformersDo program roles T (suc n)
   more_perform n all P x number first h =

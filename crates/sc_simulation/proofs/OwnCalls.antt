@@ -158,4 +158,5 @@ module _ (T : Setting) (formed : IsWellFormed T.image) (inputs : All IsWord T.in
           FunctionGives T P entered budget (x.pc + 4) piece ⊎ Overflows T P entered budget piece →
           CallGives T P x (Own number) piece ⊎ Overflows T P x 1 piece
       own_comes piece g =
-          ⊎_elim (λ h. inl (gives piece h)) (λ o. inr (overflows_in T P P x entered 1 goes_in budget (λ all. paid) piece o)) g
+          ⊎_elim (λ h. inl (gives piece h))
+          (λ o. inr (overflows_in T P P x entered 1 goes_in budget (λ all. paid) piece o)) g

@@ -65,8 +65,8 @@ use Rattle.sc_simulation.proofs.UnknownCrossing.{into_unknown}
 use Rattle.sc_simulation.proofs.UnknownEvents.{IsNext, call_is, end_is, enters, input_is, offered, output_is}
 use Rattle.sc_simulation.proofs.UnknownEvents.{return_is, work, work_done}
 use Rattle.sc_simulation.proofs.UnknownRules.{are_words, as_values, entry_is, words_passed}
-use Rattle.sc_simulation.proofs.UnknownSteps.{KeepsOthers, StepIs, calls, leaves, listed_is, moves, reads, shows, step_is}
-use Rattle.sc_simulation.proofs.UnknownSteps.{traps}
+use Rattle.sc_simulation.proofs.UnknownSteps.{KeepsOthers, StepIs, calls, leaves, listed_is, moves, reads, shows}
+use Rattle.sc_simulation.proofs.UnknownSteps.{step_is, traps}
 
 -- WHERE SOMEONE PERFORMS, THERE IS NO UPPER BOUND
 

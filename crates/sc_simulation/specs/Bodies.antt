@@ -1,7 +1,7 @@
 -- What functions do, with all that they call, is followed by their code; what those of compartments that perform do, by
 -- whatever code these have.
-use Rattle.std.specs.Prelude.{◌≡◌, ℕ, ◌<◌, ◌⊎◌, true, false, List, [], ◌∷◌, length, IsTrue, Option, None, Some, slice_get}
-use Rattle.std.specs.Prelude.{if◌then◌else◌}
+use Rattle.std.specs.Prelude.{◌≡◌, ℕ, ◌<◌, ◌⊎◌, true, false, List, [], ◌∷◌, length, IsTrue, Option, None, Some}
+use Rattle.std.specs.Prelude.{slice_get, if◌then◌else◌}
 use Rattle.sc_event.specs.declared.event.Event.{Event}
 use Rattle.sc_event.specs.declared.row.Entry.{Entry}
 use Rattle.sc_event.specs.declared.row.Entry.TheVariants.{Main}
@@ -39,7 +39,7 @@ abbrev pub departing : ImageParts → ℕ → List Crossing → Option Value
 departing image w [] = Some (Word w)
 departing image w (x ∷ xs) = option_value (if has_result image x.callee x.entry then Some w else None)
 
--- the machine shows these events and no more, wherever it is stopped
+-- some steps from its start, the machine has shown these events
 pub record IsShown (image : ImageParts) (inputs : List ℕ) (trace : List Event) : Type 0 where
   pub steps : ℕ
   pub last : State
