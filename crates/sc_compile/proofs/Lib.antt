@@ -10,4 +10,5 @@ pub mod Lists
 pub mod Names
 pub mod NoTests
 pub mod Results
+pub mod Scripted
 pub mod Shown

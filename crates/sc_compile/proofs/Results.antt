@@ -13,14 +13,15 @@ use Rattle.sc_core.specs.declared.ty.Ty.{Ty}
 use Rattle.sc_core.specs.declared.ty.Ty.TheVariants as ty
 use Rattle.sc_core.specs.declared.value.Value.{Value}
 use Rattle.sc_core.specs.declared.value.Value.TheVariants.{Null, Ptr, Word}
-use Rattle.sc_core.specs.Calls.{crossing, option_value, run_step, within}
-use Rattle.sc_core.specs.Meaning.{library_of, main_name, place_named}
+use Rattle.sc_core.specs.Calls.{crossing, option_value}
+use Rattle.sc_core.specs.Meaning.{main_name, place_named}
 use Rattle.sc_core.specs.Prelude.{IsWellTyped, are_distinct, import_name, main_fits, same_results}
 use Rattle.sc_core.specs.Prelude.{same_signature, same_types, signature_of}
+use Rattle.sc_core.specs.Scripts.{Roles}
 use Rattle.sc_core.specs.Value.{wrapping}
 use Rattle.sc_core.specs.WellTyped.{main_signature}
 use Rattle.sc_core.specs.Words.{Here, Piece, Reached, State, Stopped}
-use Rattle.sc_kinds.specs.Kinds.{function_at, returns_kind, section_functions}
+use Rattle.sc_kinds.specs.Kinds.{bodies_of, function_at, returns_kind, section_functions}
 use Rattle.sc_kinds.proofs.Kinded.{results_have_kinds}
 use Rattle.sc_kinds.proofs.Sections.{found_passes, named_so, own_names_differ}
 use Rattle.sc_laws.specs.Agreement.{piece_without_line}
@@ -32,7 +33,6 @@ use Rattle.sc_lower.proofs.Whole.{keeps_meaning}
 use Rattle.sc_linker.proofs.Comps.{main_so, of_section}
 use Rattle.sc_simulation.specs.Linked.{functions_in, functions_or_none}
 use Rattle.sc_simulation.specs.Results.{GivesResults, bodies}
-use Rattle.sc_simulation.specs.Simulation.{nobody}
 
 pub mapped : {A B : Type 0} (g : A → B) (xs : List A) (n : ℕ) (y : B) → slice_get (map g xs) n ≡ Some y →
     (x : A) × ((slice_get xs n ≡ Some x) × (g x ≡ y))
@@ -100,39 +100,18 @@ module _ (program : ProgramTree) (typed : IsWellTyped program) where
       (sym (first_at program.interfaces program.sections comp)) ∙ h)
 
   -- what code comes to its source comes to
-  from_code : (open_calls number : ℕ) (here : Here) (s t : State) (v : Option Value) →
-      bodies (lowered_program program) nobody open_calls number here s ≡ Reached v t →
-      within (run_step (library_of wrapping program)) open_calls number here s ≡ Reached v t
-  from_code open_calls number here s t v is =
-      came_too (within (run_step (library_of wrapping program)) open_calls number here s)
-      (bodies (lowered_program program) nobody open_calls number here s) v t
-      (keeps_meaning.bodies wrapping program typed nobody open_calls number here s).same is
+  from_code : (roles : Roles) (open_calls number : ℕ) (here : Here) (s t : State) (v : Option Value) →
+      bodies (lowered_program program) roles open_calls number here s ≡ Reached v t →
+      bodies_of wrapping program roles open_calls number here s ≡ Reached v t
+  from_code roles open_calls number here s t v is =
+      came_too (bodies_of wrapping program roles open_calls number here s)
+      (bodies (lowered_program program) roles open_calls number here s) v t
+      (keeps_meaning.bodies wrapping program typed roles open_calls number here s).same is
 
   function_there : (comp number : ℕ) (section : TypedSection) (f : TypedFunction) →
       slice_get program.sections comp ≡ Some section → slice_get section.functions number ≡ Some f →
       function_at program comp number ≡ Some f
   function_there comp number section f is its = ap (λ o. slice_get (section_functions o) number) is ∙ its
-
-  given : (open_calls number : ℕ) (here : Here) (f : TacFnTree) (s t : State) (v : Option Value) →
-      slice_get (functions_in (lowered_program program) here.comp) number ≡ Some f → f.result ≡ true →
-      bodies (lowered_program program) nobody open_calls number here s ≡ Reached v t → IsSome v
-  given open_calls number here f s t v there result is =
-      let from = source_of here.comp number f there in
-      some_given v from.source.result
-      (results_have_kinds.returned wrapping program typed open_calls number here from.source
-      (function_there here.comp number from.section from.source from.is from.its) s t v
-      (from_code open_calls number here s t v is))
-      (ap (λ (g : TacFnTree). g.result) from.same ∙ result)
-
-  crosses : (open_calls index number : ℕ) (here : Here) (proto : Proto) (s t : State) (v : Option Value) →
-      export_at program.interfaces here.comp index ≡ Some proto →
-      function_entered (Export index) (slice_get (lowered_program program).sections here.comp) ≡ Some number →
-      bodies (lowered_program program) nobody open_calls number here s ≡ Reached v t →
-      option_value (crossing (Some proto) v) ≡ v
-  crosses open_calls index number here proto s t v export entered is =
-      results_have_kinds.crosses wrapping program typed open_calls index number here proto export
-      (keeps_meaning.entered wrapping program typed here.comp (Export index) ∙ entered) s t v
-      (from_code open_calls number here s t v is)
 
   -- `main` is of type `int`
   main_int : (section : TypedSection) → slice_get program.sections program.interfaces.main ≡ Some section →
@@ -156,29 +135,50 @@ module _ (program : ProgramTree) (typed : IsWellTyped program) where
         ),
       )
 
-  ends : (open_calls number : ℕ) (here : Here) (s t : State) (v : Option Value) →
-      here.comp ≡ program.interfaces.main →
-      function_entered Main (slice_get (lowered_program program).sections here.comp) ≡ Some number →
-      bodies (lowered_program program) nobody open_calls number here s ≡ Reached v t → (w : ℕ) × (v ≡ Some (Word w))
-  ends open_calls number here s t v main entered is =
-      by (slice_get program.sections here.comp) refl
-      (keeps_meaning.entered wrapping program typed here.comp Main ∙ entered) where
-        by : (o : Option TypedSection) → slice_get program.sections here.comp ≡ o → place_named main_name o ≡ Some
-            number → (w : ℕ) × (v ≡ Some (Word w))
-        by None there place = absurd (cc)
-        by (Some section) there place =
-            let f = main_int section (subst (λ c. slice_get program.sections c ≡ Some section) main there) number
-            place in
-            word_given v (subst (λ r. returns_kind r v ≡ true) f.1.1
-            (results_have_kinds.returned wrapping program typed open_calls number here f.0
-            (function_there here.comp number section f.0 there f.1.0) s t v
-            (from_code open_calls number here s t v is)))
+  module _ (roles : Roles) where
+    given : (open_calls number : ℕ) (here : Here) (f : TacFnTree) (s t : State) (v : Option Value) →
+        roles.scripted here.comp ≡ false → slice_get (functions_in (lowered_program program) here.comp) number ≡ Some f →
+        f.result ≡ true → bodies (lowered_program program) roles open_calls number here s ≡ Reached v t → IsSome v
+    given open_calls number here f s t v plain there result is =
+        let from = source_of here.comp number f there in
+        some_given v from.source.result
+        (results_have_kinds.returned wrapping program typed roles open_calls number here from.source plain
+        (function_there here.comp number from.section from.source from.is from.its) s t v
+        (from_code roles open_calls number here s t v is))
+        (ap (λ (g : TacFnTree). g.result) from.same ∙ result)
 
-  pub gives_results : GivesResults (lowered_program program) nobody
-  gives_results = record {
-    given = λ open_calls number here f s t v plain there result is.
-        given open_calls number here f s t v there result is;
-    crosses = λ open_calls index number here proto s t v plain export entered is.
-        crosses open_calls index number here proto s t v export entered is;
-    ends = λ open_calls number here s t v plain main entered is. ends open_calls number here s t v main entered is;
-  }
+    crosses : (open_calls index number : ℕ) (here : Here) (proto : Proto) (s t : State) (v : Option Value) →
+        roles.scripted here.comp ≡ false → export_at program.interfaces here.comp index ≡ Some proto →
+        function_entered (Export index) (slice_get (lowered_program program).sections here.comp) ≡ Some number →
+        bodies (lowered_program program) roles open_calls number here s ≡ Reached v t →
+        option_value (crossing (Some proto) v) ≡ v
+    crosses open_calls index number here proto s t v plain export entered is =
+        results_have_kinds.crosses wrapping program typed roles open_calls index number here proto plain export
+        (keeps_meaning.entered wrapping program typed here.comp (Export index) ∙ entered) s t v
+        (from_code roles open_calls number here s t v is)
+
+    ends : (open_calls number : ℕ) (here : Here) (s t : State) (v : Option Value) →
+        roles.scripted here.comp ≡ false → here.comp ≡ program.interfaces.main →
+        function_entered Main (slice_get (lowered_program program).sections here.comp) ≡ Some number →
+        bodies (lowered_program program) roles open_calls number here s ≡ Reached v t →
+        (w : ℕ) × (v ≡ Some (Word w))
+    ends open_calls number here s t v plain main entered is =
+        by (slice_get program.sections here.comp) refl
+        (keeps_meaning.entered wrapping program typed here.comp Main ∙ entered) where
+          by : (o : Option TypedSection) → slice_get program.sections here.comp ≡ o →
+              place_named main_name o ≡ Some number → (w : ℕ) × (v ≡ Some (Word w))
+          by None there place = absurd (cc)
+          by (Some section) there place =
+              let f = main_int section (subst (λ c. slice_get program.sections c ≡ Some section) main there) number
+              place in
+              word_given v (subst (λ r. returns_kind r v ≡ true) f.1.1
+              (results_have_kinds.returned wrapping program typed roles open_calls number here f.0 plain
+              (function_there here.comp number section f.0 there f.1.0) s t v
+              (from_code roles open_calls number here s t v is)))
+
+    pub gives_results : GivesResults (lowered_program program) roles
+    gives_results = record {
+      given = given;
+      crosses = crosses;
+      ends = ends;
+    }

@@ -1,11 +1,13 @@
 -- What is compiled does what its program means.
 use Rattle.std.proofs.Common.{◌≡◌, ℕ, suc, ◌*◌, List, All, None, refl, subst, arith, inl, inr, ⊎_elim}
+use Rattle.sc_event.specs.declared.event.Event.{Event}
 use Rattle.sc_core.specs.declared.program.ProgramTree.{ProgramTree}
 use Rattle.sc_core.specs.Meaning.{Run, run_of}
 use Rattle.sc_core.specs.Prelude.{IsWellTyped}
 use Rattle.sc_core.specs.Value.{Arith, c_arith, wrapping}
 use Rattle.sc_laws.specs.Steady.{AgreesInRoom, same, same_run}
 use Rattle.sc_image.specs.declared.parts.ImageParts.{ImageParts}
+use Rattle.sc_image.specs.Machine.{machine}
 use Rattle.sc_image.specs.WellFormed.{IsWord}
 use Rattle.sc_tac.specs.Code.{code_run}
 use Rattle.sc_tac.specs.Functions.{IsFunction}
@@ -20,7 +22,7 @@ use Rattle.sc_simulation.specs.Linked.{IsLinked}
 use Rattle.sc_simulation.specs.Runs.{ShowsRun}
 use Rattle.sc_simulation.specs.Simulation.{IsBuilt}
 use Rattle.sc_simulation.proofs.Shows.{outcomes_show}
-use Rattle.sc_simulation.proofs.Whole.{simulates}
+use Rattle.sc_simulation.proofs.Whole.{scripts_simulate, simulates}
 use Rattle.sc_compile.specs.Compiled.{IsCompiled, ShowsAll, program_nodes}
 use Rattle.sc_compile.specs.Image.{all_codes, built_image}
 use Rattle.sc_compile.specs.Passes.{AreEmitted, EachEmits}
@@ -30,6 +32,7 @@ use Rattle.sc_compile.proofs.Linkable.{is_linkable}
 use Rattle.sc_compile.proofs.Linked.{is_linked}
 use Rattle.sc_compile.proofs.NoTests.{no_tests}
 use Rattle.sc_compile.proofs.Results.{gives_results, source_of}
+use Rattle.sc_compile.proofs.Scripted.{scripted_tells}
 
 -- a run agrees with itself
 itself : (run : Run) → AgreesInRoom run run
@@ -96,6 +99,10 @@ module _ (program : ProgramTree) (typed : IsWellTyped program) (named : AreNamed
   shows_c inputs turns are =
       shows_by c_arith inputs turns are (wrapped_code_agrees.meaning (lowered_program program) inputs turns)
 
+  -- what the machine shows
+  abbrev shown : (inputs : List ℕ) (steps events : ℕ) → List Event
+  shown inputs steps events = (machine image inputs steps events).state.trace
+
   pub compiled : IsCompiled program image
   compiled = record {
     forward = all_by c_arith shows_c;
@@ -103,6 +110,10 @@ module _ (program : ProgramTree) (typed : IsWellTyped program) (named : AreNamed
         (itself (code_run wrapping (lowered_program program) inputs turns)));
     backward = λ inputs steps events are. (shows_c inputs steps are).backward steps events (omega arith);
     no_tests = no_tests program typed linkable emitted;
+    scripted = λ inputs steps events set are.
+        scripted_tells program typed set inputs steps (shown inputs steps events)
+        (scripts_simulate (lowered_program program) image turn_pays built inputs steps events set are
+        (allowed program (all_codes (lowered_program program)) linked.formed inputs steps events are));
     allowed = λ inputs steps events are.
         allowed program (all_codes (lowered_program program)) linked.formed inputs steps events are;
   }

@@ -1,19 +1,21 @@
 -- What an image does, and what its program means.
-use Rattle.std.specs.Prelude.{◌≡◌, ℕ, suc, ◌*◌, ◌<◌, ◌≤◌, ◌⊎◌, Bool, true, false, List, map, All, Option, None, Some}
-use Rattle.std.specs.Prelude.{slice_get}
+use Rattle.std.specs.Prelude.{◌≡◌, ℕ, suc, ◌*◌, ◌<◌, ◌≤◌, ◌⊎◌, Bool, true, false, List, length, map, All, Option, None}
+use Rattle.std.specs.Prelude.{Some, slice_get}
 use Rattle.std.specs.List.{count_by}
 use Rattle.rv_code.specs.declared.instr.Instr.{Instr}
 use Rattle.rv_code.specs.Prelude.{decoded}
 use Rattle.sc_base.specs.declared.stop.Stop.TheVariants.{Trap}
 use Rattle.sc_base.specs.declared.stop.TrapReason.TheVariants.{Owner}
 use Rattle.sc_event.specs.Prelude.{legal}
+use Rattle.sc_event.specs.declared.event.Event.{Event}
 use Rattle.sc_core.specs.declared.program.ProgramTree.{ProgramTree}
 use Rattle.sc_core.specs.declared.run.SourceRun.{SourceRun}
 use Rattle.sc_core.specs.declared.section.TypedSection.{TypedSection}
 use Rattle.sc_core.specs.Growth.{Front}
 use Rattle.sc_core.specs.Prelude.{nodes, total}
-use Rattle.sc_core.specs.Meaning.{depth_by, meaning, meaning_by}
+use Rattle.sc_core.specs.Meaning.{depth_by, meaning, meaning_by, scripted_meaning}
 use Rattle.sc_core.specs.Value.{Arith, c_arith, wrapping}
+use Rattle.sc_laws.specs.Chains.{IsBlamedOutside, Set}
 use Rattle.sc_image.specs.declared.parts.ImageParts.{ImageParts}
 use Rattle.sc_image.specs.Layout.{code_of, stack_size}
 use Rattle.sc_image.specs.Machine.{Run, machine}
@@ -49,6 +51,12 @@ ShowsNothingElse program image = (inputs : List ℕ) (steps events : ℕ) → Al
     let meant = meaning program inputs steps events in
     Front shown meant.trace ⊎ (IsBlamed meant.end × Front meant.trace shown)
 
+-- A run in which a set performs its part of a trace tells the trace, or it is blamed before on a compartment of so many,
+-- outside of the set.
+abbrev pub TellsOrBlames : (count : ℕ) → Set → List Event → SourceRun → Type 0
+TellsOrBlames count set trace run =
+    (run.trace ≡ trace) ⊎ (IsBlamedOutside count set run trace × (length run.trace < length trace))
+
 abbrev pub test_word : (Instr → Bool) → ℕ → Bool
 test_word test word = holds (decoded word) where
   holds : Option Instr → Bool
@@ -69,6 +77,12 @@ pub record IsCompiled (program : ProgramTree) (image : ImageParts) : Type 0 wher
   pub backward : ShowsNothingElse program image
   pub no_tests : (comp : ℕ) (section : TypedSection) → slice_get program.sections comp ≡ Some section →
       HasNoTests section (code_of image comp)
+  -- where a set of compartments performs its part of what the machine shows, in as many turns as there were steps, all
+  -- others show the same, or one of them is blamed before
+  pub scripted : (inputs : List ℕ) (steps events : ℕ) (set : Set) → All IsWord inputs →
+      let shown = (machine image inputs steps events).state.trace in
+      TellsOrBlames (length program.sections) set shown
+      (scripted_meaning program set shown inputs steps (length shown))
   -- what the machine shows is allowed by the program's interfaces
   pub allowed : (inputs : List ℕ) (steps events : ℕ) → All IsWord inputs →
       legal program.interfaces (machine image inputs steps events).state.trace ≡ true

@@ -1,5 +1,5 @@
 -- Sizes as they are counted on lowered code.
-use Rattle.std.specs.Prelude.{ℕ, suc, ◌+◌, ◌*◌, ◌^◌, ◌<◌, List, [], ◌∷◌, ◌++◌, map, flat_map, All, Option}
+use Rattle.std.specs.Prelude.{ℕ, ◌+◌, ◌*◌, ◌^◌, ◌<◌, List, ◌++◌, map, flat_map, All, Option}
 use Rattle.sc_core.specs.declared.section.TypedGlobal.{TypedGlobal}
 use Rattle.sc_core.specs.Prelude.{cells_of, frame_bound, total}
 use Rattle.sc_image.specs.Layout.{most_globals, stretch}

@@ -13,7 +13,7 @@ use Rattle.sc_laws.proofs.Growing.{no_turn}
 use Rattle.sc_image.specs.declared.parts.ImageParts.{ImageParts}
 use Rattle.sc_image.specs.declared.parts.CompPart.{CompPart}
 use Rattle.sc_image.specs.Layout.{code_start, gate, stack_top}
-use Rattle.sc_image.specs.State.{start_memory}
+use Rattle.sc_image.specs.State.{start, start_memory}
 use Rattle.sc_image.specs.WellFormed.{IsWord, IsWellFormed}
 use Rattle.sc_image.proofs.Reached.{runs_are_steady}
 use Rattle.sc_hart.specs.Hart.{Registers}
@@ -60,6 +60,7 @@ module _ (comp : CompPart) (inputs : List ℕ) (words : All IsWord inputs) (turn
   T = record {
     image = image;
     inputs = inputs;
+    from = start image;
     performs = λ k. not (k == 0);
     turn_pays = length code.instrs;
     addresses = λ k. none;
@@ -141,6 +142,7 @@ module _ (comp : CompPart) (inputs : List ℕ) (words : All IsWord inputs) (turn
             saved = λ k n h. (let never : true ≡ false = sym (ap not (ne_eqb k 0 n)) ∙ h in cc never);
             inputs = refl;
             steady = runs_are_steady.first image formed;
+            came = record { steps = 0; walks = record { by = refl } };
             room = λ k h. omega arith;
             told = tt;
           };

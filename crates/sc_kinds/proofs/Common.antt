@@ -33,6 +33,7 @@ pub use Rattle.sc_core.specs.Prelude.{part_does, part_fits, passed_fits, place_a
 pub use Rattle.sc_core.specs.Prelude.{proto_signature, result_fits, result_goes, result_ty, returned_call_fits}
 pub use Rattle.sc_core.specs.Prelude.{returned_fits, rounds, run_step, same_import, same_place, same_pointers}
 pub use Rattle.sc_core.specs.Prelude.{same_results, same_signature, same_ty, same_types, scalar_ty, scope_of}
+pub use Rattle.sc_core.specs.Prelude.{Roles, performs, rows_left, scripted_step}
 pub use Rattle.sc_core.specs.Prelude.{section_fits, sections_fit, signature_of, simple_does, simple_fits, stmt_does}
 pub use Rattle.sc_core.specs.Prelude.{stmt_fits, stmt_step, store, store_at, store_result, stored, structs_fit}
 pub use Rattle.sc_core.specs.Prelude.{sum_fits, take, target_cells, target_signature, term_judged, term_step, test}
@@ -48,5 +49,6 @@ pub use Rattle.sc_core.specs.declared.section.TypedStruct.{TypedStruct}
 pub use Rattle.sc_core.specs.declared.ty.Ty.{Ty}
 pub use Rattle.sc_core.specs.declared.value.Value.{Value}
 pub use Rattle.sc_core.specs.declared.value.Value.TheVariants.{Null, Ptr, Word}
-pub use Rattle.sc_kinds.specs.Kinds.{ResultsHaveKinds, ValuesHaveKinds, function_at, has_kind, have_kinds, is_of}
+pub use Rattle.sc_kinds.specs.Kinds.{ResultsHaveKinds, ValuesHaveKinds, bodies_of, function_at, has_kind, have_kinds}
+pub use Rattle.sc_kinds.specs.Kinds.{is_of}
 pub use Rattle.sc_kinds.specs.Kinds.{returns_kind, section_functions}

@@ -12,9 +12,10 @@ values_have_kinds = record {
 
 pub results_have_kinds : ResultsHaveKinds
 results_have_kinds = record {
-  returned = λ arith program typed n number here f h s t v is.
-      returned_good arith program typed n number here f h s t v is;
-  crosses = λ arith program typed n index number here proto h entry s t v is.
-      crosses_itself arith program typed n index number here proto h entry s t v is;
-  allowed = λ arith program typed n number here f h s. asks_alone arith program typed n number here f h s;
+  returned = λ arith program typed roles n number here f plain h s t v is.
+      returned_good arith program typed roles n number here f plain h s t v is;
+  crosses = λ arith program typed roles n index number here proto plain h entry s t v is.
+      crosses_itself arith program typed roles n index number here proto plain h entry s t v is;
+  allowed = λ arith program typed roles n number here f plain h s.
+      asks_alone arith program typed roles n number here f plain h s;
 }

@@ -14,8 +14,8 @@ use Rattle.sc_kinds.proofs.Common.{option_value, passed_fits, place_of_export, p
 use Rattle.sc_kinds.proofs.Common.{result_fits, result_ty, returns_kind, run_step, same_import, same_results}
 use Rattle.sc_kinds.proofs.Common.{same_signature, same_types, scalar_ty, scope_of, section_functions, sections_fit}
 use Rattle.sc_kinds.proofs.Common.{signature_of, slice_get, slice_index_or, structs_fit, subst, suc, sym}
-use Rattle.sc_kinds.proofs.Common.{target_signature, true, turn, within, word_back, zero, ℕ, ◌&&◌, ◌++◌, ◌==◌, ◌∙◌, ◌∷◌}
-use Rattle.sc_kinds.proofs.Common.{◌≡◌}
+use Rattle.sc_kinds.proofs.Common.{target_signature, true, turn, word_back, zero, ℕ, ◌&&◌, ◌++◌, ◌==◌, ◌∙◌, ◌∷◌}
+use Rattle.sc_kinds.proofs.Common.{Roles, bodies_of, performs, rows_left, scripted_step, ◌≡◌}
 use Rattle.sc_event.specs.Prelude.{comp_at, export_at, imports, is_function, is_input, is_output, takes}
 use Rattle.std.proofs.lemmas.Option.{slice_get-map}
 use Rattle.std.proofs.lemmas.List.{length-map}
@@ -164,7 +164,7 @@ found_lasting (Some v) s = refl
 pub reached_good : {V : Type 0} (G : V → Type 0) (o : Piece V) (v : V) (t : State) → o ≡ Reached v t → Lasting G o → G v
 reached_good G o v t is h = subst (Lasting G) is h
 
-module _ (arith : Arith) (program : ProgramTree) (typed : is_well_typed program ≡ true) where
+module _ (arith : Arith) (program : ProgramTree) (typed : is_well_typed program ≡ true) (roles : Roles) where
   abbrev L : Library
   L = library_of arith program
 
@@ -208,10 +208,11 @@ module _ (arith : Arith) (program : ProgramTree) (typed : is_well_typed program 
   function_is comp n f w = library_function comp w.section w.is n ∙
       ap (option_map (function_of arith faces.main w.section.structs)) w.item
 
-  -- what functions do, if it returns, returns a value of the result's kind
+  -- what functions that don't perform do, if it returns, returns a value of the result's kind
   abbrev BodyGood : Body → Type 0
   BodyGood body =
-      (number : ℕ) (here : Here) (f : TypedFunction) → function_at program here.comp number ≡ Some f → (s : State) →
+      (number : ℕ) (here : Here) (f : TypedFunction) → roles.scripted here.comp ≡ false →
+      function_at program here.comp number ≡ Some f → (s : State) →
       Lasting (λ v. returns_kind f.result v ≡ true) (body number here s)
 
   -- EXPORTS
@@ -261,8 +262,8 @@ module _ (arith : Arith) (program : ProgramTree) (typed : is_well_typed program 
       ap (option_map (function_of arith faces.main at.section.structs)) first.is in
       ap (leads L to) entry ∙ ap is_some there
 
-  module _ (body : Body) (good : BodyGood body) (comp : ℕ) (section : TypedSection)
-      (is : slice_get program.sections comp ≡ Some section) where
+  module _ (body : Body) (good : BodyGood body) (comp : ℕ) (plain : roles.scripted comp ≡ false)
+      (section : TypedSection) (is : slice_get program.sections comp ≡ Some section) where
     place : ForSection faces faces.comps comp section
     place = for_section faces 0 faces.comps program.sections sections_so comp section is
 
@@ -300,7 +301,7 @@ module _ (arith : Arith) (program : ProgramTree) (typed : is_well_typed program 
               lasting_then (λ v. returns_kind f.item.result v ≡ true) (λ v. returns_kind signature.result v ≡ true)
               (body n (record { comp = comp; first = length (s.memory comp) }) (begun comp g args s))
               (λ v t. back_own v (done comp g (length (s.memory comp)) t))
-              (good n (record { comp = comp; first = length (s.memory comp) }) f.item at (begun comp g args s))
+              (good n (record { comp = comp; first = length (s.memory comp) }) f.item plain at (begun comp g args s))
               (λ v k t.
               subst (λ x. returns_kind x.result v ≡ true) f.gives k)));
         }
@@ -431,8 +432,8 @@ module _ (arith : Arith) (program : ProgramTree) (typed : is_well_typed program 
         (called L body) calls_fit left.exit (comp == faces.main && bytes_eq f.name main_name) f.close_line t ok
         (main_int n f item))
 
-  step_good : (body : Body) → BodyGood body → BodyGood (run_step L body)
-  step_good body good number here f h s =
+  run_good : (body : Body) → BodyGood body → BodyGood (run_step L body)
+  run_good body good number here f plain h s =
       let w = whole here.comp number f h in
       lasting_then (λ g. function L here.comp number ≡ Some g) (λ v. returns_kind f.result v ≡ true)
       (found (function L here.comp number) s) (λ g s. g.does (calls L body) here s)
@@ -441,11 +442,21 @@ module _ (arith : Arith) (program : ProgramTree) (typed : is_well_typed program 
       sym (function_is here.comp number f w) ∙ is in
       let same : function_of arith faces.main w.section.structs f ≡ g = cc two in
       subst (λ (x : Function). Lasting (λ v. returns_kind f.result v ≡ true) (x.does (calls L body) here t)) same
-      (does_same body good here.comp w.section w.is number f w.item here.first t).good)
+      (does_same body good here.comp plain w.section w.is number f w.item here.first t).good)
 
-  pub within_good : (n : ℕ) → BodyGood (within (run_step L) n)
-  within_good zero = λ number here f h s. tt
-  within_good (suc n) = step_good (within (run_step L) n) (within_good n)
+  -- a function of a compartment that doesn't perform does its own step
+  step_good : (body : Body) → BodyGood body → BodyGood (scripted_step L roles (run_step L) body)
+  step_good body good number here f plain h s =
+      subst (λ b. Lasting (λ v. returns_kind f.result v ≡ true)
+      (if b then performs L body (rows_left roles here.comp s.trace) number here s else
+      run_step L body number here s)) (sym plain) (run_good body good number here f plain h s)
+
+  abbrev its_bodies : (open_calls : ℕ) → Body
+  its_bodies = bodies_of arith program roles
+
+  pub within_good : (n : ℕ) → BodyGood (its_bodies n)
+  within_good zero = λ number here f plain h s. tt
+  within_good (suc n) = step_good (its_bodies n) (within_good n)
 
   -- a function of the library is one of the program
   record OfTree (comp n : ℕ) (g : Function) : Type 0 where
@@ -472,27 +483,27 @@ module _ (arith : Arith) (program : ProgramTree) (typed : is_well_typed program 
         (sym (library_function comp section is n) ∙ h) in
         record { section = section; is = is; f = made.item; item = made.is; same = made.gives }
 
-  pub asks_alone : (n number : ℕ) (here : Here) (g : Function) → function L here.comp number ≡ Some g → (s : State) →
-      g.does (called L (within (run_step L) n)) here s ≡ g.does (calls L (within (run_step L) n)) here s
-  asks_alone n number here g h s =
+  pub asks_alone : (n number : ℕ) (here : Here) (g : Function) → roles.scripted here.comp ≡ false →
+      function L here.comp number ≡ Some g → (s : State) →
+      g.does (called L (its_bodies n)) here s ≡ g.does (calls L (its_bodies n)) here s
+  asks_alone n number here g plain h s =
       let t = of_tree here.comp number g h in
-      subst (λ (x : Function). x.does (called L (within (run_step L) n)) here s ≡
-      x.does (calls L (within (run_step L) n)) here s) t.same
-      (does_same (within (run_step L) n) (within_good n) here.comp t.section t.is number t.f t.item here.first
-      s).same
+      subst (λ (x : Function). x.does (called L (its_bodies n)) here s ≡ x.does (calls L (its_bodies n)) here s)
+      t.same
+      (does_same (its_bodies n) (within_good n) here.comp plain t.section t.is number t.f t.item here.first s).same
 
-  pub returned_good : (n number : ℕ) (here : Here) (f : TypedFunction) → function_at program here.comp number ≡ Some f →
-      (s t : State) (v : Option Value) → within (run_step L) n number here s ≡ Reached v t →
-      returns_kind f.result v ≡ true
-  returned_good n number here f h s t v is =
-      reached_good (λ v. returns_kind f.result v ≡ true) (within (run_step L) n number here s) v t is
-      (within_good n number here f h s)
+  pub returned_good : (n number : ℕ) (here : Here) (f : TypedFunction) → roles.scripted here.comp ≡ false →
+      function_at program here.comp number ≡ Some f →
+      (s t : State) (v : Option Value) → its_bodies n number here s ≡ Reached v t → returns_kind f.result v ≡ true
+  returned_good n number here f plain h s t v is =
+      reached_good (λ v. returns_kind f.result v ≡ true) (its_bodies n number here s) v t is
+      (within_good n number here f plain h s)
 
-  pub crosses_itself : (n index number : ℕ) (here : Here) (proto : Proto) →
+  pub crosses_itself : (n index number : ℕ) (here : Here) (proto : Proto) → roles.scripted here.comp ≡ false →
       export_at faces here.comp index ≡ Some proto → entry_in program here.comp (Export index) ≡ Some number →
-      (s t : State) (v : Option Value) → within (run_step L) n number here s ≡ Reached v t →
+      (s t : State) (v : Option Value) → its_bodies n number here s ≡ Reached v t →
       option_value (crossing (Some proto) v) ≡ v
-  crosses_itself n index number here proto h entry s t v is =
+  crosses_itself n index number here proto plain h entry s t v is =
       let at = exported here.comp index proto h in
       let placed : position (λ f. bytes_eq f.name proto.name) at.section.functions ≡ Some number =
       sym (λ i. place_of_export (h i) (at.is i)) ∙ entry in
@@ -504,4 +515,4 @@ module _ (arith : Arith) (program : ProgramTree) (typed : is_well_typed program 
       ap (λ o. slice_get (section_functions o) number) at.is ∙ passing.is in
       crossing_itself proto.result passing.item.result
       (and_rest (same_types (signature_of passing.item).params (proto_signature proto).params) _ signature) v
-      (returned_good n number here passing.item own s t v is)
+      (returned_good n number here passing.item plain own s t v is)

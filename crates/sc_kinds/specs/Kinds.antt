@@ -1,9 +1,9 @@
 -- Values have the kind of their types: words for integers, pointers and null for pointers. So no operator of a program
 -- meets an operand that it has no meaning for, and numbers alone cross between compartments.
 use Rattle.sc_event.specs.Prelude.{export_at}
-use Rattle.sc_core.specs.Prelude.{Arith, Blocks, Function, Here, IsWellTyped, Reached, Scope, State, called, calls}
-use Rattle.sc_core.specs.Prelude.{crossing, entry_in, function, is_pointer, judged, library_of, option_value, run_step}
-use Rattle.sc_core.specs.Prelude.{ways, within}
+use Rattle.sc_core.specs.Prelude.{Arith, Blocks, Body, Function, Here, IsWellTyped, Reached, Roles, Scope, State}
+use Rattle.sc_core.specs.Prelude.{called, calls, crossing, entry_in, function, is_pointer, judged, library_of}
+use Rattle.sc_core.specs.Prelude.{option_value, run_step, scripted_step, ways, within}
 use Rattle.std.specs.Prelude.{◌≡◌, ℕ, Bool, true, false, not, ◌&&◌, List, [], ◌∷◌, Option, None, Some, Ok, slice_get}
 use Rattle.sc_core.specs.declared.ty.Ty.{Ty}
 use Rattle.sc_core.specs.declared.expr.TypedExpr.{TypedExpr}
@@ -57,26 +57,30 @@ pub record ValuesHaveKinds : Type 0 where
       (judged scope e).fits ≡ true → (judged scope e).place ≡ true →
       (blocks : Blocks) (q : Value) → ways arith structs here params e want.Place blocks ≡ Ok q → is_of true q ≡ true
 
--- what functions of a well-typed program return, and what they ask for
+-- what functions do where at most so many calls may be open and some compartments perform
+abbrev pub bodies_of : Arith → ProgramTree → Roles → (open_calls : ℕ) → Body
+bodies_of arith program roles =
+    within (scripted_step (library_of arith program) roles (run_step (library_of arith program)))
+
+-- what functions of a well-typed program return, and what they ask for, where they don't perform
 pub record ResultsHaveKinds : Type 0 where
   -- a function returns a value of its result's kind
   pub returned : (arith : Arith) (program : ProgramTree) → IsWellTyped program →
-      (open_calls number : ℕ) (here : Here) (f : TypedFunction) → function_at program here.comp number ≡ Some f →
-      (s t : State) (v : Option Value) → within (run_step (library_of arith program)) open_calls number here s ≡
-      Reached v t →
+      (roles : Roles) (open_calls number : ℕ) (here : Here) (f : TypedFunction) → roles.scripted here.comp ≡ false →
+      function_at program here.comp number ≡ Some f →
+      (s t : State) (v : Option Value) → bodies_of arith program roles open_calls number here s ≡ Reached v t →
       returns_kind f.result v ≡ true
   -- what an export returns is what crosses: a word where its prototype has a result, and else nothing
   pub crosses : (arith : Arith) (program : ProgramTree) → IsWellTyped program →
-      (open_calls index number : ℕ) (here : Here) (proto : Proto) →
-      export_at program.interfaces here.comp index ≡ Some proto →
+      (roles : Roles) (open_calls index number : ℕ) (here : Here) (proto : Proto) →
+      roles.scripted here.comp ≡ false → export_at program.interfaces here.comp index ≡ Some proto →
       entry_in program here.comp (Export index) ≡ Some number →
-      (s t : State) (v : Option Value) → within (run_step (library_of arith program)) open_calls number here s ≡
-      Reached v t →
+      (s t : State) (v : Option Value) → bodies_of arith program roles open_calls number here s ≡ Reached v t →
       option_value (crossing (Some proto) v) ≡ v
   -- a function makes only calls that may be made: it does the same where nobody asks whether they may
   pub allowed : (arith : Arith) (program : ProgramTree) → IsWellTyped program →
-      (open_calls number : ℕ) (here : Here) (f : Function) →
+      (roles : Roles) (open_calls number : ℕ) (here : Here) (f : Function) → roles.scripted here.comp ≡ false →
       function (library_of arith program) here.comp number ≡ Some f →
       (s : State) →
-      f.does (called (library_of arith program) (within (run_step (library_of arith program)) open_calls)) here s
-      ≡ f.does (calls (library_of arith program) (within (run_step (library_of arith program)) open_calls)) here s
+      f.does (called (library_of arith program) (bodies_of arith program roles open_calls)) here s
+      ≡ f.does (calls (library_of arith program) (bodies_of arith program roles open_calls)) here s

@@ -1,22 +1,25 @@
--- No compartment that performs is blamed, whatever the trace is.
+-- No compartment that performs is blamed, whatever the trace is, and only compartments that there are.
 use Rattle.sc_laws.proofs.Common.{Action, BadType, Blamed, Body, Bool, Call, CallTarget, Cause, Cross, Ended, EventsOut}
 use Rattle.sc_laws.proofs.Common.{Export, Here, Input, Kept, Library, List, Main, Memory, Obedient, Option, Output, Own}
-use Rattle.sc_laws.proofs.Common.{Piece, Property, Reached, Roles, Row, RunEnd, Set, SourceRun, State, Stopped}
+use Rattle.sc_laws.proofs.Common.{Piece, Property, Reached, Roles, Row, RunEnd, SourceRun, State, Stopped}
 use Rattle.sc_laws.proofs.Common.{TurnsOut, Value, Word, [], acts, asks, back_cross, back_own, begun, call_cross}
 use Rattle.sc_laws.proofs.Common.{call_own, called, calls, crossed, done, false, first_state, found_kept, function}
 use Rattle.sc_laws.proofs.Common.{if◌then◌else◌, is_number, length, map, may_call, performs, reaches, refl, roles_run}
 use Rattle.sc_laws.proofs.Common.{rows_left, run_by, run_in, run_step, run_to, scripted_step, stopped_at, subst, suc}
 use Rattle.sc_laws.proofs.Common.{take, tell, then_kept, true, turn, turn_of, within, word_in, zero, ℕ, ◌∷◌, ◌≡◌}
+use Rattle.sc_laws.proofs.Common.{Function, arith, slice_get, slice_index_or, ◌<◌}
+use Rattle.std.proofs.Common.{Some}
 use Rattle.sc_event.specs.declared.row.Action.TheVariants as act
 use Rattle.sc_laws.proofs.Growing.{BodyGoes, calls_go, within_goes}
 use Rattle.sc_laws.proofs.Matching.{scripted_goes_on}
 use Rattle.sc_laws.proofs.Keeping.{IsKept, function_keeps}
 
-module _ (set : Set) where
-  -- an end that blames nobody of the set
+-- that a compartment may be blamed
+module _ (Fair : ℕ → Type 0) where
+  -- an end that blames no other
   abbrev Spares : RunEnd → Type 0
   Spares Ended = Unit {0}
-  Spares (Blamed comp cause line) = set comp ≡ false
+  Spares (Blamed comp cause line) = Fair comp
   Spares TurnsOut = Unit {0}
   Spares EventsOut = Unit {0}
 
@@ -30,7 +33,7 @@ module _ (set : Set) where
   turned zero s = record { after = tt }
   turned (suc n) s = record { after = tt }
 
-  is_kept : (here : Here) → set here.comp ≡ false → IsKept sparing here
+  is_kept : (here : Here) → Fair here.comp → IsKept sparing here
   is_kept here clear =
       record { memory = λ s blocks h. tt; turned = λ s h. turned s.turns s; blamed = λ s cause line h. clear }
 
@@ -62,7 +65,7 @@ module _ (set : Set) where
     called_spares from Input args s = record { after = tt }
     called_spares from Output args s = record { after = tt }
 
-    calls_spare : (from : ℕ) → set from ≡ false → (target : CallTarget) (args : List Value) (s : State) →
+    calls_spare : (from : ℕ) → Fair from → (target : CallTarget) (args : List Value) (s : State) →
         Kept sparing (calls library body from target args s)
     calls_spare from clear target args s = by (may_call library from target args) where
       by : (b : Bool) →
@@ -80,11 +83,12 @@ module _ (set : Set) where
       by false = record { after = tt }
 
     run_step_spares : Obedient library → BodyGoes body → (number : ℕ) (here : Here) (s : State) →
-        set here.comp ≡ false → Kept sparing (run_step library body number here s)
-    run_step_spares obedient goes number here s clear =
+        ((f : Function) → function library here.comp number ≡ Some f → Fair here.comp) →
+        Kept sparing (run_step library body number here s)
+    run_step_spares obedient goes number here s fair =
         found_kept sparing (function library here.comp number) s (λ f s. f.does (calls library body) here s) tt (λ f is.
-        function_keeps library obedient here.comp number f is sparing here (is_kept here clear) (calls library body)
-        (calls_go library body goes) (λ target args s h. calls_spare here.comp clear target args s) s tt)
+        function_keeps library obedient here.comp number f is sparing here (is_kept here (fair f is)) (calls library body)
+        (calls_go library body goes) (λ target args s h. calls_spare here.comp (fair f is) target args s) s tt)
 
     acts_spare : (action : Action) (next again : State → Piece (Option Value)) → ((s : State) → Kept sparing (next s)) →
         ((s : State) → Kept sparing (again s)) → (comp : ℕ) (s : State) →
@@ -111,18 +115,19 @@ module _ (set : Set) where
               (spares number here) here.comp s
           by next false = record { after = tt }
 
-  module _ (library : Library) (obedient : Obedient library) (rows : ℕ → List Row) where
-    abbrev roles : Roles
-    roles = record { scripted = set; rows = rows }
-
+  module _ (library : Library) (obedient : Obedient library) (roles : Roles)
+      (fair : (comp number : ℕ) (f : Function) → roles.scripted comp ≡ false → function library comp number ≡ Some f →
+      Fair comp) where
     step_spares : (body : Body) → BodyGoes body → BodySpares body →
         BodySpares (scripted_step library roles (run_step library) body)
-    step_spares body goes spares number here s = by (set here.comp) refl where
-      by : (b : Bool) → set here.comp ≡ b →
+    step_spares body goes spares number here s = by (roles.scripted here.comp) refl where
+      by : (b : Bool) → roles.scripted here.comp ≡ b →
           Kept sparing (if b then performs library body (rows_left roles here.comp s.trace) number here s else run_step
           library body number here s)
       by true is = performs_spare library body spares (rows_left roles here.comp s.trace) number here s
-      by false is = run_step_spares library body spares obedient goes number here s is
+      by false is =
+          run_step_spares library body spares obedient goes number here s
+          (λ f found_f. fair here.comp number f is found_f)
 
     within_spares : (n : ℕ) → BodySpares (within (scripted_step library roles (run_step library)) n)
     within_spares zero number here s = record { after = tt }
@@ -151,11 +156,26 @@ module _ (set : Set) where
     by true = tt
     by false = h
 
-pub nobody_is_blamed : (library : Library) → Obedient library →
-    (globals : Memory) (inputs : List ℕ) (turns events : ℕ) (roles : Roles) →
-    (comp : ℕ) (cause : Cause) (line : ℕ) → (stopped_at events
-    (roles_run library globals inputs turns roles).behaviour).end
-    ≡ Blamed comp cause line → roles.scripted comp ≡ false
-nobody_is_blamed library obedient globals inputs turns events roles comp cause line ends =
-    subst (Spares roles.scripted) ends (stopped_spares roles.scripted events (roles_run library globals inputs turns
-    roles).behaviour (run_by_spares roles.scripted library obedient roles.rows globals inputs turns))
+module _ (library : Library) (obedient : Obedient library) (globals : Memory) (inputs : List ℕ) (turns events : ℕ)
+    (roles : Roles) (comp : ℕ) (cause : Cause) (line : ℕ)
+    (ends : (stopped_at events (roles_run library globals inputs turns roles).behaviour).end ≡ Blamed comp cause line)
+  where
+    fair_blame : (Fair : ℕ → Type 0) →
+        ((comp number : ℕ) (f : Function) → roles.scripted comp ≡ false → function library comp number ≡ Some f →
+        Fair comp) → Fair comp
+    fair_blame Fair fair =
+        subst (Spares Fair) ends (stopped_spares Fair events (roles_run library globals inputs turns roles).behaviour
+        (run_by_spares Fair library obedient roles fair globals inputs turns))
+
+    pub nobody_is_blamed : roles.scripted comp ≡ false
+    nobody_is_blamed = fair_blame (λ c. roles.scripted c ≡ false) (λ c number f plain found_f. plain)
+
+    pub blamed_is_there : comp < length library.functions
+    blamed_is_there =
+        fair_blame (λ c. c < length library.functions)
+        (λ c number f plain found_f. listed library.functions c number f found_f) where
+          listed : (functions : List (List Function)) (c number : ℕ) (f : Function) →
+              slice_get (slice_index_or functions c []) number ≡ Some f → c < length functions
+          listed [] c number f is = absurd (cc)
+          listed (x ∷ xs) zero number f is = omega arith
+          listed (x ∷ xs) (suc c) number f is = omega (arith, listed xs c number f is)

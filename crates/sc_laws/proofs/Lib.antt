@@ -24,6 +24,7 @@ pub mod Programs
 pub mod Rooms
 pub mod Rows
 pub mod Runs
+pub mod Scripts
 pub mod Statements
 pub mod Turns
 pub mod Twins

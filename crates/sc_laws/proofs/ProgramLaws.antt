@@ -11,10 +11,13 @@ use Rattle.sc_laws.proofs.Programs.{program_obeys}
 use Rattle.sc_laws.proofs.Fixed.{has_fixed_point}
 use Rattle.sc_laws.proofs.More.{more_runs, more_scripted, runs_agree, scripts_agree, wrapping_matches}
 use Rattle.sc_laws.proofs.Legality.{runs_legal, scripts_legal}
-use Rattle.sc_laws.proofs.Blames.{nobody_is_blamed}
+use Rattle.sc_laws.proofs.Blames.{blamed_is_there, nobody_is_blamed}
+use Rattle.sc_laws.specs.Laws.{BlamedAreThere}
+use Rattle.sc_laws.proofs.Common.{functions_in, length-map, subst, ◌<◌}
 use Rattle.sc_laws.proofs.FollowingRuns.{tells_with_more, keeps_blames, passes_blames, least_is_chain}
 use Rattle.sc_laws.proofs.Chaining.{chain_rises, has_chain}
 use Rattle.sc_laws.proofs.Rooms.{keeps_rooms}
+use Rattle.sc_laws.proofs.Scripts.{spends_along}
 use Rattle.sc_laws.proofs.Turns.{spends_turns}
 
 pub programs_obey : ProgramsObey
@@ -91,6 +94,15 @@ nobody_who_performs_is_blamed = record {
       (roles_in program.interfaces.main set trace);
 }
 
+pub blamed_are_there : BlamedAreThere
+blamed_are_there = record {
+  libraries = blamed_is_there;
+  programs = λ arith program set trace inputs turns events comp cause line ends.
+      subst (λ n. comp < n) (length-map program.sections (functions_in arith program.interfaces.main))
+      (blamed_is_there (library_of arith program) (program_obeys arith program) (globals_of program.sections) inputs
+      turns events (roles_in program.interfaces.main set trace) comp cause line ends);
+}
+
 -- what holds of libraries that obey holds of programs
 of_sets : (law : List Event → (Set → SourceRun) → Type 0) →
     ((library : Library) → Obedient library → (globals : Memory) (inputs : List ℕ) (turns : ℕ) (trace : List Event) →
@@ -131,4 +143,5 @@ pub turns_out_means_turns : TurnsOutMeansTurns
 turns_out_means_turns = record {
   libraries = spends_turns;
   programs = λ arith program. spends_turns (library_of arith program) (program_obeys arith program);
+  scripts = spends_along;
 }

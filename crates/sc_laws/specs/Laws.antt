@@ -120,6 +120,19 @@ pub record NobodyWhoPerformsIsBlamed : Type 0 where
       (comp : ℕ) (cause : Cause) (line : ℕ) →
       (scripted_by arith program set trace inputs turns events).end ≡ Blamed comp cause line → set comp ≡ false
 
+-- only compartments that there are are blamed
+pub record BlamedAreThere : Type 0 where
+  pub libraries : (library : Library) → Obedient library →
+      (globals : Memory) (inputs : List ℕ) (turns events : ℕ) (roles : Roles) →
+      (comp : ℕ) (cause : Cause) (line : ℕ) →
+      (stopped_at events (roles_run library globals inputs turns roles).behaviour).end ≡ Blamed comp cause line →
+      comp < length library.functions
+  pub programs : (arith : Arith) (program : ProgramTree) (set : Set) (trace : List Event) (inputs : List ℕ)
+      (turns events : ℕ) →
+      (comp : ℕ) (cause : Cause) (line : ℕ) →
+      (scripted_by arith program set trace inputs turns events).end ≡ Blamed comp cause line →
+      comp < length program.sections
+
 -- SETS THAT PERFORM THEIR PARTS OF A TRACE
 -- what holds of the runs in which sets perform: of every library that obeys, and so of every program
 pub record HoldsOfSets (law : List Event → (Set → SourceRun) → Type 0) : Type 0 where

@@ -9,6 +9,7 @@ pub use Rattle.sc_laws.specs.Growth.{Goes, Gone, Grown, StopsSo, last}
 pub use Rattle.sc_laws.specs.Interactions.{Alike, Asks, Blames, Doing, FunctionsMatch, Gives, GoFrom, Halts}
 pub use Rattle.sc_laws.specs.Interactions.{Interaction, Lasts, LibrariesMatch, Match, Never, Obedient, Plays, Reads}
 pub use Rattle.sc_laws.specs.Interactions.{Spends, Stores, played}
+pub use Rattle.sc_laws.specs.Laws.{BlamedAreThere}
 pub use Rattle.sc_laws.specs.Laws.{AreTold, BlameIsPassed, BlameRemains, ChainExists, ChainIsLeast, ChainRises}
 pub use Rattle.sc_laws.specs.Laws.{ChainsRise, DeepestIsReached, EmptySetIsMeaning, FixedPoint, HasChain, HasFixedPoint}
 pub use Rattle.sc_laws.specs.Laws.{HoldsOfSets, IsFixed, IsSteady, KeepsBlames, KeepsRooms, LeastIsChain, LeavesRooms}
@@ -18,4 +19,5 @@ pub use Rattle.sc_laws.specs.Laws.{WrappedAgrees, WrappingAgrees}
 pub use Rattle.sc_laws.specs.Runs.{library_run, performed_by, roles_run}
 pub use Rattle.sc_laws.specs.Steady.{AgreesInRoom, AgreesUntilBlame, ExtendedByMore, Extends, RunsUntilBlame, blamed}
 pub use Rattle.sc_laws.specs.Steady.{blamed_run, now, same, same_run}
-pub use Rattle.sc_laws.specs.Turns.{IsSpent, SpendsTurns, StopsSpent, TurnsOutMeansTurns, main_call}
+pub use Rattle.sc_laws.specs.Turns.{ExportsLead, IsSpent, SpendsAlong, SpendsTurns, StopsSpent, TurnsOutMeansTurns}
+pub use Rattle.sc_laws.specs.Turns.{main_call, scripted_call}

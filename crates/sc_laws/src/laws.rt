@@ -2,6 +2,7 @@
 
 ghost use Rattle.sc_laws.specs.Prelude.{AgreeingRunAlike, BlameIsPassed, BlameRemains, ChainExists, ChainIsLeast};
 ghost use Rattle.sc_laws.specs.Prelude.{ChainsRise, DeepestIsReached, EmptySetIsMeaning, FixedPoint, MeaningGoesOn};
+ghost use Rattle.sc_laws.specs.Prelude.{BlamedAreThere};
 ghost use Rattle.sc_laws.specs.Prelude.{MoreGoesOn, MoreMayPerform, NobodyWhoPerformsIsBlamed, OnlyGoesOn};
 ghost use Rattle.sc_laws.specs.Prelude.{OtherLinesAgree, ProgramsObey, RoomsAreKept, TracesAreLegal};
 ghost use Rattle.sc_laws.specs.Prelude.{TurnsOutMeansTurns, WrappedAgrees, WrappingAgrees};
@@ -79,6 +80,11 @@ pub fn traces_are_legal()
 /// No compartment that performs its part of a trace is blamed, whatever the trace is.
 pub fn nobody_who_performs_is_blamed()
     ensures { NobodyWhoPerformsIsBlamed }
+{}
+
+/// Only compartments that there are are blamed, also where some perform.
+pub fn blamed_are_there()
+    ensures { BlamedAreThere }
 {}
 
 /// The blames of a chain come after ever more events of the trace, all before its end, and their compartments differ.

@@ -34,6 +34,7 @@ use Rattle.sc_relation.proofs.Opening.{Prepared, injection_opened, other_range, 
 use Rattle.sc_relation.proofs.Opening.{blocks_opened, injection_grows, own_guarded, above_guarded, objects_placed}
 use Rattle.sc_relation.proofs.Opening.{length_opened}
 use Rattle.sc_hart.proofs.Steady.{walks_steady}
+use Rattle.sc_relation.proofs.Coming.{came_by}
 
 -- a call of a function that begins here, with its frame from this address on
 abbrev pub activated : Standpoint → Joint → FrameTree → (low ra_is : ℕ) → Activation
@@ -169,6 +170,7 @@ module _ (T : Setting) (formed : IsWellFormed T.image) (inputs : All IsWord T.in
         saved = λ k d honest. begins.settled.saved k d honest ∙ sym (floor_there k d);
         inputs = begins.settled.inputs;
         steady = walks_steady T.image T.inputs formed inputs n _ _ enters.walks begins.settled.steady;
+        came = came_by T n _ _ enters.walks begins.settled.came;
         room = room_opened;
         told = told_opened (length x.meant.trace) P.comp f.room x.meant.frames begins.settled.told;
       }
@@ -312,6 +314,7 @@ module _ (T : Setting) (formed : IsWellFormed T.image) (inputs : All IsWord T.in
           saved = λ k d honest. settled.saved k d honest ∙ floor_there k d;
           inputs = settled.inputs;
           steady = settled.steady;
+          came = settled.came;
           room = λ k honest. omega (arith, begins.settled.room k honest, rooms_same k);
           told = told_closed (length z.meant.trace) P.comp f.room z.meant.frames settled.told;
         }

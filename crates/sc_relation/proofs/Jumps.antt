@@ -12,6 +12,7 @@ use Rattle.sc_image.specs.WellFormed.{IsWord, IsWellFormed}
 use Rattle.sc_hart.specs.Code.{Fetches}
 use Rattle.sc_hart.proofs.Inside.{IsInside, code_inside}
 use Rattle.sc_hart.proofs.Steady.{walks_steady}
+use Rattle.sc_relation.proofs.Coming.{came_by}
 use Rattle.sc_hart.proofs.Steps.{jal}
 use Rattle.sc_tac.specs.declared.stmt.TacStmt.TheOpen as tac
 use Rattle.sc_tac.specs.Code.{Temps}
@@ -76,6 +77,8 @@ module _ (T : Setting) (R : Running) (formed : IsWellFormed T.image) (words : Al
         steady =
             walks_steady T.image T.inputs formed words leads.steps (machine P x) (machine P (record x { pc = pc }))
             leads.run ready.settled.steady;
+        came =
+            came_by T leads.steps (machine P x) (machine P (record x { pc = pc })) leads.run ready.settled.came;
         room = ready.settled.room;
         told = ready.settled.told;
       };

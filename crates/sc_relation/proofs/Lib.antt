@@ -1,6 +1,7 @@
 pub mod Access
 pub mod Calling
 pub mod Clear
+pub mod Coming
 pub mod Ending
 pub mod Following
 pub mod Frames

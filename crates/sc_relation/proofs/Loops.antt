@@ -17,6 +17,7 @@ use Rattle.sc_image.specs.Walks.{Walks}
 use Rattle.sc_hart.specs.Code.{Fetches}
 use Rattle.sc_hart.proofs.Inside.{code_inside}
 use Rattle.sc_hart.proofs.Steady.{walks_steady}
+use Rattle.sc_relation.proofs.Coming.{came_by}
 use Rattle.sc_hart.proofs.Steps.{op_imm}
 use Rattle.sc_tac.specs.declared.stmt.TacStmt.TheOpen as tac
 use Rattle.sc_tac.specs.Code.{Temps, Codes}
@@ -27,7 +28,7 @@ use Rattle.sc_tac.specs.Points.{live_at_start, in_next, in_body, in_head, loop_p
 use Rattle.sc_select.specs.Lines.{Line}
 use Rattle.sc_select.specs.Selection.{Piece as Code, cycle, jump_back}
 use Rattle.sc_select.specs.Linking.{low_after}
-use Rattle.sc_relation.specs.Stretches.{Setting, Joint, Standpoint, machine, Settled, Leads, Overflows}
+use Rattle.sc_relation.specs.Stretches.{Setting, Joint, Standpoint, Came, machine, Settled, Leads, Overflows}
 use Rattle.sc_relation.specs.Following.{Running, Ends, ends_of, seen_from, row, Ready, Arrives}
 use Rattle.sc_relation.specs.Following.{ExitGives, Gives, Comes, StandsAt, Starts, Follows}
 use Rattle.sc_relation.proofs.Clear.{all_front, all_back}
@@ -223,6 +224,9 @@ module _ (T : Setting) (R : Running) (formed : IsWellFormed T.image) (words : Al
               subst (λ y. IsSteady T.image (machine P y)) same
               (walks_steady T.image T.inputs formed words leads.steps (machine P x) (machine P y) leads.run
               ready.settled.steady);
+          came =
+              subst (λ y. Came T (machine P y)) same
+              (came_by T leads.steps (machine P x) (machine P y) leads.run ready.settled.came);
           room = ready.settled.room;
           told = ready.settled.told;
         };
@@ -381,6 +385,7 @@ module _ (T : Setting) (R : Running) (formed : IsWellFormed T.image) (words : Al
               saved = ready.settled.saved;
               inputs = ready.settled.inputs;
               steady = ready.settled.steady;
+              came = ready.settled.came;
               room = ready.settled.room;
               told = ready.settled.told;
             };

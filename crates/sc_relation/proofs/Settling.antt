@@ -24,6 +24,7 @@ use Rattle.sc_relation.specs.Following.{seen_from}
 use Rattle.sc_relation.proofs.Frames.{own_inside}
 use Rattle.sc_relation.proofs.Storing.{CellsKept, other_data, blocks_kept, guarded_cells, was, guarded_kept}
 use Rattle.sc_relation.proofs.Storing.{blocks_after}
+use Rattle.sc_relation.proofs.Coming.{came_by}
 
 -- both sides, where the code has come to a pc, with these registers and bytes
 abbrev pub moved : Joint → (pc : ℕ) → Registers → Bytes → Joint
@@ -44,6 +45,7 @@ module _ (T : Setting) (formed : IsWellFormed T.image) (inputs : All IsWord T.in
     saved = s.saved;
     inputs = s.inputs;
     steady = walks_steady T.image T.inputs formed inputs n _ _ walks s.steady;
+    came = came_by T n _ _ walks s.came;
     room = s.room;
     told = s.told;
   }
@@ -84,6 +86,7 @@ module _ (T : Setting) (formed : IsWellFormed T.image) (inputs : All IsWord T.in
       saved = s.saved;
       inputs = s.inputs;
       steady = walks_steady T.image T.inputs formed inputs n _ _ walks s.steady;
+      came = came_by T n _ _ walks s.came;
       room = s.room;
       told = s.told;
     }

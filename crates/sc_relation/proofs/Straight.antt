@@ -312,6 +312,7 @@ module _ (T : Setting) (R : Running) where
     saved = s.saved;
     inputs = s.inputs;
     steady = s.steady;
+    came = s.came;
     room = s.room;
     told = s.told;
   }
@@ -323,6 +324,7 @@ module _ (T : Setting) (R : Running) where
     saved = s.saved;
     inputs = s.inputs;
     steady = s.steady;
+    came = s.came;
     room = s.room;
     told = s.told;
   }

@@ -21,12 +21,13 @@ use Rattle.sc_hart.specs.Words.{word}
 use Rattle.sc_select.specs.Linking.{Addresses}
 use Rattle.sc_relation.specs.Blocks.{Injection, StandsFor, LiveAt, BlocksMatch, Guarded}
 
--- what stays for a whole run: the image and the inputs, the compartments that perform in place of running their code,
--- how many steps a turn pays for, where what code refers to lies, how many globals each compartment has, which calls
--- its code makes with so many arguments, and which of them come back with a value
+-- what stays for a whole run: the image, the inputs and the state that it began in, the compartments that perform in
+-- place of running their code, how many steps a turn pays for, where what code refers to lies, how many globals each
+-- compartment has, which calls its code makes with so many arguments, and which of them come back with a value
 pub record Setting : Type 0 where
   pub image : ImageParts
   pub inputs : List ℕ
+  pub from : State
   pub performs : ℕ → Bool
   pub turn_pays : ℕ
   pub addresses : ℕ → Addresses
@@ -58,6 +59,11 @@ machine P x = at x.pc x.regs x.bytes
     (record { active = P.comp; saved = x.saved; cross = P.cross; input = x.input; trace = x.meant.trace })
 
 module _ (T : Setting) where
+  -- the machine's run came to a state
+  pub record Came (to : State) : Type 0 where
+    pub steps : ℕ
+    pub walks : Walks T.image T.inputs steps T.from to
+
   -- what stands on both sides between any two statements, calls or functions
   pub record Settled (P : Standpoint) (x : Joint) : Type 0 where
     pub blocks : BlocksMatch T.image T.performs P.floor x.inj x.meant.memory x.bytes
@@ -67,6 +73,7 @@ module _ (T : Setting) where
     pub saved : (k : ℕ) → k ≢ P.comp → T.performs k ≡ false → slice_index x.saved k ≡ P.floor k
     pub inputs : x.meant.inputs ≡ drop x.input T.inputs
     pub steady : IsSteady T.image (machine P x)
+    pub came : Came (machine P x)
     -- what is open of a stack is no more than the room of the frames that the meaning has open
     pub room : (k : ℕ) → T.performs k ≡ false → stack_top k ≤ P.floor k + open_room k x.meant
     -- each change of frames was made within the trace

@@ -36,7 +36,7 @@ module _ (program : TacTree) (roles : Roles) (n : ℕ) where
   abbrev library : Library
   library = code_library wrapping program
 
-  bodies_go : BodyGoes (bodies program roles n)
+  pub bodies_go : BodyGoes (bodies program roles n)
   bodies_go =
       within_goes (scripted_step library roles (run_step library))
       (scripted_goes_on library (code_obeys.itself wrapping program) roles) n

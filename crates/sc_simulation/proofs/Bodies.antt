@@ -148,7 +148,7 @@ module _ (program : TacTree) (image : ImageParts) (inputs : List ℕ) (roles : R
           perform P x to index args honest is makes settled base at_base passed stands
       cross_by false to index is makes stands =
           cross_follows program image inputs roles turn_pays addresses rules functions results linked words n runs P x
-          to index args honest is makes settled base at_base passed stands
+          to index args is makes settled base at_base passed stands
 
       follow : (target : CallTarget) → T.makes P.comp target (length args) ≡ true → CallStands T P x target →
           CallComes T P x target (calls_of program roles n P.comp target args x.meant)
@@ -167,53 +167,60 @@ module _ (program : TacTree) (image : ImageParts) (inputs : List ℕ) (roles : R
           follow P x args honest settled base at_base passed target makes stands;
     }
 
-  module _ (perform : (n : ℕ) → PerformersFollow program roles T n) where
-    -- what a function does where one more call may be open
-    does_is : (n number : ℕ) (here : Here) (f : TacFnTree) (s : Meant) → roles.scripted here.comp ≡ false →
-        slice_get (functions_in program here.comp) number ≡ Some f →
-        bodies program roles (suc n) number here s ≡
-        (code_function wrapping f).does (calls_of program roles n) here s
-    does_is n number here f s honest its =
-        ap (λ b. if b then performs library (bodies program roles n) (rows_left roles here.comp s.trace) number here s
-        else run_step library (bodies program roles n) number here s) honest ∙
-        ap (λ o. and_then (found o s) (λ f s. f.does (calls_of program roles n) here s))
-        (function_found program here.comp number f its)
+  -- what a function does where one more call may be open
+  does_is : (n number : ℕ) (here : Here) (f : TacFnTree) (s : Meant) → roles.scripted here.comp ≡ false →
+      slice_get (functions_in program here.comp) number ≡ Some f →
+      bodies program roles (suc n) number here s ≡
+      (code_function wrapping f).does (calls_of program roles n) here s
+  does_is n number here f s honest its =
+      ap (λ b. if b then performs library (bodies program roles n) (rows_left roles here.comp s.trace) number here s
+      else run_step library (bodies program roles n) number here s) honest ∙
+      ap (λ o. and_then (found o s) (λ f s. f.does (calls_of program roles n) here s))
+      (function_found program here.comp number f its)
 
-    pub bodies_follow : (n : ℕ) → BodiesFollow program roles T n
-    bodies_follow zero P x number f args ra_is its passes long starts =
-        let code : HasCode image (addresses P.comp) turn_pays P.comp number f =
-        linked.functions P.comp number f its in (
-          length code.code.instrs,
-          (
-            code.paid,
-            inl (record {
-              steps = 0;
-              reached = machine P x;
-              run = stay T.image T.inputs;
-              trace = refl;
-              costs = record { least = omega arith; most = λ all. omega arith };
-            }),
-          ),
-        )
-    bodies_follow (suc n) P x number f args ra_is its passes long starts =
-        let code : HasCode image (addresses P.comp) turn_pays P.comp number f =
-        linked.functions P.comp number f its in
-        let budget : ℕ = length code.code.instrs in
-        let F : Function = code_function wrapping f in
-        let first : ℕ = length (x.meant.memory P.comp) in
-        let here : Here = record { comp = P.comp; first = first } in
-        let start : Meant = begun P.comp F args x.meant in
-        let end : Option Value → Meant → Piece (Option Value) = λ v t. Reached v (done P.comp F first t) in
-        let honest : roles.scripted P.comp ≡ false = not_scripted P.comp starts.honest in (
-          budget,
-          (
-            code.paid,
-            subst (λ piece. FunctionGives T P x budget ra_is (and_then piece end) ⊎
-                Overflows T P x budget (and_then piece end))
-                (sym (does_is n number here f start honest its))
-                (code.emitted.follows T P.comp ((addresses P.comp).function number)
-                (is_placed program image inputs roles.scripted turn_pays addresses rules linked words P.comp number f
-                honest its passes code) (calls_of program roles n)
-                (calls_follow n (bodies_follow n) (perform n)) P x args ra_is refl long starts),
-          ),
-        )
+  pub none_follow : BodiesFollow program roles T 0
+  none_follow P x number f args ra_is its passes long starts =
+      let code : HasCode image (addresses P.comp) turn_pays P.comp number f =
+      linked.functions P.comp number f its in (
+        length code.code.instrs,
+        (
+          code.paid,
+          inl (record {
+            steps = 0;
+            reached = machine P x;
+            run = stay T.image T.inputs;
+            trace = refl;
+            costs = record { least = omega arith; most = λ all. omega arith };
+          }),
+        ),
+      )
+
+  -- from bodies with so many open calls to those with one more
+  pub more_follow : (n : ℕ) → BodiesFollow program roles T n → PerformersFollow program roles T n →
+      BodiesFollow program roles T (suc n)
+  more_follow n runs perform P x number f args ra_is its passes long starts =
+      let code : HasCode image (addresses P.comp) turn_pays P.comp number f =
+      linked.functions P.comp number f its in
+      let budget : ℕ = length code.code.instrs in
+      let F : Function = code_function wrapping f in
+      let first : ℕ = length (x.meant.memory P.comp) in
+      let here : Here = record { comp = P.comp; first = first } in
+      let start : Meant = begun P.comp F args x.meant in
+      let end : Option Value → Meant → Piece (Option Value) = λ v t. Reached v (done P.comp F first t) in
+      let honest : roles.scripted P.comp ≡ false = not_scripted P.comp starts.honest in (
+        budget,
+        (
+          code.paid,
+          subst (λ piece. FunctionGives T P x budget ra_is (and_then piece end) ⊎
+              Overflows T P x budget (and_then piece end))
+              (sym (does_is n number here f start honest its))
+              (code.emitted.follows T P.comp ((addresses P.comp).function number)
+              (is_placed program image inputs roles.scripted turn_pays addresses rules linked words P.comp number f
+              honest its passes code) (calls_of program roles n)
+              (calls_follow n runs perform) P x args ra_is refl long starts),
+        ),
+      )
+
+  pub bodies_follow : ((n : ℕ) → PerformersFollow program roles T n) → (n : ℕ) → BodiesFollow program roles T n
+  bodies_follow perform zero = none_follow
+  bodies_follow perform (suc n) = more_follow n (bodies_follow perform n) (perform n)

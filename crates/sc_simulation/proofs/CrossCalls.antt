@@ -1,13 +1,14 @@
--- Calls of functions of other compartments of a program.
-use Rattle.std.proofs.Common.{◌≡◌, ℕ, suc, ◌≤◌, Bool, true, false, not, ◌||◌, ◌==◌, List, All, length, map, Option}
-use Rattle.std.proofs.Common.{None, Some, refl, sym, ◌∙◌, ap, subst, arith}
-use Rattle.std.specs.Prelude.{slice_get, is_some, nat_lt}
+-- Calls of functions of other compartments of a program: those that code makes, and those of functions that run theirs.
+use Rattle.std.proofs.Common.{All, Bool, List, None, Option, Some, ap, arith, false, inl, inr, length}
+use Rattle.std.proofs.Common.{map, not, ◌<◌, pos, refl, subst, suc, sym, true, ℕ, ⊎_elim, ◌==◌, ◌||◌, ◌∙◌, ◌≡◌, ◌≢◌}
+use Rattle.std.proofs.Common.{◌≤◌}
+use Rattle.std.specs.Prelude.{is_some, nat_lt, slice_get, slice_index, ◌⊎◌}
 use Rattle.std.specs.List.{list_all}
 use Rattle.std.specs.Option.{option_map}
-use Rattle.std.proofs.lemmas.Bool.{and_parts, eqb-true, lt-ltb}
+use Rattle.std.proofs.lemmas.Bool.{and_parts, cases_eq, eqb-true, lt-ltb}
 use Rattle.std.proofs.lemmas.List.{length-map}
 use Rattle.sc_event.specs.Prelude.{export_at, imports, is_function, takes}
-use Rattle.sc_event.specs.declared.event.Event.TheVariants.{Call}
+use Rattle.sc_event.specs.declared.event.Event.TheVariants.{Call, Ret}
 use Rattle.sc_event.specs.declared.interface.Proto.{Proto}
 use Rattle.sc_event.specs.declared.row.Entry.TheVariants.{Export}
 use Rattle.sc_core.specs.declared.cause.Cause.TheVariants.{BadType}
@@ -15,15 +16,14 @@ use Rattle.sc_core.specs.declared.expr.CallTarget.TheVariants.{Cross}
 use Rattle.sc_core.specs.declared.run.RunEnd.TheVariants.{Blamed}
 use Rattle.sc_core.specs.declared.value.Value.{Value}
 use Rattle.sc_core.specs.Calls.{Function, Library, back_cross, begun, call_cross, called, crossed, crossing, done}
-use Rattle.sc_core.specs.Calls.{found}
-use Rattle.sc_core.specs.Calls.{is_word, leads, may_call, option_value, run_in, word_in}
+use Rattle.sc_core.specs.Calls.{found, is_word, leads, may_call, option_value, run_in, word_back, word_in}
 use Rattle.sc_core.specs.Scripts.{Roles}
 use Rattle.sc_core.specs.Value.{wrapping}
-use Rattle.sc_core.specs.Words.{Here, State as Meant, Piece, Reached, Stopped, and_then, tell}
-use Rattle.sc_laws.proofs.Growing.{then_then}
+use Rattle.sc_core.specs.Words.{Here, Piece, Reached, State as Meant, Stopped, and_then, tell}
+use Rattle.sc_laws.proofs.Growing.{back_goes, then_then}
 use Rattle.sc_image.specs.declared.parts.ImageParts.{ImageParts}
-use Rattle.sc_image.specs.Calls.{params_of}
-use Rattle.sc_image.specs.Layout.{gate}
+use Rattle.sc_image.specs.Calls.{export_at as image_export}
+use Rattle.sc_image.specs.Layout.{gate, word_at}
 use Rattle.sc_image.specs.WellFormed.{IsWord}
 use Rattle.sc_image.proofs.Reached.{called_there}
 use Rattle.sc_tac.specs.declared.function.TacFnTree.{TacFnTree}
@@ -32,25 +32,38 @@ use Rattle.sc_tac.specs.Code.{code_function, code_library, function_entered}
 use Rattle.sc_tac.specs.Functions.{IsFunction}
 use Rattle.sc_tac.specs.Programs.{IsProgram, cross_call_fits}
 use Rattle.sc_select.specs.Linking.{Addresses}
-use Rattle.sc_select.specs.Pieces.{sp}
-use Rattle.sc_relation.specs.Stretches.{Setting, Joint, Standpoint, Settled}
-use Rattle.sc_relation.specs.Calls.{ArePassed, CallStands, IsBase}
-use Rattle.sc_simulation.specs.Bodies.{BodiesFollow, IsRun, calls_of, ran}
+use Rattle.sc_select.specs.Pieces.{ra, sp}
+use Rattle.sc_relation.specs.Stretches.{Joint, Overflows, Setting, Settled, Standpoint, machine}
+use Rattle.sc_relation.specs.Calls.{ArePassed, Begins, CallGives, CallStands, FunctionGives, IsBase, IsLeft}
+use Rattle.sc_simulation.specs.Bodies.{BodiesFollow, IsRun}
+use Rattle.sc_simulation.specs.Bodies.{calls_of, ran}
 use Rattle.sc_simulation.specs.Linked.{EntersBy, HasCode, IsLinked, functions_in, setting}
 use Rattle.sc_simulation.specs.Results.{GivesResults, bodies}
-use Rattle.sc_simulation.proofs.Across.{across, begins_across, comes_across, seen_across}
+use Rattle.sc_simulation.proofs.Across.{IsDone, IsMade, across, comes_back, goes_across}
+use Rattle.sc_simulation.proofs.Across.{low_is, opened, seen_across, settled_in, walks_in}
 use Rattle.sc_simulation.proofs.Placing.{word_there}
 use Rattle.sc_simulation.proofs.Sections.{IsEntered, function_found, function_is, is_export}
-use Rattle.sc_simulation.proofs.Turning.{CallComes, turned, where_made, where_turns}
+use Rattle.sc_simulation.proofs.Turning.{CallComes, GoesIn, overflows_in, shows_in, turned, where_made, where_turns}
+use Rattle.sc_image.specs.Step.{jalr_target}
+use Rattle.sc_image.proofs.Telling.{steps_tell}
+use Rattle.sc_hart.proofs.Registers.{read_listed}
+use Rattle.sc_image.specs.State.{reg}
+use Rattle.sc_image.specs.Walks.{Walks}
+use Rattle.sc_hart.proofs.Inside.{code_inside}
+use Rattle.sc_hart.proofs.Steps.{jal, then_go}
+use Rattle.sc_relation.proofs.Settling.{settled_moved}
+use Rattle.sc_relation.proofs.Stretches.{overflows_then}
+use Rattle.sc_simulation.proofs.Crossing.{called_ra, called_sp, crossed_passed}
+use Rattle.sc_simulation.proofs.OwnCalls.{back_to}
 
 -- an export that takes so many arguments
-record IsOffered (program : TacTree) (to index count : ℕ) : Type 0 where
-  proto : Proto
-  export : export_at program.interfaces to index ≡ Some proto
-  takes : length proto.params ≡ count
+pub record IsOffered (program : TacTree) (to index count : ℕ) : Type 0 where
+  pub proto : Proto
+  pub export : export_at program.interfaces to index ≡ Some proto
+  pub takes : length proto.params ≡ count
 
-offered_by : (program : TacTree) (to index count : ℕ) (o : Option Proto) → export_at program.interfaces to index ≡ o →
-    cross_call_fits o None count ≡ true → IsOffered program to index count
+pub offered_by : (program : TacTree) (to index count : ℕ) (o : Option Proto) →
+    export_at program.interfaces to index ≡ o → cross_call_fits o None count ≡ true → IsOffered program to index count
 offered_by program to index count None e h = cc h
 offered_by program to index count (Some proto) e h = record {
   proto = proto;
@@ -58,17 +71,17 @@ offered_by program to index count (Some proto) e h = record {
   takes = eqb-true (length proto.params) count (and_parts (length proto.params == count) true h).0;
 }
 
-neither : (a b : Bool) → a ≡ false → b ≡ true → (a || not b) ≡ false
+pub neither : (a b : Bool) → a ≡ false → b ≡ true → (a || not b) ≡ false
 neither true b h k = cc h
 neither false true h k = refl
 neither false false h k = cc k
 
 -- what was reached before the variables ended
-record WasReached (piece : Piece (Option Value)) (v : Option Value) : Type 0 where
-  state : Meant
-  is : piece ≡ Reached v state
+pub record WasReached (piece : Piece (Option Value)) (v : Option Value) : Type 0 where
+  pub state : Meant
+  pub is : piece ≡ Reached v state
 
-was_reached : (piece : Piece (Option Value)) (end : Meant → Meant) (v : Option Value) (s : Meant) →
+pub was_reached : (piece : Piece (Option Value)) (end : Meant → Meant) (v : Option Value) (s : Meant) →
     and_then piece (λ v t. Reached v (end t)) ≡ Reached v s → WasReached piece v
 was_reached (Reached u t) end v s h =
     let same : u ≡ v = cc h in record { state = t; is = ap (λ u. Reached u t) same }
@@ -86,11 +99,11 @@ module _ (program : TacTree) (image : ImageParts) (inputs : List ℕ) (roles : R
   library = code_library wrapping program
 
   -- the function that an export leads to
-  record IsLed (to index : ℕ) : Type 0 where
-    number : ℕ
-    enters : function_entered (Export index) (slice_get program.sections to) ≡ Some number
-    f : TacFnTree
-    its : slice_get (functions_in program to) number ≡ Some f
+  pub record IsLed (to index : ℕ) : Type 0 where
+    pub number : ℕ
+    pub enters : function_entered (Export index) (slice_get program.sections to) ≡ Some number
+    pub f : TacFnTree
+    pub its : slice_get (functions_in program to) number ≡ Some f
 
   led_to : (to index number : ℕ) (o : Option TacFnTree) → slice_get (functions_in program to) number ≡ o →
       function_entered (Export index) (slice_get program.sections to) ≡ Some number →
@@ -98,14 +111,14 @@ module _ (program : TacTree) (image : ImageParts) (inputs : List ℕ) (roles : R
   led_to to index number None its enters h = cc h
   led_to to index number (Some f) its enters h = record { number = number; enters = enters; f = f; its = its }
 
-  led_by : (to index : ℕ) (o : Option ℕ) → function_entered (Export index) (slice_get program.sections to) ≡ o →
+  pub led_by : (to index : ℕ) (o : Option ℕ) → function_entered (Export index) (slice_get program.sections to) ≡ o →
       leads library to o ≡ true → IsLed to index
   led_by to index None enters h = cc h
   led_by to index (Some number) enters h =
       led_to to index number (slice_get (functions_in program to) number) refl enters
       (sym (ap is_some (function_is program to number)) ∙ h)
 
-  module _ (n : ℕ) (run : BodiesFollow program roles T n) where
+  module _ (n : ℕ) where
     -- what a call does once it has taken its turn
     cross_is : (from to index number : ℕ) (f : TacFnTree) (args : List Value) (s : Meant) →
         function_entered (Export index) (slice_get program.sections to) ≡ Some number →
@@ -128,23 +141,99 @@ module _ (program : TacTree) (image : ImageParts) (inputs : List ℕ) (roles : R
         sym (then_then (bodies program roles n number here (begun to F (crossed args) told))
         (λ v t. Reached v (done to F (length (told.memory to)) t)) back)
 
-    module _ (P : Standpoint) (x : Joint) (to index : ℕ) (args : List Value) (honest : T.performs P.comp ≡ false)
-        (unscripted : roles.scripted to ≡ false) (settled : Settled T P x) (base : IsBase T P)
-        (at_base : x.regs sp ≡ P.bound) (passed : ArePassed (x.inj P.comp) x.regs args)
-        (stands : CallStands T P x (Cross to index)) (imported : imports program.interfaces P.comp
-        (is_function to index) ≡ true) (offered : IsOffered program to index (length args))
-        (all : list_all is_word args ≡ true) (led : IsLed to index) (left : ℕ) (few : x.meant.turns ≡ suc left) where
-      abbrev Q : Standpoint
-      Q = seen_across T linked.formed words P x to index args
+  -- FROM COMPARTMENTS THAT RUN THEIR CODE
 
-      abbrev entry : ℕ
-      entry = (addresses P.comp).entry to index
+  module _ (P : Standpoint) (x : Joint) (to index : ℕ) (args : List Value)
+      (settled : Settled T P x) (base : IsBase T P) (at_base : x.regs sp ≡ P.bound)
+      (passed : ArePassed (x.inj P.comp) x.regs args) (stands : CallStands T P x (Cross to index))
+      (imported : imports program.interfaces P.comp (is_function to index) ≡ true)
+      (offered : IsOffered program to index (length args)) (all : list_all is_word args ≡ true)
+      (led : IsLed to index) where
+    abbrev entry_there : ℕ
+    entry_there = (addresses P.comp).entry to index
 
+    export_is : image_export image to entry_there ≡ Some index
+    export_is = linked.exports P.comp to index offered.proto offered.export
+
+    head_there : IsEntered program led.f offered.proto
+    head_there =
+        is_export program rules functions to index led.number offered.proto led.f offered.export led.enters led.its
+
+    over_floor : (k q : ℕ) → (k ≡ P.comp → P.bound ≤ q) → (k ≢ P.comp → P.floor k ≤ q) → P.floor k ≤ q
+    over_floor k q own there =
+        ⊎_elim
+        (λ e. (let floor : P.floor k ≡ P.floor P.comp = ap P.floor e in omega (arith, floor, base.floor, own e)))
+        there (cases_eq k P.comp)
+
+    pub made_by_code : (left : ℕ) → x.meant.turns ≡ suc left →
+        IsMade T linked.formed words P x to index args left entry_there
+    made_by_code left turns = record {
+      goes = (steps_tell.jalr_calls image inputs (machine P x) stands.0 stands.1.0 to index entry_there linked.formed
+          (record { word = stands.1.1.word; fetched = stands.1.1.fetched; decodes = stands.1.1.decodes })
+          (ap (λ b. jalr_target b stands.1.0) (read_listed x.regs stands.0 stands.1.2) ∙ stands.1.3)
+          (record { entry = export_is; may = linked.calls P.comp to index imported })).walks;
+      may = linked.calls P.comp to index imported;
+      takes = linked.params to index offered.proto offered.export ∙ offered.takes;
+      few_args = omega (arith, head_there.takes, offered.takes, (functions to led.number led.f led.its).few_params);
+      all = all;
+      passed = passed;
+      turn = turns;
+      settled = settled;
+      floors = base.floors;
+      level = λ k honest same. at_base ∙ sym base.floor ∙ ap P.floor (sym same);
+      over = λ k q honest own there. over_floor k q own there;
+    }
+
+  -- a call that code makes, in what is known of it
+  pub cross_where : (n : ℕ) (P : Standpoint) (x : Joint) (to index : ℕ) (args : List Value) →
+      T.makes P.comp (Cross to index) (length args) ≡ true → Settled T P x → IsBase T P → x.regs sp ≡ P.bound →
+      ArePassed (x.inj P.comp) x.regs args → CallStands T P x (Cross to index) →
+      ((offered : IsOffered program to index (length args)) (led : IsLed to index) (left : ℕ) →
+      IsMade T linked.formed words P x to index args left ((addresses P.comp).entry to index) →
+      CallComes T P x (Cross to index)
+      (call_cross library (bodies program roles n) P.comp to index args (turned left x.meant))) →
+      CallComes T P x (Cross to index) (calls_of program roles n P.comp (Cross to index) args x.meant)
+  cross_where n P x to index args makes settled base at_base passed stands comes =
+      let made = and_parts (imports program.interfaces P.comp (is_function to index)) _ makes in
+      let offered : IsOffered program to index (length args) =
+      offered_by program to index (length args) (export_at program.interfaces to index) refl made.1 in
+      where_made T P x (Cross to index) (may_call library P.comp (Cross to index) args) (Blamed P.comp BadType 0)
+      (called library (bodies program roles n) P.comp (Cross to index) args x.meant)
+      (λ may.
+      (let one = and_parts (imports program.interfaces P.comp (is_function to index)) _ may in
+      let two = and_parts (takes program.interfaces to index (length args)) _ one.1 in
+      let three = and_parts (list_all is_word args) (leads library to (library.entered to (Export index))) two.1 in
+      let led : IsLed to index = led_by to index (library.entered to (Export index)) refl three.1 in
+      where_turns T P x (Cross to index) x.meant.turns
+      (λ s. call_cross library (bodies program roles n) P.comp to index args s)
+      (λ left few.
+      comes offered led left
+      (made_by_code P x to index args settled base at_base passed stands made.0 offered three.0 led left few))))
+
+  -- INTO COMPARTMENTS THAT RUN THEIR CODE
+
+  module _ (n : ℕ) (P : Standpoint) (x : Joint) (to index : ℕ) (args : List Value)
+      (offered : IsOffered program to index (length args)) (led : IsLed to index) (turns entry : ℕ)
+      (made : IsMade T linked.formed words P x to index args turns entry) where
+    abbrev Q : Standpoint
+    Q = seen_across T linked.formed words P x to index args
+
+    abbrev entering : Joint
+    entering = across T linked.formed words P x to index args turns entry
+
+    abbrev F : Function
+    F = code_function wrapping led.f
+
+    abbrev back : Option Value → Meant → Piece (Option Value)
+    back = back_cross program.interfaces P.comp to index
+
+    module _ (honest : roles.scripted to ≡ false) (run : BodiesFollow program roles T n)
+        (entry_is : entry ≡ (addresses P.comp).entry to index) where
       abbrev address : ℕ
       address = (addresses to).function led.number
 
       abbrev y : Joint
-      y = across T linked.formed words P x to index args left address
+      y = across T linked.formed words P x to index args turns address
 
       head : IsEntered program led.f offered.proto
       head = is_export program rules functions to index led.number offered.proto led.f offered.export led.enters led.its
@@ -154,66 +243,138 @@ module _ (program : TacTree) (image : ImageParts) (inputs : List ℕ) (roles : R
 
       honest_there : T.performs to ≡ false
       honest_there =
-          neither (roles.scripted to) (nat_lt to (length image.comps)) unscripted
+          neither (roles.scripted to) (nat_lt to (length image.comps)) honest
           (lt-ltb to (length image.comps)
-          (called_there image to entry index (linked.exports P.comp to index offered.proto offered.export)))
+          (called_there image to ((addresses P.comp).entry to index) index
+          (linked.exports P.comp to index offered.proto offered.export)))
 
-      same_value : (v : Option Value) (s : Meant) →
-          ran program roles n to led.number led.f (crossed args) y.meant ≡ Reached v s →
-          option_value (crossing (Some offered.proto) v) ≡ v
-      same_value v s e =
-          let F : Function = code_function wrapping led.f in
-          let here : Here = record { comp = to; first = length (y.meant.memory to) } in
-          let start : Meant = begun to F (crossed args) y.meant in
-          let was : WasReached (bodies program roles n led.number here start) v =
-          was_reached (bodies program roles n led.number here start) (done to F (length (y.meant.memory to))) v s e in
-          results.crosses n index led.number here offered.proto start was.state v unscripted offered.export led.enters
-          was.is
+      enters : EntersBy image to entry address
+      enters =
+          subst (λ e. EntersBy image to e address) (sym entry_is) (linked.entries P.comp to index led.number led.enters)
 
-      takes_few : length args ≤ 8
-      takes_few = omega (arith, head.takes, offered.takes, (functions to led.number led.f led.its).few_params)
+      module _ (word : ℕ) (there : word_at image to address ≡ Some word) where
+        walks_inside : Walks image inputs 1 (machine Q entering) (machine Q y)
+        walks_inside =
+            jal image inputs entry entering.regs x.bytes
+            (record {
+              active = to;
+              saved = entering.saved;
+              cross = Q.cross;
+              input = x.input;
+              trace = entering.meant.trace;
+            }) 0 enters.imm address word (omega arith) enters.jump enters.leads
+            (code_inside image linked.formed to address word there).aligned there
 
-      crosses : CallComes T P x (Cross to index)
-          (call_cross library (bodies program roles n) P.comp to index args (turned left x.meant))
-      crosses =
+        walks : Walks image inputs 2 (machine P x) (machine Q y)
+        walks =
+            then_go image inputs (walks_in T linked.formed words P x to index args turns entry made) walks_inside
+
+        settled_there : Settled T Q y
+        settled_there =
+            settled_moved T linked.formed words Q entering 1 address entering.regs x.bytes
+            (settled_in T linked.formed words P x to index args turns entry made)
+            (λ k b a i cells honest live at below. refl) walks_inside
+
+        begun_there : Begins T Q F (crossed args) address gate y
+        begun_there = record {
+          honest = honest_there;
+          settled = settled_there;
+          base = record {
+            floor = refl;
+            aligned = made.floors.aligned to honest_there;
+            high = made.floors.high to honest_there;
+            floors = made.floors;
+          };
+          pc = refl;
+          sp = called_sp (length args) (slice_index x.saved to) x.regs ∙
+              low_is T linked.formed words P x to index args turns entry made honest_there;
+          ra = called_ra (length args) (slice_index x.saved to) x.regs;
+          passed = crossed_passed (x.inj P.comp) (x.inj to) args (slice_index x.saved to) x.regs made.all made.passed;
+        }
+
+        abbrev whole : Piece (Option Value)
+        whole = ran program roles n to led.number led.f (crossed args) y.meant
+
+        same_value : (v : Option Value) (s : Meant) → whole ≡ Reached v s →
+            option_value (crossing (Some offered.proto) v) ≡ v
+        same_value v s e =
+            let here : Here = record { comp = to; first = length (y.meant.memory to) } in
+            let start : Meant = begun to F (crossed args) y.meant in
+            let was : WasReached (bodies program roles n led.number here start) v =
+            was_reached (bodies program roles n led.number here start) (done to F (length (y.meant.memory to))) v s e in
+            results.crosses n index led.number here offered.proto start was.state v honest offered.export led.enters
+            was.is
+
+        goes : GoesIn T P Q x y 2
+        goes =
+            goes_across T linked.formed words P x to index args turns entry made 2 address (omega arith) (omega arith)
+            walks
+
+        module _ (budget : ℕ) (paid : budget < T.turn_pays) (v : Option Value) (s : Meant) (same : option_value
+            (word_back offered.proto.result v) ≡ v) (g : IsLeft T Q y budget gate v s) where
+          left : IsDone T linked.formed words P x to index args turns entry made 2 address (omega arith) (omega arith)
+              walks budget offered.proto g.y v
+          left = record {
+            result_is = linked.result to index offered.proto offered.export;
+            steps = g.leads.steps;
+            run = g.leads.run;
+            costs = g.leads.costs;
+            effect = g.leads.effect;
+            settled = g.settled;
+            given = g.value;
+            same = same;
+            leaves = (steps_tell.returns image inputs (machine Q g.y) ra (pos 0)
+                (opened T linked.formed words P x to index args) P.cross
+                (record { word = g.jump.word; fetched = g.jump.fetched; decodes = g.jump.decodes })
+                (back_to (reg (machine Q g.y) ra) gate (read_listed g.y.regs ra (omega arith) ∙ g.ra) (omega arith)
+                (omega arith)) refl).walks;
+          }
+
+          comes_left : CallGives T P x (Cross to index) (back v s)
+          comes_left =
+              subst (λ s. CallGives T P x (Cross to index) (back v s)) g.meant_is
+              (subst (λ o. CallGives T P x (Cross to index) (Reached (option_value (crossing o v))
+              (tell (Ret to P.comp (crossing o v)) g.y.meant))) (sym offered.export)
+              (comes_back T linked.formed words P x to index args turns entry made 2 address (omega arith) (omega arith)
+              walks budget (λ all. paid) offered.proto g.y v left))
+
+        gives_left : (budget : ℕ) → budget < T.turn_pays → (o : Piece (Option Value)) →
+            ((v : Option Value) (s : Meant) → o ≡ Reached v s → option_value (word_back offered.proto.result v) ≡ v) →
+            FunctionGives T Q y budget gate o → CallGives T P x (Cross to index) (and_then o back)
+        gives_left budget paid (Reached v s) same g = comes_left budget paid v s (same v s refl) g
+        gives_left budget paid (Stopped end s) same g = shows_in T P Q x y 2 goes budget (λ all. paid) s g
+
+        left_by : (budget : ℕ) → budget < T.turn_pays → (o : Piece (Option Value)) →
+            ((v : Option Value) (s : Meant) → o ≡ Reached v s → option_value (word_back offered.proto.result v) ≡ v) →
+            FunctionGives T Q y budget gate o ⊎ Overflows T Q y budget o →
+            CallComes T P x (Cross to index) (and_then o back)
+        left_by budget paid o same (inl g) = inl (gives_left budget paid o same g)
+        left_by budget paid o same (inr g) =
+            inr (overflows_then T P x 1 o back (back_goes program.interfaces P.comp to index)
+            (overflows_in T P Q x y 2 goes budget (λ all. paid) o g))
+
+        ran_there : IsRun program roles T n led.number led.f Q y (crossed args) gate
+        ran_there =
+            run Q y led.number led.f (crossed args) gate led.its head.words
+            (length-map args _ ∙ sym offered.takes ∙ sym head.takes) begun_there
+
+        comes_out : CallComes T P x (Cross to index) (and_then whole back)
+        comes_out = left_by ran_there.0 ran_there.1.0 whole same_value ran_there.1.1
+
+      pub into_code : CallComes T P x (Cross to index)
+          (call_cross library (bodies program roles n) P.comp to index args (turned turns x.meant))
+      into_code =
           let word = word_there image (addresses to) turn_pays to led.number led.f code in
-          let export = linked.exports P.comp to index offered.proto offered.export in
-          let may = linked.calls P.comp to index imported in
-          let counts : params_of image to index ≡ length args =
-          linked.params to index offered.proto offered.export ∙ offered.takes in
-          let enters : EntersBy image to entry address = linked.entries P.comp to index led.number led.enters in
-          let count : length (crossed args) ≡ led.f.params =
-          length-map args _ ∙ sym offered.takes ∙ sym head.takes in
-          let ran_to : IsRun program roles T n led.number led.f Q y (crossed args) gate =
-          run Q y led.number led.f (crossed args) gate led.its head.words count
-          (begins_across T linked.formed words P x to index args left stands.0 entry address stands.1.0 stands.1.1
-          stands.1.2 stands.1.3 export may counts takes_few all passed few enters word.0 word.1 settled base at_base
-          honest honest_there (code_function wrapping led.f)) in
           subst (CallComes T P x (Cross to index))
-          (sym (cross_is P.comp to index led.number led.f args (turned left x.meant) led.enters led.its))
-          (comes_across T linked.formed words P x to index args left stands.0 entry address stands.1.0 stands.1.1
-          stands.1.2 stands.1.3 export may counts takes_few all passed few enters word.0 word.1 settled base at_base
-          honest honest_there program.interfaces offered.proto offered.export
-          (linked.result to index offered.proto offered.export) ran_to.0 ran_to.1.0
-          (ran program roles n to led.number led.f (crossed args) y.meant) same_value ran_to.1.1)
+          (sym (cross_is n P.comp to index led.number led.f args (turned turns x.meant) led.enters led.its))
+          (comes_out word.0 word.1)
 
-    pub cross_follows : (P : Standpoint) (x : Joint) (to index : ℕ)
-        (args : List Value) → T.performs P.comp ≡ false → roles.scripted to ≡ false →
-        T.makes P.comp (Cross to index) (length args) ≡ true → Settled T P x → IsBase T P → x.regs sp ≡ P.bound →
-        ArePassed (x.inj P.comp) x.regs args → CallStands T P x (Cross to index) →
-        CallComes T P x (Cross to index) (calls_of program roles n P.comp (Cross to index) args x.meant)
-    cross_follows P x to index args honest unscripted makes settled base at_base passed stands =
-        let made = and_parts (imports program.interfaces P.comp (is_function to index)) _ makes in
-        let offered : IsOffered program to index (length args) =
-        offered_by program to index (length args) (export_at program.interfaces to index) refl made.1 in
-        where_made T P x (Cross to index) (may_call library P.comp (Cross to index) args) (Blamed P.comp BadType 0)
-        (called library (bodies program roles n) P.comp (Cross to index) args x.meant)
-        (λ may.
-        (let one = and_parts (imports program.interfaces P.comp (is_function to index)) _ may in
-        let two = and_parts (takes program.interfaces to index (length args)) _ one.1 in
-        let three = and_parts (list_all is_word args) (leads library to (library.entered to (Export index))) two.1 in
-        where_turns T P x (Cross to index) x.meant.turns
-        (λ s. call_cross library (bodies program roles n) P.comp to index args s)
-        (λ left few.
-        crosses P x to index args honest unscripted settled base at_base passed stands made.0 offered three.0
-        (led_by to index (library.entered to (Export index)) refl three.1) left few)))
+  pub cross_follows : (n : ℕ) → BodiesFollow program roles T n → (P : Standpoint) (x : Joint) (to index : ℕ)
+      (args : List Value) → roles.scripted to ≡ false →
+      T.makes P.comp (Cross to index) (length args) ≡ true → Settled T P x → IsBase T P → x.regs sp ≡ P.bound →
+      ArePassed (x.inj P.comp) x.regs args → CallStands T P x (Cross to index) →
+      CallComes T P x (Cross to index) (calls_of program roles n P.comp (Cross to index) args x.meant)
+  cross_follows n run P x to index args unscripted makes settled base at_base passed stands =
+      cross_where n P x to index args makes settled base at_base passed stands
+      (λ offered led left made.
+      into_code n P x to index args offered led left ((addresses P.comp).entry to index) made unscripted run refl)

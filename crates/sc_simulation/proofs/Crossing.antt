@@ -73,7 +73,7 @@ returned_listed result high regs =
 
 -- Arguments.
 
-take_words : (n count first : ℕ) (regs : Registers) → n ≤ count →
+pub take_words : (n count first : ℕ) (regs : Registers) → n ≤ count →
     take n (words_from count first regs) ≡ words_from n first regs
 take_words zero count first regs h = refl
 take_words (suc n) zero first regs h = absurd (omega (arith, h))

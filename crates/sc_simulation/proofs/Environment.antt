@@ -21,17 +21,18 @@ use Rattle.sc_hart.proofs.Steady.{walks_steady}
 use Rattle.sc_relation.specs.Blocks.{StandsFor}
 use Rattle.sc_relation.specs.Stretches.{Setting, Joint, Standpoint, machine, Settled}
 use Rattle.sc_relation.specs.Calls.{ComesBack}
+use Rattle.sc_relation.proofs.Coming.{came_by}
 use Rattle.sc_simulation.proofs.Turning.{before_told}
 
 -- The next input.
 
-next_at : (inputs : List ℕ) (k : ℕ) → next_input (drop k inputs) ≡ input_at inputs k
+pub next_at : (inputs : List ℕ) (k : ℕ) → next_input (drop k inputs) ≡ input_at inputs k
 next_at [] zero = refl
 next_at [] (suc k) = refl
 next_at (w ∷ inputs) zero = refl
 next_at (w ∷ inputs) (suc k) = next_at inputs k
 
-drop_next : (inputs : List ℕ) (k : ℕ) → drop 1 (drop k inputs) ≡ drop (suc k) inputs
+pub drop_next : (inputs : List ℕ) (k : ℕ) → drop 1 (drop k inputs) ≡ drop (suc k) inputs
 drop_next [] zero = refl
 drop_next [] (suc k) = refl
 drop_next (w ∷ inputs) zero = refl
@@ -84,6 +85,7 @@ module _ (T : Setting) (formed : IsWellFormed T.image) (inputs : All IsWord T.in
       saved = settled.saved;
       inputs = ap (drop 1) settled.inputs ∙ drop_next T.inputs x.input;
       steady = walks_steady T.image T.inputs formed inputs 1 _ _ walks settled.steady;
+      came = came_by T 1 _ _ walks settled.came;
       room = settled.room;
       told = before_told x.meant.trace (In P.comp w) x.meant.frames settled.told;
     }
@@ -163,6 +165,7 @@ module _ (T : Setting) (formed : IsWellFormed T.image) (inputs : All IsWord T.in
         saved = settled.saved;
         inputs = settled.inputs;
         steady = walks_steady T.image T.inputs formed inputs 1 _ _ walks' settled.steady;
+        came = came_by T 1 _ _ walks' settled.came;
         room = settled.room;
         told = before_told x.meant.trace (Out P.comp w) x.meant.frames settled.told;
       };

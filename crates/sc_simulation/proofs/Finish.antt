@@ -46,7 +46,7 @@ use Rattle.sc_simulation.proofs.Sections.{function_found}
 use Rattle.sc_simulation.proofs.Start.{IsMain, P as P', begins, main_there, x as x'}
 
 -- what gave a value before its variables ended
-body_gave : (o : Piece (Option Value)) (finish : Meant → Meant) (v : Option Value) (s : Meant) →
+pub body_gave : (o : Piece (Option Value)) (finish : Meant → Meant) (v : Option Value) (s : Meant) →
     and_then o (λ v t. Reached v (finish t)) ≡ Reached v s → (t : Meant) × (o ≡ Reached v t)
 body_gave (Reached u t) finish v s is =
     let same : u ≡ v = cc is in (t, ap (λ u. Reached u t) same)
@@ -64,7 +64,7 @@ within_bound turn_pays turns steps left rest budget less most =
     omega (arith, less, most, whole)
 
 -- the events of a run begin with those of what it comes to
-run_front : (main : ℕ) (piece : Piece (Option Value)) → Front (last piece).trace (run_to main piece).behaviour.trace
+pub run_front : (main : ℕ) (piece : Piece (Option Value)) → Front (last piece).trace (run_to main piece).behaviour.trace
 run_front main (Reached v s) = record { more = End main (exit_word v) ∷ []; is = refl }
 run_front main (Stopped end s) = front_same s.trace
 
@@ -73,7 +73,7 @@ run_frames main (Reached v s) = refl
 run_frames main (Stopped end s) = refl
 
 -- a0 has the word that `main` gives
-word_given : (T : Setting) (place : ℕ → Option ℕ) (a : ℕ) (v : Option Value) (w : ℕ) → v ≡ Some (Word w) →
+pub word_given : (T : Setting) (place : ℕ → Option ℕ) (a : ℕ) (v : Option Value) (w : ℕ) → v ≡ Some (Word w) →
     GivenBack T place a v → a ≡ exit_word v
 word_given T place a v w is given =
     (subst (GivenBack T place a) is given).means ∙ sym (ap exit_word is)
@@ -181,7 +181,7 @@ module _ (program : TacTree) (image : ImageParts) (turn_pays : ℕ) (built : IsB
         (begun image.main (code_function wrapping f) [] x.meant))
         (done image.main (code_function wrapping f) (length (x.meant.memory image.main))) v s
         (sym whole_ran ∙ is) in
-        built.results.ends (suc turns) number here (begun image.main (code_function wrapping f) [] x.meant) gave.0 v
+        (built.results nobody).ends (suc turns) number here (begun image.main (code_function wrapping f) [] x.meant) gave.0 v
         refl built.linked.main
         (ap (λ c. function_entered Main (slice_get program.sections c)) built.linked.main ∙ there.enters) gave.1
 

@@ -22,6 +22,7 @@ use Rattle.sc_hart.proofs.Steps.{jal, jalr, then_go}
 use Rattle.sc_relation.specs.Blocks.{StandsFor}
 use Rattle.sc_relation.specs.Stretches.{Setting, Joint, Standpoint, machine, Settled, Overflows}
 use Rattle.sc_relation.specs.Calls.{ArePassed, Begins, CallGives, ComesBack, FunctionGives, IsBase, IsLeft}
+use Rattle.sc_relation.proofs.Coming.{came_by}
 use Rattle.sc_simulation.proofs.Turning.{GoesIn, turned, shows_in, overflows_in, costs_back}
 
 is_some_of : (o : Option ℕ) → IsSome o → (v : ℕ) × (o ≡ Some v)
@@ -61,6 +62,7 @@ module _ (T : Setting) (formed : IsWellFormed T.image) (inputs : All IsWord T.in
       saved = s.saved;
       inputs = s.inputs;
       steady = walks_steady T.image T.inputs formed inputs 1 _ _ walks_in s.steady;
+      came = came_by T 1 _ _ walks_in s.came;
       room = s.room;
       told = s.told;
     }
@@ -122,7 +124,7 @@ module _ (T : Setting) (formed : IsWellFormed T.image) (inputs : All IsWord T.in
           leads = record {
             steps = 1 + (g.leads.steps + 1);
             run = then_go T.image T.inputs walks_in (then_go T.image T.inputs g.leads.run walks_back);
-            costs = costs_back T P P x entered 1 goes_in budget paid g.leads.steps g.y.meant g.leads.costs;
+            costs = costs_back T P P x entered 1 goes_in budget (λ all. paid) g.leads.steps g.y.meant g.leads.costs;
             effect = record {
               grows = g.leads.effect.grows;
               lived = g.leads.effect.lived;
@@ -141,6 +143,7 @@ module _ (T : Setting) (formed : IsWellFormed T.image) (inputs : All IsWord T.in
             saved = g.settled.saved;
             inputs = g.settled.inputs;
             steady = walks_steady T.image T.inputs formed inputs 1 _ _ walks_back g.settled.steady;
+            came = came_by T 1 _ _ walks_back g.settled.came;
             room = g.settled.room;
             told = g.settled.told;
           };
@@ -149,10 +152,11 @@ module _ (T : Setting) (formed : IsWellFormed T.image) (inputs : All IsWord T.in
       gives : (piece : Piece (Option Value)) → FunctionGives T P entered budget (x.pc + 4) piece →
           CallGives T P x (Own number) piece
       gives (Reached v s) g = comes_back v s g
-      gives (Stopped end s) g = shows_in T P P x entered 1 goes_in budget paid s g
+      gives (Stopped end s) g = shows_in T P P x entered 1 goes_in budget (λ all. paid) s g
 
       pub own_comes : (piece : Piece (Option Value)) →
           FunctionGives T P entered budget (x.pc + 4) piece ⊎ Overflows T P entered budget piece →
           CallGives T P x (Own number) piece ⊎ Overflows T P x 1 piece
       own_comes piece g =
-          ⊎_elim (λ h. inl (gives piece h)) (λ o. inr (overflows_in T P P x entered 1 goes_in budget paid piece o)) g
+          ⊎_elim (λ h. inl (gives piece h))
+          (λ o. inr (overflows_in T P P x entered 1 goes_in budget (λ all. paid) piece o)) g

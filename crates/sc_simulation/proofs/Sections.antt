@@ -133,7 +133,7 @@ module _ (program : TacTree) where
       (and_parts (is_entered (Export from) (length one.params) (is_some one.result) section)
       (are_entered (suc from) others section) h).1 e)
 
-  entered_of : (interface : Option Interface) (index : ℕ) (proto : Proto) (section : TacSection) →
+  pub entered_of : (interface : Option Interface) (index : ℕ) (proto : Proto) (section : TacSection) →
       exports_entered interface section ≡ true →
       option_and_then (λ found. slice_get found.exports index) interface ≡ Some proto →
       is_entered (Export index) (length proto.params) (is_some proto.result) section ≡ true

@@ -82,7 +82,7 @@ take_same : {A : Type 0} (n : ℕ) (xs ys : List A) → Front xs ys → n ≤ le
 take_same n xs ys front le = take_within n xs front.more le ∙ ap (take n) (sym front.is)
 
 -- of two fronts of a list the one that is no longer is a front of the other
-shorter_first : {A : Type 0} (xs ys zs : List A) → Front xs zs → Front ys zs → length xs ≤ length ys → Front xs ys
+pub shorter_first : {A : Type 0} (xs ys zs : List A) → Front xs zs → Front ys zs → length xs ≤ length ys → Front xs ys
 shorter_first xs ys zs a b le =
     let begins : take (length xs) ys ≡ xs =
     take_same (length xs) ys zs b le ∙ sym (take_same (length xs) xs zs a (omega arith)) ∙
@@ -101,7 +101,7 @@ unstopped_by events run TurnsOut stop short = lt-leb events (length run.trace) s
 unstopped_by events run EventsOut stop short = absurd stop
 
 -- one that has fewer events than it may is stopped by nothing
-unstopped : (events : ℕ) (run : SourceRun) → IsStop run.end → length run.trace < events → stopped_at events run ≡ run
+pub unstopped : (events : ℕ) (run : SourceRun) → IsStop run.end → length run.trace < events → stopped_at events run ≡ run
 unstopped events run stop short = rw (unstopped_by events run run.end stop short) refl
 
 module _ (image : ImageParts) (inputs : List ℕ) (formed : IsWellFormed image) where
@@ -117,11 +117,11 @@ module _ (image : ImageParts) (inputs : List ℕ) (formed : IsWellFormed image) 
     way = along image inputs formed events reached place.going place.steps (start image) place.walks.by (omega arith)
 
     -- no more steps than the stretch has
-    few : (steps : ℕ) → steps ≤ place.steps → Front (shown steps) (take events reached.trace)
+    pub few : (steps : ℕ) → steps ≤ place.steps → Front (shown steps) (take events reached.trace)
     few steps le = way.fewer steps le
 
     -- more, and so many events are told on it
-    full : (steps : ℕ) → place.steps ≤ steps → events ≤ length reached.trace → shown steps ≡ take events reached.trace
+    pub full : (steps : ℕ) → place.steps ≤ steps → events ≤ length reached.trace → shown steps ≡ take events reached.trace
     full steps le long = way.full steps le long
 
     -- more, and so many events aren't told on it
@@ -142,7 +142,7 @@ module _ (image : ImageParts) (inputs : List ℕ) (formed : IsWellFormed image) 
         ap (λ k. machine image inputs k events) (sym (rest_is steps le)) ∙ room (steps - place.steps) short
 
     -- where one more step ends the run
-    ended_is : (steps : ℕ) → place.steps < steps → length reached.trace < events →
+    pub ended_is : (steps : ℕ) → place.steps < steps → length reached.trace < events →
         step image inputs reached ≡ Goes (ended reached) → shown steps ≡ (ended reached).trace
     ended_is steps less short goes =
         let one : steps - place.steps ≡ suc (steps - place.steps - 1) = omega (arith, less) in
@@ -153,7 +153,7 @@ module _ (image : ImageParts) (inputs : List ℕ) (formed : IsWellFormed image) 
         (steps_tell.ended_stops events reached))
 
     -- where one more step is a trap
-    trapped_is : (steps : ℕ) → place.steps < steps → length reached.trace < events →
+    pub trapped_is : (steps : ℕ) → place.steps < steps → length reached.trace < events →
         step image inputs reached ≡ Traps Owner →
         machine image inputs steps events ≡ record { state = reached; stop = Trap Owner reached.pc }
     trapped_is steps less short traps =
@@ -161,7 +161,7 @@ module _ (image : ImageParts) (inputs : List ℕ) (formed : IsWellFormed image) 
         on_from steps (omega (arith, less)) short ∙ ap (λ k. run image inputs events k reached) one ∙
         run_traps image inputs events (steps - place.steps - 1) reached Owner (early short) traps
 
-    later_front : (steps : ℕ) → place.steps ≤ steps → length reached.trace < events →
+    pub later_front : (steps : ℕ) → place.steps ≤ steps → length reached.trace < events →
         Front reached.trace (shown steps)
     later_front steps le short =
         subst (λ r. Front reached.trace r.state.trace) (sym (on_from steps le short))
@@ -484,7 +484,7 @@ module _ (image : ImageParts) (inputs : List ℕ) (formed : IsWellFormed image) 
     shows = record { forward = forward agrees.whole; backward = backward }
 
 -- RUNS THAT AGREE UP TO LINES
-blamed_too : (end other : RunEnd) → without_line end ≡ without_line other → IsBlamed other → IsBlamed end
+pub blamed_too : (end other : RunEnd) → without_line end ≡ without_line other → IsBlamed other → IsBlamed end
 blamed_too Ended (Blamed comp cause line) is h = cc is
 blamed_too TurnsOut (Blamed comp cause line) is h = cc is
 blamed_too EventsOut (Blamed comp cause line) is h = cc is

@@ -36,13 +36,13 @@ use Rattle.sc_simulation.proofs.Sections.{all_at, position_at}
 -- THE FUNCTION OF `main`
 
 -- the first of a list that passes a test
-record IsFirst {X : Type 0} (test : X → Bool) (xs : List X) : Type 0 where
+pub record IsFirst {X : Type 0} (test : X → Bool) (xs : List X) : Type 0 where
   pub number : ℕ
   pub it : X
   pub place : position test xs ≡ Some number
   pub its : slice_get xs number ≡ Some it
 
-first_of : {X : Type 0} (test : X → Bool) (xs : List X) → 0 < count test xs → IsFirst test xs
+pub first_of : {X : Type 0} (test : X → Bool) (xs : List X) → 0 < count test xs → IsFirst test xs
 first_of test [] h = absurd (omega (arith, h))
 first_of {X} test (x ∷ xs) h = by (first_of test xs) (test x) refl where
   by : (0 < count test xs → IsFirst test xs) → (b : Bool) → test x ≡ b → IsFirst test (x ∷ xs)
@@ -195,18 +195,19 @@ module _ (program : TacTree) (image : ImageParts) (inputs : List ℕ) (performs 
     known = λ k b a e. (placed_only (length (globals k)) (addresses k).global b a e).0;
   }
 
-  settled : Settled T P x
+  pub settled : Settled T P x
   settled = record {
     blocks = blocks;
     globals = λ k number honest below. placed_below (length (globals k)) (addresses k).global number below;
     saved = λ k other honest. tops_at 0 image.comps k (within k honest) ∙ ap stack_top (zero-add k);
     inputs = refl;
     steady = runs_are_steady.first image linked.formed;
+    came = record { steps = 0; walks = record { by = refl } };
     room = λ k honest. omega arith;
     told = tt;
   }
 
-  base : IsBase T P
+  pub base : IsBase T P
   base = record {
     floor = refl;
     aligned = omega arith;

@@ -12,7 +12,7 @@ use Rattle.sc_laws.specs.Rooms.{AllBefore}
 use Rattle.sc_image.specs.Walks.{Walks}
 use Rattle.sc_hart.proofs.Steps.{then_go}
 use Rattle.sc_relation.specs.Calls.{CallGives}
-use Rattle.sc_relation.specs.Stretches.{Setting, Joint, Standpoint, machine, Costs, Shows, Overflows}
+use Rattle.sc_relation.specs.Stretches.{AllHonest, Setting, Joint, Standpoint, machine, Costs, Shows, Overflows}
 use Rattle.sc_relation.proofs.Stretches.{shows_here}
 
 -- what was told by then was told by later
@@ -41,7 +41,7 @@ module _ (T : Setting) (P Q : Standpoint) (x y : Joint) where
     pub some : 1 ≤ n
     pub few : n ≤ 2
 
-  module _ (n : ℕ) (goes : GoesIn n) (budget : ℕ) (paid : budget < T.turn_pays) where
+  module _ (n : ℕ) (goes : GoesIn n) (budget : ℕ) (paid : AllHonest T → budget < T.turn_pays) where
     costs_in : (steps left : ℕ) (s : Meant) → left ≤ 1 → Costs T steps budget left y.meant s →
         Costs T (n + (steps + left)) 1 0 x.meant s
     costs_in steps left s h costs =
@@ -49,7 +49,7 @@ module _ (T : Setting) (P Q : Standpoint) (x y : Joint) where
         ap (λ m. T.turn_pays * m) goes.turn in
         record {
           least = omega (arith, goes.turn, goes.some, costs.least);
-          most = λ all. omega (arith, turn, goes.few, paid, costs.most all);
+          most = λ all. omega (arith, turn, goes.few, paid all, costs.most all);
         }
 
     -- where it ends there, it ends

@@ -1,11 +1,26 @@
 -- The machine on an image in which the code of a program stands does what that code does, where functions are followed.
-use Rattle.sc_simulation.specs.Simulation.{Simulates, nobody}
+use Rattle.std.proofs.Common.{List}
+use Rattle.sc_event.specs.declared.event.Event.{Event}
+use Rattle.sc_core.specs.Scripts.{roles_in}
+use Rattle.sc_image.specs.Machine.{machine}
+use Rattle.sc_simulation.specs.Simulation.{ScriptsSimulate, Simulates, nobody}
 use Rattle.sc_simulation.proofs.Bodies.{bodies_follow}
 use Rattle.sc_simulation.proofs.Finish.{outcome}
+use Rattle.sc_simulation.proofs.Following.{all_follow}
+use Rattle.sc_simulation.proofs.Scripts.{keeps}
+use Rattle.sc_simulation.proofs.Shown.{is_shown}
 
 pub simulates : Simulates
 simulates program image turn_pays built inputs turns words =
     outcome program image turn_pays built inputs turns
-    (bodies_follow program image inputs nobody turn_pays built.addresses built.rules built.functions built.results
-    built.linked words
+    (bodies_follow program image inputs nobody turn_pays built.addresses built.rules built.functions
+    (built.results nobody) built.linked words
     (λ n P x to index args honest scripted makes settled base at passed stands. cc scripted))
+
+pub scripts_simulate : ScriptsSimulate
+scripts_simulate program image turn_pays built inputs steps events set words is_legal =
+    let shown : List Event = (machine image inputs steps events).state.trace in
+    let all = all_follow program image inputs set shown turn_pays built.addresses built.rules built.functions
+    (built.results (roles_in program.interfaces.main set shown)) built.linked words
+    (is_shown image inputs events steps) is_legal in
+    keeps program image turn_pays built inputs steps events set is_legal (λ n. (all n).run) (λ n. (all n).perform)

@@ -1,20 +1,50 @@
--- What functions do, with all that they call, is followed by their code.
-use Rattle.std.specs.Prelude.{◌≡◌, ℕ, ◌<◌, ◌⊎◌, true, false, List, length, IsTrue, Option, Some, slice_get}
+-- What functions do, with all that they call, is followed by their code; what those of compartments that perform do, by
+-- whatever code these have.
+use Rattle.std.specs.Prelude.{◌≡◌, ℕ, ◌<◌, ◌⊎◌, true, false, List, [], ◌∷◌, length, IsTrue, Option, None, Some}
+use Rattle.std.specs.Prelude.{slice_get, if◌then◌else◌}
+use Rattle.sc_event.specs.declared.event.Event.{Event}
+use Rattle.sc_event.specs.declared.row.Entry.{Entry}
+use Rattle.sc_event.specs.declared.row.Entry.TheVariants.{Main}
 use Rattle.sc_core.specs.declared.expr.CallTarget.TheVariants.{Cross}
 use Rattle.sc_core.specs.declared.value.Value.{Value}
-use Rattle.sc_core.specs.Calls.{begun, calls, done}
+use Rattle.sc_core.specs.declared.value.Value.TheVariants.{Word}
+use Rattle.sc_core.specs.Calls.{begun, calls, done, option_value}
 use Rattle.sc_core.specs.Scripts.{Roles}
 use Rattle.sc_core.specs.Value.{wrapping}
-use Rattle.sc_core.specs.Words.{Calls, Piece, Reached, State as Meant, and_then}
-use Rattle.sc_select.specs.Pieces.{sp}
+use Rattle.sc_core.specs.Words.{Calls, Piece, Reached, State as Meant, Stopped, and_then}
+use Rattle.sc_image.specs.declared.parts.ImageParts.{ImageParts}
+use Rattle.sc_image.specs.Calls.{has_result}
+use Rattle.sc_image.specs.Cross.{returned}
+use Rattle.sc_image.specs.State.{Crossing, State, start}
+use Rattle.sc_image.specs.Step.{Goes, step}
+use Rattle.sc_image.specs.Walks.{Walks}
+use Rattle.sc_select.specs.Pieces.{sp, a0}
 use Rattle.sc_tac.specs.declared.function.TacFnTree.{TacFnTree}
 use Rattle.sc_tac.specs.declared.program.TacTree.{TacTree}
 use Rattle.sc_tac.specs.Code.{code_function, code_library}
 use Rattle.sc_tac.specs.Functions.{passes_words}
 use Rattle.sc_relation.specs.Calls.{ArePassed, Begins, CallGives, CallStands, FunctionGives, IsBase}
-use Rattle.sc_relation.specs.Stretches.{Joint, Overflows, Setting, Settled, Standpoint}
+use Rattle.sc_relation.specs.Frames.{AreFloors}
+use Rattle.sc_relation.specs.Stretches.{Joint, Leads, Overflows, Setting, Settled, Shows, Standpoint, machine}
 use Rattle.sc_simulation.specs.Linked.{functions_in}
 use Rattle.sc_simulation.specs.Results.{bodies}
+
+-- the entry by which the active function was entered from outside
+abbrev pub entered_by : List Crossing → Entry
+entered_by [] = Main
+entered_by (x ∷ xs) = x.entry
+
+-- what it gives, with this word in a0
+abbrev pub departing : ImageParts → ℕ → List Crossing → Option Value
+departing image w [] = Some (Word w)
+departing image w (x ∷ xs) = option_value (if has_result image x.callee x.entry then Some w else None)
+
+-- some steps from its start, the machine has shown these events
+pub record IsShown (image : ImageParts) (inputs : List ℕ) (trace : List Event) : Type 0 where
+  pub steps : ℕ
+  pub last : State
+  pub walks : Walks image inputs steps (start image) last
+  pub trace_is : last.trace ≡ trace
 
 module _ (program : TacTree) (roles : Roles) where
   -- what calls do whose functions may have so many calls open
@@ -43,6 +73,38 @@ module _ (program : TacTree) (roles : Roles) where
         length args ≡ f.params →
         Begins T P (code_function wrapping f) args ((T.addresses P.comp).function number) ra_is x →
         IsRun open_calls number f P x args ra_is
+
+    -- WHAT PERFORMS
+
+    -- the machine is in a compartment that performs, wherever in its code that may be; its active function was entered
+    -- from outside, and this is the number of it
+    pub record IsUnknown (P : Standpoint) (x : Joint) (number : ℕ) : Type 0 where
+      pub performs : roles.scripted P.comp ≡ true
+      pub settled : Settled T P x
+      pub floors : AreFloors T.performs P.floor
+      pub entered : (code_library wrapping program).entered P.comp (entered_by P.cross) ≡ Some number
+
+    -- it stands before the step that leaves the active function with a value
+    pub record Departs (P : Standpoint) (x : Joint) (v : Option Value) (meant : Meant) : Type 0 where
+      pub y : Joint
+      pub meant_is : y.meant ≡ meant
+      pub goes : step T.image T.inputs (machine P y) ≡ Goes (returned T.image (machine P y) P.cross)
+      pub value : v ≡ departing T.image (y.regs a0) P.cross
+      pub leads : Leads T P x y 0 0
+      pub settled : Settled T P y
+
+    abbrev pub UnknownGives : Standpoint → Joint → Piece (Option Value) → Type 0
+    UnknownGives P x (Reached v s) = Departs P x v s
+    UnknownGives P x (Stopped end s) = Shows T P x 0 s
+
+    abbrev pub UnknownComes : Standpoint → Joint → Piece (Option Value) → Type 0
+    UnknownComes P x piece = UnknownGives P x piece ⊎ Overflows T P x 0 piece
+
+    -- functions of compartments that perform are followed, at their beginning and after each call
+    abbrev pub PerformersDo : (open_calls : ℕ) → Type 0
+    PerformersDo open_calls =
+        (P : Standpoint) (x : Joint) (number first : ℕ) → IsUnknown P x number →
+        UnknownComes P x (bodies program roles open_calls number (record { comp = P.comp; first = first }) x.meant)
 
     -- calls of compartments that perform are followed, whatever code these have
     abbrev pub PerformersFollow : (open_calls : ℕ) → Type 0

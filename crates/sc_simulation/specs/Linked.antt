@@ -12,7 +12,7 @@ use Rattle.sc_core.specs.declared.value.Cell.{Cell}
 use Rattle.sc_image.specs.declared.parts.ImageParts.{ImageParts}
 use Rattle.sc_image.specs.Calls.{export_at as image_export, has_result, may_call, may_input, may_output, params_of}
 use Rattle.sc_image.specs.Layout.{stack_top}
-use Rattle.sc_image.specs.State.{start_memory}
+use Rattle.sc_image.specs.State.{start, start_memory}
 use Rattle.sc_image.specs.WellFormed.{IsWellFormed}
 use Rattle.sc_tac.specs.declared.frame.FrameTree.{FrameTree}
 use Rattle.sc_tac.specs.declared.function.TacFnTree.{TacFnTree}
@@ -67,6 +67,7 @@ module _ (program : TacTree) where
   setting image inputs performs turn_pays addresses = record {
     image = image;
     inputs = inputs;
+    from = start image;
     performs = λ k. performs k || not (nat_lt k (length image.comps));
     turn_pays = turn_pays;
     addresses = addresses;

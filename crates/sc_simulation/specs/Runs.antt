@@ -2,8 +2,10 @@
 use Rattle.std.specs.Prelude.{◌≡◌, ℕ, ◌<◌, ◌≤◌, ◌⊎◌, List, All}
 use Rattle.sc_base.specs.declared.stop.Stop.TheVariants.{Trap}
 use Rattle.sc_base.specs.declared.stop.TrapReason.TheVariants.{Owner}
+use Rattle.sc_event.specs.declared.event.Event.{Event}
 use Rattle.sc_core.specs.declared.run.RunEnd.{RunEnd}
 use Rattle.sc_core.specs.declared.run.RunEnd.TheVariants.{Blamed, Ended, EventsOut, TurnsOut}
+use Rattle.sc_core.specs.declared.run.SourceRun.{SourceRun}
 use Rattle.sc_core.specs.Growth.{Front}
 use Rattle.sc_core.specs.Meaning.{Run, depth_in}
 use Rattle.sc_core.specs.Run.{stopped_at}
@@ -20,6 +22,10 @@ IsBlamed (Blamed comp cause line) = Unit {0}
 IsBlamed Ended = ⊥
 IsBlamed TurnsOut = ⊥
 IsBlamed EventsOut = ⊥
+
+-- a run keeps to a trace: it tells all of it, or is blamed before
+abbrev pub KeepsTo : List Event → SourceRun → Type 0
+KeepsTo trace run = Front trace run.trace ⊎ (IsBlamed run.end × Front run.trace trace)
 
 -- the machine stands trapped in a compartment that the run, stopped at so many events, takes deeper than a stack is; it
 -- has shown a front of the run

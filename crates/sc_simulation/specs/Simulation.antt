@@ -1,18 +1,21 @@
 -- The machine on a linked image does what the code of its program does.
-use Rattle.std.specs.Prelude.{◌≡◌, ℕ, suc, ◌*◌, false, List, [], All, Some, slice_get}
+use Rattle.std.specs.Prelude.{◌≡◌, ℕ, suc, ◌*◌, Bool, true, false, List, [], All, Some, slice_get}
+use Rattle.sc_event.specs.Prelude.{legal}
 use Rattle.sc_core.specs.Scripts.{Roles}
 use Rattle.sc_core.specs.Value.{wrapping}
 use Rattle.sc_image.specs.declared.parts.ImageParts.{ImageParts}
+use Rattle.sc_image.specs.Machine.{machine}
 use Rattle.sc_image.specs.WellFormed.{IsWord}
 use Rattle.sc_tac.specs.declared.function.TacFnTree.{TacFnTree}
 use Rattle.sc_tac.specs.declared.program.TacTree.{TacTree}
-use Rattle.sc_tac.specs.Code.{code_run}
+use Rattle.sc_tac.specs.Code.{code_run, scripted_code_run}
 use Rattle.sc_tac.specs.Functions.{IsFunction}
 use Rattle.sc_tac.specs.Programs.{IsProgram}
 use Rattle.sc_select.specs.Linking.{Addresses}
 use Rattle.sc_simulation.specs.Linked.{IsLinked, functions_in}
 use Rattle.sc_simulation.specs.Outcomes.{Outcome}
 use Rattle.sc_simulation.specs.Results.{GivesResults}
+use Rattle.sc_simulation.specs.Runs.{KeepsTo}
 
 -- nobody performs
 abbrev pub nobody : Roles
@@ -23,7 +26,7 @@ pub record IsBuilt (program : TacTree) (image : ImageParts) (turn_pays : ℕ) : 
   pub rules : IsProgram program
   pub functions : (comp number : ℕ) (f : TacFnTree) → slice_get (functions_in program comp) number ≡ Some f →
       IsFunction f
-  pub results : GivesResults program nobody
+  pub results : (roles : Roles) → GivesResults program roles
   pub addresses : ℕ → Addresses
   pub linked : IsLinked program image turn_pays addresses
 
@@ -33,3 +36,12 @@ abbrev pub Simulates : Type 0
 Simulates = (program : TacTree) (image : ImageParts) (turn_pays : ℕ) → IsBuilt program image turn_pays →
     (inputs : List ℕ) (turns : ℕ) → All IsWord inputs →
     Outcome image inputs (turn_pays * suc turns) turns (code_run wrapping program inputs turns)
+
+-- where a set performs its part of what the machine shows, whatever its code does, the run of all other code keeps to
+-- that, with as many turns as the machine took steps
+abbrev pub ScriptsSimulate : Type 0
+ScriptsSimulate = (program : TacTree) (image : ImageParts) (turn_pays : ℕ) → IsBuilt program image turn_pays →
+    (inputs : List ℕ) (steps events : ℕ) (set : ℕ → Bool) → All IsWord inputs →
+    let shown = (machine image inputs steps events).state.trace in
+    legal program.interfaces shown ≡ true →
+    KeepsTo shown (scripted_code_run wrapping program inputs steps set shown).behaviour

@@ -1,7 +1,7 @@
 // The laws, each the contract of a function with nothing to do.
 
 ghost use Rattle.sc_simulation.specs.Runs.{OutcomesShow};
-ghost use Rattle.sc_simulation.specs.Simulation.{Simulates};
+ghost use Rattle.sc_simulation.specs.Simulation.{ScriptsSimulate, Simulates};
 
 /// From its start, the machine on an image in which the code of a program stands shows what a run of that code shows,
 /// unless a stack is full; and it takes no more steps than the turns pay for.
@@ -13,4 +13,10 @@ pub fn simulates()
 /// shows within a bound on steps, or a full stack, and nothing else in as many steps as the run has turns.
 pub fn outcomes_show()
     ensures { OutcomesShow }
+{}
+
+/// Where a set of compartments performs its part of what the machine shows, whatever its code does, the run of all other
+/// code shows the same, or is blamed before, with as many turns as the machine took steps.
+pub fn scripts_simulate()
+    ensures { ScriptsSimulate }
 {}
