@@ -1,3 +1,5 @@
 pub mod Recompose
 pub mod Replaced
 pub mod Sections
+pub mod Chain
+pub mod Faults

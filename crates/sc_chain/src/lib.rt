@@ -1,8 +1,13 @@
-//! The texts of a chain: those in which the sections of some compartments perform their parts of a trace.
+//! The texts of a chain: those in which the sections of some compartments perform their parts of a trace, and the chain
+//! of them that accounts for a run of the machine.
 #![tactic(auto)]
 
+mod explain;
+mod explanation;
 mod recompose;
 mod replaced;
 
+pub use explain::explain;
+pub use explanation::{ExplainFault, Explanation, Link, Links};
 pub use recompose::{Replacement, recompose};
 pub use replaced::replaced;

@@ -1,0 +1,78 @@
+-- The account of a run of the machine: a chain of texts. The first is the program's own; each later one has one section
+-- more that performs its part of the trace, that of the compartment which the meaning of the text before it blames
+-- after a proper, ever longer front of the trace; the meaning of the last is the trace.
+use Rattle.std.specs.Prelude.{◌≡◌, ◌↔◌, ℕ, suc, ◌<◌, ◌≤◌, Bool, true, false, List, [], ◌∷◌, length, take, Ok}
+use Rattle.sc_base.specs.declared.stop.Stop.{Stop}
+use Rattle.sc_event.specs.declared.event.Event.{Event}
+use Rattle.sc_core.specs.Prelude.{meaning}
+use Rattle.sc_core.specs.declared.program.ProgramTree.{ProgramTree}
+use Rattle.sc_core.specs.declared.run.RunEnd.TheVariants.{Blamed}
+use Rattle.sc_image.specs.declared.parts.ImageParts.{ImageParts}
+use Rattle.sc_image.specs.Machine.{machine}
+use Rattle.sc_compile.specs.Image.{image_of}
+use Rattle.sc_types.specs.Acceptance.{Accepts}
+use Rattle.sc_types.specs.Source.{SourceParts}
+use Rattle.sc_chain.specs.Recompose.{among, performing_text, recomposed}
+use Rattle.sc_chain.specs.declared.explanation.Explanation.{Explanation}
+use Rattle.sc_chain.specs.declared.explanation.Link.{Link}
+
+-- The meaning of a program, with as many turns as the machine took steps and as many events as it showed, is blamed so,
+-- after a proper front of the trace.
+pub record IsBlamedSo (program : ProgramTree) (inputs : List ℕ) (steps : ℕ) (trace : List Event) (link : Link) :
+    Type 0 where
+  pub end : (meaning program inputs steps (length trace)).end ≡ Blamed link.comp link.cause link.line
+  pub front : (meaning program inputs steps (length trace)).trace ≡ take link.after trace
+  pub proper : link.after < length trace
+
+module _ (source : SourceParts) (inputs : List ℕ) (steps : ℕ) (trace : List Event) where
+  -- the text in which the compartments of a set perform their parts of the trace is accepted, as this program
+  pub record HasProgram (set : ℕ → Bool) : Type 0 where
+    pub program : ProgramTree
+    pub accepted : Accepts (recomposed source trace set) program
+
+  -- the meaning of the text in which a set performs is the trace
+  pub record TellsTrace (set : ℕ → Bool) : Type 0 where
+    pub text : HasProgram set
+    pub tells : (meaning text.program inputs steps (length trace)).trace ≡ trace
+
+  -- the text in which these compartments perform is blamed by the link's account, on none of them, after no fewer events
+  -- than this; and the link's text is that of the blamed compartment's section
+  pub record IsNext (comps : List ℕ) (least : ℕ) (link : Link) : Type 0 where
+    pub text : HasProgram (among comps)
+    pub blamed : IsBlamedSo text.program inputs steps trace link
+    pub later : least ≤ link.after
+    pub outside : among comps link.comp ≡ false
+    pub there : link.comp < length source.program.interfaces.comps
+    pub performs : link.text ≡ performing_text source.program.interfaces trace link.comp
+
+  -- from the text in which these compartments perform on
+  abbrev pub IsChainFrom : (comps : List ℕ) → (least : ℕ) → List Link → Type 0
+  IsChainFrom comps least [] = TellsTrace (among comps)
+  IsChainFrom comps least (link ∷ links) =
+      IsNext comps least link × IsChainFrom (link.comp ∷ comps) (suc link.after) links
+
+  -- all compartments of the links are in the set
+  abbrev pub Includes : (set : ℕ → Bool) → List Link → Type 0
+  Includes set [] = Unit {0}
+  Includes set (link ∷ links) = (set link.comp ≡ true) × Includes set links
+
+  pub record IsChain (links : List Link) : Type 0 where
+    -- the first text is the source's own
+    pub own : recomposed source trace (among []) ≡ source.bytes
+    pub chain : IsChainFrom [] 0 links
+    pub few : length links ≤ length source.program.interfaces.comps
+    -- nothing is replaced exactly where the program's own meaning is the trace
+    pub none : (links ≡ []) ↔ ((meaning source.program inputs steps (length trace)).trace ≡ trace)
+    -- of all sets of compartments exactly those give the trace that have every compartment of the chain
+    pub least : (set : ℕ → Bool) →
+        ((comp : ℕ) → set comp ≡ true → comp < length source.program.interfaces.comps) →
+        TellsTrace set ↔ Includes set links
+
+-- the trace and the stop are those of the machine on the program's image, and the links are a chain for them
+pub record IsExplained (source : SourceParts) (inputs : List ℕ) (steps events : ℕ) (explanation : Explanation) :
+    Type 0 where
+  pub image : ImageParts
+  pub compiled : image_of source.program ≡ Ok image
+  pub trace : explanation.trace ≡ (machine image inputs steps events).state.trace
+  pub stop : explanation.stop ≡ (machine image inputs steps events).stop
+  pub chain : IsChain source inputs steps explanation.trace explanation.links
