@@ -1,5 +1,5 @@
 -- Helping: the trees of a text and those of the text in which some sections are replaced by ones that perform.
-use Rattle.std.specs.Prelude.{◌≡◌, ℕ, suc, ◌<◌, ◌^◌, Bool, true, false, List, [], ◌∷◌, All, Option, None, Some, IsSome}
+use Rattle.std.specs.Prelude.{◌≡◌, ℕ, suc, ◌<◌, ◌^◌, Bool, true, false, List, [], ◌∷◌, All, Option, None, Some}
 use Rattle.std.specs.Prelude.{IsTrue}
 use Rattle.sc_base.specs.Prelude.{is_name}
 use Rattle.sc_event.specs.Prelude.{comp_at, export_at}
