@@ -12,3 +12,5 @@ pub mod TypedRows
 pub mod Judging
 pub mod SectionTypes
 pub mod TypesKept
+pub mod Seen
+pub mod SeenKept
