@@ -14,3 +14,5 @@ pub mod SectionTypes
 pub mod TypesKept
 pub mod Seen
 pub mod SeenKept
+pub mod Agreeing
+pub mod Resolved

@@ -72,6 +72,24 @@ module _ (olds news : List SectionTree) (all : AreSeenAs olds news) where
       elab.section_lines tree (callees_of olds 0 tree)
   types_same line tree = ap (elab.section_lines tree) (callees_same 0 line tree)
 
+  -- Prototypes of what is imported.
+
+  abbrev agrees_by : (olds : List SectionTree) → ℕ → SectionTree → HeadTree → ImportLine → Bool → Bool
+  agrees_by all number section head line environs =
+      if environs then (if bytes_eq head.name input_name then is_input head else
+      if bytes_eq head.name output_name then is_output head else true)
+      else agrees_there all number section head (offering number line 0 all)
+
+  pub agrees_as_too : (number : ℕ) (old new : SectionTree) (head : HeadTree) (a b : ImportLine) → IsAlike a b →
+      a.name ≡ head.name → agrees_as olds number old head a ≡ true → agrees_as news number new head b ≡ true
+  agrees_as_too number old new head a b alike named h =
+      ap (λ comp. agrees_by news number new head b (bytes_eq comp environment)) alike.comp ∙
+      by (is_environment a) h where
+        by : (e : Bool) → agrees_by olds number old head a e ≡ true → agrees_by news number new head b e ≡ true
+        by true h = h
+        by false h =
+            agrees_there_too number a b alike olds news number number old new head named 0 olds news all h
+
   -- Imports, of sections that define no more functions.
 
   module _ (number : ℕ) (old new : SectionTree)
@@ -140,18 +158,9 @@ module _ (olds news : List SectionTree) (all : AreSeenAs olds news) where
     module _ (head : HeadTree) where
       as_kept : (import : ImportLine) → bytes_eq import.name head.name ≡ true →
           agrees_as olds number old head import ≡ true → agrees_as news number new head import ≡ true
-      as_kept import named = by (is_environment import) where
-        by : (e : Bool) →
-            (if e then (if bytes_eq head.name input_name then is_input head else
-            if bytes_eq head.name output_name then is_output head else true)
-            else agrees_there olds number old head (offering number import 0 olds)) ≡ true →
-            (if e then (if bytes_eq head.name input_name then is_input head else
-            if bytes_eq head.name output_name then is_output head else true)
-            else agrees_there news number new head (offering number import 0 news)) ≡ true
-        by true h = h
-        by false h =
-            agrees_there_too number import import (record { comp = refl; name = refl }) olds news number number old new
-            head (same_text import.name head.name named) 0 olds news all h
+      as_kept import named h =
+          agrees_as_too number old new head import import (record { comp = refl; name = refl })
+          (same_text import.name head.name named) h
 
       line_kept : (import : ImportLine) → (b : Bool) → bytes_eq import.name head.name ≡ b →
           (not b || agrees_as olds number old head import) ≡ true →

@@ -168,7 +168,7 @@ module _ (sections : List SectionTree) (hold : (j : ℕ) (s : SectionTree) → s
 
   -- The names by which imports are called.
 
-  promised_name : (name : Text) (found : Option FunctionTree) → (promised name found).name ≡ name
+  pub promised_name : (name : Text) (found : Option FunctionTree) → (promised name found).name ≡ name
   promised_name name None = refl
   promised_name name (Some tree) = refl
 
@@ -246,7 +246,7 @@ module _ (sections : List SectionTree) (hold : (j : ℕ) (s : SectionTree) → s
   -- an export line at its place
   module _ (at : ℕ) (line : ExportLine) (got : slice_get section.exports at ≡ Some line)
       (f : ExportFacts sections number section line) where
-    g : FoundFunction line.name (functions_in section.decls)
+    pub g : FoundFunction line.name (functions_in section.decls)
     g = find_function line.name (functions_in section.decls) f.defined
 
     exported : is_numbered (export_names section) g.tree.head.name ≡ true
@@ -261,7 +261,7 @@ module _ (sections : List SectionTree) (hold : (j : ℕ) (s : SectionTree) → s
         (functions_in section.decls) g.at g.tree (each_function
         (DeclFacts sections number section facts.mains) section.decls facts.decls) g.got).0
 
-    crossing : head_crosses (head_of g.tree.head) ≡ true
+    pub crossing : head_crosses (head_of g.tree.head) ≡ true
     crossing = or_not (head_crosses (head_of g.tree.head)) _ fits (or_left _ _ exported)
 
     promise : proto_of section line ≡ promised line.name (Some g.tree)
