@@ -1,5 +1,6 @@
 -- The rows of all entries are no more than the rows.
-use Rattle.std.proofs.Common.{Bool, List, [], ◌∷◌, ◌++◌, ◌≡◌, ◌∙◌, ◌==◌, ◌+◌, ◌<◌, ◌≤◌, ℕ, suc, ap₂, arith, false, if◌then◌else◌, length, map}
+use Rattle.std.proofs.Common.{Bool, List, [], ◌∷◌, ◌++◌, ◌≡◌, ◌∙◌, ◌==◌, ◌+◌, ◌<◌, ◌≤◌, ℕ, suc, ap₂, arith, false}
+use Rattle.std.proofs.Common.{if◌then◌else◌, length, map}
 use Rattle.std.proofs.Common.{refl, true}
 use Rattle.std.proofs.lemmas.Bool.{eqb-true}
 use Rattle.std.specs.Prelude.{filter}
