@@ -17,3 +17,4 @@ pub mod Replaced
 pub mod Shares
 pub mod Nodes
 pub mod CountsKept
+pub mod Examples

@@ -15,10 +15,6 @@ use Rattle.sc_core.specs.Prelude.{total}
 use Rattle.sc_back.specs.Text.{is_of, main_proto}
 use Rattle.sc_performers.proofs.BackTree.{entries_from, entries_of, main_entries}
 
-pub total_append : (xs ys : List ℕ) → total (xs ++ ys) ≡ total xs + total ys
-total_append [] ys = omega arith
-total_append (x ∷ xs) ys = omega (arith, total_append xs ys)
-
 abbrev one_if : Bool → ℕ
 one_if true = 1
 one_if false = 0
