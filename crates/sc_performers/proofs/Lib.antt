@@ -18,3 +18,4 @@ pub mod Shares
 pub mod Nodes
 pub mod CountsKept
 pub mod Examples
+pub mod LegalRows
