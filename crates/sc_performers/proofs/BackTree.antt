@@ -15,7 +15,6 @@ use Rattle.sc_ast.specs.declared.expr.ExprTree.TheVariants.{Binary, Variable}
 use Rattle.sc_ast.specs.declared.stmt.StmtKind.{StmtKind}
 use Rattle.sc_ast.specs.declared.stmt.StmtKind.TheVariants.{Assign, If, While}
 use Rattle.sc_ast.specs.declared.stmt.StmtTree.{StmtTree}
-use Rattle.sc_ast.specs.declared.section.Decl.{Decl}
 use Rattle.sc_ast.specs.declared.section.Decl.TheVariants as decl
 use Rattle.sc_ast.specs.declared.section.FunctionTree.{FunctionTree}
 use Rattle.sc_ast.specs.declared.section.GlobalTree.{GlobalTree}

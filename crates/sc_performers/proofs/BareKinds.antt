@@ -1,10 +1,9 @@
 -- A kind of statement that is one of those of a performing section, lines aside.
-use Rattle.std.proofs.Common.{List, [], ◌∷◌, ◌≡◌, ◌∙◌, ℕ, ap, refl, subst, sym, map}
-use Rattle.sc_ast.specs.Prelude.{lineless_kind, lineless_option, lineless_stmt, lineless_stmts}
+use Rattle.std.proofs.Common.{List, ◌≡◌, ◌∙◌, ap, refl, subst, sym}
+use Rattle.sc_ast.specs.Prelude.{lineless_kind, lineless_option, lineless_stmts}
 use Rattle.sc_ast.specs.Lineless.{kind_step, stmt_step}
-use Rattle.sc_ast.specs.declared.expr.CallTree.{CallTree}
 use Rattle.sc_ast.specs.declared.expr.ExprTree.{ExprTree}
-use Rattle.sc_ast.specs.declared.stmt.StmtTree.{StmtTree, fold-roll-StmtTree}
+use Rattle.sc_ast.specs.declared.stmt.StmtTree.{StmtTree}
 use Rattle.sc_ast.specs.declared.stmt.StmtKind.{StmtKind, StmtKind-F, roll-StmtKind, out-StmtKind}
 use Rattle.sc_ast.specs.declared.stmt.StmtKind.{roll-out-StmtKind, out-roll-StmtKind, fold-roll-StmtKind}
 use Rattle.sc_ast.specs.declared.stmt.StmtKind.TheOpen as layer

@@ -1,5 +1,5 @@
 -- What is found among the declarations of a performing section: prototypes, the counter and functions.
-use Rattle.std.proofs.Common.{List, [], ◌∷◌, ◌++◌, ◌≡◌, ◌∙◌, ap, append-nil, map, refl}
+use Rattle.std.proofs.Common.{List, [], ◌∷◌, ◌++◌, ◌≡◌, ap, map, refl}
 use Rattle.sc_ast.specs.Prelude.{head_of}
 use Rattle.sc_ast.specs.declared.section.Decl.{Decl}
 use Rattle.sc_ast.specs.declared.section.Decl.TheVariants.{Function, Global, Proto}

@@ -1,16 +1,15 @@
 -- Names that are distinct, and names that aren't those of a section's own variables.
-use Rattle.std.proofs.Common.{Bool, List, [], ◌∷◌, ◌++◌, ◌≡◌, ◌∙◌, ◌&&◌, ◌||◌, ◌+◌, ◌<◌, ◌≤◌, ◌^◌, ℕ, suc, ap, arith, bytes_eq}
+use Rattle.std.proofs.Common.{Bool, List, [], ◌∷◌, ◌++◌, ◌≡◌, ◌∙◌, ◌||◌, ◌+◌, ◌<◌, ◌^◌, ℕ, suc, ap, arith, bytes_eq}
 use Rattle.std.proofs.Common.{codes, drop, false, length, map, not, refl, subst, sym, true}
 use Rattle.std.proofs.lemmas.Bool.{and_from, false≢true, or_parts, or_left, or_right}
 use Rattle.std.proofs.lemmas.Fmt.{decimal_injective}
-use Rattle.std.proofs.lemmas.List.Folds.{list_any-append}
 use Rattle.std.specs.Fmt.{decimal}
-use Rattle.std.specs.List.{list_any}
 use Rattle.sc_base.proofs.Bools.{and_first, and_rest}
-use Rattle.sc_base.proofs.Texts.{bytes_eq_self, same_text, same_either_way}
+use Rattle.sc_base.proofs.Texts.{same_text}
 use Rattle.sc_event.specs.declared.interface.Scalar.{Scalar}
 use Rattle.sc_ast.specs.declared.section.FunctionParam.{FunctionParam}
 use Rattle.sc_scope.specs.Prelude.{Text, among, are_distinct, is_new}
+use Rattle.sc_scope.proofs.Lines.{among-append}
 use Rattle.sc_interfaces.specs.Prelude.{is_plain}
 use Rattle.sc_back.specs.Tree.{counter_name, function_params, param_name}
 
@@ -32,20 +31,17 @@ not_to false h = refl
 
 -- Names of two lists.
 
-among_append : (xs ys : List Text) (name : Text) → among (xs ++ ys) name ≡ (among xs name || among ys name)
-among_append xs ys name = list_any-append (bytes_eq name) xs ys
-
 pub among_front : (xs ys : List Text) (name : Text) → among xs name ≡ true → among (xs ++ ys) name ≡ true
-among_front xs ys name h = among_append xs ys name ∙ or_left (among xs name) (among ys name) h
+among_front xs ys name h = among-append xs ys name ∙ or_left (among xs name) (among ys name) h
 
 pub among_back : (xs ys : List Text) (name : Text) → among ys name ≡ true → among (xs ++ ys) name ≡ true
-among_back xs ys name h = among_append xs ys name ∙ or_right (among xs name) (among ys name) h
+among_back xs ys name h = among-append xs ys name ∙ or_right (among xs name) (among ys name) h
 
 pub not_front : (xs ys : List Text) (name : Text) → among (xs ++ ys) name ≡ false → among xs name ≡ false
-not_front xs ys name h = (or_parts (among xs name) (among ys name) (sym (among_append xs ys name) ∙ h)).0
+not_front xs ys name h = (or_parts (among xs name) (among ys name) (sym (among-append xs ys name) ∙ h)).0
 
 pub not_back : (xs ys : List Text) (name : Text) → among (xs ++ ys) name ≡ false → among ys name ≡ false
-not_back xs ys name h = (or_parts (among xs name) (among ys name) (sym (among_append xs ys name) ∙ h)).1
+not_back xs ys name h = (or_parts (among xs name) (among ys name) (sym (among-append xs ys name) ∙ h)).1
 
 -- the first of distinct names isn't among the others
 pub first_new : (name : Text) (names : List Text) → are_distinct (name ∷ names) ≡ true → among names name ≡ false
@@ -75,12 +71,12 @@ apart [] ys name h there = refl
 apart (x ∷ xs) ys name h there =
     is_false (bytes_eq name x || among xs name)
     (by (apart xs ys name (rest_distinct x (xs ++ ys) h) there) (bytes_eq name x) refl) where
-  by : among xs name ≡ false → (b : Bool) → bytes_eq name x ≡ b → (b || among xs name) ≡ true → ⊥
-  by rest true same e =
-      not_both (among (xs ++ ys) x)
-      (among_back xs ys x (same_among ys name x (same_text name x same) there))
-      (first_new x (xs ++ ys) h)
-  by rest false other e = not_both (among xs name) e rest
+      by : among xs name ≡ false → (b : Bool) → bytes_eq name x ≡ b → (b || among xs name) ≡ true → ⊥
+      by rest true same e =
+          not_both (among (xs ++ ys) x)
+          (among_back xs ys x (same_among ys name x (same_text name x same) there))
+          (first_new x (xs ++ ys) h)
+      by rest false other e = not_both (among xs name) e rest
 
 -- Names that don't begin as the section's own do.
 
@@ -118,11 +114,11 @@ param_new m number (ty ∷ params) before low =
     is_false (bytes_eq (param_name m) (param_name number) || among (params_named (suc number) params) (param_name m))
     (by (param_new m (suc number) params (omega arith) (omega arith)) (bytes_eq (param_name m) (param_name number))
     refl) where
-  by : among (params_named (suc number) params) (param_name m) ≡ false → (b : Bool) →
-      bytes_eq (param_name m) (param_name number) ≡ b →
-      (b || among (params_named (suc number) params) (param_name m)) ≡ true → ⊥
-  by rest true same e = let is = same_number m number (omega arith) (omega arith) same in omega (arith, is, before)
-  by rest false other e = not_both (among (params_named (suc number) params) (param_name m)) e rest
+      by : among (params_named (suc number) params) (param_name m) ≡ false → (b : Bool) →
+          bytes_eq (param_name m) (param_name number) ≡ b →
+          (b || among (params_named (suc number) params) (param_name m)) ≡ true → ⊥
+      by rest true same e = let is = same_number m number (omega arith) (omega arith) same in omega (arith, is, before)
+      by rest false other e = not_both (among (params_named (suc number) params) (param_name m)) e rest
 
 pub params_distinct : (number : ℕ) (params : List Scalar) → number + length params < 2 ^ 64 →
     are_distinct (params_named number params) ≡ true

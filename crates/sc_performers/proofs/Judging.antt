@@ -1,22 +1,20 @@
 -- How the expressions of a performing section are judged.
-use Rattle.std.proofs.Common.{Bool, List, None, Option, Some, [], ◌∷◌, ◌++◌, ◌≡◌, ◌∙◌, ◌&&◌, ◌||◌, ◌+◌, ◌^◌, ◌-◌, ◌==◌, ◌<◌, ◌≤◌, ℕ, suc, ap, ap₂}
-use Rattle.std.proofs.Common.{arith, false, if◌then◌else◌, le-leb, leb-false, length, lt-ltb, map, nat_le, nat_lt, refl, rules, sym, true}
+use Rattle.std.proofs.Common.{Bool, List, [], ◌∷◌, ◌≡◌, ◌∙◌, ◌^◌, ◌-◌, ◌==◌, ◌<◌, ℕ, ap, ap₂}
+use Rattle.std.proofs.Common.{arith, false, if◌then◌else◌, le-leb, leb-false, length, lt-ltb, map, nat_le, nat_lt, refl}
+use Rattle.std.proofs.Common.{rules, true}
 use Rattle.std.proofs.lemmas.Bool.{and_from, eqb-false}
-use Rattle.std.proofs.lemmas.Bool.Decides.{Decides-eqb, nat_tests}
 use Rattle.std.specs.List.{AllByRecursion}
-use Rattle.sc_base.specs.declared.op.BinaryOp.TheVariants.{Equal, Sub}
-use Rattle.sc_base.specs.declared.op.UnaryOp.TheVariants.{Minus}
 use Rattle.sc_event.specs.declared.interface.Scalar.{Scalar}
 use Rattle.sc_event.specs.declared.interface.Scalar.TheVariants.{Int, Unsigned}
-use Rattle.sc_core.specs.Prelude.{Judged, Scope, goes_into, is_scalar, judged, scalar_ty}
-use Rattle.sc_core.specs.Typing.{all_go_into, assign_fits, literal_fits, place_judged, value_judged}
+use Rattle.sc_core.specs.Prelude.{Scope, goes_into, is_scalar, judged, scalar_ty}
+use Rattle.sc_core.specs.Typing.{all_go_into, assign_fits, place_judged, value_judged}
 use Rattle.sc_core.specs.declared.expr.TypedExpr.{TypedExpr}
 use Rattle.sc_core.specs.declared.expr.TypedExpr as typed_exprs
 use Rattle.sc_core.specs.declared.expr.TypedKind as typed_kinds
 use Rattle.sc_core.specs.declared.ty.Ty.{Ty}
 use Rattle.sc_core.specs.declared.ty.Ty.TheVariants as ty
 use Rattle.sc_replay.specs.Replay.{IsWord}
-use Rattle.sc_replay.specs.Texts.{counter, counter_is, int_expr, least_int, literal, minus, word_expr, word_exprs}
+use Rattle.sc_replay.specs.Texts.{counter, counter_is, least_int, literal, minus, word_expr, word_exprs}
 
 module _ (params : List Ty) where
   -- the counter, and parameters

@@ -16,3 +16,10 @@ pub mod Seen
 pub mod SeenKept
 pub mod Agreeing
 pub mod Resolved
+pub mod Performing
+pub mod Replaced
+pub mod Shares
+pub mod Nodes
+pub mod CountsKept
+pub mod Examples
+pub mod LegalRows

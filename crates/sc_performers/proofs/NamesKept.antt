@@ -1,13 +1,14 @@
 -- A performing section breaks no rule of names.
-use Rattle.std.proofs.Common.{Bool, List, None, Option, Some, [], ◌∷◌, ◌++◌, ◌≡◌, ◌∙◌, ◌&&◌, ◌||◌, ◌+◌, ◌^◌, ◌==◌, ℕ, suc, ap, ap₂}
-use Rattle.std.proofs.Common.{append-nil, append_assoc, arith, bytes_eq, false, length, map, not, refl, subst, sym, true}
+use Rattle.std.proofs.Common.{List, None, Option, Some, [], ◌∷◌, ◌++◌, ◌≡◌, ◌∙◌, ◌||◌, ◌==◌, ℕ, suc, ap, ap₂}
+use Rattle.std.proofs.Common.{append-nil, append_assoc, arith, bytes_eq, false, length, map, not, refl, subst, sym}
+use Rattle.std.proofs.Common.{true}
 use Rattle.std.proofs.lemmas.Bool.{and_from, false≢true, or_from, or_left}
 use Rattle.std.proofs.lemmas.List.{map-append}
 use Rattle.std.specs.Prelude.{filter}
-use Rattle.std.specs.List.{AllByRecursion, concat, list_all}
+use Rattle.std.specs.List.{AllByRecursion, list_all}
 use Rattle.std.specs.Option.{option_map, option_map_or}
 use Rattle.sc_base.proofs.Texts.{bytes_eq_self, same_either_way}
-use Rattle.sc_event.specs.Prelude.{export_at, imports, is_function, takes}
+use Rattle.sc_event.specs.Prelude.{export_at, imports, is_function}
 use Rattle.sc_event.specs.declared.interface.Import.{Import}
 use Rattle.sc_event.specs.declared.interface.Import.TheVariants as import
 use Rattle.sc_event.specs.declared.interface.Interface.{Interface}
@@ -19,7 +20,7 @@ use Rattle.sc_event.specs.declared.row.Action.{Action}
 use Rattle.sc_event.specs.declared.row.Action.TheVariants as action
 use Rattle.sc_event.specs.declared.row.Entry.{Entry}
 use Rattle.sc_event.specs.declared.row.Row.{Row}
-use Rattle.sc_ast.specs.Prelude.{head_of, param_of}
+use Rattle.sc_ast.specs.Prelude.{param_of}
 use Rattle.sc_ast.specs.declared.section.Decl.{Decl}
 use Rattle.sc_ast.specs.declared.section.Decl.TheVariants as decl
 use Rattle.sc_ast.specs.declared.section.FunctionTree.{FunctionTree}
@@ -31,11 +32,10 @@ use Rattle.sc_ast.specs.declared.section.GlobalTree.{GlobalTree}
 use Rattle.sc_ast.specs.declared.stmt.StmtTree.{StmtTree}
 use Rattle.sc_ast.specs.declared.stmt.StmtKind.TheVariants as stmt
 use Rattle.sc_scope.specs.Prelude.{Text, among, are_distinct, base_known, body_lines, decl_lines, declared}
-use Rattle.sc_scope.specs.Prelude.{expr_known, function_lines, function_names, global_known, head_known, head_of_known}
-use Rattle.sc_scope.specs.Prelude.{import_names, is_callable, is_new, known_in, lines_from, proto_known, result_known}
+use Rattle.sc_scope.specs.Prelude.{function_lines, function_names, global_known, head_of_known}
+use Rattle.sc_scope.specs.Prelude.{import_names, is_callable, is_new, lines_from, proto_known, result_known}
 use Rattle.sc_scope.specs.Prelude.{stmt_lines, unless}
 use Rattle.sc_scope.specs.declared.section_names.SectionNames.{SectionNames}
-use Rattle.sc_interfaces.specs.Prelude.{is_plain}
 use Rattle.sc_back.specs.Text.{input_proto, is_of, output_proto}
 use Rattle.sc_back.specs.Tree.{action_kind, base_tree, call_kind, counter_name, function_params, proto_params}
 use Rattle.sc_back.specs.Tree.{type_name}
@@ -44,13 +44,13 @@ use Rattle.sc_performers.specs.Laws.{NamesHold}
 use Rattle.sc_performers.specs.Performer.{IsPerformer, IsUsable, MayDo}
 use Rattle.sc_performers.proofs.BackTree.{AreFunctions, AreHeads, IsBackBody, IsBackTree, and_function, and_head}
 use Rattle.sc_performers.proofs.BackTree.{counter_at, does, ends, function_at, head_at, no_functions, no_heads}
-use Rattle.sc_performers.proofs.BackTree.{row_at, stmt_at}
+use Rattle.sc_performers.proofs.BackTree.{stmt_at}
 use Rattle.sc_performers.proofs.Undone.{back_tree_is}
 use Rattle.sc_performers.proofs.Declared.{all_functions, all_globals, all_protos, all_structs, decls_of}
 use Rattle.sc_performers.proofs.Declared.{protos_functions, protos_globals, protos_protos, protos_structs}
-use Rattle.sc_performers.proofs.Distinct.{among_back, front_distinct, first_new, not_counter, not_from, not_param}
-use Rattle.sc_performers.proofs.Distinct.{params_distinct, params_named, apart, back_distinct}
-use Rattle.sc_performers.proofs.Uses.{AllFit, AreEntries, Fits, IsAmong, are_entries, calls_use, input_use, output_use}
+use Rattle.sc_performers.proofs.Distinct.{among_back, front_distinct, not_counter, not_from, not_param}
+use Rattle.sc_performers.proofs.Distinct.{params_distinct, params_named, apart}
+use Rattle.sc_performers.proofs.Uses.{AllFit, AreEntries, IsAmong, are_entries, calls_use, input_use, output_use}
 use Rattle.sc_performers.proofs.Uses.{rows_fit}
 use Rattle.sc_performers.proofs.RowNames.{calls_known, known, returns_known, row_known, while_known}
 use Rattle.sc_performers.proofs.SectionFacts.{distinct_names, entries, entries_usable, entry_names, functions_named}
@@ -260,7 +260,7 @@ module _ (interfaces : Interfaces) (comp : ℕ) (rows : List Row) (interface : I
       ap (λ n. function_lines n tree) (before_functions heads line front) ∙
       function_none entry f at close body (tree_names front) (head_names heads) b named.0 usable.0 new in
       let next : decls_of heads (counter_at line) front ++ decl.Function tree ∷ [] ≡
-          decls_of heads (counter_at line) (front ++ tree ∷ []) =
+      decls_of heads (counter_at line) (front ++ tree ∷ []) =
       append_assoc (map decl.Proto heads) (decl.Global (counter_at line) ∷ map decl.Function front)
       (decl.Function tree ∷ []) ∙
       ap (λ x. map decl.Proto heads ++ decl.Global (counter_at line) ∷ x)

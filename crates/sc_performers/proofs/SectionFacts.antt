@@ -1,5 +1,5 @@
 -- The names of a performing section: they are distinct, and none is one of its own variables.
-use Rattle.std.proofs.Common.{List, [], ◌∷◌, ◌++◌, ◌≡◌, ◌∙◌, ◌+◌, ◌<◌, ◌≤◌, ◌^◌, ◌||◌, ℕ, ap, ap₂, arith, false, length, map, refl, subst}
+use Rattle.std.proofs.Common.{List, [], ◌∷◌, ◌++◌, ◌≡◌, ◌∙◌, ℕ, ap, ap₂, map, refl, subst}
 use Rattle.std.proofs.Common.{sym, true}
 use Rattle.std.proofs.lemmas.List.{map-append}
 use Rattle.std.proofs.lemmas.List.Elements.{recursion_from_All}
@@ -19,9 +19,9 @@ use Rattle.sc_scope.specs.Prelude.{Text, among, are_distinct, function_names, im
 use Rattle.sc_base.proofs.Texts.{bytes_eq_self}
 use Rattle.std.proofs.lemmas.Bool.{or_left, or_right}
 use Rattle.std.specs.Prelude.{bytes_eq}
-use Rattle.sc_performers.specs.Performer.{IsPerformer, IsUsable, all_of, defined, names_of, used}
+use Rattle.sc_performers.specs.Performer.{IsPerformer, IsUsable, all_of, names_of, used}
 use Rattle.sc_performers.proofs.BackTree.{AreFunctions, AreHeads, AreImports, IsBackTree, and_function, and_head}
-use Rattle.sc_performers.proofs.BackTree.{and_import, counter_at, entries_of, head_at, import_at, no_functions}
+use Rattle.sc_performers.proofs.BackTree.{and_import, counter_at, entries_of, no_functions}
 use Rattle.sc_performers.proofs.BackTree.{no_heads, no_imports, uses}
 use Rattle.sc_performers.proofs.Declared.{all_functions}
 use Rattle.sc_performers.proofs.Uses.{IsAmong, entries_protos, first, later, protos_of, used_protos}

@@ -1,10 +1,11 @@
 -- What names stand for in a performing section.
-use Rattle.std.proofs.Common.{Bool, List, None, Option, Some, [], ◌∷◌, ◌++◌, ◌≡◌, ◌∙◌, ◌||◌, ◌+◌, ◌<◌, ◌≤◌, ◌^◌, ℕ, suc, ap, ap₂}
-use Rattle.std.proofs.Common.{arith, bytes_eq, codes, cond, drop, false, if◌then◌else◌, is_some, length, map, inl, inr, refl, subst, sym, true, ◌⊎◌}
+use Rattle.std.proofs.Common.{List, None, Option, Some, [], ◌∷◌, ◌++◌, ◌≡◌, ◌∙◌, ◌+◌, ◌<◌, ◌≤◌, ◌^◌, ℕ, suc, ap, ap₂}
+use Rattle.std.proofs.Common.{arith, bytes_eq, codes, cond, drop, false, if◌then◌else◌, is_some, length, map, inl, inr}
+use Rattle.std.proofs.Common.{refl, subst, sym, true, ◌⊎◌}
 use Rattle.std.proofs.lemmas.Bool.{false≢true, or_parts}
 use Rattle.std.proofs.lemmas.Fmt.{digits_decimal}
 use Rattle.std.proofs.lemmas.Str.Parse.{IsNumeralModel, numerals_by_value, tells_all_ascii_digits}
-use Rattle.std.specs.Prelude.{position, take}
+use Rattle.std.specs.Prelude.{position}
 use Rattle.std.specs.Fmt.{decimal}
 use Rattle.std.specs.Option.{option_and_then, option_map}
 use Rattle.std.specs.Str.{all_ascii_digits}
@@ -20,7 +21,6 @@ use Rattle.sc_event.specs.declared.interface.Proto.{Proto}
 use Rattle.sc_event.specs.declared.interface.Scalar.{Scalar}
 use Rattle.sc_event.specs.declared.interface.Scalar.TheVariants.{Int, Unsigned}
 use Rattle.sc_event.specs.declared.row.Row.{Row}
-use Rattle.sc_ast.specs.declared.section.Decl.{Decl}
 use Rattle.sc_ast.specs.declared.section.FunctionTree.{FunctionTree}
 use Rattle.sc_ast.specs.declared.section.GlobalTree.{GlobalTree}
 use Rattle.sc_ast.specs.declared.section.HeadTree.{HeadTree}
@@ -31,23 +31,25 @@ use Rattle.sc_ast.specs.declared.stmt.StmtTree.{StmtTree}
 use Rattle.sc_core.specs.Prelude.{proto_signature, result_ty, scalar_ty}
 use Rattle.sc_core.specs.declared.expr.VarRef.TheVariants.{Param}
 use Rattle.sc_core.specs.declared.section.TypedParam.{TypedParam}
-use Rattle.sc_core.specs.declared.ty.Ty.{Ty}
-use Rattle.sc_core.specs.declared.ty.Ty.TheVariants as ty
-use Rattle.sc_scope.specs.Prelude.{Text, among, are_distinct, function_named, function_names, functions_in, globals_in, heads_in}
+use Rattle.sc_scope.specs.Prelude.{Text, among, are_distinct, function_named, function_names, functions_in, globals_in}
+use Rattle.sc_scope.specs.Prelude.{heads_in}
 use Rattle.sc_scope.specs.Prelude.{import_of, struct_names, structs_in}
 use Rattle.sc_elab_expr.specs.Prelude.{Callees, found_in, target_or}
-use Rattle.sc_elab.specs.Prelude.{callees_of, global_variable, head_named, import_named, import_target, imported_target, or_first}
-use Rattle.sc_elab.specs.Prelude.{param_ty, result_of, scope_in, signature_by, structs, tags, type_of, type_of_name}
-use Rattle.sc_elab.specs.Prelude.{typed_param, visible_of}
-unfoldable use Rattle.sc_elab.specs.Prelude.{typed_structs}
-use Rattle.sc_back.specs.Tree.{base_tree, counter_name, function_params, param_name, proto_params, type_name}
+use Rattle.sc_elab.specs.Prelude.{callees_of, global_variable, head_named, import_named, import_target, imported_target}
+use Rattle.sc_elab.specs.Prelude.{or_first}
+use Rattle.sc_elab.specs.Prelude.{param_ty, result_of, scope_in, signature_by, structs, type_of, type_of_name}
+use Rattle.sc_elab.specs.Prelude.{typed_function, typed_param, visible_of}
+use Rattle.sc_elab_stmt.specs.Prelude.{typed_stmt}
+unfoldable use Rattle.sc_elab.specs.Prelude.{typed_locals, typed_structs}
+use Rattle.sc_back.specs.Tree.{counter_name, function_params, param_name, proto_params, type_name}
 use Rattle.sc_performers.specs.Performer.{IsPerformer}
 use Rattle.sc_performers.proofs.BackTree.{AreHeads, AreImports, IsBackTree, and_head, and_import, counter_at}
-use Rattle.sc_performers.proofs.BackTree.{function_at, head_at, import_at, no_heads, no_imports, uses}
+use Rattle.sc_performers.proofs.BackTree.{function_at, head_at, import_at, no_heads, no_imports}
 use Rattle.sc_performers.proofs.Declared.{all_functions, all_globals, all_heads, all_structs, heads_of}
 use Rattle.sc_performers.proofs.Distinct.{apart, back_distinct, first_new, is_false, not_both, rest_distinct}
 use Rattle.sc_performers.proofs.Judging.{scope}
-use Rattle.sc_performers.proofs.SectionFacts.{distinct_names, entries, entry_names, functions_named, imported_uses, names_defined}
+use Rattle.sc_performers.proofs.SectionFacts.{distinct_names, entries, entry_names, functions_named, imported_uses}
+use Rattle.sc_performers.proofs.SectionFacts.{names_defined}
 use Rattle.sc_performers.proofs.SectionFacts.{tree_names, use_named, use_names}
 use Rattle.sc_performers.proofs.TypedRows.{HasSignatures}
 use Rattle.sc_performers.proofs.TypedTrees.{visible}
@@ -219,6 +221,19 @@ module _ (interfaces : Interfaces) (comp : ℕ) (rows : List Row) (interface : I
       result_of section (function_at f line close_line body) ≡ result_ty f.result
   result_is f line close_line body =
       ap (λ names. option_map (type_of_name names) (option_map type_name f.result)) no_tags ∙ result_typed f.result
+
+  -- a function has no locals, and its statements are typed by what is visible in it
+  pub no_locals : (callees : Callees) (f : Proto) (line close_line : ℕ) (body : List StmtTree) →
+      (typed_function section callees (function_at f line close_line body)).locals ≡ []
+  unfolding typed_locals
+  no_locals callees f line close_line body = refl
+
+  pub body_is : (callees : Callees) (f : Proto) (line close_line : ℕ) (body : List StmtTree)
+      (absent : found_in Param (typed_params 0 f.params) counter_name ≡ None) →
+      (typed_function section callees (function_at f line close_line body)).body ≡
+      map (typed_stmt (visible (typed_params 0 f.params) absent callees) callees (result_ty f.result)) body
+  body_is callees f line close_line body absent = λ i. map (typed_stmt
+      (visible_is callees f line close_line body absent i) callees (result_is f line close_line body i)) body
 
   abbrev used : List (Import × Proto)
   used = imported_uses interfaces comp rows interface is

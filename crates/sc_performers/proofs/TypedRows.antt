@@ -1,5 +1,6 @@
 -- The rows of a performing section with their types.
-use Rattle.std.proofs.Common.{Bool, List, None, Option, Some, [], ◌∷◌, ◌++◌, ◌≡◌, ◌∙◌, ◌==◌, ℕ, suc, ap, ap₂, false, length, map, refl, subst, sym, true}
+use Rattle.std.proofs.Common.{List, None, Option, Some, [], ◌∷◌, ◌≡◌, ◌∙◌, ◌==◌, ℕ, suc, ap, false, length, map, refl}
+use Rattle.std.proofs.Common.{subst, sym, true}
 use Rattle.std.proofs.lemmas.Bool.{false≢true}
 use Rattle.std.specs.Option.{option_map_or}
 use Rattle.sc_event.specs.Prelude.{export_at, imports, is_function}
@@ -24,10 +25,10 @@ use Rattle.sc_core.specs.declared.stmt.TypedStmt.{TypedStmt}
 use Rattle.sc_core.specs.declared.stmt.TypedStmtKind.{TypedStmtKind}
 use Rattle.sc_core.specs.declared.stmt.TypedStmtKind as kind
 use Rattle.sc_core.specs.declared.ty.Ty.TheVariants as ty
-use Rattle.sc_elab_expr.specs.Prelude.{Callees, found_in, going_to, typed}
-use Rattle.sc_elab_stmt.specs.Prelude.{going_to_all, params_of, typed_call, typed_stmt}
+use Rattle.sc_elab_expr.specs.Prelude.{Callees, found_in, typed}
+use Rattle.sc_elab_stmt.specs.Prelude.{going_to_all, params_of, typed_stmt}
 use Rattle.sc_back.specs.Text.{input_proto, output_proto}
-use Rattle.sc_back.specs.Tree.{action_kind, call_kind, counter_name, return_kind, value_tree, value_trees}
+use Rattle.sc_back.specs.Tree.{action_kind, call_kind, counter_name, value_tree, value_trees}
 use Rattle.sc_replay.specs.Texts.{calls_out, counter, counter_is, int_expr, literal, or_int, stmt_at, waits, word_expr}
 use Rattle.sc_replay.specs.Texts.{word_exprs}
 use Rattle.sc_performers.specs.Performer.{IsPerformer, MayDo}

@@ -1,20 +1,11 @@
 -- The expressions and statements of a performing section with their types.
-use Rattle.std.proofs.Common.{Bool, List, None, Option, Some, [], ◌∷◌, ◌++◌, ◌≡◌, ◌∙◌, ◌&&◌, ◌+◌, ◌^◌, ◌-◌, ◌==◌, ◌<◌, ℕ, suc, ap, ap₂}
-use Rattle.std.proofs.Common.{arith, bytes_eq, codes, cond, drop, false, if◌then◌else◌, length, leb-true, map, nat_le, refl, rules, subst, sym, true}
-use Rattle.std.proofs.lemmas.Bool.{eqb-true, false≢true}
-use Rattle.std.specs.Prelude.{position}
-use Rattle.std.specs.Fmt.{decimal}
-use Rattle.std.specs.Option.{option_and_then, option_map, option_map_or}
+use Rattle.std.proofs.Common.{Bool, List, None, Option, Some, [], ◌∷◌, ◌≡◌, ◌∙◌, ◌^◌, ◌-◌, ◌==◌, ℕ, ap, ap₂}
+use Rattle.std.proofs.Common.{arith, false, if◌then◌else◌, leb-true, map, nat_le, refl, rules, true}
+use Rattle.std.proofs.lemmas.Bool.{eqb-true}
 use Rattle.sc_base.specs.declared.op.BinaryOp.TheVariants.{Equal, Sub}
 use Rattle.sc_base.specs.declared.op.UnaryOp.TheVariants.{Minus}
-use Rattle.sc_event.specs.Prelude.{export_at}
-use Rattle.sc_event.specs.declared.interface.Interfaces.{Interfaces}
-use Rattle.sc_event.specs.declared.interface.Proto.{Proto}
 use Rattle.sc_event.specs.declared.interface.Scalar.{Scalar}
 use Rattle.sc_event.specs.declared.interface.Scalar.TheVariants.{Int, Unsigned}
-use Rattle.sc_event.specs.declared.row.Action.{Action}
-use Rattle.sc_event.specs.declared.row.Action.TheVariants as action
-use Rattle.sc_event.specs.declared.row.Row.{Row}
 use Rattle.sc_ast.specs.declared.expr.CallTree.{CallTree}
 use Rattle.sc_ast.specs.declared.expr.ExprTree.{ExprTree}
 use Rattle.sc_ast.specs.declared.expr.ExprTree as exprs
@@ -22,22 +13,17 @@ use Rattle.sc_ast.specs.declared.expr.ExprTree.TheVariants.{Binary, Unary, Varia
 use Rattle.sc_ast.specs.declared.stmt.StmtKind as kinds
 use Rattle.sc_ast.specs.declared.stmt.StmtTree as stmts
 use Rattle.sc_ast.specs.declared.stmt.StmtTree.{StmtTree}
-use Rattle.sc_core.specs.Prelude.{Scope, Signature, is_pointer, proto_signature, result_ty, scalar_ty}
-use Rattle.sc_core.specs.declared.expr.CallTarget.{CallTarget}
+use Rattle.sc_core.specs.Prelude.{scalar_ty}
 use Rattle.sc_core.specs.declared.expr.TypedExpr.{TypedExpr}
-use Rattle.sc_core.specs.declared.expr.TypedExpr as typed_exprs
-use Rattle.sc_core.specs.declared.expr.TypedKind as typed_kinds
-use Rattle.sc_core.specs.declared.expr.VarRef.TheVariants.{Global, Local, Param}
+use Rattle.sc_core.specs.declared.expr.VarRef.TheVariants.{Global, Param}
 use Rattle.sc_core.specs.declared.section.TypedParam.{TypedParam}
-use Rattle.sc_core.specs.declared.stmt.TypedStmt.{TypedStmt}
 use Rattle.sc_core.specs.declared.stmt.TypedStmtKind.{TypedStmtKind}
 use Rattle.sc_core.specs.declared.stmt.TypedStmtKind as typed_stmt_kinds
 use Rattle.sc_core.specs.declared.ty.Ty.{Ty}
 use Rattle.sc_core.specs.declared.ty.Ty.TheVariants as ty
-use Rattle.sc_elab_expr.specs.Prelude.{Callees, Found, Visible, found, found_in, going_to, or_else, typed}
-use Rattle.sc_elab_stmt.specs.Prelude.{going_to_all, typed_args, typed_call, typed_stmt}
-use Rattle.sc_back.specs.Text.{input_proto, output_proto}
-use Rattle.sc_back.specs.Tree.{action_kind, call_kind, counter_name, literal, return_kind, value_tree, value_trees}
+use Rattle.sc_elab_expr.specs.Prelude.{Callees, Visible, found, found_in, going_to, or_else, typed}
+use Rattle.sc_elab_stmt.specs.Prelude.{going_to_all, typed_call, typed_stmt}
+use Rattle.sc_back.specs.Tree.{counter_name, literal, value_tree, value_trees}
 use Rattle.sc_replay.specs.Texts.{calls_out, counter, counter_is, int_expr, least_int, minus, stmt_at, waits, word_expr}
 use Rattle.sc_replay.specs.Texts.{word_exprs}
 use Rattle.sc_replay.specs.Texts as texts
@@ -116,7 +102,8 @@ module _ (params : List TypedParam) (absent : found_in Param params counter_name
         stmt_at line (typed_stmt_kinds.Assign counter (texts.literal ty.Unsigned number))
     assign_at line number = search (rules, exprs.the_lemmas, kinds.the_lemmas, stmts.the_lemmas, found_counter)
 
-    pub call_at : (line : ℕ) (call : CallTree) → typed_stmt visible callees result (back.stmt_at line (kinds.Call call)) ≡
+    pub call_at : (line : ℕ) (call : CallTree) →
+        typed_stmt visible callees result (back.stmt_at line (kinds.Call call)) ≡
         stmt_at line (typed_stmt_kinds.Call (typed_call visible callees call))
     call_at line call = search (rules, exprs.the_lemmas, kinds.the_lemmas, stmts.the_lemmas)
 

@@ -1,7 +1,7 @@
 -- A performing section breaks no rule of types.
-use Rattle.std.proofs.Common.{Bool, List, None, Option, Some, [], ◌∷◌, ◌++◌, ◌≡◌, ◌∙◌, ◌&&◌, ◌==◌, ◌<◌, ◌^◌, ℕ, suc, ap, ap₂, arith}
-use Rattle.std.proofs.Common.{false, length, map, not, refl, rules, sym, true}
-use Rattle.std.proofs.lemmas.Bool.{and_from, false≢true}
+use Rattle.std.proofs.Common.{List, None, Option, Some, [], ◌∷◌, ◌++◌, ◌≡◌, ◌∙◌, ◌==◌, ◌<◌, ◌^◌, ℕ, suc, ap, ap₂, arith}
+use Rattle.std.proofs.Common.{false, length, map, not, refl, rules, true}
+use Rattle.std.proofs.lemmas.Bool.{false≢true}
 use Rattle.std.proofs.lemmas.Bool.Decides.{Decides-eqb}
 use Rattle.std.proofs.lemmas.List.Elements.{recursion_from_All}
 use Rattle.std.specs.Prelude.{filter, is_some}
@@ -9,7 +9,6 @@ use Rattle.std.specs.List.{AllByRecursion, concat}
 use Rattle.std.specs.Option.{option_map_or}
 use Rattle.sc_base.specs.declared.op.BinaryOp.TheVariants.{Equal}
 use Rattle.sc_event.specs.Prelude.{export_at, imports, is_function}
-use Rattle.sc_event.specs.declared.interface.Import.{Import}
 use Rattle.sc_event.specs.declared.interface.Import.TheVariants as import
 use Rattle.sc_event.specs.declared.interface.Interface.{Interface}
 use Rattle.sc_event.specs.declared.interface.Interfaces.{Interfaces}
@@ -28,28 +27,26 @@ use Rattle.sc_ast.specs.declared.stmt.StmtKind as kinds
 use Rattle.sc_ast.specs.declared.stmt.StmtKind.TheVariants as stmt
 use Rattle.sc_ast.specs.declared.stmt.StmtTree as stmts
 use Rattle.sc_ast.specs.declared.stmt.StmtTree.{StmtTree}
-use Rattle.sc_ast.specs.declared.section.Decl.{Decl}
 use Rattle.sc_ast.specs.declared.section.Decl.TheVariants as decl
 use Rattle.sc_ast.specs.declared.section.FunctionTree.{FunctionTree}
 use Rattle.sc_ast.specs.declared.section.HeadTree.{HeadTree}
 use Rattle.sc_ast.specs.declared.section.SectionTree.{SectionTree}
-use Rattle.sc_core.specs.Prelude.{args_fit, goes_into, judged, proto_signature, result_ty, returned_fits, scalar_ty}
-use Rattle.sc_core.specs.Prelude.{Scope, is_scalar, assign_fits}
+use Rattle.sc_core.specs.Prelude.{args_fit, goes_into, judged, proto_signature, result_ty, scalar_ty}
+use Rattle.sc_core.specs.Prelude.{is_scalar, assign_fits}
 use Rattle.sc_core.specs.declared.expr.VarRef.TheVariants.{Param}
 use Rattle.sc_core.specs.declared.section.TypedParam.{TypedParam}
 use Rattle.sc_core.specs.declared.ty.Ty.{Ty}
-use Rattle.sc_core.specs.declared.ty.Ty.TheVariants as ty
 use Rattle.sc_scope.specs.Prelude.{unless}
 use Rattle.sc_elab_expr.specs.Prelude.{Callees, found_in, going_to, typed}
-use Rattle.sc_elab_stmt.specs.Prelude.{assign_holds, call_holds, cond_holds, going_to_all, params_of, return_value_holds}
-use Rattle.sc_elab_stmt.specs.Prelude.{stmt_lines, typed_args}
-use Rattle.sc_elab.specs.Prelude.{callees_of, decl_lines, function_lines, global_lines, result_of, scope_in}
-use Rattle.sc_elab.specs.Prelude.{section_lines, tags, type_of_name, visible_of}
+use Rattle.sc_elab_stmt.specs.Prelude.{assign_holds, call_holds, cond_holds, going_to_all, params_of}
+use Rattle.sc_elab_stmt.specs.Prelude.{return_value_holds}
+use Rattle.sc_elab_stmt.specs.Prelude.{stmt_lines}
+use Rattle.sc_elab.specs.Prelude.{callees_of, decl_lines, function_lines}
+use Rattle.sc_elab.specs.Prelude.{section_lines}
 use Rattle.sc_back.specs.Text.{input_proto, is_of, output_proto}
-use Rattle.sc_back.specs.Tree.{action_kind, call_kind, counter_name, function_params, literal, return_kind, value_tree}
+use Rattle.sc_back.specs.Tree.{action_kind, call_kind, counter_name, literal, value_tree}
 use Rattle.sc_back.specs.Tree.{value_trees}
 use Rattle.sc_replay.specs.Replay.{IsWord, proto_of}
-use Rattle.sc_replay.specs.Texts.{word_expr, word_exprs}
 use Rattle.sc_performers.specs.Laws.{TypesHold}
 use Rattle.sc_performers.specs.Performer.{IsPerformer, IsUsable, MayDo}
 use Rattle.sc_performers.proofs.BackTree.{AreFunctions, IsBackBody, IsBackTree, and_function, counter_at, does, ends}
@@ -61,7 +58,7 @@ use Rattle.sc_performers.proofs.SectionTypes.{no_counter, result_is, scope_is, s
 use Rattle.sc_performers.proofs.TypedRows.{HasSignatures}
 use Rattle.sc_performers.proofs.TypedTrees.{goes, typed_counter, typed_literal, typed_test, typed_value, typed_values}
 use Rattle.sc_performers.proofs.TypedTrees.{typed_word, visible}
-use Rattle.sc_performers.proofs.Uses.{AllFit, AreEntries, IsAmong, are_entries, calls_use, input_use, output_use}
+use Rattle.sc_performers.proofs.Uses.{AllFit, AreEntries, are_entries, calls_use, input_use, output_use}
 use Rattle.sc_performers.proofs.Uses.{rows_fit}
 
 module _ (params : List TypedParam) (absent : found_in Param params counter_name ≡ None) (types : List Ty)

@@ -36,10 +36,10 @@ use Rattle.sc_ast.specs.declared.section.HeadTree.{HeadTree}
 use Rattle.sc_ast.specs.declared.section.ImportLine.{ImportLine}
 use Rattle.sc_ast.specs.declared.section.LocalTree.{LocalTree}
 use Rattle.sc_ast.specs.declared.section.SectionTree.{SectionTree}
-use Rattle.sc_back.specs.Text.{imported, input_proto, is_of, main_proto, output_proto, owner_name}
+use Rattle.sc_back.specs.Text.{imported, input_proto, is_of, main_proto, output_proto}
 use Rattle.sc_back.specs.Tree.{action_kind, all_functions, back_tree, body_tree, call_kind, counter, counter_name}
-use Rattle.sc_back.specs.Tree.{export_line, function_tree, function_trees, import_head, import_line, literal}
-use Rattle.sc_back.specs.Tree.{main_trees, proto_head, return_kind, row_kind, unlined, value_tree}
+use Rattle.sc_back.specs.Tree.{export_line, function_tree, function_trees, literal}
+use Rattle.sc_back.specs.Tree.{proto_head, return_kind, row_kind, unlined, value_tree}
 use Rattle.sc_performers.specs.Performer.{names_of}
 use Rattle.sc_performers.proofs.BareKinds.{IsIf, IsLeaf, IsWhile, if_kind, kind_of_layer, leaf_kind, while_kind}
 use Rattle.sc_performers.proofs.BackTree.{AreFunctions, AreHeads, AreImports, IsBackBody, IsBackTree, and_function}

@@ -1,6 +1,7 @@
 -- What the premises say of a section's functions, of what it imports and of its rows.
-use Rattle.std.proofs.Common.{Bool, List, None, Option, Some, [], ◌∷◌, ◌++◌, ◌≡◌, ◌∙◌, ◌==◌, ◌&&◌, ◌||◌, ℕ, suc, ap, ap₂}
-use Rattle.std.proofs.Common.{append-nil, false, if◌then◌else◌, inl, inr, length, map, refl, subst, sym, true, slice_get, ◌⊎◌}
+use Rattle.std.proofs.Common.{Bool, List, None, Option, Some, [], ◌∷◌, ◌++◌, ◌≡◌, ◌∙◌, ◌==◌, ◌||◌, ℕ, suc, ap, ap₂}
+use Rattle.std.proofs.Common.{append_assoc, arith, false, if◌then◌else◌, inl, inr, length, length-append, map, refl}
+use Rattle.std.proofs.Common.{slice_get, subst, sym, true, ◌⊎◌}
 use Rattle.std.proofs.lemmas.Bool.{false≢true}
 use Rattle.std.proofs.lemmas.Bool.Decides.{Decides-eqb}
 use Rattle.std.proofs.lemmas.List.{map-append}
@@ -10,7 +11,7 @@ use Rattle.std.specs.List.{AllByRecursion, cons_option, filter_map, list_any}
 use Rattle.std.specs.Option.{option_and_then, option_map_or}
 use Rattle.sc_base.proofs.Bools.{and_first, and_rest}
 use Rattle.sc_base.proofs.Lists.{get_behind}
-use Rattle.sc_event.specs.Prelude.{comp_at, export_at, imports, is_function, is_input, is_output}
+use Rattle.sc_event.specs.Prelude.{export_at, imports, is_function, is_input, is_output}
 use Rattle.sc_event.specs.declared.interface.Import.{Import}
 use Rattle.sc_event.specs.declared.interface.Import.TheVariants.{Function, Input, Output}
 use Rattle.sc_event.specs.declared.interface.Interface.{Interface}
@@ -23,7 +24,7 @@ use Rattle.sc_event.specs.declared.row.Entry.TheVariants.{Export, Main}
 use Rattle.sc_event.specs.declared.row.Row.{Row}
 use Rattle.sc_back.specs.Text.{imported, is_of, main_proto}
 use Rattle.sc_replay.specs.Replay.{IsWord, proto_of}
-use Rattle.sc_performers.specs.Performer.{FitsRow, IsPerformer, MayDo, defined, names_of, used}
+use Rattle.sc_performers.specs.Performer.{FitsRow, IsPerformer, MayDo, defined, used}
 use Rattle.sc_performers.proofs.BackTree.{entries_from, entries_of, main_entries, use_of, uses}
 
 -- x is one of these
@@ -59,15 +60,15 @@ find_use : (interfaces : Interfaces) (is_it : Import → Bool) (import : Import)
 find_use interfaces is_it import f only names [] h = absurd (false≢true h)
 find_use interfaces is_it import f only names (other ∷ all) h =
     by (is_it other) refl h (find_use interfaces is_it import f only names all) where
-  by : (b : Bool) → is_it other ≡ b → (b || list_any is_it all) ≡ true →
-      (list_any is_it all ≡ true → IsAmong (import, f) (uses interfaces all)) →
-      IsAmong (import, f) (use_of other (imported interfaces other) (uses interfaces all))
-  by true here h rest =
-      subst (λ i. IsAmong (import, f) (use_of i (imported interfaces i) (uses interfaces all)))
-      (sym (only other here))
-      (subst (λ o. IsAmong (import, f) (use_of import o (uses interfaces all))) (sym names)
-      (first (uses interfaces all)))
-  by false elsewhere h rest = later_use (import, f) other (imported interfaces other) (uses interfaces all) (rest h)
+      by : (b : Bool) → is_it other ≡ b → (b || list_any is_it all) ≡ true →
+          (list_any is_it all ≡ true → IsAmong (import, f) (uses interfaces all)) →
+          IsAmong (import, f) (use_of other (imported interfaces other) (uses interfaces all))
+      by true here h rest =
+          subst (λ i. IsAmong (import, f) (use_of i (imported interfaces i) (uses interfaces all)))
+          (sym (only other here))
+          (subst (λ o. IsAmong (import, f) (use_of import o (uses interfaces all))) (sym names)
+          (first (uses interfaces all)))
+      by false elsewhere h rest = later_use (import, f) other (imported interfaces other) (uses interfaces all) (rest h)
 
 only_input : (other : Import) → is_input other ≡ true → other ≡ Input
 only_input Input h = refl
@@ -127,22 +128,14 @@ both_entries P (x ∷ xs) ys h k = (h.0, both_entries P xs ys h.1 k)
 
 module _ (interfaces : Interfaces) (comp : ℕ) (rows : List Row) (interface : Interface)
     (is : IsPerformer interfaces comp rows interface) where
-  one_further : (front : List Proto) (f : Proto) → length (front ++ f ∷ []) ≡ suc (length front)
-  one_further [] f = refl
-  one_further (x ∷ front) f = ap suc (one_further front f)
-
-  regrouped : (front : List Proto) (f : Proto) (rest : List Proto) → (front ++ f ∷ []) ++ rest ≡ front ++ f ∷ rest
-  regrouped [] f rest = refl
-  regrouped (x ∷ front) f rest = ap (λ y. x ∷ y) (regrouped front f rest)
-
   exports_from : (front exports : List Proto) (index : ℕ) → interface.exports ≡ front ++ exports →
       index ≡ length front → AreEntries interfaces comp (entries_from index exports)
   exports_from front [] index all at = tt
   exports_from front (f ∷ exports) index all at = (
     ap (option_and_then (λ found. slice_get found.exports index)) is.there ∙
         ap₂ slice_get all at ∙ get_behind front f exports,
-    exports_from (front ++ f ∷ []) exports (suc index) (all ∙ sym (regrouped front f exports))
-        (ap suc at ∙ sym (one_further front f)),
+    exports_from (front ++ f ∷ []) exports (suc index) (all ∙ sym (append_assoc front (f ∷ []) exports))
+        (let one = length-append front (f ∷ []) in omega (arith, at, one)),
   )
 
   main_from : (b : Bool) → (comp == interfaces.main) ≡ b →
@@ -202,13 +195,13 @@ rows_fit_by : (interfaces : Interfaces) (comp : ℕ) (entry : Entry) (f : Proto)
 rows_fit_by interfaces comp entry f named [] h = tt
 rows_fit_by interfaces comp entry f named (row ∷ rows) h =
     by (is_of entry row) refl (rows_fit_by interfaces comp entry f named rows h.1) where
-  by : (b : Bool) → is_of entry row ≡ b → AllFit interfaces comp f.result (filter (is_of entry) rows) →
-      AllFit interfaces comp f.result (if b then row ∷ filter (is_of entry) rows else filter (is_of entry) rows)
-  by true here rest =
-      let named_here : proto_of interfaces comp row.entry ≡ Some f =
-      ap (proto_of interfaces comp) (entry_is entry row here) ∙ named in
-      (record { numbered = h.0.numbered; may = h.0.may f named_here }, rest)
-  by false elsewhere rest = rest
+      by : (b : Bool) → is_of entry row ≡ b → AllFit interfaces comp f.result (filter (is_of entry) rows) →
+          AllFit interfaces comp f.result (if b then row ∷ filter (is_of entry) rows else filter (is_of entry) rows)
+      by true here rest =
+          let named_here : proto_of interfaces comp row.entry ≡ Some f =
+          ap (proto_of interfaces comp) (entry_is entry row here) ∙ named in
+          (record { numbered = h.0.numbered; may = h.0.may f named_here }, rest)
+      by false elsewhere rest = rest
 
 pub rows_fit : (interfaces : Interfaces) (comp : ℕ) (rows : List Row) (interface : Interface) →
     IsPerformer interfaces comp rows interface → (entry : Entry) (f : Proto) →

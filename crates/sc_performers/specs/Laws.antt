@@ -1,5 +1,7 @@
 -- The rules that a section keeps which performs a compartment's part of a trace.
-use Rattle.std.specs.Prelude.{◌≡◌, ℕ, List, []}
+use Rattle.std.specs.Prelude.{◌≡◌, ◌≤◌, ℕ, List, [], All, length, true}
+use Rattle.sc_event.specs.Prelude.{legal, part}
+use Rattle.sc_event.specs.declared.event.Event.{Event}
 use Rattle.sc_event.specs.declared.interface.Interface.{Interface}
 use Rattle.sc_event.specs.declared.interface.Interfaces.{Interfaces}
 use Rattle.sc_event.specs.declared.row.Row.{Row}
@@ -7,9 +9,11 @@ use Rattle.sc_ast.specs.Prelude.{SameButLines}
 use Rattle.sc_ast.specs.declared.section.SectionTree.{SectionTree}
 use Rattle.sc_scope.specs.Names as names
 use Rattle.sc_elab.specs.Sections as types
-use Rattle.sc_elab.specs.Prelude.{callees_of}
+use Rattle.sc_elab.specs.Prelude.{callees_of, typed_section}
+use Rattle.sc_types.specs.Counts as counts
 use Rattle.sc_back.specs.Tree.{back_tree}
-use Rattle.sc_performers.specs.Performer.{IsPerformer}
+use Rattle.sc_replay.specs.Replay.{HasWords, IsReplaced}
+use Rattle.sc_performers.specs.Performer.{FitsRow, IsImportedAs, IsPerformer}
 
 -- it breaks no rule of names
 abbrev pub NamesHold : Type 0
@@ -23,3 +27,25 @@ TypesHold = (interfaces : Interfaces) (comp : ℕ) (rows : List Row) (interface 
     IsPerformer interfaces comp rows interface → SameButLines section (back_tree interfaces comp rows interface) →
     (sections : List SectionTree) (number : ℕ) →
     types.section_lines section (callees_of sections number section) ≡ []
+
+-- with its types, its functions perform the rows, each those of its entry, where its imports lead as they should
+abbrev pub RowsPerform : Type 0
+RowsPerform = (interfaces : Interfaces) (comp : ℕ) (rows : List Row) (interface : Interface)
+    (section : SectionTree) → IsPerformer interfaces comp rows interface →
+    SameButLines section (back_tree interfaces comp rows interface) → (sections : List SectionTree) (number : ℕ) →
+    All (IsImportedAs sections number interfaces) interface.imports →
+    IsReplaced interfaces comp rows (typed_section section (callees_of sections number section))
+
+-- it holds no more than a program may, wherever it stands in a text
+abbrev pub CountsHold : Type 0
+CountsHold = (interfaces : Interfaces) (comp : ℕ) (rows : List Row) (interface : Interface) (section : SectionTree) →
+    IsPerformer interfaces comp rows interface → SameButLines section (back_tree interfaces comp rows interface) →
+    (sections : List SectionTree) (number : ℕ) →
+    counts.section_lines section (callees_of sections number section) ≡ []
+
+-- the rows of a part of a legal trace that isn't too long are such as a section can perform
+abbrev pub LegalRowsFit : Type 0
+LegalRowsFit = (interfaces : Interfaces) (trace : List Event) (comp : ℕ) → legal interfaces trace ≡ true →
+    All HasWords trace → length trace ≤ 4096 →
+    All (FitsRow interfaces comp) (part interfaces.main comp trace) ×
+    (length (part interfaces.main comp trace) ≤ 4096)

@@ -1,5 +1,5 @@
 -- What the section that performs a compartment's part of a trace needs, so that it keeps the rules of its language.
-use Rattle.std.specs.Prelude.{◌≡◌, ℕ, suc, ◌<◌, ◌≤◌, ◌^◌, ◌==◌, Bool, true, if◌then◌else◌, List, [], ◌∷◌, ◌++◌, length}
+use Rattle.std.specs.Prelude.{◌≡◌, ℕ, suc, ◌≤◌, ◌==◌, true, if◌then◌else◌, List, [], ◌∷◌, ◌++◌, length}
 use Rattle.std.specs.Prelude.{map, All, Option, Some, None}
 use Rattle.std.specs.List.{filter_map}
 use Rattle.sc_event.specs.Prelude.{comp_at, fits_result, imports, is_function, is_input, is_output, takes}
@@ -12,9 +12,10 @@ use Rattle.sc_event.specs.declared.interface.Scalar.TheVariants.{Int}
 use Rattle.sc_event.specs.declared.row.Action.{Action}
 use Rattle.sc_event.specs.declared.row.Action.TheVariants.{Call, Ret, Out, In, End}
 use Rattle.sc_event.specs.declared.row.Row.{Row}
-use Rattle.sc_scope.specs.Prelude.{Text, are_distinct}
+use Rattle.sc_ast.specs.declared.section.SectionTree.{SectionTree}
+use Rattle.sc_scope.specs.Prelude.{Text, are_distinct, import_of}
 use Rattle.sc_interfaces.specs.Prelude.{is_plain}
-use Rattle.sc_back.specs.Text.{imported, main_proto}
+use Rattle.sc_back.specs.Text.{imported, main_proto, owner_name}
 use Rattle.sc_replay.specs.Replay.{IsWord, proto_of}
 
 -- Functions.
@@ -70,3 +71,9 @@ pub record IsPerformer (interfaces : Interfaces) (comp : ℕ) (rows : List Row) 
   pub few_imports : length interface.imports ≤ 4096
   pub few_rows : length rows ≤ 4096
   pub rows_fit : All (FitsRow interfaces comp) rows
+
+-- an import leads there from a text's section of this number
+pub record IsImportedAs (sections : List SectionTree) (number : ℕ) (interfaces : Interfaces) (import : Import) :
+    Type 0 where
+  pub leads : (proto : Proto) → imported interfaces import ≡ Some proto → (line : ℕ) → import_of sections number
+      (record { comp = owner_name interfaces import; name = proto.name; line = line }) ≡ import
