@@ -23,3 +23,4 @@ pub mod Nodes
 pub mod CountsKept
 pub mod Examples
 pub mod LegalRows
+pub mod Fitting
