@@ -25,3 +25,4 @@ pub mod Examples
 pub mod LegalRows
 pub mod Fitting
 pub mod OneMain
+pub mod ReplacedSeen
