@@ -187,6 +187,16 @@ module _ (olds : List SectionTree) (in_faces : interface_broken olds ≡ []) (in
   mains_defined true is = (main_here is, tt)
   mains_defined false is = tt
 
+  pub own_defined : (b : Bool) → here ≡ b →
+      Each (λ name. among (function_names old.decls) name ≡ true)
+      (export_names old ++ (if b then main_name ∷ [] else []))
+  own_defined true is =
+      each_front (λ name. among (function_names old.decls) name ≡ true) (export_names old) (main_name ∷ [])
+      exports_defined (main_here is, tt)
+  own_defined false is =
+      each_front (λ name. among (function_names old.decls) name ≡ true) (export_names old) []
+      exports_defined tt
+
   pub imports_apart : Each (λ name. among (function_names old.decls) name ≡ false) (import_names old)
   imports_apart =
       each_name {A = ImportLine} (λ line. line.name) (λ name. among (function_names old.decls) name ≡ false) old.imports

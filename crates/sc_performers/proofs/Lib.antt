@@ -26,3 +26,6 @@ pub mod LegalRows
 pub mod Fitting
 pub mod OneMain
 pub mod ReplacedSeen
+pub mod ReplacedRules
+pub mod ReplacedHolds
+pub mod Turned
