@@ -29,3 +29,4 @@ pub mod ReplacedSeen
 pub mod ReplacedRules
 pub mod ReplacedHolds
 pub mod Turned
+pub mod Recomposed

@@ -1,2 +1,3 @@
 pub mod Performer
 pub mod Laws
+pub mod Recomposed
