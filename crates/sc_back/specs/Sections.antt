@@ -1,6 +1,6 @@
 -- Helping: the trees of a text and those of the text in which some sections are replaced by ones that perform.
-use Rattle.std.specs.Prelude.{◌≡◌, ℕ, suc, ◌<◌, ◌^◌, Bool, true, false, List, [], ◌∷◌, All, Option, None, Some, IsSome}
-use Rattle.std.specs.Prelude.{IsTrue}
+use Rattle.std.specs.Prelude.{◌≡◌, ◌≤◌, ℕ, suc, ◌<◌, ◌^◌, Bool, true, false, List, [], ◌∷◌, length, All, Option, None}
+use Rattle.std.specs.Prelude.{Some, IsTrue}
 use Rattle.sc_base.specs.Prelude.{is_name}
 use Rattle.sc_event.specs.Prelude.{comp_at, export_at}
 use Rattle.sc_event.specs.declared.interface.Import.{Import}
@@ -17,9 +17,10 @@ use Rattle.sc_back.specs.Tree.{back_tree}
 
 -- What the text of a performing section needs, so that it can be read.
 
--- a function is called by an identifier
-abbrev pub IsCalled : Proto → Type 0
-IsCalled f = IsTrue (is_ident f.name)
+-- a function is called by an identifier, with 8 arguments at most
+pub record IsCalled (f : Proto) : Type 0 where
+  pub name : IsTrue (is_ident f.name)
+  pub few : length f.params ≤ 8
 
 -- an import names such a function of a compartment
 pub record IsImported (interfaces : Interfaces) (import : Import) : Type 0 where

@@ -1,19 +1,17 @@
 -- Heads of one name in a section agree, and so does the head that is made for a function that crosses.
 use Rattle.std.proofs.Common.{Bool, List, None, Option, Some, [], ◌∷◌, ◌++◌, ◌≡◌, ◌∙◌, ◌&&◌, ◌||◌, ℕ, suc, ap, append-nil, append_assoc}
-use Rattle.std.proofs.Common.{bytes_eq, false, map, not, refl, subst, sym, true}
+use Rattle.std.proofs.Common.{bytes_eq, false, map, not, refl, subst, true}
 use Rattle.std.proofs.lemmas.Bool.{and_from, false≢true}
-use Rattle.std.proofs.lemmas.List.{map-append}
 use Rattle.std.specs.List.{list_all}
 use Rattle.std.specs.Option.{option_map}
 use Rattle.sc_base.proofs.Bools.{and_first, and_rest}
-use Rattle.sc_base.proofs.Texts.{bytes_eq_self, same_either_way, same_text}
+use Rattle.sc_base.proofs.Texts.{same_either_way}
 use Rattle.sc_event.specs.declared.interface.Proto.{Proto}
 use Rattle.sc_event.specs.declared.interface.Scalar.{Scalar}
 use Rattle.sc_event.specs.declared.interface.Scalar.TheVariants.{Int, Unsigned}
 use Rattle.sc_ast.specs.Prelude.{head_of, param_of}
 use Rattle.sc_ast.specs.declared.section.Decl.{Decl}
 use Rattle.sc_ast.specs.declared.section.Decl.TheVariants as decl
-use Rattle.sc_ast.specs.declared.section.FunctionHead.{FunctionHead}
 use Rattle.sc_ast.specs.declared.section.FunctionParam.{FunctionParam}
 use Rattle.sc_ast.specs.declared.section.FunctionTree.{FunctionTree}
 use Rattle.sc_ast.specs.declared.section.HeadTree.{HeadTree}
@@ -25,10 +23,10 @@ use Rattle.sc_ast.specs.declared.types.BaseTree.TheVariants as base
 use Rattle.sc_ast.specs.declared.types.TypeName.{TypeName}
 use Rattle.sc_scope.specs.Declarations.{head_in}
 use Rattle.sc_scope.specs.Interfaces.{base_scalar, promised}
-use Rattle.sc_scope.specs.Prelude.{Text, among, heads_in, scalar_of, unless}
+use Rattle.sc_scope.specs.Prelude.{Text, heads_in, scalar_of, unless}
 use Rattle.sc_interfaces.specs.Faces.{agree, agrees_with, crosses, decls_from, head_crosses, head_holds, imported_agrees}
 use Rattle.sc_interfaces.specs.Faces.{main_holds, result_crosses, same_base, same_params, same_result, same_type}
-use Rattle.sc_interfaces.proofs.Agreeing.{agree_left, agree_symm, type_symm}
+use Rattle.sc_interfaces.proofs.Agreeing.{agree_symm}
 use Rattle.sc_back.specs.Tree.{base_tree, function_params, proto_params, type_name}
 use Rattle.sc_types.proofs.Basics.{back_empty, front_empty, rule_holds}
 use Rattle.sc_types.proofs.Sections.{agrees}

@@ -1,13 +1,11 @@
 -- A compartment of a text that keeps the rules can perform its part of a legal trace.
-use Rattle.std.proofs.Common.{Bool, List, None, Option, Some, [], ◌∷◌, ◌++◌, ◌≡◌, ◌∙◌, ◌==◌, ◌||◌, ◌+◌, ◌≤◌, ℕ, suc, zero, ap, ap₂, arith}
+use Rattle.std.proofs.Common.{Bool, List, Some, [], ◌∷◌, ◌++◌, ◌≡◌, ◌∙◌, ◌==◌, ◌||◌, ◌+◌, ◌≤◌, ℕ, suc, zero, ap, ap₂, arith}
 use Rattle.std.proofs.Common.{bytes_eq, eqb-true, false, if◌then◌else◌, length, map, refl, slice_get, subst, sym, true}
 use Rattle.std.proofs.lemmas.Bool.{false≢true}
 use Rattle.std.proofs.lemmas.List.{map-append}
 use Rattle.std.proofs.lemmas.List.Elements.{All-from_recursion}
 use Rattle.std.specs.List.{AllByRecursion, cons_option, filter_map, list_any}
-
 use Rattle.std.specs.Prelude.{All}
-use Rattle.sc_base.proofs.Bools.{and_first, and_rest}
 use Rattle.sc_base.proofs.Texts.{same_text}
 use Rattle.sc_event.specs.Prelude.{legal, part}
 use Rattle.sc_event.specs.declared.event.Event.{Event}
@@ -135,8 +133,8 @@ module _ (olds : List SectionTree) (in_faces : interface_broken olds ≡ []) (in
   main_here is =
       let same = eqb-true number interfaces.main is in
       main_at 0 olds number old some_main got (sym same ∙ zero_plus number) where
-    zero_plus : (n : ℕ) → n ≡ 0 + n
-    zero_plus n = omega arith
+        zero_plus : (n : ℕ) → n ≡ 0 + n
+        zero_plus n = omega arith
 
   pub all_resolved : Each (IsResolved olds number old) old.imports
   all_resolved =

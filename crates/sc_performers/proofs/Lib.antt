@@ -25,8 +25,10 @@ pub mod Examples
 pub mod LegalRows
 pub mod Fitting
 pub mod OneMain
+pub mod Made
 pub mod ReplacedSeen
 pub mod ReplacedRules
 pub mod ReplacedHolds
 pub mod Turned
 pub mod Recomposed
+pub mod PartsPerform

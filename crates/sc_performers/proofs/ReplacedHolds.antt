@@ -1,21 +1,19 @@
 -- A section that performs breaks no rule of interfaces in a text of which it sees the same.
-use Rattle.std.proofs.Common.{Bool, List, None, Option, Some, [], ◌∷◌, ◌++◌, ◌≡◌, ◌∙◌, ◌==◌, ◌&&◌, ◌||◌, ℕ, suc, ap, ap₂, append-nil}
-use Rattle.std.proofs.Common.{append_assoc, bytes_eq, false, if◌then◌else◌, inl, inr, map, not, refl, slice_get}
-use Rattle.std.proofs.Common.{subst, sym, true, ◌⊎◌}
-use Rattle.std.proofs.lemmas.Bool.{and_from, false≢true, or_left, or_right}
+use Rattle.std.proofs.Common.{Bool, List, Some, [], ◌∷◌, ◌++◌, ◌≡◌, ◌∙◌, ◌==◌, ◌||◌, ℕ, suc, ap, ap₂}
+use Rattle.std.proofs.Common.{bytes_eq, false, if◌then◌else◌, map, not, refl, slice_get}
+use Rattle.std.proofs.Common.{subst, sym, true}
+use Rattle.std.proofs.lemmas.Bool.{and_from, or_left}
 use Rattle.std.proofs.lemmas.List.{map-append}
-use Rattle.std.proofs.lemmas.List.Elements.{filter_map-append}
 use Rattle.std.specs.List.{list_all}
 use Rattle.sc_base.proofs.Lists.{map_twice}
-use Rattle.sc_base.proofs.Texts.{bytes_eq_self, same_text}
+use Rattle.sc_base.proofs.Texts.{same_text}
 use Rattle.sc_event.specs.declared.interface.Import.{Import}
 use Rattle.sc_event.specs.declared.interface.Interfaces.{Interfaces}
 use Rattle.sc_event.specs.declared.interface.Proto.{Proto}
 use Rattle.sc_event.specs.declared.row.Entry.{Entry}
-use Rattle.sc_event.specs.declared.row.Entry.TheVariants.{Export, Main}
+use Rattle.sc_event.specs.declared.row.Entry.TheVariants.{Main}
 use Rattle.sc_event.specs.declared.row.Row.{Row}
 use Rattle.sc_ast.specs.Prelude.{head_of}
-use Rattle.sc_ast.specs.declared.section.Decl.{Decl}
 use Rattle.sc_ast.specs.declared.section.Decl.TheVariants as decl
 use Rattle.sc_ast.specs.declared.section.ExportLine.{ExportLine}
 use Rattle.sc_ast.specs.declared.section.FunctionTree.{FunctionTree}
@@ -23,34 +21,33 @@ use Rattle.sc_ast.specs.declared.section.HeadTree.{HeadTree}
 use Rattle.sc_ast.specs.declared.section.ImportLine.{ImportLine}
 use Rattle.sc_ast.specs.declared.section.SectionTree.{SectionTree}
 use Rattle.sc_ast.specs.declared.stmt.StmtTree.{StmtTree}
-use Rattle.sc_scope.specs.Declarations.{head_in, protos_in}
+use Rattle.sc_scope.specs.Declarations.{protos_in}
 use Rattle.sc_scope.specs.Interfaces.{interface_of, main_name, proto_of}
 use Rattle.sc_scope.specs.Prelude.{Text, among, are_distinct, export_names, function_names, heads_in, import_names}
-use Rattle.sc_scope.specs.Prelude.{import_of, interfaces_of, is_new, proto_names, unless}
-use Rattle.sc_interfaces.specs.Faces.{agrees_as, agrees_with, decls_from, export_holds, exports_from, head_crosses}
-use Rattle.sc_interfaces.specs.Faces.{head_fits, head_holds, imported_agrees, imports_from, interface_broken, is_main}
+use Rattle.sc_scope.specs.Prelude.{import_of, interfaces_of, proto_names}
+use Rattle.sc_interfaces.specs.Faces.{agrees_as, decls_from, exports_from, head_crosses}
+use Rattle.sc_interfaces.specs.Faces.{imports_from, interface_broken}
 use Rattle.sc_interfaces.specs.Faces.{is_plain, main_holds}
 use Rattle.sc_types.specs.Counts.{counts_broken}
 use Rattle.sc_types.proofs.Basics.{Each}
-use Rattle.sc_types.proofs.Facts.{DeclFacts, ExportFacts, FaceFacts, Fresh, ImportFacts, fresh_distinct}
+use Rattle.sc_types.proofs.Facts.{DeclFacts, ExportFacts, FaceFacts, Fresh, fresh_distinct}
 use Rattle.sc_types.proofs.Sections.{both_distinct}
-use Rattle.sc_back.specs.Text.{imported, main_proto}
+use Rattle.sc_back.specs.Text.{main_proto}
 use Rattle.sc_performers.specs.Performer.{IsPerformer}
 use Rattle.sc_performers.proofs.Agreeing.{declared_crosses, defined_crosses}
 use Rattle.sc_performers.proofs.BackTree.{AreFunctions, AreHeads, IsBackTree, and_function, and_head, counter_at}
 use Rattle.sc_performers.proofs.BackTree.{entries_from, entries_of, function_at, head_at, no_functions, no_heads, use_of}
 use Rattle.sc_performers.proofs.BackTree.{uses}
 use Rattle.sc_performers.proofs.Declared.{all_heads, all_protos, heads_of}
-use Rattle.sc_performers.proofs.Distinct.{among_front, apart, back_distinct, first_new, front_distinct, rest_distinct}
+use Rattle.sc_performers.proofs.Distinct.{among_front, apart, back_distinct, front_distinct}
 use Rattle.sc_performers.proofs.Fitting.{all_resolved, each_map, facts, own_defined, proto_named}
-use Rattle.sc_performers.proofs.ReplacedSeen.{exports_same, imports_alike, none_named, own_names}
+use Rattle.sc_performers.proofs.ReplacedSeen.{exports_same, imports_alike, own_names}
 use Rattle.sc_performers.proofs.Resolved.{IsResolved}
 use Rattle.sc_performers.proofs.SectionFacts.{distinct_names, entry_names, imports_named, names_declared, names_defined}
-use Rattle.sc_performers.proofs.SectionFacts.{tree_names, use_names}
+use Rattle.sc_performers.proofs.SectionFacts.{use_names}
 use Rattle.sc_performers.proofs.Seen.{AreAlike, AreSeenAs, IsAlike}
-use Rattle.sc_performers.proofs.SeenKept.{agrees_as_too, both_empty, holds_rule, imports_hold}
-use Rattle.sc_performers.proofs.Uses.{IsAmong, first, is_first_or_later, later, none_among}
-
+use Rattle.sc_performers.proofs.SeenKept.{agrees_as_too, imports_hold}
+use Rattle.sc_performers.proofs.Uses.{IsAmong, first, later}
 use Rattle.sc_performers.proofs.ReplacedRules.{alike_names, decls_distinct, each_both, each_onto, each_there, each_unmap}
 use Rattle.sc_performers.proofs.ReplacedRules.{exports_new, head_names, if_named, none_of_less, same_line}
 
@@ -230,8 +227,10 @@ module _ (olds : List SectionTree) (in_faces : interface_broken olds ≡ []) (in
       Each (λ e. HoldsMain e.1) es → Each (DeclFacts news number new mains) (map decl.Function trees)
   functions_hold es trees no_functions h = tt
   functions_hold es trees (and_function entry f others more line close body done rest) h = (
-    (or_so (head_crosses (head_of (function_at f line close body).head)) _ (defined_crosses f line close body),
-        h.0 line close body),
+    (
+      or_so (head_crosses (head_of (function_at f line close body).head)) _ (defined_crosses f line close body),
+      h.0 line close body,
+    ),
     functions_hold others more rest h.1,
   )
 
@@ -245,8 +244,11 @@ module _ (olds : List SectionTree) (in_faces : interface_broken olds ≡ []) (in
   module _ (first_main : here ≡ true → mains ≡ false) where
     main_holds_here : (b : Bool) → here ≡ b →
         Each {A = Entry × Proto} (λ e. HoldsMain e.1) (if b then (Main, main_proto) ∷ [] else [])
-    main_holds_here true at = (λ line close body. ap (λ m. main_holds m
-        (head_of (function_at main_proto line close body).head)) (first_main at), tt)
+    main_holds_here true at = (
+      λ line close body. ap (λ m. main_holds m
+          (head_of (function_at main_proto line close body).head)) (first_main at),
+      tt,
+    )
     main_holds_here false at = tt
 
     all_facts : Each (DeclFacts news number new mains) new.decls
@@ -254,10 +256,12 @@ module _ (olds : List SectionTree) (in_faces : interface_broken olds ≡ []) (in
         subst (Each (DeclFacts news number new mains)) (sym t.decls)
         (each_both (DeclFacts news number new mains) (map decl.Proto t.heads) _
         (heads_hold old.imports (all_resolved olds in_faces in_counts number old got) (λ a in_it. in_it) t.heads
-        t.are_heads)
-        (tt, functions_hold entries t.functions t.are_functions
-        (each_both (λ e. HoldsMain e.1) (entries_from 0 exports) _
-        (entries_each HoldsMain 0 exports exports_hold_main) (main_holds_here here refl))))
+        t.are_heads) (
+          tt,
+          functions_hold entries t.functions t.are_functions
+              (each_both (λ e. HoldsMain e.1) (entries_from 0 exports) _
+              (entries_each HoldsMain 0 exports exports_hold_main) (main_holds_here here refl)),
+        ))
 
     distinct : are_distinct (entry_names entries ++ use_names used) ≡ true
     distinct = distinct_names faces number rows (interface_of olds number old) is

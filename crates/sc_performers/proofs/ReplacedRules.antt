@@ -1,54 +1,31 @@
 -- Declarations of distinct names agree, and what holds of lists of names.
-use Rattle.std.proofs.Common.{Bool, List, None, Option, Some, [], ◌∷◌, ◌++◌, ◌≡◌, ◌∙◌, ◌==◌, ◌&&◌, ◌||◌, ℕ, suc, ap, ap₂, append-nil}
-use Rattle.std.proofs.Common.{append_assoc, bytes_eq, false, if◌then◌else◌, inl, inr, map, not, refl, slice_get}
+use Rattle.std.proofs.Common.{Bool, List, [], ◌∷◌, ◌++◌, ◌≡◌, ◌∙◌, ◌&&◌, ◌||◌, ℕ, ap}
+use Rattle.std.proofs.Common.{append_assoc, bytes_eq, false, inl, inr, map, not, refl}
 use Rattle.std.proofs.Common.{subst, sym, true, ◌⊎◌}
 use Rattle.std.proofs.lemmas.Bool.{and_from, false≢true, or_left, or_right}
 use Rattle.std.proofs.lemmas.List.{map-append}
 use Rattle.std.proofs.lemmas.List.Elements.{filter_map-append}
-use Rattle.std.specs.List.{list_all}
-use Rattle.sc_base.proofs.Lists.{map_twice}
 use Rattle.sc_base.proofs.Texts.{bytes_eq_self, same_text}
-use Rattle.sc_event.specs.declared.interface.Import.{Import}
-use Rattle.sc_event.specs.declared.interface.Interfaces.{Interfaces}
-use Rattle.sc_event.specs.declared.interface.Proto.{Proto}
-use Rattle.sc_event.specs.declared.row.Entry.{Entry}
-use Rattle.sc_event.specs.declared.row.Entry.TheVariants.{Export, Main}
-use Rattle.sc_event.specs.declared.row.Row.{Row}
 use Rattle.sc_ast.specs.Prelude.{head_of}
 use Rattle.sc_ast.specs.declared.section.Decl.{Decl}
 use Rattle.sc_ast.specs.declared.section.Decl.TheVariants as decl
 use Rattle.sc_ast.specs.declared.section.ExportLine.{ExportLine}
-use Rattle.sc_ast.specs.declared.section.FunctionTree.{FunctionTree}
 use Rattle.sc_ast.specs.declared.section.HeadTree.{HeadTree}
 use Rattle.sc_ast.specs.declared.section.ImportLine.{ImportLine}
 use Rattle.sc_ast.specs.declared.section.SectionTree.{SectionTree}
-use Rattle.sc_ast.specs.declared.stmt.StmtTree.{StmtTree}
-use Rattle.sc_scope.specs.Declarations.{head_in, protos_in}
-use Rattle.sc_scope.specs.Interfaces.{interface_of, main_name, proto_of}
-use Rattle.sc_scope.specs.Prelude.{Text, among, are_distinct, export_names, function_names, heads_in, import_names}
-use Rattle.sc_scope.specs.Prelude.{import_of, interfaces_of, is_new, proto_names, unless}
-use Rattle.sc_interfaces.specs.Faces.{agrees_as, agrees_with, decls_from, export_holds, exports_from, head_crosses}
-use Rattle.sc_interfaces.specs.Faces.{head_fits, head_holds, imported_agrees, imports_from, interface_broken, is_main}
+use Rattle.sc_scope.specs.Declarations.{head_in}
+use Rattle.sc_scope.specs.Interfaces.{main_name}
+use Rattle.sc_scope.specs.Prelude.{Text, among, are_distinct, function_names, heads_in}
+use Rattle.sc_scope.specs.Prelude.{is_new, unless}
+use Rattle.sc_interfaces.specs.Faces.{agrees_with, decls_from, export_holds, exports_from}
+use Rattle.sc_interfaces.specs.Faces.{head_holds, imported_agrees}
 use Rattle.sc_interfaces.specs.Faces.{is_plain, main_holds}
-use Rattle.sc_types.specs.Counts.{counts_broken}
 use Rattle.sc_types.proofs.Basics.{Each}
-use Rattle.sc_types.proofs.Facts.{DeclFacts, ExportFacts, FaceFacts, Fresh, ImportFacts, fresh_distinct}
-use Rattle.sc_types.proofs.Sections.{both_distinct}
-use Rattle.sc_back.specs.Text.{imported, main_proto}
-use Rattle.sc_performers.specs.Performer.{IsPerformer}
-use Rattle.sc_performers.proofs.Agreeing.{declared_crosses, defined_crosses}
-use Rattle.sc_performers.proofs.BackTree.{AreFunctions, AreHeads, IsBackTree, and_function, and_head, counter_at}
-use Rattle.sc_performers.proofs.BackTree.{entries_from, entries_of, function_at, head_at, no_functions, no_heads, use_of}
-use Rattle.sc_performers.proofs.BackTree.{uses}
-use Rattle.sc_performers.proofs.Declared.{all_heads, all_protos, heads_of}
-use Rattle.sc_performers.proofs.Distinct.{among_front, apart, back_distinct, first_new, front_distinct, rest_distinct}
-use Rattle.sc_performers.proofs.Fitting.{all_resolved, each_map, facts, own_defined, proto_named}
-use Rattle.sc_performers.proofs.ReplacedSeen.{exports_same, imports_alike, none_named, own_names}
-use Rattle.sc_performers.proofs.Resolved.{IsResolved}
-use Rattle.sc_performers.proofs.SectionFacts.{distinct_names, entry_names, imports_named, names_declared, names_defined}
-use Rattle.sc_performers.proofs.SectionFacts.{tree_names, use_names}
-use Rattle.sc_performers.proofs.Seen.{AreAlike, AreSeenAs, IsAlike}
-use Rattle.sc_performers.proofs.SeenKept.{agrees_as_too, both_empty, holds_rule, imports_hold}
+use Rattle.sc_types.proofs.Facts.{DeclFacts, Fresh}
+use Rattle.sc_performers.proofs.Distinct.{apart, first_new, rest_distinct}
+use Rattle.sc_performers.proofs.Made.{none_named}
+use Rattle.sc_performers.proofs.Seen.{AreAlike}
+use Rattle.sc_performers.proofs.SeenKept.{both_empty, holds_rule}
 use Rattle.sc_performers.proofs.Uses.{IsAmong, first, is_first_or_later, later, none_among}
 
 -- Lists.

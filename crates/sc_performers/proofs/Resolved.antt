@@ -1,13 +1,11 @@
 -- What the import lines of a text that keeps the rules lead to.
 use Rattle.std.proofs.Common.{Bool, List, None, Option, Some, [], ◌∷◌, ◌++◌, ◌≡◌, ◌∙◌, ◌&&◌, ◌||◌, ◌≤◌, ℕ, suc, zero, ap, arith, bytes_eq}
 use Rattle.std.proofs.Common.{◌+◌, ◌==◌, false, if◌then◌else◌, is_some, length, map, nat_le, not, refl, slice_get, subst, sym, true}
-use Rattle.std.proofs.lemmas.Bool.{and_from, false≢true}
-use Rattle.std.specs.List.{concat, list_all, list_any}
-use Rattle.std.specs.Option.{option_and_then, option_map, option_map_or}
-use Rattle.sc_base.specs.Prelude.{number_of}
+use Rattle.std.proofs.lemmas.Bool.{false≢true}
+use Rattle.std.specs.List.{concat, list_any}
+use Rattle.std.specs.Option.{option_map_or}
 use Rattle.sc_base.proofs.Bools.{and_first, and_rest}
-use Rattle.sc_base.proofs.Texts.{bytes_eq_self, same_either_way, same_text}
-use Rattle.sc_event.specs.Prelude.{comp_at, comp_name, export_at}
+use Rattle.sc_base.proofs.Texts.{bytes_eq_self, same_text}
 use Rattle.sc_event.specs.declared.interface.Import.{Import}
 use Rattle.sc_event.specs.declared.interface.Import.TheVariants as import
 use Rattle.sc_event.specs.declared.interface.Interface.{Interface}
@@ -22,8 +20,8 @@ use Rattle.sc_ast.specs.declared.section.FunctionTree.{FunctionTree}
 use Rattle.sc_ast.specs.declared.section.HeadTree.{HeadTree}
 use Rattle.sc_ast.specs.declared.section.ImportLine.{ImportLine}
 use Rattle.sc_ast.specs.declared.section.SectionTree.{SectionTree}
-use Rattle.sc_scope.specs.Interfaces.{interface_of, number_or_zero, offered, promised, proto_of}
-use Rattle.sc_scope.specs.Prelude.{Text, among, defines_main, environment, function_names, functions_in, heads_in, import_of}
+use Rattle.sc_scope.specs.Interfaces.{number_or_zero, offered, promised, proto_of}
+use Rattle.sc_scope.specs.Prelude.{Text, defines_main, environment, functions_in, heads_in, import_of}
 use Rattle.sc_scope.specs.Prelude.{interfaces_of, globals_in, is_environment, line_of_text, offering, scalar_of, structs_in, unless}
 use Rattle.sc_interfaces.specs.Faces.{agree, agrees_as, agrees_there, agrees_with, head_crosses, input_name, is_input}
 use Rattle.sc_interfaces.specs.Faces.{interface_broken, is_offered, is_output, is_plain, lines_from, output_name, section_lines}
@@ -35,10 +33,10 @@ use Rattle.sc_types.specs.Counts.{counts_broken}
 use Rattle.sc_types.specs.Common.{most_compartments, most_exports, most_nodes, most_params}
 use Rattle.sc_types.proofs.Places.{is_at_most}
 use Rattle.sc_types.proofs.Basics.{Each, back_empty, each_empty, front_empty, map_empty, rule_holds, some_is, none_some}
-use Rattle.sc_types.proofs.Calls.{FoundBy, Offering, comp_is, export_is, find_offering, found_by, get_map}
-use Rattle.sc_types.proofs.Facts.{DeclFacts, ExportFacts, FaceFacts, ImportFacts}
+use Rattle.sc_types.proofs.Calls.{FoundBy, Offering, comp_is, export_is, find_offering, found_by}
+use Rattle.sc_types.proofs.Facts.{ExportFacts, FaceFacts}
 use Rattle.sc_types.proofs.Functions.{map_length}
-use Rattle.sc_types.proofs.Lookups.{FoundFunction, each_at, find_function}
+use Rattle.sc_types.proofs.Lookups.{FoundFunction, each_at}
 use Rattle.sc_types.proofs.Sections.{crossing, g, none_beyond}
 use Rattle.sc_types.proofs.Whole.{count_at, hold}
 use Rattle.sc_back.specs.Text.{imported, input_proto, output_proto, owner_name}
@@ -284,29 +282,29 @@ module _ (olds : List SectionTree) where
           ap (agrees_there olds number old (head_at f line)) o.is ∙
           with_alike (heads_in o.section.decls) (head_of promise.tree.head) (head_at f line)
           (promise.named ∙ sym (promise_name export.item.name _)) (same line) promise.agrees) where
-        export : FoundBy {A = ExportLine} (λ line. line.name) a.name o.section.exports
-        export =
-            found_by {A = ExportLine} (λ line. line.name) a.name o.section.exports
-            (and_rest (not (o.number == number)) _ (and_rest (bytes_eq o.section.name a.comp) _ o.offers))
+            export : FoundBy {A = ExportLine} (λ line. line.name) a.name o.section.exports
+            export =
+                found_by {A = ExportLine} (λ line. line.name) a.name o.section.exports
+                (and_rest (not (o.number == number)) _ (and_rest (bytes_eq o.section.name a.comp) _ o.offers))
 
-        f : Proto
-        f = proto_of o.section export.item
+            f : Proto
+            f = proto_of o.section export.item
 
-        promise : IsPromised o.section export.item
-        promise = promised_at o.number o.section o.got export.at export.item export.got
+            promise : IsPromised o.section export.item
+            promise = promised_at o.number o.section o.got export.at export.item export.got
 
-        import_is : import_of olds number a ≡ import.Function o.number export.at
-        import_is =
-            ap (λ b. import_by b (bytes_eq a.name input_name)) env ∙ ap (offered a) o.is ∙
-            ap (λ n. import.Function o.number (number_or_zero n)) export.place
+            import_is : import_of olds number a ≡ import.Function o.number export.at
+            import_is =
+                ap (λ b. import_by b (bytes_eq a.name input_name)) env ∙ ap (offered a) o.is ∙
+                ap (λ n. import.Function o.number (number_or_zero n)) export.place
 
-        name : f.name ≡ a.name
-        name = promise_name export.item.name _ ∙ sym (same_text a.name export.item.name export.named)
+            name : f.name ≡ a.name
+            name = promise_name export.item.name _ ∙ sym (same_text a.name export.item.name export.named)
 
-        same : (line : ℕ) → agree (head_of promise.tree.head) (head_at f line) ≡ true
-        same line =
-            subst (λ p. agree (head_of promise.tree.head) (head_at p line) ≡ true) (sym promise.is)
-            (promise_declared export.item.name promise.tree promise.crosses line)
+            same : (line : ℕ) → agree (head_of promise.tree.head) (head_at f line) ≡ true
+            same line =
+                subst (λ p. agree (head_of promise.tree.head) (head_at p line) ≡ true) (sym promise.is)
+                (promise_declared export.item.name promise.tree promise.crosses line)
 
       pub resolved : is_offered olds number old a ≡ true → IsResolved olds number old a
       resolved =

@@ -1,11 +1,9 @@
 -- Sections of two texts of which other sections see the same: names, exports and imports.
 use Rattle.std.proofs.Common.{Bool, List, [], ◌∷◌, ◌≡◌, ◌∙◌, ◌==◌, ℕ, suc, ap, bytes_eq, codes, false, if◌then◌else◌, is_some, map}
 use Rattle.std.proofs.Common.{not, refl, true}
-use Rattle.std.proofs.lemmas.Bool.{false≢true}
 use Rattle.sc_base.specs.Prelude.{all_hold, number_of}
-use Rattle.sc_base.proofs.Bools.{and_first, and_rest}
-use Rattle.sc_base.proofs.Texts.{same_text}
-use Rattle.std.proofs.Common.{None, Option, Some, subst}
+use Rattle.sc_base.proofs.Bools.{and_rest}
+use Rattle.std.proofs.Common.{Some, subst}
 use Rattle.sc_event.specs.declared.interface.Import.TheVariants as import
 use Rattle.sc_ast.specs.declared.section.HeadTree.{HeadTree}
 use Rattle.sc_ast.specs.declared.section.ImportLine.{ImportLine}

@@ -1,8 +1,8 @@
 -- A section that is kept among sections of which it sees the same is typed as before, and breaks no more rules.
-use Rattle.std.proofs.Common.{Bool, List, None, Option, Some, [], ◌∷◌, ◌++◌, ◌≡◌, ◌∙◌, ◌&&◌, ◌||◌, ℕ, suc, ap, bytes_eq, codes, false}
-use Rattle.std.proofs.Common.{if◌then◌else◌, is_some, map, not, refl, subst, sym, true}
-use Rattle.std.proofs.lemmas.Bool.{and_from, false≢true}
-use Rattle.std.specs.List.{list_all, list_any}
+use Rattle.std.proofs.Common.{Bool, List, None, Option, Some, [], ◌∷◌, ◌++◌, ◌≡◌, ◌∙◌, ◌&&◌, ◌||◌, ℕ, ap, bytes_eq, false}
+use Rattle.std.proofs.Common.{if◌then◌else◌, not, refl, subst, sym, true}
+use Rattle.std.proofs.lemmas.Bool.{and_from}
+use Rattle.std.specs.List.{list_all}
 use Rattle.sc_base.specs.Prelude.{number_of}
 use Rattle.sc_base.proofs.Bools.{and_first, and_rest}
 use Rattle.sc_base.proofs.Texts.{same_text}
@@ -13,13 +13,12 @@ use Rattle.sc_ast.specs.declared.section.ExportLine.{ExportLine}
 use Rattle.sc_ast.specs.declared.section.HeadTree.{HeadTree}
 use Rattle.sc_ast.specs.declared.section.ImportLine.{ImportLine}
 use Rattle.sc_ast.specs.declared.section.SectionTree.{SectionTree}
-use Rattle.sc_scope.specs.Prelude.{Text, among, defines_main, environment, function_names, import_of, is_environment}
+use Rattle.sc_scope.specs.Prelude.{Text, among, environment, function_names, is_environment}
 use Rattle.sc_scope.specs.Prelude.{is_new, offering, proto_names, unless}
 use Rattle.sc_interfaces.specs.Faces.{agrees_as, agrees_there, decls_from, environment_offers, export_holds, exports_from}
 use Rattle.sc_interfaces.specs.Faces.{head_holds, import_fits, import_holds, imported_agrees, imports_from, input_name}
-use Rattle.sc_interfaces.specs.Faces.{is_input, is_offered, is_output, is_plain, main_holds, name_holds, output_name}
-use Rattle.sc_interfaces.specs.Faces as faces
-use Rattle.sc_elab_expr.specs.Prelude.{Callees, target_or}
+use Rattle.sc_interfaces.specs.Faces.{is_input, is_offered, is_output, is_plain, main_holds, output_name}
+use Rattle.sc_elab_expr.specs.Prelude.{target_or}
 use Rattle.sc_elab.specs.Sections.{callees_of, import_named, import_target, imported_target, typed_section}
 use Rattle.sc_elab.specs.Sections as elab
 use Rattle.sc_types.proofs.Basics.{Each, back_empty, front_empty, rule_holds}

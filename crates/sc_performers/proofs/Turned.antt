@@ -1,16 +1,13 @@
 -- What becomes of sections whose compartments perform their parts of a trace.
-use Rattle.std.proofs.Common.{Bool, List, None, Option, Some, [], ◌∷◌, ◌++◌, ◌≡◌, ◌∙◌, ◌+◌, ◌<◌, ◌≤◌, ℕ, suc, zero, ap, arith, false, length}
+use Rattle.std.proofs.Common.{Bool, List, Some, [], ◌∷◌, ◌≡◌, ◌∙◌, ◌+◌, ◌<◌, ◌≤◌, ℕ, suc, zero, ap, arith, false, length}
 use Rattle.std.proofs.Common.{map, refl, slice_get, subst, sym, true}
 use Rattle.std.proofs.lemmas.Bool.{false≢true}
 use Rattle.std.proofs.lemmas.List.Elements.{All-from_recursion}
 use Rattle.std.specs.List.{AllByRecursion}
 use Rattle.std.specs.Prelude.{All}
-use Rattle.sc_event.specs.Prelude.{comp_at, legal, part}
+use Rattle.sc_event.specs.Prelude.{legal, part}
 use Rattle.sc_event.specs.declared.event.Event.{Event}
-use Rattle.sc_event.specs.declared.interface.Import.{Import}
-use Rattle.sc_event.specs.declared.interface.Interface.{Interface}
 use Rattle.sc_event.specs.declared.interface.Interfaces.{Interfaces}
-use Rattle.sc_event.specs.declared.interface.Proto.{Proto}
 use Rattle.sc_event.specs.declared.row.Row.{Row}
 use Rattle.sc_ast.specs.Prelude.{SameButLines}
 use Rattle.sc_ast.specs.declared.section.ImportLine.{ImportLine}
@@ -24,7 +21,7 @@ use Rattle.sc_types.specs.Counts.{counts_broken}
 use Rattle.sc_types.proofs.Basics.{Each, some_is}
 use Rattle.sc_types.proofs.Calls.{comp_is}
 use Rattle.sc_back.specs.Sections.{AllBecome, Becomes, kept, replaced}
-use Rattle.sc_back.specs.Text.{imported, owner_name}
+use Rattle.sc_back.specs.Text.{owner_name}
 use Rattle.sc_back.specs.Tree.{back_tree}
 use Rattle.sc_replay.specs.Replay.{HasReplaced, HasWords, IsRecomposed}
 use Rattle.sc_performers.specs.Performer.{IsImportedAs, IsPerformer}

@@ -2,6 +2,7 @@
 
 ghost use Rattle.sc_performers.specs.Laws.{CountsHold, LegalRowsFit, NamesHold, RowsPerform, TypesHold};
 ghost use Rattle.sc_performers.specs.Recomposed.{RecomposedHold};
+ghost use Rattle.sc_performers.specs.Performing.{PartsPerform};
 
 /// A section that performs breaks no rule of names.
 pub fn names_hold()
@@ -32,4 +33,9 @@ pub fn legal_rows_fit()
 /// their program is the old one recomposed.
 pub fn recomposed_hold()
     ensures { RecomposedHold }
+{}
+
+/// A compartment of a program can perform its part of a trace in a text.
+pub fn parts_perform()
+    ensures { PartsPerform }
 {}

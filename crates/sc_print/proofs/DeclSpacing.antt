@@ -206,7 +206,7 @@ params_tidy [] k rest calm q = next (keyword_word keyword.Void _ calm) none
 params_tidy (p ∷ ps) k rest calm q = let parts = and_parts (kept_param p) (list_all kept_param ps) k in
     joined_tidy param_words kept_param param_tidy p ps parts.0 parts.1 rest calm q
 
-head_tidy : (head : HeadTree) → IsTrue (kept_head head) → Free (head_words head)
+pub head_tidy : (head : HeadTree) → IsTrue (kept_head head) → Free (head_words head)
 head_tidy head k rest =
     let parts = and_parts (kept_result head.result) (is_ident head.name && list_all kept_param head.params) k in
     let more = and_parts (is_ident head.name) (list_all kept_param head.params) parts.1 in

@@ -219,7 +219,7 @@ heading_from : (text name : List ℕ) → begins_heading text ≡ true → not (
 unfolding heading_name
 heading_from text name a b c = rw (a, b) c
 
-heading_is : (name : List ℕ) → is_name name ≡ true → heading_name (heading_text name) ≡ Some name
+pub heading_is : (name : List ℕ) → is_name name ≡ true → heading_name (heading_text name) ≡ Some name
 heading_is name h = heading_from (heading_text name) name (heading_begins name) (first_solid name h)
     (ap only_name (name_word name h) ∙ named_is name h)
 

@@ -1,0 +1,136 @@
+-- Joined texts of sections are split into them.
+use Rattle.sc_reread.proofs.Common.{List, [], ap, append-nil, append_assoc, ap₂, arith, concat, drop, length}
+use Rattle.sc_reread.proofs.Common.{length-append, map, refl, subst, sym, take, true, ℕ, ◌++◌, ◌+◌, ◌-◌}
+use Rattle.sc_reread.proofs.Common.{◌∙◌, ◌∷◌, ◌≡◌}
+use Rattle.std.proofs.Common.{inl, inr, take-append-drop, ◌⊎◌}
+use Rattle.std.proofs.Math.Seq.{drop-append_seam, take-append_seam}
+use Rattle.sc_lex.specs.Prelude.{AreSections, IsSection, IsSplit, is_heading, line_at}
+use Rattle.sc_lex.specs.Prelude.{none, section}
+unfoldable use Rattle.sc_lex.specs.Prelude.{heading_name}
+use Rattle.sc_lex.specs.Lines.{first_line}
+use Rattle.sc_lex.specs.declared.section.Section.{Section}
+use Rattle.sc_reread.proofs.Headings.{Ends, begins_outside, first_line_kept, front_ends, heading_behind, heading_first}
+use Rattle.sc_reread.proofs.Headings.{heading_inside, heading_outside, last, last_any, last_append}
+use Rattle.sc_reread.proofs.Splitting.{IsText, Joined, bytes_of, more, nothing, some_bytes}
+
+-- a text is joined to others
+ends_of : (text : List ℕ) (texts : List (List ℕ)) → (texts ≡ []) ⊎ (last 10 text ≡ 10) → Ends text (concat texts)
+ends_of text texts ends = elim ends [
+  | inl e ↦ inl (ap concat e)
+  | inr newline ↦ inr newline
+]
+
+-- one section between a front and what stands behind
+module _ (front u behind : List ℕ) (t : IsText u) (newline : last 10 front ≡ 10) (ends : Ends u behind) where
+  abbrev text : List ℕ
+  text = front ++ (u ++ behind)
+
+  abbrev pub here : Section
+  here = record {
+    name = t.name;
+    start = length front;
+    line = line_at text (length front);
+    bytes = record { ref_ptr = (0, 0); now = u };
+  }
+
+  seam : drop (length front) text ≡ u ++ behind
+  seam = drop-append_seam front (u ++ behind)
+
+  pub section_here : IsSection text (length front) (length (front ++ u)) here
+  section_here =
+      let some = some_bytes u t.begins in
+      let long = length-append front u in
+      let size : length (front ++ u) - length front ≡ length u = omega (arith, long) in
+      record {
+        heading = heading_first front (u ++ behind) newline (begins_outside u behind t.begins);
+        name = ap (λ b. heading_name (first_line b)) seam ∙
+            ap heading_name (first_line_kept u behind some ends) ∙ t.named;
+        start = refl;
+        line = refl;
+        bytes = sym (take-append_seam u behind) ∙ ap₂ take (sym size) (sym seam);
+        within = (
+          omega (arith, some, long),
+          omega (arith, long, length-append front (u ++ behind), length-append u behind),
+        );
+        whole = λ at low high is.
+            let place : length front + (at - length front) ≡ at = omega (arith, low) in
+            t.whole (at - length front) (omega (arith, low)) (omega (arith, low, high, long))
+            (heading_inside u behind (at - length front) (omega (arith, low, high, long)) ends
+            (sym (heading_behind front (u ++ behind) (at - length front) (omega (arith, low))) ∙
+            subst (λ k. is_heading text k ≡ true) (sym place) is));
+      }
+
+-- sections found in a text, with these bytes
+pub record IsFound (text : List ℕ) (at : ℕ) (texts : List (List ℕ)) : Type 0 where
+  pub found : List Section
+  pub sections : AreSections text at (length text) found
+  pub bytes : map bytes_of found ≡ texts
+
+to_sections : (front : List ℕ) (texts : List (List ℕ)) → Joined texts → (texts ≡ []) ⊎ (last 10 front ≡ 10) →
+    IsFound (front ++ concat texts) (length front) texts
+to_sections front [] nothing ends =
+    let long : length front ≡ length (front ++ []) = ap length (sym (append-nil front)) in
+    record {
+      found = [];
+      sections = subst (λ end. AreSections (front ++ []) (length front) end []) long none;
+      bytes = refl;
+    }
+to_sections front (u ∷ texts) (more t last_line others) ends =
+    let behind : List ℕ = concat texts in
+    let newline : last 10 front ≡ 10 = elim ends [
+      | inl e ↦ absurd (cc)
+      | inr n ↦ n
+    ] in
+    let some = some_bytes u t.begins in
+    let whole : (front ++ u) ++ behind ≡ front ++ (u ++ behind) = append_assoc front u behind in
+    let further : (texts ≡ []) ⊎ (last 10 (front ++ u) ≡ 10) = elim last_line [
+      | inl e ↦ inl e
+      | inr n ↦ inr (last_append 10 front u ∙ last_any (last 10 front) 10 u some ∙ n)
+    ] in
+    let rest = subst (λ b. IsFound b (length (front ++ u)) texts) whole
+    (to_sections (front ++ u) texts others further) in
+    record {
+      found = here front u behind t newline (ends_of u texts last_line) ∷ rest.found;
+      sections = section (here front u behind t newline (ends_of u texts last_line))
+          (section_here front u behind t newline (ends_of u texts last_line)) rest.sections;
+      bytes = ap (λ bs. u ∷ bs) rest.bytes;
+    }
+
+-- the preamble of a split text ends with a newline, where a section follows
+preamble_ends : (text preamble : List ℕ) (found : List Section) → IsSplit text preamble found →
+    (map bytes_of found ≡ []) ⊎ (last 10 preamble ≡ 10)
+preamble_ends text preamble found split = by found split.behind refl
+  where
+    whole : text ≡ preamble ++ drop (length preamble) text
+    whole = sym (take-append-drop (length preamble) text) ∙
+        ap (λ p. p ++ drop (length preamble) text) (sym split.front)
+
+    by : (found : List Section) → {at end : ℕ} → AreSections text at end found → at ≡ length preamble →
+        (map bytes_of found ≡ []) ⊎ (last 10 preamble ≡ 10)
+    by _ none e = inl refl
+    by _ (section s g others) e = inr (front_ends preamble (drop (length preamble) text)
+        (ap₂ is_heading (sym whole) (sym e) ∙ g.heading))
+
+-- A text with the same preamble and other sections, of which there are none where there were none.
+pub joined_split : (text preamble : List ℕ) (found : List Section) → IsSplit text preamble found →
+    (news : List (List ℕ)) → Joined news → (map bytes_of found ≡ [] → news ≡ []) →
+    (others : List Section) × IsSplit (preamble ++ concat news) preamble others × (map bytes_of others ≡ news)
+joined_split text preamble found split news joined empty =
+    let ends : (news ≡ []) ⊎ (last 10 preamble ≡ 10) = elim (preamble_ends text preamble found split) [
+      | inl e ↦ inl (empty e)
+      | inr newline ↦ inr newline
+    ] in
+    let is = to_sections preamble news joined ends in
+    let whole : text ≡ preamble ++ drop (length preamble) text =
+    sym (take-append-drop (length preamble) text) ∙
+    ap (λ p. p ++ drop (length preamble) text) (sym split.front) in (
+      is.found,
+      record {
+        front = sym (take-append_seam preamble (concat news));
+        before = λ at low high h. split.before at low high
+            (ap (λ b. is_heading b at) whole ∙ heading_outside preamble (drop (length preamble) text) at high
+            (heading_inside preamble (concat news) at high (ends_of preamble news ends) h));
+        behind = is.sections;
+      },
+      is.bytes,
+    )

@@ -1,0 +1,16 @@
+pub mod Common
+pub mod Nesting
+pub mod Values
+pub mod Actions
+pub mod Rows
+pub mod Heads
+pub mod Functions
+pub mod Performing
+pub mod Reading
+pub mod Headings
+pub mod Splitting
+pub mod Joining
+pub mod Headless
+pub mod Replaced
+pub mod Names
+mod Examples
