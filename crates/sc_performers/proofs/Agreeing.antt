@@ -1,5 +1,6 @@
 -- Heads of one name in a section agree, and so does the head that is made for a function that crosses.
-use Rattle.std.proofs.Common.{Bool, List, None, Option, Some, [], ◌∷◌, ◌++◌, ◌≡◌, ◌∙◌, ◌&&◌, ◌||◌, ℕ, suc, ap, append-nil, append_assoc}
+use Rattle.std.proofs.Common.{Bool, List, None, Option, Some, [], ◌∷◌, ◌++◌, ◌≡◌, ◌∙◌, ◌&&◌, ◌||◌, ℕ, suc, ap}
+use Rattle.std.proofs.Common.{append-nil, append_assoc}
 use Rattle.std.proofs.Common.{bytes_eq, false, map, not, refl, subst, true}
 use Rattle.std.proofs.lemmas.Bool.{and_from, false≢true}
 use Rattle.std.specs.List.{list_all}
@@ -24,7 +25,8 @@ use Rattle.sc_ast.specs.declared.types.TypeName.{TypeName}
 use Rattle.sc_scope.specs.Declarations.{head_in}
 use Rattle.sc_scope.specs.Interfaces.{base_scalar, promised}
 use Rattle.sc_scope.specs.Prelude.{Text, heads_in, scalar_of, unless}
-use Rattle.sc_interfaces.specs.Faces.{agree, agrees_with, crosses, decls_from, head_crosses, head_holds, imported_agrees}
+use Rattle.sc_interfaces.specs.Faces.{agree, agrees_with, crosses, decls_from, head_crosses, head_holds}
+use Rattle.sc_interfaces.specs.Faces.{imported_agrees}
 use Rattle.sc_interfaces.specs.Faces.{main_holds, result_crosses, same_base, same_params, same_result, same_type}
 use Rattle.sc_interfaces.proofs.Agreeing.{agree_symm}
 use Rattle.sc_back.specs.Tree.{base_tree, function_params, proto_params, type_name}

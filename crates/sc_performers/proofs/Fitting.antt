@@ -1,5 +1,6 @@
 -- A compartment of a text that keeps the rules can perform its part of a legal trace.
-use Rattle.std.proofs.Common.{Bool, List, Some, [], ◌∷◌, ◌++◌, ◌≡◌, ◌∙◌, ◌==◌, ◌||◌, ◌+◌, ◌≤◌, ℕ, suc, zero, ap, ap₂, arith}
+use Rattle.std.proofs.Common.{Bool, List, Some, [], ◌∷◌, ◌++◌, ◌≡◌, ◌∙◌, ◌==◌, ◌||◌, ◌+◌, ◌≤◌, ℕ, suc, zero, ap, ap₂}
+use Rattle.std.proofs.Common.{arith}
 use Rattle.std.proofs.Common.{bytes_eq, eqb-true, false, if◌then◌else◌, length, map, refl, slice_get, subst, sym, true}
 use Rattle.std.proofs.lemmas.Bool.{false≢true}
 use Rattle.std.proofs.lemmas.List.{map-append}

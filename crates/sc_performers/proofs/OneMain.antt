@@ -1,5 +1,6 @@
 -- One section of a text that keeps the rules defines `main`.
-use Rattle.std.proofs.Common.{Bool, List, [], ◌∷◌, ◌++◌, ◌≡◌, ◌∙◌, ◌==◌, ◌&&◌, ◌||◌, ◌+◌, ℕ, suc, zero, ap, arith, bytes_eq, eq-eqb, false}
+use Rattle.std.proofs.Common.{Bool, List, [], ◌∷◌, ◌++◌, ◌≡◌, ◌∙◌, ◌==◌, ◌&&◌, ◌||◌, ◌+◌, ℕ, suc, zero, ap, arith}
+use Rattle.std.proofs.Common.{bytes_eq, eq-eqb, false}
 use Rattle.std.proofs.Common.{Some, if◌then◌else◌, map, not, refl, slice_get, subst, sym, true}
 use Rattle.std.proofs.lemmas.Bool.{false≢true}
 use Rattle.std.specs.List.{list_any}

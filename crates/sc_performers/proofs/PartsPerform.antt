@@ -1,5 +1,6 @@
 -- Each compartment of a program can perform its part of a legal trace in a text.
-use Rattle.std.proofs.Common.{Bool, List, None, Option, Some, [], ◌∷◌, ◌≡◌, ◌∙◌, ◌==◌, ◌||◌, ◌+◌, ◌<◌, ◌≤◌, ℕ, suc, zero}
+use Rattle.std.proofs.Common.{Bool, List, None, Option, Some, [], ◌∷◌, ◌≡◌, ◌∙◌, ◌==◌, ◌||◌, ◌+◌, ◌<◌, ◌≤◌, ℕ, suc}
+use Rattle.std.proofs.Common.{zero}
 use Rattle.std.proofs.Common.{ap, arith, bytes_eq, false, if◌then◌else◌, length, map, refl, slice_get, subst, sym, true}
 use Rattle.std.proofs.lemmas.Bool.{and_parts, false≢true}
 use Rattle.std.proofs.lemmas.List.Elements.{All-from_recursion, recursion_from_All}

@@ -1,5 +1,6 @@
 -- The sections of a text in which some perform their parts of a trace keep the rules, and are the program recomposed.
-use Rattle.std.proofs.Common.{Bool, List, None, Option, Some, [], ◌∷◌, ◌++◌, ◌≡◌, ◌∙◌, ◌==◌, ◌||◌, ◌+◌, ◌<◌, ℕ, suc, zero, ap}
+use Rattle.std.proofs.Common.{Bool, List, None, Option, Some, [], ◌∷◌, ◌++◌, ◌≡◌, ◌∙◌, ◌==◌, ◌||◌, ◌+◌, ◌<◌, ℕ, suc}
+use Rattle.std.proofs.Common.{zero, ap}
 use Rattle.std.proofs.Common.{append_assoc, arith, eqb-true, false, length, map, refl, slice_get, subst, sym, true}
 use Rattle.std.proofs.lemmas.Bool.{false≢true}
 use Rattle.std.specs.List.{concat, list_any}

@@ -36,7 +36,8 @@ use Rattle.sc_back.specs.Text.{main_proto}
 use Rattle.sc_performers.specs.Performer.{IsPerformer}
 use Rattle.sc_performers.proofs.Agreeing.{declared_crosses, defined_crosses}
 use Rattle.sc_performers.proofs.BackTree.{AreFunctions, AreHeads, IsBackTree, and_function, and_head, counter_at}
-use Rattle.sc_performers.proofs.BackTree.{entries_from, entries_of, function_at, head_at, no_functions, no_heads, use_of}
+use Rattle.sc_performers.proofs.BackTree.{entries_from, entries_of, function_at, head_at, no_functions, no_heads}
+use Rattle.sc_performers.proofs.BackTree.{use_of}
 use Rattle.sc_performers.proofs.BackTree.{uses}
 use Rattle.sc_performers.proofs.Declared.{all_heads, all_protos, heads_of}
 use Rattle.sc_performers.proofs.Distinct.{among_front, apart, back_distinct, front_distinct}
@@ -48,7 +49,8 @@ use Rattle.sc_performers.proofs.SectionFacts.{use_names}
 use Rattle.sc_performers.proofs.Seen.{AreAlike, AreSeenAs, IsAlike}
 use Rattle.sc_performers.proofs.SeenKept.{agrees_as_too, imports_hold}
 use Rattle.sc_performers.proofs.Uses.{IsAmong, first, later}
-use Rattle.sc_performers.proofs.ReplacedRules.{alike_names, decls_distinct, each_both, each_onto, each_there, each_unmap}
+use Rattle.sc_performers.proofs.ReplacedRules.{alike_names, decls_distinct, each_both, each_onto, each_there}
+use Rattle.sc_performers.proofs.ReplacedRules.{each_unmap}
 use Rattle.sc_performers.proofs.ReplacedRules.{exports_new, head_names, if_named, none_of_less, same_line}
 
 abbrev HeadsBy : List (Import × Proto) → List HeadTree → Type 0

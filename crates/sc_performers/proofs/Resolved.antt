@@ -1,6 +1,8 @@
 -- What the import lines of a text that keeps the rules lead to.
-use Rattle.std.proofs.Common.{Bool, List, None, Option, Some, [], ◌∷◌, ◌++◌, ◌≡◌, ◌∙◌, ◌&&◌, ◌||◌, ◌≤◌, ℕ, suc, zero, ap, arith, bytes_eq}
-use Rattle.std.proofs.Common.{◌+◌, ◌==◌, false, if◌then◌else◌, is_some, length, map, nat_le, not, refl, slice_get, subst, sym, true}
+use Rattle.std.proofs.Common.{Bool, List, None, Option, Some, [], ◌∷◌, ◌++◌, ◌≡◌, ◌∙◌, ◌&&◌, ◌||◌, ◌≤◌, ℕ, suc, zero}
+use Rattle.std.proofs.Common.{ap, arith, bytes_eq}
+use Rattle.std.proofs.Common.{◌+◌, ◌==◌, false, if◌then◌else◌, is_some, length, map, nat_le, not, refl, slice_get}
+use Rattle.std.proofs.Common.{subst, sym, true}
 use Rattle.std.proofs.lemmas.Bool.{false≢true}
 use Rattle.std.specs.List.{concat, list_any}
 use Rattle.std.specs.Option.{option_map_or}
@@ -22,9 +24,11 @@ use Rattle.sc_ast.specs.declared.section.ImportLine.{ImportLine}
 use Rattle.sc_ast.specs.declared.section.SectionTree.{SectionTree}
 use Rattle.sc_scope.specs.Interfaces.{number_or_zero, offered, promised, proto_of}
 use Rattle.sc_scope.specs.Prelude.{Text, defines_main, environment, functions_in, heads_in, import_of}
-use Rattle.sc_scope.specs.Prelude.{interfaces_of, globals_in, is_environment, line_of_text, offering, scalar_of, structs_in, unless}
+use Rattle.sc_scope.specs.Prelude.{interfaces_of, globals_in, is_environment, line_of_text, offering, scalar_of}
+use Rattle.sc_scope.specs.Prelude.{structs_in, unless}
 use Rattle.sc_interfaces.specs.Faces.{agree, agrees_as, agrees_there, agrees_with, head_crosses, input_name, is_input}
-use Rattle.sc_interfaces.specs.Faces.{interface_broken, is_offered, is_output, is_plain, lines_from, output_name, section_lines}
+use Rattle.sc_interfaces.specs.Faces.{interface_broken, is_offered, is_output, is_plain, lines_from, output_name}
+use Rattle.sc_interfaces.specs.Faces.{section_lines}
 use Rattle.sc_interfaces.specs.Faces as faces
 use Rattle.sc_interfaces.proofs.Agreeing.{agree_left, agree_symm}
 use Rattle.sc_elab.specs.Prelude.{callees_of}

@@ -1,5 +1,6 @@
 -- Sections of two texts of which other sections see the same: names, exports and imports.
-use Rattle.std.proofs.Common.{Bool, List, [], ◌∷◌, ◌≡◌, ◌∙◌, ◌==◌, ℕ, suc, ap, bytes_eq, codes, false, if◌then◌else◌, is_some, map}
+use Rattle.std.proofs.Common.{Bool, List, [], ◌∷◌, ◌≡◌, ◌∙◌, ◌==◌, ℕ, suc, ap, bytes_eq, codes, false, if◌then◌else◌}
+use Rattle.std.proofs.Common.{is_some, map}
 use Rattle.std.proofs.Common.{not, refl, true}
 use Rattle.sc_base.specs.Prelude.{all_hold, number_of}
 use Rattle.sc_base.proofs.Bools.{and_rest}
@@ -8,7 +9,8 @@ use Rattle.sc_event.specs.declared.interface.Import.TheVariants as import
 use Rattle.sc_ast.specs.declared.section.HeadTree.{HeadTree}
 use Rattle.sc_ast.specs.declared.section.ImportLine.{ImportLine}
 use Rattle.sc_ast.specs.declared.section.SectionTree.{SectionTree}
-use Rattle.sc_scope.specs.Interfaces.{interface_of, interfaces_from, main_from, number_or_zero, offered, offers, proto_of}
+use Rattle.sc_scope.specs.Interfaces.{interface_of, interfaces_from, main_from, number_or_zero, offered, offers}
+use Rattle.sc_scope.specs.Interfaces.{proto_of}
 use Rattle.sc_scope.specs.Prelude.{among, defines_main, environment, export_names, heads_in, import_of, interfaces_of}
 use Rattle.sc_scope.specs.Prelude.{offering}
 use Rattle.sc_interfaces.specs.Faces.{agrees_there, agrees_with}
@@ -100,8 +102,8 @@ module _ (importer : ℕ) (a b : ImportLine) (alike : IsAlike a b) where
         (offers_same k old new h.0) ∙ by (offers importer a k old) refl agrees
         (agrees_there_too (suc k) olds news h.1) where
           by : (t : Bool) → offers importer a k old ≡ t →
-              agrees_there sections number section head (if t then Some (k, old) else offering importer a (suc k) olds) ≡
-              true →
+              agrees_there sections number section head
+              (if t then Some (k, old) else offering importer a (suc k) olds) ≡ true →
               (agrees_there sections number section head (offering importer a (suc k) olds) ≡ true →
               agrees_there others place other head (offering importer b (suc k) news) ≡ true) →
               agrees_there others place other head (if t then Some (k, new) else offering importer b (suc k) news) ≡

@@ -1,5 +1,6 @@
 -- A section that is kept among sections of which it sees the same is typed as before, and breaks no more rules.
-use Rattle.std.proofs.Common.{Bool, List, None, Option, Some, [], ◌∷◌, ◌++◌, ◌≡◌, ◌∙◌, ◌&&◌, ◌||◌, ℕ, ap, bytes_eq, false}
+use Rattle.std.proofs.Common.{Bool, List, None, Option, Some, [], ◌∷◌, ◌++◌, ◌≡◌, ◌∙◌, ◌&&◌, ◌||◌, ℕ, ap, bytes_eq}
+use Rattle.std.proofs.Common.{false}
 use Rattle.std.proofs.Common.{if◌then◌else◌, not, refl, subst, sym, true}
 use Rattle.std.proofs.lemmas.Bool.{and_from}
 use Rattle.std.specs.List.{list_all}
@@ -15,7 +16,8 @@ use Rattle.sc_ast.specs.declared.section.ImportLine.{ImportLine}
 use Rattle.sc_ast.specs.declared.section.SectionTree.{SectionTree}
 use Rattle.sc_scope.specs.Prelude.{Text, among, environment, function_names, is_environment}
 use Rattle.sc_scope.specs.Prelude.{is_new, offering, proto_names, unless}
-use Rattle.sc_interfaces.specs.Faces.{agrees_as, agrees_there, decls_from, environment_offers, export_holds, exports_from}
+use Rattle.sc_interfaces.specs.Faces.{agrees_as, agrees_there, decls_from, environment_offers, export_holds}
+use Rattle.sc_interfaces.specs.Faces.{exports_from}
 use Rattle.sc_interfaces.specs.Faces.{head_holds, import_fits, import_holds, imported_agrees, imports_from, input_name}
 use Rattle.sc_interfaces.specs.Faces.{is_input, is_offered, is_output, is_plain, main_holds, output_name}
 use Rattle.sc_elab_expr.specs.Prelude.{target_or}

@@ -1,5 +1,6 @@
 -- What becomes of sections whose compartments perform their parts of a trace.
-use Rattle.std.proofs.Common.{Bool, List, Some, [], ◌∷◌, ◌≡◌, ◌∙◌, ◌+◌, ◌<◌, ◌≤◌, ℕ, suc, zero, ap, arith, false, length}
+use Rattle.std.proofs.Common.{Bool, List, Some, [], ◌∷◌, ◌≡◌, ◌∙◌, ◌+◌, ◌<◌, ◌≤◌, ℕ, suc, zero, ap, arith, false}
+use Rattle.std.proofs.Common.{length}
 use Rattle.std.proofs.Common.{map, refl, slice_get, subst, sym, true}
 use Rattle.std.proofs.lemmas.Bool.{false≢true}
 use Rattle.std.proofs.lemmas.List.Elements.{All-from_recursion}
