@@ -104,7 +104,8 @@ module _ (sections : List SectionTree) where
       (λ none_here. main_once (suc k) (before ++ s ∷ []) rest behind (none_snoc before s none none_here)) where
         behind : lines_from sections (suc k) (before ++ s ∷ []) rest ≡ []
         behind =
-            back_empty (map (line_of_text s.line) (section_lines sections k s (list_any defines_main before) before)) _ h
+            back_empty (map (line_of_text s.line)
+            (section_lines sections k s (list_any defines_main before) before)) _ h
 
         same : (n : ℕ) → (n + 0 == n) ≡ true
         same n = eq-eqb (n + 0) n (omega arith)

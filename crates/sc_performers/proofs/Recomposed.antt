@@ -97,7 +97,8 @@ module _ (olds news : List SectionTree) (typed : IsTyped olds (program_of olds))
 
     -- rules that are told section by section
     told_empty : (lines_of : SectionTree → List ℕ) →
-        ((k : ℕ) (old new : SectionTree) → OneTurns k old new → lines_of new ≡ []) → (k : ℕ) (xs ys : List SectionTree) →
+        ((k : ℕ) (old new : SectionTree) → OneTurns k old new → lines_of new ≡ []) →
+        (k : ℕ) (xs ys : List SectionTree) →
         AllOnesTurn k xs ys → concat (map (λ s. map (line_of_text s.line) (lines_of s)) ys) ≡ []
     told_empty lines_of h k [] [] t = refl
     told_empty lines_of h k [] (y ∷ ys) t = absurd t
@@ -112,7 +113,8 @@ module _ (olds news : List SectionTree) (typed : IsTyped olds (program_of olds))
         map_empty _ _ (each_at (λ s. map (line_of_text s.line) (names.section_lines s) ≡ []) olds k old
         (each_empty {A = SectionTree} (λ s. map (line_of_text s.line) (names.section_lines s)) olds typed.names) got)
     names_one k old new (turns got on can same) =
-        names_hold (interfaces_of olds) k (part (interfaces_of olds).main k trace) (interface_of olds k old) new can same
+        names_hold (interfaces_of olds) k (part (interfaces_of olds).main k trace)
+        (interface_of olds k old) new can same
 
     types_one : (k : ℕ) (old new : SectionTree) → OneTurns k old new →
         elab.section_lines new (callees_of news 0 new) ≡ []
@@ -122,7 +124,8 @@ module _ (olds news : List SectionTree) (typed : IsTyped olds (program_of olds))
         old (each_empty {A = SectionTree} (λ s.
         map (line_of_text s.line) (elab.section_lines s (callees_of olds 0 s))) olds typed.types) got)
     types_one k old new (turns got on can same) =
-        types_hold (interfaces_of olds) k (part (interfaces_of olds).main k trace) (interface_of olds k old) new can same
+        types_hold (interfaces_of olds) k (part (interfaces_of olds).main k trace)
+        (interface_of olds k old) new can same
         news 0
 
     counts_one : (k : ℕ) (old new : SectionTree) → OneTurns k old new →
@@ -133,7 +136,8 @@ module _ (olds news : List SectionTree) (typed : IsTyped olds (program_of olds))
         moved_counts line old (callees_of olds k old) ∙
         counted_at olds typed.interfaces typed.counts k old got
     counts_one k old new (turns got on can same) =
-        counts_hold (interfaces_of olds) k (part (interfaces_of olds).main k trace) (interface_of olds k old) new can same
+        counts_hold (interfaces_of olds) k (part (interfaces_of olds).main k trace)
+        (interface_of olds k old) new can same
         news k
 
     counts_from : (k : ℕ) (xs ys : List SectionTree) → AllOnesTurn k xs ys → counts.lines_from news k ys ≡ []

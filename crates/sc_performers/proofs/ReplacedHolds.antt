@@ -67,7 +67,8 @@ entries_each : (P : Proto → Type 0) (index : ℕ) (fs : List Proto) → Each P
 entries_each P index [] h = tt
 entries_each P index (f ∷ fs) h = (h.0, entries_each P (suc index) fs h.1)
 
-each_made : (P : Proto → Type 0) (old : SectionTree) (lines : List ExportLine) → Each (λ line. P (proto_of old line)) lines →
+each_made : (P : Proto → Type 0) (old : SectionTree) (lines : List ExportLine) →
+Each (λ line. P (proto_of old line)) lines →
     Each P (map (proto_of old) lines)
 each_made P old [] h = tt
 each_made P old (line ∷ lines) h = (h.0, each_made P old lines h.1)
@@ -175,7 +176,8 @@ module _ (olds : List SectionTree) (in_faces : interface_broken olds ≡ []) (in
 
     imports_agree : (xs ys : List ImportLine) → AreAlike xs ys →
         ((c : ImportLine) → IsAmong c xs → IsAmong c old.imports) →
-        list_all {X = ImportLine} (λ b. not (bytes_eq b.name made_head.name) || agrees_as news number new made_head b) ys ≡ true
+        list_all {X = ImportLine} (λ b. not (bytes_eq b.name made_head.name) ||
+        agrees_as news number new made_head b) ys ≡ true
     imports_agree [] [] h there = refl
     imports_agree [] (b ∷ ys) h there = absurd h
     imports_agree (c ∷ xs) [] h there = absurd h
@@ -222,7 +224,8 @@ module _ (olds : List SectionTree) (in_faces : interface_broken olds ≡ []) (in
   -- Functions.
 
   abbrev HoldsMain : Proto → Type 0
-  HoldsMain f = (line close : ℕ) (body : List StmtTree) → main_holds mains (head_of (function_at f line close body).head) ≡
+  HoldsMain f = (line close : ℕ) (body : List StmtTree) →
+  main_holds mains (head_of (function_at f line close body).head) ≡
       true
 
   functions_hold : (es : List (Entry × Proto)) (trees : List FunctionTree) → AreFunctions faces rows es trees →

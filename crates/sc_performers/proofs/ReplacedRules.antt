@@ -37,11 +37,13 @@ each_there (x ∷ xs) P h = (
   each_there xs P (λ n there. h n (or_right (bytes_eq n x) (among xs n) there)),
 )
 
-pub each_unmap : {A : Type 0} (f : A → Text) (P : Text → Type 0) (xs : List A) → Each P (map f xs) → Each (λ x. P (f x)) xs
+pub each_unmap : {A : Type 0} (f : A → Text) (P : Text → Type 0) (xs : List A) → Each P (map f xs) →
+Each (λ x. P (f x)) xs
 each_unmap f P [] h = tt
 each_unmap f P (x ∷ xs) h = (h.0, each_unmap f P xs h.1)
 
-pub each_onto : {A : Type 0} (f : A → Text) (P : Text → Type 0) (xs : List A) → Each (λ x. P (f x)) xs → Each P (map f xs)
+pub each_onto : {A : Type 0} (f : A → Text) (P : Text → Type 0) (xs : List A) →
+Each (λ x. P (f x)) xs → Each P (map f xs)
 each_onto f P [] h = tt
 each_onto f P (x ∷ xs) h = (h.0, each_onto f P xs h.1)
 

@@ -29,8 +29,8 @@ pub fn legal_rows_fit()
     ensures { LegalRowsFit }
 {}
 
-/// Where sections of a program are replaced by ones that perform their parts of a trace, the sections keep the rules, and
-/// their program is the old one recomposed.
+/// Where sections of a program are replaced by ones that perform their parts of a trace, the sections keep the rules,
+/// and their program is the old one recomposed.
 pub fn recomposed_hold()
     ensures { RecomposedHold }
 {}
