@@ -68,7 +68,7 @@ entries_each P index [] h = tt
 entries_each P index (f ∷ fs) h = (h.0, entries_each P (suc index) fs h.1)
 
 each_made : (P : Proto → Type 0) (old : SectionTree) (lines : List ExportLine) →
-Each (λ line. P (proto_of old line)) lines →
+    Each (λ line. P (proto_of old line)) lines →
     Each P (map (proto_of old) lines)
 each_made P old [] h = tt
 each_made P old (line ∷ lines) h = (h.0, each_made P old lines h.1)
@@ -225,7 +225,7 @@ module _ (olds : List SectionTree) (in_faces : interface_broken olds ≡ []) (in
 
   abbrev HoldsMain : Proto → Type 0
   HoldsMain f = (line close : ℕ) (body : List StmtTree) →
-  main_holds mains (head_of (function_at f line close body).head) ≡
+      main_holds mains (head_of (function_at f line close body).head) ≡
       true
 
   functions_hold : (es : List (Entry × Proto)) (trees : List FunctionTree) → AreFunctions faces rows es trees →

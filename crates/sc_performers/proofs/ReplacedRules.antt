@@ -38,12 +38,12 @@ each_there (x ∷ xs) P h = (
 )
 
 pub each_unmap : {A : Type 0} (f : A → Text) (P : Text → Type 0) (xs : List A) → Each P (map f xs) →
-Each (λ x. P (f x)) xs
+    Each (λ x. P (f x)) xs
 each_unmap f P [] h = tt
 each_unmap f P (x ∷ xs) h = (h.0, each_unmap f P xs h.1)
 
 pub each_onto : {A : Type 0} (f : A → Text) (P : Text → Type 0) (xs : List A) →
-Each (λ x. P (f x)) xs → Each P (map f xs)
+    Each (λ x. P (f x)) xs → Each P (map f xs)
 each_onto f P [] h = tt
 each_onto f P (x ∷ xs) h = (h.0, each_onto f P xs h.1)
 
