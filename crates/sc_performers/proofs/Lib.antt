@@ -18,4 +18,3 @@ pub mod Shares
 pub mod Nodes
 pub mod CountsKept
 pub mod Examples
-pub mod LegalRows
