@@ -18,3 +18,7 @@ pub mod Shares
 pub mod Nodes
 pub mod CountsKept
 pub mod Examples
+pub mod Seen
+pub mod SeenKept
+pub mod Agreeing
+pub mod Resolved
