@@ -22,3 +22,4 @@ pub mod Seen
 pub mod SeenKept
 pub mod Agreeing
 pub mod Resolved
+pub mod LegalRows

@@ -1,6 +1,6 @@
 // The laws, each the contract of a function with nothing to do.
 
-ghost use Rattle.sc_performers.specs.Laws.{CountsHold, NamesHold, RowsPerform, TypesHold};
+ghost use Rattle.sc_performers.specs.Laws.{CountsHold, LegalRowsFit, NamesHold, RowsPerform, TypesHold};
 
 /// A section that performs breaks no rule of names.
 pub fn names_hold()
@@ -20,4 +20,9 @@ pub fn rows_perform()
 /// It holds no more than a program may.
 pub fn counts_hold()
     ensures { CountsHold }
+{}
+
+/// What a compartment does in a legal trace is such as its section can perform.
+pub fn legal_rows_fit()
+    ensures { LegalRowsFit }
 {}
