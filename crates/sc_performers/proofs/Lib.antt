@@ -23,3 +23,4 @@ pub mod SeenKept
 pub mod Agreeing
 pub mod Resolved
 pub mod LegalRows
+pub mod BackFaces
