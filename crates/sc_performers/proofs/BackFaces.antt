@@ -1,6 +1,8 @@
 -- A performing section breaks no rule of interfaces, where what it imports is offered and agrees.
-use Rattle.std.proofs.Common.{Bool, List, None, Option, Some, [], ◌∷◌, ◌++◌, ◌≡◌, ◌∙◌, ◌&&◌, ◌||◌, ◌==◌, ℕ, ap, ap₂, append_assoc}
-use Rattle.std.proofs.Common.{append-nil, bytes_eq, false, if◌then◌else◌, inl, inr, map, not, refl, subst, sym, true, ◌⊎◌}
+use Rattle.std.proofs.Common.{Bool, List, None, Option, Some, [], ◌∷◌, ◌++◌, ◌≡◌, ◌∙◌, ◌&&◌, ◌||◌, ◌==◌, ℕ, suc, ap}
+use Rattle.std.proofs.Common.{ap₂, append_assoc}
+use Rattle.std.proofs.Common.{append-nil, bytes_eq, false, if◌then◌else◌, inl, inr, map, not, refl, subst, sym, true}
+use Rattle.std.proofs.Common.{◌⊎◌}
 use Rattle.std.proofs.lemmas.Bool.{and_from, false≢true, or_left, or_right, or_parts, or_from}
 use Rattle.std.proofs.lemmas.List.{map-append}
 use Rattle.std.specs.List.{AllByRecursion, list_all}
@@ -20,6 +22,8 @@ use Rattle.sc_ast.specs.declared.section.FunctionTree.{FunctionTree}
 use Rattle.sc_ast.specs.declared.section.HeadTree.{HeadTree}
 use Rattle.sc_ast.specs.declared.section.ImportLine.{ImportLine}
 use Rattle.sc_ast.specs.declared.section.SectionTree.{SectionTree}
+use Rattle.sc_ast.specs.declared.stmt.StmtTree.{StmtTree}
+use Rattle.sc_scope.proofs.Lines.{among-append}
 use Rattle.sc_scope.specs.Declarations.{protos_in}
 use Rattle.sc_scope.specs.Prelude.{Text, among, are_distinct, function_names, heads_in, is_new, main_name, proto_names}
 use Rattle.sc_scope.specs.Prelude.{unless}
@@ -36,7 +40,8 @@ use Rattle.sc_performers.proofs.Declared.{all_heads, all_protos, decls_of, heads
 use Rattle.sc_performers.proofs.Distinct.{among_front, apart, back_distinct, first_new, front_distinct, is_false}
 use Rattle.sc_performers.proofs.Distinct.{not_both, not_from, rest_distinct}
 use Rattle.sc_performers.proofs.SectionFacts.{distinct_names, entries, entries_usable, entry_names, functions_named}
-use Rattle.sc_performers.proofs.SectionFacts.{imported_uses, names_declared, tree_names, use_holds, use_named, use_names}
+use Rattle.sc_performers.proofs.SectionFacts.{imported_uses, names_declared, tree_names, use_holds, use_named}
+use Rattle.sc_performers.proofs.SectionFacts.{use_names}
 use Rattle.sc_performers.proofs.SectionFacts.{uses_usable}
 use Rattle.sc_performers.proofs.SectionTypes.{not_defined}
 use Rattle.sc_performers.proofs.Uses.{IsAmong, first, is_first_or_later, later, none_among}
@@ -81,20 +86,20 @@ same_use u v [] distinct p q same = none_among u p
 same_use u v (w ∷ used) distinct p q same =
     by (is_first_or_later u w used p) (is_first_or_later v w used q)
     (λ p q. same_use u v used (rest_distinct w.1.name (use_names used) distinct) p q same) where
-  elsewhere : (x : Import × Proto) → IsAmong x used → bytes_eq x.1.name w.1.name ≡ true → ⊥
-  elsewhere x there e =
-      not_both (among (use_names used) w.1.name)
-      (subst (λ n. among (use_names used) n ≡ true) (same_text x.1.name w.1.name e) (use_named x used there))
-      (first_new w.1.name (use_names used) distinct)
+      elsewhere : (x : Import × Proto) → IsAmong x used → bytes_eq x.1.name w.1.name ≡ true → ⊥
+      elsewhere x there e =
+          not_both (among (use_names used) w.1.name)
+          (subst (λ n. among (use_names used) n ≡ true) (same_text x.1.name w.1.name e) (use_named x used there))
+          (first_new w.1.name (use_names used) distinct)
 
-  by : (u ≡ w) ⊎ IsAmong u used → (v ≡ w) ⊎ IsAmong v used → (IsAmong u used → IsAmong v used → v ≡ u) → v ≡ u
-  by (inl e) (inl f) both = f ∙ sym e
-  by (inl e) (inr f) both =
-      absurd (elsewhere v f (subst (λ x. bytes_eq v.1.name x.1.name ≡ true) e same))
-  by (inr e) (inl f) both =
-      absurd (elsewhere u e (same_either_way u.1.name w.1.name ∙
-      subst (λ x. bytes_eq x.1.name u.1.name ≡ true) f same))
-  by (inr e) (inr f) both = both e f
+      by : (u ≡ w) ⊎ IsAmong u used → (v ≡ w) ⊎ IsAmong v used → (IsAmong u used → IsAmong v used → v ≡ u) → v ≡ u
+      by (inl e) (inl f) both = f ∙ sym e
+      by (inl e) (inr f) both =
+          absurd (elsewhere v f (subst (λ x. bytes_eq v.1.name x.1.name ≡ true) e same))
+      by (inr e) (inl f) both =
+          absurd (elsewhere u e (same_either_way u.1.name w.1.name ∙
+          subst (λ x. bytes_eq x.1.name u.1.name ≡ true) f same))
+      by (inr e) (inr f) both = both e f
 
 -- What the text round a performing section must keep.
 pub record IsOffered (news : List SectionTree) (number : ℕ) (section : SectionTree) (interfaces : Interfaces)
@@ -122,9 +127,6 @@ module _ (interfaces : Interfaces) (comp : ℕ) (rows : List Row) (interface : I
 
   -- Exports.
 
-  abbrev Exported : Text → Type 0
-  Exported name = (among (entry_names all) name ≡ true) × (bytes_eq name main_name ≡ false) × (is_plain name ≡ true)
-
   exports_each : (functions before : List Text) (lines : List ExportLine) →
       AllByRecursion (λ n. (among functions n ≡ true) × (bytes_eq n main_name ≡ false) × (is_plain n ≡ true))
       (map {A = ExportLine} (λ line. line.name) lines) →
@@ -148,8 +150,9 @@ module _ (interfaces : Interfaces) (comp : ℕ) (rows : List Row) (interface : I
   protos_are =
       ap proto_names t.decls ∙ ap (map {A = HeadTree} (λ head. head.name))
       (all_protos_in t.heads) ∙ names_declared used t.heads t.are_heads where
-    all_protos_in : (heads : List HeadTree) → protos_in (decls_of heads (counter_at t.counter_line) t.functions) ≡ heads
-    all_protos_in heads = all_protos heads (counter_at t.counter_line) t.functions
+        all_protos_in : (heads : List HeadTree) →
+            protos_in (decls_of heads (counter_at t.counter_line) t.functions) ≡ heads
+        all_protos_in heads = all_protos heads (counter_at t.counter_line) t.functions
 
   imports_each : (others : List (Import × Proto)) (lines : List ImportLine) → AreImports interfaces others lines →
       (before : List Text) → ((u : Import × Proto) → IsAmong u others → IsAmong u used) →
@@ -159,7 +162,7 @@ module _ (interfaces : Interfaces) (comp : ℕ) (rows : List Row) (interface : I
       let here : IsAmong u used = there u (first more) in
       let usable : IsUsable u.1 = use_holds IsUsable u used (uses_usable interfaces comp rows interface is) here in
       let fits : import_fits (is_offered news number section (import_at interfaces u line))
-          (function_names section.decls) (proto_names section.decls) before (import_at interfaces u line) ≡ true =
+      (function_names section.decls) (proto_names section.decls) before (import_at interfaces u line) ≡ true =
       and_from (is_offered news number section (import_at interfaces u line)) _ ((offered u here).offered line)
       (and_from (is_new before u.1.name) _ (not_from (among before u.1.name) (new_there before u.1.name _ new))
       (and_from (is_new (function_names section.decls) u.1.name) _
@@ -189,13 +192,13 @@ module _ (interfaces : Interfaces) (comp : ℕ) (rows : List Row) (interface : I
       agrees_as news number section (head_at u.1 line) (import_at interfaces v at)) _
       (by (bytes_eq v.1.name u.1.name) refl)
       (imported_each u line here more rest h (λ w p. there w (later v more p))) where
-    by : (b : Bool) → bytes_eq v.1.name u.1.name ≡ b → (not b ||
-        agrees_as news number section (head_at u.1 line) (import_at interfaces v at)) ≡ true
-    by true same =
-        subst (λ w. agrees_as news number section (head_at u.1 line) (import_at interfaces w at) ≡ true)
-        (sym (same_use u v used (back_distinct (entry_names all) (use_names used) distinct) here
-        (there v (first more)) same)) ((offered u here).agrees line at)
-    by false other = refl
+        by : (b : Bool) → bytes_eq v.1.name u.1.name ≡ b → (not b ||
+            agrees_as news number section (head_at u.1 line) (import_at interfaces v at)) ≡ true
+        by true same =
+            subst (λ w. agrees_as news number section (head_at u.1 line) (import_at interfaces w at) ≡ true)
+            (sym (same_use u v used (back_distinct (entry_names all) (use_names used) distinct) here
+            (there v (first more)) same)) ((offered u here).agrees line at)
+        by false other = refl
 
   proto_holds : (u : Import × Proto) (line : ℕ) (front : List HeadTree) → IsAmong u used →
       among (map {A = HeadTree} (λ h. h.name) front) u.1.name ≡ false →
@@ -227,9 +230,163 @@ module _ (interfaces : Interfaces) (comp : ℕ) (rows : List Row) (interface : I
         let names = map {A = HeadTree} (λ h. h.name) front in
         let still : are_distinct (map {A = HeadTree} (λ h. h.name) (front ++ head ∷ []) ++ use_names more) ≡ true =
         subst (λ x. are_distinct (x ++ use_names more) ≡ true)
-        (sym (map-append {A = HeadTree} (λ h. h.name) front (head ∷ []))) (moved_on names u.1.name (use_names more) new) in
+        (sym (map-append {A = HeadTree} (λ h. h.name) front (head ∷ [])))
+        (moved_on names u.1.name (use_names more) new) in
         ap₂ (λ b y. unless b line ++ decls_from news number section mains y (map decl.Proto rest ++ decls))
         (proto_holds u line front here (new_there names u.1.name (use_names more) new) (only_protos front))
         (sym (map-append decl.Proto front (head ∷ []))) ∙
         protos_none more rest h (front ++ head ∷ []) decls (λ v p. there v (later u more p)) still ∙
         ap (λ x. decls_from news number section mains (map decl.Proto x) decls) (append_assoc front (head ∷ []) rest)
+
+    -- Functions.
+
+    abbrev head_names : List HeadTree → List Text
+    head_names heads = map {A = HeadTree} (λ h. h.name) heads
+
+    trees_named : (trees : List FunctionTree) → head_names (heads_of trees) ≡ tree_names trees
+    trees_named [] = refl
+    trees_named (tree ∷ trees) = ap (λ x. tree.head.name ∷ x) (trees_named trees)
+
+    abbrev MainHolds : Entry × Proto → Type 0
+    MainHolds e = (line close_line : ℕ) (body : List StmtTree) →
+        main_holds mains (head_of (function_at e.1 line close_line body).head) ≡ true
+
+    abbrev Unused : Entry × Proto → Type 0
+    Unused e = among (use_names used) e.1.name ≡ false
+
+    functions_none : (heads : List HeadTree) (at : ℕ) → head_names heads ≡ use_names used →
+        (others : List (Entry × Proto)) (rest : List FunctionTree) → AreFunctions interfaces rows others rest →
+        (front : List FunctionTree) → AllByRecursion MainHolds others → AllByRecursion Unused others →
+        are_distinct (tree_names front ++ entry_names others) ≡ true →
+        decls_from news number section mains (decls_of heads (counter_at at) front) (map decl.Function rest) ≡ []
+    functions_none heads at named others rest no_functions front main_ok unused new = refl
+    functions_none heads at named others rest (and_function entry f more trees line close body b h) front main_ok unused
+        new =
+        let tree = function_at f line close body in
+        let before = decls_of heads (counter_at at) front in
+        let names : head_names (heads_in before) ≡ use_names used ++ tree_names front =
+        ap head_names (all_heads heads (counter_at at) front) ∙
+        map-append {A = HeadTree} (λ h. h.name) heads (heads_of front) ∙
+        ap₂ (λ x y. x ++ y) named (trees_named front) in
+        let fresh : among (head_names (heads_in before)) f.name ≡ false =
+        ap (λ x. among x f.name) names ∙ among-append (use_names used) (tree_names front) f.name ∙
+        or_from (among (use_names used) f.name) (among (tree_names front) f.name) unused.0
+        (new_there (tree_names front) f.name (entry_names more) new) in
+        let fits : (head_holds news number section before (head_of tree.head) &&
+        main_holds mains (head_of tree.head)) ≡ true =
+        and_from (head_holds news number section before (head_of tree.head)) _
+        (and_from (agrees_with (heads_in before) (head_of tree.head)) _
+        (agrees_apart (heads_in before) (head_of tree.head) fresh)
+        (or_left (head_crosses (head_of tree.head)) _ (defined_crosses f line close body)))
+        (main_ok.0 line close body) in
+        let next : before ++ decl.Function tree ∷ [] ≡ decls_of heads (counter_at at) (front ++ tree ∷ []) =
+        append_assoc (map decl.Proto heads) (decl.Global (counter_at at) ∷ map decl.Function front)
+        (decl.Function tree ∷ []) ∙
+        ap (λ x. map decl.Proto heads ++ decl.Global (counter_at at) ∷ x)
+        (sym (map-append decl.Function front (tree ∷ []))) in
+        let still : are_distinct (tree_names (front ++ tree ∷ []) ++ entry_names more) ≡ true =
+        subst (λ x. are_distinct (x ++ entry_names more) ≡ true)
+        (sym (map-append {A = FunctionTree} (λ tree. tree.head.name) front (tree ∷ [])))
+        (moved_on (tree_names front) f.name (entry_names more) new) in
+        ap₂ (λ b y. unless b line ++ decls_from news number section mains y (map decl.Function trees)) fits next ∙
+        functions_none heads at named more trees h (front ++ tree ∷ []) main_ok.1 unused.1 still
+
+    -- what the entries keep
+
+    entry_there : (e : Entry × Proto) (others : List (Entry × Proto)) → IsAmong e others →
+        among (entry_names others) e.1.name ≡ true
+    entry_there e others (first xs) = or_left (bytes_eq e.1.name e.1.name) (among (entry_names xs) e.1.name)
+        (bytes_eq_self e.1.name)
+    entry_there e others (later y xs there) =
+        or_right (bytes_eq e.1.name y.1.name) (among (entry_names xs) e.1.name) (entry_there e xs there)
+
+    not_used : (e : Entry × Proto) → IsAmong e all → among (use_names used) e.1.name ≡ false
+    not_used e there =
+        is_false (among (use_names used) e.1.name) (λ twice.
+        not_both (among (entry_names all) e.1.name) (entry_there e all there)
+        (apart (entry_names all) (use_names used) e.1.name distinct twice))
+
+    all_unused : (others : List (Entry × Proto)) → ((e : Entry × Proto) → IsAmong e others → IsAmong e all) →
+        AllByRecursion Unused others
+    all_unused [] there = tt
+    all_unused (e ∷ others) there =
+        (not_used e (there e (first others)), all_unused others (λ x p. there x (later e others p)))
+
+    exports_main : (index : ℕ) (exports : List Proto) →
+        AllByRecursion (λ f. bytes_eq f.name main_name ≡ false) exports →
+        AllByRecursion MainHolds (entries_from index exports)
+    exports_main index [] h = tt
+    exports_main index (f ∷ exports) h = (
+      λ line close_line body. or_left (not (bytes_eq f.name main_name)) _ (ap not h.0),
+      exports_main (suc index) exports h.1,
+    )
+
+    main_main : (b : Bool) → (b ≡ true → mains ≡ false) →
+        AllByRecursion MainHolds (if b then (Main, main_proto) ∷ [] else [])
+    main_main true lone = ((λ line close_line body. ap (λ m. not m && true) (lone refl)), tt)
+    main_main false lone = tt
+
+    both_hold : (xs ys : List (Entry × Proto)) → AllByRecursion MainHolds xs → AllByRecursion MainHolds ys →
+        AllByRecursion MainHolds (xs ++ ys)
+    both_hold [] ys h k = k
+    both_hold (x ∷ xs) ys h k = (h.0, both_hold xs ys h.1 k)
+
+    pub decls_none : ((comp == interfaces.main) ≡ true → mains ≡ false) →
+        decls_from news number section mains [] section.decls ≡ []
+    decls_none lone =
+        let heads = t.heads in
+        let global = counter_at t.counter_line in
+        ap (decls_from news number section mains []) t.decls ∙
+        protos_none used heads t.are_heads [] (decl.Global global ∷ map decl.Function t.functions) (λ u p. p)
+        (back_distinct (entry_names all) (use_names used) distinct) ∙
+        functions_none heads t.counter_line (names_declared used heads t.are_heads) all t.functions t.are_functions []
+        (both_hold (entries_from 0 interface.exports) (main_entries interfaces comp)
+        (exports_main 0 interface.exports no_main) (main_main (comp == interfaces.main) lone))
+        (all_unused all (λ e p. p)) (front_distinct (entry_names all) (use_names used) distinct)
+
+  -- Exports of the interface.
+
+  exported_names : (index : ℕ) (exports : List Proto) → entry_names (entries_from index exports) ≡ names_of exports
+  exported_names index [] = refl
+  exported_names index (f ∷ exports) = ap (λ x. f.name ∷ x) (exported_names (suc index) exports)
+
+  names_split : entry_names all ≡ names_of interface.exports ++ entry_names (main_entries interfaces comp)
+  names_split =
+      map-append (λ e. e.1.name) (entries_from 0 interface.exports) (main_entries interfaces comp) ∙
+      ap (λ x. x ++ entry_names (main_entries interfaces comp)) (exported_names 0 interface.exports)
+
+  exports_usable : (index : ℕ) (exports : List Proto) (rest : List (Entry × Proto)) →
+      AllByRecursion (λ e. IsUsable e.1) (entries_from index exports ++ rest) → AllByRecursion IsUsable exports
+  exports_usable index [] rest h = tt
+  exports_usable index (f ∷ exports) rest h = (h.0, exports_usable (suc index) exports rest h.1)
+
+  together : (front exports : List Proto) (mains : List Text) →
+      AllByRecursion (λ n. among (names_of front ++ names_of exports) n ≡ true) (names_of exports) →
+      AllByRecursion (λ f. bytes_eq f.name main_name ≡ false) exports → AllByRecursion IsUsable exports →
+      AllByRecursion (λ n. (among ((names_of front ++ names_of exports) ++ mains) n ≡ true) ×
+      (bytes_eq n main_name ≡ false) × (is_plain n ≡ true)) (names_of exports)
+  together front exports mains there no_main usable =
+      each (names_of front ++ names_of exports) exports there no_main usable where
+        each : (names : List Text) (exports : List Proto) →
+            AllByRecursion (λ n. among names n ≡ true) (names_of exports) →
+            AllByRecursion (λ f. bytes_eq f.name main_name ≡ false) exports → AllByRecursion IsUsable exports →
+            AllByRecursion (λ n. (among (names ++ mains) n ≡ true) × (bytes_eq n main_name ≡ false) ×
+            (is_plain n ≡ true)) (names_of exports)
+        each names [] there no_main usable = tt
+        each names (f ∷ exports) there no_main usable = (
+          (among_front names mains f.name there.0, no_main.0, usable.0.plain),
+          each names exports there.1 no_main.1 usable.1,
+        )
+
+  pub exports_none : exports_from news number section [] section.exports ≡ []
+  exports_none =
+      let mains = entry_names (main_entries interfaces comp) in
+      exports_each (names_of interface.exports ++ mains) [] section.exports
+      (subst (AllByRecursion (λ n. (among (names_of interface.exports ++ mains) n ≡ true) ×
+      (bytes_eq n main_name ≡ false) × (is_plain n ≡ true))) (sym t.exports)
+      (together [] interface.exports mains (each_there [] (names_of interface.exports)) no_main
+      (exports_usable 0 interface.exports (main_entries interfaces comp)
+      (entries_usable interfaces comp rows interface is))))
+      (subst (λ x. are_distinct x ≡ true) (sym t.exports)
+      (front_distinct (names_of interface.exports) mains (subst (λ x. are_distinct x ≡ true) names_split
+      (front_distinct (entry_names all) (use_names used) distinct)))) (functions_are ∙ names_split)
