@@ -24,3 +24,4 @@ pub mod CountsKept
 pub mod Examples
 pub mod LegalRows
 pub mod BackFaces
+pub mod Fitting
