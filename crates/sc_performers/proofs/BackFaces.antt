@@ -1,9 +1,9 @@
 -- A performing section breaks no rule of interfaces, where what it imports is offered and agrees.
-use Rattle.std.proofs.Common.{Bool, List, None, Option, Some, [], ◌∷◌, ◌++◌, ◌≡◌, ◌∙◌, ◌&&◌, ◌||◌, ◌==◌, ℕ, suc, ap}
+use Rattle.std.proofs.Common.{Bool, List, [], ◌∷◌, ◌++◌, ◌≡◌, ◌∙◌, ◌&&◌, ◌||◌, ◌==◌, ℕ, suc, ap}
 use Rattle.std.proofs.Common.{ap₂, append_assoc}
 use Rattle.std.proofs.Common.{append-nil, bytes_eq, false, if◌then◌else◌, inl, inr, map, not, refl, subst, sym, true}
 use Rattle.std.proofs.Common.{◌⊎◌}
-use Rattle.std.proofs.lemmas.Bool.{and_from, false≢true, or_left, or_right, or_parts, or_from}
+use Rattle.std.proofs.lemmas.Bool.{and_from, or_left, or_right, or_parts, or_from}
 use Rattle.std.proofs.lemmas.List.{map-append}
 use Rattle.std.specs.List.{AllByRecursion, list_all}
 use Rattle.sc_base.proofs.Texts.{bytes_eq_self, same_either_way, same_text}
@@ -27,8 +27,8 @@ use Rattle.sc_scope.proofs.Lines.{among-append}
 use Rattle.sc_scope.specs.Declarations.{protos_in}
 use Rattle.sc_scope.specs.Prelude.{Text, among, are_distinct, function_names, heads_in, is_new, main_name, proto_names}
 use Rattle.sc_scope.specs.Prelude.{unless}
-use Rattle.sc_interfaces.specs.Faces.{agree, agrees_as, agrees_with, decl_lines, decls_from, export_fits, exports_from}
-use Rattle.sc_interfaces.specs.Faces.{head_crosses, head_fits, head_holds, import_fits, imported_agrees, imports_from}
+use Rattle.sc_interfaces.specs.Faces.{agree, agrees_as, agrees_with, decls_from, export_fits, exports_from}
+use Rattle.sc_interfaces.specs.Faces.{head_crosses, head_holds, import_fits, imported_agrees, imports_from}
 use Rattle.sc_interfaces.specs.Faces.{is_offered, is_plain, main_holds}
 use Rattle.sc_back.specs.Text.{main_proto}
 use Rattle.sc_performers.specs.Performer.{IsPerformer, IsUsable, names_of}
