@@ -123,7 +123,7 @@ agree_if head other = not (bytes_eq other.name head.name) || agree other head
 either_way : (a b : HeadTree) → agree_if a b ≡ agree_if b a
 either_way a b = λ i. not (same_either_way b.name a.name i) || agree_symm b a i
 
-all_front : (xs ys : List HeadTree) (p : HeadTree → Bool) → list_all p xs ≡ true → list_all p ys ≡ true →
+pub all_front : (xs ys : List HeadTree) (p : HeadTree → Bool) → list_all p xs ≡ true → list_all p ys ≡ true →
     list_all p (xs ++ ys) ≡ true
 all_front [] ys p h k = k
 all_front (x ∷ xs) ys p h k = and_from _ _ (and_first _ _ h) (all_front xs ys p (and_rest (p x) _ h) k)

@@ -25,3 +25,5 @@ pub mod Examples
 pub mod LegalRows
 pub mod BackFaces
 pub mod Fitting
+pub mod OneMain
+pub mod ReplacedSeen

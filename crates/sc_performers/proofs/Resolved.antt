@@ -76,6 +76,18 @@ with_alike heads x y name same h = sym (all_same heads) ∙ h where
   all_same [] = refl
   all_same (other ∷ heads) = λ i. one_same other i && all_same heads i
 
+unless_other : (a b : Bool) → (not a || b) ≡ true → a ≡ true → b ≡ true
+unless_other true b h is = h
+unless_other false b h is = absurd (false≢true is)
+
+agrees_among : (head x : HeadTree) (heads : List HeadTree) → agrees_with heads head ≡ true → IsAmong x heads →
+    x.name ≡ head.name → agree x head ≡ true
+agrees_among head x heads h (first rest) named =
+    unless_other (bytes_eq x.name head.name) (agree x head) (and_first _ _ h)
+    (subst (λ n. bytes_eq x.name n ≡ true) named (bytes_eq_self x.name))
+agrees_among head x heads h (later y rest there) named =
+    agrees_among head x rest (and_rest (not (bytes_eq y.name head.name) || agree y head) _ h) there named
+
 pub promise_name : (name : Text) (found : Option FunctionTree) → (promised name found).name ≡ name
 promise_name name None = refl
 promise_name name (Some tree) = refl
@@ -87,6 +99,9 @@ pub record IsPromised (section : SectionTree) (line : ExportLine) : Type 0 where
   pub named : tree.head.name ≡ line.name
   pub crosses : head_crosses (head_of tree.head) ≡ true
   pub agrees : agrees_with (heads_in section.decls) (head_of tree.head) ≡ true
+  -- and so does each head of the name that agrees with all of them
+  pub with_head : (head : HeadTree) → tree.head.name ≡ head.name → agrees_with (heads_in section.decls) head ≡ true →
+      agree (head_of tree.head) head ≡ true
   pub few : length (proto_of section line).params ≤ 8
 
 -- What an import line leads to.
@@ -225,6 +240,8 @@ module _ (olds : List SectionTree) where
           named = same_text function.tree.head.name line.name function.named;
           crosses = crossing olds facts_at j section got index line there fact;
           agrees = all_agree (head_of function.tree.head) [] (heads_in section.decls) agreed_at is_head;
+          with_head = λ head named agrees. agrees_among head (head_of function.tree.head) (heads_in section.decls)
+              agrees is_head named;
           few = few_params;
         }
 
