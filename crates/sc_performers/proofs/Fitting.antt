@@ -5,7 +5,6 @@ use Rattle.std.proofs.lemmas.Bool.{false≢true}
 use Rattle.std.proofs.lemmas.List.{map-append}
 use Rattle.std.proofs.lemmas.List.Elements.{All-from_recursion}
 use Rattle.std.specs.List.{AllByRecursion, cons_option, filter_map, list_any}
-
 use Rattle.std.specs.Prelude.{All}
 use Rattle.sc_base.proofs.Bools.{and_first, and_rest}
 use Rattle.sc_base.proofs.Texts.{same_text}
@@ -135,8 +134,8 @@ module _ (olds : List SectionTree) (in_faces : interface_broken olds ≡ []) (in
   main_here is =
       let same = eqb-true number interfaces.main is in
       main_at 0 olds number old some_main got (sym same ∙ zero_plus number) where
-    zero_plus : (n : ℕ) → n ≡ 0 + n
-    zero_plus n = omega arith
+        zero_plus : (n : ℕ) → n ≡ 0 + n
+        zero_plus n = omega arith
 
   pub all_resolved : Each (IsResolved olds number old) old.imports
   all_resolved =

@@ -101,26 +101,26 @@ module _ (sections : List SectionTree) where
       by (defines_main s) refl i got other
       (λ some. none_behind (suc k) (before ++ s ∷ []) rest behind (last_any before s some))
       (λ none_here. main_once (suc k) (before ++ s ∷ []) rest behind (none_snoc before s none none_here)) where
-    behind : lines_from sections (suc k) (before ++ s ∷ []) rest ≡ []
-    behind =
-        back_empty (map (line_of_text s.line) (section_lines sections k s (list_any defines_main before) before)) _ h
+        behind : lines_from sections (suc k) (before ++ s ∷ []) rest ≡ []
+        behind =
+            back_empty (map (line_of_text s.line) (section_lines sections k s (list_any defines_main before) before)) _ h
 
-    same : (n : ℕ) → (n + 0 == n) ≡ true
-    same n = eq-eqb (n + 0) n (omega arith)
+        same : (n : ℕ) → (n + 0 == n) ≡ true
+        same n = eq-eqb (n + 0) n (omega arith)
 
-    shift : (n m : ℕ) → n + suc m ≡ suc n + m
-    shift n m = omega arith
+        shift : (n m : ℕ) → n + suc m ≡ suc n + m
+        shift n m = omega arith
 
-    by : (b : Bool) → defines_main s ≡ b → (i : ℕ) → slice_get (s ∷ rest) i ≡ Some x →
-        (k + i == (if b then k else main_from (suc k) rest)) ≡ false →
-        (defines_main s ≡ true → Each (λ s. defines_main s ≡ false) rest) →
-        (defines_main s ≡ false → (i : ℕ) (x : SectionTree) → slice_get rest i ≡ Some x →
-        (suc k + i == main_from (suc k) rest) ≡ false → defines_main x ≡ false) → defines_main x ≡ false
-    by true is zero got other all next = absurd (false≢true (sym other ∙ same k))
-    by true is (suc i) got other all next = each_at (λ s. defines_main s ≡ false) rest i x (all is) got
-    by false is zero got other all next = subst (λ z. defines_main z ≡ false) (some_is s x got) is
-    by false is (suc i) got other all next =
-        next is i x got (subst (λ n. (n == main_from (suc k) rest) ≡ false) (shift k i) other)
+        by : (b : Bool) → defines_main s ≡ b → (i : ℕ) → slice_get (s ∷ rest) i ≡ Some x →
+            (k + i == (if b then k else main_from (suc k) rest)) ≡ false →
+            (defines_main s ≡ true → Each (λ s. defines_main s ≡ false) rest) →
+            (defines_main s ≡ false → (i : ℕ) (x : SectionTree) → slice_get rest i ≡ Some x →
+            (suc k + i == main_from (suc k) rest) ≡ false → defines_main x ≡ false) → defines_main x ≡ false
+        by true is zero got other all next = absurd (false≢true (sym other ∙ same k))
+        by true is (suc i) got other all next = each_at (λ s. defines_main s ≡ false) rest i x (all is) got
+        by false is zero got other all next = subst (λ z. defines_main z ≡ false) (some_is s x got) is
+        by false is (suc i) got other all next =
+            next is i x got (subst (λ n. (n == main_from (suc k) rest) ≡ false) (shift k i) other)
 
   -- it is the one that the interfaces name
   pub main_only : lines_from sections 0 [] sections ≡ [] → (number : ℕ) (section : SectionTree) →
@@ -129,5 +129,5 @@ module _ (sections : List SectionTree) where
   main_only h number section got other =
       main_once 0 [] sections h refl number section got
       (subst (λ n. (n == main_from 0 sections) ≡ false) (none_more number) other) where
-    none_more : (n : ℕ) → n ≡ 0 + n
-    none_more n = omega arith
+        none_more : (n : ℕ) → n ≡ 0 + n
+        none_more n = omega arith

@@ -378,26 +378,26 @@ module _ (olds : List SectionTree) (in_faces : interface_broken olds ≡ []) (in
       is_false (among (use_names used) head.name) (λ imported. false≢true
       (sym (apart (entry_names entries) (use_names used) head.name distinct imported) ∙ own_there))))
       (functions_agree faces rows head entries t.functions t.are_functions agree_at)) where
-    own_there : among (entry_names entries) head.name ≡ true
-    own_there =
-        ap (λ ns. among ns head.name) (sym new_names ∙ own_names) ∙
-        among_front (export_names old) (if number == faces.main then main_name ∷ [] else []) head.name there
+        own_there : among (entry_names entries) head.name ≡ true
+        own_there =
+            ap (λ ns. among ns head.name) (sym new_names ∙ own_names) ∙
+            among_front (export_names old) (if number == faces.main then main_name ∷ [] else []) head.name there
 
-    all_exports : Each (Agrees head) exports
-    all_exports =
-        each_mapped (Agrees head) (proto_of old) old.exports
-        (each_map (IsPromised old) (λ line. Agrees head (proto_of old line))
-        (λ line p. export_agrees head agrees line p) old.exports
-        (all_promised olds in_faces in_counts number old got))
+        all_exports : Each (Agrees head) exports
+        all_exports =
+            each_mapped (Agrees head) (proto_of old) old.exports
+            (each_map (IsPromised old) (λ line. Agrees head (proto_of old line))
+            (λ line p. export_agrees head agrees line p) old.exports
+            (all_promised olds in_faces in_counts number old got))
 
-    by : (e : Entry × Proto) → IsExportOrMain exports e.1 → Agrees head e.1
-    by e (inl export) = each_in (Agrees head) e.1 exports all_exports export
-    by e (inr is_main) = λ named line close body.
-        absurd (false≢true (sym (no_export_main old.exports fact.exports) ∙
-        ap (among (export_names old)) (sym (ap (λ f. f.name) is_main) ∙ named) ∙ there))
+        by : (e : Entry × Proto) → IsExportOrMain exports e.1 → Agrees head e.1
+        by e (inl export) = each_in (Agrees head) e.1 exports all_exports export
+        by e (inr is_main) = λ named line close body.
+            absurd (false≢true (sym (no_export_main old.exports fact.exports) ∙
+            ap (among (export_names old)) (sym (ap (λ f. f.name) is_main) ∙ named) ∙ there))
 
-    agree_at : (e : Entry × Proto) → IsAmong e entries → Agrees head e.1
-    agree_at e among_them = by e (entry_is (number == faces.main) 0 exports e among_them)
+        agree_at : (e : Entry × Proto) → IsAmong e entries → Agrees head e.1
+        agree_at e among_them = by e (entry_is (number == faces.main) 0 exports e among_them)
 
   pub seen : IsSeenAs old new
   seen = record {

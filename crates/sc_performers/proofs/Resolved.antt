@@ -284,29 +284,29 @@ module _ (olds : List SectionTree) where
           ap (agrees_there olds number old (head_at f line)) o.is ∙
           with_alike (heads_in o.section.decls) (head_of promise.tree.head) (head_at f line)
           (promise.named ∙ sym (promise_name export.item.name _)) (same line) promise.agrees) where
-        export : FoundBy {A = ExportLine} (λ line. line.name) a.name o.section.exports
-        export =
-            found_by {A = ExportLine} (λ line. line.name) a.name o.section.exports
-            (and_rest (not (o.number == number)) _ (and_rest (bytes_eq o.section.name a.comp) _ o.offers))
+            export : FoundBy {A = ExportLine} (λ line. line.name) a.name o.section.exports
+            export =
+                found_by {A = ExportLine} (λ line. line.name) a.name o.section.exports
+                (and_rest (not (o.number == number)) _ (and_rest (bytes_eq o.section.name a.comp) _ o.offers))
 
-        f : Proto
-        f = proto_of o.section export.item
+            f : Proto
+            f = proto_of o.section export.item
 
-        promise : IsPromised o.section export.item
-        promise = promised_at o.number o.section o.got export.at export.item export.got
+            promise : IsPromised o.section export.item
+            promise = promised_at o.number o.section o.got export.at export.item export.got
 
-        import_is : import_of olds number a ≡ import.Function o.number export.at
-        import_is =
-            ap (λ b. import_by b (bytes_eq a.name input_name)) env ∙ ap (offered a) o.is ∙
-            ap (λ n. import.Function o.number (number_or_zero n)) export.place
+            import_is : import_of olds number a ≡ import.Function o.number export.at
+            import_is =
+                ap (λ b. import_by b (bytes_eq a.name input_name)) env ∙ ap (offered a) o.is ∙
+                ap (λ n. import.Function o.number (number_or_zero n)) export.place
 
-        name : f.name ≡ a.name
-        name = promise_name export.item.name _ ∙ sym (same_text a.name export.item.name export.named)
+            name : f.name ≡ a.name
+            name = promise_name export.item.name _ ∙ sym (same_text a.name export.item.name export.named)
 
-        same : (line : ℕ) → agree (head_of promise.tree.head) (head_at f line) ≡ true
-        same line =
-            subst (λ p. agree (head_of promise.tree.head) (head_at p line) ≡ true) (sym promise.is)
-            (promise_declared export.item.name promise.tree promise.crosses line)
+            same : (line : ℕ) → agree (head_of promise.tree.head) (head_at f line) ≡ true
+            same line =
+                subst (λ p. agree (head_of promise.tree.head) (head_at p line) ≡ true) (sym promise.is)
+                (promise_declared export.item.name promise.tree promise.crosses line)
 
       pub resolved : is_offered olds number old a ≡ true → IsResolved olds number old a
       resolved =
