@@ -81,7 +81,10 @@ fitting = (
       record { numbered = omega arith; may = of_entry (may_do (Ret (Some 22))) f (refl, omega arith) },
       (
         record { numbered = omega arith; may = of_entry (may_do (Out 7)) main_proto (refl, omega arith) },
-        (record { numbered = omega arith; may = of_entry (may_do (End 4294967291)) main_proto (refl, omega arith) }, tt),
+        (
+          record { numbered = omega arith; may = of_entry (may_do (End 4294967291)) main_proto (refl, omega arith) },
+          tt,
+        ),
       ),
     ),
   ),

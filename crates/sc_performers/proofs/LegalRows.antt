@@ -1,5 +1,5 @@
 -- The rows of a part of a legal trace are such as a section can perform.
-use Rattle.std.proofs.Common.{Bool, List, None, Option, Some, [], ◌&&◌, ◌+◌, ◌<◌, ◌==◌, ◌^◌, ◌∙◌, ◌∷◌, ◌≡◌, ◌≤◌, ℕ, ap}
+use Rattle.std.proofs.Common.{Bool, List, None, Option, Some, [], ◌+◌, ◌==◌, ◌∙◌, ◌∷◌, ◌≡◌, ◌≤◌, ℕ, ap}
 use Rattle.std.proofs.Common.{arith, eqb-true, false, if◌then◌else◌, length, refl, subst, suc, sym, true}
 use Rattle.std.proofs.lemmas.Bool.{and_parts, false≢true}
 use Rattle.std.proofs.lemmas.List.Elements.{All-from_recursion, recursion_from_All}
@@ -7,7 +7,7 @@ use Rattle.std.proofs.lemmas.Option.{none-some}
 use Rattle.std.specs.List.{AllByRecursion}
 use Rattle.std.specs.Option.{option_map_or}
 use Rattle.sc_event.specs.Legal.{is_outermost}
-use Rattle.sc_event.specs.Prelude.{Activation, Standing, action_of, at_start, awaits, export_at, fits_result}
+use Rattle.sc_event.specs.Prelude.{Activation, Standing, action_of, at_start, awaits, fits_result}
 use Rattle.sc_event.specs.Prelude.{imports, is_allowed, is_function, is_legal_from, legal, may_perform, may_return}
 use Rattle.sc_event.specs.Prelude.{performer, resumed, rows_from, stands_after, takes}
 use Rattle.sc_event.specs.declared.event.Event.{Event}
@@ -17,7 +17,7 @@ use Rattle.sc_event.specs.declared.interface.Proto.{Proto}
 use Rattle.sc_event.specs.declared.interface.Scalar.TheVariants.{Int}
 use Rattle.sc_event.specs.declared.row.Entry.{Entry}
 use Rattle.sc_event.specs.declared.row.Entry.TheVariants.{Export, Main}
-use Rattle.sc_replay.specs.Replay.{HasWords, IsWord, main_proto, proto_of}
+use Rattle.sc_replay.specs.Replay.{HasWords, main_proto, proto_of}
 use Rattle.sc_performers.specs.Laws.{LegalRowsFit}
 use Rattle.sc_performers.specs.Performer.{FitsRow, IsWordOrNone, MayDo}
 
