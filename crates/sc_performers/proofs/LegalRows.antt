@@ -8,7 +8,7 @@ use Rattle.std.specs.List.{AllByRecursion}
 use Rattle.std.specs.Option.{option_map_or}
 use Rattle.sc_event.specs.Legal.{is_outermost}
 use Rattle.sc_event.specs.Prelude.{Activation, Standing, action_of, at_start, awaits, fits_result}
-use Rattle.sc_event.specs.Prelude.{imports, is_allowed, is_function, is_legal_from, legal, may_perform, may_return}
+use Rattle.sc_event.specs.Prelude.{imports, is_allowed, is_function, is_legal_from, may_perform, may_return}
 use Rattle.sc_event.specs.Prelude.{performer, resumed, rows_from, stands_after, takes}
 use Rattle.sc_event.specs.declared.event.Event.{Event}
 use Rattle.sc_event.specs.declared.event.Event.TheVariants.{Call, Ret, Out, In, End}
