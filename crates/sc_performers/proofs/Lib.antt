@@ -32,3 +32,4 @@ pub mod ReplacedHolds
 pub mod Turned
 pub mod Recomposed
 pub mod PartsPerform
+pub mod EmptyTrace
