@@ -1,13 +1,14 @@
 -- A text that grows by what each item of a list adds.
 use Rattle.std.proofs.Common.{◌≡◌, ℕ, ◌+◌, ◌<◌, Bool, true, false, List, [], ◌∷◌, ◌++◌, length, drop, refl, sym, ap}
-use Rattle.std.proofs.Common.{◌∙◌, append_assoc, Option, flat_map, if◌then◌else◌}
+use Rattle.std.proofs.Common.{◌∙◌, append_assoc, Option, codes, flat_map, if◌then◌else◌}
 use Rattle.std.specs.Prelude.{filter, slice_index_or}
+use Rattle.sc_event.specs.declared.interface.Interface.{Interface}
 use Rattle.sc_event.specs.declared.interface.Interfaces.{Interfaces}
 use Rattle.sc_event.specs.declared.interface.Scalar.{Scalar}
 use Rattle.sc_event.specs.declared.row.Entry.{Entry}
 use Rattle.sc_event.specs.declared.row.Row.{Row}
-use Rattle.sc_back.specs.Rows.{own_rows_text}
-use Rattle.sc_back.specs.Text.{is_of, row_text}
+use Rattle.sc_back.specs.Rows.{declarations_text, directives_text, own_rows_text}
+use Rattle.sc_back.specs.Text.{export_text, import_text, is_of, row_text, section_text}
 use Rattle.std.proofs.lemmas.List.{at_drop_more}
 
 -- one item further
@@ -55,3 +56,17 @@ own_rows interfaces result entry (row ∷ rows) =
           flat_map (row_text interfaces result) (if own then row ∷ filter (is_of entry) rows else filter (is_of entry) rows)
       split true h = ap (λ t. row_text interfaces result row ++ t) h
       split false h = h
+
+-- the two parts of a section make it whole
+pub whole_section : (interfaces : Interfaces) (comp : ℕ) (rows : List Row) (interface : Interface)
+    (old one two : List ℕ) → one ≡ old ++ directives_text interfaces interface →
+    two ≡ one ++ declarations_text interfaces comp rows interface →
+    two ≡ old ++ section_text interfaces comp rows interface
+whole_section interfaces comp rows interface old one two first second =
+    let behind : List ℕ = declarations_text interfaces comp rows interface in
+    let exports : List ℕ = flat_map export_text interface.exports in
+    let imports : List ℕ = flat_map (import_text interfaces) interface.imports in
+    let mark : List ℕ = codes "#pragma compartment " in
+    second ∙ ap (λ t. t ++ behind) first ∙ append_assoc old (directives_text interfaces interface) behind ∙
+    ap (λ t. old ++ (mark ++ t)) (append_assoc interface.name (codes "\n" ++ (exports ++ imports)) behind ∙
+    ap (λ t. interface.name ++ (codes "\n" ++ t)) (append_assoc exports imports behind))

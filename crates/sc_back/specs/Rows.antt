@@ -1,11 +1,12 @@
--- Helping: rows one by one.
-use Rattle.std.specs.Prelude.{ℕ, suc, ◌<◌, ◌^◌, if◌then◌else◌, List, [], flat_map, Option, None, Some}
+-- Helping: rows one by one, and a section in two parts.
+use Rattle.std.specs.Prelude.{ℕ, suc, ◌<◌, ◌^◌, ◌++◌, if◌then◌else◌, codes, List, [], flat_map, Option, None, Some}
+use Rattle.sc_event.specs.declared.interface.Interface.{Interface}
 use Rattle.sc_event.specs.declared.interface.Interfaces.{Interfaces}
 use Rattle.sc_event.specs.declared.interface.Scalar.{Scalar}
 use Rattle.sc_event.specs.declared.row.Entry.{Entry}
 use Rattle.sc_event.specs.declared.row.Entry.TheVariants.{Export, Main}
 use Rattle.sc_event.specs.declared.row.Row.{Row}
-use Rattle.sc_back.specs.Text.{is_of, row_text}
+use Rattle.sc_back.specs.Text.{export_text, functions_text, import_text, is_of, main_text, proto_text, row_text}
 
 -- the number behind that of a row is a word
 abbrev pub HasNext : Row → Type 0
@@ -22,3 +23,13 @@ own_row_text interfaces result entry row = if is_of entry row then row_text inte
 
 abbrev pub own_rows_text : Interfaces → Option Scalar → Entry → List Row → List ℕ
 own_rows_text interfaces result entry rows = flat_map (own_row_text interfaces result entry) rows
+
+abbrev pub directives_text : Interfaces → Interface → List ℕ
+directives_text interfaces interface =
+    codes "#pragma compartment " ++ (interface.name ++ (codes "\n" ++
+    (flat_map export_text interface.exports ++ flat_map (import_text interfaces) interface.imports)))
+
+abbrev pub declarations_text : Interfaces → (comp : ℕ) → List Row → Interface → List ℕ
+declarations_text interfaces comp rows interface =
+    flat_map (proto_text interfaces) interface.imports ++ (codes "unsigned int bt_n;\n" ++
+    (functions_text interfaces rows 0 interface.exports ++ main_text interfaces comp rows))

@@ -148,20 +148,13 @@ abbrev pub main_text : Interfaces → ℕ → List Row → List ℕ
 main_text interfaces comp rows =
     if comp == interfaces.main then function_text interfaces rows Main main_proto else []
 
-abbrev pub directives_text : Interfaces → Interface → List ℕ
-directives_text interfaces interface =
-    codes "#pragma compartment " ++ (interface.name ++ (codes "\n" ++
-    (flat_map export_text interface.exports ++ flat_map (import_text interfaces) interface.imports)))
-
-abbrev pub declarations_text : Interfaces → ℕ → List Row → Interface → List ℕ
-declarations_text interfaces comp rows interface =
-    flat_map (proto_text interfaces) interface.imports ++ (codes "unsigned int bt_n;\n" ++
-    (functions_text interfaces rows 0 interface.exports ++ main_text interfaces comp rows))
-
 -- the section of a compartment with this interface
 abbrev pub section_text : Interfaces → ℕ → List Row → Interface → List ℕ
 section_text interfaces comp rows interface =
-    directives_text interfaces interface ++ declarations_text interfaces comp rows interface
+    codes "#pragma compartment " ++ (interface.name ++ (codes "\n" ++
+    (flat_map export_text interface.exports ++ (flat_map (import_text interfaces) interface.imports ++
+    (flat_map (proto_text interfaces) interface.imports ++ (codes "unsigned int bt_n;\n" ++
+    (functions_text interfaces rows 0 interface.exports ++ main_text interfaces comp rows)))))))
 
 -- the text by which a compartment performs these rows
 abbrev pub back_text : Interfaces → (comp : ℕ) → List Row → List ℕ

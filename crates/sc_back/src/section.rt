@@ -4,9 +4,9 @@ ghost use Rattle.std.specs.Prelude.{◌≡◌, ◌≤◌, ◌++◌, All, codes, 
 ghost use Rattle.std.specs.Option.{option_copied, option_map_or};
 ghost use Rattle.sc_event.specs.Prelude.{comp_name};
 ghost use Rattle.sc_event.specs.declared.interface.Import.TheVariants.{Function};
-ghost use Rattle.sc_back.specs.Rows.{HasNext};
-ghost use Rattle.sc_back.specs.Text.{back_text, declarations_text, directives_text, export_text, functions_text, import_line, import_text, main_text};
-ghost use Rattle.sc_back.specs.Text.{proto_line, proto_text};
+ghost use Rattle.sc_back.specs.Rows.{HasNext, declarations_text, directives_text};
+ghost use Rattle.sc_back.specs.Text.{back_text, export_text, functions_text, import_line, import_text, main_text};
+ghost use Rattle.sc_back.specs.Text.{proto_line, proto_text, section_text};
 
 use crate::function::{Performer, append_function};
 use crate::head::append_head;
@@ -207,6 +207,21 @@ fn append_declarations(
     Ok(())
 }
 
+fn append_section(
+    text: &mut Text,
+    interfaces: &Interfaces,
+    comp: CompId,
+    rows: &[Row],
+    interface: &Interface,
+) -> Result<(), OutOfMemory>
+    requires { All HasNext rows.now }
+    ensures { OnOk result (text.new ≡ text.old ++ section_text interfaces.now comp rows.now interface.now) }
+{
+    append_directives(text, interfaces, interface)?;
+    append_declarations(text, interfaces, comp, rows, interface)?;
+    Ok(())
+}
+
 /// The text of a section by which a compartment performs these rows and nothing else: it tests a counter of its actions
 /// before each. Empty where there is no such compartment.
 pub fn back_section(
@@ -220,8 +235,7 @@ pub fn back_section(
 {
     let mut text = Text::new(alloc);
     if let Some(interface) = interfaces.comp(comp) {
-        append_directives(&mut text, interfaces, interface)?;
-        append_declarations(&mut text, interfaces, comp, rows, interface)?;
+        append_section(&mut text, interfaces, comp, rows, interface)?;
     }
     Ok(text)
 }

@@ -1,11 +1,14 @@
 -- A text in which compartments perform their parts of a trace is accepted, and means what their scripts say.
 use Rattle.std.proofs.Common.{◌≡◌, ℕ, suc, ◌<◌, ◌≤◌, Bool, true, false, List, [], ◌∷◌, ◌++◌, length, All, refl, sym, ◌∙◌, ap, subst, arith}
-use Rattle.std.specs.List.{AllByRecursion, concat}
+use Rattle.std.specs.Prelude.{nat_le}
+use Rattle.std.specs.List.{AllByRecursion, AllZip, concat, list_all}
+use Rattle.std.proofs.lemmas.Bool.{le-leb}
 use Rattle.std.proofs.lemmas.List.Elements.{All-from_recursion, recursion_from_All}
 use Rattle.sc_event.specs.Prelude.{legal, part}
 use Rattle.sc_event.specs.declared.event.Event.{Event}
 use Rattle.sc_event.specs.declared.interface.Interfaces.{Interfaces}
 use Rattle.sc_event.specs.declared.row.Row.{Row}
+use Rattle.sc_ast.specs.Prelude.{section_height}
 use Rattle.sc_ast.specs.declared.section.ImportLine.{ImportLine}
 use Rattle.sc_ast.specs.declared.section.SectionTree.{SectionTree}
 use Rattle.sc_core.specs.Prelude.{IsWellTyped, meaning, scripted_meaning}
@@ -14,10 +17,9 @@ use Rattle.sc_core.specs.declared.program.ProgramTree.{ProgramTree}
 use Rattle.sc_core.specs.declared.run.RunEnd.TheVariants.{Blamed}
 use Rattle.sc_elab.specs.Prelude.{program_of}
 use Rattle.sc_scope.specs.Prelude.{interfaces_from}
-use Rattle.sc_read.specs.Reading.{Reads}
-use Rattle.sc_types.specs.Acceptance.{Accepts, IsTyped}
+use Rattle.sc_read.specs.Reading.{IsRead, Part, Reads}
+use Rattle.sc_types.specs.Acceptance.{Accepts, AreLow, IsTyped}
 use Rattle.sc_types.specs.Source.{IsSource, IsSplitInto, SourceParts}
-use Rattle.sc_types.proofs.Readings.{reads_low}
 use Rattle.sc_types.proofs.Whole.{well_typed}
 use Rattle.sc_back.specs.Sections.{new_texts}
 use Rattle.sc_replay.specs.Replay.{HasWords, IsRecomposed, IsReplay}
@@ -54,6 +56,18 @@ as_many_interfaces : (sections : List SectionTree) (k : ℕ) (rest : List Sectio
 as_many_interfaces sections k [] = refl
 as_many_interfaces sections k (tree ∷ rest) = ap suc (as_many_interfaces sections (suc k) rest)
 
+-- no tree of a text is high
+low_from : (text : List ℕ) (parts : List Part) (trees : List SectionTree) → AllZip (IsRead text) parts trees →
+    list_all {X = SectionTree} (λ tree. nat_le (section_height tree) 256) trees ≡ true
+low_from text [] [] h = refl
+low_from text [] (tree ∷ trees) h = absurd h
+low_from text (part ∷ parts) [] h = absurd h
+low_from text (part ∷ parts) (tree ∷ trees) h =
+    rw (le-leb (section_height tree) 256 h.0.parsed.low, low_from text parts trees h.1) refl
+
+reads_low : (text : List ℕ) (trees : List SectionTree) → Reads text trees → AreLow trees
+reads_low text trees r = low_from text r.sections trees r.each
+
 module _ (source : SourceParts) (trace : List Event) (is : IsSource source)
     (allowed : legal source.program.interfaces trace ≡ true) (few : length trace ≤ 4096) (words : All HasWords trace) where
   abbrev trees : List SectionTree
@@ -65,25 +79,25 @@ module _ (source : SourceParts) (trace : List Event) (is : IsSource source)
   abbrev rows : ℕ → List Row
   rows comp = part interfaces.main comp trace
 
-  performable : IsPerformable source.program trace
+  pub performable : IsPerformable source.program trace
   performable = record { is_legal = allowed; words = words; few = few }
 
-  named : All IsNamed trees
+  pub named : All IsNamed trees
   named =
       All-from_recursion IsNamed trees (named_so trees
       (recursion_from_All IsNamedSection trees (names_are_identifiers source.bytes trees is.accepted.reads)))
 
-  typed : IsWellTyped source.program
+  pub typed : IsWellTyped source.program
   typed =
       subst IsWellTyped (sym is.accepted.typed.is)
       (well_typed trees (reads_low source.bytes trees is.accepted.reads) is.accepted.typed.names
       is.accepted.typed.types is.accepted.typed.interfaces is.accepted.typed.counts)
 
-  as_many : length interfaces.comps ≡ length trees
+  pub as_many : length interfaces.comps ≡ length trees
   as_many = ap (λ (p : ProgramTree). length p.interfaces.comps) is.accepted.typed.is ∙ as_many_interfaces trees 0 trees
 
   module _ (set : ℕ → Bool) (within : (comp : ℕ) → set comp ≡ true → comp < length interfaces.comps) where
-    replacement : IsReplacement interfaces rows set (performing interfaces trace set) (length trees)
+    pub replacement : IsReplacement interfaces rows set (performing interfaces trace set) (length trees)
     replacement = record {
       texts = λ comp. refl;
       can = λ comp below own.
@@ -92,13 +106,13 @@ module _ (source : SourceParts) (trace : List Event) (is : IsSource source)
           record { interface = p.interface; at = p.at; can = p.can });
     }
 
-    reread : IsReread source.preamble
+    pub reread : IsReread source.preamble
         (new_texts (performing interfaces trace set) 0 (texts_of is.split.found)) interfaces rows set trees
     reread =
         replaced_texts source.bytes source.preamble is.split.found trees is.split.split is.accepted.reads interfaces
         rows set (performing interfaces trace set) replacement
 
-    hold : IsTyped reread.others (program_of reread.others) ×
+    pub hold : IsTyped reread.others (program_of reread.others) ×
         IsRecomposed source.program (program_of reread.others) set trace
     hold =
         recomposed_hold trees reread.others source.program set trace (record {

@@ -23,11 +23,23 @@ fn are_words(words: &[u32])
     ensures { All IsWord words.now }
 {}
 
+fn is_word(word: u32)
+    ensures { IsWord word }
+{}
+
 fn has_words(event: &Event)
     ensures { HasWords event.now }
 {
-    if let Event::Call { args, .. } = event {
-        are_words(args.as_slice());
+    match event {
+        Event::Call { args, .. } => are_words(args.as_slice()),
+        Event::Ret { value: None, .. } => (),
+        Event::Ret {
+            value: Some(word),
+            ..
+        } => is_word(*word),
+        Event::Out { value, .. } => is_word(*value),
+        Event::In { value, .. } => is_word(*value),
+        Event::End { value, .. } => is_word(*value),
     }
 }
 

@@ -108,3 +108,14 @@ module _ (one_program : (text : List ℕ) (program other : ProgramTree) → Acce
             accepted.blames source trace is allowed few words (among comps) within inputs turns events comp cause line
             (ap (λ p. (meaning p inputs turns events).end) (sym same) ∙ end);
       }
+
+pub is_accepted : (source : SourceParts) (trace : List Event) (comps : List ℕ) → IsSource source →
+    legal source.program.interfaces trace ≡ true → length trace ≤ 4096 → All HasWords trace →
+    All (λ comp. comp < length source.program.interfaces.comps) comps →
+    (program : ProgramTree) × Accepts (recomposed source trace (among comps)) program
+is_accepted source trace comps is allowed few words known =
+    let within = within_all (length source.program.interfaces.comps) comps
+    (recursion_from_All (λ comp. comp < length source.program.interfaces.comps) comps known) in (
+      accepted.program source trace is allowed few words (among comps) within,
+      accepted.accepted source trace is allowed few words (among comps) within,
+    )
