@@ -17,6 +17,7 @@ use Rattle.sc_laws.specs.Chains.{IsBlamedOutside, IsChain, IsLink, IsRising, Lin
 use Rattle.sc_laws.specs.Chains.{with}
 use Rattle.sc_laws.proofs.ProgramLaws.{blamed_are_there, chain_exists, chains_rise, empty_set}
 use Rattle.sc_types.specs.Source.{SourceParts}
+use Rattle.sc_chain.specs.Following.{IsNextLink}
 use Rattle.sc_chain.specs.Recompose.{among, performing_text}
 use Rattle.sc_chain.specs.declared.explanation.Link.{Link}
 
@@ -86,13 +87,6 @@ module _ (source : SourceParts) (inputs : List ℕ) (steps : ℕ) (trace : List 
     pub texts : All Performs links
     pub known : All (λ comp. comp < count) comps
 
-  -- the run is blamed so, before the end of the trace
-  pub record IsNextLink (run : SourceRun) (link : Link) : Type 0 where
-    pub blamed : run.end ≡ Blamed link.comp link.cause link.line
-    pub after : length run.trace ≡ link.after
-    pub proper : link.after < length trace
-    pub performs : Performs link
-
   pub begins : length source.program.interfaces.comps ≡ length source.program.sections →
       ((set : Set) → ((runs set).trace ≡ trace) ⊎
       IsBlamedOutside (length source.program.sections) set (runs set) trace) → (run : SourceRun) →
@@ -116,7 +110,7 @@ module _ (source : SourceParts) (inputs : List ℕ) (steps : ℕ) (trace : List 
 
   module _ (run : SourceRun) (links : List Link) (comps : List ℕ) where
     -- the next link of the chain is that of the blame
-    next_is : (set : Set) (link : Link) (blame : Blame) → IsNextLink run link → run ≡ runs set →
+    next_is : (set : Set) (link : Link) (blame : Blame) → IsNextLink source.program.interfaces trace run link → run ≡ runs set →
         IsLink (runs set) trace blame → blame ≡ blame_of link
     next_is set link blame next same is =
         let parts = same_blame blame.comp link.comp blame.cause link.cause blame.line link.line
@@ -137,7 +131,7 @@ module _ (source : SourceParts) (inputs : List ℕ) (steps : ℕ) (trace : List 
         append_assoc (map blame_of links) (blame_of link ∷ []) rest
 
     pub goes_on : length source.program.interfaces.comps ≡ length source.program.sections → IsAt run links comps →
-        (link : Link) → IsNextLink run link → (later : SourceRun) →
+        (link : Link) → IsNextLink source.program.interfaces trace run link → (later : SourceRun) →
         later ≡ runs (among (comps ++ link.comp ∷ [])) → IsAt later (links ++ link ∷ []) (comps ++ link.comp ∷ [])
     goes_on as_many at link next later later_is = by at.rest at.whole at.few at.chain at.rising where
       by : (rest : List Blame) → IsChain runs trace nobody (map blame_of links ++ rest) →

@@ -42,3 +42,11 @@ impl From<OutOfMemory> for ExplainFault {
         ExplainFault::OutOfMemory
     }
 }
+
+impl From<CompileFault> for ExplainFault {
+    fn from(fault: CompileFault) -> ExplainFault
+        ensures { result ≡ ExplainFault.CompileFault fault }
+    {
+        ExplainFault::CompileFault(fault)
+    }
+}
