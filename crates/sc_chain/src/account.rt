@@ -1,6 +1,6 @@
 //! The account of a run of the machine.
 
-ghost use Rattle.std.specs.Prelude.{◌≡◌, ◌≤◌, ℕ, Bool, length, map, IfOk, IfErr};
+ghost use Rattle.std.specs.Prelude.{◌≡◌, ◌≤◌, ℕ, Bool, true, length, map, IfOk, IfErr};
 ghost use Rattle.sc_event.specs.Prelude.{legal};
 ghost use Rattle.sc_core.specs.Prelude.{scripted_meaning};
 ghost use Rattle.sc_image.specs.Machine.{machine};
@@ -80,7 +80,7 @@ fn copied_trace(alloc: Global, events: &[Event]) -> Result<Trace, OutOfMemory>
 }
 
 // What the machine shows on an image in at most so many steps and events.
-fn shown(
+fn run_image(
     alloc: Global,
     image: Image,
     inputs: &[i32],
@@ -175,7 +175,7 @@ pub fn explain(
     ensures fault { IfErr result (IsFault source.now.program) }
 {
     let image = compile(alloc, source.program())?;
-    let shown = shown(alloc, image, inputs, steps, events)?;
+    let shown = run_image(alloc, image, inputs, steps, events)?;
     let links = chain(alloc, source, inputs, steps, shown.trace.as_slice())?;
     let Shown { trace, stop } = shown;
     Ok(Explanation { trace, stop, links })

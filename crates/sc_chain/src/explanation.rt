@@ -1,5 +1,7 @@
 //! What `explain` answers.
 
+ghost use Rattle.std.specs.Prelude.{◌≡◌};
+
 use sc_base::{OutOfMemory, Stop, Text};
 use sc_compile::CompileFault;
 use sc_core::Cause;

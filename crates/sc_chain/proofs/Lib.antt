@@ -1,0 +1,3 @@
+mod ChainFollowing
+mod ChainMachine
+mod ChainTexts
