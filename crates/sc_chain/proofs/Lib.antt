@@ -1,3 +1,4 @@
 mod ChainFollowing
+mod ChainLoop
 mod ChainMachine
 mod ChainTexts

@@ -5,7 +5,7 @@ use Rattle.sc_chain.proofs.account.chain.Given as goal
 
 abbrev pub invariant-loop-run : goal.invariant-loop-run
 invariant-loop-run l =
-    IsAt l.source.now (map word_of l.inputs.now) l.steps l.trace.now l.run l.links l.comps
+    IsAt l.source (map word_of l.inputs) l.steps l.trace l.run l.links l.comps
 
 abbrev pub decreases-loop-run : goal.decreases-loop-run
-decreases-loop-run l = length l.source.now.program.interfaces.comps - length l.links
+decreases-loop-run l = length l.source.program.interfaces.comps - length l.links
