@@ -1,4 +1,5 @@
 mod ChainFollowing
 mod ChainLoop
 mod ChainMachine
+mod ChainShown
 mod ChainTexts

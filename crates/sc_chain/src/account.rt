@@ -174,9 +174,16 @@ pub fn explain(
     ensures source { IfOk result (λ _. IsSource source.now) }
     ensures fault { IfErr result (IsFault source.now.program) }
 {
-    let image = compile(alloc, source.program())?;
-    let shown = run_image(alloc, image, inputs, steps, events)?;
-    let links = chain(alloc, source, inputs, steps, shown.trace.as_slice())?;
+    let image = match compile(alloc, source.program()) {
+        Ok(image) => image,
+        Err(fault) => return Err(ExplainFault::CompileFault(fault)),
+    };
+    let Ok(shown) = run_image(alloc, image, inputs, steps, events) else {
+        return Err(ExplainFault::OutOfMemory);
+    };
+    let Ok(links) = chain(alloc, source, inputs, steps, shown.trace.as_slice()) else {
+        return Err(ExplainFault::OutOfMemory);
+    };
     let Shown { trace, stop } = shown;
     Ok(Explanation { trace, stop, links })
 }
