@@ -1,13 +1,11 @@
 -- Sections of programs, byte for byte.
-use Rattle.std.proofs.Common.{◌≡◌, refl, List, [], ◌∷◌, ℕ, Some, None}
+use Rattle.std.proofs.Common.{◌≡◌, refl, [], ◌∷◌, Some}
 use Rattle.std.specs.Prelude.{codes}
 use Rattle.sc_event.specs.declared.interface.Import.TheVariants as import
 use Rattle.sc_event.specs.declared.interface.Interface.{Interface}
-use Rattle.sc_event.specs.declared.interface.Interfaces.{Interfaces}
-use Rattle.sc_event.specs.declared.interface.Scalar.TheVariants.{Int, Unsigned}
-use Rattle.sc_event.specs.declared.row.Action.TheVariants.{Call, Ret, Out, In, End}
+use Rattle.sc_event.specs.declared.interface.Scalar.TheVariants.{Int}
+use Rattle.sc_event.specs.declared.row.Action.TheVariants.{Call, Ret, End}
 use Rattle.sc_event.specs.declared.row.Entry.TheVariants.{Export, Main}
-use Rattle.sc_event.specs.declared.row.Row.{Row}
 use Rattle.std.specs.Fmt.{digits}
 use Rattle.sc_back.specs.Text.{back_text}
 

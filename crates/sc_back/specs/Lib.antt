@@ -1,3 +1,4 @@
 pub mod Text
+pub mod Rows
 pub mod Tree
 pub mod Sections

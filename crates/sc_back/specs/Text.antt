@@ -3,7 +3,6 @@
 use Rattle.std.specs.Prelude.{ℕ, suc, ◌==◌, Bool, true, false, if◌then◌else◌, codes, List, [], ◌∷◌, ◌++◌, filter}
 use Rattle.std.specs.Prelude.{flat_map, Option, None, Some}
 use Rattle.std.specs.Fmt.{decimal}
-use Rattle.std.specs.List.{join_by}
 use Rattle.std.specs.Option.{option_map_or}
 use Rattle.sc_base.specs.Prelude.{signed_text}
 use Rattle.sc_event.specs.Prelude.{comp_at, comp_name, export_at}
@@ -38,8 +37,12 @@ abbrev pub param_texts : (number : ℕ) → List Scalar → List (List ℕ)
 param_texts number [] = []
 param_texts number (ty ∷ types) = param_text number ty ∷ param_texts (suc number) types
 
+abbrev pub behind_comma : List ℕ → List ℕ
+behind_comma text = codes ", " ++ text
+
 abbrev pub joined : List (List ℕ) → List ℕ
-joined texts = join_by (λ text. text) (codes ", ") texts
+joined [] = []
+joined (text ∷ texts) = text ++ flat_map behind_comma texts
 
 abbrev pub params_text : List Scalar → List ℕ
 params_text [] = codes "void"
@@ -74,13 +77,18 @@ owner_name interfaces (import.Function comp index) = comp_name interfaces comp
 abbrev pub export_text : Proto → List ℕ
 export_text f = codes "#pragma export " ++ (f.name ++ codes "\n")
 
+abbrev pub import_line : (owner name : List ℕ) → List ℕ
+import_line owner name = codes "#pragma import " ++ (owner ++ (codes " " ++ (name ++ codes "\n")))
+
 abbrev pub import_text : Interfaces → Import → List ℕ
 import_text interfaces import =
-    option_map_or (λ f. codes "#pragma import " ++ (owner_name interfaces import ++ (codes " " ++ (f.name ++ codes "\n"))))
-    (imported interfaces import) []
+    option_map_or (λ f. import_line (owner_name interfaces import) f.name) (imported interfaces import) []
+
+abbrev pub proto_line : Proto → List ℕ
+proto_line f = head_text f ++ codes ";\n"
 
 abbrev pub proto_text : Interfaces → Import → List ℕ
-proto_text interfaces import = option_map_or (λ f. head_text f ++ codes ";\n") (imported interfaces import) []
+proto_text interfaces import = option_map_or proto_line (imported interfaces import) []
 
 -- Actions.
 
@@ -140,13 +148,20 @@ abbrev pub main_text : Interfaces → ℕ → List Row → List ℕ
 main_text interfaces comp rows =
     if comp == interfaces.main then function_text interfaces rows Main main_proto else []
 
+abbrev pub directives_text : Interfaces → Interface → List ℕ
+directives_text interfaces interface =
+    codes "#pragma compartment " ++ (interface.name ++ (codes "\n" ++
+    (flat_map export_text interface.exports ++ flat_map (import_text interfaces) interface.imports)))
+
+abbrev pub declarations_text : Interfaces → ℕ → List Row → Interface → List ℕ
+declarations_text interfaces comp rows interface =
+    flat_map (proto_text interfaces) interface.imports ++ (codes "unsigned int bt_n;\n" ++
+    (functions_text interfaces rows 0 interface.exports ++ main_text interfaces comp rows))
+
 -- the section of a compartment with this interface
 abbrev pub section_text : Interfaces → ℕ → List Row → Interface → List ℕ
 section_text interfaces comp rows interface =
-    codes "#pragma compartment " ++ (interface.name ++ (codes "\n" ++
-    (flat_map export_text interface.exports ++ (flat_map (import_text interfaces) interface.imports ++
-    (flat_map (proto_text interfaces) interface.imports ++ (codes "unsigned int bt_n;\n" ++
-    (functions_text interfaces rows 0 interface.exports ++ main_text interfaces comp rows)))))))
+    directives_text interfaces interface ++ declarations_text interfaces comp rows interface
 
 -- the text by which a compartment performs these rows
 abbrev pub back_text : Interfaces → (comp : ℕ) → List Row → List ℕ

@@ -18,8 +18,6 @@ use Rattle.sc_event.specs.declared.row.Action.TheVariants as action
 use Rattle.sc_event.specs.declared.row.Entry.{Entry}
 use Rattle.sc_event.specs.declared.row.Entry.TheVariants as entries
 use Rattle.sc_event.specs.declared.row.Row.{Row}
-use Rattle.sc_ast.specs.Numbers.{Number}
-use Rattle.sc_ast.specs.declared.expr.CallTree.{CallTree}
 use Rattle.sc_ast.specs.declared.expr.ExprTree.{ExprTree}
 use Rattle.sc_ast.specs.declared.expr.ExprTree.TheVariants.{Binary, Literal, Unary, Variable}
 use Rattle.sc_ast.specs.declared.stmt.StmtKind.{StmtKind}
@@ -28,7 +26,6 @@ use Rattle.sc_ast.specs.declared.stmt.StmtTree.{StmtTree}
 use Rattle.sc_ast.specs.declared.types.BaseTree.{BaseTree}
 use Rattle.sc_ast.specs.declared.types.BaseTree.TheVariants as base
 use Rattle.sc_ast.specs.declared.types.TypeName.{TypeName}
-use Rattle.sc_ast.specs.declared.section.Decl.{Decl}
 use Rattle.sc_ast.specs.declared.section.Decl.TheVariants as decl
 use Rattle.sc_ast.specs.declared.section.ExportLine.{ExportLine}
 use Rattle.sc_ast.specs.declared.section.FunctionHead.{FunctionHead}

@@ -5,7 +5,7 @@ use Rattle.sc_event.specs.declared.interface.Interfaces.{Interfaces}
 use Rattle.sc_types.specs.Source.{SourceParts}
 use Rattle.sc_back.specs.Sections.{new_text}
 use Rattle.sc_chain.specs.Recompose.{performing_text}
-use Rattle.sc_chain.specs.declared.recompose.Replacement.{Replacement}
+use Rattle.sc_chain.specs.declared.composed.Replacement.{Replacement}
 
 -- what stands at the place of a compartment's section
 abbrev pub section_at : SourceParts → (replace : ℕ → Option (List ℕ)) → (comp : ℕ) → List ℕ

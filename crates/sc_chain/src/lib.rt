@@ -2,12 +2,12 @@
 //! of them that accounts for a run of the machine.
 #![tactic(auto)]
 
-mod explain;
+mod account;
+mod composed;
 mod explanation;
-mod recompose;
-mod replaced;
+mod replacing;
 
-pub use explain::explain;
+pub use account::explain;
+pub use composed::{Replacement, recompose};
 pub use explanation::{ExplainFault, Explanation, Link, Links};
-pub use recompose::{Replacement, recompose};
-pub use replaced::replaced;
+pub use replacing::replaced;

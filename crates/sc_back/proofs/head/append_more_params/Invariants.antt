@@ -1,0 +1,9 @@
+use Rattle.std.proofs.Common.{◌≡◌, ◌++◌, suc, drop, flat_map}
+use Rattle.sc_back.specs.Text.{behind_comma, param_texts}
+use Rattle.sc_back.proofs.head.append_more_params.Given as goal
+
+-- those so far are there
+abbrev pub invariant-loop-place : goal.invariant-loop-place
+invariant-loop-place l =
+    l.text ++ flat_map behind_comma (param_texts (suc l.place) (drop l.place l.params)) ≡
+    l.fn.text ++ flat_map behind_comma (param_texts 1 l.params)

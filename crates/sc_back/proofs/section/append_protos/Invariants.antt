@@ -1,0 +1,8 @@
+use Rattle.std.proofs.Common.{◌≡◌, ◌++◌, drop, flat_map}
+use Rattle.sc_back.specs.Text.{proto_text}
+use Rattle.sc_back.proofs.section.append_protos.Given as goal
+
+-- those so far are there
+abbrev pub invariant-loop-import : goal.invariant-loop-import
+invariant-loop-import l =
+    l.text ++ flat_map (proto_text l.interfaces) (drop l.import-index l.imports) ≡ l.fn.text ++ flat_map (proto_text l.interfaces) l.imports
