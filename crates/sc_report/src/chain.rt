@@ -30,11 +30,7 @@ pub fn explain_text(
     Ok(text)
 }
 
-fn append_chain(
-    text: &mut Text,
-    interfaces: &Interfaces,
-    links: &[Link],
-) -> Result<(), OutOfMemory>
+fn append_chain(text: &mut Text, interfaces: &Interfaces, links: &[Link]) -> Result<(), OutOfMemory>
     ensures { OnOk result (text.new ≡ text.old ++ chain_text interfaces.now links.now) }
 {
     append_count(text, links.len())?;
@@ -51,11 +47,7 @@ fn append_count(text: &mut Text, count: usize) -> Result<(), OutOfMemory>
     text.push(b'\n')
 }
 
-fn append_links(
-    text: &mut Text,
-    interfaces: &Interfaces,
-    links: &[Link],
-) -> Result<(), OutOfMemory>
+fn append_links(text: &mut Text, interfaces: &Interfaces, links: &[Link]) -> Result<(), OutOfMemory>
     ensures { OnOk result (text.new ≡ text.old ++ flat_map (link_line interfaces.now) links.now) }
 {
     for link in links {

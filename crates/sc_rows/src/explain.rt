@@ -168,14 +168,15 @@ void note(int what, int value) {
 
 const ACCOUNTS_INPUTS: &str = "3,1,2,500,3,2,2,200,5,1,3,40,7,99,3,2,5,10,0";
 
-// The report of a program on these inputs, and the texts of its chain.
+// A run, and what it must write.
+#[derive(Clone, Copy)]
 struct Case<'a> {
     words: &'a [&'a str],
     program: &'a [u8],
     want: &'a [u8],
 }
 
-fn runs(alloc: Global, case: &Case) -> Result<bool, Fail> {
+fn told(alloc: Global, case: Case) -> Result<bool, Fail> {
     let ran = Run::new(case.words, case.program).run(alloc)?;
     Ok(ran.status == 0 && ran.out.as_slice() == case.want && ran.err.len() == 0 && ran.unread == 0)
 }
@@ -278,7 +279,7 @@ replace Reader after 24 OutOfBounds line 16
         },
     ];
     for case in cases {
-        assert!(rt; runs(rt.alloc(), &case)?);
+        assert!(rt; told(rt.alloc(), case)?);
     }
     Ok(())
 }
@@ -308,7 +309,7 @@ fn the_first_text_is_the_program(rt: HostRuntime) -> Result<(), Fail> {
         },
     ];
     for case in cases {
-        assert!(rt; runs(rt.alloc(), &case)?);
+        assert!(rt; told(rt.alloc(), case)?);
     }
     Ok(())
 }
@@ -412,7 +413,7 @@ int g(int a, unsigned int b) {
         },
     ];
     for case in cases {
-        assert!(rt; runs(rt.alloc(), &case)?);
+        assert!(rt; told(rt.alloc(), case)?);
     }
     Ok(())
 }

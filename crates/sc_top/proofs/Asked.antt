@@ -1,6 +1,6 @@
 -- What is asked of `explain` is bounded.
 use Rattle.sc_top.proofs.Common.{Bool, Command, Explain, IsBounded, List, Meaning, None, Option, Run, RunOptions, Some}
-use Rattle.sc_top.proofs.Common.{and_parts, false, leb-true, none-some, nat_le, refl, subst, true, ℕ, ◌&&◌, ◌≡◌, ◌≤◌}
+use Rattle.sc_top.proofs.Common.{arith, false, leb-true, none-some, nat_le, refl, subst, true, ℕ, ◌&&◌, ◌≡◌, ◌≤◌}
 use Rattle.std.specs.Prelude.{ℤ, if◌then◌else◌, option_and_then, option_map}
 use Rattle.std.specs.Str.{bytes_eq}
 use Rattle.std.proofs.Common.{codes}
@@ -14,17 +14,18 @@ same_value : {A : Type 0} (x y : A) → ◌≡◌ {A = Option A} (Some x) (Some 
 same_value x y same = cc same
 
 -- so many events at most
-within : (m n : ℕ) (test : Bool) → nat_le m 4096 ≡ test →
-    (if test then Some m else None) ≡ Some n → n ≤ 4096
-within m n true few is = subst (λ (k : ℕ). k ≤ 4096) (same_value m n is) (leb-true m 4096 few)
-within m n false few is = absurd (none-some n is)
+within : (m n : ℕ) (low high : Bool) → nat_le m 4096 ≡ high →
+    (if low && high then Some m else None) ≡ Some n → n ≤ 4096
+within m n true true few is = subst (λ (k : ℕ). k ≤ 4096) (same_value m n is) (leb-true m 4096 few)
+within m n true false few is = absurd (none-some n is)
+within m n false high few is = absurd (none-some n is)
 
 of_number : (found : Option ℕ) (n : ℕ) → option_and_then (when_within 0 4096) found ≡ Some n → n ≤ 4096
 of_number None n is = absurd (none-some n is)
-of_number (Some m) n is = within m n (nat_le m 4096) refl is
+of_number (Some m) n is = within m n (nat_le 0 m) (nat_le m 4096) refl is
 
 of_events : (value : Option (List ℕ)) (n : ℕ) → words.events value ≡ Some n → n ≤ 4096
-of_events None n is = subst (λ (k : ℕ). k ≤ 4096) (same_value 1024 n is) (omega)
+of_events None n is = subst (λ (k : ℕ). k ≤ 4096) (same_value 1024 n is) (omega arith)
 of_events (Some text) n is = of_number (number text) n is
 
 of_run : (steps events : Option ℕ) (inputs : Option (List ℤ)) (options : RunOptions) →

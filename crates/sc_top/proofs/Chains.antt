@@ -1,15 +1,16 @@
 -- Chains of texts: what stands in their texts, and that a run has one account.
-use Rattle.sc_top.proofs.Common.{Accepts, All, All-from_recursion, AllByRecursion, ArePerforming, Bool, Err, Event}
-use Rattle.sc_top.proofs.Common.{ImageParts, IsAccounted, List, Ok, Option, ProgramTree, Result, RunOptions, Some, None}
+use Rattle.sc_top.proofs.Common.{Accepts, All-from_recursion, AllByRecursion, ArePerforming, Bool, Err, Event}
+use Rattle.sc_top.proofs.Common.{IfOk, ImageParts, IsAccounted, List, Ok, Option, ProgramTree, Result, RunOptions, Some, None}
 use Rattle.sc_top.proofs.Common.{CompileFault, Decides-eqb, account, ap, ap₂, arith, comp_of, concat, false, length, map, meaning}
-use Rattle.sc_top.proofs.Common.{nat_eq, recursion_from_All, refl, replacement_of, subst, suc, sym, take, text_after}
-use Rattle.sc_top.proofs.Common.{take-append-drop, true, word_of, zero, ℕ, [], ◌++◌, ◌==◌, ◌<◌, ◌∙◌, ◌∷◌, ◌≡◌, ◌≤◌}
+use Rattle.sc_top.proofs.Common.{recursion_from_All, refl, replacement_of, subst, suc, sym, take, text_after}
+use Rattle.sc_top.proofs.Common.{true, word_of, zero, ℕ, [], ◌++◌, ◌==◌, ◌∙◌, ◌∷◌, ◌≡◌, ◌≤◌}
 use Rattle.std.specs.Prelude.{◌||◌, if◌then◌else◌}
 use Rattle.sc_back.specs.Sections.{new_text, new_texts}
 use Rattle.sc_chain.specs.Chain.{IsChainFrom, IsExplained, IsNext, TellsTrace}
 use Rattle.sc_chain.specs.Recompose.{among, joined, performing, performing_text, recomposed, text_for}
 use Rattle.sc_chain.specs.declared.explanation.Explanation.{Explanation}
 use Rattle.sc_chain.specs.declared.explanation.Link.{Link}
+use Rattle.sc_chain.specs.declared.composed.Replacement.{Replacement}
 use Rattle.sc_image.specs.Machine.{machine}
 use Rattle.sc_core.specs.declared.run.RunEnd.{RunEnd}
 use Rattle.sc_core.specs.declared.run.RunEnd.TheVariants.{Blamed}
@@ -46,14 +47,17 @@ module _ (source : SourceParts) (trace : List Event) where
       text_for (map replacement_of links) comp
       ≡ performing source.program.interfaces trace (among (map comp_of links)) comp
   stands [] all comp = refl
-  stands (link ∷ links) all comp = by (link.comp == comp) refl where
-    by : (same : Bool) → (link.comp == comp) ≡ same →
+  stands (link ∷ links) all comp = by (stands links all.1 comp) (link.comp == comp) refl where
+    by :
+        text_for (map replacement_of links) comp
+        ≡ performing source.program.interfaces trace (among (map comp_of links)) comp → (same : Bool) →
+        (link.comp == comp) ≡ same →
         (if same then Some link.text else text_for (map replacement_of links) comp)
         ≡ (if same || among (map comp_of links) comp then Some (performing_text source.program.interfaces trace comp)
         else None)
-    by true is =
+    by others true is =
         ap Some (all.0 ∙ ap (performing_text source.program.interfaces trace) (same_number link.comp comp is))
-    by false is = stands links all.1 comp
+    by others false is = others
 
   -- texts in which the same stands in place of each section
   texts_same : (f g : ℕ → Option (List ℕ)) → ((comp : ℕ) → f comp ≡ g comp) → (comp : ℕ) (olds : List (List ℕ)) →
@@ -83,6 +87,18 @@ recomposed_after source explanation links all =
     (stands source explanation.trace (take links explanation.links)
     (first_perform source explanation.trace links explanation.links
     (recursion_from_All (Performs source explanation.trace) explanation.links all)))
+
+-- the same of the call that joins them
+pub shown_after : {E : Type 0} (r : Result (List ℕ) E) (source : SourceParts) (explanation : Explanation) (links : ℕ)
+    (replacements : List Replacement) →
+    replacements ≡ map replacement_of (take links explanation.links) →
+    ArePerforming source explanation.trace explanation.links →
+    IfOk r (λ text. text ≡ joined source (text_for replacements)) →
+    IfOk r (λ text. text ≡ text_after source explanation links)
+shown_after (Ok text) source explanation links replacements are all told =
+    told ∙ ap (λ replacements. joined source (text_for replacements)) are ∙
+    recomposed_after source explanation links all
+shown_after (Err fault) source explanation links replacements are all told = tt
 
 -- ONE ACCOUNT
 
