@@ -1,12 +1,12 @@
 -- What an answer says, from what was read.
 use Rattle.sc_top.proofs.Common.{Accepts, Answers, Check, Command, Compile, Exec, Explain, Fails, Failure, FindsBad}
 use Rattle.sc_top.proofs.Common.{IsAccounted, IsAnswer, IsErrOf, IsGood, IsGoodText, IsImage, IsInput, IsOutput}
-use Rattle.sc_top.proofs.Common.{IsTextOutput, IsTrue, IsUnbuilt, IsUndisturbed, IsUnfit, IsWhole, IsWithin, IsWithinLimit}
-use Rattle.sc_top.proofs.Common.{List, Meaning, None, Option, ProgramTree, Refusal, Refuses, Result, Run, SameAnswer}
-use Rattle.sc_top.proofs.Common.{RunOptions, Says, Some, Status, Takes, Traffic, [], ap, append-nil, arith, bad}
-use Rattle.sc_top.proofs.Common.{by_name, cause_in, cause_number, cause_of, compiles, false≢true, inl, inr, large_in}
-use Rattle.sc_top.proofs.Common.{length, length-append, limit_of, none-some, refl, status_by, subst, sym, too_large, ℕ}
-use Rattle.sc_top.proofs.Common.{⊎_elim, ◌++◌, ◌+◌, ◌∙◌, ◌≡◌, ◌≤◌, ◌⊎◌}
+use Rattle.sc_top.proofs.Common.{IsTextOutput, IsTrue, IsUnbuilt, IsUndisturbed, IsUnfit, IsWhole, IsWithin}
+use Rattle.sc_top.proofs.Common.{IsWithinLimit, List, Meaning, None, Option, ProgramTree, Refusal, Refuses, Result, Run}
+use Rattle.sc_top.proofs.Common.{SameAnswer, RunOptions, Says, Some, Status, Takes, Traffic, [], ap, append-nil, arith}
+use Rattle.sc_top.proofs.Common.{bad, by_name, cause_in, cause_number, cause_of, compiles, false≢true, inl, inr}
+use Rattle.sc_top.proofs.Common.{large_in, length, length-append, limit_of, none-some, refl, status_by, subst, sym}
+use Rattle.sc_top.proofs.Common.{too_large, ℕ, ⊎_elim, ◌++◌, ◌+◌, ◌∙◌, ◌≡◌, ◌≤◌, ◌⊎◌}
 use Rattle.std.specs.Prelude.{option_and_then}
 use Rattle.std.specs.Option.{option_map}
 use Rattle.sc_lex.specs.declared.refusal.Phase.{Phase}

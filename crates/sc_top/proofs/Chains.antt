@@ -1,9 +1,9 @@
 -- Chains of texts: what stands in their texts, and that a run has one account.
-use Rattle.sc_top.proofs.Common.{Accepts, All-from_recursion, AllByRecursion, ArePerforming, Bool, Err, Event}
-use Rattle.sc_top.proofs.Common.{IfOk, ImageParts, IsAccounted, List, Ok, Option, ProgramTree, Result, RunOptions, Some, None}
-use Rattle.sc_top.proofs.Common.{CompileFault, Decides-eqb, account, ap, ap₂, arith, comp_of, concat, false, length, map, meaning}
-use Rattle.sc_top.proofs.Common.{recursion_from_All, refl, replacement_of, subst, suc, sym, take, text_after}
-use Rattle.sc_top.proofs.Common.{true, word_of, zero, ℕ, [], ◌++◌, ◌==◌, ◌∙◌, ◌∷◌, ◌≡◌, ◌≤◌}
+use Rattle.sc_top.proofs.Common.{Accepts, All-from_recursion, AllByRecursion, ArePerforming, Bool, Err, Event, IfOk}
+use Rattle.sc_top.proofs.Common.{ImageParts, IsAccounted, List, Ok, Option, ProgramTree, Result, RunOptions, Some, None}
+use Rattle.sc_top.proofs.Common.{CompileFault, Decides-eqb, account, ap, ap₂, arith, comp_of, concat, false, length}
+use Rattle.sc_top.proofs.Common.{map, meaning, recursion_from_All, refl, replacement_of, subst, suc, sym, take}
+use Rattle.sc_top.proofs.Common.{text_after, true, word_of, zero, ℕ, [], ◌++◌, ◌==◌, ◌∙◌, ◌∷◌, ◌≡◌, ◌≤◌}
 use Rattle.std.specs.Prelude.{◌||◌, if◌then◌else◌}
 use Rattle.sc_back.specs.Sections.{new_text, new_texts}
 use Rattle.sc_chain.specs.Chain.{IsChainFrom, IsExplained, IsNext, TellsTrace}

@@ -14,6 +14,7 @@ pub use Rattle.sc_top.specs.Output.{HasImage, IsAccounted, IsExecuted, IsOutput,
 pub use Rattle.sc_top.specs.Output.{compiles, machine_run, machine_text, meant, output, text_after}
 pub use Rattle.sc_top.specs.Status.{bytes_of, fixed_text, kind_text, large_text, own_text, owner_text, phase_word}
 pub use Rattle.sc_top.specs.Status.{refusal_text, status_number, status_text}
-pub use Rattle.sc_top.specs.Texts.{ArePerforming, IsBounded, IsCompiling, IsNamed, IsReading, of_compile_fault, replacement_of}
+pub use Rattle.sc_top.specs.Texts.{ArePerforming, IsBounded, IsCompiling, IsNamed, IsReading, of_compile_fault}
+pub use Rattle.sc_top.specs.Texts.{replacement_of}
 pub use Rattle.sc_top.specs.Writing.{Wrote}
 pub use Rattle.sc_top.specs.declared.status.Status.{Status}
