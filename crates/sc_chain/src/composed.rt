@@ -58,7 +58,9 @@ pub fn recompose(
 {
     let mut text = Text::new(alloc);
     text.append(source.preamble())?;
-    for number in 0..source.program().interfaces().comps.len() {
+    // Every program is well typed, so that it has few compartments.
+    let comps = &source.program().tree().interfaces.comps;
+    for number in 0..comps.len() {
         append_section(&mut text, source, replacements, comp_id(number))?;
     }
     Ok(text)

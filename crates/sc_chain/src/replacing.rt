@@ -15,7 +15,7 @@ use sc_back::back_section;
 use sc_base::{OutOfMemory, Text};
 use sc_event::{CompId, Event, Interfaces};
 use sc_script::part;
-use sc_types::SourceText;
+use sc_types::{SourceText, one_program};
 use sqlite_items::Items;
 use std::alloc::Global;
 
@@ -100,9 +100,8 @@ pub fn replaced(
     ensures replaced { IfOk result (IsReplaced source.now trace.now (among comps.now)) }
 {
     have_words(trace);
-    let program = source.program();
-    let interfaces = &program.tree().interfaces;
-    let replacements = replacements(alloc, interfaces, trace, comps)?;
+    one_program();
+    let replacements = replacements(alloc, source.program().interfaces(), trace, comps)?;
     let text = recompose(alloc, source, replacements.as_slice())?;
     let new = read_accepted(alloc, text.as_bytes())?;
     Ok(new)

@@ -1,5 +1,6 @@
 -- A performing section holds no more than a program may.
-use Rattle.std.proofs.Common.{Bool, List, None, Option, Some, [], ◌∷◌, ◌++◌, ◌≡◌, ◌∙◌, ◌==◌, ◌+◌, ◌*◌, ◌≤◌, ℕ, zero, suc, ap, ap₂, arith}
+use Rattle.std.proofs.Common.{Bool, List, None, Option, Some, [], ◌∷◌, ◌++◌, ◌≡◌, ◌∙◌, ◌==◌, ◌+◌, ◌*◌, ◌≤◌, ℕ, zero}
+use Rattle.std.proofs.Common.{suc, ap, ap₂, arith}
 use Rattle.std.proofs.Common.{false, if◌then◌else◌, le-leb, length, length-append, map, nat_le, refl, slice_get, true}
 use Rattle.std.proofs.lemmas.Bool.{and_from}
 use Rattle.std.proofs.lemmas.List.{length-map}

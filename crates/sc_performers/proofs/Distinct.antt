@@ -3,13 +3,13 @@ use Rattle.std.proofs.Common.{Bool, List, [], ◌∷◌, ◌++◌, ◌≡◌, �
 use Rattle.std.proofs.Common.{codes, drop, false, length, map, not, refl, subst, sym, true}
 use Rattle.std.proofs.lemmas.Bool.{and_from, false≢true, or_parts, or_left, or_right}
 use Rattle.std.proofs.lemmas.Fmt.{decimal_injective}
-use Rattle.std.proofs.lemmas.List.Folds.{list_any-append}
 use Rattle.std.specs.Fmt.{decimal}
 use Rattle.sc_base.proofs.Bools.{and_first, and_rest}
 use Rattle.sc_base.proofs.Texts.{same_text}
 use Rattle.sc_event.specs.declared.interface.Scalar.{Scalar}
 use Rattle.sc_ast.specs.declared.section.FunctionParam.{FunctionParam}
 use Rattle.sc_scope.specs.Prelude.{Text, among, are_distinct, is_new}
+use Rattle.sc_scope.proofs.Lines.{among-append}
 use Rattle.sc_interfaces.specs.Prelude.{is_plain}
 use Rattle.sc_back.specs.Tree.{counter_name, function_params, param_name}
 
@@ -31,20 +31,17 @@ not_to false h = refl
 
 -- Names of two lists.
 
-among_append : (xs ys : List Text) (name : Text) → among (xs ++ ys) name ≡ (among xs name || among ys name)
-among_append xs ys name = list_any-append (bytes_eq name) xs ys
-
 pub among_front : (xs ys : List Text) (name : Text) → among xs name ≡ true → among (xs ++ ys) name ≡ true
-among_front xs ys name h = among_append xs ys name ∙ or_left (among xs name) (among ys name) h
+among_front xs ys name h = among-append xs ys name ∙ or_left (among xs name) (among ys name) h
 
 pub among_back : (xs ys : List Text) (name : Text) → among ys name ≡ true → among (xs ++ ys) name ≡ true
-among_back xs ys name h = among_append xs ys name ∙ or_right (among xs name) (among ys name) h
+among_back xs ys name h = among-append xs ys name ∙ or_right (among xs name) (among ys name) h
 
 pub not_front : (xs ys : List Text) (name : Text) → among (xs ++ ys) name ≡ false → among xs name ≡ false
-not_front xs ys name h = (or_parts (among xs name) (among ys name) (sym (among_append xs ys name) ∙ h)).0
+not_front xs ys name h = (or_parts (among xs name) (among ys name) (sym (among-append xs ys name) ∙ h)).0
 
 pub not_back : (xs ys : List Text) (name : Text) → among (xs ++ ys) name ≡ false → among ys name ≡ false
-not_back xs ys name h = (or_parts (among xs name) (among ys name) (sym (among_append xs ys name) ∙ h)).1
+not_back xs ys name h = (or_parts (among xs name) (among ys name) (sym (among-append xs ys name) ∙ h)).1
 
 -- the first of distinct names isn't among the others
 pub first_new : (name : Text) (names : List Text) → are_distinct (name ∷ names) ≡ true → among names name ≡ false

@@ -1,6 +1,7 @@
 -- How the expressions of a performing section are judged.
 use Rattle.std.proofs.Common.{Bool, List, [], ◌∷◌, ◌≡◌, ◌∙◌, ◌^◌, ◌-◌, ◌==◌, ◌<◌, ℕ, ap, ap₂}
-use Rattle.std.proofs.Common.{arith, false, if◌then◌else◌, le-leb, leb-false, length, lt-ltb, map, nat_le, nat_lt, refl, rules, true}
+use Rattle.std.proofs.Common.{arith, false, if◌then◌else◌, le-leb, leb-false, length, lt-ltb, map, nat_le, nat_lt, refl}
+use Rattle.std.proofs.Common.{rules, true}
 use Rattle.std.proofs.lemmas.Bool.{and_from, eqb-false}
 use Rattle.std.specs.List.{AllByRecursion}
 use Rattle.sc_event.specs.declared.interface.Scalar.{Scalar}

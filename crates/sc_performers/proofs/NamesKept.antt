@@ -1,6 +1,7 @@
 -- A performing section breaks no rule of names.
 use Rattle.std.proofs.Common.{List, None, Option, Some, [], ◌∷◌, ◌++◌, ◌≡◌, ◌∙◌, ◌||◌, ◌==◌, ℕ, suc, ap, ap₂}
-use Rattle.std.proofs.Common.{append-nil, append_assoc, arith, bytes_eq, false, length, map, not, refl, subst, sym, true}
+use Rattle.std.proofs.Common.{append-nil, append_assoc, arith, bytes_eq, false, length, map, not, refl, subst, sym}
+use Rattle.std.proofs.Common.{true}
 use Rattle.std.proofs.lemmas.Bool.{and_from, false≢true, or_from, or_left}
 use Rattle.std.proofs.lemmas.List.{map-append}
 use Rattle.std.specs.Prelude.{filter}

@@ -1,5 +1,6 @@
 -- How many nodes the statements of a performing section have.
-use Rattle.std.proofs.Common.{Bool, List, None, Option, Some, [], ◌∷◌, ◌≡◌, ◌==◌, ◌+◌, ◌*◌, ◌≤◌, ◌^◌, ◌-◌, ℕ, suc, arith}
+use Rattle.std.proofs.Common.{Bool, List, None, Option, Some, [], ◌∷◌, ◌≡◌, ◌==◌, ◌+◌, ◌*◌, ◌≤◌, ◌^◌, ◌-◌, ℕ, suc}
+use Rattle.std.proofs.Common.{arith}
 use Rattle.std.proofs.Common.{false, if◌then◌else◌, length, map, nat_le, refl, rules, true}
 use Rattle.std.proofs.lemmas.Bool.{false≢true}
 use Rattle.std.specs.Option.{option_map_or}

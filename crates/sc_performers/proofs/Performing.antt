@@ -1,5 +1,6 @@
 -- Typed statements that do the rows of an entry perform all rows of a compartment that are of it.
-use Rattle.std.proofs.Common.{Bool, List, None, Option, Some, [], ◌∷◌, ◌≡◌, ◌∙◌, ◌==◌, ℕ, suc, ap, false, if◌then◌else◌, length}
+use Rattle.std.proofs.Common.{Bool, List, None, Option, Some, [], ◌∷◌, ◌≡◌, ◌∙◌, ◌==◌, ℕ, suc, ap, false, if◌then◌else◌}
+use Rattle.std.proofs.Common.{length}
 use Rattle.std.proofs.Common.{refl, subst, sym, true}
 use Rattle.std.proofs.lemmas.Bool.{eq-eqb, false≢true}
 use Rattle.std.specs.Prelude.{filter}
@@ -109,7 +110,8 @@ module _ (callees : Callees) (interfaces : Interfaces) (comp : ℕ) (all : List 
             AllFit interfaces comp result
             (if b then row ∷ filter (is_of entry) rows else filter (is_of entry) rows) →
             ((rest : List TypedStmt) → IsTypedBody callees interfaces result (filter (is_of entry) rows) rest →
-            AllFit interfaces comp result (filter (is_of entry) rows) → IsPerforming interfaces entry result rows rest) →
+            AllFit interfaces comp result (filter (is_of entry) rows) →
+            IsPerforming interfaces entry result rows rest) →
             IsPerforming interfaces entry result (row ∷ rows) stmts
         by true here h fits more =
             let b : BeginsWith result row (filter (is_of entry) rows) stmts =

@@ -1,5 +1,6 @@
 -- A performing section with its types performs its rows.
-use Rattle.std.proofs.Common.{Bool, List, None, Option, Some, [], ◌∷◌, ◌++◌, ◌≡◌, ◌∙◌, ◌==◌, ◌+◌, ℕ, zero, suc, ap, ap₂, arith, bytes_eq, cond, false}
+use Rattle.std.proofs.Common.{Bool, List, None, Option, Some, [], ◌∷◌, ◌++◌, ◌≡◌, ◌∙◌, ◌==◌, ◌+◌, ℕ, zero, suc, ap, ap₂}
+use Rattle.std.proofs.Common.{arith, bytes_eq, cond, false}
 use Rattle.std.proofs.Common.{if◌then◌else◌, inl, inr, map, refl, slice_get, subst, sym, true, ◌⊎◌, ◌||◌}
 use Rattle.std.proofs.lemmas.Bool.{or_right}
 use Rattle.std.proofs.lemmas.List.Elements.{recursion_from_All}
@@ -34,7 +35,8 @@ use Rattle.sc_performers.proofs.Undone.{back_tree_is}
 use Rattle.sc_performers.proofs.Distinct.{first_new, front_distinct, is_false, not_both, rest_distinct}
 use Rattle.sc_performers.proofs.Performing.{HasTargets, performing}
 use Rattle.sc_performers.proofs.SectionFacts.{distinct_names, entries, entries_usable, entry_names}
-use Rattle.sc_performers.proofs.SectionTypes.{body_is, functions_are, no_counter, no_locals, no_tags, one_global, signatures}
+use Rattle.sc_performers.proofs.SectionTypes.{body_is, functions_are, no_counter, no_locals, no_tags, one_global}
+use Rattle.sc_performers.proofs.SectionTypes.{signatures}
 use Rattle.sc_performers.proofs.SectionTypes.{targets, typed_params}
 use Rattle.sc_performers.proofs.TypedRows.{typed_body}
 use Rattle.sc_performers.proofs.Uses.{IsAmong, first, later, is_first_or_later, none_among, rows_fit}
@@ -66,7 +68,8 @@ export_among (g ∷ exports) start (suc place) index f e got =
 
 main_among : (b : Bool) (f : Proto) → (if b then Some main_proto else None) ≡ Some f →
     IsAmong {A = Entry × Proto} (Main, f) (if b then (Main, main_proto) ∷ [] else [])
-main_among true f h = subst (λ x. IsAmong {A = Entry × Proto} (Main, f) ((Main, x) ∷ [])) (sym (same_some main_proto f h)) (first [])
+main_among true f h =
+    subst (λ x. IsAmong {A = Entry × Proto} (Main, f) ((Main, x) ∷ [])) (sym (same_some main_proto f h)) (first [])
 main_among false f h = absurd (none-some f h)
 
 entry_holds : (e : Entry × Proto) (all : List (Entry × Proto)) → AllByRecursion (λ e. IsUsable e.1) all →

@@ -1,6 +1,7 @@
 -- What names stand for in a performing section.
 use Rattle.std.proofs.Common.{List, None, Option, Some, [], ◌∷◌, ◌++◌, ◌≡◌, ◌∙◌, ◌+◌, ◌<◌, ◌≤◌, ◌^◌, ℕ, suc, ap, ap₂}
-use Rattle.std.proofs.Common.{arith, bytes_eq, codes, cond, drop, false, if◌then◌else◌, is_some, length, map, inl, inr, refl, subst, sym, true, ◌⊎◌}
+use Rattle.std.proofs.Common.{arith, bytes_eq, codes, cond, drop, false, if◌then◌else◌, is_some, length, map, inl, inr}
+use Rattle.std.proofs.Common.{refl, subst, sym, true, ◌⊎◌}
 use Rattle.std.proofs.lemmas.Bool.{false≢true, or_parts}
 use Rattle.std.proofs.lemmas.Fmt.{digits_decimal}
 use Rattle.std.proofs.lemmas.Str.Parse.{IsNumeralModel, numerals_by_value, tells_all_ascii_digits}
@@ -30,10 +31,12 @@ use Rattle.sc_ast.specs.declared.stmt.StmtTree.{StmtTree}
 use Rattle.sc_core.specs.Prelude.{proto_signature, result_ty, scalar_ty}
 use Rattle.sc_core.specs.declared.expr.VarRef.TheVariants.{Param}
 use Rattle.sc_core.specs.declared.section.TypedParam.{TypedParam}
-use Rattle.sc_scope.specs.Prelude.{Text, among, are_distinct, function_named, function_names, functions_in, globals_in, heads_in}
+use Rattle.sc_scope.specs.Prelude.{Text, among, are_distinct, function_named, function_names, functions_in, globals_in}
+use Rattle.sc_scope.specs.Prelude.{heads_in}
 use Rattle.sc_scope.specs.Prelude.{import_of, struct_names, structs_in}
 use Rattle.sc_elab_expr.specs.Prelude.{Callees, found_in, target_or}
-use Rattle.sc_elab.specs.Prelude.{callees_of, global_variable, head_named, import_named, import_target, imported_target, or_first}
+use Rattle.sc_elab.specs.Prelude.{callees_of, global_variable, head_named, import_named, import_target, imported_target}
+use Rattle.sc_elab.specs.Prelude.{or_first}
 use Rattle.sc_elab.specs.Prelude.{param_ty, result_of, scope_in, signature_by, structs, type_of, type_of_name}
 use Rattle.sc_elab.specs.Prelude.{typed_function, typed_param, visible_of}
 use Rattle.sc_elab_stmt.specs.Prelude.{typed_stmt}
@@ -45,7 +48,8 @@ use Rattle.sc_performers.proofs.BackTree.{function_at, head_at, import_at, no_he
 use Rattle.sc_performers.proofs.Declared.{all_functions, all_globals, all_heads, all_structs, heads_of}
 use Rattle.sc_performers.proofs.Distinct.{apart, back_distinct, first_new, is_false, not_both, rest_distinct}
 use Rattle.sc_performers.proofs.Judging.{scope}
-use Rattle.sc_performers.proofs.SectionFacts.{distinct_names, entries, entry_names, functions_named, imported_uses, names_defined}
+use Rattle.sc_performers.proofs.SectionFacts.{distinct_names, entries, entry_names, functions_named, imported_uses}
+use Rattle.sc_performers.proofs.SectionFacts.{names_defined}
 use Rattle.sc_performers.proofs.SectionFacts.{tree_names, use_named, use_names}
 use Rattle.sc_performers.proofs.TypedRows.{HasSignatures}
 use Rattle.sc_performers.proofs.TypedTrees.{visible}

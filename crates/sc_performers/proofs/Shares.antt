@@ -1,5 +1,6 @@
 -- The rows of all entries are no more than the rows.
-use Rattle.std.proofs.Common.{Bool, List, [], ◌∷◌, ◌++◌, ◌≡◌, ◌∙◌, ◌==◌, ◌+◌, ◌<◌, ◌≤◌, ℕ, suc, ap₂, arith, false, if◌then◌else◌, length, map}
+use Rattle.std.proofs.Common.{Bool, List, [], ◌∷◌, ◌++◌, ◌≡◌, ◌∙◌, ◌==◌, ◌+◌, ◌<◌, ◌≤◌, ℕ, suc, ap₂, arith, false}
+use Rattle.std.proofs.Common.{if◌then◌else◌, length, map}
 use Rattle.std.proofs.Common.{refl, true}
 use Rattle.std.proofs.lemmas.Bool.{eqb-true}
 use Rattle.std.specs.Prelude.{filter}
@@ -13,10 +14,6 @@ use Rattle.sc_event.specs.declared.row.Row.{Row}
 use Rattle.sc_core.specs.Prelude.{total}
 use Rattle.sc_back.specs.Text.{is_of, main_proto}
 use Rattle.sc_performers.proofs.BackTree.{entries_from, entries_of, main_entries}
-
-pub total_append : (xs ys : List ℕ) → total (xs ++ ys) ≡ total xs + total ys
-total_append [] ys = omega arith
-total_append (x ∷ xs) ys = omega (arith, total_append xs ys)
 
 abbrev one_if : Bool → ℕ
 one_if true = 1

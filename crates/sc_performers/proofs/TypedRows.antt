@@ -1,5 +1,6 @@
 -- The rows of a performing section with their types.
-use Rattle.std.proofs.Common.{List, None, Option, Some, [], ◌∷◌, ◌≡◌, ◌∙◌, ◌==◌, ℕ, suc, ap, false, length, map, refl, subst, sym, true}
+use Rattle.std.proofs.Common.{List, None, Option, Some, [], ◌∷◌, ◌≡◌, ◌∙◌, ◌==◌, ℕ, suc, ap, false, length, map, refl}
+use Rattle.std.proofs.Common.{subst, sym, true}
 use Rattle.std.proofs.lemmas.Bool.{false≢true}
 use Rattle.std.specs.Option.{option_map_or}
 use Rattle.sc_event.specs.Prelude.{export_at, imports, is_function}

@@ -102,7 +102,8 @@ module _ (params : List TypedParam) (absent : found_in Param params counter_name
         stmt_at line (typed_stmt_kinds.Assign counter (texts.literal ty.Unsigned number))
     assign_at line number = search (rules, exprs.the_lemmas, kinds.the_lemmas, stmts.the_lemmas, found_counter)
 
-    pub call_at : (line : ℕ) (call : CallTree) → typed_stmt visible callees result (back.stmt_at line (kinds.Call call)) ≡
+    pub call_at : (line : ℕ) (call : CallTree) →
+        typed_stmt visible callees result (back.stmt_at line (kinds.Call call)) ≡
         stmt_at line (typed_stmt_kinds.Call (typed_call visible callees call))
     call_at line call = search (rules, exprs.the_lemmas, kinds.the_lemmas, stmts.the_lemmas)
 

@@ -38,7 +38,8 @@ use Rattle.sc_core.specs.declared.section.TypedParam.{TypedParam}
 use Rattle.sc_core.specs.declared.ty.Ty.{Ty}
 use Rattle.sc_scope.specs.Prelude.{unless}
 use Rattle.sc_elab_expr.specs.Prelude.{Callees, found_in, going_to, typed}
-use Rattle.sc_elab_stmt.specs.Prelude.{assign_holds, call_holds, cond_holds, going_to_all, params_of, return_value_holds}
+use Rattle.sc_elab_stmt.specs.Prelude.{assign_holds, call_holds, cond_holds, going_to_all, params_of}
+use Rattle.sc_elab_stmt.specs.Prelude.{return_value_holds}
 use Rattle.sc_elab_stmt.specs.Prelude.{stmt_lines}
 use Rattle.sc_elab.specs.Prelude.{callees_of, decl_lines, function_lines}
 use Rattle.sc_elab.specs.Prelude.{section_lines}

@@ -1,6 +1,7 @@
 -- What the premises say of a section's functions, of what it imports and of its rows.
 use Rattle.std.proofs.Common.{Bool, List, None, Option, Some, [], ◌∷◌, ◌++◌, ◌≡◌, ◌∙◌, ◌==◌, ◌||◌, ℕ, suc, ap, ap₂}
-use Rattle.std.proofs.Common.{false, if◌then◌else◌, inl, inr, length, map, refl, subst, sym, true, slice_get, ◌⊎◌}
+use Rattle.std.proofs.Common.{append_assoc, arith, false, if◌then◌else◌, inl, inr, length, length-append, map, refl}
+use Rattle.std.proofs.Common.{slice_get, subst, sym, true, ◌⊎◌}
 use Rattle.std.proofs.lemmas.Bool.{false≢true}
 use Rattle.std.proofs.lemmas.Bool.Decides.{Decides-eqb}
 use Rattle.std.proofs.lemmas.List.{map-append}
@@ -127,22 +128,14 @@ both_entries P (x ∷ xs) ys h k = (h.0, both_entries P xs ys h.1 k)
 
 module _ (interfaces : Interfaces) (comp : ℕ) (rows : List Row) (interface : Interface)
     (is : IsPerformer interfaces comp rows interface) where
-  one_further : (front : List Proto) (f : Proto) → length (front ++ f ∷ []) ≡ suc (length front)
-  one_further [] f = refl
-  one_further (x ∷ front) f = ap suc (one_further front f)
-
-  regrouped : (front : List Proto) (f : Proto) (rest : List Proto) → (front ++ f ∷ []) ++ rest ≡ front ++ f ∷ rest
-  regrouped [] f rest = refl
-  regrouped (x ∷ front) f rest = ap (λ y. x ∷ y) (regrouped front f rest)
-
   exports_from : (front exports : List Proto) (index : ℕ) → interface.exports ≡ front ++ exports →
       index ≡ length front → AreEntries interfaces comp (entries_from index exports)
   exports_from front [] index all at = tt
   exports_from front (f ∷ exports) index all at = (
     ap (option_and_then (λ found. slice_get found.exports index)) is.there ∙
         ap₂ slice_get all at ∙ get_behind front f exports,
-    exports_from (front ++ f ∷ []) exports (suc index) (all ∙ sym (regrouped front f exports))
-        (ap suc at ∙ sym (one_further front f)),
+    exports_from (front ++ f ∷ []) exports (suc index) (all ∙ sym (append_assoc front (f ∷ []) exports))
+        (let one = length-append front (f ∷ []) in omega (arith, at, one)),
   )
 
   main_from : (b : Bool) → (comp == interfaces.main) ≡ b →

@@ -1,5 +1,7 @@
 -- The rules that a section keeps which performs a compartment's part of a trace.
-use Rattle.std.specs.Prelude.{◌≡◌, ℕ, List, [], All}
+use Rattle.std.specs.Prelude.{◌≡◌, ◌≤◌, ℕ, List, [], All, length, true}
+use Rattle.sc_event.specs.Prelude.{legal, part}
+use Rattle.sc_event.specs.declared.event.Event.{Event}
 use Rattle.sc_event.specs.declared.interface.Interface.{Interface}
 use Rattle.sc_event.specs.declared.interface.Interfaces.{Interfaces}
 use Rattle.sc_event.specs.declared.row.Row.{Row}
@@ -10,8 +12,8 @@ use Rattle.sc_elab.specs.Sections as types
 use Rattle.sc_elab.specs.Prelude.{callees_of, typed_section}
 use Rattle.sc_types.specs.Counts as counts
 use Rattle.sc_back.specs.Tree.{back_tree}
-use Rattle.sc_replay.specs.Replay.{IsReplaced}
-use Rattle.sc_performers.specs.Performer.{IsImportedAs, IsPerformer}
+use Rattle.sc_replay.specs.Replay.{HasWords, IsReplaced}
+use Rattle.sc_performers.specs.Performer.{FitsRow, IsImportedAs, IsPerformer}
 
 -- it breaks no rule of names
 abbrev pub NamesHold : Type 0
@@ -40,3 +42,10 @@ CountsHold = (interfaces : Interfaces) (comp : ℕ) (rows : List Row) (interface
     IsPerformer interfaces comp rows interface → SameButLines section (back_tree interfaces comp rows interface) →
     (sections : List SectionTree) (number : ℕ) →
     counts.section_lines section (callees_of sections number section) ≡ []
+
+-- the rows of a part of a legal trace that isn't too long are such as a section can perform
+abbrev pub LegalRowsFit : Type 0
+LegalRowsFit = (interfaces : Interfaces) (trace : List Event) (comp : ℕ) → legal interfaces trace ≡ true →
+    All HasWords trace → length trace ≤ 4096 →
+    All (FitsRow interfaces comp) (part interfaces.main comp trace) ×
+    (length (part interfaces.main comp trace) ≤ 4096)

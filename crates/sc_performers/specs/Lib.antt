@@ -1,2 +1,4 @@
 pub mod Performer
 pub mod Laws
+pub mod Recomposed
+pub mod Performing

@@ -3,4 +3,7 @@
 
 mod laws;
 
-pub use laws::{counts_hold, names_hold, rows_perform, types_hold};
+pub use laws::{
+    counts_hold, legal_rows_fit, names_hold, parts_perform, recomposed_hold, rows_perform,
+    types_hold,
+};

@@ -1,23 +1,23 @@
 pub mod Common
-mod Basics
+pub mod Basics
 mod Bodies
 mod Callees
-mod Calls
+pub mod Calls
 pub mod Examples
-mod Facts
-mod Functions
+pub mod Facts
+pub mod Functions
 mod Heights
-mod Lookups
+pub mod Lookups
 pub mod Measures
 pub mod Noted
 pub mod Phase
 mod Phases
-mod Places
+pub mod Places
 mod Readings
 mod Refusals
-mod Sections
+pub mod Sections
 mod Sources
 mod Structs
 pub mod TypedNodes
 mod Verdicts
-mod Whole
+pub mod Whole

@@ -76,7 +76,7 @@ result_agrees : (result : Option TypeName) → faces.same_result result result �
 result_agrees None = refl
 result_agrees (Some t) = type_agrees t
 
-agrees : (head : HeadTree) → agree head head ≡ true
+pub agrees : (head : HeadTree) → agree head head ≡ true
 agrees head = and_from _ _ (result_agrees head.result) (params_agree head.params)
 
 within : {A : Type 0} (xs : List A) (n : ℕ) → slice_get xs n ≡ None → length xs ≤ n
@@ -99,7 +99,7 @@ none_there : (a b : Bool) → (a || b) ≡ false → (a ≡ false) × (b ≡ fal
 none_there true b h = absurd (false≢true (sym h))
 none_there false b h = (refl, h)
 
-not_in_append : (name : Text) (xs ys : List Text) → is_numbered xs name ≡ false → is_numbered ys name ≡ false →
+pub not_in_append : (name : Text) (xs ys : List Text) → is_numbered xs name ≡ false → is_numbered ys name ≡ false →
     is_numbered (xs ++ ys) name ≡ false
 not_in_append name [] ys h k = k
 not_in_append name (x ∷ xs) ys h k =
@@ -107,7 +107,7 @@ not_in_append name (x ∷ xs) ys h k =
     none_there (bytes_eq name x) (is_numbered xs name) h in
     ap (λ b. b || is_numbered (xs ++ ys) name) parts.0 ∙ not_in_append name xs ys parts.1 k
 
-both_distinct : (xs ys : List Text) → decls.are_distinct xs ≡ true → Each (λ x. is_numbered ys x ≡ false) xs →
+pub both_distinct : (xs ys : List Text) → decls.are_distinct xs ≡ true → Each (λ x. is_numbered ys x ≡ false) xs →
     decls.are_distinct ys ≡ true → decls.are_distinct (xs ++ ys) ≡ true
 both_distinct [] ys h none k = k
 both_distinct (x ∷ xs) ys h none k =
@@ -127,7 +127,7 @@ names_same : (before : List Decl) (decl : Decl) → function_names (decl ∷ [])
 names_same before decl h =
     names_append before (decl ∷ []) ∙ ap (λ more. function_names before ++ more) h ∙ append-nil (function_names before)
 
-functions_fresh : (section : SectionTree) (before rest : List Decl) → names.lines_from section before rest ≡ [] →
+pub functions_fresh : (section : SectionTree) (before rest : List Decl) → names.lines_from section before rest ≡ [] →
     Fresh (function_names before) (function_names rest)
 functions_fresh section before [] h = tt
 functions_fresh section before (Struct tree ∷ rest) h =
@@ -168,7 +168,7 @@ module _ (sections : List SectionTree) (hold : (j : ℕ) (s : SectionTree) → s
 
   -- The names by which imports are called.
 
-  promised_name : (name : Text) (found : Option FunctionTree) → (promised name found).name ≡ name
+  pub promised_name : (name : Text) (found : Option FunctionTree) → (promised name found).name ≡ name
   promised_name name None = refl
   promised_name name (Some tree) = refl
 
@@ -246,7 +246,7 @@ module _ (sections : List SectionTree) (hold : (j : ℕ) (s : SectionTree) → s
   -- an export line at its place
   module _ (at : ℕ) (line : ExportLine) (got : slice_get section.exports at ≡ Some line)
       (f : ExportFacts sections number section line) where
-    g : FoundFunction line.name (functions_in section.decls)
+    pub g : FoundFunction line.name (functions_in section.decls)
     g = find_function line.name (functions_in section.decls) f.defined
 
     exported : is_numbered (export_names section) g.tree.head.name ≡ true
@@ -261,7 +261,7 @@ module _ (sections : List SectionTree) (hold : (j : ℕ) (s : SectionTree) → s
         (functions_in section.decls) g.at g.tree (each_function
         (DeclFacts sections number section facts.mains) section.decls facts.decls) g.got).0
 
-    crossing : head_crosses (head_of g.tree.head) ≡ true
+    pub crossing : head_crosses (head_of g.tree.head) ≡ true
     crossing = or_not (head_crosses (head_of g.tree.head)) _ fits (or_left _ _ exported)
 
     promise : proto_of section line ≡ promised line.name (Some g.tree)

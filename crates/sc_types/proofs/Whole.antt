@@ -120,7 +120,7 @@ module _ (sections : List SectionTree) where
   plus_none : (n : ℕ) → 0 + n ≡ n
   plus_none n = omega arith
 
-  hold : interface_broken sections ≡ [] → (j : ℕ) (section : SectionTree) → slice_get sections j ≡ Some section →
+  pub hold : interface_broken sections ≡ [] → (j : ℕ) (section : SectionTree) → slice_get sections j ≡ Some section →
       FaceFacts sections j section
   hold h j section got =
       subst (λ n. FaceFacts sections n section) (plus_none j)
@@ -144,7 +144,7 @@ module _ (sections : List SectionTree) where
         plus_one : (n m : ℕ) → suc n + m ≡ n + suc m
         plus_one n m = omega arith
 
-  count_at : counts.lines_from sections 0 sections ≡ [] → (j : ℕ) (section : SectionTree) →
+  pub count_at : counts.lines_from sections 0 sections ≡ [] → (j : ℕ) (section : SectionTree) →
       slice_get sections j ≡ Some section → counts.section_lines section (callees_of sections j section) ≡ []
   count_at h j section got =
       subst (λ n. counts.section_lines section (callees_of sections n section) ≡ []) (plus_none j)

@@ -1,0 +1,4 @@
+pub mod Accepted
+pub mod Joined
+pub mod Replaced
+pub mod Rows

@@ -1,0 +1,110 @@
+-- What is read of a text in which compartments perform.
+use Rattle.std.proofs.Common.{◌≡◌, ℕ, suc, ◌<◌, ◌≤◌, ◌==◌, ◌||◌, Bool, true, false, List, [], ◌∷◌, ◌++◌, length, map, All}
+use Rattle.std.proofs.Common.{Option, None, Some, if◌then◌else◌, refl, sym, ◌∙◌, ap, ap₂, subst}
+use Rattle.std.specs.List.{AllByRecursion, concat, list_any}
+use Rattle.std.proofs.lemmas.Bool.{eqb-true}
+use Rattle.std.proofs.lemmas.List.Elements.{recursion_from_All}
+use Rattle.sc_event.specs.Prelude.{legal}
+use Rattle.sc_event.specs.declared.event.Event.{Event}
+use Rattle.sc_event.specs.declared.interface.Interfaces.{Interfaces}
+use Rattle.sc_core.specs.Prelude.{meaning}
+use Rattle.sc_core.specs.declared.program.ProgramTree.{ProgramTree}
+use Rattle.sc_lex.specs.Prelude.{IsSplit}
+use Rattle.sc_lex.specs.declared.section.Section.{Section}
+use Rattle.sc_read.specs.Reading.{Part, part_of}
+use Rattle.sc_read.proofs.Splits.{same_parts, same_preamble}
+use Rattle.sc_types.specs.Acceptance.{Accepts}
+use Rattle.sc_types.specs.Source.{IsSource, IsSplitInto, SourceParts}
+use Rattle.sc_back.specs.Sections.{new_text, new_texts}
+use Rattle.sc_replay.specs.Replay.{HasWords}
+use Rattle.sc_chain.specs.Recompose.{among, joined, performing, performing_text, recomposed, text_for}
+use Rattle.sc_chain.specs.Replaced.{IsReplaced}
+use Rattle.sc_chain.specs.Sections.{replacement_of}
+use Rattle.sc_chain.proofs.Accepted as accepted
+
+-- The replacements of a list of compartments are those of their set.
+text_is : (interfaces : Interfaces) (trace : List Event) (comps : List ℕ) (comp : ℕ) →
+    text_for (map (replacement_of interfaces trace) comps) comp ≡ performing interfaces trace (among comps) comp
+text_is interfaces trace [] comp = refl
+text_is interfaces trace (one ∷ comps) comp = by (one == comp) refl (text_is interfaces trace comps comp) where
+  by : (same : Bool) → (one == comp) ≡ same →
+      text_for (map (replacement_of interfaces trace) comps) comp ≡ performing interfaces trace (among comps) comp →
+      (if same then Some (performing_text interfaces trace one) else
+      text_for (map (replacement_of interfaces trace) comps) comp) ≡
+      (if same || among comps comp then Some (performing_text interfaces trace comp) else None)
+  by true is h = ap (λ c. Some (performing_text interfaces trace c)) (eqb-true one comp is)
+  by false is h = h
+
+new_texts_same : (replace other : ℕ → Option (List ℕ)) → ((comp : ℕ) → replace comp ≡ other comp) → (comp : ℕ)
+    (olds : List (List ℕ)) → new_texts replace comp olds ≡ new_texts other comp olds
+new_texts_same replace other same comp [] = refl
+new_texts_same replace other same comp (old ∷ olds) =
+    ap₂ (λ r rest. new_text r old ∷ rest) (same comp) (new_texts_same replace other same (suc comp) olds)
+
+pub joined_is : (source : SourceParts) (trace : List Event) (comps : List ℕ) →
+    joined source (text_for (map (replacement_of source.program.interfaces trace) comps)) ≡
+    recomposed source trace (among comps)
+joined_is source trace comps =
+    ap (λ texts. source.preamble ++ concat texts)
+    (new_texts_same (text_for (map (replacement_of source.program.interfaces trace) comps))
+    (performing source.program.interfaces trace (among comps)) (text_is source.program.interfaces trace comps) 0
+    source.sections)
+
+-- the compartments of a list are those of the program
+pub within_all : (count : ℕ) (comps : List ℕ) → AllByRecursion (λ comp. comp < count) comps → (comp : ℕ) →
+    among comps comp ≡ true → comp < count
+within_all count [] h comp own = absurd (cc own)
+within_all count (one ∷ comps) h comp own = by (one == comp) refl own (within_all count comps h.1 comp) where
+  by : (same : Bool) → (one == comp) ≡ same → (same || among comps comp) ≡ true →
+      (among comps comp ≡ true → comp < count) → comp < count
+  by true is own rest = subst (λ c. c < count) (eqb-true one comp is) h.0
+  by false is own rest = rest own
+
+-- a text is split in one way
+bytes_are : (sections : List Section) → List (List ℕ)
+bytes_are sections = map (λ section. section.bytes.now) sections
+
+part_bytes : (sections : List Section) →
+    map (λ section. section.bytes.now) sections ≡ map (λ (part : Part). part.bytes) (map part_of sections)
+part_bytes [] = refl
+part_bytes (section ∷ sections) = ap (λ rest. section.bytes.now ∷ rest) (part_bytes sections)
+
+one_split : (text preamble other : List ℕ) (sections others : List (List ℕ)) → IsSplitInto text preamble sections →
+    IsSplitInto text other others → (preamble ≡ other) × (sections ≡ others)
+one_split text preamble other sections others a b = (
+  same_preamble a.split b.split,
+  a.bytes ∙ part_bytes a.found ∙ ap (map (λ (part : Part). part.bytes)) (same_parts a.split b.split) ∙
+      sym (part_bytes b.found) ∙ sym b.bytes,
+)
+
+module _ (one_program : (text : List ℕ) (program other : ProgramTree) → Accepts text program → Accepts text other →
+    program ≡ other) where
+  pub is_replaced : (source : SourceParts) (trace : List Event) (comps : List ℕ) (new : SourceParts) →
+      IsSource source → legal source.program.interfaces trace ≡ true → length trace ≤ 4096 → All HasWords trace →
+      All (λ comp. comp < length source.program.interfaces.comps) comps → IsSource new →
+      new.bytes ≡ recomposed source trace (among comps) → IsReplaced source trace (among comps) new
+  is_replaced source trace comps new is allowed few words known read bytes =
+      let within = within_all (length source.program.interfaces.comps) comps
+      (recursion_from_All (λ comp. comp < length source.program.interfaces.comps) comps known) in
+      let program : ProgramTree = accepted.program source trace is allowed few words (among comps) within in
+      let same : new.program ≡ program =
+      one_program new.bytes new.program program read.accepted
+      (subst (λ text. Accepts text program) (sym bytes)
+      (accepted.accepted source trace is allowed few words (among comps) within)) in
+      let parts = one_split new.bytes new.preamble source.preamble new.sections
+      (new_texts (performing source.program.interfaces trace (among comps)) 0 source.sections) read.split
+      (subst (λ text. IsSplitInto text source.preamble
+      (new_texts (performing source.program.interfaces trace (among comps)) 0 source.sections)) (sym bytes)
+      (accepted.split_so source trace is allowed few words (among comps) within)) in
+      record {
+        bytes = bytes;
+        preamble = parts.0;
+        sections = parts.1;
+        interfaces = ap (λ (p : ProgramTree). p.interfaces) same ∙
+            accepted.same_interfaces source trace is allowed few words (among comps) within;
+        means = λ inputs turns events. ap (λ p. meaning p inputs turns events) same ∙
+            accepted.means source trace is allowed few words (among comps) within inputs turns events;
+        blames = λ inputs turns events comp cause line end.
+            accepted.blames source trace is allowed few words (among comps) within inputs turns events comp cause line
+            (ap (λ p. (meaning p inputs turns events).end) (sym same) ∙ end);
+      }

@@ -1,0 +1,223 @@
+-- A section that performs is seen by others as the section is that it replaces.
+use Rattle.std.proofs.Common.{Bool, List, Some, [], ◌∷◌, ◌++◌, ◌≡◌, ◌∙◌, ◌==◌, ◌||◌, ℕ, suc, ap, bytes_eq}
+use Rattle.std.proofs.Common.{inl, inr, append-nil, false, if◌then◌else◌, map, not, refl, slice_get, subst, sym, true}
+use Rattle.std.proofs.lemmas.Bool.{false≢true}
+use Rattle.sc_base.proofs.Lists.{map_twice}
+use Rattle.sc_base.proofs.Texts.{bytes_eq_self, same_either_way}
+use Rattle.sc_event.specs.declared.interface.Import.{Import}
+use Rattle.sc_event.specs.declared.interface.Interfaces.{Interfaces}
+use Rattle.sc_event.specs.declared.interface.Proto.{Proto}
+use Rattle.sc_event.specs.declared.row.Entry.{Entry}
+use Rattle.sc_event.specs.declared.row.Entry.TheVariants.{Main}
+use Rattle.sc_event.specs.declared.row.Row.{Row}
+use Rattle.sc_ast.specs.Prelude.{head_of}
+use Rattle.sc_ast.specs.declared.section.ExportLine.{ExportLine}
+use Rattle.sc_ast.specs.declared.section.HeadTree.{HeadTree}
+use Rattle.sc_ast.specs.declared.section.ImportLine.{ImportLine}
+use Rattle.sc_ast.specs.declared.section.SectionTree.{SectionTree}
+use Rattle.sc_ast.specs.declared.stmt.StmtTree.{StmtTree}
+use Rattle.sc_scope.specs.Interfaces.{function_named, interface_of, main_name, promised, proto_of}
+use Rattle.sc_scope.specs.Prelude.{Text, among, are_distinct, defines_main, export_names, function_names, functions_in}
+use Rattle.sc_scope.specs.Prelude.{heads_in, import_of, interfaces_of}
+use Rattle.sc_interfaces.specs.Faces.{agree, agrees_with, interface_broken}
+use Rattle.sc_interfaces.proofs.Agreeing.{agree_left}
+use Rattle.sc_types.specs.Counts.{counts_broken}
+use Rattle.sc_types.proofs.Basics.{Each, front_empty}
+use Rattle.sc_types.proofs.Facts.{ExportFacts, FaceFacts}
+use Rattle.sc_back.specs.Text.{main_proto}
+use Rattle.sc_performers.specs.Performer.{IsPerformer, names_of}
+use Rattle.sc_performers.proofs.Agreeing.{all_front, promise_defined}
+use Rattle.sc_performers.proofs.BackTree.{AreImports, IsBackTree}
+use Rattle.sc_performers.proofs.BackTree.{counter_at, entries_from, entries_of, function_at}
+use Rattle.sc_performers.proofs.BackTree.{main_entries, use_of, uses}
+use Rattle.sc_performers.proofs.Declared.{all_functions, all_heads, heads_of}
+use Rattle.sc_performers.proofs.Distinct.{among_front, apart, front_distinct, is_false}
+use Rattle.sc_performers.proofs.Fitting.{all_promised, all_resolved, each_map, exports_named, facts, main_here}
+use Rattle.sc_performers.proofs.Fitting.{proto_named}
+use Rattle.sc_performers.proofs.OneMain.{main_only}
+use Rattle.sc_performers.proofs.Resolved.{IsPromised, IsResolved}
+use Rattle.sc_performers.proofs.SectionFacts.{distinct_names, entry_names, functions_named, names_declared, use_names}
+use Rattle.sc_performers.proofs.Seen.{AreAlike, IsSeenAs}
+use Rattle.sc_performers.proofs.Uses.{IsAmong}
+use Rattle.sc_performers.proofs.Made.{ImportsBy, IsExportOrMain, IsMade, each_export, each_in, each_mapped, entry_is}
+use Rattle.sc_performers.proofs.Made.{functions_agree, imports_by, made, made_promised, none_named, promised_same}
+
+module _ (olds : List SectionTree) (in_faces : interface_broken olds ≡ []) (in_counts : counts_broken olds ≡ [])
+    (number : ℕ) (old : SectionTree) (got : slice_get olds number ≡ Some old) (rows : List Row)
+    (is : IsPerformer (interfaces_of olds) number rows
+    (interface_of olds number old))
+    (new : SectionTree) (t : IsBackTree (interfaces_of olds) number rows
+    (interface_of olds number old) new) where
+  abbrev faces : Interfaces
+  faces = interfaces_of olds
+
+  abbrev exports : List Proto
+  exports = map (proto_of old) old.exports
+
+  abbrev entries : List (Entry × Proto)
+  entries = entries_of faces number (interface_of olds number old)
+
+  abbrev used : List (Import × Proto)
+  used = uses faces (map (import_of olds number) old.imports)
+
+  abbrev fact : FaceFacts olds number old
+  fact = facts olds in_faces in_counts number old got
+
+  distinct : are_distinct (entry_names entries ++ use_names used) ≡ true
+  distinct = distinct_names faces number rows (interface_of olds number old) is
+
+  own_distinct : are_distinct (entry_names entries) ≡ true
+  own_distinct = front_distinct (entry_names entries) (use_names used) distinct
+
+  pub exports_same : export_names new ≡ export_names old
+  exports_same = t.exports ∙ exports_named old old.exports
+
+  functions_are : functions_in new.decls ≡ t.functions
+  functions_are = ap functions_in t.decls ∙ all_functions t.heads (counter_at t.counter_line) t.functions
+
+  -- what is promised
+
+  entry_promised : (e : Entry × Proto) → IsAmong e entries →
+      promised e.1.name (function_named e.1.name t.functions) ≡ e.1
+  entry_promised e there =
+      let m : IsMade e.1 t.functions = made faces rows entries t.functions t.are_functions own_distinct e there in
+      ap (promised e.1.name) m.found ∙ made_promised e.1 m.line m.close m.body
+
+  protos_same : map (proto_of new) new.exports ≡ map (proto_of old) old.exports
+  protos_same =
+      (λ i. map (λ line. promised line.name (function_named line.name (functions_are i))) new.exports) ∙
+      sym (map_twice (λ name. promised name (function_named name t.functions)) (λ line. line.name) new.exports) ∙
+      ap (map (λ name. promised name (function_named name t.functions))) t.exports ∙
+      promised_same t.functions exports (each_export
+      (λ f. promised f.name (function_named f.name t.functions) ≡ f) 0 exports (main_entries faces number)
+      entry_promised)
+
+  -- imports
+
+  alike_next : (line : ImportLine) (lines : List ImportLine) (r : IsResolved olds number old line) →
+      ((others : List ImportLine) → AreImports faces (uses faces (map (import_of olds number) lines)) others →
+      AreAlike lines others) → (others : List ImportLine) →
+      ImportsBy faces ((import_of olds number line, r.f) ∷ uses faces (map (import_of olds number) lines)) others →
+      AreAlike (line ∷ lines) others
+  alike_next line lines r rest [] h = absurd h
+  alike_next line lines r rest (b ∷ others) h = (
+    record {
+      comp = ap (λ b. b.comp) h.0.1 ∙ r.owner;
+      name = ap (λ b. b.name) h.0.1 ∙ r.name;
+    },
+    rest others h.1,
+  )
+
+  alike_none : (others : List ImportLine) → ImportsBy faces [] others → AreAlike [] others
+  alike_none [] h = tt
+  alike_none (b ∷ others) h = absurd h
+
+  alike_from : (lines : List ImportLine) → Each (IsResolved olds number old) lines → (others : List ImportLine) →
+      AreImports faces (uses faces (map (import_of olds number) lines)) others → AreAlike lines others
+  alike_from [] rs others h = alike_none others (imports_by faces [] others h)
+  alike_from (line ∷ lines) rs others h =
+      alike_next line lines rs.0 (alike_from lines rs.1) others
+      (imports_by faces ((import_of olds number line, rs.0.f) ∷ uses faces (map (import_of olds number) lines)) others
+      (subst (λ o. AreImports faces (use_of (import_of olds number line) o
+      (uses faces (map (import_of olds number) lines))) others) rs.0.is h))
+
+  pub imports_alike : AreAlike old.imports new.imports
+  imports_alike =
+      alike_from old.imports (all_resolved olds in_faces in_counts number old got) new.imports t.imports
+
+  -- main
+
+  new_names : function_names new.decls ≡ entry_names entries
+  new_names = functions_named faces number rows (interface_of olds number old) is new t
+
+  entry_names_are : (b : Bool) (index : ℕ) (fs : List Proto) →
+      entry_names (entries_from index fs ++ (if b then (Main, main_proto) ∷ [] else [])) ≡
+      names_of fs ++ (if b then main_name ∷ [] else [])
+  entry_names_are true index [] = refl
+  entry_names_are false index [] = refl
+  entry_names_are b index (f ∷ fs) = ap (λ x. f.name ∷ x) (entry_names_are b (suc index) fs)
+
+  pub own_names : function_names new.decls ≡
+      export_names old ++ (if number == faces.main then main_name ∷ [] else [])
+  own_names =
+      new_names ∙ entry_names_are (number == faces.main) 0 exports ∙
+      ap (λ ns. ns ++ (if number == faces.main then main_name ∷ [] else [])) (exports_named old old.exports)
+
+  no_export_main : (lines : List ExportLine) → Each (ExportFacts olds number old) lines →
+      among (map {A = ExportLine} (λ line. line.name) lines) main_name ≡ false
+  no_export_main [] h = refl
+  no_export_main (line ∷ lines) h = λ i.
+      (same_either_way main_name line.name ∙ h.0.no_main) i || no_export_main lines h.1 i
+
+  among_last : (names : List Text) (name : Text) → among (names ++ name ∷ []) name ≡ true
+  among_last [] name = ap (λ b. b || false) (bytes_eq_self name)
+  among_last (n ∷ names) name = by (bytes_eq name n) (among_last names name) where
+    by : (b : Bool) → among (names ++ name ∷ []) name ≡ true → (b || among (names ++ name ∷ []) name) ≡ true
+    by true h = refl
+    by false h = h
+
+  main_same : (b : Bool) → (number == faces.main) ≡ b →
+      among (export_names old ++ (if b then main_name ∷ [] else [])) main_name ≡ defines_main old
+  main_same true here =
+      among_last (export_names old) main_name ∙ sym (main_here olds in_faces in_counts number old got here)
+  main_same false elsewhere =
+      ap (λ ns. among ns main_name) (append-nil (export_names old)) ∙ no_export_main old.exports fact.exports ∙
+      sym (main_only olds (front_empty _ _ in_faces) number old got elsewhere)
+
+  -- what agreed still agrees
+
+  export_agrees : (head : HeadTree) → agrees_with (heads_in old.decls) head ≡ true → (line : ExportLine) →
+      IsPromised old line → (proto_of old line).name ≡ head.name → (at close : ℕ) (body : List StmtTree) →
+      agree (head_of (function_at (proto_of old line) at close body).head) head ≡ true
+  export_agrees head agrees line p named at close body =
+      let made_head = head_of (function_at (proto_of old line) at close body).head in
+      let same : agree (head_of p.tree.head) made_head ≡ true =
+      subst (λ f. agree (head_of p.tree.head) (head_of (function_at f at close body).head) ≡ true) (sym p.is)
+      (promise_defined line.name p.tree p.crosses at close body) in
+      sym (agree_left (head_of p.tree.head) made_head head same) ∙
+      p.with_head head (p.named ∙ sym (proto_named old line) ∙ named) agrees
+
+  abbrev Agrees : HeadTree → Proto → Type 0
+  Agrees head f = f.name ≡ head.name → (line close : ℕ) (body : List StmtTree) →
+      agree (head_of (function_at f line close body).head) head ≡ true
+
+  agrees_too : (head : HeadTree) → among (export_names old) head.name ≡ true →
+      agrees_with (heads_in old.decls) head ≡ true → agrees_with (heads_in new.decls) head ≡ true
+  agrees_too head there agrees =
+      subst (λ heads. agrees_with heads head ≡ true)
+      (sym (ap heads_in t.decls ∙ all_heads t.heads (counter_at t.counter_line) t.functions))
+      (all_front t.heads (heads_of t.functions) (λ other. not (bytes_eq other.name head.name) || agree other head)
+      (none_named t.heads head (ap (λ ns. among ns head.name) (names_declared used t.heads t.are_heads) ∙
+      is_false (among (use_names used) head.name) (λ imported. false≢true
+      (sym (apart (entry_names entries) (use_names used) head.name distinct imported) ∙ own_there))))
+      (functions_agree faces rows head entries t.functions t.are_functions agree_at)) where
+        own_there : among (entry_names entries) head.name ≡ true
+        own_there =
+            ap (λ ns. among ns head.name) (sym new_names ∙ own_names) ∙
+            among_front (export_names old) (if number == faces.main then main_name ∷ [] else []) head.name there
+
+        all_exports : Each (Agrees head) exports
+        all_exports =
+            each_mapped (Agrees head) (proto_of old) old.exports
+            (each_map (IsPromised old) (λ line. Agrees head (proto_of old line))
+            (λ line p. export_agrees head agrees line p) old.exports
+            (all_promised olds in_faces in_counts number old got))
+
+        by : (e : Entry × Proto) → IsExportOrMain exports e.1 → Agrees head e.1
+        by e (inl export) = each_in (Agrees head) e.1 exports all_exports export
+        by e (inr is_main) = λ named line close body.
+            absurd (false≢true (sym (no_export_main old.exports fact.exports) ∙
+            ap (among (export_names old)) (sym (ap (λ f. f.name) is_main) ∙ named) ∙ there))
+
+        agree_at : (e : Entry × Proto) → IsAmong e entries → Agrees head e.1
+        agree_at e among_them = by e (entry_is (number == faces.main) 0 exports e among_them)
+
+  pub seen : IsSeenAs old new
+  seen = record {
+    name = t.name;
+    exports = exports_same;
+    imports = imports_alike;
+    protos = protos_same;
+    main = ap (λ ns. among ns main_name) own_names ∙ main_same (number == faces.main) refl;
+    agrees = agrees_too;
+  }

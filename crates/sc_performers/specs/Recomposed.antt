@@ -1,0 +1,30 @@
+-- The sections of a text in which those of some compartments are replaced by ones that perform their parts of a trace.
+use Rattle.std.specs.Prelude.{◌≡◌, ℕ, ◌<◌, ◌≤◌, Bool, true, List, length, All}
+use Rattle.sc_event.specs.Prelude.{legal, part}
+use Rattle.sc_event.specs.declared.event.Event.{Event}
+use Rattle.sc_ast.specs.declared.section.SectionTree.{SectionTree}
+use Rattle.sc_core.specs.declared.program.ProgramTree.{ProgramTree}
+use Rattle.sc_elab.specs.Prelude.{program_of}
+use Rattle.sc_types.specs.Acceptance.{IsTyped}
+use Rattle.sc_back.specs.Sections.{AllBecome}
+use Rattle.sc_replay.specs.Replay.{HasWords, IsRecomposed}
+
+-- a trace that is not too long, which the interfaces allow, with values of 32 bits
+pub record IsPerformable (program : ProgramTree) (trace : List Event) : Type 0 where
+  pub is_legal : legal program.interfaces trace ≡ true
+  pub words : All HasWords trace
+  pub few : length trace ≤ 4096
+
+-- the sections of a program, and those that come of them where the compartments of a set perform a trace
+pub record AreRecomposed (olds news : List SectionTree) (program : ProgramTree) (set : ℕ → Bool)
+    (trace : List Event) : Type 0 where
+  pub typed : IsTyped olds program
+  pub performable : IsPerformable program trace
+  pub within : (comp : ℕ) → set comp ≡ true → comp < length olds
+  pub become : AllBecome program.interfaces (λ comp. part program.interfaces.main comp trace) set 0 olds news
+
+-- the new sections are a program, and that one is the old program recomposed
+abbrev pub RecomposedHold : Type 0
+RecomposedHold = (olds news : List SectionTree) (program : ProgramTree) (set : ℕ → Bool) (trace : List Event) →
+    AreRecomposed olds news program set trace →
+    IsTyped news (program_of news) × IsRecomposed program (program_of news) set trace
