@@ -3,3 +3,4 @@ pub mod Replaced
 pub mod Sections
 pub mod Chain
 pub mod Faults
+pub mod Following

@@ -1,14 +1,163 @@
 //! The account of a run of the machine.
 
-ghost use Rattle.std.specs.Prelude.{◌≡◌, ◌≤◌, true, map, IfOk, IfErr};
+ghost use Rattle.std.specs.Prelude.{◌≡◌, ◌≤◌, ℕ, Bool, true, length, map, IfOk, IfErr};
 ghost use Rattle.sc_event.specs.Prelude.{legal};
+ghost use Rattle.sc_core.specs.Prelude.{scripted_meaning};
+ghost use Rattle.sc_image.specs.Machine.{machine};
+ghost use Rattle.sc_compile.specs.Compiled.{TellsOrBlames};
 ghost use Rattle.sc_word.specs.Prelude.{word_of};
-ghost use Rattle.sc_chain.specs.Chain.{IsExplained};
+ghost use Rattle.sc_chain.specs.Chain.{IsChain, IsExplained};
 ghost use Rattle.sc_chain.specs.Faults.{IsFault};
+ghost use Rattle.sc_chain.specs.Following.{IsNextOf};
 
-use crate::explanation::{ExplainFault, Explanation};
-use sc_types::SourceText;
+use crate::explanation::{ExplainFault, Explanation, Link, Links};
+use crate::replacing::{have_words, performing_text, replaced};
+use sc_base::{OutOfMemory, Stop};
+use sc_compile::compile;
+use sc_core::{RunEnd, SourceRun};
+use sc_event::{CompId, Event, Interfaces, Trace};
+use sc_image::Image;
+use sc_machine::{LoadFault, Machine};
+use sc_run::run_source;
+use sc_store::FlatStore;
+use sc_types::{SourceText, one_program};
+use sqlite_items::Items;
 use std::alloc::Global;
+
+// What a run of the machine shows, and why it stopped.
+#[derive(Drop)]
+struct Shown {
+    trace: Trace,
+    stop: Stop,
+}
+
+// The same event again.
+fn copied(event: &Event) -> Event
+    ensures { result ≡ event.now }
+{
+    match event {
+        Event::Call {
+            from,
+            to,
+            index,
+            args,
+        } => Event::Call {
+            from: *from,
+            to: *to,
+            index: *index,
+            args: args.copied(),
+        },
+        Event::Ret { from, to, value } => Event::Ret {
+            from: *from,
+            to: *to,
+            value: *value,
+        },
+        Event::Out { comp, value } => Event::Out {
+            comp: *comp,
+            value: *value,
+        },
+        Event::In { comp, value } => Event::In {
+            comp: *comp,
+            value: *value,
+        },
+        Event::End { comp, value } => Event::End {
+            comp: *comp,
+            value: *value,
+        },
+    }
+}
+
+// The same events again.
+fn copied_trace(alloc: Global, events: &[Event]) -> Result<Trace, OutOfMemory>
+    ensures { IfOk result (λ trace. trace ≡ events.now) }
+{
+    let mut trace = Trace::new(alloc);
+    for event in events {
+        trace.push(copied(event))?;
+    }
+    Ok(trace)
+}
+
+// What the machine shows on an image in at most so many steps and events.
+fn run_image(
+    alloc: Global,
+    image: Image,
+    inputs: &[i32],
+    steps: u32,
+    events: u32,
+) -> Result<Shown, OutOfMemory>
+    ensures trace { IfOk result (λ shown. shown.trace ≡
+        (machine image (map word_of inputs.now) steps events).state.trace) }
+    ensures stop { IfOk result (λ shown. shown.stop ≡ (machine image (map word_of inputs.now) steps events).stop) }
+    ensures few { IfOk result (λ shown. length shown.trace ≤ events) }
+{
+    // An image is well formed.
+    let _parts = image.parts();
+    let mut machine = Machine::<FlatStore>::load(alloc, image, inputs, events).map_err(
+        |LoadFault::OutOfMemory(_)| OutOfMemory,
+    )?;
+    let stop = machine.run(steps);
+    let trace = copied_trace(alloc, machine.trace())?;
+    Ok(Shown { trace, stop })
+}
+
+// The link of a run that is blamed before the end of the trace.
+fn next_link(
+    alloc: Global,
+    interfaces: &Interfaces,
+    trace: &[Event],
+    run: &SourceRun,
+) -> Result<Option<Link>, OutOfMemory>
+    requires { length trace.now ≤ 4096 }
+    ensures { IfOk result (IsNextOf interfaces.now trace.now run.now) }
+{
+    let RunEnd::Blamed { comp, cause, line } = run.end else {
+        return Ok(None);
+    };
+    if run.trace.len() >= trace.len() {
+        return Ok(None);
+    }
+    let text = performing_text(alloc, interfaces, trace, comp)?;
+    Ok(Some(Link {
+        comp,
+        after: run.trace.len() as u32,
+        cause,
+        line,
+        text,
+    }))
+}
+
+// The chain of texts that accounts for a trace: as long as the meaning of the text so far is blamed before the end of
+// the trace, the blamed compartment performs its part too.
+fn chain(
+    alloc: Global,
+    source: &SourceText,
+    inputs: &[i32],
+    steps: u32,
+    trace: &[Event],
+) -> Result<Links, OutOfMemory>
+    requires allowed { legal source.now.program.interfaces trace.now ≡ true }
+    requires few { length trace.now ≤ 4096 }
+    requires scripted { (set : ℕ → Bool) → TellsOrBlames (length source.now.program.sections) set trace.now
+        (scripted_meaning source.now.program set trace.now (map word_of inputs.now) steps (length trace.now)) }
+    ensures { IfOk result (IsChain source.now (map word_of inputs.now) steps trace.now) }
+{
+    one_program();
+    have_words(trace);
+    let events = trace.len() as u32;
+    let program = source.program();
+    let tree = program.tree();
+    let mut links = Links::new(alloc);
+    let mut comps: Items<CompId> = Items::new(alloc);
+    let mut run = run_source(alloc, program, inputs, steps, events)?;
+    while let Some(link) = next_link(alloc, &tree.interfaces, trace, &run)? {
+        comps.push(link.comp)?;
+        links.push(link)?;
+        let text = replaced(alloc, source, trace, comps.as_slice())?;
+        run = run_source(alloc, text.program(), inputs, steps, events)?;
+    }
+    Ok(links)
+}
 
 /// What the machine shows on the image of a program in at most so many steps and events, and the chain of texts that
 /// accounts for it.
@@ -24,5 +173,16 @@ pub fn explain(
     ensures allowed { IfOk result (λ explanation. legal source.now.program.interfaces explanation.trace ≡ true) }
     ensures fault { IfErr result (IsFault source.now.program) }
 {
-    Err(ExplainFault::OutOfMemory)
+    let image = match compile(alloc, source.program()) {
+        Ok(image) => image,
+        Err(fault) => return Err(ExplainFault::CompileFault(fault)),
+    };
+    let Ok(shown) = run_image(alloc, image, inputs, steps, events) else {
+        return Err(ExplainFault::OutOfMemory);
+    };
+    let Ok(links) = chain(alloc, source, inputs, steps, shown.trace.as_slice()) else {
+        return Err(ExplainFault::OutOfMemory);
+    };
+    let Shown { trace, stop } = shown;
+    Ok(Explanation { trace, stop, links })
 }

@@ -1,6 +1,6 @@
 //! What `explain` answers.
 
-use sc_base::{OutOfMemory, Stop, Text};
+use sc_base::{Stop, Text};
 use sc_compile::CompileFault;
 use sc_core::Cause;
 use sc_event::{CompId, Trace};
@@ -33,12 +33,4 @@ pub struct Explanation {
 pub enum ExplainFault {
     CompileFault(CompileFault),
     OutOfMemory,
-}
-
-impl From<OutOfMemory> for ExplainFault {
-    fn from(_: OutOfMemory) -> ExplainFault
-        ensures { result ≡ ExplainFault.OutOfMemory }
-    {
-        ExplainFault::OutOfMemory
-    }
 }

@@ -1,0 +1,186 @@
+-- How the chain of a trace is followed, link by link, from the run in which nobody performs on.
+use Rattle.std.proofs.Common.{◌≡◌, ℕ, suc, ◌+◌, ◌-◌, ◌<◌, ◌≤◌, ◌==◌, ◌||◌, ◌⊎◌, Bool, true, false, List, [], ◌∷◌}
+use Rattle.std.proofs.Common.{◌++◌, length, map, All, refl, sym, ap, subst, ◌∙◌, arith, append_assoc, append-nil}
+use Rattle.std.proofs.Common.{length-append, eq-eqb, ne_eqb, ⊎_elim}
+use Rattle.std.proofs.lemmas.Bool.{cases_eq}
+use Rattle.std.proofs.lemmas.List.{length-map, map-append}
+use Rattle.std.proofs.lemmas.List.Elements.{All-push}
+use Rattle.std.proofs.lemmas.List.Folds.{list_any-append}
+use Rattle.std.specs.List.{list_any}
+use Rattle.sc_event.specs.declared.event.Event.{Event}
+use Rattle.sc_core.specs.Prelude.{c_arith, meaning}
+use Rattle.sc_core.specs.declared.cause.Cause.{Cause}
+use Rattle.sc_core.specs.declared.run.RunEnd.{RunEnd}
+use Rattle.sc_core.specs.declared.run.RunEnd.TheVariants.{Blamed}
+use Rattle.sc_core.specs.declared.run.SourceRun.{SourceRun}
+use Rattle.sc_laws.specs.Chains.{IsBlamedOutside, IsChain, IsLink, IsRising, Link as Blame, Set, nobody, performed}
+use Rattle.sc_laws.specs.Chains.{with}
+use Rattle.sc_laws.proofs.ProgramLaws.{blamed_are_there, chain_exists, chains_rise, empty_set}
+use Rattle.sc_types.specs.Source.{SourceParts}
+use Rattle.sc_chain.specs.Following.{IsNextLink}
+use Rattle.sc_chain.specs.Recompose.{among, performing_text}
+use Rattle.sc_chain.specs.declared.explanation.Link.{Link}
+
+-- SETS
+same_swapped : (a b : ℕ) → (a == b) ≡ (b == a)
+same_swapped a b =
+    ⊎_elim (λ is. eq-eqb a b is ∙ sym (eq-eqb b a (sym is))) (λ no. ne_eqb a b no ∙
+    sym (ne_eqb b a (λ is. no (sym is)))) (cases_eq a b)
+
+or_swapped : (a b c : Bool) → b ≡ c → (a || (b || false)) ≡ (c || a)
+or_swapped true true c is = ap (λ d. d || true) is
+or_swapped true false c is = ap (λ d. d || true) is
+or_swapped false true c is = ap (λ d. d || false) is
+or_swapped false false c is = ap (λ d. d || false) is
+
+-- one compartment more, at the end of the list or at its head
+pub among_more : (comps : List ℕ) (comp : ℕ) → among (comps ++ comp ∷ []) ≡ with comp (among comps)
+among_more comps comp = λ i. λ one. at one i where
+  at : (one : ℕ) → among (comps ++ comp ∷ []) one ≡ with comp (among comps) one
+  at one =
+      list_any-append (λ c. c == one) comps (comp ∷ []) ∙
+      or_swapped (among comps one) (comp == one) (one == comp) (same_swapped comp one)
+
+pub among_also : (comps : List ℕ) (comp : ℕ) → among (comp ∷ comps) ≡ with comp (among comps)
+among_also comps comp = λ i. λ one. ap (λ b. b || among comps one) (same_swapped comp one) i
+
+-- LINKS
+-- what a link says of a blame
+abbrev pub blame_of : Link → Blame
+blame_of link = record { comp = link.comp; after = link.after; cause = link.cause; line = link.line }
+
+record SameBlame (comp comp' : ℕ) (cause cause' : Cause) (line line' : ℕ) : Type 0 where
+  same_comp : comp ≡ comp'
+  same_cause : cause ≡ cause'
+  same_line : line ≡ line'
+
+same_blame : (comp comp' : ℕ) (cause cause' : Cause) (line line' : ℕ) →
+    Blamed comp cause line ≡ Blamed comp' cause' line' → SameBlame comp comp' cause cause' line line'
+same_blame comp comp' cause cause' line line' is = record { same_comp = cc; same_cause = cc; same_line = cc }
+
+module _ (source : SourceParts) (inputs : List ℕ) (steps : ℕ) (trace : List Event) where
+  -- the runs in which sets perform their parts of the trace
+  abbrev pub runs : Set → SourceRun
+  runs = performed c_arith source.program inputs steps trace
+
+  abbrev pub count : ℕ
+  count = length source.program.interfaces.comps
+
+  abbrev pub Performs : Link → Type 0
+  Performs link = link.text ≡ performing_text source.program.interfaces trace link.comp
+
+  -- the links are a whole chain
+  pub record IsFound (links : List Link) : Type 0 where
+    pub chain : IsChain runs trace nobody (map blame_of links)
+    pub few : length links ≤ count
+    pub texts : All Performs links
+
+  -- the links are those of a chain up to here, and this is the run in which their compartments perform
+  pub record IsAt (run : SourceRun) (links : List Link) (comps : List ℕ) : Type 0 where
+    pub rest : List Blame
+    pub whole : IsChain runs trace nobody (map blame_of links ++ rest)
+    pub few : length (map blame_of links ++ rest) ≤ count
+    pub same : run ≡ runs (among comps)
+    pub chain : IsChain runs trace (among comps) rest
+    pub least : ℕ
+    pub rising : IsRising least (length trace) rest
+    pub texts : All Performs links
+    pub known : All (λ comp. comp < count) comps
+
+  pub begins : length source.program.interfaces.comps ≡ length source.program.sections →
+      ((set : Set) → ((runs set).trace ≡ trace) ⊎
+      IsBlamedOutside (length source.program.sections) set (runs set) trace) → (run : SourceRun) →
+      run ≡ meaning source.program inputs steps (length trace) → IsAt run [] []
+  begins as_many each run is =
+      let found = chain_exists.programs c_arith source.program inputs steps trace (length source.program.sections)
+      each in
+      let few : length found.0 ≤ length source.program.sections = found.2 in
+      let rising = (chains_rise.programs c_arith source.program inputs steps trace found.0 found.1).0 in
+      record {
+        rest = found.0;
+        whole = found.1;
+        few = omega (arith, few, as_many);
+        same = is ∙ sym (empty_set.meaning source.program trace inputs steps (length trace));
+        chain = found.1;
+        least = 0;
+        rising = rising;
+        texts = λ k d inside. absurd (omega (arith, inside));
+        known = λ k d inside. absurd (omega (arith, inside));
+      }
+
+  module _ (run : SourceRun) (links : List Link) (comps : List ℕ) where
+    -- the next link of the chain is that of the blame
+    next_is : (set : Set) (link : Link) (blame : Blame) → IsNextLink source.program.interfaces trace run link → run ≡ runs set →
+        IsLink (runs set) trace blame → blame ≡ blame_of link
+    next_is set link blame next same is =
+        let parts = same_blame blame.comp link.comp blame.cause link.cause blame.line link.line
+        (sym is.blamed ∙ (ap (λ r. r.end) (sym same) ∙ next.blamed)) in
+        let after : blame.after ≡ link.after =
+        sym is.after ∙ (ap (λ r. length r.trace) (sym same) ∙ next.after) in
+        λ i. record {
+          comp = parts.same_comp i;
+          after = after i;
+          cause = parts.same_cause i;
+          line = parts.same_line i;
+        }
+
+    one_more : (link : Link) (rest : List Blame) →
+        map blame_of (links ++ link ∷ []) ++ rest ≡ map blame_of links ++ blame_of link ∷ rest
+    one_more link rest =
+        ap (λ blames. blames ++ rest) (map-append blame_of links (link ∷ [])) ∙
+        append_assoc (map blame_of links) (blame_of link ∷ []) rest
+
+    pub goes_on : length source.program.interfaces.comps ≡ length source.program.sections → IsAt run links comps →
+        (link : Link) → IsNextLink source.program.interfaces trace run link → (later : SourceRun) →
+        later ≡ runs (among (comps ++ link.comp ∷ [])) → IsAt later (links ++ link ∷ []) (comps ++ link.comp ∷ [])
+    goes_on as_many at link next later later_is = by at.rest at.whole at.few at.chain at.rising where
+      by : (rest : List Blame) → IsChain runs trace nobody (map blame_of links ++ rest) →
+          length (map blame_of links ++ rest) ≤ count → IsChain runs trace (among comps) rest →
+          IsRising at.least (length trace) rest → IsAt later (links ++ link ∷ []) (comps ++ link.comp ∷ [])
+      by [] whole few tells rising =
+          let here : length run.trace ≡ length trace = ap (λ r. length r.trace) at.same ∙ ap length tells in
+          absurd (omega (arith, here, next.after, next.proper))
+      by (blame ∷ rest) whole few chain rising =
+          let is : blame ≡ blame_of link = next_is (among comps) link blame next at.same chain.0 in
+          let there = blamed_are_there.programs c_arith source.program (among comps) trace inputs steps (length trace)
+          link.comp link.cause link.line (ap (λ r. r.end) (sym at.same) ∙ next.blamed) in
+          record {
+            rest = rest;
+            whole = subst (λ blames. IsChain runs trace nobody blames) (ap (λ b. map blame_of links ++ b ∷ rest) is ∙
+                sym (one_more link rest)) whole;
+            few = subst (λ blames. length blames ≤ count) (ap (λ b. map blame_of links ++ b ∷ rest) is ∙
+                sym (one_more link rest)) few;
+            same = later_is;
+            chain = subst (λ set. IsChain runs trace set rest) (ap (λ b. with b.comp (among comps)) is ∙
+                sym (among_more comps link.comp)) chain.1;
+            least = suc blame.after;
+            rising = rising.2;
+            texts = All-push Performs links link at.texts next.performs;
+            known = All-push (λ comp. comp < count) comps link.comp at.known (omega (arith, there, as_many));
+          }
+
+    pub ends : IsAt run links comps → ((comp : ℕ) (cause : Cause) (line : ℕ) → run.end ≡ Blamed comp cause line →
+        length trace ≤ length run.trace) → IsFound links
+    ends at over = by at.rest at.whole at.few at.chain at.rising where
+      by : (rest : List Blame) → IsChain runs trace nobody (map blame_of links ++ rest) →
+          length (map blame_of links ++ rest) ≤ count → IsChain runs trace (among comps) rest →
+          IsRising at.least (length trace) rest → IsFound links
+      by [] whole few tells rising =
+          record {
+            chain = subst (λ blames. IsChain runs trace nobody blames) (append-nil (map blame_of links)) whole;
+            few = omega (arith, few, length-append (map blame_of links) [], length-map links blame_of);
+            texts = at.texts;
+          }
+      by (blame ∷ rest) whole few chain rising =
+          let late = over blame.comp blame.cause blame.line (ap (λ r. r.end) at.same ∙ chain.0.blamed) in
+          let here : length run.trace ≡ blame.after = ap (λ r. length r.trace) at.same ∙ chain.0.after in
+          absurd (omega (arith, late, here, rising.1))
+
+    -- there are never more links than compartments
+    pub few_links : IsAt run links comps → length links ≤ count
+    few_links at =
+        omega (arith, at.few, length-append (map blame_of links) at.rest, length-map links blame_of)
+
+    pub fewer_left : (link : Link) → length (links ++ link ∷ []) ≤ count →
+        count - length (links ++ link ∷ []) < count - length links
+    fewer_left link few = omega (arith, few, length-append links (link ∷ []))

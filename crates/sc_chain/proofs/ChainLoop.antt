@@ -1,0 +1,89 @@
+-- The loop that follows the chain of a trace: how it begins, goes on and ends.
+use Rattle.std.proofs.Common.{◌≡◌, ◌⊎◌, ℕ, ◌-◌, ◌<◌, ◌≤◌, true, List, [], ◌∷◌, ◌++◌, length, All, Option, None, Some}
+use Rattle.std.proofs.Common.{refl, sym, ap, subst, ◌∙◌, inl, inr, ⊎_elim}
+use Rattle.sc_event.specs.Prelude.{legal}
+use Rattle.sc_event.specs.declared.event.Event.{Event}
+use Rattle.sc_event.specs.declared.interface.Interfaces.{Interfaces}
+use Rattle.sc_core.specs.Prelude.{IsWellTyped, meaning, scripted_meaning}
+use Rattle.sc_core.specs.declared.program.ProgramTree.{ProgramTree}
+use Rattle.sc_core.specs.declared.run.SourceRun.{SourceRun}
+use Rattle.sc_laws.specs.Chains.{Set}
+use Rattle.sc_linker.proofs.Compartments.{same_count}
+use Rattle.sc_compile.specs.Compiled.{TellsOrBlames}
+use Rattle.sc_types.specs.Acceptance.{Accepts}
+use Rattle.sc_types.specs.Source.{IsSource, SourceParts}
+use Rattle.sc_replay.specs.Replay.{HasWords}
+use Rattle.sc_chain.specs.Chain.{IsChain}
+use Rattle.sc_chain.specs.Following.{IsNextOf}
+use Rattle.sc_chain.specs.Recompose.{among}
+use Rattle.sc_chain.specs.Replaced.{IsReplaced}
+use Rattle.sc_chain.specs.declared.explanation.Link.{Link}
+use Rattle.sc_chain.proofs.Accepted.{recomposed_means}
+use Rattle.sc_chain.proofs.ChainFollowing.{IsAt, begins, ends, few_links, fewer_left, goes_on, runs}
+use Rattle.sc_chain.proofs.ChainTexts.{is_chain}
+
+pub sections_are : (source : SourceParts) (program : ProgramTree) → program ≡ source.program → IsWellTyped program →
+    length source.program.interfaces.comps ≡ length source.program.sections
+sections_are source program same typed = same_count source.program (subst IsWellTyped same typed)
+
+module _ (source : SourceParts) (inputs : List ℕ) (steps : ℕ) (trace : List Event)
+    (as_many : length source.program.interfaces.comps ≡ length source.program.sections) where
+  pub at_first : ((set : Set) → TellsOrBlames (length source.program.sections) set trace
+      (scripted_meaning source.program set trace inputs steps (length trace))) →
+      (program : ProgramTree) → program ≡ source.program → (run : SourceRun) →
+      run ≡ meaning program inputs steps (length trace) → (links : List Link) → links ≡ [] → (comps : List ℕ) →
+      comps ≡ [] → IsAt source inputs steps trace run links comps
+  at_first scripted program same run is links no_links comps no_comps =
+      subst (λ cs. IsAt source inputs steps trace run links cs) (sym no_comps)
+      (subst (λ ls. IsAt source inputs steps trace run ls []) (sym no_links)
+      (begins source inputs steps trace as_many (λ set. ⊎_elim (λ told. inl told) (λ blamed. inr blamed.0)
+      (scripted set)) run (is ∙ ap (λ p. meaning p inputs steps (length trace)) same)))
+
+  module _ (run : SourceRun) (links : List Link) (comps : List ℕ) (at : IsAt source inputs steps trace run links comps)
+      (interfaces : Interfaces) (same : interfaces ≡ source.program.interfaces)
+      (found : Option Link) (next : IsNextOf interfaces trace run found) where
+    module _ (link : Link) (is : found ≡ Some link) (links' : List Link) (more_links : links' ≡ links ++ link ∷ [])
+        (comps' : List ℕ) (more_comps : comps' ≡ comps ++ link.comp ∷ []) where
+      pub at_next : (later : SourceRun) → later ≡ runs source inputs steps trace (among comps') →
+          IsAt source inputs steps trace later links' comps'
+      at_next later later_is =
+          subst (λ cs. IsAt source inputs steps trace later links' cs) (sym more_comps)
+          (subst (λ ls. IsAt source inputs steps trace later ls (comps ++ link.comp ∷ [])) (sym more_links)
+          (goes_on source inputs steps trace run links comps as_many at link
+          (subst (λ i. IsNextOf i trace run (Some link)) same (subst (IsNextOf interfaces trace run) is next)) later
+          (later_is ∙ ap (λ cs. runs source inputs steps trace (among cs)) more_comps)))
+
+      -- the set's run itself
+      here : IsAt source inputs steps trace (runs source inputs steps trace (among comps')) links' comps'
+      here = at_next (runs source inputs steps trace (among comps')) refl
+
+      pub known_next : All (λ comp. comp < length source.program.interfaces.comps) comps'
+      known_next = here.known
+
+      pub fewer_next : length source.program.interfaces.comps - length links'
+          < length source.program.interfaces.comps - length links
+      fewer_next =
+          let few = few_links source inputs steps trace (runs source inputs steps trace (among comps')) links' comps'
+          here in
+          subst (λ ls. length source.program.interfaces.comps - length ls
+          < length source.program.interfaces.comps - length links) (sym more_links)
+          (fewer_left source inputs steps trace run links comps link
+          (subst (λ ls. length ls ≤ length source.program.interfaces.comps) more_links few))
+
+    pub at_last : found ≡ None → IsSource source →
+        ((text : List ℕ) (program other : ProgramTree) → Accepts text program → Accepts text other → program ≡ other) →
+        legal source.program.interfaces trace ≡ true → length trace ≤ 4096 → All HasWords trace →
+        IsChain source inputs steps trace links
+    at_last none is_source one_program allowed few words =
+        is_chain source inputs steps trace is_source as_many one_program
+        (recomposed_means source trace is_source allowed few words) links
+        (ends source inputs steps trace run links comps at (subst (IsNextOf interfaces trace run) none next))
+
+-- the run of the text in which a set performs
+pub run_of_text : (source : SourceParts) (inputs : List ℕ) (steps : ℕ) (trace : List Event) (comps comps' : List ℕ)
+    (text : SourceParts) → IsReplaced source trace (among comps) text → comps ≡ comps' → (program : ProgramTree) →
+    program ≡ text.program → (run : SourceRun) → run ≡ meaning program inputs steps (length trace) →
+    run ≡ runs source inputs steps trace (among comps')
+run_of_text source inputs steps trace comps comps' text replaced same program program_is run is =
+    is ∙ (ap (λ p. meaning p inputs steps (length trace)) program_is ∙ (replaced.means inputs steps (length trace) ∙
+    ap (λ cs. runs source inputs steps trace (among cs)) same))

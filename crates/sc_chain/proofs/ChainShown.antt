@@ -1,0 +1,65 @@
+-- What the machine shows on the image of a program, as the chain of texts needs it.
+use Rattle.std.proofs.Common.{◌≡◌, ◌≤◌, ◌∙◌, ℕ, ℤ, true, List, length, map, get_or, All, Ok, subst, sym}
+use Rattle.std.proofs.lemmas.List.Elements.{All-map}
+use Rattle.sc_base.specs.declared.stop.Stop.{Stop}
+use Rattle.sc_word.proofs.Words.{word_of-lt}
+use Rattle.sc_word.specs.Prelude.{word_of}
+use Rattle.sc_event.specs.Prelude.{legal}
+use Rattle.sc_event.specs.declared.event.Event.{Event}
+use Rattle.sc_core.specs.Prelude.{scripted_meaning}
+use Rattle.sc_core.specs.declared.program.ProgramTree.{ProgramTree}
+use Rattle.sc_laws.specs.Chains.{Set}
+use Rattle.sc_image.specs.declared.parts.ImageParts.{ImageParts}
+use Rattle.sc_image.specs.Machine.{Run, machine}
+use Rattle.sc_image.specs.WellFormed.{IsWord}
+use Rattle.sc_compile.specs.declared.fault.CompileFault.{CompileFault as TooLarge}
+use Rattle.sc_compile.specs.Compiled.{IsCompiled, TellsOrBlames}
+use Rattle.sc_compile.specs.Image.{image_of}
+use Rattle.sc_compile.specs.Image as compiling
+use Rattle.sc_types.specs.Source.{SourceParts}
+use Rattle.sc_chain.specs.Chain.{IsChain, IsExplained}
+use Rattle.sc_chain.specs.Faults.{IsFault}
+use Rattle.sc_chain.specs.declared.explanation.ExplainFault.TheVariants.{CompileFault}
+use Rattle.sc_chain.specs.declared.explanation.Explanation.{Explanation}
+use Rattle.sc_chain.specs.declared.explanation.Link.{Link}
+
+-- words of inputs are words
+inputs_are_words : (inputs : List ℤ) → All IsWord (map word_of inputs)
+inputs_are_words inputs = All-map IsWord word_of inputs (λ i d inside. word_of-lt (get_or inputs i d))
+
+pub same_fault : (program other : ProgramTree) (fault : TooLarge) → program ≡ other →
+    compiling.IsFault program fault → IsFault other (CompileFault fault)
+same_fault program other fault same is = subst (λ p. compiling.IsFault p fault) same is
+
+module _ (source : SourceParts) (inputs : List ℤ) (steps events : ℕ) (program : ProgramTree)
+    (same : program ≡ source.program) (image : ImageParts) (is : IsCompiled program image) where
+  abbrev run : Run
+  run = machine image (map word_of inputs) steps events
+
+  compiled : IsCompiled source.program image
+  compiled = subst (λ p. IsCompiled p image) same is
+
+  module _ (trace : List Event) (shows : trace ≡ run.state.trace) where
+    pub shown_allowed : legal source.program.interfaces trace ≡ true
+    shown_allowed =
+        subst (λ t. legal source.program.interfaces t ≡ true) (sym shows)
+        (compiled.allowed (map word_of inputs) steps events (inputs_are_words inputs))
+
+    pub shown_scripted : (set : Set) → TellsOrBlames (length source.program.sections) set trace
+        (scripted_meaning source.program set trace (map word_of inputs) steps (length trace))
+    shown_scripted set =
+        subst (λ t. TellsOrBlames (length source.program.sections) set t
+        (scripted_meaning source.program set t (map word_of inputs) steps (length t))) (sym shows)
+        (compiled.scripted (map word_of inputs) steps events set (inputs_are_words inputs))
+
+  pub explained : image_of program ≡ Ok image → (shown trace : List Event) → trace ≡ shown →
+      shown ≡ run.state.trace → (stop : Stop) → stop ≡ run.stop → (links : List Link) →
+      IsChain source (map word_of inputs) steps trace links →
+      IsExplained source (map word_of inputs) steps events (record { trace = shown; stop = stop; links = links })
+  explained has_image shown trace same_trace shows stop stops links chain = record {
+    image = image;
+    compiled = subst (λ p. image_of p ≡ Ok image) same has_image;
+    trace = shows;
+    stop = stops;
+    chain = subst (λ t. IsChain source (map word_of inputs) steps t links) same_trace chain;
+  }

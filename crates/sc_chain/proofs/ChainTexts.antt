@@ -1,0 +1,176 @@
+-- The chain of a trace as a chain of texts: each set's text is accepted, and means what the set's scripts say.
+use Rattle.std.proofs.Common.{◌≡◌, ◌↔◌, ℕ, suc, ◌<◌, ◌≤◌, ◌==◌, ◌||◌, Bool, true, false, List, [], ◌∷◌, ◌++◌, length}
+use Rattle.std.proofs.Common.{map, take, All, refl, sym, ap, subst, ◌∙◌, arith, take_all, eqb-true}
+use Rattle.std.proofs.lemmas.List.{take-append-le}
+use Rattle.std.proofs.lemmas.List.Elements.{All-append, All-push}
+use Rattle.std.specs.List.{concat}
+use Rattle.sc_event.specs.declared.event.Event.{Event}
+use Rattle.sc_core.specs.Prelude.{Front, c_arith, meaning, scripted_meaning}
+use Rattle.sc_core.specs.declared.program.ProgramTree.{ProgramTree}
+use Rattle.sc_core.specs.declared.run.SourceRun.{SourceRun}
+use Rattle.sc_laws.specs.Chains.{AreFresh, IsLink, IsRising, Set, nobody, with}
+use Rattle.sc_laws.specs.Chains as laws
+use Rattle.sc_laws.proofs.ProgramLaws.{blamed_are_there, chain_is_least, chains_rise, empty_set}
+use Rattle.sc_types.specs.Acceptance.{Accepts}
+use Rattle.sc_types.specs.Source.{IsSource, SourceParts}
+use Rattle.sc_back.specs.Sections.{new_texts}
+use Rattle.sc_chain.specs.Chain.{HasProgram, Includes, IsBlamedSo, IsChain, IsChainFrom, IsNext, TellsTrace}
+use Rattle.sc_chain.specs.Recompose.{among, performing, performing_text, recomposed}
+use Rattle.sc_chain.specs.declared.explanation.Link.{Link}
+use Rattle.sc_chain.proofs.ChainFollowing.{IsFound, Performs, among_also, blame_of, count, runs}
+
+-- LISTS
+head_of : {A : Type 0} (P : A → Type 0) (x : A) (xs : List A) → All P (x ∷ xs) → P x
+head_of P x xs all = all 0 x (omega arith)
+
+tail_of : {A : Type 0} (P : A → Type 0) (x : A) (xs : List A) → All P (x ∷ xs) → All P xs
+tail_of P x xs all = λ k d inside. all (suc k) d (omega (arith, inside))
+
+one_also : {A : Type 0} (P : A → Type 0) (x : A) (xs : List A) → P x → All P xs → All P (x ∷ xs)
+one_also P x xs this all =
+    All-append P (x ∷ []) xs (All-push P [] x (λ k d inside. absurd (omega (arith, inside))) this) all
+
+-- a front, by its length
+front_taken : (run trace : List Event) (n : ℕ) → Front run trace → length run ≡ n → run ≡ take n trace
+front_taken run trace n front long =
+    sym (take_all n run (omega (arith, long))) ∙
+    (sym (take-append-le n run front.more (omega (arith, long))) ∙ ap (take n) (sym front.is))
+
+among_known : (comps : List ℕ) (n : ℕ) → All (λ comp. comp < n) comps → (comp : ℕ) → among comps comp ≡ true →
+    comp < n
+among_known [] n known comp is = cc
+among_known (one ∷ comps) n known comp is =
+    by (among_known comps n (tail_of (λ comp. comp < n) one comps known) comp) (one == comp) refl is where
+  by : (among comps comp ≡ true → comp < n) → (b : Bool) → (one == comp) ≡ b → (b || among comps comp) ≡ true →
+      comp < n
+  by others true same is =
+      subst (λ c. c < n) (eqb-true one comp same) (head_of (λ comp. comp < n) one comps known)
+  by others false other is = others is
+
+-- where nobody performs all sections are kept
+kept_texts : (source : SourceParts) (trace : List Event) (comp : ℕ) (sections : List (List ℕ)) →
+    new_texts (performing source.program.interfaces trace nobody) comp sections ≡ sections
+kept_texts source trace comp [] = refl
+kept_texts source trace comp (section ∷ sections) =
+    ap (λ texts. section ∷ texts) (kept_texts source trace (suc comp) sections)
+
+module _ (source : SourceParts) (inputs : List ℕ) (steps : ℕ) (trace : List Event)
+    (is_source : IsSource source)
+    (as_many : length source.program.interfaces.comps ≡ length source.program.sections)
+    (one_program : (text : List ℕ) (program other : ProgramTree) → Accepts text program → Accepts text other →
+    program ≡ other)
+    (meant : (set : Set) → ((comp : ℕ) → set comp ≡ true → comp < length source.program.interfaces.comps) →
+    (program : ProgramTree) × Accepts (recomposed source trace set) program ×
+    ((inputs : List ℕ) (turns events : ℕ) →
+    meaning program inputs turns events ≡ scripted_meaning source.program set trace inputs turns events)) where
+  abbrev run_of : Set → SourceRun
+  run_of = runs source inputs steps trace
+
+  abbrev IsKnown : Set → Type 0
+  IsKnown set = (comp : ℕ) → set comp ≡ true → comp < length source.program.interfaces.comps
+
+  abbrev Perform : Link → Type 0
+  Perform = Performs source inputs steps trace
+
+  has_program : (set : Set) → IsKnown set → HasProgram source inputs steps trace set
+  has_program set known = let text = meant set known in record { program = text.0; accepted = text.1 }
+
+  -- each program of the text of a set has the run in which the set performs
+  means : (set : Set) → IsKnown set → (text : HasProgram source inputs steps trace set) →
+      meaning text.program inputs steps (length trace) ≡ run_of set
+  means set known text =
+      ap (λ program. meaning program inputs steps (length trace)) (one_program (recomposed source trace set)
+      text.program (meant set known).0 text.accepted (meant set known).1)
+      ∙ (meant set known).2 inputs steps (length trace)
+
+  tells : (set : Set) → IsKnown set → (run_of set).trace ≡ trace → TellsTrace source inputs steps trace set
+  tells set known told =
+      let text = has_program set known in
+      record { text = text; tells = ap (λ r. r.trace) (means set known text) ∙ told }
+
+  told_by : (set : Set) → IsKnown set → TellsTrace source inputs steps trace set → (run_of set).trace ≡ trace
+  told_by set known that = sym (ap (λ r. r.trace) (means set known that.text)) ∙ that.tells
+
+  -- the links of a chain of blames that rise and are fresh are a chain of texts
+  texts_from : (comps : List ℕ) (least : ℕ) (links : List Link) →
+      All (λ comp. comp < length source.program.interfaces.comps) comps →
+      laws.IsChain run_of trace (among comps) (map blame_of links) →
+      IsRising least (length trace) (map blame_of links) → AreFresh (among comps) (map blame_of links) →
+      All Perform links → IsChainFrom source inputs steps trace comps least links
+  texts_from comps least [] known chain rising fresh texts =
+      tells (among comps) (among_known comps _ known) chain
+  texts_from comps least (link ∷ links) known chain rising fresh texts =
+      let here = among_known comps (length source.program.interfaces.comps) known in
+      let text = has_program (among comps) here in
+      let same = means (among comps) here text in
+      let there = blamed_are_there.programs c_arith source.program (among comps) trace inputs steps (length trace)
+      link.comp link.cause link.line chain.0.blamed in
+      let below : link.comp < length source.program.interfaces.comps = omega (arith, there, as_many) in
+      let also = sym (among_also comps link.comp) in (
+        record {
+          text = text;
+          blamed = record {
+            end = ap (λ r. r.end) same ∙ chain.0.blamed;
+            front = ap (λ r. r.trace) same ∙
+                front_taken (run_of (among comps)).trace trace link.after chain.0.front chain.0.after;
+            proper = rising.1;
+          };
+          later = rising.0;
+          outside = fresh.0;
+          there = below;
+          performs = head_of Perform link links texts;
+        },
+        texts_from (link.comp ∷ comps) (suc link.after) links
+            (one_also (λ comp. comp < length source.program.interfaces.comps) link.comp comps below known)
+            (subst (λ set. laws.IsChain run_of trace set (map blame_of links)) also chain.1) rising.2
+            (subst (λ set. AreFresh set (map blame_of links)) also fresh.1) (tail_of Perform link links texts),
+      )
+
+  includes : (set : Set) (links : List Link) → laws.Includes set (map blame_of links) →
+      Includes source inputs steps trace set links
+  includes set [] all = tt
+  includes set (link ∷ links) all = (all.0, includes set links all.1)
+
+  included : (set : Set) (links : List Link) → Includes source inputs steps trace set links →
+      laws.Includes set (map blame_of links)
+  included set [] all = tt
+  included set (link ∷ links) all = (all.0, included set links all.1)
+
+  module _ (links : List Link) (found : IsFound source inputs steps trace links) where
+    abbrev own_meaning : SourceRun
+    own_meaning = meaning source.program inputs steps (length trace)
+
+    own_is : run_of nobody ≡ own_meaning
+    own_is = empty_set.meaning source.program trace inputs steps (length trace)
+
+    rises : IsRising 0 (length trace) (map blame_of links) × AreFresh nobody (map blame_of links)
+    rises = chains_rise.programs c_arith source.program inputs steps trace (map blame_of links) found.chain
+
+    no_links : links ≡ [] → own_meaning.trace ≡ trace
+    no_links is =
+        sym (ap (λ r. r.trace) own_is) ∙
+        subst (λ ls. laws.IsChain run_of trace nobody (map blame_of ls)) is found.chain
+
+    no_blame : (ls : List Link) → laws.IsChain run_of trace nobody (map blame_of ls) →
+        IsRising 0 (length trace) (map blame_of ls) → own_meaning.trace ≡ trace → ls ≡ []
+    no_blame [] chain rising told = refl
+    no_blame (link ∷ ls) chain rising told =
+        let long : length own_meaning.trace ≡ link.after =
+        sym (ap (λ r. length r.trace) own_is) ∙ chain.0.after in
+        absurd (omega (arith, long, ap length told, rising.1))
+
+    pub is_chain : IsChain source inputs steps trace links
+    is_chain = record {
+      own = ap (λ texts. source.preamble ++ concat texts) (kept_texts source trace 0 source.sections) ∙
+          is_source.joined;
+      chain = texts_from [] 0 links (λ k d inside. absurd (omega (arith, inside))) found.chain rises.0 rises.1
+          found.texts;
+      few = found.few;
+      none = (no_links, no_blame links found.chain rises.0);
+      least = λ set known.
+          let law = chain_is_least.programs c_arith source.program inputs steps trace (map blame_of links) set
+              found.chain in (
+                λ that. includes set links (law.0 (told_by set known that)),
+                λ all. tells set known (law.1 (included set links all)),
+              );
+    }

@@ -1,0 +1,33 @@
+use Rattle.std.proofs.Common.{◌∙◌}
+use Rattle.sc_chain.proofs.ChainShown.{explained, same_fault, shown_allowed, shown_scripted}
+use Rattle.sc_chain.proofs.account.explain.Goals as goal
+
+pub returns-in-Err-clause-fault : goal.returns-in-Err-clause-fault
+returns-in-Err-clause-fault c =
+    same_fault c.program.result.now c.args.source.now.program c.in-Err.fault c.program.ensures.program
+    c.in-Err.ensures.fault
+
+pub chain-requires-clause-allowed : goal.chain-requires-clause-allowed
+chain-requires-clause-allowed c =
+    shown_allowed c.args.source.now c.args.inputs.now c.args.steps c.args.events c.program.result.now
+    c.program.ensures.program c.in-Ok.image c.in-Ok.ensures.compiled c.as_slice.result.now
+    (c.as_slice.ensures ∙ c.in-Ok-run_image.ensures.trace)
+
+pub chain-requires-clause-scripted : goal.chain-requires-clause-scripted
+chain-requires-clause-scripted c =
+    shown_scripted c.args.source.now c.args.inputs.now c.args.steps c.args.events c.program.result.now
+    c.program.ensures.program c.in-Ok.image c.in-Ok.ensures.compiled c.as_slice.result.now
+    (c.as_slice.ensures ∙ c.in-Ok-run_image.ensures.trace)
+
+pub returns-clause-explained : goal.returns-clause-explained
+returns-clause-explained c =
+    explained c.args.source.now c.args.inputs.now c.args.steps c.args.events c.program.result.now
+    c.program.ensures.program c.in-Ok.image c.in-Ok.ensures.compiled c.in-Ok.ensures.image
+    c.in-Ok-run_image.shown.trace c.as_slice.result.now c.as_slice.ensures c.in-Ok-run_image.ensures.trace
+    c.in-Ok-run_image.shown.stop c.in-Ok-run_image.ensures.stop c.in-Ok-chain.links c.in-Ok-chain.ensures
+
+pub returns-clause-allowed : goal.returns-clause-allowed
+returns-clause-allowed c =
+    shown_allowed c.args.source.now c.args.inputs.now c.args.steps c.args.events c.program.result.now
+    c.program.ensures.program c.in-Ok.image c.in-Ok.ensures.compiled c.in-Ok-run_image.shown.trace
+    c.in-Ok-run_image.ensures.trace
