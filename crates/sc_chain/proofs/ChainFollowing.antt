@@ -1,16 +1,14 @@
 -- How the chain of a trace is followed, link by link, from the run in which nobody performs on.
 use Rattle.std.proofs.Common.{◌≡◌, ℕ, suc, ◌+◌, ◌-◌, ◌<◌, ◌≤◌, ◌==◌, ◌||◌, ◌⊎◌, Bool, true, false, List, [], ◌∷◌}
-use Rattle.std.proofs.Common.{◌++◌, length, map, All, refl, sym, ap, subst, ◌∙◌, arith, append_assoc, append-nil}
+use Rattle.std.proofs.Common.{◌++◌, length, map, All, sym, ap, subst, ◌∙◌, arith, append_assoc, append-nil}
 use Rattle.std.proofs.Common.{length-append, eq-eqb, ne_eqb, ⊎_elim}
 use Rattle.std.proofs.lemmas.Bool.{cases_eq}
 use Rattle.std.proofs.lemmas.List.{length-map, map-append}
 use Rattle.std.proofs.lemmas.List.Elements.{All-push}
 use Rattle.std.proofs.lemmas.List.Folds.{list_any-append}
-use Rattle.std.specs.List.{list_any}
 use Rattle.sc_event.specs.declared.event.Event.{Event}
 use Rattle.sc_core.specs.Prelude.{c_arith, meaning}
 use Rattle.sc_core.specs.declared.cause.Cause.{Cause}
-use Rattle.sc_core.specs.declared.run.RunEnd.{RunEnd}
 use Rattle.sc_core.specs.declared.run.RunEnd.TheVariants.{Blamed}
 use Rattle.sc_core.specs.declared.run.SourceRun.{SourceRun}
 use Rattle.sc_laws.specs.Chains.{IsBlamedOutside, IsChain, IsLink, IsRising, Link as Blame, Set, nobody, performed}
@@ -110,7 +108,8 @@ module _ (source : SourceParts) (inputs : List ℕ) (steps : ℕ) (trace : List 
 
   module _ (run : SourceRun) (links : List Link) (comps : List ℕ) where
     -- the next link of the chain is that of the blame
-    next_is : (set : Set) (link : Link) (blame : Blame) → IsNextLink source.program.interfaces trace run link → run ≡ runs set →
+    next_is : (set : Set) (link : Link) (blame : Blame) → IsNextLink source.program.interfaces trace run link →
+        run ≡ runs set →
         IsLink (runs set) trace blame → blame ≡ blame_of link
     next_is set link blame next same is =
         let parts = same_blame blame.comp link.comp blame.cause link.cause blame.line link.line

@@ -1,6 +1,7 @@
 -- What a run of the machine shows has no more events than were allowed.
-use Rattle.std.proofs.Common.{◌≡◌, ℕ, zero, suc, ◌+◌, ◌<◌, ◌≤◌, ◌++◌, Bool, true, false, if◌then◌else◌, nat_le, List, []}
-use Rattle.std.proofs.Common.{◌∷◌, length, Option, None, Some, refl, sym, ap, subst, ◌∙◌, arith, length-append, leb-false}
+use Rattle.std.proofs.Common.{◌≡◌, ℕ, zero, suc, ◌+◌, ◌<◌, ◌≤◌, ◌++◌, Bool, true, false, if◌then◌else◌, nat_le, List}
+use Rattle.std.proofs.Common.{[]}
+use Rattle.std.proofs.Common.{◌∷◌, length, Option, None, Some, refl, sym, subst, arith, length-append, leb-false}
 use Rattle.sc_base.specs.declared.stop.Stop.{Stop}
 use Rattle.sc_base.specs.declared.stop.Stop.TheVariants.{Ended, EventsOut}
 use Rattle.sc_event.specs.declared.event.Event.{Event}
@@ -62,22 +63,23 @@ module _ (image : ImageParts) (inputs : List ℕ) (formed : IsWellFormed image) 
         subst (λ (r : Run). length r.state.trace ≤ events) (sym (run_stopped image inputs events 0 state stop is)) few
   few_from (suc steps) state few =
       by (few_from steps) (stopped events state.trace) refl (step image inputs state) refl where
-    by : ((next : State) → length next.trace ≤ events →
-        length (run image inputs events steps next).state.trace ≤ events) →
-        (early : Option Stop) → stopped events state.trace ≡ early →
-        (outcome : Outcome) → step image inputs state ≡ outcome →
-        length (run image inputs events (suc steps) state).state.trace ≤ events
-    by later (Some stop) is outcome goes =
-        subst (λ (r : Run). length r.state.trace ≤ events)
-        (sym (run_stopped image inputs events (suc steps) state stop is)) few
-    by later None is (Goes next) goes =
-        let more : length next.trace ≤ suc (length state.trace) = subst (AddsOne state.trace) goes (step_adds state) in
-        subst (λ (r : Run). length r.state.trace ≤ events)
-        (sym (run_goes image inputs events steps state next is goes))
-        (later next (omega (arith, has_room events state.trace is, more)))
-    by later None is (Traps reason) goes =
-        subst (λ (r : Run). length r.state.trace ≤ events)
-        (sym (run_traps image inputs events steps state reason is goes)) few
+        by : ((next : State) → length next.trace ≤ events →
+            length (run image inputs events steps next).state.trace ≤ events) →
+            (early : Option Stop) → stopped events state.trace ≡ early →
+            (outcome : Outcome) → step image inputs state ≡ outcome →
+            length (run image inputs events (suc steps) state).state.trace ≤ events
+        by later (Some stop) is outcome goes =
+            subst (λ (r : Run). length r.state.trace ≤ events)
+            (sym (run_stopped image inputs events (suc steps) state stop is)) few
+        by later None is (Goes next) goes =
+            let more : length next.trace ≤ suc (length state.trace) =
+            subst (AddsOne state.trace) goes (step_adds state) in
+            subst (λ (r : Run). length r.state.trace ≤ events)
+            (sym (run_goes image inputs events steps state next is goes))
+            (later next (omega (arith, has_room events state.trace is, more)))
+        by later None is (Traps reason) goes =
+            subst (λ (r : Run). length r.state.trace ≤ events)
+            (sym (run_traps image inputs events steps state reason is goes)) few
 
 pub few_events : (image : ImageParts) (inputs : List ℕ) (steps events : ℕ) → IsWellFormed image →
     length (machine image inputs steps events).state.trace ≤ events

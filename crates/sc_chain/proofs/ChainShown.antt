@@ -1,5 +1,5 @@
 -- What the machine shows on the image of a program, as the chain of texts needs it.
-use Rattle.std.proofs.Common.{◌≡◌, ◌≤◌, ◌∙◌, ℕ, ℤ, true, List, length, map, get_or, All, Ok, subst, sym}
+use Rattle.std.proofs.Common.{◌≡◌, ℕ, ℤ, true, List, length, map, get_or, All, Ok, subst, sym}
 use Rattle.std.proofs.lemmas.List.Elements.{All-map}
 use Rattle.sc_base.specs.declared.stop.Stop.{Stop}
 use Rattle.sc_word.proofs.Words.{word_of-lt}
@@ -20,7 +20,6 @@ use Rattle.sc_types.specs.Source.{SourceParts}
 use Rattle.sc_chain.specs.Chain.{IsChain, IsExplained}
 use Rattle.sc_chain.specs.Faults.{IsFault}
 use Rattle.sc_chain.specs.declared.explanation.ExplainFault.TheVariants.{CompileFault}
-use Rattle.sc_chain.specs.declared.explanation.Explanation.{Explanation}
 use Rattle.sc_chain.specs.declared.explanation.Link.{Link}
 
 -- words of inputs are words

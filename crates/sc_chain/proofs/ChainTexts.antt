@@ -1,5 +1,5 @@
 -- The chain of a trace as a chain of texts: each set's text is accepted, and means what the set's scripts say.
-use Rattle.std.proofs.Common.{◌≡◌, ◌↔◌, ℕ, suc, ◌<◌, ◌≤◌, ◌==◌, ◌||◌, Bool, true, false, List, [], ◌∷◌, ◌++◌, length}
+use Rattle.std.proofs.Common.{◌≡◌, ℕ, suc, ◌<◌, ◌==◌, ◌||◌, Bool, true, false, List, [], ◌∷◌, ◌++◌, length}
 use Rattle.std.proofs.Common.{map, take, All, refl, sym, ap, subst, ◌∙◌, arith, take_all, eqb-true}
 use Rattle.std.proofs.lemmas.List.{take-append-le}
 use Rattle.std.proofs.lemmas.List.Elements.{All-append, All-push}
@@ -8,16 +8,16 @@ use Rattle.sc_event.specs.declared.event.Event.{Event}
 use Rattle.sc_core.specs.Prelude.{Front, c_arith, meaning, scripted_meaning}
 use Rattle.sc_core.specs.declared.program.ProgramTree.{ProgramTree}
 use Rattle.sc_core.specs.declared.run.SourceRun.{SourceRun}
-use Rattle.sc_laws.specs.Chains.{AreFresh, IsLink, IsRising, Set, nobody, with}
+use Rattle.sc_laws.specs.Chains.{AreFresh, IsRising, Set, nobody}
 use Rattle.sc_laws.specs.Chains as laws
 use Rattle.sc_laws.proofs.ProgramLaws.{blamed_are_there, chain_is_least, chains_rise, empty_set}
 use Rattle.sc_types.specs.Acceptance.{Accepts}
 use Rattle.sc_types.specs.Source.{IsSource, SourceParts}
 use Rattle.sc_back.specs.Sections.{new_texts}
-use Rattle.sc_chain.specs.Chain.{HasProgram, Includes, IsBlamedSo, IsChain, IsChainFrom, IsNext, TellsTrace}
-use Rattle.sc_chain.specs.Recompose.{among, performing, performing_text, recomposed}
+use Rattle.sc_chain.specs.Chain.{HasProgram, Includes, IsChain, IsChainFrom, TellsTrace}
+use Rattle.sc_chain.specs.Recompose.{among, performing, recomposed}
 use Rattle.sc_chain.specs.declared.explanation.Link.{Link}
-use Rattle.sc_chain.proofs.ChainFollowing.{IsFound, Performs, among_also, blame_of, count, runs}
+use Rattle.sc_chain.proofs.ChainFollowing.{IsFound, Performs, among_also, blame_of, runs}
 
 -- LISTS
 head_of : {A : Type 0} (P : A → Type 0) (x : A) (xs : List A) → All P (x ∷ xs) → P x
@@ -41,11 +41,11 @@ among_known : (comps : List ℕ) (n : ℕ) → All (λ comp. comp < n) comps →
 among_known [] n known comp is = cc
 among_known (one ∷ comps) n known comp is =
     by (among_known comps n (tail_of (λ comp. comp < n) one comps known) comp) (one == comp) refl is where
-  by : (among comps comp ≡ true → comp < n) → (b : Bool) → (one == comp) ≡ b → (b || among comps comp) ≡ true →
-      comp < n
-  by others true same is =
-      subst (λ c. c < n) (eqb-true one comp same) (head_of (λ comp. comp < n) one comps known)
-  by others false other is = others is
+      by : (among comps comp ≡ true → comp < n) → (b : Bool) → (one == comp) ≡ b → (b || among comps comp) ≡ true →
+          comp < n
+      by others true same is =
+          subst (λ c. c < n) (eqb-true one comp same) (head_of (λ comp. comp < n) one comps known)
+      by others false other is = others is
 
 -- where nobody performs all sections are kept
 kept_texts : (source : SourceParts) (trace : List Event) (comp : ℕ) (sections : List (List ℕ)) →
@@ -169,8 +169,8 @@ module _ (source : SourceParts) (inputs : List ℕ) (steps : ℕ) (trace : List 
       none = (no_links, no_blame links found.chain rises.0);
       least = λ set known.
           let law = chain_is_least.programs c_arith source.program inputs steps trace (map blame_of links) set
-              found.chain in (
-                λ that. includes set links (law.0 (told_by set known that)),
-                λ all. tells set known (law.1 (included set links all)),
-              );
+          found.chain in (
+            λ that. includes set links (law.0 (told_by set known that)),
+            λ all. tells set known (law.1 (included set links all)),
+          );
     }

@@ -2,7 +2,6 @@
 -- more that performs its part of the trace, that of the compartment which the meaning of the text before it blames
 -- after a proper, ever longer front of the trace; the meaning of the last is the trace.
 use Rattle.std.specs.Prelude.{◌≡◌, ◌↔◌, ℕ, suc, ◌<◌, ◌≤◌, Bool, true, false, List, [], ◌∷◌, length, take, Ok}
-use Rattle.sc_base.specs.declared.stop.Stop.{Stop}
 use Rattle.sc_event.specs.declared.event.Event.{Event}
 use Rattle.sc_core.specs.Prelude.{meaning}
 use Rattle.sc_core.specs.declared.program.ProgramTree.{ProgramTree}
@@ -35,8 +34,8 @@ module _ (source : SourceParts) (inputs : List ℕ) (steps : ℕ) (trace : List 
     pub text : HasProgram set
     pub tells : (meaning text.program inputs steps (length trace)).trace ≡ trace
 
-  -- the text in which these compartments perform is blamed by the link's account, on none of them, after no fewer events
-  -- than this; and the link's text is that of the blamed compartment's section
+  -- the text in which these compartments perform is blamed by the link's account, on none of them, after at least so
+  -- many events; and the link's text is that of the blamed compartment's section
   pub record IsNext (comps : List ℕ) (least : ℕ) (link : Link) : Type 0 where
     pub text : HasProgram (among comps)
     pub blamed : IsBlamedSo text.program inputs steps trace link

@@ -45,4 +45,5 @@ returns-clause-few c =
       c.in_ok-machine.was,
     ) in
     subst (λ trace. length trace ≤ c.args.events) (sym (c.in_ok-trace.ensures ∙ shows))
-    (few_events c.args.image (map word_of c.args.inputs.now) c.args.steps c.args.events c.parts-parts.ensures.well_formed)
+    (few_events c.args.image (map word_of c.args.inputs.now) c.args.steps c.args.events
+    c.parts-parts.ensures.well_formed)
