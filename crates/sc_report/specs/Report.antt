@@ -1,6 +1,6 @@
 -- The lines that tell of a run.
 use Rattle.sc_event.specs.Prelude.{comp_name, event_line}
-use Rattle.std.specs.Prelude.{ℕ, List, ◌++◌, flat_map, codes, decimal}
+use Rattle.std.specs.Prelude.{ℕ, List, ◌++◌, length, flat_map, codes, decimal}
 use Rattle.std.specs.Int.{w32, to_be_bytes}
 use Rattle.hex.specs.Hex.{encode_lower}
 use Rattle.sc_event.specs.declared.event.Event.{Event}
@@ -14,6 +14,8 @@ use Rattle.sc_base.specs.declared.stop.Stop.{Stop}
 use Rattle.sc_base.specs.declared.stop.Stop.TheVariants as stops
 use Rattle.sc_base.specs.declared.stop.TrapReason.{TrapReason}
 use Rattle.sc_base.specs.declared.stop.TrapReason.TheVariants as reasons
+use Rattle.sc_chain.specs.declared.explanation.Explanation.{Explanation}
+use Rattle.sc_chain.specs.declared.explanation.Link.{Link}
 
 -- a line per event
 abbrev pub events_text : Interfaces → List Event → List ℕ
@@ -74,3 +76,24 @@ stop_line (stops.Trap reason pc) = codes "stop trap " ++ (reason_word reason ++ 
 -- the events of a machine run, and why it stops
 abbrev pub run_text : Interfaces → List Event → Stop → List ℕ
 run_text interfaces trace stop = events_text interfaces trace ++ stop_line stop
+
+-- the last words of a line: a cause and, by its name, the line at which it came
+abbrev pub cause_at_line : Cause → ℕ → List ℕ
+cause_at_line cause line = codes " " ++ (cause_word cause ++ (codes " line" ++ number_end line))
+
+-- the last words of a line: after how many events, and why
+abbrev pub link_end : Link → List ℕ
+link_end link = codes " after " ++ (decimal link.after ++ cause_at_line link.cause link.line)
+
+-- which compartment's section is replaced after how many events, and what is blamed on it at which line of its section
+abbrev pub link_line : Interfaces → Link → List ℕ
+link_line interfaces link = codes "replace " ++ (comp_name interfaces link.comp ++ link_end link)
+
+-- how many sections are replaced, and a line for each
+abbrev pub chain_text : Interfaces → List Link → List ℕ
+chain_text interfaces links = (codes "chain" ++ number_end (length links)) ++ flat_map (link_line interfaces) links
+
+-- the events of a machine run, why it stops, and the chain that accounts for it
+abbrev pub explain_text : Interfaces → Explanation → List ℕ
+explain_text interfaces explanation =
+    run_text interfaces explanation.trace explanation.stop ++ chain_text interfaces explanation.links

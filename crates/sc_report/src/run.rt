@@ -85,7 +85,7 @@ fn append_cause(text: &mut Text, cause: Cause, line: u32) -> Result<(), OutOfMem
     append_number(text, line)
 }
 
-fn append_number(text: &mut Text, line: u32) -> Result<(), OutOfMemory>
+pub(crate) fn append_number(text: &mut Text, line: u32) -> Result<(), OutOfMemory>
     ensures { OnOk result (text.new ≡ text.old ++ number_end line) }
 {
     let mut buffer = Buffer::new();
@@ -94,7 +94,7 @@ fn append_number(text: &mut Text, line: u32) -> Result<(), OutOfMemory>
     text.push(b'\n')
 }
 
-fn cause_word(cause: Cause) -> &'static [u8]
+pub(crate) fn cause_word(cause: Cause) -> &'static [u8]
     ensures { result.now ≡ cause_word cause }
 {
     match cause {

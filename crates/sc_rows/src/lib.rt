@@ -10,6 +10,8 @@ mod compiled;
 #[cfg(test)]
 mod exec;
 #[cfg(test)]
+mod explain;
+#[cfg(test)]
 mod machine;
 #[cfg(test)]
 mod meaning;

@@ -49,30 +49,6 @@ fn a_program_is_told_by_its_events(rt: HostRuntime) -> Result<(), Fail> {
 }
 
 #[test]
-fn texts_beyond_the_thin_ones_are_not_explained_yet(rt: HostRuntime) -> Result<(), Fail> {
-    let cases: [&[&[u8]]; 5] = [
-        &[b"  output(07);\n", b"  return 0;\n}\n"],
-        &[b"  output(2147483648u);\n", b"  return 0;\n}\n"],
-        &[b"  output(-1);\n", b"  return 0;\n}\n"],
-        &[b"  return 0;\n}"],
-        &[
-            b"  return 0;
-}
-#pragma compartment Other
-",
-        ],
-    ];
-    for statements in cases {
-        let text = text(rt.alloc(), statements)?;
-        let ran = Run::new(&["explain"], &text).run(rt.alloc())?;
-        assert_eq!(rt; ran.status, 10);
-        assert_eq!(rt; ran.out.len(), 0);
-        assert!(rt; ran.err.as_slice() == b"secomp: not built\n".as_slice());
-    }
-    Ok(())
-}
-
-#[test]
 fn numbers_are_told_up_to_the_greatest(rt: HostRuntime) -> Result<(), Fail> {
     let statements: [&[u8]; 2] = [
         b"  output(0);\n  output(2147483647);\n",

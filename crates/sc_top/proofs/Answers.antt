@@ -1,12 +1,12 @@
 -- What an answer says, from what was read.
 use Rattle.sc_top.proofs.Common.{Accepts, Answers, Check, Command, Compile, Exec, Explain, Fails, Failure, FindsBad}
-use Rattle.sc_top.proofs.Common.{GivesUp, IsAnswer, IsBuilt, IsErrOf, IsGood, IsGoodText, IsImage, IsInput, IsOutput}
-use Rattle.sc_top.proofs.Common.{IsTextOutput, IsThin, IsTrue, IsUndisturbed, IsUnfit, IsWhole, IsWithin, IsWithinLimit}
-use Rattle.sc_top.proofs.Common.{List, Meaning, None, Option, ProgramTree, Refusal, Refuses, Result, Run, SameAnswer}
-use Rattle.sc_top.proofs.Common.{Says, Some, Status, Takes, ThinProgram, Traffic, [], ap, append-nil, arith, bad}
-use Rattle.sc_top.proofs.Common.{by_name, cause_in, cause_number, cause_of, compiles, false≢true, inl, inr, large_in}
-use Rattle.sc_top.proofs.Common.{length, length-append, limit_of, none-some, refl, status_by, subst, sym, too_large, ℕ}
-use Rattle.sc_top.proofs.Common.{⊎_elim, ◌++◌, ◌+◌, ◌∙◌, ◌≡◌, ◌≤◌, ◌⊎◌}
+use Rattle.sc_top.proofs.Common.{IsAccounted, IsAnswer, IsErrOf, IsGood, IsGoodText, IsImage, IsInput, IsOutput}
+use Rattle.sc_top.proofs.Common.{IsTextOutput, IsTrue, IsUnbuilt, IsUndisturbed, IsUnfit, IsWhole, IsWithin}
+use Rattle.sc_top.proofs.Common.{IsWithinLimit, List, Meaning, None, Option, ProgramTree, Refusal, Refuses, Result, Run}
+use Rattle.sc_top.proofs.Common.{SameAnswer, RunOptions, Says, Some, Status, Takes, Traffic, [], ap, append-nil, arith}
+use Rattle.sc_top.proofs.Common.{bad, by_name, cause_in, cause_number, cause_of, compiles, false≢true, inl, inr}
+use Rattle.sc_top.proofs.Common.{large_in, length, length-append, limit_of, none-some, refl, status_by, subst, sym}
+use Rattle.sc_top.proofs.Common.{too_large, ℕ, ⊎_elim, ◌++◌, ◌+◌, ◌∙◌, ◌≡◌, ◌≤◌, ◌⊎◌}
 use Rattle.std.specs.Prelude.{option_and_then}
 use Rattle.std.specs.Option.{option_map}
 use Rattle.sc_lex.specs.declared.refusal.Phase.{Phase}
@@ -83,9 +83,6 @@ read_at c text after bytes Q input holds else_ =
     ⊎_elim (λ at. (at.1, subst Q at.0 holds)) (λ none. (within_none (limit_of c) text none, else_ none holds))
     (input_at (limit_of c) text bytes after input)
 
-gives_up_at : (c : Command) (text bytes : List ℕ) → limit_of c ≡ None → GivesUp c bytes → GivesUp c text
-gives_up_at c text bytes none h = inl none
-
 -- a status other than those of the outside is the text's answer
 pub answered : (c : Command) (t : Traffic) (text : List ℕ) (s : Status) → Says c t s → t.left ≡ Some text →
     IsUndisturbed t → IsAnswer c text s ⊎ (s ≡ status.OutOfMemory)
@@ -114,22 +111,11 @@ answered c t text s says is calm = go s says where
       inl (read_at c text t.left_after h.bytes (λ bytes. FindsBad c bytes cause) (input_of h.bytes h.input) h.holds
       (λ none o. absurd ((reads_nothing c none).bad h.bytes cause o)))
   go status.NotBuilt h =
-      inl (read_at c text t.left_after h.bytes (GivesUp c) (input_of h.bytes h.input) h.holds
-      (gives_up_at c text h.bytes))
+      inl (read_at c text t.left_after h.bytes (λ bytes. IsUnbuilt c) (input_of h.bytes h.input) h.holds
+      (λ none unbuilt. unbuilt))
   go status.ReadFault h = absurd (calm.reads h)
   go status.WriteFault h = absurd (calm.writes h.0)
   go status.OutOfMemory h = inr refl
-
--- a thin text is within the limit of each command that compiles
-pub thin_within : (c : Command) (text : List ℕ) (program : ThinProgram) → IsTrue (compiles c) → IsThin text program →
-    IsWithin c text
-thin_within Check text program compiled is = absurd (false≢true compiled)
-thin_within (Meaning options) text program compiled is = absurd (false≢true compiled)
-thin_within (Exec options) text program compiled is = absurd (false≢true compiled)
-thin_within (Make options) text program compiled is = absurd (false≢true compiled)
-thin_within Compile text program compiled is = let short = is.short in omega (arith, short)
-thin_within (Run options) text program compiled is = let short = is.short in omega (arith, short)
-thin_within (Explain options show) text program compiled is = let short = is.short in omega (arith, short)
 
 pub image_within : (bytes : List ℕ) → IsImage bytes → length bytes ≤ 67108864
 image_within bytes is =
@@ -155,7 +141,7 @@ not_both (Some l) text most low long =
 
 -- what a command that takes a text says of it
 record OfText (c : Command) (text : List ℕ) : Type 0 where
-  pub output : (out : List ℕ) → IsOutput c text out → IsTextOutput c text out
+  pub output : (out : List ℕ) → IsOutput c text out → IsGoodText c text
   pub refuses : (refusal : Refusal) → Refuses c text refusal → Fails text refusal.phase refusal.line
   pub good : (cause : ℕ) → FindsBad c text cause → ⊥
   pub reads : limit_of c ≡ None → ⊥
@@ -166,7 +152,6 @@ record OfImage (c : Command) (bytes : List ℕ) : Type 0 where
   pub output : (out : List ℕ) → IsOutput c bytes out → IsImage bytes
   pub refuses : (refusal : Refusal) → Refuses c bytes refusal → ⊥
   pub bad : (cause : ℕ) → FindsBad c bytes cause → cause_in bytes ≡ Some cause
-  pub built : IsBuilt c bytes
   pub compiles : IsTrue (compiles c) → ⊥
   pub reads : limit_of c ≡ None → ⊥
   pub proper : IsGood c bytes → IsImage bytes
@@ -176,31 +161,51 @@ data Sort (c : Command) (bytes : List ℕ) : Type 0 where
   takes_image : OfImage c bytes → Sort c bytes
   takes_nothing : Reads c → (IsTrue (compiles c) → ⊥) → (IsGood c bytes → ⊥) → Sort c bytes
 
-text_sort : (c : Command) (text : List ℕ) → ((out : List ℕ) → IsOutput c text out → IsTextOutput c text out) →
+text_sort : (c : Command) (text : List ℕ) → ((out : List ℕ) → IsOutput c text out → IsGoodText c text) →
     ((r : Refusal) → Refuses c text r → Fails text r.phase r.line) → ((cause : ℕ) → FindsBad c text cause → ⊥) →
     (limit_of c ≡ None → ⊥) → (IsGood c text → IsGoodText c text) → Sort c text
 text_sort c text output refuses good reads proper =
     takes_text (record { output = output; refuses = refuses; good = good; reads = reads; proper = proper })
 
+-- a text with an output is good
+good_text : (c : Command) (text out : List ℕ) → IsTextOutput c text out → IsGoodText c text
+good_text c text out o = record {
+  program = o.program;
+  accepted = o.accepted;
+  fits = λ compiled.
+      fits_of (too_large o.program) (built_image o.program) o.image (o.compiled compiled).compiled;
+}
+
+accounted_text : (options : RunOptions) (show : Option ℕ) (text out : List ℕ) → IsAccounted options show text out →
+    IsGoodText (Explain options show) text
+accounted_text options show text out o = record {
+  program = o.source.program;
+  accepted = subst (λ (bytes : List ℕ). Accepts bytes o.source.program) o.whole o.parts.accepted;
+  fits = λ compiled.
+      fits_of (too_large o.source.program) (built_image o.source.program) o.explained.image o.explained.compiled;
+}
+
 sort : (c : Command) (bytes : List ℕ) → Sort c bytes
 sort Check bytes =
-    text_sort Check bytes (λ out o. o) (λ r f. f) (λ cause b. b) (λ none. none-some 8388608 (sym none)) (λ g. g)
-sort (Meaning options) bytes =
-    text_sort (Meaning options) bytes (λ out o. o) (λ r f. f) (λ cause b. b) (λ none. none-some 8388608 (sym none))
+    text_sort Check bytes (good_text Check bytes) (λ r f. f) (λ cause b. b) (λ none. none-some 8388608 (sym none))
     (λ g. g)
+sort (Meaning options) bytes =
+    text_sort (Meaning options) bytes (good_text (Meaning options) bytes) (λ r f. f) (λ cause b. b)
+    (λ none. none-some 8388608 (sym none)) (λ g. g)
 sort Compile bytes =
-    text_sort Compile bytes (λ out o. o) (λ r f. f) (λ cause b. b) (λ none. none-some 1048576 (sym none)) (λ g. g)
+    text_sort Compile bytes (good_text Compile bytes) (λ r f. f) (λ cause b. b) (λ none. none-some 1048576 (sym none))
+    (λ g. g)
 sort (Run options) bytes =
-    text_sort (Run options) bytes (λ out o. o) (λ r f. f) (λ cause b. b) (λ none. none-some 1048576 (sym none)) (λ g. g)
+    text_sort (Run options) bytes (good_text (Run options) bytes) (λ r f. f) (λ cause b. b)
+    (λ none. none-some 1048576 (sym none)) (λ g. g)
 sort (Explain options show) bytes =
-    text_sort (Explain options show) bytes (λ out o. o) (λ r f. f) (λ cause b. b)
+    text_sort (Explain options show) bytes (accounted_text options show bytes) (λ r f. f) (λ cause b. b)
     (λ none. none-some 1048576 (sym none)) (λ g. g)
 sort (Exec options) bytes =
     takes_image (record {
       output = λ out o. o.read;
       refuses = λ r f. f;
       bad = λ cause b. b;
-      built = tt;
       compiles = λ h. false≢true h;
       reads = λ none. none-some 67108864 (sym none);
       proper = λ g. g;
@@ -219,7 +224,7 @@ module _
     pub refused : (refusal : Refusal) → Refuses c text refusal → ⊥
     pub unfit : (fault : TooLarge) → IsUnfit c text fault → ⊥
     pub bad : (cause : ℕ) → FindsBad c text cause → ⊥
-    pub beyond : GivesUp c text → ⊥
+    pub beyond : IsUnbuilt c → ⊥
 
   fits_or_large : (text : List ℕ) (program other : ProgramTree) (fault : TooLarge) → Accepts text program →
       Accepts text other → too_large program ≡ None → large_in other ≡ Some fault → ⊥
@@ -229,13 +234,13 @@ module _
       none-some fault (ap (option_and_then (by_name other.interfaces)) (sym none) ∙ found)
 
   sound_text : (c : Command) (text : List ℕ) (of : OfText c text) (program : ProgramTree) → Accepts text program →
-      IsBuilt c text → (IsTrue (compiles c) → too_large program ≡ None) → Sound c text
-  sound_text c text of program accepted built fits =
+      (IsTrue (compiles c) → too_large program ≡ None) → Sound c text
+  sound_text c text of program accepted fits =
       record {
         refused = λ r f. accepted_or_refused text program r.phase r.line accepted (of.refuses r f);
         unfit = λ fault u. fits_or_large text program u.program fault accepted u.accepted (fits u.compiled) u.found;
         bad = of.good;
-        beyond = λ g. ⊎_elim of.reads (λ b. b.unbuilt built) g;
+        beyond = of.reads;
       }
 
   sound_image : (c : Command) (bytes : List ℕ) → OfImage c bytes → IsImage bytes → Sound c bytes
@@ -244,17 +249,14 @@ module _
         refused = of.refuses;
         unfit = λ fault u. of.compiles u.compiled;
         bad = λ cause b. image_bad bytes cause is (of.bad cause b);
-        beyond = λ g. ⊎_elim of.reads (λ b. b.unbuilt of.built) g;
+        beyond = of.reads;
       }
 
   -- where there is an output there is no cause
   sound_output : (c : Command) (text out : List ℕ) → IsOutput c text out → Sound c text
   sound_output c text out o = go (sort c text) where
     go : Sort c text → Sound c text
-    go (takes_text of) =
-        let d = of.output out o in
-        sound_text c _ of d.program d.accepted d.built
-        (λ compiled. fits_of (too_large d.program) (built_image d.program) d.image (d.compiled compiled).compiled)
+    go (takes_text of) = let d = of.output out o in sound_text c _ of d.program d.accepted d.fits
     go (takes_image of) = sound_image c _ of (of.output out o)
     go (takes_nothing reads plain bare) = absurd (reads.output _ out o)
 
@@ -289,11 +291,10 @@ module _
     go (takes_image of) = of.refuses r f
     go (takes_nothing reads plain bare) = reads.refuses _ r f
 
-  refused_beyond : (c : Command) (text : List ℕ) (r : Refusal) → Refuses c text r → GivesUp c text → ⊥
+  refused_beyond : (c : Command) (text : List ℕ) (r : Refusal) → Refuses c text r → IsUnbuilt c → ⊥
   refused_beyond c text r f g = go (sort c text) where
     go : Sort c text → ⊥
-    go (takes_text of) =
-        ⊎_elim of.reads (λ b. accepted_or_refused _ b.program r.phase r.line b.accepted (of.refuses r f)) g
+    go (takes_text of) = of.reads g
     go (takes_image of) = of.refuses r f
     go (takes_nothing reads plain bare) = reads.refuses _ r f
 
@@ -305,18 +306,18 @@ module _
     go (takes_image of) = of.compiles u.compiled
     go (takes_nothing reads plain bare) = plain u.compiled
 
-  unfit_beyond : (c : Command) (text : List ℕ) (fault : TooLarge) → IsUnfit c text fault → GivesUp c text → ⊥
+  unfit_beyond : (c : Command) (text : List ℕ) (fault : TooLarge) → IsUnfit c text fault → IsUnbuilt c → ⊥
   unfit_beyond c text fault u g = go (sort c text) where
     go : Sort c text → ⊥
-    go (takes_text of) = ⊎_elim of.reads (λ b. b.unbuilt u.built) g
+    go (takes_text of) = of.reads g
     go (takes_image of) = of.compiles u.compiled
     go (takes_nothing reads plain bare) = plain u.compiled
 
-  bad_beyond : (c : Command) (text : List ℕ) (cause : ℕ) → FindsBad c text cause → GivesUp c text → ⊥
+  bad_beyond : (c : Command) (text : List ℕ) (cause : ℕ) → FindsBad c text cause → IsUnbuilt c → ⊥
   bad_beyond c text cause b g = go (sort c text) where
     go : Sort c text → ⊥
     go (takes_text of) = of.good cause b
-    go (takes_image of) = ⊎_elim of.reads (λ b. b.unbuilt of.built) g
+    go (takes_image of) = of.reads g
     go (takes_nothing reads plain bare) = reads.bad _ cause b
 
   one_unfit : (c : Command) (text : List ℕ) (fault other : TooLarge) → IsUnfit c text fault → IsUnfit c text other →
@@ -396,7 +397,7 @@ module _
   good_is_sound : (c : Command) (text : List ℕ) → IsGood c text → Sound c text
   good_is_sound c text g = go (sort c text) where
     go : Sort c text → Sound c text
-    go (takes_text of) = let d = of.proper g in sound_text c _ of d.program d.accepted d.built d.fits
+    go (takes_text of) = let d = of.proper g in sound_text c _ of d.program d.accepted d.fits
     go (takes_image of) = sound_image c _ of (of.proper g)
     go (takes_nothing reads plain bare) = absurd (bare g)
 

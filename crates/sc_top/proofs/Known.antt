@@ -4,12 +4,13 @@ use Rattle.sc_top.proofs.Common.{IsTrue, IsWellFormed, IsWellTyped, IsWord, List
 use Rattle.sc_top.proofs.Common.{TracesAreLegal, [], and_parts, ap, arith, c_arith, comp_at, false≢true, get_or}
 use Rattle.sc_top.proofs.Common.{image_bytes, interface_of, interfaces_of, length, length-map, machine_run}
 use Rattle.sc_top.proofs.Common.{machine_text, main_fits, map, meant, refl, run_text, sections_fit, slice_get, subst}
-use Rattle.sc_top.proofs.Common.{suc, sym, word_of, zero, ℕ, ◌<◌, ◌∙◌, ◌∷◌, ◌≡◌}
+use Rattle.sc_top.proofs.Common.{suc, sym, true, word_of, zero, ℕ, ◌<◌, ◌∙◌, ◌∷◌, ◌≡◌}
 use Rattle.std.specs.Prelude.{ℤ}
 use Rattle.sc_laws.specs.Prelude.{TracesAreLegal as SourceTracesAreLegal}
 use Rattle.sc_event.specs.declared.interface.Interface.{Interface}
 use Rattle.sc_compile.specs.Compiled.{IsCompiled}
 use Rattle.sc_event.proofs.Known.{legal_is_known}
+use Rattle.sc_event.specs.Prelude.{legal as is_legal}
 use Rattle.sc_word.proofs.Words.{word_of-lt}
 use Rattle.sc_core.specs.declared.section.TypedSection.{TypedSection}
 use Rattle.sc_base.specs.declared.stop.Stop.{Stop}
@@ -85,6 +86,11 @@ pub compiled_known : (options : RunOptions) (program : ProgramTree) (image : Ima
 compiled_known options program image typed is =
     legal_is_known program.interfaces (machine_run options image).state.trace (program_main program typed)
     (is.allowed (map word_of options.inputs) options.steps options.events (inputs_are_words options.inputs))
+
+-- a legal trace is known by the names
+pub legal_known : (program : ProgramTree) (trace : List Event) → IsWellTyped program →
+    is_legal program.interfaces trace ≡ true → All (IsKnown program.interfaces) trace
+legal_known program trace typed allowed = legal_is_known program.interfaces trace (program_main program typed) allowed
 
 -- what the machine shows on an image is known by the image's names: such traces are legal
 pub machine_run_known : TracesAreLegal → (options : RunOptions) (image : ImageParts) → IsWellFormed image →

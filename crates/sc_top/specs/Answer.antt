@@ -1,6 +1,6 @@
 -- What an answer says of the bytes that were read and written.
-use Rattle.sc_top.specs.Common.{Accepts, Adds, Command, Fails, IsAtEnd, IsImage, ProgramTree, Refusal, Rose, Takes}
-use Rattle.sc_top.specs.Common.{bad, cause_number, too_large}
+use Rattle.sc_top.specs.Common.{Accepts, Adds, Command, Fails, IsAtEnd, IsImage, ProgramTree, Refusal, Rose, Takes, bad}
+use Rattle.sc_top.specs.Common.{cause_number, too_large}
 use Rattle.std.specs.Prelude.{◌≡◌, ◌≢◌, ◌≤◌, ◌⊎◌, ◌+◌, ℕ, IsTrue, List, [], ◌++◌, length, Option, Some, None}
 use Rattle.std.specs.Prelude.{option_and_then}
 use Rattle.std.specs.Option.{option_map}
@@ -11,7 +11,7 @@ use Rattle.sc_top.specs.declared.status.Status.TheVariants.{ReadFault, WriteFaul
 use Rattle.sc_top.specs.declared.status.TooLarge as large
 use Rattle.sc_top.specs.Command.{Intake, Text, Image, Nothing, intake, limit_of}
 use Rattle.sc_top.specs.Large.{large_in}
-use Rattle.sc_top.specs.Output.{compiles, IsBuilt, IsOutput}
+use Rattle.sc_top.specs.Output.{compiles, IsOutput}
 
 -- what a call saw of the outside: the bytes that were left to read and those that were written, where these are told,
 -- and the counts of faults, each before the call and after it
@@ -88,23 +88,16 @@ IsBadIn _ bytes cause = ⊥
 abbrev pub FindsBad : Command → List ℕ → (cause : ℕ) → Type 0
 FindsBad command bytes cause = IsBadIn (intake command) bytes cause
 
--- the text is accepted, and the command isn't built for it yet
-pub record IsBeyond (command : Command) (bytes : List ℕ) : Type 0 where
-  pub program : ProgramTree
-  pub accepted : Accepts bytes program
-  pub unbuilt : IsBuilt command bytes → ⊥
-
--- the text is accepted, the command is built for it and compiles its program, which is too large
+-- the text is accepted, and the command compiles its program, which is too large
 pub record IsUnfit (command : Command) (bytes : List ℕ) (fault : large.TooLarge) : Type 0 where
   pub program : ProgramTree
   pub accepted : Accepts bytes program
-  pub built : IsBuilt command bytes
   pub compiled : IsTrue (compiles command)
   pub found : large_in program ≡ Some fault
 
--- the command isn't built yet, or isn't for this text
-abbrev pub GivesUp : Command → List ℕ → Type 0
-GivesUp command bytes = (limit_of command ≡ None) ⊎ IsBeyond command bytes
+-- the command isn't built yet: the one that reads nothing
+abbrev pub IsUnbuilt : Command → Type 0
+IsUnbuilt command = limit_of command ≡ None
 
 -- What each status says.
 
@@ -120,7 +113,7 @@ Says command traffic ReadFault = Rose traffic.read_faults traffic.read_faults_af
 Says command traffic WriteFault =
     Rose traffic.write_faults traffic.write_faults_after × HasRead command traffic (HasBegun command traffic)
 Says command traffic OutOfMemory = Unit {0}
-Says command traffic NotBuilt = HasRead command traffic (GivesUp command)
+Says command traffic NotBuilt = HasRead command traffic (λ bytes. IsUnbuilt command)
 
 -- no read and no write failed
 pub record IsUndisturbed (traffic : Traffic) : Type 0 where
@@ -142,15 +135,13 @@ IsAnswer command bytes (Refused refusal) = IsWithin command bytes × Refuses com
 IsAnswer command bytes (TooLarge fault) = IsWithin command bytes × IsUnfit command bytes fault
 IsAnswer command bytes (TooLong limit) = (limit_of command ≡ Some limit) × (limit + 1 ≤ length bytes)
 IsAnswer command bytes (BadImage cause) = IsWithin command bytes × FindsBad command bytes cause
-IsAnswer command bytes NotBuilt = IsWithin command bytes × GivesUp command bytes
+IsAnswer command bytes NotBuilt = IsWithin command bytes × IsUnbuilt command
 IsAnswer command bytes _ = ⊥
 
--- good input: a text that is accepted, for which the command is built, and whose program fits where it is compiled; the
--- bytes of an image
+-- good input: a text that is accepted, whose program fits where it is compiled; the bytes of an image
 pub record IsGoodText (command : Command) (bytes : List ℕ) : Type 0 where
   pub program : ProgramTree
   pub accepted : Accepts bytes program
-  pub built : IsBuilt command bytes
   pub fits : IsTrue (compiles command) → too_large program ≡ None
 
 abbrev pub IsGoodIn : Intake → Command → List ℕ → Type 0

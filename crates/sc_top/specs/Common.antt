@@ -2,9 +2,8 @@
 pub use Rattle.sc_event.specs.declared.interface.Interfaces.{Interfaces}
 pub use Rattle.sc_edge.specs.Edge.{Adds, IsAtEnd, Rose, Takes}
 pub use Rattle.sc_lex.specs.declared.refusal.Refusal.{Refusal}
-pub use Rattle.sc_core.specs.Prelude.{meaning, thin_meaning}
+pub use Rattle.sc_core.specs.Prelude.{meaning}
 pub use Rattle.sc_core.specs.declared.program.ProgramTree.{ProgramTree}
-pub use Rattle.sc_core.specs.declared.thin.ThinProgram.{ThinProgram}
 pub use Rattle.sc_types.specs.Prelude.{Accepts, Fails}
 pub use Rattle.sc_image.specs.Prelude.{IsImage, Run, bad, cause_number, image_bytes, interfaces_of, machine}
 pub use Rattle.sc_image.specs.declared.parts.ImageParts.{ImageParts}

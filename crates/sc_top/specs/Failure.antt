@@ -14,7 +14,7 @@ use Rattle.sc_top.specs.declared.failure.Failure.TheVariants.{Usage, Refused, To
 use Rattle.sc_top.specs.declared.failure.Failure.TheVariants.{WriteFault, OutOfMemory, NotBuilt}
 use Rattle.sc_top.specs.declared.status.Status.{Status}
 use Rattle.sc_top.specs.declared.status.Status.TheVariants as status
-use Rattle.sc_top.specs.Answer.{IsLonger, Refuses, IsUnfit, FindsBad, GivesUp}
+use Rattle.sc_top.specs.Answer.{IsLonger, Refuses, IsUnbuilt, IsUnfit, FindsBad}
 
 abbrev pub of_words_fault : WordsFault → Failure
 of_words_fault words.Usage = Usage
@@ -61,6 +61,6 @@ abbrev pub IsOutputCause : Command → List ℕ → Failure → Type 0
 IsOutputCause command bytes (Refused refusal) = Refuses command bytes refusal
 IsOutputCause command bytes (TooLarge fault) = IsUnfit command bytes fault
 IsOutputCause command bytes (BadImage cause) = FindsBad command bytes cause
-IsOutputCause command bytes NotBuilt = GivesUp command bytes
+IsOutputCause command bytes NotBuilt = IsUnbuilt command
 IsOutputCause command bytes OutOfMemory = Unit {0}
 IsOutputCause command bytes _ = ⊥

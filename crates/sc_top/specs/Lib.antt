@@ -6,9 +6,6 @@ pub mod Failure
 pub mod Fetching
 pub mod Large
 pub mod Output
-pub mod Statement
 pub mod Status
 pub mod Texts
-pub mod Thin
-pub mod ThinMeaning
 pub mod Writing

@@ -1,16 +1,20 @@
 -- What each command writes for the program of a text and its image, or for an image.
 use Rattle.sc_top.specs.Common.{Accepts, Command, ImageParts, Interfaces, IsImage, ProgramTree, Run, RunOptions}
-use Rattle.sc_top.specs.Common.{ThinProgram, image_bytes, interfaces_of, machine, meaning}
+use Rattle.sc_top.specs.Common.{image_bytes, interfaces_of, machine, meaning}
 use Rattle.sc_word.specs.Prelude.{word_of}
-use Rattle.std.specs.Prelude.{◌≡◌, ℕ, Bool, true, false, IsTrue, List, [], ◌++◌, length, map, codes, Some, None, Ok}
+use Rattle.std.specs.Prelude.{◌≡◌, ℕ, Bool, true, false, IsTrue, List, [], map, take, Option, Some, None, Ok}
+use Rattle.sc_chain.specs.Chain.{IsExplained}
+use Rattle.sc_chain.specs.Recompose.{among, recomposed}
+use Rattle.sc_chain.specs.declared.explanation.Explanation.{Explanation}
+use Rattle.sc_chain.specs.declared.explanation.Link.{Link}
 use Rattle.sc_compile.specs.Compiled.{IsCompiled}
 use Rattle.sc_compile.specs.Image.{image_of}
 use Rattle.sc_core.specs.declared.run.SourceRun.{SourceRun}
 use Rattle.sc_report.specs.Check.{check_text}
-use Rattle.sc_report.specs.Report.{meaning_text, run_text}
+use Rattle.sc_report.specs.Report.{explain_text, meaning_text, run_text}
+use Rattle.sc_types.specs.Source.{IsSource, SourceParts}
 use Rattle.sc_words.specs.declared.command.Command.TheVariants as commands
 use Rattle.sc_words.specs.declared.command.MeaningOptions.{MeaningOptions}
-use Rattle.sc_top.specs.Thin.{IsThin}
 
 -- what a program means, with so many turns and events and these inputs
 abbrev pub meant : MeaningOptions → ProgramTree → SourceRun
@@ -37,42 +41,46 @@ compiles (commands.Run options) = true
 compiles (commands.Explain options show) = true
 compiles _ = false
 
--- which accepted texts a command is built for: so far `explain` is for thin ones alone, the others are for all
-abbrev pub IsBuilt : Command → List ℕ → Type 0
-IsBuilt (commands.Explain options show) bytes = (thin : ThinProgram) × IsThin bytes thin
-IsBuilt command bytes = Unit {0}
+-- what a command writes for the program of a text and its image, where the text is all that it reads and that is no
+-- account
+abbrev pub output : Command → ProgramTree → ImageParts → List ℕ
+output commands.Check program image = check_text program.interfaces
+output (commands.Meaning options) program image = meaning_text program.interfaces (meant options program)
+output commands.Compile program image = image_bytes image
+output (commands.Run options) program image = machine_text program.interfaces options image
+output command program image = []
 
--- what a command that takes a text writes for its bytes, its program and that one's image. Of the chain, which is the
--- text alone, any text is that one
-abbrev pub output : Command → List ℕ → ProgramTree → ImageParts → List ℕ
-output commands.Check bytes program image = check_text program.interfaces
-output (commands.Meaning options) bytes program image = meaning_text program.interfaces (meant options program)
-output commands.Compile bytes program image = image_bytes image
-output (commands.Run options) bytes program image = machine_text program.interfaces options image
-output (commands.Explain options None) bytes program image =
-    machine_text program.interfaces options image ++ codes "chain 0\n"
-output (commands.Explain options (Some place)) bytes program image = bytes
-output (commands.Exec options) bytes program image = []
-output (commands.Make options) bytes program image = []
-
--- what `explain` claims: within so many events as the machine shows, and with as many turns as there were steps, the
--- program's own meaning has just this trace, so that nothing has to be replaced
-abbrev pub IsAccounted : Command → ProgramTree → ImageParts → Type 0
-IsAccounted (commands.Explain options show) program image =
-    let trace = (machine_run options image).state.trace in
-    (meaning program (map word_of options.inputs) options.steps (length trace)).trace ≡ trace
-IsAccounted _ program image = Unit {0}
-
--- the bytes are an accepted text for which the command is built, with an image where it compiles, and this is the
--- output for them
+-- the bytes are an accepted text, with an image where the command compiles, and this is the output for them
 pub record IsTextOutput (command : Command) (bytes text : List ℕ) : Type 0 where
   pub program : ProgramTree
   pub image : ImageParts
   pub accepted : Accepts bytes program
-  pub built : IsBuilt command bytes
   pub compiled : IsTrue (compiles command) → HasImage program image
-  pub written : text ≡ output command bytes program image
-  pub accounted : IsAccounted command program image
+  pub written : text ≡ output command program image
+
+abbrev pub comp_of : Link → ℕ
+comp_of link = link.comp
+
+-- the text of the chain after so many links, or after all where there are fewer: the compartments of those links
+-- perform their parts of the trace
+abbrev pub text_after : SourceParts → Explanation → (links : ℕ) → List ℕ
+text_after source explanation links =
+    recomposed source explanation.trace (among (map comp_of (take links explanation.links)))
+
+-- what `explain` writes: the report, or one text of the chain
+abbrev pub account : (show : Option ℕ) → SourceParts → Explanation → List ℕ
+account None source explanation = explain_text source.program.interfaces explanation
+account (Some links) source explanation = text_after source explanation links
+
+-- the bytes are an accepted text, what the machine shows on its program's image is explained by a chain of texts, and
+-- this is the account of it
+pub record IsAccounted (options : RunOptions) (show : Option ℕ) (bytes text : List ℕ) : Type 0 where
+  pub source : SourceParts
+  pub parts : IsSource source
+  pub whole : source.bytes ≡ bytes
+  pub explanation : Explanation
+  pub explained : IsExplained source (map word_of options.inputs) options.steps options.events explanation
+  pub written : text ≡ account show source explanation
 
 -- the bytes are those of an image, and the text tells what the machine shows on it, by the image's own names
 pub record IsExecuted (options : RunOptions) (bytes text : List ℕ) : Type 0 where
@@ -81,6 +89,7 @@ pub record IsExecuted (options : RunOptions) (bytes text : List ℕ) : Type 0 wh
 
 -- the text is the command's output for these bytes; `make` isn't there yet
 abbrev pub IsOutput : Command → List ℕ → List ℕ → Type 0
+IsOutput (commands.Explain options show) bytes text = IsAccounted options show bytes text
 IsOutput (commands.Exec options) bytes text = IsExecuted options bytes text
 IsOutput (commands.Make options) bytes text = ⊥
 IsOutput command bytes text = IsTextOutput command bytes text

@@ -1,9 +1,8 @@
 -- What this crate's contracts, its proofs and the crates above cite, passed on from one place. Declares nothing.
-pub use Rattle.sc_core.specs.declared.thin.ThinProgram.{ThinProgram}
 pub use Rattle.sc_types.specs.Prelude.{Accepts}
 pub use Rattle.sc_words.specs.declared.command.Command.{Command}
 pub use Rattle.sc_words.specs.declared.command.Command.TheVariants.{Check, Compile, Exec, Explain, Meaning, Run}
-pub use Rattle.sc_top.specs.Answer.{Answers, FindsBad, GivesUp, IsAnswer, IsGood, IsGoodText, IsInput, IsSilent}
+pub use Rattle.sc_top.specs.Answer.{Answers, FindsBad, IsAnswer, IsGood, IsGoodText, IsInput, IsSilent, IsUnbuilt}
 pub use Rattle.sc_top.specs.Answer.{IsUndisturbed, IsUnfit, IsWhole, IsWithin, IsWithinLimit, Refuses, SameAnswer, Says}
 pub use Rattle.sc_top.specs.Answer.{Tells, Traffic, cause_in}
 pub use Rattle.sc_top.specs.Command.{limit_of}
@@ -11,14 +10,11 @@ pub use Rattle.sc_top.specs.Failure.{IsInputCause, IsOutputCause, of_image_fault
 pub use Rattle.sc_top.specs.Failure.{of_words_fault, status_by, status_of}
 pub use Rattle.sc_top.specs.Fetching.{Fetches}
 pub use Rattle.sc_top.specs.Large.{by_name, large_in}
-pub use Rattle.sc_top.specs.Output.{HasImage, IsAccounted, IsBuilt, IsExecuted, IsOutput, IsTextOutput, compiles}
-pub use Rattle.sc_top.specs.Output.{machine_run, machine_text, meant, output}
-pub use Rattle.sc_top.specs.Statement.{EndsNumber, IsNumber, IsStatement}
+pub use Rattle.sc_top.specs.Output.{HasImage, IsAccounted, IsExecuted, IsOutput, IsTextOutput, account, comp_of}
+pub use Rattle.sc_top.specs.Output.{compiles, machine_run, machine_text, meant, output, text_after}
 pub use Rattle.sc_top.specs.Status.{bytes_of, fixed_text, kind_text, large_text, own_text, owner_text, phase_word}
 pub use Rattle.sc_top.specs.Status.{refusal_text, status_number, status_text}
-pub use Rattle.sc_top.specs.Texts.{IsCompiling, IsNamed, IsReading, IsThinReading, IsThinText, of_compile_fault}
-pub use Rattle.sc_top.specs.Thin.{IsBody, IsThin, output_line, return_line}
-unfoldable pub use Rattle.sc_top.specs.Thin.{head}
-pub use Rattle.sc_top.specs.ThinMeaning.{IsThinProgram}
+pub use Rattle.sc_top.specs.Texts.{ArePerforming, IsBounded, IsCompiling, IsNamed, IsReading, of_compile_fault}
+pub use Rattle.sc_top.specs.Texts.{replacement_of}
 pub use Rattle.sc_top.specs.Writing.{Wrote}
 pub use Rattle.sc_top.specs.declared.status.Status.{Status}

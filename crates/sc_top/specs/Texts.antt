@@ -1,14 +1,18 @@
 -- Helping: texts as commands read them, and what comes of compiling them.
-use Rattle.sc_top.specs.Common.{Accepts, CompileFault, Fails, Interfaces, ProgramTree, ThinProgram}
-use Rattle.std.specs.Prelude.{◌≡◌, ℕ, List, Option, None, Some, IsSome}
+use Rattle.sc_top.specs.Common.{Command, CompileFault, Fails, Interfaces, ProgramTree}
+use Rattle.std.specs.Prelude.{◌≡◌, ◌≤◌, ℕ, List, All, Option, None, Some, IsSome}
 use Rattle.sc_event.specs.Prelude.{comp_at}
+use Rattle.sc_event.specs.declared.event.Event.{Event}
+use Rattle.sc_types.specs.Source.{SourceParts}
+use Rattle.sc_chain.specs.Recompose.{performing_text}
+use Rattle.sc_chain.specs.declared.explanation.Link.{Link}
+use Rattle.sc_chain.specs.declared.composed.Replacement.{Replacement}
 use Rattle.sc_compile.specs.declared.fault.CompileFault.TheVariants as compiling
 use Rattle.sc_top.specs.declared.failure.Failure.{Failure}
-use Rattle.sc_top.specs.declared.failure.Failure.TheVariants.{Refused, TooLarge, OutOfMemory, NotBuilt}
+use Rattle.sc_top.specs.declared.failure.Failure.TheVariants.{Refused, TooLarge, OutOfMemory}
 use Rattle.sc_top.specs.declared.status.TooLarge as large
 use Rattle.sc_top.specs.Large.{by_name, large_in}
-use Rattle.sc_top.specs.Thin.{IsThin}
-use Rattle.sc_top.specs.ThinMeaning.{IsThinProgram}
+use Rattle.sc_words.specs.declared.command.Command.TheVariants as commands
 
 -- why a text isn't read as a program
 abbrev pub IsReading : List ℕ → Failure → Type 0
@@ -16,25 +20,19 @@ IsReading bytes (Refused refusal) = Fails bytes refusal.phase refusal.line
 IsReading bytes OutOfMemory = Unit {0}
 IsReading bytes _ = ⊥
 
--- a text is accepted, and isn't thin
-pub record IsThick (bytes : List ℕ) : Type 0 where
-  pub program : ProgramTree
-  pub accepted : Accepts bytes program
-  pub thick : (thin : ThinProgram) → IsThin bytes thin → ⊥
+-- the options of `explain` allow so few events that compartments can perform them
+abbrev pub IsBounded : Command → Type 0
+IsBounded (commands.Explain options show) = options.events ≤ 4096
+IsBounded command = Unit {0}
 
--- why a text isn't read as a thin program
-abbrev pub IsThinReading : List ℕ → Failure → Type 0
-IsThinReading bytes (Refused refusal) = Fails bytes refusal.phase refusal.line
-IsThinReading bytes NotBuilt = IsThick bytes
-IsThinReading bytes OutOfMemory = Unit {0}
-IsThinReading bytes _ = ⊥
+-- what a link replaces
+abbrev pub replacement_of : Link → Replacement
+replacement_of link = record { comp = link.comp; text = link.text }
 
--- the bytes are accepted as this program, and they are the text of a thin one, which is the same
-pub record IsThinText (bytes : List ℕ) (program : ProgramTree) : Type 0 where
-  pub accepted : Accepts bytes program
-  pub thin : ThinProgram
-  pub spelled : IsThin bytes thin
-  pub same : IsThinProgram program thin
+-- by the text of each link its compartment performs its part of the trace
+abbrev pub ArePerforming : SourceParts → List Event → List Link → Type 0
+ArePerforming source trace links =
+    All (λ link. link.text ≡ performing_text source.program.interfaces trace link.comp) links
 
 -- the compartment of which a fault tells is there
 abbrev pub IsNamed : Interfaces → CompileFault → Type 0

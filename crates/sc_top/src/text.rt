@@ -1,27 +1,27 @@
 //! The commands that read texts.
 
-ghost use Rattle.sc_top.specs.Prelude.{Accepts, Check, Compile, Explain, HasImage, IsCompiling, IsOutput};
-ghost use Rattle.sc_top.specs.Prelude.{IsOutputCause, IsReading, IsThinReading, IsThinText, Meaning, Run, meant};
+ghost use Rattle.sc_top.specs.Prelude.{Accepts, Check, Compile, HasImage, IsCompiling, IsOutput, IsOutputCause};
+ghost use Rattle.sc_top.specs.Prelude.{IsReading, Meaning, Run, meant};
 ghost use Rattle.std.specs.Prelude.{◌≡◌, IfOk, IfErr};
+ghost use Rattle.sc_types.specs.Source.{IsSource};
 ghost use Rattle.sc_report.specs.Report.{meaning_text};
 
 use crate::failure::{Failure, compile_failure};
-use crate::laws::thin_texts_are_accepted;
 use crate::machine::compiled_text;
-use crate::thin::read_thin;
 use sc_base::{OutOfMemory, Text};
 use sc_compile::compile;
 use sc_core::Program;
 use sc_image::{Image, write_image};
 use sc_laws::traces_are_legal;
 use sc_run::run_source;
-use sc_types::{SourceText, one_program};
+use sc_types::SourceText;
 use sc_words::{MeaningOptions, RunOptions};
 use std::alloc::Global;
 
-// The text as an accepted one.
-fn read_source(alloc: Global, bytes: &[u8]) -> Result<SourceText, Failure>
+/// The text as an accepted one.
+pub(crate) fn read_source(alloc: Global, bytes: &[u8]) -> Result<SourceText, Failure>
     ensures accepted { IfOk result (λ source. (source.bytes ≡ bytes.now) × Accepts bytes.now source.program) }
+    ensures parts { IfOk result IsSource }
     ensures cause { IfErr result (IsReading bytes.now) }
 {
     Ok(SourceText::read(alloc, bytes)?)
@@ -96,47 +96,4 @@ pub(crate) fn run(alloc: Global, options: &RunOptions, bytes: &[u8]) -> Result<T
     let program = source.program();
     let image = compiled_image(alloc, program)?;
     Ok(compiled_text(alloc, program, options, image)?)
-}
-
-// The accepted text, which must be thin.
-fn read_thin_text(alloc: Global, bytes: &[u8]) -> Result<SourceText, Failure>
-    ensures thin { IfOk result (λ source. IsThinText bytes.now source.program) }
-    ensures cause { IfErr result (IsThinReading bytes.now) }
-{
-    thin_texts_are_accepted();
-    one_program();
-    let source = read_source(alloc, bytes)?;
-    match read_thin(alloc, bytes)? {
-        Some(_) => Ok(source),
-        None => Err(Failure::NotBuilt),
-    }
-}
-
-/// The same for a thin text, and an account of it by source programs; or one of these programs.
-pub(crate) fn explain(
-    alloc: Global,
-    options: &RunOptions,
-    show: Option<u32>,
-    bytes: &[u8],
-) -> Result<Text, Failure>
-    ensures ok { IfOk result (IsOutput (Explain options.now show) bytes.now) }
-    ensures cause { IfErr result (IsOutputCause (Explain options.now show) bytes.now) }
-{
-    let source = read_thin_text(alloc, bytes)?;
-    let program = source.program();
-    let image = compiled_image(alloc, program)?;
-    let mut report = compiled_text(alloc, program, options, image)?;
-    report.append(b"chain 0\n")?;
-    match show {
-        None => Ok(report),
-        Some(_) => Ok(copied(alloc, bytes)?),
-    }
-}
-
-fn copied(alloc: Global, bytes: &[u8]) -> Result<Text, OutOfMemory>
-    ensures { IfOk result (λ text. text ≡ bytes.now) }
-{
-    let mut text = Text::new(alloc);
-    text.append(bytes)?;
-    Ok(text)
 }

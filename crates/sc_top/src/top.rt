@@ -1,5 +1,5 @@
-ghost use Rattle.sc_top.specs.Prelude.{Answers, Command, IsOutput, IsOutputCause, IsSilent, Says, Tells, status_by};
-ghost use Rattle.sc_top.specs.Prelude.{status_text};
+ghost use Rattle.sc_top.specs.Prelude.{Answers, Command, IsBounded, IsOutput, IsOutputCause, IsSilent, Says};
+ghost use Rattle.sc_top.specs.Prelude.{Tells, status_by, status_text};
 ghost use Rattle.std.specs.Prelude.{◌≡◌, ◌≢◌, ◌⊎◌, None, Some, map, IfOk, IfErr, IsErrOf};
 ghost use Rattle.std.specs.String.{string_bytes};
 ghost use Rattle.sc_words.specs.Words.{command};
@@ -7,12 +7,13 @@ ghost use Rattle.sc_top.specs.declared.failure.Failure.{Failure};
 ghost use Rattle.sc_top.specs.declared.status.Status.{Status};
 
 use crate::Status;
+use crate::chain::explain;
 use crate::exec::execute;
 use crate::failure::Failure;
 use crate::input::read_input;
 use crate::output::write_text;
 use crate::telling::tell;
-use crate::text::{check, compiled, explain, meaning, run};
+use crate::text::{check, compiled, meaning, run};
 use sc_base::Text;
 use sc_edge::{Sink, Source};
 use sc_types::{accepted_or_refused, one_phase, one_program};
@@ -96,6 +97,7 @@ fn answer<S: Source, O: Sink>(
 
 // The command's output for these bytes.
 fn output(alloc: Global, command: &Command, bytes: &[u8]) -> Result<Text, Failure>
+    requires { IsBounded command.now }
     ensures ok { IfOk result (IsOutput command.now bytes.now) }
     ensures cause { IfErr result (IsOutputCause command.now bytes.now) }
 {

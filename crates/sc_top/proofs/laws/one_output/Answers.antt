@@ -1,4 +1,4 @@
-use Rattle.sc_top.proofs.Explained.{one_output}
+use Rattle.sc_top.proofs.Outputs.{one_output}
 use Rattle.sc_top.proofs.laws.one_output.Goals as goal
 
 pub returns : goal.returns

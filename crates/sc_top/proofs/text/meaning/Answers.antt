@@ -1,5 +1,5 @@
 use Rattle.sc_top.proofs.Common.{Meaning, ProgramTree, ap, false≢true, meaning_text, meant, ◌∙◌}
-use Rattle.sc_top.proofs.Explained.{plain_output}
+use Rattle.sc_top.proofs.Outputs.{plain_output}
 use Rattle.sc_top.proofs.text.meaning.Goals as goal
 
 pub returns-clause-ok : goal.returns-clause-ok
@@ -8,4 +8,4 @@ returns-clause-ok c =
     (meant c.args.options.now program)) c.program.ensures.program in
     plain_output (Meaning c.args.options.now) c.args.bytes.now c.in_ok-meaning_text.field-0
     c.in_ok-source.source.program (λ h. false≢true h)
-    c.in_ok-source.ensures.accepted.1 tt (c.in_ok-meaning_text.ensures ∙ told) tt
+    c.in_ok-source.ensures.accepted.1 (c.in_ok-meaning_text.ensures ∙ told)

@@ -1,0 +1,91 @@
+ghost use Rattle.sc_event.specs.Prelude.{IsKnown};
+ghost use Rattle.std.specs.Prelude.{◌≡◌, ◌++◌, All, IfOk, OnOk, codes, flat_map, length};
+ghost use Rattle.sc_report.specs.Report.{cause_at_line, chain_text, explain_text, link_end, link_line, number_end};
+
+use crate::names::comp_name;
+use crate::run::{append_number, cause_word, run_text};
+use itoa::Buffer;
+use sc_base::{OutOfMemory, Text};
+use sc_chain::{Explanation, Link};
+use sc_core::Cause;
+use sc_event::Interfaces;
+use std::alloc::Global;
+
+/// The events of a machine run, why it stops, and the chain that accounts for it.
+pub fn explain_text(
+    alloc: Global,
+    interfaces: &Interfaces,
+    explanation: &Explanation,
+) -> Result<Text, OutOfMemory>
+    requires { All (IsKnown interfaces.now) explanation.now.trace }
+    ensures { IfOk result (λ text. text ≡ explain_text interfaces.now explanation.now) }
+{
+    let mut text = run_text(
+        alloc,
+        interfaces,
+        explanation.trace.as_slice(),
+        explanation.stop,
+    )?;
+    append_chain(&mut text, interfaces, explanation.links.as_slice())?;
+    Ok(text)
+}
+
+fn append_chain(text: &mut Text, interfaces: &Interfaces, links: &[Link]) -> Result<(), OutOfMemory>
+    ensures { OnOk result (text.new ≡ text.old ++ chain_text interfaces.now links.now) }
+{
+    append_count(text, links.len())?;
+    append_links(text, interfaces, links)
+}
+
+// How many sections are replaced.
+fn append_count(text: &mut Text, count: usize) -> Result<(), OutOfMemory>
+    ensures { OnOk result (text.new ≡ text.old ++ (codes "chain" ++ number_end count)) }
+{
+    let mut buffer = Buffer::new();
+    text.append(b"chain ")?;
+    text.append(buffer.format(count).as_bytes())?;
+    text.push(b'\n')
+}
+
+fn append_links(text: &mut Text, interfaces: &Interfaces, links: &[Link]) -> Result<(), OutOfMemory>
+    ensures { OnOk result (text.new ≡ text.old ++ flat_map (link_line interfaces.now) links.now) }
+{
+    for link in links {
+        append_link(text, interfaces, link)?;
+    }
+    Ok(())
+}
+
+fn append_link(text: &mut Text, interfaces: &Interfaces, link: &Link) -> Result<(), OutOfMemory>
+    ensures { OnOk result (text.new ≡ text.old ++ link_line interfaces.now link.now) }
+{
+    text.append(b"replace ")?;
+    text.append(comp_name(interfaces, link.comp))?;
+    append_link_end(text, link)
+}
+
+// After how many events, and why.
+fn append_link_end(text: &mut Text, link: &Link) -> Result<(), OutOfMemory>
+    ensures { OnOk result (text.new ≡ text.old ++ link_end link.now) }
+{
+    let mut buffer = Buffer::new();
+    text.append(b" after ")?;
+    text.append(buffer.format(link.after).as_bytes())?;
+    append_cause_at_line(text, link.cause, link.line)
+}
+
+// A cause and the number of its line, as the last things of a line.
+fn append_cause_at_line(text: &mut Text, cause: Cause, line: u32) -> Result<(), OutOfMemory>
+    ensures { OnOk result (text.new ≡ text.old ++ cause_at_line cause line) }
+{
+    text.push(b' ')?;
+    text.append(cause_word(cause))?;
+    append_line(text, line)
+}
+
+fn append_line(text: &mut Text, line: u32) -> Result<(), OutOfMemory>
+    ensures { OnOk result (text.new ≡ text.old ++ (codes " line" ++ number_end line)) }
+{
+    text.append(b" line")?;
+    append_number(text, line)
+}

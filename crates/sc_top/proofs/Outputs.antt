@@ -1,0 +1,113 @@
+-- What comes of accepted texts: outputs and their causes, and that an output is one.
+use Rattle.sc_top.proofs.Common.{Accepts, BytesNameOneImage, Command, CompileFault, Failure, HasImage, ImageParts}
+use Rattle.sc_top.proofs.Common.{IsCompiling, IsExecuted, IsOutput, IsOutputCause, IsTextOutput, IsTrue, List, Ok}
+use Rattle.sc_top.proofs.Common.{ProgramTree, Result, RunOptions, [], ap, compiles, interfaces_of, machine_text, output}
+use Rattle.sc_top.proofs.Common.{refl, subst, sym, ℕ, ◌∙◌, ◌≡◌}
+use Rattle.sc_words.specs.declared.command.Command.TheVariants as commands
+use Rattle.sc_top.specs.declared.failure.Failure.TheVariants as failure
+use Rattle.sc_top.proofs.Chains.{one_account}
+
+-- the image that stands where a command compiles none
+pub no_image : ImageParts
+no_image = record { main = 0; entry = 0; comps = [] }
+
+-- the output of a command that compiles nothing
+pub plain_output : (command : Command) (bytes text : List ℕ) (program : ProgramTree) →
+    (IsTrue (compiles command) → ⊥) → Accepts bytes program → text ≡ output command program no_image →
+    IsTextOutput command bytes text
+plain_output command bytes text program plain accepted written =
+    record {
+      program = program;
+      image = no_image;
+      accepted = accepted;
+      compiled = λ is. absurd (plain is);
+      written = written;
+    }
+
+-- the output of one that compiles
+pub compiled_output : (command : Command) (bytes text : List ℕ) (program : ProgramTree) (image : ImageParts) →
+    Accepts bytes program → HasImage program image → text ≡ output command program image →
+    IsTextOutput command bytes text
+compiled_output command bytes text program image accepted compiled written =
+    record {
+      program = program;
+      image = image;
+      accepted = accepted;
+      compiled = λ _. compiled;
+      written = written;
+    }
+
+-- why a program isn't compiled is why a command that compiles has no output for its text
+unfit_cause : (command : Command) (bytes : List ℕ) (program : ProgramTree) (f : Failure) → Accepts bytes program →
+    IsTrue (compiles command) → IsCompiling program f → IsOutputCause command bytes f
+unfit_cause command bytes program failure.Usage accepted compiled why = why
+unfit_cause command bytes program (failure.Refused refusal) accepted compiled why = absurd why
+unfit_cause command bytes program (failure.TooLarge fault) accepted compiled why =
+    record { program = program; accepted = accepted; compiled = compiled; found = why }
+unfit_cause command bytes program (failure.TooLong limit) accepted compiled why = why
+unfit_cause command bytes program (failure.BadImage cause) accepted compiled why = absurd why
+unfit_cause command bytes program failure.ReadFault accepted compiled why = why
+unfit_cause command bytes program failure.WriteFault accepted compiled why = why
+unfit_cause command bytes program failure.OutOfMemory accepted compiled why = tt
+unfit_cause command bytes program failure.NotBuilt accepted compiled why = absurd why
+
+pub compiled_cause : (command : Command) (bytes : List ℕ) (program other : ProgramTree) (f : Failure) →
+    other ≡ program → Accepts bytes program → IsTrue (compiles command) → IsCompiling other f →
+    IsOutputCause command bytes f
+compiled_cause command bytes program other f same accepted compiled why =
+    unfit_cause command bytes program f accepted compiled
+    (subst (λ (p : ProgramTree). IsCompiling p f) same why)
+
+-- ONE OUTPUT
+
+-- what is written depends on the image of a command that compiles alone
+same_output : (command : Command) (program : ProgramTree) (one other : ImageParts) →
+    (IsTrue (compiles command) → one ≡ other) → output command program one ≡ output command program other
+same_output commands.Check program one other same = refl
+same_output (commands.Meaning options) program one other same = refl
+same_output commands.Compile program one other same = ap (output commands.Compile program) (same refl)
+same_output (commands.Run options) program one other same = ap (output (commands.Run options) program) (same refl)
+same_output (commands.Explain options show) program one other same = refl
+same_output (commands.Exec options) program one other same = refl
+same_output (commands.Make options) program one other same = refl
+
+-- a program has one image
+pub one_image : (program : ProgramTree) (one other : ImageParts) → HasImage program one → HasImage program other →
+    one ≡ other
+one_image program one other is known =
+    let same : ◌≡◌ {A = Result ImageParts CompileFault} (Ok one) (Ok other) = sym is.compiled ∙ known.compiled in
+    cc same
+
+module _
+    (one_program : (text : List ℕ) (program other : ProgramTree) →
+    Accepts text program → Accepts text other → program ≡ other) where
+  one_text : (command : Command) (bytes text other : List ℕ) → IsTextOutput command bytes text →
+      IsTextOutput command bytes other → text ≡ other
+  one_text command bytes text other is known =
+      let program = one_program bytes is.program known.program is.accepted known.accepted in
+      let image : IsTrue (compiles command) → is.image ≡ known.image =
+      λ c. one_image known.program is.image known.image
+      (subst (λ (p : ProgramTree). HasImage p is.image) program (is.compiled c)) (known.compiled c) in
+      is.written ∙ (ap (λ p. output command p is.image) program ∙
+      (same_output command known.program is.image known.image image ∙ sym known.written))
+
+  one_run : BytesNameOneImage → (options : RunOptions) (bytes text other : List ℕ) → IsExecuted options bytes text →
+      IsExecuted options bytes other → text ≡ other
+  one_run one options bytes text other is known =
+      is.written ∙ (ap (λ i. machine_text (interfaces_of i) options i)
+      (one is.read.image known.read.image is.read.well_formed known.read.well_formed
+      (sym is.read.bytes_are ∙ known.read.bytes_are)) ∙ sym known.written)
+
+  -- a command has one output
+  pub one_output : BytesNameOneImage → (command : Command) (bytes text other : List ℕ) → IsOutput command bytes text →
+      IsOutput command bytes other → text ≡ other
+  one_output one commands.Check bytes text other is known = one_text commands.Check bytes text other is known
+  one_output one (commands.Meaning options) bytes text other is known =
+      one_text (commands.Meaning options) bytes text other is known
+  one_output one commands.Compile bytes text other is known = one_text commands.Compile bytes text other is known
+  one_output one (commands.Run options) bytes text other is known =
+      one_text (commands.Run options) bytes text other is known
+  one_output one (commands.Explain options show) bytes text other is known =
+      one_account one_program options show bytes text other is known
+  one_output one (commands.Exec options) bytes text other is known = one_run one options bytes text other is known
+  one_output one (commands.Make options) bytes text other is known = absurd is
