@@ -7,3 +7,4 @@ mod ChainTexts
 pub mod Joined
 pub mod Recomposed
 pub mod Rows
+pub mod Words

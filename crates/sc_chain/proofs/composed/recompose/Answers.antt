@@ -1,9 +1,6 @@
-use Rattle.std.proofs.Common.{subst, sym, ap}
 use Rattle.sc_linker.proofs.Compartments.{few_numbers}
-use Rattle.sc_chain.specs.Recompose.{joined, text_for}
-use Rattle.sc_chain.proofs.Joined.{ended, stepped}
 use Rattle.sc_chain.proofs.composed.recompose.Goals as goal
 
 pub comp_id-requires : goal.comp_id-requires
 comp_id-requires c = few_numbers c.program.result.now c.tree.ensures.typed c.loop-number.number
-    (rw c.len-number-end.ensures at c.loop-number-test.true)
+    (rw (c.len-number-end.ensures, c.tree.ensures.tree) at c.loop-number-test.true)

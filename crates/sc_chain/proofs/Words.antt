@@ -1,0 +1,19 @@
+-- The values of one event more are words.
+use Rattle.std.proofs.Common.{◌≡◌, ℕ, ◌+◌, ◌<◌, List, length, refl, sym, ap, ◌∙◌, subst, arith, ⊎_elim}
+use Rattle.std.specs.Prelude.{slice_index_or}
+use Rattle.std.proofs.lemmas.Bool.{cases_lt}
+use Rattle.std.proofs.lemmas.List.{get_or_read_under}
+use Rattle.sc_event.specs.declared.event.Event.{Event}
+use Rattle.sc_replay.specs.Replay.{HasWords}
+
+-- the first events have words
+abbrev pub FirstHave : List Event → (count : ℕ) → Type 0
+FirstHave events count = (k : ℕ) (d : Event) → k < count → HasWords (slice_index_or events k d)
+
+pub one_more : (events : List Event) (i : ℕ) (x : Event) → i < length events → x ≡ slice_index_or events i x →
+    HasWords x → FirstHave events i → FirstHave events (i + 1)
+one_more events i x within is words so_far k d below =
+    ⊎_elim (λ less. so_far k d less) (λ le.
+    (let same : k ≡ i = omega (arith, le, below) in
+    subst HasWords (get_or_read_under events i (length events) x d is within refl ∙
+    ap (λ n. slice_index_or events n d) (sym same)) words)) (cases_lt k i)
