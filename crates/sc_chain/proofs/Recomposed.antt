@@ -20,6 +20,7 @@ use Rattle.sc_replay.specs.Replay.{HasWords}
 use Rattle.sc_chain.specs.Recompose.{among, joined, performing, performing_text, recomposed, text_for}
 use Rattle.sc_chain.specs.Replaced.{IsReplaced}
 use Rattle.sc_chain.specs.Sections.{replacement_of}
+use Rattle.sc_chain.specs.declared.composed.Replacement.{Replacement}
 use Rattle.sc_chain.proofs.Accepted as accepted
 
 -- The replacements of a list of compartments are those of their set.
@@ -61,8 +62,6 @@ within_all count (one ∷ comps) h comp own = by (one == comp) refl own (within_
   by false is own rest = rest own
 
 -- a text is split in one way
-bytes_are : (sections : List Section) → List (List ℕ)
-bytes_are sections = map (λ section. section.bytes.now) sections
 
 part_bytes : (sections : List Section) →
     map (λ section. section.bytes.now) sections ≡ map (λ (part : Part). part.bytes) (map part_of sections)
@@ -119,3 +118,15 @@ is_accepted source trace comps is allowed few words known =
       accepted.program source trace is allowed few words (among comps) within,
       accepted.accepted source trace is allowed few words (among comps) within,
     )
+
+-- the text that is put together
+pub text_so : (source : SourceParts) (trace : List Event) (comps : List ℕ) (program : ProgramTree)
+    (interfaces : Interfaces) (made handed : List Replacement) (text bytes : List ℕ) → program ≡ source.program →
+    interfaces ≡ program.interfaces → made ≡ map (replacement_of interfaces trace) comps → handed ≡ made →
+    text ≡ joined source (text_for handed) → bytes ≡ text → bytes ≡ recomposed source trace (among comps)
+text_so source trace comps program interfaces made handed text bytes program_is interfaces_are made_are handed_are
+    text_is bytes_are =
+    bytes_are ∙ text_is ∙
+    ap (λ items. joined source (text_for items)) (handed_are ∙ made_are ∙
+    ap (λ i. map (replacement_of i trace) comps) (interfaces_are ∙ ap (λ (p : ProgramTree). p.interfaces) program_is)) ∙
+    joined_is source trace comps
