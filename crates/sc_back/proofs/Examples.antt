@@ -1,5 +1,5 @@
 -- Sections of programs, byte for byte.
-use Rattle.std.proofs.Common.{◌≡◌, refl, [], ◌∷◌, Some}
+use Rattle.std.proofs.Common.{◌≡◌, ◌++◌, refl, [], ◌∷◌, Some}
 use Rattle.std.specs.Prelude.{codes}
 use Rattle.sc_event.specs.declared.interface.Import.TheVariants as import
 use Rattle.sc_event.specs.declared.interface.Interface.{Interface}
