@@ -1,5 +1,5 @@
 -- Sections of programs, byte for byte.
-use Rattle.std.proofs.Common.{◌≡◌, refl, [], ◌∷◌, Some}
+use Rattle.std.proofs.Common.{◌≡◌, ◌++◌, refl, [], ◌∷◌, Some}
 use Rattle.std.specs.Prelude.{codes}
 use Rattle.sc_event.specs.declared.interface.Import.TheVariants as import
 use Rattle.sc_event.specs.declared.interface.Interface.{Interface}
@@ -19,7 +19,8 @@ net = record {
 
 returns : back_text (record { comps = net ∷ []; main = 1 }) 0
     (record { entry = Export 0; number = 0; action = Ret (Some 9) } ∷ []) ≡
-    codes "#pragma compartment Net\n#pragma export put\nunsigned int bt_n;\nint put(int bt_0, int bt_1) {\n  if (bt_n == 0u) { bt_n = 1u; return 9; }\n  while (1) { }\n}\n"
+    codes "#pragma compartment Net\n#pragma export put\nunsigned int bt_n;\nint put(int bt_0, int bt_1) {\n" ++
+    codes "  if (bt_n == 0u) { bt_n = 1u; return 9; }\n  while (1) { }\n}\n"
 unfolding digits
 returns = refl
 
@@ -46,6 +47,10 @@ reenters : back_text (record { comps = both ∷ other ∷ []; main = 0 }) 0
     record { entry = Export 1; number = 1; action = Ret (Some 11) } ∷
     record { entry = Export 0; number = 2; action = Ret (Some 22) } ∷
     record { entry = Main; number = 3; action = End 4294967291 } ∷ []) ≡
-    codes "#pragma compartment A\n#pragma export f\n#pragma export h\n#pragma import B g\nint g(int bt_0);\nunsigned int bt_n;\nint f(int bt_0) {\n  if (bt_n == 0u) { bt_n = 1u; g(5); }\n  if (bt_n == 2u) { bt_n = 3u; return 22; }\n  while (1) { }\n}\nint h(int bt_0) {\n  if (bt_n == 1u) { bt_n = 2u; return 11; }\n  while (1) { }\n}\nint main(void) {\n  if (bt_n == 3u) { bt_n = 4u; return -5; }\n  while (1) { }\n}\n"
+    codes "#pragma compartment A\n#pragma export f\n#pragma export h\n#pragma import B g\nint g(int bt_0);\n" ++
+    (codes "unsigned int bt_n;\nint f(int bt_0) {\n  if (bt_n == 0u) { bt_n = 1u; g(5); }\n" ++
+    (codes "  if (bt_n == 2u) { bt_n = 3u; return 22; }\n  while (1) { }\n}\nint h(int bt_0) {\n" ++
+    (codes "  if (bt_n == 1u) { bt_n = 2u; return 11; }\n  while (1) { }\n}\nint main(void) {\n" ++
+    codes "  if (bt_n == 3u) { bt_n = 4u; return -5; }\n  while (1) { }\n}\n")))
 unfolding digits
 reenters = refl

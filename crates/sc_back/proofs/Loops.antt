@@ -53,7 +53,8 @@ own_rows interfaces result entry (row ∷ rows) =
       split : (own : Bool) → own_rows_text interfaces result entry rows ≡
           flat_map (row_text interfaces result) (filter (is_of entry) rows) →
           (if own then row_text interfaces result row else []) ++ own_rows_text interfaces result entry rows ≡
-          flat_map (row_text interfaces result) (if own then row ∷ filter (is_of entry) rows else filter (is_of entry) rows)
+          flat_map (row_text interfaces result)
+          (if own then row ∷ filter (is_of entry) rows else filter (is_of entry) rows)
       split true h = ap (λ t. row_text interfaces result row ++ t) h
       split false h = h
 

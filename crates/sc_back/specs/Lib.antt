@@ -1,4 +1,5 @@
 pub mod Text
 pub mod Rows
 pub mod Tree
+pub mod Replacing
 pub mod Sections

@@ -73,12 +73,3 @@ AllBecome interfaces rows set comp [] [] = Unit {0}
 AllBecome interfaces rows set comp (old ∷ olds) (new ∷ news) =
     Becomes interfaces rows set comp old new × AllBecome interfaces rows set (suc comp) olds news
 AllBecome interfaces rows set comp _ _ = ⊥
-
--- What becomes of the bytes of sections.
-abbrev pub new_text : (replaced : Option (List ℕ)) → (old : List ℕ) → List ℕ
-new_text None old = old
-new_text (Some text) old = text
-
-abbrev pub new_texts : (replace : ℕ → Option (List ℕ)) → (comp : ℕ) → List (List ℕ) → List (List ℕ)
-new_texts replace comp [] = []
-new_texts replace comp (old ∷ olds) = new_text (replace comp) old ∷ new_texts replace (suc comp) olds

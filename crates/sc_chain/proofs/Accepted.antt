@@ -1,5 +1,6 @@
 -- A text in which compartments perform their parts of a trace is accepted, and means what their scripts say.
-use Rattle.std.proofs.Common.{◌≡◌, ℕ, suc, ◌<◌, ◌≤◌, Bool, true, false, List, [], ◌∷◌, ◌++◌, length, All, refl, sym, ◌∙◌, ap, subst, arith}
+use Rattle.std.proofs.Common.{◌≡◌, ℕ, suc, ◌<◌, ◌≤◌, Bool, true, false, List, [], ◌∷◌, ◌++◌, length, All, refl, sym}
+use Rattle.std.proofs.Common.{◌∙◌, ap, subst, arith}
 use Rattle.std.specs.Prelude.{nat_le}
 use Rattle.std.specs.List.{AllByRecursion, AllZip, concat, list_all}
 use Rattle.std.proofs.lemmas.Bool.{le-leb}
@@ -21,7 +22,7 @@ use Rattle.sc_read.specs.Reading.{IsRead, Part, Reads}
 use Rattle.sc_types.specs.Acceptance.{Accepts, AreLow, IsTyped}
 use Rattle.sc_types.specs.Source.{IsSource, IsSplitInto, SourceParts}
 use Rattle.sc_types.proofs.Whole.{well_typed}
-use Rattle.sc_back.specs.Sections.{new_texts}
+use Rattle.sc_back.specs.Replacing.{new_texts}
 use Rattle.sc_replay.specs.Replay.{HasWords, IsRecomposed, IsReplay}
 use Rattle.sc_replay.proofs.Replays.{texts_perform}
 use Rattle.sc_reread.specs.Names.{IsNamedImport, IsNamedSection}
@@ -69,7 +70,8 @@ reads_low : (text : List ℕ) (trees : List SectionTree) → Reads text trees �
 reads_low text trees r = low_from text r.sections trees r.each
 
 module _ (source : SourceParts) (trace : List Event) (is : IsSource source)
-    (allowed : legal source.program.interfaces trace ≡ true) (few : length trace ≤ 4096) (words : All HasWords trace) where
+    (allowed : legal source.program.interfaces trace ≡ true) (few : length trace ≤ 4096)
+    (words : All HasWords trace) where
   abbrev trees : List SectionTree
   trees = is.accepted.sections
 

@@ -13,7 +13,7 @@ use Rattle.sc_laws.specs.Chains as laws
 use Rattle.sc_laws.proofs.ProgramLaws.{blamed_are_there, chain_is_least, chains_rise, empty_set}
 use Rattle.sc_types.specs.Acceptance.{Accepts}
 use Rattle.sc_types.specs.Source.{IsSource, SourceParts}
-use Rattle.sc_back.specs.Sections.{new_texts}
+use Rattle.sc_back.specs.Replacing.{new_texts}
 use Rattle.sc_chain.specs.Chain.{HasProgram, Includes, IsChain, IsChainFrom, TellsTrace}
 use Rattle.sc_chain.specs.Recompose.{among, performing, recomposed}
 use Rattle.sc_chain.specs.declared.explanation.Link.{Link}

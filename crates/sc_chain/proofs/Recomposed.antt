@@ -1,5 +1,6 @@
 -- What is read of a text in which compartments perform.
-use Rattle.std.proofs.Common.{◌≡◌, ℕ, suc, ◌<◌, ◌≤◌, ◌==◌, ◌||◌, Bool, true, false, List, [], ◌∷◌, ◌++◌, length, map, All}
+use Rattle.std.proofs.Common.{◌≡◌, ℕ, suc, ◌<◌, ◌≤◌, ◌==◌, ◌||◌, Bool, true, false, List, [], ◌∷◌, ◌++◌, length, map}
+use Rattle.std.proofs.Common.{All}
 use Rattle.std.proofs.Common.{Option, None, Some, if◌then◌else◌, refl, sym, ◌∙◌, ap, ap₂, subst}
 use Rattle.std.specs.List.{AllByRecursion, concat, list_any}
 use Rattle.std.proofs.lemmas.Bool.{eqb-true}
@@ -15,7 +16,7 @@ use Rattle.sc_read.specs.Reading.{Part, part_of}
 use Rattle.sc_read.proofs.Splits.{same_parts, same_preamble}
 use Rattle.sc_types.specs.Acceptance.{Accepts}
 use Rattle.sc_types.specs.Source.{IsSource, IsSplitInto, SourceParts}
-use Rattle.sc_back.specs.Sections.{new_text, new_texts}
+use Rattle.sc_back.specs.Replacing.{new_text, new_texts}
 use Rattle.sc_replay.specs.Replay.{HasWords}
 use Rattle.sc_chain.specs.Recompose.{among, joined, performing, performing_text, recomposed, text_for}
 use Rattle.sc_chain.specs.Replaced.{IsReplaced}

@@ -1,5 +1,6 @@
 -- Behind each row of a trace that isn't too long there is another number.
-use Rattle.std.proofs.Common.{◌≡◌, ℕ, suc, ◌+◌, ◌^◌, ◌<◌, ◌≤◌, Bool, true, false, List, [], ◌∷◌, length, All, Option, None}
+use Rattle.std.proofs.Common.{◌≡◌, ℕ, suc, ◌+◌, ◌^◌, ◌<◌, ◌≤◌, Bool, true, false, List, [], ◌∷◌, length, All, Option}
+use Rattle.std.proofs.Common.{None}
 use Rattle.std.proofs.Common.{Some, if◌then◌else◌, arith, subst, sym}
 use Rattle.std.specs.Prelude.{◌==◌}
 use Rattle.std.specs.List.{AllByRecursion}

@@ -6,7 +6,7 @@ use Rattle.sc_event.specs.declared.event.Event.{Event}
 use Rattle.sc_event.specs.declared.interface.Interfaces.{Interfaces}
 use Rattle.sc_types.specs.Source.{SourceParts}
 use Rattle.sc_back.specs.Text.{back_text}
-use Rattle.sc_back.specs.Sections.{new_texts}
+use Rattle.sc_back.specs.Replacing.{new_texts}
 use Rattle.sc_chain.specs.declared.composed.Replacement.{Replacement}
 
 -- the text of the first replacement of a compartment, if there is one

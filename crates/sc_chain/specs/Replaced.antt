@@ -5,7 +5,7 @@ use Rattle.sc_core.specs.Prelude.{meaning, scripted_meaning}
 use Rattle.sc_core.specs.declared.cause.Cause.{Cause}
 use Rattle.sc_core.specs.declared.run.RunEnd.TheVariants.{Blamed}
 use Rattle.sc_types.specs.Source.{SourceParts}
-use Rattle.sc_back.specs.Sections.{new_texts}
+use Rattle.sc_back.specs.Replacing.{new_texts}
 use Rattle.sc_chain.specs.Recompose.{performing, recomposed}
 
 pub record IsReplaced (source : SourceParts) (trace : List Event) (set : ℕ → Bool) (new : SourceParts) : Type 0 where

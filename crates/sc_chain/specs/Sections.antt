@@ -3,7 +3,7 @@ use Rattle.std.specs.Prelude.{ℕ, List, [], Option, slice_index_or}
 use Rattle.sc_event.specs.declared.event.Event.{Event}
 use Rattle.sc_event.specs.declared.interface.Interfaces.{Interfaces}
 use Rattle.sc_types.specs.Source.{SourceParts}
-use Rattle.sc_back.specs.Sections.{new_text}
+use Rattle.sc_back.specs.Replacing.{new_text}
 use Rattle.sc_chain.specs.Recompose.{performing_text}
 use Rattle.sc_chain.specs.declared.composed.Replacement.{Replacement}
 

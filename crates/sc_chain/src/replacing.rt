@@ -96,8 +96,8 @@ fn read_accepted(alloc: Global, text: &[u8]) -> Result<SourceText, OutOfMemory>
     }
 }
 
-/// The text in which these compartments perform their parts of a trace, in place of running their functions; it may name
-/// a compartment twice. It is accepted as every source is, and means what the compartments' scripts say.
+/// The text in which these compartments perform their parts of a trace, in place of running their functions; one may be
+/// named twice. The text is accepted, and means what the compartments' scripts say.
 pub fn replaced(
     alloc: Global,
     source: &SourceText,

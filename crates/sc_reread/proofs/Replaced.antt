@@ -16,7 +16,8 @@ use Rattle.sc_read.specs.Reading.{IsRead, Part, part_of}
 use Rattle.sc_read.proofs.Splits.{same_parts, same_preamble}
 use Rattle.sc_back.specs.Text.{back_text, section_text}
 use Rattle.sc_back.specs.Tree.{back_tree}
-use Rattle.sc_back.specs.Sections.{AllBecome, Becomes, kept, new_text, new_texts, replaced}
+use Rattle.sc_back.specs.Sections.{AllBecome, Becomes, kept, replaced}
+use Rattle.sc_back.specs.Replacing.{new_text, new_texts}
 use Rattle.sc_reread.specs.Performing.{IsReadAs}
 use Rattle.sc_reread.specs.Replaced.{IsPerformer, IsReplacement, ReplacedTextsAreRead, texts_of}
 use Rattle.sc_reread.proofs.Headings.{last}

@@ -10,7 +10,8 @@ use Rattle.sc_lex.specs.declared.section.Section.{Section}
 use Rattle.sc_ast.specs.declared.section.SectionTree.{SectionTree}
 use Rattle.sc_read.specs.Reading.{Reads}
 use Rattle.sc_back.specs.Text.{back_text}
-use Rattle.sc_back.specs.Sections.{AllBecome, CanPerform, new_texts}
+use Rattle.sc_back.specs.Sections.{AllBecome, CanPerform}
+use Rattle.sc_back.specs.Replacing.{new_texts}
 
 -- the bytes of each section, its compartment line included
 abbrev pub texts_of : List Section → List (List ℕ)

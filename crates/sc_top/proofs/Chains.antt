@@ -5,7 +5,7 @@ use Rattle.sc_top.proofs.Common.{CompileFault, Decides-eqb, account, ap, ap₂, 
 use Rattle.sc_top.proofs.Common.{map, meaning, recursion_from_All, refl, replacement_of, subst, suc, sym, take}
 use Rattle.sc_top.proofs.Common.{text_after, true, word_of, zero, ℕ, [], ◌++◌, ◌==◌, ◌∙◌, ◌∷◌, ◌≡◌, ◌≤◌}
 use Rattle.std.specs.Prelude.{◌||◌, if◌then◌else◌}
-use Rattle.sc_back.specs.Sections.{new_text, new_texts}
+use Rattle.sc_back.specs.Replacing.{new_text, new_texts}
 use Rattle.sc_chain.specs.Chain.{IsChainFrom, IsExplained, IsNext, TellsTrace}
 use Rattle.sc_chain.specs.Recompose.{among, joined, performing, performing_text, recomposed, text_for}
 use Rattle.sc_chain.specs.declared.explanation.Explanation.{Explanation}
