@@ -1,0 +1,93 @@
+// Every set of a program's compartments, in the places of whose sections those stand that perform a trace.
+ghost use Rattle.std.specs.Prelude.{◌<◌, All, IfOk};
+
+use crate::generate::{EVENTS, FIRST, STEPS, generated};
+use sc_base::OutOfMemory;
+use sc_chain::{Explanation, Link, explain, replaced};
+use sc_event::{CompId, legal};
+use sc_run::run_source;
+use sc_types::SourceText;
+use sqlite_items::Items;
+use std::alloc::Global;
+use std::test::Fail;
+
+// Whether a set, whose compartments are the bits of a word, has this one.
+fn has(set: u32, comp: CompId) -> bool {
+    set.wrapping_shr(comp.number() as u32) & 1 == 1
+}
+
+fn has_all(set: u32, links: &[Link]) -> bool {
+    for link in links {
+        if !has(set, link.comp) {
+            return false;
+        }
+    }
+    true
+}
+
+// The compartments of a set that are below this count, of the first four.
+fn members(alloc: Global, set: u32, count: usize) -> Result<Items<CompId>, OutOfMemory>
+    ensures { IfOk result (All (λ comp. comp < count)) }
+{
+    let mut comps: Items<CompId> = Items::new(alloc);
+    for number in 0..4 {
+        let Some(comp) = CompId::new(number) else {
+            return Ok(comps);
+        };
+        if (comp.number() as usize) < count && has(set, comp) {
+            comps.push(comp)?;
+        }
+    }
+    Ok(comps)
+}
+
+// Whether the text in which a set performs means the trace exactly where the set has the chain's compartments.
+fn is_told_rightly(
+    alloc: Global,
+    source: &SourceText,
+    explanation: &Explanation,
+    set: u32,
+) -> Result<bool, Fail> {
+    let interfaces = &source.program().tree().interfaces;
+    let trace = explanation.trace.as_slice();
+    if trace.len() > 4096 || !legal(interfaces, trace) {
+        return Ok(false);
+    }
+    let comps = members(alloc, set, interfaces.comps.len())?;
+    let text = replaced(alloc, source, trace, comps.as_slice())?;
+    let run = run_source(alloc, text.program(), &[], STEPS, trace.len() as u32)?;
+    let tells = run.trace.as_slice() == trace;
+    Ok(tells == has_all(set, explanation.links.as_slice()))
+}
+
+// Whether that is so for all sets of the compartments of a program, of which there are at most four.
+fn are_told_rightly(alloc: Global, seed: u32) -> Result<bool, Fail> {
+    let bytes = generated(alloc, seed)?;
+    let Ok(source) = SourceText::read(alloc, bytes.as_bytes()) else {
+        return Ok(false);
+    };
+    let Ok(explanation) = explain(alloc, &source, &[], STEPS, EVENTS) else {
+        return Ok(false);
+    };
+    let sets = match source.program().tree().interfaces.comps.len() {
+        2 => 4,
+        3 => 8,
+        4 => 16,
+        _ => return Ok(false),
+    };
+    for set in 0..sets {
+        if !is_told_rightly(alloc, &source, &explanation, set)? {
+            return Ok(false);
+        }
+    }
+    Ok(true)
+}
+
+#[test]
+fn a_set_tells_the_trace_where_it_has_the_chain(rt: HostRuntime) -> Result<(), Fail> {
+    for number in 0..40 {
+        let seed = FIRST.wrapping_add(number);
+        assert!(rt; are_told_rightly(rt.alloc(), seed)?);
+    }
+    Ok(())
+}
