@@ -113,6 +113,9 @@ even_comma count = ap (λ s. open_after s count) tables.comma_mark
 pub even_equal : Even (word_symbol (codes "="))
 even_equal count = ap (λ s. open_after s count) tables.equal
 
+pub even_step : Even (word_symbol (codes "++"))
+even_step count = ap (λ s. open_after s count) tables.plus_plus
+
 pub even_binary : (op : BinaryOp) → Even (word_symbol (binary_text op))
 even_binary op count = ap (λ s. open_after s count) (tables.binary_says op) ∙ by op
   where
