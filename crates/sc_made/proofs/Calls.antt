@@ -1,5 +1,5 @@
 -- The statements of `main`: a call of each function, what it gives is written, and the end.
-use Rattle.std.proofs.Common.{IsTrue, List, [], ap, append-nil, append_assoc, arith, codes, decimal, flat_map, refl}
+use Rattle.std.proofs.Common.{List, [], ap, append-nil, append_assoc, arith, codes, decimal, flat_map, refl}
 use Rattle.std.proofs.Common.{rules, subst, suc, sym, true, ℕ, ◌++◌, ◌<◌, ◌∙◌, ◌∷◌, ◌≡◌, ◌≤◌}
 use Rattle.std.specs.List.{AllByRecursion}
 use Rattle.std.specs.Fmt.{digits}

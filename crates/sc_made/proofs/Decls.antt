@@ -1,5 +1,5 @@
 -- Declarations: words that spell them, and what these come to.
-use Rattle.std.proofs.Common.{IsTrue, List, [], ap, append_assoc, ap₂, arith, codes, map, refl, subst, sym, true, ℕ}
+use Rattle.std.proofs.Common.{List, [], ap, append_assoc, ap₂, arith, codes, refl, subst, true, ℕ}
 use Rattle.std.proofs.Common.{◌++◌, ◌∙◌, ◌∷◌, ◌≡◌, ◌≤◌}
 use Rattle.std.proofs.lemmas.Grind.{flat_map-append}
 use Rattle.std.specs.List.{flat_map, list_all}

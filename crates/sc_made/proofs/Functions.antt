@@ -1,6 +1,6 @@
 -- The declarations of a made text: prototypes, `main`, the table of a worker and its functions.
 use Rattle.std.proofs.Common.{List, [], ap, append-nil, append_assoc, arith, codes, decimal, flat_map, map, refl, rules}
-use Rattle.std.proofs.Common.{subst, sym, true, ℕ, ◌++◌, ◌<◌, ◌∙◌, ◌∷◌, ◌≡◌, ◌≤◌}
+use Rattle.std.proofs.Common.{subst, sym, true, ℕ, ◌++◌, ◌<◌, ◌∙◌, ◌∷◌, ◌≡◌}
 use Rattle.std.proofs.lemmas.Bool.{and_from}
 use Rattle.std.specs.Fmt.{digits}
 use Rattle.std.specs.List.{AllByRecursion, list_all}
@@ -11,7 +11,6 @@ use Rattle.sc_ast.specs.declared.expr.ExprTree as exprs
 use Rattle.sc_ast.specs.declared.expr.ExprTree.TheVariants as expr
 use Rattle.sc_ast.specs.declared.section.Decl.{Decl}
 use Rattle.sc_ast.specs.declared.section.Decl.TheVariants as decl
-use Rattle.sc_ast.specs.declared.section.HeadTree.{HeadTree}
 use Rattle.sc_ast.specs.declared.stmt.StmtTree.{StmtTree}
 use Rattle.sc_ast.specs.declared.stmt.StmtTree as stmts
 use Rattle.sc_ast.specs.declared.stmt.StmtKind as kinds
@@ -21,13 +20,13 @@ use Rattle.sc_print.specs.Prelude.{dense_decl, is_kept, is_kept_decl, is_kept_st
 use Rattle.sc_reread.proofs.Nesting.{Nested, even_equal, even_ident, even_keyword, even_literal, even_semicolon}
 use Rattle.sc_reread.proofs.Nesting.{nested_blank, nested_even, nested_level, nested_line, nested_more, nested_none}
 use Rattle.sc_reread.proofs.Nesting.{nested_parens, nested_square}
-use Rattle.sc_made.specs.Text.{addend, call_text, function_name, function_text, proto_text}
-use Rattle.sc_made.specs.Tree.{calls_tree, function_at, literal, local_at, main_at, no_lines, output_proto, proto_at}
+use Rattle.sc_made.specs.Text.{addend, function_name, function_text, proto_text}
+use Rattle.sc_made.specs.Tree.{function_at, local_at, main_at, no_lines, output_proto, proto_at}
 use Rattle.sc_made.specs.Tree.{return_kind, set_kind, stmt_at, table_at, variable}
 use Rattle.sc_made.proofs.Spelled.{addend_fits, function_ident, literal_number}
 use Rattle.sc_made.proofs.Lines as lines
 use Rattle.sc_made.proofs.Lines.{AreLines, IsLine, more_lines, printed_line}
-use Rattle.sc_made.proofs.Calls.{calls_are, output_ident, return_line}
+use Rattle.sc_made.proofs.Calls.{output_ident, return_line}
 use Rattle.sc_made.proofs.Loops.{i_ident, loop_line, s_ident, t_ident, x_ident}
 use Rattle.sc_made.proofs.Decls.{AreDecls, IsDecl, function_decl, more_decls, no_decls, printed_decl}
 
@@ -181,6 +180,11 @@ sum_line = return_line (variable (codes "s")) (codes "s") (sum_kept s_ident) (om
 
 -- A function of a worker.
 
+locals_kept : list_all kept_local (local_at (codes "i") 0 ∷ local_at (codes "s") 0 ∷ []) ≡ true
+locals_kept = and_from (kept_local (local_at (codes "i") 0)) (list_all kept_local (local_at (codes "s") 0 ∷ []))
+    (local_kept (codes "i") i_ident)
+    (and_from (kept_local (local_at (codes "s") 0)) true (local_kept (codes "s") s_ident) refl)
+
 abbrev behind_set : List ℕ
 behind_set = codes
     "  for (i = 0; i < 64; i++) {\n    t[i & 15] = x + i;\n    s = s + t[i & 15];\n  }\n  return s;\n"
@@ -206,9 +210,7 @@ function_is seed j low =
     subst (IsDecl (decl.Function (function_at seed j no_lines))) (text_is seed j)
     (function_decl (function_at seed j no_lines) (codes "int " ++ (function_name j ++ codes "(int x)"))
     (codes "  int i;\n  int s;\n") ((codes "  s = " ++ (decimal (addend seed j) ++ codes ";\n")) ++ behind_set)
-    (head_kept j low) (and_from (kept_local (local_at (codes "i") 0)) (list_all kept_local (local_at (codes "s") 0 ∷ []))
-    (local_kept (codes "i") i_ident) (and_from (kept_local (local_at (codes "s") 0)) true
-    (local_kept (codes "s") s_ident) refl)) (omega arith) refl (nested_more (omega arith) (head_nested j low)) refl
+    (head_kept j low) locals_kept (omega arith) refl (nested_more (omega arith) (head_nested j low)) refl
     (nested_more (omega arith) (local_nested (codes "i") i_ident (local_nested (codes "s") s_ident nested_none)))
     (lines_are seed j))
 

@@ -5,3 +5,6 @@ pub mod Decls
 pub mod Calls
 pub mod Loops
 pub mod Functions
+pub mod Directives
+pub mod Sections
+pub mod Read

@@ -1,5 +1,5 @@
 -- Lines of statements: words that spell them, and what these come to.
-use Rattle.std.proofs.Common.{IsTrue, List, [], ap₂, arith, refl, true, ℕ, ◌++◌, ◌∙◌, ◌∷◌, ◌≡◌, ◌≤◌}
+use Rattle.std.proofs.Common.{List, [], ap₂, arith, refl, true, ℕ, ◌++◌, ◌∙◌, ◌∷◌, ◌≡◌, ◌≤◌}
 use Rattle.std.proofs.lemmas.Grind.{flat_map-append}
 use Rattle.sc_ast.specs.Height.{stmt_height, stmts_height}
 use Rattle.sc_ast.specs.Prelude.{Piece, line_of, lineless_kind, newline, piece_text, stmt_layout, text_of}

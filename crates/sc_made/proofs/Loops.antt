@@ -1,16 +1,15 @@
 -- The loop in a worker's function, whose `i++` is the words of no tree.
-use Rattle.std.proofs.Common.{IsTrue, List, Some, [], ap, arith, codes, max, refl, rules, subst, sym, true}
-use Rattle.std.proofs.Common.{ℕ, ◌++◌, ◌+◌, ◌∙◌, ◌∷◌, ◌≡◌, ◌≤◌}
+use Rattle.std.proofs.Common.{List, Some, [], ap, arith, codes, refl, rules, subst, sym, true}
+use Rattle.std.proofs.Common.{◌++◌, ◌∙◌, ◌∷◌, ◌≡◌, ◌≤◌}
 use Rattle.std.proofs.lemmas.Bool.{and_from}
 use Rattle.std.specs.Fmt.{digits}
 use Rattle.sc_base.specs.declared.op.BinaryOp.TheVariants as binary
 unfoldable use Rattle.sc_base.specs.Prelude.{is_name, is_reserved}
-use Rattle.sc_ast.specs.Prelude.{Piece, blank, block_words, expr_words, first_words, fits, indent, is_ident, is_place}
+use Rattle.sc_ast.specs.Prelude.{Piece, blank, block_words, expr_words, first_words, indent, is_ident, is_place}
 use Rattle.sc_ast.specs.Prelude.{layouts, line_of, lines_at, literal_text, newline, place_words, stmt_height}
 use Rattle.sc_ast.specs.Prelude.{stmt_layout, text_of, word}
 use Rattle.sc_ast.specs.declared.expr.ExprTree.{ExprTree}
 use Rattle.sc_ast.specs.declared.expr.ExprTree as exprs
-use Rattle.sc_ast.specs.declared.stmt.SimpleKind.TheVariants as simple
 use Rattle.sc_ast.specs.declared.stmt.StmtTree.{StmtTree}
 use Rattle.sc_ast.specs.declared.stmt.StmtTree as stmts
 use Rattle.sc_ast.specs.declared.stmt.StmtKind as kinds
@@ -18,7 +17,7 @@ use Rattle.sc_expr.specs.declared.mark.Keyword.TheVariants as keyword
 use Rattle.sc_expr.specs.declared.mark.Mark.TheVariants as mark
 use Rattle.sc_parse.specs.Lists.{first_line}
 use Rattle.sc_parse.specs.Statements as spell
-use Rattle.sc_print.specs.Prelude.{are_kept, is_kept, is_kept_stmt, kept_option, kept_place, kept_simple}
+use Rattle.sc_print.specs.Prelude.{are_kept, is_kept, is_kept_stmt, kept_option}
 use Rattle.sc_print.proofs.Apart as apart
 use Rattle.sc_print.proofs.Each.{all_at}
 use Rattle.sc_print.proofs.Reading.{Reading, fixed, line_symbols, part, reads, written}

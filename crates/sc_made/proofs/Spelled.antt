@@ -1,6 +1,6 @@
 -- Names of functions and of workers are names, and numbers that are drawn are literals.
-use Rattle.std.proofs.Common.{Bool, List, [], ap, arith, codes, decimal, false, le-leb, length, lt-ltb, nat_le, nat_lt}
-use Rattle.std.proofs.Common.{not, refl, suc, true, ℕ, ◌%◌, ◌&&◌, ◌*◌, ◌++◌, ◌+◌, ◌/◌, ◌<◌, ◌^◌, ◌∙◌, ◌∷◌, ◌≡◌, ◌≤◌}
+use Rattle.std.proofs.Common.{Bool, List, [], ap, arith, decimal, false, le-leb, length, lt-ltb, nat_le, nat_lt}
+use Rattle.std.proofs.Common.{not, refl, suc, true, ℕ, ◌%◌, ◌&&◌, ◌*◌, ◌++◌, ◌+◌, ◌<◌, ◌^◌, ◌∙◌, ◌∷◌, ◌≡◌}
 use Rattle.std.proofs.lemmas.Bool.{and_from, and_parts, or_right}
 use Rattle.std.proofs.lemmas.Fmt.{decimal_by_steps, length-decimal-le}
 use Rattle.std.proofs.lemmas.List.Folds.{list_all-append}
@@ -62,7 +62,7 @@ worker_named i low =
     and_from (is_nondigit 87) (list_all is_name_byte (decimal i) && nat_lt (length (decimal i)) 63) refl
     (and_from (list_all is_name_byte (decimal i)) (nat_lt (length (decimal i)) 63) b.bytes b.short)
 
-function_named : (j : ℕ) → j < 1000 → is_name (function_name j) ≡ true
+pub function_named : (j : ℕ) → j < 1000 → is_name (function_name j) ≡ true
 unfolding is_name
 function_named j low =
     let b = behind j low in
