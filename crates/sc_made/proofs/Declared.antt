@@ -9,7 +9,8 @@ use Rattle.sc_ast.specs.declared.section.HeadTree.{HeadTree}
 use Rattle.sc_ast.specs.declared.section.ImportLine.{ImportLine}
 use Rattle.sc_scope.specs.Declarations.{protos_in}
 use Rattle.sc_scope.specs.Prelude.{Text, functions_in, globals_in, heads_in, structs_in}
-use Rattle.sc_made.specs.Tree.{output_import, output_proto}
+use Rattle.sc_made.specs.Text.{function_name}
+use Rattle.sc_made.specs.Tree.{output_import}
 use Rattle.sc_made.proofs.Naming.{function_names}
 use Rattle.sc_made.proofs.Shapes.{AreExports, AreFunctions, AreImports, AreProtos, and_export, and_function, and_import}
 use Rattle.sc_made.proofs.Shapes.{and_proto, no_exports, no_functions, no_imports, no_protos}
@@ -19,22 +20,23 @@ use Rattle.sc_made.proofs.Shapes.{and_proto, no_exports, no_functions, no_import
 pub imports_named : (size line : ℕ) (js : List ℕ) (lines : List ImportLine) → AreImports size js lines →
     map {A = ImportLine} (λ one. one.name) (lines ++ output_import line ∷ []) ≡ function_names js ++ codes "output" ∷ []
 imports_named size line _ _ no_imports = refl
-imports_named size line _ _ (and_import j at js lines h) = ap (λ x. _ ∷ x) (imports_named size line js lines h)
+imports_named size line _ _ (and_import j at js lines h) =
+    ap (λ x. function_name j ∷ x) (imports_named size line js lines h)
 
 pub protos_named : (js : List ℕ) (heads : List HeadTree) → AreProtos js heads →
     map {A = HeadTree} (λ head. head.name) heads ≡ function_names js
 protos_named _ _ no_protos = refl
-protos_named _ _ (and_proto j at js heads h) = ap (λ x. _ ∷ x) (protos_named js heads h)
+protos_named _ _ (and_proto j at js heads h) = ap (λ x. function_name j ∷ x) (protos_named js heads h)
 
 pub exports_named : (js : List ℕ) (lines : List ExportLine) → AreExports js lines →
     map {A = ExportLine} (λ one. one.name) lines ≡ function_names js
 exports_named _ _ no_exports = refl
-exports_named _ _ (and_export j at js lines h) = ap (λ x. _ ∷ x) (exports_named js lines h)
+exports_named _ _ (and_export j at js lines h) = ap (λ x. function_name j ∷ x) (exports_named js lines h)
 
 pub functions_named : (seed : ℕ) (js : List ℕ) (trees : List FunctionTree) → AreFunctions seed js trees →
     map {A = FunctionTree} (λ tree. tree.head.name) trees ≡ function_names js
 functions_named seed _ _ no_functions = refl
-functions_named seed _ _ (and_function j lines js trees h) = ap (λ x. _ ∷ x) (functions_named seed js trees h)
+functions_named seed _ _ (and_function j lines js trees h) = ap (λ x. function_name j ∷ x) (functions_named seed js trees h)
 
 -- Prototypes, and behind them others.
 

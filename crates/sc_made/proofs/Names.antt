@@ -1,5 +1,5 @@
 -- The sections of a made text break no rule of names.
-use Rattle.std.proofs.Common.{Bool, List, None, Option, Some, [], ◌∷◌, ◌++◌, ◌≡◌, ◌∙◌, ◌≤◌, ◌<◌, ℕ, suc, ap, ap₂}
+use Rattle.std.proofs.Common.{Bool, List, None, Option, Some, [], ◌∷◌, ◌++◌, ◌≡◌, ◌∙◌, ◌&&◌, ◌≤◌, ℕ, suc, ap, ap₂}
 use Rattle.std.proofs.Common.{append-nil, append_assoc, arith, codes, false, map, not, refl, rules, subst, sym, true}
 use Rattle.std.proofs.lemmas.Bool.{and_from}
 use Rattle.std.proofs.lemmas.List.{map-append}
@@ -99,8 +99,8 @@ module _ (callables : List Text) where
 -- The section of `Main`.
 
 module _ (size seed : ℕ) (section : SectionTree) (m : IsMain size seed section) where
-  abbrev js : List ℕ
-  js = all_functions size
+  abbrev every : List ℕ
+  every = all_functions size
 
   abbrev main_function : FunctionTree
   main_function = main_at m.head_line m.local_line m.close_line m.body
@@ -109,7 +109,7 @@ module _ (size seed : ℕ) (section : SectionTree) (m : IsMain size seed section
   last_decls = decl.Proto (output_proto m.proto_line) ∷ decl.Function main_function ∷ []
 
   abbrev imported : List Text
-  imported = function_names js ++ codes "output" ∷ []
+  imported = function_names every ++ codes "output" ∷ []
 
   abbrev head_names : List HeadTree → List Text
   head_names heads = map {A = HeadTree} (λ head. head.name) heads
@@ -130,7 +130,7 @@ module _ (size seed : ℕ) (section : SectionTree) (m : IsMain size seed section
 
   imports_are : map {A = ImportLine} (λ one. one.name) section.imports ≡ imported
   imports_are = ap (λ s. map {A = ImportLine} (λ one. one.name) s.imports) m.is ∙
-      imports_named size m.output_line js m.imports m.imports_are
+      imports_named size m.output_line every m.imports m.imports_are
 
   functions_are : functions_in section.decls ≡ main_function ∷ []
   functions_are = ap functions_in decls_are ∙ behind_functions last_decls m.protos
@@ -157,21 +157,21 @@ module _ (size seed : ℕ) (section : SectionTree) (m : IsMain size seed section
       protos_lines (front ++ head ∷ []) ks heads h more ∙
       ap (λ x. lines_from section (map decl.Proto x) more) (append_assoc front (head ∷ []) heads)
 
-  called : (j : ℕ) → IsAmong j js → among (codes "main" ∷ imported) (function_name j) ≡ true
+  called : (j : ℕ) → IsAmong j every → among (codes "main" ∷ imported) (function_name j) ≡ true
   called j there =
-      among_front (function_names js) (codes "output" ∷ []) (function_name j) (function_among j js there)
+      among_front (function_names every) (codes "output" ∷ []) (function_name j) (function_among j every there)
 
   output_is_called : among (codes "main" ∷ imported) (codes "output") ≡ true
-  output_is_called = among_back (function_names js) (codes "output" ∷ []) (codes "output") refl
+  output_is_called = among_back (function_names every) (codes "output" ∷ []) (codes "output") refl
 
   main_lines : (protos : List Text) → function_lines (names protos) main_function ≡ []
   main_lines protos =
-      calls_known (codes "main" ∷ imported) seed js m.body m.body_is output_is_called called
+      calls_known (codes "main" ∷ imported) seed every m.body m.body_is output_is_called called
 
   pub main_names : section_lines section ≡ []
   main_names =
       let output : HeadTree = output_proto m.proto_line in
-      ap (lines_from section []) decls_are ∙ protos_lines [] js m.protos m.protos_are last_decls ∙
+      ap (lines_from section []) decls_are ∙ protos_lines [] every m.protos m.protos_are last_decls ∙
       ap₂ (λ x y. x ++ (y ++ []))
       (ap (λ n. decl_lines n (decl.Proto output)) (before m.protos))
       (ap (λ b. decl_lines (declared section b) (decl.Function main_function))
@@ -277,12 +277,12 @@ module _ (size seed worker : ℕ) (section : SectionTree) (w : IsWorker size see
   functions_lines : (low : ℕ) (front : List FunctionTree) (done js : List ℕ) (trees : List FunctionTree) →
       AreFunctions seed js trees → defined front ≡ function_names done → Below low 1000 done → Rise low 1000 js →
       lines_from section (decl.Global table ∷ map decl.Function front) (map decl.Function trees) ≡ []
-  functions_lines low front done _ _ no_functions named below rise = refl
-  functions_lines low front done _ _ (and_function j lines js trees h) named below rise =
+  functions_lines low front done _ _ no_functions named less rise = refl
+  functions_lines low front done _ _ (and_function j lines js trees h) named less rise =
       let tree : FunctionTree = function_at seed j lines in
-      let less : Below j 1000 done = below_more low j 1000 done rise.0 below in
+      let lower : Below j 1000 done = below_more low j 1000 done rise.0 less in
       let new : is_new (defined front) (function_name j) ≡ true =
-      ap (λ names. is_new names (function_name j)) named ∙ function_new j rise.1.0 done less in
+      ap (λ names. is_new names (function_name j)) named ∙ function_new j rise.1 done lower in
       let next : (decl.Global table ∷ map decl.Function front) ++ decl.Function tree ∷ [] ≡
       decl.Global table ∷ map decl.Function (front ++ tree ∷ []) =
       ap (λ x. decl.Global table ∷ x) (sym (map-append decl.Function front (tree ∷ []))) in
@@ -292,7 +292,7 @@ module _ (size seed worker : ℕ) (section : SectionTree) (w : IsWorker size see
       ap₂ (λ x y. x ++ lines_from section y (map decl.Function trees))
       (ap (λ n. function_lines n tree) (before_function front) ∙ function_none (defined front) j lines new) next ∙
       functions_lines (suc j) (front ++ tree ∷ []) (done ++ j ∷ []) js trees h still
-      (below_next j 1000 done rise.1.0 less) rise.1.1
+      (below_next j 1000 done rise.1 lower) rise.2
 
   pub worker_names_hold : size ≤ 1000 → section_lines section ≡ []
   worker_names_hold few =

@@ -13,7 +13,7 @@ Rise low high (j ∷ js) = (low ≤ j) × (j < high) × Rise (suc j) high js
 
 rise_lower : (low lower high : ℕ) (js : List ℕ) → lower ≤ low → Rise low high js → Rise lower high js
 rise_lower low lower high [] le h = tt
-rise_lower low lower high (j ∷ js) le h = let at_least = h.0 in (omega (arith, at_least, le), h.1)
+rise_lower low lower high (j ∷ js) le h = let at_least = h.0 in (omega (arith, at_least, le), h.1, h.2)
 
 numbers_rise : (from count high : ℕ) → from + count ≤ high → Rise from high (numbers_from from count)
 numbers_rise from zero high le = tt

@@ -3,11 +3,14 @@ use Rattle.std.proofs.Common.{List, [], ◌∷◌, ◌++◌, ◌≡◌, ◌∙�
 use Rattle.std.proofs.Common.{codes}
 use Rattle.std.specs.Prelude.{flat_map}
 use Rattle.sc_ast.specs.Prelude.{SameButLines, lineless_decl, lineless_export, lineless_function, lineless_head}
-use Rattle.sc_ast.specs.Prelude.{lineless_import, lineless_kind, lineless_local, lineless_option, lineless_simple}
-use Rattle.sc_ast.specs.Prelude.{lineless_stmt, lineless_stmts}
+use Rattle.sc_ast.specs.Prelude.{lineless_import, lineless_kind, lineless_local, lineless_option, lineless_stmt}
+use Rattle.sc_ast.specs.Prelude.{lineless_stmts}
+use Rattle.sc_ast.specs.Lineless.{lineless_simple}
 use Rattle.sc_ast.proofs.Statements.{bare_stmt}
 use Rattle.sc_ast.specs.declared.expr.CallTree.{CallTree}
 use Rattle.sc_ast.specs.declared.expr.ExprTree.{ExprTree}
+use Rattle.sc_base.specs.declared.op.BinaryOp.TheVariants.{Add}
+use Rattle.sc_ast.specs.declared.expr.ExprTree.TheVariants.{Binary}
 use Rattle.sc_ast.specs.declared.stmt.SimpleTree.{SimpleTree}
 use Rattle.sc_ast.specs.declared.stmt.StmtKind.{StmtKind, out-StmtKind}
 use Rattle.sc_ast.specs.declared.stmt.StmtKind.TheOpen as layer
@@ -24,7 +27,7 @@ use Rattle.sc_ast.specs.declared.section.SectionTree.{SectionTree}
 use Rattle.sc_performers.proofs.BareKinds.{IsFor, IsLeaf, for_kind, kind_of_layer, leaf_kind}
 use Rattle.sc_made.specs.Text.{all_functions, functions_of, numbers_from, workers}
 use Rattle.sc_made.specs.Tree.{FunctionLines, add_kind, assign_simple, below, call_kind, calls_tree, export_at}
-use Rattle.sc_made.specs.Tree.{function_at, import_at, literal, loop_kind, made_trees, main_at, main_body, main_tree}
+use Rattle.sc_made.specs.Tree.{function_at, import_at, literal, local_at, loop_kind, made_trees, main_at, main_body, main_tree}
 use Rattle.sc_made.specs.Tree.{next_at, no_lines, output_import, output_kind, output_proto, proto_at, return_kind}
 use Rattle.sc_made.specs.Tree.{set_kind, start_at, stmt_at, store_kind, table_at, variable, worker_tree}
 use Rattle.sc_made.specs.Laws.{AreSame}
@@ -147,7 +150,7 @@ main_is : (size seed : ℕ) (t : FunctionTree) →
     lineless_function t ≡ lineless_function (main_at 0 0 0 (main_body size seed)) →
     (x : ℕ) × (t ≡ main_at t.head.line x t.close_line t.body)
 main_is size seed t same =
-    let one = one_local t.locals _ (ap (λ x. x.locals) same) in
+    let one = one_local t.locals (local_at (codes "r") 0) (ap (λ x. x.locals) same) in
     (one.0, λ i. record {
       head = record ((ap (λ x. x.head) same) i) { line = t.head.line };
       locals = one.1 i;
@@ -292,8 +295,9 @@ loop_is s h =
     let inside : List StmtTree = stmt_at 0 store_kind ∷ stmt_at 0 add_kind ∷ [] in
     let f : IsFor (Some (start_at 0)) below (Some (next_at 0)) inside (out-StmtKind s.kind) =
     for_kind s.kind (Some (start_at 0)) below (Some (next_at 0)) inside (kinds_same s (loop_kind no_lines) h) in
-    let start = simple_is f.start _ _ f.start_is in
-    let next = simple_is f.step _ _ f.step_is in
+    let counter = variable (codes "i") in
+    let start = simple_is f.start counter (literal 0) f.start_is in
+    let next = simple_is f.step counter (Binary Add counter (literal 1)) f.step_is in
     let two = two_are f.body store_kind add_kind (assigns _ _) (assigns _ _) f.body_is in
     let body : List StmtTree = stmt_at two.0 store_kind ∷ stmt_at two.1 add_kind ∷ [] in
     let parts : out-StmtKind s.kind ≡ layer.For (Some (start_at start.0)) below (Some (next_at next.0)) body =
@@ -349,7 +353,7 @@ record IsFunction (seed j : ℕ) (t : FunctionTree) : Type 0 where
 function_is : (seed j : ℕ) (t : FunctionTree) →
     lineless_function t ≡ lineless_function (function_at seed j no_lines) → IsFunction seed j t
 function_is seed j t same =
-    let locals = two_locals t.locals _ _ (ap (λ x. x.locals) same) in
+    let locals = two_locals t.locals (local_at (codes "i") 0) (local_at (codes "s") 0) (ap (λ x. x.locals) same) in
     let body = body_is seed j t.body (ap (λ x. x.body) same) in
     record {
       lines = record {
