@@ -122,7 +122,7 @@ module _ (size seed : ℕ) (section : SectionTree) (main : IsMain size seed sect
   unfolding typed_structs
   structs_none = λ i. typed_structs (no_tags size seed section main i) [] (no_structs size seed section main i)
 
-  no_globals : globals_in section.decls ≡ []
+  pub no_globals : globals_in section.decls ≡ []
   no_globals =
       ap (λ s. globals_in s.decls) main.is ∙
       main_globals main.protos (output_proto main.proto_line) (tree_of size seed section main)
