@@ -1,5 +1,5 @@
 -- The sections of a made text hold no more than a program may.
-use Rattle.std.proofs.Common.{List, [], ◌∷◌, ◌++◌, ◌≡◌, ◌∙◌, ◌+◌, ◌≤◌, ℕ, suc, ap, ap₂, arith, length, map, refl}
+use Rattle.std.proofs.Common.{List, [], ◌++◌, ◌≡◌, ◌∙◌, ◌≤◌, ℕ, suc, ap, ap₂, arith, length, map, refl}
 use Rattle.sc_ast.specs.declared.section.SectionTree.{SectionTree}
 use Rattle.sc_scope.specs.Prelude.{line_of_text}
 use Rattle.sc_elab.specs.Prelude.{callees_of}

@@ -1,5 +1,5 @@
 -- What the sections of a made text declare: `Main` prototypes and a function, a worker a global and functions.
-use Rattle.std.proofs.Common.{List, [], ◌∷◌, ◌++◌, ◌≡◌, ◌∙◌, ap, map, refl}
+use Rattle.std.proofs.Common.{List, [], ◌∷◌, ◌++◌, ◌≡◌, ap, map, refl}
 use Rattle.sc_ast.specs.Prelude.{head_of}
 use Rattle.sc_ast.specs.declared.section.Decl.{Decl}
 use Rattle.sc_ast.specs.declared.section.Decl.TheVariants.{Function, Global, Proto}

@@ -1,5 +1,5 @@
 -- The literals of a made text: how they are typed and judged, and that those that are drawn fit.
-use Rattle.std.proofs.Common.{Bool, ◌≡◌, ◌∙◌, ◌+◌, ◌*◌, ◌/◌, ◌%◌, ◌^◌, ◌<◌, ◌≤◌, ℕ, suc, ap, arith, le-leb, nat_le, refl, rules}
+use Rattle.std.proofs.Common.{◌≡◌, ◌∙◌, ◌+◌, ◌*◌, ◌/◌, ◌%◌, ◌^◌, ◌≤◌, ℕ, suc, ap, arith, le-leb, nat_le, rules}
 use Rattle.std.proofs.Common.{true}
 use Rattle.sc_ast.specs.declared.expr.ExprTree as exprs
 use Rattle.sc_core.specs.Prelude.{Scope, goes_into, judged}
@@ -9,7 +9,7 @@ use Rattle.sc_core.specs.declared.expr.TypedExpr as typed_exprs
 use Rattle.sc_core.specs.declared.expr.TypedKind as typed_kinds
 use Rattle.sc_core.specs.declared.ty.Ty.TheVariants as ty
 use Rattle.sc_elab_expr.specs.Prelude.{Visible, typed}
-use Rattle.sc_made.specs.Text.{addend, argument, drawn, next_state, state_after}
+use Rattle.sc_made.specs.Text.{addend, argument, drawn, state_after}
 use Rattle.sc_made.specs.Tree.{literal}
 
 abbrev pub typed_int : ℕ → TypedExpr

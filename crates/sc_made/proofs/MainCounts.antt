@@ -1,16 +1,15 @@
 -- `Main` holds no more than a program may.
-use Rattle.std.proofs.Common.{Bool, List, None, Option, Some, [], ◌∷◌, ◌++◌, ◌≡◌, ◌∙◌, ◌+◌, ◌*◌, ◌≤◌, ℕ, zero, suc, ap, ap₂, arith}
+use Rattle.std.proofs.Common.{List, None, [], ◌∷◌, ◌++◌, ◌≡◌, ◌∙◌, ◌+◌, ◌*◌, ◌≤◌, ℕ, zero, suc, ap, arith}
 use Rattle.std.proofs.Common.{le-leb, length, length-append, map, nat_le, refl, slice_get, true}
 use Rattle.std.proofs.lemmas.Bool.{and_from}
 use Rattle.std.proofs.lemmas.List.{length-map}
 use Rattle.std.specs.List.{concat}
 use Rattle.sc_ast.specs.declared.section.Decl.TheVariants as decl
 use Rattle.sc_ast.specs.declared.section.ExportLine.{ExportLine}
-use Rattle.sc_ast.specs.declared.section.FunctionTree.{FunctionTree}
 use Rattle.sc_ast.specs.declared.section.HeadTree.{HeadTree}
 use Rattle.sc_ast.specs.declared.section.ImportLine.{ImportLine}
 use Rattle.sc_ast.specs.declared.section.SectionTree.{SectionTree}
-use Rattle.sc_core.specs.Prelude.{most_nodes, nodes, total}
+use Rattle.sc_core.specs.Prelude.{most_nodes, total}
 use Rattle.sc_scope.specs.Prelude.{unless}
 use Rattle.sc_elab_expr.specs.Prelude.{Callees}
 use Rattle.sc_types.proofs.TypedNodes.{section-nodes}
@@ -19,7 +18,6 @@ use Rattle.sc_types.specs.Counts.{section_nodes, structs_from}
 use Rattle.sc_types.specs.Prelude.{function_nodes}
 use Rattle.sc_made.specs.Text.{all_functions}
 use Rattle.sc_made.specs.Tree.{output_import, output_proto}
-use Rattle.sc_made.proofs.Declared.{main_decls}
 use Rattle.sc_made.proofs.MainTypes.{no_globals}
 use Rattle.sc_made.proofs.Shapes.{AreImports, AreProtos, IsMain, and_import, and_proto, no_imports, no_protos}
 use Rattle.sc_made.proofs.Shares.{numbers_length}

@@ -1,5 +1,5 @@
 -- `Main` breaks no rule of types.
-use Rattle.std.proofs.Common.{List, None, Option, Some, [], ◌∷◌, ◌++◌, ◌≡◌, ◌∙◌, ◌&&◌, ℕ, ap, ap₂, codes, map, refl, rules}
+use Rattle.std.proofs.Common.{List, Some, [], ◌∷◌, ◌++◌, ◌≡◌, ◌∙◌, ◌&&◌, ℕ, ap, codes, map, refl, rules}
 use Rattle.std.proofs.Common.{true}
 use Rattle.std.specs.List.{concat}
 use Rattle.sc_base.specs.Prelude.{all_hold}
@@ -11,11 +11,9 @@ use Rattle.sc_ast.specs.declared.stmt.StmtKind as kinds
 use Rattle.sc_ast.specs.declared.stmt.StmtKind.TheVariants.{AssignCall, Call, ReturnValue}
 use Rattle.sc_ast.specs.declared.stmt.StmtTree as stmts
 use Rattle.sc_ast.specs.declared.stmt.StmtTree.{StmtTree}
-use Rattle.sc_ast.specs.declared.section.Decl.TheVariants as decl
 use Rattle.sc_ast.specs.declared.section.GlobalTree.{GlobalTree}
 use Rattle.sc_ast.specs.declared.section.HeadTree.{HeadTree}
 use Rattle.sc_ast.specs.declared.section.SectionTree.{SectionTree}
-use Rattle.sc_ast.specs.declared.section.FunctionTree.{FunctionTree}
 use Rattle.sc_core.specs.Prelude.{Scope, args_fit, goes_into, is_target, judged, result_goes}
 use Rattle.sc_core.specs.Typing.{place_judged}
 use Rattle.sc_core.specs.declared.expr.TypedExpr.{TypedExpr}
@@ -27,14 +25,14 @@ use Rattle.sc_scope.specs.Prelude.{globals_in, unless}
 use Rattle.sc_elab_expr.specs.Prelude.{Callees, Visible, typed}
 use Rattle.sc_elab_stmt.specs.Prelude.{assign_call_holds, call_holds, going_to_all, params_of, return_value_holds}
 use Rattle.sc_elab_stmt.specs.Prelude.{stmt_lines}
-use Rattle.sc_elab.specs.Prelude.{callees_of, decl_lines, function_lines, result_of, scope_in, section_lines, structs}
-use Rattle.sc_elab.specs.Prelude.{global_variable, local_variable, type_of, visible_of}
+use Rattle.sc_elab.specs.Prelude.{callees_of, decl_lines, function_lines, scope_in, section_lines, structs}
+use Rattle.sc_elab.specs.Prelude.{global_variable, type_of, visible_of}
 unfoldable use Rattle.sc_elab.specs.Prelude.{typed_structs}
 use Rattle.sc_made.specs.Text.{all_functions, function_name}
 use Rattle.sc_made.specs.Text.{argument}
-use Rattle.sc_made.specs.Tree.{call_kind, call_of, literal, local_at, main_at, output_kind, output_proto, return_kind, stmt_at}
+use Rattle.sc_made.specs.Tree.{call_kind, call_of, literal, output_kind, output_proto, return_kind, stmt_at}
 use Rattle.sc_made.proofs.Declared.{main_decls, main_globals}
-use Rattle.sc_made.proofs.Exprs.{argument_small, literal_goes, literal_typed}
+use Rattle.sc_made.proofs.Exprs.{argument_small, literal_goes}
 use Rattle.sc_made.proofs.Shapes.{AreCalls, IsMain, calls, ends}
 use Rattle.sc_made.proofs.Signatures.{HasSignatures, function_signature, no_structs, no_tags, output_signature}
 use Rattle.sc_made.proofs.Signatures.{output_typed, signatures, tree_of}

@@ -1,7 +1,7 @@
 -- A worker has few functions: those of each 31st number.
-use Rattle.std.proofs.Common.{Bool, List, [], ◌∷◌, ◌≡◌, ◌∙◌, ◌+◌, ◌*◌, ◌%◌, ◌<◌, ◌≤◌, ◌≢◌, ◌⊎◌, ℕ, zero, suc, ap, arith, cond}
-use Rattle.std.proofs.Common.{false, filter, inl, inr, length, min, nat_eq, refl, true}
-use Rattle.std.proofs.lemmas.Bool.{cases_lt, eqb-false, eqb-true}
+use Rattle.std.proofs.Common.{Bool, List, [], ◌∷◌, ◌≡◌, ◌∙◌, ◌+◌, ◌*◌, ◌%◌, ◌<◌, ◌≤◌, ◌⊎◌, ℕ, zero, suc, ap, arith, cond}
+use Rattle.std.proofs.Common.{false, filter, inl, inr, length, nat_eq, refl, true}
+use Rattle.std.proofs.lemmas.Bool.{cases_lt, eqb-true}
 use Rattle.sc_made.specs.Text.{all_functions, functions_of, numbers_from, workers}
 
 -- how many numbers of a list pass a test

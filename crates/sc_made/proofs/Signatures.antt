@@ -1,5 +1,5 @@
 -- By which heads the calls of `Main` are typed.
-use Rattle.std.proofs.Common.{Bool, List, None, Option, Some, [], ◌∷◌, ◌++◌, ◌≡◌, ◌∙◌, ℕ, ap, ap₂, bytes_eq, codes}
+use Rattle.std.proofs.Common.{Bool, List, None, Some, [], ◌∷◌, ◌++◌, ◌≡◌, ◌∙◌, ℕ, ap, ap₂, bytes_eq, codes}
 use Rattle.std.proofs.Common.{false, get_or, if◌then◌else◌, map, nat_eq, refl, true}
 use Rattle.std.proofs.lemmas.Bool.{false≢true}
 use Rattle.std.specs.List.{AllByRecursion}
@@ -9,7 +9,6 @@ use Rattle.sc_ast.specs.declared.section.FunctionTree.{FunctionTree}
 use Rattle.sc_ast.specs.declared.section.HeadTree.{HeadTree}
 use Rattle.sc_ast.specs.declared.section.SectionTree.{SectionTree}
 use Rattle.sc_ast.specs.declared.section.StructTree.{StructTree}
-use Rattle.sc_ast.specs.declared.stmt.StmtTree.{StmtTree}
 use Rattle.sc_core.specs.Prelude.{Signature}
 use Rattle.sc_core.specs.declared.ty.Ty.TheVariants as ty
 use Rattle.sc_scope.specs.Prelude.{function_named, functions_in, heads_in, struct_names, structs_in}
@@ -17,7 +16,7 @@ use Rattle.sc_elab_expr.specs.Prelude.{Callees}
 use Rattle.sc_elab.specs.Prelude.{callees_of, head_named, or_first, signature_by}
 use Rattle.sc_made.specs.Text.{all_functions, function_name}
 use Rattle.sc_made.specs.Tree.{main_at, output_proto, proto_at}
-use Rattle.sc_made.proofs.Declared.{main_decls, main_functions, main_heads, main_structs}
+use Rattle.sc_made.proofs.Declared.{main_functions, main_heads, main_structs}
 use Rattle.sc_made.proofs.Shapes.{AreProtos, IsMain, and_proto, no_protos}
 
 -- what holds of each holds of each in another way

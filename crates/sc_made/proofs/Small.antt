@@ -1,5 +1,5 @@
 -- The sections of a made text are small.
-use Rattle.std.proofs.Common.{All, List, [], ◌∷◌, ◌++◌, ◌≡◌, ◌∙◌, ◌+◌, ◌*◌, ◌≤◌, ℕ, suc, ap, arith, length, map, refl, subst, sym}
+use Rattle.std.proofs.Common.{List, ◌≡◌, ◌≤◌, ℕ, suc, ap, arith, map, refl, subst, sym}
 use Rattle.std.proofs.lemmas.List.Elements.{All-from_recursion}
 use Rattle.std.specs.List.{AllByRecursion}
 use Rattle.sc_ast.specs.declared.section.FunctionTree.{FunctionTree}
@@ -7,13 +7,11 @@ use Rattle.sc_ast.specs.declared.section.SectionTree.{SectionTree}
 use Rattle.sc_core.specs.Prelude.{cells_of, frame_bound, nodes, total, variables}
 use Rattle.sc_core.specs.declared.section.TypedFunction.{TypedFunction}
 use Rattle.sc_core.specs.declared.section.TypedGlobal.{TypedGlobal}
-use Rattle.sc_core.specs.declared.section.TypedSection.{TypedSection}
 use Rattle.sc_elab_expr.specs.Prelude.{Callees}
 use Rattle.sc_elab.specs.Prelude.{callees_of, program_of, sections_from, structs, tags, typed_function, typed_global}
 use Rattle.sc_elab.specs.Prelude.{typed_section}
 unfoldable use Rattle.sc_elab.specs.Prelude.{typed_locals}
 use Rattle.sc_types.proofs.TypedNodes.{function-nodes}
-use Rattle.sc_types.specs.Counts.{section_nodes}
 use Rattle.sc_made.specs.Laws.{AreSmall, IsAsked, IsSmall}
 use Rattle.sc_made.specs.Text.{all_functions, functions_of, numbers_from, workers}
 use Rattle.sc_made.specs.Tree.{FunctionLines, function_at, main_at}

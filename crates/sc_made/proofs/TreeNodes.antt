@@ -1,5 +1,5 @@
 -- How many nodes the functions of a made text have.
-use Rattle.std.proofs.Common.{List, [], ◌∷◌, ◌≡◌, ◌∙◌, ◌+◌, ◌*◌, ◌≤◌, ℕ, suc, ap, arith, length, map, refl, rules}
+use Rattle.std.proofs.Common.{List, ◌≡◌, ◌+◌, ◌*◌, ℕ, arith, length, map, refl, rules}
 use Rattle.sc_ast.specs.declared.expr.ExprTree as exprs
 use Rattle.sc_ast.specs.declared.expr.ExprTree.{ExprTree}
 use Rattle.sc_ast.specs.declared.stmt.StmtKind as kinds

@@ -1,5 +1,5 @@
 -- The sections of a made text break no rule of types.
-use Rattle.std.proofs.Common.{List, [], ◌∷◌, ◌++◌, ◌≡◌, ◌∙◌, ℕ, ap, ap₂, map, refl}
+use Rattle.std.proofs.Common.{List, [], ◌++◌, ◌≡◌, ◌∙◌, ℕ, ap, ap₂, map, refl}
 use Rattle.std.specs.List.{concat}
 use Rattle.sc_ast.specs.declared.section.SectionTree.{SectionTree}
 use Rattle.sc_scope.specs.Prelude.{line_of_text}

@@ -1,5 +1,5 @@
 -- A worker holds no more than a program may.
-use Rattle.std.proofs.Common.{List, [], ◌∷◌, ◌++◌, ◌≡◌, ◌∙◌, ◌+◌, ◌*◌, ◌≤◌, ℕ, suc, ap, ap₂, arith, le-leb, length, map}
+use Rattle.std.proofs.Common.{List, [], ◌≡◌, ◌∙◌, ◌*◌, ◌≤◌, ℕ, suc, ap, arith, le-leb, length, map}
 use Rattle.std.proofs.Common.{nat_le, refl, true}
 use Rattle.std.proofs.lemmas.Bool.{and_from}
 use Rattle.std.proofs.lemmas.List.{length-map}
@@ -16,7 +16,6 @@ use Rattle.sc_types.proofs.TypedNodes.{section-nodes}
 use Rattle.sc_types.specs.Counts.{function_lines, global_lines, head_lines, section_lines, section_nodes, structs_from}
 use Rattle.sc_types.specs.Prelude.{function_nodes}
 use Rattle.sc_made.specs.Text.{functions_of}
-use Rattle.sc_made.specs.Tree.{table_at}
 use Rattle.sc_made.proofs.Declared.{heads_of}
 use Rattle.sc_made.proofs.MainCounts.{all_none, none_beyond}
 use Rattle.sc_made.proofs.Shapes.{AreExports, AreFunctions, IsWorker, and_export, and_function, no_exports, no_functions}

@@ -1,5 +1,5 @@
 -- What names stand for in a worker, and that it breaks no rule of types.
-use Rattle.std.proofs.Common.{List, None, Option, Some, [], ◌∷◌, ◌++◌, ◌≡◌, ◌∙◌, ℕ, ap, ap₂, codes, map, refl}
+use Rattle.std.proofs.Common.{List, Some, [], ◌∷◌, ◌++◌, ◌≡◌, ◌∙◌, ℕ, ap, ap₂, codes, map, refl}
 use Rattle.std.specs.List.{concat}
 use Rattle.sc_ast.specs.declared.section.Decl.TheVariants as decl
 use Rattle.sc_ast.specs.declared.section.FunctionTree.{FunctionTree}
@@ -10,7 +10,7 @@ use Rattle.sc_core.specs.declared.ty.Ty.TheVariants as ty
 use Rattle.sc_scope.specs.Prelude.{functions_in, globals_in, heads_in, struct_names, structs_in}
 use Rattle.sc_elab_expr.specs.Prelude.{Callees}
 use Rattle.sc_elab_stmt.specs.Prelude.{stmt_lines}
-use Rattle.sc_elab.specs.Prelude.{decl_lines, function_lines, global_lines, global_variable, scope_in, section_lines}
+use Rattle.sc_elab.specs.Prelude.{decl_lines, function_lines, global_variable, scope_in, section_lines}
 use Rattle.sc_elab.specs.Prelude.{structs, type_of, visible_of}
 unfoldable use Rattle.sc_elab.specs.Prelude.{typed_structs}
 use Rattle.sc_made.specs.Text.{functions_of}

@@ -1,5 +1,5 @@
 -- A worker breaks no rule of types.
-use Rattle.std.proofs.Common.{List, None, Option, Some, [], ◌∷◌, ◌++◌, ◌≡◌, ◌∙◌, ◌&&◌, ℕ, ap, ap₂, codes, map, refl, rules}
+use Rattle.std.proofs.Common.{List, Option, Some, [], ◌∷◌, ◌++◌, ◌≡◌, ◌∙◌, ℕ, ap, ap₂, codes, map, refl, rules}
 use Rattle.std.proofs.Common.{true}
 use Rattle.std.specs.List.{concat}
 use Rattle.sc_base.specs.declared.op.BinaryOp.{BinaryOp}
@@ -12,9 +12,6 @@ use Rattle.sc_ast.specs.declared.stmt.StmtKind as kinds
 use Rattle.sc_ast.specs.declared.stmt.StmtKind.TheVariants.{Assign, For, ReturnValue}
 use Rattle.sc_ast.specs.declared.stmt.StmtTree as stmts
 use Rattle.sc_ast.specs.declared.stmt.StmtTree.{StmtTree}
-use Rattle.sc_ast.specs.declared.section.Decl.TheVariants as decl
-use Rattle.sc_ast.specs.declared.section.FunctionTree.{FunctionTree}
-use Rattle.sc_ast.specs.declared.section.SectionTree.{SectionTree}
 use Rattle.sc_core.specs.Prelude.{Scope, assign_fits, goes_into, is_scalar, judged}
 use Rattle.sc_core.specs.Typing.{place_judged, value_judged}
 use Rattle.sc_core.specs.declared.expr.TypedExpr.{TypedExpr}
@@ -29,7 +26,7 @@ use Rattle.sc_scope.specs.Prelude.{unless}
 use Rattle.sc_elab_expr.specs.Prelude.{Callees, Visible, going_to, typed}
 use Rattle.sc_elab_stmt.specs.Prelude.{assign_holds, cond_holds, part_lines, return_value_holds, stmt_lines}
 use Rattle.sc_made.specs.Text.{addend}
-use Rattle.sc_made.specs.Tree.{FunctionLines, add_kind, below, element, function_at, literal, loop_kind, next_at}
+use Rattle.sc_made.specs.Tree.{FunctionLines, add_kind, below, element, literal, loop_kind, next_at}
 use Rattle.sc_made.specs.Tree.{return_kind, set_kind, start_at, stmt_at, store_kind}
 use Rattle.sc_made.proofs.Exprs.{addend_small, literal_goes}
 
