@@ -6,7 +6,8 @@ use Rattle.sc_elab.specs.Prelude.{callees_of}
 use Rattle.sc_types.specs.Counts.{counts_broken, lines_from}
 use Rattle.sc_made.specs.Laws.{IsAsked}
 use Rattle.sc_made.specs.Text.{numbers_from, workers}
-use Rattle.sc_made.proofs.MainCounts.{main_counted, none_beyond}
+use Rattle.sc_performers.proofs.CountsKept.{none_beyond}
+use Rattle.sc_made.proofs.MainCounts.{main_counted}
 use Rattle.sc_made.proofs.Shapes.{AreMade, AreWorkers, and_worker, no_workers}
 use Rattle.sc_made.proofs.Shares.{numbers_length}
 use Rattle.sc_made.proofs.WorkerCounts.{worker_counted}

@@ -1,6 +1,6 @@
 -- `Main` holds no more than a program may.
-use Rattle.std.proofs.Common.{List, None, [], ◌∷◌, ◌++◌, ◌≡◌, ◌∙◌, ◌+◌, ◌*◌, ◌≤◌, ℕ, zero, suc, ap, arith}
-use Rattle.std.proofs.Common.{le-leb, length, length-append, map, nat_le, refl, slice_get, true}
+use Rattle.std.proofs.Common.{List, [], ◌∷◌, ◌++◌, ◌≡◌, ◌∙◌, ◌+◌, ◌*◌, ◌≤◌, ℕ, suc, ap, arith}
+use Rattle.std.proofs.Common.{le-leb, length, length-append, map, nat_le, refl, true}
 use Rattle.std.proofs.lemmas.Bool.{and_from}
 use Rattle.std.proofs.lemmas.List.{length-map}
 use Rattle.std.specs.List.{concat}
@@ -13,32 +13,16 @@ use Rattle.sc_core.specs.Prelude.{most_nodes, total}
 use Rattle.sc_scope.specs.Prelude.{unless}
 use Rattle.sc_elab_expr.specs.Prelude.{Callees}
 use Rattle.sc_types.proofs.TypedNodes.{section-nodes}
-use Rattle.sc_types.specs.Counts.{function_lines, global_lines, head_lines, line_beyond, line_of_some, section_lines}
+use Rattle.sc_types.specs.Counts.{function_lines, global_lines, head_lines, section_lines}
 use Rattle.sc_types.specs.Counts.{section_nodes, structs_from}
 use Rattle.sc_types.specs.Prelude.{function_nodes}
+use Rattle.sc_performers.proofs.CountsKept.{all_none, none_beyond}
 use Rattle.sc_made.specs.Text.{all_functions}
 use Rattle.sc_made.specs.Tree.{output_import, output_proto}
-use Rattle.sc_made.proofs.MainTypes.{no_globals}
 use Rattle.sc_made.proofs.Shapes.{AreImports, AreProtos, IsMain, and_import, and_proto, no_imports, no_protos}
 use Rattle.sc_made.proofs.Shares.{numbers_length}
-use Rattle.sc_made.proofs.Signatures.{functions_are, heads_are, no_structs, tree_of}
+use Rattle.sc_made.proofs.Signatures.{functions_are, heads_are, no_globals, no_structs, tree_of}
 use Rattle.sc_made.proofs.TreeNodes.{main_nodes}
-
--- Lists that are short enough.
-
-nothing_beyond : {A : Type 0} (xs : List A) (k : ℕ) → length xs ≤ k → slice_get xs k ≡ None
-nothing_beyond [] k few = refl
-nothing_beyond (x ∷ xs) zero few = absurd (omega (arith, few))
-nothing_beyond (x ∷ xs) (suc k) few = nothing_beyond xs k (omega (arith, few))
-
-pub none_beyond : {A : Type 0} (line_of : A → ℕ) (xs : List A) (k : ℕ) → length xs ≤ k →
-    line_beyond line_of k xs ≡ []
-none_beyond line_of xs k few = ap (line_of_some line_of) (nothing_beyond xs k few)
-
--- lines of nothing
-pub all_none : (a b c d e f g : List ℕ) → a ≡ [] → b ≡ [] → c ≡ [] → d ≡ [] → e ≡ [] → f ≡ [] → g ≡ [] →
-    a ++ (b ++ (c ++ (d ++ (e ++ (f ++ g))))) ≡ []
-all_none a b c d e f g p q r s t u v = λ i. p i ++ (q i ++ (r i ++ (s i ++ (t i ++ (u i ++ v i)))))
 
 imports_length : (size : ℕ) (js : List ℕ) (lines : List ImportLine) → AreImports size js lines →
     length lines ≡ length js
@@ -57,7 +41,8 @@ module _ (size seed : ℕ) (few : size ≤ 1000) (section : SectionTree) (main :
       section-nodes section callees ∙
       ap (λ trees. total (map function_nodes trees)) (functions_are size seed section main) ∙
       (let count = numbers_length 0 size in
-      let own = main_nodes seed (all_functions size) main.head_line main.local_line main.close_line main.body main.body_is in
+      let own = main_nodes seed (all_functions size) main.head_line main.local_line main.close_line main.body
+      main.body_is in
       omega (arith, count, own))
 
   few_nodes : nat_le (section_nodes section callees) most_nodes ≡ true

@@ -11,6 +11,7 @@ use Rattle.sc_ast.specs.declared.stmt.StmtKind as kinds
 use Rattle.sc_ast.specs.declared.stmt.StmtKind.TheVariants.{AssignCall, Call, ReturnValue}
 use Rattle.sc_ast.specs.declared.stmt.StmtTree as stmts
 use Rattle.sc_ast.specs.declared.stmt.StmtTree.{StmtTree}
+use Rattle.sc_ast.specs.declared.section.Decl.TheVariants as decl
 use Rattle.sc_ast.specs.declared.section.GlobalTree.{GlobalTree}
 use Rattle.sc_ast.specs.declared.section.HeadTree.{HeadTree}
 use Rattle.sc_ast.specs.declared.section.SectionTree.{SectionTree}
@@ -21,7 +22,7 @@ use Rattle.sc_core.specs.declared.expr.TypedExpr as typed_exprs
 use Rattle.sc_core.specs.declared.expr.TypedKind as typed_kinds
 use Rattle.sc_core.specs.declared.expr.VarRef.TheVariants.{Local}
 use Rattle.sc_core.specs.declared.ty.Ty.TheVariants as ty
-use Rattle.sc_scope.specs.Prelude.{globals_in, unless}
+use Rattle.sc_scope.specs.Prelude.{unless}
 use Rattle.sc_elab_expr.specs.Prelude.{Callees, Visible, typed}
 use Rattle.sc_elab_stmt.specs.Prelude.{assign_call_holds, call_holds, going_to_all, params_of, return_value_holds}
 use Rattle.sc_elab_stmt.specs.Prelude.{stmt_lines}
@@ -30,12 +31,11 @@ use Rattle.sc_elab.specs.Prelude.{global_variable, type_of, visible_of}
 unfoldable use Rattle.sc_elab.specs.Prelude.{typed_structs}
 use Rattle.sc_made.specs.Text.{all_functions, function_name}
 use Rattle.sc_made.specs.Text.{argument}
-use Rattle.sc_made.specs.Tree.{call_kind, call_of, literal, output_kind, output_proto, return_kind, stmt_at}
-use Rattle.sc_made.proofs.Declared.{main_decls, main_globals}
-use Rattle.sc_made.proofs.Exprs.{argument_small, literal_goes}
+use Rattle.sc_made.specs.Tree.{call_kind, call_of, literal, output_kind, return_kind, stmt_at}
+use Rattle.sc_made.proofs.Literals.{argument_small, literal_goes}
 use Rattle.sc_made.proofs.Shapes.{AreCalls, IsMain, calls, ends}
 use Rattle.sc_made.proofs.Signatures.{HasSignatures, function_signature, no_structs, no_tags, output_signature}
-use Rattle.sc_made.proofs.Signatures.{output_typed, signatures, tree_of}
+use Rattle.sc_made.proofs.Signatures.{last_decls, no_globals, output_typed, signatures, tree_of}
 
 -- what is visible in `main`: its local
 abbrev pub main_visible : Visible
@@ -120,15 +120,10 @@ module _ (size seed : ℕ) (section : SectionTree) (main : IsMain size seed sect
   unfolding typed_structs
   structs_none = λ i. typed_structs (no_tags size seed section main i) [] (no_structs size seed section main i)
 
-  pub no_globals : globals_in section.decls ≡ []
-  no_globals =
-      ap (λ s. globals_in s.decls) main.is ∙
-      main_globals main.protos (output_proto main.proto_line) (tree_of size seed section main)
-
   visible_is : visible_of section (tree_of size seed section main) ≡ main_visible
   visible_is = λ i. record {
     structs = structs_none i;
-    globals = map (global_variable (no_tags size seed section main i)) (no_globals i);
+    globals = map (global_variable (no_tags size seed section main i)) (no_globals size seed section main i);
     params = [];
     locals = record { name = codes "r"; ty = ty.Int } ∷ [];
   }
@@ -136,7 +131,8 @@ module _ (size seed : ℕ) (section : SectionTree) (main : IsMain size seed sect
   scope_is : scope_in section (tree_of size seed section main) ≡ main_scope
   scope_is = λ i. record {
     structs = structs_none i;
-    globals = map {A = GlobalTree} (λ global. type_of (no_tags size seed section main i) global.ty) (no_globals i);
+    globals = map {A = GlobalTree} (λ global. type_of (no_tags size seed section main i) global.ty)
+        (no_globals size seed section main i);
     params = [];
     locals = ty.Int ∷ [];
   }
@@ -152,8 +148,7 @@ module _ (size seed : ℕ) (section : SectionTree) (main : IsMain size seed sect
         (signatures size seed section main sections number) (output_typed size seed section main sections number)
 
     decls_none : (heads : List HeadTree) →
-        concat (map (decl_lines section callees) (main_decls heads (output_proto main.proto_line)
-        (tree_of size seed section main))) ≡ []
+        concat (map (decl_lines section callees) (map decl.Proto heads ++ last_decls size seed section main)) ≡ []
     decls_none [] = ap (λ x. x ++ []) function_none
     decls_none (x ∷ heads) = decls_none heads
 

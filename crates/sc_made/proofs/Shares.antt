@@ -1,6 +1,6 @@
 -- A worker has few functions: those of each 31st number.
-use Rattle.std.proofs.Common.{Bool, List, [], ◌∷◌, ◌≡◌, ◌∙◌, ◌+◌, ◌*◌, ◌%◌, ◌<◌, ◌≤◌, ◌⊎◌, ℕ, zero, suc, ap, arith, cond}
-use Rattle.std.proofs.Common.{false, filter, inl, inr, length, nat_eq, refl, true}
+use Rattle.std.proofs.Common.{Bool, List, [], ◌∷◌, ◌≡◌, ◌∙◌, ◌+◌, ◌*◌, ◌%◌, ◌<◌, ◌≤◌, ◌⊎◌, ℕ, zero, suc, ap, arith}
+use Rattle.std.proofs.Common.{cond, false, filter, inl, inr, length, nat_eq, refl, true}
 use Rattle.std.proofs.lemmas.Bool.{cases_lt, eqb-true}
 use Rattle.sc_made.specs.Text.{all_functions, functions_of, numbers_from, workers}
 
@@ -70,7 +70,8 @@ pub few_functions : (size i : ℕ) → size ≤ 1000 → length (functions_of si
 few_functions size i few = by (cases_lt size 31) where
   by : (size < 31) ⊎ (31 ≤ size) → length (functions_of size i) ≤ 33
   by (inl small) =
-      omega (arith, small, numbers_length 0 size, filtered_length (λ j. nat_eq (j % workers size) i) (all_functions size))
+      let kept = filtered_length (λ j. nat_eq (j % workers size) i) (all_functions size) in
+      omega (arith, small, numbers_length 0 size, kept)
   by (inr large) =
       let all : workers size ≡ 31 = omega (arith, large) in
       let same = ap (λ w. length (filter (λ j. nat_eq (j % w) i) (all_functions size))) all in

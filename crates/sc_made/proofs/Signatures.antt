@@ -1,22 +1,25 @@
--- By which heads the calls of `Main` are typed.
+-- What `Main` declares, and by which heads its calls are typed.
 use Rattle.std.proofs.Common.{Bool, List, None, Some, [], ◌∷◌, ◌++◌, ◌≡◌, ◌∙◌, ℕ, ap, ap₂, bytes_eq, codes}
 use Rattle.std.proofs.Common.{false, get_or, if◌then◌else◌, map, nat_eq, refl, true}
 use Rattle.std.proofs.lemmas.Bool.{false≢true}
 use Rattle.std.specs.List.{AllByRecursion}
 use Rattle.std.specs.Option.{option_map}
 use Rattle.sc_base.proofs.Texts.{bytes_eq_self, same_text}
+use Rattle.sc_ast.specs.declared.section.Decl.{Decl}
+use Rattle.sc_ast.specs.declared.section.Decl.TheVariants as decl
 use Rattle.sc_ast.specs.declared.section.FunctionTree.{FunctionTree}
 use Rattle.sc_ast.specs.declared.section.HeadTree.{HeadTree}
 use Rattle.sc_ast.specs.declared.section.SectionTree.{SectionTree}
 use Rattle.sc_ast.specs.declared.section.StructTree.{StructTree}
 use Rattle.sc_core.specs.Prelude.{Signature}
 use Rattle.sc_core.specs.declared.ty.Ty.TheVariants as ty
-use Rattle.sc_scope.specs.Prelude.{function_named, functions_in, heads_in, struct_names, structs_in}
+use Rattle.sc_scope.specs.Prelude.{function_named, functions_in, globals_in, heads_in, struct_names, structs_in}
 use Rattle.sc_elab_expr.specs.Prelude.{Callees}
 use Rattle.sc_elab.specs.Prelude.{callees_of, head_named, or_first, signature_by}
 use Rattle.sc_made.specs.Text.{all_functions, function_name}
 use Rattle.sc_made.specs.Tree.{main_at, output_proto, proto_at}
-use Rattle.sc_made.proofs.Declared.{main_functions, main_heads, main_structs}
+use Rattle.sc_performers.proofs.Distinct.{is_false}
+use Rattle.sc_made.proofs.Declared.{behind_functions, behind_globals, behind_heads, behind_structs}
 use Rattle.sc_made.proofs.Shapes.{AreProtos, IsMain, and_proto, no_protos}
 
 -- what holds of each holds of each in another way
@@ -26,10 +29,6 @@ all_more P Q on [] h = tt
 all_more P Q on (x ∷ xs) h = (on x h.0, all_more P Q on xs h.1)
 
 -- Names.
-
-is_false : (b : Bool) → (b ≡ true → ⊥) → b ≡ false
-is_false true h = absurd (h refl)
-is_false false h = refl
 
 -- neither `main` nor `output` begins with an `f`
 not_main : (j : ℕ) → bytes_eq (codes "main") (function_name j) ≡ false
@@ -75,10 +74,12 @@ found_later k line heads j found = by (bytes_eq (function_name k) (function_name
 all_found : (js : List ℕ) (heads rest : List HeadTree) → AreProtos js heads →
     AllByRecursion (λ j. FoundHead j (heads ++ rest)) js
 all_found js heads rest no_protos = tt
-all_found js heads rest (and_proto j line others more h) =
-    (found_first j line (more ++ rest), all_more (λ k. FoundHead k (more ++ rest))
-    (λ k. FoundHead k (proto_at j line ∷ more ++ rest)) (found_later j line (more ++ rest)) others
-    (all_found others more rest h))
+all_found js heads rest (and_proto j line others more h) = (
+  found_first j line (more ++ rest),
+  all_more (λ k. FoundHead k (more ++ rest))
+      (λ k. FoundHead k (proto_at j line ∷ more ++ rest)) (found_later j line (more ++ rest)) others
+      (all_found others more rest h),
+)
 
 found_output : (js : List ℕ) (heads rest : List HeadTree) (line : ℕ) → AreProtos js heads →
     head_named (codes "output") (heads ++ output_proto line ∷ rest) ≡ Some (output_proto line)
@@ -102,26 +103,27 @@ module _ (size seed : ℕ) (section : SectionTree) (main : IsMain size seed sect
   abbrev pub tree_of : FunctionTree
   tree_of = main_at main.head_line main.local_line main.close_line main.body
 
+  -- what stands behind the prototypes of the functions
+  abbrev pub last_decls : List Decl
+  last_decls = decl.Proto (output_proto main.proto_line) ∷ decl.Function tree_of ∷ []
+
+  abbrev pub last_heads : List HeadTree
+  last_heads = heads_in last_decls
+
   pub functions_are : functions_in section.decls ≡ tree_of ∷ []
-  functions_are =
-      ap (λ s. functions_in s.decls) main.is ∙ main_functions main.protos (output_proto main.proto_line) tree_of
+  functions_are = ap (λ s. functions_in s.decls) main.is ∙ behind_functions last_decls main.protos
 
   pub no_structs : structs_in section.decls ≡ []
-  no_structs = ap (λ s. structs_in s.decls) main.is ∙ main_structs main.protos (output_proto main.proto_line) tree_of
+  no_structs = ap (λ s. structs_in s.decls) main.is ∙ behind_structs last_decls main.protos
 
   pub no_tags : struct_names section.decls ≡ []
   no_tags = ap (map {A = StructTree} (λ tree. tree.name)) no_structs
 
-  abbrev last_heads : List HeadTree
-  last_heads = output_proto main.proto_line ∷ record {
-    result = tree_of.head.result;
-    name = codes "main";
-    params = [];
-    line = main.head_line;
-  } ∷ []
+  pub no_globals : globals_in section.decls ≡ []
+  no_globals = ap (λ s. globals_in s.decls) main.is ∙ behind_globals last_decls main.protos
 
   pub heads_are : heads_in section.decls ≡ main.protos ++ last_heads
-  heads_are = ap (λ s. heads_in s.decls) main.is ∙ main_heads main.protos (output_proto main.proto_line) tree_of
+  heads_are = ap (λ s. heads_in s.decls) main.is ∙ behind_heads last_decls main.protos
 
   module _ (sections : List SectionTree) (number : ℕ) where
     signature_is : (name : List ℕ) (head : HeadTree) → bytes_eq (codes "main") name ≡ false →

@@ -16,7 +16,6 @@ use Rattle.sc_made.specs.Laws.{AreSmall, IsAsked, IsSmall}
 use Rattle.sc_made.specs.Text.{all_functions, functions_of, numbers_from, workers}
 use Rattle.sc_made.specs.Tree.{FunctionLines, function_at, main_at}
 use Rattle.sc_made.proofs.MainCounts as main_counts
-use Rattle.sc_made.proofs.MainTypes.{no_globals}
 use Rattle.sc_made.proofs.Shapes.{AreFunctions, AreMade, AreWorkers, IsMain, IsWorker, and_function, and_worker}
 use Rattle.sc_made.proofs.Shapes.{no_functions, no_workers}
 use Rattle.sc_made.proofs.Shares.{numbers_length}
@@ -82,7 +81,7 @@ module _ (size seed : ℕ) (few : size ≤ 1000) where
     main_small = record {
       cells =
           let none = ap (λ x. cells section callees (map (typed_global (tags section)) x))
-          (no_globals size seed section main) in omega (arith, none);
+          (signatures.no_globals size seed section main) in omega (arith, none);
       frames = All-from_recursion (HasSmallFrame section callees) _ (subst (λ x. AllByRecursion
           (HasSmallFrame section callees) (map (typed section callees) x))
           (sym (signatures.functions_are size seed section main)) (main_frame, tt));
@@ -111,9 +110,10 @@ module _ (size seed : ℕ) (few : size ≤ 1000) where
 
     all_small : AreMade size seed sections → AllByRecursion IsSmall (sections_from sections 0 sections)
     all_small made =
-        subst (λ x. AllByRecursion IsSmall (sections_from sections 0 x)) (sym made.are)
-        (main_small made.main made.main_is (callees_of sections 0 made.main),
-        workers_small 1 (numbers_from 0 (workers size)) made.others made.others_are)
+        subst (λ x. AllByRecursion IsSmall (sections_from sections 0 x)) (sym made.are) (
+          main_small made.main made.main_is (callees_of sections 0 made.main),
+          workers_small 1 (numbers_from 0 (workers size)) made.others made.others_are,
+        )
 
 pub are_small : (size seed : ℕ) → IsAsked size seed → (sections : List SectionTree) → AreMade size seed sections →
     AreSmall (program_of sections)

@@ -16,12 +16,12 @@ use Rattle.sc_types.proofs.TypedNodes.{section-nodes}
 use Rattle.sc_types.specs.Counts.{function_lines, global_lines, head_lines, section_lines, section_nodes, structs_from}
 use Rattle.sc_types.specs.Prelude.{function_nodes}
 use Rattle.sc_made.specs.Text.{functions_of}
-use Rattle.sc_made.proofs.Declared.{heads_of}
-use Rattle.sc_made.proofs.MainCounts.{all_none, none_beyond}
-use Rattle.sc_made.proofs.Shapes.{AreExports, AreFunctions, IsWorker, and_export, and_function, no_exports, no_functions}
+use Rattle.sc_performers.proofs.CountsKept.{all_none, none_beyond}
+use Rattle.sc_made.proofs.Shapes.{AreExports, AreFunctions, IsWorker, and_export, and_function, no_exports}
+use Rattle.sc_made.proofs.Shapes.{no_functions}
 use Rattle.sc_made.proofs.Shares.{few_functions}
 use Rattle.sc_made.proofs.TreeNodes.{workers_nodes}
-use Rattle.sc_made.proofs.WorkerSections.{functions_are, heads_are, no_structs, one_global}
+use Rattle.sc_made.proofs.WorkerSections.{functions_are, heads_are, heads_of, no_structs, one_global}
 
 exports_length : (js : List ℕ) (lines : List ExportLine) → AreExports js lines → length lines ≡ length js
 exports_length js lines no_exports = refl

@@ -1,9 +1,11 @@
 -- What names stand for in a worker, and that it breaks no rule of types.
 use Rattle.std.proofs.Common.{List, Some, [], ◌∷◌, ◌++◌, ◌≡◌, ◌∙◌, ℕ, ap, ap₂, codes, map, refl}
 use Rattle.std.specs.List.{concat}
+use Rattle.sc_ast.specs.Prelude.{head_of}
 use Rattle.sc_ast.specs.declared.section.Decl.TheVariants as decl
 use Rattle.sc_ast.specs.declared.section.FunctionTree.{FunctionTree}
 use Rattle.sc_ast.specs.declared.section.GlobalTree.{GlobalTree}
+use Rattle.sc_ast.specs.declared.section.HeadTree.{HeadTree}
 use Rattle.sc_ast.specs.declared.section.SectionTree.{SectionTree}
 use Rattle.sc_ast.specs.declared.section.StructTree.{StructTree}
 use Rattle.sc_core.specs.declared.ty.Ty.TheVariants as ty
@@ -15,26 +17,30 @@ use Rattle.sc_elab.specs.Prelude.{structs, type_of, visible_of}
 unfoldable use Rattle.sc_elab.specs.Prelude.{typed_structs}
 use Rattle.sc_made.specs.Text.{functions_of}
 use Rattle.sc_made.specs.Tree.{FunctionLines, function_at, table_at}
-use Rattle.sc_made.proofs.Declared.{heads_of, worker_functions, worker_globals, worker_heads, worker_structs}
+use Rattle.sc_made.proofs.Declared.{functions_functions, functions_globals, functions_heads, functions_structs}
 use Rattle.sc_made.proofs.Shapes.{AreFunctions, IsWorker, and_function, no_functions}
 use Rattle.sc_made.proofs.WorkerTypes.{body_none, worker_scope, worker_visible}
 
+abbrev pub heads_of : List FunctionTree → List HeadTree
+heads_of trees = map (λ tree. head_of tree.head) trees
+
 module _ (size seed i : ℕ) (section : SectionTree) (worker : IsWorker size seed i section) where
   pub no_structs : structs_in section.decls ≡ []
-  no_structs = ap (λ s. structs_in s.decls) worker.is ∙ worker_structs (table_at worker.table_line) worker.functions
+  no_structs = ap (λ s. structs_in s.decls) worker.is ∙ functions_structs worker.functions
 
   pub no_tags : struct_names section.decls ≡ []
   no_tags = ap (map {A = StructTree} (λ tree. tree.name)) no_structs
 
   pub one_global : globals_in section.decls ≡ table_at worker.table_line ∷ []
-  one_global = ap (λ s. globals_in s.decls) worker.is ∙ worker_globals (table_at worker.table_line) worker.functions
+  one_global =
+      ap (λ s. globals_in s.decls) worker.is ∙
+      ap (λ x. table_at worker.table_line ∷ x) (functions_globals worker.functions)
 
   pub functions_are : functions_in section.decls ≡ worker.functions
-  functions_are =
-      ap (λ s. functions_in s.decls) worker.is ∙ worker_functions (table_at worker.table_line) worker.functions
+  functions_are = ap (λ s. functions_in s.decls) worker.is ∙ functions_functions worker.functions
 
   pub heads_are : heads_in section.decls ≡ heads_of worker.functions
-  heads_are = ap (λ s. heads_in s.decls) worker.is ∙ worker_heads (table_at worker.table_line) worker.functions
+  heads_are = ap (λ s. heads_in s.decls) worker.is ∙ functions_heads worker.functions
 
   pub structs_none : structs section ≡ []
   unfolding typed_structs

@@ -28,7 +28,7 @@ use Rattle.sc_elab_stmt.specs.Prelude.{assign_holds, cond_holds, part_lines, ret
 use Rattle.sc_made.specs.Text.{addend}
 use Rattle.sc_made.specs.Tree.{FunctionLines, add_kind, below, element, literal, loop_kind, next_at}
 use Rattle.sc_made.specs.Tree.{return_kind, set_kind, start_at, stmt_at, store_kind}
-use Rattle.sc_made.proofs.Exprs.{addend_small, literal_goes}
+use Rattle.sc_made.proofs.Literals.{addend_small, literal_goes}
 
 -- what is visible in a function: the table, the parameter and both locals
 abbrev pub worker_visible : Visible
