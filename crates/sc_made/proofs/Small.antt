@@ -4,6 +4,7 @@ use Rattle.std.proofs.lemmas.List.Elements.{All-from_recursion}
 use Rattle.std.specs.List.{AllByRecursion}
 use Rattle.sc_ast.specs.declared.section.FunctionTree.{FunctionTree}
 use Rattle.sc_ast.specs.declared.section.SectionTree.{SectionTree}
+use Rattle.sc_ast.specs.declared.stmt.StmtTree.{StmtTree}
 use Rattle.sc_core.specs.Prelude.{cells_of, frame_bound, nodes, total, variables}
 use Rattle.sc_core.specs.declared.section.TypedFunction.{TypedFunction}
 use Rattle.sc_core.specs.declared.section.TypedGlobal.{TypedGlobal}
@@ -31,8 +32,8 @@ module _ (section : SectionTree) (callees : Callees) where
   abbrev HasSmallFrame : TypedFunction → Type 0
   HasSmallFrame f = frame_bound (variables (structs section) f) (nodes f) ≤ 32768
 
-  -- `main` has a local, a function of a worker a parameter and two
-  main_cells : (head local close : ℕ) (body : _) →
+  -- `main` has one local, a function of a worker a parameter and two locals
+  main_cells : (head local close : ℕ) (body : List StmtTree) →
       total (variables (structs section) (typed (main_at head local close body))) ≡ 1
   unfolding typed_locals
   main_cells head local close body = refl
