@@ -10,7 +10,7 @@ use Rattle.sc_ast.specs.declared.section.ImportLine.{ImportLine}
 use Rattle.sc_scope.specs.Declarations.{protos_in}
 use Rattle.sc_scope.specs.Prelude.{Text, functions_in, globals_in, heads_in, structs_in}
 use Rattle.sc_made.specs.Text.{function_name}
-use Rattle.sc_made.specs.Tree.{output_import}
+use Rattle.sc_made.specs.Tree.{output_import, output_proto}
 use Rattle.sc_made.proofs.Naming.{function_names}
 use Rattle.sc_made.proofs.Shapes.{AreExports, AreFunctions, AreImports, AreProtos, and_export, and_function, and_import}
 use Rattle.sc_made.proofs.Shapes.{and_proto, no_exports, no_functions, no_imports, no_protos}
@@ -36,7 +36,8 @@ exports_named _ _ (and_export j at js lines h) = ap (λ x. function_name j ∷ x
 pub functions_named : (seed : ℕ) (js : List ℕ) (trees : List FunctionTree) → AreFunctions seed js trees →
     map {A = FunctionTree} (λ tree. tree.head.name) trees ≡ function_names js
 functions_named seed _ _ no_functions = refl
-functions_named seed _ _ (and_function j lines js trees h) = ap (λ x. function_name j ∷ x) (functions_named seed js trees h)
+functions_named seed _ _ (and_function j lines js trees h) =
+    ap (λ x. function_name j ∷ x) (functions_named seed js trees h)
 
 -- Prototypes, and behind them others.
 

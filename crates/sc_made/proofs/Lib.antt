@@ -4,3 +4,15 @@ pub mod Numbers
 pub mod Naming
 pub mod Declared
 pub mod Names
+pub mod Signatures
+pub mod Literals
+pub mod MainTypes
+pub mod WorkerTypes
+pub mod WorkerSections
+pub mod Types
+pub mod Shares
+pub mod TreeNodes
+pub mod MainCounts
+pub mod WorkerCounts
+pub mod Counts
+pub mod Small
