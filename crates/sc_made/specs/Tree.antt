@@ -1,5 +1,5 @@
 -- Helping: the trees that the text of a made program is read as, lines aside.
-use Rattle.std.specs.Prelude.{ℕ, ◌%◌, codes, false, List, [], ◌∷◌, ◌++◌, flat_map, map, Option, None, Some}
+use Rattle.std.specs.Prelude.{ℕ, ◌%◌, false, codes, List, [], ◌∷◌, ◌++◌, flat_map, map, Option, None, Some}
 use Rattle.sc_base.specs.declared.op.BinaryOp.TheVariants.{Add, BitAnd, Less}
 use Rattle.sc_ast.specs.declared.expr.CallTree.{CallTree}
 use Rattle.sc_ast.specs.declared.expr.ExprTree.{ExprTree}

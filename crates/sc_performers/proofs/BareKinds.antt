@@ -1,8 +1,9 @@
 -- A kind of statement that is one of those of a performing section, lines aside.
-use Rattle.std.proofs.Common.{List, ◌≡◌, ◌∙◌, ap, refl, subst, sym}
+use Rattle.std.proofs.Common.{List, Option, ◌≡◌, ◌∙◌, ap, refl, subst, sym}
 use Rattle.sc_ast.specs.Prelude.{lineless_kind, lineless_option, lineless_stmts}
 use Rattle.sc_ast.specs.Lineless.{kind_step, stmt_step}
 use Rattle.sc_ast.specs.declared.expr.ExprTree.{ExprTree}
+use Rattle.sc_ast.specs.declared.stmt.SimpleTree.{SimpleTree}
 use Rattle.sc_ast.specs.declared.stmt.StmtTree.{StmtTree}
 use Rattle.sc_ast.specs.declared.stmt.StmtKind.{StmtKind, StmtKind-F, roll-StmtKind, out-StmtKind}
 use Rattle.sc_ast.specs.declared.stmt.StmtKind.{roll-out-StmtKind, out-roll-StmtKind, fold-roll-StmtKind}
@@ -84,6 +85,22 @@ while_is : (k : Layer) (cond : ExprTree) (inside : List StmtTree) → bare k ≡
 while_is (layer.While c b) cond inside h = record { body = b; is = cc; body_is = cc }
 while_is k cond inside h = absurd (cc)
 
+pub record IsFor (first : Option SimpleTree) (cond : ExprTree) (next : Option SimpleTree) (inside : List StmtTree)
+    (k : Layer) : Type 0 where
+  pub start : Option SimpleTree
+  pub step : Option SimpleTree
+  pub body : List StmtTree
+  pub is : k ≡ layer.For start cond step body
+  pub start_is : lineless_option start ≡ lineless_option first
+  pub step_is : lineless_option step ≡ lineless_option next
+  pub body_is : lineless_stmts body ≡ lineless_stmts inside
+
+for_is : (k : Layer) (first : Option SimpleTree) (cond : ExprTree) (next : Option SimpleTree)
+    (inside : List StmtTree) → bare k ≡ bare (layer.For first cond next inside) → IsFor first cond next inside k
+for_is (layer.For f c n b) first cond next inside h =
+    record { start = f; step = n; body = b; is = cc; start_is = cc; step_is = cc; body_is = cc }
+for_is k first cond next inside h = absurd (cc)
+
 -- A kind that has no statements in it.
 pub record IsLeaf (k : StmtKind) : Type 0 where
   pub top : Layer
@@ -107,6 +124,12 @@ pub while_kind : (k : StmtKind) (cond : ExprTree) (inside : List StmtTree) →
     lineless_kind k ≡ lineless_kind (stmt.While cond inside) → IsWhile cond inside (out-StmtKind k)
 while_kind k cond inside h = while_is (out-StmtKind k) cond inside
     (bare_out k (layer.While cond inside) (h ∙ ap lineless_kind (sym (stmt.rolls-While cond inside))))
+
+pub for_kind : (k : StmtKind) (first : Option SimpleTree) (cond : ExprTree) (next : Option SimpleTree)
+    (inside : List StmtTree) → lineless_kind k ≡ lineless_kind (stmt.For first cond next inside) →
+    IsFor first cond next inside (out-StmtKind k)
+for_kind k first cond next inside h = for_is (out-StmtKind k) first cond next inside
+    (bare_out k (layer.For first cond next inside) (h ∙ ap lineless_kind (sym (stmt.rolls-For first cond next inside))))
 
 -- a kind by its layer
 pub kind_of_layer : (k : StmtKind) (l : Layer) → out-StmtKind k ≡ l → k ≡ roll-StmtKind l

@@ -56,7 +56,7 @@ nothing_beyond [] k few = refl
 nothing_beyond (x ∷ xs) zero few = absurd (omega (arith, few))
 nothing_beyond (x ∷ xs) (suc k) few = nothing_beyond xs k (omega (arith, few))
 
-none_beyond : {A : Type 0} (line_of : A → ℕ) (xs : List A) (k : ℕ) → length xs ≤ k → line_beyond line_of k xs ≡ []
+pub none_beyond : {A : Type 0} (line_of : A → ℕ) (xs : List A) (k : ℕ) → length xs ≤ k → line_beyond line_of k xs ≡ []
 none_beyond line_of xs k few = ap (line_of_some line_of) (nothing_beyond xs k few)
 
 protos_length : (number : ℕ) (types : List Scalar) → length (proto_params number types) ≡ length types
@@ -103,7 +103,7 @@ main_length true = omega arith
 main_length false = omega arith
 
 -- lines of nothing
-all_none : (a b c d e f g : List ℕ) → a ≡ [] → b ≡ [] → c ≡ [] → d ≡ [] → e ≡ [] → f ≡ [] → g ≡ [] →
+pub all_none : (a b c d e f g : List ℕ) → a ≡ [] → b ≡ [] → c ≡ [] → d ≡ [] → e ≡ [] → f ≡ [] → g ≡ [] →
     a ++ (b ++ (c ++ (d ++ (e ++ (f ++ g))))) ≡ []
 all_none a b c d e f g p q r s t u v = λ i. p i ++ (q i ++ (r i ++ (s i ++ (t i ++ (u i ++ v i)))))
 

@@ -1,0 +1,86 @@
+-- What the sections of a made text declare.
+use Rattle.std.proofs.Common.{List, [], ◌∷◌, ◌++◌, ◌≡◌, ◌∙◌, ℕ, ap, codes, map, refl}
+use Rattle.sc_ast.specs.Prelude.{head_of}
+use Rattle.sc_ast.specs.declared.section.Decl.{Decl}
+use Rattle.sc_ast.specs.declared.section.Decl.TheVariants as decl
+use Rattle.sc_ast.specs.declared.section.ExportLine.{ExportLine}
+use Rattle.sc_ast.specs.declared.section.FunctionTree.{FunctionTree}
+use Rattle.sc_ast.specs.declared.section.HeadTree.{HeadTree}
+use Rattle.sc_ast.specs.declared.section.ImportLine.{ImportLine}
+use Rattle.sc_scope.specs.Declarations.{protos_in}
+use Rattle.sc_scope.specs.Prelude.{Text, functions_in, globals_in, heads_in, structs_in}
+use Rattle.sc_made.specs.Text.{function_name}
+use Rattle.sc_made.specs.Tree.{output_import, output_proto}
+use Rattle.sc_made.proofs.Naming.{function_names}
+use Rattle.sc_made.proofs.Shapes.{AreExports, AreFunctions, AreImports, AreProtos, and_export, and_function, and_import}
+use Rattle.sc_made.proofs.Shapes.{and_proto, no_exports, no_functions, no_imports, no_protos}
+
+-- Names.
+
+pub imports_named : (size line : ℕ) (js : List ℕ) (lines : List ImportLine) → AreImports size js lines →
+    map {A = ImportLine} (λ one. one.name) (lines ++ output_import line ∷ []) ≡ function_names js ++ codes "output" ∷ []
+imports_named size line _ _ no_imports = refl
+imports_named size line _ _ (and_import j at js lines h) =
+    ap (λ x. function_name j ∷ x) (imports_named size line js lines h)
+
+pub protos_named : (js : List ℕ) (heads : List HeadTree) → AreProtos js heads →
+    map {A = HeadTree} (λ head. head.name) heads ≡ function_names js
+protos_named _ _ no_protos = refl
+protos_named _ _ (and_proto j at js heads h) = ap (λ x. function_name j ∷ x) (protos_named js heads h)
+
+pub exports_named : (js : List ℕ) (lines : List ExportLine) → AreExports js lines →
+    map {A = ExportLine} (λ one. one.name) lines ≡ function_names js
+exports_named _ _ no_exports = refl
+exports_named _ _ (and_export j at js lines h) = ap (λ x. function_name j ∷ x) (exports_named js lines h)
+
+pub functions_named : (seed : ℕ) (js : List ℕ) (trees : List FunctionTree) → AreFunctions seed js trees →
+    map {A = FunctionTree} (λ tree. tree.head.name) trees ≡ function_names js
+functions_named seed _ _ no_functions = refl
+functions_named seed _ _ (and_function j lines js trees h) =
+    ap (λ x. function_name j ∷ x) (functions_named seed js trees h)
+
+-- Prototypes, and behind them others.
+
+module _ (more : List Decl) where
+  pub behind_structs : (heads : List HeadTree) → structs_in (map decl.Proto heads ++ more) ≡ structs_in more
+  behind_structs [] = refl
+  behind_structs (h ∷ heads) = behind_structs heads
+
+  pub behind_globals : (heads : List HeadTree) → globals_in (map decl.Proto heads ++ more) ≡ globals_in more
+  behind_globals [] = refl
+  behind_globals (h ∷ heads) = behind_globals heads
+
+  pub behind_functions : (heads : List HeadTree) → functions_in (map decl.Proto heads ++ more) ≡ functions_in more
+  behind_functions [] = refl
+  behind_functions (h ∷ heads) = behind_functions heads
+
+  pub behind_protos : (heads : List HeadTree) → protos_in (map decl.Proto heads ++ more) ≡ heads ++ protos_in more
+  behind_protos [] = refl
+  behind_protos (h ∷ heads) = ap (λ x. h ∷ x) (behind_protos heads)
+
+  pub behind_heads : (heads : List HeadTree) → heads_in (map decl.Proto heads ++ more) ≡ heads ++ heads_in more
+  behind_heads [] = refl
+  behind_heads (h ∷ heads) = ap (λ x. h ∷ x) (behind_heads heads)
+
+-- Functions alone.
+
+pub functions_structs : (trees : List FunctionTree) → structs_in (map decl.Function trees) ≡ []
+functions_structs [] = refl
+functions_structs (t ∷ trees) = functions_structs trees
+
+pub functions_globals : (trees : List FunctionTree) → globals_in (map decl.Function trees) ≡ []
+functions_globals [] = refl
+functions_globals (t ∷ trees) = functions_globals trees
+
+pub functions_protos : (trees : List FunctionTree) → protos_in (map decl.Function trees) ≡ []
+functions_protos [] = refl
+functions_protos (t ∷ trees) = functions_protos trees
+
+pub functions_functions : (trees : List FunctionTree) → functions_in (map decl.Function trees) ≡ trees
+functions_functions [] = refl
+functions_functions (t ∷ trees) = ap (λ x. t ∷ x) (functions_functions trees)
+
+pub functions_heads : (trees : List FunctionTree) →
+    heads_in (map decl.Function trees) ≡ map (λ tree. head_of tree.head) trees
+functions_heads [] = refl
+functions_heads (t ∷ trees) = ap (λ x. head_of t.head ∷ x) (functions_heads trees)
