@@ -25,11 +25,11 @@ pub record AreDirectives (all_kept : Bool) (pieces : List Piece) (text : List �
   pub nested : Nested 0 pieces
   pub headless : (behind : List ℕ) → Headless behind → Headless (text ++ behind)
 
-abbrev pub AreExports : List ExportLine → List ℕ → Type 0
-AreExports lines text = AreDirectives (list_all kept_export lines) (flat_map export_words lines) text
+abbrev pub ExportsWritten : List ExportLine → List ℕ → Type 0
+ExportsWritten lines text = AreDirectives (list_all kept_export lines) (flat_map export_words lines) text
 
-abbrev pub AreImports : List ImportLine → List ℕ → Type 0
-AreImports lines text = AreDirectives (list_all kept_import lines) (flat_map import_words lines) text
+abbrev pub ImportsWritten : List ImportLine → List ℕ → Type 0
+ImportsWritten lines text = AreDirectives (list_all kept_import lines) (flat_map import_words lines) text
 
 abbrev pub AreLow : List ℕ → Type 0
 AreLow js = AllByRecursion (λ j. j < 1000) js
@@ -37,7 +37,7 @@ AreLow js = AllByRecursion (λ j. j < 1000) js
 pub no_directives : AreDirectives true [] []
 no_directives = record { kept = refl; spelled = refl; nested = nested_none; headless = λ behind h. h }
 
-pub exports_are : (js : List ℕ) → AreLow js → AreExports (map (λ j. export_at j 0) js) (flat_map export_text js)
+pub exports_are : (js : List ℕ) → AreLow js → ExportsWritten (map (λ j. export_at j 0) js) (flat_map export_text js)
 unfolding export_words
 exports_are [] low = no_directives
 exports_are (j ∷ js) low =
@@ -73,8 +73,8 @@ module _ (comp name : List ℕ) (owner : is_name comp ≡ true) (named : is_name
   unfolding import_words
   first_nested = nested_even (even_import comp name owner named) (nested_line nested_none)
 
-  more_imports : (lines : List ImportLine) (text : List ℕ) → AreImports lines text →
-      AreImports (first ∷ lines) ((codes "#pragma import " ++ behind_mark) ++ text)
+  more_imports : (lines : List ImportLine) (text : List ℕ) → ImportsWritten lines text →
+      ImportsWritten (first ∷ lines) ((codes "#pragma import " ++ behind_mark) ++ text)
   more_imports lines text rest = record {
     kept = and_from (kept_import first) (list_all kept_import lines)
         (and_from (is_name comp) (is_name name) owner named) rest.kept;
@@ -101,14 +101,14 @@ unfolding is_name
 main_named = refl
 
 pub imports_are : (size : ℕ) (js : List ℕ) → AreLow js →
-    AreImports (map (λ j. import_at size j 0) js ++ output_import 0 ∷ [])
+    ImportsWritten (map (λ j. import_at size j 0) js ++ output_import 0 ∷ [])
     (flat_map (import_text size) js ++ codes "#pragma import Env output\n")
 imports_are size [] low = more_imports (codes "Env") (codes "output") env_named output_named [] [] no_directives
 imports_are size (j ∷ js) low =
     let small : ℕ = j % workers size in
     let whole = div-add-mod' j (workers size) in
     let less : j < 1000 = low.0 in
-    subst (AreImports (map (λ j. import_at size j 0) (j ∷ js) ++ output_import 0 ∷ []))
+    subst (ImportsWritten (map (λ j. import_at size j 0) (j ∷ js) ++ output_import 0 ∷ []))
     (sym (append_assoc (import_text size j) (flat_map (import_text size) js) (codes "#pragma import Env output\n")))
     (more_imports (worker_name small) (function_name j) (worker_named small (omega (arith, whole, less)))
     (function_named j less) (map (λ j. import_at size j 0) js ++ output_import 0 ∷ [])

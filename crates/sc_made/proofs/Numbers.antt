@@ -2,6 +2,7 @@
 use Rattle.std.proofs.Common.{Bool, List, [], ◌∷◌, ◌≡◌, ◌+◌, ◌<◌, ◌≤◌, ◌%◌, ℕ, suc, zero, ap, arith, cond, eq-eqb}
 use Rattle.std.proofs.Common.{false, refl, subst, sym, true, inl, inr}
 use Rattle.std.proofs.lemmas.Bool.{false≢true}
+use Rattle.std.specs.List.{AllByRecursion}
 use Rattle.std.specs.Prelude.{filter, nat_eq}
 use Rattle.sc_performers.proofs.Uses.{IsAmong, first, is_first_or_later, later, none_among}
 use Rattle.sc_made.specs.Text.{all_functions, functions_of, numbers_from, workers}
@@ -40,6 +41,11 @@ functions_rise size i few =
 
 pub workers_rise : (size : ℕ) → Rise 0 31 (numbers_from 0 (workers size))
 workers_rise size = numbers_rise 0 (workers size) 31 (omega arith)
+
+-- those that rise are below the bound
+pub all_below : (low high : ℕ) (js : List ℕ) → Rise low high js → AllByRecursion (λ j. j < high) js
+all_below low high [] h = tt
+all_below low high (j ∷ js) h = (h.1, all_below (suc j) high js h.2)
 
 -- Numbers in lists.
 

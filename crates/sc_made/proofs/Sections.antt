@@ -1,7 +1,6 @@
 -- The sections of a made text: words that spell them, and no compartment line but the first.
-use Rattle.std.proofs.Common.{Bool, List, [], ap, append-nil, append_assoc, ap₂, arith, codes, decimal, filter}
-use Rattle.std.proofs.Common.{false, flat_map, if◌then◌else◌, nat_eq, refl, subst, suc, sym, true, zero, ℕ, ◌%◌, ◌++◌}
-use Rattle.std.proofs.Common.{◌+◌, ◌<◌, ◌∙◌, ◌∷◌, ◌≡◌, ◌≤◌}
+use Rattle.std.proofs.Common.{List, [], ap, append-nil, append_assoc, ap₂, arith, codes, decimal, flat_map, refl, subst}
+use Rattle.std.proofs.Common.{sym, true, ℕ, ◌++◌, ◌+◌, ◌<◌, ◌∙◌, ◌∷◌, ◌≡◌, ◌≤◌}
 use Rattle.std.proofs.lemmas.Grind.{flat_map-append}
 unfoldable use Rattle.sc_base.specs.Prelude.{is_name}
 use Rattle.sc_ast.specs.Prelude.{Piece, heading_words, piece_text, text_of}
@@ -19,14 +18,14 @@ use Rattle.sc_reread.proofs.Performing.{even_heading}
 use Rattle.sc_reread.proofs.Reading.{IsWritten, read_as}
 use Rattle.sc_reread.proofs.Splitting.{IsText}
 use Rattle.sc_made.specs.Text.{addend, all_functions, call_text, export_text, function_name, function_text}
-use Rattle.sc_made.specs.Text.{functions_of, import_text, main_text, numbers_from, proto_text, worker_name, worker_text}
-use Rattle.sc_made.specs.Text.{workers}
+use Rattle.sc_made.specs.Text.{functions_of, import_text, main_text, proto_text, worker_name, worker_text}
 use Rattle.sc_made.specs.Tree.{main_body, main_tree, worker_tree}
+use Rattle.sc_made.proofs.Numbers.{all_below, all_rise, functions_rise}
 use Rattle.sc_made.proofs.Spelled.{worker_named}
 use Rattle.sc_made.proofs.Calls.{calls_are}
 use Rattle.sc_made.proofs.Decls.{AreDecls, more_decls, no_decls}
 use Rattle.sc_made.proofs.Functions.{functions_are, main_is, output_is, protos_are, table_is}
-use Rattle.sc_made.proofs.Directives.{AreExports, AreImports, AreLow, exports_are, imports_are, main_named}
+use Rattle.sc_made.proofs.Directives.{ExportsWritten, ImportsWritten, exports_are, imports_are, main_named}
 use Rattle.sc_made.proofs.Directives.{no_directives}
 
 -- the text of one section: it begins with the one compartment line in it, is read as the tree, and ends with a newline
@@ -36,7 +35,8 @@ pub record IsSectionText (text : List ℕ) (tree : SectionTree) : Type 0 where
   pub ends : last 10 text ≡ 10
 
 module _ (tree : SectionTree) (exports imports decls : List ℕ) (named : is_name tree.name ≡ true)
-    (es : AreExports tree.exports exports) (is : AreImports tree.imports imports) (ds : AreDecls tree.decls decls) where
+    (es : ExportsWritten tree.exports exports) (is : ImportsWritten tree.imports imports)
+    (ds : AreDecls tree.decls decls) where
   abbrev behind : List ℕ
   behind = exports ++ (imports ++ decls)
 
@@ -72,10 +72,6 @@ module _ (tree : SectionTree) (exports imports decls : List ℕ) (named : is_nam
 
 -- `Main`
 
-numbers_low : (first count : ℕ) → first + count ≤ 1000 → AreLow (numbers_from first count)
-numbers_low first zero low = tt
-numbers_low first (suc count) low = (omega (arith, low), numbers_low (suc first) count (omega (arith, low)))
-
 main_closing : (size seed : ℕ) → Closing (main_text size seed)
 main_closing size seed =
     let js : List ℕ = all_functions size in
@@ -93,7 +89,7 @@ main_closing size seed =
 pub main_is_text : (size seed : ℕ) → size ≤ 1000 → IsSectionText (main_text size seed) (main_tree size seed)
 main_is_text size seed few =
     let js : List ℕ = all_functions size in
-    let low = numbers_low 0 size (omega (arith, few)) in
+    let low = all_below 0 1000 js (all_rise size few) in
     let calls : List ℕ = flat_map (call_text seed) js in
     let front : List ℕ = codes "int main(void) {\n  int r;\n" in
     let function : List ℕ = front ++ ((calls ++ codes "  return 0;\n") ++ codes "}\n") in
@@ -112,19 +108,6 @@ main_is_text size seed few =
     decls (ap (λ t. last 10 t) text ∙ main_closing size seed 10))
 
 -- Workers.
-
-functions_low : (size i : ℕ) → size ≤ 1000 → AreLow (functions_of size i)
-functions_low size i few = filtered (all_functions size) (numbers_low 0 size (omega (arith, few)))
-  where
-    filtered : (js : List ℕ) → AreLow js → AreLow (filter (λ j. nat_eq (j % workers size) i) js)
-    filtered [] low = tt
-    filtered (j ∷ js) low = by (nat_eq (j % workers size) i) (filtered js low.1)
-      where
-        by : (b : Bool) → AreLow (filter (λ j. nat_eq (j % workers size) i) js) →
-            AreLow (if b then j ∷ filter (λ j. nat_eq (j % workers size) i) js
-            else filter (λ j. nat_eq (j % workers size) i) js)
-        by true rest = (low.0, rest)
-        by false rest = rest
 
 function_closing : (seed j : ℕ) → Closing (function_text seed j)
 function_closing seed j =
@@ -155,7 +138,7 @@ pub worker_is_text : (size seed i : ℕ) → size ≤ 1000 → i < 1000 →
     IsSectionText (worker_text size seed i) (worker_tree size seed i)
 worker_is_text size seed i few low =
     let js : List ℕ = functions_of size i in
-    let below = functions_low size i few in
+    let below = all_below 0 1000 js (functions_rise size i few) in
     section_text (worker_tree size seed i) (flat_map export_text js) []
     (codes "int t[16];\n" ++ flat_map (function_text seed) js) (worker_named i low) (exports_are js below) no_directives
     (more_decls table_is (functions_are seed js below)) (worker_closing size seed i 10)

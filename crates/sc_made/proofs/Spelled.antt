@@ -1,6 +1,6 @@
 -- Names of functions and of workers are names, and numbers that are drawn are literals.
-use Rattle.std.proofs.Common.{Bool, List, [], ap, arith, decimal, false, le-leb, length, lt-ltb, nat_le, nat_lt}
-use Rattle.std.proofs.Common.{not, refl, suc, true, ℕ, ◌%◌, ◌&&◌, ◌*◌, ◌++◌, ◌+◌, ◌<◌, ◌^◌, ◌∙◌, ◌∷◌, ◌≡◌}
+use Rattle.std.proofs.Common.{Bool, List, [], ap, arith, decimal, false, le-leb, leb-true, length, lt-ltb, nat_le}
+use Rattle.std.proofs.Common.{nat_lt, not, refl, true, ℕ, ◌%◌, ◌&&◌, ◌++◌, ◌+◌, ◌<◌, ◌^◌, ◌∙◌, ◌∷◌, ◌≡◌}
 use Rattle.std.proofs.lemmas.Bool.{and_from, and_parts, or_right}
 use Rattle.std.proofs.lemmas.Fmt.{decimal_by_steps, length-decimal-le}
 use Rattle.std.proofs.lemmas.List.Folds.{list_all-append}
@@ -10,7 +10,8 @@ use Rattle.sc_base.specs.Prelude.{is_digit, is_name_byte, is_nondigit, reserved_
 unfoldable use Rattle.sc_base.specs.Prelude.{is_name, is_reserved}
 use Rattle.sc_ast.specs.Prelude.{Number, fits, is_ident}
 use Rattle.sc_print.proofs.Literals.{no_table}
-use Rattle.sc_made.specs.Text.{addend, argument, drawn, function_name, next_state, state_after, worker_name}
+use Rattle.sc_made.specs.Text.{addend, argument, function_name, worker_name}
+use Rattle.sc_made.proofs.Literals.{addend_small, argument_small}
 
 -- bytes that are digits, one at least
 record Digits (ds : List ℕ) : Type 0 where
@@ -89,21 +90,16 @@ function_ident j low = and_from (is_name (function_name j)) (not (is_reserved (f
 
 -- Numbers.
 
-pub drawn_low : (seed number : ℕ) → drawn seed number < 65536
-drawn_low seed number =
-    let state : ℕ = state_after seed number in
-    let word : next_state state < 65536 * 65536 = omega arith in
-    omega (arith, word)
-
 abbrev pub literal_number : ℕ → Number
 literal_number value = record { value = value; unsigned = false }
 
-pub literal_fits : (value : ℕ) → value < 65536 → fits (literal_number value) ≡ true
-literal_fits value low = and_from (nat_le value 2147483647) (nat_le value 4294967295)
-    (le-leb value 2147483647 (omega (arith, low))) (le-leb value 4294967295 (omega (arith, low)))
+small_fits : (value : ℕ) → nat_le value 2147483647 ≡ true → fits (literal_number value) ≡ true
+small_fits value small =
+    let low = leb-true value 2147483647 small in
+    and_from (nat_le value 2147483647) (nat_le value 4294967295) small (le-leb value 4294967295 (omega (arith, low)))
 
 pub argument_fits : (seed j : ℕ) → fits (literal_number (argument seed j)) ≡ true
-argument_fits seed j = literal_fits (argument seed j) (drawn_low seed (2 * j))
+argument_fits seed j = small_fits (argument seed j) (argument_small seed j)
 
 pub addend_fits : (seed j : ℕ) → fits (literal_number (addend seed j)) ≡ true
-addend_fits seed j = literal_fits (addend seed j) (drawn_low seed (suc (2 * j)))
+addend_fits seed j = small_fits (addend seed j) (addend_small seed j)
