@@ -25,3 +25,7 @@ pub mod MainCounts
 pub mod WorkerCounts
 pub mod Counts
 pub mod Small
+pub mod Offered
+pub mod Faces
+pub mod WorkerFaces
+pub mod Accepted
