@@ -4,6 +4,7 @@ use Rattle.sc_base.specs.declared.op.BinaryOp.{BinaryOp}
 use Rattle.sc_event.specs.declared.interface.Scalar.{Scalar}
 use Rattle.sc_tac.specs.declared.stmt.TacOp.TheVariants as tacop
 use Rattle.sc_tac.specs.declared.stmt.TacStmt.TheOpen as tac
+use Rattle.sc_tac.specs.declared.stmt.TacStmt.{roll-TacStmt}
 use Rattle.sc_tac.specs.Functions.{IsFunction, names_own_temps, names_own_object, has_words, has_elements, has_operands}
 use Rattle.sc_tac.specs.Functions.{passes_few, returns_result, stray_break, stray_continue}
 use Rattle.sc_tac.specs.Weights.{entry_weight}
@@ -16,6 +17,7 @@ shape o scalar = Cycle Done (Line (tac.Input (Some 0)) (Line (tac.Input (Some 1)
     (Line (tac.Op 2 (tacop.Binary o scalar) 0 (Some 1)) (Line (tac.Copy 3 2) (Line (tac.Output 3) Done))))) Done Done
 
 pub is_function : (o : BinaryOp) (scalar : Scalar) → IsFunction (operating o scalar)
+unfolding roll-TacStmt denote.Hole.Carrier.roll
 is_function o scalar = record {
   few_params = omega arith;
   few_nodes = omega arith;

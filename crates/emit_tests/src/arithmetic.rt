@@ -29,8 +29,8 @@ fn remainder(scalar: Scalar, left: u32, right: u32) -> u32 {
 
 fn shifted_right(scalar: Scalar, left: u32, count: u32) -> u32 {
     match scalar {
-        Scalar::Int => (left.cast_signed() >> count).cast_unsigned(),
-        Scalar::Unsigned => left >> count,
+        Scalar::Int => (left.cast_signed() >> (count % 32)).cast_unsigned(),
+        Scalar::Unsigned => left >> (count % 32),
     }
 }
 
@@ -49,7 +49,7 @@ pub fn binary(op: BinaryOp, scalar: Scalar, left: u32, right: u32) -> u32 {
         BinaryOp::LessEqual => u32::from(!is_less(scalar, right, left)),
         BinaryOp::GreaterEqual => u32::from(!is_less(scalar, left, right)),
         BinaryOp::ShiftLeft => left << (right % 32),
-        BinaryOp::ShiftRight => shifted_right(scalar, left, right % 32),
+        BinaryOp::ShiftRight => shifted_right(scalar, left, right),
         BinaryOp::Add => left.wrapping_add(right),
         BinaryOp::Sub => left.wrapping_sub(right),
         BinaryOp::Mul => left.wrapping_mul(right),

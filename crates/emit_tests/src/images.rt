@@ -1,5 +1,5 @@
 // Images that are written by hand, byte by byte.
-use crate::linking::{Section, entry_address};
+use crate::linking::{Section, entry_address, number_of};
 use crate::placing::Choice;
 use byteorder::{ByteOrder, LittleEndian};
 use sc_base::OutOfMemory;
@@ -22,8 +22,14 @@ fn append_word(bytes: &mut Vec<u8>, word: u32) -> Result<(), OutOfMemory> {
     Ok(())
 }
 
+// A number that isn't too large for its field.
+fn append_byte(bytes: &mut Vec<u8>, number: usize) -> Result<(), OutOfMemory> {
+    bytes.push(u8::try_from(number).unwrap_or(u8::MAX))?;
+    Ok(())
+}
+
 fn append_name(bytes: &mut Vec<u8>, name: &[u8]) -> Result<(), OutOfMemory> {
-    bytes.push(name.len() as u8)?;
+    append_byte(bytes, name.len())?;
     bytes.extend_from_slice(name)?;
     Ok(())
 }
@@ -32,12 +38,17 @@ fn flags_of(imports: &[Import]) -> u8 {
     u8::from(imports.contains(&Import::Input)) | u8::from(imports.contains(&Import::Output)) << 1
 }
 
+/// How many there are of what doesn't exceed its field.
+fn half_of(count: usize) -> u16 {
+    u16::try_from(count).unwrap_or(u16::MAX)
+}
+
 fn append_exports(bytes: &mut Vec<u8>, comp: CompId, exports: &[Proto]) -> Result<(), OutOfMemory> {
-    append_half(bytes, exports.len() as u16)?;
+    append_half(bytes, half_of(exports.len()))?;
     let mut index = 0u16;
     for export in exports {
         append_name(bytes, export.name.as_bytes())?;
-        bytes.push(export.params.as_slice().len() as u8)?;
+        append_byte(bytes, export.params.as_slice().len())?;
         bytes.push(u8::from(export.result.is_some()))?;
         append_word(bytes, entry_address(comp, index))?;
         index = index.wrapping_add(1);
@@ -45,18 +56,16 @@ fn append_exports(bytes: &mut Vec<u8>, comp: CompId, exports: &[Proto]) -> Resul
     Ok(())
 }
 
-fn function_count(imports: &[Import]) -> u16 {
-    let mut count = 0u16;
-    for import in imports {
-        if let Import::Function { .. } = import {
-            count = count.wrapping_add(1);
-        }
+fn is_function(import: &Import) -> bool {
+    match import {
+        Import::Function { .. } => true,
+        _ => false,
     }
-    count
 }
 
 fn append_imports(bytes: &mut Vec<u8>, imports: &[Import]) -> Result<(), OutOfMemory> {
-    append_half(bytes, function_count(imports))?;
+    let functions = imports.iter().filter(|import| is_function(import));
+    append_half(bytes, half_of(functions.count()))?;
     for import in imports {
         if let Import::Function { comp, index } = import {
             bytes.push(comp.number())?;
@@ -67,7 +76,7 @@ fn append_imports(bytes: &mut Vec<u8>, imports: &[Import]) -> Result<(), OutOfMe
 }
 
 fn append_code(bytes: &mut Vec<u8>, words: &[u32]) -> Result<(), OutOfMemory> {
-    append_word(bytes, (words.len() as u32).wrapping_mul(4))?;
+    append_word(bytes, number_of(words.len()).wrapping_mul(4))?;
     for word in words {
         append_word(bytes, *word)?;
     }
@@ -92,7 +101,7 @@ fn append_globals(bytes: &mut Vec<u8>, alloc: Global, tree: &TacSection) -> Resu
     for global in tree.globals.as_slice() {
         append_global(&mut own, tree.structs.as_slice(), global)?;
     }
-    append_word(bytes, own.len() as u32)?;
+    append_word(bytes, number_of(own.len()))?;
     bytes.extend_from_slice(own.as_slice())?;
     Ok(())
 }
@@ -108,7 +117,7 @@ fn append_comp(
 ) -> Result<Option<u32>, OutOfMemory> {
     let exports = interface.exports.as_slice();
     let imports = interface.imports.as_slice();
-    let count = exports.len() as u16;
+    let count = half_of(exports.len());
     let functions = tree.functions.as_slice();
     let Some(section) = Section::new(alloc, comp, count, tree, choice)? else {
         return Ok(None);
@@ -144,7 +153,7 @@ pub fn image_by(
         number = number.wrapping_add(1);
     }
     let mut bytes = Vec::from_slice(alloc, b"SCIM\x01\x00")?;
-    bytes.push(comps.len() as u8)?;
+    append_byte(&mut bytes, comps.len())?;
     bytes.push(interfaces.main.number())?;
     append_word(&mut bytes, main)?;
     bytes.extend_from_slice(behind.as_slice())?;

@@ -22,6 +22,11 @@ pub fn entry_address(comp: CompId, index: u16) -> u32 {
     code_start(comp).wrapping_add(4 * u32::from(index))
 }
 
+/// A count, as a word.
+pub fn number_of(count: usize) -> u32 {
+    u32::try_from(count).unwrap_or(u32::MAX)
+}
+
 // The codes of functions by such a choice, if there are any.
 fn codes_by(
     alloc: Global,
@@ -43,7 +48,7 @@ fn function_starts(alloc: Global, start: u32, codes: &[Code]) -> Result<Vec<u32>
     let mut next = start;
     for code in codes {
         starts.push(next)?;
-        next = next.wrapping_add((code.tree().instrs.len() as u32).wrapping_mul(4));
+        next = next.wrapping_add(number_of(code.tree().instrs.len()).wrapping_mul(4));
     }
     Ok(starts)
 }
@@ -53,8 +58,8 @@ fn global_starts(alloc: Global, start: u32, tree: &TacSection) -> Result<Vec<u32
     let mut next = start;
     for global in tree.globals.as_slice() {
         starts.push(next)?;
-        let cells = cells_of(tree.structs.as_slice(), global.ty) as u32;
-        next = next.wrapping_add(cells.wrapping_mul(4));
+        let cells = cells_of(tree.structs.as_slice(), global.ty);
+        next = next.wrapping_add(number_of(cells as usize).wrapping_mul(4));
     }
     Ok(starts)
 }

@@ -2,7 +2,7 @@
 
 ghost use Rattle.sc_tac.specs.Places.{is_place};
 ghost use Rattle.std.specs.List.{list_all};
-ghost use Rattle.std.specs.Prelude.{◌≡◌, ◌%◌, All, IsTrue, length};
+ghost use Rattle.std.specs.Prelude.{◌≡◌, ◌==◌, ◌%◌, All, IsTrue, length};
 
 use sc_base::OutOfMemory;
 use sc_select::select;
@@ -36,14 +36,9 @@ fn is_place(place: Place, temps: usize) -> bool
 }
 
 fn are_places(list: &[Place]) -> bool
-    ensures { IsTrue result → IsTrue (list_all (is_place (length list.now)) list.now) }
+    ensures { result ≡ list_all (is_place (length list.now)) list.now }
 {
-    for place in list {
-        if !is_place(*place, list.len()) {
-            return false;
-        }
-    }
-    true
+    list.iter().all(|place| is_place(*place, list.len()))
 }
 
 fn places_of(list: Items<Place>) -> Option<Places> {
@@ -54,20 +49,21 @@ fn places_of(list: Items<Place>) -> Option<Places> {
     }
 }
 
-fn are_words(offsets: &[u32]) -> bool
+fn is_offset(offset: u32) -> bool
+    ensures { result ≡ (offset % 4 == 0) }
+{
+    offset % 4 == 0
+}
+
+fn are_offsets(offsets: &[u32]) -> bool
     ensures { IsTrue result → All (λ offset. offset % 4 ≡ 0) offsets.now }
 {
-    for offset in offsets {
-        if *offset % 4 != 0 {
-            return false;
-        }
-    }
-    true
+    offsets.iter().all(|offset| is_offset(*offset))
 }
 
 fn frame_of(tree: FrameTree) -> Option<Frame> {
     let bytes = tree.bytes;
-    if bytes % 4 == 0 && are_words(tree.objects.as_slice()) && are_words(tree.slots.as_slice()) {
+    if bytes % 4 == 0 && are_offsets(tree.objects.as_slice()) && are_offsets(tree.slots.as_slice()) {
         Some(Frame::new(tree))
     } else {
         None
