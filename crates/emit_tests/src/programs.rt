@@ -189,7 +189,12 @@ struct pair {
   int first;
   int *second;
 };
+struct wide {
+  int room[600];
+  int last;
+};
 struct pair pairs[3];
+struct wide wides[3];
 int table[700] = {4, 5, 6};
 int last = 11;
 int main(void) {
@@ -199,6 +204,7 @@ int main(void) {
   struct pair own[2];
   int many[520];
   struct pair *r;
+  struct wide *w;
   int **s;
   many[0] = 20;
   many[519] = 21;
@@ -233,6 +239,13 @@ int main(void) {
   r = pairs + 2u;
   output(*r->second + r->first);
   output(r - pairs);
+  w = wides + 2;
+  w->last = 30;
+  w = w - 1;
+  w->last = 31;
+  output(wides[2].last);
+  output(wides[1].last);
+  output(&wides[2] - w);
   q = many;
   q++;
   q--;
@@ -240,7 +253,9 @@ int main(void) {
 }
 ",
     &[],
-    &[2, 1, 6, 5, 1, 0xffff_ffff, 0, 1, 1, 0, 1, 0, 9, 21, 1, 2, 11, 2, 20],
+    &[
+        2, 1, 6, 5, 1, 0xffff_ffff, 0, 1, 1, 0, 1, 0, 9, 21, 1, 2, 11, 2, 30, 31, 1, 20,
+    ],
 );
 
 // Operators before words, and constants: those that one instruction loads, and those that take two.
