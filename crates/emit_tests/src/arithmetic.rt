@@ -15,7 +15,10 @@ fn quotient(scalar: Scalar, left: u32, right: u32) -> u32 {
         return u32::MAX;
     }
     match scalar {
-        Scalar::Int => left.cast_signed().wrapping_div(right.cast_signed()).cast_unsigned(),
+        Scalar::Int => left
+            .cast_signed()
+            .wrapping_div(right.cast_signed())
+            .cast_unsigned(),
         Scalar::Unsigned => left / right,
     }
 }

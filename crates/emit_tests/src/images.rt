@@ -96,7 +96,11 @@ fn append_global(
     Ok(())
 }
 
-fn append_globals(bytes: &mut Vec<u8>, alloc: Global, tree: &TacSection) -> Result<(), OutOfMemory> {
+fn append_globals(
+    bytes: &mut Vec<u8>,
+    alloc: Global,
+    tree: &TacSection,
+) -> Result<(), OutOfMemory> {
     let mut own = Vec::new(alloc);
     for global in tree.globals.as_slice() {
         append_global(&mut own, tree.structs.as_slice(), global)?;

@@ -1,4 +1,5 @@
-// The words of a section's code, one code behind the other, and each reference completed with the address of its target.
+// The words of a section: the codes of its functions one behind the other, and each reference completed with the
+// address of its target.
 use crate::placing::{Choice, code_by};
 use rv_code::{Immediate, Instr, JumpOffset, Reg, UpperImmediate, encode};
 use sc_base::OutOfMemory;
@@ -154,7 +155,12 @@ impl Section {
         }
     }
 
-    fn append_code(&self, words: &mut Vec<u32>, start: u32, code: &CodeTree) -> Result<(), OutOfMemory> {
+    fn append_code(
+        &self,
+        words: &mut Vec<u32>,
+        start: u32,
+        code: &CodeTree,
+    ) -> Result<(), OutOfMemory> {
         let mut number = 0u32;
         for instr in code.instrs.as_slice() {
             let pc = start.wrapping_add(number.wrapping_mul(4));
@@ -181,7 +187,12 @@ impl Section {
     }
 
     /// All words of a section with so many exports.
-    pub fn words(&self, alloc: Global, functions: &[TacFn], exports: u16) -> Result<Vec<u32>, OutOfMemory> {
+    pub fn words(
+        &self,
+        alloc: Global,
+        functions: &[TacFn],
+        exports: u16,
+    ) -> Result<Vec<u32>, OutOfMemory> {
         let mut words = Vec::new(alloc);
         self.append_entries(&mut words, functions, exports)?;
         for (code, start) in self.codes.as_slice().iter().zip(self.functions.as_slice()) {

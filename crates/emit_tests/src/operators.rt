@@ -1,5 +1,5 @@
-// Each operator between words, over each kind of place of its operands and of its result, which may lie where an operand
-// lies.
+// Each operator between words, over each kind of place of its operands and of its result, which may lie where an
+// operand lies.
 
 ghost use Rattle.emit_tests.specs.Made.{operating, operation, operations};
 ghost use Rattle.std.specs.Prelude.{◌≡◌, [], ◌∷◌, IfOk, Some, codes};
@@ -9,10 +9,13 @@ use crate::placing::{Choice, FIRST_SLOTS};
 use crate::runs::{run_by, told};
 use sc_base::{BinaryOp, Name, OutOfMemory};
 use sc_core::{TypedGlobals, TypedStructs};
-use sc_event::{CompId, Entry, Import, Imports, Interface, InterfaceList, Interfaces, Protos, Scalar};
+use sc_event::{
+    CompId, Entry, Import, Imports, Interface, InterfaceList, Interfaces, Protos, Scalar,
+};
 use sc_tac::Place::{self, Register, Slot};
 use sc_tac::{
-    ObjectCells, TacFn, TacFnTree, TacFns, TacOp, TacSection, TacSections, TacStmt, TacStmts, TacTree,
+    ObjectCells, TacFn, TacFnTree, TacFns, TacOp, TacSection, TacSections, TacStmt, TacStmts,
+    TacTree,
 };
 use std::alloc::Global;
 use std::test::Fail;
@@ -111,8 +114,8 @@ fn program(alloc: Global, op: BinaryOp, scalar: Scalar) -> Result<TacTree, OutOf
     })
 }
 
-// Where the operands, the result and its copy lie. Each slot lies near the stack pointer in some choices and far from it in
-// others.
+// Where the operands, the result and its copy lie. Each slot lies near the stack pointer in some choices and far from
+// it in others.
 fn choices(alloc: Global) -> Result<Vec<Choice>, OutOfMemory> {
     let mut choices = Vec::new(alloc);
     let mut number = 0usize;

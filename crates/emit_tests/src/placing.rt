@@ -63,7 +63,10 @@ fn are_offsets(offsets: &[u32]) -> bool
 
 fn frame_of(tree: FrameTree) -> Option<Frame> {
     let bytes = tree.bytes;
-    if bytes % 4 == 0 && are_offsets(tree.objects.as_slice()) && are_offsets(tree.slots.as_slice()) {
+    if bytes % 4 == 0
+        && are_offsets(tree.objects.as_slice())
+        && are_offsets(tree.slots.as_slice())
+    {
         Some(Frame::new(tree))
     } else {
         None
@@ -99,13 +102,20 @@ fn lay(alloc: Global, first: u32, count: u32, cells: &[u32]) -> Result<Option<Fr
 fn place_of(choice: Choice, temp: u32) -> Place {
     let further = temp - temp % 4;
     match choice.places[(temp % 4) as usize] {
-        Place::Register(register) => Place::Register((further.wrapping_add(u32::from(register)) % 18) as u8),
+        Place::Register(register) => {
+            let moved = further.wrapping_add(u32::from(register)) % 18;
+            Place::Register(moved as u8)
+        }
         Place::Slot(slot) => Place::Slot(slot.wrapping_add(further)),
     }
 }
 
 /// The machine code of a function by such a choice; `None` where it is too large, or a place isn't one.
-pub fn code_by(alloc: Global, function: &TacFn, choice: Choice) -> Result<Option<Code>, OutOfMemory> {
+pub fn code_by(
+    alloc: Global,
+    function: &TacFn,
+    choice: Choice,
+) -> Result<Option<Code>, OutOfMemory> {
     let tree = function.tree();
     let mut list = Items::new(alloc);
     for temp in 0..tree.temps {
@@ -114,7 +124,13 @@ pub fn code_by(alloc: Global, function: &TacFn, choice: Choice) -> Result<Option
     let Some(places) = places_of(list) else {
         return Ok(None);
     };
-    let Some(frame) = lay(alloc, choice.first_slot, tree.temps, tree.objects.as_slice())? else {
+    let Some(frame) = lay(
+        alloc,
+        choice.first_slot,
+        tree.temps,
+        tree.objects.as_slice(),
+    )?
+    else {
         return Ok(None);
     };
     if tree.nodes > MOST_NODES {

@@ -64,12 +64,11 @@ int main(void) {
 }
 ",
     &[9],
-    &[
-        0, 1, 2, 3, 2, 21, 23, 300, 31, 32, 400, 41, 42, 43, 1, 0, 9,
-    ],
+    &[0, 1, 2, 3, 2, 21, 23, 300, 31, 32, 400, 41, 42, 43, 1, 0, 9],
 );
 
-// Calls of the own compartment, with no argument up to eight, with a result, without one, or with one that nobody takes.
+// Calls of the own compartment, with no argument or up to eight, with a result, without one, or with one that nobody
+// takes.
 const OWN: Case = (
     b"#pragma compartment M
 #pragma import Env output
@@ -254,7 +253,28 @@ int main(void) {
 ",
     &[],
     &[
-        2, 1, 6, 5, 1, 0xffff_ffff, 0, 1, 1, 0, 1, 0, 9, 21, 1, 2, 11, 2, 30, 31, 1, 20,
+        2,
+        1,
+        6,
+        5,
+        1,
+        0xffff_ffff,
+        0,
+        1,
+        1,
+        0,
+        1,
+        0,
+        9,
+        21,
+        1,
+        2,
+        11,
+        2,
+        30,
+        31,
+        1,
+        20,
     ],
 );
 
@@ -297,11 +317,39 @@ int main(void) {
 ",
     &[0, 7, -2048],
     &[
-        0, 0, 1, u32::MAX, 0, 1, u32::MAX, //
-        0xffff_fff9, 7, 0, 0xffff_fff8, 0xffff_fff9, 0, 0xffff_fff8, //
-        2_048, 0xffff_f800, 0, 2_047, 2_048, 0, 2_047, //
-        2_047, 2_048, 2_049, 4_095, 4_096, 0x7fff_ffff, 0x7fff_f800, 0xffff_f800, 0xffff_f7ff,
-        0x8000_0000, 0x1234_5678, 0,
+        0,
+        0,
+        1,
+        u32::MAX,
+        0,
+        1,
+        u32::MAX, //
+        0xffff_fff9,
+        7,
+        0,
+        0xffff_fff8,
+        0xffff_fff9,
+        0,
+        0xffff_fff8, //
+        2_048,
+        0xffff_f800,
+        0,
+        2_047,
+        2_048,
+        0,
+        2_047, //
+        2_047,
+        2_048,
+        2_049,
+        4_095,
+        4_096,
+        0x7fff_ffff,
+        0x7fff_f800,
+        0xffff_f800,
+        0xffff_f7ff,
+        0x8000_0000,
+        0x1234_5678,
+        0,
     ],
 );
 
