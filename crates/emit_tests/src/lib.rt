@@ -1,0 +1,18 @@
+//! The machine code of three-address code, run by the machine over places that the tests choose. This crate has tests
+//! alone.
+#![tactic(auto)]
+
+#[cfg(test)]
+mod arithmetic;
+#[cfg(test)]
+mod images;
+#[cfg(test)]
+mod linking;
+#[cfg(test)]
+mod operators;
+#[cfg(test)]
+mod placing;
+#[cfg(test)]
+mod programs;
+#[cfg(test)]
+mod runs;
