@@ -1,9 +1,7 @@
 -- Made texts are accepted, as small programs.
-use Rattle.std.proofs.Common.{List, ℕ, refl}
-use Rattle.sc_ast.specs.declared.section.SectionTree.{SectionTree}
+use Rattle.std.proofs.Common.{refl}
 use Rattle.sc_elab.specs.Prelude.{program_of}
-use Rattle.sc_made.specs.Laws.{AreSame, IsAsked, MadeTextsAreAccepted, MadeTextsAreRead, MadeTreesAreTyped}
-use Rattle.sc_made.specs.Tree.{made_trees}
+use Rattle.sc_made.specs.Laws.{MadeTextsAreAccepted, MadeTextsAreRead, MadeTreesAreTyped}
 use Rattle.sc_made.proofs.Counts.{counts_hold}
 use Rattle.sc_made.proofs.Names.{names_hold}
 use Rattle.sc_made.proofs.Shapes.{AreMade}

@@ -1,5 +1,5 @@
 -- What the sections of a made text declare.
-use Rattle.std.proofs.Common.{List, [], ◌∷◌, ◌++◌, ◌≡◌, ◌∙◌, ℕ, ap, codes, map, refl}
+use Rattle.std.proofs.Common.{List, [], ◌∷◌, ◌++◌, ◌≡◌, ℕ, ap, codes, map, refl}
 use Rattle.sc_ast.specs.Prelude.{head_of}
 use Rattle.sc_ast.specs.declared.section.Decl.{Decl}
 use Rattle.sc_ast.specs.declared.section.Decl.TheVariants as decl
@@ -8,9 +8,9 @@ use Rattle.sc_ast.specs.declared.section.FunctionTree.{FunctionTree}
 use Rattle.sc_ast.specs.declared.section.HeadTree.{HeadTree}
 use Rattle.sc_ast.specs.declared.section.ImportLine.{ImportLine}
 use Rattle.sc_scope.specs.Declarations.{protos_in}
-use Rattle.sc_scope.specs.Prelude.{Text, functions_in, globals_in, heads_in, structs_in}
+use Rattle.sc_scope.specs.Prelude.{functions_in, globals_in, heads_in, structs_in}
 use Rattle.sc_made.specs.Text.{function_name}
-use Rattle.sc_made.specs.Tree.{output_import, output_proto}
+use Rattle.sc_made.specs.Tree.{output_import}
 use Rattle.sc_made.proofs.Naming.{function_names}
 use Rattle.sc_made.proofs.Shapes.{AreExports, AreFunctions, AreImports, AreProtos, and_export, and_function, and_import}
 use Rattle.sc_made.proofs.Shapes.{and_proto, no_exports, no_functions, no_imports, no_protos}

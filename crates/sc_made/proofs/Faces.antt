@@ -1,11 +1,10 @@
 -- The section of `Main` breaks no rule of interfaces.
-use Rattle.std.proofs.Common.{Bool, List, Some, [], ◌∷◌, ◌++◌, ◌≡◌, ◌∙◌, ◌&&◌, ◌||◌, ◌%◌, ◌≤◌, ◌<◌, ◌==◌, ℕ, suc, ap}
-use Rattle.std.proofs.Common.{ap₂, append-nil, append_assoc, arith, bytes_eq, codes, false, get_or, if◌then◌else◌, is_some}
-use Rattle.std.proofs.Common.{map, min, not, refl, subst, sym, take, true}
+use Rattle.std.proofs.Common.{Bool, List, [], ◌∷◌, ◌++◌, ◌≡◌, ◌∙◌, ◌&&◌, ◌||◌, ◌%◌, ℕ, suc, ap}
+use Rattle.std.proofs.Common.{ap₂, append-nil, append_assoc, bytes_eq, codes, false, if◌then◌else◌, is_some}
+use Rattle.std.proofs.Common.{map, not, refl, sym, take, true}
 use Rattle.std.proofs.lemmas.Bool.{and_from, and_parts, or_left, or_right}
 use Rattle.std.proofs.lemmas.List.{map-append}
 use Rattle.std.specs.List.{list_all}
-use Rattle.sc_base.specs.Prelude.{all_hold}
 use Rattle.sc_ast.specs.Prelude.{head_of}
 use Rattle.sc_ast.specs.declared.section.Decl.{Decl}
 use Rattle.sc_ast.specs.declared.section.Decl.TheVariants as decl
@@ -13,25 +12,24 @@ use Rattle.sc_ast.specs.declared.section.FunctionTree.{FunctionTree}
 use Rattle.sc_ast.specs.declared.section.HeadTree.{HeadTree}
 use Rattle.sc_ast.specs.declared.section.ImportLine.{ImportLine}
 use Rattle.sc_ast.specs.declared.section.SectionTree.{SectionTree}
-use Rattle.sc_scope.specs.Declarations.{protos_in}
-use Rattle.sc_scope.specs.Prelude.{Text, among, function_names, functions_in, heads_in, is_environment, is_new, offering}
+use Rattle.sc_scope.specs.Prelude.{Text, among, function_names, heads_in, is_new, offering}
 use Rattle.sc_scope.specs.Prelude.{proto_names, unless}
 use Rattle.sc_interfaces.specs.Faces.{agree, agrees_as, agrees_there, agrees_with, decl_lines, decls_from, exports_from}
-use Rattle.sc_interfaces.specs.Faces.{head_fits, head_holds, import_fits, import_holds, imported_agrees, imports_from}
+use Rattle.sc_interfaces.specs.Faces.{head_holds, import_fits, import_holds, imported_agrees, imports_from}
 use Rattle.sc_interfaces.specs.Faces.{input_name, is_input, is_offered, is_output, is_plain, main_holds, output_name}
 use Rattle.sc_interfaces.specs.Faces.{section_lines}
 use Rattle.sc_performers.proofs.Distinct.{among_back, among_front, not_from}
 use Rattle.sc_performers.proofs.Uses.{IsAmong, first, later}
-use Rattle.sc_made.specs.Text.{all_functions, function_name, numbers_from, worker_name, workers}
+use Rattle.sc_made.specs.Text.{all_functions, function_name, numbers_from, workers}
 use Rattle.sc_made.specs.Tree.{import_at, main_at, output_import, output_proto, proto_at}
 use Rattle.sc_made.specs.Laws.{IsAsked}
-use Rattle.sc_made.proofs.Declared.{behind_functions, behind_protos, imports_named, protos_heads, protos_named}
+use Rattle.sc_made.proofs.Declared.{behind_functions, behind_protos, protos_heads, protos_named}
 use Rattle.sc_made.proofs.Naming as naming
 use Rattle.sc_made.proofs.Naming.{Below, below_more, below_next, function_among, function_new, no_function}
 use Rattle.sc_made.proofs.Numbers.{Rise, all_rise, function_there, number_there, worker_low}
-use Rattle.sc_made.proofs.Offered.{TakesInt, apart_first, not_environment, offering_agrees, offering_found, others_agree}
-use Rattle.sc_made.proofs.Offered.{past_main, protos_agree}
-use Rattle.sc_made.proofs.Shapes.{AreImports, AreMade, AreProtos, AreWorkers, IsMain, and_import, and_proto, no_imports}
+use Rattle.sc_made.proofs.Offered.{TakesInt, apart_first, not_environment, offering_agrees, offering_found}
+use Rattle.sc_made.proofs.Offered.{others_agree, past_main, protos_agree}
+use Rattle.sc_made.proofs.Shapes.{AreImports, AreProtos, AreWorkers, IsMain, and_import, and_proto, no_imports}
 use Rattle.sc_made.proofs.Shapes.{no_protos}
 
 pub plain : (j : ℕ) → is_plain (function_name j) ≡ true
@@ -157,7 +155,8 @@ module _ (size seed : ℕ) (asked : IsAsked size seed) (main : SectionTree) (m :
       let head : HeadTree = proto_at j line in
       ap (λ b. if b then (if bytes_eq head.name input_name then is_input head else
       if bytes_eq head.name output_name then is_output head else true)
-      else agrees_there sections 0 main head (offering 0 (import_at size k at) 0 sections)) (not_environment size k at) ∙
+      else agrees_there sections 0 main head (offering 0 (import_at size k at) 0 sections))
+      (not_environment size k at) ∙
       ap (agrees_there sections 0 main head) (past_main size seed main m others k at) ∙
       offering_agrees size seed sections main (import_at size k at) head (takes_int j line) 1
       (numbers_from 0 (workers size)) others are

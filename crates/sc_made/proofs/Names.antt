@@ -1,9 +1,9 @@
 -- The sections of a made text break no rule of names.
-use Rattle.std.proofs.Common.{Bool, List, None, Option, Some, [], ◌∷◌, ◌++◌, ◌≡◌, ◌∙◌, ◌&&◌, ◌≤◌, ℕ, suc, ap, ap₂}
-use Rattle.std.proofs.Common.{append-nil, append_assoc, arith, codes, false, map, not, refl, rules, subst, sym, true}
+use Rattle.std.proofs.Common.{List, Some, [], ◌∷◌, ◌++◌, ◌≡◌, ◌∙◌, ◌&&◌, ◌≤◌, ℕ, suc, ap, ap₂}
+use Rattle.std.proofs.Common.{append-nil, append_assoc, codes, false, map, refl, rules, sym, true}
 use Rattle.std.proofs.lemmas.Bool.{and_from}
 use Rattle.std.proofs.lemmas.List.{map-append}
-use Rattle.std.specs.List.{concat, list_all}
+use Rattle.std.specs.List.{concat}
 use Rattle.sc_ast.specs.declared.expr.CallTree.{CallTree}
 use Rattle.sc_ast.specs.declared.expr.ExprTree.{ExprTree}
 use Rattle.sc_ast.specs.declared.expr.ExprTree as exprs
@@ -20,7 +20,7 @@ use Rattle.sc_ast.specs.declared.stmt.StmtKind as kinds
 use Rattle.sc_ast.specs.declared.stmt.StmtTree.{StmtTree}
 use Rattle.sc_ast.specs.declared.stmt.StmtTree as stmts
 use Rattle.sc_scope.specs.Prelude.{Known, Text, among, body_lines, call_known, decl_lines, declared, expr_known}
-use Rattle.sc_scope.specs.Prelude.{function_lines, head_of_known, is_callable, is_new, known, line_of_text, lines_from}
+use Rattle.sc_scope.specs.Prelude.{function_lines, is_callable, is_new, line_of_text, lines_from}
 use Rattle.sc_scope.specs.Prelude.{functions_in, names_broken, part_lines, stmt_lines, unless}
 use Rattle.sc_scope.proofs.Statements.{for-at}
 use Rattle.sc_base.specs.Prelude.{all_hold}
@@ -35,7 +35,7 @@ use Rattle.sc_made.specs.Tree.{add_kind, below, element, next_at, output_proto, 
 use Rattle.sc_made.specs.Tree.{start_at, stmt_at, store_kind, table_at, variable}
 use Rattle.sc_made.specs.Laws.{IsAsked}
 use Rattle.sc_made.proofs.Declared.{behind_functions, functions_functions}
-use Rattle.sc_made.proofs.Declared.{functions_globals, functions_named, functions_protos, functions_structs}
+use Rattle.sc_made.proofs.Declared.{functions_globals, functions_protos, functions_structs}
 use Rattle.sc_made.proofs.Declared.{imports_named}
 use Rattle.sc_made.proofs.Naming.{Below, below_more, below_next, function_among, function_names, function_new}
 use Rattle.sc_made.proofs.Numbers.{Rise, functions_rise}

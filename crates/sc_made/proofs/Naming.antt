@@ -1,10 +1,10 @@
 -- The names of functions and workers: which are among others, and that they are new.
-use Rattle.std.proofs.Common.{Bool, List, [], ◌∷◌, ◌++◌, ◌≡◌, ◌∙◌, ◌+◌, ◌<◌, ◌≤◌, ◌^◌, ◌||◌, ℕ, suc, ap, arith, bytes_eq}
-use Rattle.std.proofs.Common.{codes, drop, false, inl, inr, map, refl, subst, sym, true}
-use Rattle.std.proofs.lemmas.Bool.{false≢true, or_left, or_right}
+use Rattle.std.proofs.Common.{Bool, List, [], ◌∷◌, ◌++◌, ◌≡◌, ◌∙◌, ◌<◌, ◌≤◌, ◌||◌, ℕ, suc, ap, arith, bytes_eq}
+use Rattle.std.proofs.Common.{drop, false, inl, inr, map, refl, subst, true}
+use Rattle.std.proofs.lemmas.Bool.{or_left, or_right}
 use Rattle.std.proofs.lemmas.Fmt.{decimal_injective}
 use Rattle.sc_base.proofs.Texts.{bytes_eq_self, same_text}
-use Rattle.sc_scope.specs.Prelude.{Text, among, are_distinct, is_new}
+use Rattle.sc_scope.specs.Prelude.{Text, among, is_new}
 use Rattle.sc_performers.proofs.Distinct.{is_false, not_both, not_from}
 use Rattle.sc_performers.proofs.Uses.{IsAmong, is_first_or_later, none_among}
 use Rattle.sc_made.specs.Text.{function_name, worker_name}

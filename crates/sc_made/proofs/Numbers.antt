@@ -1,5 +1,5 @@
 -- The numbers of functions and workers: which are in a list, and that they rise.
-use Rattle.std.proofs.Common.{Bool, List, [], ◌∷◌, ◌≡◌, ◌+◌, ◌<◌, ◌≤◌, ◌%◌, ℕ, suc, zero, ap, arith, cond, eq-eqb}
+use Rattle.std.proofs.Common.{Bool, List, [], ◌∷◌, ◌≡◌, ◌+◌, ◌<◌, ◌≤◌, ◌%◌, ℕ, suc, zero, arith, cond, eq-eqb}
 use Rattle.std.proofs.Common.{false, refl, subst, sym, true, inl, inr}
 use Rattle.std.proofs.lemmas.Bool.{false≢true}
 use Rattle.std.specs.List.{AllByRecursion}

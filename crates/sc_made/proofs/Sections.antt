@@ -1,6 +1,6 @@
 -- The sections of a made text: words that spell them, and no compartment line but the first.
 use Rattle.std.proofs.Common.{List, [], ap, append-nil, append_assoc, ap₂, arith, codes, decimal, flat_map, refl, subst}
-use Rattle.std.proofs.Common.{sym, true, ℕ, ◌++◌, ◌+◌, ◌<◌, ◌∙◌, ◌∷◌, ◌≡◌, ◌≤◌}
+use Rattle.std.proofs.Common.{sym, true, ℕ, ◌++◌, ◌<◌, ◌∙◌, ◌∷◌, ◌≡◌, ◌≤◌}
 use Rattle.std.proofs.lemmas.Grind.{flat_map-append}
 unfoldable use Rattle.sc_base.specs.Prelude.{is_name}
 use Rattle.sc_ast.specs.Prelude.{Piece, heading_words, piece_text, text_of}

@@ -27,9 +27,9 @@ use Rattle.sc_ast.specs.declared.section.SectionTree.{SectionTree}
 use Rattle.sc_performers.proofs.BareKinds.{IsFor, IsLeaf, for_kind, kind_of_layer, leaf_kind}
 use Rattle.sc_made.specs.Text.{all_functions, functions_of, numbers_from, workers}
 use Rattle.sc_made.specs.Tree.{FunctionLines, add_kind, assign_simple, below, call_kind, calls_tree, export_at}
-use Rattle.sc_made.specs.Tree.{function_at, import_at, literal, local_at, loop_kind, made_trees, main_at, main_body, main_tree}
-use Rattle.sc_made.specs.Tree.{next_at, no_lines, output_import, output_kind, output_proto, proto_at, return_kind}
-use Rattle.sc_made.specs.Tree.{set_kind, start_at, stmt_at, store_kind, table_at, variable, worker_tree}
+use Rattle.sc_made.specs.Tree.{function_at, import_at, literal, local_at, loop_kind, made_trees, main_at, main_body}
+use Rattle.sc_made.specs.Tree.{main_tree, next_at, no_lines, output_import, output_kind, output_proto, proto_at}
+use Rattle.sc_made.specs.Tree.{return_kind, set_kind, start_at, stmt_at, store_kind, table_at, variable, worker_tree}
 use Rattle.sc_made.specs.Laws.{AreSame}
 use Rattle.sc_made.proofs.Shapes.{AreCalls, AreExports, AreFunctions, AreImports, AreMade, AreProtos, AreWorkers}
 use Rattle.sc_made.proofs.Shapes.{IsMain, IsWorker, and_export, and_function, and_import, and_proto, and_worker}
@@ -150,13 +150,15 @@ main_is : (size seed : ℕ) (t : FunctionTree) →
     lineless_function t ≡ lineless_function (main_at 0 0 0 (main_body size seed)) →
     (x : ℕ) × (t ≡ main_at t.head.line x t.close_line t.body)
 main_is size seed t same =
-    let one = one_local t.locals (local_at (codes "r") 0) (ap (λ x. x.locals) same) in
-    (one.0, λ i. record {
-      head = record ((ap (λ x. x.head) same) i) { line = t.head.line };
-      locals = one.1 i;
-      body = t.body;
-      close_line = t.close_line;
-    })
+    let one = one_local t.locals (local_at (codes "r") 0) (ap (λ x. x.locals) same) in (
+      one.0,
+      λ i. record {
+        head = record ((ap (λ x. x.head) same) i) { line = t.head.line };
+        locals = one.1 i;
+        body = t.body;
+        close_line = t.close_line;
+      },
+    )
 
 main_decls : (size seed : ℕ) (js : List ℕ) (decls : List Decl) → map lineless_decl decls ≡
     map lineless_decl (map (λ j. decl.Proto (proto_at j 0)) js ++ decl.Proto (output_proto 0) ∷

@@ -1,21 +1,19 @@
 -- The sections of workers break no rule of interfaces, and neither does the whole text.
-use Rattle.std.proofs.Common.{Bool, List, Some, [], ◌∷◌, ◌++◌, ◌≡◌, ◌∙◌, ◌&&◌, ◌||◌, ◌≤◌, ℕ, suc, ap, ap₂, append_assoc}
-use Rattle.std.proofs.Common.{arith, bytes_eq, codes, false, map, not, refl, subst, sym, true}
+use Rattle.std.proofs.Common.{Bool, List, [], ◌∷◌, ◌++◌, ◌≡◌, ◌∙◌, ◌&&◌, ◌||◌, ◌≤◌, ℕ, suc, ap, ap₂}
+use Rattle.std.proofs.Common.{bytes_eq, codes, false, map, not, refl, sym, true}
 use Rattle.std.proofs.lemmas.Bool.{and_from, or_left}
 use Rattle.std.proofs.lemmas.List.{map-append}
 use Rattle.std.specs.List.{list_any}
-use Rattle.sc_base.specs.Prelude.{all_hold}
 use Rattle.sc_ast.specs.Prelude.{head_of}
-use Rattle.sc_ast.specs.declared.section.Decl.{Decl}
 use Rattle.sc_ast.specs.declared.section.Decl.TheVariants as decl
 use Rattle.sc_ast.specs.declared.section.ExportLine.{ExportLine}
 use Rattle.sc_ast.specs.declared.section.FunctionTree.{FunctionTree}
 use Rattle.sc_ast.specs.declared.section.HeadTree.{HeadTree}
 use Rattle.sc_ast.specs.declared.section.SectionTree.{SectionTree}
-use Rattle.sc_scope.specs.Prelude.{Text, among, defines_main, function_names, functions_in, heads_in, is_new, line_of_text}
+use Rattle.sc_scope.specs.Prelude.{Text, among, defines_main, function_names, heads_in, is_new, line_of_text}
 use Rattle.sc_scope.specs.Prelude.{unless}
 use Rattle.sc_interfaces.specs.Faces.{agrees_with, decls_from, export_holds, exports_from, head_holds, imports_from}
-use Rattle.sc_interfaces.specs.Faces.{interface_broken, is_main, is_plain, lines_from, main_holds, section_lines}
+use Rattle.sc_interfaces.specs.Faces.{interface_broken, is_main, lines_from, main_holds, section_lines}
 use Rattle.sc_performers.proofs.Uses.{IsAmong, first, later}
 use Rattle.sc_made.specs.Text.{function_name, functions_of, numbers_from, worker_name, workers}
 use Rattle.sc_made.specs.Tree.{FunctionLines, export_at, function_at, table_at}

@@ -1,10 +1,9 @@
 -- Helping: the trees that the text of a made program is read as, lines aside.
-use Rattle.std.specs.Prelude.{ℕ, ◌%◌, false, codes, List, [], ◌∷◌, ◌++◌, flat_map, map, Option, None, Some}
+use Rattle.std.specs.Prelude.{ℕ, ◌%◌, false, codes, List, [], ◌∷◌, ◌++◌, flat_map, map, None, Some}
 use Rattle.sc_base.specs.declared.op.BinaryOp.TheVariants.{Add, BitAnd, Less}
 use Rattle.sc_ast.specs.declared.expr.CallTree.{CallTree}
 use Rattle.sc_ast.specs.declared.expr.ExprTree.{ExprTree}
 use Rattle.sc_ast.specs.declared.expr.ExprTree.TheVariants.{Binary, Index, Literal, Variable}
-use Rattle.sc_ast.specs.declared.stmt.SimpleKind.{SimpleKind}
 use Rattle.sc_ast.specs.declared.stmt.SimpleKind.TheVariants as simple
 use Rattle.sc_ast.specs.declared.stmt.SimpleTree.{SimpleTree}
 use Rattle.sc_ast.specs.declared.stmt.StmtKind.{StmtKind}
