@@ -131,7 +131,7 @@ struct Tally {
 }
 
 // The tally of so many programs from a seed on, `None` where a text of a chain isn't as the account says.
-fn tally(alloc: Global, first: u32, count: u32) -> Result<Option<Tally>, Fail> {
+fn counted(alloc: Global, first: u32, count: u32) -> Result<Option<Tally>, Fail> {
     let mut tally = Tally { faults: 0, long: 0 };
     for number in 0..count {
         let Some(links) = links_of(alloc, first.wrapping_add(number))? else {
@@ -145,7 +145,7 @@ fn tally(alloc: Global, first: u32, count: u32) -> Result<Option<Tally>, Fail> {
 
 // Whether each chain of so many programs is as its account says, and enough of them have links.
 fn are_accounted(alloc: Global, first: u32, count: u32) -> Result<bool, Fail> {
-    match tally(alloc, first, count)? {
+    match counted(alloc, first, count)? {
         Some(tally) => Ok(tally.faults >= 100 && tally.long >= 30),
         None => Ok(false),
     }
