@@ -1,12 +1,14 @@
 #!/usr/bin/env python3
 """Makes the tests of what the documents show: `sessions.py [--check]`, at the top of the repository.
 
-A session is a line `$ ./secomp WORDS < FILE` in a block that is indented by four spaces, with what the program writes below it. The sessions of each
-document below are written, with the texts that they read, to crates/example_tests/src/sessions.rt, whose tests run them over the program. With --check
-nothing is written, and the status is 1 where that file isn't what the documents and the examples give.
+A session is a line `$ ./secomp WORDS < FILE` in a block that is indented by four spaces, with what the program writes
+below it. The sessions of each document below are written, with the texts that they read, to
+crates/example_tests/src/sessions.rt, whose tests run them over the program. With --check nothing is written, and the
+status is 1 where that file isn't what the documents and the examples give.
 
-What stands behind `> NAME` is kept as NAME. It is known from the document too: `tail -n N NAME` shows its last section, and all before is as in FILE.
-What stands behind `| examples/draw` is drawn here, and compared with the next block marked `mermaid`.
+What stands behind `> NAME` is kept as NAME. It is known from the document too: `tail -n N NAME` shows its last section,
+and all before is as in FILE. What stands behind `| examples/draw` is drawn here, and compared with the next block
+marked `mermaid`.
 """
 import re
 import subprocess
@@ -90,7 +92,10 @@ def literal(text):
 
 def listed(found):
     """The sessions as a list, laid out as `rt fmt` does."""
-    items = [f'Session {{\nINwords: "{words}",\nINinput: Input::{variant(path)},\nINwant: b"{literal(shown)}",\n' for words, path, shown in found]
+    items = [
+        f'Session {{\nINwords: "{words}",\nINinput: Input::{variant(path)},\nINwant: b"{literal(shown)}",\n'
+        for words, path, shown in found
+    ]
     if len(items) == 1:
         return "&[" + items[0].replace("\nIN", "\n    ") + "}]"
     return "&[\n" + "".join("    " + item.replace("\nIN", "\n        ") + "    },\n" for item in items) + "]"
