@@ -1,10 +1,11 @@
 #!/bin/sh
-# Times `secomp explain` on texts whose chains have 0, 1, 8 and 31 links, against its parts: `run` on the text, and `meaning` on each
-# text of the chain, with as many turns as the machine may take steps and as many events as it showed.
-# In each text `Main` runs 620,000 rounds of a loop, in as many parts as the chain has texts, and after each part but the last
-# it calls a compartment that stores behind the end of an array. Then it shows the most memory of `explain` at two numbers of
-# steps, on a text whose `Main` loops for ever once it has called such a compartment.
-# Usage: bench/explain.sh [PROGRAM]. PROGRAM is a built secomp (by default what ./secomp builds and proves first).
+# Times `secomp explain` on texts whose chains have 0, 1, 8 and 31 links, against its parts: `run` on the text, and
+# `meaning` on each text of the chain, with as many turns as the machine may take steps and as many events as it showed.
+# In each text `Main` runs 620,000 rounds of a loop, in as many parts as the chain has texts, and after each part but the
+# last it calls a compartment that stores behind the end of an array. Then it shows the most memory of `explain` at two
+# numbers of steps, on a text whose `Main` loops for ever once it has called such a compartment.
+# Usage: bench/explain.sh [PROGRAM]. PROGRAM is a built secomp (by default what ./secomp builds and proves first). An
+# unproved build is some thousand times slower.
 # The times are those of the fastest of three runs; the ratio is that of `explain` to 1.2 times `run` and all `meaning`s.
 set -e
 top=$(cd "$(dirname "$0")/.." && pwd)
@@ -28,7 +29,8 @@ text() {
         if (!rounds) print "  while (1) {\n    r = r ^ i;\n  }"
         print "  output(r);\n  return 0;\n}"
         for (c = 1; c <= links; c++)
-            print "#pragma compartment W" c "\n#pragma export f" c "\nint x[2];\nint y;\nint f" c "(int v) {\n  x[2] = v;\n  return y;\n}"
+            print "#pragma compartment W" c "\n#pragma export f" c "\nint x[2];\nint y;\n" \
+                "int f" c "(int v) {\n  x[2] = v;\n  return y;\n}"
     }'
 }
 
@@ -65,10 +67,11 @@ for links in 0 1 8 31; do
     whole=$(best explain)
     machine=$(best run_it)
     meant=$(best meanings)
-    awk "BEGIN { printf \"%2d links  explain %6.2f s  run %5.2f s  meanings %6.2f s  ratio %.2f\\n\", $links, $whole, $machine, $meant, $whole / (1.2 * $machine + $meant) }"
+    awk "BEGIN { ratio = $whole / (1.2 * $machine + $meant)
+        printf \"%2d links  explain %6.2f s  run %5.2f s  meanings %6.2f s  ratio %.2f\\n\", $links, $whole, $machine, $meant, ratio }"
 done
 
 text 1 0 > "$work/text"
 for count in 1000000 16000000; do
-    /usr/bin/time -f "$count steps  %e s  %M KiB" "$program" explain --steps $count < "$work/text" 2>&1 | tail -n 1
+    /usr/bin/time -f "$count steps  %e s  %M KiB" "$program" explain --steps $count < "$work/text" 2>&1 > "$work/report"
 done
