@@ -68,7 +68,8 @@ for links in 0 1 8 31; do
     machine=$(best run_it)
     meant=$(best meanings)
     awk "BEGIN { ratio = $whole / (1.2 * $machine + $meant)
-        printf \"%2d links  explain %6.2f s  run %5.2f s  meanings %6.2f s  ratio %.2f\\n\", $links, $whole, $machine, $meant, ratio }"
+        printf \"%2d links  explain %6.2f s  run %5.2f s  meanings %6.2f s  ratio %.2f\\n\",
+            $links, $whole, $machine, $meant, ratio }"
 done
 
 text 1 0 > "$work/text"
