@@ -123,22 +123,42 @@ fn links_of(alloc: Global, seed: u32) -> Result<Option<usize>, Fail> {
     Ok(Some(links))
 }
 
-#[test]
-fn a_chain_accounts_for_what_the_machine_shows(rt: HostRuntime) -> Result<(), Fail> {
-    let mut chains: usize = 0;
-    let mut long: usize = 0;
-    for number in 0..100 {
-        let seed = FIRST.wrapping_add(number);
-        let links = links_of(rt.alloc(), seed)?;
-        assert!(rt; links.is_some());
-        if links != Some(0) {
-            chains = chains.wrapping_add(1);
-        }
-        if links != Some(0) && links != Some(1) {
-            long = long.wrapping_add(1);
-        }
+// How many programs have a chain with links, and with more than one.
+#[derive(Clone, Copy)]
+struct Tally {
+    faults: u32,
+    long: u32,
+}
+
+// The tally of so many programs from a seed on, `None` where a text of a chain isn't as the account says.
+fn counted(alloc: Global, first: u32, count: u32) -> Result<Option<Tally>, Fail> {
+    let mut tally = Tally { faults: 0, long: 0 };
+    for number in 0..count {
+        let Some(links) = links_of(alloc, first.wrapping_add(number))? else {
+            return Ok(None);
+        };
+        tally.faults = tally.faults.wrapping_add((links > 0) as u32);
+        tally.long = tally.long.wrapping_add((links > 1) as u32);
     }
-    assert!(rt; chains >= 20);
-    assert!(rt; long >= 2);
+    Ok(Some(tally))
+}
+
+// Whether each chain of so many programs is as its account says, and enough of them have links.
+fn are_accounted(alloc: Global, first: u32, count: u32) -> Result<bool, Fail> {
+    match counted(alloc, first, count)? {
+        Some(tally) => Ok(tally.faults >= 100 && tally.long >= 30),
+        None => Ok(false),
+    }
+}
+
+#[test]
+fn chains_account_for_what_the_machine_shows(rt: HostRuntime) -> Result<(), Fail> {
+    assert!(rt; are_accounted(rt.alloc(), FIRST, 130)?);
+    Ok(())
+}
+
+#[test]
+fn more_chains_account_for_what_the_machine_shows(rt: HostRuntime) -> Result<(), Fail> {
+    assert!(rt; are_accounted(rt.alloc(), FIRST.wrapping_add(130), 130)?);
     Ok(())
 }

@@ -83,11 +83,41 @@ fn are_told_rightly(alloc: Global, seed: u32) -> Result<bool, Fail> {
     Ok(true)
 }
 
+// Whether that is so for so many programs from a seed on.
+fn are_all_told_rightly(alloc: Global, first: u32, count: u32) -> Result<bool, Fail> {
+    for number in 0..count {
+        if !are_told_rightly(alloc, first.wrapping_add(number))? {
+            return Ok(false);
+        }
+    }
+    Ok(true)
+}
+
+// A part of the programs, of which each set is looked at.
+fn part(alloc: Global, number: u32) -> Result<bool, Fail> {
+    are_all_told_rightly(alloc, FIRST.wrapping_add(number.wrapping_mul(65)), 65)
+}
+
 #[test]
 fn a_set_tells_the_trace_where_it_has_the_chain(rt: HostRuntime) -> Result<(), Fail> {
-    for number in 0..40 {
-        let seed = FIRST.wrapping_add(number);
-        assert!(rt; are_told_rightly(rt.alloc(), seed)?);
-    }
+    assert!(rt; part(rt.alloc(), 0)?);
+    Ok(())
+}
+
+#[test]
+fn a_second_part_is_told_rightly(rt: HostRuntime) -> Result<(), Fail> {
+    assert!(rt; part(rt.alloc(), 1)?);
+    Ok(())
+}
+
+#[test]
+fn a_third_part_is_told_rightly(rt: HostRuntime) -> Result<(), Fail> {
+    assert!(rt; part(rt.alloc(), 2)?);
+    Ok(())
+}
+
+#[test]
+fn a_fourth_part_is_told_rightly(rt: HostRuntime) -> Result<(), Fail> {
+    assert!(rt; part(rt.alloc(), 3)?);
     Ok(())
 }
