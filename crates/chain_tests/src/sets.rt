@@ -1,7 +1,7 @@
 // Every set of a program's compartments, in the places of whose sections those stand that perform a trace.
 ghost use Rattle.std.specs.Prelude.{◌<◌, All, IfOk};
 
-use crate::generate::{EVENTS, FIRST, STEPS, generated};
+use chain_texts::{EVENTS, FIRST, STEPS, generated};
 use sc_base::OutOfMemory;
 use sc_chain::{Explanation, Link, explain, replaced};
 use sc_event::{CompId, legal};
