@@ -3,7 +3,7 @@ use chain_texts::{EVENTS, FIRST, STEPS, generated};
 use code_texts::PROGRAMS;
 use sc_run::run_source;
 use sc_types::SourceText;
-use second_meaning::{Task, run_task};
+use second_meaning::{CompSet, Task, run_task};
 use std::alloc::Global;
 use std::test::Fail;
 
@@ -14,7 +14,7 @@ fn is_same(alloc: Global, text: &[u8], turns: u32, events: u32) -> Result<bool, 
     let source = SourceText::read(alloc, text)?;
     let task = Task {
         program: source.program(),
-        set: 0,
+        set: CompSet::empty(),
         trace: &[],
         inputs: &INPUTS,
         turns,

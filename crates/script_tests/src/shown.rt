@@ -3,11 +3,11 @@ use chain_texts::{EVENTS, FIRST, STEPS, generated};
 use code_texts::PROGRAMS;
 use sc_compile::compile;
 use sc_core::{RunEnd, SourceRun};
-use sc_event::{CompId, Event, Trace, legal};
+use sc_event::{Event, legal};
 use sc_machine::Machine;
 use sc_store::FlatStore;
 use sc_types::SourceText;
-use second_meaning::{Task, run_task};
+use second_meaning::{CompSet, Task, run_task};
 use std::alloc::Global;
 use std::test::Fail;
 
@@ -43,28 +43,12 @@ struct Seen {
     blamed: u32,
 }
 
-// How many sets there are of the compartments of a program, of which there are at most four.
-fn sets_of(source: &SourceText) -> u32 {
-    match source.program().tree().interfaces.comps.len() {
-        1 => 2,
-        2 => 4,
-        3 => 8,
-        4 => 16,
-        _ => 0,
-    }
-}
-
-// Whether a set, whose compartments are the bits of a word, has this one.
-fn has(set: u32, comp: CompId) -> bool {
-    set.wrapping_shr(comp.number() as u32) & 1 == 1
-}
-
 // What a run that stops short of the trace has to be: blamed outside the set, after a front of the trace.
-fn is_blamed_before(run: &SourceRun, trace: &[Event], set: u32) -> bool {
+fn is_blamed_before(run: &SourceRun, trace: &[Event], set: CompSet) -> bool {
     let RunEnd::Blamed { comp, .. } = run.end else {
         return false;
     };
-    !has(set, comp) && run.trace.len() < trace.len() && trace.starts_with(run.trace.as_slice())
+    !set.has(comp) && run.trace.len() < trace.len() && trace.starts_with(run.trace.as_slice())
 }
 
 // What is seen with every set, `None` where one gives neither.
@@ -75,7 +59,7 @@ fn see(
     steps: u32,
 ) -> Result<Option<Seen>, Fail> {
     let mut seen = Seen { told: 0, blamed: 0 };
-    for set in 0..sets_of(source) {
+    for set in CompSet::all(alloc, source.program().interfaces().comps.len())? {
         let task = Task {
             program: source.program(),
             set,
@@ -96,8 +80,10 @@ fn see(
     Ok(Some(seen))
 }
 
-// What the machine shows of a program's image, `None` where there is none.
-fn show(alloc: Global, source: &SourceText, steps: u32) -> Result<Option<Trace>, Fail> {
+// What is seen of what the machine shows of a text's program in so many steps, `None` where a set gives neither, or the
+// trace isn't legal.
+fn judge(alloc: Global, text: &[u8], steps: u32) -> Result<Option<Seen>, Fail> {
+    let source = SourceText::read(alloc, text)?;
     let Ok(image) = compile(alloc, source.program()) else {
         return Ok(None);
     };
@@ -105,56 +91,10 @@ fn show(alloc: Global, source: &SourceText, steps: u32) -> Result<Option<Trace>,
         return Ok(None);
     };
     machine.run(steps);
-    let mut trace = Trace::new(alloc);
-    for event in machine.trace() {
-        trace.push(copied(event))?;
-    }
-    Ok(Some(trace))
-}
-
-fn copied(event: &Event) -> Event {
-    match event {
-        Event::Call {
-            from,
-            to,
-            index,
-            args,
-        } => Event::Call {
-            from: *from,
-            to: *to,
-            index: *index,
-            args: args.copied(),
-        },
-        Event::Ret { from, to, value } => Event::Ret {
-            from: *from,
-            to: *to,
-            value: *value,
-        },
-        Event::Out { comp, value } => Event::Out {
-            comp: *comp,
-            value: *value,
-        },
-        Event::In { comp, value } => Event::In {
-            comp: *comp,
-            value: *value,
-        },
-        Event::End { comp, value } => Event::End {
-            comp: *comp,
-            value: *value,
-        },
-    }
-}
-
-// What is seen of a text with so many steps, `None` where a set gives neither, or the trace isn't legal.
-fn judge(alloc: Global, text: &[u8], steps: u32) -> Result<Option<Seen>, Fail> {
-    let source = SourceText::read(alloc, text)?;
-    let Some(trace) = show(alloc, &source, steps)? else {
-        return Ok(None);
-    };
-    if !legal(source.program().interfaces(), trace.as_slice()) {
+    if !legal(source.program().interfaces(), machine.trace()) {
         return Ok(None);
     }
-    see(alloc, &source, trace.as_slice(), steps)
+    see(alloc, &source, machine.trace(), steps)
 }
 
 #[test]

@@ -91,7 +91,7 @@ impl<'a> Run<'a> {
         args: &[Value],
     ) -> Result<Option<Value>, Halt> {
         let below = less(fuel)?;
-        if self.performs(comp) {
+        if self.set.has(comp) {
             return self.act(below, comp, number);
         }
         let Some(section) = self.section(comp) else {

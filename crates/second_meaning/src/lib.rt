@@ -9,8 +9,10 @@ mod memory;
 mod pointers;
 mod run;
 mod script;
+mod set;
 mod task;
 mod words;
 mod zeros;
 
+pub use set::CompSet;
 pub use task::{Task, run_task};

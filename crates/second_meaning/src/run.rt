@@ -2,6 +2,7 @@
 use crate::expressions::{Frame, Scope, evaluate};
 use crate::memory::Memory;
 use crate::script::Script;
+use crate::set::CompSet;
 use sc_base::OutOfMemory;
 use sc_core::{
     Cause, Cell, ProgramTree, RunEnd, Ty, TypedExpr, TypedFunction, TypedPlace, TypedSection,
@@ -40,8 +41,8 @@ impl<T: Drop> From<AllocFailed<T>> for Halt {
 pub(crate) struct Run<'a> {
     pub alloc: Global,
     pub program: &'a ProgramTree,
-    /// The compartments that perform, as the bits of a word.
-    pub set: u32,
+    /// The compartments that perform.
+    pub set: CompSet,
     pub script: Script<'a>,
     /// The events, turns and inputs that are left.
     pub events: u32,
@@ -94,11 +95,6 @@ impl<'a> Run<'a> {
             Ok(value) => Ok(value),
             Err(cause) => self.stop(RunEnd::Blamed { comp, cause, line }),
         }
-    }
-
-    /// Whether a compartment performs.
-    pub(crate) fn performs(&self, comp: CompId) -> bool {
-        self.set.wrapping_shr(comp.number() as u32) & 1 == 1
     }
 
     /// Takes a turn.

@@ -2,6 +2,7 @@
 use crate::memory::Memory;
 use crate::run::{Halt, Run};
 use crate::script::Script;
+use crate::set::CompSet;
 use crate::zeros::begin_globals;
 use sc_base::OutOfMemory;
 use sc_core::{Program, RunEnd, SourceRun, Value};
@@ -11,12 +12,12 @@ use std::alloc::Global;
 /// More than calls and statements can be nested in a run of so many turns that the stack has room for it.
 const NESTED: u32 = 1_000_000_000;
 
-/// A program, the compartments that perform as the bits of a word, and the trace of which they perform their parts; the
-/// inputs, and how many turns and events there are.
+/// A program, the compartments that perform, and the trace of which they perform their parts; the inputs, and how many
+/// turns and events there are.
 #[derive(Clone, Copy)]
 pub struct Task<'a> {
     pub program: &'a Program,
-    pub set: u32,
+    pub set: CompSet,
     pub trace: &'a [Event],
     pub inputs: &'a [i32],
     pub turns: u32,
