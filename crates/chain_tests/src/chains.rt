@@ -1,5 +1,5 @@
 // The chain of texts that accounts for a run, looked at from outside.
-use crate::generate::{EVENTS, FIRST, STEPS, generated};
+use chain_texts::{EVENTS, FIRST, STEPS, generated};
 use sc_base::Text;
 use sc_chain::{Explanation, Link, Replacement, explain, recompose};
 use sc_core::{RunEnd, SourceRun};

@@ -4,8 +4,6 @@
 #[cfg(test)]
 mod chains;
 #[cfg(test)]
-mod generate;
-#[cfg(test)]
 mod meant;
 #[cfg(test)]
 mod sets;

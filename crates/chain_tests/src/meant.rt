@@ -1,5 +1,5 @@
 // What generated programs mean, and what the machine shows on them.
-use crate::generate::{EVENTS, FIRST, STEPS, generated};
+use chain_texts::{EVENTS, FIRST, STEPS, generated};
 use sc_compile::compile;
 use sc_core::RunEnd;
 use sc_machine::Machine;

@@ -1,44 +1,20 @@
 // Every set of a program's compartments, in the places of whose sections those stand that perform a trace.
-ghost use Rattle.std.specs.Prelude.{◌<◌, All, IfOk};
-
-use crate::generate::{EVENTS, FIRST, STEPS, generated};
-use sc_base::OutOfMemory;
+use chain_texts::{EVENTS, FIRST, STEPS, generated};
 use sc_chain::{Explanation, Link, explain, replaced};
-use sc_event::{CompId, legal};
+use sc_event::legal;
 use sc_run::run_source;
 use sc_types::SourceText;
-use sqlite_items::Items;
+use second_meaning::CompSet;
 use std::alloc::Global;
 use std::test::Fail;
 
-// Whether a set, whose compartments are the bits of a word, has this one.
-fn has(set: u32, comp: CompId) -> bool {
-    set.wrapping_shr(comp.number() as u32) & 1 == 1
-}
-
-fn has_all(set: u32, links: &[Link]) -> bool {
+fn has_all(set: CompSet, links: &[Link]) -> bool {
     for link in links {
-        if !has(set, link.comp) {
+        if !set.has(link.comp) {
             return false;
         }
     }
     true
-}
-
-// The compartments of a set that are below this count, of the first four.
-fn members(alloc: Global, set: u32, count: usize) -> Result<Items<CompId>, OutOfMemory>
-    ensures { IfOk result (All (λ comp. comp < count)) }
-{
-    let mut comps: Items<CompId> = Items::new(alloc);
-    for number in 0..4 {
-        let Some(comp) = CompId::new(number) else {
-            return Ok(comps);
-        };
-        if (comp.number() as usize) < count && has(set, comp) {
-            comps.push(comp)?;
-        }
-    }
-    Ok(comps)
 }
 
 // Whether the text in which a set performs means the trace exactly where the set has the chain's compartments.
@@ -46,14 +22,14 @@ fn is_told_rightly(
     alloc: Global,
     source: &SourceText,
     explanation: &Explanation,
-    set: u32,
+    set: CompSet,
 ) -> Result<bool, Fail> {
     let interfaces = &source.program().tree().interfaces;
     let trace = explanation.trace.as_slice();
     if trace.len() > 4096 || !legal(interfaces, trace) {
         return Ok(false);
     }
-    let comps = members(alloc, set, interfaces.comps.len())?;
+    let comps = set.members(alloc, interfaces.comps.len())?;
     let text = replaced(alloc, source, trace, comps.as_slice())?;
     let run = run_source(alloc, text.program(), &[], STEPS, trace.len() as u32)?;
     let tells = run.trace.as_slice() == trace;
@@ -69,13 +45,7 @@ fn are_told_rightly(alloc: Global, seed: u32) -> Result<bool, Fail> {
     let Ok(explanation) = explain(alloc, &source, &[], STEPS, EVENTS) else {
         return Ok(false);
     };
-    let sets = match source.program().tree().interfaces.comps.len() {
-        2 => 4,
-        3 => 8,
-        4 => 16,
-        _ => return Ok(false),
-    };
-    for set in 0..sets {
+    for set in CompSet::all(alloc, source.program().tree().interfaces.comps.len())? {
         if !is_told_rightly(alloc, &source, &explanation, set)? {
             return Ok(false);
         }

@@ -1,6 +1,6 @@
 // Which undefined behaviour a run is blamed for, and at which line of its section, where the compartment line is line
 // 1.
-use crate::program::Run;
+use memory_runs::Run;
 use std::alloc::Global;
 use std::test::Fail;
 

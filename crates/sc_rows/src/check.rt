@@ -1,5 +1,5 @@
 // The command `check`, and the phases that a text fails.
-use crate::program::Run;
+use memory_runs::Run;
 use std::test::Fail;
 
 const STORE: &[u8] = b"#pragma compartment Main

@@ -1,7 +1,7 @@
 // The commands `compile` and `run` on whole programs.
-use crate::program::{Ran, Run};
 use crate::runs::{INPUTS, MIN_BY_MINUS_ONE, STORE, TWO_STORES};
 use code_texts::{PROGRAMS, append, repeated};
+use memory_runs::{Ran, Run};
 use std::alloc::Global;
 use std::test::Fail;
 

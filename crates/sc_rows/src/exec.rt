@@ -1,5 +1,5 @@
 // The command `exec`.
-use crate::program::Run;
+use memory_runs::Run;
 use std::test::Fail;
 
 // The compartment `M` outputs 7 and ends.

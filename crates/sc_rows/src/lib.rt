@@ -10,13 +10,9 @@ mod compiled;
 #[cfg(test)]
 mod exec;
 #[cfg(test)]
-mod explain;
-#[cfg(test)]
 mod machine;
 #[cfg(test)]
 mod meaning;
-#[cfg(test)]
-mod program;
 #[cfg(test)]
 mod refusal;
 #[cfg(test)]

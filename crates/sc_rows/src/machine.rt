@@ -1,5 +1,5 @@
 // The commands that compile and run.
-use crate::program::Run;
+use memory_runs::Run;
 use std::test::Fail;
 
 const SEVEN: &[u8] = b"#pragma compartment Main

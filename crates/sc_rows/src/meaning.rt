@@ -1,5 +1,5 @@
 // The command `meaning`.
-use crate::program::Run;
+use memory_runs::Run;
 use std::alloc::{AllocError, Global};
 use std::test::Fail;
 

@@ -1,5 +1,5 @@
 // Texts that aren't taken.
-use crate::program::Run;
+use memory_runs::Run;
 use std::test::Fail;
 
 const WITHOUT_ITS_BRACE: &[u8] = b"#pragma compartment Main

@@ -1,5 +1,5 @@
 // The command `meaning` on whole programs.
-use crate::program::Run;
+use memory_runs::Run;
 use std::test::Fail;
 
 pub const STORE: &[u8] = b"#pragma compartment Main

@@ -1,19 +1,22 @@
-// The program over sources and sinks in memory.
+//! The program over sources and sinks in memory.
+use sc_base::OutOfMemory;
 use sc_edge::{MemSink, MemSource};
 use sc_top::secomp;
 use std::alloc::Global;
-use std::test::Fail;
 
-/// More room than any output of these tests takes.
+// More room than any output of these tests takes.
 const ROOM: u32 = 1 << 20;
 
 /// A run, and where it fails.
 #[derive(Clone, Copy)]
 pub struct Run<'a> {
+    /// The words of the command line.
     pub words: &'a [&'a str],
+    /// What is read.
     pub input: &'a [u8],
-    /// The reads and the writes that fail, by their numbers.
+    /// The numbers of the reads that fail.
     pub failing_reads: &'a [u32],
+    /// The numbers of the writes that fail.
     pub failing_writes: &'a [u32],
     /// How many bytes the output takes in all.
     pub room: u32,
@@ -31,7 +34,8 @@ impl<'a> Run<'a> {
         }
     }
 
-    pub fn run(self, alloc: Global) -> Result<Ran, Fail> {
+    /// Runs the program.
+    pub fn run(self, alloc: Global) -> Result<Ran, OutOfMemory> {
         let mut words = Vec::new(alloc);
         for word in self.words {
             words.push(word.to_string(alloc)?)?;
@@ -52,8 +56,12 @@ impl<'a> Run<'a> {
 /// What a run answered, what it wrote, and how many bytes of the input it left.
 #[derive(Drop)]
 pub struct Ran {
+    /// The exit status.
     pub status: u8,
+    /// What was written to the output.
     pub out: Vec<u8>,
+    /// What was written as an error.
     pub err: Vec<u8>,
+    /// How many bytes of the input were left.
     pub unread: usize,
 }

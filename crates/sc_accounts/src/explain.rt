@@ -1,5 +1,5 @@
 // The command `explain` on programs with faults.
-use crate::program::Run;
+use memory_runs::Run;
 use std::alloc::Global;
 use std::test::Fail;
 

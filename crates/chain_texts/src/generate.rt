@@ -1,18 +1,18 @@
-// Texts of programs, each from a seed: a chain of two to four compartments, each of which calls the next one.
+//! Texts of programs, each from a seed: a chain of two to four compartments, each of which calls the next one.
 
 ghost use Rattle.std.specs.Prelude.{◌<◌};
 
 use sc_base::{OutOfMemory, Text};
 use std::alloc::Global;
 
-// The first seed.
-pub(crate) const FIRST: u32 = 1;
+/// The first seed.
+pub const FIRST: u32 = 1;
 
-// The turns of meanings, and the steps of the machine.
-pub(crate) const STEPS: u32 = 20_000;
+/// The turns of meanings, and the steps of the machine.
+pub const STEPS: u32 = 20_000;
 
-// The events of runs.
-pub(crate) const EVENTS: u32 = 64;
+/// The events of runs.
+pub const EVENTS: u32 = 64;
 
 // Numbers that follow from a seed.
 #[derive(Drop)]
@@ -186,8 +186,8 @@ fn name_at(depth: u32, count: u32) -> &'static [u8] {
     }
 }
 
-// The text of a program.
-pub(crate) fn generated(alloc: Global, seed: u32) -> Result<Text, OutOfMemory> {
+/// The text of a program.
+pub fn generated(alloc: Global, seed: u32) -> Result<Text, OutOfMemory> {
     let mut draws = Draws { state: seed };
     let mut text = Text::new(alloc);
     let count = draws.below(3).wrapping_add(1);

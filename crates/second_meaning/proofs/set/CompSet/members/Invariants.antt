@@ -1,5 +1,5 @@
 use Rattle.std.proofs.Common.{◌<◌, All}
-use Rattle.chain_tests.proofs.sets.members.Given as goal
+use Rattle.second_meaning.proofs.set.CompSet.members.Given as goal
 
 -- those so far are below the count
 abbrev pub invariant-loop-number : goal.invariant-loop-number

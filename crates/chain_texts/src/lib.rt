@@ -1,0 +1,6 @@
+//! Texts of programs, each written from a seed, for the crates that are tests alone.
+#![tactic(auto)]
+
+mod generate;
+
+pub use generate::{EVENTS, FIRST, STEPS, generated};

@@ -1,0 +1,10 @@
+//! Explanations, and texts in which compartments perform, by runs of the whole program in memory. This crate has tests
+//! alone.
+#![tactic(auto)]
+
+#[cfg(test)]
+mod explain;
+#[cfg(test)]
+mod lines;
+#[cfg(test)]
+mod performing;

@@ -1,0 +1,8 @@
+//! What the machine shows on compiled programs, beside what the source gives where some compartments only perform their
+//! part of it. The source's side is `second_meaning`'s. This crate has tests alone.
+#![tactic(auto)]
+
+#[cfg(test)]
+mod again;
+#[cfg(test)]
+mod shown;

@@ -1,0 +1,18 @@
+//! What programs mean where some compartments only perform their part of a trace, told a second time and in another
+//! way, for the crates that are tests alone: by recursion, over one memory, with the place in a part counted anew at
+//! each action.
+#![tactic(auto)]
+
+mod calls;
+mod expressions;
+mod memory;
+mod pointers;
+mod run;
+mod script;
+mod set;
+mod task;
+mod words;
+mod zeros;
+
+pub use set::CompSet;
+pub use task::{Task, run_task};
