@@ -12,23 +12,15 @@ use Rattle.sc_laws.specs.Chains.{Set}
 use Rattle.sc_image.specs.declared.parts.ImageParts.{ImageParts}
 use Rattle.sc_image.specs.Machine.{Run, machine}
 use Rattle.sc_image.specs.WellFormed.{IsWord}
-use Rattle.sc_compile.specs.declared.fault.CompileFault.{CompileFault as TooLarge}
 use Rattle.sc_compile.specs.Compiled.{IsCompiled, TellsOrBlames}
 use Rattle.sc_compile.specs.Image.{image_of}
-use Rattle.sc_compile.specs.Image as compiling
 use Rattle.sc_types.specs.Source.{SourceParts}
 use Rattle.sc_chain.specs.Chain.{IsChain, IsExplained}
-use Rattle.sc_chain.specs.Faults.{IsFault}
-use Rattle.sc_chain.specs.declared.explanation.ExplainFault.TheVariants.{CompileFault}
 use Rattle.sc_chain.specs.declared.explanation.Link.{Link}
 
 -- words of inputs are words
 inputs_are_words : (inputs : List ℤ) → All IsWord (map word_of inputs)
 inputs_are_words inputs = All-map IsWord word_of inputs (λ i d inside. word_of-lt (get_or inputs i d))
-
-pub same_fault : (program other : ProgramTree) (fault : TooLarge) → program ≡ other →
-    compiling.IsFault program fault → IsFault other (CompileFault fault)
-same_fault program other fault same is = subst (λ p. compiling.IsFault p fault) same is
 
 module _ (source : SourceParts) (inputs : List ℤ) (steps events : ℕ) (program : ProgramTree)
     (same : program ≡ source.program) (image : ImageParts) (is : IsCompiled program image) where

@@ -13,7 +13,7 @@ ghost use Rattle.sc_chain.specs.Following.{IsNextOf};
 use crate::explanation::{ExplainFault, Explanation, Link, Links};
 use crate::replacing::{have_words, performing_text, replaced};
 use sc_base::{OutOfMemory, Stop};
-use sc_compile::compile;
+use sc_compile::{CompileFault, compile};
 use sc_core::{RunEnd, SourceRun};
 use sc_event::{CompId, Event, Interfaces, Trace};
 use sc_image::Image;
@@ -175,6 +175,7 @@ pub fn explain(
 {
     let image = match compile(alloc, source.program()) {
         Ok(image) => image,
+        Err(CompileFault::OutOfMemory) => return Err(ExplainFault::OutOfMemory),
         Err(fault) => return Err(ExplainFault::CompileFault(fault)),
     };
     let Ok(shown) = run_image(alloc, image, inputs, steps, events) else {

@@ -28,7 +28,7 @@ pub struct Explanation {
     pub links: Links,
 }
 
-/// Why there is no explanation: the program is too large, or memory ran out.
+/// Why there is no explanation: the program is too large, as its compiler says, or memory ran out.
 #[derive(Clone, Copy)]
 pub enum ExplainFault {
     CompileFault(CompileFault),

@@ -1,11 +1,6 @@
 use Rattle.std.proofs.Common.{◌∙◌}
-use Rattle.sc_chain.proofs.ChainShown.{explained, same_fault, shown_allowed, shown_scripted}
+use Rattle.sc_chain.proofs.ChainShown.{explained, shown_allowed, shown_scripted}
 use Rattle.sc_chain.proofs.account.explain.Goals as goal
-
-pub returns-in-Err-clause-fault : goal.returns-in-Err-clause-fault
-returns-in-Err-clause-fault c =
-    same_fault c.program.result.now c.args.source.now.program c.in-Err.fault c.program.ensures.program
-    c.in-Err.ensures.fault
 
 pub chain-requires-clause-allowed : goal.chain-requires-clause-allowed
 chain-requires-clause-allowed c =
