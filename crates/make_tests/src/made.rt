@@ -83,7 +83,10 @@ fn a_summary_is_the_same_again(rt: HostRuntime) -> Result<(), Fail> {
     let ran = run(rt.alloc(), &words, b"")?;
     let again = run(rt.alloc(), &words, b"")?;
     assert_eq!(rt; ran.status, 0);
-    assert!(rt; ran.out.starts_with(b"functions 200\ncompartments 32\nevents 601\n"));
+    assert!(rt;
+        ran.out
+            .starts_with(b"functions 200\ncompartments 32\nevents 601\n")
+    );
     assert!(rt; ran.out.ends_with(b"stop ended\nchain 0\n"));
     assert!(rt; ran.out.as_slice() == again.out.as_slice());
     Ok(())

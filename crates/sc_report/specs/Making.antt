@@ -15,7 +15,8 @@ rounds_text =
 -- a function that adds to this number
 abbrev pub function_with : (j addend : ℕ) → List ℕ
 function_with j addend =
-    codes "int " ++ (function_name j ++ (codes "(int x) {\n  int i;\n  int s;\n  s = " ++ (decimal addend ++ rounds_text)))
+    codes "int " ++ (function_name j ++ (codes "(int x) {\n  int i;\n  int s;\n  s = " ++
+    (decimal addend ++ rounds_text)))
 
 -- the state behind the draws for so many functions
 abbrev pub state_at : (seed j : ℕ) → ℕ
@@ -25,4 +26,4 @@ state_at seed j = state_after seed (2 * j)
 pub record IsDrawn (seed j : ℕ) (drawn : Drawn) (after : ℕ) : Type 0 where
   pub argument : drawn.argument ≡ argument seed j
   pub addend : drawn.addend ≡ addend seed j
-  pub after : after ≡ state_at seed (suc j)
+  pub state : after ≡ state_at seed (suc j)

@@ -132,8 +132,8 @@ IsAnswer command bytes (TooLong limit) = (limit_of command ≡ Some limit) × (l
 IsAnswer command bytes (BadImage cause) = IsWithin command bytes × FindsBad command bytes cause
 IsAnswer command bytes _ = ⊥
 
--- good input: a text that is accepted, whose program fits where it is compiled; the bytes of an image; for a command that
--- reads nothing whatever is there
+-- good input: a text that is accepted, whose program fits where it is compiled; the bytes of an image; for a command
+-- that reads nothing whatever is there
 pub record IsGoodText (command : Command) (bytes : List ℕ) : Type 0 where
   pub program : ProgramTree
   pub accepted : Accepts bytes program

@@ -20,6 +20,7 @@ use std::alloc::Global;
 
 // How far the machine runs for a summary, without inputs.
 const STEPS: u32 = 16_777_216;
+
 const EVENTS: u32 = 4096;
 
 /// A program that is made from a seed, or what it is summed up as.
