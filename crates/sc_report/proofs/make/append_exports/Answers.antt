@@ -1,0 +1,23 @@
+use Rattle.sc_report.proofs.Common.{subst, ℕ, ◌∙◌, ◌≡◌}
+use Rattle.std.specs.Prelude.{◌%◌, nat_eq, true, false}
+use Rattle.sc_report.proofs.Counting.{chosen_turn, passed_turn}
+use Rattle.sc_made.specs.Text.{export_text, workers}
+use Rattle.sc_report.proofs.make.append_exports.Goals as goal
+use Rattle.sc_report.proofs.make.append_exports.Goals.{then-j-workers+in_ok-append_export, else-j-workers}
+
+pub loop-j-preserved : goal.loop-j-preserved
+loop-j-preserved c =
+    let j = c.loop-j.j in
+    elim c.if-j-workers.branch [
+      | then-j-workers+in_ok-append_export w ↦
+          w.text-is ∙
+          chosen_turn (λ j. nat_eq (j % workers c.args.size) c.args.worker) export_text j c.args.text.now c.loop-j.text
+          w.append_export.new.text
+          (subst (λ (n : ℕ). nat_eq (j % n) c.args.worker ≡ true) c.workers.ensures w.if-j-workers)
+          c.loop-j.invariant w.in_ok-append_export.ensures
+      | else-j-workers w ↦
+          w.text-is ∙
+          passed_turn (λ j. nat_eq (j % workers c.args.size) c.args.worker) export_text j c.args.text.now c.loop-j.text
+          (subst (λ (n : ℕ). nat_eq (j % n) c.args.worker ≡ false) c.workers.ensures w.if-j-workers)
+          c.loop-j.invariant
+    ]

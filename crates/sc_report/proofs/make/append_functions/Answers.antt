@@ -1,0 +1,32 @@
+use Rattle.sc_report.proofs.Common.{ap, subst, ℕ, ◌++◌, ◌+◌, ◌∙◌, ◌≡◌}
+use Rattle.std.proofs.Common.{arith, suc}
+use Rattle.std.specs.Prelude.{◌%◌, nat_eq, true, false}
+use Rattle.sc_report.proofs.Counting.{chosen_turn, passed_turn}
+use Rattle.sc_report.specs.Making.{function_with, state_at}
+use Rattle.sc_made.specs.Text.{function_text, workers}
+use Rattle.sc_report.proofs.make.append_functions.Goals as goal
+use Rattle.sc_report.proofs.make.append_functions.Goals.{then-j-workers+in_ok-append_function, else-j-workers}
+
+pub loop-j-preserved : goal.loop-j-preserved
+loop-j-preserved c =
+    let j = c.loop-j.j in
+    let next : suc j ≡ j + 1 = omega arith in
+    let drawn = c.next_function-drawn.ensures c.args.seed j c.loop-j.invariant.drawn in
+    record {
+      drawn = drawn.state ∙ ap (state_at c.args.seed) next;
+      told = elim c.if-j-workers.branch [
+        | then-j-workers+in_ok-append_function w ↦
+            w.text-is ∙
+            chosen_turn (λ j. nat_eq (j % workers c.args.size) c.args.worker) (function_text c.args.seed) j
+            c.args.text.now c.loop-j.text w.append_function.new.text
+            (subst (λ (n : ℕ). nat_eq (j % n) c.args.worker ≡ true) c.workers.ensures w.if-j-workers)
+            c.loop-j.invariant.told
+            (w.in_ok-append_function.ensures ∙ ap (λ addend. c.loop-j.text ++ function_with j addend) drawn.addend)
+        | else-j-workers w ↦
+            w.text-is ∙
+            passed_turn (λ j. nat_eq (j % workers c.args.size) c.args.worker) (function_text c.args.seed) j
+            c.args.text.now c.loop-j.text
+            (subst (λ (n : ℕ). nat_eq (j % n) c.args.worker ≡ false) c.workers.ensures w.if-j-workers)
+            c.loop-j.invariant.told
+      ];
+    }
