@@ -1,6 +1,6 @@
-use Rattle.sc_report.proofs.Common.{ap, subst, ℕ, ◌++◌, ◌+◌, ◌∙◌, ◌≡◌}
-use Rattle.std.proofs.Common.{arith, suc}
-use Rattle.std.specs.Prelude.{◌%◌, nat_eq, true, false}
+use Rattle.sc_report.proofs.Common.{ap, sym, ◌++◌, ◌+◌, ◌∙◌, ◌≡◌}
+use Rattle.std.proofs.Common.{arith, eq-eqb, ne_eqb, suc}
+use Rattle.std.specs.Prelude.{◌%◌, nat_eq}
 use Rattle.sc_report.proofs.Counting.{chosen_turn, passed_turn}
 use Rattle.sc_report.specs.Making.{function_with, state_at}
 use Rattle.sc_made.specs.Text.{function_text, workers}
@@ -19,14 +19,16 @@ loop-j-preserved c =
             w.text-is ∙
             chosen_turn (λ j. nat_eq (j % workers c.args.size) c.args.worker) (function_text c.args.seed) j
             c.args.text.now c.loop-j.text w.append_function.new.text
-            (subst (λ (n : ℕ). nat_eq (j % n) c.args.worker ≡ true) c.workers.ensures w.if-j-workers)
+            (eq-eqb (j % workers c.args.size) c.args.worker
+          (ap (λ n. j % n) (sym c.workers.ensures) ∙ w.if-j-workers.true))
             c.loop-j.invariant.told
             (w.in_ok-append_function.ensures ∙ ap (λ addend. c.loop-j.text ++ function_with j addend) drawn.addend)
         | else-j-workers w ↦
             w.text-is ∙
             passed_turn (λ j. nat_eq (j % workers c.args.size) c.args.worker) (function_text c.args.seed) j
             c.args.text.now c.loop-j.text
-            (subst (λ (n : ℕ). nat_eq (j % n) c.args.worker ≡ false) c.workers.ensures w.if-j-workers)
+            (ne_eqb (j % workers c.args.size) c.args.worker
+          (λ same. w.if-j-workers.false (ap (λ n. j % n) c.workers.ensures ∙ same)))
             c.loop-j.invariant.told
       ];
     }
