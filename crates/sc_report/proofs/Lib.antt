@@ -1,3 +1,4 @@
 pub mod Common
+pub mod Counting
 mod Examples
 pub mod Pieces

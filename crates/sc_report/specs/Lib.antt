@@ -1,2 +1,4 @@
 pub mod Check
+pub mod Making
 pub mod Report
+pub mod Summary

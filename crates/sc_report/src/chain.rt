@@ -3,7 +3,7 @@ ghost use Rattle.std.specs.Prelude.{◌≡◌, ◌++◌, All, IfOk, OnOk, codes,
 ghost use Rattle.sc_report.specs.Report.{cause_at_line, chain_text, explain_text, link_end, link_line, number_end};
 
 use crate::names::comp_name;
-use crate::run::{append_number, cause_word, run_text};
+use crate::run::{append_count, append_number, cause_word, run_text};
 use itoa::Buffer;
 use sc_base::{OutOfMemory, Text};
 use sc_chain::{Explanation, Link};
@@ -33,18 +33,8 @@ pub fn explain_text(
 fn append_chain(text: &mut Text, interfaces: &Interfaces, links: &[Link]) -> Result<(), OutOfMemory>
     ensures { OnOk result (text.new ≡ text.old ++ chain_text interfaces.now links.now) }
 {
-    append_count(text, links.len())?;
+    append_count(text, b"chain", links.len())?;
     append_links(text, interfaces, links)
-}
-
-// How many sections are replaced.
-fn append_count(text: &mut Text, count: usize) -> Result<(), OutOfMemory>
-    ensures { OnOk result (text.new ≡ text.old ++ (codes "chain" ++ number_end count)) }
-{
-    let mut buffer = Buffer::new();
-    text.append(b"chain ")?;
-    text.append(buffer.format(count).as_bytes())?;
-    text.push(b'\n')
 }
 
 fn append_links(text: &mut Text, interfaces: &Interfaces, links: &[Link]) -> Result<(), OutOfMemory>

@@ -1,11 +1,15 @@
-//! The texts that tell interfaces and runs: what the commands write.
+//! The texts that tell interfaces, runs and explanations, and those of made programs: what the commands write.
 #![tactic(auto)]
 
 mod chain;
 mod interface;
+mod make;
 mod names;
 mod run;
+mod summary;
 
 pub use chain::explain_text;
 pub use interface::check_text;
+pub use make::make_text;
 pub use run::{meaning_text, run_text};
+pub use summary::summary_text;

@@ -94,6 +94,17 @@ pub(crate) fn append_number(text: &mut Text, line: u32) -> Result<(), OutOfMemor
     text.push(b'\n')
 }
 
+// A word and a number, as a line.
+pub(crate) fn append_count(text: &mut Text, word: &[u8], count: usize) -> Result<(), OutOfMemory>
+    ensures { OnOk result (text.new ≡ text.old ++ (word.now ++ number_end count)) }
+{
+    let mut buffer = Buffer::new();
+    text.append(word)?;
+    text.push(b' ')?;
+    text.append(buffer.format(count).as_bytes())?;
+    text.push(b'\n')
+}
+
 pub(crate) fn cause_word(cause: Cause) -> &'static [u8]
     ensures { result.now ≡ cause_word cause }
 {
@@ -111,7 +122,7 @@ pub(crate) fn cause_word(cause: Cause) -> &'static [u8]
     }
 }
 
-fn append_stop(text: &mut Text, stop: Stop) -> Result<(), OutOfMemory>
+pub(crate) fn append_stop(text: &mut Text, stop: Stop) -> Result<(), OutOfMemory>
     ensures { OnOk result (text.new ≡ text.old ++ stop_line stop) }
 {
     match stop {

@@ -64,13 +64,3 @@ fn options_bound_what_is_told(rt: HostRuntime) -> Result<(), Fail> {
     }
     Ok(())
 }
-
-#[test]
-fn a_text_is_not_made_yet(rt: HostRuntime) -> Result<(), Fail> {
-    let words = ["make", "--size", "2", "--seed=1", "--summary"];
-    let ran = Run::new(&words, SEVEN).run(rt.alloc())?;
-    assert_eq!(rt; ran.status, 10);
-    assert!(rt; ran.err.as_slice() == b"secomp: not built\n".as_slice());
-    assert_eq!(rt; ran.unread, SEVEN.len());
-    Ok(())
-}

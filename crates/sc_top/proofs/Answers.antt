@@ -1,7 +1,7 @@
 -- What an answer says, from what was read.
 use Rattle.sc_top.proofs.Common.{Accepts, Answers, Check, Command, Compile, Exec, Explain, Fails, Failure, FindsBad}
 use Rattle.sc_top.proofs.Common.{IsAccounted, IsAnswer, IsErrOf, IsGood, IsGoodText, IsImage, IsInput, IsOutput}
-use Rattle.sc_top.proofs.Common.{IsTextOutput, IsTrue, IsUnbuilt, IsUndisturbed, IsUnfit, IsWhole, IsWithin}
+use Rattle.sc_top.proofs.Common.{IsTextOutput, IsTrue, IsUndisturbed, IsUnfit, IsWhole, IsWithin}
 use Rattle.sc_top.proofs.Common.{IsWithinLimit, List, Meaning, None, Option, ProgramTree, Refusal, Refuses, Result, Run}
 use Rattle.sc_top.proofs.Common.{SameAnswer, RunOptions, Says, Some, Status, Takes, Traffic, [], ap, append-nil, arith}
 use Rattle.sc_top.proofs.Common.{bad, by_name, cause_in, cause_number, cause_of, compiles, false≢true, inl, inr}
@@ -49,9 +49,9 @@ input_at (Some limit) text bytes after input =
     let same = all_left limit text bytes after input in
     inl (same, subst (λ t. length t ≤ limit) same input.within)
 
--- a command that reads nothing
+-- a command that reads nothing, so that its output is the same for all bytes
 record Reads (c : Command) : Type 0 where
-  pub output : (bytes text : List ℕ) → IsOutput c bytes text → ⊥
+  pub same : (bytes other text : List ℕ) → IsOutput c bytes text → IsOutput c other text
   pub refuses : (bytes : List ℕ) (refusal : Refusal) → Refuses c bytes refusal → ⊥
   pub unfit : (bytes : List ℕ) (fault : TooLarge) → IsUnfit c bytes fault → ⊥
   pub bad : (bytes : List ℕ) (cause : ℕ) → FindsBad c bytes cause → ⊥
@@ -65,7 +65,7 @@ reads_nothing (Explain options show) none = absurd (none-some 1048576 (sym none)
 reads_nothing (Exec options) none = absurd (none-some 67108864 (sym none))
 reads_nothing (Make options) none =
     record {
-      output = λ bytes text o. o;
+      same = λ bytes other text o. o;
       refuses = λ bytes r h. h;
       unfit = λ bytes fault u. false≢true u.compiled;
       bad = λ bytes cause h. h;
@@ -95,7 +95,7 @@ answered c t text s says is calm = go s says where
   go status.Done h =
       inl (read_at c text t.left_after h.bytes (λ bytes. (out : List ℕ) × IsOutput c bytes out)
       (input_of h.bytes h.input) (h.holds.text, h.holds.output)
-      (λ none o. absurd ((reads_nothing c none).output h.bytes o.0 o.1)))
+      (λ none o. (o.0, (reads_nothing c none).same h.bytes text o.0 o.1)))
   go status.Usage h = absurd h
   go (status.Refused refusal) h =
       inl (read_at c text t.left_after h.bytes (λ bytes. Refuses c bytes refusal) (input_of h.bytes h.input) h.holds
@@ -110,9 +110,21 @@ answered c t text s says is calm = go s says where
   go (status.BadImage cause) h =
       inl (read_at c text t.left_after h.bytes (λ bytes. FindsBad c bytes cause) (input_of h.bytes h.input) h.holds
       (λ none o. absurd ((reads_nothing c none).bad h.bytes cause o)))
-  go status.NotBuilt h =
-      inl (read_at c text t.left_after h.bytes (λ bytes. IsUnbuilt c) (input_of h.bytes h.input) h.holds
-      (λ none unbuilt. unbuilt))
+  go status.ReadFault h = absurd (calm.reads h)
+  go status.WriteFault h = absurd (calm.writes h.0)
+  go status.OutOfMemory h = inr refl
+
+-- a command that reads nothing has its output, unless memory runs out or the outside fails
+pub made : (c : Command) (t : Traffic) (s : Status) → Says c t s → limit_of c ≡ None → IsUndisturbed t →
+    (s ≡ status.Done) ⊎ (s ≡ status.OutOfMemory)
+made c t s says none calm = go s says where
+  go : (s : Status) → Says c t s → (s ≡ status.Done) ⊎ (s ≡ status.OutOfMemory)
+  go status.Done h = inl refl
+  go status.Usage h = absurd h
+  go (status.Refused refusal) h = absurd ((reads_nothing c none).refuses h.bytes refusal h.holds)
+  go (status.TooLarge fault) h = absurd ((reads_nothing c none).unfit h.bytes fault h.holds)
+  go (status.TooLong limit) h = absurd (none-some limit (sym none ∙ h.0))
+  go (status.BadImage cause) h = absurd ((reads_nothing c none).bad h.bytes cause h.holds)
   go status.ReadFault h = absurd (calm.reads h)
   go status.WriteFault h = absurd (calm.writes h.0)
   go status.OutOfMemory h = inr refl
@@ -144,7 +156,6 @@ record OfText (c : Command) (text : List ℕ) : Type 0 where
   pub output : (out : List ℕ) → IsOutput c text out → IsGoodText c text
   pub refuses : (refusal : Refusal) → Refuses c text refusal → Fails text refusal.phase refusal.line
   pub good : (cause : ℕ) → FindsBad c text cause → ⊥
-  pub reads : limit_of c ≡ None → ⊥
   pub proper : IsGood c text → IsGoodText c text
 
 -- what `exec` says of an image
@@ -153,19 +164,18 @@ record OfImage (c : Command) (bytes : List ℕ) : Type 0 where
   pub refuses : (refusal : Refusal) → Refuses c bytes refusal → ⊥
   pub bad : (cause : ℕ) → FindsBad c bytes cause → cause_in bytes ≡ Some cause
   pub compiles : IsTrue (compiles c) → ⊥
-  pub reads : limit_of c ≡ None → ⊥
   pub proper : IsGood c bytes → IsImage bytes
 
 data Sort (c : Command) (bytes : List ℕ) : Type 0 where
   takes_text : OfText c bytes → Sort c bytes
   takes_image : OfImage c bytes → Sort c bytes
-  takes_nothing : Reads c → (IsTrue (compiles c) → ⊥) → (IsGood c bytes → ⊥) → Sort c bytes
+  takes_nothing : Reads c → Sort c bytes
 
 text_sort : (c : Command) (text : List ℕ) → ((out : List ℕ) → IsOutput c text out → IsGoodText c text) →
     ((r : Refusal) → Refuses c text r → Fails text r.phase r.line) → ((cause : ℕ) → FindsBad c text cause → ⊥) →
-    (limit_of c ≡ None → ⊥) → (IsGood c text → IsGoodText c text) → Sort c text
-text_sort c text output refuses good reads proper =
-    takes_text (record { output = output; refuses = refuses; good = good; reads = reads; proper = proper })
+    (IsGood c text → IsGoodText c text) → Sort c text
+text_sort c text output refuses good proper =
+    takes_text (record { output = output; refuses = refuses; good = good; proper = proper })
 
 -- a text with an output is good
 good_text : (c : Command) (text out : List ℕ) → IsTextOutput c text out → IsGoodText c text
@@ -186,31 +196,23 @@ accounted_text options show text out o = record {
 }
 
 sort : (c : Command) (bytes : List ℕ) → Sort c bytes
-sort Check bytes =
-    text_sort Check bytes (good_text Check bytes) (λ r f. f) (λ cause b. b) (λ none. none-some 8388608 (sym none))
-    (λ g. g)
+sort Check bytes = text_sort Check bytes (good_text Check bytes) (λ r f. f) (λ cause b. b) (λ g. g)
 sort (Meaning options) bytes =
-    text_sort (Meaning options) bytes (good_text (Meaning options) bytes) (λ r f. f) (λ cause b. b)
-    (λ none. none-some 8388608 (sym none)) (λ g. g)
-sort Compile bytes =
-    text_sort Compile bytes (good_text Compile bytes) (λ r f. f) (λ cause b. b) (λ none. none-some 1048576 (sym none))
-    (λ g. g)
+    text_sort (Meaning options) bytes (good_text (Meaning options) bytes) (λ r f. f) (λ cause b. b) (λ g. g)
+sort Compile bytes = text_sort Compile bytes (good_text Compile bytes) (λ r f. f) (λ cause b. b) (λ g. g)
 sort (Run options) bytes =
-    text_sort (Run options) bytes (good_text (Run options) bytes) (λ r f. f) (λ cause b. b)
-    (λ none. none-some 1048576 (sym none)) (λ g. g)
+    text_sort (Run options) bytes (good_text (Run options) bytes) (λ r f. f) (λ cause b. b) (λ g. g)
 sort (Explain options show) bytes =
-    text_sort (Explain options show) bytes (accounted_text options show bytes) (λ r f. f) (λ cause b. b)
-    (λ none. none-some 1048576 (sym none)) (λ g. g)
+    text_sort (Explain options show) bytes (accounted_text options show bytes) (λ r f. f) (λ cause b. b) (λ g. g)
 sort (Exec options) bytes =
     takes_image (record {
       output = λ out o. o.read;
       refuses = λ r f. f;
       bad = λ cause b. b;
       compiles = λ h. false≢true h;
-      reads = λ none. none-some 67108864 (sym none);
       proper = λ g. g;
     })
-sort (Make options) bytes = takes_nothing (reads_nothing (Make options) refl) (λ h. false≢true h) (λ g. g)
+sort (Make options) bytes = takes_nothing (reads_nothing (Make options) refl)
 
 module _
     (accepted_or_refused : (text : List ℕ) (program : ProgramTree) (phase : Phase) (line : ℕ) →
@@ -224,7 +226,6 @@ module _
     pub refused : (refusal : Refusal) → Refuses c text refusal → ⊥
     pub unfit : (fault : TooLarge) → IsUnfit c text fault → ⊥
     pub bad : (cause : ℕ) → FindsBad c text cause → ⊥
-    pub beyond : IsUnbuilt c → ⊥
 
   fits_or_large : (text : List ℕ) (program other : ProgramTree) (fault : TooLarge) → Accepts text program →
       Accepts text other → too_large program ≡ None → large_in other ≡ Some fault → ⊥
@@ -240,7 +241,6 @@ module _
         refused = λ r f. accepted_or_refused text program r.phase r.line accepted (of.refuses r f);
         unfit = λ fault u. fits_or_large text program u.program fault accepted u.accepted (fits u.compiled) u.found;
         bad = of.good;
-        beyond = of.reads;
       }
 
   sound_image : (c : Command) (bytes : List ℕ) → OfImage c bytes → IsImage bytes → Sound c bytes
@@ -249,7 +249,14 @@ module _
         refused = of.refuses;
         unfit = λ fault u. of.compiles u.compiled;
         bad = λ cause b. image_bad bytes cause is (of.bad cause b);
-        beyond = of.reads;
+      }
+
+  sound_nothing : (c : Command) (bytes : List ℕ) → Reads c → Sound c bytes
+  sound_nothing c bytes reads =
+      record {
+        refused = reads.refuses bytes;
+        unfit = reads.unfit bytes;
+        bad = reads.bad bytes;
       }
 
   -- where there is an output there is no cause
@@ -258,7 +265,7 @@ module _
     go : Sort c text → Sound c text
     go (takes_text of) = let d = of.output out o in sound_text c _ of d.program d.accepted d.fits
     go (takes_image of) = sound_image c _ of (of.output out o)
-    go (takes_nothing reads plain bare) = absurd (reads.output _ out o)
+    go (takes_nothing reads) = sound_nothing c _ reads
 
   one_refusal : (c : Command) (text : List ℕ) (r q : Refusal) → Refuses c text r → Refuses c text q →
       SameAnswer (status.Refused r) (status.Refused q)
@@ -266,14 +273,14 @@ module _
     go : Sort c text → SameAnswer (status.Refused r) (status.Refused q)
     go (takes_text of) = one_phase _ r.phase q.phase r.line q.line (of.refuses r f) (of.refuses q g)
     go (takes_image of) = absurd (of.refuses r f)
-    go (takes_nothing reads plain bare) = absurd (reads.refuses _ r f)
+    go (takes_nothing reads) = absurd (reads.refuses _ r f)
 
   one_cause : (c : Command) (bytes : List ℕ) (n m : ℕ) → FindsBad c bytes n → FindsBad c bytes m → n ≡ m
   one_cause c bytes n m a b = go (sort c bytes) where
     go : Sort c bytes → n ≡ m
     go (takes_text of) = absurd (of.good n a)
     go (takes_image of) = same_some (cause_in bytes) n m (of.bad n a) (of.bad m b)
-    go (takes_nothing reads plain bare) = absurd (reads.bad _ n a)
+    go (takes_nothing reads) = absurd (reads.bad _ n a)
 
   -- a refused text isn't accepted, and bytes that are taken for an image are no text
   refused_unfit : (c : Command) (text : List ℕ) (r : Refusal) (fault : TooLarge) → Refuses c text r →
@@ -282,21 +289,14 @@ module _
     go : Sort c text → ⊥
     go (takes_text of) = accepted_or_refused _ u.program r.phase r.line u.accepted (of.refuses r f)
     go (takes_image of) = of.refuses r f
-    go (takes_nothing reads plain bare) = reads.refuses _ r f
+    go (takes_nothing reads) = reads.refuses _ r f
 
   refused_bad : (c : Command) (text : List ℕ) (r : Refusal) (cause : ℕ) → Refuses c text r → FindsBad c text cause → ⊥
   refused_bad c text r cause f b = go (sort c text) where
     go : Sort c text → ⊥
     go (takes_text of) = of.good cause b
     go (takes_image of) = of.refuses r f
-    go (takes_nothing reads plain bare) = reads.refuses _ r f
-
-  refused_beyond : (c : Command) (text : List ℕ) (r : Refusal) → Refuses c text r → IsUnbuilt c → ⊥
-  refused_beyond c text r f g = go (sort c text) where
-    go : Sort c text → ⊥
-    go (takes_text of) = of.reads g
-    go (takes_image of) = of.refuses r f
-    go (takes_nothing reads plain bare) = reads.refuses _ r f
+    go (takes_nothing reads) = reads.refuses _ r f
 
   unfit_bad : (c : Command) (text : List ℕ) (fault : TooLarge) (cause : ℕ) → IsUnfit c text fault →
       FindsBad c text cause → ⊥
@@ -304,21 +304,7 @@ module _
     go : Sort c text → ⊥
     go (takes_text of) = of.good cause b
     go (takes_image of) = of.compiles u.compiled
-    go (takes_nothing reads plain bare) = plain u.compiled
-
-  unfit_beyond : (c : Command) (text : List ℕ) (fault : TooLarge) → IsUnfit c text fault → IsUnbuilt c → ⊥
-  unfit_beyond c text fault u g = go (sort c text) where
-    go : Sort c text → ⊥
-    go (takes_text of) = of.reads g
-    go (takes_image of) = of.compiles u.compiled
-    go (takes_nothing reads plain bare) = plain u.compiled
-
-  bad_beyond : (c : Command) (text : List ℕ) (cause : ℕ) → FindsBad c text cause → IsUnbuilt c → ⊥
-  bad_beyond c text cause b g = go (sort c text) where
-    go : Sort c text → ⊥
-    go (takes_text of) = of.good cause b
-    go (takes_image of) = of.reads g
-    go (takes_nothing reads plain bare) = reads.bad _ cause b
+    go (takes_nothing reads) = reads.unfit _ fault u
 
   one_unfit : (c : Command) (text : List ℕ) (fault other : TooLarge) → IsUnfit c text fault → IsUnfit c text other →
       fault ≡ other
@@ -333,7 +319,6 @@ module _
   one_answer c text status.Done (status.TooLarge f) a b = absurd ((sound_output c text a.1.0 a.1.1).unfit f b.1)
   one_answer c text status.Done (status.TooLong l) a b = absurd (not_both (limit_of c) text l a.0 b)
   one_answer c text status.Done (status.BadImage n) a b = absurd ((sound_output c text a.1.0 a.1.1).bad n b.1)
-  one_answer c text status.Done status.NotBuilt a b = absurd ((sound_output c text a.1.0 a.1.1).beyond b.1)
   one_answer c text status.Done status.Usage a b = absurd b
   one_answer c text status.Done status.ReadFault a b = absurd b
   one_answer c text status.Done status.WriteFault a b = absurd b
@@ -343,7 +328,6 @@ module _
   one_answer c text (status.Refused r) (status.TooLarge f) a b = absurd (refused_unfit c text r f a.1 b.1)
   one_answer c text (status.Refused r) (status.TooLong l) a b = absurd (not_both (limit_of c) text l a.0 b)
   one_answer c text (status.Refused r) (status.BadImage n) a b = absurd (refused_bad c text r n a.1 b.1)
-  one_answer c text (status.Refused r) status.NotBuilt a b = absurd (refused_beyond c text r a.1 b.1)
   one_answer c text (status.Refused r) status.Usage a b = absurd b
   one_answer c text (status.Refused r) status.ReadFault a b = absurd b
   one_answer c text (status.Refused r) status.WriteFault a b = absurd b
@@ -353,7 +337,6 @@ module _
   one_answer c text (status.TooLarge f) (status.TooLarge g) a b = ap status.TooLarge (one_unfit c text f g a.1 b.1)
   one_answer c text (status.TooLarge f) (status.TooLong l) a b = absurd (not_both (limit_of c) text l a.0 b)
   one_answer c text (status.TooLarge f) (status.BadImage n) a b = absurd (unfit_bad c text f n a.1 b.1)
-  one_answer c text (status.TooLarge f) status.NotBuilt a b = absurd (unfit_beyond c text f a.1 b.1)
   one_answer c text (status.TooLarge f) status.Usage a b = absurd b
   one_answer c text (status.TooLarge f) status.ReadFault a b = absurd b
   one_answer c text (status.TooLarge f) status.WriteFault a b = absurd b
@@ -363,7 +346,6 @@ module _
   one_answer c text (status.TooLong l) (status.TooLarge f) a b = absurd (not_both (limit_of c) text l b.0 a)
   one_answer c text (status.TooLong l) (status.TooLong m) a b = ap status.TooLong (same_some (limit_of c) l m a.0 b.0)
   one_answer c text (status.TooLong l) (status.BadImage n) a b = absurd (not_both (limit_of c) text l b.0 a)
-  one_answer c text (status.TooLong l) status.NotBuilt a b = absurd (not_both (limit_of c) text l b.0 a)
   one_answer c text (status.TooLong l) status.Usage a b = absurd b
   one_answer c text (status.TooLong l) status.ReadFault a b = absurd b
   one_answer c text (status.TooLong l) status.WriteFault a b = absurd b
@@ -373,21 +355,10 @@ module _
   one_answer c text (status.BadImage n) (status.TooLarge f) a b = absurd (unfit_bad c text f n b.1 a.1)
   one_answer c text (status.BadImage n) (status.TooLong l) a b = absurd (not_both (limit_of c) text l a.0 b)
   one_answer c text (status.BadImage n) (status.BadImage m) a b = ap status.BadImage (one_cause c text n m a.1 b.1)
-  one_answer c text (status.BadImage n) status.NotBuilt a b = absurd (bad_beyond c text n a.1 b.1)
   one_answer c text (status.BadImage n) status.Usage a b = absurd b
   one_answer c text (status.BadImage n) status.ReadFault a b = absurd b
   one_answer c text (status.BadImage n) status.WriteFault a b = absurd b
   one_answer c text (status.BadImage n) status.OutOfMemory a b = absurd b
-  one_answer c text status.NotBuilt status.Done a b = absurd ((sound_output c text b.1.0 b.1.1).beyond a.1)
-  one_answer c text status.NotBuilt (status.Refused r) a b = absurd (refused_beyond c text r b.1 a.1)
-  one_answer c text status.NotBuilt (status.TooLarge f) a b = absurd (unfit_beyond c text f b.1 a.1)
-  one_answer c text status.NotBuilt (status.TooLong l) a b = absurd (not_both (limit_of c) text l a.0 b)
-  one_answer c text status.NotBuilt (status.BadImage n) a b = absurd (bad_beyond c text n b.1 a.1)
-  one_answer c text status.NotBuilt status.NotBuilt a b = refl
-  one_answer c text status.NotBuilt status.Usage a b = absurd b
-  one_answer c text status.NotBuilt status.ReadFault a b = absurd b
-  one_answer c text status.NotBuilt status.WriteFault a b = absurd b
-  one_answer c text status.NotBuilt status.OutOfMemory a b = absurd b
   one_answer c text status.Usage t a b = absurd a
   one_answer c text status.ReadFault t a b = absurd a
   one_answer c text status.WriteFault t a b = absurd a
@@ -399,7 +370,7 @@ module _
     go : Sort c text → Sound c text
     go (takes_text of) = let d = of.proper g in sound_text c _ of d.program d.accepted d.fits
     go (takes_image of) = sound_image c _ of (of.proper g)
-    go (takes_nothing reads plain bare) = absurd (bare g)
+    go (takes_nothing reads) = sound_nothing c _ reads
 
   only_done : (c : Command) (text : List ℕ) (s : Status) → Sound c text → IsWithin c text → IsAnswer c text s →
       s ≡ status.Done
@@ -408,7 +379,6 @@ module _
   only_done c text (status.TooLarge f) sound within a = absurd (sound.unfit f a.1)
   only_done c text (status.TooLong l) sound within a = absurd (not_both (limit_of c) text l within a)
   only_done c text (status.BadImage n) sound within a = absurd (sound.bad n a.1)
-  only_done c text status.NotBuilt sound within a = absurd (sound.beyond a.1)
   only_done c text status.Usage sound within a = absurd a
   only_done c text status.ReadFault sound within a = absurd a
   only_done c text status.WriteFault sound within a = absurd a
@@ -430,6 +400,7 @@ module _
         says = says;
         answered = λ c bytes is left calm. answered c t bytes s (says c is) left calm;
         complete = λ c bytes is left calm within good. completed c t bytes s (says c is) left calm within good;
+        made = λ c is none calm. made c t s (says c is) none calm;
       }
 
   -- the same of the call that gives the status

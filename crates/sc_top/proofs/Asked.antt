@@ -1,32 +1,41 @@
--- What is asked of `explain` is bounded.
+-- What is asked of `explain` and `make` is bounded.
 use Rattle.sc_top.proofs.Common.{Bool, Command, Explain, IsBounded, List, Meaning, None, Option, Run, RunOptions, Some}
 use Rattle.sc_top.proofs.Common.{arith, false, leb-true, none-some, nat_le, refl, subst, true, ℕ, ◌&&◌, ◌≡◌, ◌≤◌}
 use Rattle.std.specs.Prelude.{ℤ, if◌then◌else◌, option_and_then, option_map}
 use Rattle.std.specs.Str.{bytes_eq}
 use Rattle.std.proofs.Common.{codes}
-use Rattle.sc_words.specs.Numbers.{number, when_within}
+use Rattle.sc_words.specs.Numbers.{number, number_within, when_within}
 use Rattle.sc_words.specs.Options.{has_option, value_of}
 use Rattle.sc_words.specs.Words as words
 unfoldable use Rattle.sc_words.specs.Words.{command}
 use Rattle.sc_words.specs.declared.command.Command.TheVariants.{Check, Compile, Exec, Make}
+use Rattle.sc_words.specs.declared.command.MakeOptions.{MakeOptions}
 
 same_value : {A : Type 0} (x y : A) → ◌≡◌ {A = Option A} (Some x) (Some y) → x ≡ y
 same_value x y same = cc same
 
--- so many events at most
-within : (m n : ℕ) (low high : Bool) → nat_le m 4096 ≡ high →
-    (if low && high then Some m else None) ≡ Some n → n ≤ 4096
-within m n true true few is = subst (λ (k : ℕ). k ≤ 4096) (same_value m n is) (leb-true m 4096 few)
-within m n true false few is = absurd (none-some n is)
-within m n false high few is = absurd (none-some n is)
+-- a number between bounds
+between : (low high m n : ℕ) (up down : Bool) → nat_le low m ≡ up → nat_le m high ≡ down →
+    (if up && down then Some m else None) ≡ Some n → (low ≤ n) × (n ≤ high)
+between low high m n true true some few is =
+    let same = same_value m n is in
+    (subst (λ (k : ℕ). low ≤ k) same (leb-true low m some), subst (λ (k : ℕ). k ≤ high) same (leb-true m high few))
+between low high m n true false some few is = absurd (none-some n is)
+between low high m n false down some few is = absurd (none-some n is)
 
-of_number : (found : Option ℕ) (n : ℕ) → option_and_then (when_within 0 4096) found ≡ Some n → n ≤ 4096
-of_number None n is = absurd (none-some n is)
-of_number (Some m) n is = within m n (nat_le 0 m) (nat_le m 4096) refl is
+of_number : (low high : ℕ) (found : Option ℕ) (n : ℕ) → option_and_then (when_within low high) found ≡ Some n →
+    (low ≤ n) × (n ≤ high)
+of_number low high None n is = absurd (none-some n is)
+of_number low high (Some m) n is = between low high m n (nat_le low m) (nat_le m high) refl refl is
+
+of_value : (low high : ℕ) (value : Option (List ℕ)) (n : ℕ) →
+    option_and_then (number_within low high) value ≡ Some n → (low ≤ n) × (n ≤ high)
+of_value low high None n is = absurd (none-some n is)
+of_value low high (Some text) n is = of_number low high (number text) n is
 
 of_events : (value : Option (List ℕ)) (n : ℕ) → words.events value ≡ Some n → n ≤ 4096
 of_events None n is = subst (λ (k : ℕ). k ≤ 4096) (same_value 1024 n is) (omega arith)
-of_events (Some text) n is = of_number (number text) n is
+of_events (Some text) n is = (of_number 0 4096 (number text) n is).1
 
 of_run : (steps events : Option ℕ) (inputs : Option (List ℤ)) (options : RunOptions) →
     ((n : ℕ) → events ≡ Some n → n ≤ 4096) →
@@ -48,11 +57,26 @@ of_explain (Some options) None c few is = absurd (none-some c is)
 of_explain (Some options) (Some show) c few is =
     subst IsBounded (same_value (Explain options show) c is) (few options refl)
 
--- another command has no such bound
-mapped : {A : Type 0} (make : A → Command) → ((a : A) → IsBounded (make a)) → (found : Option A) (c : Command) →
-    option_map make found ≡ Some c → IsBounded c
-mapped make each None c is = absurd (none-some c is)
-mapped make each (Some a) c is = subst IsBounded (same_value (make a) c is) (each a)
+of_make : (size seed : Option ℕ) (summary : Bool) (options : MakeOptions) →
+    ((n : ℕ) → size ≡ Some n → (1 ≤ n) × (n ≤ 1000)) → ((n : ℕ) → seed ≡ Some n → (0 ≤ n) × (n ≤ 4294967295)) →
+    option_and_then (λ size. option_map (λ seed. record { size = size; seed = seed; summary = summary }) seed) size ≡
+    Some options → IsBounded (Make options)
+of_make None seed summary options sizes seeds is = absurd (none-some options is)
+of_make (Some size) None summary options sizes seeds is = absurd (none-some options is)
+of_make (Some size) (Some seed) summary options sizes seeds is =
+    let few = (seeds seed refl).1 in
+    subst (λ (o : MakeOptions). IsBounded (Make o))
+    (same_value (record { size = size; seed = seed; summary = summary }) options is) (record {
+      some = (sizes size refl).0;
+      few = (sizes size refl).1;
+      word = omega (arith, few);
+    })
+
+-- a command by its options
+mapped : {A : Type 0} (make : A → Command) (found : Option A) → ((a : A) → found ≡ Some a → IsBounded (make a)) →
+    (c : Command) → option_map make found ≡ Some c → IsBounded c
+mapped make None each c is = absurd (none-some c is)
+mapped make (Some a) each c is = subst IsBounded (same_value (make a) c is) (each a refl)
 
 either : (test : Bool) (one other : Option Command) (c : Command) → (one ≡ Some c → IsBounded c) →
     (other ≡ Some c → IsBounded c) → (if test then one else other) ≡ Some c → IsBounded c
@@ -63,15 +87,18 @@ with_values : (name : List ℕ) (value : List ℕ → Option (List ℕ)) (summar
     words.command_with name value summary ≡ Some c → IsBounded c
 with_values name value summary c =
     either (bytes_eq name (codes "check")) _ _ c (λ is. subst IsBounded (same_value Check c is) tt)
-    (either (bytes_eq name (codes "meaning")) _ _ c (mapped Meaning (λ options. tt) (words.meaning value) c)
+    (either (bytes_eq name (codes "meaning")) _ _ c (mapped Meaning (words.meaning value) (λ options is. tt) c)
     (either (bytes_eq name (codes "compile")) _ _ c (λ is. subst IsBounded (same_value Compile c is) tt)
-    (either (bytes_eq name (codes "run")) _ _ c (mapped Run (λ options. tt) (words.run value) c)
-    (either (bytes_eq name (codes "exec")) _ _ c (mapped Exec (λ options. tt) (words.run value) c)
+    (either (bytes_eq name (codes "run")) _ _ c (mapped Run (words.run value) (λ options is. tt) c)
+    (either (bytes_eq name (codes "exec")) _ _ c (mapped Exec (words.run value) (λ options is. tt) c)
     (either (bytes_eq name (codes "explain")) _ _ c (of_explain (words.run value)
     (words.text_to_show (value (codes "show"))) c (λ options. of_run (words.limit (value (codes "steps")))
     (words.events (value (codes "events"))) (words.inputs (value (codes "in"))) options
     (of_events (value (codes "events")))))
-    (either (bytes_eq name (codes "make")) _ _ c (mapped Make (λ options. tt) (words.make value summary) c)
+    (either (bytes_eq name (codes "make")) _ _ c (mapped Make (words.make value summary)
+    (λ options. of_make (option_and_then (number_within 1 1000) (value (codes "size")))
+    (option_and_then (number_within 0 4294967295) (value (codes "seed"))) summary options
+    (of_value 1 1000 (value (codes "size"))) (of_value 0 4294967295 (value (codes "seed")))) c)
     (λ is. absurd (none-some c is))))))))
 
 of_parsed : (read : Option (List ℕ × List (List ℕ × List ℕ))) (c : Command) →

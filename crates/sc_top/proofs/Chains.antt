@@ -17,7 +17,10 @@ use Rattle.sc_core.specs.declared.run.RunEnd.TheVariants.{Blamed}
 use Rattle.sc_lex.specs.declared.section.Section.{Section}
 use Rattle.sc_read.specs.Reading.{part_of}
 use Rattle.sc_read.proofs.Splits.{same_parts, same_preamble}
+use Rattle.sc_report.specs.Summary.{summary_text}
+use Rattle.sc_top.specs.Prelude.{IsSummary}
 use Rattle.sc_types.specs.Source.{IsSource, IsSplitInto, SourceParts}
+use Rattle.sc_words.specs.declared.command.MakeOptions.{MakeOptions}
 
 -- THE TEXTS
 
@@ -258,3 +261,15 @@ module _
       let explanation = one_explanation known.source (map word_of options.inputs) options.steps options.events
       is.explanation known.explanation explained known.explained in
       is.written ∙ ap₂ (account show) source explanation ∙ sym known.written
+
+  -- a made program has one summary
+  pub one_summary : (options : MakeOptions) (text other : List ℕ) → IsSummary options text → IsSummary options other →
+      text ≡ other
+  one_summary options text other is known =
+      let source = one_source is.source known.source is.parts known.parts (is.made ∙ sym known.made) in
+      let explained = subst (λ (s : SourceParts). IsExplained s [] 16777216 4096 is.explanation) source is.explained in
+      let explanation = one_explanation known.source [] 16777216 4096 is.explanation known.explanation explained
+      known.explained in
+      is.written ∙
+      ap₂ (λ (s : SourceParts) (e : Explanation). summary_text options.size s.program.interfaces e) source explanation ∙
+      sym known.written

@@ -26,7 +26,7 @@ pub use Rattle.sc_top.specs.Common.{Adds, ImageParts, Interfaces, IsAtEnd, Progr
 pub use Rattle.sc_top.specs.Common.{Takes}
 pub use Rattle.sc_top.specs.Prelude.{Answers, ArePerforming, Check, Command, Compile, Exec, Explain, Fetches, FindsBad}
 pub use Rattle.sc_top.specs.Prelude.{HasImage, IsAccounted, IsAnswer, IsBounded, IsCompiling, IsExecuted, IsGood}
-pub use Rattle.sc_top.specs.Prelude.{IsGoodText, IsInput, IsNamed, IsOutput, IsOutputCause, IsTextOutput, IsUnbuilt}
+pub use Rattle.sc_top.specs.Prelude.{IsGoodText, IsInput, IsNamed, IsOutput, IsOutputCause, IsTextOutput}
 pub use Rattle.sc_top.specs.Prelude.{account, comp_of, replacement_of, text_after, IsUndisturbed, IsUnfit, IsWhole}
 pub use Rattle.sc_top.specs.Prelude.{IsWithin, IsWithinLimit, Meaning, Refuses, Run, SameAnswer, Says, Status, Tells}
 pub use Rattle.sc_top.specs.Prelude.{Traffic, Wrote, by_name, bytes_of, cause_in, compiles, large_in, limit_of}

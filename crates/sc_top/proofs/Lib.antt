@@ -5,5 +5,6 @@ pub mod Chains
 pub mod Known
 pub mod Large
 pub mod Lengths
+pub mod Made
 pub mod Outputs
 pub mod Streams

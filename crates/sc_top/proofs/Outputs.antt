@@ -2,10 +2,12 @@
 use Rattle.sc_top.proofs.Common.{Accepts, BytesNameOneImage, Command, CompileFault, Failure, HasImage, ImageParts}
 use Rattle.sc_top.proofs.Common.{IsCompiling, IsExecuted, IsOutput, IsOutputCause, IsTextOutput, IsTrue, List, Ok}
 use Rattle.sc_top.proofs.Common.{ProgramTree, Result, RunOptions, [], ap, compiles, interfaces_of, machine_text, output}
-use Rattle.sc_top.proofs.Common.{refl, subst, sym, ℕ, ◌∙◌, ◌≡◌}
+use Rattle.sc_top.proofs.Common.{Bool, false, refl, subst, sym, true, ℕ, ◌∙◌, ◌≡◌}
 use Rattle.sc_words.specs.declared.command.Command.TheVariants as commands
 use Rattle.sc_top.specs.declared.failure.Failure.TheVariants as failure
-use Rattle.sc_top.proofs.Chains.{one_account}
+use Rattle.sc_top.proofs.Chains.{one_account, one_summary}
+use Rattle.sc_top.specs.Output.{IsMadeBy}
+use Rattle.sc_words.specs.declared.command.MakeOptions.{MakeOptions}
 
 -- the image that stands where a command compiles none
 pub no_image : ImageParts
@@ -49,7 +51,6 @@ unfit_cause command bytes program (failure.BadImage cause) accepted compiled why
 unfit_cause command bytes program failure.ReadFault accepted compiled why = why
 unfit_cause command bytes program failure.WriteFault accepted compiled why = why
 unfit_cause command bytes program failure.OutOfMemory accepted compiled why = tt
-unfit_cause command bytes program failure.NotBuilt accepted compiled why = absurd why
 
 pub compiled_cause : (command : Command) (bytes : List ℕ) (program other : ProgramTree) (f : Failure) →
     other ≡ program → Accepts bytes program → IsTrue (compiles command) → IsCompiling other f →
@@ -98,6 +99,11 @@ module _
       (one is.read.image known.read.image is.read.well_formed known.read.well_formed
       (sym is.read.bytes_are ∙ known.read.bytes_are)) ∙ sym known.written)
 
+  one_made : (summary : Bool) (options : MakeOptions) (text other : List ℕ) → IsMadeBy summary options text →
+      IsMadeBy summary options other → text ≡ other
+  one_made true options text other is known = one_summary one_program options text other is known
+  one_made false options text other is known = is.written ∙ sym known.written
+
   -- a command has one output
   pub one_output : BytesNameOneImage → (command : Command) (bytes text other : List ℕ) → IsOutput command bytes text →
       IsOutput command bytes other → text ≡ other
@@ -110,4 +116,5 @@ module _
   one_output one (commands.Explain options show) bytes text other is known =
       one_account one_program options show bytes text other is known
   one_output one (commands.Exec options) bytes text other is known = one_run one options bytes text other is known
-  one_output one (commands.Make options) bytes text other is known = absurd is
+  one_output one (commands.Make options) bytes text other is known =
+      one_made options.summary options text other is known

@@ -7,7 +7,7 @@ use Rattle.std.specs.Option.{option_map}
 use Rattle.sc_lex.specs.declared.refusal.Phase.TheVariants.{Syntax}
 use Rattle.sc_top.specs.declared.status.Status.{Status}
 use Rattle.sc_top.specs.declared.status.Status.TheVariants.{Done, Usage, Refused, TooLarge, TooLong, BadImage}
-use Rattle.sc_top.specs.declared.status.Status.TheVariants.{ReadFault, WriteFault, OutOfMemory, NotBuilt}
+use Rattle.sc_top.specs.declared.status.Status.TheVariants.{ReadFault, WriteFault, OutOfMemory}
 use Rattle.sc_top.specs.declared.status.TooLarge as large
 use Rattle.sc_top.specs.Command.{Intake, Text, Image, Nothing, intake, limit_of}
 use Rattle.sc_top.specs.Large.{large_in}
@@ -95,10 +95,6 @@ pub record IsUnfit (command : Command) (bytes : List ℕ) (fault : large.TooLarg
   pub compiled : IsTrue (compiles command)
   pub found : large_in program ≡ Some fault
 
--- the command isn't built yet: the one that reads nothing
-abbrev pub IsUnbuilt : Command → Type 0
-IsUnbuilt command = limit_of command ≡ None
-
 -- What each status says.
 
 -- with a command, what was read and written where it was answered so
@@ -113,7 +109,6 @@ Says command traffic ReadFault = Rose traffic.read_faults traffic.read_faults_af
 Says command traffic WriteFault =
     Rose traffic.write_faults traffic.write_faults_after × HasRead command traffic (HasBegun command traffic)
 Says command traffic OutOfMemory = Unit {0}
-Says command traffic NotBuilt = HasRead command traffic (λ bytes. IsUnbuilt command)
 
 -- no read and no write failed
 pub record IsUndisturbed (traffic : Traffic) : Type 0 where
@@ -135,10 +130,10 @@ IsAnswer command bytes (Refused refusal) = IsWithin command bytes × Refuses com
 IsAnswer command bytes (TooLarge fault) = IsWithin command bytes × IsUnfit command bytes fault
 IsAnswer command bytes (TooLong limit) = (limit_of command ≡ Some limit) × (limit + 1 ≤ length bytes)
 IsAnswer command bytes (BadImage cause) = IsWithin command bytes × FindsBad command bytes cause
-IsAnswer command bytes NotBuilt = IsWithin command bytes × IsUnbuilt command
 IsAnswer command bytes _ = ⊥
 
--- good input: a text that is accepted, whose program fits where it is compiled; the bytes of an image
+-- good input: a text that is accepted, whose program fits where it is compiled; the bytes of an image; for a command
+-- that reads nothing whatever is there
 pub record IsGoodText (command : Command) (bytes : List ℕ) : Type 0 where
   pub program : ProgramTree
   pub accepted : Accepts bytes program
@@ -147,7 +142,7 @@ pub record IsGoodText (command : Command) (bytes : List ℕ) : Type 0 where
 abbrev pub IsGoodIn : Intake → Command → List ℕ → Type 0
 IsGoodIn (Text limit) command bytes = IsGoodText command bytes
 IsGoodIn (Image limit) command bytes = IsImage bytes
-IsGoodIn Nothing command bytes = ⊥
+IsGoodIn Nothing command bytes = Unit {0}
 
 abbrev pub IsGood : Command → List ℕ → Type 0
 IsGood command bytes = IsGoodIn (intake command) command bytes
@@ -177,6 +172,9 @@ pub record Answers (asked : Option Command) (traffic : Traffic) (status : Status
   pub complete : (command : Command) (bytes : List ℕ) → asked ≡ Some command → traffic.left ≡ Some bytes →
       IsUndisturbed traffic →
       IsWithin command bytes → IsGood command bytes → (status ≡ Done) ⊎ (status ≡ OutOfMemory)
+  -- so is a command that reads nothing, whatever the source tells
+  pub made : (command : Command) → asked ≡ Some command → limit_of command ≡ None → IsUndisturbed traffic →
+      (status ≡ Done) ⊎ (status ≡ OutOfMemory)
 
 -- two answers are the same; which line of a section phase Syntax refuses isn't told
 abbrev pub SameAnswer : Status → Status → Type 0

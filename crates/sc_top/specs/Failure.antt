@@ -11,10 +11,10 @@ use Rattle.sc_top.specs.declared.input.ReadFault as read
 use Rattle.sc_top.specs.declared.input.ReadFault.TheVariants as faults
 use Rattle.sc_top.specs.declared.failure.Failure.{Failure}
 use Rattle.sc_top.specs.declared.failure.Failure.TheVariants.{Usage, Refused, TooLarge, TooLong, BadImage, ReadFault}
-use Rattle.sc_top.specs.declared.failure.Failure.TheVariants.{WriteFault, OutOfMemory, NotBuilt}
+use Rattle.sc_top.specs.declared.failure.Failure.TheVariants.{WriteFault, OutOfMemory}
 use Rattle.sc_top.specs.declared.status.Status.{Status}
 use Rattle.sc_top.specs.declared.status.Status.TheVariants as status
-use Rattle.sc_top.specs.Answer.{IsLonger, Refuses, IsUnbuilt, IsUnfit, FindsBad}
+use Rattle.sc_top.specs.Answer.{IsLonger, Refuses, IsUnfit, FindsBad}
 
 abbrev pub of_words_fault : WordsFault → Failure
 of_words_fault words.Usage = Usage
@@ -41,7 +41,6 @@ status_of (BadImage cause) = status.BadImage cause
 status_of ReadFault = status.ReadFault
 status_of WriteFault = status.WriteFault
 status_of OutOfMemory = status.OutOfMemory
-status_of NotBuilt = status.NotBuilt
 
 -- the status of a call that went well or failed
 abbrev pub status_by : {A : Type 0} → Result A Failure → Status
@@ -61,6 +60,5 @@ abbrev pub IsOutputCause : Command → List ℕ → Failure → Type 0
 IsOutputCause command bytes (Refused refusal) = Refuses command bytes refusal
 IsOutputCause command bytes (TooLarge fault) = IsUnfit command bytes fault
 IsOutputCause command bytes (BadImage cause) = FindsBad command bytes cause
-IsOutputCause command bytes NotBuilt = IsUnbuilt command
 IsOutputCause command bytes OutOfMemory = Unit {0}
 IsOutputCause command bytes _ = ⊥

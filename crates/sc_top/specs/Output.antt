@@ -11,9 +11,12 @@ use Rattle.sc_compile.specs.Compiled.{IsCompiled}
 use Rattle.sc_compile.specs.Image.{image_of}
 use Rattle.sc_core.specs.declared.run.SourceRun.{SourceRun}
 use Rattle.sc_report.specs.Check.{check_text}
+use Rattle.sc_made.specs.Text.{made_text}
 use Rattle.sc_report.specs.Report.{explain_text, meaning_text, run_text}
+use Rattle.sc_report.specs.Summary.{summary_text}
 use Rattle.sc_types.specs.Source.{IsSource, SourceParts}
 use Rattle.sc_words.specs.declared.command.Command.TheVariants as commands
+use Rattle.sc_words.specs.declared.command.MakeOptions.{MakeOptions}
 use Rattle.sc_words.specs.declared.command.MeaningOptions.{MeaningOptions}
 
 -- what a program means, with so many turns and events and these inputs
@@ -87,9 +90,34 @@ pub record IsExecuted (options : RunOptions) (bytes text : List ℕ) : Type 0 wh
   pub read : IsImage bytes
   pub written : text ≡ machine_text (interfaces_of read.image) options read.image
 
--- the text is the command's output for these bytes; `make` isn't there yet
+-- the text of a made program is accepted, and its program has this image
+pub record IsMadeText (options : MakeOptions) (text : List ℕ) : Type 0 where
+  pub written : text ≡ made_text options.size options.seed
+  pub program : ProgramTree
+  pub accepted : Accepts text program
+  pub image : ImageParts
+  pub compiled : image_of program ≡ Ok image
+
+-- what the machine shows on the image of a made program is explained by a chain of texts, and the text sums it up
+pub record IsSummary (options : MakeOptions) (text : List ℕ) : Type 0 where
+  pub source : SourceParts
+  pub parts : IsSource source
+  pub made : source.bytes ≡ made_text options.size options.seed
+  pub explanation : Explanation
+  pub explained : IsExplained source [] 16777216 4096 explanation
+  pub written : text ≡ summary_text options.size source.program.interfaces explanation
+
+abbrev pub IsMadeBy : (summary : Bool) → MakeOptions → List ℕ → Type 0
+IsMadeBy true options text = IsSummary options text
+IsMadeBy false options text = IsMadeText options text
+
+-- what `make` writes
+abbrev pub IsMade : MakeOptions → List ℕ → Type 0
+IsMade options text = IsMadeBy options.summary options text
+
+-- the text is the command's output for these bytes
 abbrev pub IsOutput : Command → List ℕ → List ℕ → Type 0
 IsOutput (commands.Explain options show) bytes text = IsAccounted options show bytes text
 IsOutput (commands.Exec options) bytes text = IsExecuted options bytes text
-IsOutput (commands.Make options) bytes text = ⊥
+IsOutput (commands.Make options) bytes text = IsMade options text
 IsOutput command bytes text = IsTextOutput command bytes text

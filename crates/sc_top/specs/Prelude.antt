@@ -2,7 +2,7 @@
 pub use Rattle.sc_types.specs.Prelude.{Accepts}
 pub use Rattle.sc_words.specs.declared.command.Command.{Command}
 pub use Rattle.sc_words.specs.declared.command.Command.TheVariants.{Check, Compile, Exec, Explain, Meaning, Run}
-pub use Rattle.sc_top.specs.Answer.{Answers, FindsBad, IsAnswer, IsGood, IsGoodText, IsInput, IsSilent, IsUnbuilt}
+pub use Rattle.sc_top.specs.Answer.{Answers, FindsBad, IsAnswer, IsGood, IsGoodText, IsInput, IsSilent}
 pub use Rattle.sc_top.specs.Answer.{IsUndisturbed, IsUnfit, IsWhole, IsWithin, IsWithinLimit, Refuses, SameAnswer, Says}
 pub use Rattle.sc_top.specs.Answer.{Tells, Traffic, cause_in}
 pub use Rattle.sc_top.specs.Command.{limit_of}
@@ -10,8 +10,9 @@ pub use Rattle.sc_top.specs.Failure.{IsInputCause, IsOutputCause, of_image_fault
 pub use Rattle.sc_top.specs.Failure.{of_words_fault, status_by, status_of}
 pub use Rattle.sc_top.specs.Fetching.{Fetches}
 pub use Rattle.sc_top.specs.Large.{by_name, large_in}
-pub use Rattle.sc_top.specs.Output.{HasImage, IsAccounted, IsExecuted, IsOutput, IsTextOutput, account, comp_of}
-pub use Rattle.sc_top.specs.Output.{compiles, machine_run, machine_text, meant, output, text_after}
+pub use Rattle.sc_top.specs.Output.{HasImage, IsAccounted, IsExecuted, IsMade, IsMadeText, IsOutput, IsSummary}
+pub use Rattle.sc_top.specs.Output.{IsTextOutput, account, comp_of, compiles, machine_run, machine_text, meant}
+pub use Rattle.sc_top.specs.Output.{output, text_after}
 pub use Rattle.sc_top.specs.Status.{bytes_of, fixed_text, kind_text, large_text, own_text, owner_text, phase_word}
 pub use Rattle.sc_top.specs.Status.{refusal_text, status_number, status_text}
 pub use Rattle.sc_top.specs.Texts.{ArePerforming, IsBounded, IsCompiling, IsNamed, IsReading, of_compile_fault}

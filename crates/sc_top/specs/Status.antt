@@ -8,7 +8,7 @@ use Rattle.sc_top.specs.declared.status.TooLarge as large
 use Rattle.sc_top.specs.declared.status.TooLarge.TheVariants as which
 use Rattle.sc_top.specs.declared.status.Status.{Status}
 use Rattle.sc_top.specs.declared.status.Status.TheVariants.{Done, Usage, Refused, TooLarge, TooLong, BadImage}
-use Rattle.sc_top.specs.declared.status.Status.TheVariants.{ReadFault, WriteFault, OutOfMemory, NotBuilt}
+use Rattle.sc_top.specs.declared.status.Status.TheVariants.{ReadFault, WriteFault, OutOfMemory}
 
 abbrev pub status_number : Status → ℕ
 status_number Done = 0
@@ -20,7 +20,6 @@ status_number (BadImage cause) = 6
 status_number ReadFault = 7
 status_number WriteFault = 8
 status_number OutOfMemory = 9
-status_number NotBuilt = 10
 
 abbrev pub phase_word : Phase → List ℕ
 phase_word phase.Lex = codes "lex"
@@ -66,7 +65,6 @@ fixed_text (BadImage cause) = codes "secomp: bad image "
 fixed_text ReadFault = codes "secomp: read fault\n"
 fixed_text WriteFault = codes "secomp: write fault\n"
 fixed_text OutOfMemory = codes "secomp: out of memory\n"
-fixed_text NotBuilt = codes "secomp: not built\n"
 
 -- what stands behind it
 abbrev pub own_text : Status → List ℕ

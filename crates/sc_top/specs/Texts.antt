@@ -8,6 +8,7 @@ use Rattle.sc_chain.specs.Recompose.{performing_text}
 use Rattle.sc_chain.specs.declared.explanation.Link.{Link}
 use Rattle.sc_chain.specs.declared.composed.Replacement.{Replacement}
 use Rattle.sc_compile.specs.declared.fault.CompileFault.TheVariants as compiling
+use Rattle.sc_made.specs.Laws.{IsAsked}
 use Rattle.sc_top.specs.declared.failure.Failure.{Failure}
 use Rattle.sc_top.specs.declared.failure.Failure.TheVariants.{Refused, TooLarge, OutOfMemory}
 use Rattle.sc_top.specs.declared.status.TooLarge as large
@@ -20,9 +21,11 @@ IsReading bytes (Refused refusal) = Fails bytes refusal.phase refusal.line
 IsReading bytes OutOfMemory = Unit {0}
 IsReading bytes _ = ⊥
 
--- the options of `explain` allow so few events that compartments can perform them
+-- the options of `explain` allow so few events that compartments can perform them, and those of `make` are such that
+-- programs are made from them
 abbrev pub IsBounded : Command → Type 0
 IsBounded (commands.Explain options show) = options.events ≤ 4096
+IsBounded (commands.Make options) = IsAsked options.size options.seed
 IsBounded command = Unit {0}
 
 -- what a link replaces

@@ -24,7 +24,6 @@ pub(crate) enum Failure {
     ReadFault,
     WriteFault,
     OutOfMemory,
-    NotBuilt,
 }
 
 impl From<OutOfMemory> for Failure {

@@ -8,6 +8,7 @@ mod failure;
 mod input;
 mod laws;
 mod machine;
+mod make;
 mod output;
 mod status;
 mod telling;

@@ -50,8 +50,6 @@ pub enum Status {
     WriteFault,
     /// Memory ran out before anything was written.
     OutOfMemory,
-    /// The text is beyond what the program can do so far.
-    NotBuilt,
 }
 
 impl Status {
@@ -69,7 +67,6 @@ impl Status {
             Status::ReadFault => 7,
             Status::WriteFault => 8,
             Status::OutOfMemory => 9,
-            Status::NotBuilt => 10,
         }
     }
 }
@@ -88,7 +85,6 @@ pub(crate) fn fixed_text(status: &Status) -> &'static [u8]
         Status::ReadFault => b"secomp: read fault\n",
         Status::WriteFault => b"secomp: write fault\n",
         Status::OutOfMemory => b"secomp: out of memory\n",
-        Status::NotBuilt => b"secomp: not built\n",
     }
 }
 
@@ -130,7 +126,6 @@ impl From<Failure> for Status {
             Failure::ReadFault => Status::ReadFault,
             Failure::WriteFault => Status::WriteFault,
             Failure::OutOfMemory => Status::OutOfMemory,
-            Failure::NotBuilt => Status::NotBuilt,
         }
     }
 }

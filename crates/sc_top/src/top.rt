@@ -11,6 +11,7 @@ use crate::chain::explain;
 use crate::exec::execute;
 use crate::failure::Failure;
 use crate::input::read_input;
+use crate::make::make;
 use crate::output::write_text;
 use crate::telling::tell;
 use crate::text::{check, compiled, meaning, run};
@@ -108,6 +109,6 @@ fn output(alloc: Global, command: &Command, bytes: &[u8]) -> Result<Text, Failur
         Command::Run(options) => run(alloc, options, bytes),
         Command::Exec(options) => execute(alloc, options, bytes),
         Command::Explain(options, show) => explain(alloc, options, *show, bytes),
-        Command::Make(_) => Err(Failure::NotBuilt),
+        Command::Make(options) => Ok(make(alloc, options)?),
     }
 }

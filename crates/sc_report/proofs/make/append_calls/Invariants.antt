@@ -1,0 +1,10 @@
+use Rattle.sc_report.proofs.Common.{flat_map, ℕ, List, ◌++◌, ◌≡◌}
+use Rattle.sc_made.specs.Text.{call_text, numbers_from}
+use Rattle.sc_report.specs.Making.{state_at}
+use Rattle.sc_report.proofs.make.append_calls.Given as goal
+
+abbrev pub invariant-loop-j : goal.invariant-loop-j
+invariant-loop-j l = record {
+  drawn : l.draws.state ≡ state_at l.seed l.j;
+  told : l.text ≡ l.initial.text ++ flat_map (call_text l.seed) (numbers_from 0 l.j);
+}

@@ -1,0 +1,10 @@
+use Rattle.sc_report.proofs.Common.{flat_map, ◌++◌, ◌≡◌}
+use Rattle.std.specs.Prelude.{◌%◌, filter, nat_eq}
+use Rattle.sc_made.specs.Text.{export_text, numbers_from, workers}
+use Rattle.sc_report.proofs.make.append_exports.Given as goal
+
+abbrev pub invariant-loop-j : goal.invariant-loop-j
+invariant-loop-j l =
+    l.text ≡
+    l.initial.text ++
+    flat_map export_text (filter (λ j. nat_eq (j % workers l.size) l.worker) (numbers_from 0 l.j))

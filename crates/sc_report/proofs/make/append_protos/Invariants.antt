@@ -1,0 +1,6 @@
+use Rattle.sc_report.proofs.Common.{flat_map, ◌++◌, ◌≡◌}
+use Rattle.sc_made.specs.Text.{proto_text, numbers_from}
+use Rattle.sc_report.proofs.make.append_protos.Given as goal
+
+abbrev pub invariant-loop-j : goal.invariant-loop-j
+invariant-loop-j l = l.text ≡ l.initial.text ++ flat_map proto_text (numbers_from 0 l.j)

@@ -1,0 +1,131 @@
+-- Made programs fit, so that each has an image.
+use Rattle.sc_top.proofs.Common.{Accepts, AllByRecursion, Bool, CompileFault, Err, IfOk, ImageParts, List, None, Ok}
+use Rattle.sc_top.proofs.Common.{ProgramTree, Result, [], ap, ap₂, arith, recursion_from_All, refl, subst, suc, sym}
+use Rattle.sc_top.proofs.Common.{too_large, ℕ, ◌++◌, ◌∙◌, ◌∷◌, ◌≡◌, ◌≤◌}
+use Rattle.std.specs.Prelude.{flat_map, if◌then◌else◌}
+use Rattle.std.proofs.lemmas.Bool.{le-ltb}
+use Rattle.sc_core.specs.declared.section.TypedFunction.{TypedFunction}
+use Rattle.sc_core.specs.declared.section.TypedSection.{TypedSection}
+use Rattle.sc_chain.specs.Chain.{IsExplained}
+use Rattle.sc_chain.specs.declared.explanation.Explanation.{Explanation}
+use Rattle.sc_compile.specs.declared.fault.CompileFault.TheVariants.{CodeTooLarge, DataTooLarge, FrameTooLarge}
+use Rattle.sc_compile.specs.declared.fault.CompileFault.TheVariants.{OutOfMemory}
+use Rattle.sc_compile.specs.Image.{IsFault, built_image, image_of, unless_large}
+use Rattle.sc_compile.specs.Sizes.{above, code_bytes, data_bytes, first, found_in, frame_bytes, large_code, large_data}
+use Rattle.sc_compile.specs.Sizes.{large_frame, large_frames, most_frame}
+use Rattle.sc_image.specs.Layout.{most_globals, stretch}
+use Rattle.sc_made.specs.Laws.{AreSmall, IsAccepted, IsSmall}
+use Rattle.sc_made.specs.Text.{made_text}
+use Rattle.sc_report.specs.Summary.{summary_text}
+use Rattle.sc_top.specs.Prelude.{IsMadeText, IsSummary}
+use Rattle.sc_types.specs.Source.{IsSource, SourceParts}
+use Rattle.sc_words.specs.declared.command.MakeOptions.{MakeOptions}
+
+none_above : (limit size : ℕ) (fault : CompileFault) → size ≤ limit → above limit size fault ≡ []
+none_above limit size fault few = ap (λ (large : Bool). if large then fault ∷ [] else []) (le-ltb limit size few)
+
+both_none : (xs ys : List CompileFault) → xs ≡ [] → ys ≡ [] → xs ++ ys ≡ []
+both_none xs ys here behind = ap₂ (λ a b. a ++ b) here behind
+
+none_found : (find : ℕ → TypedSection → List CompileFault) →
+    ((comp : ℕ) (section : TypedSection) → IsSmall section → find comp section ≡ []) →
+    (comp : ℕ) (sections : List TypedSection) → AllByRecursion IsSmall sections → found_in find comp sections ≡ []
+none_found find each comp [] small = refl
+none_found find each comp (section ∷ sections) small =
+    both_none (find comp section) (found_in find (suc comp) sections) (each comp section small.0)
+    (none_found find each (suc comp) sections small.1)
+
+data_fit : (comp : ℕ) (section : TypedSection) → IsSmall section → large_data comp section ≡ []
+data_fit comp section small =
+    let cells = small.cells in
+    none_above most_globals (data_bytes section) (DataTooLarge comp (data_bytes section)) (omega (arith, cells))
+
+each_frame_fits : (comp : ℕ) (section : TypedSection) (functions : List TypedFunction) →
+    AllByRecursion (λ f. frame_bytes section f ≤ 32768) functions → flat_map (large_frame comp section) functions ≡ []
+each_frame_fits comp section [] small = refl
+each_frame_fits comp section (f ∷ functions) small =
+    both_none (large_frame comp section f) (flat_map (large_frame comp section) functions)
+    (none_above most_frame (frame_bytes section f) (FrameTooLarge comp f.name (frame_bytes section f)) small.0)
+    (each_frame_fits comp section functions small.1)
+
+frames_fit : (comp : ℕ) (section : TypedSection) → IsSmall section → large_frames comp section ≡ []
+frames_fit comp section small =
+    each_frame_fits comp section section.functions
+    (recursion_from_All (λ f. frame_bytes section f ≤ 32768) section.functions small.frames)
+
+code_fits : (comp : ℕ) (section : TypedSection) → IsSmall section → large_code comp section ≡ []
+code_fits comp section small =
+    let nodes = small.nodes in
+    none_above stretch (code_bytes section) (CodeTooLarge comp (code_bytes section)) (omega (arith, nodes))
+
+-- nothing of a small program is too large
+pub small_fits : (program : ProgramTree) → AreSmall program → too_large program ≡ None
+small_fits program small =
+    let each = recursion_from_All IsSmall program.sections small in
+    ap first (both_none (found_in large_data 0 program.sections)
+    (found_in large_frames 0 program.sections ++ found_in large_code 0 program.sections)
+    (none_found large_data data_fit 0 program.sections each)
+    (both_none (found_in large_frames 0 program.sections) (found_in large_code 0 program.sections)
+    (none_found large_frames frames_fit 0 program.sections each)
+    (none_found large_code code_fits 0 program.sections each)))
+
+-- so it has an image
+fitting_image : (program : ProgramTree) → too_large program ≡ None → image_of program ≡ Ok (built_image program)
+fitting_image program fits = ap (λ found. unless_large found (built_image program)) fits
+
+-- the text of a made program
+made_output : (options : MakeOptions) (text : List ℕ) → IsAccepted (made_text options.size options.seed) →
+    text ≡ made_text options.size options.seed → IsMadeText options text
+made_output options text accepted written =
+    record {
+      written = written;
+      program = accepted.program;
+      accepted = subst (λ (bytes : List ℕ). Accepts bytes accepted.program) (sym written) accepted.accepted;
+      image = built_image accepted.program;
+      compiled = fitting_image accepted.program (small_fits accepted.program accepted.small);
+    }
+
+pub made_result : {E : Type 0} (result : Result (List ℕ) E) (options : MakeOptions) →
+    IsAccepted (made_text options.size options.seed) →
+    IfOk result (λ text. text ≡ made_text options.size options.seed) → IfOk result (IsMadeText options)
+made_result (Ok text) options accepted written = made_output options text accepted written
+made_result (Err fault) options accepted written = tt
+
+-- the summary of one
+pub summary_result : {E : Type 0} (result : Result (List ℕ) E) (options : MakeOptions) (source : SourceParts)
+    (explanation : Explanation) → IsSource source → source.bytes ≡ made_text options.size options.seed →
+    IsExplained source [] 16777216 4096 explanation →
+    IfOk result (λ text. text ≡ summary_text options.size source.program.interfaces explanation) →
+    IfOk result (IsSummary options)
+summary_result (Ok text) options source explanation parts made explained written =
+    record {
+      source = source;
+      parts = parts;
+      made = made;
+      explanation = explanation;
+      explained = explained;
+      written = written;
+    }
+summary_result (Err fault) options source explanation parts made explained written = tt
+
+-- a made text is read as the program that it is accepted as, which fits
+pub read_fits : (bytes : List ℕ) (accepted : IsAccepted bytes) (program : ProgramTree) →
+    ((text : List ℕ) (program other : ProgramTree) → Accepts text program → Accepts text other → program ≡ other) →
+    Accepts bytes program → too_large program ≡ None
+read_fits bytes accepted program one_program is =
+    subst (λ (p : ProgramTree). too_large p ≡ None)
+    (one_program bytes accepted.program program accepted.accepted is) (small_fits accepted.program accepted.small)
+
+-- nothing of a program is too large, so that it has no fault but want of memory
+no_large : (program : ProgramTree) → too_large program ≡ None → (fault : CompileFault) →
+    image_of program ≡ Err fault → ⊥
+no_large program fits fault is = absurd (let both : ◌≡◌ {A = Result ImageParts CompileFault} (Ok (built_image program))
+    (Err fault) = sym (fitting_image program fits) ∙ is in cc)
+
+pub fault_is_memory : (program : ProgramTree) → too_large program ≡ None → (fault : CompileFault) →
+    IsFault program fault → fault ≡ OutOfMemory
+fault_is_memory program fits (CodeTooLarge comp bound) is = absurd (no_large program fits (CodeTooLarge comp bound) is)
+fault_is_memory program fits (DataTooLarge comp bytes) is = absurd (no_large program fits (DataTooLarge comp bytes) is)
+fault_is_memory program fits (FrameTooLarge comp function bound) is =
+    absurd (no_large program fits (FrameTooLarge comp function bound) is)
+fault_is_memory program fits OutOfMemory is = refl
