@@ -3,5 +3,3 @@
 
 #[cfg(test)]
 mod made;
-#[cfg(test)]
-mod program;

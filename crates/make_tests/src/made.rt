@@ -1,5 +1,5 @@
 // Programs that are made from seeds, and what they are summed up as.
-use crate::program::run;
+use memory_runs::Run;
 use std::test::Fail;
 
 const ONE_FUNCTION: &[u8] = b"#pragma compartment Main
@@ -41,7 +41,7 @@ main Main
 
 #[test]
 fn a_program_is_made(rt: HostRuntime) -> Result<(), Fail> {
-    let ran = run(rt.alloc(), &["make", "--size", "1", "--seed", "0"], b"")?;
+    let ran = Run::new(&["make", "--size", "1", "--seed", "0"], b"").run(rt.alloc())?;
     assert_eq!(rt; ran.status, 0);
     assert!(rt; ran.out.as_slice() == ONE_FUNCTION);
     Ok(())
@@ -49,9 +49,9 @@ fn a_program_is_made(rt: HostRuntime) -> Result<(), Fail> {
 
 #[test]
 fn a_made_program_has_a_compartment_for_each_worker(rt: HostRuntime) -> Result<(), Fail> {
-    let made = run(rt.alloc(), &["make", "--size", "2", "--seed", "1"], b"")?;
+    let made = Run::new(&["make", "--size", "2", "--seed", "1"], b"").run(rt.alloc())?;
     assert_eq!(rt; made.status, 0);
-    let checked = run(rt.alloc(), &["check"], &made.out)?;
+    let checked = Run::new(&["check"], &made.out).run(rt.alloc())?;
     assert_eq!(rt; checked.status, 0);
     assert!(rt; checked.out.as_slice() == TWO_FACES);
     Ok(())
@@ -70,7 +70,7 @@ fn a_program_is_summed_up(rt: HostRuntime) -> Result<(), Fail> {
         ),
     ];
     for (words, want) in cases {
-        let ran = run(rt.alloc(), words, b"")?;
+        let ran = Run::new(words, b"").run(rt.alloc())?;
         assert_eq!(rt; ran.status, 0);
         assert!(rt; ran.out.as_slice() == want);
     }
@@ -80,8 +80,8 @@ fn a_program_is_summed_up(rt: HostRuntime) -> Result<(), Fail> {
 #[test]
 fn a_summary_is_the_same_again(rt: HostRuntime) -> Result<(), Fail> {
     let words = ["make", "--size", "200", "--seed", "7", "--summary"];
-    let ran = run(rt.alloc(), &words, b"")?;
-    let again = run(rt.alloc(), &words, b"")?;
+    let ran = Run::new(&words, b"").run(rt.alloc())?;
+    let again = Run::new(&words, b"").run(rt.alloc())?;
     assert_eq!(rt; ran.status, 0);
     assert!(rt;
         ran.out
@@ -99,7 +99,7 @@ fn nothing_is_read(rt: HostRuntime) -> Result<(), Fail> {
         &["make", "--size", "3", "--seed", "5", "--summary"],
     ];
     for words in cases {
-        let ran = run(rt.alloc(), words, b"left")?;
+        let ran = Run::new(words, b"left").run(rt.alloc())?;
         assert_eq!(rt; ran.status, 0);
         assert_eq!(rt; ran.unread, 4);
     }
