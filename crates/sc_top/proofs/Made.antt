@@ -1,5 +1,5 @@
 -- Made programs fit, so that each has an image.
-use Rattle.sc_top.proofs.Common.{Accepts, AllByRecursion, Bool, CompileFault, Err, IfOk, ImageParts, List, None, Ok}
+use Rattle.sc_top.proofs.Common.{Accepts, AllByRecursion, Bool, CompileFault, Err, IfOk, Interfaces, List, None, Ok}
 use Rattle.sc_top.proofs.Common.{ProgramTree, Result, [], ap, ap₂, arith, recursion_from_All, refl, subst, suc, sym}
 use Rattle.sc_top.proofs.Common.{too_large, ℕ, ◌++◌, ◌∙◌, ◌∷◌, ◌≡◌, ◌≤◌}
 use Rattle.std.specs.Prelude.{flat_map, if◌then◌else◌}
@@ -9,8 +9,7 @@ use Rattle.sc_core.specs.declared.section.TypedSection.{TypedSection}
 use Rattle.sc_chain.specs.Chain.{IsExplained}
 use Rattle.sc_chain.specs.declared.explanation.Explanation.{Explanation}
 use Rattle.sc_compile.specs.declared.fault.CompileFault.TheVariants.{CodeTooLarge, DataTooLarge, FrameTooLarge}
-use Rattle.sc_compile.specs.declared.fault.CompileFault.TheVariants.{OutOfMemory}
-use Rattle.sc_compile.specs.Image.{IsFault, built_image, image_of, unless_large}
+use Rattle.sc_compile.specs.Image.{built_image, image_of, unless_large}
 use Rattle.sc_compile.specs.Sizes.{above, code_bytes, data_bytes, first, found_in, frame_bytes, large_code, large_data}
 use Rattle.sc_compile.specs.Sizes.{large_frame, large_frames, most_frame}
 use Rattle.sc_image.specs.Layout.{most_globals, stretch}
@@ -93,20 +92,20 @@ made_result (Err fault) options accepted written = tt
 
 -- the summary of one
 pub summary_result : {E : Type 0} (result : Result (List ℕ) E) (options : MakeOptions) (source : SourceParts)
-    (explanation : Explanation) → IsSource source → source.bytes ≡ made_text options.size options.seed →
+    (names : Interfaces) (explanation : Explanation) → IsSource source →
+    source.bytes ≡ made_text options.size options.seed → names ≡ source.program.interfaces →
     IsExplained source [] 16777216 4096 explanation →
-    IfOk result (λ text. text ≡ summary_text options.size source.program.interfaces explanation) →
-    IfOk result (IsSummary options)
-summary_result (Ok text) options source explanation parts made explained written =
+    IfOk result (λ text. text ≡ summary_text options.size names explanation) → IfOk result (IsSummary options)
+summary_result (Ok text) options source names explanation parts made same explained written =
     record {
       source = source;
       parts = parts;
       made = made;
       explanation = explanation;
       explained = explained;
-      written = written;
+      written = written ∙ ap (λ (names : Interfaces). summary_text options.size names explanation) same;
     }
-summary_result (Err fault) options source explanation parts made explained written = tt
+summary_result (Err fault) options source names explanation parts made same explained written = tt
 
 -- a made text is read as the program that it is accepted as, which fits
 pub read_fits : (bytes : List ℕ) (accepted : IsAccepted bytes) (program : ProgramTree) →
@@ -115,17 +114,3 @@ pub read_fits : (bytes : List ℕ) (accepted : IsAccepted bytes) (program : Prog
 read_fits bytes accepted program one_program is =
     subst (λ (p : ProgramTree). too_large p ≡ None)
     (one_program bytes accepted.program program accepted.accepted is) (small_fits accepted.program accepted.small)
-
--- nothing of a program is too large, so that it has no fault but want of memory
-no_large : (program : ProgramTree) → too_large program ≡ None → (fault : CompileFault) →
-    image_of program ≡ Err fault → ⊥
-no_large program fits fault is = absurd (let both : ◌≡◌ {A = Result ImageParts CompileFault} (Ok (built_image program))
-    (Err fault) = sym (fitting_image program fits) ∙ is in cc)
-
-pub fault_is_memory : (program : ProgramTree) → too_large program ≡ None → (fault : CompileFault) →
-    IsFault program fault → fault ≡ OutOfMemory
-fault_is_memory program fits (CodeTooLarge comp bound) is = absurd (no_large program fits (CodeTooLarge comp bound) is)
-fault_is_memory program fits (DataTooLarge comp bytes) is = absurd (no_large program fits (DataTooLarge comp bytes) is)
-fault_is_memory program fits (FrameTooLarge comp function bound) is =
-    absurd (no_large program fits (FrameTooLarge comp function bound) is)
-fault_is_memory program fits OutOfMemory is = refl

@@ -1,7 +1,6 @@
 //! The command that makes programs.
 
 ghost use Rattle.sc_made.specs.Laws.{IsAccepted, IsAsked};
-ghost use Rattle.sc_made.specs.Text.{made_text};
 ghost use Rattle.sc_chain.specs.Chain.{IsExplained};
 ghost use Rattle.sc_compile.specs.Sizes.{too_large};
 ghost use Rattle.sc_top.specs.Prelude.{IsMade, IsMadeText, IsSummary};
