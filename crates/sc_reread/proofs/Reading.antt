@@ -30,7 +30,7 @@ symbols_of bytes (t ∷ tokens) = ap (λ ss. symbol_of bytes t ∷ ss) (symbols_
 pub line_is : (line : ℕ) (ts : List Lexeme) (tree : SectionTree) → SpellsSection line ts tree → tree.line ≡ line
 line_is line _ _ (spell.section t name is directives decls) = refl
 
--- A text of words in lines, which spell a section that is the tree, lines aside; this is low, and few brackets are open.
+-- A text of words in lines, which spell a section that is the tree, lines aside; this is low, with few brackets open.
 pub record IsWritten (tree : SectionTree) (text : List ℕ) : Type 0 where
   pub pieces : List Piece
   pub reads : (line : ℕ) → Reading pieces

@@ -173,8 +173,8 @@ row_nested n m action k l nested =
     subst (λ ps. Nested 2 (word (codes "{") ∷ blank ∷ (setting_pieces m ++ blank ∷ ps))) flat
     (nested_curly inner (nested_line nested_none)) in
     nested_level 1 (nested_even (even_keyword keyword.If) (nested_blank (nested_parens
-    (nested_even (even_ident counter_name counter_ident) (nested_blank (nested_even (even_binary binary.Equal) (nested_blank
-    (nested_even (even_literal n k) nested_none))))) (nested_blank block))))
+    (nested_even (even_ident counter_name counter_ident) (nested_blank (nested_even (even_binary binary.Equal)
+    (nested_blank (nested_even (even_literal n k) nested_none))))) (nested_blank block))))
 
 -- Rows.
 
