@@ -1,7 +1,8 @@
 // A pool of pages.
 #![tactic(auto)]
 
-ghost use Rattle.std.specs.Prelude.{◌≡◌, ◌+◌, ◌<◌, ◌^◌, ◌↔◌, [], max, length, Some, OnOk, OnErr, OnSome, IfSome, IsNone, IsSome};
+ghost use Rattle.std.specs.Prelude.{◌≡◌, ◌+◌, ◌<◌, ◌^◌, ◌↔◌, [], max, length, Some, OnOk, OnErr, OnSome, IfSome};
+ghost use Rattle.std.specs.Prelude.{IsNone, IsSome};
 ghost use Rattle.std.specs.Borrow.{sem};
 ghost use Rattle.sc_pool.specs.Pages.{page_of, out_of, KeepsOthers, zero_page};
 
