@@ -4,4 +4,6 @@ pub mod Words
 pub mod Parts
 pub mod Access
 pub mod Pieces
+pub mod OnPages
+pub mod Places
 mod Examples

@@ -17,18 +17,18 @@ length-put_mid o k xs ys h e =
       length-drop o xs,
     )
 
-before : (o k j : ℕ) (xs ys : List ℕ) → o + k ≤ length xs → j < o → get_or (put_mid o k xs ys) j 0 ≡ get_or xs j 0
+pub before : (o k j : ℕ) (xs ys : List ℕ) → o + k ≤ length xs → j < o → get_or (put_mid o k xs ys) j 0 ≡ get_or xs j 0
 before o k j xs ys h l =
     let n : length (take o xs) ≡ o = length-take-le o xs (omega arith) in
     get_or_append_left (take o xs) (ys ++ drop k (drop o xs)) 0 j (omega arith) ∙ get_or-take o xs j 0 l
 
-within : (o k j : ℕ) (xs ys : List ℕ) → o + k ≤ length xs → length ys ≡ k → o ≤ j → j < o + k →
+pub within : (o k j : ℕ) (xs ys : List ℕ) → o + k ≤ length xs → length ys ≡ k → o ≤ j → j < o + k →
     get_or (put_mid o k xs ys) j 0 ≡ get_or ys (j - o) 0
 within o k j xs ys h e low high =
     get_or-append_right (take o xs) (ys ++ drop k (drop o xs)) o j 0 (length-take-le o xs (omega arith)) low
     ∙ get_or_append_left ys (drop k (drop o xs)) 0 (j - o) (omega arith)
 
-after : (o k j : ℕ) (xs ys : List ℕ) → o + k ≤ length xs → length ys ≡ k → o + k ≤ j →
+pub after : (o k j : ℕ) (xs ys : List ℕ) → o + k ≤ length xs → length ys ≡ k → o + k ≤ j →
     get_or (put_mid o k xs ys) j 0 ≡ get_or xs j 0
 after o k j xs ys h e high =
     get_or-append_right (take o xs) (ys ++ drop k (drop o xs)) o j 0 (length-take-le o xs (omega arith)) (omega arith)

@@ -3,3 +3,7 @@ pub mod Region
 pub mod Memory
 pub mod Laws
 pub mod Flat
+pub mod Cells
+pub mod Paged
+pub mod Store
+pub mod Pages

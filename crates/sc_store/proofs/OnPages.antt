@@ -1,0 +1,202 @@
+-- What taking a page and a write to it make of the bytes at their places.
+use Rattle.sc_store.proofs.Common.{AreDistinct, AreOut, IfSome, IsNone, IsSome, KeepsOthers, List, None, OnSome, Option}
+use Rattle.sc_store.proofs.Common.{Pages, Some, ap, arith, byte_at, byte_on, cases_eq, cases_lt, cell, cond, count_by}
+use Rattle.sc_store.proofs.Common.{[], ◌∷◌, false, get_or, get_or-replicate, get_or-set_other, get_or-set_same}
+use Rattle.sc_store.proofs.Common.{get_or_past}
+use Rattle.sc_store.proofs.Common.{is_none, is_some, length, length-replicate, nat_le, nat_lt, nat_tests, page_of}
+use Rattle.sc_store.proofs.Common.{refl, replaced}
+use Rattle.sc_store.proofs.Common.{replicate, same_Some, set, subst, suc, sum_by-set, sym, true, with_page}
+use Rattle.sc_store.proofs.Common.{zero, zero_page, ℕ, ⊎_elim, ◌%◌, ◌&&◌, ◌+◌, ◌-◌, ◌/◌, ◌<◌, ◌↔◌, ◌∙◌, ◌≡◌, ◌≢◌, ◌≤◌}
+use borrow.Rule.Slice.PartMut.{put_mid}
+use Rattle.sc_store.proofs.Pieces.{before, within, after}
+
+-- ---- a page is taken
+-- the bytes of a page that isn't the new one
+same_byte : (pool pool' : Pages) (slot : Option ℕ) (x : ℕ) →
+    ((m : ℕ) → slot ≡ Some m → page_of pool' m ≡ page_of pool m) → byte_at pool' slot x ≡ byte_at pool slot x
+same_byte pool pool' None x h = refl
+same_byte pool pool' (Some m) x h = ap (λ o. byte_on o x) (h m refl)
+
+not_both : (o : Option (List ℕ)) → IsSome o → IsNone o → ⊥
+not_both o s n = cc
+
+zero_byte : (x : ℕ) → get_or zero_page x 0 ≡ 0
+zero_byte x = ⊎_elim
+    (λ below. get_or-replicate 4096 x 0 0 below)
+    (λ above. get_or_past (replicate 4096 0) x 0 (omega (arith, length-replicate {A = ℕ} 4096 0)))
+    (cases_lt x 4096)
+
+module _ (table : List (Option ℕ)) (pool pool' : Pages) (number n : ℕ)
+    (there : number < length table) (free : get_or table number None ≡ None)
+    (out : AreOut table pool) (distinct : AreDistinct table)
+    (was_in : IsNone (page_of pool n)) (zeros : page_of pool' n ≡ Some zero_page)
+    (others : KeepsOthers pool pool' n) where
+  other_page : (k m : ℕ) → get_or table k None ≡ Some m → m ≢ n
+  other_page k m e = λ same. not_both (page_of pool n) (subst (λ i. IsSome (page_of pool i)) same (out k m e)) was_in
+
+  at_number : get_or (set table number (Some n)) number None ≡ Some n
+  at_number = get_or-set_same table number (Some n) None there
+
+  elsewhere : (k : ℕ) → k ≢ number → get_or (set table number (Some n)) k None ≡ get_or table k None
+  elsewhere k h = get_or-set_other table number k (Some n) None h
+
+  pub taken_out : AreOut (set table number (Some n)) pool'
+  taken_out k m e = ⊎_elim
+      (λ same.
+      let is : n ≡ m = same_Some _ _
+      (sym at_number ∙ ap (λ i. get_or (set table number (Some n)) i None) (sym same) ∙ e) in
+      subst (λ i. IsSome (page_of pool' i)) is (subst (λ o. IsSome o) (sym zeros) refl))
+      (λ other.
+      let old : get_or table k None ≡ Some m = sym (elsewhere k other) ∙ e in
+      subst (λ o. IsSome o) (sym (others m (other_page k m old))) (out k m old))
+      (cases_eq k number)
+
+  pub taken_distinct : AreDistinct (set table number (Some n))
+  taken_distinct j k m e f = ⊎_elim
+      (λ js. ⊎_elim
+      (λ ks. js ∙ sym ks)
+      (λ ko. absurd (other_page k m (sym (elsewhere k ko) ∙ f) (sym (new j js e))))
+      (cases_eq k number))
+      (λ jo. ⊎_elim
+      (λ ks. absurd (other_page j m (sym (elsewhere j jo) ∙ e) (sym (new k ks f))))
+      (λ ko. distinct j k m (sym (elsewhere j jo) ∙ e) (sym (elsewhere k ko) ∙ f))
+      (cases_eq k number))
+      (cases_eq j number)
+    where
+      new : (i : ℕ) → i ≡ number → get_or (set table number (Some n)) i None ≡ Some m → n ≡ m
+      new i s h = same_Some _ _ (sym at_number ∙ ap (λ z. get_or (set table number (Some n)) z None) (sym s) ∙ h)
+
+  same_at : (i : ℕ) → cell (set table number (Some n)) pool' i ≡ cell table pool i
+  same_at i = ⊎_elim
+      (λ same.
+      ap (λ z. byte_at pool' (get_or (set table number (Some n)) z None) (i % 4096)) same
+      ∙ ap (λ o. byte_at pool' o (i % 4096)) at_number
+      ∙ ap (λ o. byte_on o (i % 4096)) zeros
+      ∙ zero_byte (i % 4096)
+      ∙ sym (ap (λ z. byte_at pool (get_or table z None) (i % 4096)) same ∙
+      ap (λ o. byte_at pool o (i % 4096)) free))
+      (λ other.
+      ap (λ o. byte_at pool' o (i % 4096)) (elsewhere (i / 4096) other)
+      ∙ same_byte pool pool' (get_or table (i / 4096) None) (i % 4096)
+      (λ m e. others m (other_page (i / 4096) m e)))
+      (cases_eq (i / 4096) number)
+
+  pub taken_same : cell (set table number (Some n)) pool' ≡ cell table pool
+  taken_same = λ k i. same_at i k
+
+-- one page fewer isn't taken
+fewer : (table : List (Option ℕ)) (number n : ℕ) → number < length table → get_or table number None ≡ None →
+    count_by is_none (set table number (Some n)) + 1 ≡ count_by is_none table
+fewer table number n there free =
+    let f : Option ℕ → ℕ = λ o. cond (is_none o) 1 0 in
+    let e : f (get_or table number None) ≡ 1 = ap f free in
+    omega (arith, sum_by-set f table number (Some n) None there, e)
+
+pub is_free : (table : List (Option ℕ)) (number : ℕ) (slot : Option ℕ) → slot ≡ get_or table number slot →
+    is_some slot ≡ false → get_or table number None ≡ None
+is_free table number None e t = sym e
+is_free table number (Some m) e t = absurd (cc)
+
+same_default : (xs : List (Option ℕ)) (i : ℕ) (d e : Option ℕ) → i < length xs → get_or xs i d ≡ get_or xs i e
+same_default [] i d e h = absurd (omega arith)
+same_default (x ∷ xs) zero d e h = refl
+same_default (x ∷ xs) (suc i) d e h = same_default xs i d e (omega arith)
+
+pub slot_is : (table : List (Option ℕ)) (number n : ℕ) (slot : Option ℕ) → number < length table →
+    slot ≡ get_or table number slot → slot ≡ Some n → get_or table number None ≡ Some n
+slot_is table number n slot h e is = same_default table number None slot h ∙ sym e ∙ is
+
+-- the pool's answer is put into the table
+pub record Took (table : List (Option ℕ)) (pool pool' : Pages) (number : ℕ) (r : Option ℕ) : Type 0 where
+  pub out : AreOut (set table number r) pool'
+  pub distinct : AreDistinct (set table number r)
+  pub enough : count_by is_none (set table number r) ≤ pool'.spare
+  pub same : cell (set table number r) pool' ≡ cell table pool
+
+pub took : (table : List (Option ℕ)) (pool pool' : Pages) (number : ℕ) (r : Option ℕ) → number < length table →
+    get_or table number None ≡ None → AreOut table pool → AreDistinct table →
+    count_by is_none table ≤ pool.spare → (IsNone r ↔ pool.spare ≡ 0) →
+    IfSome r (λ n. IsNone (page_of pool n)) → IfSome r (λ n. page_of pool' n ≡ Some zero_page) →
+    IfSome r (λ n. KeepsOthers pool pool' n) → OnSome r (pool'.spare + 1 ≡ pool.spare) → Took table pool pool' number r
+took table pool pool' number None there free out distinct enough none was zeros others spare =
+    absurd (omega (arith, fewer table number 0 there free, none.0 refl))
+took table pool pool' number (Some n) there free out distinct enough none was zeros others spare = record {
+  out = taken_out table pool pool' number n there free out distinct was zeros others;
+  distinct = taken_distinct table pool pool' number n there free out distinct was zeros others;
+  enough = omega (arith, fewer table number n there free);
+  same = taken_same table pool pool' number n there free out distinct was zeros others;
+}
+
+-- ---- a write to a page
+pub replaced-in : (f : ℕ → ℕ) (a : ℕ) (bs : List ℕ) (k : ℕ) → a ≤ k → k < a + length bs →
+    replaced f a bs k ≡ get_or bs (k - a) 0
+replaced-in f a bs k h l = let t : (nat_le a k && nat_lt k (a + length bs)) ≡ true = grind (arith, nat_tests) in
+    rw t refl
+
+pub replaced-apart : (f : ℕ → ℕ) (a : ℕ) (bs : List ℕ) (k : ℕ) → (a ≤ k → k < a + length bs → ⊥) →
+    replaced f a bs k ≡ f k
+replaced-apart f a bs k h = let t : (nat_le a k && nat_lt k (a + length bs)) ≡ false = grind (arith, nat_tests) in
+    rw t refl
+
+-- a place is its page and the byte there
+same_page : (a i : ℕ) → i / 4096 ≡ a / 4096 → (i ≡ a + i % 4096 - a % 4096) × (a % 4096 ≤ a)
+same_page a i e = (omega arith, omega arith)
+
+page_there : (pool : Pages) (n : ℕ) (old : List ℕ) → page_of pool n ≡ Some old → n < length pool.slots
+page_there pool n old e = ⊎_elim
+    (λ below. below)
+    (λ above. absurd (let none : page_of pool n ≡ None = get_or_past pool.slots n None above in cc))
+    (cases_lt n (length pool.slots))
+
+module _ (table : List (Option ℕ)) (pool : Pages) (a n : ℕ) (old bs : List ℕ) (distinct : AreDistinct table)
+    (slot : get_or table (a / 4096) None ≡ Some n) (page : page_of pool n ≡ Some old) (size : length old ≡ 4096)
+    (fits : a % 4096 + length bs ≤ 4096) where
+  abbrev pub page_new : List ℕ
+  page_new = put_mid (a % 4096) (length bs) old bs
+
+  on_page : (i : ℕ) → i / 4096 ≡ a / 4096 → cell table pool i ≡ get_or old (i % 4096) 0
+  on_page i same =
+      ap (λ z. byte_at pool (get_or table z None) (i % 4096)) same
+      ∙ ap (λ o. byte_at pool o (i % 4096)) slot
+      ∙ ap (λ o. byte_on o (i % 4096)) page
+
+  on_new : (i : ℕ) → i / 4096 ≡ a / 4096 → cell table (with_page pool n page_new) i ≡ get_or page_new (i % 4096) 0
+  on_new i same =
+      ap (λ z. byte_at (with_page pool n page_new) (get_or table z None) (i % 4096)) same
+      ∙ ap (λ o. byte_at (with_page pool n page_new) o (i % 4096)) slot
+      ∙ ap (λ o. byte_on o (i % 4096))
+      (get_or-set_same pool.slots n (Some page_new) None (page_there pool n old page))
+
+  wrote_at : (i : ℕ) → cell table (with_page pool n page_new) i ≡ replaced (cell table pool) a bs i
+  wrote_at i = ⊎_elim
+      (λ same. on_new i same ∙ ⊎_elim
+      (λ low. before (a % 4096) (length bs) (i % 4096) old bs (omega arith) low
+      ∙ sym (replaced-apart (cell table pool) a bs i (λ l u. omega arith) ∙ on_page i same))
+      (λ from. ⊎_elim
+      (λ here. within (a % 4096) (length bs) (i % 4096) old bs (omega arith) refl from here
+      ∙ ap (λ z. get_or bs z 0) (let z : i % 4096 - a % 4096 ≡ i - a = omega arith in z)
+      ∙ sym (replaced-in (cell table pool) a bs i (omega arith) (omega arith)))
+      (λ past. after (a % 4096) (length bs) (i % 4096) old bs (omega arith) refl past
+      ∙ sym (replaced-apart (cell table pool) a bs i (λ l u. omega arith) ∙ on_page i same))
+      (cases_lt (i % 4096) (a % 4096 + length bs)))
+      (cases_lt (i % 4096) (a % 4096)))
+      (λ other.
+      same_byte pool (with_page pool n page_new) (get_or table (i / 4096) None) (i % 4096)
+      (λ m e. get_or-set_other pool.slots n m (Some page_new) None
+      (λ is. other (distinct (i / 4096) (a / 4096) n (e ∙ ap Some is) slot)))
+      ∙ sym (replaced-apart (cell table pool) a bs i (λ l u. other (omega arith))))
+      (cases_eq (i / 4096) (a / 4096))
+
+  pub wrote : cell table (with_page pool n page_new) ≡ replaced (cell table pool) a bs
+  wrote = λ k i. wrote_at i k
+
+-- the same, as the check writes it
+pub wrote_page : (table : List (Option ℕ)) (pool : Pages) (f : ℕ → ℕ) (a n k : ℕ) (old bs ys : List ℕ) →
+    AreDistinct table → get_or table (a / 4096) None ≡ Some n → page_of pool n ≡ Some old → length old ≡ 4096 →
+    a % 4096 + length bs ≤ 4096 → cell table pool ≡ f → ys ≡ bs → k ≡ length bs →
+    cell table (with_page pool n (put_mid (a % 4096) k old ys)) ≡ replaced f a bs
+wrote_page table pool f a n k old bs ys distinct slot page size fits same e count =
+    ap (λ z. cell table (with_page pool n (put_mid (a % 4096) k old z))) e
+    ∙ ap (λ z. cell table (with_page pool n (put_mid (a % 4096) z old bs))) count
+    ∙ wrote table pool a n old bs distinct slot page size fits
+    ∙ ap (λ g. replaced g a bs) same

@@ -1,0 +1,46 @@
+// A region on pages.
+#![tactic(auto)]
+
+ghost use Rattle.std.specs.Prelude.{◌≡◌, ◌≤◌, IsTrue};
+
+use crate::Region;
+use sc_pool::PAGE_BYTES;
+
+// The addresses of a region, and the number of its first page.
+#[derive(Drop)]
+pub(crate) struct Area {
+    pub(crate) region: Region,
+    pub(crate) first: u32,
+}
+
+impl Area {
+    ghost use Rattle.sc_store.specs.Paged.{reaches, place_in};
+
+    // Whether this region has the addresses from `at` on, so many.
+    pub(crate) fn reaches(&self, at: u32, size: usize) -> bool
+        requires { size ≤ 4 }
+        ensures { result ≡ reaches at size self.now }
+    {
+        self.region.start <= at
+            && (at - self.region.start) as usize + size <= self.region.bytes as usize
+    }
+
+    // The place of the byte at this address, where the places go on from page to page.
+    pub(crate) fn place(&self, at: u32) -> usize
+        requires { self.now.region.start ≤ at }
+        ensures { result ≡ place_in at self.now }
+    {
+        self.first as usize * PAGE_BYTES + (at - self.region.start) as usize
+    }
+}
+
+impl Region {
+    ghost use Rattle.sc_store.specs.Pages.{pages_of};
+
+    // How many pages the region has, the last one in part.
+    pub(crate) fn pages(&self) -> u32
+        ensures { result ≡ pages_of self.now }
+    {
+        self.bytes.div_ceil(PAGE_BYTES as u32)
+    }
+}
