@@ -1,0 +1,104 @@
+// The calls of a store that keeps pages.
+
+ghost use Rattle.sc_store.specs.Prelude.{HasBytes};
+ghost use Rattle.std.specs.Prelude.{IsTrue};
+
+use sc_store::{OutOfMemory, PagedStore, Region, Store};
+use std::alloc::Global;
+use std::process::Abort;
+
+#[derive(Clone, Copy)]
+enum Step {
+    Load8,
+    Load16,
+    Load32,
+    Store8(u32),
+    Store16(u32),
+    Store32(u32),
+}
+
+fn has_all<S: Store>(store: &S, at: u32, size: u32) -> bool
+    ensures { IsTrue result → HasBytes (S.bytes store.now) at size }
+{
+    for k in 0..size {
+        if at > u32::MAX - k || !store.has(at + k) {
+            return false;
+        }
+    }
+    true
+}
+
+// What a load gives, and 0 for a store, or nothing where the store lacks a byte of the access.
+fn take<S: Store>(store: &mut S, step: Step, at: u32) -> Option<u32> {
+    match step {
+        Step::Load8 if has_all(store, at, 1) => Some(store.load8(at)),
+        Step::Load16 if has_all(store, at, 2) => Some(store.load16(at)),
+        Step::Load32 if has_all(store, at, 4) => Some(store.load32(at)),
+        Step::Store8(value) if has_all(store, at, 1) => {
+            store.store8(at, value);
+            Some(0)
+        }
+        Step::Store16(value) if has_all(store, at, 2) => {
+            store.store16(at, value);
+            Some(0)
+        }
+        Step::Store32(value) if has_all(store, at, 4) => {
+            store.store32(at, value);
+            Some(0)
+        }
+        _ => None,
+    }
+}
+
+// Two regions that touch, the first of which is longer than 16 pages by 2 bytes.
+fn exercise<S: Store>(rt: &impl Abort, alloc: Global) -> Result<(), OutOfMemory> {
+    let regions = [(0x1000, 65_538), (0x1_1002, 6)];
+    let regions = regions.map(|(start, bytes)| Region { start, bytes });
+    let mut store = S::zeroed(alloc, &regions)?;
+    for (step, at, want) in STEPS {
+        assert_eq!(rt; take(&mut store, step, at), want, "at {at}");
+    }
+    Ok(())
+}
+
+const STEPS: [(Step, u32, Option<u32>); 18] = [
+    (Step::Load32, 0x1000, Some(0)),
+    (Step::Load8, 0x0fff, None),
+    // the last word of one page and the first of the next
+    (Step::Store32(0x8765_4321), 0x1ffc, Some(0)),
+    (Step::Store32(0x0fed_cba9), 0x2000, Some(0)),
+    (Step::Load32, 0x1ffc, Some(0x8765_4321)),
+    (Step::Load32, 0x2000, Some(0x0fed_cba9)),
+    (Step::Load32, 0x1ffe, Some(0xcba9_8765)),
+    (Step::Load32, 0x2ffc, Some(0)),
+    // over the border of two pages
+    (Step::Store32(0xaabb_ccdd), 0x2fff, Some(0)),
+    (Step::Load8, 0x2fff, Some(0xdd)),
+    (Step::Load16, 0x3000, Some(0xbbcc)),
+    (Step::Load32, 0x2fff, Some(0xaabb_ccdd)),
+    // over the border of two regions
+    (Step::Store32(0x1122_3344), 0x1_1000, Some(0)),
+    (Step::Load16, 0x1_1002, Some(0x1122)),
+    (Step::Load16, 0x1_1001, Some(0x2233)),
+    (Step::Store16(1), 0x1_1007, None),
+    (Step::Load8, 0x1_1007, Some(0)),
+    (Step::Load8, 0x1_1008, None),
+];
+
+#[test]
+fn pages(rt: HostRuntime) -> Result<(), OutOfMemory> {
+    exercise::<PagedStore>(&rt, rt.alloc())
+}
+
+// One region that ends 2 bytes into its last page.
+#[test]
+fn last_page(rt: HostRuntime) -> Result<(), OutOfMemory> {
+    let region = Region {
+        start: 0x1000,
+        bytes: 65_538,
+    };
+    let store = PagedStore::zeroed(rt.alloc(), &[region])?;
+    assert!(rt; store.has(0x1000 + 65_537));
+    assert!(rt; !store.has(0x1000 + 65_538));
+    Ok(())
+}
