@@ -22,8 +22,8 @@ const TURNS: u32 = 100;
 
 const TURNS_WORD: &str = "100";
 
-// Whether the program tells of the text in which a set performs a trace what the source gives where the set performs it,
-// also behind the trace.
+// Whether the program tells of the text in which a set performs a trace what the source gives where the set performs
+// it, also behind the trace.
 fn is_performed(
     alloc: Global,
     source: &SourceText,
