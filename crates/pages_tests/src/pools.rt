@@ -1,6 +1,9 @@
 // The calls of a pool.
 
-use sc_pool::Pool;
+ghost use Rattle.sc_pool.specs.Pages.{page_of};
+ghost use Rattle.std.specs.Prelude.{IsSome};
+
+use sc_pool::{PageId, Pool};
 use std::test::Fail;
 
 fn is_zero(page: &[u8]) -> bool {
@@ -21,12 +24,20 @@ fn two_pages(rt: HostRuntime) -> Result<(), Fail> {
     Ok(())
 }
 
+// Writes to a page, which stays out.
+fn write(pool: &mut Pool, page: &PageId)
+    requires { IsSome (page_of pool.old page.now) }
+    ensures { IsSome (page_of pool.new page.now) }
+{
+    pool.page_mut(page)[7] = 9;
+}
+
 #[test]
 fn cleared(rt: HostRuntime) -> Result<(), Fail> {
     let mut pool = Pool::new(rt.alloc());
     pool.reserve(1)?;
     let page = pool.take().expect(&rt, "a page");
-    pool.page_mut(&page)[7] = 9;
+    write(&mut pool, &page);
     assert_eq!(rt; pool.page(&page)[7], 9);
     assert!(rt; pool.take().is_none());
     pool.give(page);
