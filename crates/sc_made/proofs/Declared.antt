@@ -39,7 +39,11 @@ functions_named seed _ _ no_functions = refl
 functions_named seed _ _ (and_function j lines js trees h) =
     ap (λ x. function_name j ∷ x) (functions_named seed js trees h)
 
--- Prototypes, and behind them others.
+-- Prototypes alone, and others behind them.
+
+pub protos_heads : (heads : List HeadTree) → heads_in (map decl.Proto heads) ≡ heads
+protos_heads [] = refl
+protos_heads (h ∷ heads) = ap (λ x. h ∷ x) (protos_heads heads)
 
 module _ (more : List Decl) where
   pub behind_structs : (heads : List HeadTree) → structs_in (map decl.Proto heads ++ more) ≡ structs_in more

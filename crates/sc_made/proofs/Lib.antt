@@ -1,4 +1,13 @@
 pub mod Shapes
+pub mod Spelled
+pub mod Lines
+pub mod Decls
+pub mod Calls
+pub mod Loops
+pub mod Functions
+pub mod Directives
+pub mod Sections
+pub mod Read
 pub mod Undone
 pub mod Numbers
 pub mod Naming
@@ -16,3 +25,7 @@ pub mod MainCounts
 pub mod WorkerCounts
 pub mod Counts
 pub mod Small
+pub mod Offered
+pub mod Faces
+pub mod WorkerFaces
+pub mod Accepted

@@ -2,6 +2,7 @@
 use Rattle.std.proofs.Common.{Bool, List, [], ◌∷◌, ◌≡◌, ◌+◌, ◌<◌, ◌≤◌, ◌%◌, ℕ, suc, zero, ap, arith, cond, eq-eqb}
 use Rattle.std.proofs.Common.{false, refl, subst, sym, true, inl, inr}
 use Rattle.std.proofs.lemmas.Bool.{false≢true}
+use Rattle.std.proofs.lemmas.Nat.{mod_below}
 use Rattle.std.specs.Prelude.{filter, nat_eq}
 use Rattle.sc_performers.proofs.Uses.{IsAmong, first, is_first_or_later, later, none_among}
 use Rattle.sc_made.specs.Text.{all_functions, functions_of, numbers_from, workers}
@@ -87,3 +88,7 @@ below_high low high j (i ∷ js) h there = elim (is_first_or_later j i js there)
   | inl same ↦ subst (λ n. n < high) (sym same) h.1
   | inr rest ↦ below_high (suc i) high j js h.2 rest
 ]
+
+-- a function's worker is one of the workers
+pub worker_low : (size j : ℕ) → 1 ≤ size → j % workers size < workers size
+worker_low size j some = mod_below j (workers size) (omega (arith, some))

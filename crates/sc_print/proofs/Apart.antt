@@ -120,6 +120,10 @@ pub arrow : (rest : List ℕ) → IsWord (codes "->") rest
 unfolding is_mark
 arrow rest = two_word 45 62 rest refl refl (λ e. omega (arith, e)) refl refl refl
 
+pub plus_plus : (rest : List ℕ) → IsWord (codes "++") rest
+unfolding is_mark
+plus_plus rest = two_word 43 43 rest refl refl (λ e. omega (arith, e)) refl refl refl
+
 -- an operator before a blank
 pub binary_word : (op : BinaryOp) (rest : List ℕ) → IsWord (binary_text op) (32 ∷ rest)
 unfolding is_mark

@@ -154,7 +154,7 @@ value_calm : (v : Option ExprTree) (rest : List ℕ) → Calm rest → Calm (tex
 value_calm None rest calm = calm
 value_calm (Some e) rest calm = refl
 
-local_tidy : (l : LocalTree) → IsTrue (kept_local l) → Free (local_line l)
+pub local_tidy : (l : LocalTree) → IsTrue (kept_local l) → Free (local_line l)
 local_tidy l k =
     let parts = and_parts (kept_type l.ty) (is_ident l.name && kept_value l.init) k in
     let more = and_parts (is_ident l.name) (kept_value l.init) parts.1 in

@@ -16,13 +16,13 @@ use Rattle.sc_print.proofs.Whole.{keeps, exports_lined, imports_lined, heading_f
 without_line : {pieces : List Piece} {rest : List ℕ} → Tidy (newline ∷ pieces) rest → Tidy pieces rest
 without_line (line_end t) = t
 
-dense_tidy : (d : Decl) → IsTrue (is_kept_decl d) → Free (dense_decl d)
+pub dense_tidy : (d : Decl) → IsTrue (is_kept_decl d) → Free (dense_decl d)
 dense_tidy (decl.Struct tree) k rest = decl_tidy (decl.Struct tree) k rest
 dense_tidy (decl.Global tree) k rest = decl_tidy (decl.Global tree) k rest
 dense_tidy (decl.Proto tree) k rest = decl_tidy (decl.Proto tree) k rest
 dense_tidy (decl.Function tree) k rest = without_line (decl_tidy (decl.Function tree) k rest)
 
-decl_symbols : (d : Decl) → symbols (dense_decl d) ≡ symbols (decl_words d)
+pub decl_symbols : (d : Decl) → symbols (dense_decl d) ≡ symbols (decl_words d)
 decl_symbols (decl.Struct tree) = refl
 decl_symbols _ = refl
 

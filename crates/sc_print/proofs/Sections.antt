@@ -23,7 +23,7 @@ use Rattle.sc_print.proofs.Leaves.{name_says}
 use Rattle.sc_print.proofs.Reading.{Reading, fixed, part, written, reads, separated, Alike, AllAlike, all_alike}
 use Rattle.sc_print.proofs.Reading.{line_symbols, joined_symbols}
 use Rattle.sc_print.proofs.Simple.{expr_reads}
-use Rattle.sc_print.proofs.Stmts.{lines_read, everywhere}
+use Rattle.sc_print.proofs.Stmts.{Lines, lines_read, everywhere}
 use Rattle.sc_print.proofs.Decls.{base_reads, stars_read, declarator_words, declarator_reads, init_reads}
 use Rattle.sc_print.proofs.Lists.{Say}
 use Rattle.sc_expr.specs.declared.mark.Keyword.TheVariants as keyword
@@ -215,18 +215,19 @@ proto_reads head k ts h =
       same = refl;
     }) ts (h ∙ line_symbols 0 (ended (head_words head)))
 
-function_reads : (f : FunctionTree) → IsTrue (kept_function f) →
-    Reading (function_words f) (λ ts. Spelled ts (decl.Function f))
-function_reads f k =
-    let parts = and_parts (kept_head (head_of f.head)) (list_all kept_local f.locals && are_kept f.body) k in
-    let rest = and_parts (list_all kept_local f.locals) (are_kept f.body) parts.1 in
-    reads (fixed newline ∷ part (head_words (head_of f.head)) ∷ fixed blank ∷ written (codes "{") ∷ fixed newline ∷
-    part (flat_map local_line f.locals) ∷ part (lines_at 1 (layouts f.body)) ∷ written (codes "}") ∷ fixed newline ∷ [])
+-- A function, whose statements may be written in other words than they are printed in.
+pub function_with : (f : FunctionTree) (body : List Piece) → IsTrue (kept_head (head_of f.head)) →
+    list_all kept_local f.locals ≡ true → Reading body (λ ts. Lines ts f.body) →
+    Reading (head_words (head_of f.head) ++ blank ∷ word (codes "{") ∷ newline ∷ (flat_map local_line f.locals ++
+    (body ++ word (codes "}") ∷ newline ∷ []))) (λ ts. Alike SpellsDecl lineless_decl ts (decl.Function f))
+function_with f body kept_h kept_ls read =
+    reads (part (head_words (head_of f.head)) ∷ fixed blank ∷ written (codes "{") ∷ fixed newline ∷
+    part (flat_map local_line f.locals) ∷ part body ∷ written (codes "}") ∷ fixed newline ∷ [])
     (λ us. Spelled us (decl.Function f))
-    (λ front head t opens middle locals back body u closes.
-    let hd = head_reads (head_of f.head) parts.0 front head in
-    let ls = locals_read f.locals rest.0 middle locals in
-    let b = lines_read 1 f.body (everywhere f.body) (all_at f.body rest.1) back body in
+    (λ front head t opens middle locals back said u closes.
+    let hd = head_reads (head_of f.head) kept_h front head in
+    let ls = locals_read f.locals kept_ls middle locals in
+    let b = read back said in
     let tree : FunctionTree = record {
       head = record f.head { line = hd.line };
       locals = ls.others;
@@ -245,7 +246,16 @@ function_reads f k =
         lineless_decl (decl.Function g) ≡ lineless_decl (decl.Function f)
     same_function f g p q r = rw (p, q, r)
 
-decl_reads : (d : Decl) → IsTrue (is_kept_decl d) → Reading (decl_words d) (λ ts. Spelled ts d)
+function_reads : (f : FunctionTree) → IsTrue (kept_function f) →
+    Reading (function_words f) (λ ts. Spelled ts (decl.Function f))
+function_reads f k =
+    let parts = and_parts (kept_head (head_of f.head)) (list_all kept_local f.locals && are_kept f.body) k in
+    let rest = and_parts (list_all kept_local f.locals) (are_kept f.body) parts.1 in
+    function_with f (lines_at 1 (layouts f.body)) parts.0 rest.0
+    (λ ts said. lines_read 1 f.body (everywhere f.body) (all_at f.body rest.1) ts said)
+
+pub decl_reads : (d : Decl) → IsTrue (is_kept_decl d) →
+    Reading (decl_words d) (λ ts. Alike SpellsDecl lineless_decl ts d)
 decl_reads (decl.Struct tree) k = struct_reads tree.name tree.line tree.members k
 decl_reads (decl.Global tree) k = global_reads tree k
 decl_reads (decl.Proto tree) k = proto_reads tree k

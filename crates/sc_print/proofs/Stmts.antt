@@ -43,10 +43,10 @@ same_for f c n b = search (rules, kinds.the_lemmas, trees.the_lemmas)
 
 -- The lexemes spell a statement, which is an `if` where that is told, and which is this one, lines aside.
 pub record Spelled (ts : List Lexeme) (is_if : Bool) (k : StmtKind) : Type 0 where
-  kind : StmtKind
-  spelled : SpellsStmtKind ts kind
-  chained : is_if ≡ true → SpellsIf ts kind
-  same : lineless_kind kind ≡ lineless_kind k
+  pub kind : StmtKind
+  pub spelled : SpellsStmtKind ts kind
+  pub chained : is_if ≡ true → SpellsIf ts kind
+  pub same : lineless_kind kind ≡ lineless_kind k
 
 -- what the words of a layout spell
 abbrev pub Reads : Layout → StmtKind → Type 0
@@ -61,7 +61,7 @@ pub record Lines (ts : List Lexeme) (stmts : List StmtTree) : Type 0 where
   pub same : lineless_stmts others ≡ lineless_stmts stmts
 
 -- a statement at the line of its first lexeme
-same_line : (line : ℕ) (kind : StmtKind) (s : StmtTree) → lineless_kind kind ≡ lineless_kind s.kind →
+pub same_line : (line : ℕ) (kind : StmtKind) (s : StmtTree) → lineless_kind kind ≡ lineless_kind s.kind →
     lineless_stmt (record { line = line; kind = kind }) ≡ lineless_stmt s
 same_line line kind s same =
     bare_stmt line kind ∙ ap (λ x. record { line = 0; kind = x }) same ∙ sym (bare_stmt s.line s.kind)
@@ -222,10 +222,10 @@ returned value k spells =
     (ends ∙ tables.semicolon) said))
 
 -- a part of a `for`
-record Part (ts : List Lexeme) (part : Option SimpleTree) : Type 0 where
-  other : Option SimpleTree
-  spelled : SpellsPart ts other
-  same : lineless_option other ≡ lineless_option part
+pub record Part (ts : List Lexeme) (part : Option SimpleTree) : Type 0 where
+  pub other : Option SimpleTree
+  pub spelled : SpellsPart ts other
+  pub same : lineless_option other ≡ lineless_option part
 
 part_reads : (simple : Option SimpleTree) → IsTrue (kept_option simple) →
     Reading (first_words simple) (λ ts. Part ts simple)
@@ -241,6 +241,33 @@ next_symbols : (part : Option SimpleTree) → symbols (next_words part) ≡ symb
 next_symbols None = refl
 next_symbols (Some s) = refl
 
+-- A `for`, whose last part may be written in other words than it is printed in.
+pub for_with : (f : Option SimpleTree) (c : ExprTree) (n : Option SimpleTree) (b : List StmtTree) (turn : List Piece) →
+    IsTrue (kept_option f) → IsTrue (is_kept c) → Reading turn (λ ts. Part ts n) → Each Holds b →
+    list_all is_kept_stmt b ≡ true → (depth : ℕ) →
+    Reading (word (codes "for") ∷ blank ∷ word (codes "(") ∷ (first_words f ++ word (codes ";") ∷ blank ∷
+    (expr_words c ++ word (codes ";") ∷ (turn ++ word (codes ")") ∷ blank ∷ block_words depth (layouts b)))))
+    (λ ts. Spelled ts false (stmt.For f c n b))
+for_with f c n b turn kept_f kept_c read_turn at_b kept_b depth =
+    reads (written (codes "for") ∷ fixed blank ∷ written (codes "(") ∷ part (first_words f) ∷ written (codes ";") ∷
+    fixed blank ∷ part (expr_words c) ∷ written (codes ";") ∷ part turn ∷ written (codes ")") ∷
+    fixed blank ∷ part (block_words depth (layouts b)) ∷ []) (λ us. Spelled us false (stmt.For f c n b))
+    (λ t is u opens fs start v ends bs test w ends_too cs step x closes ds inner.
+    let first = part_reads f kept_f fs start in
+    let next = read_turn cs step in
+    let body = block_reads depth b at_b kept_b ds inner in
+    record {
+      kind = stmt.For first.other c next.other body.others;
+      spelled = spell.for_loop t u v w x (is ∙ tables.keyword_says keyword.For) (opens ∙ tables.open_paren)
+          (ends ∙ tables.semicolon)
+          (ends_too ∙ tables.semicolon) (closes ∙ tables.close_paren) first.spelled
+          (spell.a_test (expr_reads c kept_c bs test)) next.spelled body.spelled;
+      chained = λ q. absurd (false≢true q);
+      same = same_for first.other c next.other body.others ∙
+          ap (λ y. stmt.For y c (lineless_option next.other) (lineless_stmts body.others)) first.same ∙
+          ap₂ (λ y z. stmt.For (lineless_option f) c y z) next.same body.same ∙ sym (same_for f c n b);
+    })
+
 for_reads : (f : Option SimpleTree) (c : ExprTree) (n : Option SimpleTree) (b : List StmtTree) →
     IsTrue (kept_option f) → IsTrue (is_kept c) → IsTrue (kept_option n) → Each Holds b →
     list_all is_kept_stmt b ≡ true → (depth : ℕ) →
@@ -255,24 +282,8 @@ for_reads f c n b kept_f kept_c kept_n at_b kept_b depth ts h =
     append_assoc (first_words f) (word (codes ";") ∷ blank ∷ (expr_words c ++ turn)) block ∙
     ap (λ x. first_words f ++ word (codes ";") ∷ blank ∷ x) (append_assoc (expr_words c) turn block ∙
     ap (λ x. expr_words c ++ word (codes ";") ∷ x) (append_assoc (next_words n) closing block)) in
-    reads (written (codes "for") ∷ fixed blank ∷ written (codes "(") ∷ part (first_words f) ∷ written (codes ";") ∷
-    fixed blank ∷ part (expr_words c) ∷ written (codes ";") ∷ part (next_words n) ∷ written (codes ")") ∷
-    fixed blank ∷ part block ∷ []) (λ us. Spelled us false (stmt.For f c n b))
-    (λ t is u opens fs start v ends bs test w ends_too cs step x closes ds inner.
-    let first = part_reads f kept_f fs start in
-    let next = part_reads n kept_n cs (step ∙ next_symbols n) in
-    let body = block_reads depth b at_b kept_b ds inner in
-    record {
-      kind = stmt.For first.other c next.other body.others;
-      spelled = spell.for_loop t u v w x (is ∙ tables.keyword_says keyword.For) (opens ∙ tables.open_paren)
-          (ends ∙ tables.semicolon)
-          (ends_too ∙ tables.semicolon) (closes ∙ tables.close_paren) first.spelled
-          (spell.a_test (expr_reads c kept_c bs test)) next.spelled body.spelled;
-      chained = λ q. absurd (false≢true q);
-      same = same_for first.other c next.other body.others ∙
-          ap (λ y. stmt.For y c (lineless_option next.other) (lineless_stmts body.others)) first.same ∙
-          ap₂ (λ y z. stmt.For (lineless_option f) c y z) next.same body.same ∙ sym (same_for f c n b);
-    }) ts (h ∙ ap (λ x. symbols (word (codes "for") ∷ blank ∷ word (codes "(") ∷ x)) joined)
+    for_with f c n b (next_words n) kept_f kept_c (λ us said. part_reads n kept_n us (said ∙ next_symbols n)) at_b
+    kept_b depth ts (h ∙ ap (λ x. symbols (word (codes "for") ∷ blank ∷ word (codes "(") ∷ x)) joined)
 
 -- each kind of statement
 form : (k : StmtKind-F StmtKind StmtTree) → Inside Holds k →
@@ -318,7 +329,7 @@ at_line line k inside kept_s =
     let kept_eq = stmt_at Bool Bool kept.kind_step kept.stmt_step line k in
     subst (λ l. Reads l (roll-StmtKind k)) (sym eq) (form k inside (subst (λ x. IsTrue x) kept_eq kept_s))
 
-stmt_holds : (s : StmtTree) → Holds s
+pub stmt_holds : (s : StmtTree) → Holds s
 stmt_holds = stmt_induction Holds at_line
 
 pub everywhere : (stmts : List StmtTree) → Each Holds stmts

@@ -39,6 +39,10 @@ pub arrow : SaysMark (codes "->") mark.Arrow
 unfolding word_symbol kind_of word_kind is_reserved is_name is_integer is_number is_mark says mark_of
 arrow = refl
 
+pub plus_plus : SaysMark (codes "++") mark.PlusPlus
+unfolding word_symbol kind_of word_kind is_reserved is_name is_integer is_number is_mark says mark_of
+plus_plus = refl
+
 pub star : SaysMark (codes "*") mark.Star
 unfolding word_symbol kind_of word_kind is_reserved is_name is_integer is_number is_mark says mark_of
 star = refl

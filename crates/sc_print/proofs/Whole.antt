@@ -1,14 +1,14 @@
 -- The words of whole sections spell them, and their text is cut into them.
 use Rattle.sc_print.proofs.Common.{Decl, IsTrue, Lexeme, List, Piece, SameButLines, SectionSpells, SectionTree}
-use Rattle.sc_print.proofs.Common.{SpellsDirectives, SpellsSection, [], and_parts, ap, append_assoc, begins_heading}
-use Rattle.sc_print.proofs.Common.{decl_words, export_words, flat_map, import_words, is_kept_decl, is_name, kept_export}
-use Rattle.sc_print.proofs.Common.{kept_import, kept_section, lineless_decl, lineless_export, lineless_import, list_all}
-use Rattle.sc_print.proofs.Common.{map, printed, refl, section_words, sym, symbols, text_of, true, word, ℕ, ◌&&◌, ◌++◌}
-use Rattle.sc_print.proofs.Common.{◌∙◌, ◌∷◌, ◌≡◌}
+use Rattle.sc_print.proofs.Common.{SpellsDecl, SpellsDirectives, SpellsSection, [], and_parts, ap, append_assoc}
+use Rattle.sc_print.proofs.Common.{begins_heading, decl_words, export_words, flat_map, heading_words, import_words}
+use Rattle.sc_print.proofs.Common.{is_kept_decl, is_name, kept_export, kept_import, kept_section, lineless_decl}
+use Rattle.sc_print.proofs.Common.{lineless_export, lineless_import, list_all, map, printed, refl, section_words, sym}
+use Rattle.sc_print.proofs.Common.{symbols, text_of, true, word, ℕ, ◌&&◌, ◌++◌, ◌∙◌, ◌∷◌, ◌≡◌}
 use Rattle.sc_ast.specs.declared.section.ExportLine.{ExportLine}
 use Rattle.sc_ast.specs.declared.section.ImportLine.{ImportLine}
 use Rattle.sc_parse.specs.Sections as spell
-use Rattle.sc_print.proofs.Reading.{Reading, part, written, reads}
+use Rattle.sc_print.proofs.Reading.{AllAlike, Reading, part, written, reads}
 use Rattle.sc_print.proofs.DirectiveWords.{export_text, export_says, export_line_is, import_text, import_says}
 use Rattle.sc_print.proofs.DirectiveWords.{import_line_is, heading_text, heading_says, heading_line_is, heading_begins}
 use Rattle.sc_print.proofs.Lined.{Lined, tidy, line, found_lines}
@@ -95,17 +95,21 @@ keeps tree k =
     let c = and_parts (list_all kept_import tree.imports) (list_all is_kept_decl tree.decls) b.1 in
     record { name = a.0; exports = b.0; imports = c.0; decls = c.1 }
 
-pub section_reads : (tree : SectionTree) → IsTrue (kept_section tree) → SectionSpells tree
-section_reads tree k ts h =
-    let kept = keeps tree k in
+-- A section, whose declarations may be written in other words than they are printed in.
+pub section_with : (tree : SectionTree) (decls : List Piece) → is_name tree.name ≡ true →
+    list_all kept_export tree.exports ≡ true → list_all kept_import tree.imports ≡ true →
+    Reading decls (λ ts. AllAlike SpellsDecl lineless_decl ts tree.decls) →
+    Reading (heading_words tree.name ++ (flat_map export_words tree.exports ++
+    (flat_map import_words tree.imports ++ decls)))
+    (λ us. (other : SectionTree) × SpellsSection tree.line us other × SameButLines other tree)
+section_with tree decls name kept_exports kept_imports read ts h =
     let exports : List Piece = flat_map export_words tree.exports in
     let imports : List Piece = flat_map import_words tree.imports in
-    let decls : List Piece = flat_map decl_words tree.decls in
     reads (written (heading_text tree.name) ∷ part (exports ++ imports) ∷ part decls ∷ [])
     (λ us. (other : SectionTree) × SpellsSection tree.line us other × SameButLines other tree)
     (λ t is front directed back declared.
-    let d = exports_read tree.exports tree.imports kept.exports kept.imports front directed in
-    let ds = decls_read tree.decls kept.decls back declared in
+    let d = exports_read tree.exports tree.imports kept_exports kept_imports front directed in
+    let ds = read back declared in
     let other : SectionTree = record {
       name = tree.name;
       line = tree.line;
@@ -114,10 +118,16 @@ section_reads tree k ts h =
       decls = ds.others;
     } in (
       other,
-      spell.section t tree.name (is ∙ heading_says tree.name kept.name) d.spelled ds.spelled,
+      spell.section t tree.name (is ∙ heading_says tree.name name) d.spelled ds.spelled,
       same_section tree d.other_exports d.other_imports ds.others d.same_exports d.same_imports ds.same,
     )) ts
     (h ∙ ap (λ pieces. symbols (word (heading_text tree.name) ∷ pieces)) (sym (append_assoc exports imports decls)))
+
+pub section_reads : (tree : SectionTree) → IsTrue (kept_section tree) → SectionSpells tree
+section_reads tree k =
+    let kept = keeps tree k in
+    section_with tree (flat_map decl_words tree.decls) kept.name kept.exports kept.imports
+    (λ ts said. decls_read tree.decls kept.decls ts said)
 
 pub exports_lined : (exports : List ExportLine) → list_all kept_export exports ≡ true → (more : List Piece) →
     Lined more → Lined (flat_map export_words exports ++ more)

@@ -41,7 +41,7 @@ use Rattle.sc_reread.proofs.Splitting.{IsText}
 abbrev pub plain : List ℕ → Bool
 plain text = list_all (λ byte. not (byte == 35)) text
 
-plain_append : (a b : List ℕ) → plain a ≡ true → plain b ≡ true → plain (a ++ b) ≡ true
+pub plain_append : (a b : List ℕ) → plain a ≡ true → plain b ≡ true → plain (a ++ b) ≡ true
 plain_append [] b p q = q
 plain_append (x ∷ a) b p q = let parts = and_parts (not (x == 35)) (plain a) p in
     and_from (not (x == 35)) (plain (a ++ b)) parts.0 (plain_append a b parts.1 q)
@@ -52,7 +52,7 @@ byte_plain b h = ap not (spacing.other b 35 h refl)
 bytes_plain : (text : List ℕ) → list_all is_name_byte text ≡ true → plain text ≡ true
 bytes_plain text h = list_all_along is_name_byte (λ b. not (b == 35)) byte_plain text h
 
-name_plain : (name : List ℕ) → is_name name ≡ true → plain name ≡ true
+pub name_plain : (name : List ℕ) → is_name name ≡ true → plain name ≡ true
 unfolding is_name
 name_plain [] h = absurd (false≢true h)
 name_plain (b ∷ bs) h =
@@ -109,7 +109,7 @@ blanks_plain : (n : ℕ) → plain (replicate n 32) ≡ true
 blanks_plain zero = refl
 blanks_plain (suc n) = blanks_plain n
 
-tidy_plain : {pieces : List Piece} {rest : List ℕ} → spacing.Tidy pieces rest → plain (text_of pieces) ≡ true
+pub tidy_plain : {pieces : List Piece} {rest : List ℕ} → spacing.Tidy pieces rest → plain (text_of pieces) ≡ true
 tidy_plain spacing.none = refl
 tidy_plain (spacing.gap t) = tidy_plain t
 tidy_plain (spacing.at_level {pieces = pieces} levels t) =
@@ -125,7 +125,7 @@ Headless text = (at : ℕ) → begins_heading (drop at text) ≡ true → ⊥
 sign_of : (text : List ℕ) → begins_heading text ≡ true → slice_index text 0 ≡ 35
 sign_of text h = ap (λ b. slice_index b 0) (to_begins text h).is
 
-plain_then : (a b : List ℕ) → plain a ≡ true → Headless b → Headless (a ++ b)
+pub plain_then : (a b : List ℕ) → plain a ≡ true → Headless b → Headless (a ++ b)
 plain_then [] b p h at is = h at is
 plain_then (x ∷ a) b p h zero is =
     let parts = and_parts (not (x == 35)) (plain a) p in
@@ -138,16 +138,16 @@ none_headless at is =
     let e : 0 ≡ length (mark ++ b.rest) = ap length (sym (drop_all at [] (omega arith)) ∙ b.is) in
     absurd (omega (arith, e))
 
-plain_headless : (text : List ℕ) → plain text ≡ true → Headless text
+pub plain_headless : (text : List ℕ) → plain text ≡ true → Headless text
 plain_headless text p = subst Headless (append-nil text) (plain_then text [] p none_headless)
 
-export_headless : (text : List ℕ) → Headless text → Headless (codes "#pragma export " ++ text)
+pub export_headless : (text : List ℕ) → Headless text → Headless (codes "#pragma export " ++ text)
 export_headless text h zero is =
     let e : 101 ≡ 99 = ap (λ b. slice_index b 8) (to_begins (codes "#pragma export " ++ text) is).is in
     absurd (omega (arith, e))
 export_headless text h (suc at) is = plain_then (codes "pragma export ") text refl h at is
 
-import_headless : (text : List ℕ) → Headless text → Headless (codes "#pragma import " ++ text)
+pub import_headless : (text : List ℕ) → Headless text → Headless (codes "#pragma import " ++ text)
 import_headless text h zero is =
     let e : 105 ≡ 99 = ap (λ b. slice_index b 8) (to_begins (codes "#pragma import " ++ text) is).is in
     absurd (omega (arith, e))
@@ -180,6 +180,37 @@ imports_headless interfaces (import ∷ imports) h behind k =
     (plain_append f.name (codes "\n") (name_plain f.name (ident_name f.name h.0.called.name)) refl))
     (imports_headless interfaces imports h.1 behind k)))
 
+-- The text of a section, whose compartment line tells its name, and in which no other stands.
+
+module _ (name behind : List ℕ) where
+  abbrev pub headed : List ℕ
+  headed = mark ++ (name ++ (codes "\n" ++ behind))
+
+  module _ (named : is_name name ≡ true) (headless : Headless behind) where
+    tail_headless : Headless (codes "pragma compartment " ++ (name ++ (codes "\n" ++ behind)))
+    tail_headless = plain_then (codes "pragma compartment ") (name ++ (codes "\n" ++ behind)) refl
+        (plain_then name (codes "\n" ++ behind) (name_plain name named)
+        (plain_then (codes "\n") behind refl headless))
+
+    whole : (at : ℕ) → 1 ≤ at → IsTrue (is_heading headed at) → ⊥
+    whole zero low h = omega (arith, low)
+    whole (suc at) low h = tail_headless at
+        (and_parts (begins_line headed (suc at)) (begins_heading (drop (suc at) headed)) h).1
+
+    first_is : first_line headed ≡ mark ++ name
+    first_is =
+        let line : List ℕ = mark ++ name in
+        let long = run_is is_inside_line line (10 ∷ behind) (heading_line_is name named).inside refl in
+        ap (λ n. take n headed) long ∙ take-append_seam line (10 ∷ behind)
+
+    pub headed_text : IsText headed
+    headed_text = record {
+      begins = heading_begins (name ++ (codes "\n" ++ behind));
+      name = name;
+      named = ap heading_name first_is ∙ heading_is name named;
+      whole = λ at low high h. whole at low h;
+    }
+
 -- Performing texts end with a newline.
 
 abbrev pub Closed : List ℕ → Type 0
@@ -189,10 +220,10 @@ Closed text = (d : ℕ) → d ≡ 10 → last d text ≡ 10
 abbrev pub Closing : List ℕ → Type 0
 Closing text = (d : ℕ) → last d text ≡ 10
 
-behind_closing : (a b : List ℕ) → Closing b → Closing (a ++ b)
+pub behind_closing : (a b : List ℕ) → Closing b → Closing (a ++ b)
 behind_closing a b h d = last_append d a b ∙ h (last d a)
 
-closed_append : (a b : List ℕ) → Closed a → Closed b → Closed (a ++ b)
+pub closed_append : (a b : List ℕ) → Closed a → Closed b → Closed (a ++ b)
 closed_append a b h k d e = last_append d a b ∙ k (last d a) (h d e)
 
 function_closing : (interfaces : Interfaces) (rows : List Row) (e : Entry) (f : Proto) →
@@ -263,29 +294,7 @@ module _ (interfaces : Interfaces) (comp : ℕ) (rows : List Row) (interface : I
         let ds = decls_are interfaces comp rows interface can in
         ap plain (sym ds.same.spelled) ∙ tidy_plain (ds.same.tidy [])
 
-    tail_headless : Headless (codes "pragma compartment " ++ (interface.name ++ (codes "\n" ++ behind)))
-    tail_headless =
-        plain_then (codes "pragma compartment ") (interface.name ++ (codes "\n" ++ behind)) refl
-        (plain_then interface.name (codes "\n" ++ behind) (name_plain interface.name can.name)
-        (plain_then (codes "\n") behind refl (exports_headless interface.exports (recursion_from_All _ _ can.exports)
-        (imports ++ decls) (imports_headless interfaces interface.imports (recursion_from_All _ _ can.imports) decls
-        (plain_headless decls decls_plain)))))
-
-    whole : (at : ℕ) → 1 ≤ at → IsTrue (is_heading text at) → ⊥
-    whole zero low h = omega (arith, low)
-    whole (suc at) low h = tail_headless at
-        (and_parts (begins_line text (suc at)) (begins_heading (drop (suc at) text)) h).1
-
-    first_is : first_line text ≡ mark ++ interface.name
-    first_is =
-        let line : List ℕ = mark ++ interface.name in
-        let long = run_is is_inside_line line (10 ∷ behind) (heading_line_is interface.name can.name).inside refl in
-        ap (λ n. take n text) long ∙ take-append_seam line (10 ∷ behind)
-
     pub performing_text : IsText text
-    performing_text = record {
-      begins = text_begins;
-      name = interface.name;
-      named = ap heading_name first_is ∙ heading_is interface.name can.name;
-      whole = λ at low high h. whole at low h;
-    }
+    performing_text = headed_text interface.name behind can.name (exports_headless interface.exports
+        (recursion_from_All _ _ can.exports) (imports ++ decls) (imports_headless interfaces interface.imports
+        (recursion_from_All _ _ can.imports) decls (plain_headless decls decls_plain)))

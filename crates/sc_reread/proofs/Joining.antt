@@ -66,7 +66,7 @@ pub record IsFound (text : List ℕ) (at : ℕ) (texts : List (List ℕ)) : Type
   pub sections : AreSections text at (length text) found
   pub bytes : map bytes_of found ≡ texts
 
-to_sections : (front : List ℕ) (texts : List (List ℕ)) → Joined texts → (texts ≡ []) ⊎ (last 10 front ≡ 10) →
+pub to_sections : (front : List ℕ) (texts : List (List ℕ)) → Joined texts → (texts ≡ []) ⊎ (last 10 front ≡ 10) →
     IsFound (front ++ concat texts) (length front) texts
 to_sections front [] nothing ends =
     let long : length front ≡ length (front ++ []) = ap length (sym (append-nil front)) in

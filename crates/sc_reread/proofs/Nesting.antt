@@ -3,6 +3,10 @@ use Rattle.sc_reread.proofs.Common.{IsTrue, Lexeme, List, Number, Piece, Symbol,
 use Rattle.sc_reread.proofs.Common.{fits, is_ident, literal_text, map, max, most_open, open_after, refl, subst, suc}
 use Rattle.sc_reread.proofs.Common.{sym, symbols, blank, indent, newline, word, word_symbol, ℕ, ◌++◌, ◌+◌, ◌-◌, ◌∙◌}
 use Rattle.sc_reread.proofs.Common.{◌∷◌, ◌≡◌, ◌≤◌}
+use Rattle.sc_base.specs.declared.op.BinaryOp.{BinaryOp}
+use Rattle.sc_base.specs.declared.op.BinaryOp.TheVariants as binary
+use Rattle.sc_ast.specs.Prelude.{binary_text}
+use Rattle.sc_expr.specs.Brackets.{open_behind}
 use Rattle.sc_expr.specs.declared.mark.Keyword.{Keyword}
 use Rattle.sc_print.proofs.Tables as tables
 use Rattle.sc_print.proofs.Leaves.{name_says}
@@ -109,11 +113,27 @@ even_comma count = ap (λ s. open_after s count) tables.comma_mark
 pub even_equal : Even (word_symbol (codes "="))
 even_equal count = ap (λ s. open_after s count) tables.equal
 
+pub even_step : Even (word_symbol (codes "++"))
+even_step count = ap (λ s. open_after s count) tables.plus_plus
+
+pub even_binary : (op : BinaryOp) → Even (word_symbol (binary_text op))
+even_binary op count = ap (λ s. open_after s count) (tables.binary_says op) ∙ by op
+  where
+    by : (op : BinaryOp) → open_behind (tables.binary_mark op) count ≡ count
+    by binary.OrElse = refl
+    by _ = refl
+
 open_paren : Opens (word_symbol (codes "("))
 open_paren count = ap (λ s. open_after s count) tables.open_paren
 
 close_paren : Closes (word_symbol (codes ")"))
 close_paren count = ap (λ s. open_after s count) tables.close_paren
+
+open_square : Opens (word_symbol (codes "["))
+open_square count = ap (λ s. open_after s count) tables.open_square
+
+close_square : Closes (word_symbol (codes "]"))
+close_square count = ap (λ s. open_after s count) tables.close_square
 
 open_curly : Opens (word_symbol (codes "{"))
 open_curly count = ap (λ s. open_after s count) tables.open_curly
@@ -124,6 +144,10 @@ close_curly count = ap (λ s. open_after s count) tables.close_curly
 pub nested_parens : {depth : ℕ} {inner pieces : List Piece} → Nested depth inner → Nested (suc depth) pieces →
     Nested (suc depth) (word (codes "(") ∷ (inner ++ word (codes ")") ∷ pieces))
 nested_parens m n = nested_in (codes "(") (codes ")") open_paren close_paren m n
+
+pub nested_square : {depth : ℕ} {inner pieces : List Piece} → Nested depth inner → Nested (suc depth) pieces →
+    Nested (suc depth) (word (codes "[") ∷ (inner ++ word (codes "]") ∷ pieces))
+nested_square m n = nested_in (codes "[") (codes "]") open_square close_square m n
 
 pub nested_curly : {depth : ℕ} {inner pieces : List Piece} → Nested depth inner → Nested (suc depth) pieces →
     Nested (suc depth) (word (codes "{") ∷ (inner ++ word (codes "}") ∷ pieces))

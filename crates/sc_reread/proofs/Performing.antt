@@ -55,10 +55,10 @@ exports_kept [] h = refl
 exports_kept (f ∷ exports) h = and_from (is_name f.name) (list_all kept_export (map export_line exports))
     (ident_name f.name h.0.name) (exports_kept exports h.1)
 
-even_export : (name : List ℕ) → is_name name ≡ true → Even (word_symbol (codes "#pragma export " ++ name))
+pub even_export : (name : List ℕ) → is_name name ≡ true → Even (word_symbol (codes "#pragma export " ++ name))
 even_export name k count = ap (λ s. open_after s count) (export_says name k)
 
-even_import : (comp name : List ℕ) → is_name comp ≡ true → is_name name ≡ true →
+pub even_import : (comp name : List ℕ) → is_name comp ≡ true → is_name name ≡ true →
     Even (word_symbol (codes "#pragma import " ++ (comp ++ codes " " ++ name)))
 even_import comp name j k count = ap (λ s. open_after s count) (import_says comp name j k)
 
@@ -268,7 +268,7 @@ decls_are interfaces comp rows interface can =
 
 -- The section.
 
-even_heading : (name : List ℕ) → is_name name ≡ true → Even (word_symbol (codes "#pragma compartment " ++ name))
+pub even_heading : (name : List ℕ) → is_name name ≡ true → Even (word_symbol (codes "#pragma compartment " ++ name))
 even_heading name k count = ap (λ s. open_after s count) (heading_says name k)
 
 -- a section that is kept and low, and its words in lines

@@ -1,20 +1,24 @@
--- The text of a section that performs is read as its tree.
-use Rattle.sc_reread.proofs.Common.{Lexeme, List, [], ap, arith, codes, map, refl, section_height, section_words, subst}
-use Rattle.sc_reread.proofs.Common.{sym, symbol_of, symbols, text_of, ℕ, ◌++◌, flat_map, most_open, true, ◌∙◌, ◌∷◌, ◌≡◌}
+-- A text of words that spell a section is read as its tree, and so is the text of one that performs.
+use Rattle.sc_reread.proofs.Common.{Lexeme, List, Piece, [], ap, arith, codes, flat_map, map, most_open, refl}
+use Rattle.sc_reread.proofs.Common.{section_height, subst, sym, symbol_of, symbols, text_of, true, ℕ, ◌++◌, ◌∙◌, ◌∷◌}
+use Rattle.sc_reread.proofs.Common.{◌≡◌, ◌≤◌}
 use Rattle.sc_lex.specs.Prelude.{begins_heading}
 use Rattle.sc_lex.specs.declared.token.Token.{Token}
+use Rattle.sc_ast.specs.Prelude.{SameButLines}
 use Rattle.sc_ast.specs.declared.section.SectionTree.{SectionTree}
 use Rattle.sc_parse.specs.Prelude.{SpellsSection, lexemes_of}
 use Rattle.sc_parse.specs.Sections as spell
 use Rattle.sc_print.proofs.Cut.{Found}
 use Rattle.sc_print.proofs.DirectiveWords.{heading_begins}
 use Rattle.sc_print.proofs.Heights.{sections_same}
-use Rattle.sc_print.proofs.Lined.{found_lines}
+use Rattle.sc_print.proofs.Lined.{Lined, found_lines}
+use Rattle.sc_print.proofs.Lists.{Say}
+use Rattle.sc_print.proofs.Reading.{Reading}
 use Rattle.sc_print.proofs.Whole.{section_reads}
 use Rattle.sc_back.specs.Text.{back_text, export_text, functions_text, import_text, main_text, proto_text, section_text}
 use Rattle.sc_back.specs.Tree.{back_tree}
 use Rattle.sc_reread.specs.Performing.{IsParsedAs, IsReadAs, PerformingTextsAreRead}
-use Rattle.sc_reread.proofs.Nesting.{AtMost, none_more, opens, opens_lexemes}
+use Rattle.sc_reread.proofs.Nesting.{AtMost, Nested, nested_more, none_more, opens, opens_lexemes}
 use Rattle.sc_reread.proofs.Performing.{IsPerforming, section_is}
 use Rattle.std.proofs.Common.{append-nil}
 
@@ -26,19 +30,28 @@ symbols_of bytes (t ∷ tokens) = ap (λ ss. symbol_of bytes t ∷ ss) (symbols_
 pub line_is : (line : ℕ) (ts : List Lexeme) (tree : SectionTree) → SpellsSection line ts tree → tree.line ≡ line
 line_is line _ _ (spell.section t name is directives decls) = refl
 
--- what is parsed of lexemes that say what the words of a section say
-parsed_as : (tree : SectionTree) (text : List ℕ) → IsPerforming tree text → (lexemes : List Lexeme) →
-    map (λ t. t.symbol) lexemes ≡ symbols (section_words tree) → (line : ℕ) → IsParsedAs line lexemes tree
+-- A text of words in lines, which spell a section that is the tree, lines aside; this is low, and few brackets are open.
+pub record IsWritten (tree : SectionTree) (text : List ℕ) : Type 0 where
+  pub pieces : List Piece
+  pub reads : (line : ℕ) → Reading pieces
+      (λ ts. (other : SectionTree) × SpellsSection line ts other × SameButLines other tree)
+  pub low : section_height tree ≤ 256
+  pub lined : Lined pieces
+  pub spelled : text_of pieces ≡ text
+  pub nested : Nested 1024 pieces
+
+-- what is parsed of lexemes that say what the words say
+parsed_as : (tree : SectionTree) (text : List ℕ) (is : IsWritten tree text) (lexemes : List Lexeme) →
+    Say (symbols is.pieces) lexemes → (line : ℕ) → IsParsedAs line lexemes tree
 parsed_as tree text is lexemes says line =
-    let moved : SectionTree = record tree { line = line } in
-    let spelled = section_reads moved is.kept lexemes says in
+    let spelled = is.reads line lexemes says in
     let other = spelled.0 in
-    let tall : section_height other ≡ section_height moved = sections_same other moved spelled.2 in
+    let tall : section_height other ≡ section_height tree = sections_same other tree spelled.2 in
     let low = is.low in
     let few : most_open 0 lexemes ≡ opens 0 (symbols is.pieces) =
-    opens_lexemes 0 lexemes ∙ ap (opens 0) (says ∙ sym is.says) in
-    let bound = is.nested.under 0 3 [] (omega arith) (none_more 0 3 (omega arith)) in
-    let within = (subst (λ ss. AtMost 0 ss 3) (append-nil (symbols is.pieces)) bound).within in
+    opens_lexemes 0 lexemes ∙ ap (opens 0) says in
+    let bound = is.nested.under 0 1024 [] (omega arith) (none_more 0 1024 (omega arith)) in
+    let within = (subst (λ ss. AtMost 0 ss 1024) (append-nil (symbols is.pieces)) bound).within in
     record {
       other = other;
       parsed = record { spelled = spelled.1; low = omega (arith, tall, low); few = omega (arith, few, within) };
@@ -46,26 +59,37 @@ parsed_as tree text is lexemes says line =
       at_line = line_is line lexemes other spelled.1;
     }
 
-read_as : (tree : SectionTree) (text : List ℕ) → IsPerforming tree text → begins_heading text ≡ true →
+pub read_as : (tree : SectionTree) (text : List ℕ) → IsWritten tree text → begins_heading text ≡ true →
     IsReadAs text tree
 read_as tree text is heading =
     let bytes : List ℕ = text_of is.pieces in
     let begins : begins_heading bytes ≡ true = ap begins_heading is.spelled ∙ heading in
     let found : Found bytes 0 (symbols is.pieces) = found_lines bytes begins is.lined [] refl refl in
-    let says : map (λ t. t.symbol) (lexemes_of bytes found.tokens) ≡ symbols (section_words tree) =
-    symbols_of bytes found.tokens ∙ found.says ∙ is.says in
+    let says : Say (symbols is.pieces) (lexemes_of bytes found.tokens) =
+    symbols_of bytes found.tokens ∙ found.says in
     subst (λ b. IsReadAs b tree) is.spelled (record {
       tokens = found.tokens;
       cut = found.cuts;
       parsed = parsed_as tree text is (lexemes_of bytes found.tokens) says;
     })
 
+performed : (tree : SectionTree) (text : List ℕ) → IsPerforming tree text → IsWritten tree text
+performed tree text is = record {
+  pieces = is.pieces;
+  reads = λ line ts said. section_reads (record tree { line = line }) is.kept ts (said ∙ is.says);
+  low = let low = is.low in omega arith;
+  lined = is.lined;
+  spelled = is.spelled;
+  nested = nested_more (omega arith) is.nested;
+}
+
 pub performing_texts : PerformingTextsAreRead
 performing_texts interfaces comp rows interface at can =
     let whole : back_text interfaces comp rows ≡ section_text interfaces comp rows interface = rw at in
     subst (λ text. IsReadAs text (back_tree interfaces comp rows interface)) (sym whole)
     (read_as (back_tree interfaces comp rows interface) (section_text interfaces comp rows interface)
-    (section_is interfaces comp rows interface can) (heading_begins (interface.name ++ (codes "\n" ++
+    (performed (back_tree interfaces comp rows interface) (section_text interfaces comp rows interface)
+    (section_is interfaces comp rows interface can)) (heading_begins (interface.name ++ (codes "\n" ++
     (flat_map export_text interface.exports ++ (flat_map (import_text interfaces) interface.imports ++
     (flat_map (proto_text interfaces) interface.imports ++ (codes "unsigned int bt_n;\n" ++
     (functions_text interfaces rows 0 interface.exports ++ main_text interfaces comp rows)))))))))

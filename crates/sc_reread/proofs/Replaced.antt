@@ -153,7 +153,7 @@ module _ (interfaces : Interfaces) (rows : ℕ → List Row) (set : ℕ → Bool
         record { trees = one.tree ∷ rest.trees; read = (one.read, rest.read); become = (one.becomes, rest.become) }
 
 -- each section that is read is cut
-cuts_of : (text : List ℕ) (parts : List Part) (trees : List SectionTree) → AllZip (IsRead text) parts trees →
+pub cuts_of : (text : List ℕ) (parts : List Part) (trees : List SectionTree) → AllZip (IsRead text) parts trees →
     (cuts : List (List Token)) × AllZip (λ part tokens. IsCut part.bytes tokens) parts cuts
 cuts_of text [] trees h = ([], tt)
 cuts_of text (p ∷ parts) [] h = absurd h

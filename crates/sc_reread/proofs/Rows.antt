@@ -21,19 +21,18 @@ use Rattle.sc_expr.specs.declared.mark.Keyword.TheVariants as keyword
 use Rattle.sc_print.proofs.Apart as apart
 use Rattle.sc_print.proofs.Spacing.{Tidy, at_level, gap, line_end, next, none, tidy_append}
 use Rattle.sc_print.proofs.StmtSpacing.{Free, stmt_holds}
-use Rattle.sc_print.proofs.Tables as tables
 use Rattle.sc_print.proofs.Literals.{literal_kind, literal_some}
 use Rattle.sc_print.proofs.Leaves.{name_kind, name_some}
 use Rattle.sc_lex.specs.declared.token.TokenKind.TheVariants as kind
 use Rattle.sc_back.specs.Text.{action_text, row_text}
 use Rattle.sc_back.specs.Tree.{action_kind, counter_name, row_kind, unlined}
 use Rattle.sc_back.specs.Sections.{IsSpoken}
-use Rattle.sc_reread.proofs.Nesting.{Even, Nested, even_equal, even_ident, even_keyword, even_literal, even_semicolon}
+use Rattle.sc_reread.proofs.Nesting.{Nested, even_binary, even_equal, even_ident, even_keyword, even_literal}
+use Rattle.sc_reread.proofs.Nesting.{even_semicolon}
 use Rattle.sc_reread.proofs.Nesting.{nested_append, nested_blank, nested_curly, nested_even, nested_level}
 use Rattle.sc_reread.proofs.Nesting.{nested_line, nested_none, nested_parens}
 use Rattle.sc_reread.proofs.Values.{unsigned_fits}
 use Rattle.sc_reread.proofs.Actions.{action_is}
-use Rattle.sc_expr.specs.Prelude.{open_after}
 
 abbrev pub counted : ℕ → Number
 counted value = record { value = value; unsigned = true }
@@ -161,9 +160,6 @@ row_tidy n m action k l free rest =
     (tidy_append action (blank ∷ word (codes "}") ∷ newline ∷ []) rest (free _)
     (gap (next (apart.close_curly _) (line_end none)))))))))))))))))))))))
 
-even_equals : Even (word_symbol (codes "=="))
-even_equals count = ap (λ s. open_after s count) (tables.binary_says binary.Equal)
-
 row_nested : (n m : Number) (action : List Piece) → fits n ≡ true → fits m ≡ true → Nested 1 action →
     Nested 2 (row_pieces n m action)
 row_nested n m action k l nested =
@@ -177,7 +173,7 @@ row_nested n m action k l nested =
     subst (λ ps. Nested 2 (word (codes "{") ∷ blank ∷ (setting_pieces m ++ blank ∷ ps))) flat
     (nested_curly inner (nested_line nested_none)) in
     nested_level 1 (nested_even (even_keyword keyword.If) (nested_blank (nested_parens
-    (nested_even (even_ident counter_name counter_ident) (nested_blank (nested_even even_equals (nested_blank
+    (nested_even (even_ident counter_name counter_ident) (nested_blank (nested_even (even_binary binary.Equal) (nested_blank
     (nested_even (even_literal n k) nested_none))))) (nested_blank block))))
 
 -- Rows.

@@ -1,0 +1,37 @@
+-- Made texts are accepted, as small programs.
+use Rattle.std.proofs.Common.{List, ℕ, refl}
+use Rattle.sc_ast.specs.declared.section.SectionTree.{SectionTree}
+use Rattle.sc_elab.specs.Prelude.{program_of}
+use Rattle.sc_made.specs.Laws.{AreSame, IsAsked, MadeTextsAreAccepted, MadeTextsAreRead, MadeTreesAreTyped}
+use Rattle.sc_made.specs.Tree.{made_trees}
+use Rattle.sc_made.proofs.Counts.{counts_hold}
+use Rattle.sc_made.proofs.Names.{names_hold}
+use Rattle.sc_made.proofs.Shapes.{AreMade}
+use Rattle.sc_made.proofs.Small.{are_small}
+use Rattle.sc_made.proofs.Types.{types_hold}
+use Rattle.sc_made.proofs.Undone.{undone}
+use Rattle.sc_made.proofs.WorkerFaces.{interfaces_hold}
+
+pub made_trees_are_typed : MadeTreesAreTyped
+made_trees_are_typed size seed asked sections same =
+    let made : AreMade size seed sections = undone size seed sections same in (
+      record {
+        names = names_hold size seed asked sections made;
+        types = types_hold size seed asked sections made;
+        interfaces = interfaces_hold size seed asked sections made;
+        counts = counts_hold size seed asked sections made;
+        is = refl;
+      },
+      are_small size seed asked sections made,
+    )
+
+-- what is read so is accepted
+pub accepted_from : MadeTextsAreRead → MadeTextsAreAccepted
+accepted_from made_texts_are_read size seed asked =
+    let read = made_texts_are_read size seed asked in
+    let typed = made_trees_are_typed size seed asked read.others read.same in
+    record {
+      program = program_of read.others;
+      accepted = record { sections = read.others; reads = read.reads; typed = typed.0 };
+      small = typed.1;
+    }

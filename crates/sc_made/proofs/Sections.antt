@@ -1,0 +1,161 @@
+-- The sections of a made text: words that spell them, and no compartment line but the first.
+use Rattle.std.proofs.Common.{Bool, List, [], ap, append-nil, append_assoc, ap₂, arith, codes, decimal, filter}
+use Rattle.std.proofs.Common.{false, flat_map, if◌then◌else◌, nat_eq, refl, subst, suc, sym, true, zero, ℕ, ◌%◌, ◌++◌}
+use Rattle.std.proofs.Common.{◌+◌, ◌<◌, ◌∙◌, ◌∷◌, ◌≡◌, ◌≤◌}
+use Rattle.std.proofs.lemmas.Grind.{flat_map-append}
+unfoldable use Rattle.sc_base.specs.Prelude.{is_name}
+use Rattle.sc_ast.specs.Prelude.{Piece, heading_words, piece_text, text_of}
+unfoldable use Rattle.sc_ast.specs.Prelude.{export_words, import_words}
+use Rattle.sc_ast.specs.declared.section.SectionTree.{SectionTree}
+use Rattle.sc_print.proofs.DirectiveWords.{heading_begins, heading_line_is}
+use Rattle.sc_print.proofs.Lined.{line, tidy}
+use Rattle.sc_print.proofs.Whole.{exports_lined, imports_lined, section_with}
+use Rattle.sc_reread.specs.Performing.{IsReadAs}
+use Rattle.sc_reread.proofs.Headings.{last, mark}
+use Rattle.sc_reread.proofs.Headless.{Closed, Closing, behind_closing, closed_append, headed, headed_text, plain}
+use Rattle.sc_reread.proofs.Headless.{plain_headless, tidy_plain}
+use Rattle.sc_reread.proofs.Nesting.{nested_append, nested_even, nested_line, nested_more}
+use Rattle.sc_reread.proofs.Performing.{even_heading}
+use Rattle.sc_reread.proofs.Reading.{IsWritten, read_as}
+use Rattle.sc_reread.proofs.Splitting.{IsText}
+use Rattle.sc_made.specs.Text.{addend, all_functions, call_text, export_text, function_name, function_text}
+use Rattle.sc_made.specs.Text.{functions_of, import_text, main_text, numbers_from, proto_text, worker_name, worker_text}
+use Rattle.sc_made.specs.Text.{workers}
+use Rattle.sc_made.specs.Tree.{main_body, main_tree, worker_tree}
+use Rattle.sc_made.proofs.Spelled.{worker_named}
+use Rattle.sc_made.proofs.Calls.{calls_are}
+use Rattle.sc_made.proofs.Decls.{AreDecls, more_decls, no_decls}
+use Rattle.sc_made.proofs.Functions.{functions_are, main_is, output_is, protos_are, table_is}
+use Rattle.sc_made.proofs.Directives.{AreExports, AreImports, AreLow, exports_are, imports_are, main_named}
+use Rattle.sc_made.proofs.Directives.{no_directives}
+
+-- the text of one section: it begins with the one compartment line in it, is read as the tree, and ends with a newline
+pub record IsSectionText (text : List ℕ) (tree : SectionTree) : Type 0 where
+  pub is : IsText text
+  pub read : IsReadAs text tree
+  pub ends : last 10 text ≡ 10
+
+module _ (tree : SectionTree) (exports imports decls : List ℕ) (named : is_name tree.name ≡ true)
+    (es : AreExports tree.exports exports) (is : AreImports tree.imports imports) (ds : AreDecls tree.decls decls) where
+  abbrev behind : List ℕ
+  behind = exports ++ (imports ++ decls)
+
+  written : IsWritten tree (headed tree.name behind)
+  written =
+      let e : List Piece = flat_map export_words tree.exports in
+      let i : List Piece = flat_map import_words tree.imports in
+      record {
+        pieces = heading_words tree.name ++ (e ++ (i ++ ds.pieces));
+        reads = λ line. section_with (record tree { line = line }) ds.pieces named es.kept is.kept ds.read;
+        low = let low = ds.low in omega arith;
+        lined = line (heading_line_is tree.name named) (exports_lined tree.exports es.kept _
+            (imports_lined tree.imports is.kept _ (tidy (ds.tidy []))));
+        spelled = append_assoc mark tree.name (10 ∷ text_of (e ++ (i ++ ds.pieces))) ∙
+            ap (λ t. mark ++ (tree.name ++ (codes "\n" ++ t))) (flat_map-append piece_text e (i ++ ds.pieces) ∙
+            ap₂ (λ a b. a ++ b) es.spelled (flat_map-append piece_text i ds.pieces ∙
+            ap₂ (λ a b. a ++ b) is.spelled ds.spelled));
+        nested = nested_more (omega arith) (nested_even (even_heading tree.name named) (nested_line
+            (nested_append (nested_more (omega arith) es.nested)
+            (nested_append (nested_more (omega arith) is.nested) ds.nested))));
+      }
+
+  decls_plain : plain decls ≡ true
+  decls_plain = ap plain (sym ds.spelled) ∙ tidy_plain (ds.tidy [])
+
+  section_text : last 10 (headed tree.name behind) ≡ 10 → IsSectionText (headed tree.name behind) tree
+  section_text ends = record {
+    is = headed_text tree.name behind named
+        (es.headless (imports ++ decls) (is.headless decls (plain_headless decls decls_plain)));
+    read = read_as tree (headed tree.name behind) written (heading_begins (tree.name ++ (codes "\n" ++ behind)));
+    ends = ends;
+  }
+
+-- `Main`
+
+numbers_low : (first count : ℕ) → first + count ≤ 1000 → AreLow (numbers_from first count)
+numbers_low first zero low = tt
+numbers_low first (suc count) low = (omega (arith, low), numbers_low (suc first) count (omega (arith, low)))
+
+main_closing : (size seed : ℕ) → Closing (main_text size seed)
+main_closing size seed =
+    let js : List ℕ = all_functions size in
+    let calls : List ℕ = flat_map (call_text seed) js ++ codes "  return 0;\n}\n" in
+    let functions : List ℕ = codes "void output(int v);\nint main(void) {\n  int r;\n" ++ calls in
+    let decls : List ℕ = flat_map proto_text js ++ functions in
+    let output : List ℕ = codes "#pragma import Env output\n" ++ decls in
+    let directives : List ℕ = flat_map (import_text size) js ++ output in
+    behind_closing (codes "#pragma compartment Main\n") directives
+    (behind_closing (flat_map (import_text size) js) output (behind_closing (codes "#pragma import Env output\n") decls
+    (behind_closing (flat_map proto_text js) functions
+    (behind_closing (codes "void output(int v);\nint main(void) {\n  int r;\n") calls
+    (behind_closing (flat_map (call_text seed) js) (codes "  return 0;\n}\n") (λ d. refl))))))
+
+pub main_is_text : (size seed : ℕ) → size ≤ 1000 → IsSectionText (main_text size seed) (main_tree size seed)
+main_is_text size seed few =
+    let js : List ℕ = all_functions size in
+    let low = numbers_low 0 size (omega (arith, few)) in
+    let calls : List ℕ = flat_map (call_text seed) js in
+    let front : List ℕ = codes "int main(void) {\n  int r;\n" in
+    let function : List ℕ = front ++ ((calls ++ codes "  return 0;\n") ++ codes "}\n") in
+    let main = main_is (main_body size seed) (calls ++ codes "  return 0;\n") (calls_are seed js low) in
+    let decls = protos_are js low _ _ (more_decls output_is (more_decls main no_decls)) in
+    let imports : List ℕ = flat_map (import_text size) js in
+    let protos : List ℕ = flat_map proto_text js in
+    let output : List ℕ = codes "#pragma import Env output\n" in
+    let heads : List ℕ = protos ++ (codes "void output(int v);\n" ++ (function ++ [])) in
+    let text : headed (codes "Main") ([] ++ ((imports ++ output) ++ heads)) ≡ main_text size seed =
+    ap (λ t. codes "#pragma compartment Main\n" ++ t) (append_assoc imports output heads ∙
+    ap (λ t. imports ++ (output ++ (protos ++ (codes "void output(int v);\n" ++ t)))) (append-nil function ∙
+    ap (λ t. front ++ t) (append_assoc calls (codes "  return 0;\n") (codes "}\n")))) in
+    subst (λ t. IsSectionText t (main_tree size seed)) text
+    (section_text (main_tree size seed) [] (imports ++ output) heads main_named no_directives (imports_are size js low)
+    decls (ap (λ t. last 10 t) text ∙ main_closing size seed 10))
+
+-- Workers.
+
+functions_low : (size i : ℕ) → size ≤ 1000 → AreLow (functions_of size i)
+functions_low size i few = filtered (all_functions size) (numbers_low 0 size (omega (arith, few)))
+  where
+    filtered : (js : List ℕ) → AreLow js → AreLow (filter (λ j. nat_eq (j % workers size) i) js)
+    filtered [] low = tt
+    filtered (j ∷ js) low = by (nat_eq (j % workers size) i) (filtered js low.1)
+      where
+        by : (b : Bool) → AreLow (filter (λ j. nat_eq (j % workers size) i) js) →
+            AreLow (if b then j ∷ filter (λ j. nat_eq (j % workers size) i) js
+            else filter (λ j. nat_eq (j % workers size) i) js)
+        by true rest = (low.0, rest)
+        by false rest = rest
+
+function_closing : (seed j : ℕ) → Closing (function_text seed j)
+function_closing seed j =
+    let end : List ℕ = codes
+    ";\n  for (i = 0; i < 64; i++) {\n    t[i & 15] = x + i;\n    s = s + t[i & 15];\n  }\n  return s;\n}\n" in
+    let set : List ℕ = decimal (addend seed j) ++ end in
+    let rest : List ℕ = codes "(int x) {\n  int i;\n  int s;\n  s = " ++ set in
+    behind_closing (codes "int ") (function_name j ++ rest) (behind_closing (function_name j) rest
+    (behind_closing (codes "(int x) {\n  int i;\n  int s;\n  s = ") set
+    (behind_closing (decimal (addend seed j)) end (λ d. refl))))
+
+functions_closed : (seed : ℕ) (js : List ℕ) → Closed (flat_map (function_text seed) js)
+functions_closed seed [] = λ d e. e
+functions_closed seed (j ∷ js) = closed_append (function_text seed j) (flat_map (function_text seed) js)
+    (λ d e. function_closing seed j d) (functions_closed seed js)
+
+worker_closing : (size seed i : ℕ) → Closing (worker_text size seed i)
+worker_closing size seed i =
+    let js : List ℕ = functions_of size i in
+    let functions : List ℕ = flat_map (function_text seed) js in
+    let decls : List ℕ = codes "int t[16];\n" ++ functions in
+    let exports : List ℕ = flat_map export_text js ++ decls in
+    behind_closing mark (worker_name i ++ (codes "\n" ++ exports))
+    (behind_closing (worker_name i) (codes "\n" ++ exports) (behind_closing (codes "\n") exports
+    (behind_closing (flat_map export_text js) decls (λ d. functions_closed seed js 10 refl))))
+
+pub worker_is_text : (size seed i : ℕ) → size ≤ 1000 → i < 1000 →
+    IsSectionText (worker_text size seed i) (worker_tree size seed i)
+worker_is_text size seed i few low =
+    let js : List ℕ = functions_of size i in
+    let below = functions_low size i few in
+    section_text (worker_tree size seed i) (flat_map export_text js) []
+    (codes "int t[16];\n" ++ flat_map (function_text seed) js) (worker_named i low) (exports_are js below) no_directives
+    (more_decls table_is (functions_are seed js below)) (worker_closing size seed i 10)
