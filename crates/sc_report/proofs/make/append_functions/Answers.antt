@@ -20,7 +20,7 @@ loop-j-preserved c =
             chosen_turn (λ j. nat_eq (j % workers c.args.size) c.args.worker) (function_text c.args.seed) j
             c.args.text.now c.loop-j.text w.append_function.new.text
             (eq-eqb (j % workers c.args.size) c.args.worker
-          (ap (λ n. j % n) (sym c.workers.ensures) ∙ w.if-j-workers.true))
+            (ap (λ n. j % n) (sym c.workers.ensures) ∙ w.if-j-workers.true))
             c.loop-j.invariant.told
             (w.in_ok-append_function.ensures ∙ ap (λ addend. c.loop-j.text ++ function_with j addend) drawn.addend)
         | else-j-workers w ↦
@@ -28,7 +28,7 @@ loop-j-preserved c =
             passed_turn (λ j. nat_eq (j % workers c.args.size) c.args.worker) (function_text c.args.seed) j
             c.args.text.now c.loop-j.text
             (ne_eqb (j % workers c.args.size) c.args.worker
-          (λ same. w.if-j-workers.false (ap (λ n. j % n) c.workers.ensures ∙ same)))
+            (λ same. w.if-j-workers.false (ap (λ n. j % n) c.workers.ensures ∙ same)))
             c.loop-j.invariant.told
       ];
     }
