@@ -15,7 +15,7 @@ use Rattle.sc_chain.specs.Recompose.{among, performing_text, recomposed}
 use Rattle.sc_chain.specs.declared.explanation.Explanation.{Explanation}
 use Rattle.sc_chain.specs.declared.explanation.Link.{Link}
 
--- The meaning of a program, with as many turns as the machine took steps and as many events as it showed, is blamed so,
+-- The meaning of a program, with as many turns as the machine had steps and as many events as it showed, is blamed so,
 -- after a proper front of the trace.
 pub record IsBlamedSo (program : ProgramTree) (inputs : List ℕ) (steps : ℕ) (trace : List Event) (link : Link) :
     Type 0 where
