@@ -1,13 +1,12 @@
 -- The function that the tests of operators make is one.
+use Rattle.sc_tac.specs.Prelude.{IsFunction, entry_weight, has_elements, has_operands, has_words, names_own_object}
+use Rattle.sc_tac.specs.Prelude.{names_own_temps, passes_few, returns_result, stray_break, stray_continue}
 use Rattle.std.proofs.Common.{◌+◌, ◌*◌, ◌<◌, true, Some, refl, sym, subst, arith}
 use Rattle.sc_base.specs.declared.op.BinaryOp.{BinaryOp}
 use Rattle.sc_event.specs.declared.interface.Scalar.{Scalar}
 use Rattle.sc_tac.specs.declared.stmt.TacOp.TheVariants as tacop
 use Rattle.sc_tac.specs.declared.stmt.TacStmt.TheOpen as tac
 use Rattle.sc_tac.specs.declared.stmt.TacStmt.{roll-TacStmt}
-use Rattle.sc_tac.specs.Functions.{IsFunction, names_own_temps, names_own_object, has_words, has_elements, has_operands}
-use Rattle.sc_tac.specs.Functions.{passes_few, returns_result, stray_break, stray_continue}
-use Rattle.sc_tac.specs.Weights.{entry_weight}
 use Rattle.sc_tac.proofs.Shapes.{Shape, Done, Line, Cycle}
 use Rattle.sc_tac.proofs.Plans.{weight_is, everywhere_is, has_none_is, all_assigned_is}
 use Rattle.emit_tests.specs.Made.{operating}

@@ -1,6 +1,6 @@
 // Places that a test chooses for the temporaries of a function, and a frame for them.
 
-ghost use Rattle.sc_tac.specs.Places.{is_place};
+ghost use Rattle.sc_tac.specs.Prelude.{is_place};
 ghost use Rattle.std.specs.List.{list_all};
 ghost use Rattle.std.specs.Prelude.{◌≡◌, ◌==◌, ◌%◌, All, IsTrue, length};
 

@@ -2,9 +2,10 @@
 use Rattle.sc_alloc.proofs.Common.{All, All-permutation, AreIntervals, ArePlaced, Contains-permutation, Given, Interval}
 use Rattle.sc_alloc.proofs.Common.{IsPermutation, IsPermutation-map, IsPermutation-sym, IsPermutation-trans, List}
 use Rattle.sc_alloc.proofs.Common.{Place, Some, ap, arith, cases_eq, cases_lt, eq-eqb, get_or, get_or_from_slice_get}
-use Rattle.sc_alloc.proofs.Common.{length, length-map, length_permutation, map, option_map, refl, slice_get}
-use Rattle.sc_alloc.proofs.Common.{slice_get-get_or, slice_get-map, slice_get_past, sorted_by, suc, sym, zero, ℕ}
-use Rattle.sc_alloc.proofs.Common.{⊎_elim, ◌+◌, ◌-◌, ◌<◌, ◌∙◌, ◌≡◌, ◌≢◌, ◌≤◌}
+use Rattle.sc_alloc.proofs.Common.{length, length_permutation, map, option_map, refl, slice_get, slice_get-get_or}
+use Rattle.sc_alloc.proofs.Common.{slice_get-map, slice_get_past, sorted_by, suc, sym, zero, ℕ, ⊎_elim, ◌+◌, ◌-◌, ◌<◌}
+use Rattle.sc_alloc.proofs.Common.{◌∙◌, ◌≡◌, ◌≢◌, ◌≤◌}
+use Rattle.std.proofs.lemmas.List.{length-map}
 use Rattle.sc_alloc.proofs.Assignment.{contained, container, few, intervals_of, mapped_at, numbered, some_at}
 use Rattle.sc_alloc.proofs.Counts.{has_temp, only}
 use Rattle.sc_alloc.proofs.Lists.{same_all}

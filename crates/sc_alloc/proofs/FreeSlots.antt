@@ -1,12 +1,10 @@
 -- A slot that is taken, and one that is given.
-use Rattle.sc_alloc.proofs.Common.{All, All-permutation, AllOver, AreSlots, Given, IfNone, IfSome, Interval, IsOut}
-use Rattle.sc_alloc.proofs.Common.{IsPermutation, List, None, Option, Register, Slot, Some, [], ap, arith, cases_eq}
-use Rattle.sc_alloc.proofs.Common.{cond, count_by, eq-eqb, get_or, is_of, length, length-append, length_permutation}
-use Rattle.sc_alloc.proofs.Common.{ne_eqb, refl, subst, suc, sum_by-cons, sum_by_popped, sum_by_pushed, sym, with_place}
-use Rattle.sc_alloc.proofs.Common.{ℕ, ⊎_elim, ◌+◌, ◌<◌, ◌∙◌, ◌∷◌, ◌≡◌, ◌≢◌, ◌≤◌}
-use Rattle.std.specs.declared.cmp.Reverse.{Reverse}
-use Rattle.std.proofs.lemmas.List.Elements.{All-cons, All-nil, All-tail}
-use Rattle.sc_alloc.specs.declared.slots.SlotEnd.{SlotEnd}
+use Rattle.sc_alloc.proofs.Common.{All, All-cons, All-nil, All-permutation, All-tail, AllOver, AreSlots, Given, IfNone}
+use Rattle.sc_alloc.proofs.Common.{IfSome, Interval, IsOut, IsPermutation, List, None, Option, Register, Reverse, Slot}
+use Rattle.sc_alloc.proofs.Common.{SlotEnd, Some, [], ap, arith, cases_eq, cond, count_by, eq-eqb, get_or, is_of}
+use Rattle.sc_alloc.proofs.Common.{length, length-append, length_permutation, ne_eqb, refl, subst, suc, sum_by-cons}
+use Rattle.sc_alloc.proofs.Common.{sum_by_popped, sum_by_pushed, sym, with_place, ℕ, ⊎_elim, ◌+◌, ◌<◌, ◌∙◌, ◌∷◌, ◌≡◌}
+use Rattle.sc_alloc.proofs.Common.{◌≢◌, ◌≤◌}
 use Rattle.sc_alloc.proofs.Lists.{get_pushed}
 use Rattle.sc_alloc.proofs.FreeRegisters.{all_over_pushed}
 

@@ -1,14 +1,12 @@
 -- The slot that is free soonest: it is the greatest of the heap, and leaves it and comes back.
-use Rattle.sc_alloc.proofs.Common.{All, All-permutation, Bool, HasEnds, IsHeap, IsPermutation, LacksOne, List, Some, []}
-use Rattle.sc_alloc.proofs.Common.{ap, arith, cases_eq, count_by, false, get_or, get_or_from_slice_get, is_lt, is_of}
-use Rattle.sc_alloc.proofs.Common.{is_soonest, length, list_all, list_all_at, max, nat_cmp, nat_le, nat_lt, nat_tests}
-use Rattle.sc_alloc.proofs.Common.{ordering_then, position_or_len_is, refl, same_Some, slice_get, slice_get-get_or}
-use Rattle.sc_alloc.proofs.Common.{slice_get_within, slot_for, soonest_first, subst, suc, sum_by-cons, sum_by_popped}
-use Rattle.sc_alloc.proofs.Common.{sum_by_pushed, sym, true, with_slot, zero, ℕ, ⊎_elim, ◌&&◌, ◌+◌, ◌<◌, ◌∙◌, ◌∷◌, ◌≡◌}
-use Rattle.sc_alloc.proofs.Common.{◌≢◌, ◌≤◌}
-use Rattle.std.specs.declared.cmp.Reverse.{Reverse}
-use Rattle.std.proofs.lemmas.List.Elements.{All-cons, All-tail}
-use Rattle.sc_alloc.specs.declared.slots.SlotEnd.{SlotEnd}
+use Rattle.sc_alloc.proofs.Common.{All, All-cons, All-permutation, All-tail, Bool, HasEnds, IsHeap, IsPermutation}
+use Rattle.sc_alloc.proofs.Common.{LacksOne, List, Reverse, SlotEnd, Some, [], ap, arith, cases_eq, count_by, false}
+use Rattle.sc_alloc.proofs.Common.{get_or, get_or_from_slice_get, is_lt, is_of, is_soonest, length, list_all, max}
+use Rattle.sc_alloc.proofs.Common.{nat_cmp, nat_le, nat_lt, nat_tests, ordering_then, position_or_len_is, refl}
+use Rattle.sc_alloc.proofs.Common.{same_Some, slice_get, slice_get-get_or, slice_get_within, slot_for, soonest_first}
+use Rattle.sc_alloc.proofs.Common.{subst, suc, sum_by-cons, sum_by_popped, sum_by_pushed, sym, true, with_slot, zero, ℕ}
+use Rattle.sc_alloc.proofs.Common.{⊎_elim, ◌&&◌, ◌+◌, ◌<◌, ◌∙◌, ◌∷◌, ◌≡◌, ◌≢◌, ◌≤◌}
+use Rattle.std.proofs.lemmas.List.Folds.{list_all_at}
 use Rattle.sc_alloc.proofs.Lists.{all_at}
 use Rattle.sc_alloc.proofs.FreeSlots.{counts_none, is_none, is_one, none_of, one_of}
 

@@ -1,10 +1,9 @@
 -- Sorting by keys: a stable sort gives one list alone.
-use Rattle.sc_alloc.proofs.Common.{All, Bool, IsNonDecreasingBy, IsPermutation, IsPermutation-cons, IsPermutation-swap}
-use Rattle.sc_alloc.proofs.Common.{IsPermutation-trans, IsStableByKey, List, [], ap, arith, cases_order, cond, false}
-use Rattle.sc_alloc.proofs.Common.{filter, get_or, insert_by, is_lt, nat_cmp, nat_lt, nat_tests, not, refl, sorted_by}
-use Rattle.sc_alloc.proofs.Common.{suc, sym, ties, true, zero, ℕ, ⊎_elim, ◌&&◌, ◌<◌, ◌∙◌, ◌∷◌, ◌≡◌, ◌≢◌, ◌≤◌}
-use Rattle.std.proofs.lemmas.List.Elements.{All-cons, All-nil, All-tail}
-use Rattle.std.proofs.lemmas.List.Sorted.{IsPermutation-refl}
+use Rattle.sc_alloc.proofs.Common.{All, All-cons, All-nil, All-tail, Bool, IsNonDecreasingBy, IsPermutation}
+use Rattle.sc_alloc.proofs.Common.{IsPermutation-cons, IsPermutation-refl, IsPermutation-swap, IsPermutation-trans}
+use Rattle.sc_alloc.proofs.Common.{IsStableByKey, List, [], ap, arith, cases_order, cond, false, filter, get_or}
+use Rattle.sc_alloc.proofs.Common.{insert_by, is_lt, nat_cmp, nat_lt, nat_tests, not, refl, sorted_by, suc, sym, ties}
+use Rattle.sc_alloc.proofs.Common.{true, zero, ℕ, ⊎_elim, ◌&&◌, ◌<◌, ◌∙◌, ◌∷◌, ◌≡◌, ◌≢◌, ◌≤◌}
 
 equal_ties : (m n : ℕ) → m ≡ n → (not (is_lt (nat_cmp m n)) && not (is_lt (nat_cmp n m))) ≡ true
 equal_ties m n same = grind (arith, nat_tests)

@@ -1,2 +1,4 @@
+pub mod Common
+pub mod Prelude
 pub mod Places
 pub mod Scan

@@ -1,12 +1,8 @@
 -- The places that linear scan gives to temporaries (Poletto and Sarkar, Linear Scan Register Allocation).
+use Rattle.sc_alloc.specs.Common.{Given, Interval, Place, Register, Slot, register_count}
 use Rattle.std.specs.Prelude.{ℕ, suc, Bool, true, ◌&&◌, nat_lt, nat_le, if◌then◌else◌, List, [], ◌∷◌, ◌++◌, map, take}
 use Rattle.std.specs.Prelude.{drop, replicate, Option, None, Some}
 use Rattle.std.specs.List.{fold, list_all, position, position_or_len, slice_set}
-use Rattle.sc_tac.specs.Prelude.{register_count}
-use Rattle.sc_tac.specs.declared.interval.Interval.{Interval}
-use Rattle.sc_tac.specs.declared.place.Place.{Place}
-use Rattle.sc_tac.specs.declared.place.Place.TheVariants.{Register, Slot}
-use Rattle.sc_alloc.specs.declared.given.Given.{Given}
 
 -- a list in the order of its keys, with one more element: before the first whose key is no lower
 abbrev pub insert_by : {A : Type 0} → (A → ℕ) → A → List A → List A

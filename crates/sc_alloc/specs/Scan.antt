@@ -1,16 +1,12 @@
 -- What a linear scan keeps, of the intervals that got a place so far, in the order in which they begin.
-use Rattle.sc_tac.specs.Prelude.{is_place, register_count}
-use Rattle.std.specs.Prelude.{◌≡◌, ◌≢◌, ◌≤◌, ◌<◌, ◌==◌, ℕ, suc, max, Bool, true, false, List, length, All, Option}
-use Rattle.std.specs.Prelude.{None, Some, MatchOption, slice_get, IsTrue}
+use Rattle.sc_alloc.specs.Common.{Given, Interval, Place, Register, Slot, is_place, register_count}
+use Rattle.std.specs.Prelude.{◌≡◌, ◌≢◌, ◌≤◌, ◌<◌, ◌==◌, ℕ, suc, max, Bool, true, false, List, length, All, Option, None}
+use Rattle.std.specs.Prelude.{Some, MatchOption, slice_get, IsTrue}
 use Rattle.std.specs.BinaryHeap.{IsHeap, heap_items}
 use Rattle.std.specs.List.{count_by}
 use Rattle.std.specs.Ordering.{nat_cmp, ordering_then}
 use Rattle.std.specs.declared.cmp.Ordering.{Ordering}
 use Rattle.std.specs.declared.cmp.Reverse.{Reverse}
-use Rattle.sc_tac.specs.declared.interval.Interval.{Interval}
-use Rattle.sc_tac.specs.declared.place.Place.{Place}
-use Rattle.sc_tac.specs.declared.place.Place.TheVariants.{Register, Slot}
-use Rattle.sc_alloc.specs.declared.given.Given.{Given}
 use Rattle.sc_alloc.specs.declared.registers.Registers.{Registers}
 use Rattle.sc_alloc.specs.declared.scan.Scan.{Scan}
 use Rattle.sc_alloc.specs.declared.slots.SlotEnd.{SlotEnd}

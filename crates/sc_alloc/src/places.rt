@@ -1,11 +1,9 @@
-ghost use Rattle.sc_tac.specs.Prelude.{IsAssignment, IsSparing};
+ghost use Rattle.sc_alloc.specs.Prelude.{AreFair, AreKnown, AreNumbered, ArePlaced, Given, IsAssignment, IsSparing};
+ghost use Rattle.sc_alloc.specs.Prelude.{assigned, at_first, scan_next, sorted_by};
 ghost use Rattle.std.specs.Prelude.{◌≡◌, ◌≤◌, map, All, IfOk};
 ghost use Rattle.std.specs.List.{fold};
 ghost use Rattle.std.specs.List.Sorted.{IsNonDecreasingBy, IsPermutation};
 ghost use Rattle.sc_tac.specs.declared.interval.Interval.{Interval};
-ghost use Rattle.sc_alloc.specs.Places.{assigned, at_first, scan_next, sorted_by};
-ghost use Rattle.sc_alloc.specs.Scan.{AreFair, AreKnown, AreNumbered, ArePlaced};
-ghost use Rattle.sc_alloc.specs.declared.given.Given.{Given};
 
 use crate::given::Given;
 use crate::scan::Scan;

@@ -1,9 +1,6 @@
+ghost use Rattle.sc_alloc.specs.Prelude.{AreRegisters, Given, GivesRegister, is_over, register_count, register_for};
 ghost use Rattle.std.specs.Prelude.{◌≡◌, ◌≤◌, [], List, Some, None, MatchOption, replicate};
 ghost use Rattle.std.specs.List.{position, slice_set};
-ghost use Rattle.sc_tac.specs.Prelude.{register_count};
-ghost use Rattle.sc_alloc.specs.Places.{is_over, register_for};
-ghost use Rattle.sc_alloc.specs.Scan.{AreRegisters, GivesRegister};
-ghost use Rattle.sc_alloc.specs.declared.given.Given.{Given};
 
 use sc_tac::Interval;
 

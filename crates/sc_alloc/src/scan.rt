@@ -1,7 +1,6 @@
+ghost use Rattle.sc_alloc.specs.Prelude.{AllBegun, AreFair, AreKnown, Given, HasCome, IsAt, IsChosen, IsNext, IsScan};
+ghost use Rattle.sc_alloc.specs.Prelude.{Scanned, at_first, scan_next};
 ghost use Rattle.std.specs.Prelude.{◌≡◌, ◌≤◌, [], ◌++◌, ◌∷◌, map, IfOk, OnOk};
-ghost use Rattle.sc_alloc.specs.Places.{Scanned, at_first, scan_next};
-ghost use Rattle.sc_alloc.specs.Scan.{AllBegun, AreFair, AreKnown, HasCome, IsAt, IsChosen, IsNext, IsScan};
-ghost use Rattle.sc_alloc.specs.declared.given.Given.{Given};
 
 use crate::given::Given;
 use crate::registers::Registers;

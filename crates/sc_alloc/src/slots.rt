@@ -1,7 +1,6 @@
+ghost use Rattle.sc_alloc.specs.Prelude.{AreSlots, Given, GivesSlot, HasEnds, HasSlot, IsOut, IsTaken, NoneFree};
 ghost use Rattle.std.specs.Prelude.{◌≡◌, ◌≤◌, ℕ, suc, [], List, IfOk, MatchOption};
 ghost use Rattle.std.specs.BinaryHeap.{heap_items};
-ghost use Rattle.sc_alloc.specs.Scan.{AreSlots, HasEnds, HasSlot, IsOut, IsTaken, GivesSlot, NoneFree};
-ghost use Rattle.sc_alloc.specs.declared.given.Given.{Given};
 
 use sc_base::OutOfMemory;
 use sc_tac::Interval;

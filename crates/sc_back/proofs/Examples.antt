@@ -1,13 +1,9 @@
 -- Sections of programs, byte for byte.
-use Rattle.std.proofs.Common.{◌≡◌, ◌++◌, refl, [], ◌∷◌, Some}
-use Rattle.std.specs.Prelude.{codes}
+use Rattle.sc_back.proofs.Common.{Call, End, Export, Interface, Main, Ret, Some, [], back_text, codes, refl, ◌++◌, ◌∷◌}
+use Rattle.sc_back.proofs.Common.{◌≡◌}
 use Rattle.sc_event.specs.declared.interface.Import.TheVariants as import
-use Rattle.sc_event.specs.declared.interface.Interface.{Interface}
 use Rattle.sc_event.specs.declared.interface.Scalar.TheVariants.{Int}
-use Rattle.sc_event.specs.declared.row.Action.TheVariants.{Call, Ret, End}
-use Rattle.sc_event.specs.declared.row.Entry.TheVariants.{Export, Main}
 use Rattle.std.specs.Fmt.{digits}
-use Rattle.sc_back.specs.Text.{back_text}
 
 -- `Net` is called once, and returns 9
 abbrev net : Interface

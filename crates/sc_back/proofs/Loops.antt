@@ -1,14 +1,8 @@
 -- A text that grows by what each item of a list adds.
-use Rattle.std.proofs.Common.{◌≡◌, ℕ, ◌+◌, ◌<◌, Bool, true, false, List, [], ◌∷◌, ◌++◌, length, drop, refl, sym, ap}
-use Rattle.std.proofs.Common.{◌∙◌, append_assoc, Option, codes, flat_map, if◌then◌else◌}
-use Rattle.std.specs.Prelude.{filter, slice_index_or}
-use Rattle.sc_event.specs.declared.interface.Interface.{Interface}
-use Rattle.sc_event.specs.declared.interface.Interfaces.{Interfaces}
-use Rattle.sc_event.specs.declared.interface.Scalar.{Scalar}
-use Rattle.sc_event.specs.declared.row.Entry.{Entry}
-use Rattle.sc_event.specs.declared.row.Row.{Row}
-use Rattle.sc_back.specs.Rows.{declarations_text, directives_text, own_rows_text}
-use Rattle.sc_back.specs.Text.{export_text, import_text, is_of, row_text, section_text}
+use Rattle.sc_back.proofs.Common.{Bool, Entry, Interface, Interfaces, List, Option, Row, Scalar, [], ap, append_assoc}
+use Rattle.sc_back.proofs.Common.{codes, declarations_text, directives_text, drop, export_text, false, filter, flat_map}
+use Rattle.sc_back.proofs.Common.{if◌then◌else◌, import_text, is_of, length, own_rows_text, refl, row_text}
+use Rattle.sc_back.proofs.Common.{section_text, slice_index_or, sym, true, ℕ, ◌++◌, ◌+◌, ◌<◌, ◌∙◌, ◌∷◌, ◌≡◌}
 use Rattle.std.proofs.lemmas.List.{at_drop_more}
 
 -- one item further

@@ -1,3 +1,5 @@
+pub mod Common
+pub mod Prelude
 pub mod Text
 pub mod Rows
 pub mod Tree

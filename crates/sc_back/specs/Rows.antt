@@ -1,11 +1,6 @@
 -- Helping: rows one by one, and a section in two parts.
+use Rattle.sc_back.specs.Common.{Entry, Export, Interface, Interfaces, Main, Row, Scalar}
 use Rattle.std.specs.Prelude.{ℕ, suc, ◌<◌, ◌^◌, ◌++◌, if◌then◌else◌, codes, List, [], flat_map, Option, None, Some}
-use Rattle.sc_event.specs.declared.interface.Interface.{Interface}
-use Rattle.sc_event.specs.declared.interface.Interfaces.{Interfaces}
-use Rattle.sc_event.specs.declared.interface.Scalar.{Scalar}
-use Rattle.sc_event.specs.declared.row.Entry.{Entry}
-use Rattle.sc_event.specs.declared.row.Entry.TheVariants.{Export, Main}
-use Rattle.sc_event.specs.declared.row.Row.{Row}
 use Rattle.sc_back.specs.Text.{export_text, functions_text, import_text, is_of, main_text, proto_text, row_text}
 
 -- the number behind that of a row is a word

@@ -1,17 +1,9 @@
 -- Helping: the trees of a text and those of the text in which some sections are replaced by ones that perform.
+use Rattle.sc_back.specs.Common.{Action, Call, End, Import, In, Interface, Interfaces, Out, Proto, Ret, Row}
+use Rattle.sc_back.specs.Common.{SectionTree, comp_at, export_at, is_name}
+use Rattle.sc_ast.specs.Prelude.{SameButLines, is_ident}
 use Rattle.std.specs.Prelude.{◌≡◌, ◌≤◌, ℕ, suc, ◌<◌, ◌^◌, Bool, true, false, List, [], ◌∷◌, length, All, Option, None}
 use Rattle.std.specs.Prelude.{Some, IsTrue}
-use Rattle.sc_base.specs.Prelude.{is_name}
-use Rattle.sc_event.specs.Prelude.{comp_at, export_at}
-use Rattle.sc_event.specs.declared.interface.Import.{Import}
-use Rattle.sc_event.specs.declared.interface.Interface.{Interface}
-use Rattle.sc_event.specs.declared.interface.Interfaces.{Interfaces}
-use Rattle.sc_event.specs.declared.interface.Proto.{Proto}
-use Rattle.sc_event.specs.declared.row.Action.{Action}
-use Rattle.sc_event.specs.declared.row.Action.TheVariants.{Call, Ret, Out, In, End}
-use Rattle.sc_event.specs.declared.row.Row.{Row}
-use Rattle.sc_ast.specs.Prelude.{SameButLines, is_ident}
-use Rattle.sc_ast.specs.declared.section.SectionTree.{SectionTree}
 use Rattle.sc_back.specs.Text.{imported, owner_name}
 use Rattle.sc_back.specs.Tree.{back_tree}
 

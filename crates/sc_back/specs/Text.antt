@@ -1,23 +1,13 @@
 -- The text of a section that performs a compartment's part of a trace: one `if` an action, which tests how many of the
 -- compartment's actions were performed before.
+use Rattle.sc_back.specs.Common.{Action, Call, End, Entry, Export, Import, In, Interface, Interfaces, Main, Out, Proto}
+use Rattle.sc_back.specs.Common.{Ret, Row, Scalar, comp_at, comp_name, export_at, signed_text}
 use Rattle.std.specs.Prelude.{ℕ, suc, ◌==◌, Bool, true, false, if◌then◌else◌, codes, List, [], ◌∷◌, ◌++◌, filter}
 use Rattle.std.specs.Prelude.{flat_map, Option, None, Some}
 use Rattle.std.specs.Fmt.{decimal}
 use Rattle.std.specs.Option.{option_map_or}
-use Rattle.sc_base.specs.Prelude.{signed_text}
-use Rattle.sc_event.specs.Prelude.{comp_at, comp_name, export_at}
-use Rattle.sc_event.specs.declared.interface.Import.{Import}
 use Rattle.sc_event.specs.declared.interface.Import.TheVariants as import
-use Rattle.sc_event.specs.declared.interface.Interface.{Interface}
-use Rattle.sc_event.specs.declared.interface.Interfaces.{Interfaces}
-use Rattle.sc_event.specs.declared.interface.Proto.{Proto}
-use Rattle.sc_event.specs.declared.interface.Scalar.{Scalar}
 use Rattle.sc_event.specs.declared.interface.Scalar.TheVariants.{Int, Unsigned}
-use Rattle.sc_event.specs.declared.row.Action.{Action}
-use Rattle.sc_event.specs.declared.row.Action.TheVariants.{Call, Ret, Out, In, End}
-use Rattle.sc_event.specs.declared.row.Entry.{Entry}
-use Rattle.sc_event.specs.declared.row.Entry.TheVariants.{Export, Main}
-use Rattle.sc_event.specs.declared.row.Row.{Row}
 
 -- Heads of functions.
 

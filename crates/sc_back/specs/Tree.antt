@@ -1,4 +1,6 @@
 -- Helping: the tree that the text of a performing section is read as, lines aside.
+use Rattle.sc_back.specs.Common.{Action, Entry, Import, Interface, Interfaces, Proto, Row, Scalar, SectionTree}
+use Rattle.sc_back.specs.Common.{export_at}
 use Rattle.std.specs.Prelude.{ℕ, suc, ◌-◌, ◌^◌, ◌==◌, nat_le, true, false, if◌then◌else◌, codes, List, [], ◌∷◌, ◌++◌}
 use Rattle.std.specs.Prelude.{filter, map, Option, None, Some}
 use Rattle.std.specs.Fmt.{decimal}
@@ -6,18 +8,9 @@ use Rattle.std.specs.List.{filter_map}
 use Rattle.std.specs.Option.{option_map, option_map_or}
 use Rattle.sc_base.specs.declared.op.BinaryOp.TheVariants.{Equal, Sub}
 use Rattle.sc_base.specs.declared.op.UnaryOp.TheVariants.{Minus}
-use Rattle.sc_event.specs.Prelude.{export_at}
-use Rattle.sc_event.specs.declared.interface.Import.{Import}
-use Rattle.sc_event.specs.declared.interface.Interface.{Interface}
-use Rattle.sc_event.specs.declared.interface.Interfaces.{Interfaces}
-use Rattle.sc_event.specs.declared.interface.Proto.{Proto}
-use Rattle.sc_event.specs.declared.interface.Scalar.{Scalar}
 use Rattle.sc_event.specs.declared.interface.Scalar.TheVariants as scalar
-use Rattle.sc_event.specs.declared.row.Action.{Action}
 use Rattle.sc_event.specs.declared.row.Action.TheVariants as action
-use Rattle.sc_event.specs.declared.row.Entry.{Entry}
 use Rattle.sc_event.specs.declared.row.Entry.TheVariants as entries
-use Rattle.sc_event.specs.declared.row.Row.{Row}
 use Rattle.sc_ast.specs.declared.expr.ExprTree.{ExprTree}
 use Rattle.sc_ast.specs.declared.expr.ExprTree.TheVariants.{Binary, Literal, Unary, Variable}
 use Rattle.sc_ast.specs.declared.stmt.StmtKind.{StmtKind}
@@ -36,7 +29,6 @@ use Rattle.sc_ast.specs.declared.section.HeadTree.{HeadTree}
 use Rattle.sc_ast.specs.declared.section.ImportLine.{ImportLine}
 use Rattle.sc_ast.specs.declared.section.InitTree.TheVariants.{Absent}
 use Rattle.sc_ast.specs.declared.section.ParamTree.{ParamTree}
-use Rattle.sc_ast.specs.declared.section.SectionTree.{SectionTree}
 use Rattle.sc_back.specs.Text.{imported, input_proto, is_of, main_proto, output_proto, owner_name}
 
 -- Heads of functions.

@@ -1,9 +1,9 @@
 //! The statements that perform actions.
 
+ghost use Rattle.sc_back.specs.Prelude.{action_text, behind_comma, call_text, joined, return_text, value_text};
+ghost use Rattle.sc_back.specs.Prelude.{value_texts};
 ghost use Rattle.std.specs.Prelude.{◌≡◌, ◌++◌, ◌∷◌, [], None, codes, flat_map, OnOk};
 ghost use Rattle.sc_event.specs.declared.interface.Scalar.TheVariants as scalar;
-ghost use Rattle.sc_back.specs.Text.{action_text, behind_comma, call_text, joined, return_text, value_text};
-ghost use Rattle.sc_back.specs.Text.{value_texts};
 
 use itoa::Buffer;
 use sc_base::{OutOfMemory, Text};

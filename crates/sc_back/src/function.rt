@@ -1,9 +1,8 @@
 //! Functions that perform the rows of their entries.
 
+ghost use Rattle.sc_back.specs.Prelude.{HasNext, entry_at, function_text, is_of, own_row_text, own_rows_text, row_text};
 ghost use Rattle.std.specs.Prelude.{◌≡◌, ◌≤◌, ◌<◌, ◌^◌, ◌++◌, All, codes, filter, flat_map, length, suc, OnOk};
 ghost use Rattle.sc_event.specs.declared.interface.Scalar.TheVariants.{Unsigned};
-ghost use Rattle.sc_back.specs.Rows.{HasNext, entry_at, own_row_text, own_rows_text};
-ghost use Rattle.sc_back.specs.Text.{function_text, is_of, row_text};
 
 use crate::action::{append_action, append_value};
 use crate::head::append_head;

@@ -1,8 +1,8 @@
 //! Heads of functions.
 
+ghost use Rattle.sc_back.specs.Prelude.{behind_comma, head_text, param_text, param_texts, params_text, result_text};
+ghost use Rattle.sc_back.specs.Prelude.{type_text};
 ghost use Rattle.std.specs.Prelude.{◌≡◌, ◌++◌, ◌≤◌, suc, codes, flat_map, length, OnOk};
-ghost use Rattle.sc_back.specs.Text.{behind_comma, head_text, param_text, param_texts, params_text, result_text};
-ghost use Rattle.sc_back.specs.Text.{type_text};
 
 use itoa::Buffer;
 use sc_base::{OutOfMemory, Text};

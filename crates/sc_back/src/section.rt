@@ -1,12 +1,12 @@
 //! Whole sections.
 
+ghost use Rattle.sc_back.specs.Prelude.{HasNext, back_text, declarations_text, directives_text, export_text};
+ghost use Rattle.sc_back.specs.Prelude.{functions_text, import_line, import_text, main_text, proto_line, proto_text};
+ghost use Rattle.sc_back.specs.Prelude.{section_text};
+ghost use Rattle.sc_event.specs.Prelude.{comp_name};
 ghost use Rattle.std.specs.Prelude.{◌≡◌, ◌≤◌, ◌++◌, All, codes, flat_map, length, IfOk, OnOk};
 ghost use Rattle.std.specs.Option.{option_copied, option_map_or};
-ghost use Rattle.sc_event.specs.Prelude.{comp_name};
 ghost use Rattle.sc_event.specs.declared.interface.Import.TheVariants.{Function};
-ghost use Rattle.sc_back.specs.Rows.{HasNext, declarations_text, directives_text};
-ghost use Rattle.sc_back.specs.Text.{back_text, export_text, functions_text, import_line, import_text, main_text};
-ghost use Rattle.sc_back.specs.Text.{proto_line, proto_text, section_text};
 
 use crate::function::{Performer, append_function};
 use crate::head::append_head;

@@ -1,29 +1,16 @@
 -- A text in which compartments perform their parts of a trace is accepted, and means what their scripts say.
-use Rattle.std.proofs.Common.{◌≡◌, ℕ, suc, ◌<◌, ◌≤◌, Bool, true, false, List, [], ◌∷◌, ◌++◌, length, All, refl, sym}
-use Rattle.std.proofs.Common.{◌∙◌, ap, subst, arith}
-use Rattle.std.specs.Prelude.{nat_le}
-use Rattle.std.specs.List.{AllByRecursion, AllZip, concat, list_all}
-use Rattle.std.proofs.lemmas.Bool.{le-leb}
-use Rattle.std.proofs.lemmas.List.Elements.{All-from_recursion, recursion_from_All}
-use Rattle.sc_event.specs.Prelude.{legal, part}
-use Rattle.sc_event.specs.declared.event.Event.{Event}
-use Rattle.sc_event.specs.declared.interface.Interfaces.{Interfaces}
-use Rattle.sc_event.specs.declared.row.Row.{Row}
+use Rattle.sc_chain.proofs.Common.{Accepts, All, All-from_recursion, AllByRecursion, AllZip, AreLow, Blamed, Bool}
+use Rattle.sc_chain.proofs.Common.{Cause, Event, HasWords, Interfaces, IsRead, IsRecomposed, IsReplay, IsSource}
+use Rattle.sc_chain.proofs.Common.{IsSplitInto, IsTyped, IsWellTyped, List, Part, ProgramTree, Reads, Row, SourceParts}
+use Rattle.sc_chain.proofs.Common.{[], ap, arith, concat, false, le-leb, legal, length, list_all, meaning, nat_le}
+use Rattle.sc_chain.proofs.Common.{new_texts, part, performing, recomposed, recursion_from_All, refl, scripted_meaning}
+use Rattle.sc_chain.proofs.Common.{subst, suc, sym, true, ℕ, ◌++◌, ◌<◌, ◌∙◌, ◌∷◌, ◌≡◌, ◌≤◌}
 use Rattle.sc_ast.specs.Prelude.{section_height}
+use Rattle.sc_scope.specs.Prelude.{interfaces_from}
+use Rattle.sc_elab.specs.Prelude.{program_of}
 use Rattle.sc_ast.specs.declared.section.ImportLine.{ImportLine}
 use Rattle.sc_ast.specs.declared.section.SectionTree.{SectionTree}
-use Rattle.sc_core.specs.Prelude.{IsWellTyped, meaning, scripted_meaning}
-use Rattle.sc_core.specs.declared.cause.Cause.{Cause}
-use Rattle.sc_core.specs.declared.program.ProgramTree.{ProgramTree}
-use Rattle.sc_core.specs.declared.run.RunEnd.TheVariants.{Blamed}
-use Rattle.sc_elab.specs.Prelude.{program_of}
-use Rattle.sc_scope.specs.Prelude.{interfaces_from}
-use Rattle.sc_read.specs.Reading.{IsRead, Part, Reads}
-use Rattle.sc_types.specs.Acceptance.{Accepts, AreLow, IsTyped}
-use Rattle.sc_types.specs.Source.{IsSource, IsSplitInto, SourceParts}
 use Rattle.sc_types.proofs.Whole.{well_typed}
-use Rattle.sc_back.specs.Replacing.{new_texts}
-use Rattle.sc_replay.specs.Replay.{HasWords, IsRecomposed, IsReplay}
 use Rattle.sc_replay.proofs.Replays.{texts_perform}
 use Rattle.sc_reread.specs.Names.{IsNamedImport, IsNamedSection}
 use Rattle.sc_reread.specs.Replaced.{IsReplacement, IsReread, texts_of}
@@ -33,7 +20,6 @@ use Rattle.sc_performers.specs.Performing.{IsFromSo, IsNamed, PerformsPart}
 use Rattle.sc_performers.specs.Recomposed.{IsPerformable}
 use Rattle.sc_performers.proofs.PartsPerform.{parts_perform}
 use Rattle.sc_performers.proofs.Recomposed.{recomposed_hold}
-use Rattle.sc_chain.specs.Recompose.{performing, recomposed}
 
 -- what names of trees that were read are
 from_so : (lines : List ImportLine) → AllByRecursion IsNamedImport lines → AllByRecursion IsFromSo lines

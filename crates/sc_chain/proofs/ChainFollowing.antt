@@ -1,23 +1,12 @@
 -- How the chain of a trace is followed, link by link, from the run in which nobody performs on.
-use Rattle.std.proofs.Common.{◌≡◌, ℕ, suc, ◌+◌, ◌-◌, ◌<◌, ◌≤◌, ◌==◌, ◌||◌, ◌⊎◌, Bool, true, false, List, [], ◌∷◌}
-use Rattle.std.proofs.Common.{◌++◌, length, map, All, sym, ap, subst, ◌∙◌, arith, append_assoc, append-nil}
-use Rattle.std.proofs.Common.{length-append, eq-eqb, ne_eqb, ⊎_elim}
-use Rattle.std.proofs.lemmas.Bool.{cases_eq}
-use Rattle.std.proofs.lemmas.List.{length-map, map-append}
-use Rattle.std.proofs.lemmas.List.Elements.{All-push}
+use Rattle.sc_chain.proofs.Common.{All, All-push, Blamed, Bool, Cause, Event, IsBlamedOutside, IsLink, IsNextLink}
+use Rattle.sc_chain.proofs.Common.{IsRising, Link, List, Set, SourceParts, SourceRun, [], among, ap, append-nil}
+use Rattle.sc_chain.proofs.Common.{append_assoc, arith, blamed_are_there, c_arith, cases_eq, chain_exists, chains_rise}
+use Rattle.sc_chain.proofs.Common.{empty_set, eq-eqb, false, length, length-append, length-map, map, map-append}
+use Rattle.sc_chain.proofs.Common.{meaning, ne_eqb, nobody, performed, performing_text, subst, suc, sym, true, with, ℕ}
+use Rattle.sc_chain.proofs.Common.{⊎_elim, ◌++◌, ◌+◌, ◌-◌, ◌<◌, ◌==◌, ◌||◌, ◌∙◌, ◌∷◌, ◌≡◌, ◌≤◌, ◌⊎◌}
+use Rattle.sc_laws.specs.Prelude.{IsChain, Link as Blame}
 use Rattle.std.proofs.lemmas.List.Folds.{list_any-append}
-use Rattle.sc_event.specs.declared.event.Event.{Event}
-use Rattle.sc_core.specs.Prelude.{c_arith, meaning}
-use Rattle.sc_core.specs.declared.cause.Cause.{Cause}
-use Rattle.sc_core.specs.declared.run.RunEnd.TheVariants.{Blamed}
-use Rattle.sc_core.specs.declared.run.SourceRun.{SourceRun}
-use Rattle.sc_laws.specs.Chains.{IsBlamedOutside, IsChain, IsLink, IsRising, Link as Blame, Set, nobody, performed}
-use Rattle.sc_laws.specs.Chains.{with}
-use Rattle.sc_laws.proofs.ProgramLaws.{blamed_are_there, chain_exists, chains_rise, empty_set}
-use Rattle.sc_types.specs.Source.{SourceParts}
-use Rattle.sc_chain.specs.Following.{IsNextLink}
-use Rattle.sc_chain.specs.Recompose.{among, performing_text}
-use Rattle.sc_chain.specs.declared.explanation.Link.{Link}
 
 -- SETS
 same_swapped : (a b : ℕ) → (a == b) ≡ (b == a)

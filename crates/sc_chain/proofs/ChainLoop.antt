@@ -1,23 +1,9 @@
 -- The loop that follows the chain of a trace: how it begins, goes on and ends.
-use Rattle.std.proofs.Common.{◌≡◌, ◌⊎◌, ℕ, ◌-◌, ◌<◌, ◌≤◌, true, List, [], ◌∷◌, ◌++◌, length, All, Option, None, Some}
-use Rattle.std.proofs.Common.{refl, sym, ap, subst, ◌∙◌, inl, inr, ⊎_elim}
-use Rattle.sc_event.specs.Prelude.{legal}
-use Rattle.sc_event.specs.declared.event.Event.{Event}
-use Rattle.sc_event.specs.declared.interface.Interfaces.{Interfaces}
-use Rattle.sc_core.specs.Prelude.{IsWellTyped, meaning, scripted_meaning}
-use Rattle.sc_core.specs.declared.program.ProgramTree.{ProgramTree}
-use Rattle.sc_core.specs.declared.run.SourceRun.{SourceRun}
-use Rattle.sc_laws.specs.Chains.{Set}
-use Rattle.sc_linker.proofs.Compartments.{same_count}
-use Rattle.sc_compile.specs.Compiled.{TellsOrBlames}
-use Rattle.sc_types.specs.Acceptance.{Accepts}
-use Rattle.sc_types.specs.Source.{IsSource, SourceParts}
-use Rattle.sc_replay.specs.Replay.{HasWords}
-use Rattle.sc_chain.specs.Chain.{IsChain}
-use Rattle.sc_chain.specs.Following.{IsNextOf}
-use Rattle.sc_chain.specs.Recompose.{among}
-use Rattle.sc_chain.specs.Replaced.{IsReplaced}
-use Rattle.sc_chain.specs.declared.explanation.Link.{Link}
+use Rattle.sc_chain.proofs.Common.{Accepts, All, Event, HasWords, Interfaces, IsChain, IsNextOf, IsReplaced, IsSource}
+use Rattle.sc_chain.proofs.Common.{IsWellTyped, Link, List, None, Option, ProgramTree, Set, Some, SourceParts}
+use Rattle.sc_chain.proofs.Common.{SourceRun, TellsOrBlames, [], among, ap, inl, inr, legal, length, meaning, refl}
+use Rattle.sc_chain.proofs.Common.{same_count, scripted_meaning, subst, sym, true, ℕ, ⊎_elim, ◌++◌, ◌-◌, ◌<◌, ◌∙◌, ◌∷◌}
+use Rattle.sc_chain.proofs.Common.{◌≡◌, ◌≤◌, ◌⊎◌}
 use Rattle.sc_chain.proofs.Accepted.{recomposed_means}
 use Rattle.sc_chain.proofs.ChainFollowing.{IsAt, begins, ends, few_links, fewer_left, goes_on, runs}
 use Rattle.sc_chain.proofs.ChainTexts.{is_chain}

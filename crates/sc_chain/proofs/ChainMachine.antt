@@ -1,18 +1,11 @@
 -- What a run of the machine shows has no more events than were allowed.
-use Rattle.std.proofs.Common.{◌≡◌, ℕ, zero, suc, ◌+◌, ◌<◌, ◌≤◌, ◌++◌, Bool, true, false, if◌then◌else◌, nat_le, List}
-use Rattle.std.proofs.Common.{[]}
-use Rattle.std.proofs.Common.{◌∷◌, length, Option, None, Some, refl, sym, subst, arith, length-append, leb-false}
-use Rattle.sc_base.specs.declared.stop.Stop.{Stop}
+use Rattle.sc_chain.proofs.Common.{Bool, Crossing, Event, Goes, ImageParts, IsWellFormed, List, None, Option, Outcome}
+use Rattle.sc_chain.proofs.Common.{Run, Some, State, Stop, Traps, [], a0, arith, false, given_back, has_result}
+use Rattle.sc_chain.proofs.Common.{if◌then◌else◌, is_ended, leb-false, length, length-append, machine, nat_le, refl}
+use Rattle.sc_chain.proofs.Common.{reg, returned, run, start, step, stopped, subst, suc, sym, true, zero, ℕ, ◌++◌, ◌+◌}
+use Rattle.sc_chain.proofs.Common.{◌<◌, ◌∷◌, ◌≡◌, ◌≤◌}
 use Rattle.sc_base.specs.declared.stop.Stop.TheVariants.{Ended, EventsOut}
-use Rattle.sc_event.specs.declared.event.Event.{Event}
 use Rattle.sc_event.specs.declared.event.Event.TheVariants.{End, Ret}
-use Rattle.sc_image.specs.declared.parts.ImageParts.{ImageParts}
-use Rattle.sc_image.specs.Calls.{has_result}
-use Rattle.sc_image.specs.Cross.{given_back, returned}
-use Rattle.sc_image.specs.Machine.{Run, is_ended, machine, run, stopped}
-use Rattle.sc_image.specs.State.{Crossing, State, a0, reg, start}
-use Rattle.sc_image.specs.Step.{Goes, Outcome, Traps, step}
-use Rattle.sc_image.specs.WellFormed.{IsWellFormed}
 use Rattle.sc_image.proofs.Cases.{step_of}
 use Rattle.sc_image.proofs.Running.{run_goes, run_out, run_stopped, run_traps}
 

@@ -1,22 +1,8 @@
 -- What the machine shows on the image of a program, as the chain of texts needs it.
-use Rattle.std.proofs.Common.{◌≡◌, ℕ, ℤ, true, List, length, map, get_or, All, Ok, subst, sym}
-use Rattle.std.proofs.lemmas.List.Elements.{All-map}
-use Rattle.sc_base.specs.declared.stop.Stop.{Stop}
+use Rattle.sc_chain.proofs.Common.{All, All-map, Event, ImageParts, IsChain, IsCompiled, IsExplained, IsWord, Link}
+use Rattle.sc_chain.proofs.Common.{List, Ok, ProgramTree, Run, Set, SourceParts, Stop, TellsOrBlames, get_or, image_of}
+use Rattle.sc_chain.proofs.Common.{legal, length, machine, map, scripted_meaning, subst, sym, true, word_of, ℕ, ℤ, ◌≡◌}
 use Rattle.sc_word.proofs.Words.{word_of-lt}
-use Rattle.sc_word.specs.Prelude.{word_of}
-use Rattle.sc_event.specs.Prelude.{legal}
-use Rattle.sc_event.specs.declared.event.Event.{Event}
-use Rattle.sc_core.specs.Prelude.{scripted_meaning}
-use Rattle.sc_core.specs.declared.program.ProgramTree.{ProgramTree}
-use Rattle.sc_laws.specs.Chains.{Set}
-use Rattle.sc_image.specs.declared.parts.ImageParts.{ImageParts}
-use Rattle.sc_image.specs.Machine.{Run, machine}
-use Rattle.sc_image.specs.WellFormed.{IsWord}
-use Rattle.sc_compile.specs.Compiled.{IsCompiled, TellsOrBlames}
-use Rattle.sc_compile.specs.Image.{image_of}
-use Rattle.sc_types.specs.Source.{SourceParts}
-use Rattle.sc_chain.specs.Chain.{IsChain, IsExplained}
-use Rattle.sc_chain.specs.declared.explanation.Link.{Link}
 
 -- words of inputs are words
 inputs_are_words : (inputs : List ℤ) → All IsWord (map word_of inputs)

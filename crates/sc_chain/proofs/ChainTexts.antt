@@ -1,22 +1,12 @@
 -- The chain of a trace as a chain of texts: each set's text is accepted, and means what the set's scripts say.
-use Rattle.std.proofs.Common.{◌≡◌, ℕ, suc, ◌<◌, ◌==◌, ◌||◌, Bool, true, false, List, [], ◌∷◌, ◌++◌, length}
-use Rattle.std.proofs.Common.{map, take, All, refl, sym, ap, subst, ◌∙◌, arith, take_all, eqb-true}
-use Rattle.std.proofs.lemmas.List.{take-append-le}
-use Rattle.std.proofs.lemmas.List.Elements.{All-append, All-push}
-use Rattle.std.specs.List.{concat}
-use Rattle.sc_event.specs.declared.event.Event.{Event}
-use Rattle.sc_core.specs.Prelude.{Front, c_arith, meaning, scripted_meaning}
-use Rattle.sc_core.specs.declared.program.ProgramTree.{ProgramTree}
-use Rattle.sc_core.specs.declared.run.SourceRun.{SourceRun}
-use Rattle.sc_laws.specs.Chains.{AreFresh, IsRising, Set, nobody}
+use Rattle.sc_chain.proofs.Common.{Accepts, All, All-append, All-push, AreFresh, Bool, Event, Front, HasProgram}
+use Rattle.sc_chain.proofs.Common.{Includes, IsChain, IsChainFrom, IsRising, IsSource, Link, List, ProgramTree, Set}
+use Rattle.sc_chain.proofs.Common.{SourceParts, SourceRun, TellsTrace, [], among, ap, arith, blamed_are_there, c_arith}
+use Rattle.sc_chain.proofs.Common.{chain_is_least, chains_rise, concat, empty_set, eqb-true, false, length, map}
+use Rattle.sc_chain.proofs.Common.{meaning, new_texts, nobody, performing, recomposed, refl, scripted_meaning, subst}
+use Rattle.sc_chain.proofs.Common.{suc, sym, take, take-append-le, take_all, true, ℕ, ◌++◌, ◌<◌, ◌==◌, ◌||◌, ◌∙◌, ◌∷◌}
+use Rattle.sc_chain.proofs.Common.{◌≡◌}
 use Rattle.sc_laws.specs.Chains as laws
-use Rattle.sc_laws.proofs.ProgramLaws.{blamed_are_there, chain_is_least, chains_rise, empty_set}
-use Rattle.sc_types.specs.Acceptance.{Accepts}
-use Rattle.sc_types.specs.Source.{IsSource, SourceParts}
-use Rattle.sc_back.specs.Replacing.{new_texts}
-use Rattle.sc_chain.specs.Chain.{HasProgram, Includes, IsChain, IsChainFrom, TellsTrace}
-use Rattle.sc_chain.specs.Recompose.{among, performing, recomposed}
-use Rattle.sc_chain.specs.declared.explanation.Link.{Link}
 use Rattle.sc_chain.proofs.ChainFollowing.{IsFound, Performs, among_also, blame_of, runs}
 
 -- LISTS

@@ -1,11 +1,7 @@
 -- Sections one behind the other.
-use Rattle.std.proofs.Common.{◌≡◌, ℕ, zero, suc, ◌+◌, ◌<◌, ◌≤◌, List, [], ◌∷◌, ◌++◌, length, drop, Option, Some, refl}
-use Rattle.std.proofs.Common.{sym, ap}
-use Rattle.std.proofs.Common.{◌∙◌, append_assoc, append-nil, arith, subst}
-use Rattle.std.specs.Prelude.{slice_get, slice_index_or}
-use Rattle.std.specs.List.{concat}
-use Rattle.std.proofs.lemmas.List.{at_drop_more, at_drop_all}
-use Rattle.sc_back.specs.Replacing.{new_text, new_texts}
+use Rattle.sc_chain.proofs.Common.{List, Option, Some, [], ap, append-nil, append_assoc, arith, at_drop_all}
+use Rattle.sc_chain.proofs.Common.{at_drop_more, concat, drop, length, new_text, new_texts, refl, slice_get}
+use Rattle.sc_chain.proofs.Common.{slice_index_or, subst, suc, sym, zero, ℕ, ◌++◌, ◌+◌, ◌<◌, ◌∙◌, ◌∷◌, ◌≡◌, ◌≤◌}
 
 -- the sections from this one on
 abbrev pub rest_of : (replace : ℕ → Option (List ℕ)) → (number : ℕ) → List (List ℕ) → List ℕ

@@ -1,3 +1,4 @@
+pub mod Common
 pub mod Accepted
 mod ChainFollowing
 mod ChainLoop

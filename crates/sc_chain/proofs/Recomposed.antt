@@ -1,27 +1,13 @@
 -- What is read of a text in which compartments perform.
-use Rattle.std.proofs.Common.{◌≡◌, ℕ, suc, ◌<◌, ◌≤◌, ◌==◌, ◌||◌, Bool, true, false, List, [], ◌∷◌, ◌++◌, length, map}
-use Rattle.std.proofs.Common.{All}
-use Rattle.std.proofs.Common.{Option, None, Some, if◌then◌else◌, refl, sym, ◌∙◌, ap, ap₂, subst}
-use Rattle.std.specs.List.{AllByRecursion, concat, list_any}
-use Rattle.std.proofs.lemmas.Bool.{eqb-true}
-use Rattle.std.proofs.lemmas.List.Elements.{recursion_from_All}
-use Rattle.sc_event.specs.Prelude.{legal}
-use Rattle.sc_event.specs.declared.event.Event.{Event}
-use Rattle.sc_event.specs.declared.interface.Interfaces.{Interfaces}
-use Rattle.sc_core.specs.Prelude.{meaning}
-use Rattle.sc_core.specs.declared.program.ProgramTree.{ProgramTree}
+use Rattle.sc_chain.proofs.Common.{Accepts, All, AllByRecursion, Bool, Event, HasWords, Interfaces, IsReplaced}
+use Rattle.sc_chain.proofs.Common.{IsSource, IsSplitInto, List, None, Option, Part, ProgramTree, Replacement, Some}
+use Rattle.sc_chain.proofs.Common.{SourceParts, [], among, ap, ap₂, concat, eqb-true, false, if◌then◌else◌, joined}
+use Rattle.sc_chain.proofs.Common.{legal, length, list_any, map, meaning, new_text, new_texts, part_of, performing}
+use Rattle.sc_chain.proofs.Common.{performing_text, recomposed, recursion_from_All, refl, replacement_of, subst, suc}
+use Rattle.sc_chain.proofs.Common.{sym, text_for, true, ℕ, ◌++◌, ◌<◌, ◌==◌, ◌||◌, ◌∙◌, ◌∷◌, ◌≡◌, ◌≤◌}
 use Rattle.sc_lex.specs.Prelude.{IsSplit}
 use Rattle.sc_lex.specs.declared.section.Section.{Section}
-use Rattle.sc_read.specs.Reading.{Part, part_of}
 use Rattle.sc_read.proofs.Splits.{same_parts, same_preamble}
-use Rattle.sc_types.specs.Acceptance.{Accepts}
-use Rattle.sc_types.specs.Source.{IsSource, IsSplitInto, SourceParts}
-use Rattle.sc_back.specs.Replacing.{new_text, new_texts}
-use Rattle.sc_replay.specs.Replay.{HasWords}
-use Rattle.sc_chain.specs.Recompose.{among, joined, performing, performing_text, recomposed, text_for}
-use Rattle.sc_chain.specs.Replaced.{IsReplaced}
-use Rattle.sc_chain.specs.Sections.{replacement_of}
-use Rattle.sc_chain.specs.declared.composed.Replacement.{Replacement}
 use Rattle.sc_chain.proofs.Accepted as accepted
 
 -- The replacements of a list of compartments are those of their set.

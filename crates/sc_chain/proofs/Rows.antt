@@ -1,14 +1,8 @@
 -- Behind each row of a trace that isn't too long there is another number.
-use Rattle.std.proofs.Common.{◌≡◌, ℕ, suc, ◌+◌, ◌^◌, ◌<◌, ◌≤◌, Bool, true, false, List, [], ◌∷◌, length, All, Option}
-use Rattle.std.proofs.Common.{None}
-use Rattle.std.proofs.Common.{Some, if◌then◌else◌, arith, subst, sym}
-use Rattle.std.specs.Prelude.{◌==◌}
-use Rattle.std.specs.List.{AllByRecursion}
-use Rattle.std.proofs.lemmas.List.Elements.{All-from_recursion}
-use Rattle.sc_event.specs.Prelude.{Standing, action_of, at_start, part, performer, rows_from, stands_after}
-use Rattle.sc_event.specs.declared.event.Event.{Event}
-use Rattle.sc_event.specs.declared.row.Row.{Row}
-use Rattle.sc_back.specs.Rows.{HasNext}
+use Rattle.sc_chain.proofs.Common.{All, All-from_recursion, AllByRecursion, Bool, Event, HasNext, List, None, Option}
+use Rattle.sc_chain.proofs.Common.{Row, Some, Standing, [], action_of, arith, at_start, false, if◌then◌else◌, length}
+use Rattle.sc_chain.proofs.Common.{part, performer, rows_from, stands_after, subst, suc, sym, true, ℕ, ◌+◌, ◌<◌, ◌==◌}
+use Rattle.sc_chain.proofs.Common.{◌^◌, ◌∷◌, ◌≡◌, ◌≤◌}
 
 numbers_low : (comp number : ℕ) (at : Option Standing) (trace : List Event) →
     suc (number + length trace) < 2 ^ 32 → AllByRecursion HasNext (rows_from comp number at trace)

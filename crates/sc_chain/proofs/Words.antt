@@ -1,10 +1,6 @@
 -- The values of one event more are words.
-use Rattle.std.proofs.Common.{◌≡◌, ℕ, ◌+◌, ◌<◌, List, length, refl, sym, ap, ◌∙◌, subst, arith, ⊎_elim}
-use Rattle.std.specs.Prelude.{slice_index_or}
-use Rattle.std.proofs.lemmas.Bool.{cases_lt}
-use Rattle.std.proofs.lemmas.List.{get_or_read_under}
-use Rattle.sc_event.specs.declared.event.Event.{Event}
-use Rattle.sc_replay.specs.Replay.{HasWords}
+use Rattle.sc_chain.proofs.Common.{Event, HasWords, List, ap, arith, cases_lt, get_or_read_under, length, refl}
+use Rattle.sc_chain.proofs.Common.{slice_index_or, subst, sym, ℕ, ⊎_elim, ◌+◌, ◌<◌, ◌∙◌, ◌≡◌}
 
 -- the first events have words
 abbrev pub FirstHave : List Event → (count : ℕ) → Type 0

@@ -1,19 +1,12 @@
 -- The account of a run of the machine: a chain of texts. The first is the program's own; each later one has one section
 -- more that performs its part of the trace, that of the compartment which the meaning of the text before it blames
 -- after a proper, ever longer front of the trace; the meaning of the last is the trace.
+use Rattle.sc_chain.specs.Common.{Accepts, Blamed, Event, Link, ProgramTree, SourceParts, image_of, meaning}
+use Rattle.sc_image.specs.Prelude.{machine}
 use Rattle.std.specs.Prelude.{◌≡◌, ◌↔◌, ℕ, suc, ◌<◌, ◌≤◌, Bool, true, false, List, [], ◌∷◌, length, take, Ok}
-use Rattle.sc_event.specs.declared.event.Event.{Event}
-use Rattle.sc_core.specs.Prelude.{meaning}
-use Rattle.sc_core.specs.declared.program.ProgramTree.{ProgramTree}
-use Rattle.sc_core.specs.declared.run.RunEnd.TheVariants.{Blamed}
 use Rattle.sc_image.specs.declared.parts.ImageParts.{ImageParts}
-use Rattle.sc_image.specs.Machine.{machine}
-use Rattle.sc_compile.specs.Image.{image_of}
-use Rattle.sc_types.specs.Acceptance.{Accepts}
-use Rattle.sc_types.specs.Source.{SourceParts}
 use Rattle.sc_chain.specs.Recompose.{among, performing_text, recomposed}
 use Rattle.sc_chain.specs.declared.explanation.Explanation.{Explanation}
-use Rattle.sc_chain.specs.declared.explanation.Link.{Link}
 
 -- The meaning of a program, with as many turns as the machine had steps and as many events as it showed, is blamed so,
 -- after a proper front of the trace.

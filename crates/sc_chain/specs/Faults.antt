@@ -1,7 +1,6 @@
 -- Why a program has no explanation.
+use Rattle.sc_chain.specs.Common.{ProgramTree, image_of}
 use Rattle.std.specs.Prelude.{◌≡◌, Err}
-use Rattle.sc_core.specs.declared.program.ProgramTree.{ProgramTree}
-use Rattle.sc_compile.specs.Image.{image_of}
 use Rattle.sc_chain.specs.declared.explanation.ExplainFault.{ExplainFault}
 use Rattle.sc_chain.specs.declared.explanation.ExplainFault.TheVariants.{CompileFault, OutOfMemory}
 

@@ -1,12 +1,8 @@
 -- Helping: the next link of a chain, where there is one.
+use Rattle.sc_chain.specs.Common.{Blamed, Cause, Event, Interfaces, Link}
 use Rattle.std.specs.Prelude.{◌≡◌, ℕ, ◌<◌, ◌≤◌, List, length, Option, None, Some}
-use Rattle.sc_event.specs.declared.event.Event.{Event}
-use Rattle.sc_event.specs.declared.interface.Interfaces.{Interfaces}
-use Rattle.sc_core.specs.declared.cause.Cause.{Cause}
-use Rattle.sc_core.specs.declared.run.RunEnd.TheVariants.{Blamed}
 use Rattle.sc_core.specs.declared.run.SourceRun.{SourceRun}
 use Rattle.sc_chain.specs.Recompose.{performing_text}
-use Rattle.sc_chain.specs.declared.explanation.Link.{Link}
 
 -- the run is blamed so, before the end of the trace
 pub record IsNextLink (interfaces : Interfaces) (trace : List Event) (run : SourceRun) (link : Link) : Type 0 where

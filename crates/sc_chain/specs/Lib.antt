@@ -1,3 +1,5 @@
+pub mod Common
+pub mod Prelude
 pub mod Recompose
 pub mod Replaced
 pub mod Sections

@@ -1,13 +1,8 @@
 -- Texts in which some sections are replaced, all else byte for byte.
+use Rattle.sc_chain.specs.Common.{Event, Interfaces, Replacement, SourceParts, back_text, new_texts}
+use Rattle.sc_event.specs.Prelude.{part}
 use Rattle.std.specs.Prelude.{ℕ, ◌==◌, Bool, if◌then◌else◌, List, [], ◌∷◌, ◌++◌, map, Option, None, Some}
 use Rattle.std.specs.List.{concat, list_any}
-use Rattle.sc_event.specs.Prelude.{part}
-use Rattle.sc_event.specs.declared.event.Event.{Event}
-use Rattle.sc_event.specs.declared.interface.Interfaces.{Interfaces}
-use Rattle.sc_types.specs.Source.{SourceParts}
-use Rattle.sc_back.specs.Text.{back_text}
-use Rattle.sc_back.specs.Replacing.{new_texts}
-use Rattle.sc_chain.specs.declared.composed.Replacement.{Replacement}
 
 -- the text of the first replacement of a compartment, if there is one
 abbrev pub text_for : List Replacement → (comp : ℕ) → Option (List ℕ)

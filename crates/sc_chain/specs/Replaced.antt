@@ -1,11 +1,6 @@
 -- What a text is in which the compartments of a set perform their parts of a trace.
+use Rattle.sc_chain.specs.Common.{Blamed, Cause, Event, SourceParts, meaning, new_texts, scripted_meaning}
 use Rattle.std.specs.Prelude.{◌≡◌, ℕ, Bool, false, List}
-use Rattle.sc_event.specs.declared.event.Event.{Event}
-use Rattle.sc_core.specs.Prelude.{meaning, scripted_meaning}
-use Rattle.sc_core.specs.declared.cause.Cause.{Cause}
-use Rattle.sc_core.specs.declared.run.RunEnd.TheVariants.{Blamed}
-use Rattle.sc_types.specs.Source.{SourceParts}
-use Rattle.sc_back.specs.Replacing.{new_texts}
 use Rattle.sc_chain.specs.Recompose.{performing, recomposed}
 
 pub record IsReplaced (source : SourceParts) (trace : List Event) (set : ℕ → Bool) (new : SourceParts) : Type 0 where

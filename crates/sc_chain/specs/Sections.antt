@@ -1,11 +1,7 @@
 -- Helping: sections and rows one by one.
+use Rattle.sc_chain.specs.Common.{Event, Interfaces, Replacement, SourceParts, new_text}
 use Rattle.std.specs.Prelude.{ℕ, List, [], Option, slice_index_or}
-use Rattle.sc_event.specs.declared.event.Event.{Event}
-use Rattle.sc_event.specs.declared.interface.Interfaces.{Interfaces}
-use Rattle.sc_types.specs.Source.{SourceParts}
-use Rattle.sc_back.specs.Replacing.{new_text}
 use Rattle.sc_chain.specs.Recompose.{performing_text}
-use Rattle.sc_chain.specs.declared.composed.Replacement.{Replacement}
 
 -- what stands at the place of a compartment's section
 abbrev pub section_at : SourceParts → (replace : ℕ → Option (List ℕ)) → (comp : ℕ) → List ℕ

@@ -1,14 +1,11 @@
 //! The account of a run of the machine.
 
-ghost use Rattle.std.specs.Prelude.{◌≡◌, ◌≤◌, ℕ, Bool, true, length, map, IfOk, IfErr};
-ghost use Rattle.sc_event.specs.Prelude.{legal};
-ghost use Rattle.sc_core.specs.Prelude.{scripted_meaning};
-ghost use Rattle.sc_image.specs.Machine.{machine};
-ghost use Rattle.sc_compile.specs.Compiled.{TellsOrBlames};
+ghost use Rattle.sc_chain.specs.Prelude.{IsChain, IsExplained, IsFault, IsNextOf, legal};
 ghost use Rattle.sc_word.specs.Prelude.{word_of};
-ghost use Rattle.sc_chain.specs.Chain.{IsChain, IsExplained};
-ghost use Rattle.sc_chain.specs.Faults.{IsFault};
-ghost use Rattle.sc_chain.specs.Following.{IsNextOf};
+ghost use Rattle.sc_core.specs.Prelude.{scripted_meaning};
+ghost use Rattle.sc_image.specs.Prelude.{machine};
+ghost use Rattle.sc_compile.specs.Prelude.{TellsOrBlames};
+ghost use Rattle.std.specs.Prelude.{◌≡◌, ◌≤◌, ℕ, Bool, true, length, map, IfOk, IfErr};
 
 use crate::explanation::{ExplainFault, Explanation, Link, Links};
 use crate::replacing::{have_words, performing_text, replaced};

@@ -1,10 +1,8 @@
 //! Texts in which some sections are replaced.
 
+ghost use Rattle.sc_chain.specs.Prelude.{IsSource, joined, section_at, text_for};
 ghost use Rattle.std.specs.Prelude.{◌≡◌, ◌++◌, ◌<◌, ◌≤◌, length, slice_get, Some, IfOk, OnOk};
 ghost use Rattle.std.specs.Option.{option_copied};
-ghost use Rattle.sc_types.specs.Source.{IsSource};
-ghost use Rattle.sc_chain.specs.Recompose.{joined, text_for};
-ghost use Rattle.sc_chain.specs.Sections.{section_at};
 
 use sc_base::{OutOfMemory, Text};
 use sc_event::CompId;

@@ -1,14 +1,10 @@
 //! Texts in which compartments perform their parts of a trace.
 
+ghost use Rattle.sc_chain.specs.Prelude.{Accepts, IsReplaced, IsSource, among, legal, part, performing_text};
+ghost use Rattle.sc_chain.specs.Prelude.{recomposed, replacement_of};
 ghost use Rattle.std.specs.Prelude.{◌≡◌, ◌<◌, ◌≤◌, ◌^◌, true, length, map, All, IfOk};
-ghost use Rattle.sc_event.specs.Prelude.{legal, part};
 ghost use Rattle.sc_core.specs.declared.program.ProgramTree.{ProgramTree};
-ghost use Rattle.sc_types.specs.Acceptance.{Accepts};
-ghost use Rattle.sc_types.specs.Source.{IsSource};
 ghost use Rattle.sc_replay.specs.Replay.{HasWords, IsWord};
-ghost use Rattle.sc_chain.specs.Recompose.{among, performing_text, recomposed};
-ghost use Rattle.sc_chain.specs.Replaced.{IsReplaced};
-ghost use Rattle.sc_chain.specs.Sections.{replacement_of};
 
 use crate::composed::{Replacement, recompose};
 use sc_back::back_section;

@@ -1,36 +1,22 @@
 -- A program's interfaces allow what its image shows: which traces are legal doesn't look at the types of scalars, nor
 -- at the order of imports.
-use Rattle.std.proofs.Common.{◌≡◌, ℕ, Bool, true, false, ◌&&◌, ◌||◌, ◌==◌, if◌then◌else◌, List, [], ◌∷◌, ◌++◌}
-use Rattle.std.proofs.Common.{length, map, flat_map, slice_get, All, Option, None, Some, is_some, option_map}
-use Rattle.std.proofs.Common.{option_and_then, refl, sym, ap, ap₂, ◌∙◌}
-use Rattle.std.proofs.lemmas.List.{length-replicate}
-use Rattle.std.proofs.lemmas.Option.{slice_get-map}
-use Rattle.std.specs.List.{list_any}
-use Rattle.std.specs.Option.{option_map_or}
-use Rattle.sc_event.specs.Prelude.{at_start, awaits, comp_at, export_at, fits_result, imports, is_function, is_input}
-use Rattle.sc_event.specs.Prelude.{is_legal_from, is_output, legal, may_perform, may_return, performer, stands_after}
-use Rattle.sc_event.specs.Prelude.{Standing, takes}
-use Rattle.sc_event.specs.declared.event.Event.{Event}
+use Rattle.sc_compile.proofs.Common.{All, Bool, CodeTree, Entry, Event, Export, Interface, Interfaces, IsWellFormed}
+use Rattle.sc_compile.proofs.Common.{IsWord, List, Main, None, Option, ProgramTree, Proto, Some, Standing, [], ap, ap₂}
+use Rattle.sc_compile.proofs.Common.{at_start, awaits, comp_at, comp_part, export_at, export_part, false, fits_result}
+use Rattle.sc_compile.proofs.Common.{flat_map, if◌then◌else◌, import_of, import_part, imports, interface_of}
+use Rattle.sc_compile.proofs.Common.{interfaces_of, is_function, is_input, is_legal_from, is_output, is_some, legal}
+use Rattle.sc_compile.proofs.Common.{length, length-replicate, linked_image, list_any, machine, map, may_perform}
+use Rattle.sc_compile.proofs.Common.{may_return, option_and_then, option_map_or, part_at, part_first, performer}
+use Rattle.sc_compile.proofs.Common.{proto_of, refl, slice_get, slice_get-map, stands_after, sym, takes, true, ℕ, ◌&&◌}
+use Rattle.sc_compile.proofs.Common.{◌++◌, ◌==◌, ◌||◌, ◌∙◌, ◌∷◌, ◌≡◌}
+use Rattle.std.proofs.Common.{option_map}
 use Rattle.sc_event.specs.declared.event.Event.TheVariants.{Call, Ret, Out, In, End}
 use Rattle.sc_event.specs.declared.interface.Import.{Import}
 use Rattle.sc_event.specs.declared.interface.Import.TheVariants.{Input, Output, Function}
-use Rattle.sc_event.specs.declared.interface.Interface.{Interface}
-use Rattle.sc_event.specs.declared.interface.Interfaces.{Interfaces}
-use Rattle.sc_event.specs.declared.interface.Proto.{Proto}
 use Rattle.sc_event.specs.declared.interface.Scalar.{Scalar}
 use Rattle.sc_event.specs.declared.interface.Scalar.TheVariants.{Int}
-use Rattle.sc_event.specs.declared.row.Entry.{Entry}
-use Rattle.sc_event.specs.declared.row.Entry.TheVariants.{Export, Main}
-use Rattle.sc_core.specs.declared.program.ProgramTree.{ProgramTree}
 use Rattle.sc_image.specs.declared.parts.ImportPart.{ImportPart}
-use Rattle.sc_image.specs.Interfaces.{import_of, interface_of, interfaces_of, proto_of}
-use Rattle.sc_image.specs.Machine.{machine}
-use Rattle.sc_image.specs.WellFormed.{IsWellFormed, IsWord}
 use Rattle.sc_image.proofs.Traces.{all_traces_legal}
-use Rattle.sc_tac.specs.declared.machine_code.CodeTree.{CodeTree}
-use Rattle.sc_linker.specs.Image.{comp_part, import_part, linked_image}
-use Rattle.sc_linker.proofs.Comps.{part_at}
-use Rattle.sc_linker.proofs.Exports.{export_part, part_first}
 
 -- IMPORTS
 -- as an image says them: input, output, and then functions

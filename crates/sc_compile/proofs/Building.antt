@@ -1,18 +1,8 @@
 -- What the passes give together.
-use Rattle.std.proofs.Common.{◌≡◌, List, All, None, flat_map, sym, ◌∙◌, ap, subst}
-use Rattle.sc_core.specs.declared.program.ProgramTree.{ProgramTree}
-use Rattle.sc_core.specs.Prelude.{IsWellTyped}
-use Rattle.sc_image.specs.declared.parts.ImageParts.{ImageParts}
-use Rattle.sc_tac.specs.declared.machine_code.CodeTree.{CodeTree}
-use Rattle.sc_tac.specs.declared.program.TacSection.{TacSection}
-use Rattle.sc_lower.specs.Programs.{lowered_program}
-use Rattle.sc_linker.specs.Image.{linked_image}
-use Rattle.sc_linker.specs.Laws.{AreGivenWords, AreNamed, IsWhole}
-use Rattle.sc_linker.specs.Linkable.{IsLinkable}
-use Rattle.sc_compile.specs.Compiled.{IsCompiled}
-use Rattle.sc_compile.specs.Image.{all_codes, built_image, section_codes}
-use Rattle.sc_compile.specs.Passes.{EmitsAll}
-use Rattle.sc_compile.specs.Sizes.{too_large}
+use Rattle.sc_compile.proofs.Common.{All, AreGivenWords, AreNamed, CodeTree, EmitsAll, ImageParts, IsCompiled}
+use Rattle.sc_compile.proofs.Common.{IsLinkable, IsWellTyped, IsWhole, List, None, ProgramTree, TacSection, all_codes}
+use Rattle.sc_compile.proofs.Common.{ap, built_image, flat_map, linked_image, lowered_program, section_codes, subst}
+use Rattle.sc_compile.proofs.Common.{sym, too_large, ◌∙◌, ◌≡◌}
 use Rattle.sc_compile.proofs.Counted.{each_emits}
 use Rattle.sc_compile.proofs.Linkable.{is_linkable}
 use Rattle.sc_compile.proofs.Shown.{compiled}

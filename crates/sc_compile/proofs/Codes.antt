@@ -1,21 +1,10 @@
 -- The codes of a program's functions, section by section.
-use Rattle.std.proofs.Common.{◌≡◌, ℕ, zero, suc, List, [], ◌∷◌, ◌++◌, length, map, take, drop, refl, sym, ◌∙◌}
-use Rattle.std.proofs.Common.{ap, arith, Some}
-use Rattle.std.specs.Prelude.{flat_map, slice_get}
-use Rattle.std.specs.Option.{option_map}
-use Rattle.std.proofs.lemmas.List.{length-append, length-map}
-use Rattle.std.proofs.lemmas.Option.{slice_get-map}
-use Rattle.sc_event.specs.declared.interface.Interfaces.{Interfaces}
-use Rattle.sc_core.specs.declared.program.ProgramTree.{ProgramTree}
-use Rattle.sc_core.specs.declared.section.TypedSection.{TypedSection}
-use Rattle.sc_core.specs.Prelude.{total}
-use Rattle.sc_tac.specs.declared.function.TacFnTree.{TacFnTree}
-use Rattle.sc_tac.specs.declared.machine_code.CodeTree.{CodeTree}
-use Rattle.sc_tac.specs.declared.program.TacSection.{TacSection}
-use Rattle.sc_lower.specs.Programs.{lowered_function, lowered_program, lowered_section, lowered_sections}
-use Rattle.sc_linker.specs.Layout.{codes_at, codes_in}
-use Rattle.sc_simulation.specs.Linked.{functions_in, functions_or_none}
-use Rattle.sc_compile.specs.Image.{all_codes, function_code}
+use Rattle.sc_compile.proofs.Common.{CodeTree, Interfaces, List, ProgramTree, Some, TacFnTree, TacSection, TypedSection}
+use Rattle.sc_compile.proofs.Common.{[], all_codes, ap, arith, codes_at, codes_in, drop, flat_map, function_code}
+use Rattle.sc_compile.proofs.Common.{functions_in, functions_or_none, length, length-append, length-map}
+use Rattle.sc_compile.proofs.Common.{lowered_function, lowered_program, lowered_section, lowered_sections, map}
+use Rattle.sc_compile.proofs.Common.{option_map, refl, slice_get, slice_get-map, suc, sym, take, total, zero, ℕ, ◌++◌}
+use Rattle.sc_compile.proofs.Common.{◌∙◌, ◌∷◌, ◌≡◌}
 use Rattle.sc_compile.proofs.Lists.{drop_front, take_front}
 
 abbrev section_codes : TacSection → List CodeTree

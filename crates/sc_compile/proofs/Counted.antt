@@ -1,42 +1,22 @@
 -- Sizes on lowered code are those of the program, no count passes a word of 64 bits, and where nothing is too large
 -- each function fits.
-use Rattle.std.proofs.Common.{◌≡◌, ℕ, zero, suc, ◌+◌, ◌*◌, ◌^◌, ◌<◌, ◌≤◌, Bool, true, false, ◌&&◌, List, [], ◌∷◌, ◌++◌}
-use Rattle.std.proofs.Common.{All, length, map, flat_map, refl, sym, ◌∙◌, ap, subst, arith, Option, None, Some, nat_le}
-use Rattle.std.proofs.Common.{leb-true}
-use Rattle.std.specs.Prelude.{slice_get}
-use Rattle.std.specs.List.{list_all}
-use Rattle.std.specs.Option.{option_map}
-use Rattle.std.proofs.lemmas.List.Elements.{All-cons, All-head, All-nil, All-tail}
-use Rattle.sc_event.specs.declared.interface.Interfaces.{Interfaces}
-use Rattle.sc_core.specs.declared.program.ProgramTree.{ProgramTree}
-use Rattle.sc_core.specs.declared.section.TypedFunction.{TypedFunction}
-use Rattle.sc_core.specs.declared.section.TypedGlobal.{TypedGlobal}
+use Rattle.sc_compile.proofs.Common.{All, All-cons, All-head, All-nil, All-tail, Bool, CodeTooLarge, CompileFault}
+use Rattle.sc_compile.proofs.Common.{EachEmits, EmitsAll, EmitsSo, FitAll, Fits as FitsIn, Interfaces, IsCounted}
+use Rattle.sc_compile.proofs.Common.{IsWellTyped, List, None, Option, ProgramTree, Some, TacFnTree, TacSection, TacTree}
+use Rattle.sc_compile.proofs.Common.{TypedFunction, TypedGlobal, TypedSection, TypedStruct, [], above, all_at, ap}
+use Rattle.sc_compile.proofs.Common.{arith, callable_in, cells_in, cells_of, counted_all, counted_code, counted_data}
+use Rattle.sc_compile.proofs.Common.{counted_frame, counted_frames, decl_count, false, few_so, first, first_at}
+use Rattle.sc_compile.proofs.Common.{flat_map, found_in, frame_bound, function_fits, functions_or_none, global_fits}
+use Rattle.sc_compile.proofs.Common.{large_code, large_data, large_frame, large_frames, leb-true, length, list_all}
+use Rattle.sc_compile.proofs.Common.{local_fits, local_nodes, lowered_function, lowered_program, lowered_section}
+use Rattle.sc_compile.proofs.Common.{lowered_sections, map, most_cells, most_frame, most_nodes, most_params, nat_le}
+use Rattle.sc_compile.proofs.Common.{nodes, of_section, option_map, params_fit, passed_fits, refl, result_fits}
+use Rattle.sc_compile.proofs.Common.{scope_of, section_fits, slice_get, stretch, structs_fit, subst, suc, sym}
+use Rattle.sc_compile.proofs.Common.{too_large, total, true, variable_fits, variables, zero, ℕ, ◌&&◌, ◌*◌, ◌++◌, ◌+◌}
+use Rattle.sc_compile.proofs.Common.{◌<◌, ◌^◌, ◌∙◌, ◌∷◌, ◌≡◌, ◌≤◌}
+use Rattle.sc_compile.specs.Prelude.{Fits}
 use Rattle.sc_core.specs.declared.section.TypedLocal.{TypedLocal}
 use Rattle.sc_core.specs.declared.section.TypedParam.{TypedParam}
-use Rattle.sc_core.specs.declared.section.TypedSection.{TypedSection}
-use Rattle.sc_core.specs.declared.section.TypedStruct.{TypedStruct}
-use Rattle.sc_core.specs.Prelude.{IsWellTyped, cells_of, frame_bound, global_fits, nodes, structs_fit, total}
-use Rattle.sc_core.specs.Prelude.{variables}
-use Rattle.sc_core.specs.Sizes.{local_nodes}
-use Rattle.sc_core.specs.WellTyped.{callable_in, decl_count, function_fits, local_fits, most_cells, most_nodes}
-use Rattle.sc_core.specs.WellTyped.{most_params}
-use Rattle.sc_core.specs.WellTyped.{params_fit, passed_fits, result_fits, scope_of, section_fits, variable_fits}
-use Rattle.sc_kinds.proofs.Sections.{all_at}
-use Rattle.sc_tac.specs.declared.function.TacFnTree.{TacFnTree}
-use Rattle.sc_tac.specs.declared.program.TacSection.{TacSection}
-use Rattle.sc_tac.specs.declared.program.TacTree.{TacTree}
-use Rattle.sc_lower.specs.Programs.{lowered_function, lowered_program, lowered_section, lowered_sections}
-use Rattle.sc_lower.proofs.Entries.{first_at}
-use Rattle.sc_linker.proofs.Comps.{Fits as FitsIn, few_so, of_section}
-use Rattle.sc_simulation.specs.Linked.{functions_or_none}
-use Rattle.sc_compile.specs.declared.fault.CompileFault.{CompileFault}
-use Rattle.sc_compile.specs.declared.fault.CompileFault.TheVariants.{CodeTooLarge}
-use Rattle.sc_compile.specs.Counting.{IsCounted, cells_in, counted_all, counted_code, counted_data, counted_frame}
-use Rattle.sc_compile.specs.Counting.{counted_frames}
-use Rattle.sc_compile.specs.Passes.{EachEmits, EmitsAll, EmitsSo, FitAll, Fits}
-use Rattle.sc_compile.specs.Sizes.{above, first, found_in, large_code, large_data, large_frame, large_frames}
-use Rattle.sc_image.specs.Layout.{stretch}
-use Rattle.sc_compile.specs.Sizes.{most_frame, too_large}
 use Rattle.sc_compile.proofs.Fitting.{code_fits, frames_fit, front_none, rest_none, within}
 use Rattle.sc_compile.proofs.Results.{mapped}
 

@@ -1,24 +1,14 @@
 -- The passes on one function.
-use Rattle.std.proofs.Common.{◌≡◌, ℕ, ◌+◌, ◌<◌, List, [], ◌∷◌, ◌++◌, length, map, take, get_or, sym, ◌∙◌, ap, subst}
-use Rattle.std.proofs.Common.{append-nil, append_assoc, flat_map}
-use Rattle.std.proofs.lemmas.List.{map-append}
+use Rattle.sc_compile.proofs.Common.{CodeTree, EmitsSo, IsAssignment, IsEmitted, List, TacFnTree, TacSection, [], ap}
+use Rattle.sc_compile.proofs.Common.{append-nil, append_assoc, assigned, flat_map, frame_of, function_code}
+use Rattle.sc_compile.proofs.Common.{function_points, get_or, interval_of, intervals_of, length, map, map-append}
+use Rattle.sc_compile.proofs.Common.{section_codes, subst, sym, take, ℕ, ◌++◌, ◌+◌, ◌<◌, ◌∙◌, ◌∷◌, ◌≡◌}
+use Rattle.sc_select.specs.Prelude.{code_of}
 use Rattle.sc_base.proofs.Lists.{take-step}
 use Rattle.std.proofs.lemmas.List.FromFn.{length-map-range_with_len}
 use Rattle.sc_tac.specs.declared.frame.FrameTree.{FrameTree}
-use Rattle.sc_tac.specs.declared.function.TacFnTree.{TacFnTree}
 use Rattle.sc_tac.specs.declared.interval.Interval.{Interval}
-use Rattle.sc_tac.specs.declared.machine_code.CodeTree.{CodeTree}
 use Rattle.sc_tac.specs.declared.place.Place.{Place}
-use Rattle.sc_tac.specs.declared.program.TacSection.{TacSection}
-use Rattle.sc_tac.specs.Frames.{frame_of}
-use Rattle.sc_tac.specs.Intervals.{interval_of, intervals_of}
-use Rattle.sc_tac.specs.Places.{IsAssignment}
-use Rattle.sc_tac.specs.Points.{function_points}
-use Rattle.sc_alloc.specs.Places.{assigned}
-use Rattle.sc_emit.specs.Emission.{IsEmitted}
-use Rattle.sc_select.specs.Selection.{code_of}
-use Rattle.sc_compile.specs.Image.{function_code, section_codes}
-use Rattle.sc_compile.specs.Passes.{EmitsSo}
 
 module _ (f : TacFnTree) (intervals : List Interval) (places : List Place) (its : intervals ≡ intervals_of f) where
   -- a place for each temporary

@@ -1,13 +1,8 @@
 -- What isn't too large: where nothing is found in a program, each section is within the limits.
-use Rattle.std.proofs.Common.{◌≡◌, ℕ, zero, suc, ◌+◌, ◌≤◌, Bool, true, false, List, [], ◌∷◌, ◌++◌, refl}
-use Rattle.std.proofs.Common.{subst, arith, None, Some, nat_lt, ltb-false, if◌then◌else◌}
-use Rattle.std.specs.Prelude.{slice_get}
-use Rattle.sc_core.specs.declared.program.ProgramTree.{ProgramTree}
-use Rattle.sc_core.specs.declared.section.TypedSection.{TypedSection}
-use Rattle.sc_compile.specs.declared.fault.CompileFault.{CompileFault}
-use Rattle.sc_compile.specs.Sizes.{above, code_bytes, data_bytes, first, found_in, large_code, large_data, large_frames}
-use Rattle.sc_image.specs.Layout.{most_globals, stretch}
-use Rattle.sc_compile.specs.Sizes.{too_large}
+use Rattle.sc_compile.proofs.Common.{Bool, CompileFault, List, None, ProgramTree, Some, TypedSection, [], above, arith}
+use Rattle.sc_compile.proofs.Common.{code_bytes, data_bytes, false, first, found_in, if◌then◌else◌, large_code}
+use Rattle.sc_compile.proofs.Common.{large_data, large_frames, ltb-false, most_globals, nat_lt, refl, slice_get}
+use Rattle.sc_compile.proofs.Common.{stretch, subst, suc, too_large, true, zero, ℕ, ◌++◌, ◌+◌, ◌∷◌, ◌≡◌, ◌≤◌}
 
 pub front_none : (xs ys : List CompileFault) → xs ++ ys ≡ [] → xs ≡ []
 front_none [] ys none = refl

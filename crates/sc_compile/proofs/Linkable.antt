@@ -1,43 +1,21 @@
 -- The codes of a program that isn't too large can be linked.
-use Rattle.std.proofs.Common.{◌≡◌, ℕ, suc, ◌+◌, ◌*◌, ◌<◌, ◌≤◌, ◌⊎◌, Bool, true, List, [], ◌∷◌, length, map}
-use Rattle.std.proofs.Common.{refl, sym, ◌∙◌, ap, subst, arith, inl, inr, Option, None, Some, is_some, nat_lt, lt-ltb}
-use Rattle.std.specs.Prelude.{IsTrue, slice_get}
-use Rattle.std.specs.Option.{option_map}
-use Rattle.std.proofs.lemmas.List.{length-map}
-use Rattle.std.proofs.lemmas.Option.{same_Some, slice_get-map, slice_get_within}
-use Rattle.sc_event.specs.Prelude.{comp_at, export_at}
-use Rattle.sc_event.specs.declared.interface.Proto.{Proto}
-use Rattle.sc_core.specs.declared.program.ProgramTree.{ProgramTree}
-use Rattle.sc_core.specs.declared.section.TypedFunction.{TypedFunction}
-use Rattle.sc_core.specs.declared.section.TypedSection.{TypedSection}
-use Rattle.sc_core.specs.Prelude.{IsWellTyped, nodes, total}
-use Rattle.sc_image.specs.Layout.{most_globals, stretch}
-use Rattle.sc_tac.specs.declared.function.TacFnTree.{TacFnTree}
-use Rattle.sc_tac.specs.declared.machine_code.CodeTree.{CodeTree}
-use Rattle.sc_tac.specs.declared.program.TacSection.{TacSection}
-use Rattle.sc_tac.specs.declared.program.TacTree.{TacTree}
-use Rattle.sc_tac.specs.declared.stmt.TacStmt.{TacStmt, TacStmt-F, map-TacStmt}
+use Rattle.sc_compile.proofs.Common.{Bool, CodeTree, EachEmits, Fits, IsLinkable, IsProgram, IsTrue, IsWellTyped, List}
+use Rattle.sc_compile.proofs.Common.{None, Option, ProgramTree, Proto, RefersInside, Some, TacFnTree, TacSection}
+use Rattle.sc_compile.proofs.Common.{TacStmt, TacStmt-F, TacTree, TypedFunction, TypedSection, [], all_codes, all_from}
+use Rattle.sc_compile.proofs.Common.{ap, arith, calls_exports, calls_own, cells, codes_at, comp_at, cross_call_fits}
+use Rattle.sc_compile.proofs.Common.{everywhere, export_at, exports_are, exports_at, exports_in, first_at, fits_or_none}
+use Rattle.sc_compile.proofs.Common.{function_code, functions_in, functions_or_none, inl, inr, instructions, is_some}
+use Rattle.sc_compile.proofs.Common.{keeps_rules, length, length-map, lowered_function, lowered_program}
+use Rattle.sc_compile.proofs.Common.{lowered_section, lt-ltb, map, map-TacStmt, most_globals, names_only}
+use Rattle.sc_compile.proofs.Common.{names_own_global, nat_lt, nodes, option_map, own_call_fits, refers_only, refl}
+use Rattle.sc_compile.proofs.Common.{same_Some, section_at, section_or_none, slice_get, slice_get-map, slice_get_within}
+use Rattle.sc_compile.proofs.Common.{stretch, subst, suc, sym, too_large, total, true, ℕ, ◌*◌, ◌+◌, ◌<◌, ◌∙◌, ◌∷◌, ◌≡◌}
+use Rattle.sc_compile.proofs.Common.{◌≤◌, ◌⊎◌}
 use Rattle.sc_tac.specs.declared.stmt.TacStmt.TheOpen as tac
-use Rattle.sc_tac.specs.Parts.{everywhere}
-use Rattle.sc_tac.specs.Programs.{IsProgram, calls_exports, calls_own, cross_call_fits, names_own_global}
-use Rattle.sc_tac.specs.Programs.{own_call_fits}
-use Rattle.sc_lower.specs.Programs.{lowered_function, lowered_program, lowered_section}
-use Rattle.sc_lower.proofs.Entries.{first_at}
-use Rattle.sc_lower.proofs.Programs.{keeps_rules}
-use Rattle.sc_select.specs.Linking.{refers_only}
-use Rattle.sc_emit.specs.Shapes.{names_only}
 use Rattle.sc_emit.proofs.Passing.{AllPass, PassesHere, Test, passes}
-use Rattle.sc_linker.specs.Layout.{cells, codes_at, exports_at, exports_in, instructions, section_at, section_or_none}
-use Rattle.sc_linker.specs.Linkable.{IsLinkable, RefersInside}
 use Rattle.sc_linker.proofs.Codes.{codes_none}
-use Rattle.sc_linker.proofs.Comps.{Fits, exports_are, fits_or_none}
-use Rattle.sc_linker.proofs.Places.{all_from}
-use Rattle.sc_simulation.specs.Linked.{functions_in, functions_or_none}
 use Rattle.sc_simulation.proofs.Placing.{implied_everywhere}
 use Rattle.sc_simulation.proofs.Sections.{InSection, in_functions, its_section}
-use Rattle.sc_compile.specs.Image.{all_codes, function_code}
-use Rattle.sc_compile.specs.Passes.{EachEmits}
-use Rattle.sc_compile.specs.Sizes.{too_large}
 use Rattle.sc_compile.proofs.Codes.{codes_are, one_for_each}
 use Rattle.sc_compile.proofs.Fitting.{code_fits, data_fits}
 use Rattle.sc_compile.proofs.Names.{exports_few}

@@ -1,52 +1,24 @@
 -- The code of a program stands in its image.
-use Rattle.std.proofs.Common.{◌≡◌, ℕ, suc, ◌+◌, ◌*◌, ◌<◌, ◌≤◌, ◌⊎◌, true, List, [], ◌∷◌, length, map}
-use Rattle.std.proofs.Common.{refl, sym, ◌∙◌, ap, subst, arith, inl, inr, Option, None, Some}
-use Rattle.std.specs.Prelude.{slice_get}
-use Rattle.std.specs.Option.{option_map}
-use Rattle.rv_code.specs.declared.instr.Instr.{Instr}
-use Rattle.sc_event.specs.Prelude.{comp_at}
-use Rattle.sc_event.specs.declared.row.Entry.{Entry}
-use Rattle.sc_event.specs.declared.row.Entry.TheVariants.{Export, Main}
-use Rattle.sc_core.specs.declared.program.ProgramTree.{ProgramTree}
-use Rattle.sc_core.specs.declared.section.TypedGlobal.{TypedGlobal}
-use Rattle.sc_core.specs.declared.section.TypedSection.{TypedSection}
+use Rattle.sc_compile.proofs.Common.{Addresses, AreEmitted, AreGivenWords, AreNamed, Block, CodeTree, EntersBy}
+use Rattle.sc_compile.proofs.Common.{EntriesStand, Entry, Export, Fits, FunctionsStand, GlobalStands, GlobalsStand}
+use Rattle.sc_compile.proofs.Common.{HasCode, ImageParts, ImportsStand, Instr, IsCodeAddress, IsLinkable, IsLinked}
+use Rattle.sc_compile.proofs.Common.{IsStart, IsWellTyped, List, Main, None, Option, ProgramTree, Some, StandFrom}
+use Rattle.sc_compile.proofs.Common.{StandsAt, TacFnTree, TacTree, TypedGlobal, TypedSection, [], addresses_at}
+use Rattle.sc_compile.proofs.Common.{all_codes, ap, arith, assigned, built_image, cell_word, code_globals, comp_at}
+use Rattle.sc_compile.proofs.Common.{comps_length, entry_in, first_at, first_blocks, fits_or_none, frame_of}
+use Rattle.sc_compile.proofs.Common.{function_code, function_entered, functions_in, functions_or_none, global_block}
+use Rattle.sc_compile.proofs.Common.{globals_of, inl, inr, intervals_of, keeps_meaning, length, linked_image}
+use Rattle.sc_compile.proofs.Common.{lowered_program, lowered_section, map, nodes, number_below, option_map}
+use Rattle.sc_compile.proofs.Common.{program_nodes, refl, section_or_none, slice_get, start_memory, struct_zeros, subst}
+use Rattle.sc_compile.proofs.Common.{suc, sym, too_large, total, total_upto, true, wrapping, ℕ, ◌*◌, ◌+◌, ◌<◌, ◌∙◌, ◌∷◌}
+use Rattle.sc_compile.proofs.Common.{◌≡◌, ◌≤◌, ◌⊎◌}
+use Rattle.sc_store.specs.Prelude.{Memory, load_of}
+use Rattle.sc_hart.specs.Prelude.{CodeAt, Fetches, word}
+use Rattle.sc_tac.specs.Prelude.{first_blocks as code_blocks}
+use Rattle.sc_relation.specs.Prelude.{InCell}
 use Rattle.sc_core.specs.declared.value.Cell.{Cell}
 use Rattle.sc_core.specs.declared.value.Cell.TheVariants as cell
-use Rattle.sc_core.specs.Meaning.{entry_in, first_blocks, global_block, globals_of, struct_zeros}
-use Rattle.sc_core.specs.Memory.{Block}
-use Rattle.sc_core.specs.Prelude.{IsWellTyped, nodes, total}
-use Rattle.sc_core.specs.Value.{wrapping}
-use Rattle.sc_store.specs.Memory.{Memory, load_of}
-use Rattle.sc_image.specs.declared.parts.ImageParts.{ImageParts}
-use Rattle.sc_image.specs.State.{start_memory}
-use Rattle.sc_tac.specs.declared.function.TacFnTree.{TacFnTree}
-use Rattle.sc_tac.specs.declared.machine_code.CodeTree.{CodeTree}
-use Rattle.sc_tac.specs.declared.program.TacTree.{TacTree}
-use Rattle.sc_tac.specs.Code.{code_globals, function_entered, first_blocks as code_blocks}
-use Rattle.sc_tac.specs.Frames.{frame_of}
-use Rattle.sc_tac.specs.Intervals.{intervals_of}
-use Rattle.sc_lower.specs.Programs.{lowered_program, lowered_section}
-use Rattle.sc_lower.proofs.Entries.{first_at}
-use Rattle.sc_lower.proofs.Whole.{keeps_meaning}
-use Rattle.sc_alloc.specs.Places.{assigned}
-use Rattle.sc_select.specs.Linking.{Addresses}
-use Rattle.sc_hart.specs.Code.{CodeAt, Fetches}
-use Rattle.sc_hart.specs.Words.{word}
-use Rattle.sc_relation.specs.Blocks.{InCell}
-use Rattle.sc_emit.specs.Naming.{IsCodeAddress}
-use Rattle.sc_linker.specs.Image.{cell_word, linked_image}
-use Rattle.sc_linker.specs.Laws.{AreGivenWords, AreNamed, EntriesStand, FunctionsStand, GlobalsStand, ImportsStand}
-use Rattle.sc_linker.specs.Laws.{IsStart, StandFrom, StandsAt}
-use Rattle.sc_linker.specs.Layout.{addresses_at, section_or_none}
-use Rattle.sc_linker.specs.Linkable.{IsLinkable}
-use Rattle.sc_linker.proofs.Comps.{Fits, comps_length, fits_or_none, number_below}
-use Rattle.sc_linker.proofs.Places.{total_upto}
 use Rattle.sc_linker.proofs.Whole.{linked_images_hold}
-use Rattle.sc_simulation.specs.Linked.{EntersBy, GlobalStands, HasCode, IsLinked, functions_in, functions_or_none}
-use Rattle.sc_compile.specs.Compiled.{program_nodes}
-use Rattle.sc_compile.specs.Image.{all_codes, built_image, function_code}
-use Rattle.sc_compile.specs.Passes.{AreEmitted}
-use Rattle.sc_compile.specs.Sizes.{too_large}
 use Rattle.sc_compile.proofs.Codes.{code_there}
 use Rattle.sc_compile.proofs.Linkable.{is_linkable}
 use Rattle.sc_compile.proofs.Results.{mapped, source_of}

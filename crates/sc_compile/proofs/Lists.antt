@@ -1,5 +1,5 @@
 -- Parts of lists that stand one behind the other.
-use Rattle.std.proofs.Common.{◌≡◌, List, [], ◌∷◌, ◌++◌, length, take, drop, refl, ap}
+use Rattle.sc_compile.proofs.Common.{List, [], ap, drop, length, refl, take, ◌++◌, ◌∷◌, ◌≡◌}
 
 module _ {A : Type 0} where
   pub take_front : (xs ys : List A) → take (length xs) (xs ++ ys) ≡ xs

@@ -1,17 +1,10 @@
 -- Different elements that all stand in a list are no more than it has: so a section has no more exports than functions.
-use Rattle.std.proofs.Common.{◌≡◌, ◌≢◌, ℕ, zero, suc, ◌<◌, ◌≤◌, List, [], ◌∷◌, length, map, refl, ◌∙◌, ap}
-use Rattle.std.proofs.Common.{Some, true, arith, slice_get, option_map}
-use Rattle.std.proofs.lemmas.List.{length-map}
-use Rattle.std.proofs.lemmas.Option.{slice_get-map}
+use Rattle.sc_compile.proofs.Common.{Interface, Interfaces, List, Named, Some, TypedFunction, TypedSection, [], ap}
+use Rattle.sc_compile.proofs.Common.{arith, distinct_at, export_named, found_passes, interface_fits, length, length-map}
+use Rattle.sc_compile.proofs.Common.{map, name_of, names_apart, refl, slice_get, slice_get-map, suc, true, zero, ℕ, ◌<◌}
+use Rattle.sc_compile.proofs.Common.{◌∙◌, ◌∷◌, ◌≡◌, ◌≢◌, ◌≤◌}
+use Rattle.std.proofs.Common.{option_map}
 use Rattle.sc_base.proofs.Texts.{same_text}
-use Rattle.sc_event.specs.declared.interface.Interface.{Interface}
-use Rattle.sc_event.specs.declared.interface.Interfaces.{Interfaces}
-use Rattle.sc_core.specs.declared.section.TypedFunction.{TypedFunction}
-use Rattle.sc_core.specs.declared.section.TypedSection.{TypedSection}
-use Rattle.sc_core.specs.Prelude.{interface_fits}
-use Rattle.sc_kinds.proofs.Sections.{found_passes}
-use Rattle.sc_linker.proofs.Exports.{Named, export_named, name_of, names_apart}
-use Rattle.sc_linker.proofs.Places.{distinct_at}
 use Rattle.sc_compile.proofs.Results.{mapped}
 
 module _ {A : Type 0} where

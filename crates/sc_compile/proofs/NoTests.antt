@@ -1,53 +1,33 @@
 -- The code of a section consists of instructions, none of them EBREAK, and has no more branches than its functions.
-use Rattle.std.proofs.Common.{◌≡◌, ℕ, ℤ, suc, pos, ◌-ℤ◌, ◌+◌, ◌*◌, ◌≤◌, Bool, true, false, not, cond, List, []}
-use Rattle.std.proofs.Common.{◌∷◌, ◌++◌, length, map, slice_get, All, Option, None, Some, refl, sym, subst, ap, ◌∙◌}
-use Rattle.std.proofs.Common.{arith}
-use Rattle.std.proofs.lemmas.List.Elements.{All-head, All-map, All-tail, All-weaker, All-nil, All-cons}
+use Rattle.sc_compile.proofs.Common.{Addresses, All, All-cons, All-head, All-map, All-nil, All-tail, All-weaker}
+use Rattle.sc_compile.proofs.Common.{AreEmitted, Bool, CodeTree, Fits, HasNoTests, Instr, Interfaces, IsLinkable}
+use Rattle.sc_compile.proofs.Common.{IsWellTyped, List, None, Option, ProgramTree, Proto, Some, TacFnTree, TacStmt}
+use Rattle.sc_compile.proofs.Common.{TacStmt-F, TypedFunction, TypedSection, TypedStruct, [], addresses_at, all_codes}
+use Rattle.sc_compile.proofs.Common.{ap, arith, body_code, branch_step, branches, built_image, code_of, codes_at}
+use Rattle.sc_compile.proofs.Common.{comp_code, cond, count_by, entry_address, entry_jump, entry_jumps, exports_at}
+use Rattle.sc_compile.proofs.Common.{false, first_at, fold-TacStmt, function_code, functions_in, functions_or_none, ifs}
+use Rattle.sc_compile.proofs.Common.{ifs_step, is_branch, is_ebreak, length, linked, linked_codes, linked_from}
+use Rattle.sc_compile.proofs.Common.{list_all, low_behind, lower_part, lowered_function, lowered_program}
+use Rattle.sc_compile.proofs.Common.{lowered_section, map, not, of_section, option_map, option_map_or, part_is, pos}
+use Rattle.sc_compile.proofs.Common.{refl, relocations_behind, section_at, slice_get, subst, suc, sym, target_at}
+use Rattle.sc_compile.proofs.Common.{test_word, total, true, upper_part, with_low, with_target, ℕ, ℤ, ◌*◌, ◌++◌, ◌+◌}
+use Rattle.sc_compile.proofs.Common.{◌-ℤ◌, ◌∙◌, ◌∷◌, ◌≡◌, ◌≤◌}
+use Rattle.rv_code.specs.Prelude.{IsInstr, word_of}
+use Rattle.sc_tac.specs.Prelude.{branches as code_ifs}
 use Rattle.std.proofs.lemmas.List.Sums.{sum_by-append, sum_by-cons}
-use Rattle.std.specs.List.{count_by, list_all}
-use Rattle.std.specs.Option.{option_map, option_map_or}
 use Rattle.rv_code.proofs.OneEach.{decoded-word_of}
-use Rattle.rv_code.specs.declared.instr.Instr.{Instr}
 use Rattle.rv_code.specs.declared.instr.Instr.TheVariants.{Jal, Jalr, OpImm, Upper}
 use Rattle.rv_code.specs.declared.instr.OpImmOp.{OpImmOp}
 use Rattle.rv_code.specs.declared.instr.UpperOp.{UpperOp}
-use Rattle.rv_code.specs.Prelude.{IsInstr, word_of}
 use Rattle.sc_base.proofs.Bools.{and_first, and_rest}
-use Rattle.sc_event.specs.declared.interface.Interfaces.{Interfaces}
-use Rattle.sc_event.specs.declared.interface.Proto.{Proto}
-use Rattle.sc_core.specs.declared.program.ProgramTree.{ProgramTree}
-use Rattle.sc_core.specs.declared.section.TypedFunction.{TypedFunction}
-use Rattle.sc_core.specs.declared.section.TypedSection.{TypedSection}
-use Rattle.sc_core.specs.declared.section.TypedStruct.{TypedStruct}
-use Rattle.sc_core.specs.Prelude.{IsWellTyped, total}
 use Rattle.sc_image.specs.declared.parts.CompPart.{CompPart}
-use Rattle.sc_image.specs.Layout.{code_of}
-use Rattle.sc_tac.specs.declared.function.TacFnTree.{TacFnTree}
-use Rattle.sc_tac.specs.declared.machine_code.CodeTree.{CodeTree}
 use Rattle.sc_tac.specs.declared.machine_code.Relocation.{Relocation}
 use Rattle.sc_tac.specs.declared.machine_code.Target.{Target}
 use Rattle.sc_tac.specs.declared.machine_code.Target.TheVariants.{Entry, Function, Global}
-use Rattle.sc_tac.specs.declared.stmt.TacStmt.{TacStmt, TacStmt-F, fold-TacStmt}
 use Rattle.sc_tac.specs.declared.stmt.TacStmt.TheOpen as tac
-use Rattle.sc_tac.specs.Branches.{branch_step, branches as code_ifs}
-use Rattle.sc_select.specs.Linking.{Addresses, linked, linked_from, low_behind, relocations_behind, target_at}
-use Rattle.sc_select.specs.Linking.{with_low, with_target}
-use Rattle.sc_select.specs.Pieces.{lower_part, upper_part}
-use Rattle.sc_lower.specs.Branches.{branches, ifs, ifs_step}
-use Rattle.sc_lower.specs.Programs.{body_code, lowered_function, lowered_program, lowered_section}
 use Rattle.sc_lower.proofs.Branches.{keeps_branches}
-use Rattle.sc_lower.proofs.Entries.{first_at}
-use Rattle.sc_emit.specs.Shapes.{is_branch, is_ebreak}
-use Rattle.sc_linker.specs.Image.{comp_code, entry_jump, entry_jumps, linked_codes}
-use Rattle.sc_linker.specs.Layout.{addresses_at, codes_at, entry_address, exports_at, section_at}
-use Rattle.sc_linker.specs.Linkable.{IsLinkable}
-use Rattle.sc_linker.proofs.Comps.{Fits, of_section, part_is}
 use Rattle.sc_linker.proofs.Linked.{code_instrs}
 use Rattle.sc_linker.proofs.Ready.{can_link}
-use Rattle.sc_simulation.specs.Linked.{functions_in, functions_or_none}
-use Rattle.sc_compile.specs.Compiled.{HasNoTests, test_word}
-use Rattle.sc_compile.specs.Image.{all_codes, built_image, function_code}
-use Rattle.sc_compile.specs.Passes.{AreEmitted}
 use Rattle.sc_compile.proofs.Codes.{codes_are}
 
 -- COUNTS

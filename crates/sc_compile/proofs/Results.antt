@@ -1,38 +1,20 @@
 -- What the functions of lowered code give back: values of the kinds that their sources promise.
-use Rattle.std.proofs.Common.{◌≡◌, ℕ, zero, suc, Bool, true, false, ◌&&◌, List, [], ◌∷◌, map, refl, sym, ◌∙◌, ap, subst}
-use Rattle.std.proofs.Common.{Option, None, Some, is_some, IsSome, bytes_eq}
-use Rattle.std.specs.Prelude.{slice_get}
-use Rattle.std.specs.Option.{option_map}
-use Rattle.sc_event.specs.Prelude.{export_at}
-use Rattle.sc_event.specs.declared.interface.Proto.{Proto}
-use Rattle.sc_event.specs.declared.row.Entry.TheVariants.{Export, Main}
-use Rattle.sc_core.specs.declared.program.ProgramTree.{ProgramTree}
-use Rattle.sc_core.specs.declared.section.TypedFunction.{TypedFunction}
-use Rattle.sc_core.specs.declared.section.TypedSection.{TypedSection}
+use Rattle.sc_compile.proofs.Common.{Bool, Export, GivesResults, Here, IsSome, IsWellTyped, List, Main, None, Option}
+use Rattle.sc_compile.proofs.Common.{Piece, ProgramTree, Proto, Reached, Roles, Some, State, Stopped, TacFnTree}
+use Rattle.sc_compile.proofs.Common.{TypedFunction, TypedSection, [], ap, are_distinct, bodies, bytes_eq, crossing}
+use Rattle.sc_compile.proofs.Common.{export_at, false, first_at, found_passes, function_entered, functions_in}
+use Rattle.sc_compile.proofs.Common.{functions_or_none, import_name, is_some, keeps_meaning, lowered_function}
+use Rattle.sc_compile.proofs.Common.{lowered_program, lowered_section, main_fits, main_name, main_signature, main_so}
+use Rattle.sc_compile.proofs.Common.{map, named_so, of_section, option_map, option_value, own_names_differ}
+use Rattle.sc_compile.proofs.Common.{piece_without_line, place_named, refl, same_results, same_signature, same_types}
+use Rattle.sc_compile.proofs.Common.{signature_of, slice_get, subst, suc, sym, true, wrapping, zero, ℕ, ◌&&◌, ◌∙◌, ◌∷◌}
+use Rattle.sc_compile.proofs.Common.{◌≡◌}
 use Rattle.sc_core.specs.declared.ty.Ty.{Ty}
 use Rattle.sc_core.specs.declared.ty.Ty.TheVariants as ty
 use Rattle.sc_core.specs.declared.value.Value.{Value}
 use Rattle.sc_core.specs.declared.value.Value.TheVariants.{Null, Ptr, Word}
-use Rattle.sc_core.specs.Calls.{crossing, option_value}
-use Rattle.sc_core.specs.Meaning.{main_name, place_named}
-use Rattle.sc_core.specs.Prelude.{IsWellTyped, are_distinct, import_name, main_fits, same_results}
-use Rattle.sc_core.specs.Prelude.{same_signature, same_types, signature_of}
-use Rattle.sc_core.specs.Scripts.{Roles}
-use Rattle.sc_core.specs.Value.{wrapping}
-use Rattle.sc_core.specs.WellTyped.{main_signature}
-use Rattle.sc_core.specs.Words.{Here, Piece, Reached, State, Stopped}
 use Rattle.sc_kinds.specs.Kinds.{bodies_of, function_at, returns_kind, section_functions}
 use Rattle.sc_kinds.proofs.Kinded.{results_have_kinds}
-use Rattle.sc_kinds.proofs.Sections.{found_passes, named_so, own_names_differ}
-use Rattle.sc_laws.specs.Agreement.{piece_without_line}
-use Rattle.sc_tac.specs.declared.function.TacFnTree.{TacFnTree}
-use Rattle.sc_tac.specs.Code.{function_entered}
-use Rattle.sc_lower.specs.Programs.{lowered_function, lowered_program, lowered_section}
-use Rattle.sc_lower.proofs.Entries.{first_at}
-use Rattle.sc_lower.proofs.Whole.{keeps_meaning}
-use Rattle.sc_linker.proofs.Comps.{main_so, of_section}
-use Rattle.sc_simulation.specs.Linked.{functions_in, functions_or_none}
-use Rattle.sc_simulation.specs.Results.{GivesResults, bodies}
 
 pub mapped : {A B : Type 0} (g : A → B) (xs : List A) (n : ℕ) (y : B) → slice_get (map g xs) n ≡ Some y →
     (x : A) × ((slice_get xs n ≡ Some x) × (g x ≡ y))

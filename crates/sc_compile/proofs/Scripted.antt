@@ -1,30 +1,18 @@
 -- The program in which a set performs its part of what the machine shows, by the run of its code.
-use Rattle.std.proofs.Common.{◌≡◌, ℕ, ◌<◌, Bool, true, false, List, length, refl, sym, ◌∙◌, ap, subst}
-use Rattle.std.proofs.Common.{inl, inr, nat_lt, ltb-true, ltb-false, ⊎_elim}
-use Rattle.sc_event.specs.declared.event.Event.{Event}
+use Rattle.sc_compile.proofs.Common.{Bool, Event, Front, IsBlamed, IsStop, IsWellTyped, KeepsTo, List, ProgramTree, Run}
+use Rattle.sc_compile.proofs.Common.{Set, TellsOrBlames, ap, c_arith, false, inl, inr, keeps_meaning, length}
+use Rattle.sc_compile.proofs.Common.{lowered_program, ltb-false, ltb-true, nat_lt, refl, scripted_by, scripted_code_run}
+use Rattle.sc_compile.proofs.Common.{scripted_run_of, shorter_first, subst, sym, true, unstopped, wrapped_code_agrees}
+use Rattle.sc_compile.proofs.Common.{wrapping, ℕ, ⊎_elim, ◌<◌, ◌∙◌, ◌≡◌}
 use Rattle.sc_core.specs.declared.cause.Cause.{Cause}
-use Rattle.sc_core.specs.declared.program.ProgramTree.{ProgramTree}
 use Rattle.sc_core.specs.declared.run.RunEnd.{RunEnd}
 use Rattle.sc_core.specs.declared.run.RunEnd.TheVariants.{Blamed, Ended, EventsOut, TurnsOut}
 use Rattle.sc_core.specs.declared.run.SourceRun.{SourceRun}
-use Rattle.sc_core.specs.Growth.{Front}
-use Rattle.sc_core.specs.Meaning.{Run, scripted_by, scripted_run_of}
-use Rattle.sc_core.specs.Prelude.{IsWellTyped}
-use Rattle.sc_core.specs.Value.{c_arith, wrapping}
-use Rattle.sc_core.specs.Words.{IsStop}
-use Rattle.sc_laws.specs.Chains.{Set}
 use Rattle.sc_laws.proofs.ProgramLaws.{blamed_are_there, nobody_who_performs_is_blamed}
 use Rattle.sc_laws.proofs.Growing.{front_same}
 use Rattle.sc_laws.proofs.Runs.{trace_is}
-use Rattle.sc_tac.specs.Code.{scripted_code_run}
-use Rattle.sc_tac.proofs.Matching.{wrapped_code_agrees}
-use Rattle.sc_lower.specs.Programs.{lowered_program}
-use Rattle.sc_lower.proofs.Whole.{keeps_meaning}
-use Rattle.sc_simulation.specs.Runs.{IsBlamed, KeepsTo}
 use Rattle.sc_simulation.proofs.Along.{take_front}
 use Rattle.sc_simulation.proofs.Kept.{keeps_along, keeps_until_blame}
-use Rattle.sc_simulation.proofs.Shows.{shorter_first, unstopped}
-use Rattle.sc_compile.specs.Compiled.{TellsOrBlames}
 
 -- a blame with its compartment
 record IsBlame (end : RunEnd) : Type 0 where

@@ -1,32 +1,12 @@
 -- What is compiled does what its program means.
-use Rattle.std.proofs.Common.{◌≡◌, ℕ, suc, ◌*◌, List, All, None, refl, subst, arith, inl, inr, ⊎_elim}
-use Rattle.sc_event.specs.declared.event.Event.{Event}
-use Rattle.sc_core.specs.declared.program.ProgramTree.{ProgramTree}
-use Rattle.sc_core.specs.Meaning.{Run, run_of}
-use Rattle.sc_core.specs.Prelude.{IsWellTyped}
-use Rattle.sc_core.specs.Value.{Arith, c_arith, wrapping}
-use Rattle.sc_laws.specs.Steady.{AgreesInRoom, same, same_run}
-use Rattle.sc_image.specs.declared.parts.ImageParts.{ImageParts}
-use Rattle.sc_image.specs.Machine.{machine}
-use Rattle.sc_image.specs.WellFormed.{IsWord}
-use Rattle.sc_tac.specs.Code.{code_run}
-use Rattle.sc_tac.specs.Functions.{IsFunction}
-use Rattle.sc_tac.proofs.Matching.{wrapped_code_agrees}
-use Rattle.sc_lower.specs.Programs.{lowered_program}
-use Rattle.sc_lower.proofs.Programs.{keeps_rules}
-use Rattle.sc_lower.proofs.Whole.{keeps_meaning}
-use Rattle.sc_linker.specs.Laws.{AreGivenWords, AreNamed, IsWhole}
-use Rattle.sc_linker.specs.Layout.{addresses_at}
-use Rattle.sc_linker.specs.Linkable.{IsLinkable}
-use Rattle.sc_simulation.specs.Linked.{IsLinked}
-use Rattle.sc_simulation.specs.Runs.{ShowsRun}
-use Rattle.sc_simulation.specs.Simulation.{IsBuilt}
-use Rattle.sc_simulation.proofs.Shows.{outcomes_show}
+use Rattle.sc_compile.proofs.Common.{AgreesInRoom, All, AreEmitted, AreGivenWords, AreNamed, Arith, EachEmits, Event}
+use Rattle.sc_compile.proofs.Common.{ImageParts, IsBuilt, IsCompiled, IsFunction, IsLinkable, IsLinked, IsWellTyped}
+use Rattle.sc_compile.proofs.Common.{IsWhole, IsWord, List, None, ProgramTree, Run, ShowsAll, ShowsRun, addresses_at}
+use Rattle.sc_compile.proofs.Common.{all_codes, arith, built_image, c_arith, code_run, inl, inr, keeps_meaning}
+use Rattle.sc_compile.proofs.Common.{keeps_rules, lowered_program, machine, outcomes_show, program_nodes, refl, run_of}
+use Rattle.sc_compile.proofs.Common.{same, same_run, subst, suc, too_large, wrapped_code_agrees, wrapping, ℕ, ⊎_elim}
+use Rattle.sc_compile.proofs.Common.{◌*◌, ◌≡◌}
 use Rattle.sc_simulation.proofs.Whole.{scripts_simulate, simulates}
-use Rattle.sc_compile.specs.Compiled.{IsCompiled, ShowsAll, program_nodes}
-use Rattle.sc_compile.specs.Image.{all_codes, built_image}
-use Rattle.sc_compile.specs.Passes.{AreEmitted, EachEmits}
-use Rattle.sc_compile.specs.Sizes.{too_large}
 use Rattle.sc_compile.proofs.Allowed.{allowed}
 use Rattle.sc_compile.proofs.Linkable.{is_linkable}
 use Rattle.sc_compile.proofs.Linked.{is_linked}

@@ -1,28 +1,18 @@
 -- What an image does, and what its program means.
+use Rattle.sc_compile.specs.Common.{Arith, Front, ImageParts, IsBlamed, IsWord, ProgramTree, Run, TypedSection}
+use Rattle.sc_compile.specs.Common.{branches, c_arith, code_of, depth_by, is_branch, is_ebreak, machine, meaning}
+use Rattle.sc_compile.specs.Common.{meaning_by, nodes, scripted_meaning, stack_size, total, wrapping}
+use Rattle.sc_event.specs.Prelude.{legal}
+use Rattle.sc_laws.specs.Prelude.{IsBlamedOutside, Set}
+use Rattle.rv_code.specs.Prelude.{decoded}
 use Rattle.std.specs.Prelude.{◌≡◌, ℕ, suc, ◌*◌, ◌<◌, ◌≤◌, ◌⊎◌, Bool, true, false, List, length, map, All, Option, None}
 use Rattle.std.specs.Prelude.{Some, slice_get}
 use Rattle.std.specs.List.{count_by}
 use Rattle.rv_code.specs.declared.instr.Instr.{Instr}
-use Rattle.rv_code.specs.Prelude.{decoded}
 use Rattle.sc_base.specs.declared.stop.Stop.TheVariants.{Trap}
 use Rattle.sc_base.specs.declared.stop.TrapReason.TheVariants.{Owner}
-use Rattle.sc_event.specs.Prelude.{legal}
 use Rattle.sc_event.specs.declared.event.Event.{Event}
-use Rattle.sc_core.specs.declared.program.ProgramTree.{ProgramTree}
 use Rattle.sc_core.specs.declared.run.SourceRun.{SourceRun}
-use Rattle.sc_core.specs.declared.section.TypedSection.{TypedSection}
-use Rattle.sc_core.specs.Growth.{Front}
-use Rattle.sc_core.specs.Prelude.{nodes, total}
-use Rattle.sc_core.specs.Meaning.{depth_by, meaning, meaning_by, scripted_meaning}
-use Rattle.sc_core.specs.Value.{Arith, c_arith, wrapping}
-use Rattle.sc_laws.specs.Chains.{IsBlamedOutside, Set}
-use Rattle.sc_image.specs.declared.parts.ImageParts.{ImageParts}
-use Rattle.sc_image.specs.Layout.{code_of, stack_size}
-use Rattle.sc_image.specs.Machine.{Run, machine}
-use Rattle.sc_image.specs.WellFormed.{IsWord}
-use Rattle.sc_lower.specs.Branches.{branches}
-use Rattle.sc_emit.specs.Shapes.{is_branch, is_ebreak}
-use Rattle.sc_simulation.specs.Runs.{IsBlamed}
 
 -- the nodes of all functions
 abbrev pub program_nodes : ProgramTree → ℕ

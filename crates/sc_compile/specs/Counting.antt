@@ -1,12 +1,7 @@
 -- Sizes as they are counted on lowered code.
+use Rattle.sc_compile.specs.Common.{CodeTooLarge, CompileFault, DataTooLarge, FrameTooLarge, TacFnTree, TacSection}
+use Rattle.sc_compile.specs.Common.{TypedGlobal, cells_of, frame_bound, most_globals, stretch, total}
 use Rattle.std.specs.Prelude.{ℕ, ◌+◌, ◌*◌, ◌^◌, ◌<◌, List, ◌++◌, map, flat_map, All, Option}
-use Rattle.sc_core.specs.declared.section.TypedGlobal.{TypedGlobal}
-use Rattle.sc_core.specs.Prelude.{cells_of, frame_bound, total}
-use Rattle.sc_image.specs.Layout.{most_globals, stretch}
-use Rattle.sc_tac.specs.declared.function.TacFnTree.{TacFnTree}
-use Rattle.sc_tac.specs.declared.program.TacSection.{TacSection}
-use Rattle.sc_compile.specs.declared.fault.CompileFault.{CompileFault}
-use Rattle.sc_compile.specs.declared.fault.CompileFault.TheVariants.{CodeTooLarge, DataTooLarge, FrameTooLarge}
 use Rattle.sc_compile.specs.Sizes.{above, first, found_in, most_frame}
 
 abbrev pub cells_in : TacSection → ℕ

@@ -1,7 +1,6 @@
 -- What globals are declared with.
+use Rattle.sc_compile.specs.Common.{TypedGlobal, TypedSection}
 use Rattle.std.specs.Prelude.{◌<◌, ◌^◌, All}
-use Rattle.sc_core.specs.declared.section.TypedGlobal.{TypedGlobal}
-use Rattle.sc_core.specs.declared.section.TypedSection.{TypedSection}
 
 -- a global begins with words
 abbrev pub BeginsAsWords : TypedGlobal → Type 0

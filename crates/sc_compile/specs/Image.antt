@@ -1,19 +1,10 @@
 -- The image of a program, pass by pass.
+use Rattle.sc_compile.specs.Common.{CompileFault, ImageParts, OutOfMemory, ProgramTree, TacFnTree, TacSection, assigned}
+use Rattle.sc_compile.specs.Common.{frame_of, intervals_of, linked_image, lowered_program}
+use Rattle.sc_select.specs.Prelude.{code_of}
 use Rattle.std.specs.Prelude.{◌≡◌, List, map, flat_map, Option, None, Some, Result, Ok, Err}
-use Rattle.sc_core.specs.declared.program.ProgramTree.{ProgramTree}
-use Rattle.sc_image.specs.declared.parts.ImageParts.{ImageParts}
-use Rattle.sc_tac.specs.declared.function.TacFnTree.{TacFnTree}
 use Rattle.sc_tac.specs.declared.machine_code.CodeTree.{CodeTree}
-use Rattle.sc_tac.specs.declared.program.TacSection.{TacSection}
 use Rattle.sc_tac.specs.declared.program.TacTree.{TacTree}
-use Rattle.sc_tac.specs.Frames.{frame_of}
-use Rattle.sc_tac.specs.Intervals.{intervals_of}
-use Rattle.sc_lower.specs.Programs.{lowered_program}
-use Rattle.sc_alloc.specs.Places.{assigned}
-use Rattle.sc_select.specs.Selection.{code_of}
-use Rattle.sc_linker.specs.Image.{linked_image}
-use Rattle.sc_compile.specs.declared.fault.CompileFault.{CompileFault}
-use Rattle.sc_compile.specs.declared.fault.CompileFault.TheVariants.{OutOfMemory}
 use Rattle.sc_compile.specs.Sizes.{too_large}
 
 -- of a function: places by linear scan for its least intervals, the frame with its slots, and its instructions

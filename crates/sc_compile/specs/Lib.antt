@@ -1,3 +1,5 @@
+pub mod Common
+pub mod Prelude
 pub mod Compiled
 pub mod Counting
 pub mod Globals

@@ -1,17 +1,7 @@
 -- What the passes give of a program's functions.
+use Rattle.sc_compile.specs.Common.{IsEmitted, IsWhole, ProgramTree, TacFnTree, TacSection, assigned, frame_bound}
+use Rattle.sc_compile.specs.Common.{frame_of, functions_in, intervals_of, lowered_program, stretch}
 use Rattle.std.specs.Prelude.{◌≡◌, ◌≤◌, ◌*◌, ℕ, All, Some, slice_get}
-use Rattle.sc_core.specs.declared.program.ProgramTree.{ProgramTree}
-use Rattle.sc_core.specs.Prelude.{frame_bound}
-use Rattle.sc_image.specs.Layout.{stretch}
-use Rattle.sc_tac.specs.declared.function.TacFnTree.{TacFnTree}
-use Rattle.sc_tac.specs.declared.program.TacSection.{TacSection}
-use Rattle.sc_tac.specs.Frames.{frame_of}
-use Rattle.sc_tac.specs.Intervals.{intervals_of}
-use Rattle.sc_lower.specs.Programs.{lowered_program}
-use Rattle.sc_alloc.specs.Places.{assigned}
-use Rattle.sc_emit.specs.Emission.{IsEmitted}
-use Rattle.sc_linker.specs.Laws.{IsWhole}
-use Rattle.sc_simulation.specs.Linked.{functions_in}
 use Rattle.sc_compile.specs.Image.{all_codes, function_code}
 use Rattle.sc_compile.specs.Sizes.{most_frame}
 

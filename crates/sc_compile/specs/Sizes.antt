@@ -1,15 +1,11 @@
 -- What of a program is too large to be compiled: first the globals of a section, then the frame of a function, then the
 -- code of a section.
+use Rattle.sc_compile.specs.Common.{CodeTooLarge, CompileFault, DataTooLarge, FrameTooLarge, ProgramTree, TypedGlobal}
+use Rattle.sc_compile.specs.Common.{TypedSection, cells_of, code_bound, frame_bound, most_globals, nodes, stretch}
+use Rattle.sc_compile.specs.Common.{total, variables}
 use Rattle.std.specs.Prelude.{ℕ, suc, ◌*◌, nat_lt, if◌then◌else◌, List, [], ◌∷◌, ◌++◌, map, flat_map, Option, None}
 use Rattle.std.specs.Prelude.{Some}
-use Rattle.sc_core.specs.declared.program.ProgramTree.{ProgramTree}
 use Rattle.sc_core.specs.declared.section.TypedFunction.{TypedFunction}
-use Rattle.sc_core.specs.declared.section.TypedGlobal.{TypedGlobal}
-use Rattle.sc_core.specs.declared.section.TypedSection.{TypedSection}
-use Rattle.sc_core.specs.Prelude.{cells_of, code_bound, frame_bound, nodes, total, variables}
-use Rattle.sc_image.specs.Layout.{most_globals, stretch}
-use Rattle.sc_compile.specs.declared.fault.CompileFault.{CompileFault}
-use Rattle.sc_compile.specs.declared.fault.CompileFault.TheVariants.{CodeTooLarge, DataTooLarge, FrameTooLarge}
 
 abbrev pub most_frame : ℕ
 most_frame = 32768

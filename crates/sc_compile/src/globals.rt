@@ -1,8 +1,8 @@
 //! What the types of a program's globals tell: the numbers that they begin with are words.
 
+ghost use Rattle.sc_compile.specs.Prelude.{BeginsAsWords};
+ghost use Rattle.sc_linker.specs.Prelude.{AreGivenWords};
 ghost use Rattle.std.specs.Prelude.{◌<◌, ◌^◌, All};
-ghost use Rattle.sc_linker.specs.Laws.{AreGivenWords};
-ghost use Rattle.sc_compile.specs.Globals.{BeginsAsWords};
 
 use sc_core::{TypedGlobal, TypedSection};
 

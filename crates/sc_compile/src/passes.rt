@@ -1,14 +1,11 @@
 //! The passes of the compiler, one after the other.
 
+ghost use Rattle.sc_compile.specs.Prelude.{EmitsAll, EmitsSo, FitAll, Fits, IsCompiled, IsFault, IsWellTyped};
+ghost use Rattle.sc_compile.specs.Prelude.{built_image, frame_bound, function_code, image_of, section_codes, too_large};
+ghost use Rattle.sc_lower.specs.Prelude.{lowered_program};
+ghost use Rattle.sc_emit.specs.Prelude.{IsEmitted};
 ghost use Rattle.std.specs.Prelude.{◌≡◌, ◌++◌, Ok, None, Some, All, IfErr, IfOk, OnOk, flat_map, map};
-ghost use Rattle.sc_core.specs.Prelude.{IsWellTyped, frame_bound};
-ghost use Rattle.sc_emit.specs.Emission.{IsEmitted};
-ghost use Rattle.sc_lower.specs.Programs.{lowered_program};
 ghost use Rattle.sc_tac.specs.declared.program.TacSection.{TacSection};
-ghost use Rattle.sc_compile.specs.Compiled.{IsCompiled};
-ghost use Rattle.sc_compile.specs.Image.{IsFault, built_image, function_code, image_of, section_codes};
-ghost use Rattle.sc_compile.specs.Passes.{EmitsAll, EmitsSo, Fits, FitAll};
-ghost use Rattle.sc_compile.specs.Sizes.{too_large};
 
 use crate::fault::CompileFault;
 use crate::globals::are_given_words;

@@ -1,12 +1,11 @@
 //! What of a program is too large to be compiled, found on its lowered code.
 
+ghost use Rattle.sc_compile.specs.Prelude.{IsCounted, cells_in, cells_of, counted_all, counted_code, counted_data};
+ghost use Rattle.sc_compile.specs.Prelude.{counted_frame, counted_frames, first, found_in, frame_bound, nodes_in};
+ghost use Rattle.sc_compile.specs.Prelude.{total};
 ghost use Rattle.std.specs.Prelude.{◌≡◌, ◌≤◌, ◌<◌, ◌+◌, ◌^◌, [], length, map, All, IfErr, IfOk, None, Some};
-ghost use Rattle.sc_core.specs.Prelude.{cells_of, frame_bound, total};
 ghost use Rattle.sc_core.specs.declared.section.TypedGlobal.{TypedGlobal};
 ghost use Rattle.sc_tac.specs.declared.function.TacFnTree.{TacFnTree};
-ghost use Rattle.sc_compile.specs.Counting.{IsCounted, cells_in, counted_code, counted_data, counted_frame};
-ghost use Rattle.sc_compile.specs.Counting.{counted_all, counted_frames, nodes_in};
-ghost use Rattle.sc_compile.specs.Sizes.{first, found_in};
 
 use crate::fault::CompileFault;
 use sc_core::{TypedGlobal, TypedStruct, cells_of};

@@ -19,7 +19,7 @@ pub use Rattle.sc_core.specs.Run.{reaches, stopped_at}
 pub use Rattle.sc_core.specs.Scripts.{Roles, acts, asks, is_number, performs, roles_in, rows_left, scripted_step}
 pub use Rattle.sc_core.specs.Sizes.{call_nodes, code_bound, expr_nodes, frame_bound, init_nodes, kind_nodes}
 pub use Rattle.sc_core.specs.Sizes.{local_nodes, nodes, part_nodes, simple_nodes, stmt_nodes, term_nodes, total}
-pub use Rattle.sc_core.specs.Thin.{thin_meaning, whole_run}
+pub use Rattle.sc_core.specs.Thin.{thin_meaning}
 pub use Rattle.sc_core.specs.Tree.{Acts, Meant, Ways, applied, assign, assign_call, at_place, at_pointer, binary}
 pub use Rattle.sc_core.specs.Tree.{block_does, call, call_alone, evaluated, is_unsigned_op, kind_step, literal, meant}
 pub use Rattle.sc_core.specs.Tree.{meant_step, part_does, simple_does, stmt_does, stmt_step, store_at, store_result}
@@ -31,21 +31,22 @@ pub use Rattle.sc_core.specs.Typing.{are_ordered, args_fit, assign_call_fits, as
 pub use Rattle.sc_core.specs.Typing.{both_ints, call_fits, common, decayed, difference_fits, goes_into, has_member}
 pub use Rattle.sc_core.specs.Typing.{init_fits, is_address, is_int, is_integer, is_scalar, is_target, is_type, judged}
 pub use Rattle.sc_core.specs.Typing.{kind_fits, literal_fits, member_of, option_goes, option_signature, part_fits}
-pub use Rattle.sc_core.specs.Typing.{pointer_to, points, proto_signature, result_goes, result_ty, returned_call_fits}
-pub use Rattle.sc_core.specs.Typing.{returned_fits, same_base, same_import, same_pointers, same_ty, scalar_ty}
-pub use Rattle.sc_core.specs.Typing.{signature_of, simple_fits, starred, stmt_fits, sum_fits, target, target_signature}
-pub use Rattle.sc_core.specs.Typing.{term_judged, type_goes, unary_fits, variable_ty}
+pub use Rattle.sc_core.specs.Typing.{place_judged, pointer_to, points, proto_signature, result_goes, result_ty}
+pub use Rattle.sc_core.specs.Typing.{returned_call_fits, returned_fits, same_base, same_import, same_pointers, same_ty}
+pub use Rattle.sc_core.specs.Typing.{scalar_ty, signature_of, simple_fits, starred, stmt_fits, sum_fits, target}
+pub use Rattle.sc_core.specs.Typing.{target_signature, term_judged, type_goes, unary_fits, value_judged, variable_ty}
 pub use Rattle.sc_core.specs.Value.{Arith, apart, applied_one, as_word, between, c_arith, c_binary, c_negated, cause_of}
 pub use Rattle.sc_core.specs.Value.{in_elements, is_inside, is_less, is_true, is_zero, moved, moved_back, moved_on}
 pub use Rattle.sc_core.specs.Value.{negated_word, number_of, of_bool, on_all_words, on_word, on_words, or_cause}
 pub use Rattle.sc_core.specs.Value.{ordered, place_at, same_place, truth, wrapping}
-pub use Rattle.sc_core.specs.WellTyped.{IsWellTyped, are_distinct, base_within, callable_in, decl_count, export_fits}
-pub use Rattle.sc_core.specs.WellTyped.{export_name, function_fits, global_fits, has_distinct_names}
-pub use Rattle.sc_core.specs.WellTyped.{has_few_compartments, has_main, has_one_main, import_fits, import_name}
-pub use Rattle.sc_core.specs.WellTyped.{init_height, interface_fits, is_main, is_plain_name, is_well_typed, local_fits}
-pub use Rattle.sc_core.specs.WellTyped.{main_fits, mains_in, members_fit, most_cells, most_compartments, most_exports}
-pub use Rattle.sc_core.specs.WellTyped.{most_height, most_nodes, most_params, params_fit, passed_fits, result_fits}
-pub use Rattle.sc_core.specs.WellTyped.{same_results, same_signature, same_types, scope_of, section_fits, sections_fit}
+pub use Rattle.sc_core.specs.WellTyped.{IsWellTyped, are_distinct, base_within, callable_in, callable_names, decl_count}
+pub use Rattle.sc_core.specs.WellTyped.{export_fits, export_name, export_names, function_fits, global_fits}
+pub use Rattle.sc_core.specs.WellTyped.{has_distinct_names, has_few_compartments, has_fitting_sections, has_main}
+pub use Rattle.sc_core.specs.WellTyped.{has_one_main, import_fits, import_name, init_height, interface_fits, is_main}
+pub use Rattle.sc_core.specs.WellTyped.{is_plain_name, is_well_typed, local_fits, main_fits, main_signature, mains_in}
+pub use Rattle.sc_core.specs.WellTyped.{members_fit, most_cells, most_compartments, most_exports, most_height}
+pub use Rattle.sc_core.specs.WellTyped.{most_nodes, most_params, params_fit, passed_fits, result_fits, same_results}
+pub use Rattle.sc_core.specs.WellTyped.{same_signature, same_types, scope_of, section_fits, sections_fit}
 pub use Rattle.sc_core.specs.WellTyped.{starred_within, struct_fits, structs_fit, type_within, variable_fits, words_fit}
 pub use Rattle.sc_core.specs.Words.{Break, Calls, Closed, Continue, Does, Exit, FrameChange, Here, IsStop, Left, Next}
 pub use Rattle.sc_core.specs.Words.{On, Opened, Out, Piece, Reached, Return, Route, State, Stopped, all_do, and_then}

@@ -1,37 +1,13 @@
 -- Values brought into registers that temporaries don't have: the arguments of a call, and what a function returns.
-use Rattle.std.proofs.Common.{◌≡◌, ◌≢◌, ℕ, zero, suc, ◌+◌, ◌*◌, ◌<◌, ◌≤◌, true, List, [], ◌∷◌, length}
-use Rattle.std.proofs.Common.{Some, refl, sym, ◌∙◌, ap, subst, arith}
-use Rattle.std.specs.Prelude.{slice_get, ◌==◌}
-use Rattle.std.specs.Option.{unwrap_or}
-use Rattle.std.proofs.lemmas.Bool.{eq-eqb}
-use Rattle.std.proofs.lemmas.Option.{same_Some}
-use Rattle.rv_code.specs.declared.instr.Instr.{Instr}
-use Rattle.sc_core.specs.declared.value.Value.{Value}
-use Rattle.sc_core.specs.Words.{State as Meant, Here, Piece, Reached, Left, and_then}
-use Rattle.sc_laws.specs.Growth.{Goes}
-use Rattle.sc_laws.proofs.Growing.{stays, then_goes, then_then}
-use Rattle.sc_image.specs.Walks.{Walks}
-use Rattle.sc_hart.specs.Hart.{Registers, at}
-use Rattle.sc_hart.specs.Words.{word}
-use Rattle.sc_tac.specs.declared.frame.FrameTree.{FrameTree}
-use Rattle.sc_tac.specs.declared.place.Place.{Place}
-use Rattle.sc_tac.specs.declared.place.Place.TheVariants.{Register, Slot}
-use Rattle.sc_tac.specs.Code.{Temps, read, read_all}
-use Rattle.sc_tac.specs.Flow.{is_one}
-use Rattle.sc_tac.specs.Points.{Set, Lives}
-use Rattle.sc_select.specs.Pieces.{sp, register_of, load_word}
-use Rattle.sc_select.specs.Selection.{brought, pass, place_of, slot_offset}
-use Rattle.sc_pieces.specs.Pieces.{IsWritable, Does, Computes}
-use Rattle.sc_pieces.proofs.Loading.{moves}
-use Rattle.sc_pieces.proofs.NearSp.{loads_word}
-use Rattle.sc_pieces.proofs.Rows.{computes, in_row, look_at}
-use Rattle.sc_relation.specs.Blocks.{StandsFor}
-use Rattle.sc_relation.specs.Frames.{IsActivation, FrameMatches, InPlace, IsHeld, AreHeld}
-use Rattle.sc_relation.specs.Stretches.{Setting, Joint}
-use Rattle.sc_relation.specs.Following.{Running, Ends, Comes}
-use Rattle.sc_relation.proofs.Following.{comes_read}
-use Rattle.sc_relation.proofs.Registers.{HasNoOtherUse, no_other_use, register_there}
-use Rattle.sc_relation.proofs.Straight.{or_right}
+use Rattle.sc_emit.proofs.Common.{AreHeld, Comes, Computes, Does, Ends, FrameMatches, FrameTree, Goes, HasNoOtherUse}
+use Rattle.sc_emit.proofs.Common.{Here, InPlace, Instr, IsActivation, IsHeld, IsWritable, Joint, Left, List, Lives}
+use Rattle.sc_emit.proofs.Common.{Piece, Place, Reached, Register, Registers, Running, Set, Setting, Slot, Some}
+use Rattle.sc_emit.proofs.Common.{StandsFor, State as Meant, Temps, Value, Walks, [], and_then, ap, arith, at, brought}
+use Rattle.sc_emit.proofs.Common.{comes_read, computes, eq-eqb, in_row, is_one, length, load_word, loads_word, look_at}
+use Rattle.sc_emit.proofs.Common.{moves, no_other_use, or_right, pass, place_of, read, read_all, refl, register_of}
+use Rattle.sc_emit.proofs.Common.{register_there, same_Some, slice_get, slot_offset, sp, stays, subst, suc, sym}
+use Rattle.sc_emit.proofs.Common.{then_goes, then_then, true, unwrap_or, word, zero, ℕ, ◌*◌, ◌+◌, ◌<◌, ◌==◌, ◌∙◌, ◌∷◌}
+use Rattle.sc_emit.proofs.Common.{◌≡◌, ◌≢◌, ◌≤◌}
 use Rattle.sc_emit.proofs.Operands.{IsPlace, ArePlaced, slot_from_sp, world}
 use Rattle.sc_emit.proofs.Straight.{read_goes}
 

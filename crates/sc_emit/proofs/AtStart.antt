@@ -1,34 +1,17 @@
 -- The premises can be met: a function that names nothing and makes no call stands alone in an image, and is followed
 -- from the start of a run.
-use Rattle.std.proofs.Common.{◌≡◌, ℕ, Bool, true, false, not, List, [], ◌∷◌, map, length}
-use Rattle.std.proofs.Common.{None, refl, sym, ◌∙◌, ap, arith, inl, All, append-nil}
-use Rattle.std.specs.Prelude.{◌⊎◌, ◌==◌, if◌then◌else◌}
-use Rattle.std.proofs.lemmas.Bool.{ne_eqb}
-use Rattle.rv_code.specs.Prelude.{IsInstr, word_of}
-use Rattle.sc_core.specs.declared.expr.CallTarget.{CallTarget}
+use Rattle.sc_emit.proofs.Common.{Addresses, All, Bool, CallTarget, Calls, CallsFollow, CodeFollows, CodeTree}
+use Rattle.sc_emit.proofs.Common.{FunctionGives, ImageParts, IsInstr, IsPlaced, IsWellFormed, IsWord, Joint, List, None}
+use Rattle.sc_emit.proofs.Common.{Overflows, Registers, Setting, Standpoint, State as Meant, Stopped, TacFnTree, [], ap}
+use Rattle.sc_emit.proofs.Common.{append-nil, arith, calls_only, code_function, code_is_fetched, code_start, false}
+use Rattle.sc_emit.proofs.Common.{gate, if◌then◌else◌, inl, length, linked, map, names_only, ne_eqb, no_turn, not, refl}
+use Rattle.sc_emit.proofs.Common.{runs_with, shows_here, stack_top, start, start_memory, sym, true, wrapping, ℕ, ◌==◌}
+use Rattle.sc_emit.proofs.Common.{◌∙◌, ◌∷◌, ◌≡◌, ◌⊎◌}
+use Rattle.rv_code.specs.Prelude.{word_of}
+use Rattle.sc_tac.specs.Prelude.{everywhere}
 use Rattle.sc_core.specs.declared.run.RunEnd.TheVariants.{TurnsOut}
-use Rattle.sc_core.specs.Value.{wrapping}
-use Rattle.sc_core.specs.Words.{State as Meant, Calls, Stopped}
-use Rattle.sc_laws.proofs.Growing.{no_turn}
-use Rattle.sc_image.specs.declared.parts.ImageParts.{ImageParts}
 use Rattle.sc_image.specs.declared.parts.CompPart.{CompPart}
-use Rattle.sc_image.specs.Layout.{code_start, gate, stack_top}
-use Rattle.sc_image.specs.State.{start, start_memory}
-use Rattle.sc_image.specs.WellFormed.{IsWord, IsWellFormed}
 use Rattle.sc_image.proofs.Reached.{runs_are_steady}
-use Rattle.sc_hart.specs.Hart.{Registers}
-use Rattle.sc_hart.proofs.Fetching.{code_is_fetched}
-use Rattle.sc_tac.specs.declared.function.TacFnTree.{TacFnTree}
-use Rattle.sc_tac.specs.declared.machine_code.CodeTree.{CodeTree}
-use Rattle.sc_tac.specs.Code.{code_function}
-use Rattle.sc_tac.specs.Parts.{everywhere}
-use Rattle.sc_relation.specs.Calls.{CallsFollow, FunctionGives, runs_with}
-use Rattle.sc_select.specs.Linking.{Addresses, linked}
-use Rattle.sc_relation.specs.Stretches.{Setting, Joint, Standpoint, Overflows}
-use Rattle.sc_relation.proofs.Stretches.{shows_here}
-use Rattle.sc_emit.specs.Emission.{IsPlaced, CodeFollows}
-use Rattle.sc_emit.specs.Naming.{calls_only}
-use Rattle.sc_emit.specs.Shapes.{names_only}
 
 -- nothing is named
 abbrev none : Addresses

@@ -1,61 +1,37 @@
 -- The code of a function has at most one branch for each `If` and no EBREAK,
 -- and each field of its instructions is in the range of its form.
-use Rattle.std.proofs.Common.{◌≡◌, ℕ, zero, suc, ◌+◌, ◌≤◌, Bool, false, true, List, [], ◌∷◌, ◌++◌, Option, None, Some}
-use Rattle.std.proofs.Common.{refl, sym, ◌∙◌, ap, subst, arith, pos, map, cond, ◌*◌, ◌%◌, ◌^◌, ◌<◌, ℤ, negsuc, rules}
-use Rattle.std.proofs.Common.{length, All, ltb-true, leb-true, nat_lt}
-use Rattle.std.specs.Prelude.{not, if◌then◌else◌, ◌&&◌, int_le, neg_ℤ, ◌≤ℤ◌, nat_le, slice_get}
-use Rattle.std.specs.List.{count_by, list_all}
-use Rattle.std.proofs.lemmas.Bool.{and_from}
+use Rattle.sc_emit.proofs.Common.{Addi, All, All-cons, All-nil, ArePlaces, Bne, Bool, Branch, Each, Ebreak, Entry}
+use Rattle.sc_emit.proofs.Common.{Export, Fits, FrameTree, Inside, Instr, IsBranchOffset, IsImmediate, IsInstr}
+use Rattle.sc_emit.proofs.Common.{IsJumpOffset, IsReg, IsUpper, Line, List, Load, Lw, Main, None, OpImm, Option, Place}
+use Rattle.sc_emit.proofs.Common.{Register, Slot, Some, Store, Sw, TacFnTree, TacOp, TacStmt, TacStmt-F, [], a0, a7}
+use Rattle.sc_emit.proofs.Common.{address_scratch, all_true, and_first, and_from, and_rest, ap, arith, at_hand}
+use Rattle.sc_emit.proofs.Common.{binary_code, branch_step, branches, brought, bytes_of, call_cross, call_own, choice}
+use Rattle.sc_emit.proofs.Common.{closing, code_branches, code_of, cond, copied, count_by, cycle, entrance}
+use Rattle.sc_emit.proofs.Common.{environment_call, everywhere, false, first_scratch, fold-TacStmt, fold-roll-TacStmt}
+use Rattle.sc_emit.proofs.Common.{followed, fork, frame_left, frame_taken, function_lines, has_no_ebreak, if◌then◌else◌}
+use Rattle.sc_emit.proofs.Common.{in_order, int_le, is_branch, is_ebreak, is_place, is_short, jump_back, jump_over}
+use Rattle.sc_emit.proofs.Common.{keep, kept, leb-true, length, list_all, load_from, load_word, loading, lower_part}
+use Rattle.sc_emit.proofs.Common.{ltb-true, map, map-TacStmt, most_lines, most_params, moved_by, nat_le, nat_lt, neg_ℤ}
+use Rattle.sc_emit.proofs.Common.{negsuc, not, object_offset, op_code, operand, operation, pass, passes_few, place_of}
+use Rattle.sc_emit.proofs.Common.{place_of_global, plain, plainly, pos, put, ra, receive, refl, register_count}
+use Rattle.sc_emit.proofs.Common.{register_of, register_there, result_register, return, round_begins, rules}
+use Rattle.sc_emit.proofs.Common.{second_operand, second_scratch, select, select_all, select_step, signed_of, slice_get}
+use Rattle.sc_emit.proofs.Common.{slot_offset, sp, stmt_branches, stmt_induction, store_arguments, store_to, store_word}
+use Rattle.sc_emit.proofs.Common.{straight, sub_word, subst, suc, sym, take, take_second, taken, total, true}
+use Rattle.sc_emit.proofs.Common.{unary_code, upper_part, with_parts, word_of_constant, zero, ℕ, ℤ, ◌%◌, ◌&&◌, ◌*◌}
+use Rattle.sc_emit.proofs.Common.{◌++◌, ◌+◌, ◌<◌, ◌^◌, ◌∙◌, ◌∷◌, ◌≡◌, ◌≤ℤ◌, ◌≤◌}
+use Rattle.sc_select.specs.Prelude.{Piece}
 use Rattle.std.proofs.lemmas.List.Folds.{list_all-append, list_all-map}
 use Rattle.std.proofs.lemmas.List.Sums.{sum_by-append}
 use Rattle.std.proofs.lemmas.Int.{ints}
-use Rattle.std.proofs.lemmas.List.Elements.{All-nil, All-cons}
-use Rattle.rv_code.specs.declared.instr.Instr.{Instr}
-use Rattle.rv_code.specs.declared.instr.Instr.TheVariants.{Branch, Ebreak, Store, Load, OpImm}
-use Rattle.rv_code.specs.declared.instr.BranchOp.TheVariants.{Bne}
-use Rattle.rv_code.specs.declared.instr.StoreOp.TheVariants.{Sw}
-use Rattle.rv_code.specs.declared.instr.LoadOp.TheVariants.{Lw}
-use Rattle.rv_code.specs.declared.instr.OpImmOp.TheVariants.{Addi}
-use Rattle.rv_code.specs.Prelude.{IsReg, IsImmediate, IsUpper, IsJumpOffset, IsBranchOffset, IsInstr}
 use Rattle.rv_code.proofs.Numbers.{IsImmediate-signed}
-use Rattle.sc_word.specs.Prelude.{sub_word, signed_of}
-use Rattle.sc_base.proofs.Bools.{and_first, and_rest}
 use Rattle.sc_base.specs.declared.op.BinaryOp.{BinaryOp}
 use Rattle.sc_base.specs.declared.op.BinaryOp.TheVariants as op
 use Rattle.sc_base.specs.declared.op.UnaryOp.{UnaryOp}
 use Rattle.sc_base.specs.declared.op.UnaryOp.TheVariants as unary
-use Rattle.sc_core.proofs.Induction.{Each, everywhere}
-use Rattle.sc_core.specs.Prelude.{total, most_params}
-use Rattle.sc_event.specs.declared.row.Entry.{Entry}
-use Rattle.sc_event.specs.declared.row.Entry.TheVariants.{Main, Export}
-use Rattle.sc_tac.specs.declared.frame.FrameTree.{FrameTree}
-use Rattle.sc_tac.specs.declared.function.TacFnTree.{TacFnTree}
-use Rattle.sc_tac.specs.declared.place.Place.{Place}
-use Rattle.sc_tac.specs.declared.place.Place.TheVariants.{Register, Slot}
-use Rattle.sc_tac.specs.declared.stmt.TacOp.{TacOp}
 use Rattle.sc_tac.specs.declared.stmt.TacOp.TheVariants as tacop
-use Rattle.sc_tac.specs.declared.stmt.TacStmt.{TacStmt, TacStmt-F, map-TacStmt, fold-roll-TacStmt, fold-TacStmt}
 unfoldable use Rattle.sc_tac.specs.declared.stmt.TacStmt.{roll-TacStmt}
 use Rattle.sc_tac.specs.declared.stmt.TacStmt.TheOpen as tac
-use Rattle.sc_tac.specs.Branches.{branch_step, branches, stmt_branches}
-use Rattle.sc_tac.proofs.Induction.{Inside, stmt_induction}
-use Rattle.sc_tac.specs.Functions.{passes_few}
-use Rattle.sc_tac.specs.Parts.{all_true, with_parts}
-use Rattle.sc_tac.specs.Places.{ArePlaces, is_place, register_count}
-use Rattle.sc_select.specs.Lines.{Line, plain, plainly}
-use Rattle.sc_select.specs.Operators.{unary_code, binary_code, op_code, bytes_of}
-use Rattle.sc_select.specs.Pieces.{first_scratch, second_scratch, address_scratch, register_of, is_short, loading}
-use Rattle.sc_select.specs.Pieces.{moved_by, load_word, store_word, frame_taken, frame_left, ra, sp, a0, a7, upper_part}
-use Rattle.sc_select.specs.Pieces.{lower_part}
-use Rattle.sc_select.specs.Selection.{Piece, straight, followed, in_order, jump_over, jump_back, round_begins, taken}
-use Rattle.sc_select.specs.Selection.{kept, brought, put, copied, slot_offset, object_offset, place_of, take, at_hand}
-use Rattle.sc_select.specs.Selection.{operand, result_register, keep, take_second, second_operand, operation, load_from}
-use Rattle.sc_select.specs.Selection.{store_to, place_of_global, pass, receive, call_own, call_cross, return, choice}
-use Rattle.sc_select.specs.Selection.{fork, cycle, environment_call, word_of_constant, select_step, select, select_all}
-use Rattle.sc_select.specs.Selection.{store_arguments, entrance, closing, function_lines, code_of}
-use Rattle.sc_select.specs.Bounds.{Fits, most_lines}
-use Rattle.sc_relation.proofs.Registers.{register_there}
-use Rattle.sc_emit.specs.Shapes.{is_branch, is_ebreak, code_branches, has_no_ebreak}
 
 -- TESTS
 pub all_append : {X : Type 0} (test : X → Bool) (xs ys : List X) → list_all test xs ≡ true → list_all test ys ≡ true →

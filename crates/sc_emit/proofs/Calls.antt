@@ -1,66 +1,28 @@
 -- Calls of functions, of the own compartment and of others.
-use Rattle.std.proofs.Common.{◌≡◌, ◌≢◌, ℕ, suc, ◌+◌, ◌-ℤ◌, ◌*◌, ◌/◌, ◌%◌, ◌^◌, ◌<◌, ◌≤◌, true, false, List, []}
-use Rattle.std.proofs.Common.{◌∷◌, ◌++◌, length}
-use Rattle.std.proofs.Common.{Option, None, Some, refl, sym, ◌∙◌, ap, subst, arith, inl, inr, ⊎_elim, All, pos}
-use Rattle.std.proofs.Common.{append_assoc}
-use Rattle.std.specs.Prelude.{is_some, slice_get, IsSome}
-use Rattle.std.specs.Option.{unwrap_or}
-use Rattle.std.proofs.lemmas.Bool.{ne_eqb}
-use Rattle.std.proofs.lemmas.List.{length-append}
-use Rattle.std.proofs.lemmas.Option.{slice_get_within}
-use Rattle.rv_code.specs.declared.instr.Instr.{Instr}
-use Rattle.rv_code.specs.declared.instr.Instr.TheVariants.{Jal, Jalr, Upper}
-use Rattle.rv_code.specs.declared.instr.UpperOp.TheVariants.{Lui}
-use Rattle.sc_word.specs.Prelude.{word_of, add_word}
-use Rattle.sc_word.proofs.Words.{word_of-unsigned_sub}
-use Rattle.sc_core.specs.declared.expr.CallTarget.{CallTarget}
-use Rattle.sc_core.specs.declared.expr.CallTarget.TheVariants.{Own, Cross}
-use Rattle.sc_core.specs.declared.value.Value.{Value}
-use Rattle.sc_core.specs.Value.{wrapping}
-use Rattle.sc_core.specs.Words.{State as Meant, Calls, Piece, Reached, Stopped, Left, Next, and_then, leave}
-use Rattle.sc_laws.specs.Growth.{Goes}
-use Rattle.sc_laws.proofs.Growing.{stays, then_goes, then_from}
-use Rattle.sc_image.specs.Layout.{word_at}
-use Rattle.sc_image.specs.Step.{jalr_target}
-use Rattle.sc_image.specs.WellFormed.{IsWord, IsWellFormed}
-use Rattle.sc_hart.specs.Code.{CodeAt}
-use Rattle.sc_hart.specs.Hart.{Registers}
-use Rattle.sc_hart.specs.Words.{put_word}
-use Rattle.sc_hart.proofs.Fetching.{front_at, back_at}
-use Rattle.sc_hart.proofs.Inside.{IsInside, code_inside}
-use Rattle.sc_tac.specs.declared.frame.FrameTree.{FrameTree}
+use Rattle.sc_emit.proofs.Common.{Activation, Addresses, All, ArePassed, Arrives, CallGives, CallStands, CallTarget}
+use Rattle.sc_emit.proofs.Common.{Calls, CallsFollow, CodeAt, Codes, Comes, ComesBack, Computes, Cross, Does, Ends}
+use Rattle.sc_emit.proofs.Common.{Follows, FrameMatches, FrameTree, GivenBack, Goes, HasNoGap, HasNoOtherUse, Instr}
+use Rattle.sc_emit.proofs.Common.{IsActivation, IsBack, IsClear, IsInside, IsSome, IsWellFormed, IsWord, Jal, Jalr}
+use Rattle.sc_emit.proofs.Common.{Joint, Left, Line, List, Lives, Lui, MovesOn, Next, None, Option, Overflows, Own}
+use Rattle.sc_emit.proofs.Common.{Piece, Place, Point, Reached, Ready, Register, Registers, Running, Setting, Slot}
+use Rattle.sc_emit.proofs.Common.{Some, Standpoint, StandsFor, State as Meant, Stopped, Stores, Temps, Trail, Upper}
+use Rattle.sc_emit.proofs.Common.{Value, [], a0, add_word, and_then, ap, append_assoc, arith, arrives_with, assigned_at}
+use Rattle.sc_emit.proofs.Common.{assigns_register, assigns_slot, back_at, call_cross, call_does, call_from, call_own}
+use Rattle.sc_emit.proofs.Common.{code_inside, code_step, comes_after, completed, completed_length, completed_plainly}
+use Rattle.sc_emit.proofs.Common.{each_at, false, first_scratch, front_at, in_row, inl, inr, is_back, is_one, is_some}
+use Rattle.sc_emit.proofs.Common.{jalr_target, leads_none, leave, length, length-append, live_across, live_at}
+use Rattle.sc_emit.proofs.Common.{live_plain, look_at, low_after, low_append, low_plainly, lower_part, move, moved}
+use Rattle.sc_emit.proofs.Common.{moves, ne_eqb, no_other_use, or_left, overflows_from, overflows_with, pass}
+use Rattle.sc_emit.proofs.Common.{plain_points, plainly, pos, put, put_word, ra, read_all, receive, received, referring}
+use Rattle.sc_emit.proofs.Common.{refl, register_of, register_there, seen_from, select_step, settled_to, shows_from}
+use Rattle.sc_emit.proofs.Common.{shows_less, slice_get, slice_get_within, sp, stays, store_word, stores_word, straight}
+use Rattle.sc_emit.proofs.Common.{subst, suc, sym, then_from, then_goes, trail_step, true, unwrap_or, upper, upper_part}
+use Rattle.sc_emit.proofs.Common.{with_temp, word_at, word_of, word_of-unsigned_sub, wrapping, ℕ, ⊎_elim, ◌%◌, ◌*◌}
+use Rattle.sc_emit.proofs.Common.{◌++◌, ◌+◌, ◌-ℤ◌, ◌/◌, ◌<◌, ◌^◌, ◌∙◌, ◌∷◌, ◌≡◌, ◌≢◌, ◌≤◌}
 use Rattle.sc_tac.specs.declared.machine_code.Target.TheVariants.{Function, Entry}
-use Rattle.sc_tac.specs.declared.place.Place.{Place}
-use Rattle.sc_tac.specs.declared.place.Place.TheVariants.{Register, Slot}
 use Rattle.sc_tac.specs.declared.stmt.TacStmt.TheOpen as tac
-use Rattle.sc_tac.specs.Code.{Temps, Codes, with_temp, received, call_does, read_all, code_step}
-use Rattle.sc_tac.specs.Places.{IsClear}
-use Rattle.sc_tac.specs.Flow.{is_one}
-use Rattle.sc_tac.specs.Points.{Point, Lives, Trail, plain_points, live_across, trail_step}
-use Rattle.sc_select.specs.Lines.{Line, plainly, referring}
-use Rattle.sc_select.specs.Pieces.{ra, sp, first_scratch, a0, register_of, move, store_word, upper_part, lower_part}
-use Rattle.sc_select.specs.Selection.{straight, put, pass, receive}
-use Rattle.sc_select.specs.Selection.{call_own, call_cross, select_step}
-use Rattle.sc_pieces.specs.Pieces.{Does, Computes, Stores}
-use Rattle.sc_pieces.proofs.Loading.{moves}
-use Rattle.sc_pieces.proofs.NearSp.{stores_word}
 use Rattle.sc_pieces.proofs.Numbers.{two_parts}
-use Rattle.sc_pieces.proofs.Rows.{in_row, look_at, upper}
-use Rattle.sc_relation.specs.Blocks.{StandsFor}
-use Rattle.sc_relation.specs.Calls.{ArePassed, ComesBack, CallGives, CallStands, CallsFollow}
-use Rattle.sc_relation.specs.Frames.{Activation, IsActivation, FrameMatches}
-use Rattle.sc_select.specs.Linking.{Addresses, completed, low_after}
-use Rattle.sc_relation.specs.Stretches.{Setting, Joint, Standpoint, Overflows, GivenBack}
-use Rattle.sc_relation.specs.Following.{Running, Ends, seen_from, Ready, Arrives, Comes, Follows, live_at}
-use Rattle.sc_relation.proofs.Following.{IsBack, is_back}
-use Rattle.sc_relation.proofs.Frames.{each_at}
-use Rattle.sc_relation.proofs.Jumps.{HasNoGap}
-use Rattle.sc_relation.proofs.Lines.{completed_plainly, completed_length, low_append, low_plainly}
-use Rattle.sc_relation.proofs.Registers.{HasNoOtherUse, no_other_use, register_there}
-use Rattle.sc_relation.proofs.Settling.{moved}
-use Rattle.sc_relation.proofs.Straight.{assigns_register, assigns_slot, assigned_at, MovesOn, moves_on}
-use Rattle.sc_relation.proofs.Straight.{live_plain, or_left, call_from, settled_to, shows_from, overflows_from}
-use Rattle.sc_relation.proofs.Stretches.{leads_none, comes_after, shows_less, overflows_with, arrives_with}
+use Rattle.sc_relation.proofs.Straight.{moves_on}
 use Rattle.sc_emit.proofs.Arguments.{AreRead, read_all_goes, comes_read_all, Passes, passes, read_length}
 use Rattle.sc_emit.proofs.Straight.{ComesStraight, lines_follow}
 use Rattle.sc_emit.proofs.Operands.{IsPlace, ArePlaced, slot_from_sp, world, walks_to}

@@ -1,49 +1,22 @@
 -- Choices: one branch, over the jump to the second part.
-use Rattle.std.proofs.Common.{◌≡◌, ℕ, suc, ◌+◌, ◌*◌, ◌%◌, ◌≤◌, Bool, false, true, List, [], ◌∷◌, ◌++◌, length}
-use Rattle.std.proofs.Common.{Option, None, Some, refl, sym, ◌∙◌, ap, subst, arith, inl, inr, ⊎_elim, All, pos}
-use Rattle.std.specs.Prelude.{is_some, not, ◌==◌, if◌then◌else◌}
-use Rattle.std.proofs.lemmas.Bool.{eq-eqb, ne_eqb}
-use Rattle.std.proofs.lemmas.List.{length-append, length-map}
-use Rattle.std.proofs.lemmas.List.Elements.{All-tail}
-use Rattle.rv_code.specs.declared.instr.Instr.{Instr}
-use Rattle.rv_code.specs.declared.instr.Instr.TheVariants.{Branch, Jal}
-use Rattle.rv_code.specs.declared.instr.BranchOp.TheVariants.{Bne}
-use Rattle.sc_word.specs.Prelude.{word_of, add_word}
-use Rattle.sc_core.specs.declared.value.Value.{Value}
-use Rattle.sc_core.specs.declared.value.Value.TheVariants.{Word, Null, Ptr}
-use Rattle.sc_core.specs.Value.{is_true}
-use Rattle.sc_core.specs.Words.{State as Meant, Piece, Reached, Stopped, Exit, Next, Break, Continue, Return, Left}
-use Rattle.sc_core.specs.Words.{choose}
-use Rattle.sc_core.specs.Words.{and_then}
-use Rattle.sc_laws.specs.Growth.{Gone}
-use Rattle.sc_image.specs.WellFormed.{IsWord, IsWellFormed}
-use Rattle.sc_image.specs.Walks.{Walks}
-use Rattle.sc_hart.specs.Code.{Fetches, CodeAt}
-use Rattle.sc_hart.specs.Hart.{look, at}
-use Rattle.sc_hart.proofs.Fetching.{front_at, back_at}
-use Rattle.sc_hart.proofs.Inside.{IsInside, code_inside}
+use Rattle.sc_emit.proofs.Common.{All, All-tail, Arrives, Bne, Bool, Branch, Break, CodeAt, Codes, Comes, Continue}
+use Rattle.sc_emit.proofs.Common.{Ends, Exit, ExitGives, Fetches, Follows, FrameTree, Gone, HasNoGap, InParts, Instr}
+use Rattle.sc_emit.proofs.Common.{IsActivation, IsClear, IsInside, IsWellFormed, IsWord, Jal, Joint, Left, Line, List}
+use Rattle.sc_emit.proofs.Common.{Lives, MovesOn, Next, None, Null, Option, Piece, Ptr, Reached, Ready, Return, Running}
+use Rattle.sc_emit.proofs.Common.{Set, Setting, Settled, Some, Standpoint, StandsAt, StandsFor, Starts, State as Meant}
+use Rattle.sc_emit.proofs.Common.{Stopped, Temps, Trail, Value, Walks, Word, [], add_word, and_then, ap, arith}
+use Rattle.sc_emit.proofs.Common.{arrives_with, at, back_at, choice, choose, code_inside, comes_after, comes_read}
+use Rattle.sc_emit.proofs.Common.{completed, ends_of, eq-eqb, false, first_scratch, fork, front_at, if◌then◌else◌}
+use Rattle.sc_emit.proofs.Common.{in_parts, inl, inr, is_some, is_true, jump_over, leads_less, length, length-append}
+use Rattle.sc_emit.proofs.Common.{length-map, live_at, live_before, look, low_after, low_append, low_plainly, moved}
+use Rattle.sc_emit.proofs.Common.{ne_eqb, not, operand, or_left, or_right, over, plain, plainly, plainly_at, point, pos}
+use Rattle.sc_emit.proofs.Common.{read, refl, row, row_points, seen_from, sp, subst, suc, sym, take, trail_step, true}
+use Rattle.sc_emit.proofs.Common.{word_of, ℕ, ⊎_elim, ◌%◌, ◌*◌, ◌++◌, ◌+◌, ◌==◌, ◌∙◌, ◌∷◌, ◌≡◌, ◌≤◌}
+use Rattle.sc_select.specs.Prelude.{Piece as Code}
 use Rattle.sc_hart.proofs.Steps.{then_go, branch_taken, branch_not_taken}
-use Rattle.sc_tac.specs.declared.frame.FrameTree.{FrameTree}
 use Rattle.sc_tac.specs.declared.stmt.TacStmt.TheOpen as tac
-use Rattle.sc_tac.specs.Code.{Temps, Codes, read}
-use Rattle.sc_tac.specs.Places.{IsClear}
-use Rattle.sc_tac.specs.Points.{Set, Lives, Trail, live_before, row_points, point, trail_step}
-use Rattle.sc_select.specs.Lines.{Line, plainly, plain}
-use Rattle.sc_select.specs.Pieces.{sp, first_scratch}
-use Rattle.sc_select.specs.Selection.{Piece as Code, choice, fork, jump_over, take, operand}
-use Rattle.sc_relation.specs.Blocks.{StandsFor}
-use Rattle.sc_relation.specs.Frames.{IsActivation}
-use Rattle.sc_select.specs.Linking.{completed, low_after}
-use Rattle.sc_relation.specs.Stretches.{Setting, Joint, Standpoint, Settled}
-use Rattle.sc_relation.specs.Following.{Running, Ends, ends_of, seen_from, row, live_at, Ready, Arrives, Comes}
-use Rattle.sc_relation.specs.Following.{ExitGives, StandsAt, Starts, Follows}
 use Rattle.sc_relation.proofs.Clear.{all_front, all_back}
-use Rattle.sc_relation.proofs.Following.{comes_read}
-use Rattle.sc_relation.proofs.Jumps.{HasNoGap, over}
-use Rattle.sc_relation.proofs.Lines.{InParts, in_parts, low_append, low_plainly, plainly_at}
-use Rattle.sc_relation.proofs.Settling.{moved}
-use Rattle.sc_relation.proofs.Straight.{MovesOn, moves_on, or_left, or_right}
-use Rattle.sc_relation.proofs.Stretches.{comes_after, arrives_with, leads_less}
+use Rattle.sc_relation.proofs.Straight.{moves_on}
 use Rattle.sc_emit.proofs.Operands.{ArePlaced, AtHand, first_is, brings, world}
 use Rattle.sc_emit.proofs.Straight.{read_goes}
 

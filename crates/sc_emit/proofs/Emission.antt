@@ -1,40 +1,18 @@
 -- The code that is selected keeps what code keeps.
-use Rattle.std.proofs.Common.{◌≡◌, ℕ, zero, suc, ◌+◌, ◌<◌, ◌≤◌, true, List, [], ◌∷◌, ◌++◌, map, length, Some}
-use Rattle.std.proofs.Common.{Result, Ok, Err, IfOk, refl, sym, ◌∙◌, ap, subst, arith}
-use Rattle.std.specs.Prelude.{slice_get, max}
-use Rattle.std.specs.List.{list_all, range_with_len}
-use Rattle.std.proofs.lemmas.Bool.{and_parts, ltb-true}
+use Rattle.sc_emit.proofs.Common.{Activation, ArePlaces, AreReached, CodeAt, CodeTree, Err, Follows, FrameTree, Front}
+use Rattle.sc_emit.proofs.Common.{FunctionFollows, HasRoom, IfOk, Instr, IsAssignment, IsEmitted, IsFrame, IsFunction}
+use Rattle.sc_emit.proofs.Common.{IsPlaced, Line, List, Ok, Place, Register, Result, Running, Setting, Slot, Some}
+use Rattle.sc_emit.proofs.Common.{TacFnTree, [], and_parts, ap, append_assoc, arith, calls_only, closing, code_does}
+use Rattle.sc_emit.proofs.Common.{code_function, code_of, entrance, entry_weight, frame_taken, function_lines}
+use Rattle.sc_emit.proofs.Common.{function_points, interval_of, intervals_of, is_place, length, length-append}
+use Rattle.sc_emit.proofs.Common.{length-map, list_all, ltb-true, map, map-append, max, names_own_temps, plainly}
+use Rattle.sc_emit.proofs.Common.{range_with_len, refl, register_count, row, same_Some, select_all, slice_get}
+use Rattle.sc_emit.proofs.Common.{slice_get-get_or, slots_of, slots_up_to, store_arguments, subst, suc, sym, trail}
+use Rattle.sc_emit.proofs.Common.{true, weight, wrapping, zero, ℕ, ◌++◌, ◌+◌, ◌<◌, ◌∙◌, ◌∷◌, ◌≡◌, ◌≤◌}
+use Rattle.sc_tac.specs.Prelude.{everywhere}
 use Rattle.std.proofs.lemmas.List.FromFn.{length-range_with_len}
-use Rattle.std.proofs.lemmas.Option.{same_Some, slice_get-get_or}
-use Rattle.std.proofs.lemmas.List.{length-map, length-append, map-append, append_assoc}
-use Rattle.rv_code.specs.declared.instr.Instr.{Instr}
-use Rattle.sc_core.specs.Growth.{Front}
-use Rattle.sc_core.specs.Value.{wrapping}
-use Rattle.sc_tac.specs.declared.frame.FrameTree.{FrameTree}
-use Rattle.sc_tac.specs.declared.function.TacFnTree.{TacFnTree}
-use Rattle.sc_tac.specs.declared.machine_code.CodeTree.{CodeTree}
-use Rattle.sc_tac.specs.declared.place.Place.{Place}
-use Rattle.sc_tac.specs.declared.place.Place.TheVariants.{Register, Slot}
-use Rattle.sc_tac.specs.Code.{code_does, code_function}
-use Rattle.sc_tac.specs.Frames.{IsFrame, HasRoom, slots_of, slots_up_to}
-use Rattle.sc_tac.specs.Functions.{IsFunction, names_own_temps}
-use Rattle.sc_tac.specs.Intervals.{interval_of, intervals_of}
-use Rattle.sc_tac.specs.Parts.{everywhere}
-use Rattle.sc_tac.specs.Places.{ArePlaces, IsAssignment, is_place, register_count}
-use Rattle.sc_tac.specs.Points.{function_points, trail}
-use Rattle.sc_tac.specs.Weights.{entry_weight, weight}
-use Rattle.sc_select.specs.Lines.{Line, plainly}
-use Rattle.sc_select.specs.Pieces.{frame_taken}
-use Rattle.sc_select.specs.Selection.{code_of, function_lines, entrance, closing, select_all, store_arguments}
 use Rattle.sc_select.proofs.Sizes.{row_is_sized}
-use Rattle.sc_hart.specs.Code.{CodeAt}
-use Rattle.sc_relation.specs.Calls.{FunctionFollows}
-use Rattle.sc_relation.specs.Following.{Running, row, Follows}
-use Rattle.sc_relation.specs.Frames.{Activation}
-use Rattle.sc_relation.specs.Stretches.{Setting}
 use Rattle.sc_relation.proofs.Linking.{linked_is}
-use Rattle.sc_emit.specs.Emission.{IsPlaced, IsEmitted}
-use Rattle.sc_emit.specs.Naming.{calls_only, AreReached}
 use Rattle.sc_emit.proofs.Branches.{few_branches, no_ebreak}
 use Rattle.sc_emit.proofs.Functions.{in_call, BodyFollows, code_follows}
 use Rattle.sc_emit.proofs.Operands.{ArePlaced}

@@ -1,53 +1,24 @@
 -- The code of the way into a function: the frame is taken and arguments go into their variables, or the machine stands
 -- trapped where the frame goes below the data.
-use Rattle.std.proofs.Common.{◌≡◌, ◌≢◌, ℕ, zero, suc, ◌+◌, ◌-◌, ◌*◌, ◌%◌, ◌^◌, ◌<◌, ◌≤◌, pos, false, true, nat_le}
-use Rattle.std.proofs.Common.{nat_lt, List, [], ◌∷◌, ◌++◌, length, Option, Some, refl, sym, ◌∙◌, ap, subst, arith, inl}
-use Rattle.std.proofs.Common.{inr, ⊎_elim, All}
-use Rattle.std.specs.Prelude.{◌⊎◌, slice_get}
-use Rattle.std.specs.Option.{unwrap_or}
-use Rattle.std.proofs.lemmas.Bool.{eq-eqb, cases_eq, cases_lt, le-leb, le-ltb}
-use Rattle.std.proofs.lemmas.List.{length-append}
-use Rattle.std.proofs.lemmas.Option.{same_Some}
+use Rattle.sc_emit.proofs.Common.{All, Apart, Begins, CodeAt, Computes, Does, Enters, Fetches, FrameOverflows}
+use Rattle.sc_emit.proofs.Common.{FrameTree, Function, Grown, HasRoom, ImageParts, Instr, IsFrame, IsFromSp}
+use Rattle.sc_emit.proofs.Common.{IsWellFormed, IsWord, Joint, List, Memory as Bytes, Option, Overflows, Piece, Place}
+use Rattle.sc_emit.proofs.Common.{Registers, Setting, Some, Standpoint, Store, Stores, Sw, TakesFrame, Traps, Value}
+use Rattle.sc_emit.proofs.Common.{Walks, World, [], a0, add_word, ap, are_data, arith, at, back_at, begun, cases_eq}
+use Rattle.sc_emit.proofs.Common.{cases_lt, computes, data_start, each_at, entrance, eq-eqb, false, frame_taken}
+use Rattle.sc_emit.proofs.Common.{front_at, globals_of, in_row, inl, inr, is_there, last, le-leb, le-ltb, length}
+use Rattle.sc_emit.proofs.Common.{length-append, look_at, moved_by, moves_on, nat_le, nat_lt, object_inside}
+use Rattle.sc_emit.proofs.Common.{object_there, objects_apart, overflows, overflows_entering, own_beside, own_inside}
+use Rattle.sc_emit.proofs.Common.{pos, put_word, ra, refl, refused, same_Some, slice_get, sp, stack_size, stack_top}
+use Rattle.sc_emit.proofs.Common.{step, store_arguments, store_word, stores_word, sub_word, subst, suc, sym}
+use Rattle.sc_emit.proofs.Common.{takes_frame, true, unless, unwrap_or, word, word_of-lt, word_of-unsigned_sub, zero, ℕ}
+use Rattle.sc_emit.proofs.Common.{⊎_elim, ◌%◌, ◌*◌, ◌++◌, ◌+◌, ◌-◌, ◌<◌, ◌^◌, ◌∙◌, ◌∷◌, ◌≡◌, ◌≢◌, ◌≤◌, ◌⊎◌}
+use Rattle.sc_store.specs.Prelude.{stored}
+use Rattle.sc_image.specs.Prelude.{Goes}
 use Rattle.sc_base.specs.declared.stop.TrapReason.TheVariants.{Owner}
-use Rattle.rv_code.specs.declared.instr.Instr.{Instr}
-use Rattle.rv_code.specs.declared.instr.Instr.TheVariants.{Store}
-use Rattle.rv_code.specs.declared.instr.StoreOp.TheVariants.{Sw}
-use Rattle.sc_word.specs.Prelude.{add_word, sub_word}
-use Rattle.sc_word.proofs.Words.{word_of-lt, word_of-unsigned_sub}
-use Rattle.sc_core.specs.declared.value.Value.{Value}
-use Rattle.sc_core.specs.Calls.{Function, begun}
-use Rattle.sc_core.specs.Words.{Piece}
-use Rattle.sc_laws.specs.Growth.{Grown, last}
-use Rattle.sc_store.specs.Memory.{Memory as Bytes, stored}
-use Rattle.sc_image.specs.declared.parts.ImageParts.{ImageParts}
-use Rattle.sc_image.specs.Layout.{data_start, stack_size, stack_top, globals_of, are_data}
-use Rattle.sc_image.specs.Step.{Goes, Traps, step, unless, refused}
-use Rattle.sc_image.specs.Walks.{Walks}
-use Rattle.sc_image.specs.WellFormed.{IsWord, IsWellFormed}
 use Rattle.sc_image.proofs.Bytes.{few_globals}
 use Rattle.sc_image.proofs.Walking.{steps_by_instruction}
-use Rattle.sc_tac.specs.declared.frame.FrameTree.{FrameTree}
-use Rattle.sc_tac.specs.declared.place.Place.{Place}
-use Rattle.sc_tac.specs.Frames.{IsFrame, HasRoom}
-use Rattle.sc_select.specs.Pieces.{ra, sp, a0, moved_by, store_word, frame_taken}
-use Rattle.sc_select.specs.Selection.{store_arguments, entrance}
-use Rattle.sc_hart.specs.Code.{CodeAt, Fetches}
-use Rattle.sc_hart.specs.Hart.{Registers, World, at}
-use Rattle.sc_hart.specs.Words.{word, put_word, Apart}
-use Rattle.sc_hart.proofs.Fetching.{front_at, back_at}
 use Rattle.sc_hart.proofs.Words.{word_same, word_apart}
-use Rattle.sc_pieces.specs.Frames.{TakesFrame, FrameOverflows}
-use Rattle.sc_pieces.specs.Pieces.{IsFromSp, Does, Computes, Stores}
-use Rattle.sc_pieces.proofs.Frames.{takes_frame, overflows}
-use Rattle.sc_pieces.proofs.Loading.{moves_on}
-use Rattle.sc_pieces.proofs.NearSp.{stores_word}
-use Rattle.sc_pieces.proofs.Rows.{in_row, computes, look_at}
-use Rattle.sc_relation.specs.Calls.{Begins}
-use Rattle.sc_relation.specs.Stretches.{Setting, Joint, Standpoint, Overflows}
-use Rattle.sc_relation.proofs.Calling.{Enters}
-use Rattle.sc_relation.proofs.Frames.{each_at, own_inside, own_beside, object_there, object_inside, objects_apart}
-use Rattle.sc_relation.proofs.Frames.{is_there}
-use Rattle.sc_relation.proofs.Functions.{overflows_entering}
 
 -- Arguments, each into its variable.
 

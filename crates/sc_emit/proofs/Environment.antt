@@ -1,34 +1,14 @@
 -- Calls of the environment.
-use Rattle.std.proofs.Common.{◌≡◌, ℕ, ◌+◌, ◌*◌, ◌^◌, ◌<◌, ◌≤◌, true, false, List, [], ◌∷◌, ◌++◌, length, Option, None}
-use Rattle.std.proofs.Common.{refl, sym, ◌∙◌, ap, subst, arith, All, pos, append_assoc, append-nil}
-use Rattle.rv_code.specs.declared.instr.Instr.{Instr}
-use Rattle.rv_code.specs.declared.instr.Instr.TheVariants.{Ecall, OpImm}
-use Rattle.rv_code.specs.declared.instr.OpImmOp.TheVariants.{Addi}
-use Rattle.sc_core.specs.declared.expr.CallTarget.{CallTarget}
-use Rattle.sc_core.specs.declared.expr.CallTarget.TheVariants.{Input, Output}
-use Rattle.sc_core.specs.declared.value.Value.{Value}
-use Rattle.sc_core.specs.Value.{wrapping}
-use Rattle.sc_core.specs.Words.{State as Meant, Calls}
-use Rattle.sc_image.specs.WellFormed.{IsWord, IsWellFormed}
-use Rattle.sc_hart.specs.Code.{Fetches, CodeAt}
-use Rattle.sc_hart.proofs.Fetching.{back_at}
-use Rattle.sc_tac.specs.declared.frame.FrameTree.{FrameTree}
+use Rattle.sc_emit.proofs.Common.{Activation, Addi, All, CallStands, CallTarget, Calls, CallsFollow, CodeAt, ComesBack}
+use Rattle.sc_emit.proofs.Common.{Computes, Ecall, Fetches, Follows, FrameTree, Input, Instr, IsActivation, IsBack}
+use Rattle.sc_emit.proofs.Common.{IsClear, IsWellFormed, IsWord, Joint, List, Lives, None, OpImm, Option, Output, Ready}
+use Rattle.sc_emit.proofs.Common.{Running, Setting, Standpoint, State as Meant, Temps, Value, [], a0, a7, across_live}
+use Rattle.sc_emit.proofs.Common.{ap, append-nil, append_assoc, arith, asked, back_at, back_with, brought, call_does}
+use Rattle.sc_emit.proofs.Common.{call_from, code_step, each_at, environment_call, false, length, live_plain, moved}
+use Rattle.sc_emit.proofs.Common.{of_environment, pass, place_of, plain_points, pos, receive, refl, seen_from}
+use Rattle.sc_emit.proofs.Common.{select_step, subst, sym, trail_step, true, with_number, wrapping, ℕ, ◌*◌, ◌++◌, ◌+◌}
+use Rattle.sc_emit.proofs.Common.{◌<◌, ◌^◌, ◌∙◌, ◌∷◌, ◌≡◌, ◌≤◌}
 use Rattle.sc_tac.specs.declared.stmt.TacStmt.TheOpen as tac
-use Rattle.sc_tac.specs.Code.{Temps, call_does, code_step}
-use Rattle.sc_tac.specs.Places.{IsClear}
-use Rattle.sc_tac.specs.Points.{Lives, plain_points, trail_step}
-use Rattle.sc_select.specs.Pieces.{a0, a7}
-use Rattle.sc_select.specs.Selection.{pass, receive, place_of, brought, environment_call, select_step}
-use Rattle.sc_pieces.specs.Pieces.{Computes}
-use Rattle.sc_pieces.proofs.Rows.{with_number}
-use Rattle.sc_relation.specs.Calls.{of_environment, ComesBack, CallStands, CallsFollow}
-use Rattle.sc_relation.specs.Frames.{Activation, IsActivation}
-use Rattle.sc_relation.specs.Stretches.{Setting, Joint, Standpoint}
-use Rattle.sc_relation.specs.Following.{Running, seen_from, Ready, Follows}
-use Rattle.sc_relation.proofs.Following.{IsBack, back_with}
-use Rattle.sc_relation.proofs.Frames.{each_at}
-use Rattle.sc_relation.proofs.Settling.{moved}
-use Rattle.sc_relation.proofs.Straight.{live_plain, across_live, call_from, asked}
 use Rattle.sc_emit.proofs.Arguments.{AreRead, read_length, Passes}
 use Rattle.sc_emit.proofs.Calls.{Answers, none_wanted, HasPlace, last_point, Prepares, goes, call_runs, passes_args}
 use Rattle.sc_emit.proofs.Calls.{prepared}

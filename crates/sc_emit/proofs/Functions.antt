@@ -1,56 +1,28 @@
 -- The code of a function follows the function, where the code of its body follows what its statements do.
-use Rattle.std.proofs.Common.{◌≡◌, ℕ, zero, suc, ◌+◌, ◌-◌, ◌*◌, ◌<◌, ◌≤◌, Bool, true, false, List, [], ◌∷◌, ◌++◌}
-use Rattle.std.proofs.Common.{length, map, take, append_assoc, Option, None, Some, refl, sym, ◌∙◌, ap, subst, arith}
-use Rattle.std.proofs.Common.{inl, inr, ⊎_elim, All}
-use Rattle.std.specs.Prelude.{◌⊎◌, ◌==◌, slice_get, IsTrue}
-use Rattle.std.specs.List.{list_all}
-use Rattle.std.proofs.lemmas.Bool.{and_parts, eqb-true, cases_lt}
-use Rattle.std.proofs.lemmas.List.{length-append, length-map}
-use Rattle.std.proofs.lemmas.Option.{same_Some}
-use Rattle.rv_code.specs.declared.instr.Instr.{Instr}
-use Rattle.sc_event.specs.declared.row.Entry.{Entry}
-use Rattle.sc_event.specs.declared.row.Entry.TheVariants.{Main, Export}
-use Rattle.sc_core.specs.declared.value.Value.{Value}
-use Rattle.sc_core.specs.declared.value.Value.TheVariants.{Word}
-use Rattle.sc_core.specs.Value.{wrapping}
-use Rattle.sc_core.specs.Calls.{Function, begun, done}
-use Rattle.sc_core.specs.Meaning.{at_brace, closed}
-use Rattle.sc_core.specs.Words.{State as Meant, Here, Piece, Reached, Stopped, Calls, Left, and_then, Exit, Next, Break}
-use Rattle.sc_core.specs.Words.{Continue, Return}
-use Rattle.sc_laws.specs.Growth.{Goes, Grown, last as final}
-use Rattle.sc_laws.proofs.Growing.{FunctionGoes, stays, same, reached, then_goes, done_goes}
+use Rattle.sc_emit.proofs.Common.{Activation, All, Arrives, Begins, Bool, Break, Calls, CallsFollow, CodeAt, Comes}
+use Rattle.sc_emit.proofs.Common.{Continue, Ends, Entry, Exit, ExitGives, Export, Follows, FrameTree, Function}
+use Rattle.sc_emit.proofs.Common.{FunctionFollows, FunctionGives, FunctionGoes, Gives, Goes, Grown, HasNoGap, HasRoom}
+use Rattle.sc_emit.proofs.Common.{Here, InParts, Instr, IsActivation, IsAssignment, IsFrame, IsFunction, IsTrue}
+use Rattle.sc_emit.proofs.Common.{IsWellFormed, IsWord, Joint, Left, Line, List, Main, Next, None, Option, Overflows}
+use Rattle.sc_emit.proofs.Common.{Piece, Place, Reached, Ready, Return, Returns, Running, Setting, Settled, Shows, Some}
+use Rattle.sc_emit.proofs.Common.{Standpoint, Starts, State as Meant, Stopped, TacFnTree, Temps, Value, Word, []}
+use Rattle.sc_emit.proofs.Common.{activated, and_parts, and_then, ap, append_assoc, arith, arrives_with, at_brace}
+use Rattle.sc_emit.proofs.Common.{begun, cases_lt, closed, closing, code_does, code_function, code_library, completed}
+use Rattle.sc_emit.proofs.Common.{completed_length, data_start, done, done_goes, ends_of, entered, entrance, eqb-true}
+use Rattle.sc_emit.proofs.Common.{false, frame_taken, function_follows, function_lines, in_parts, inl, inr}
+use Rattle.sc_emit.proofs.Common.{intervals_of, is_activation, last as final, leads_then, length, length-append}
+use Rattle.sc_emit.proofs.Common.{length-map, list_all, live_at, low_plainly, map, no_temps, nothing, nothing_live}
+use Rattle.sc_emit.proofs.Common.{overflows_then, passes_words, plain, plainly, plainly_at, reached, ready_entered}
+use Rattle.sc_emit.proofs.Common.{refl, returns_with, row, runs_with, same, same_Some, same_entry, seen_from}
+use Rattle.sc_emit.proofs.Common.{select_all, shows_after, shows_here, slice_get, stays, store_arguments, subst, suc}
+use Rattle.sc_emit.proofs.Common.{sym, then_goes, trail, true, word_at, wrapping, zero, ℕ, ⊎_elim, ◌*◌, ◌++◌, ◌+◌, ◌-◌}
+use Rattle.sc_emit.proofs.Common.{◌<◌, ◌==◌, ◌∙◌, ◌∷◌, ◌≡◌, ◌≤◌, ◌⊎◌}
+use Rattle.sc_select.specs.Prelude.{Piece as Code}
+use Rattle.std.proofs.Common.{take}
 use Rattle.sc_laws.proofs.Matching.{library_goes}
-use Rattle.sc_image.specs.Layout.{data_start, word_at}
-use Rattle.sc_image.specs.WellFormed.{IsWord, IsWellFormed}
-use Rattle.sc_tac.specs.Points.{nothing, nothing_live, trail}
-use Rattle.sc_tac.specs.Code.{Temps, no_temps, code_does, code_function, code_library}
-use Rattle.sc_tac.specs.declared.frame.FrameTree.{FrameTree}
-use Rattle.sc_tac.specs.declared.function.TacFnTree.{TacFnTree}
-use Rattle.sc_tac.specs.declared.place.Place.{Place}
 use Rattle.sc_tac.specs.declared.program.TacTree.{TacTree}
-use Rattle.sc_tac.specs.Frames.{IsFrame, HasRoom}
-use Rattle.sc_tac.specs.Functions.{IsFunction, passes_words}
-use Rattle.sc_tac.specs.Intervals.{intervals_of}
-use Rattle.sc_tac.specs.Places.{IsAssignment}
-use Rattle.sc_tac.specs.Programs.{same_entry}
 use Rattle.sc_tac.proofs.Clear.{places_are_clear}
 use Rattle.sc_tac.proofs.Matching.{code_obeys}
-use Rattle.sc_select.specs.Lines.{Line, plain, plainly}
-use Rattle.sc_select.specs.Pieces.{frame_taken}
-use Rattle.sc_select.specs.Selection.{Piece as Code, store_arguments, entrance, select_all, closing, function_lines}
-use Rattle.sc_hart.specs.Code.{CodeAt}
-use Rattle.sc_relation.specs.Calls.{CallsFollow, Begins, FunctionGives, runs_with, FunctionFollows}
-use Rattle.sc_select.specs.Linking.{completed}
-use Rattle.sc_relation.specs.Frames.{Activation, IsActivation}
-use Rattle.sc_relation.specs.Stretches.{Setting, Joint, Standpoint, Settled, Shows, Overflows}
-use Rattle.sc_relation.specs.Following.{Running, Ends, ends_of, Follows, row, seen_from, Ready, Arrives, Returns}
-use Rattle.sc_relation.specs.Following.{ExitGives, Gives, live_at, Comes, Starts}
-use Rattle.sc_relation.proofs.Jumps.{HasNoGap}
-use Rattle.sc_relation.proofs.Lines.{InParts, in_parts, low_plainly, plainly_at, completed_length}
-use Rattle.sc_relation.proofs.Calling.{activated, entered, is_activation, ready_entered}
-use Rattle.sc_relation.proofs.Functions.{function_follows}
-use Rattle.sc_relation.proofs.Stretches.{leads_then, shows_after, shows_here, arrives_with, returns_with}
-use Rattle.sc_relation.proofs.Stretches.{overflows_then}
 use Rattle.sc_emit.proofs.Gaps.{word_in, no_gap}
 use Rattle.sc_emit.proofs.Entering.{HasEntered, has_entered, overflows_below}
 

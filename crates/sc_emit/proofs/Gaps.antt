@@ -1,17 +1,10 @@
 -- The code of a compartment has no gaps.
-use Rattle.std.proofs.Common.{◌≡◌, ℕ, zero, suc, ◌+◌, ◌-◌, ◌*◌, ◌/◌, ◌%◌, ◌<◌, ◌≤◌, Bool, true, false, ◌&&◌, nat_eq}
-use Rattle.std.proofs.Common.{nat_le, List, [], ◌∷◌, length, Option, None, Some, if◌then◌else◌, refl, ◌∙◌, subst, arith}
-use Rattle.std.specs.Prelude.{slice_get, IsSome}
-use Rattle.std.proofs.lemmas.Bool.{and_parts, leb-true, eq-eqb, le-leb}
-use Rattle.std.proofs.lemmas.Option.{slice_get_within}
-use Rattle.rv_code.specs.declared.instr.Instr.{Instr}
-use Rattle.sc_image.specs.declared.parts.ImageParts.{ImageParts}
-use Rattle.sc_image.specs.Layout.{code_start, code_of, word_at}
-use Rattle.sc_hart.specs.Code.{CodeAt}
-use Rattle.sc_relation.specs.Stretches.{Setting}
-use Rattle.sc_relation.specs.Following.{Running}
-use Rattle.sc_relation.proofs.Frames.{is_there}
-use Rattle.sc_relation.proofs.Jumps.{HasNoGap}
+use Rattle.sc_emit.proofs.Common.{Bool, CodeAt, HasNoGap, ImageParts, Instr, IsSome, List, None, Option, Running}
+use Rattle.sc_emit.proofs.Common.{Setting, Some, [], and_parts, arith, code_start, eq-eqb, false, if◌then◌else◌}
+use Rattle.sc_emit.proofs.Common.{is_there, le-leb, leb-true, length, nat_eq, nat_le, refl, slice_get, slice_get_within}
+use Rattle.sc_emit.proofs.Common.{subst, suc, true, word_at, zero, ℕ, ◌%◌, ◌&&◌, ◌*◌, ◌+◌, ◌-◌, ◌/◌, ◌<◌, ◌∙◌, ◌∷◌, ◌≡◌}
+use Rattle.sc_emit.proofs.Common.{◌≤◌}
+use Rattle.sc_image.specs.Prelude.{code_of}
 
 -- each instruction of code is a word
 pub word_in : (image : ImageParts) (c : ℕ) (instrs : List Instr) (pc k : ℕ) → k < length instrs →

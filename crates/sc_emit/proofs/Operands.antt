@@ -1,36 +1,15 @@
 -- Operands at hand, and results in their places.
-use Rattle.std.proofs.Common.{◌≡◌, ◌≢◌, ℕ, zero, suc, ◌+◌, ◌*◌, ◌<◌, List, [], ◌∷◌, ◌++◌, length, Some}
-use Rattle.std.proofs.Common.{false, refl, sym, ◌∙◌, ap, subst, arith, inl, inr, All, append-nil}
-use Rattle.std.specs.Prelude.{◌⊎◌, slice_get}
-use Rattle.std.specs.Option.{unwrap_or}
-use Rattle.std.proofs.lemmas.Option.{same_Some}
-use Rattle.rv_code.specs.declared.instr.Instr.{Instr}
-use Rattle.sc_core.specs.declared.value.Value.{Value}
-use Rattle.sc_store.specs.Memory.{Memory as Bytes}
-use Rattle.sc_image.specs.WellFormed.{IsWord, IsWellFormed}
-use Rattle.sc_image.specs.Walks.{Walks}
-use Rattle.sc_hart.specs.Code.{CodeAt}
-use Rattle.sc_hart.specs.Hart.{Registers, look, World, at}
-use Rattle.sc_hart.specs.Words.{word, put_word}
-use Rattle.sc_tac.specs.declared.place.Place.{Place}
-use Rattle.sc_tac.specs.declared.place.Place.TheVariants.{Register, Slot}
-use Rattle.sc_tac.specs.Code.{Temps, with_temp}
-use Rattle.sc_tac.specs.Places.{IsClear, register_count}
-use Rattle.sc_tac.specs.Points.{Lives, plain_points}
-use Rattle.sc_select.specs.Pieces.{sp, first_scratch, second_scratch, address_scratch, register_of, load_word}
-use Rattle.sc_select.specs.Pieces.{store_word}
-use Rattle.sc_select.specs.Selection.{slot_offset, taken, kept, take, operand, result_register, keep, at_hand}
-use Rattle.sc_pieces.specs.Pieces.{Besides, IsWritable, IsFromSp, Does, Computes, Stores}
-use Rattle.sc_pieces.proofs.NearSp.{loads_word, stores_word}
-use Rattle.sc_pieces.proofs.Rows.{in_row, look_at}
-use Rattle.sc_relation.specs.Blocks.{StandsFor}
-use Rattle.sc_relation.specs.Frames.{Activation, IsActivation, InPlace, IsHeld, FrameMatches}
-use Rattle.sc_relation.specs.Stretches.{Setting, Joint, Standpoint, machine}
-use Rattle.sc_relation.specs.Following.{Running, seen_from, Ready, Arrives}
-use Rattle.sc_relation.proofs.Frames.{own_inside}
-use Rattle.sc_relation.proofs.Registers.{HasNoOtherUse, no_other_use, register_there}
-use Rattle.sc_relation.proofs.Settling.{moved}
-use Rattle.sc_relation.proofs.Straight.{assigns_register, assigns_slot, assigned, live_plain}
+use Rattle.sc_emit.proofs.Common.{Activation, All, Arrives, Besides, CodeAt, Computes, Does, FrameMatches}
+use Rattle.sc_emit.proofs.Common.{HasNoOtherUse, InPlace, Instr, IsActivation, IsClear, IsFromSp, IsHeld, IsWellFormed}
+use Rattle.sc_emit.proofs.Common.{IsWord, IsWritable, Joint, List, Lives, Memory as Bytes, Place, Ready, Register}
+use Rattle.sc_emit.proofs.Common.{Registers, Running, Setting, Slot, Some, Standpoint, StandsFor, Stores, Temps, Value}
+use Rattle.sc_emit.proofs.Common.{Walks, World, [], address_scratch, ap, append-nil, arith, assigned, assigns_register}
+use Rattle.sc_emit.proofs.Common.{assigns_slot, at, at_hand, false, first_scratch, in_row, inl, inr, keep, kept, length}
+use Rattle.sc_emit.proofs.Common.{live_plain, load_word, loads_word, look, look_at, machine, moved, no_other_use}
+use Rattle.sc_emit.proofs.Common.{operand, own_inside, plain_points, put_word, refl, register_count, register_of}
+use Rattle.sc_emit.proofs.Common.{register_there, result_register, same_Some, second_scratch, seen_from, slice_get}
+use Rattle.sc_emit.proofs.Common.{slot_offset, sp, store_word, stores_word, subst, suc, sym, take, taken, unwrap_or}
+use Rattle.sc_emit.proofs.Common.{with_temp, word, zero, ℕ, ◌*◌, ◌++◌, ◌+◌, ◌<◌, ◌∙◌, ◌∷◌, ◌≡◌, ◌≢◌, ◌⊎◌}
 
 -- what a place is that temporaries have: a register that there is, or a slot of the frame
 abbrev pub IsPlace : Activation → Place → Type 0

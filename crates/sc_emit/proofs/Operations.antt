@@ -1,54 +1,23 @@
 -- Operators, loads and stores.
-use Rattle.std.proofs.Common.{◌≡◌, ℕ, ◌+◌, ◌*◌, Bool, false, true, List, [], ◌∷◌, ◌++◌, length, Option}
-use Rattle.std.proofs.Common.{None, Some, Result, Ok, Err, refl, sym, ◌∙◌, ap, subst, arith, inl, ⊎_elim, All, pos}
-use Rattle.std.proofs.Common.{append_assoc, append-nil}
-use Rattle.std.specs.Prelude.{slice_get, is_some, ◌==◌}
-use Rattle.std.proofs.lemmas.Bool.{eq-eqb}
-use Rattle.rv_code.specs.declared.instr.Instr.{Instr}
-use Rattle.rv_code.specs.declared.instr.Instr.TheVariants.{Load, Store}
-use Rattle.rv_code.specs.declared.instr.LoadOp.TheVariants.{Lw}
-use Rattle.rv_code.specs.declared.instr.StoreOp.TheVariants.{Sw}
-use Rattle.sc_word.specs.Prelude.{word_of, add_word}
-use Rattle.sc_core.specs.declared.cause.Cause.{Cause}
-use Rattle.sc_core.specs.declared.value.Value.{Value}
-use Rattle.sc_core.specs.Memory.{Blocks, load, store}
-use Rattle.sc_core.specs.Value.{wrapping}
-use Rattle.sc_core.specs.Words.{State as Meant, Calls, Next, Reached, leave, and_then, computed, stored, with_memory}
-use Rattle.sc_laws.specs.Growth.{Goes, Gone}
-use Rattle.sc_laws.proofs.Growing.{stays, same, front_same}
-use Rattle.sc_image.specs.WellFormed.{IsWord, IsWellFormed}
-use Rattle.sc_hart.specs.Code.{CodeAt}
-use Rattle.sc_hart.specs.Hart.{Registers, look}
-use Rattle.sc_hart.specs.Words.{word}
-use Rattle.sc_tac.specs.declared.frame.FrameTree.{FrameTree}
-use Rattle.sc_tac.specs.declared.place.Place.{Place}
-use Rattle.sc_tac.specs.declared.stmt.TacOp.{TacOp}
+use Rattle.sc_emit.proofs.Common.{All, Arrives, Blocks, Bool, Calls, Cause, CodeAt, Comes, Computes, Does, Ends, Err}
+use Rattle.sc_emit.proofs.Common.{Follows, FrameTree, Goes, Gone, HasNoOtherUse, Instr, IsActivation, IsClear, IsLoaded}
+use Rattle.sc_emit.proofs.Common.{IsSound, IsWellFormed, IsWord, Joint, List, Lives, Load, Lw, Next, None, Ok, Option}
+use Rattle.sc_emit.proofs.Common.{Place, Reached, Ready, Registers, Result, Running, Set, Setting, Settled, Some}
+use Rattle.sc_emit.proofs.Common.{StandsFor, State as Meant, Store, Stores, Sw, TacOp, Temps, Value, [], add_word}
+use Rattle.sc_emit.proofs.Common.{and_then, ap, append-nil, append_assoc, arith, code_step, comes_computed, comes_read}
+use Rattle.sc_emit.proofs.Common.{computed, eq-eqb, false, first_scratch, front_same, gets, in_row, inl, is_one}
+use Rattle.sc_emit.proofs.Common.{is_some, keep, leave, length, live_plain, load, load_from, loads as loads_from, look}
+use Rattle.sc_emit.proofs.Common.{looked, may_store, one_or_none, op_code, operand, operated, operation, or_left}
+use Rattle.sc_emit.proofs.Common.{or_right, plain_points, pos, read, refl, result_register, same, second_operand}
+use Rattle.sc_emit.proofs.Common.{second_scratch, seen_from, select_step, shows_here, slice_get, sp, stays, store}
+use Rattle.sc_emit.proofs.Common.{store_to, stored, stores as stores_to, subst, sym, take, takes_two, trail_step, true}
+use Rattle.sc_emit.proofs.Common.{with_memory, with_temp, word, word_of, wrapping, ℕ, ⊎_elim, ◌*◌, ◌++◌, ◌+◌, ◌==◌, ◌∙◌}
+use Rattle.sc_emit.proofs.Common.{◌∷◌, ◌≡◌}
 use Rattle.sc_tac.specs.declared.stmt.TacStmt.TheOpen as tac
-use Rattle.sc_tac.specs.Code.{Temps, with_temp, code_step, operated, gets, read}
-use Rattle.sc_tac.specs.Flow.{is_one}
-use Rattle.sc_tac.specs.Functions.{takes_two}
-use Rattle.sc_tac.specs.Parts.{one_or_none}
-use Rattle.sc_tac.specs.Places.{IsClear}
-use Rattle.sc_tac.specs.Points.{Set, Lives, plain_points, trail_step}
-use Rattle.sc_select.specs.Pieces.{sp, first_scratch, second_scratch}
-use Rattle.sc_select.specs.Operators.{op_code}
-use Rattle.sc_select.specs.Selection.{select_step, result_register, keep, take, operand, second_operand}
-use Rattle.sc_select.specs.Selection.{operation, load_from, store_to}
 use Rattle.sc_pieces.specs.Operators.{AreOperands, op_word}
-use Rattle.sc_pieces.specs.Pieces.{Does, Computes, Stores}
 use Rattle.sc_pieces.proofs.Operators.{gives_word}
-use Rattle.sc_pieces.proofs.Rows.{in_row, looked}
-use Rattle.sc_pieces.proofs.Rows.{loads as loads_from, stores as stores_to}
-use Rattle.sc_relation.specs.Blocks.{StandsFor}
-use Rattle.sc_relation.specs.Frames.{IsActivation}
-use Rattle.sc_relation.specs.Operators.{IsSound}
-use Rattle.sc_relation.specs.Stretches.{Setting, Joint, Settled}
-use Rattle.sc_relation.specs.Following.{Running, Ends, Ready, Arrives, Comes, Follows, seen_from}
-use Rattle.sc_relation.proofs.Following.{comes_read, comes_computed}
 use Rattle.sc_relation.proofs.Operators.{operator_stands}
-use Rattle.sc_relation.proofs.Registers.{HasNoOtherUse}
-use Rattle.sc_relation.proofs.Stretches.{shows_here}
-use Rattle.sc_relation.proofs.Straight.{live_plain, or_left, or_right, IsLoaded, loads, may_store, stores}
+use Rattle.sc_relation.proofs.Straight.{loads, stores}
 use Rattle.sc_emit.proofs.Operands.{ArePlaced, AtHand, Gives, first_is, second_is, brings, keeps, world}
 use Rattle.sc_emit.proofs.Plain.{IsResult, result_is}
 use Rattle.sc_emit.proofs.Straight.{comes_behind, read_goes, computed_goes, straight_follows}

@@ -1,12 +1,8 @@
 -- Statements that pass several tests, and so do those inside.
-use Rattle.std.proofs.Common.{◌≡◌, ℕ, Bool, true, List, [], ◌∷◌, map, sym, ◌∙◌}
-use Rattle.std.proofs.lemmas.Bool.{and_parts}
-use Rattle.std.specs.List.{list_all}
-use Rattle.sc_tac.specs.Parts.{all_true}
-use Rattle.sc_tac.specs.declared.stmt.TacStmt.{TacStmt, TacStmt-F, fold-TacStmt, fold-roll-TacStmt, roll-TacStmt}
-use Rattle.sc_tac.specs.declared.stmt.TacStmt.{map-TacStmt}
+use Rattle.sc_emit.proofs.Common.{Bool, List, TacStmt, TacStmt-F, [], all_true, and_parts, fold-TacStmt}
+use Rattle.sc_emit.proofs.Common.{fold-roll-TacStmt, list_all, map, map-TacStmt, parts, roll-TacStmt, sym, true}
+use Rattle.sc_emit.proofs.Common.{with_parts, ℕ, ◌∙◌, ◌∷◌, ◌≡◌}
 use Rattle.sc_tac.specs.declared.stmt.TacStmt.TheOpen as tac
-use Rattle.sc_tac.specs.Parts.{parts, with_parts}
 
 -- a test of a statement by itself
 abbrev pub Test : Type 0

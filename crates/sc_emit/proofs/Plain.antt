@@ -1,54 +1,20 @@
 -- Statements that assign what no store decides: constants, copies, places.
-use Rattle.std.proofs.Common.{◌≡◌, ◌≢◌, ℕ, ◌+◌, ◌*◌, ◌^◌, ◌<◌, ◌≤◌, false, true, List, [], ◌∷◌, ◌++◌, length, Option}
-use Rattle.std.proofs.Common.{Some}
-use Rattle.std.proofs.Common.{refl, sym, ◌∙◌, ap, ap₂, subst, arith, All}
-use Rattle.std.specs.Prelude.{slice_get}
-use Rattle.std.specs.Option.{unwrap_or}
-use Rattle.std.proofs.lemmas.Bool.{eq-eqb}
-use Rattle.std.proofs.lemmas.List.{length-map}
-use Rattle.std.proofs.lemmas.Option.{same_Some}
-use Rattle.rv_code.specs.declared.instr.Instr.{Instr}
-use Rattle.rv_code.specs.declared.instr.Instr.TheVariants.{Upper, OpImm}
-use Rattle.rv_code.specs.declared.instr.OpImmOp.TheVariants.{Addi}
-use Rattle.rv_code.specs.declared.instr.UpperOp.TheVariants.{Lui}
-use Rattle.sc_core.specs.declared.value.Value.{Value}
-use Rattle.sc_core.specs.Value.{wrapping}
-use Rattle.sc_core.specs.Words.{Calls, Next, leave}
-use Rattle.sc_laws.proofs.Growing.{stays}
-use Rattle.sc_word.specs.Prelude.{add_word}
-use Rattle.sc_image.specs.Walks.{Walks}
-use Rattle.sc_image.specs.WellFormed.{IsWord, IsWellFormed}
-use Rattle.sc_hart.specs.Code.{CodeAt}
-use Rattle.sc_hart.specs.Hart.{at}
-use Rattle.sc_hart.specs.Words.{word}
-use Rattle.sc_tac.specs.declared.frame.FrameTree.{FrameTree}
-use Rattle.sc_tac.specs.declared.place.Place.{Place}
-use Rattle.sc_tac.specs.declared.place.Place.TheVariants.{Register, Slot}
-use Rattle.sc_tac.specs.declared.stmt.Constant.{Constant}
+use Rattle.sc_emit.proofs.Common.{Addi, All, Arrives, Calls, CodeAt, Comes, Computes, Constant, Follows, FrameTree}
+use Rattle.sc_emit.proofs.Common.{InPlace, Instr, IsActivation, IsAddress, IsClear, IsHeld, IsWellFormed, IsWord}
+use Rattle.sc_emit.proofs.Common.{IsWritable, Joint, Line, List, Lives, Lui, Next, OpImm, Option, Place, Ready}
+use Rattle.sc_emit.proofs.Common.{Register, Running, Setting, Slot, Some, StandsFor, Temps, Upper, Value, Walks, []}
+use Rattle.sc_emit.proofs.Common.{add_word, ap, ap₂, arith, at, at_hand, brought, code_step, comes_read}
+use Rattle.sc_emit.proofs.Common.{completed_plainly, computes, constant_value, copied, eq-eqb, false, first_scratch}
+use Rattle.sc_emit.proofs.Common.{is_one, keep, leave, length, length-map, live_plain, load_word, loading, loads_long}
+use Rattle.sc_emit.proofs.Common.{loads_number, loads_word, look_at, low_plainly, lower_part, move, moved_by, moves}
+use Rattle.sc_emit.proofs.Common.{moves_on, no_other_use, object_offset, or_left, place_of, place_of_global, plain}
+use Rattle.sc_emit.proofs.Common.{plain_points, plainly, refl, register_of, register_there, result_register, same_Some}
+use Rattle.sc_emit.proofs.Common.{select_step, slice_get, slot_offset, sp, start_of, stays, store_word, subst, sym}
+use Rattle.sc_emit.proofs.Common.{trail_step, true, unwrap_or, upper_part, with_temp, word, word_of_constant, wrapping}
+use Rattle.sc_emit.proofs.Common.{ℕ, ◌*◌, ◌++◌, ◌+◌, ◌<◌, ◌^◌, ◌∙◌, ◌∷◌, ◌≡◌, ◌≢◌, ◌≤◌}
 use Rattle.sc_tac.specs.declared.stmt.Constant.TheVariants as constant
 use Rattle.sc_tac.specs.declared.stmt.TacStmt.TheOpen as tac
-use Rattle.sc_tac.specs.Code.{Temps, constant_value, with_temp, code_step, start_of}
-use Rattle.sc_tac.specs.Flow.{is_one}
-use Rattle.sc_tac.specs.Places.{IsClear}
-use Rattle.sc_tac.specs.Points.{Lives, plain_points, trail_step}
-use Rattle.sc_select.specs.Lines.{Line, plain, plainly}
-use Rattle.sc_select.specs.Pieces.{upper_part, lower_part}
-use Rattle.sc_select.specs.Pieces.{sp, first_scratch, register_of, move, loading, moved_by, load_word, store_word}
-use Rattle.sc_select.specs.Selection.{word_of_constant, select_step, result_register, keep, at_hand, object_offset}
-use Rattle.sc_select.specs.Selection.{place_of, brought, copied, slot_offset, place_of_global}
-use Rattle.sc_pieces.specs.Pieces.{IsWritable, Computes}
-use Rattle.sc_pieces.proofs.Loading.{loads_long, loads_number, moves, moves_on}
-use Rattle.sc_pieces.proofs.NearSp.{loads_word}
-use Rattle.sc_pieces.proofs.Rows.{computes, look_at}
-use Rattle.sc_relation.specs.Blocks.{IsAddress, StandsFor}
-use Rattle.sc_relation.specs.Frames.{IsActivation, InPlace, IsHeld}
-use Rattle.sc_relation.specs.Stretches.{Setting, Joint}
-use Rattle.sc_relation.specs.Following.{Running, Ready, Arrives, Comes, Follows}
-use Rattle.sc_relation.proofs.Lines.{low_plainly, completed_plainly}
-use Rattle.sc_relation.proofs.Registers.{no_other_use, register_there}
 use Rattle.sc_emit.proofs.Operands.{IsPlace, ArePlaced, Gives, keeps, keeps_register, keeps_slot, slot_from_sp, world}
-use Rattle.sc_relation.proofs.Following.{comes_read}
-use Rattle.sc_relation.proofs.Straight.{live_plain, or_left}
 use Rattle.sc_emit.proofs.Straight.{comes_behind, read_goes, lines_follow, straight_follows}
 
 -- a register that may be written, and isn't sp

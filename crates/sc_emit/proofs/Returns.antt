@@ -1,47 +1,15 @@
 -- The way out of a function: a return, and the closing brace.
-use Rattle.std.proofs.Common.{◌≡◌, ℕ, ◌+◌, ◌*◌, ◌≤◌, true, List, [], ◌∷◌, ◌++◌, length, Option, None, Some}
-use Rattle.std.proofs.Common.{refl, sym, ◌∙◌, ap, subst, arith, inl, All, pos, append_assoc}
-use Rattle.std.proofs.lemmas.Bool.{eq-eqb}
-use Rattle.std.proofs.lemmas.List.{length-append}
-use Rattle.rv_code.specs.declared.instr.Instr.{Instr}
-use Rattle.rv_code.specs.declared.instr.Instr.TheVariants.{Jalr, OpImm}
-use Rattle.rv_code.specs.declared.instr.OpImmOp.TheVariants.{Addi}
-use Rattle.sc_event.specs.declared.row.Entry.{Entry}
-use Rattle.sc_event.specs.declared.row.Entry.TheVariants.{Main, Export}
-use Rattle.sc_core.specs.declared.value.Value.{Value}
-use Rattle.sc_core.specs.declared.value.Value.TheVariants.{Word}
-use Rattle.sc_core.specs.Value.{wrapping}
-use Rattle.sc_core.specs.Words.{Calls, Return, leave}
-use Rattle.sc_laws.specs.Growth.{Goes}
-use Rattle.sc_laws.proofs.Growing.{stays}
-use Rattle.sc_image.specs.Walks.{Walks}
-use Rattle.sc_image.specs.WellFormed.{IsWord, IsWellFormed}
-use Rattle.sc_hart.specs.Code.{CodeAt}
-use Rattle.sc_hart.specs.Hart.{Registers, at}
-use Rattle.sc_hart.specs.Words.{word, Owned}
-use Rattle.sc_hart.proofs.Fetching.{front_at, back_at}
-use Rattle.sc_tac.specs.declared.frame.FrameTree.{FrameTree}
-use Rattle.sc_tac.specs.declared.function.TacFnTree.{TacFnTree}
-use Rattle.sc_tac.specs.declared.place.Place.{Place}
+use Rattle.sc_emit.proofs.Common.{Activation, Addi, All, Calls, CodeAt, Computes, Does, Entry, Export, Follows}
+use Rattle.sc_emit.proofs.Common.{FrameTree, GivenBack, Goes, Instr, IsActivation, IsWellFormed, IsWord, Jalr, Joint}
+use Rattle.sc_emit.proofs.Common.{LeavesFrame, List, Lives, Main, None, OpImm, Option, Owned, Place, Ready, Registers}
+use Rattle.sc_emit.proofs.Common.{Return, Returns, Running, Set, Setting, Some, Standpoint, StandsFor, TacFnTree, Temps}
+use Rattle.sc_emit.proofs.Common.{Value, Walks, Word, [], a0, ap, append_assoc, arith, at, back_at, brought, closing}
+use Rattle.sc_emit.proofs.Common.{code_step, comes_read, eq-eqb, frame_left, frame_raised, front_at, in_row, inl}
+use Rattle.sc_emit.proofs.Common.{is_one, leads_less, leads_moved, leave, leaves_frame, length, length-append, machine}
+use Rattle.sc_emit.proofs.Common.{moved, nothing, one_or_none, place_of, pos, ra, refl, return, return_does, same_entry}
+use Rattle.sc_emit.proofs.Common.{seen_from, select_step, settled_moved, sp, stays, subst, sym, trail_step, true}
+use Rattle.sc_emit.proofs.Common.{with_number, word, wrapping, ℕ, ◌*◌, ◌++◌, ◌+◌, ◌∙◌, ◌∷◌, ◌≡◌, ◌≤◌}
 use Rattle.sc_tac.specs.declared.stmt.TacStmt.TheOpen as tac
-use Rattle.sc_tac.specs.Code.{Temps, code_step, return_does}
-use Rattle.sc_tac.specs.Flow.{is_one}
-use Rattle.sc_tac.specs.Parts.{one_or_none}
-use Rattle.sc_tac.specs.Programs.{same_entry}
-use Rattle.sc_tac.specs.Points.{Set, nothing, Lives, trail_step}
-use Rattle.sc_select.specs.Pieces.{ra, sp, a0, frame_left}
-use Rattle.sc_select.specs.Selection.{brought, place_of, return, closing, select_step}
-use Rattle.sc_pieces.specs.Frames.{frame_raised, LeavesFrame}
-use Rattle.sc_pieces.specs.Pieces.{Does, Computes}
-use Rattle.sc_pieces.proofs.Frames.{leaves_frame}
-use Rattle.sc_pieces.proofs.Rows.{in_row, with_number}
-use Rattle.sc_relation.specs.Blocks.{StandsFor}
-use Rattle.sc_relation.specs.Frames.{Activation, IsActivation}
-use Rattle.sc_relation.specs.Stretches.{Setting, Joint, Standpoint, machine, GivenBack}
-use Rattle.sc_relation.specs.Following.{Running, seen_from, Ready, Returns, Follows}
-use Rattle.sc_relation.proofs.Following.{comes_read}
-use Rattle.sc_relation.proofs.Settling.{moved, settled_moved, leads_moved}
-use Rattle.sc_relation.proofs.Stretches.{leads_less}
 use Rattle.sc_emit.proofs.Arguments.{Brings, brings}
 use Rattle.sc_emit.proofs.Functions.{given_at_brace, in_call, BraceReturns}
 use Rattle.sc_emit.proofs.Operands.{ArePlaced, world, walks_to}

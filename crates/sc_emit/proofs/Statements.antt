@@ -1,54 +1,32 @@
 -- The code of statements follows what they do: by induction over their layers.
-use Rattle.std.proofs.Common.{◌≡◌, ℕ, ◌^◌, ◌<◌, ◌≤◌, Bool, true, false, List, [], ◌∷◌, map, length, Option}
-use Rattle.std.proofs.Common.{◌++◌, None, Some, refl, sym, subst, arith, All}
-use Rattle.std.specs.Prelude.{nat_lt, is_some, not, ◌||◌}
+use Rattle.sc_emit.proofs.Common.{All, AreReached, Bool, CallTarget, Calls, CallsFollow, Codes, Constant, Cross, Each}
+use Rattle.sc_emit.proofs.Common.{Follows, FrameTree, GivesValue, HasNoGap, Here, Input, Inside, IsActivation, IsSound}
+use Rattle.sc_emit.proofs.Common.{IsWellFormed, IsWord, List, None, Option, Output, Own, Piece, Reached, Register}
+use Rattle.sc_emit.proofs.Common.{Running, Setting, Some, State as Meant, Stopped, TacOp, TacStmt, TacStmt-F, Trail}
+use Rattle.sc_emit.proofs.Common.{Value, [], all_do, and_parts, arith, break_follows, calls_only, code_does, code_step}
+use Rattle.sc_emit.proofs.Common.{continue_follows, counts_elements, everywhere, false, fold-roll-TacStmt, has_elements}
+use Rattle.sc_emit.proofs.Common.{has_operands, has_words, in_order, is_call, is_some, leb-true, length, list_all}
+use Rattle.sc_emit.proofs.Common.{ltb-true, map, map-TacStmt, names_only, names_own_object, names_own_temps, nat_lt}
+use Rattle.sc_emit.proofs.Common.{not, object_inside, object_there, one_or_none, passes_few, refl, roll-TacStmt, row}
+use Rattle.sc_emit.proofs.Common.{select, select_all, select_step, slice_get-get_or, stmt_does, stmt_induction, subst}
+use Rattle.sc_emit.proofs.Common.{sym, takes_two, trail, trail_step, true, word_of_constant, wrapping, ℕ, ◌++◌, ◌<◌}
+use Rattle.sc_emit.proofs.Common.{◌^◌, ◌||◌, ◌∷◌, ◌≡◌, ◌≤◌}
+use Rattle.sc_select.specs.Prelude.{Piece as Code}
 use Rattle.std.specs.Bool.{beq}
-use Rattle.std.specs.List.{list_all}
-use Rattle.std.proofs.lemmas.Bool.{and_parts, ltb-true, leb-true}
-use Rattle.std.proofs.lemmas.Option.{slice_get-get_or}
-use Rattle.sc_core.specs.declared.expr.CallTarget.{CallTarget}
-use Rattle.sc_core.specs.declared.expr.CallTarget.TheVariants.{Own, Cross, Input, Output}
-use Rattle.sc_core.specs.declared.value.Value.{Value}
-use Rattle.sc_core.specs.Value.{wrapping}
-use Rattle.sc_core.specs.Words.{State as Meant, Here, Piece, Reached, Stopped, Calls, all_do}
-use Rattle.sc_image.specs.WellFormed.{IsWord, IsWellFormed}
-use Rattle.sc_tac.specs.declared.frame.FrameTree.{FrameTree}
-use Rattle.sc_tac.specs.declared.place.Place.TheVariants.{Register}
-use Rattle.sc_tac.specs.declared.stmt.Constant.{Constant}
 use Rattle.sc_tac.specs.declared.stmt.Constant.TheVariants as constant
-use Rattle.sc_tac.specs.declared.stmt.TacOp.{TacOp}
 use Rattle.sc_tac.specs.declared.stmt.TacOp.TheVariants as tacop
-use Rattle.sc_tac.specs.declared.stmt.TacStmt.{TacStmt, TacStmt-F, fold-roll-TacStmt, roll-TacStmt, map-TacStmt}
 use Rattle.sc_tac.specs.declared.stmt.TacStmt.TheOpen as tac
-use Rattle.sc_tac.specs.Code.{Codes, code_step, stmt_does, code_does}
-use Rattle.sc_tac.specs.Functions.{names_own_temps, names_own_object, has_operands, passes_few, has_words, has_elements}
-use Rattle.sc_tac.specs.Functions.{takes_two, counts_elements}
-use Rattle.sc_tac.specs.Parts.{one_or_none}
-use Rattle.sc_tac.specs.Points.{Trail, trail, trail_step}
-use Rattle.sc_tac.proofs.Induction.{Inside, stmt_induction}
-use Rattle.sc_select.specs.Selection.{Piece as Code, in_order, select, select_all, select_step, word_of_constant}
-use Rattle.sc_relation.specs.Calls.{CallsFollow, GivesValue}
-use Rattle.sc_relation.specs.Frames.{IsActivation}
-use Rattle.sc_relation.specs.Operators.{IsSound}
-use Rattle.sc_relation.specs.Stretches.{Setting}
-use Rattle.sc_relation.specs.Following.{Running, row, Follows}
-use Rattle.sc_relation.proofs.Frames.{object_there, object_inside}
-use Rattle.sc_relation.proofs.Jumps.{HasNoGap, break_follows, continue_follows}
 use Rattle.sc_relation.proofs.Loops.{loop_follows}
 use Rattle.sc_relation.proofs.Rows.{nothing_follows, row_follows}
-use Rattle.sc_emit.specs.Naming.{is_call, calls_only, AreReached}
-use Rattle.sc_emit.specs.Shapes.{names_only}
 use Rattle.sc_emit.proofs.Calls.{Answers, HasPlace, call_own_follows, call_cross_follows}
 use Rattle.sc_emit.proofs.Choices.{fork_follows}
 use Rattle.sc_emit.proofs.Environment.{input_follows, output_follows}
 use Rattle.sc_emit.proofs.Operands.{ArePlaced}
 use Rattle.sc_emit.proofs.Operations.{op_follows, load_follows, store_follows}
 use Rattle.sc_emit.proofs.Passing.{Test, PassesAll, AllPass, PassesHere, first_passes, rest_pass, passes_here}
-use Rattle.sc_emit.proofs.Passing.{choice_passes}
-use Rattle.sc_emit.proofs.Passing.{loop_passes}
+use Rattle.sc_emit.proofs.Passing.{choice_passes, loop_passes}
 use Rattle.sc_emit.proofs.Plain.{const_follows, copy_follows, object_follows, global_follows}
 use Rattle.sc_emit.proofs.Returns.{return_follows}
-use Rattle.sc_core.proofs.Induction.{Each, everywhere}
 
 beq_same : (a b : Bool) → beq a b ≡ true → a ≡ b
 beq_same true true h = refl

@@ -1,23 +1,10 @@
 -- Statements without others inside, as straight code.
-use Rattle.std.proofs.Common.{◌≡◌, ℕ, ◌+◌, ◌*◌, ◌≤◌, List, length, None}
-use Rattle.std.proofs.Common.{Result, Ok, Err, refl, sym, ap, subst, arith, inl, All}
-use Rattle.std.proofs.lemmas.List.{length-map}
-use Rattle.rv_code.specs.declared.instr.Instr.{Instr}
-use Rattle.sc_core.specs.declared.cause.Cause.{Cause}
-use Rattle.sc_core.specs.declared.value.Value.{Value}
-use Rattle.sc_core.specs.Words.{State as Meant, Here, Piece, Reached, Left, Next, and_then, computed}
-use Rattle.sc_laws.specs.Growth.{Goes}
-use Rattle.sc_laws.proofs.Growing.{same}
-use Rattle.sc_hart.specs.Code.{CodeAt}
-use Rattle.sc_tac.specs.Code.{Temps, Codes, known, read}
-use Rattle.sc_tac.specs.Places.{IsClear}
-use Rattle.sc_tac.specs.Points.{Lives, Trail}
-use Rattle.sc_select.specs.Lines.{Line, plain, plainly}
-use Rattle.sc_select.specs.Selection.{straight, straightly}
-use Rattle.sc_select.specs.Linking.{completed, low_after}
-use Rattle.sc_relation.specs.Stretches.{Setting, Joint}
-use Rattle.sc_relation.specs.Following.{Running, Ends, ends_of, live_at, Ready, Arrives, Comes, Follows}
-use Rattle.sc_relation.proofs.Lines.{low_plainly, plainly_at}
+use Rattle.sc_emit.proofs.Common.{All, Arrives, Cause, CodeAt, Codes, Comes, Ends, Err, Follows, Goes, Here, Instr}
+use Rattle.sc_emit.proofs.Common.{IsClear, Joint, Left, Line, List, Lives, Next, None, Ok, Piece, Reached, Ready}
+use Rattle.sc_emit.proofs.Common.{Result, Running, Setting, State as Meant, Temps, Trail, Value, and_then, ap, arith}
+use Rattle.sc_emit.proofs.Common.{completed, computed, ends_of, inl, known, length, length-map, live_at, low_after}
+use Rattle.sc_emit.proofs.Common.{low_plainly, plain, plainly, plainly_at, read, refl, same, straight, straightly}
+use Rattle.sc_emit.proofs.Common.{subst, sym, ℕ, ◌*◌, ◌+◌, ◌≡◌, ◌≤◌}
 
 -- what is computed only goes on
 pub computed_goes : {V W : Type 0} (here : Here) (result : Result V Cause) (go : V → Meant → Piece W) →

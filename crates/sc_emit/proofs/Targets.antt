@@ -1,29 +1,17 @@
 -- The relocations of a function's code name what its statements name.
-use Rattle.std.proofs.Common.{◌≡◌, ℕ, suc, Bool, true, List, [], ◌∷◌, ◌++◌, Option, None, Some, refl}
-use Rattle.std.proofs.Common.{sym, ◌∙◌, subst, map}
-use Rattle.std.specs.List.{list_all}
-use Rattle.std.specs.Prelude.{◌&&◌}
-use Rattle.std.proofs.lemmas.Bool.{and_from}
-use Rattle.rv_code.specs.declared.instr.Instr.{Instr}
-use Rattle.sc_base.proofs.Bools.{and_first, and_rest}
-use Rattle.sc_core.proofs.Induction.{Each, everywhere as each_of}
-use Rattle.sc_tac.specs.declared.frame.FrameTree.{FrameTree}
-use Rattle.sc_tac.specs.declared.function.TacFnTree.{TacFnTree}
+use Rattle.sc_emit.proofs.Common.{Bool, Each, FrameTree, Inside, Instr, Line, List, None, Option, Place, Some}
+use Rattle.sc_emit.proofs.Common.{TacFnTree, TacStmt, TacStmt-F, [], a0, all_true, and_first, and_from, and_rest}
+use Rattle.sc_emit.proofs.Common.{call_cross, call_own, code_of, environment_call, everywhere as each_of, fold-TacStmt}
+use Rattle.sc_emit.proofs.Common.{fold-roll-TacStmt, function_lines, in_order, is_named, keep, list_all, map}
+use Rattle.sc_emit.proofs.Common.{map-TacStmt, names_only, pass, place_of_global, plainly, receive, refers_only, refl}
+use Rattle.sc_emit.proofs.Common.{relocation_of, relocations_from, select, select_all, select_step, stmt_induction}
+use Rattle.sc_emit.proofs.Common.{straight, subst, suc, sym, true, with_parts, ℕ, ◌&&◌, ◌++◌, ◌∙◌, ◌∷◌, ◌≡◌}
+use Rattle.sc_tac.specs.Prelude.{everywhere}
+use Rattle.sc_select.specs.Prelude.{Piece}
 use Rattle.sc_tac.specs.declared.machine_code.Relocation.{Relocation}
 use Rattle.sc_tac.specs.declared.machine_code.Target.{Target}
-use Rattle.sc_tac.specs.declared.place.Place.{Place}
-use Rattle.sc_tac.specs.declared.stmt.TacStmt.{TacStmt, TacStmt-F, map-TacStmt, fold-TacStmt, fold-roll-TacStmt}
 unfoldable use Rattle.sc_tac.specs.declared.stmt.TacStmt.{roll-TacStmt}
 use Rattle.sc_tac.specs.declared.stmt.TacStmt.TheOpen as tac
-use Rattle.sc_tac.specs.Parts.{all_true, everywhere, with_parts}
-use Rattle.sc_tac.proofs.Induction.{Inside, stmt_induction}
-use Rattle.sc_select.specs.Lines.{Line, plainly, relocation_of, relocations_from}
-use Rattle.sc_select.specs.Pieces.{a0}
-use Rattle.sc_select.specs.Selection.{Piece, straight, in_order, keep, pass, receive, call_own, call_cross}
-use Rattle.sc_select.specs.Selection.{environment_call}
-use Rattle.sc_select.specs.Selection.{place_of_global, select_step, select, select_all, function_lines, code_of}
-use Rattle.sc_select.specs.Linking.{is_named, refers_only}
-use Rattle.sc_emit.specs.Shapes.{names_only}
 use Rattle.sc_emit.proofs.Branches.{all_append, PassesAll, IsMild, followed_passes, fork_passes, cycle_passes}
 use Rattle.sc_emit.proofs.Branches.{function_passes}
 

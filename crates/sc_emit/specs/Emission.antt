@@ -1,21 +1,14 @@
 -- What the code of a function keeps.
+use Rattle.sc_core.specs.Prelude.{Front, wrapping}
+use Rattle.sc_image.specs.Prelude.{IsWellFormed, IsWord}
+use Rattle.sc_hart.specs.Prelude.{CodeAt}
+use Rattle.sc_tac.specs.Prelude.{branches, code_function, entry_weight, everywhere, passes_words, weight}
+use Rattle.sc_select.specs.Prelude.{frame_taken, linked, refers_only}
+use Rattle.sc_relation.specs.Prelude.{FunctionFollows, Setting}
 use Rattle.std.specs.Prelude.{ℕ, ◌+◌, ◌*◌, ◌<◌, ◌≤◌, Bool, length, All, IsTrue}
-use Rattle.sc_core.specs.Growth.{Front}
-use Rattle.sc_core.specs.Value.{wrapping}
-use Rattle.sc_image.specs.WellFormed.{IsWord, IsWellFormed}
 use Rattle.sc_tac.specs.declared.frame.FrameTree.{FrameTree}
 use Rattle.sc_tac.specs.declared.function.TacFnTree.{TacFnTree}
 use Rattle.sc_tac.specs.declared.machine_code.CodeTree.{CodeTree}
-use Rattle.sc_tac.specs.Branches.{branches}
-use Rattle.sc_tac.specs.Code.{code_function}
-use Rattle.sc_tac.specs.Functions.{passes_words}
-use Rattle.sc_tac.specs.Parts.{everywhere}
-use Rattle.sc_tac.specs.Weights.{entry_weight, weight}
-use Rattle.sc_select.specs.Pieces.{frame_taken}
-use Rattle.sc_hart.specs.Code.{CodeAt}
-use Rattle.sc_relation.specs.Calls.{FunctionFollows}
-use Rattle.sc_select.specs.Linking.{linked, refers_only}
-use Rattle.sc_relation.specs.Stretches.{Setting}
 use Rattle.sc_emit.specs.Naming.{calls_only, AreReached}
 use Rattle.sc_emit.specs.Shapes.{code_branches, has_no_ebreak, names_only}
 

@@ -1,3 +1,4 @@
+pub mod Prelude
 pub mod Emission
 pub mod Naming
 pub mod Shapes

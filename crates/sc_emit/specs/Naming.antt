@@ -1,11 +1,10 @@
 -- What the code of a function counts on outside of it.
+use Rattle.sc_relation.specs.Prelude.{IsAddress, Setting}
 use Rattle.std.specs.Prelude.{◌≡◌, ℕ, ◌%◌, ◌^◌, ◌<◌, Bool, true, not, ◌&&◌, ◌||◌, length, Option, None, is_some}
 use Rattle.sc_core.specs.declared.expr.CallTarget.{CallTarget}
 use Rattle.sc_core.specs.declared.expr.CallTarget.TheVariants.{Own, Cross, Input, Output}
 use Rattle.sc_tac.specs.declared.stmt.TacStmt.{TacStmt-F}
 use Rattle.sc_tac.specs.declared.stmt.TacStmt.TheOpen as tac
-use Rattle.sc_relation.specs.Blocks.{IsAddress}
-use Rattle.sc_relation.specs.Stretches.{Setting}
 
 -- calls are made as these tests say, and a value is taken of one that gives one
 module _ (makes : CallTarget → (args : ℕ) → Bool) (gives : CallTarget → Bool) where

@@ -1,12 +1,10 @@
 //! Emission: the code of a function, which a machine follows wherever the linker puts it.
 #![tactic(auto)]
 
+ghost use Rattle.sc_emit.specs.Prelude.{IsEmitted};
+ghost use Rattle.sc_tac.specs.Prelude.{HasRoom, IsAssignment, intervals_of};
+ghost use Rattle.sc_select.specs.Prelude.{code_of};
 ghost use Rattle.std.specs.Prelude.{◌≡◌, ◌≤◌, ◌*◌, IfOk};
-ghost use Rattle.sc_tac.specs.Frames.{HasRoom};
-ghost use Rattle.sc_tac.specs.Intervals.{intervals_of};
-ghost use Rattle.sc_tac.specs.Places.{IsAssignment};
-ghost use Rattle.sc_select.specs.Selection.{code_of};
-ghost use Rattle.sc_emit.specs.Emission.{IsEmitted};
 
 use sc_base::OutOfMemory;
 use sc_tac::{Code, Frame, Places, TacFn};

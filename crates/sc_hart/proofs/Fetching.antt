@@ -1,16 +1,10 @@
 -- Code, found at its place.
-use Rattle.std.proofs.Common.{◌≡◌, ℕ, suc, ◌+◌, ◌*◌, List, [], ◌∷◌, ◌++◌, length, map, sym, ◌∙◌}
-use Rattle.std.proofs.Common.{subst, arith, append_assoc}
+use Rattle.sc_hart.proofs.Common.{CodeAt, CodeIsFetched, ImageParts, Instr, List, [], append_assoc, arith, code_start}
+use Rattle.sc_hart.proofs.Common.{image_in_memory, length, map, subst, suc, sym, ℕ, ◌*◌, ◌++◌, ◌+◌, ◌∙◌, ◌∷◌, ◌≡◌}
+use Rattle.rv_code.specs.Prelude.{IsInstr, word_of}
 use Rattle.std.proofs.lemmas.List.{length_push}
 use Rattle.std.proofs.lemmas.List.Elements.{All-head, All-tail}
-use Rattle.rv_code.specs.declared.instr.Instr.{Instr}
-use Rattle.rv_code.specs.Prelude.{word_of, IsInstr}
 use Rattle.rv_code.proofs.OneEach.{decoded-word_of}
-use Rattle.sc_image.specs.declared.parts.ImageParts.{ImageParts}
-use Rattle.sc_image.specs.Layout.{code_start}
-use Rattle.sc_image.proofs.Walking.{image_in_memory}
-use Rattle.sc_hart.specs.Code.{CodeAt}
-use Rattle.sc_hart.specs.Laws.{CodeIsFetched}
 
 -- what is at an address is at one that is equal
 pub moved_to : (image : ImageParts) (c pc to : ℕ) (instrs : List Instr) → pc ≡ to → CodeAt image c pc instrs →

@@ -1,14 +1,10 @@
 -- Code lies low, at multiples of 4.
-use Rattle.std.proofs.Common.{◌≡◌, ℕ, ◌-◌, ◌*◌, ◌/◌, ◌%◌, ◌^◌, ◌<◌, ◌≤◌, Bool, true, false, ◌&&◌, nat_eq, nat_le}
-use Rattle.std.proofs.Common.{Option, None, Some, if◌then◌else◌, refl, arith}
-use Rattle.std.specs.Prelude.{slice_get, []}
+use Rattle.sc_hart.proofs.Common.{Bool, ImageParts, IsWellFormed, None, Option, Some, [], and_parts, arith, code_of}
+use Rattle.sc_hart.proofs.Common.{code_start, eqb-true, false, if◌then◌else◌, leb-true, nat_eq, nat_le, refl, slice_get}
+use Rattle.sc_hart.proofs.Common.{true, word_at, ℕ, ◌%◌, ◌&&◌, ◌*◌, ◌-◌, ◌/◌, ◌<◌, ◌^◌, ◌≡◌, ◌≤◌}
 use Rattle.std.specs.Option.{option_map_or}
-use Rattle.std.proofs.lemmas.Bool.{and_parts, eqb-true, leb-true}
 use Rattle.std.proofs.lemmas.Option.{slice_get_within}
-use Rattle.sc_image.specs.declared.parts.ImageParts.{ImageParts}
 use Rattle.sc_image.specs.declared.parts.CompPart.{CompPart}
-use Rattle.sc_image.specs.Layout.{code_start, code_of, word_at}
-use Rattle.sc_image.specs.WellFormed.{IsWellFormed}
 
 pub record IsInside (a : ℕ) : Type 0 where
   pub aligned : a % 4 ≡ 0

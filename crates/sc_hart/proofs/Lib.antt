@@ -1,3 +1,4 @@
+pub mod Common
 pub mod Fetching
 pub mod Inside
 pub mod Registers

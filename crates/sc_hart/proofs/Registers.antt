@@ -1,10 +1,6 @@
 -- The registers' list and their function.
-use Rattle.std.proofs.Common.{◌≡◌, ◌≢◌, ℕ, zero, suc, ◌+◌, ◌<◌, ◌∷◌, refl, sym, ◌∙◌, ap, ap₂}
-use Rattle.std.proofs.Common.{arith}
-use Rattle.std.specs.Prelude.{slice_index, slice_set}
-use Rattle.std.proofs.lemmas.Bool.{eq-eqb, ne_eqb}
-use Rattle.sc_image.specs.State.{written}
-use Rattle.sc_hart.specs.Hart.{Registers, put, look, set, words_from, listed}
+use Rattle.sc_hart.proofs.Common.{Registers, ap, ap₂, arith, eq-eqb, listed, look, ne_eqb, put, refl, set, slice_index}
+use Rattle.sc_hart.proofs.Common.{slice_set, suc, sym, words_from, written, zero, ℕ, ◌+◌, ◌<◌, ◌∙◌, ◌∷◌, ◌≡◌, ◌≢◌}
 
 read_from : (count first : ℕ) (regs : Registers) (i : ℕ) → i < count →
     slice_index (words_from count first regs) i ≡ regs (first + i)

@@ -1,12 +1,6 @@
 -- A stretch leads from a steady state to a steady state.
-use Rattle.std.proofs.Common.{◌≡◌, ℕ, zero, suc, List, All, refl, subst}
-use Rattle.sc_image.specs.declared.parts.ImageParts.{ImageParts}
-use Rattle.sc_image.specs.Isolation.{after_outcome}
-use Rattle.sc_image.specs.State.{State}
-use Rattle.sc_image.specs.Steady.{IsSteady}
-use Rattle.sc_image.specs.Step.{Outcome, Goes, Traps, step}
-use Rattle.sc_image.specs.Walks.{Walks, then_on, walk}
-use Rattle.sc_image.specs.WellFormed.{IsWord, IsWellFormed}
+use Rattle.sc_hart.proofs.Common.{All, Goes, ImageParts, IsSteady, IsWellFormed, IsWord, List, Outcome, State, Traps}
+use Rattle.sc_hart.proofs.Common.{Walks, after_outcome, refl, step, subst, suc, then_on, walk, zero, ℕ, ◌≡◌}
 use Rattle.sc_image.proofs.Reached.{runs_are_steady}
 
 module _ (image : ImageParts) (inputs : List ℕ) (formed : IsWellFormed image) (words : All IsWord inputs) where

@@ -1,10 +1,10 @@
 -- One instruction, as a stretch of one step; and stretches in a row.
-use Rattle.std.proofs.Common.{◌≡◌, ℕ, suc, ◌+◌, ◌%◌, ◌<◌, ℤ, List, true, false, Some}
-use Rattle.std.proofs.Common.{refl, ◌∙◌, ap, ap₂, subst, arith}
-use Rattle.std.proofs.lemmas.Bool.{eq-eqb}
-use Rattle.sc_base.specs.declared.stop.TrapReason.TheVariants.{Owner, BadJump}
-use Rattle.sc_word.specs.Prelude.{word_of, add_word}
-use Rattle.rv_code.specs.declared.instr.Instr.{Instr}
+use Rattle.sc_hart.proofs.Common.{BadJump, Fetches, Goes, ImageParts, Instr, IsAt, List, Memory, Outcome, Owned, Owner}
+use Rattle.sc_hart.proofs.Common.{Registers, Some, State, Traps, Walks, World, ap, ap₂, arith, at, calls, compares}
+use Rattle.sc_hart.proofs.Common.{computed, data_start, eq-eqb, false, gives, jalr_target, jump, leaves, load_of, look}
+use Rattle.sc_hart.proofs.Common.{on_registers, put_word, refl, set, step, steps_by_instruction, store, stored, subst}
+use Rattle.sc_hart.proofs.Common.{suc, true, unless, word, word_at, ℕ, ℤ, ◌%◌, ◌+◌, ◌<◌, ◌∙◌, ◌≡◌}
+use Rattle.sc_word.specs.Prelude.{add_word, word_of}
 use Rattle.rv_code.specs.declared.instr.Instr.TheVariants.{Upper, Jal, Jalr, Branch, Load, Store, OpImm, Op}
 use Rattle.rv_code.specs.declared.instr.BranchOp.{BranchOp}
 use Rattle.rv_code.specs.declared.instr.UpperOp.TheVariants.{Lui}
@@ -12,18 +12,7 @@ use Rattle.rv_code.specs.declared.instr.LoadOp.TheVariants.{Lw}
 use Rattle.rv_code.specs.declared.instr.StoreOp.TheVariants.{Sw}
 use Rattle.rv_code.specs.declared.instr.OpImmOp.{OpImmOp}
 use Rattle.rv_code.specs.declared.instr.OpOp.{OpOp}
-use Rattle.sc_store.specs.Memory.{Memory, load_of, stored}
-use Rattle.sc_image.specs.declared.parts.ImageParts.{ImageParts}
-use Rattle.sc_image.specs.Layout.{data_start, word_at}
-use Rattle.sc_image.specs.State.{State}
-use Rattle.sc_image.specs.Step.{Outcome, Goes, Traps, step, gives, store, unless, computed, on_registers}
-use Rattle.sc_image.specs.Step.{jump, calls, leaves, jalr_target, compares}
-use Rattle.sc_image.specs.Walks.{Walks, IsAt}
-use Rattle.sc_image.proofs.Walking.{steps_by_instruction}
 use Rattle.sc_image.proofs.Stretches.{stretches_compose}
-use Rattle.sc_hart.specs.Code.{Fetches}
-use Rattle.sc_hart.specs.Hart.{Registers, look, set, World, at}
-use Rattle.sc_hart.specs.Words.{word, put_word, Owned}
 use Rattle.sc_hart.proofs.Registers.{read_listed, write_listed}
 use Rattle.sc_hart.proofs.Words.{owned_allowed, below_refused}
 

@@ -1,16 +1,9 @@
 -- Words in memory, and which of them are owned.
-use Rattle.std.proofs.Common.{◌≡◌, ℕ, ◌+◌, ◌%◌, ◌^◌, ◌<◌, true, false, nat_le, refl, ◌∙◌}
-use Rattle.std.proofs.Common.{arith, ⊎_elim, inl, inr, Some, None}
-use Rattle.std.proofs.lemmas.Bool.{eq-eqb, lt-leb, cases_lt}
-use Rattle.sc_base.specs.declared.stop.TrapReason.TheVariants.{Owner}
-use Rattle.sc_store.specs.Memory.{Memory}
+use Rattle.sc_hart.proofs.Common.{Apart, ImageParts, Memory, None, Owned, Owner, Some, WordsAreKept, are_data, arith}
+use Rattle.sc_hart.proofs.Common.{cases_lt, data_start, eq-eqb, false, image_in_memory, inl, inr, lt-leb, nat_le}
+use Rattle.sc_hart.proofs.Common.{put_word, refl, refused, stack_top, true, word, ℕ, ⊎_elim, ◌%◌, ◌+◌, ◌<◌, ◌^◌, ◌∙◌}
+use Rattle.sc_hart.proofs.Common.{◌≡◌}
 use Rattle.sc_store.proofs.Words.{load_of-stored, load_of-apart}
-use Rattle.sc_image.specs.declared.parts.ImageParts.{ImageParts}
-use Rattle.sc_image.specs.Layout.{data_start, stack_top, are_data}
-use Rattle.sc_image.specs.Step.{refused}
-use Rattle.sc_image.proofs.Walking.{image_in_memory}
-use Rattle.sc_hart.specs.Words.{word, put_word, Apart, Owned}
-use Rattle.sc_hart.specs.Laws.{WordsAreKept}
 
 pub word_same : (memory : Memory) (a value : ℕ) → value < 2 ^ 32 → word (put_word memory a value) a ≡ value
 unfolding word put_word

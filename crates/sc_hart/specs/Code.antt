@@ -1,9 +1,6 @@
 -- Instructions at an address of a compartment's code.
+use Rattle.sc_hart.specs.Common.{ImageParts, Instr, decoded, word_at}
 use Rattle.std.specs.Prelude.{◌≡◌, ℕ, ◌+◌, List, [], ◌∷◌, Some}
-use Rattle.rv_code.specs.declared.instr.Instr.{Instr}
-use Rattle.rv_code.specs.Prelude.{decoded}
-use Rattle.sc_image.specs.declared.parts.ImageParts.{ImageParts}
-use Rattle.sc_image.specs.Layout.{word_at}
 
 -- compartment c has this instruction at this address
 pub record Fetches (image : ImageParts) (c pc : ℕ) (instr : Instr) : Type 0 where

@@ -1,9 +1,8 @@
 -- A hart (RISC-V Unprivileged ISA, 1.1) with its registers as a function of their numbers: what proofs about code work
 -- with. The machine's state is computed from it.
+use Rattle.sc_hart.specs.Common.{Crossing, Memory, State}
 use Rattle.std.specs.Prelude.{ℕ, zero, suc, List, [], ◌∷◌, nat_eq, if◌then◌else◌}
 use Rattle.sc_event.specs.declared.event.Event.{Event}
-use Rattle.sc_store.specs.Memory.{Memory}
-use Rattle.sc_image.specs.State.{State, Crossing}
 
 abbrev pub Registers : Type 0
 Registers = ℕ → ℕ

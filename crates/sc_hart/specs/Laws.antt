@@ -1,10 +1,6 @@
 -- What holds of code and of words in memory.
+use Rattle.sc_hart.specs.Common.{ImageParts, Instr, IsInstr, Memory, code_of, code_start, word_of}
 use Rattle.std.specs.Prelude.{◌≡◌, ℕ, ◌+◌, ◌*◌, ◌^◌, ◌<◌, List, ◌++◌, length, map, All}
-use Rattle.rv_code.specs.declared.instr.Instr.{Instr}
-use Rattle.rv_code.specs.Prelude.{word_of, IsInstr}
-use Rattle.sc_store.specs.Memory.{Memory}
-use Rattle.sc_image.specs.declared.parts.ImageParts.{ImageParts}
-use Rattle.sc_image.specs.Layout.{code_start, code_of}
 use Rattle.sc_hart.specs.Code.{CodeAt}
 use Rattle.sc_hart.specs.Words.{word, put_word, Apart}
 

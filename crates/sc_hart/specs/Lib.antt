@@ -1,3 +1,5 @@
+pub mod Common
+pub mod Prelude
 pub mod Code
 pub mod Hart
 pub mod Laws

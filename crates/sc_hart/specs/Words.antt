@@ -1,8 +1,6 @@
 -- Words of four bytes. Two laws are all that proofs about code use of them, so these definitions stay shut.
+use Rattle.sc_hart.specs.Common.{ImageParts, Memory, data_start, globals_of, load_of, stack_top, stored}
 use Rattle.std.specs.Prelude.{◌≡◌, ℕ, ◌+◌, ◌%◌, ◌≤◌, ◌⊎◌, length}
-use Rattle.sc_store.specs.Memory.{Memory, load_of, stored}
-use Rattle.sc_image.specs.declared.parts.ImageParts.{ImageParts}
-use Rattle.sc_image.specs.Layout.{data_start, stack_top, globals_of}
 
 -- the word at an address
 unfoldable pub word : Memory → ℕ → ℕ

@@ -1,6 +1,6 @@
 // Laws of code and of words in memory, each the contract of a function with nothing to do.
 
-ghost use Rattle.sc_hart.specs.Laws.{CodeIsFetched, WordsAreKept};
+ghost use Rattle.sc_hart.specs.Prelude.{CodeIsFetched, WordsAreKept};
 
 /// Instructions that stand in a compartment's code are fetched at their addresses.
 pub fn code_is_fetched()

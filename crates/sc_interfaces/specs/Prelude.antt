@@ -3,13 +3,13 @@ pub use Rattle.sc_base.specs.Prelude.{first_by_name}
 pub use Rattle.sc_scope.specs.Prelude.{among, environment, function_names, head_in, heads_in, interfaces_of}
 pub use Rattle.sc_scope.specs.Prelude.{line_of_text, main_name, proto_names, refused_at, scalar_of, unless, with_lines}
 unfoldable pub use Rattle.sc_scope.specs.Prelude.{noted_all}
-pub use Rattle.sc_interfaces.specs.Faces.{agree, agrees_as, agrees_there, agrees_with, crosses, decls_from, export_fits}
-pub use Rattle.sc_interfaces.specs.Faces.{export_holds, exports_from, gives_int, head_crosses, head_fits, head_holds}
-pub use Rattle.sc_interfaces.specs.Faces.{import_fits, import_holds, imported_agrees, imports_from, input_name}
-pub use Rattle.sc_interfaces.specs.Faces.{int_type, interface_broken, is_input, is_int, is_main, is_offered, is_output}
-pub use Rattle.sc_interfaces.specs.Faces.{is_plain, main_holds, name_fits, name_holds, output_name, result_crosses}
-pub use Rattle.sc_interfaces.specs.Faces.{same_base, same_params, same_result, same_type, section_lines, takes_int}
-pub use Rattle.sc_interfaces.specs.Faces.{takes_nothing}
+pub use Rattle.sc_interfaces.specs.Faces.{agree, agrees_as, agrees_there, agrees_with, crosses, decl_lines, decls_from}
+pub use Rattle.sc_interfaces.specs.Faces.{environment_offers, export_fits, export_holds, exports_from, gives_int}
+pub use Rattle.sc_interfaces.specs.Faces.{head_crosses, head_fits, head_holds, import_fits, import_holds}
+pub use Rattle.sc_interfaces.specs.Faces.{imported_agrees, imports_from, input_name, int_type, interface_broken}
+pub use Rattle.sc_interfaces.specs.Faces.{is_input, is_int, is_main, is_offered, is_output, is_plain, lines_from}
+pub use Rattle.sc_interfaces.specs.Faces.{main_holds, name_fits, name_holds, output_name, result_crosses, same_base}
+pub use Rattle.sc_interfaces.specs.Faces.{same_params, same_result, same_type, section_lines, takes_int, takes_nothing}
 pub use Rattle.sc_interfaces.specs.Offering.{HasFewExports, HasFewParams, IsWithinCounts, Placed, all_placed, export_by}
 pub use Rattle.sc_interfaces.specs.Offering.{export_name, export_places, function_at, function_name, function_places}
 pub use Rattle.sc_interfaces.specs.Offering.{import_by, interface_by, interfaces_by, main_by, offered_by, option_placed}

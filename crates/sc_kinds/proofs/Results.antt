@@ -1,21 +1,21 @@
 -- What functions of a well-typed program return, and which calls they ask for.
 use Rattle.sc_kinds.proofs.Common.{Arith, BadType, Body, Bool, CallTarget, Callable, Function, Here, Interface}
-use Rattle.sc_kinds.proofs.Common.{Interfaces, Library, List, None, Null, Option, Piece, Ptr, Reached, Signature, Some}
-use Rattle.sc_kinds.proofs.Common.{State, Stopped, Ty, TypedFunction, TypedSection, Value, Word, [], allowed, and_first}
-use Rattle.sc_kinds.proofs.Common.{and_from, and_rest, and_then, ap, are_distinct, back_own, begun, body_does}
-use Rattle.sc_kinds.proofs.Common.{body_fits, bytes_eq, call_cross, call_own, callable_in, called, calls, closed, codes}
-use Rattle.sc_kinds.proofs.Common.{crossing, done, entry_in, eq-eqb, eqb-true, export_fits, false, false≢true, found}
-use Rattle.sc_kinds.proofs.Common.{function, function_at, function_fits, function_of, functions_in, global_fits}
-use Rattle.sc_kinds.proofs.Common.{has_kind, have_kinds, if◌then◌else◌, import_name, is_plain_name, is_pointer, is_some}
-use Rattle.sc_kinds.proofs.Common.{is_well_typed, is_word, leads, length, library_of, list_all, list_any, local_fits}
-use Rattle.sc_kinds.proofs.Common.{main_fits, main_name, mains_in, map, may_call, most_compartments, most_params}
-use Rattle.sc_kinds.proofs.Common.{nat_le, not, option_and_then, option_map, option_map_or, option_signature}
-use Rattle.sc_kinds.proofs.Common.{option_value, passed_fits, place_of_export, position, proto_signature, refl}
-use Rattle.sc_kinds.proofs.Common.{result_fits, result_ty, returns_kind, run_step, same_import, same_results}
-use Rattle.sc_kinds.proofs.Common.{same_signature, same_types, scalar_ty, scope_of, section_functions, sections_fit}
+use Rattle.sc_kinds.proofs.Common.{Interfaces, Library, List, None, Null, Option, Piece, Ptr, Reached, Roles, Signature}
+use Rattle.sc_kinds.proofs.Common.{Some, State, Stopped, Ty, TypedFunction, TypedSection, Value, Word, [], allowed}
+use Rattle.sc_kinds.proofs.Common.{and_first, and_from, and_rest, and_then, ap, are_distinct, back_own, begun}
+use Rattle.sc_kinds.proofs.Common.{bodies_of, body_does, body_fits, bytes_eq, call_cross, call_own, callable_in, called}
+use Rattle.sc_kinds.proofs.Common.{calls, closed, codes, crossing, done, entry_in, eq-eqb, eqb-true, export_fits, false}
+use Rattle.sc_kinds.proofs.Common.{false≢true, found, function, function_at, function_fits, function_of, functions_in}
+use Rattle.sc_kinds.proofs.Common.{global_fits, has_kind, have_kinds, if◌then◌else◌, import_name, is_plain_name}
+use Rattle.sc_kinds.proofs.Common.{is_pointer, is_some, is_well_typed, is_word, leads, length, library_of, list_all}
+use Rattle.sc_kinds.proofs.Common.{list_any, local_fits, main_fits, main_name, mains_in, map, may_call}
+use Rattle.sc_kinds.proofs.Common.{most_compartments, most_params, nat_le, not, option_and_then, option_map}
+use Rattle.sc_kinds.proofs.Common.{option_map_or, option_signature, option_value, passed_fits, performs}
+use Rattle.sc_kinds.proofs.Common.{place_of_export, position, proto_signature, refl, result_fits, result_ty}
+use Rattle.sc_kinds.proofs.Common.{returns_kind, rows_left, run_step, same_import, same_results, same_signature}
+use Rattle.sc_kinds.proofs.Common.{same_types, scalar_ty, scope_of, scripted_step, section_functions, sections_fit}
 use Rattle.sc_kinds.proofs.Common.{signature_of, slice_get, slice_index_or, structs_fit, subst, suc, sym}
-use Rattle.sc_kinds.proofs.Common.{target_signature, true, turn, word_back, zero, ℕ, ◌&&◌, ◌++◌, ◌==◌, ◌∙◌, ◌∷◌}
-use Rattle.sc_kinds.proofs.Common.{Roles, bodies_of, performs, rows_left, scripted_step, ◌≡◌}
+use Rattle.sc_kinds.proofs.Common.{target_signature, true, turn, word_back, zero, ℕ, ◌&&◌, ◌++◌, ◌==◌, ◌∙◌, ◌∷◌, ◌≡◌}
 use Rattle.sc_event.specs.Prelude.{comp_at, export_at, imports, is_function, is_input, is_output, takes}
 use Rattle.std.proofs.lemmas.Option.{slice_get-map}
 use Rattle.std.proofs.lemmas.List.{length-map}

@@ -1,14 +1,13 @@
 -- No compartment that performs is blamed, whatever the trace is, and only compartments that there are.
 use Rattle.sc_laws.proofs.Common.{Action, BadType, Blamed, Body, Bool, Call, CallTarget, Cause, Cross, Ended, EventsOut}
-use Rattle.sc_laws.proofs.Common.{Export, Here, Input, Kept, Library, List, Main, Memory, Obedient, Option, Output, Own}
-use Rattle.sc_laws.proofs.Common.{Piece, Property, Reached, Roles, Row, RunEnd, SourceRun, State, Stopped}
-use Rattle.sc_laws.proofs.Common.{TurnsOut, Value, Word, [], acts, asks, back_cross, back_own, begun, call_cross}
-use Rattle.sc_laws.proofs.Common.{call_own, called, calls, crossed, done, false, first_state, found_kept, function}
-use Rattle.sc_laws.proofs.Common.{if◌then◌else◌, is_number, length, map, may_call, performs, reaches, refl, roles_run}
-use Rattle.sc_laws.proofs.Common.{rows_left, run_by, run_in, run_step, run_to, scripted_step, stopped_at, subst, suc}
-use Rattle.sc_laws.proofs.Common.{take, tell, then_kept, true, turn, turn_of, within, word_in, zero, ℕ, ◌∷◌, ◌≡◌}
-use Rattle.sc_laws.proofs.Common.{Function, arith, slice_get, slice_index_or, ◌<◌}
-use Rattle.std.proofs.Common.{Some}
+use Rattle.sc_laws.proofs.Common.{Export, Function, Here, Input, Kept, Library, List, Main, Memory, Obedient, Option}
+use Rattle.sc_laws.proofs.Common.{Output, Own, Piece, Property, Reached, Roles, Row, RunEnd, Some, SourceRun, State}
+use Rattle.sc_laws.proofs.Common.{Stopped, TurnsOut, Value, Word, [], acts, arith, asks, back_cross, back_own, begun}
+use Rattle.sc_laws.proofs.Common.{call_cross, call_own, called, calls, crossed, done, false, first_state, found_kept}
+use Rattle.sc_laws.proofs.Common.{function, if◌then◌else◌, is_number, length, map, may_call, performs, reaches, refl}
+use Rattle.sc_laws.proofs.Common.{roles_run, rows_left, run_by, run_in, run_step, run_to, scripted_step, slice_get}
+use Rattle.sc_laws.proofs.Common.{slice_index_or, stopped_at, subst, suc, take, tell, then_kept, true, turn, turn_of}
+use Rattle.sc_laws.proofs.Common.{within, word_in, zero, ℕ, ◌<◌, ◌∷◌, ◌≡◌}
 use Rattle.sc_event.specs.declared.row.Action.TheVariants as act
 use Rattle.sc_laws.proofs.Growing.{BodyGoes, calls_go, within_goes}
 use Rattle.sc_laws.proofs.Matching.{scripted_goes_on}

@@ -6,14 +6,16 @@ pub use Rattle.std.proofs.Common.{length-append, lt-ltb, ltb-false, map, max, na
 pub use Rattle.std.proofs.Common.{refl, slice_get, slice_index_or, subst, suc, sym, take, take_all, true, zero, ℕ, ℤ}
 pub use Rattle.std.proofs.Common.{⊎_elim, ◌%◌, ◌&&◌, ◌*ℤ◌, ◌*◌, ◌++◌, ◌+ℤ◌, ◌+◌, ◌-ℤ◌, ◌-◌, ◌/◌, ◌<◌, ◌==◌, ◌^◌, ◌||◌}
 pub use Rattle.std.proofs.Common.{◌∙◌, ◌∷◌, ◌≡◌, ◌≤◌, ◌⊎◌}
-pub use Rattle.std.proofs.lemmas.Bool.{and_from, and_parts, both_ways, cases_eq, lt-leb}
+pub use Rattle.std.proofs.lemmas.Bool.{and_from, and_parts, both_ways, cases_eq, false≢true, lt-leb}
 pub use Rattle.std.proofs.lemmas.List.{length-map, take-append-le}
-pub use Rattle.std.specs.List.{list_all, position_or_len}
+pub use Rattle.std.proofs.lemmas.Option.{same_Some, slice_get-map}
+pub use Rattle.std.specs.List.{list_all, list_any, position_or_len}
 pub use Rattle.std.specs.Option.{option_map, option_map_or}
 pub use Rattle.sc_base.specs.declared.op.BinaryOp.{BinaryOp}
 pub use Rattle.sc_event.specs.Prelude.{Standing, action_of, at_start, awaits, count_of, export_at, fits_result, imports}
-pub use Rattle.sc_event.specs.Prelude.{is_allowed, is_function, is_input, is_legal_from, is_output, legal, may_perform}
-pub use Rattle.sc_event.specs.Prelude.{may_return, part, performer, rows_from, stands_after, stands_behind, takes}
+pub use Rattle.sc_event.specs.Prelude.{is_allowed, is_end, is_function, is_input, is_legal_from, is_output, legal}
+pub use Rattle.sc_event.specs.Prelude.{may_perform, may_return, part, performer, rows_from, stands_after, stands_behind}
+pub use Rattle.sc_event.specs.Prelude.{takes}
 pub use Rattle.sc_event.specs.declared.event.Event.TheVariants.{Call, End, In, Out, Ret}
 pub use Rattle.sc_event.specs.declared.interface.Interfaces.{Interfaces}
 pub use Rattle.sc_event.specs.declared.interface.Proto.{Proto}
@@ -60,19 +62,20 @@ pub use Rattle.sc_core.specs.declared.value.Value.TheVariants.{Null, Ptr, Word}
 pub use Rattle.sc_core.specs.declared.value.Want.{Want}
 pub use Rattle.sc_laws.specs.Common.{Blamed, CallTarget, Cause, Ended, Entry, Event, EventsOut, ProgramTree, RunEnd}
 pub use Rattle.sc_laws.specs.Common.{SourceRun, TurnsOut, Value}
-pub use Rattle.sc_laws.specs.Prelude.{AgreeingRunAlike, AgreesInRoom, AgreesUntilBlame, Alike, AreFresh, AreTold, Asks}
-pub use Rattle.sc_laws.specs.Prelude.{BehavioursAgree, BlameIsPassed, BlameRemains, Blames, BodiesAgree, CallsAgree}
-pub use Rattle.sc_laws.specs.Prelude.{ChainExists, ChainIsLeast, ChainRises, ChainsRise, DeepestIsReached, Doing}
-pub use Rattle.sc_laws.specs.Prelude.{EmptySetIsMeaning, ExtendedByMore, Extends, FixedPoint, FunctionsAgree}
-pub use Rattle.sc_laws.specs.Prelude.{FunctionsMatch, Gives, GoFrom, Goes, Gone, Grown, Halts, HasChain, HasFixedPoint}
-pub use Rattle.sc_laws.specs.Prelude.{HoldsOfSets, Includes, Interaction, IsArithmetic, IsBlamedOutside, IsChain}
-pub use Rattle.sc_laws.specs.Prelude.{IsFinal, IsFixed, IsRising, IsSpent, IsSteady, IsWithin, KeepsBlames, KeepsRooms}
-pub use Rattle.sc_laws.specs.Prelude.{Lasts, LeastIsChain, LeavesRooms, LibrariesAgree, LibrariesMatch, Link, Match}
-pub use Rattle.sc_laws.specs.Prelude.{MeaningGoesOn, Meets, MoreGoesOn, MoreMayPerform, Never}
-pub use Rattle.sc_laws.specs.Prelude.{NobodyWhoPerformsIsBlamed, Obedient, OnlyGoesOn, OtherLinesAgree, PassesBlame}
-pub use Rattle.sc_laws.specs.Prelude.{PassesBlames, PiecesAgree, Plays, ProgramsObey, Reads, RoomsAreKept, RunsAgree}
-pub use Rattle.sc_laws.specs.Prelude.{RunsUntilBlame, Set, Spends, SpendsTurns, StopsSo, StopsSpent, Stores}
-pub use Rattle.sc_laws.specs.Prelude.{TellsWithMore, TracesAreLegal, TurnsOutMeansTurns, WrappedAgrees, WrappingAgrees}
-pub use Rattle.sc_laws.specs.Prelude.{blamed, blamed_run, last, library_run, longer, main_call, nobody, now, performed}
-pub use Rattle.sc_laws.specs.Prelude.{performed_by, piece_without_line, played, roles_run, same, same_run, turnless}
-pub use Rattle.sc_laws.specs.Prelude.{with, without_line}
+pub use Rattle.sc_laws.specs.Prelude.{AgreeingRunAlike, AgreesInRoom, AgreesUntilBlame, Alike, AllBefore, AllFrom}
+pub use Rattle.sc_laws.specs.Prelude.{AreFresh, AreTold, Asks, BehavioursAgree, BlameIsPassed, BlameRemains}
+pub use Rattle.sc_laws.specs.Prelude.{BlamedAreThere, Blames, BodiesAgree, CallsAgree, ChainExists, ChainIsLeast}
+pub use Rattle.sc_laws.specs.Prelude.{ChainRises, ChainsRise, DeepestIsReached, Doing, EmptySetIsMeaning, ExportsLead}
+pub use Rattle.sc_laws.specs.Prelude.{ExtendedByMore, Extends, FixedPoint, FunctionsAgree, FunctionsMatch, Gives}
+pub use Rattle.sc_laws.specs.Prelude.{GoFrom, Goes, Gone, Grown, Halts, HasChain, HasFixedPoint, HoldsOfSets, Includes}
+pub use Rattle.sc_laws.specs.Prelude.{Interaction, IsArithmetic, IsBlamedOutside, IsChain, IsFinal, IsFixed, IsRising}
+pub use Rattle.sc_laws.specs.Prelude.{IsSpent, IsSteady, IsWithin, KeepsBlames, KeepsRooms, Lasts, LeastIsChain}
+pub use Rattle.sc_laws.specs.Prelude.{LeavesRooms, LibrariesAgree, LibrariesMatch, Link, Match, MeaningGoesOn, Meets}
+pub use Rattle.sc_laws.specs.Prelude.{MoreGoesOn, MoreMayPerform, Never, NobodyWhoPerformsIsBlamed, Obedient}
+pub use Rattle.sc_laws.specs.Prelude.{OnlyGoesOn, OtherLinesAgree, PassesBlame, PassesBlames, PiecesAgree, Plays}
+pub use Rattle.sc_laws.specs.Prelude.{ProgramsObey, Reads, RoomsAreKept, RunsAgree, RunsUntilBlame, Set, Spends}
+pub use Rattle.sc_laws.specs.Prelude.{SpendsAlong, SpendsTurns, StopsSo, StopsSpent, Stores, TellsNoEnd, TellsWithMore}
+pub use Rattle.sc_laws.specs.Prelude.{TracesAreLegal, TurnsOutMeansTurns, WrappedAgrees, WrappingAgrees, blamed}
+pub use Rattle.sc_laws.specs.Prelude.{blamed_run, has_no_end, last, library_run, longer, main_call, nobody, now}
+pub use Rattle.sc_laws.specs.Prelude.{open_room, performed, performed_by, piece_without_line, played, roles_run}
+pub use Rattle.sc_laws.specs.Prelude.{room_after, same, same_run, scripted_call, turnless, with, without_line}

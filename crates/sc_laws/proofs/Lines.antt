@@ -13,12 +13,11 @@ use Rattle.sc_laws.proofs.Common.{globals_of, if◌then◌else◌, in_loop, in_o
 use Rattle.sc_laws.proofs.Common.{kind_nodes, kind_step, layer_of, leave, length, length-map, library_of, local_nodes}
 use Rattle.sc_laws.proofs.Common.{loop, main_name, map, map-TypedStmtKind, nat_lt, nodes, not, on_line, option_map}
 use Rattle.sc_laws.proofs.Common.{part_does, part_nodes, place_named, place_of_export, position_or_len, refl}
-use Rattle.sc_laws.proofs.Common.{roll-TypedStmtKind, rounds, run_by, run_of, run_step, simple_does, slice_get, stmt_at}
-use Rattle.sc_laws.proofs.Common.{stmt_does, stmt_induction, stmt_nodes, stmt_step, store, store_at, store_result}
-use Rattle.sc_laws.proofs.Common.{stored, subst, suc, sym, test, total, true, turn, values, variable_at, variables}
-use Rattle.sc_laws.proofs.Common.{ways, zero, ℕ, ◌&&◌, ◌++◌, ◌+◌, ◌==◌, ◌∙◌, ◌∷◌, ◌≡◌}
+use Rattle.sc_laws.proofs.Common.{roll-TypedStmtKind, rounds, run_by, run_of, run_step, simple_does, slice_get}
+use Rattle.sc_laws.proofs.Common.{slice_get-map, stmt_at, stmt_does, stmt_induction, stmt_nodes, stmt_step, store}
+use Rattle.sc_laws.proofs.Common.{store_at, store_result, stored, subst, suc, sym, test, total, true, turn, values}
+use Rattle.sc_laws.proofs.Common.{variable_at, variables, ways, zero, ℕ, ◌&&◌, ◌++◌, ◌+◌, ◌==◌, ◌∙◌, ◌∷◌, ◌≡◌}
 use Rattle.sc_core.specs.Prelude.{Out, take}
-use Rattle.std.proofs.lemmas.Option.{slice_get-map}
 use Rattle.sc_core.specs.declared.section.TypedParam.{TypedParam}
 use Rattle.sc_core.specs.declared.stmt.TypedSimpleKind.TheVariants as simple
 use Rattle.sc_core.specs.declared.stmt.TypedStmtKind.TheOpen as layer

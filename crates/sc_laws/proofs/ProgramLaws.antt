@@ -1,10 +1,11 @@
 -- The laws: of every library that obeys, and so of every program.
-use Rattle.sc_laws.proofs.Common.{BlameIsPassed, BlameRemains, ChainExists, ChainIsLeast, ChainsRise, EmptySetIsMeaning}
-use Rattle.sc_laws.proofs.Common.{Event, FixedPoint, HoldsOfSets, Library, List, MeaningGoesOn, Memory, MoreGoesOn}
-use Rattle.sc_laws.proofs.Common.{MoreMayPerform, NobodyWhoPerformsIsBlamed, Obedient, OnlyGoesOn, ProgramsObey}
-use Rattle.sc_laws.proofs.Common.{RoomsAreKept, Set, SourceRun, TracesAreLegal, TurnsOutMeansTurns, WrappedAgrees}
-use Rattle.sc_laws.proofs.Common.{WrappingAgrees, c_arith, globals_of, library_of, performed_by, refl, roles_in}
-use Rattle.sc_laws.proofs.Common.{run_step, scripted_step, wrapping, ℕ}
+use Rattle.sc_laws.proofs.Common.{BlameIsPassed, BlameRemains, BlamedAreThere, ChainExists, ChainIsLeast, ChainsRise}
+use Rattle.sc_laws.proofs.Common.{EmptySetIsMeaning, Event, FixedPoint, HoldsOfSets, Library, List, MeaningGoesOn}
+use Rattle.sc_laws.proofs.Common.{Memory, MoreGoesOn, MoreMayPerform, NobodyWhoPerformsIsBlamed, Obedient, OnlyGoesOn}
+use Rattle.sc_laws.proofs.Common.{ProgramsObey, RoomsAreKept, Set, SourceRun, TracesAreLegal, TurnsOutMeansTurns}
+use Rattle.sc_laws.proofs.Common.{WrappedAgrees, WrappingAgrees, c_arith, functions_in, globals_of, length-map}
+use Rattle.sc_laws.proofs.Common.{library_of, performed_by, refl, roles_in, run_step, scripted_step, subst, wrapping, ℕ}
+use Rattle.sc_laws.proofs.Common.{◌<◌}
 use Rattle.sc_laws.proofs.Growing.{within_goes}
 use Rattle.sc_laws.proofs.Matching.{run_goes_on, scripted_goes_on}
 use Rattle.sc_laws.proofs.Programs.{program_obeys}
@@ -12,8 +13,6 @@ use Rattle.sc_laws.proofs.Fixed.{has_fixed_point}
 use Rattle.sc_laws.proofs.More.{more_runs, more_scripted, runs_agree, scripts_agree, wrapping_matches}
 use Rattle.sc_laws.proofs.Legality.{runs_legal, scripts_legal}
 use Rattle.sc_laws.proofs.Blames.{blamed_is_there, nobody_is_blamed}
-use Rattle.sc_laws.specs.Laws.{BlamedAreThere}
-use Rattle.sc_laws.proofs.Common.{functions_in, length-map, subst, ◌<◌}
 use Rattle.sc_laws.proofs.FollowingRuns.{tells_with_more, keeps_blames, passes_blames, least_is_chain}
 use Rattle.sc_laws.proofs.Chaining.{chain_rises, has_chain}
 use Rattle.sc_laws.proofs.Rooms.{keeps_rooms}

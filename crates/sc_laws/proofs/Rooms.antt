@@ -1,26 +1,17 @@
 -- Frames: each change is of a moment within the trace, and a call that returns leaves the open room as it was.
-use Rattle.sc_laws.proofs.Common.{Action, AreTold, BadType, Blamed, Body, Bool, Call, CallTarget, Closed, Cross}
-use Rattle.sc_laws.proofs.Common.{DeepestIsReached, Event, Export, FrameChange, Function, Here, In, Input, KeepsRooms}
-use Rattle.sc_laws.proofs.Common.{Kept, LeavesRooms, Library, List, Main, Memory, Obedient, Opened, Option, Out, Output}
-use Rattle.sc_laws.proofs.Common.{Own, Piece, Property, Reached, Ret, Roles, Row, State, Step, Stopped, TurnsOut, Value}
-use Rattle.sc_laws.proofs.Common.{Word, [], acts, and_then, ap, arith, asks, back_cross, back_own, begun, call_cross}
-use Rattle.sc_laws.proofs.Common.{call_own, called, calls, crossed, crossing, deepest, done, export_at, false}
-use Rattle.sc_laws.proofs.Common.{first_state, first_word, found_kept, function, if◌then◌else◌, is_number, length}
-use Rattle.sc_laws.proofs.Common.{length-append, lt-ltb, map, max, may_call, nat_lt, next_input, performs, refl}
-use Rattle.sc_laws.proofs.Common.{rows_left, run_by, run_in, run_step, run_to, scripted_step, subst, suc, tell}
-use Rattle.sc_laws.proofs.Common.{then_kept, true, turn, turn_of, within, word_in, zero, ℕ, ◌&&◌, ◌++◌, ◌+◌, ◌-◌, ◌==◌}
-use Rattle.sc_laws.proofs.Common.{◌∙◌, ◌∷◌, ◌≡◌, ◌≤◌}
+use Rattle.sc_laws.proofs.Common.{Action, AllBefore, AreTold, BadType, Blamed, Body, Bool, Call, CallTarget, Closed}
+use Rattle.sc_laws.proofs.Common.{Cross, DeepestIsReached, End, Event, Export, FrameChange, Function, Here, In, Input}
+use Rattle.sc_laws.proofs.Common.{KeepsRooms, Kept, LeavesRooms, Library, List, Main, Memory, Obedient, Opened, Option}
+use Rattle.sc_laws.proofs.Common.{Out, Output, Own, Piece, Property, Reached, Ret, Roles, Row, State, Step, Stopped}
+use Rattle.sc_laws.proofs.Common.{TellsNoEnd, TurnsOut, Value, Word, [], acts, and_then, ap, arith, asks, back_cross}
+use Rattle.sc_laws.proofs.Common.{back_own, begun, call_cross, call_own, called, calls, crossed, crossing, deepest}
+use Rattle.sc_laws.proofs.Common.{done, exit_word, export_at, false, first_state, first_word, found_kept, function}
+use Rattle.sc_laws.proofs.Common.{has_no_end, if◌then◌else◌, is_end, is_number, last, length, length-append, list_any}
+use Rattle.sc_laws.proofs.Common.{lt-ltb, map, max, may_call, nat_lt, next_input, not, open_room, performs, read_input}
+use Rattle.sc_laws.proofs.Common.{refl, room_after, rows_left, run_by, run_in, run_step, run_to, scripted_step, subst}
+use Rattle.sc_laws.proofs.Common.{suc, sym, tell, then_kept, true, turn, turn_of, with_blocks, within, word_in, zero, ℕ}
+use Rattle.sc_laws.proofs.Common.{◌&&◌, ◌++◌, ◌+◌, ◌-◌, ◌==◌, ◌||◌, ◌∙◌, ◌∷◌, ◌≡◌, ◌≤◌}
 use Rattle.sc_event.specs.declared.row.Action.TheVariants as act
-use Rattle.std.proofs.Common.{not, sym, ◌||◌}
-use Rattle.std.specs.List.{list_any}
-use Rattle.sc_core.specs.Calls.{read_input}
-use Rattle.sc_core.specs.Memory.{with_blocks}
-use Rattle.sc_core.specs.Meaning.{exit_word}
-use Rattle.sc_event.specs.Prelude.{is_end}
-use Rattle.sc_event.specs.declared.event.Event.TheVariants.{End}
-use Rattle.sc_laws.specs.Growth.{last}
-use Rattle.sc_laws.specs.Laws.{TellsNoEnd}
-use Rattle.sc_laws.specs.Rooms.{room_after, open_room, AllBefore, has_no_end}
 use Rattle.sc_laws.proofs.Growing.{BodyGoes, StepGoes, calls_go, within_goes}
 use Rattle.sc_laws.proofs.Matching.{run_goes_on, scripted_goes_on}
 use Rattle.sc_laws.proofs.Keeping.{IsKept, function_keeps}

@@ -1,12 +1,11 @@
 -- Whole runs: steps of two libraries, and what they come to when they are stopped at a number of events.
-use Rattle.sc_laws.proofs.Common.{Blamed, Bool, Cause, End, Ended, Event, EventsOut, Front, Gone, IsStop}
-use Rattle.sc_laws.proofs.Common.{LibrariesMatch, Library, List, Main, Memory, None, Option, Piece, Reached, Roles, Run}
-use Rattle.sc_laws.proofs.Common.{RunEnd, Some, SourceRun, State, Step, Stopped, StopsSo, TurnsOut, Value, [], and_then}
-use Rattle.sc_laws.proofs.Common.{ap, arith, call_own, exit_word, false, first_state, found, if◌then◌else◌, last}
-use Rattle.sc_laws.proofs.Common.{le-ltb, leb-false, length, length-append, lt-leb, ltb-false, reaches, refl, run_by}
-use Rattle.sc_laws.proofs.Common.{run_step, run_to, scripted_step, stopped_at, subst, suc, sym, take, take_all, true}
-use Rattle.sc_laws.proofs.Common.{FrameChange, within, zero, ℕ, ◌++◌, ◌+◌, ◌<◌, ◌∙◌, ◌∷◌, ◌≡◌, ◌≤◌, ◌⊎◌}
-use Rattle.sc_laws.specs.Rooms.{AllFrom}
+use Rattle.sc_laws.proofs.Common.{AllFrom, Blamed, Bool, Cause, End, Ended, Event, EventsOut, FrameChange, Front, Gone}
+use Rattle.sc_laws.proofs.Common.{IsStop, LibrariesMatch, Library, List, Main, Memory, None, Option, Piece, Reached}
+use Rattle.sc_laws.proofs.Common.{Roles, Run, RunEnd, Some, SourceRun, State, Step, Stopped, StopsSo, TurnsOut, Value}
+use Rattle.sc_laws.proofs.Common.{[], and_then, ap, arith, call_own, exit_word, false, first_state, found}
+use Rattle.sc_laws.proofs.Common.{if◌then◌else◌, last, le-ltb, leb-false, length, length-append, lt-leb, ltb-false}
+use Rattle.sc_laws.proofs.Common.{reaches, refl, run_by, run_step, run_to, scripted_step, stopped_at, subst, suc, sym}
+use Rattle.sc_laws.proofs.Common.{take, take_all, true, within, zero, ℕ, ◌++◌, ◌+◌, ◌<◌, ◌∙◌, ◌∷◌, ◌≡◌, ◌≤◌, ◌⊎◌}
 use Rattle.sc_laws.proofs.Growing.{front_more, StepGoes, then_goes, found_goes, own_goes, within_goes}
 use Rattle.sc_laws.proofs.Libraries.{Anywhere}
 use Rattle.sc_laws.proofs.Matching.{library_twins}

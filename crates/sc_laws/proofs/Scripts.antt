@@ -1,21 +1,19 @@
 -- A run in which a set performs its part of a legal trace: where it is out of turns while it keeps to the trace and
 -- hasn't told all of it, it has none left. For there the next row of the active compartment is its next event.
-use Rattle.sc_laws.proofs.Common.{Action, BadType, Blamed, Body, Bool, Call, CallTarget, Cross, Ended, Event, EventsOut}
-use Rattle.sc_laws.proofs.Common.{Export, Here, In, Input, Interfaces, Kept, Library, List, Main, Memory, None, Obedient}
-use Rattle.sc_laws.proofs.Common.{Option, Out, Output, Own, Piece, Property, Reached, Ret, End, Roles, Row, RunEnd, Set}
-use Rattle.sc_laws.proofs.Common.{Some, Standing, State, Stopped, TurnsOut, Value, Word, [], acts, action_of, and_from}
-use Rattle.sc_laws.proofs.Common.{and_parts, and_then, ap, arith, at_start, back_cross, back_own, begun}
-use Rattle.sc_laws.proofs.Common.{call_cross, call_own, called, calls, count_of, crossed, crossing, done, drop, eq-eqb}
-use Rattle.sc_laws.proofs.Common.{eqb-true, export_at, false, first_state, found, function, if◌then◌else◌, imports}
-use Rattle.sc_laws.proofs.Common.{is_allowed, is_function, is_legal_from, is_number, is_output, is_some}
-use Rattle.sc_laws.proofs.Common.{is_word, leads, legal, length, length-map, list_all, map, may_call, may_perform}
-use Rattle.sc_laws.proofs.Common.{next_input, part, performer, performs, refl, roles_in, rows_left, run_in, run_step}
-use Rattle.sc_laws.proofs.Common.{scripted_step, stands_after, stands_behind, subst, suc, sym, takes, tell, then_kept, true}
-use Rattle.sc_laws.proofs.Common.{turn_of, within, word_in, zero, ℕ, ◌++◌, ◌<◌, ◌==◌, ◌∙◌, ◌∷◌, ◌≡◌}
-use Rattle.std.proofs.lemmas.Bool.{false≢true}
-use Rattle.std.proofs.lemmas.Option.{same_Some}
+use Rattle.sc_laws.proofs.Common.{Action, BadType, Blamed, Body, Bool, Call, CallTarget, Cross, End, Ended, Event}
+use Rattle.sc_laws.proofs.Common.{EventsOut, Export, ExportsLead, Here, In, Input, Interfaces, Kept, Library, List}
+use Rattle.sc_laws.proofs.Common.{Main, Memory, None, Obedient, Option, Out, Output, Own, Piece, Property, Reached, Ret}
+use Rattle.sc_laws.proofs.Common.{Roles, Row, RunEnd, Set, Some, SpendsAlong, Standing, State, Stopped, TurnsOut, Value}
+use Rattle.sc_laws.proofs.Common.{Word, [], action_of, acts, and_from, and_parts, and_then, ap, arith, at_start}
+use Rattle.sc_laws.proofs.Common.{back_cross, back_own, begun, call_cross, call_own, called, calls, count_of, crossed}
+use Rattle.sc_laws.proofs.Common.{crossing, done, drop, eq-eqb, eqb-true, export_at, false, false≢true, first_state}
+use Rattle.sc_laws.proofs.Common.{found, function, if◌then◌else◌, imports, is_allowed, is_function, is_legal_from}
+use Rattle.sc_laws.proofs.Common.{is_number, is_output, is_some, is_word, leads, legal, length, length-map, list_all}
+use Rattle.sc_laws.proofs.Common.{map, may_call, may_perform, next_input, part, performer, performs, refl, roles_in}
+use Rattle.sc_laws.proofs.Common.{rows_left, run_in, run_step, same_Some, scripted_call, scripted_step, stands_after}
+use Rattle.sc_laws.proofs.Common.{stands_behind, subst, suc, sym, takes, tell, then_kept, true, turn_of, within}
+use Rattle.sc_laws.proofs.Common.{word_in, zero, ℕ, ◌++◌, ◌<◌, ◌==◌, ◌∙◌, ◌∷◌, ◌≡◌}
 use Rattle.sc_event.specs.declared.row.Action.TheVariants as act
-use Rattle.sc_laws.specs.Turns.{ExportsLead, SpendsAlong, scripted_call}
 use Rattle.sc_laws.proofs.Growing.{BodyGoes, calls_go, within_goes}
 use Rattle.sc_laws.proofs.Keeping.{IsKept, function_keeps}
 use Rattle.sc_laws.proofs.Matching.{scripted_goes_on}

@@ -1,4 +1,5 @@
 -- The names from below that several definitions of this crate cite, passed on from one place. Declares nothing.
+pub use Rattle.sc_event.specs.Prelude.{is_end, legal, takes}
 pub use Rattle.sc_event.specs.declared.event.Event.{Event}
 pub use Rattle.sc_event.specs.declared.row.Entry.{Entry}
 pub use Rattle.sc_core.specs.Prelude.{Arith, Blocks, Body, Calls, Closed, FrameChange, Front, Function, Here, IsStop}

@@ -1,10 +1,9 @@
 -- Laws of the meaning: of every library whose functions are trees of what they do, and so of every program.
 use Rattle.sc_laws.specs.Common.{Arith, Blamed, Cause, Event, FrameChange, Front, Here, Library, Memory, ProgramTree}
-use Rattle.sc_laws.specs.Common.{Reached, Roles, Run, SourceRun, State, Step, Value, c_arith, call_own, deepest}
+use Rattle.sc_laws.specs.Common.{Reached, Roles, Run, SourceRun, State, Step, Value, c_arith, call_own, deepest, legal}
 use Rattle.sc_laws.specs.Common.{library_of, meaning, meaning_by, roles_in, run_of, run_step, scripted_by}
 use Rattle.sc_laws.specs.Common.{scripted_meaning, scripted_run_of, scripted_step, scripted_wrapped, stopped_at, within}
 use Rattle.sc_laws.specs.Common.{wrapped, wrapping}
-use Rattle.sc_event.specs.Prelude.{legal}
 use Rattle.std.specs.Prelude.{◌≡◌, ◌⊎◌, ℕ, suc, ◌<◌, ◌≤◌, ◌++◌, true, false, List, length, Option}
 use Rattle.sc_laws.specs.Chains.{Set, IsWithin, nobody, Link, IsBlamedOutside, performed, IsChain, IsRising, AreFresh}
 use Rattle.sc_laws.specs.Chains.{Includes, PassesBlame}

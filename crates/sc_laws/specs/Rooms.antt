@@ -1,8 +1,6 @@
 -- How much room the open frames of a compartment take.
-use Rattle.sc_laws.specs.Common.{Closed, FrameChange, Opened, State}
+use Rattle.sc_laws.specs.Common.{Closed, Event, FrameChange, Opened, State, is_end}
 use Rattle.std.specs.List.{list_any}
-use Rattle.sc_event.specs.Prelude.{is_end}
-use Rattle.sc_event.specs.declared.event.Event.{Event}
 use Rattle.std.specs.Prelude.{Bool, not, ℕ, ◌+◌, ◌-◌, ◌<◌, ◌≤◌, ◌==◌, if◌then◌else◌, List, [], ◌∷◌}
 
 -- the room after these changes, where the compartment's frames take this room before them

@@ -1,9 +1,8 @@
 -- Runs that are out of turns, and the turns that they had left.
 use Rattle.sc_laws.specs.Common.{Arith, Event, Here, Library, Memory, Piece, ProgramTree, Roles, State, Stopped}
-use Rattle.sc_laws.specs.Common.{TurnsOut, Value, and_then, call_own, first_state, found, function, leads, library_of}
-use Rattle.sc_laws.specs.Common.{roles_in, run_step, scripted_step, within}
+use Rattle.sc_laws.specs.Common.{TurnsOut, Value, and_then, call_own, first_state, found, function, leads, legal}
+use Rattle.sc_laws.specs.Common.{library_of, roles_in, run_step, scripted_step, takes, within}
 use Rattle.std.specs.Prelude.{◌≡◌, ℕ, suc, ◌++◌, true, List, [], ◌∷◌, Option, is_some}
-use Rattle.sc_event.specs.Prelude.{legal, takes}
 use Rattle.sc_event.specs.declared.row.Entry.TheVariants.{Export, Main}
 use Rattle.sc_laws.specs.Chains.{Set}
 use Rattle.sc_laws.specs.Interactions.{Obedient}

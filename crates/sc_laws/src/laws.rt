@@ -1,10 +1,9 @@
 // Laws of the meaning, each the contract of a function with nothing to do.
 
-ghost use Rattle.sc_laws.specs.Prelude.{AgreeingRunAlike, BlameIsPassed, BlameRemains, ChainExists, ChainIsLeast};
-ghost use Rattle.sc_laws.specs.Prelude.{ChainsRise, DeepestIsReached, EmptySetIsMeaning, FixedPoint, MeaningGoesOn};
-ghost use Rattle.sc_laws.specs.Prelude.{BlamedAreThere};
-ghost use Rattle.sc_laws.specs.Prelude.{MoreGoesOn, MoreMayPerform, NobodyWhoPerformsIsBlamed, OnlyGoesOn};
-ghost use Rattle.sc_laws.specs.Prelude.{OtherLinesAgree, ProgramsObey, RoomsAreKept, TracesAreLegal};
+ghost use Rattle.sc_laws.specs.Prelude.{AgreeingRunAlike, BlameIsPassed, BlameRemains, BlamedAreThere, ChainExists};
+ghost use Rattle.sc_laws.specs.Prelude.{ChainIsLeast, ChainsRise, DeepestIsReached, EmptySetIsMeaning, FixedPoint};
+ghost use Rattle.sc_laws.specs.Prelude.{MeaningGoesOn, MoreGoesOn, MoreMayPerform, NobodyWhoPerformsIsBlamed};
+ghost use Rattle.sc_laws.specs.Prelude.{OnlyGoesOn, OtherLinesAgree, ProgramsObey, RoomsAreKept, TracesAreLegal};
 ghost use Rattle.sc_laws.specs.Prelude.{TurnsOutMeansTurns, WrappedAgrees, WrappingAgrees};
 
 /// What the functions of a program do is a tree: what is given or blamed, what the blocks of the compartment decide,

@@ -9,8 +9,8 @@ pub use Rattle.sc_lex.specs.Integers.{is_hexadecimal, is_unsigned, number, value
 unfoldable pub use Rattle.sc_lex.specs.Integers.{integer_of, is_integer, is_number}
 pub use Rattle.sc_lex.specs.Kinds.{directive_kind, is_directive, is_export, is_import, is_pragma, mark_kind, may_follow}
 unfoldable pub use Rattle.sc_lex.specs.Kinds.{kind_of, line_kind, word_kind}
-pub use Rattle.sc_lex.specs.Lines.{begins_line, is_blank, is_inside_line, is_white_space, line_after, line_at, line_len}
-pub use Rattle.sc_lex.specs.Lines.{newlines}
+pub use Rattle.sc_lex.specs.Lines.{begins_line, first_line, is_blank, is_inside_line, is_white_space, line_after}
+pub use Rattle.sc_lex.specs.Lines.{line_at, line_len, newlines}
 pub use Rattle.sc_lex.specs.Pieces.{IsPiece, NoPiece, NoToken, placed}
 pub use Rattle.sc_lex.specs.Spans.{AreSpans, IsSpan}
 pub use Rattle.sc_lex.specs.Splitting.{AreSections, IsBadHeading, IsSection, IsSplit, NoHeading, RefusesHeading, none}

@@ -1,32 +1,16 @@
 -- Code that is linked by a layout's addresses is linked by those of its section.
-use Rattle.std.proofs.Common.{◌≡◌, ℕ, suc, pos, ◌-ℤ◌, ◌+◌, ◌*◌, ◌<◌, Bool}
-use Rattle.std.proofs.Common.{ltb-true, All, IfSome, List, [], ◌∷◌, ◌++◌, map, length, take, Option}
-use Rattle.std.proofs.Common.{None, Some, refl, sym, subst, ap, ap₂, arith, bytes_eq, position, slice_index, ◌∙◌}
-use Rattle.std.proofs.lemmas.List.{length-map, map-append, take-map}
-use Rattle.std.proofs.lemmas.List.Elements.{All-head, All-tail}
+use Rattle.sc_linker.proofs.Common.{Addresses, All, All-head, All-tail, AreKnown, Bool, CanBeLinked, CodeTree, Entry}
+use Rattle.sc_linker.proofs.Common.{Function, Global, IfSome, Instr, IsKnown, Jal, List, None, Option, Proto}
+use Rattle.sc_linker.proofs.Common.{Relocation, SectionLayout, Some, Target, TypedFunction, TypedGlobal, TypedSection}
+use Rattle.sc_linker.proofs.Common.{Upper, [], addresses_of, ap, ap₂, arith, bytes_eq, cells_of, code_sizes}
+use Rattle.sc_linker.proofs.Common.{entry_address, entry_jumps, function_address, global_sizes, length, length-map}
+use Rattle.sc_linker.proofs.Common.{linked, linked_codes, linked_from, low_behind, ltb-true, map, map-append}
+use Rattle.sc_linker.proofs.Common.{place_named, pos, position, refl, relocations_behind, section_addresses}
+use Rattle.sc_linker.proofs.Common.{section_code, section_layout, slice_index, stack_top, starts, subst, suc, sym, take}
+use Rattle.sc_linker.proofs.Common.{take-map, target_at, total, upper_part, with_low, with_target, word_of, ℕ, ◌*◌}
+use Rattle.sc_linker.proofs.Common.{◌++◌, ◌+◌, ◌-ℤ◌, ◌<◌, ◌∙◌, ◌∷◌, ◌≡◌}
 use Rattle.std.proofs.lemmas.List.Quantifiers.{position-Some}
-use Rattle.rv_code.specs.Prelude.{word_of}
-use Rattle.rv_code.specs.declared.instr.Instr.{Instr}
 use Rattle.rv_code.specs.declared.instr.Instr.TheVariants as instr
-use Rattle.rv_code.specs.declared.instr.Instr.TheVariants.{Jal, Upper}
-use Rattle.sc_event.specs.declared.interface.Proto.{Proto}
-use Rattle.sc_core.specs.Prelude.{cells_of, place_named, total}
-use Rattle.sc_core.specs.declared.section.TypedFunction.{TypedFunction}
-use Rattle.sc_core.specs.declared.section.TypedGlobal.{TypedGlobal}
-use Rattle.sc_core.specs.declared.section.TypedSection.{TypedSection}
-use Rattle.sc_tac.specs.declared.machine_code.CodeTree.{CodeTree}
-use Rattle.sc_tac.specs.declared.machine_code.Relocation.{Relocation}
-use Rattle.sc_tac.specs.declared.machine_code.Target.{Target}
-use Rattle.sc_tac.specs.declared.machine_code.Target.TheVariants.{Function, Entry, Global}
-use Rattle.sc_select.specs.Linking.{Addresses, linked, linked_from, low_behind, relocations_behind, target_at, with_low}
-use Rattle.sc_select.specs.Linking.{with_target}
-use Rattle.sc_select.specs.Pieces.{upper_part}
-use Rattle.sc_image.specs.Layout.{stack_top}
-use Rattle.sc_linker.specs.declared.layout.SectionLayout.{SectionLayout}
-use Rattle.sc_linker.specs.Image.{entry_jumps, function_address, linked_codes}
-use Rattle.sc_linker.specs.Layout.{entry_address, section_addresses}
-use Rattle.sc_linker.specs.Sections.{AreKnown, CanBeLinked, IsKnown, addresses_of, code_sizes, global_sizes}
-use Rattle.sc_linker.specs.Sections.{section_code, section_layout, starts}
 use Rattle.sc_linker.proofs.Relocating.{known_at, known_behind}
 use Rattle.sc_linker.proofs.Beginnings.{starts_at, starts_length}
 

@@ -1,13 +1,8 @@
 -- Where functions and globals begin.
-use Rattle.std.proofs.Common.{◌≡◌, ℕ, zero, suc, ◌+◌, ◌*◌, ◌<◌, ◌≤◌, All, List, [], ◌∷◌, length, take}
-use Rattle.std.proofs.Common.{get_or, slice_index, refl, sym, subst, ap, arith}
-use Rattle.std.proofs.lemmas.List.{take_all}
-use Rattle.std.proofs.lemmas.List.Elements.{All-append, All-cons, All-head, All-nil, All-tail}
-use Rattle.sc_base.proofs.Lists.{take-step}
-use Rattle.sc_core.specs.Prelude.{total}
-use Rattle.sc_tac.specs.declared.machine_code.CodeTree.{CodeTree}
-use Rattle.sc_linker.specs.Layout.{instructions}
-use Rattle.sc_linker.specs.Sections.{HasRoom, IsCodeAddress, code_sizes, starts}
+use Rattle.sc_linker.proofs.Common.{All, All-append, All-cons, All-head, All-nil, All-tail, CodeTree, HasRoom}
+use Rattle.sc_linker.proofs.Common.{IsCodeAddress, List, [], ap, arith, code_sizes, get_or, instructions, length, refl}
+use Rattle.sc_linker.proofs.Common.{slice_index, starts, subst, suc, sym, take, take-step, take_all, total, zero, ℕ}
+use Rattle.sc_linker.proofs.Common.{◌*◌, ◌+◌, ◌<◌, ◌∷◌, ◌≡◌, ◌≤◌}
 
 -- one more passes
 pub all_more : {X : Type 0} (P : X → Type 0) (xs : List X) (i : ℕ) (x : X) → i < length xs → x ≡ get_or xs i x →

@@ -1,22 +1,13 @@
 -- The cells of globals: as many as their types take.
-use Rattle.std.proofs.Common.{◌≡◌, ℕ, zero, suc, ◌+◌, ◌*◌, ◌<◌, true, ◌==◌, nat_le}
-use Rattle.std.proofs.Common.{List, [], ◌∷◌, ◌++◌, length, slice_get, slice_index_or}
-use Rattle.std.proofs.Common.{refl, sym, ap, ◌∙◌, arith, eqb-true, ltb-true, ⊎_elim}
-use Rattle.std.proofs.lemmas.Bool.{cases_lt}
-use Rattle.std.proofs.lemmas.List.{get_or_append_left, length-append, get_or-append-add}
-use Rattle.sc_base.proofs.Bools.{and_first, and_rest}
-use Rattle.sc_core.specs.Prelude.{base_cells, base_within, cells_of, members_fit, starred_cells}
-use Rattle.sc_core.specs.Prelude.{starred_within, struct_cells, struct_fits, structs_fit, type_within}
-use Rattle.sc_core.specs.Prelude.{variable_fits}
-use Rattle.sc_core.specs.Meaning.{base_zeros, member_zeros, repeated, starred_zeros}
-use Rattle.sc_core.specs.Meaning.{struct_zeros, with_words, zeros_of}
-use Rattle.sc_core.specs.declared.section.TypedMember.{TypedMember}
-use Rattle.sc_core.specs.declared.section.TypedStruct.{TypedStruct}
-use Rattle.sc_core.specs.declared.ty.BaseTy.{BaseTy}
+use Rattle.sc_linker.proofs.Common.{BaseTy, Cell, List, Ty, TypedMember, TypedStruct, [], and_first, and_rest, ap}
+use Rattle.sc_linker.proofs.Common.{arith, base_cells, base_within, base_zeros, cases_lt, cells_of, eqb-true}
+use Rattle.sc_linker.proofs.Common.{get_or-append-add, get_or_append_left, length, length-append, ltb-true}
+use Rattle.sc_linker.proofs.Common.{member_zeros, members_fit, nat_le, refl, repeated, slice_get, slice_index_or}
+use Rattle.sc_linker.proofs.Common.{starred_cells, starred_within, starred_zeros, struct_cells, struct_fits}
+use Rattle.sc_linker.proofs.Common.{struct_zeros, structs_fit, suc, sym, true, type_within, variable_fits, with_words}
+use Rattle.sc_linker.proofs.Common.{zero, zeros_of, ℕ, ⊎_elim, ◌*◌, ◌++◌, ◌+◌, ◌<◌, ◌==◌, ◌∙◌, ◌∷◌, ◌≡◌}
 use Rattle.sc_core.specs.declared.ty.BaseTy.TheVariants as base
-use Rattle.sc_core.specs.declared.ty.Ty.{Ty}
 use Rattle.sc_core.specs.declared.ty.Ty.TheVariants as ty
-use Rattle.sc_core.specs.declared.value.Cell.{Cell}
 use Rattle.sc_core.specs.declared.value.Cell.TheVariants as cell
 
 -- the zeros of the first structs are as many as these take

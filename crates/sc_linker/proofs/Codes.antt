@@ -1,17 +1,9 @@
 -- Which codes a compartment has, and where each stands among its instructions.
-use Rattle.std.proofs.Common.{◌≡◌, ℕ, zero, suc, ◌+◌, ◌*◌, ◌≤◌, List, [], ◌∷◌, length, map, take, drop}
-use Rattle.std.proofs.Common.{slice_get, Option, None, Some, All, refl, sym, ap, ◌∙◌, arith}
-use Rattle.std.proofs.lemmas.List.{length-append, length-drop, length-take}
-use Rattle.std.proofs.lemmas.List.Elements.{All-drop, All-nil, All-take}
-use Rattle.rv_code.specs.declared.instr.Instr.{Instr}
-use Rattle.sc_event.specs.declared.interface.Proto.{Proto}
-use Rattle.sc_core.specs.Prelude.{total}
-use Rattle.sc_core.specs.declared.section.TypedSection.{TypedSection}
-use Rattle.sc_tac.specs.declared.machine_code.CodeTree.{CodeTree}
-use Rattle.sc_tac.specs.declared.machine_code.Relocation.{Relocation}
-use Rattle.sc_select.specs.Linking.{Addresses, linked, linked_from, low_behind, relocations_behind, target_at}
-use Rattle.sc_linker.specs.Image.{entry_jump, entry_jumps, linked_codes}
-use Rattle.sc_linker.specs.Layout.{codes_in, instructions}
+use Rattle.sc_linker.proofs.Common.{Addresses, All, All-drop, All-nil, All-take, CodeTree, Instr, List, None, Option}
+use Rattle.sc_linker.proofs.Common.{Proto, Relocation, Some, TypedSection, [], ap, arith, codes_in, drop, entry_jump}
+use Rattle.sc_linker.proofs.Common.{entry_jumps, instructions, length, length-append, length-drop, length-take, linked}
+use Rattle.sc_linker.proofs.Common.{linked_codes, linked_from, low_behind, map, refl, relocations_behind, slice_get}
+use Rattle.sc_linker.proofs.Common.{suc, sym, take, target_at, total, zero, ℕ, ◌*◌, ◌+◌, ◌∙◌, ◌∷◌, ◌≡◌, ◌≤◌}
 use Rattle.sc_linker.proofs.Places.{get_after, get_before}
 
 -- CODES OF A COMPARTMENT

@@ -1,27 +1,12 @@
 -- The compartments of an image, one after the other.
-use Rattle.std.proofs.Common.{◌≡◌, ℕ, suc, true, ◌+◌, ◌<◌, ◌≤◌, All, List, [], ◌∷◌, ◌++◌, map, length}
-use Rattle.std.proofs.Common.{take, drop, get_or, refl, sym, subst, ap, arith, inl, inr}
-use Rattle.std.proofs.Common.{◌∙◌, ◌⊎◌, add-one, append_assoc, leb-true, length-drop, take-append-drop}
-use Rattle.std.proofs.lemmas.Bool.{cases_lt, false≢true}
-use Rattle.std.proofs.lemmas.List.Elements.{All-append}
-use Rattle.sc_base.proofs.Bools.{and_first, and_rest}
-use Rattle.sc_base.proofs.Lists.{drop-step}
-use Rattle.sc_event.specs.declared.interface.Interface.{Interface}
-use Rattle.sc_event.specs.declared.interface.Interfaces.{Interfaces}
-use Rattle.sc_event.specs.declared.row.Entry.TheVariants.{Main}
-use Rattle.sc_core.specs.Prelude.{IsWellTyped, has_distinct_names, has_few_compartments, interface_fits, section_fits}
-use Rattle.sc_core.specs.Prelude.{entry_in, sections_fit, total}
-use Rattle.sc_core.specs.WellTyped.{has_fitting_sections}
-use Rattle.sc_core.specs.declared.program.ProgramTree.{ProgramTree}
-use Rattle.sc_core.specs.declared.section.TypedSection.{TypedSection}
-use Rattle.sc_image.specs.declared.parts.CompPart.{CompPart}
-use Rattle.sc_image.specs.WellFormed.{IsWellFormed}
-use Rattle.sc_tac.specs.declared.machine_code.CodeTree.{CodeTree}
-use Rattle.sc_linker.specs.Image.{comp_part, comp_parts, function_address}
-use Rattle.sc_linker.specs.Laws.{AreNamed, IsWhole}
-use Rattle.sc_linker.specs.Layout.{addresses_at, codes_at, codes_in}
-use Rattle.sc_linker.specs.Linkable.{IsLinkable}
-use Rattle.sc_linker.specs.Sections.{IsNamed}
+use Rattle.sc_linker.proofs.Common.{All, All-append, AreNamed, CodeTree, CompPart, Interface, Interfaces, IsLinkable}
+use Rattle.sc_linker.proofs.Common.{IsNamed, IsWellFormed, IsWellTyped, IsWhole, List, Main, ProgramTree, TypedSection}
+use Rattle.sc_linker.proofs.Common.{[], add-one, addresses_at, and_first, and_rest, ap, append_assoc, arith, cases_lt}
+use Rattle.sc_linker.proofs.Common.{codes_at, codes_in, comp_part, comp_parts, drop, drop-step, entry_in, false≢true}
+use Rattle.sc_linker.proofs.Common.{function_address, get_or, has_distinct_names, has_few_compartments}
+use Rattle.sc_linker.proofs.Common.{has_fitting_sections, inl, inr, interface_fits, leb-true, length, length-drop, map}
+use Rattle.sc_linker.proofs.Common.{refl, section_fits, sections_fit, subst, suc, sym, take, take-append-drop, total}
+use Rattle.sc_linker.proofs.Common.{true, ℕ, ◌++◌, ◌+◌, ◌<◌, ◌∙◌, ◌∷◌, ◌≡◌, ◌≤◌, ◌⊎◌}
 use Rattle.sc_linker.proofs.Formed.{linked_is_formed}
 use Rattle.sc_linker.proofs.Fitting.{functions_count}
 

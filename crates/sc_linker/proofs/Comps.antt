@@ -1,23 +1,12 @@
 -- Compartments of a linked image, by their numbers: what each consists of, and which interface and section it has.
-use Rattle.std.proofs.Common.{◌≡◌, ℕ, zero, suc, ◌+◌, ◌<◌, ◌⊎◌, true, ◌&&◌, ◌==◌, List, []}
-use Rattle.std.proofs.Common.{◌∷◌, length, map, slice_get, Option, None, Some, option_map, nat_le, refl, sym}
-use Rattle.std.proofs.Common.{subst, ap, ◌∙◌, arith, inl, inr, codes as text}
-use Rattle.std.proofs.Common.{leb-true, option_and_then}
-use Rattle.std.proofs.lemmas.Bool.{false≢true}
-use Rattle.std.proofs.lemmas.Option.{slice_get_within}
-use Rattle.sc_base.proofs.Bools.{and_first, and_rest}
-use Rattle.sc_event.specs.Prelude.{comp_at, export_at}
-use Rattle.sc_event.specs.declared.interface.Interface.{Interface}
-use Rattle.sc_event.specs.declared.interface.Interfaces.{Interfaces}
-use Rattle.sc_event.specs.declared.interface.Proto.{Proto}
-use Rattle.sc_core.specs.Prelude.{IsWellTyped, are_distinct, interface_fits, main_fits, mains_in}
-use Rattle.sc_core.specs.Prelude.{most_compartments, section_fits, sections_fit}
-use Rattle.sc_core.specs.declared.program.ProgramTree.{ProgramTree}
-use Rattle.sc_core.specs.declared.section.TypedSection.{TypedSection}
-use Rattle.sc_image.specs.declared.parts.CompPart.{CompPart}
-use Rattle.sc_tac.specs.declared.machine_code.CodeTree.{CodeTree}
-use Rattle.sc_linker.specs.Image.{comp_part, comp_parts, linked_image}
-use Rattle.sc_linker.specs.Layout.{exports_at, exports_in, section_at, section_or_none}
+use Rattle.sc_linker.proofs.Common.{CodeTree, CompPart, Interface, Interfaces, IsWellTyped, List, None, Option}
+use Rattle.sc_linker.proofs.Common.{ProgramTree, Proto, Some, TypedSection, [], and_first, and_rest, ap, are_distinct}
+use Rattle.sc_linker.proofs.Common.{arith, codes as text, comp_at, comp_part, comp_parts, export_at, exports_at}
+use Rattle.sc_linker.proofs.Common.{exports_in, false≢true, inl, inr, interface_fits, leb-true, length, linked_image}
+use Rattle.sc_linker.proofs.Common.{main_fits, mains_in, map, most_compartments, nat_le, option_and_then, option_map}
+use Rattle.sc_linker.proofs.Common.{refl, section_at, section_fits, section_or_none, sections_fit, slice_get}
+use Rattle.sc_linker.proofs.Common.{slice_get_within, subst, suc, sym, true, zero, ℕ, ◌&&◌, ◌+◌, ◌<◌, ◌==◌, ◌∙◌, ◌∷◌}
+use Rattle.sc_linker.proofs.Common.{◌≡◌, ◌⊎◌}
 
 -- PARTS
 -- a compartment of an image is the part of its interface

@@ -1,29 +1,15 @@
 -- In a linked image each export has an entry, which jumps to its function.
-use Rattle.std.proofs.Common.{◌≡◌, ℕ, zero, suc, ◌+◌, ◌^◌, ◌<◌, ◌==◌, ℤ, pos, ◌-ℤ◌, true}
-use Rattle.std.proofs.Common.{false, List, [], ◌∷◌, length, slice_get, position, cond, Option, None, Some, is_some}
-use Rattle.std.proofs.Common.{option_map, All, refl, sym, ap, ◌∙◌, arith, eq-eqb}
-use Rattle.std.proofs.lemmas.Bool.{ne_eqb}
-use Rattle.std.proofs.lemmas.Option.{slice_get_within}
-use Rattle.std.specs.Option.{option_map_or}
-use Rattle.rv_code.specs.declared.instr.Instr.TheVariants.{Jal}
-use Rattle.sc_base.proofs.Lists.{position-cons}
-use Rattle.sc_word.proofs.Words.{word_of-unsigned_sub}
+use Rattle.sc_linker.proofs.Common.{All, CodeTree, CompPart, EntriesStand, Export, ExportPart, IsLinkable, IsWellTyped}
+use Rattle.sc_linker.proofs.Common.{IsWhole, Jal, List, None, Option, ProgramTree, Proto, Some, StandsAt, []}
+use Rattle.sc_linker.proofs.Common.{addresses_at, ap, arith, codes_at, cond, entry_address, entry_in, entry_jump}
+use Rattle.sc_linker.proofs.Common.{eq-eqb, export_at, export_parts, exports_at, exports_of, false, found_passes}
+use Rattle.sc_linker.proofs.Common.{function_address, has_result, is_some, length, linked_image, ne_eqb, option_map}
+use Rattle.sc_linker.proofs.Common.{option_map_or, params_of, place_named, place_of_export, pos, position}
+use Rattle.sc_linker.proofs.Common.{position-cons, refl, section_at, slice_get, slice_get_within, suc, sym, true, zero}
+use Rattle.sc_linker.proofs.Common.{ℕ, ℤ, ◌+◌, ◌-ℤ◌, ◌<◌, ◌==◌, ◌^◌, ◌∙◌, ◌∷◌, ◌≡◌}
 use Rattle.sc_word.specs.Prelude.{add_word, word_of}
-use Rattle.sc_event.specs.Prelude.{export_at}
-use Rattle.sc_event.specs.declared.interface.Proto.{Proto}
-use Rattle.sc_event.specs.declared.row.Entry.TheVariants.{Export}
-use Rattle.sc_core.specs.Meaning.{entry_in, place_named, place_of_export}
-use Rattle.sc_core.specs.Prelude.{IsWellTyped}
-use Rattle.sc_core.specs.declared.program.ProgramTree.{ProgramTree}
-use Rattle.sc_image.specs.declared.parts.CompPart.{CompPart}
-use Rattle.sc_image.specs.declared.parts.ExportPart.{ExportPart}
-use Rattle.sc_image.specs.Calls.{export_at as image_export, exports_of, has_result, params_of}
-use Rattle.sc_tac.specs.declared.machine_code.CodeTree.{CodeTree}
-use Rattle.sc_kinds.proofs.Sections.{found_passes}
-use Rattle.sc_linker.specs.Image.{entry_jump, export_parts, function_address, linked_image}
-use Rattle.sc_linker.specs.Layout.{addresses_at, codes_at, entry_address, exports_at, section_at}
-use Rattle.sc_linker.specs.Laws.{EntriesStand, IsWhole, StandsAt}
-use Rattle.sc_linker.specs.Linkable.{IsLinkable}
+use Rattle.sc_image.specs.Prelude.{export_at as image_export}
+use Rattle.sc_word.proofs.Words.{word_of-unsigned_sub}
 use Rattle.sc_linker.proofs.Comps.{Fits, export_there, exports_are, number_below, of_export, part_is, section_is}
 use Rattle.sc_linker.proofs.Exports.{export_part, few_exports, part_first}
 use Rattle.sc_linker.proofs.Instrs.{IsWithin}

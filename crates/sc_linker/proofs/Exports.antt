@@ -1,28 +1,14 @@
 -- Exports of a compartment: each is of a function of its section, takes few words, and has its place in the image.
-use Rattle.std.proofs.Common.{◌≡◌, ℕ, zero, suc, ◌+◌, ◌<◌, ◌≤◌, Bool, true, not, ◌&&◌, List, [], ◌∷◌}
-use Rattle.std.proofs.Common.{◌++◌, length, map, slice_get, Option, None, Some, is_some, option_map, bytes_eq, nat_le}
-use Rattle.std.proofs.Common.{refl, sym, ap, ◌∙◌, arith, leb-true}
-use Rattle.std.proofs.lemmas.Bool.{false≢true}
-use Rattle.std.proofs.lemmas.List.{length-map}
-use Rattle.std.proofs.lemmas.Option.{slice_get_within}
-use Rattle.std.specs.List.{list_all}
-use Rattle.sc_base.proofs.Bools.{and_first, and_rest}
-use Rattle.sc_event.specs.declared.interface.Interface.{Interface}
-use Rattle.sc_event.specs.declared.interface.Interfaces.{Interfaces}
-use Rattle.sc_event.specs.declared.interface.Proto.{Proto}
-use Rattle.sc_core.specs.Meaning.{main_name, place_named}
-use Rattle.sc_core.specs.Prelude.{are_distinct, callable_in, export_fits, function_fits, global_fits, import_fits}
-use Rattle.sc_core.specs.Prelude.{import_name, interface_fits, is_plain_name, most_exports, most_params}
-use Rattle.sc_core.specs.Prelude.{proto_signature, same_signature, same_ty, same_types, scalar_ty, section_fits}
-use Rattle.sc_core.specs.Prelude.{signature_of, structs_fit}
-use Rattle.sc_core.specs.declared.section.TypedFunction.{TypedFunction}
+use Rattle.sc_linker.proofs.Common.{Bool, ExportPart, Interface, Interfaces, List, None, Option, Proto, Some, Ty}
+use Rattle.sc_linker.proofs.Common.{TypedFunction, TypedSection, [], all_at, and_first, and_rest, any_along, ap}
+use Rattle.sc_linker.proofs.Common.{are_distinct, arith, bytes_eq, callable_in, entry_address, export_fits}
+use Rattle.sc_linker.proofs.Common.{export_parts, false≢true, first_of, found_passes, function_fits, global_fits}
+use Rattle.sc_linker.proofs.Common.{import_fits, import_name, interface_fits, is_plain_name, is_some, leb-true, length}
+use Rattle.sc_linker.proofs.Common.{length-map, list_all, main_name, map, most_exports, most_params, nat_le, not}
+use Rattle.sc_linker.proofs.Common.{option_map, place_named, proto_signature, refl, same_signature, same_ty, same_types}
+use Rattle.sc_linker.proofs.Common.{scalar_ty, section_fits, signature_of, slice_get, slice_get_within, structs_fit}
+use Rattle.sc_linker.proofs.Common.{suc, sym, true, zero, ℕ, ◌&&◌, ◌++◌, ◌+◌, ◌<◌, ◌∙◌, ◌∷◌, ◌≡◌, ◌≤◌}
 use Rattle.sc_core.specs.declared.section.TypedParam.{TypedParam}
-use Rattle.sc_core.specs.declared.section.TypedSection.{TypedSection}
-use Rattle.sc_core.specs.declared.ty.Ty.{Ty}
-use Rattle.sc_image.specs.declared.parts.ExportPart.{ExportPart}
-use Rattle.sc_kinds.proofs.Sections.{all_at, any_along, first_of, found_passes}
-use Rattle.sc_linker.specs.Image.{export_parts}
-use Rattle.sc_linker.specs.Layout.{entry_address}
 
 abbrev pub name_of : Proto → List ℕ
 name_of proto = proto.name

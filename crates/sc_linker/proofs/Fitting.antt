@@ -1,38 +1,20 @@
 -- The section of each compartment of a well-typed program can be linked.
-use Rattle.std.proofs.Common.{◌≡◌, ℕ, zero, suc, ◌+◌, ◌*◌, ◌<◌, ◌≤◌, ◌&&◌, ◌||◌, Bool, true, false, bytes_eq, not}
-use Rattle.std.proofs.Common.{nat_le, nat_lt, leb-true, All, IsSome, List, [], ◌∷◌, map, length}
-use Rattle.std.proofs.Common.{drop, Option, None, Some, is_some, position, slice_get, get_or, cond}
-use Rattle.std.proofs.Common.{refl, sym, subst, ap, arith, length-take-le, length-drop, ◌∙◌}
-use Rattle.std.proofs.lemmas.Bool.{false≢true}
-use Rattle.std.proofs.lemmas.List.Elements.{All-weaker}
+use Rattle.sc_linker.proofs.Common.{All, All-weaker, AreKnown, Bool, CanBeLinked, CodeTree, Entry, Function, Global}
+use Rattle.sc_linker.proofs.Common.{Interface, Interfaces, IsLinkable, IsSome, IsWellTyped, List, None, Option}
+use Rattle.sc_linker.proofs.Common.{ProgramTree, Proto, RefersInside, Relocation, Some, Target, TypedFunction}
+use Rattle.sc_linker.proofs.Common.{TypedSection, [], and_first, and_rest, ap, are_distinct, arith, bytes_eq}
+use Rattle.sc_linker.proofs.Common.{callable_names, codes_at, codes_in, comp_at, cond, drop, export_at, export_fits}
+use Rattle.sc_linker.proofs.Common.{export_names, exports_at, exports_in, false, false≢true, get_or, global_fits}
+use Rattle.sc_linker.proofs.Common.{has_distinct_names, has_few_compartments, has_fitting_sections, import_fits}
+use Rattle.sc_linker.proofs.Common.{instructions, interface_fits, is_known, is_named, is_plain_name, is_some, leb-true}
+use Rattle.sc_linker.proofs.Common.{length, length-drop, length-take-le, list_all, list_all_along, list_any, main_name}
+use Rattle.sc_linker.proofs.Common.{map, most_exports, nat_le, nat_lt, not, place_named, position, position-cons}
+use Rattle.sc_linker.proofs.Common.{proto_signature, refl, same_signature, section_at, section_fits, section_or_none}
+use Rattle.sc_linker.proofs.Common.{sections_fit, signature_of, slice_get, slice_get_within, stretch, structs_fit}
+use Rattle.sc_linker.proofs.Common.{subst, suc, sym, total, true, zero, ℕ, ◌&&◌, ◌*◌, ◌+◌, ◌<◌, ◌||◌, ◌∙◌, ◌∷◌, ◌≡◌}
+use Rattle.sc_linker.proofs.Common.{◌≤◌}
 use Rattle.std.proofs.lemmas.List.Sums.{AllPass-from_list_all}
-use Rattle.std.proofs.lemmas.Option.{slice_get_within}
-use Rattle.std.specs.List.{list_all, list_any}
 use Rattle.std.specs.Option.{option_map}
-use Rattle.sc_base.proofs.Bools.{and_first, and_rest}
-use Rattle.sc_base.proofs.Lists.{list_all_along, position-cons}
-use Rattle.sc_event.specs.Prelude.{comp_at, export_at}
-use Rattle.sc_event.specs.declared.interface.Interface.{Interface}
-use Rattle.sc_event.specs.declared.interface.Interfaces.{Interfaces}
-use Rattle.sc_event.specs.declared.interface.Proto.{Proto}
-use Rattle.sc_core.specs.Prelude.{IsWellTyped, export_fits, global_fits, has_distinct_names}
-use Rattle.sc_core.specs.Prelude.{has_few_compartments, import_fits, interface_fits, is_plain_name}
-use Rattle.sc_core.specs.Prelude.{main_name, most_exports, place_named, proto_signature, same_signature, section_fits}
-use Rattle.sc_core.specs.Prelude.{sections_fit, signature_of, structs_fit, total, are_distinct}
-use Rattle.sc_core.specs.WellTyped.{callable_names, export_names, has_fitting_sections}
-use Rattle.sc_core.specs.declared.program.ProgramTree.{ProgramTree}
-use Rattle.sc_core.specs.declared.section.TypedFunction.{TypedFunction}
-use Rattle.sc_core.specs.declared.section.TypedSection.{TypedSection}
-use Rattle.sc_tac.specs.declared.machine_code.CodeTree.{CodeTree}
-use Rattle.sc_tac.specs.declared.machine_code.Relocation.{Relocation}
-use Rattle.sc_tac.specs.declared.machine_code.Target.{Target}
-use Rattle.sc_tac.specs.declared.machine_code.Target.TheVariants.{Function, Entry, Global}
-use Rattle.sc_select.specs.Linking.{is_named}
-use Rattle.sc_image.specs.Layout.{stretch}
-use Rattle.sc_linker.specs.Layout.{codes_at, codes_in, exports_at, exports_in, instructions, section_at}
-use Rattle.sc_linker.specs.Layout.{section_or_none}
-use Rattle.sc_linker.specs.Linkable.{IsLinkable, RefersInside}
-use Rattle.sc_linker.specs.Sections.{AreKnown, CanBeLinked, is_known}
 
 -- the section of a compartment fits its interface
 pub record HasSection (sections : List TypedSection) (comp : ℕ) (interface : Interface) : Type 0 where

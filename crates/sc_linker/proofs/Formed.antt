@@ -1,46 +1,21 @@
 -- A linked image is well formed.
-use Rattle.std.proofs.Common.{◌≡◌, ◌≢◌, ℕ, zero, suc, ◌+◌, ◌<◌, ◌≤◌, ◌⊎◌, true, not, List, []}
-use Rattle.std.proofs.Common.{◌∷◌, length, map, flat_map, slice_get, Option, None, Some, is_some, option_map}
-use Rattle.std.proofs.Common.{bytes_eq, codes as text, IsTrue, All, refl, sym, subst, ap, ◌∙◌, arith, inl, inr}
-use Rattle.std.proofs.Common.{leb-true}
-use Rattle.std.proofs.lemmas.Bool.{false≢true}
-use Rattle.std.proofs.lemmas.List.{length-map}
-use Rattle.std.proofs.lemmas.List.Elements.{All-map, All-weaker}
-use Rattle.std.proofs.lemmas.Option.{slice_get-map, slice_get_within}
-use Rattle.std.specs.List.{list_any}
-use Rattle.byteorder.specs.Endian.{little_bytes}
-use Rattle.sc_base.proofs.Bools.{and_first, and_rest}
-use Rattle.sc_base.specs.Prelude.{is_name}
-use Rattle.rv_code.proofs.OneEach.{HasWord-own, word-below}
-use Rattle.rv_code.specs.declared.instr.Instr.{Instr}
-use Rattle.rv_code.specs.Prelude.{IsInstr, word_of}
-use Rattle.sc_event.specs.Prelude.{comp_at}
-use Rattle.sc_event.specs.declared.interface.Interface.{Interface}
-use Rattle.sc_event.specs.declared.interface.Proto.{Proto}
-use Rattle.sc_event.specs.declared.row.Entry.TheVariants.{Main}
-use Rattle.sc_core.specs.Meaning.{entry_in, main_name, place_named, struct_zeros}
-use Rattle.sc_core.specs.Prelude.{IsWellTyped, are_distinct, is_main, main_fits}
-use Rattle.sc_core.specs.Prelude.{most_compartments}
-use Rattle.sc_core.specs.declared.program.ProgramTree.{ProgramTree}
-use Rattle.sc_core.specs.declared.section.TypedFunction.{TypedFunction}
-use Rattle.sc_core.specs.declared.section.TypedSection.{TypedSection}
-use Rattle.sc_image.specs.declared.parts.CompPart.{CompPart}
-use Rattle.sc_image.specs.declared.parts.ExportPart.{ExportPart}
-use Rattle.sc_image.specs.declared.parts.ImageParts.{ImageParts}
-use Rattle.sc_image.specs.Layout.{most_globals}
-use Rattle.sc_image.specs.WellFormed.{IsComp, IsDistinct, IsEntry, IsExport, IsWellFormed, IsWord}
-use Rattle.sc_tac.specs.declared.machine_code.CodeTree.{CodeTree}
-use Rattle.sc_kinds.proofs.Sections.{any_along, first_of}
-use Rattle.sc_linker.specs.Image.{comp_code, comp_part, comp_parts, export_parts, function_address, global_words}
-use Rattle.sc_linker.specs.Image.{linked_image}
-use Rattle.sc_linker.specs.Layout.{addresses_at, cells, codes_at, entry_address, exports_at, instructions, section_at}
-use Rattle.sc_linker.specs.Layout.{section_or_none}
-use Rattle.sc_linker.specs.Laws.{AreNamed, IsWhole}
-use Rattle.sc_linker.specs.Linkable.{IsLinkable}
+use Rattle.sc_linker.proofs.Common.{All, All-map, All-weaker, AreNamed, CodeTree, CompPart, ExportPart, HasWord-own}
+use Rattle.sc_linker.proofs.Common.{ImageParts, Instr, Interface, IsComp, IsDistinct, IsEntry, IsExport, IsInstr}
+use Rattle.sc_linker.proofs.Common.{IsLinkable, IsTrue, IsWellFormed, IsWellTyped, IsWhole, IsWord, List, Main, None}
+use Rattle.sc_linker.proofs.Common.{Option, ProgramTree, Proto, Some, TypedFunction, TypedSection, [], addresses_at}
+use Rattle.sc_linker.proofs.Common.{and_first, and_rest, any_along, ap, are_distinct, arith, bytes_eq, cells}
+use Rattle.sc_linker.proofs.Common.{codes as text, codes_at, comp_at, comp_code, comp_part, comp_parts, entry_address}
+use Rattle.sc_linker.proofs.Common.{entry_in, export_parts, exports_at, false≢true, first_of, flat_map}
+use Rattle.sc_linker.proofs.Common.{function_address, global_words, inl, inr, instructions, is_main, is_name, is_some}
+use Rattle.sc_linker.proofs.Common.{leb-true, length, length-map, linked_image, list_any, little_bytes, main_fits}
+use Rattle.sc_linker.proofs.Common.{main_name, map, most_compartments, most_globals, not, option_map, place_named, refl}
+use Rattle.sc_linker.proofs.Common.{section_at, section_or_none, slice_get, slice_get-map, slice_get_within}
+use Rattle.sc_linker.proofs.Common.{struct_zeros, subst, suc, sym, true, word-below, word_of, zero, ℕ, ◌+◌, ◌<◌, ◌∙◌}
+use Rattle.sc_linker.proofs.Common.{◌∷◌, ◌≡◌, ◌≢◌, ◌≤◌, ◌⊎◌}
 use Rattle.sc_linker.proofs.Comps.{Fits, comps_length, exports_are, few_so, fits_or_none, main_so, names_so, of_section}
 use Rattle.sc_linker.proofs.Comps.{part_at, part_is, same_count, section_is}
-use Rattle.sc_linker.proofs.Exports.{callable_apart, few_exports, few_imports, few_params, globals_so}
-use Rattle.sc_linker.proofs.Exports.{imports_so, name_of, names_apart, part_of, parts_length, structs_so}
+use Rattle.sc_linker.proofs.Exports.{callable_apart, few_exports, few_imports, few_params, globals_so, imports_so}
+use Rattle.sc_linker.proofs.Exports.{name_of, names_apart, part_of, parts_length, structs_so}
 use Rattle.sc_linker.proofs.Imported.{each_once, few_parts, of_others}
 use Rattle.sc_linker.proofs.Linked.{CanLink, code_instrs, code_length, jump_there}
 use Rattle.sc_linker.proofs.Places.{all_from, all_here, distinct_at, pairs_from}

@@ -1,18 +1,9 @@
 -- In a linked image each function's code stands where the layout says.
-use Rattle.std.proofs.Common.{◌≡◌, ℕ, ◌+◌, ◌*◌, ◌≤◌, ◌⊎◌, List, length, take}
-use Rattle.std.proofs.Common.{slice_get, None, Some, All, sym, ap, ◌∙◌, arith, inl, inr}
-use Rattle.std.proofs.lemmas.Option.{slice_get_within}
-use Rattle.rv_code.specs.Prelude.{IsInstr}
-use Rattle.sc_event.specs.Prelude.{comp_at}
-use Rattle.sc_core.specs.Prelude.{IsWellTyped}
-use Rattle.sc_core.specs.declared.program.ProgramTree.{ProgramTree}
-use Rattle.sc_core.specs.declared.section.TypedFunction.{TypedFunction}
-use Rattle.sc_tac.specs.declared.machine_code.CodeTree.{CodeTree}
-use Rattle.sc_select.specs.Linking.{linked}
-use Rattle.sc_linker.specs.Image.{comp_code, function_address, linked_image}
-use Rattle.sc_linker.specs.Layout.{addresses_at, codes_at, exports_at, instructions, section_at, section_or_none}
-use Rattle.sc_linker.specs.Laws.{FunctionsStand, IsWhole, StandFrom}
-use Rattle.sc_linker.specs.Linkable.{IsLinkable}
+use Rattle.sc_linker.proofs.Common.{All, CodeTree, FunctionsStand, IsInstr, IsLinkable, IsWellTyped, IsWhole, List}
+use Rattle.sc_linker.proofs.Common.{None, ProgramTree, Some, StandFrom, TypedFunction, addresses_at, ap, arith}
+use Rattle.sc_linker.proofs.Common.{codes_at, comp_at, comp_code, exports_at, function_address, inl, inr, instructions}
+use Rattle.sc_linker.proofs.Common.{length, linked, linked_image, section_at, section_or_none, slice_get}
+use Rattle.sc_linker.proofs.Common.{slice_get_within, sym, take, ℕ, ◌*◌, ◌+◌, ◌∙◌, ◌≡◌, ◌≤◌, ◌⊎◌}
 use Rattle.sc_linker.proofs.Codes.{codes_none}
 use Rattle.sc_linker.proofs.Comps.{Fits, fits_or_none}
 use Rattle.sc_linker.proofs.Linked.{code_instrs, instr_there}

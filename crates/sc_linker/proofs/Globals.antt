@@ -1,30 +1,14 @@
 -- In a linked image each global lies at its place in its compartment's data, and holds its words at the start.
-use Rattle.std.proofs.Common.{◌≡◌, ◌≢◌, ℕ, ◌+◌, ◌*◌, ◌^◌, ◌<◌, ◌≤◌, ◌⊎◌, true, List, [], length}
-use Rattle.std.proofs.Common.{flat_map, take, slice_get, Option, None, Some, All, option_map, refl, sym, subst, ap}
-use Rattle.std.proofs.Common.{◌∙◌, arith, inl, inr}
-use Rattle.std.proofs.lemmas.Bool.{cases_lt}
-use Rattle.std.proofs.lemmas.Option.{slice_get-map}
-use Rattle.std.specs.List.{list_all}
-use Rattle.std.specs.Option.{option_map_or}
-use Rattle.byteorder.specs.Endian.{little_bytes}
-use Rattle.sc_event.specs.Prelude.{comp_at}
-use Rattle.sc_core.specs.Memory.{Block}
-use Rattle.sc_core.specs.Meaning.{first_blocks, global_block, globals_of, struct_zeros}
-use Rattle.sc_core.specs.Prelude.{IsWellTyped, cells_of, global_fits, structs_fit}
-use Rattle.sc_core.specs.declared.program.ProgramTree.{ProgramTree}
-use Rattle.sc_core.specs.declared.section.TypedGlobal.{TypedGlobal}
-use Rattle.sc_core.specs.declared.section.TypedSection.{TypedSection}
-use Rattle.sc_core.specs.declared.value.Cell.{Cell}
+use Rattle.sc_linker.proofs.Common.{All, AreGivenWords, Block, Cell, CodeTree, CompPart, GlobalsStand, IsLinkable}
+use Rattle.sc_linker.proofs.Common.{IsStart, IsWellTyped, List, None, Option, ProgramTree, Some, TypedGlobal}
+use Rattle.sc_linker.proofs.Common.{TypedSection, [], addresses_at, ap, arith, cases_lt, cell_word, cells, cells_of}
+use Rattle.sc_linker.proofs.Common.{comp_at, first_blocks, flat_map, global_block, global_fits, global_words}
+use Rattle.sc_linker.proofs.Common.{globals_of, inl, inr, length, linked_image, list_all, little_bytes, load_of}
+use Rattle.sc_linker.proofs.Common.{most_globals, option_map, option_map_or, refl, section_at, section_or_none}
+use Rattle.sc_linker.proofs.Common.{slice_get, slice_get-map, stack_top, start_memory, struct_zeros, structs_fit, subst}
+use Rattle.sc_linker.proofs.Common.{sym, take, true, ℕ, ◌*◌, ◌+◌, ◌<◌, ◌^◌, ◌∙◌, ◌≡◌, ◌≢◌, ◌≤◌, ◌⊎◌}
+use Rattle.sc_image.specs.Prelude.{globals_of as globals_in}
 use Rattle.sc_core.specs.declared.value.Cell.TheVariants as cell
-use Rattle.sc_store.specs.Memory.{load_of}
-use Rattle.sc_image.specs.declared.parts.CompPart.{CompPart}
-use Rattle.sc_image.specs.Layout.{globals_of as globals_in, most_globals, stack_top}
-use Rattle.sc_image.specs.State.{start_memory}
-use Rattle.sc_tac.specs.declared.machine_code.CodeTree.{CodeTree}
-use Rattle.sc_linker.specs.Image.{cell_word, global_words, linked_image}
-use Rattle.sc_linker.specs.Layout.{addresses_at, cells, section_at, section_or_none}
-use Rattle.sc_linker.specs.Laws.{AreGivenWords, GlobalsStand, IsStart}
-use Rattle.sc_linker.specs.Linkable.{IsLinkable}
 use Rattle.sc_linker.proofs.Comps.{Fits, fits_or_none, number_below, part_is, section_is}
 use Rattle.sc_linker.proofs.Exports.{globals_so, structs_so}
 use Rattle.sc_linker.proofs.Loaded.{word_loaded}

@@ -1,28 +1,14 @@
 -- Imports of a compartment as parts of its image: exports of others, each once, and what they let it call.
-use Rattle.std.proofs.Common.{◌≡◌, ◌≢◌, ℕ, ◌<◌, ◌≤◌, Bool, true, false, not, ◌&&◌, ◌||◌, ◌==◌, List, []}
-use Rattle.std.proofs.Common.{◌∷◌, ◌++◌, length, map, slice_get, Option, None, Some, is_some, bytes_eq}
-use Rattle.std.proofs.Common.{flat_map, All, IsSomeAnd, refl, sym, subst, ap, ◌∙◌, arith}
-use Rattle.std.proofs.lemmas.Bool.{false≢true, not-true}
-use Rattle.std.proofs.lemmas.List.Elements.{All-cons, All-nil}
+use Rattle.sc_linker.proofs.Common.{All, All-cons, All-nil, Bool, CodeTree, CompPart, Import, ImportPart, Interface}
+use Rattle.sc_linker.proofs.Common.{Interfaces, IsDistinct, IsImport, IsSomeAnd, List, None, Option, ProgramTree, Proto}
+use Rattle.sc_linker.proofs.Common.{Some, [], and_first, and_rest, ap, are_distinct, arith, bytes_eq, bytes_eq_self}
+use Rattle.sc_linker.proofs.Common.{comp_at, export_at, false, false≢true, flat_map, import_fits, import_name}
+use Rattle.sc_linker.proofs.Common.{import_part, is_some, length, linked_image, list_all, list_any, map, not, not-true}
+use Rattle.sc_linker.proofs.Common.{refl, slice_get, slice_get_within, subst, sym, true, ℕ, ◌&&◌, ◌++◌, ◌<◌, ◌==◌, ◌||◌}
+use Rattle.sc_linker.proofs.Common.{◌∙◌, ◌∷◌, ◌≡◌, ◌≢◌, ◌≤◌}
 use Rattle.std.proofs.lemmas.List.Kept.{AllPairs-cons}
-use Rattle.std.proofs.lemmas.Option.{slice_get_within}
-use Rattle.std.specs.List.{list_all, list_any}
 use Rattle.std.specs.Option.{option_and_then}
-use Rattle.sc_base.proofs.Bools.{and_first, and_rest}
-use Rattle.sc_base.proofs.Texts.{bytes_eq_self}
-use Rattle.sc_event.specs.Prelude.{comp_at, export_at}
-use Rattle.sc_event.specs.declared.interface.Import.{Import}
 use Rattle.sc_event.specs.declared.interface.Import.TheVariants as import
-use Rattle.sc_event.specs.declared.interface.Interface.{Interface}
-use Rattle.sc_event.specs.declared.interface.Interfaces.{Interfaces}
-use Rattle.sc_event.specs.declared.interface.Proto.{Proto}
-use Rattle.sc_core.specs.Prelude.{are_distinct, import_fits, import_name}
-use Rattle.sc_core.specs.declared.program.ProgramTree.{ProgramTree}
-use Rattle.sc_image.specs.declared.parts.CompPart.{CompPart}
-use Rattle.sc_image.specs.declared.parts.ImportPart.{ImportPart}
-use Rattle.sc_image.specs.WellFormed.{IsDistinct, IsImport}
-use Rattle.sc_tac.specs.declared.machine_code.CodeTree.{CodeTree}
-use Rattle.sc_linker.specs.Image.{import_part, linked_image}
 use Rattle.sc_linker.proofs.Comps.{part_there}
 use Rattle.sc_linker.proofs.Exports.{parts_length}
 

@@ -1,20 +1,13 @@
 -- What the linker completes are instructions that there are: jumps reach, and the parts of an address fit.
-use Rattle.std.proofs.Common.{◌≡◌, ℕ, suc, ◌+◌, ◌-◌, ◌*◌, ◌%◌, ◌^◌, ◌<◌, ◌≤◌, pos, negsuc, ◌-ℤ◌, Bool}
-use Rattle.std.proofs.Common.{true, false, ◌==◌, nat_lt, List, [], ◌∷◌, length, Option, None, Some}
-use Rattle.std.proofs.Common.{All, refl, subst, arith, rules, if◌then◌else◌, ltb-true, ltb-false, ⊎_elim}
-use Rattle.std.proofs.lemmas.Bool.{cases_lt}
+use Rattle.sc_linker.proofs.Common.{Addresses, All, All-cons, All-head, All-nil, All-tail, Bool, Entry, Function}
+use Rattle.sc_linker.proofs.Common.{Global, Instr, IsImmediate, IsInstr, IsJumpOffset, IsUpper, Jal, List, None, Option}
+use Rattle.sc_linker.proofs.Common.{Relocation, Some, Target, Upper, [], arith, cases_lt, false, if◌then◌else◌, length}
+use Rattle.sc_linker.proofs.Common.{linked_from, low_behind, lower_part, ltb-false, ltb-true, nat_lt, negsuc, pos, refl}
+use Rattle.sc_linker.proofs.Common.{relocations_behind, rules, subst, suc, target_at, true, upper_part, with_low}
+use Rattle.sc_linker.proofs.Common.{with_target, ℕ, ⊎_elim, ◌%◌, ◌*◌, ◌+◌, ◌-ℤ◌, ◌-◌, ◌<◌, ◌==◌, ◌^◌, ◌∷◌, ◌≡◌, ◌≤◌}
 use Rattle.std.proofs.lemmas.Int.{ints}
-use Rattle.std.proofs.lemmas.List.Elements.{All-cons, All-head, All-nil, All-tail}
-use Rattle.rv_code.specs.declared.instr.Instr.{Instr}
-use Rattle.rv_code.specs.declared.instr.Instr.TheVariants.{Upper, Jal, Jalr, Branch, Load, Store, OpImm, Shift, Op}
-use Rattle.rv_code.specs.declared.instr.Instr.TheVariants.{Fence, Ecall, Ebreak}
-use Rattle.rv_code.specs.Prelude.{IsImmediate, IsInstr, IsJumpOffset, IsUpper}
-use Rattle.sc_tac.specs.declared.machine_code.Relocation.{Relocation}
-use Rattle.sc_tac.specs.declared.machine_code.Target.{Target}
-use Rattle.sc_tac.specs.declared.machine_code.Target.TheVariants.{Function, Entry, Global}
-use Rattle.sc_select.specs.Linking.{Addresses, linked_from, low_behind, relocations_behind, target_at}
-use Rattle.sc_select.specs.Linking.{with_low, with_target}
-use Rattle.sc_select.specs.Pieces.{lower_part, upper_part}
+use Rattle.rv_code.specs.declared.instr.Instr.TheVariants.{Jalr, Branch, Load, Store, OpImm, Shift, Op, Fence, Ecall}
+use Rattle.rv_code.specs.declared.instr.Instr.TheVariants.{Ebreak}
 
 -- the parts of an address
 upper_fits : (word : ℕ) → IsUpper (upper_part word)

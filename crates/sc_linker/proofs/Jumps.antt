@@ -1,22 +1,11 @@
 -- The jumps at a compartment's entries.
-use Rattle.std.proofs.Common.{◌≡◌, ℕ, suc, pos, ◌-ℤ◌, ◌+◌, ◌<◌, cond, nat_eq, bytes_eq, All, IsSome, List, [], ◌∷◌}
-use Rattle.std.proofs.Common.{◌++◌, map, length, drop, get_or, position, Some, refl, sym, subst, ap, ◌∙◌}
-use Rattle.std.proofs.Common.{add-one, append_assoc}
+use Rattle.sc_linker.proofs.Common.{Addresses, All, Instr, IsSome, Jal, List, Proto, Some, TypedFunction, TypedSection}
+use Rattle.sc_linker.proofs.Common.{[], add-one, ap, append_assoc, bytes_eq, cond, drop, drop-step, entry_address}
+use Rattle.sc_linker.proofs.Common.{entry_jump, entry_jumps, function_address, get_or, length, map, nat_eq, number_of}
+use Rattle.sc_linker.proofs.Common.{place_named, pos, position, position-cons, refl, same_either_way, subst, suc, sym}
+use Rattle.sc_linker.proofs.Common.{word_of, ℕ, ◌++◌, ◌+◌, ◌-ℤ◌, ◌<◌, ◌∙◌, ◌∷◌, ◌≡◌}
 use Rattle.std.specs.Cmp.Lexicographic.{pointwise}
 use Rattle.std.specs.Option.{option_map}
-use Rattle.rv_code.specs.declared.instr.Instr.{Instr}
-use Rattle.rv_code.specs.declared.instr.Instr.TheVariants.{Jal}
-use Rattle.rv_code.specs.Prelude.{word_of}
-use Rattle.sc_base.proofs.Lists.{drop-step, position-cons}
-use Rattle.sc_base.proofs.Texts.{same_either_way}
-use Rattle.sc_base.specs.Numbering.{number_of}
-use Rattle.sc_event.specs.declared.interface.Proto.{Proto}
-use Rattle.sc_core.specs.Prelude.{place_named}
-use Rattle.sc_core.specs.declared.section.TypedFunction.{TypedFunction}
-use Rattle.sc_core.specs.declared.section.TypedSection.{TypedSection}
-use Rattle.sc_select.specs.Linking.{Addresses}
-use Rattle.sc_linker.specs.Image.{entry_jump, entry_jumps, function_address}
-use Rattle.sc_linker.specs.Layout.{entry_address}
 
 -- the number of a name is the place of the first function that is called so
 pub number_named : (name : List ℕ) (functions : List TypedFunction) →

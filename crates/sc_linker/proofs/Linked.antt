@@ -1,24 +1,11 @@
 -- The code of a compartment that can be linked, by its exports, its section and its codes: how long it is, what stands
 -- where in it, and that it consists of instructions that there are.
-use Rattle.std.proofs.Common.{◌≡◌, ℕ, suc, ◌+◌, ◌*◌, ◌%◌, ◌<◌, ◌≤◌, ◌^◌, List, []}
-use Rattle.std.proofs.Common.{◌∷◌, ◌++◌, length, take, slice_get, None, Some, All, refl, sym, subst}
-use Rattle.std.proofs.Common.{◌∙◌, arith, lit<}
-use Rattle.std.proofs.lemmas.List.{length-append}
-use Rattle.std.proofs.lemmas.List.Elements.{All-append, All-cons, All-nil}
-use Rattle.std.proofs.lemmas.Option.{slice_get_within}
-use Rattle.rv_code.specs.declared.instr.Instr.{Instr}
-use Rattle.rv_code.specs.Prelude.{IsInstr}
-use Rattle.sc_event.specs.declared.interface.Proto.{Proto}
-use Rattle.sc_core.specs.Meaning.{place_named}
-use Rattle.sc_core.specs.declared.section.TypedSection.{TypedSection}
-use Rattle.sc_image.specs.Layout.{code_start, stretch}
-use Rattle.sc_tac.specs.declared.machine_code.CodeTree.{CodeTree}
-use Rattle.sc_tac.specs.declared.machine_code.Relocation.{Relocation}
-use Rattle.sc_tac.specs.declared.machine_code.Target.TheVariants.{Function}
-use Rattle.sc_select.specs.Linking.{Addresses, linked}
-use Rattle.sc_linker.specs.Image.{entry_jump, entry_jumps, function_address, linked_codes}
-use Rattle.sc_linker.specs.Layout.{entry_address, instructions, section_addresses}
-use Rattle.sc_linker.specs.Laws.{IsWhole}
+use Rattle.sc_linker.proofs.Common.{Addresses, All, All-append, All-cons, All-nil, CodeTree, Function, Instr, IsInstr}
+use Rattle.sc_linker.proofs.Common.{IsWhole, List, None, Proto, Relocation, Some, TypedSection, [], arith, code_start}
+use Rattle.sc_linker.proofs.Common.{entry_address, entry_jump, entry_jumps, function_address, instructions, length}
+use Rattle.sc_linker.proofs.Common.{length-append, linked, linked_codes, lit<, place_named, refl, section_addresses}
+use Rattle.sc_linker.proofs.Common.{slice_get, slice_get_within, stretch, subst, suc, sym, take, ℕ, ◌%◌, ◌*◌, ◌++◌, ◌+◌}
+use Rattle.sc_linker.proofs.Common.{◌<◌, ◌^◌, ◌∙◌, ◌∷◌, ◌≡◌, ◌≤◌}
 use Rattle.sc_linker.proofs.Codes.{codes_length, instr_at, jump_at, jumps_length}
 use Rattle.sc_linker.proofs.Instrs.{AllReach, IsWithin, Reaches, from_instrs, jump_reaches}
 use Rattle.sc_linker.proofs.Places.{all_from, all_here, get_after, get_before, there, total_upto}

@@ -1,15 +1,9 @@
 -- Words that a compartment's globals begin with are loaded from the memory of the start.
-use Rattle.std.proofs.Common.{◌≡◌, ℕ, zero, suc, ◌+◌, ◌-◌, ◌*◌, ◌%◌, ◌^◌, ◌<◌, ◌≤◌, false, nat_lt}
-use Rattle.std.proofs.Common.{List, [], ◌∷◌, ◌++◌, length, flat_map, slice_get, Some, refl, ap, ◌∙◌, arith}
-use Rattle.std.proofs.Common.{le-ltb}
-use Rattle.std.proofs.lemmas.Option.{slice_get_within}
-use Rattle.byteorder.specs.Endian.{little_bytes}
-use Rattle.sc_store.specs.Memory.{Memory, byte_of, load_of}
+use Rattle.sc_linker.proofs.Common.{CompPart, ImageParts, List, Memory, Some, [], ap, arith, byte_of, comp_of_data}
+use Rattle.sc_linker.proofs.Common.{data_start, false, flat_map, le-ltb, length, little_bytes, load_of, most_globals}
+use Rattle.sc_linker.proofs.Common.{nat_lt, refl, slice_get, slice_get_within, stack_size, stack_top, start_memory}
+use Rattle.sc_linker.proofs.Common.{stretch, suc, zero, ℕ, ◌%◌, ◌*◌, ◌++◌, ◌+◌, ◌-◌, ◌<◌, ◌^◌, ◌∙◌, ◌∷◌, ◌≡◌, ◌≤◌}
 use Rattle.sc_image.proofs.AtStart.{start_is}
-use Rattle.sc_image.specs.declared.parts.CompPart.{CompPart}
-use Rattle.sc_image.specs.declared.parts.ImageParts.{ImageParts}
-use Rattle.sc_image.specs.Layout.{comp_of_data, data_start, most_globals, stack_size, stack_top, stretch}
-use Rattle.sc_image.specs.State.{start_memory}
 
 -- THE BYTES OF WORDS
 first_byte : (word : ℕ) (others : List ℕ) (j : ℕ) → j < 4 →

@@ -1,25 +1,12 @@
 -- Where `main` begins.
-use Rattle.std.proofs.Common.{◌≡◌, ℕ, zero, suc, ◌<◌, ◌≤◌, true, bytes_eq, List, [], ◌∷◌, length, Option, None}
-use Rattle.std.proofs.Common.{Some, position, slice_get, slice_index, refl, sym, subst, ap, ◌∙◌}
-use Rattle.std.proofs.lemmas.Bool.{false≢true}
-use Rattle.sc_base.proofs.Bools.{and_first, and_rest}
-use Rattle.sc_event.specs.Prelude.{comp_at}
-use Rattle.sc_event.specs.declared.interface.Interface.{Interface}
-use Rattle.sc_event.specs.declared.interface.Interfaces.{Interfaces}
-use Rattle.sc_event.specs.declared.interface.Proto.{Proto}
-use Rattle.sc_event.specs.declared.row.Entry.TheVariants.{Main}
-use Rattle.sc_core.specs.Prelude.{IsWellTyped, entry_in, has_distinct_names, has_few_compartments, has_main}
-use Rattle.sc_core.specs.Prelude.{interface_fits, main_fits, main_name, place_named, section_fits, sections_fit}
-use Rattle.sc_core.specs.WellTyped.{has_fitting_sections}
-use Rattle.sc_core.specs.declared.program.ProgramTree.{ProgramTree}
-use Rattle.sc_core.specs.declared.section.TypedFunction.{TypedFunction}
-use Rattle.sc_core.specs.declared.section.TypedSection.{TypedSection}
-use Rattle.sc_tac.specs.declared.machine_code.CodeTree.{CodeTree}
-use Rattle.sc_linker.specs.declared.layout.SectionLayout.{SectionLayout}
-use Rattle.sc_linker.specs.Image.{function_address}
-use Rattle.sc_linker.specs.Layout.{addresses_at, codes_at, exports_at, exports_in, section_addresses, section_at}
-use Rattle.sc_linker.specs.Linkable.{IsLinkable}
-use Rattle.sc_linker.specs.Sections.{CanBeLinked, section_layout}
+use Rattle.sc_linker.proofs.Common.{CanBeLinked, CodeTree, Interface, Interfaces, IsLinkable, IsWellTyped, List, Main}
+use Rattle.sc_linker.proofs.Common.{None, Option, ProgramTree, Proto, SectionLayout, Some, TypedFunction, TypedSection}
+use Rattle.sc_linker.proofs.Common.{[], addresses_at, and_first, and_rest, ap, bytes_eq, codes_at, comp_at, entry_in}
+use Rattle.sc_linker.proofs.Common.{exports_at, exports_in, false≢true, function_address, has_distinct_names}
+use Rattle.sc_linker.proofs.Common.{has_few_compartments, has_fitting_sections, has_main, interface_fits, length}
+use Rattle.sc_linker.proofs.Common.{main_fits, main_name, place_named, position, refl, section_addresses, section_at}
+use Rattle.sc_linker.proofs.Common.{section_fits, section_layout, sections_fit, slice_get, slice_index, subst, suc, sym}
+use Rattle.sc_linker.proofs.Common.{true, zero, ℕ, ◌<◌, ◌∙◌, ◌∷◌, ◌≡◌, ◌≤◌}
 use Rattle.sc_linker.proofs.Agreeing.{functions_length, layout_agrees, place_within}
 use Rattle.sc_linker.proofs.Fitting.{can_link, has, section_is}
 

@@ -1,19 +1,10 @@
 -- A linked image lets each compartment call what its interface imports.
-use Rattle.std.proofs.Common.{◌≡◌, ℕ, false, ◌&&◌, ◌||◌, ◌==◌, List, [], ◌∷◌, Option}
-use Rattle.std.proofs.Common.{None, Some, option_map, flat_map, refl, sym, ap, ◌∙◌}
-use Rattle.std.specs.List.{list_any}
-use Rattle.std.specs.Option.{option_map_or}
-use Rattle.sc_event.specs.Prelude.{comp_at, imports, is_function, is_input, is_output}
-use Rattle.sc_event.specs.declared.interface.Import.{Import}
+use Rattle.sc_linker.proofs.Common.{CodeTree, CompPart, Import, ImportPart, ImportsStand, Interface, List, None, Option}
+use Rattle.sc_linker.proofs.Common.{ProgramTree, Some, [], ap, comp_at, comp_part, false, flat_map, import_part}
+use Rattle.sc_linker.proofs.Common.{imports, is_function, is_input, is_output, linked_image, list_any, may_call}
+use Rattle.sc_linker.proofs.Common.{may_input, may_output, option_map, option_map_or, refl, sym, ℕ, ◌&&◌, ◌==◌, ◌||◌}
+use Rattle.sc_linker.proofs.Common.{◌∙◌, ◌∷◌, ◌≡◌}
 use Rattle.sc_event.specs.declared.interface.Import.TheVariants as import
-use Rattle.sc_event.specs.declared.interface.Interface.{Interface}
-use Rattle.sc_core.specs.declared.program.ProgramTree.{ProgramTree}
-use Rattle.sc_image.specs.declared.parts.CompPart.{CompPart}
-use Rattle.sc_image.specs.declared.parts.ImportPart.{ImportPart}
-use Rattle.sc_image.specs.Calls.{may_call, may_input, may_output}
-use Rattle.sc_tac.specs.declared.machine_code.CodeTree.{CodeTree}
-use Rattle.sc_linker.specs.Image.{comp_part, import_part, linked_image}
-use Rattle.sc_linker.specs.Laws.{ImportsStand}
 use Rattle.sc_linker.proofs.Comps.{part_at}
 
 any_function : (to index : ℕ) (imports : List Import) →

@@ -1,13 +1,9 @@
 -- Lists by places: what holds of each element, of each and the later ones, and where elements stand.
-use Rattle.std.proofs.Common.{◌≡◌, ◌≢◌, ℕ, zero, suc, ◌+◌, ◌<◌, ◌≤◌, Bool, true, not, ◌||◌, List, [], ◌∷◌}
-use Rattle.std.proofs.Common.{◌++◌, length, map, take, get_or, slice_get, Some, All, AllPairs, bytes_eq}
-use Rattle.std.proofs.Common.{refl, sym, subst, ap, ◌∙◌, arith}
-use Rattle.std.proofs.lemmas.Bool.{false≢true, or_right}
-use Rattle.std.proofs.lemmas.Option.{get_or_from_slice_get, slice_get-get_or, slice_get_within}
-use Rattle.std.specs.List.{list_any}
-use Rattle.sc_base.proofs.Bools.{and_first, and_rest}
-use Rattle.sc_base.proofs.Texts.{bytes_eq_self}
-use Rattle.sc_core.specs.Prelude.{are_distinct, total}
+use Rattle.sc_linker.proofs.Common.{All, AllPairs, Bool, List, Some, [], and_first, and_rest, ap, are_distinct, arith}
+use Rattle.sc_linker.proofs.Common.{bytes_eq, bytes_eq_self, false≢true, get_or, get_or_from_slice_get, length}
+use Rattle.sc_linker.proofs.Common.{list_any, map, not, or_right, refl, slice_get, slice_get-get_or, slice_get_within}
+use Rattle.sc_linker.proofs.Common.{subst, suc, sym, take, total, true, zero, ℕ, ◌++◌, ◌+◌, ◌<◌, ◌||◌, ◌∙◌, ◌∷◌, ◌≡◌}
+use Rattle.sc_linker.proofs.Common.{◌≢◌, ◌≤◌}
 
 module _ {A : Type 0} where
   pub all_from : (P : A → Type 0) (xs : List A) → ((i : ℕ) (x : A) → slice_get xs i ≡ Some x → P x) → All P xs

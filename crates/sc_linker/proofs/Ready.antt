@@ -1,28 +1,11 @@
 -- Each compartment of a program that is linkable can be linked, and what stands in its code stands in the image.
-use Rattle.std.proofs.Common.{◌≡◌, ℕ, ◌+◌, ◌-◌, ◌*◌, ◌/◌, ◌%◌, ◌<◌, true, nat_eq, nat_le, nat_lt}
-use Rattle.std.proofs.Common.{List, [], length, map, take, slice_get, Some, is_some, option_map}
-use Rattle.std.proofs.Common.{All, sym, subst, ap, ◌∙◌, arith, eq-eqb, le-leb, ltb-true}
-use Rattle.std.proofs.lemmas.List.Elements.{All-weaker}
-use Rattle.std.proofs.lemmas.Option.{slice_get-map}
-use Rattle.std.specs.Option.{option_map_or}
-use Rattle.rv_code.proofs.OneEach.{decoded-word_of}
-use Rattle.rv_code.specs.declared.instr.Instr.{Instr}
-use Rattle.rv_code.specs.Prelude.{IsInstr, word_of}
-use Rattle.sc_event.specs.Prelude.{export_at}
-use Rattle.sc_event.specs.declared.interface.Proto.{Proto}
-use Rattle.sc_core.specs.declared.program.ProgramTree.{ProgramTree}
-use Rattle.sc_core.specs.declared.section.TypedSection.{TypedSection}
-use Rattle.sc_image.specs.declared.parts.CompPart.{CompPart}
-use Rattle.sc_image.specs.declared.parts.ImageParts.{ImageParts}
-use Rattle.sc_image.specs.Layout.{code_of, code_start, word_at}
-use Rattle.sc_tac.specs.declared.machine_code.CodeTree.{CodeTree}
-use Rattle.sc_tac.specs.declared.machine_code.Relocation.{Relocation}
-use Rattle.sc_select.specs.Linking.{is_named, linked}
-use Rattle.sc_kinds.proofs.Sections.{all_at}
-use Rattle.sc_linker.specs.Image.{comp_code, linked_image}
-use Rattle.sc_linker.specs.Layout.{addresses_at, codes_at, exports_at, instructions, section_at}
-use Rattle.sc_linker.specs.Laws.{IsWhole, StandsAt}
-use Rattle.sc_linker.specs.Linkable.{IsLinkable, RefersInside}
+use Rattle.sc_linker.proofs.Common.{All, All-weaker, CodeTree, CompPart, ImageParts, Instr, IsInstr, IsLinkable}
+use Rattle.sc_linker.proofs.Common.{IsWhole, List, ProgramTree, Proto, RefersInside, Relocation, Some, StandsAt}
+use Rattle.sc_linker.proofs.Common.{TypedSection, [], addresses_at, all_at, ap, arith, code_of, code_start, codes_at}
+use Rattle.sc_linker.proofs.Common.{comp_code, decoded-word_of, eq-eqb, export_at, exports_at, instructions, is_named}
+use Rattle.sc_linker.proofs.Common.{is_some, le-leb, length, linked, linked_image, ltb-true, map, nat_eq, nat_le}
+use Rattle.sc_linker.proofs.Common.{nat_lt, option_map, option_map_or, section_at, slice_get, slice_get-map, subst, sym}
+use Rattle.sc_linker.proofs.Common.{take, true, word_at, word_of, ℕ, ◌%◌, ◌*◌, ◌+◌, ◌-◌, ◌/◌, ◌<◌, ◌∙◌, ◌≡◌}
 use Rattle.sc_linker.proofs.Codes.{codes_all, codes_count, linked_length}
 use Rattle.sc_linker.proofs.Comps.{Fits, exports_are, part_is, section_is}
 use Rattle.sc_linker.proofs.Exports.{Named, export_named}

@@ -1,16 +1,9 @@
 -- One instruction of code is linked, and the next is looked at.
-use Rattle.std.proofs.Common.{◌≡◌, ℕ, ◌+◌, ◌<◌, ◌==◌, Bool, true, false, if◌then◌else◌}
-use Rattle.std.proofs.Common.{IfSome, List, [], ◌∷◌, ◌++◌, map, length, drop, get_or, Option, None, Some}
-use Rattle.std.proofs.Common.{sym, subst, ap, arith, ◌∙◌, add-one, append_assoc, length-drop}
-use Rattle.rv_code.specs.declared.instr.Instr.{Instr}
-use Rattle.rv_code.specs.Prelude.{word_of}
-use Rattle.sc_base.proofs.Bools.{and_first, and_rest}
-use Rattle.sc_base.proofs.Lists.{drop-step}
-use Rattle.sc_tac.specs.declared.machine_code.Relocation.{Relocation}
-use Rattle.sc_tac.specs.declared.machine_code.Target.{Target}
-use Rattle.sc_select.specs.Linking.{Addresses, linked_from, low_behind, relocations_behind, target_at, with_low}
-use Rattle.sc_select.specs.Linking.{with_target}
-use Rattle.sc_linker.specs.Sections.{AreKnown, HasRoom, IsKnown, is_known}
+use Rattle.sc_linker.proofs.Common.{Addresses, AreKnown, Bool, HasRoom, IfSome, Instr, IsKnown, List, None, Option}
+use Rattle.sc_linker.proofs.Common.{Relocation, Some, Target, [], add-one, and_first, and_rest, ap, append_assoc, arith}
+use Rattle.sc_linker.proofs.Common.{drop, drop-step, false, get_or, if◌then◌else◌, is_known, length, length-drop}
+use Rattle.sc_linker.proofs.Common.{linked_from, low_behind, map, relocations_behind, subst, sym, target_at, true}
+use Rattle.sc_linker.proofs.Common.{with_low, with_target, word_of, ℕ, ◌++◌, ◌+◌, ◌<◌, ◌==◌, ◌∙◌, ◌∷◌, ◌≡◌}
 
 module _ (A : Addresses) (functions globals : ℕ) where
   -- what an instruction refers to is known

@@ -1,32 +1,16 @@
 -- The words that a section's globals begin with: as many as their cells, each at its place, and the bytes of them.
-use Rattle.std.proofs.Common.{◌≡◌, ℕ, zero, suc, ◌+◌, ◌*◌, ◌<◌, ◌^◌, true, List, [], ◌∷◌, ◌++◌, length, map}
-use Rattle.std.proofs.Common.{take, slice_get, slice_index_or, Some, flat_map, All, refl, ap}
-use Rattle.std.proofs.Common.{◌∙◌, arith, option_map}
-use Rattle.std.proofs.lemmas.List.{length-append, length-map}
-use Rattle.std.proofs.lemmas.List.Elements.{All-append, All-cons, All-head, All-nil, All-tail}
-use Rattle.std.proofs.lemmas.Option.{slice_get-map}
-use Rattle.std.specs.List.{list_all}
+use Rattle.sc_linker.proofs.Common.{All, All-append, All-cons, All-head, All-nil, All-tail, BaseTy, Block, Cell, IsByte}
+use Rattle.sc_linker.proofs.Common.{IsStart, List, Some, Ty, TypedGlobal, TypedMember, TypedStruct, [], all_at}
+use Rattle.sc_linker.proofs.Common.{and_first, ap, arith, base_zeros, cell_word, cells, cells_of, flat_map}
+use Rattle.sc_linker.proofs.Common.{global_block, global_fits, length, length-append, length-map, list_all}
+use Rattle.sc_linker.proofs.Common.{little_bytes, map, member_zeros, option_map, refl, repeated, slice_get}
+use Rattle.sc_linker.proofs.Common.{slice_get-map, slice_index_or, starred_zeros, struct_zeros, structs_fit, suc, take}
+use Rattle.sc_linker.proofs.Common.{true, variable_fits, with_words, zero, zeros_of, ℕ, ◌*◌, ◌++◌, ◌+◌, ◌<◌, ◌^◌, ◌∙◌}
+use Rattle.sc_linker.proofs.Common.{◌∷◌, ◌≡◌}
 use Rattle.std.specs.Int.{byte_at, bytes_low_first}
-use Rattle.byteorder.specs.Endian.{little_bytes}
-use Rattle.sc_base.proofs.Bools.{and_first}
-use Rattle.sc_core.specs.Prelude.{cells_of, global_fits, structs_fit, variable_fits}
-use Rattle.sc_core.specs.Meaning.{base_zeros, global_block, member_zeros, repeated, starred_zeros, struct_zeros}
-use Rattle.sc_core.specs.Meaning.{with_words, zeros_of}
-use Rattle.sc_core.specs.Memory.{Block}
-use Rattle.sc_core.specs.declared.section.TypedGlobal.{TypedGlobal}
-use Rattle.sc_core.specs.declared.section.TypedMember.{TypedMember}
-use Rattle.sc_core.specs.declared.section.TypedStruct.{TypedStruct}
-use Rattle.sc_core.specs.declared.ty.BaseTy.{BaseTy}
 use Rattle.sc_core.specs.declared.ty.BaseTy.TheVariants as base
-use Rattle.sc_core.specs.declared.ty.Ty.{Ty}
 use Rattle.sc_core.specs.declared.ty.Ty.TheVariants as ty
-use Rattle.sc_core.specs.declared.value.Cell.{Cell}
 use Rattle.sc_core.specs.declared.value.Cell.TheVariants as cell
-use Rattle.sc_image.specs.WellFormed.{IsByte}
-use Rattle.sc_kinds.proofs.Sections.{all_at}
-use Rattle.sc_linker.specs.Image.{cell_word}
-use Rattle.sc_linker.specs.Laws.{IsStart}
-use Rattle.sc_linker.specs.Layout.{cells}
 use Rattle.sc_linker.proofs.Cells.{variable_many, words_many}
 use Rattle.sc_linker.proofs.Places.{all_from, get_after, get_before}
 

@@ -1,5 +1,5 @@
 -- Linked images are images, and what is in them stands where the layout says.
-use Rattle.sc_linker.specs.Laws.{LinkedImagesHold}
+use Rattle.sc_linker.proofs.Common.{LinkedImagesHold}
 use Rattle.sc_linker.proofs.Entries.{entries_stand}
 use Rattle.sc_linker.proofs.Formed.{linked_is_formed}
 use Rattle.sc_linker.proofs.Functions.{functions_stand}

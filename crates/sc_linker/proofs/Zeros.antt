@@ -1,31 +1,19 @@
 -- The words of globals at the start are those of their initialisers, and zeros behind them.
-use Rattle.std.proofs.Common.{◌≡◌, ℕ, zero, suc, ◌+◌, ◌-◌, ◌*◌, ◌<◌, ◌≤◌, ◌&&◌, ◌==◌, true, nat_le}
-use Rattle.std.proofs.Common.{leb-true, ltb-true, List, [], ◌∷◌, ◌++◌, append_assoc, append-nil, flat_map, map, length}
-use Rattle.std.proofs.Common.{replicate, Some, refl, sym, subst, ap, ap₂, add-one, arith, inl, inr, slice_get}
-use Rattle.std.proofs.Common.{slice_index_or, eqb-true, ◌∙◌, ◌⊎◌}
-use Rattle.std.proofs.lemmas.Bool.{cases_lt}
-use Rattle.std.proofs.lemmas.List.{get_or_append_left, length_push, map-append, replicate-append-replicate}
+use Rattle.sc_linker.proofs.Common.{BaseTy, Cell, List, Some, Ty, TypedGlobal, TypedMember, TypedSection, TypedStruct}
+use Rattle.sc_linker.proofs.Common.{[], add-one, and_first, and_rest, ap, append-nil, append_assoc, ap₂, arith}
+use Rattle.sc_linker.proofs.Common.{base_cells, base_within, base_zeros, cases_lt, cell_word, cells_of, eqb-true}
+use Rattle.sc_linker.proofs.Common.{flat_map, get_behind, get_or_append_left, global_block, global_fits, global_words}
+use Rattle.sc_linker.proofs.Common.{initial_words, inl, inr, leb-true, length, length_push, list_all, ltb-true, map}
+use Rattle.sc_linker.proofs.Common.{map-append, member_zeros, members_fit, nat_le, refl, repeated, replicate}
+use Rattle.sc_linker.proofs.Common.{replicate-append-replicate, slice_get, slice_index_or, starred_cells}
+use Rattle.sc_linker.proofs.Common.{starred_within, starred_zeros, struct_cells, struct_fits, struct_zeros, structs_fit}
+use Rattle.sc_linker.proofs.Common.{subst, suc, sym, true, type_within, variable_fits, with_words, words_fit, zero}
+use Rattle.sc_linker.proofs.Common.{zeros_of, ℕ, ◌&&◌, ◌*◌, ◌++◌, ◌+◌, ◌-◌, ◌<◌, ◌==◌, ◌∙◌, ◌∷◌, ◌≡◌, ◌≤◌, ◌⊎◌}
 use Rattle.std.proofs.Math.Seq.{get_or-append_seam}
 use Rattle.std.proofs.Math.Nat.{suc-mul, zero-mul}
-use Rattle.std.specs.List.{list_all}
-use Rattle.sc_base.proofs.Bools.{and_first, and_rest}
-use Rattle.sc_base.proofs.Lists.{get_behind}
-use Rattle.sc_core.specs.declared.ty.BaseTy.{BaseTy}
 use Rattle.sc_core.specs.declared.ty.BaseTy.TheVariants as base
-use Rattle.sc_core.specs.declared.ty.Ty.{Ty}
 use Rattle.sc_core.specs.declared.ty.Ty.TheVariants as ty
-use Rattle.sc_core.specs.declared.value.Cell.{Cell}
 use Rattle.sc_core.specs.declared.value.Cell.TheVariants as cell
-use Rattle.sc_core.specs.declared.section.TypedGlobal.{TypedGlobal}
-use Rattle.sc_core.specs.declared.section.TypedMember.{TypedMember}
-use Rattle.sc_core.specs.declared.section.TypedSection.{TypedSection}
-use Rattle.sc_core.specs.declared.section.TypedStruct.{TypedStruct}
-use Rattle.sc_core.specs.Prelude.{base_within, base_zeros, base_cells, cells_of, global_block, global_fits}
-use Rattle.sc_core.specs.Prelude.{member_zeros, members_fit, repeated, starred_cells, starred_within, starred_zeros}
-use Rattle.sc_core.specs.Prelude.{struct_cells, struct_fits, struct_zeros, structs_fit, type_within, variable_fits}
-use Rattle.sc_core.specs.Prelude.{with_words, words_fit, zeros_of}
-use Rattle.sc_linker.specs.Image.{cell_word, global_words}
-use Rattle.sc_linker.specs.Sections.{initial_words}
 
 -- cells that begin with the word 0, so many
 pub record AreZeros (cells : List Cell) (count : ℕ) : Type 0 where

@@ -1,27 +1,16 @@
 -- The image of a program, from the codes of its functions.
-use Rattle.std.specs.Prelude.{ℕ, suc, pos, ◌+◌, ◌*◌, ◌-ℤ◌, List, [], ◌∷◌, ◌++◌, length, map, flat_map, Option}
-use Rattle.std.specs.Prelude.{None, Some, is_some}
+use Rattle.sc_linker.specs.Common.{Addresses, Cell, CodeTree, ImageParts, Instr, Interface, Jal, Main, ProgramTree}
+use Rattle.sc_linker.specs.Common.{Proto, TypedSection, entry_in, first_blocks, imports, is_input, is_output, linked}
+use Rattle.sc_linker.specs.Common.{place_named, word_of}
+use Rattle.std.specs.Prelude.{ℕ, suc, pos, ◌+◌, ◌*◌, ◌-ℤ◌, List, [], ◌∷◌, ◌++◌, length, map, flat_map, Option, None}
+use Rattle.std.specs.Prelude.{Some, is_some}
 use Rattle.byteorder.specs.Endian.{little_bytes}
-use Rattle.rv_code.specs.declared.instr.Instr.{Instr}
-use Rattle.rv_code.specs.declared.instr.Instr.TheVariants.{Jal}
-use Rattle.rv_code.specs.Prelude.{word_of}
-use Rattle.sc_event.specs.Prelude.{imports, is_input, is_output}
 use Rattle.sc_event.specs.declared.interface.Import.{Import}
 use Rattle.sc_event.specs.declared.interface.Import.TheVariants as import
-use Rattle.sc_event.specs.declared.interface.Interface.{Interface}
-use Rattle.sc_event.specs.declared.interface.Proto.{Proto}
-use Rattle.sc_event.specs.declared.row.Entry.TheVariants.{Main}
-use Rattle.sc_core.specs.declared.program.ProgramTree.{ProgramTree}
-use Rattle.sc_core.specs.declared.section.TypedSection.{TypedSection}
-use Rattle.sc_core.specs.declared.value.Cell.{Cell}
 use Rattle.sc_core.specs.declared.value.Cell.TheVariants as cell
-use Rattle.sc_core.specs.Meaning.{entry_in, first_blocks, place_named}
 use Rattle.sc_image.specs.declared.parts.CompPart.{CompPart}
 use Rattle.sc_image.specs.declared.parts.ExportPart.{ExportPart}
-use Rattle.sc_image.specs.declared.parts.ImageParts.{ImageParts}
 use Rattle.sc_image.specs.declared.parts.ImportPart.{ImportPart}
-use Rattle.sc_tac.specs.declared.machine_code.CodeTree.{CodeTree}
-use Rattle.sc_select.specs.Linking.{Addresses, linked}
 use Rattle.sc_linker.specs.Layout.{addresses_at, codes_at, entry_address, exports_at, section_at}
 
 module _ (addresses : Addresses) where

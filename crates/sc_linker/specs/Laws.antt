@@ -1,33 +1,18 @@
 -- What holds of linked images.
-use Rattle.std.specs.Prelude.{◌≡◌, ◌≢◌, ℕ, ℤ, ◌+◌, ◌*◌, ◌%◌, ◌^◌, ◌<◌, ◌≤◌, ◌⊎◌, true, List, length, All, IsTrue}
-use Rattle.std.specs.Prelude.{Some, is_some, slice_get}
-use Rattle.rv_code.specs.declared.instr.Instr.{Instr}
-use Rattle.rv_code.specs.declared.instr.Instr.TheVariants.{Jal}
-use Rattle.rv_code.specs.Prelude.{IsInstr, decoded}
-use Rattle.sc_base.specs.Prelude.{is_name}
+use Rattle.sc_linker.specs.Common.{Cell, CodeTree, Export, ImageParts, Instr, Interface, IsInstr, IsWellFormed}
+use Rattle.sc_linker.specs.Common.{IsWellTyped, Jal, Main, ProgramTree, Proto, TypedGlobal, TypedSection, decoded}
+use Rattle.sc_linker.specs.Common.{entry_in, export_at, globals_of, has_result, imports, is_function, is_input, is_name}
+use Rattle.sc_linker.specs.Common.{is_output, linked, may_call, may_input, may_output, params_of, stack_top}
+use Rattle.sc_linker.specs.Common.{start_memory, word_at}
 use Rattle.sc_word.specs.Prelude.{add_word, word_of}
-use Rattle.sc_event.specs.Prelude.{export_at, imports, is_function, is_input, is_output}
-use Rattle.sc_event.specs.declared.interface.Interface.{Interface}
+use Rattle.sc_store.specs.Prelude.{load_of}
+use Rattle.sc_image.specs.Prelude.{export_at as image_export, globals_of as globals_in}
+use Rattle.sc_tac.specs.Prelude.{IsCode}
+use Rattle.std.specs.Prelude.{◌≡◌, ◌≢◌, ℕ, ℤ, ◌+◌, ◌*◌, ◌%◌, ◌^◌, ◌<◌, ◌≤◌, ◌⊎◌, true, List, length, All, IsTrue, Some}
+use Rattle.std.specs.Prelude.{is_some, slice_get}
 use Rattle.sc_event.specs.declared.interface.Interfaces.{Interfaces}
-use Rattle.sc_event.specs.declared.interface.Proto.{Proto}
-use Rattle.sc_event.specs.declared.row.Entry.TheVariants.{Export, Main}
-use Rattle.sc_core.specs.declared.program.ProgramTree.{ProgramTree}
 use Rattle.sc_core.specs.declared.section.TypedFunction.{TypedFunction}
-use Rattle.sc_core.specs.declared.section.TypedGlobal.{TypedGlobal}
-use Rattle.sc_core.specs.declared.section.TypedSection.{TypedSection}
-use Rattle.sc_core.specs.declared.value.Cell.{Cell}
 use Rattle.sc_core.specs.declared.value.Cell.TheVariants as cell
-use Rattle.sc_core.specs.Meaning.{entry_in, globals_of}
-use Rattle.sc_core.specs.Prelude.{IsWellTyped}
-use Rattle.sc_store.specs.Memory.{load_of}
-use Rattle.sc_image.specs.declared.parts.ImageParts.{ImageParts}
-use Rattle.sc_image.specs.Calls.{export_at as image_export, has_result, may_call, may_input, may_output, params_of}
-use Rattle.sc_image.specs.Layout.{globals_of as globals_in, stack_top, word_at}
-use Rattle.sc_image.specs.State.{start_memory}
-use Rattle.sc_image.specs.WellFormed.{IsWellFormed}
-use Rattle.sc_tac.specs.declared.machine_code.CodeTree.{CodeTree}
-use Rattle.sc_tac.specs.MachineCode.{IsCode}
-use Rattle.sc_select.specs.Linking.{linked}
 use Rattle.sc_linker.specs.Image.{cell_word, linked_image}
 use Rattle.sc_linker.specs.Layout.{addresses_at, codes_at, entry_address, section_at}
 use Rattle.sc_linker.specs.Linkable.{IsLinkable}

@@ -1,17 +1,8 @@
 -- Where the linker puts what a program consists of.
+use Rattle.sc_linker.specs.Common.{Addresses, CodeTree, Interface, ProgramTree, Proto, TypedGlobal, TypedSection}
+use Rattle.sc_linker.specs.Common.{TypedStruct, cells_of, code_start, comp_at, stack_top, total}
 use Rattle.std.specs.Prelude.{ℕ, zero, suc, ◌+◌, ◌*◌, List, [], ◌∷◌, length, map, take, drop, slice_get, Option, None}
 use Rattle.std.specs.Prelude.{Some}
-use Rattle.sc_event.specs.Prelude.{comp_at}
-use Rattle.sc_event.specs.declared.interface.Interface.{Interface}
-use Rattle.sc_event.specs.declared.interface.Proto.{Proto}
-use Rattle.sc_core.specs.declared.program.ProgramTree.{ProgramTree}
-use Rattle.sc_core.specs.declared.section.TypedGlobal.{TypedGlobal}
-use Rattle.sc_core.specs.declared.section.TypedSection.{TypedSection}
-use Rattle.sc_core.specs.declared.section.TypedStruct.{TypedStruct}
-use Rattle.sc_core.specs.Prelude.{cells_of, total}
-use Rattle.sc_image.specs.Layout.{code_start, stack_top}
-use Rattle.sc_tac.specs.declared.machine_code.CodeTree.{CodeTree}
-use Rattle.sc_select.specs.Linking.{Addresses}
 
 -- how many instructions codes have, and how many cells globals
 abbrev pub instructions : List CodeTree → ℕ

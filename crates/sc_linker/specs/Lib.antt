@@ -1,3 +1,5 @@
+pub mod Common
+pub mod Prelude
 pub mod Image
 pub mod Laws
 pub mod Layout

@@ -1,12 +1,7 @@
 -- What codes can be linked to an image.
+use Rattle.sc_linker.specs.Common.{CodeTree, ProgramTree, TypedSection, export_at, most_globals, refers_only, stretch}
+use Rattle.sc_linker.specs.Common.{total}
 use Rattle.std.specs.Prelude.{◌≡◌, ℕ, ◌+◌, ◌*◌, ◌≤◌, List, length, map, All, IsTrue, nat_lt, is_some}
-use Rattle.sc_event.specs.Prelude.{export_at}
-use Rattle.sc_core.specs.declared.program.ProgramTree.{ProgramTree}
-use Rattle.sc_core.specs.declared.section.TypedSection.{TypedSection}
-use Rattle.sc_core.specs.Prelude.{total}
-use Rattle.sc_image.specs.Layout.{most_globals, stretch}
-use Rattle.sc_tac.specs.declared.machine_code.CodeTree.{CodeTree}
-use Rattle.sc_select.specs.Linking.{refers_only}
 use Rattle.sc_linker.specs.Layout.{cells, codes_at, exports_at, instructions, section_at}
 
 -- it refers to functions and globals of the section, and to exports that there are

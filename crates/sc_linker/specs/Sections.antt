@@ -1,22 +1,12 @@
 -- Helping: a section's part of an image, by what it is made of.
+use Rattle.sc_linker.specs.Common.{Addresses, CodeTree, Instr, Interface, Jal, Proto, TypedGlobal, TypedSection}
+use Rattle.sc_linker.specs.Common.{TypedStruct, Upper, cells_of, code_start, is_name, is_named, most_globals}
+use Rattle.sc_linker.specs.Common.{place_named, stack_top, stretch, upper_part}
 use Rattle.std.specs.Prelude.{◌≡◌, ℕ, pos, ◌-ℤ◌, ◌+◌, ◌*◌, ◌-◌, ◌%◌, ◌^◌, ◌<◌, ◌≤◌, Bool, true, nat_lt, List, [], ◌∷◌}
 use Rattle.std.specs.Prelude.{◌++◌, length, map, replicate, slice_index, All, IsTrue, IsSome, Some}
 use Rattle.std.specs.List.{list_all}
-use Rattle.rv_code.specs.declared.instr.Instr.{Instr}
-use Rattle.rv_code.specs.declared.instr.Instr.TheVariants.{Jal, Upper}
-use Rattle.sc_base.specs.Prelude.{is_name}
-use Rattle.sc_event.specs.declared.interface.Interface.{Interface}
-use Rattle.sc_event.specs.declared.interface.Proto.{Proto}
-use Rattle.sc_core.specs.declared.section.TypedGlobal.{TypedGlobal}
-use Rattle.sc_core.specs.declared.section.TypedSection.{TypedSection}
-use Rattle.sc_core.specs.declared.section.TypedStruct.{TypedStruct}
-use Rattle.sc_core.specs.Prelude.{cells_of, place_named}
-use Rattle.sc_image.specs.Layout.{code_start, most_globals, stack_top, stretch}
-use Rattle.sc_tac.specs.declared.machine_code.CodeTree.{CodeTree}
 use Rattle.sc_tac.specs.declared.machine_code.Relocation.{Relocation}
 use Rattle.sc_tac.specs.declared.machine_code.Target.{Target}
-use Rattle.sc_select.specs.Linking.{Addresses, is_named}
-use Rattle.sc_select.specs.Pieces.{upper_part}
 use Rattle.sc_linker.specs.declared.layout.SectionLayout.{SectionLayout}
 use Rattle.sc_linker.specs.Layout.{cells, entry_address, instructions, section_addresses}
 use Rattle.sc_linker.specs.Image.{entry_jumps, linked_codes}

@@ -1,11 +1,9 @@
 //! The bytes that the globals of a section hold at the start.
 
+ghost use Rattle.sc_linker.specs.Prelude.{global_fits, global_words, initial_words, structs_fit};
 ghost use Rattle.std.specs.Prelude.{◌≡◌, ◌++◌, IfOk, IsTrue, OnOk, flat_map, replicate};
 ghost use Rattle.std.specs.List.{list_all};
 ghost use Rattle.byteorder.specs.Endian.{little_bytes};
-ghost use Rattle.sc_core.specs.Prelude.{global_fits, structs_fit};
-ghost use Rattle.sc_linker.specs.Image.{global_words};
-ghost use Rattle.sc_linker.specs.Sections.{initial_words};
 
 use byteorder::{ByteOrder, LittleEndian};
 use sc_base::{OutOfMemory, Text};

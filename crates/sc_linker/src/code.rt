@@ -1,12 +1,8 @@
 //! The code of a compartment: its entries, and then its functions.
 
+ghost use Rattle.sc_linker.specs.Prelude.{AreKnown, CanBeLinked, CodeTree, HasRoom, IsCodeAddress, IsWhole};
+ghost use Rattle.sc_linker.specs.Prelude.{addresses_of, instructions, linked_codes, section_code, word_of};
 ghost use Rattle.std.specs.Prelude.{◌≡◌, ◌++◌, All, IfOk, OnOk, length, map};
-ghost use Rattle.rv_code.specs.Prelude.{word_of};
-ghost use Rattle.sc_tac.specs.declared.machine_code.CodeTree.{CodeTree};
-ghost use Rattle.sc_linker.specs.Image.{linked_codes};
-ghost use Rattle.sc_linker.specs.Laws.{IsWhole};
-ghost use Rattle.sc_linker.specs.Layout.{instructions};
-ghost use Rattle.sc_linker.specs.Sections.{AreKnown, CanBeLinked, HasRoom, IsCodeAddress, addresses_of, section_code};
 
 use crate::entry::push_entries;
 use crate::layout::{SectionLayout, entry_address};

@@ -1,15 +1,9 @@
 //! A compartment of an image.
 
-ghost use Rattle.std.specs.Prelude.{◌≡◌, ◌≤◌, ◌++◌, All, IfOk, IsTrue, OnOk, Some, flat_map, length};
-ghost use Rattle.sc_base.specs.Prelude.{is_name};
+ghost use Rattle.sc_linker.specs.Prelude.{IsLinkable, IsNamed, IsWellTyped, IsWhole, Proto, codes_at, comp_part};
+ghost use Rattle.sc_linker.specs.Prelude.{export_parts, import_part, is_name};
 ghost use Rattle.sc_event.specs.Prelude.{comp_at};
-ghost use Rattle.sc_event.specs.declared.interface.Proto.{Proto};
-ghost use Rattle.sc_core.specs.Prelude.{IsWellTyped};
-ghost use Rattle.sc_linker.specs.Image.{comp_part, export_parts, import_part};
-ghost use Rattle.sc_linker.specs.Laws.{IsWhole};
-ghost use Rattle.sc_linker.specs.Layout.{codes_at};
-ghost use Rattle.sc_linker.specs.Linkable.{IsLinkable};
-ghost use Rattle.sc_linker.specs.Sections.{IsNamed};
+ghost use Rattle.std.specs.Prelude.{◌≡◌, ◌≤◌, ◌++◌, All, IfOk, IsTrue, OnOk, Some, flat_map, length};
 
 use crate::bytes::global_bytes;
 use crate::code::section_code;

@@ -1,14 +1,8 @@
 //! The entries of a compartment: a jump for each export, to the function that is called so.
 
+ghost use Rattle.sc_linker.specs.Prelude.{HasRoom, IsCodeAddress, Proto, TypedFunction, addresses_of, entry_address};
+ghost use Rattle.sc_linker.specs.Prelude.{entry_jumps, function_address, number_of, place_named, word_of};
 ghost use Rattle.std.specs.Prelude.{◌≡◌, ◌<◌, ◌≤◌, ◌++◌, All, IfOk, IfSome, IsSome, OnOk, Some, length, map, pos, ◌-ℤ◌};
-ghost use Rattle.rv_code.specs.Prelude.{word_of};
-ghost use Rattle.sc_base.specs.Numbering.{number_of};
-ghost use Rattle.sc_event.specs.declared.interface.Proto.{Proto};
-ghost use Rattle.sc_core.specs.Prelude.{place_named};
-ghost use Rattle.sc_core.specs.declared.section.TypedFunction.{TypedFunction};
-ghost use Rattle.sc_linker.specs.Image.{entry_jumps, function_address};
-ghost use Rattle.sc_linker.specs.Layout.{entry_address};
-ghost use Rattle.sc_linker.specs.Sections.{HasRoom, IsCodeAddress, addresses_of};
 
 use crate::layout::{SectionLayout, entry_address};
 use crate::relocate::jump_offset;

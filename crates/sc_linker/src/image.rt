@@ -1,14 +1,10 @@
 //! The image of a whole program.
 
+ghost use Rattle.sc_linker.specs.Prelude.{AreNamed, IsLinkable, IsWellTyped, IsWhole, TypedFunction, addresses_at};
+ghost use Rattle.sc_linker.specs.Prelude.{comp_parts, entry_in, function_address, linked_image, main_name};
 ghost use Rattle.std.specs.Prelude.{◌≡◌, All, IfOk, OnSome, bytes_eq};
 ghost use Rattle.std.specs.List.{position};
 ghost use Rattle.sc_event.specs.declared.row.Entry.TheVariants.{Main};
-ghost use Rattle.sc_core.specs.Prelude.{IsWellTyped, entry_in, main_name};
-ghost use Rattle.sc_core.specs.declared.section.TypedFunction.{TypedFunction};
-ghost use Rattle.sc_linker.specs.Image.{comp_parts, function_address, linked_image};
-ghost use Rattle.sc_linker.specs.Laws.{AreNamed, IsWhole};
-ghost use Rattle.sc_linker.specs.Layout.{addresses_at};
-ghost use Rattle.sc_linker.specs.Linkable.{IsLinkable};
 
 use crate::comp::comp_part;
 use crate::layout::SectionLayout;

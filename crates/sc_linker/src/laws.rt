@@ -1,6 +1,6 @@
 // The laws, each the contract of a function with nothing to do.
 
-ghost use Rattle.sc_linker.specs.Laws.{LinkedImagesHold};
+ghost use Rattle.sc_linker.specs.Prelude.{LinkedImagesHold};
 
 /// A linked image is well formed; in it each function's code, each export's entry and each global stands where the
 /// layout says, and who may call whom is as the interfaces say.

@@ -1,10 +1,9 @@
 //! Where the functions and the globals of a section begin.
 
-ghost use Rattle.std.specs.Prelude.{◌≡◌, ◌+◌, ◌*◌, ◌<◌, ◌≤◌, ◌^◌, All, IfOk, length, slice_index};
-ghost use Rattle.sc_tac.specs.declared.machine_code.CodeTree.{CodeTree};
+ghost use Rattle.sc_linker.specs.Prelude.{CodeTree, IsCodeAddress, cells, code_sizes, entry_address, global_sizes};
+ghost use Rattle.sc_linker.specs.Prelude.{instructions, section_layout, starts};
 ghost use Rattle.sc_image.specs.Prelude.{most_globals, stack_top, stretch};
-ghost use Rattle.sc_linker.specs.Layout.{cells, entry_address, instructions};
-ghost use Rattle.sc_linker.specs.Sections.{IsCodeAddress, code_sizes, global_sizes, section_layout, starts};
+ghost use Rattle.std.specs.Prelude.{◌≡◌, ◌+◌, ◌*◌, ◌<◌, ◌≤◌, ◌^◌, All, IfOk, length, slice_index};
 
 use sc_base::{OutOfMemory, Words};
 use sc_core::{TypedGlobal, TypedSection, TypedStruct, cells_of};

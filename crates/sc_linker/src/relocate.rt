@@ -1,12 +1,10 @@
 //! Code with the addresses of what it refers to.
 
+ghost use Rattle.sc_linker.specs.Prelude.{AreKnown, HasRoom, IsCodeAddress, IsInstr, IsJumpOffset, IsKnown};
+ghost use Rattle.sc_linker.specs.Prelude.{addresses_of, with_jump, with_upper, word_of};
+ghost use Rattle.sc_select.specs.Prelude.{Addresses, linked, low_behind, relocations_behind, target_at, upper_part};
+ghost use Rattle.sc_select.specs.Prelude.{with_low, with_target};
 ghost use Rattle.std.specs.Prelude.{◌≡◌, ◌≤◌, ◌++◌, drop, pos, ◌-ℤ◌, All, IfSome, Some, OnOk, length, map};
-ghost use Rattle.rv_code.specs.Prelude.{IsInstr, IsJumpOffset, word_of};
-ghost use Rattle.sc_select.specs.Linking.{Addresses, linked, low_behind, relocations_behind, target_at, with_low};
-ghost use Rattle.sc_select.specs.Linking.{with_target};
-ghost use Rattle.sc_select.specs.Pieces.{upper_part};
-ghost use Rattle.sc_linker.specs.Sections.{AreKnown, HasRoom, IsCodeAddress, IsKnown, addresses_of, with_jump};
-ghost use Rattle.sc_linker.specs.Sections.{with_upper};
 
 use crate::layout::{SectionLayout, entry_address};
 use rv_code::{Instr, JumpOffset, encode};

@@ -1,9 +1,8 @@
 //! What there is of a compartment in a program and its codes.
 
+ghost use Rattle.sc_linker.specs.Prelude.{codes_in, exports_at, section_at, total};
 ghost use Rattle.std.specs.Prelude.{◌≡◌, ◌<◌, length, map};
-ghost use Rattle.sc_core.specs.Prelude.{total};
 ghost use Rattle.sc_core.specs.declared.section.TypedSection.{TypedSection};
-ghost use Rattle.sc_linker.specs.Layout.{codes_in, exports_at, section_at};
 
 use sc_core::{ProgramTree, TypedSection};
 use sc_event::{CompId, Proto};

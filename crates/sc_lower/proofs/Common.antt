@@ -20,7 +20,6 @@ pub use Rattle.sc_event.specs.declared.interface.Interface.{Interface}
 pub use Rattle.sc_event.specs.declared.interface.Proto.{Proto}
 pub use Rattle.sc_event.specs.declared.interface.Scalar.{Scalar}
 pub use Rattle.sc_event.specs.declared.interface.Scalar.TheVariants.{Int}
-pub use Rattle.sc_event.specs.declared.row.Entry.{Entry}
 pub use Rattle.sc_event.specs.declared.row.Entry.TheVariants.{Export, Main}
 pub use Rattle.sc_core.proofs.Induction.{Each, Inside, Under, expr_induction, stmt_induction}
 pub use Rattle.sc_core.proofs.Judged.{judged_ty}
@@ -32,7 +31,7 @@ pub use Rattle.sc_core.proofs.Rows.{by_plan}
 pub use Rattle.sc_core.proofs.Shapes.{Amp, Arrow, AssignCallLine, AssignLine, At, BreakLine, CallLine, ContinueLine}
 pub use Rattle.sc_core.proofs.Shapes.{Dot, EmptyLine, ForLine, IfLine, Lines, Lit, NoLine, One, ReturnCallLine}
 pub use Rattle.sc_core.proofs.Shapes.{ReturnLine, ReturnValueLine, Shape, Star, Two, Var, WhileLine, call_of, expr}
-pub use Rattle.sc_core.proofs.Shapes.{part, stmts}
+pub use Rattle.sc_core.proofs.Shapes.{lines_are, lines_do, part, stmts, way, way_is}
 pub use Rattle.sc_core.specs.Prelude.{Acts, Arith, Blocks, Body, Break, Callable, Calls, Continue, Does, Exit, Function}
 pub use Rattle.sc_core.specs.Prelude.{Here, IsWellTyped, Judged, Left, Library, Meant, Next, On, Piece, Reached, Return}
 pub use Rattle.sc_core.specs.Prelude.{Roles, Route, Scope, Signature, State, Step, Stopped, Ways, acts, all_do}
@@ -112,8 +111,8 @@ pub use Rattle.sc_tac.specs.declared.stmt.Constant.{Constant}
 pub use Rattle.sc_tac.specs.declared.stmt.TacOp.{TacOp}
 pub use Rattle.sc_tac.specs.declared.stmt.TacStmt.{fold-roll-TacStmt, map-TacStmt}
 unfoldable pub use Rattle.sc_tac.specs.declared.stmt.TacStmt.{roll-TacStmt}
-pub use Rattle.sc_lower.specs.Common.{BinaryOp, Const, Global, GlobalPlace, If, Interfaces, Load, Local, ObjectPlace}
-pub use Rattle.sc_lower.specs.Common.{Op, Param, ProgramTree, TacStmt, TacStmt-F, Ty, TypedCall, TypedExpr}
+pub use Rattle.sc_lower.specs.Common.{BinaryOp, Const, Entry, Global, GlobalPlace, If, Interfaces, Load, Local}
+pub use Rattle.sc_lower.specs.Common.{ObjectPlace, Op, Param, ProgramTree, TacStmt, TacStmt-F, Ty, TypedCall, TypedExpr}
 pub use Rattle.sc_lower.specs.Common.{TypedFunction, TypedKind-F, TypedLocal, TypedSection, TypedSimple}
 pub use Rattle.sc_lower.specs.Common.{TypedSimpleKind, TypedStmt, TypedStmtKind-F, TypedStruct, VarRef, fold-TacStmt}
 pub use Rattle.sc_lower.specs.Prelude.{AreFunctions, Forms, IsLowerable, IsOperands, KeepsBranches, KeepsMeaning}

@@ -6,15 +6,15 @@ use Rattle.sc_lower.proofs.Common.{TypedSimple, TypedStmt, [], all_do, and_then,
 use Rattle.sc_lower.proofs.Common.{closed, code_function, code_globals, code_library, code_meaning, code_step, codes}
 use Rattle.sc_lower.proofs.Common.{cycle, entry_of, expr, false, follow, frame_bound, function_of, give, global}
 use Rattle.sc_lower.proofs.Common.{global_of, globals_of, in_order, in_turn, int_op, just, kind_step, leave, library_of}
-use Rattle.sc_lower.proofs.Common.{lit, loop, lowered_function, lowered_program, main_name, map, meaning, no_temps}
-use Rattle.sc_lower.proofs.Common.{nodes, on_line, output, part, part_code, part_does, plus, refl, roll-TacStmt, rows}
-use Rattle.sc_lower.proofs.Common.{rows_are, run_by, run_step, same_entry, stmt_at, stmt_code, stmt_does, stmt_step}
-use Rattle.sc_lower.proofs.Common.{stmts, stopped_at, suc, test, true, word, ℕ, ◌&&◌, ◌==◌, ◌∙◌, ◌∷◌, ◌≡◌}
+use Rattle.sc_lower.proofs.Common.{lines_are as lines_act, lines_do, lit, loop, lowered_function, lowered_program}
+use Rattle.sc_lower.proofs.Common.{main_name, map, meaning, no_temps, nodes, on_line, output, part, part_code}
+use Rattle.sc_lower.proofs.Common.{part_does, plus, refl, roll-TacStmt, rows, rows_are, run_by, run_step, same_entry}
+use Rattle.sc_lower.proofs.Common.{stmt_at, stmt_code, stmt_does, stmt_step, stmts, stopped_at, suc, test, true, way}
+use Rattle.sc_lower.proofs.Common.{way_is, word, ℕ, ◌&&◌, ◌==◌, ◌∙◌, ◌∷◌, ◌≡◌}
+use Rattle.sc_core.specs.Prelude.{assign as assigns, kind_step as kind_acts, stmt_does as stmt_acts, test as tests}
 use Rattle.sc_base.specs.declared.op.BinaryOp.TheVariants as op
 use Rattle.sc_core.specs.declared.stmt.TypedStmtKind.TheOpen as layer
 use Rattle.sc_core.specs.declared.ty.Ty.TheVariants as ty
-use Rattle.sc_core.specs.Prelude.{assign as assigns, kind_step as kind_acts, stmt_does as stmt_acts, test as tests}
-use Rattle.sc_core.proofs.Shapes.{way, way_is, lines_do, lines_are as lines_act}
 use Rattle.sc_tac.specs.declared.stmt.TacStmt.TheOpen as tac
 use Rattle.sc_tac.proofs.Runs.{alone}
 use Rattle.sc_tac.proofs.Shapes.{stmts as tac_stmts, Shape as TacShape}

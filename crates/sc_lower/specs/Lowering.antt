@@ -1,15 +1,11 @@
 -- What lowering keeps.
-use Rattle.sc_lower.specs.Common.{Arith, IsFunction, IsProgram, IsWellTyped, ProgramTree, TypedFunction, TypedSection}
-use Rattle.sc_lower.specs.Common.{code_depth_by, code_run, depth_by, run_of, scripted_code_depth_by, scripted_code_run}
-use Rattle.sc_lower.specs.Common.{scripted_depth_by, scripted_run_of}
-use Rattle.sc_core.specs.Calls.{run_step, within}
-use Rattle.sc_core.specs.Meaning.{library_of}
-use Rattle.sc_core.specs.Scripts.{Roles, scripted_step}
+use Rattle.sc_lower.specs.Common.{Arith, Entry, IsFunction, IsProgram, IsWellTyped, ProgramTree, Roles, TypedFunction}
+use Rattle.sc_lower.specs.Common.{TypedSection, code_depth_by, code_library, code_run, depth_by, library_of, run_of}
+use Rattle.sc_lower.specs.Common.{run_step, scripted_code_depth_by, scripted_code_run, scripted_depth_by}
+use Rattle.sc_lower.specs.Common.{scripted_run_of, scripted_step, within}
 use Rattle.sc_laws.specs.Prelude.{BodiesAgree, RunsAgree}
-use Rattle.sc_tac.specs.Code.{code_library}
 use Rattle.std.specs.Prelude.{◌≡◌, ℕ, Bool, List, Some, slice_get}
 use Rattle.sc_event.specs.declared.event.Event.{Event}
-use Rattle.sc_event.specs.declared.row.Entry.{Entry}
 use Rattle.sc_lower.specs.Programs.{lowered_function, lowered_program}
 
 -- The code of a well-typed program runs as the program does, in each arithmetic: its traces, its ends and the

@@ -1,13 +1,12 @@
 -- The code of functions and programs.
-use Rattle.sc_lower.specs.Common.{Interfaces, Local, ProgramTree, TypedExpr, TypedFunction, TypedLocal, TypedSection}
-use Rattle.sc_lower.specs.Common.{TypedStruct, comp_at, main_name, nodes, variables}
+use Rattle.sc_lower.specs.Common.{Entry, Interfaces, Local, ProgramTree, TypedExpr, TypedFunction, TypedLocal}
+use Rattle.sc_lower.specs.Common.{TypedSection, TypedStruct, comp_at, main_name, nodes, variables}
 use Rattle.std.specs.Prelude.{ℕ, suc, ◌&&◌, ◌==◌, if◌then◌else◌, bytes_eq, List, [], ◌∷◌, map, length, Option, None}
 use Rattle.std.specs.Prelude.{Some, is_some}
 use Rattle.std.specs.List.{position}
 use Rattle.std.specs.Option.{option_map}
 use Rattle.sc_event.specs.declared.interface.Interface.{Interface}
 use Rattle.sc_event.specs.declared.interface.Proto.{Proto}
-use Rattle.sc_event.specs.declared.row.Entry.{Entry}
 use Rattle.sc_event.specs.declared.row.Entry.TheVariants.{Main, Export}
 use Rattle.sc_tac.specs.declared.function.TacFnTree.{TacFnTree}
 use Rattle.sc_tac.specs.declared.program.TacSection.{TacSection}

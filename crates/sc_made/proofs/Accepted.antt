@@ -1,7 +1,5 @@
 -- Made texts are accepted, as small programs.
-use Rattle.std.proofs.Common.{refl}
-use Rattle.sc_elab.specs.Prelude.{program_of}
-use Rattle.sc_made.specs.Laws.{MadeTextsAreAccepted, MadeTextsAreRead, MadeTreesAreTyped}
+use Rattle.sc_made.proofs.Common.{MadeTextsAreAccepted, MadeTextsAreRead, MadeTreesAreTyped, program_of, refl}
 use Rattle.sc_made.proofs.Counts.{counts_hold}
 use Rattle.sc_made.proofs.Names.{names_hold}
 use Rattle.sc_made.proofs.Shapes.{AreMade}

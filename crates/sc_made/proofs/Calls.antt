@@ -1,25 +1,20 @@
 -- The statements of `main`: a call of each function, what it gives is written, and the end.
-use Rattle.std.proofs.Common.{List, [], ap, append-nil, append_assoc, arith, codes, decimal, flat_map, refl}
-use Rattle.std.proofs.Common.{rules, subst, suc, sym, true, ℕ, ◌++◌, ◌<◌, ◌∙◌, ◌∷◌, ◌≡◌, ◌≤◌}
-use Rattle.std.specs.List.{AllByRecursion}
-use Rattle.std.specs.Fmt.{digits}
+use Rattle.sc_made.proofs.Common.{AllByRecursion, Even, ExprTree, List, Nested, Number, Piece, StmtTree, [], ap}
+use Rattle.sc_made.proofs.Common.{append-nil, append_assoc, argument, arith, blank, call_kind, call_text, calls_tree}
+use Rattle.sc_made.proofs.Common.{codes, decimal, digits, even_equal, even_ident, even_keyword, even_literal}
+use Rattle.sc_made.proofs.Common.{even_semicolon, expr_height, expr_words, fits, flat_map, function_name, is_ident}
+use Rattle.sc_made.proofs.Common.{is_kept, is_kept_stmt, line_of, literal, literal_text, nested_blank, nested_even}
+use Rattle.sc_made.proofs.Common.{nested_level, nested_line, nested_none, nested_parens, output_kind, refl, return_kind}
+use Rattle.sc_made.proofs.Common.{return_words, rules, stmt_at, stmt_height, stmt_layout, subst, suc, sym, text_of}
+use Rattle.sc_made.proofs.Common.{true, word, ℕ, ◌++◌, ◌<◌, ◌∙◌, ◌∷◌, ◌≡◌, ◌≤◌}
 unfoldable use Rattle.sc_base.specs.Prelude.{is_name, is_reserved}
-use Rattle.sc_ast.specs.Prelude.{Number, Piece, blank, expr_height, expr_words, fits, is_ident, line_of, literal_text}
-use Rattle.sc_ast.specs.Prelude.{return_words, stmt_height, stmt_layout, text_of, word}
-use Rattle.sc_ast.specs.declared.expr.ExprTree.{ExprTree}
 use Rattle.sc_ast.specs.declared.expr.ExprTree as exprs
 use Rattle.sc_ast.specs.declared.expr.ExprTree.TheVariants as expr
-use Rattle.sc_ast.specs.declared.stmt.StmtTree.{StmtTree}
 use Rattle.sc_ast.specs.declared.stmt.StmtTree as stmts
 use Rattle.sc_ast.specs.declared.stmt.StmtKind as kinds
 use Rattle.sc_ast.specs.declared.stmt.StmtKind.TheVariants as stmt
 use Rattle.sc_expr.specs.declared.mark.Keyword.TheVariants as keyword
-use Rattle.sc_print.specs.Prelude.{is_kept, is_kept_stmt}
 unfoldable use Rattle.sc_print.specs.Prelude.{word_symbol}
-use Rattle.sc_reread.proofs.Nesting.{Even, Nested, even_equal, even_ident, even_keyword, even_literal, even_semicolon}
-use Rattle.sc_reread.proofs.Nesting.{nested_blank, nested_even, nested_level, nested_line, nested_none, nested_parens}
-use Rattle.sc_made.specs.Text.{argument, call_text, function_name}
-use Rattle.sc_made.specs.Tree.{call_kind, calls_tree, literal, output_kind, return_kind, stmt_at}
 use Rattle.sc_made.proofs.Spelled.{argument_fits, function_ident, literal_number}
 use Rattle.sc_made.proofs.Lines.{AreLines, IsLine, more_lines, no_lines, printed_line}
 

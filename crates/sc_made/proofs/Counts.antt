@@ -1,12 +1,8 @@
 -- The sections of a made text hold no more than a program may.
-use Rattle.std.proofs.Common.{List, [], ◌++◌, ◌≡◌, ◌∙◌, ◌≤◌, ℕ, suc, ap, ap₂, arith, length, map, refl}
-use Rattle.sc_ast.specs.declared.section.SectionTree.{SectionTree}
-use Rattle.sc_scope.specs.Prelude.{line_of_text}
-use Rattle.sc_elab.specs.Prelude.{callees_of}
-use Rattle.sc_types.specs.Counts.{counts_broken, lines_from}
-use Rattle.sc_made.specs.Laws.{IsAsked}
-use Rattle.sc_made.specs.Text.{numbers_from, workers}
-use Rattle.sc_performers.proofs.CountsKept.{none_beyond}
+use Rattle.sc_made.proofs.Common.{IsAsked, List, SectionTree, [], ap, ap₂, arith, callees_of, counts_broken, length}
+use Rattle.sc_made.proofs.Common.{line_of_text, map, none_beyond, numbers_from, refl, suc, workers, ℕ, ◌++◌, ◌∙◌, ◌≡◌}
+use Rattle.sc_made.proofs.Common.{◌≤◌}
+use Rattle.sc_types.specs.Prelude.{lines_from}
 use Rattle.sc_made.proofs.MainCounts.{main_counted}
 use Rattle.sc_made.proofs.Shapes.{AreMade, AreWorkers, and_worker, no_workers}
 use Rattle.sc_made.proofs.Shares.{numbers_length}

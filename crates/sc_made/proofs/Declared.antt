@@ -1,16 +1,8 @@
 -- What the sections of a made text declare.
-use Rattle.std.proofs.Common.{List, [], ◌∷◌, ◌++◌, ◌≡◌, ℕ, ap, codes, map, refl}
-use Rattle.sc_ast.specs.Prelude.{head_of}
-use Rattle.sc_ast.specs.declared.section.Decl.{Decl}
+use Rattle.sc_made.proofs.Common.{Decl, ExportLine, FunctionTree, HeadTree, ImportLine, List, [], ap, codes}
+use Rattle.sc_made.proofs.Common.{function_name, functions_in, globals_in, head_of, heads_in, map, output_import}
+use Rattle.sc_made.proofs.Common.{protos_in, refl, structs_in, ℕ, ◌++◌, ◌∷◌, ◌≡◌}
 use Rattle.sc_ast.specs.declared.section.Decl.TheVariants as decl
-use Rattle.sc_ast.specs.declared.section.ExportLine.{ExportLine}
-use Rattle.sc_ast.specs.declared.section.FunctionTree.{FunctionTree}
-use Rattle.sc_ast.specs.declared.section.HeadTree.{HeadTree}
-use Rattle.sc_ast.specs.declared.section.ImportLine.{ImportLine}
-use Rattle.sc_scope.specs.Declarations.{protos_in}
-use Rattle.sc_scope.specs.Prelude.{functions_in, globals_in, heads_in, structs_in}
-use Rattle.sc_made.specs.Text.{function_name}
-use Rattle.sc_made.specs.Tree.{output_import}
 use Rattle.sc_made.proofs.Naming.{function_names}
 use Rattle.sc_made.proofs.Shapes.{AreExports, AreFunctions, AreImports, AreProtos, and_export, and_function, and_import}
 use Rattle.sc_made.proofs.Shapes.{and_proto, no_exports, no_functions, no_imports, no_protos}

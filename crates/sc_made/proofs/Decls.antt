@@ -1,26 +1,18 @@
 -- Declarations: words that spell them, and what these come to.
-use Rattle.std.proofs.Common.{List, [], ap, append_assoc, ap₂, arith, codes, refl, subst, true, ℕ}
-use Rattle.std.proofs.Common.{◌++◌, ◌∙◌, ◌∷◌, ◌≡◌, ◌≤◌}
-use Rattle.std.proofs.lemmas.Grind.{flat_map-append}
-use Rattle.std.specs.List.{flat_map, list_all}
-use Rattle.sc_ast.specs.Height.{decl_height, decls_height, locals_height}
-use Rattle.sc_ast.specs.Prelude.{Piece, blank, head_of, head_words, lineless_decl, local_line, newline, piece_text}
-use Rattle.sc_ast.specs.Prelude.{text_of, word}
-use Rattle.sc_ast.specs.declared.section.Decl.{Decl}
+use Rattle.sc_made.proofs.Common.{Alike, AllAlike, Decl, Free, FunctionTree, List, Nested, Piece, Reading, SpellsDecl}
+use Rattle.sc_made.proofs.Common.{[], ap, append_assoc, ap₂, arith, blank, codes, decl_height, decls_height, dense_decl}
+use Rattle.sc_made.proofs.Common.{flat_map-append, gap, head_of, head_words, is_kept_decl, kept_head, kept_local}
+use Rattle.sc_made.proofs.Common.{line_end, lineless_decl, list_all, local_line, locals_height, nested_append}
+use Rattle.sc_made.proofs.Common.{nested_blank, nested_curly, nested_line, nested_more, nested_none, newline, next}
+use Rattle.sc_made.proofs.Common.{none, part, piece_text, reads, refl, subst, text_of, tidy_append, true, word, ℕ, ◌++◌}
+use Rattle.sc_made.proofs.Common.{◌∙◌, ◌∷◌, ◌≡◌, ◌≤◌}
+use Rattle.std.specs.List.{flat_map}
 use Rattle.sc_ast.specs.declared.section.Decl.TheVariants as decl
-use Rattle.sc_ast.specs.declared.section.FunctionTree.{FunctionTree}
-use Rattle.sc_parse.specs.Declarations.{SpellsDecl}
 use Rattle.sc_parse.specs.Lists as lists
-use Rattle.sc_print.specs.Prelude.{dense_decl, is_kept_decl, kept_head, kept_local}
 use Rattle.sc_print.proofs.Apart.{close_curly, open_curly}
 use Rattle.sc_print.proofs.DeclSpacing.{each_tidy, head_tidy, local_tidy}
 use Rattle.sc_print.proofs.DenseCut.{decl_symbols, dense_tidy}
-use Rattle.sc_print.proofs.Reading.{Alike, AllAlike, Reading, part, reads}
 use Rattle.sc_print.proofs.Sections.{decl_reads, function_with}
-use Rattle.sc_print.proofs.Spacing.{gap, line_end, next, none, tidy_append}
-use Rattle.sc_print.proofs.StmtSpacing.{Free}
-use Rattle.sc_reread.proofs.Nesting.{Nested, nested_append, nested_blank, nested_curly, nested_line, nested_more}
-use Rattle.sc_reread.proofs.Nesting.{nested_none}
 use Rattle.sc_made.proofs.Lines.{AreLines}
 
 -- words that spell the declaration, lines aside, stand apart, come to this text, and open few brackets

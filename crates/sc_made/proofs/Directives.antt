@@ -1,21 +1,13 @@
 -- The directives of a made text: words that are lines, and what these come to.
-use Rattle.std.proofs.Common.{Bool, List, [], ap, append_assoc, ap₂, arith, codes, flat_map, map, refl, subst, sym}
-use Rattle.std.proofs.Common.{true, ℕ, ◌%◌, ◌++◌, ◌<◌, ◌∙◌, ◌∷◌, ◌≡◌}
-use Rattle.std.proofs.lemmas.Bool.{and_from}
-use Rattle.std.proofs.lemmas.Grind.{flat_map-append}
-use Rattle.std.proofs.lemmas.Nat.{div-add-mod'}
-use Rattle.std.specs.List.{AllByRecursion, list_all}
+use Rattle.sc_made.proofs.Common.{AllByRecursion, Bool, ExportLine, Headless, ImportLine, List, Nested, Piece, []}
+use Rattle.sc_made.proofs.Common.{and_from, ap, append_assoc, ap₂, arith, codes, div-add-mod', even_export, even_import}
+use Rattle.sc_made.proofs.Common.{export_at, export_headless, export_text, flat_map, flat_map-append, function_name}
+use Rattle.sc_made.proofs.Common.{import_at, import_headless, import_text, kept_export, kept_import, list_all, map}
+use Rattle.sc_made.proofs.Common.{name_plain, nested_append, nested_even, nested_line, nested_none, output_import}
+use Rattle.sc_made.proofs.Common.{piece_text, plain_append, plain_then, refl, subst, sym, text_of, true, worker_name}
+use Rattle.sc_made.proofs.Common.{workers, ℕ, ◌%◌, ◌++◌, ◌<◌, ◌∙◌, ◌∷◌, ◌≡◌}
 unfoldable use Rattle.sc_base.specs.Prelude.{is_name}
-use Rattle.sc_ast.specs.Prelude.{Piece, piece_text, text_of}
 unfoldable use Rattle.sc_ast.specs.Prelude.{export_words, import_words}
-use Rattle.sc_ast.specs.declared.section.ExportLine.{ExportLine}
-use Rattle.sc_ast.specs.declared.section.ImportLine.{ImportLine}
-use Rattle.sc_print.specs.Prelude.{kept_export, kept_import}
-use Rattle.sc_reread.proofs.Headless.{Headless, export_headless, import_headless, name_plain, plain_append, plain_then}
-use Rattle.sc_reread.proofs.Nesting.{Nested, nested_append, nested_even, nested_line, nested_none}
-use Rattle.sc_reread.proofs.Performing.{even_export, even_import}
-use Rattle.sc_made.specs.Text.{export_text, function_name, import_text, worker_name, workers}
-use Rattle.sc_made.specs.Tree.{export_at, import_at, output_import}
 use Rattle.sc_made.proofs.Spelled.{function_named, worker_named}
 
 -- directives that are kept, come to this text, and open no bracket, and in whose text no compartment line stands

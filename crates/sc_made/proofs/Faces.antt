@@ -1,28 +1,16 @@
 -- The section of `Main` breaks no rule of interfaces.
-use Rattle.std.proofs.Common.{Bool, List, [], ◌∷◌, ◌++◌, ◌≡◌, ◌∙◌, ◌&&◌, ◌||◌, ◌%◌, ℕ, suc, ap}
-use Rattle.std.proofs.Common.{ap₂, append-nil, append_assoc, bytes_eq, codes, false, if◌then◌else◌, is_some}
-use Rattle.std.proofs.Common.{map, not, refl, sym, take, true}
-use Rattle.std.proofs.lemmas.Bool.{and_from, and_parts, or_left, or_right}
-use Rattle.std.proofs.lemmas.List.{map-append}
-use Rattle.std.specs.List.{list_all}
-use Rattle.sc_ast.specs.Prelude.{head_of}
-use Rattle.sc_ast.specs.declared.section.Decl.{Decl}
+use Rattle.sc_made.proofs.Common.{Bool, Decl, FunctionTree, HeadTree, ImportLine, IsAmong, IsAsked, List, SectionTree}
+use Rattle.sc_made.proofs.Common.{Text, [], agree, agrees_as, agrees_there, agrees_with, all_functions, among}
+use Rattle.sc_made.proofs.Common.{among_back, among_front, and_from, and_parts, ap, append-nil, append_assoc, ap₂}
+use Rattle.sc_made.proofs.Common.{bytes_eq, codes, decls_from, exports_from, false, first, function_name}
+use Rattle.sc_made.proofs.Common.{function_names, head_holds, head_of, heads_in, if◌then◌else◌, import_at, import_fits}
+use Rattle.sc_made.proofs.Common.{import_holds, imported_agrees, imports_from, input_name, is_input, is_new, is_offered}
+use Rattle.sc_made.proofs.Common.{is_output, is_plain, is_some, later, list_all, main_at, main_holds, map, map-append}
+use Rattle.sc_made.proofs.Common.{not, not_from, numbers_from, offering, or_left, or_right, output_import, output_name}
+use Rattle.sc_made.proofs.Common.{output_proto, proto_at, proto_names, refl, suc, sym, take, true, unless, workers, ℕ}
+use Rattle.sc_made.proofs.Common.{◌%◌, ◌&&◌, ◌++◌, ◌||◌, ◌∙◌, ◌∷◌, ◌≡◌}
+use Rattle.sc_interfaces.specs.Prelude.{decl_lines, section_lines}
 use Rattle.sc_ast.specs.declared.section.Decl.TheVariants as decl
-use Rattle.sc_ast.specs.declared.section.FunctionTree.{FunctionTree}
-use Rattle.sc_ast.specs.declared.section.HeadTree.{HeadTree}
-use Rattle.sc_ast.specs.declared.section.ImportLine.{ImportLine}
-use Rattle.sc_ast.specs.declared.section.SectionTree.{SectionTree}
-use Rattle.sc_scope.specs.Prelude.{Text, among, function_names, heads_in, is_new, offering}
-use Rattle.sc_scope.specs.Prelude.{proto_names, unless}
-use Rattle.sc_interfaces.specs.Faces.{agree, agrees_as, agrees_there, agrees_with, decl_lines, decls_from, exports_from}
-use Rattle.sc_interfaces.specs.Faces.{head_holds, import_fits, import_holds, imported_agrees, imports_from}
-use Rattle.sc_interfaces.specs.Faces.{input_name, is_input, is_offered, is_output, is_plain, main_holds, output_name}
-use Rattle.sc_interfaces.specs.Faces.{section_lines}
-use Rattle.sc_performers.proofs.Distinct.{among_back, among_front, not_from}
-use Rattle.sc_performers.proofs.Uses.{IsAmong, first, later}
-use Rattle.sc_made.specs.Text.{all_functions, function_name, numbers_from, workers}
-use Rattle.sc_made.specs.Tree.{import_at, main_at, output_import, output_proto, proto_at}
-use Rattle.sc_made.specs.Laws.{IsAsked}
 use Rattle.sc_made.proofs.Declared.{behind_functions, behind_protos, protos_heads, protos_named}
 use Rattle.sc_made.proofs.Naming as naming
 use Rattle.sc_made.proofs.Naming.{Below, below_more, below_next, function_among, function_new, no_function}

@@ -1,28 +1,22 @@
 -- The declarations of a made text: prototypes, `main`, the table of a worker and its functions.
-use Rattle.std.proofs.Common.{List, [], ap, append-nil, append_assoc, arith, codes, decimal, flat_map, map, refl, rules}
-use Rattle.std.proofs.Common.{subst, sym, true, ℕ, ◌++◌, ◌<◌, ◌∙◌, ◌∷◌, ◌≡◌}
-use Rattle.std.proofs.lemmas.Bool.{and_from}
-use Rattle.std.specs.Fmt.{digits}
-use Rattle.std.specs.List.{AllByRecursion, list_all}
+use Rattle.sc_made.proofs.Common.{AllByRecursion, Decl, List, Nested, Number, Piece, StmtTree, [], addend, and_from, ap}
+use Rattle.sc_made.proofs.Common.{append-nil, append_assoc, arith, blank, codes, decimal, dense_decl, digits}
+use Rattle.sc_made.proofs.Common.{even_equal, even_ident, even_keyword, even_literal, even_semicolon, expr_height}
+use Rattle.sc_made.proofs.Common.{expr_words, fits, flat_map, function_at, function_name, function_text, head_of}
+use Rattle.sc_made.proofs.Common.{head_words, is_ident, is_kept, is_kept_decl, is_kept_stmt, kept_head, kept_local}
+use Rattle.sc_made.proofs.Common.{kept_param, line_of, list_all, literal_text, local_at, local_line, main_at, map}
+use Rattle.sc_made.proofs.Common.{nested_blank, nested_even, nested_level, nested_line, nested_more, nested_none}
+use Rattle.sc_made.proofs.Common.{nested_parens, nested_square, no_lines, output_proto, proto_at, proto_text, refl}
+use Rattle.sc_made.proofs.Common.{return_kind, rules, set_kind, stmt_at, stmt_height, stmt_layout, subst, sym, table_at}
+use Rattle.sc_made.proofs.Common.{text_of, true, variable, word, ℕ, ◌++◌, ◌<◌, ◌∙◌, ◌∷◌, ◌≡◌}
 unfoldable use Rattle.sc_base.specs.Prelude.{is_name, is_reserved}
-use Rattle.sc_ast.specs.Prelude.{Number, Piece, blank, expr_height, expr_words, fits, head_of, head_words, is_ident}
-use Rattle.sc_ast.specs.Prelude.{line_of, literal_text, local_line, stmt_height, stmt_layout, text_of, word}
 use Rattle.sc_ast.specs.declared.expr.ExprTree as exprs
 use Rattle.sc_ast.specs.declared.expr.ExprTree.TheVariants as expr
-use Rattle.sc_ast.specs.declared.section.Decl.{Decl}
 use Rattle.sc_ast.specs.declared.section.Decl.TheVariants as decl
-use Rattle.sc_ast.specs.declared.stmt.StmtTree.{StmtTree}
 use Rattle.sc_ast.specs.declared.stmt.StmtTree as stmts
 use Rattle.sc_ast.specs.declared.stmt.StmtKind as kinds
 use Rattle.sc_ast.specs.declared.stmt.StmtKind.TheVariants as stmt
 use Rattle.sc_expr.specs.declared.mark.Keyword.TheVariants as keyword
-use Rattle.sc_print.specs.Prelude.{dense_decl, is_kept, is_kept_decl, is_kept_stmt, kept_head, kept_local, kept_param}
-use Rattle.sc_reread.proofs.Nesting.{Nested, even_equal, even_ident, even_keyword, even_literal, even_semicolon}
-use Rattle.sc_reread.proofs.Nesting.{nested_blank, nested_even, nested_level, nested_line, nested_more, nested_none}
-use Rattle.sc_reread.proofs.Nesting.{nested_parens, nested_square}
-use Rattle.sc_made.specs.Text.{addend, function_name, function_text, proto_text}
-use Rattle.sc_made.specs.Tree.{function_at, local_at, main_at, no_lines, output_proto, proto_at}
-use Rattle.sc_made.specs.Tree.{return_kind, set_kind, stmt_at, table_at, variable}
 use Rattle.sc_made.proofs.Spelled.{addend_fits, function_ident, literal_number}
 use Rattle.sc_made.proofs.Lines as lines
 use Rattle.sc_made.proofs.Lines.{AreLines, IsLine, more_lines, printed_line}

@@ -1,3 +1,4 @@
+pub mod Common
 pub mod Shapes
 pub mod Spelled
 pub mod Lines

@@ -1,21 +1,12 @@
 -- Lines of statements: words that spell them, and what these come to.
-use Rattle.std.proofs.Common.{List, [], ap₂, arith, refl, true, ℕ, ◌++◌, ◌∙◌, ◌∷◌, ◌≡◌, ◌≤◌}
-use Rattle.std.proofs.lemmas.Grind.{flat_map-append}
-use Rattle.sc_ast.specs.Height.{stmt_height, stmts_height}
-use Rattle.sc_ast.specs.Prelude.{Piece, line_of, lineless_kind, newline, piece_text, stmt_layout, text_of}
-use Rattle.sc_ast.specs.declared.stmt.StmtKind.{StmtKind}
-use Rattle.sc_ast.specs.declared.stmt.StmtTree.{StmtTree}
+use Rattle.sc_made.proofs.Common.{Free, Lines, List, Nested, Piece, Reading, SpellsStmtKind, StmtKind, StmtTree, []}
+use Rattle.sc_made.proofs.Common.{ap₂, arith, at_level, first_line, flat_map-append, is_kept_stmt, line_end, line_of}
+use Rattle.sc_made.proofs.Common.{line_symbols, lineless_kind, nested_append, nested_none, newline, none, part}
+use Rattle.sc_made.proofs.Common.{piece_text, reads, refl, same_line, stmt_height, stmt_holds, stmt_layout}
+use Rattle.sc_made.proofs.Common.{stmts_height, text_of, tidy_append, true, ℕ, ◌++◌, ◌∙◌, ◌∷◌, ◌≡◌, ◌≤◌}
 use Rattle.sc_expr.specs.declared.lexeme.Lexeme.{Lexeme}
-use Rattle.sc_parse.specs.Lists.{first_line}
-use Rattle.sc_parse.specs.Statements.{SpellsStmtKind}
 use Rattle.sc_parse.specs.Statements as spell
-use Rattle.sc_print.specs.Prelude.{is_kept_stmt}
-use Rattle.sc_print.proofs.Reading.{Reading, line_symbols, part, reads}
-use Rattle.sc_print.proofs.Spacing.{at_level, line_end, none, tidy_append}
 use Rattle.sc_print.proofs.Stmts as printed
-use Rattle.sc_print.proofs.Stmts.{Lines, same_line}
-use Rattle.sc_print.proofs.StmtSpacing.{Free, stmt_holds}
-use Rattle.sc_reread.proofs.Nesting.{Nested, nested_append, nested_none}
 
 -- the lexemes spell a statement that is this one, lines aside
 pub record Spelled (ts : List Lexeme) (s : StmtTree) : Type 0 where

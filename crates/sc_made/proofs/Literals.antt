@@ -1,16 +1,11 @@
 -- The literals of a made text: how they are typed and judged, and that those that are drawn fit.
-use Rattle.std.proofs.Common.{◌≡◌, ◌∙◌, ◌+◌, ◌*◌, ◌/◌, ◌%◌, ◌^◌, ◌≤◌, ℕ, suc, ap, arith, le-leb, nat_le, rules}
-use Rattle.std.proofs.Common.{true}
+use Rattle.sc_made.proofs.Common.{Scope, TypedExpr, Visible, addend, ap, argument, arith, drawn, goes_into, judged}
+use Rattle.sc_made.proofs.Common.{le-leb, literal, nat_le, rules, state_after, suc, true, typed, value_judged, ℕ, ◌%◌}
+use Rattle.sc_made.proofs.Common.{◌*◌, ◌+◌, ◌/◌, ◌^◌, ◌∙◌, ◌≡◌, ◌≤◌}
 use Rattle.sc_ast.specs.declared.expr.ExprTree as exprs
-use Rattle.sc_core.specs.Prelude.{Scope, goes_into, judged}
-use Rattle.sc_core.specs.Typing.{value_judged}
-use Rattle.sc_core.specs.declared.expr.TypedExpr.{TypedExpr}
 use Rattle.sc_core.specs.declared.expr.TypedExpr as typed_exprs
 use Rattle.sc_core.specs.declared.expr.TypedKind as typed_kinds
 use Rattle.sc_core.specs.declared.ty.Ty.TheVariants as ty
-use Rattle.sc_elab_expr.specs.Prelude.{Visible, typed}
-use Rattle.sc_made.specs.Text.{addend, argument, drawn, state_after}
-use Rattle.sc_made.specs.Tree.{literal}
 
 abbrev pub typed_int : ℕ → TypedExpr
 typed_int word = record { ty = ty.Int; kind = typed_kinds.Literal word }

@@ -1,35 +1,27 @@
 -- The loop in a worker's function, whose `i++` is the words of no tree.
-use Rattle.std.proofs.Common.{List, Some, [], ap, arith, codes, refl, rules, subst, sym, true}
-use Rattle.std.proofs.Common.{◌++◌, ◌∙◌, ◌∷◌, ◌≡◌, ◌≤◌}
-use Rattle.std.proofs.lemmas.Bool.{and_from}
-use Rattle.std.specs.Fmt.{digits}
+use Rattle.sc_made.proofs.Common.{ExprTree, Free, List, Nested, Part, Piece, Reading, Some, StmtTree, [], add_kind}
+use Rattle.sc_made.proofs.Common.{and_from, ap, are_kept, arith, at_level, below, blank, block_words, codes, digits}
+use Rattle.sc_made.proofs.Common.{even_binary, even_equal, even_ident, even_keyword, even_literal, even_semicolon}
+use Rattle.sc_made.proofs.Common.{even_step, everywhere, expr_tidy, expr_words, first_line, first_words, fixed}
+use Rattle.sc_made.proofs.Common.{for_with, gap, indent, is_ident, is_kept, is_kept_stmt, is_place, kept_option}
+use Rattle.sc_made.proofs.Common.{layouts, line_end, line_of, line_symbols, lines_at, literal_text, loop_kind}
+use Rattle.sc_made.proofs.Common.{nested_blank, nested_curly, nested_even, nested_level, nested_line, nested_more}
+use Rattle.sc_made.proofs.Common.{nested_none, nested_parens, nested_square, newline, next, next_at, no_lines, none}
+use Rattle.sc_made.proofs.Common.{part, place_words, reads, refl, rules, simple_tidy, start_at, stmt_at, stmt_height}
+use Rattle.sc_made.proofs.Common.{stmt_layout, stmts_tidy, store_kind, subst, sym, text_of, tidy_append, tidy_at, true}
+use Rattle.sc_made.proofs.Common.{variable, word, written, ◌++◌, ◌∙◌, ◌∷◌, ◌≡◌, ◌≤◌}
 use Rattle.sc_base.specs.declared.op.BinaryOp.TheVariants as binary
 unfoldable use Rattle.sc_base.specs.Prelude.{is_name, is_reserved}
-use Rattle.sc_ast.specs.Prelude.{Piece, blank, block_words, expr_words, first_words, indent, is_ident, is_place}
-use Rattle.sc_ast.specs.Prelude.{layouts, line_of, lines_at, literal_text, newline, place_words, stmt_height}
-use Rattle.sc_ast.specs.Prelude.{stmt_layout, text_of, word}
-use Rattle.sc_ast.specs.declared.expr.ExprTree.{ExprTree}
 use Rattle.sc_ast.specs.declared.expr.ExprTree as exprs
-use Rattle.sc_ast.specs.declared.stmt.StmtTree.{StmtTree}
 use Rattle.sc_ast.specs.declared.stmt.StmtTree as stmts
 use Rattle.sc_ast.specs.declared.stmt.StmtKind as kinds
 use Rattle.sc_expr.specs.declared.mark.Keyword.TheVariants as keyword
 use Rattle.sc_expr.specs.declared.mark.Mark.TheVariants as mark
-use Rattle.sc_parse.specs.Lists.{first_line}
 use Rattle.sc_parse.specs.Statements as spell
-use Rattle.sc_print.specs.Prelude.{are_kept, is_kept, is_kept_stmt, kept_option}
 use Rattle.sc_print.proofs.Apart as apart
 use Rattle.sc_print.proofs.Each.{all_at}
-use Rattle.sc_print.proofs.Reading.{Reading, fixed, line_symbols, part, reads, written}
-use Rattle.sc_print.proofs.Spacing.{at_level, gap, line_end, next, none, tidy_append, tidy_at}
 use Rattle.sc_print.proofs.Spelling.{spelled_at}
-use Rattle.sc_print.proofs.Stmts.{Part, everywhere, for_with}
-use Rattle.sc_print.proofs.StmtSpacing.{Free, expr_tidy, simple_tidy, stmts_tidy}
 use Rattle.sc_print.proofs.Tables as tables
-use Rattle.sc_reread.proofs.Nesting.{Nested, even_binary, even_equal, even_ident, even_keyword, even_literal}
-use Rattle.sc_reread.proofs.Nesting.{even_semicolon, even_step, nested_blank, nested_curly, nested_even, nested_level}
-use Rattle.sc_reread.proofs.Nesting.{nested_line, nested_more, nested_none, nested_parens, nested_square}
-use Rattle.sc_made.specs.Tree.{add_kind, below, loop_kind, next_at, no_lines, start_at, stmt_at, store_kind, variable}
 use Rattle.sc_made.proofs.Spelled.{literal_number}
 use Rattle.sc_made.proofs.Lines.{IsLine, Spelled}
 

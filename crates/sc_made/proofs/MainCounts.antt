@@ -1,24 +1,11 @@
 -- `Main` holds no more than a program may.
-use Rattle.std.proofs.Common.{List, [], ◌∷◌, ◌++◌, ◌≡◌, ◌∙◌, ◌+◌, ◌*◌, ◌≤◌, ℕ, suc, ap, arith}
-use Rattle.std.proofs.Common.{le-leb, length, length-append, map, nat_le, refl, true}
-use Rattle.std.proofs.lemmas.Bool.{and_from}
-use Rattle.std.proofs.lemmas.List.{length-map}
-use Rattle.std.specs.List.{concat}
+use Rattle.sc_made.proofs.Common.{Callees, ExportLine, HeadTree, ImportLine, List, SectionTree, [], all_functions}
+use Rattle.sc_made.proofs.Common.{all_none, and_from, ap, arith, concat, function_nodes, global_lines, head_lines}
+use Rattle.sc_made.proofs.Common.{le-leb, length, length-append, length-map, map, most_nodes, nat_le, none_beyond}
+use Rattle.sc_made.proofs.Common.{output_import, output_proto, refl, section-nodes, section_nodes, structs_from, suc}
+use Rattle.sc_made.proofs.Common.{total, true, unless, ℕ, ◌*◌, ◌++◌, ◌+◌, ◌∙◌, ◌∷◌, ◌≡◌, ◌≤◌}
+use Rattle.sc_types.specs.Prelude.{function_lines, section_lines}
 use Rattle.sc_ast.specs.declared.section.Decl.TheVariants as decl
-use Rattle.sc_ast.specs.declared.section.ExportLine.{ExportLine}
-use Rattle.sc_ast.specs.declared.section.HeadTree.{HeadTree}
-use Rattle.sc_ast.specs.declared.section.ImportLine.{ImportLine}
-use Rattle.sc_ast.specs.declared.section.SectionTree.{SectionTree}
-use Rattle.sc_core.specs.Prelude.{most_nodes, total}
-use Rattle.sc_scope.specs.Prelude.{unless}
-use Rattle.sc_elab_expr.specs.Prelude.{Callees}
-use Rattle.sc_types.proofs.TypedNodes.{section-nodes}
-use Rattle.sc_types.specs.Counts.{function_lines, global_lines, head_lines, section_lines}
-use Rattle.sc_types.specs.Counts.{section_nodes, structs_from}
-use Rattle.sc_types.specs.Prelude.{function_nodes}
-use Rattle.sc_performers.proofs.CountsKept.{all_none, none_beyond}
-use Rattle.sc_made.specs.Text.{all_functions}
-use Rattle.sc_made.specs.Tree.{output_import, output_proto}
 use Rattle.sc_made.proofs.Shapes.{AreImports, AreProtos, IsMain, and_import, and_proto, no_imports, no_protos}
 use Rattle.sc_made.proofs.Shares.{numbers_length}
 use Rattle.sc_made.proofs.Signatures.{functions_are, heads_are, no_globals, no_structs, tree_of}

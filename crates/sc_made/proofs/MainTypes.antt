@@ -1,37 +1,20 @@
 -- `Main` breaks no rule of types.
-use Rattle.std.proofs.Common.{List, Some, [], ◌∷◌, ◌++◌, ◌≡◌, ◌∙◌, ◌&&◌, ℕ, ap, codes, map, refl, rules}
-use Rattle.std.proofs.Common.{true}
-use Rattle.std.specs.List.{concat}
-use Rattle.sc_base.specs.Prelude.{all_hold}
-use Rattle.sc_ast.specs.declared.expr.CallTree.{CallTree}
-use Rattle.sc_ast.specs.declared.expr.ExprTree.{ExprTree}
+use Rattle.sc_made.proofs.Common.{AssignCall, Call, CallTree, Callees, ExprTree, GlobalTree, HeadTree, List, Local}
+use Rattle.sc_made.proofs.Common.{ReturnValue, Scope, SectionTree, Some, StmtTree, TypedExpr, Variable, Visible, []}
+use Rattle.sc_made.proofs.Common.{all_functions, all_hold, ap, args_fit, argument, assign_call_holds, call_holds}
+use Rattle.sc_made.proofs.Common.{call_kind, call_of, callees_of, codes, concat, decl_lines, function_lines}
+use Rattle.sc_made.proofs.Common.{function_name, global_variable, goes_into, going_to_all, is_target, judged, literal}
+use Rattle.sc_made.proofs.Common.{map, output_kind, params_of, place_judged, refl, result_goes, return_kind}
+use Rattle.sc_made.proofs.Common.{return_value_holds, rules, scope_in, section_lines, stmt_at, stmt_lines, structs}
+use Rattle.sc_made.proofs.Common.{true, type_of, typed, unless, visible_of, ℕ, ◌&&◌, ◌++◌, ◌∙◌, ◌∷◌, ◌≡◌}
 use Rattle.sc_ast.specs.declared.expr.ExprTree as exprs
-use Rattle.sc_ast.specs.declared.expr.ExprTree.TheVariants.{Variable}
 use Rattle.sc_ast.specs.declared.stmt.StmtKind as kinds
-use Rattle.sc_ast.specs.declared.stmt.StmtKind.TheVariants.{AssignCall, Call, ReturnValue}
 use Rattle.sc_ast.specs.declared.stmt.StmtTree as stmts
-use Rattle.sc_ast.specs.declared.stmt.StmtTree.{StmtTree}
 use Rattle.sc_ast.specs.declared.section.Decl.TheVariants as decl
-use Rattle.sc_ast.specs.declared.section.GlobalTree.{GlobalTree}
-use Rattle.sc_ast.specs.declared.section.HeadTree.{HeadTree}
-use Rattle.sc_ast.specs.declared.section.SectionTree.{SectionTree}
-use Rattle.sc_core.specs.Prelude.{Scope, args_fit, goes_into, is_target, judged, result_goes}
-use Rattle.sc_core.specs.Typing.{place_judged}
-use Rattle.sc_core.specs.declared.expr.TypedExpr.{TypedExpr}
 use Rattle.sc_core.specs.declared.expr.TypedExpr as typed_exprs
 use Rattle.sc_core.specs.declared.expr.TypedKind as typed_kinds
-use Rattle.sc_core.specs.declared.expr.VarRef.TheVariants.{Local}
 use Rattle.sc_core.specs.declared.ty.Ty.TheVariants as ty
-use Rattle.sc_scope.specs.Prelude.{unless}
-use Rattle.sc_elab_expr.specs.Prelude.{Callees, Visible, typed}
-use Rattle.sc_elab_stmt.specs.Prelude.{assign_call_holds, call_holds, going_to_all, params_of, return_value_holds}
-use Rattle.sc_elab_stmt.specs.Prelude.{stmt_lines}
-use Rattle.sc_elab.specs.Prelude.{callees_of, decl_lines, function_lines, scope_in, section_lines, structs}
-use Rattle.sc_elab.specs.Prelude.{global_variable, type_of, visible_of}
 unfoldable use Rattle.sc_elab.specs.Prelude.{typed_structs}
-use Rattle.sc_made.specs.Text.{all_functions, function_name}
-use Rattle.sc_made.specs.Text.{argument}
-use Rattle.sc_made.specs.Tree.{call_kind, call_of, literal, output_kind, return_kind, stmt_at}
 use Rattle.sc_made.proofs.Literals.{argument_small, literal_goes}
 use Rattle.sc_made.proofs.Shapes.{AreCalls, IsMain, calls, ends}
 use Rattle.sc_made.proofs.Signatures.{HasSignatures, function_signature, no_structs, no_tags, output_signature}

@@ -1,42 +1,24 @@
 -- The sections of a made text break no rule of names.
-use Rattle.std.proofs.Common.{List, Some, [], ◌∷◌, ◌++◌, ◌≡◌, ◌∙◌, ◌&&◌, ◌≤◌, ℕ, suc, ap, ap₂}
-use Rattle.std.proofs.Common.{append-nil, append_assoc, codes, false, map, refl, rules, sym, true}
-use Rattle.std.proofs.lemmas.Bool.{and_from}
-use Rattle.std.proofs.lemmas.List.{map-append}
-use Rattle.std.specs.List.{concat}
-use Rattle.sc_ast.specs.declared.expr.CallTree.{CallTree}
-use Rattle.sc_ast.specs.declared.expr.ExprTree.{ExprTree}
+use Rattle.sc_made.proofs.Common.{CallTree, Decl, ExprTree, FunctionLines, FunctionTree, GlobalTree, HeadTree}
+use Rattle.sc_made.proofs.Common.{ImportLine, IsAmong, IsAsked, Known, List, SectionTree, Some, StmtTree, StructTree}
+use Rattle.sc_made.proofs.Common.{Text, Variable, [], add_kind, all_functions, all_hold, among, among_back, among_front}
+use Rattle.sc_made.proofs.Common.{and_from, ap, append-nil, append_assoc, ap₂, below, body_lines, call_kind, call_known}
+use Rattle.sc_made.proofs.Common.{call_of, codes, concat, declared, element, expr_known, false, first, function_at}
+use Rattle.sc_made.proofs.Common.{function_name, functions_in, functions_of, is_callable, is_new, later, line_of_text}
+use Rattle.sc_made.proofs.Common.{literal, loop_kind, main_at, map, map-append, names_broken, next_at, numbers_from}
+use Rattle.sc_made.proofs.Common.{output_kind, output_proto, proto_at, refl, return_kind, rules, set_kind, start_at}
+use Rattle.sc_made.proofs.Common.{stmt_at, store_kind, suc, sym, table_at, true, unless, variable, workers, ℕ, ◌&&◌}
+use Rattle.sc_made.proofs.Common.{◌++◌, ◌∙◌, ◌∷◌, ◌≡◌, ◌≤◌}
+use Rattle.sc_scope.specs.Prelude.{decl_lines, function_lines, lines_from, part_lines, section_lines, stmt_lines}
 use Rattle.sc_ast.specs.declared.expr.ExprTree as exprs
-use Rattle.sc_ast.specs.declared.expr.ExprTree.TheVariants.{Variable}
-use Rattle.sc_ast.specs.declared.section.Decl.{Decl}
 use Rattle.sc_ast.specs.declared.section.Decl.TheVariants as decl
-use Rattle.sc_ast.specs.declared.section.FunctionTree.{FunctionTree}
-use Rattle.sc_ast.specs.declared.section.GlobalTree.{GlobalTree}
-use Rattle.sc_ast.specs.declared.section.HeadTree.{HeadTree}
-use Rattle.sc_ast.specs.declared.section.ImportLine.{ImportLine}
-use Rattle.sc_ast.specs.declared.section.SectionTree.{SectionTree}
-use Rattle.sc_ast.specs.declared.section.StructTree.{StructTree}
 use Rattle.sc_ast.specs.declared.stmt.StmtKind as kinds
-use Rattle.sc_ast.specs.declared.stmt.StmtTree.{StmtTree}
 use Rattle.sc_ast.specs.declared.stmt.StmtTree as stmts
-use Rattle.sc_scope.specs.Prelude.{Known, Text, among, body_lines, call_known, decl_lines, declared, expr_known}
-use Rattle.sc_scope.specs.Prelude.{function_lines, is_callable, is_new, line_of_text, lines_from}
-use Rattle.sc_scope.specs.Prelude.{functions_in, names_broken, part_lines, stmt_lines, unless}
 use Rattle.sc_scope.proofs.Statements.{for-at}
-use Rattle.sc_base.specs.Prelude.{all_hold}
-use Rattle.sc_scope.specs.Names.{section_lines}
 use Rattle.sc_scope.specs.declared.section_names.SectionNames.{SectionNames}
 use Rattle.sc_performers.proofs.Declared.{protos_functions, protos_globals, protos_protos, protos_structs}
-use Rattle.sc_performers.proofs.Distinct.{among_back, among_front}
-use Rattle.sc_performers.proofs.Uses.{IsAmong, first, later}
-use Rattle.sc_made.specs.Text.{all_functions, function_name, functions_of, numbers_from, workers}
-use Rattle.sc_made.specs.Tree.{FunctionLines, call_kind, call_of, function_at, literal, loop_kind, main_at, output_kind}
-use Rattle.sc_made.specs.Tree.{add_kind, below, element, next_at, output_proto, proto_at, return_kind, set_kind}
-use Rattle.sc_made.specs.Tree.{start_at, stmt_at, store_kind, table_at, variable}
-use Rattle.sc_made.specs.Laws.{IsAsked}
-use Rattle.sc_made.proofs.Declared.{behind_functions, functions_functions}
-use Rattle.sc_made.proofs.Declared.{functions_globals, functions_protos, functions_structs}
-use Rattle.sc_made.proofs.Declared.{imports_named}
+use Rattle.sc_made.proofs.Declared.{behind_functions, functions_functions, functions_globals, functions_protos}
+use Rattle.sc_made.proofs.Declared.{functions_structs, imports_named}
 use Rattle.sc_made.proofs.Naming.{Below, below_more, below_next, function_among, function_names, function_new}
 use Rattle.sc_made.proofs.Numbers.{Rise, functions_rise}
 use Rattle.sc_made.proofs.Shapes.{AreCalls, AreFunctions, AreMade, AreProtos, AreWorkers, IsMain, IsWorker}

@@ -1,13 +1,8 @@
 -- The names of functions and workers: which are among others, and that they are new.
-use Rattle.std.proofs.Common.{Bool, List, [], ◌∷◌, ◌++◌, ◌≡◌, ◌∙◌, ◌<◌, ◌≤◌, ◌||◌, ℕ, suc, ap, arith, bytes_eq}
-use Rattle.std.proofs.Common.{drop, false, inl, inr, map, refl, subst, true}
-use Rattle.std.proofs.lemmas.Bool.{or_left, or_right}
-use Rattle.std.proofs.lemmas.Fmt.{decimal_injective}
-use Rattle.sc_base.proofs.Texts.{bytes_eq_self, same_text}
-use Rattle.sc_scope.specs.Prelude.{Text, among, is_new}
-use Rattle.sc_performers.proofs.Distinct.{is_false, not_both, not_from}
-use Rattle.sc_performers.proofs.Uses.{IsAmong, is_first_or_later, none_among}
-use Rattle.sc_made.specs.Text.{function_name, worker_name}
+use Rattle.sc_made.proofs.Common.{Bool, IsAmong, List, Text, [], among, ap, arith, bytes_eq, bytes_eq_self}
+use Rattle.sc_made.proofs.Common.{decimal_injective, drop, false, function_name, inl, inr, is_false, is_first_or_later}
+use Rattle.sc_made.proofs.Common.{is_new, map, none_among, not_both, not_from, or_left, or_right, refl, same_text}
+use Rattle.sc_made.proofs.Common.{subst, suc, true, worker_name, ℕ, ◌++◌, ◌<◌, ◌||◌, ◌∙◌, ◌∷◌, ◌≡◌, ◌≤◌}
 
 abbrev pub function_names : List ℕ → List Text
 function_names js = map function_name js

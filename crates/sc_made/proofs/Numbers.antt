@@ -1,12 +1,9 @@
 -- The numbers of functions and workers: which are in a list, and that they rise.
-use Rattle.std.proofs.Common.{Bool, List, [], ◌∷◌, ◌≡◌, ◌+◌, ◌<◌, ◌≤◌, ◌%◌, ℕ, suc, zero, arith, cond, eq-eqb}
-use Rattle.std.proofs.Common.{false, refl, subst, sym, true, inl, inr}
-use Rattle.std.proofs.lemmas.Bool.{false≢true}
-use Rattle.std.specs.List.{AllByRecursion}
+use Rattle.sc_made.proofs.Common.{AllByRecursion, Bool, IsAmong, List, [], all_functions, arith, cond, eq-eqb, false}
+use Rattle.sc_made.proofs.Common.{false≢true, filter, first, functions_of, inl, inr, is_first_or_later, later, nat_eq}
+use Rattle.sc_made.proofs.Common.{none_among, numbers_from, refl, subst, suc, sym, true, workers, zero, ℕ, ◌%◌, ◌+◌}
+use Rattle.sc_made.proofs.Common.{◌<◌, ◌∷◌, ◌≡◌, ◌≤◌}
 use Rattle.std.proofs.lemmas.Nat.{mod_below}
-use Rattle.std.specs.Prelude.{filter, nat_eq}
-use Rattle.sc_performers.proofs.Uses.{IsAmong, first, is_first_or_later, later, none_among}
-use Rattle.sc_made.specs.Text.{all_functions, functions_of, numbers_from, workers}
 
 -- the numbers rise, from `low` on, and stay below `high`
 abbrev pub Rise : (low high : ℕ) → List ℕ → Type 0

@@ -1,22 +1,11 @@
 -- What `Main` imports is offered by the workers, as it declares it.
-use Rattle.std.proofs.Common.{Bool, List, Some, [], ◌∷◌, ◌==◌, ◌≡◌, ◌∙◌, ◌||◌, ◌%◌, ℕ, suc, ap, bytes_eq, arith, codes}
-use Rattle.std.proofs.Common.{eq-eqb, false, get_or, if◌then◌else◌, inl, inr, is_some, map, nat_eq, ne_eqb, not, refl}
-use Rattle.std.proofs.Common.{subst, sym, true}
-use Rattle.std.proofs.lemmas.Bool.{and_from, false≢true, or_left, or_right}
-use Rattle.sc_base.specs.Prelude.{all_hold}
-use Rattle.sc_base.proofs.Texts.{bytes_eq_self, same_text}
-use Rattle.sc_ast.specs.Prelude.{head_of}
-use Rattle.sc_ast.specs.declared.section.FunctionTree.{FunctionTree}
-use Rattle.sc_ast.specs.declared.section.HeadTree.{HeadTree}
-use Rattle.sc_ast.specs.declared.section.ImportLine.{ImportLine}
-use Rattle.sc_ast.specs.declared.section.SectionTree.{SectionTree}
-use Rattle.sc_scope.specs.Interfaces.{offers}
-use Rattle.sc_scope.specs.Prelude.{Text, among, export_names, heads_in, is_environment, offering}
-use Rattle.sc_interfaces.specs.Faces.{agree, agrees_there, agrees_with}
-use Rattle.sc_performers.proofs.Distinct.{is_false, not_from}
-use Rattle.sc_performers.proofs.Uses.{IsAmong, is_first_or_later, none_among}
-use Rattle.sc_made.specs.Text.{function_name, functions_of, worker_name, workers}
-use Rattle.sc_made.specs.Tree.{import_at, proto_at}
+use Rattle.sc_made.proofs.Common.{Bool, FunctionTree, HeadTree, ImportLine, IsAmong, List, SectionTree, Some, Text, []}
+use Rattle.sc_made.proofs.Common.{agree, agrees_there, agrees_with, all_hold, among, and_from, ap, arith, bytes_eq}
+use Rattle.sc_made.proofs.Common.{bytes_eq_self, codes, eq-eqb, export_names, false, false≢true, function_name}
+use Rattle.sc_made.proofs.Common.{functions_of, get_or, head_of, heads_in, if◌then◌else◌, import_at, inl, inr}
+use Rattle.sc_made.proofs.Common.{is_environment, is_false, is_first_or_later, is_some, map, nat_eq, ne_eqb, none_among}
+use Rattle.sc_made.proofs.Common.{not, not_from, offering, offers, or_left, or_right, proto_at, refl, same_text, subst}
+use Rattle.sc_made.proofs.Common.{suc, sym, true, worker_name, workers, ℕ, ◌%◌, ◌==◌, ◌||◌, ◌∙◌, ◌∷◌, ◌≡◌}
 use Rattle.sc_made.proofs.Declared.{exports_named, functions_heads}
 use Rattle.sc_made.proofs.Naming.{function_among}
 use Rattle.sc_made.proofs.Shapes.{AreFunctions, AreProtos, AreWorkers, IsMain, IsWorker, and_function, and_proto}

@@ -1,20 +1,15 @@
 -- A made text is split into its sections, and these are read as its trees.
-use Rattle.std.proofs.Common.{List, [], ap, arith, flat_map, inr, map, refl, subst, zero, suc, ℕ}
-use Rattle.std.proofs.Common.{◌++◌, ◌+◌, ◌∷◌, ◌≡◌, ◌≤◌}
-use Rattle.std.specs.List.{AllZip, concat}
-use Rattle.sc_ast.specs.declared.section.SectionTree.{SectionTree}
-use Rattle.sc_lex.specs.Prelude.{line_at}
-use Rattle.sc_lex.specs.Cutting.{nothing}
+use Rattle.sc_made.proofs.Common.{AllZip, AreSame, IsReadAs, Joined, List, MadeTextsAreRead, SectionTree, [], ap, arith}
+use Rattle.sc_made.proofs.Common.{bytes_of, concat, flat_map, inr, made_text, made_trees, main_text, map, numbers_from}
+use Rattle.sc_made.proofs.Common.{refl, subst, suc, worker_text, worker_tree, workers, zero, ℕ, ◌++◌, ◌+◌, ◌∷◌, ◌≡◌}
+use Rattle.sc_made.proofs.Common.{◌≤◌}
+use Rattle.sc_lex.specs.Prelude.{line_at, nothing}
 use Rattle.sc_lex.specs.declared.section.Section.{Section}
 use Rattle.sc_read.specs.Reading.{IsRead, part_of}
 use Rattle.sc_reread.specs.Performing as single
 use Rattle.sc_reread.proofs.Joining.{to_sections}
 use Rattle.sc_reread.proofs.Replaced.{cuts_of}
 use Rattle.sc_reread.proofs.Splitting as splitting
-use Rattle.sc_reread.proofs.Splitting.{Joined, bytes_of}
-use Rattle.sc_made.specs.Laws.{AreSame, IsReadAs, MadeTextsAreRead}
-use Rattle.sc_made.specs.Text.{main_text, made_text, numbers_from, worker_text, workers}
-use Rattle.sc_made.specs.Tree.{made_trees, worker_tree}
 use Rattle.sc_made.proofs.Sections.{IsSectionText, main_is_text, worker_is_text}
 
 -- The texts of sections, one for each tree.

@@ -1,25 +1,19 @@
 -- The sections of a made text: words that spell them, and no compartment line but the first.
-use Rattle.std.proofs.Common.{List, [], ap, append-nil, append_assoc, ap₂, arith, codes, decimal, flat_map, refl, subst}
-use Rattle.std.proofs.Common.{sym, true, ℕ, ◌++◌, ◌<◌, ◌∙◌, ◌∷◌, ◌≡◌, ◌≤◌}
-use Rattle.std.proofs.lemmas.Grind.{flat_map-append}
+use Rattle.sc_made.proofs.Common.{Closed, Closing, IsText, List, Piece, SectionTree, [], addend, all_functions, ap}
+use Rattle.sc_made.proofs.Common.{append-nil, append_assoc, ap₂, arith, behind_closing, call_text, closed_append, codes}
+use Rattle.sc_made.proofs.Common.{decimal, even_heading, export_text, flat_map, flat_map-append, function_name}
+use Rattle.sc_made.proofs.Common.{function_text, functions_of, headed, headed_text, heading_words, import_text}
+use Rattle.sc_made.proofs.Common.{main_body, main_text, main_tree, nested_append, nested_even, nested_line, nested_more}
+use Rattle.sc_made.proofs.Common.{piece_text, plain, plain_headless, proto_text, refl, subst, sym, text_of, tidy_plain}
+use Rattle.sc_made.proofs.Common.{true, worker_name, worker_text, worker_tree, ℕ, ◌++◌, ◌<◌, ◌∙◌, ◌∷◌, ◌≡◌, ◌≤◌}
 unfoldable use Rattle.sc_base.specs.Prelude.{is_name}
-use Rattle.sc_ast.specs.Prelude.{Piece, heading_words, piece_text, text_of}
 unfoldable use Rattle.sc_ast.specs.Prelude.{export_words, import_words}
-use Rattle.sc_ast.specs.declared.section.SectionTree.{SectionTree}
 use Rattle.sc_print.proofs.DirectiveWords.{heading_begins, heading_line_is}
 use Rattle.sc_print.proofs.Lined.{line, tidy}
 use Rattle.sc_print.proofs.Whole.{exports_lined, imports_lined, section_with}
 use Rattle.sc_reread.specs.Performing.{IsReadAs}
 use Rattle.sc_reread.proofs.Headings.{last, mark}
-use Rattle.sc_reread.proofs.Headless.{Closed, Closing, behind_closing, closed_append, headed, headed_text, plain}
-use Rattle.sc_reread.proofs.Headless.{plain_headless, tidy_plain}
-use Rattle.sc_reread.proofs.Nesting.{nested_append, nested_even, nested_line, nested_more}
-use Rattle.sc_reread.proofs.Performing.{even_heading}
 use Rattle.sc_reread.proofs.Reading.{IsWritten, read_as}
-use Rattle.sc_reread.proofs.Splitting.{IsText}
-use Rattle.sc_made.specs.Text.{addend, all_functions, call_text, export_text, function_name, function_text}
-use Rattle.sc_made.specs.Text.{functions_of, import_text, main_text, proto_text, worker_name, worker_text}
-use Rattle.sc_made.specs.Tree.{main_body, main_tree, worker_tree}
 use Rattle.sc_made.proofs.Numbers.{all_below, all_rise, functions_rise}
 use Rattle.sc_made.proofs.Spelled.{worker_named}
 use Rattle.sc_made.proofs.Calls.{calls_are}

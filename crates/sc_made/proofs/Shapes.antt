@@ -1,15 +1,10 @@
 -- The sections of a made text with any lines.
-use Rattle.std.proofs.Common.{List, [], ◌∷◌, ◌++◌, ◌≡◌, ℕ, codes, map}
-use Rattle.sc_ast.specs.declared.stmt.StmtTree.{StmtTree}
+use Rattle.sc_made.proofs.Common.{ExportLine, FunctionLines, FunctionTree, HeadTree, ImportLine, List, SectionTree}
+use Rattle.sc_made.proofs.Common.{StmtTree, [], all_functions, call_kind, codes, export_at, function_at, functions_of}
+use Rattle.sc_made.proofs.Common.{import_at, literal, main_at, map, numbers_from, output_import, output_kind}
+use Rattle.sc_made.proofs.Common.{output_proto, proto_at, return_kind, stmt_at, table_at, worker_name, workers, ℕ, ◌++◌}
+use Rattle.sc_made.proofs.Common.{◌∷◌, ◌≡◌}
 use Rattle.sc_ast.specs.declared.section.Decl.TheVariants as decl
-use Rattle.sc_ast.specs.declared.section.ExportLine.{ExportLine}
-use Rattle.sc_ast.specs.declared.section.FunctionTree.{FunctionTree}
-use Rattle.sc_ast.specs.declared.section.HeadTree.{HeadTree}
-use Rattle.sc_ast.specs.declared.section.ImportLine.{ImportLine}
-use Rattle.sc_ast.specs.declared.section.SectionTree.{SectionTree}
-use Rattle.sc_made.specs.Text.{all_functions, functions_of, numbers_from, worker_name, workers}
-use Rattle.sc_made.specs.Tree.{FunctionLines, call_kind, export_at, function_at, import_at, literal, main_at}
-use Rattle.sc_made.specs.Tree.{output_import, output_kind, output_proto, proto_at, return_kind, stmt_at, table_at}
 
 -- `Main`
 

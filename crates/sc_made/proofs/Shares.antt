@@ -1,8 +1,7 @@
 -- A worker has few functions: those of each 31st number.
-use Rattle.std.proofs.Common.{Bool, List, [], ◌∷◌, ◌≡◌, ◌∙◌, ◌+◌, ◌*◌, ◌%◌, ◌<◌, ◌≤◌, ◌⊎◌, ℕ, zero, suc, ap, arith}
-use Rattle.std.proofs.Common.{cond, false, filter, inl, inr, length, nat_eq, refl, true}
-use Rattle.std.proofs.lemmas.Bool.{cases_lt, eqb-true}
-use Rattle.sc_made.specs.Text.{all_functions, functions_of, numbers_from, workers}
+use Rattle.sc_made.proofs.Common.{Bool, List, [], all_functions, ap, arith, cases_lt, cond, eqb-true, false, filter}
+use Rattle.sc_made.proofs.Common.{functions_of, inl, inr, length, nat_eq, numbers_from, refl, suc, true, workers, zero}
+use Rattle.sc_made.proofs.Common.{ℕ, ◌%◌, ◌*◌, ◌+◌, ◌<◌, ◌∙◌, ◌∷◌, ◌≡◌, ◌≤◌, ◌⊎◌}
 
 -- how many numbers of a list pass a test
 

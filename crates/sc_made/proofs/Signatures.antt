@@ -1,24 +1,13 @@
 -- What `Main` declares, and by which heads its calls are typed.
-use Rattle.std.proofs.Common.{Bool, List, None, Some, [], ◌∷◌, ◌++◌, ◌≡◌, ◌∙◌, ℕ, ap, ap₂, bytes_eq, codes}
-use Rattle.std.proofs.Common.{false, get_or, if◌then◌else◌, map, nat_eq, refl, true}
-use Rattle.std.proofs.lemmas.Bool.{false≢true}
-use Rattle.std.specs.List.{AllByRecursion}
+use Rattle.sc_made.proofs.Common.{AllByRecursion, Bool, Callees, Decl, FunctionTree, HeadTree, List, None, SectionTree}
+use Rattle.sc_made.proofs.Common.{Signature, Some, StructTree, [], all_functions, ap, ap₂, bytes_eq, bytes_eq_self}
+use Rattle.sc_made.proofs.Common.{callees_of, codes, false, false≢true, function_name, function_named, functions_in}
+use Rattle.sc_made.proofs.Common.{get_or, globals_in, head_named, heads_in, if◌then◌else◌, is_false, main_at, map}
+use Rattle.sc_made.proofs.Common.{nat_eq, or_first, output_proto, proto_at, refl, same_text, signature_by, struct_names}
+use Rattle.sc_made.proofs.Common.{structs_in, true, ℕ, ◌++◌, ◌∙◌, ◌∷◌, ◌≡◌}
 use Rattle.std.specs.Option.{option_map}
-use Rattle.sc_base.proofs.Texts.{bytes_eq_self, same_text}
-use Rattle.sc_ast.specs.declared.section.Decl.{Decl}
 use Rattle.sc_ast.specs.declared.section.Decl.TheVariants as decl
-use Rattle.sc_ast.specs.declared.section.FunctionTree.{FunctionTree}
-use Rattle.sc_ast.specs.declared.section.HeadTree.{HeadTree}
-use Rattle.sc_ast.specs.declared.section.SectionTree.{SectionTree}
-use Rattle.sc_ast.specs.declared.section.StructTree.{StructTree}
-use Rattle.sc_core.specs.Prelude.{Signature}
 use Rattle.sc_core.specs.declared.ty.Ty.TheVariants as ty
-use Rattle.sc_scope.specs.Prelude.{function_named, functions_in, globals_in, heads_in, struct_names, structs_in}
-use Rattle.sc_elab_expr.specs.Prelude.{Callees}
-use Rattle.sc_elab.specs.Prelude.{callees_of, head_named, or_first, signature_by}
-use Rattle.sc_made.specs.Text.{all_functions, function_name}
-use Rattle.sc_made.specs.Tree.{main_at, output_proto, proto_at}
-use Rattle.sc_performers.proofs.Distinct.{is_false}
 use Rattle.sc_made.proofs.Declared.{behind_functions, behind_globals, behind_heads, behind_structs}
 use Rattle.sc_made.proofs.Shapes.{AreProtos, IsMain, and_proto, no_protos}
 

@@ -1,21 +1,13 @@
 -- The sections of a made text are small.
-use Rattle.std.proofs.Common.{List, ◌≡◌, ◌≤◌, ℕ, suc, ap, arith, map, refl, subst, sym}
+use Rattle.sc_made.proofs.Common.{AllByRecursion, AreSmall, Callees, FunctionLines, FunctionTree, IsAsked, IsSmall}
+use Rattle.sc_made.proofs.Common.{List, SectionTree, StmtTree, all_functions, ap, arith, callees_of, cells_of}
+use Rattle.sc_made.proofs.Common.{frame_bound, function-nodes, function_at, functions_of, main_at, map, nodes}
+use Rattle.sc_made.proofs.Common.{numbers_from, program_of, refl, sections_from, structs, subst, suc, sym, tags, total}
+use Rattle.sc_made.proofs.Common.{typed_function, typed_global, typed_section, variables, workers, ℕ, ◌≡◌, ◌≤◌}
 use Rattle.std.proofs.lemmas.List.Elements.{All-from_recursion}
-use Rattle.std.specs.List.{AllByRecursion}
-use Rattle.sc_ast.specs.declared.section.FunctionTree.{FunctionTree}
-use Rattle.sc_ast.specs.declared.section.SectionTree.{SectionTree}
-use Rattle.sc_ast.specs.declared.stmt.StmtTree.{StmtTree}
-use Rattle.sc_core.specs.Prelude.{cells_of, frame_bound, nodes, total, variables}
 use Rattle.sc_core.specs.declared.section.TypedFunction.{TypedFunction}
 use Rattle.sc_core.specs.declared.section.TypedGlobal.{TypedGlobal}
-use Rattle.sc_elab_expr.specs.Prelude.{Callees}
-use Rattle.sc_elab.specs.Prelude.{callees_of, program_of, sections_from, structs, tags, typed_function, typed_global}
-use Rattle.sc_elab.specs.Prelude.{typed_section}
 unfoldable use Rattle.sc_elab.specs.Prelude.{typed_locals}
-use Rattle.sc_types.proofs.TypedNodes.{function-nodes}
-use Rattle.sc_made.specs.Laws.{AreSmall, IsAsked, IsSmall}
-use Rattle.sc_made.specs.Text.{all_functions, functions_of, numbers_from, workers}
-use Rattle.sc_made.specs.Tree.{FunctionLines, function_at, main_at}
 use Rattle.sc_made.proofs.MainCounts as main_counts
 use Rattle.sc_made.proofs.Shapes.{AreFunctions, AreMade, AreWorkers, IsMain, IsWorker, and_function, and_worker}
 use Rattle.sc_made.proofs.Shapes.{no_functions, no_workers}

@@ -1,16 +1,13 @@
 -- Names of functions and of workers are names, and numbers that are drawn are literals.
-use Rattle.std.proofs.Common.{Bool, List, [], ap, arith, decimal, false, le-leb, leb-true, length, lt-ltb, nat_le}
-use Rattle.std.proofs.Common.{nat_lt, not, refl, true, ℕ, ◌%◌, ◌&&◌, ◌++◌, ◌+◌, ◌<◌, ◌^◌, ◌∙◌, ◌∷◌, ◌≡◌}
-use Rattle.std.proofs.lemmas.Bool.{and_from, and_parts, or_right}
-use Rattle.std.proofs.lemmas.Fmt.{decimal_by_steps, length-decimal-le}
+use Rattle.sc_made.proofs.Common.{Bool, List, Number, [], addend, and_from, and_parts, ap, argument, arith, decimal}
+use Rattle.sc_made.proofs.Common.{decimal_by_steps, false, fits, function_name, is_digit, is_ident, is_name_byte}
+use Rattle.sc_made.proofs.Common.{is_nondigit, le-leb, leb-true, length, length-decimal-le, list_all, lt-ltb, nat_le}
+use Rattle.sc_made.proofs.Common.{nat_lt, not, or_right, refl, reserved_words, true, worker_name, ℕ, ◌%◌, ◌&&◌, ◌++◌}
+use Rattle.sc_made.proofs.Common.{◌+◌, ◌<◌, ◌^◌, ◌∙◌, ◌∷◌, ◌≡◌}
 use Rattle.std.proofs.lemmas.List.Folds.{list_all-append}
-use Rattle.std.specs.List.{list_all}
 use Rattle.sc_base.proofs.Lists.{list_all_along}
-use Rattle.sc_base.specs.Prelude.{is_digit, is_name_byte, is_nondigit, reserved_words}
 unfoldable use Rattle.sc_base.specs.Prelude.{is_name, is_reserved}
-use Rattle.sc_ast.specs.Prelude.{Number, fits, is_ident}
 use Rattle.sc_print.proofs.Literals.{no_table}
-use Rattle.sc_made.specs.Text.{addend, argument, function_name, worker_name}
 use Rattle.sc_made.proofs.Literals.{addend_small, argument_small}
 
 -- bytes that are digits, one at least

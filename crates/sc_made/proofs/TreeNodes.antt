@@ -1,17 +1,12 @@
 -- How many nodes the functions of a made text have.
-use Rattle.std.proofs.Common.{List, ◌≡◌, ◌+◌, ◌*◌, ℕ, arith, length, map, refl, rules}
+use Rattle.sc_made.proofs.Common.{ExprTree, FunctionLines, FunctionTree, List, StmtTree, arith, call_kind, codes}
+use Rattle.sc_made.proofs.Common.{function_at, function_nodes, length, literal, loop_kind, main_at, map, output_kind}
+use Rattle.sc_made.proofs.Common.{refl, return_kind, rules, set_kind, stmt_at, stmt_nodes, total, variable, ℕ, ◌*◌, ◌+◌}
+use Rattle.sc_made.proofs.Common.{◌≡◌}
 use Rattle.sc_ast.specs.declared.expr.ExprTree as exprs
-use Rattle.sc_ast.specs.declared.expr.ExprTree.{ExprTree}
 use Rattle.sc_ast.specs.declared.stmt.StmtKind as kinds
 use Rattle.sc_ast.specs.declared.stmt.StmtTree as stmts
-use Rattle.sc_ast.specs.declared.stmt.StmtTree.{StmtTree}
-use Rattle.sc_ast.specs.declared.section.FunctionTree.{FunctionTree}
-use Rattle.sc_core.specs.Prelude.{total}
-use Rattle.sc_types.specs.Prelude.{function_nodes, stmt_nodes}
-use Rattle.sc_made.specs.Tree.{FunctionLines, call_kind, function_at, literal, loop_kind, main_at, output_kind}
-use Rattle.sc_made.specs.Tree.{return_kind, set_kind, stmt_at, variable}
 use Rattle.sc_made.proofs.Shapes.{AreCalls, AreFunctions, and_function, calls, ends, no_functions}
-use Rattle.std.proofs.Common.{codes}
 
 call_nodes : (seed j line : ℕ) → stmt_nodes (stmt_at line (call_kind seed j)) ≡ 3
 call_nodes seed j line = search (rules, exprs.the_lemmas, kinds.the_lemmas, stmts.the_lemmas)

@@ -1,11 +1,6 @@
 -- The sections of a made text break no rule of types.
-use Rattle.std.proofs.Common.{List, [], ◌++◌, ◌≡◌, ◌∙◌, ℕ, ap, ap₂, map, refl}
-use Rattle.std.specs.List.{concat}
-use Rattle.sc_ast.specs.declared.section.SectionTree.{SectionTree}
-use Rattle.sc_scope.specs.Prelude.{line_of_text}
-use Rattle.sc_elab.specs.Prelude.{callees_of, section_lines, types_broken}
-use Rattle.sc_made.specs.Laws.{IsAsked}
-use Rattle.sc_made.specs.Text.{numbers_from, workers}
+use Rattle.sc_made.proofs.Common.{IsAsked, List, SectionTree, [], ap, ap₂, callees_of, concat, line_of_text, map}
+use Rattle.sc_made.proofs.Common.{numbers_from, refl, section_lines, types_broken, workers, ℕ, ◌++◌, ◌∙◌, ◌≡◌}
 use Rattle.sc_made.proofs.MainTypes.{main_typed}
 use Rattle.sc_made.proofs.Shapes.{AreMade, AreWorkers, and_worker, no_workers}
 use Rattle.sc_made.proofs.WorkerSections.{worker_typed}

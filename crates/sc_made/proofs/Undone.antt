@@ -1,39 +1,24 @@
 -- Sections that are those of a made text, lines aside, are these with lines.
-use Rattle.std.proofs.Common.{List, [], ◌∷◌, ◌++◌, ◌≡◌, ◌∙◌, ℕ, ap, ap₂, refl, subst, sym, map, Option, Some, None}
-use Rattle.std.proofs.Common.{codes}
-use Rattle.std.specs.Prelude.{flat_map}
-use Rattle.sc_ast.specs.Prelude.{SameButLines, lineless_decl, lineless_export, lineless_function, lineless_head}
-use Rattle.sc_ast.specs.Prelude.{lineless_import, lineless_kind, lineless_local, lineless_option, lineless_stmt}
-use Rattle.sc_ast.specs.Prelude.{lineless_stmts}
-use Rattle.sc_ast.specs.Lineless.{lineless_simple}
+use Rattle.sc_made.proofs.Common.{Add, AreSame, Binary, CallTree, Decl, ExportLine, ExprTree, FunctionLines}
+use Rattle.sc_made.proofs.Common.{FunctionTree, HeadTree, ImportLine, List, None, Option, SameButLines, SectionTree}
+use Rattle.sc_made.proofs.Common.{SimpleTree, Some, StmtKind, StmtTree, [], add_kind, all_functions, ap, ap₂}
+use Rattle.sc_made.proofs.Common.{assign_simple, below, call_kind, calls_tree, codes, export_at, flat_map, function_at}
+use Rattle.sc_made.proofs.Common.{functions_of, import_at, lineless_decl, lineless_export, lineless_function}
+use Rattle.sc_made.proofs.Common.{lineless_head, lineless_import, lineless_kind, lineless_local, lineless_option}
+use Rattle.sc_made.proofs.Common.{lineless_simple, lineless_stmt, lineless_stmts, literal, local_at, loop_kind}
+use Rattle.sc_made.proofs.Common.{made_trees, main_at, main_body, main_tree, map, next_at, no_lines, numbers_from}
+use Rattle.sc_made.proofs.Common.{out-StmtKind, output_import, output_kind, output_proto, proto_at, refl, return_kind}
+use Rattle.sc_made.proofs.Common.{set_kind, start_at, stmt_at, store_kind, subst, sym, table_at, variable, worker_tree}
+use Rattle.sc_made.proofs.Common.{workers, ℕ, ◌++◌, ◌∙◌, ◌∷◌, ◌≡◌}
 use Rattle.sc_ast.proofs.Statements.{bare_stmt}
-use Rattle.sc_ast.specs.declared.expr.CallTree.{CallTree}
-use Rattle.sc_ast.specs.declared.expr.ExprTree.{ExprTree}
-use Rattle.sc_base.specs.declared.op.BinaryOp.TheVariants.{Add}
-use Rattle.sc_ast.specs.declared.expr.ExprTree.TheVariants.{Binary}
-use Rattle.sc_ast.specs.declared.stmt.SimpleTree.{SimpleTree}
-use Rattle.sc_ast.specs.declared.stmt.StmtKind.{StmtKind, out-StmtKind}
 use Rattle.sc_ast.specs.declared.stmt.StmtKind.TheOpen as layer
 use Rattle.sc_ast.specs.declared.stmt.StmtKind.TheVariants as stmt
-use Rattle.sc_ast.specs.declared.stmt.StmtTree.{StmtTree}
-use Rattle.sc_ast.specs.declared.section.Decl.{Decl}
 use Rattle.sc_ast.specs.declared.section.Decl.TheVariants as decl
-use Rattle.sc_ast.specs.declared.section.ExportLine.{ExportLine}
-use Rattle.sc_ast.specs.declared.section.FunctionTree.{FunctionTree}
-use Rattle.sc_ast.specs.declared.section.HeadTree.{HeadTree}
-use Rattle.sc_ast.specs.declared.section.ImportLine.{ImportLine}
 use Rattle.sc_ast.specs.declared.section.LocalTree.{LocalTree}
-use Rattle.sc_ast.specs.declared.section.SectionTree.{SectionTree}
 use Rattle.sc_performers.proofs.BareKinds.{IsFor, IsLeaf, for_kind, kind_of_layer, leaf_kind}
-use Rattle.sc_made.specs.Text.{all_functions, functions_of, numbers_from, workers}
-use Rattle.sc_made.specs.Tree.{FunctionLines, add_kind, assign_simple, below, call_kind, calls_tree, export_at}
-use Rattle.sc_made.specs.Tree.{function_at, import_at, literal, local_at, loop_kind, made_trees, main_at, main_body}
-use Rattle.sc_made.specs.Tree.{main_tree, next_at, no_lines, output_import, output_kind, output_proto, proto_at}
-use Rattle.sc_made.specs.Tree.{return_kind, set_kind, start_at, stmt_at, store_kind, table_at, variable, worker_tree}
-use Rattle.sc_made.specs.Laws.{AreSame}
 use Rattle.sc_made.proofs.Shapes.{AreCalls, AreExports, AreFunctions, AreImports, AreMade, AreProtos, AreWorkers}
-use Rattle.sc_made.proofs.Shapes.{IsMain, IsWorker, and_export, and_function, and_import, and_proto, and_worker}
-use Rattle.sc_made.proofs.Shapes.{calls, ends, no_exports, no_functions, no_imports, no_protos, no_workers}
+use Rattle.sc_made.proofs.Shapes.{IsMain, IsWorker, and_export, and_function, and_import, and_proto, and_worker, calls}
+use Rattle.sc_made.proofs.Shapes.{ends, no_exports, no_functions, no_imports, no_protos, no_workers}
 
 -- Lists that begin alike.
 

@@ -1,22 +1,10 @@
 -- A worker holds no more than a program may.
-use Rattle.std.proofs.Common.{List, [], ◌≡◌, ◌∙◌, ◌*◌, ◌≤◌, ℕ, suc, ap, arith, le-leb, length, map}
-use Rattle.std.proofs.Common.{nat_le, refl, true}
-use Rattle.std.proofs.lemmas.Bool.{and_from}
-use Rattle.std.proofs.lemmas.List.{length-map}
-use Rattle.std.specs.List.{concat}
+use Rattle.sc_made.proofs.Common.{Callees, ExportLine, FunctionTree, ImportLine, List, SectionTree, [], all_none}
+use Rattle.sc_made.proofs.Common.{and_from, ap, arith, concat, function_nodes, functions_of, global_lines, head_lines}
+use Rattle.sc_made.proofs.Common.{le-leb, length, length-map, map, most_nodes, nat_le, none_beyond, refl, section-nodes}
+use Rattle.sc_made.proofs.Common.{section_nodes, structs_from, suc, total, true, unless, ℕ, ◌*◌, ◌∙◌, ◌≡◌, ◌≤◌}
+use Rattle.sc_types.specs.Prelude.{function_lines, section_lines}
 use Rattle.sc_ast.specs.declared.section.Decl.TheVariants as decl
-use Rattle.sc_ast.specs.declared.section.ExportLine.{ExportLine}
-use Rattle.sc_ast.specs.declared.section.FunctionTree.{FunctionTree}
-use Rattle.sc_ast.specs.declared.section.ImportLine.{ImportLine}
-use Rattle.sc_ast.specs.declared.section.SectionTree.{SectionTree}
-use Rattle.sc_core.specs.Prelude.{most_nodes, total}
-use Rattle.sc_scope.specs.Prelude.{unless}
-use Rattle.sc_elab_expr.specs.Prelude.{Callees}
-use Rattle.sc_types.proofs.TypedNodes.{section-nodes}
-use Rattle.sc_types.specs.Counts.{function_lines, global_lines, head_lines, section_lines, section_nodes, structs_from}
-use Rattle.sc_types.specs.Prelude.{function_nodes}
-use Rattle.sc_made.specs.Text.{functions_of}
-use Rattle.sc_performers.proofs.CountsKept.{all_none, none_beyond}
 use Rattle.sc_made.proofs.Shapes.{AreExports, AreFunctions, IsWorker, and_export, and_function, no_exports}
 use Rattle.sc_made.proofs.Shapes.{no_functions}
 use Rattle.sc_made.proofs.Shares.{few_functions}

@@ -1,23 +1,14 @@
 -- The sections of workers break no rule of interfaces, and neither does the whole text.
-use Rattle.std.proofs.Common.{Bool, List, [], ◌∷◌, ◌++◌, ◌≡◌, ◌∙◌, ◌&&◌, ◌||◌, ◌≤◌, ℕ, suc, ap, ap₂}
-use Rattle.std.proofs.Common.{bytes_eq, codes, false, map, not, refl, sym, true}
-use Rattle.std.proofs.lemmas.Bool.{and_from, or_left}
-use Rattle.std.proofs.lemmas.List.{map-append}
-use Rattle.std.specs.List.{list_any}
-use Rattle.sc_ast.specs.Prelude.{head_of}
+use Rattle.sc_made.proofs.Common.{Bool, ExportLine, FunctionLines, FunctionTree, HeadTree, IsAmong, IsAsked, List}
+use Rattle.sc_made.proofs.Common.{SectionTree, Text, [], agrees_with, among, and_from, ap, ap₂, bytes_eq, codes}
+use Rattle.sc_made.proofs.Common.{decls_from, defines_main, export_at, export_holds, exports_from, false, first}
+use Rattle.sc_made.proofs.Common.{function_at, function_name, function_names, functions_of, head_holds, head_of}
+use Rattle.sc_made.proofs.Common.{heads_in, imports_from, interface_broken, is_main, is_new, later, line_of_text}
+use Rattle.sc_made.proofs.Common.{lines_from, list_any, main_holds, map, map-append, not, numbers_from, or_left, refl}
+use Rattle.sc_made.proofs.Common.{suc, sym, table_at, true, unless, worker_name, workers, ℕ, ◌&&◌, ◌++◌, ◌||◌, ◌∙◌, ◌∷◌}
+use Rattle.sc_made.proofs.Common.{◌≡◌, ◌≤◌}
+use Rattle.sc_interfaces.specs.Prelude.{section_lines}
 use Rattle.sc_ast.specs.declared.section.Decl.TheVariants as decl
-use Rattle.sc_ast.specs.declared.section.ExportLine.{ExportLine}
-use Rattle.sc_ast.specs.declared.section.FunctionTree.{FunctionTree}
-use Rattle.sc_ast.specs.declared.section.HeadTree.{HeadTree}
-use Rattle.sc_ast.specs.declared.section.SectionTree.{SectionTree}
-use Rattle.sc_scope.specs.Prelude.{Text, among, defines_main, function_names, heads_in, is_new, line_of_text}
-use Rattle.sc_scope.specs.Prelude.{unless}
-use Rattle.sc_interfaces.specs.Faces.{agrees_with, decls_from, export_holds, exports_from, head_holds, imports_from}
-use Rattle.sc_interfaces.specs.Faces.{interface_broken, is_main, lines_from, main_holds, section_lines}
-use Rattle.sc_performers.proofs.Uses.{IsAmong, first, later}
-use Rattle.sc_made.specs.Text.{function_name, functions_of, numbers_from, worker_name, workers}
-use Rattle.sc_made.specs.Tree.{FunctionLines, export_at, function_at, table_at}
-use Rattle.sc_made.specs.Laws.{IsAsked}
 use Rattle.sc_made.proofs.Declared.{behind_functions, functions_functions, functions_heads, functions_named}
 use Rattle.sc_made.proofs.Naming as naming
 use Rattle.sc_made.proofs.Naming.{Below, below_more, below_next, function_among, function_new, worker_names, worker_new}
@@ -25,8 +16,7 @@ use Rattle.sc_made.proofs.Numbers.{Rise, functions_rise, workers_rise}
 use Rattle.sc_made.proofs.Offered.{TakesInt, apart_first, functions_agree}
 use Rattle.sc_made.proofs.Faces.{main_faces, not_main, plain}
 use Rattle.sc_made.proofs.Shapes.{AreExports, AreFunctions, AreMade, AreWorkers, IsMain, IsWorker, and_export}
-use Rattle.sc_made.proofs.Shapes.{and_function}
-use Rattle.sc_made.proofs.Shapes.{and_worker, no_exports, no_functions, no_workers}
+use Rattle.sc_made.proofs.Shapes.{and_function, and_worker, no_exports, no_functions, no_workers}
 
 -- one more function
 snoc : (seed : ℕ) (js : List ℕ) (trees : List FunctionTree) (j : ℕ) (lines : FunctionLines) →

@@ -1,22 +1,12 @@
 -- What names stand for in a worker, and that it breaks no rule of types.
-use Rattle.std.proofs.Common.{List, Some, [], ◌∷◌, ◌++◌, ◌≡◌, ◌∙◌, ℕ, ap, ap₂, codes, map, refl}
-use Rattle.std.specs.List.{concat}
-use Rattle.sc_ast.specs.Prelude.{head_of}
+use Rattle.sc_made.proofs.Common.{Callees, FunctionLines, FunctionTree, GlobalTree, HeadTree, List, SectionTree, Some}
+use Rattle.sc_made.proofs.Common.{StructTree, [], ap, ap₂, codes, concat, decl_lines, function_at, function_lines}
+use Rattle.sc_made.proofs.Common.{functions_in, functions_of, global_variable, globals_in, head_of, heads_in, map, refl}
+use Rattle.sc_made.proofs.Common.{scope_in, section_lines, stmt_lines, struct_names, structs, structs_in, table_at}
+use Rattle.sc_made.proofs.Common.{type_of, visible_of, ℕ, ◌++◌, ◌∙◌, ◌∷◌, ◌≡◌}
 use Rattle.sc_ast.specs.declared.section.Decl.TheVariants as decl
-use Rattle.sc_ast.specs.declared.section.FunctionTree.{FunctionTree}
-use Rattle.sc_ast.specs.declared.section.GlobalTree.{GlobalTree}
-use Rattle.sc_ast.specs.declared.section.HeadTree.{HeadTree}
-use Rattle.sc_ast.specs.declared.section.SectionTree.{SectionTree}
-use Rattle.sc_ast.specs.declared.section.StructTree.{StructTree}
 use Rattle.sc_core.specs.declared.ty.Ty.TheVariants as ty
-use Rattle.sc_scope.specs.Prelude.{functions_in, globals_in, heads_in, struct_names, structs_in}
-use Rattle.sc_elab_expr.specs.Prelude.{Callees}
-use Rattle.sc_elab_stmt.specs.Prelude.{stmt_lines}
-use Rattle.sc_elab.specs.Prelude.{decl_lines, function_lines, global_variable, scope_in, section_lines}
-use Rattle.sc_elab.specs.Prelude.{structs, type_of, visible_of}
 unfoldable use Rattle.sc_elab.specs.Prelude.{typed_structs}
-use Rattle.sc_made.specs.Text.{functions_of}
-use Rattle.sc_made.specs.Tree.{FunctionLines, function_at, table_at}
 use Rattle.sc_made.proofs.Declared.{functions_functions, functions_globals, functions_heads, functions_structs}
 use Rattle.sc_made.proofs.Shapes.{AreFunctions, IsWorker, and_function, no_functions}
 use Rattle.sc_made.proofs.WorkerTypes.{body_none, worker_scope, worker_visible}

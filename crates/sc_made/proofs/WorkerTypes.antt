@@ -1,33 +1,21 @@
 -- A worker breaks no rule of types.
-use Rattle.std.proofs.Common.{List, Option, Some, [], ◌∷◌, ◌++◌, ◌≡◌, ◌∙◌, ℕ, ap, ap₂, codes, map, refl, rules}
-use Rattle.std.proofs.Common.{true}
-use Rattle.std.specs.List.{concat}
+use Rattle.sc_made.proofs.Common.{Add, Assign, Binary, BitAnd, Callees, ExprTree, For, FunctionLines, Global, Less}
+use Rattle.sc_made.proofs.Common.{List, Local, Option, Param, ReturnValue, Scope, SimpleTree, Some, StmtTree, TypedExpr}
+use Rattle.sc_made.proofs.Common.{Variable, Visible, [], add_kind, addend, ap, ap₂, assign_fits, assign_holds, below}
+use Rattle.sc_made.proofs.Common.{codes, concat, cond_holds, element, goes_into, going_to, is_scalar, judged, literal}
+use Rattle.sc_made.proofs.Common.{loop_kind, map, next_at, part_lines, place_judged, refl, return_kind}
+use Rattle.sc_made.proofs.Common.{return_value_holds, rules, set_kind, start_at, stmt_at, stmt_lines, store_kind, true}
+use Rattle.sc_made.proofs.Common.{typed, unless, value_judged, ℕ, ◌++◌, ◌∙◌, ◌∷◌, ◌≡◌}
 use Rattle.sc_base.specs.declared.op.BinaryOp.{BinaryOp}
-use Rattle.sc_base.specs.declared.op.BinaryOp.TheVariants.{Add, BitAnd, Less}
-use Rattle.sc_ast.specs.declared.expr.ExprTree.{ExprTree}
 use Rattle.sc_ast.specs.declared.expr.ExprTree as exprs
-use Rattle.sc_ast.specs.declared.expr.ExprTree.TheVariants.{Binary, Variable}
-use Rattle.sc_ast.specs.declared.stmt.SimpleTree.{SimpleTree}
 use Rattle.sc_ast.specs.declared.stmt.StmtKind as kinds
-use Rattle.sc_ast.specs.declared.stmt.StmtKind.TheVariants.{Assign, For, ReturnValue}
 use Rattle.sc_ast.specs.declared.stmt.StmtTree as stmts
-use Rattle.sc_ast.specs.declared.stmt.StmtTree.{StmtTree}
-use Rattle.sc_core.specs.Prelude.{Scope, assign_fits, goes_into, is_scalar, judged}
-use Rattle.sc_core.specs.Typing.{place_judged, value_judged}
-use Rattle.sc_core.specs.declared.expr.TypedExpr.{TypedExpr}
 use Rattle.sc_core.specs.declared.expr.TypedExpr as typed_exprs
 use Rattle.sc_core.specs.declared.expr.TypedKind as typed_kinds
 use Rattle.sc_core.specs.declared.expr.VarRef.{VarRef}
-use Rattle.sc_core.specs.declared.expr.VarRef.TheVariants.{Global, Local, Param}
 use Rattle.sc_core.specs.declared.ty.BaseTy.TheVariants as base
 use Rattle.sc_core.specs.declared.ty.Ty.{Ty}
 use Rattle.sc_core.specs.declared.ty.Ty.TheVariants as ty
-use Rattle.sc_scope.specs.Prelude.{unless}
-use Rattle.sc_elab_expr.specs.Prelude.{Callees, Visible, going_to, typed}
-use Rattle.sc_elab_stmt.specs.Prelude.{assign_holds, cond_holds, part_lines, return_value_holds, stmt_lines}
-use Rattle.sc_made.specs.Text.{addend}
-use Rattle.sc_made.specs.Tree.{FunctionLines, add_kind, below, element, literal, loop_kind, next_at}
-use Rattle.sc_made.specs.Tree.{return_kind, set_kind, start_at, stmt_at, store_kind}
 use Rattle.sc_made.proofs.Literals.{addend_small, literal_goes}
 
 -- what is visible in a function: the table, the parameter and both locals

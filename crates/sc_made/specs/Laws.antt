@@ -1,15 +1,15 @@
 -- A made text is a program, and a small one.
-use Rattle.std.specs.Prelude.{ℕ, ◌≤◌, ◌<◌, ◌^◌, List, [], ◌∷◌, All, map}
 use Rattle.sc_ast.specs.Prelude.{SameButLines}
-use Rattle.sc_ast.specs.declared.section.SectionTree.{SectionTree}
 use Rattle.sc_core.specs.Prelude.{cells_of, frame_bound, nodes, total, variables}
+use Rattle.sc_elab.specs.Prelude.{program_of}
+use Rattle.sc_types.specs.Prelude.{Accepts, IsTyped}
+use Rattle.std.specs.Prelude.{ℕ, ◌≤◌, ◌<◌, ◌^◌, List, [], ◌∷◌, All, map}
+use Rattle.sc_ast.specs.declared.section.SectionTree.{SectionTree}
 use Rattle.sc_core.specs.declared.program.ProgramTree.{ProgramTree}
 use Rattle.sc_core.specs.declared.section.TypedFunction.{TypedFunction}
 use Rattle.sc_core.specs.declared.section.TypedGlobal.{TypedGlobal}
 use Rattle.sc_core.specs.declared.section.TypedSection.{TypedSection}
-use Rattle.sc_elab.specs.Prelude.{program_of}
 use Rattle.sc_read.specs.Reading.{Reads}
-use Rattle.sc_types.specs.Acceptance.{Accepts, IsTyped}
 use Rattle.sc_made.specs.Text.{made_text}
 use Rattle.sc_made.specs.Tree.{made_trees}
 

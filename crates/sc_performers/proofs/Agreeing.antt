@@ -1,38 +1,18 @@
 -- Heads of one name in a section agree, and so does the head that is made for a function that crosses.
-use Rattle.std.proofs.Common.{Bool, List, None, Option, Some, [], ◌∷◌, ◌++◌, ◌≡◌, ◌∙◌, ◌&&◌, ◌||◌, ℕ, suc, ap}
-use Rattle.std.proofs.Common.{append-nil, append_assoc}
-use Rattle.std.proofs.Common.{bytes_eq, false, map, not, refl, subst, true}
-use Rattle.std.proofs.lemmas.Bool.{and_from, false≢true}
-use Rattle.std.specs.List.{list_all}
-use Rattle.std.specs.Option.{option_map}
-use Rattle.sc_base.proofs.Bools.{and_first, and_rest}
-use Rattle.sc_base.proofs.Texts.{same_either_way}
-use Rattle.sc_event.specs.declared.interface.Proto.{Proto}
-use Rattle.sc_event.specs.declared.interface.Scalar.{Scalar}
-use Rattle.sc_event.specs.declared.interface.Scalar.TheVariants.{Int, Unsigned}
-use Rattle.sc_ast.specs.Prelude.{head_of, param_of}
-use Rattle.sc_ast.specs.declared.section.Decl.{Decl}
+use Rattle.sc_performers.proofs.Common.{Bool, Decl, FunctionParam, FunctionTree, HeadTree, Int, List, None, Option}
+use Rattle.sc_performers.proofs.Common.{ParamTree, Proto, Scalar, SectionTree, Some, StmtTree, Text, Unsigned, []}
+use Rattle.sc_performers.proofs.Common.{agree, agree_symm, agrees, agrees_with, and_first, and_from, and_rest, ap}
+use Rattle.sc_performers.proofs.Common.{append-nil, append_assoc, back_empty, base_scalar, base_tree, bytes_eq, crosses}
+use Rattle.sc_performers.proofs.Common.{decls_from, false, false≢true, filter_map-append, front_empty, function_params}
+use Rattle.sc_performers.proofs.Common.{head_crosses, head_holds, head_in, head_of, heads_in, imported_agrees, list_all}
+use Rattle.sc_performers.proofs.Common.{main_holds, map, not, option_map, param_of, promised, proto_params, refl}
+use Rattle.sc_performers.proofs.Common.{result_crosses, rule_holds, same_base, same_either_way, same_params}
+use Rattle.sc_performers.proofs.Common.{same_result, same_type, scalar_of, subst, suc, true, type_name, unless, ℕ, ◌&&◌}
+use Rattle.sc_performers.proofs.Common.{◌++◌, ◌||◌, ◌∙◌, ◌∷◌, ◌≡◌}
 use Rattle.sc_ast.specs.declared.section.Decl.TheVariants as decl
-use Rattle.sc_ast.specs.declared.section.FunctionParam.{FunctionParam}
-use Rattle.sc_ast.specs.declared.section.FunctionTree.{FunctionTree}
-use Rattle.sc_ast.specs.declared.section.HeadTree.{HeadTree}
-use Rattle.sc_ast.specs.declared.section.ParamTree.{ParamTree}
-use Rattle.sc_ast.specs.declared.section.SectionTree.{SectionTree}
-use Rattle.sc_ast.specs.declared.stmt.StmtTree.{StmtTree}
 use Rattle.sc_ast.specs.declared.types.BaseTree.{BaseTree}
 use Rattle.sc_ast.specs.declared.types.BaseTree.TheVariants as base
 use Rattle.sc_ast.specs.declared.types.TypeName.{TypeName}
-use Rattle.sc_scope.specs.Declarations.{head_in}
-use Rattle.sc_scope.specs.Interfaces.{base_scalar, promised}
-use Rattle.sc_scope.specs.Prelude.{Text, heads_in, scalar_of, unless}
-use Rattle.sc_interfaces.specs.Faces.{agree, agrees_with, crosses, decls_from, head_crosses, head_holds}
-use Rattle.sc_interfaces.specs.Faces.{imported_agrees}
-use Rattle.sc_interfaces.specs.Faces.{main_holds, result_crosses, same_base, same_params, same_result, same_type}
-use Rattle.sc_interfaces.proofs.Agreeing.{agree_symm}
-use Rattle.sc_back.specs.Tree.{base_tree, function_params, proto_params, type_name}
-use Rattle.sc_types.proofs.Basics.{back_empty, front_empty, rule_holds}
-use Rattle.sc_types.proofs.Sections.{agrees}
-use Rattle.std.proofs.lemmas.List.Elements.{filter_map-append}
 use Rattle.sc_performers.proofs.BackTree.{function_at, head_at}
 use Rattle.sc_performers.proofs.Uses.{IsAmong, first, later}
 

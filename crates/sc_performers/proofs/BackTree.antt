@@ -1,31 +1,13 @@
 -- The tree of a performing section, with lines.
-use Rattle.std.specs.Prelude.{◌≡◌, ℕ, suc, ◌==◌, if◌then◌else◌, List, [], ◌∷◌, ◌++◌, map, filter, Option, Some, None}
-use Rattle.std.specs.Option.{option_map}
-use Rattle.sc_base.specs.declared.op.BinaryOp.TheVariants.{Equal}
-use Rattle.sc_event.specs.declared.interface.Import.{Import}
-use Rattle.sc_event.specs.declared.interface.Interface.{Interface}
-use Rattle.sc_event.specs.declared.interface.Interfaces.{Interfaces}
-use Rattle.sc_event.specs.declared.interface.Proto.{Proto}
-use Rattle.sc_event.specs.declared.interface.Scalar.{Scalar}
-use Rattle.sc_event.specs.declared.interface.Scalar.TheVariants.{Unsigned}
-use Rattle.sc_event.specs.declared.row.Entry.{Entry}
-use Rattle.sc_event.specs.declared.row.Entry.TheVariants.{Export, Main}
-use Rattle.sc_event.specs.declared.row.Row.{Row}
-use Rattle.sc_ast.specs.declared.expr.ExprTree.TheVariants.{Binary, Variable}
-use Rattle.sc_ast.specs.declared.stmt.StmtKind.{StmtKind}
+use Rattle.sc_performers.proofs.Common.{Binary, Entry, Equal, Export, FunctionTree, GlobalTree, HeadTree, Import}
+use Rattle.sc_performers.proofs.Common.{ImportLine, Interface, Interfaces, List, Main, None, Option, Proto, Row, Scalar}
+use Rattle.sc_performers.proofs.Common.{SectionTree, Some, StmtKind, StmtTree, Unsigned, Variable, [], action_kind}
+use Rattle.sc_performers.proofs.Common.{counter_name, export_names, filter, function_params, if◌then◌else◌, imported}
+use Rattle.sc_performers.proofs.Common.{is_of, literal, main_proto, map, names_of, option_map, owner_name, proto_params}
+use Rattle.sc_performers.proofs.Common.{suc, type_name, value_tree, ℕ, ◌++◌, ◌==◌, ◌∷◌, ◌≡◌}
+use Rattle.sc_back.specs.Prelude.{counter}
 use Rattle.sc_ast.specs.declared.stmt.StmtKind.TheVariants.{Assign, If, While}
-use Rattle.sc_ast.specs.declared.stmt.StmtTree.{StmtTree}
 use Rattle.sc_ast.specs.declared.section.Decl.TheVariants as decl
-use Rattle.sc_ast.specs.declared.section.FunctionTree.{FunctionTree}
-use Rattle.sc_ast.specs.declared.section.GlobalTree.{GlobalTree}
-use Rattle.sc_ast.specs.declared.section.HeadTree.{HeadTree}
-use Rattle.sc_ast.specs.declared.section.ImportLine.{ImportLine}
-use Rattle.sc_ast.specs.declared.section.SectionTree.{SectionTree}
-use Rattle.sc_scope.specs.Prelude.{export_names}
-use Rattle.sc_back.specs.Text.{imported, is_of, main_proto, owner_name}
-use Rattle.sc_back.specs.Tree.{action_kind, counter, counter_name, function_params, literal, proto_params, type_name}
-use Rattle.sc_back.specs.Tree.{value_tree}
-use Rattle.sc_performers.specs.Performer.{names_of}
 
 -- Statements.
 

@@ -1,12 +1,9 @@
 -- A kind of statement that is one of those of a performing section, lines aside.
-use Rattle.std.proofs.Common.{List, Option, ◌≡◌, ◌∙◌, ap, refl, subst, sym}
-use Rattle.sc_ast.specs.Prelude.{lineless_kind, lineless_option, lineless_stmts}
-use Rattle.sc_ast.specs.Lineless.{kind_step, stmt_step}
-use Rattle.sc_ast.specs.declared.expr.ExprTree.{ExprTree}
+use Rattle.sc_performers.proofs.Common.{ExprTree, List, Option, StmtKind, StmtKind-F, StmtTree, ap, fold-roll-StmtKind}
+use Rattle.sc_performers.proofs.Common.{kind_step, lineless_kind, lineless_option, lineless_stmts, out-StmtKind}
+use Rattle.sc_performers.proofs.Common.{out-roll-StmtKind, refl, roll-StmtKind, roll-out-StmtKind, stmt_step, subst}
+use Rattle.sc_performers.proofs.Common.{sym, ◌∙◌, ◌≡◌}
 use Rattle.sc_ast.specs.declared.stmt.SimpleTree.{SimpleTree}
-use Rattle.sc_ast.specs.declared.stmt.StmtTree.{StmtTree}
-use Rattle.sc_ast.specs.declared.stmt.StmtKind.{StmtKind, StmtKind-F, roll-StmtKind, out-StmtKind}
-use Rattle.sc_ast.specs.declared.stmt.StmtKind.{roll-out-StmtKind, out-roll-StmtKind, fold-roll-StmtKind}
 use Rattle.sc_ast.specs.declared.stmt.StmtKind.TheOpen as layer
 use Rattle.sc_ast.specs.declared.stmt.StmtKind.TheVariants as stmt
 

@@ -1,44 +1,20 @@
 -- A performing section holds no more than a program may.
-use Rattle.std.proofs.Common.{Bool, List, None, Option, Some, [], ◌∷◌, ◌++◌, ◌≡◌, ◌∙◌, ◌==◌, ◌+◌, ◌*◌, ◌≤◌, ℕ, zero}
-use Rattle.std.proofs.Common.{suc, ap, ap₂, arith}
-use Rattle.std.proofs.Common.{false, if◌then◌else◌, le-leb, length, length-append, map, nat_le, refl, slice_get, true}
-use Rattle.std.proofs.lemmas.Bool.{and_from}
-use Rattle.std.proofs.lemmas.List.{length-map}
-use Rattle.std.specs.Prelude.{filter}
-use Rattle.std.specs.List.{AllByRecursion, concat, list_all}
-use Rattle.sc_event.specs.declared.interface.Import.{Import}
-use Rattle.sc_event.specs.declared.interface.Interface.{Interface}
-use Rattle.sc_event.specs.declared.interface.Interfaces.{Interfaces}
-use Rattle.sc_event.specs.declared.interface.Proto.{Proto}
-use Rattle.sc_event.specs.declared.interface.Scalar.{Scalar}
-use Rattle.sc_event.specs.declared.interface.Scalar.TheVariants.{Int, Unsigned}
-use Rattle.sc_event.specs.declared.row.Entry.{Entry}
-use Rattle.sc_event.specs.declared.row.Entry.TheVariants.{Main}
-use Rattle.sc_event.specs.declared.row.Row.{Row}
-use Rattle.sc_ast.specs.Prelude.{param_of}
+use Rattle.sc_performers.proofs.Common.{AllByRecursion, Bool, Callees, CountsHold, Entry, ExportLine, FunctionTree}
+use Rattle.sc_performers.proofs.Common.{HeadTree, Import, ImportLine, Int, Interface, Interfaces, IsPerformer, IsUsable}
+use Rattle.sc_performers.proofs.Common.{List, Main, None, Option, Proto, Row, Scalar, SectionTree, Some, StmtTree}
+use Rattle.sc_performers.proofs.Common.{TypedFunction, Unsigned, [], and_from, ap, ap₂, arith, callees_of, concat}
+use Rattle.sc_performers.proofs.Common.{false, filter, function_params, global_lines, head_lines, if◌then◌else◌}
+use Rattle.sc_performers.proofs.Common.{imported, is_of, le-leb, length, length-append, length-map, line_beyond}
+use Rattle.sc_performers.proofs.Common.{line_of_some, list_all, local_nodes, main_proto, map, most_nodes, most_params}
+use Rattle.sc_performers.proofs.Common.{nat_le, nodes, param_of, param_small, proto_of, proto_params, refl}
+use Rattle.sc_performers.proofs.Common.{section_nodes, slice_get, stmt_nodes, struct_names, structs_from, suc, total}
+use Rattle.sc_performers.proofs.Common.{true, typed_function, typed_param, unless, zero, ℕ, ◌*◌, ◌++◌, ◌+◌, ◌==◌, ◌∙◌}
+use Rattle.sc_performers.proofs.Common.{◌∷◌, ◌≡◌, ◌≤◌}
+use Rattle.sc_types.specs.Prelude.{function_lines, section_lines}
 use Rattle.sc_ast.specs.declared.section.Decl.TheVariants as decl
-use Rattle.sc_ast.specs.declared.section.ExportLine.{ExportLine}
-use Rattle.sc_ast.specs.declared.section.FunctionTree.{FunctionTree}
-use Rattle.sc_ast.specs.declared.section.HeadTree.{HeadTree}
-use Rattle.sc_ast.specs.declared.section.ImportLine.{ImportLine}
-use Rattle.sc_ast.specs.declared.section.SectionTree.{SectionTree}
-use Rattle.sc_ast.specs.declared.stmt.StmtTree.{StmtTree}
-use Rattle.sc_core.specs.Prelude.{local_nodes, most_nodes, most_params, nodes, stmt_nodes, total}
-use Rattle.sc_core.specs.declared.section.TypedFunction.{TypedFunction}
-use Rattle.sc_scope.specs.Prelude.{unless}
-use Rattle.sc_elab_expr.specs.Prelude.{Callees}
-use Rattle.sc_elab.specs.Prelude.{callees_of, struct_names, typed_function, typed_param}
-use Rattle.sc_types.specs.Counts.{function_lines, global_lines, head_lines, line_beyond, line_of_some, param_small}
-use Rattle.sc_types.specs.Counts.{section_lines, section_nodes, structs_from}
-use Rattle.sc_back.specs.Text.{is_of, main_proto}
-use Rattle.sc_back.specs.Tree.{function_params, proto_params}
-use Rattle.sc_replay.specs.Replay.{proto_of}
-use Rattle.sc_performers.specs.Laws.{CountsHold}
-use Rattle.sc_performers.specs.Performer.{IsPerformer, IsUsable}
 use Rattle.sc_performers.proofs.BackTree.{AreFunctions, AreHeads, AreImports, IsBackBody, IsBackTree, and_function}
 use Rattle.sc_performers.proofs.BackTree.{and_head, and_import, counter_at, entries_from, function_at, main_entries}
 use Rattle.sc_performers.proofs.BackTree.{no_functions, no_heads, no_imports, use_of, uses}
-use Rattle.sc_back.specs.Text.{imported}
 use Rattle.sc_performers.proofs.Undone.{back_tree_is}
 use Rattle.sc_performers.proofs.Declared.{heads_of}
 use Rattle.sc_performers.proofs.Nodes.{body_nodes}

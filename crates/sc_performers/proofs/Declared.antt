@@ -1,13 +1,8 @@
 -- What is found among the declarations of a performing section: prototypes, the counter and functions.
-use Rattle.std.proofs.Common.{List, [], ◌∷◌, ◌++◌, ◌≡◌, ap, map, refl}
-use Rattle.sc_ast.specs.Prelude.{head_of}
-use Rattle.sc_ast.specs.declared.section.Decl.{Decl}
-use Rattle.sc_ast.specs.declared.section.Decl.TheVariants.{Function, Global, Proto}
-use Rattle.sc_ast.specs.declared.section.FunctionTree.{FunctionTree}
-use Rattle.sc_ast.specs.declared.section.GlobalTree.{GlobalTree}
-use Rattle.sc_ast.specs.declared.section.HeadTree.{HeadTree}
-use Rattle.sc_scope.specs.Declarations.{protos_in}
-use Rattle.sc_scope.specs.Prelude.{functions_in, globals_in, heads_in, structs_in}
+use Rattle.sc_performers.proofs.Common.{Decl, Function, FunctionTree, Global, GlobalTree, HeadTree, List, [], ap}
+use Rattle.sc_performers.proofs.Common.{functions_in, globals_in, head_of, heads_in, map, protos_in, refl, structs_in}
+use Rattle.sc_performers.proofs.Common.{◌++◌, ◌∷◌, ◌≡◌}
+use Rattle.sc_ast.specs.declared.section.Decl.TheVariants.{Proto}
 
 -- prototypes, a global and functions
 abbrev pub decls_of : List HeadTree → GlobalTree → List FunctionTree → List Decl

@@ -1,17 +1,10 @@
 -- Names that are distinct, and names that aren't those of a section's own variables.
-use Rattle.std.proofs.Common.{Bool, List, [], ◌∷◌, ◌++◌, ◌≡◌, ◌∙◌, ◌||◌, ◌+◌, ◌<◌, ◌^◌, ℕ, suc, ap, arith, bytes_eq}
-use Rattle.std.proofs.Common.{codes, drop, false, length, map, not, refl, subst, sym, true}
-use Rattle.std.proofs.lemmas.Bool.{and_from, false≢true, or_parts, or_left, or_right}
-use Rattle.std.proofs.lemmas.Fmt.{decimal_injective}
-use Rattle.std.specs.Fmt.{decimal}
-use Rattle.sc_base.proofs.Bools.{and_first, and_rest}
-use Rattle.sc_base.proofs.Texts.{same_text}
-use Rattle.sc_event.specs.declared.interface.Scalar.{Scalar}
-use Rattle.sc_ast.specs.declared.section.FunctionParam.{FunctionParam}
-use Rattle.sc_scope.specs.Prelude.{Text, among, are_distinct, is_new}
+use Rattle.sc_performers.proofs.Common.{Bool, FunctionParam, List, Scalar, Text, [], among, and_first, and_from}
+use Rattle.sc_performers.proofs.Common.{and_rest, ap, are_distinct, arith, bytes_eq, codes, counter_name, decimal}
+use Rattle.sc_performers.proofs.Common.{decimal_injective, drop, false, false≢true, function_params, is_new, is_plain}
+use Rattle.sc_performers.proofs.Common.{length, map, not, or_left, or_parts, or_right, param_name, refl, same_text}
+use Rattle.sc_performers.proofs.Common.{subst, suc, sym, true, ℕ, ◌++◌, ◌+◌, ◌<◌, ◌^◌, ◌||◌, ◌∙◌, ◌∷◌, ◌≡◌}
 use Rattle.sc_scope.proofs.Lines.{among-append}
-use Rattle.sc_interfaces.specs.Prelude.{is_plain}
-use Rattle.sc_back.specs.Tree.{counter_name, function_params, param_name}
 
 -- Tests that fail.
 

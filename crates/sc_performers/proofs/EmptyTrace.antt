@@ -1,18 +1,8 @@
 -- The premises can be met: each compartment of any program performs its part of the empty trace.
-use Rattle.std.proofs.Common.{Bool, List, Some, [], ◌∷◌, ◌≡◌, ◌+◌, ℕ, ap, arith, length, lt-ltb, ltb-true, nat_lt, refl}
-use Rattle.std.proofs.Common.{slice_get, subst, suc}
-use Rattle.std.proofs.lemmas.List.Elements.{All-nil}
-use Rattle.sc_event.specs.Prelude.{part}
-use Rattle.sc_ast.specs.declared.section.SectionTree.{SectionTree}
-use Rattle.sc_scope.specs.Interfaces.{interface_of}
-use Rattle.sc_scope.specs.Prelude.{interfaces_of}
-use Rattle.sc_elab.specs.Prelude.{program_of}
-use Rattle.sc_types.specs.Acceptance.{IsTyped}
-use Rattle.sc_types.proofs.Calls.{comp_is}
-use Rattle.sc_back.specs.Sections.{AllBecome, replaced}
-use Rattle.sc_back.specs.Tree.{back_tree}
-use Rattle.sc_replay.specs.Replay.{HasWords}
-use Rattle.sc_performers.specs.Recomposed.{AreRecomposed}
+use Rattle.sc_performers.proofs.Common.{All-nil, AllBecome, AreRecomposed, Bool, HasWords, IsTyped, List, SectionTree}
+use Rattle.sc_performers.proofs.Common.{Some, [], ap, arith, back_tree, comp_is, interface_of, interfaces_of, length}
+use Rattle.sc_performers.proofs.Common.{lt-ltb, ltb-true, nat_lt, part, program_of, refl, replaced, slice_get, subst}
+use Rattle.sc_performers.proofs.Common.{suc, ℕ, ◌+◌, ◌∷◌, ◌≡◌}
 
 module _ (olds : List SectionTree) where
   -- all compartments are replaced

@@ -1,21 +1,10 @@
 -- A compartment whose section can perform: it is entered again while a call of it waits.
-use Rattle.std.proofs.Common.{List, None, Some, [], arith, codes, refl, subst, ◌∷◌, ◌≡◌}
-use Rattle.std.specs.List.{AllByRecursion}
-use Rattle.std.proofs.lemmas.List.Elements.{All-from_recursion}
-use Rattle.sc_event.specs.declared.interface.Import.TheVariants as import
-use Rattle.sc_event.specs.declared.interface.Interface.{Interface}
-use Rattle.sc_event.specs.declared.interface.Interfaces.{Interfaces}
-use Rattle.sc_event.specs.declared.interface.Proto.{Proto}
-use Rattle.sc_event.specs.declared.interface.Scalar.TheVariants.{Int}
-use Rattle.sc_event.specs.declared.row.Action.{Action}
-use Rattle.sc_event.specs.declared.row.Action.TheVariants.{Call, Ret, Out, End}
-use Rattle.sc_event.specs.declared.row.Entry.TheVariants.{Export, Main}
-use Rattle.sc_event.specs.declared.row.Row.{Row}
+use Rattle.sc_performers.proofs.Common.{Action, All-from_recursion, AllByRecursion, Export, FitsRow, Int, Interface}
+use Rattle.sc_performers.proofs.Common.{Interfaces, IsPerformer, IsUsable, IsWord, List, Main, MayDo, None, Proto, Row}
+use Rattle.sc_performers.proofs.Common.{Some, [], all_of, arith, back_tree, codes, main_proto, refl, subst, ◌∷◌, ◌≡◌}
 use Rattle.sc_scope.specs.Prelude.{section_lines}
-use Rattle.sc_back.specs.Text.{main_proto}
-use Rattle.sc_back.specs.Tree.{back_tree}
-use Rattle.sc_replay.specs.Replay.{IsWord}
-use Rattle.sc_performers.specs.Performer.{FitsRow, IsPerformer, IsUsable, MayDo, all_of}
+use Rattle.sc_event.specs.declared.interface.Import.TheVariants as import
+use Rattle.sc_event.specs.declared.row.Action.TheVariants.{Call, Ret, Out, End}
 use Rattle.sc_performers.proofs.NamesKept.{names_hold}
 
 abbrev f : Proto

@@ -1,34 +1,17 @@
 -- A compartment of a text that keeps the rules can perform its part of a legal trace.
-use Rattle.std.proofs.Common.{Bool, List, Some, [], ◌∷◌, ◌++◌, ◌≡◌, ◌∙◌, ◌==◌, ◌||◌, ◌+◌, ◌≤◌, ℕ, suc, zero, ap, ap₂}
-use Rattle.std.proofs.Common.{arith}
-use Rattle.std.proofs.Common.{bytes_eq, eqb-true, false, if◌then◌else◌, length, map, refl, slice_get, subst, sym, true}
-use Rattle.std.proofs.lemmas.Bool.{false≢true}
-use Rattle.std.proofs.lemmas.List.{map-append}
-use Rattle.std.proofs.lemmas.List.Elements.{All-from_recursion}
-use Rattle.std.specs.List.{AllByRecursion, cons_option, filter_map, list_any}
-use Rattle.std.specs.Prelude.{All}
-use Rattle.sc_base.proofs.Texts.{same_text}
-use Rattle.sc_event.specs.Prelude.{legal, part}
-use Rattle.sc_event.specs.declared.event.Event.{Event}
-use Rattle.sc_event.specs.declared.interface.Interface.{Interface}
-use Rattle.sc_event.specs.declared.interface.Interfaces.{Interfaces}
-use Rattle.sc_event.specs.declared.interface.Proto.{Proto}
-use Rattle.sc_ast.specs.declared.section.ExportLine.{ExportLine}
-use Rattle.sc_ast.specs.declared.section.ImportLine.{ImportLine}
-use Rattle.sc_ast.specs.declared.section.SectionTree.{SectionTree}
-use Rattle.sc_scope.specs.Interfaces.{function_named, interface_of, main_from, main_name, proto_of}
-use Rattle.sc_scope.specs.Prelude.{Text, among, are_distinct, defines_main, export_names, function_names, import_names}
-use Rattle.sc_scope.specs.Prelude.{functions_in, import_of, interfaces_of}
-use Rattle.sc_interfaces.specs.Faces.{interface_broken, is_plain, lines_from}
-use Rattle.sc_types.specs.Counts.{counts_broken}
-use Rattle.sc_types.proofs.Basics.{Each, back_empty, none_some, rule_holds, some_is}
-use Rattle.sc_types.proofs.Calls.{comp_is}
-use Rattle.sc_types.proofs.Facts.{ExportFacts, FaceFacts, ImportFacts, fresh_distinct}
-use Rattle.sc_types.proofs.Functions.{map_length}
-use Rattle.sc_types.proofs.Sections.{both_distinct}
-use Rattle.sc_back.specs.Text.{imported, main_proto}
-use Rattle.sc_replay.specs.Replay.{HasWords}
-use Rattle.sc_performers.specs.Performer.{IsPerformer, IsUsable, all_of, defined, names_of, used}
+use Rattle.sc_performers.proofs.Common.{All, All-from_recursion, AllByRecursion, Bool, Each, Event, ExportFacts}
+use Rattle.sc_performers.proofs.Common.{ExportLine, FaceFacts, HasWords, ImportFacts, ImportLine, Interface, Interfaces}
+use Rattle.sc_performers.proofs.Common.{IsPerformer, IsUsable, List, Proto, SectionTree, Some, Text, [], all_of, among}
+use Rattle.sc_performers.proofs.Common.{ap, ap₂, are_distinct, arith, back_empty, both_distinct, bytes_eq, comp_is}
+use Rattle.sc_performers.proofs.Common.{cons_option, counts_broken, defined, defines_main, eqb-true, export_names}
+use Rattle.sc_performers.proofs.Common.{false, false≢true, filter_map, fresh_distinct, function_named, function_names}
+use Rattle.sc_performers.proofs.Common.{functions_in, if◌then◌else◌, import_names, import_of, imported}
+use Rattle.sc_performers.proofs.Common.{interface_broken, interface_of, interfaces_of, is_plain, legal, length}
+use Rattle.sc_performers.proofs.Common.{lines_from, list_any, main_from, main_name, main_proto, map, map-append}
+use Rattle.sc_performers.proofs.Common.{map_length, names_of, none_some, part, refl, rule_holds, same_text, slice_get}
+use Rattle.sc_performers.proofs.Common.{some_is, subst, suc, sym, true, used, zero, ℕ, ◌++◌, ◌+◌, ◌==◌, ◌||◌, ◌∙◌, ◌∷◌}
+use Rattle.sc_performers.proofs.Common.{◌≡◌, ◌≤◌}
+use Rattle.sc_scope.specs.Prelude.{proto_of}
 use Rattle.sc_performers.proofs.LegalRows.{legal_rows_fit}
 use Rattle.sc_performers.proofs.Resolved.{IsPromised, IsResolved, facts_at, few_exports, few_imports, promise_name}
 use Rattle.sc_performers.proofs.Resolved.{promised_at, resolved}

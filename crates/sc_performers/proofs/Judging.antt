@@ -1,20 +1,14 @@
 -- How the expressions of a performing section are judged.
-use Rattle.std.proofs.Common.{Bool, List, [], ◌∷◌, ◌≡◌, ◌∙◌, ◌^◌, ◌-◌, ◌==◌, ◌<◌, ℕ, ap, ap₂}
-use Rattle.std.proofs.Common.{arith, false, if◌then◌else◌, le-leb, leb-false, length, lt-ltb, map, nat_le, nat_lt, refl}
-use Rattle.std.proofs.Common.{rules, true}
-use Rattle.std.proofs.lemmas.Bool.{and_from, eqb-false}
-use Rattle.std.specs.List.{AllByRecursion}
-use Rattle.sc_event.specs.declared.interface.Scalar.{Scalar}
-use Rattle.sc_event.specs.declared.interface.Scalar.TheVariants.{Int, Unsigned}
-use Rattle.sc_core.specs.Prelude.{Scope, goes_into, is_scalar, judged, scalar_ty}
-use Rattle.sc_core.specs.Typing.{all_go_into, assign_fits, place_judged, value_judged}
-use Rattle.sc_core.specs.declared.expr.TypedExpr.{TypedExpr}
+use Rattle.sc_performers.proofs.Common.{AllByRecursion, Bool, Int, IsWord, List, Scalar, Scope, Ty, TypedExpr, Unsigned}
+use Rattle.sc_performers.proofs.Common.{[], all_go_into, and_from, ap, ap₂, arith, assign_fits, counter, counter_is}
+use Rattle.sc_performers.proofs.Common.{eqb-false, false, goes_into, if◌then◌else◌, is_scalar, judged, le-leb}
+use Rattle.sc_performers.proofs.Common.{least_int, leb-false, length, lt-ltb, map, minus, nat_le, nat_lt, place_judged}
+use Rattle.sc_performers.proofs.Common.{refl, rules, scalar_ty, true, value_judged, word_expr, word_exprs, ℕ, ◌-◌, ◌<◌}
+use Rattle.sc_performers.proofs.Common.{◌==◌, ◌^◌, ◌∙◌, ◌∷◌, ◌≡◌}
 use Rattle.sc_core.specs.declared.expr.TypedExpr as typed_exprs
 use Rattle.sc_core.specs.declared.expr.TypedKind as typed_kinds
-use Rattle.sc_core.specs.declared.ty.Ty.{Ty}
 use Rattle.sc_core.specs.declared.ty.Ty.TheVariants as ty
-use Rattle.sc_replay.specs.Replay.{IsWord}
-use Rattle.sc_replay.specs.Texts.{counter, counter_is, least_int, literal, minus, word_expr, word_exprs}
+use Rattle.sc_replay.specs.Texts.{literal}
 
 module _ (params : List Ty) where
   -- the counter, and parameters

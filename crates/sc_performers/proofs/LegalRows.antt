@@ -1,25 +1,13 @@
 -- The rows of a part of a legal trace are such as a section can perform.
-use Rattle.std.proofs.Common.{Bool, List, None, Option, Some, [], ◌+◌, ◌==◌, ◌∙◌, ◌∷◌, ◌≡◌, ◌≤◌, ℕ, ap}
-use Rattle.std.proofs.Common.{arith, eqb-true, false, if◌then◌else◌, length, refl, subst, suc, sym, true}
-use Rattle.std.proofs.lemmas.Bool.{and_parts, false≢true}
-use Rattle.std.proofs.lemmas.List.Elements.{All-from_recursion, recursion_from_All}
-use Rattle.std.proofs.lemmas.Option.{none-some}
-use Rattle.std.specs.List.{AllByRecursion}
-use Rattle.std.specs.Option.{option_map_or}
-use Rattle.sc_event.specs.Legal.{is_outermost}
-use Rattle.sc_event.specs.Prelude.{Activation, Standing, action_of, at_start, awaits, fits_result}
-use Rattle.sc_event.specs.Prelude.{imports, is_allowed, is_function, is_legal_from, may_perform, may_return}
-use Rattle.sc_event.specs.Prelude.{performer, resumed, rows_from, stands_after, takes}
-use Rattle.sc_event.specs.declared.event.Event.{Event}
-use Rattle.sc_event.specs.declared.event.Event.TheVariants.{Call, Ret, Out, In, End}
-use Rattle.sc_event.specs.declared.interface.Interfaces.{Interfaces}
-use Rattle.sc_event.specs.declared.interface.Proto.{Proto}
-use Rattle.sc_event.specs.declared.interface.Scalar.TheVariants.{Int}
-use Rattle.sc_event.specs.declared.row.Entry.{Entry}
-use Rattle.sc_event.specs.declared.row.Entry.TheVariants.{Export, Main}
-use Rattle.sc_replay.specs.Replay.{HasWords, main_proto, proto_of}
-use Rattle.sc_performers.specs.Laws.{LegalRowsFit}
-use Rattle.sc_performers.specs.Performer.{FitsRow, IsWordOrNone, MayDo}
+use Rattle.sc_performers.proofs.Common.{Activation, All-from_recursion, AllByRecursion, Bool, Call, End, Entry, Event}
+use Rattle.sc_performers.proofs.Common.{Export, FitsRow, HasWords, In, Int, Interfaces, IsWordOrNone, LegalRowsFit}
+use Rattle.sc_performers.proofs.Common.{List, Main, MayDo, None, Option, Out, Proto, Ret, Some, Standing, [], action_of}
+use Rattle.sc_performers.proofs.Common.{and_parts, ap, arith, at_start, awaits, eqb-true, false, false≢true}
+use Rattle.sc_performers.proofs.Common.{fits_result, if◌then◌else◌, imports, is_allowed, is_function, is_legal_from}
+use Rattle.sc_performers.proofs.Common.{is_outermost, length, may_perform, may_return, none-some, option_map_or}
+use Rattle.sc_performers.proofs.Common.{performer, proto_of, recursion_from_All, refl, resumed, rows_from, stands_after}
+use Rattle.sc_performers.proofs.Common.{subst, suc, sym, takes, true, ℕ, ◌+◌, ◌==◌, ◌∙◌, ◌∷◌, ◌≡◌, ◌≤◌}
+use Rattle.sc_replay.specs.Replay.{main_proto}
 
 -- The first of the functions that wait is `main`.
 

@@ -1,3 +1,4 @@
+pub mod Common
 pub mod BareKinds
 pub mod BackTree
 pub mod Undone

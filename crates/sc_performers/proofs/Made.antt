@@ -1,33 +1,12 @@
 -- The functions, imports and heads that a performing section is made of.
-use Rattle.std.proofs.Common.{Bool, List, None, Option, Some, [], ◌∷◌, ◌++◌, ◌≡◌, ◌∙◌, ◌||◌, ℕ, suc, ap, bytes_eq}
-use Rattle.std.proofs.Common.{inl, inr, ◌⊎◌, false, if◌then◌else◌, map, not, refl, subst, sym, true}
-use Rattle.std.proofs.lemmas.Bool.{and_from, false≢true}
-use Rattle.std.specs.Option.{option_map}
-use Rattle.sc_base.proofs.Texts.{bytes_eq_self, same_either_way, same_text}
-use Rattle.sc_event.specs.declared.interface.Import.{Import}
-use Rattle.sc_event.specs.declared.interface.Interfaces.{Interfaces}
-use Rattle.sc_event.specs.declared.interface.Proto.{Proto}
-use Rattle.sc_event.specs.declared.interface.Scalar.{Scalar}
-use Rattle.sc_event.specs.declared.interface.Scalar.TheVariants.{Int, Unsigned}
-use Rattle.sc_event.specs.declared.row.Entry.{Entry}
-use Rattle.sc_event.specs.declared.row.Entry.TheVariants.{Export, Main}
-use Rattle.sc_event.specs.declared.row.Row.{Row}
-use Rattle.sc_ast.specs.Prelude.{head_of}
-use Rattle.sc_ast.specs.declared.section.FunctionParam.{FunctionParam}
-use Rattle.sc_ast.specs.declared.section.FunctionTree.{FunctionTree}
-use Rattle.sc_ast.specs.declared.section.HeadTree.{HeadTree}
-use Rattle.sc_ast.specs.declared.section.ImportLine.{ImportLine}
-use Rattle.sc_ast.specs.declared.stmt.StmtTree.{StmtTree}
-use Rattle.sc_scope.specs.Interfaces.{function_named, promised}
-use Rattle.sc_scope.specs.Prelude.{Text, among, are_distinct}
-use Rattle.sc_scope.specs.Prelude.{scalar_of}
-use Rattle.sc_interfaces.specs.Faces.{agree, agrees_with}
-use Rattle.sc_types.proofs.Basics.{Each}
-use Rattle.sc_back.specs.Text.{main_proto}
-use Rattle.sc_back.specs.Tree.{function_params, type_name}
-use Rattle.sc_performers.specs.Performer.{names_of}
-use Rattle.sc_performers.proofs.BackTree.{AreFunctions, AreImports, and_function}
-use Rattle.sc_performers.proofs.BackTree.{and_import, entries_from, function_at}
+use Rattle.sc_performers.proofs.Common.{Bool, Each, Entry, Export, FunctionParam, FunctionTree, HeadTree, Import}
+use Rattle.sc_performers.proofs.Common.{ImportLine, Int, Interfaces, List, Main, None, Option, Proto, Row, Scalar, Some}
+use Rattle.sc_performers.proofs.Common.{StmtTree, Text, Unsigned, [], agree, agrees_with, among, and_from, ap}
+use Rattle.sc_performers.proofs.Common.{are_distinct, bytes_eq, bytes_eq_self, false, false≢true, function_named}
+use Rattle.sc_performers.proofs.Common.{function_params, head_of, if◌then◌else◌, inl, inr, main_proto, map, names_of}
+use Rattle.sc_performers.proofs.Common.{not, option_map, promised, refl, same_either_way, same_text, scalar_of, subst}
+use Rattle.sc_performers.proofs.Common.{suc, sym, true, type_name, ℕ, ◌++◌, ◌||◌, ◌∙◌, ◌∷◌, ◌≡◌, ◌⊎◌}
+use Rattle.sc_performers.proofs.BackTree.{AreFunctions, AreImports, and_function, and_import, entries_from, function_at}
 use Rattle.sc_performers.proofs.BackTree.{import_at, no_functions, no_imports}
 use Rattle.sc_performers.proofs.Declared.{heads_of}
 use Rattle.sc_performers.proofs.Distinct.{first_new, rest_distinct}

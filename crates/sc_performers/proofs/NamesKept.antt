@@ -1,55 +1,29 @@
 -- A performing section breaks no rule of names.
-use Rattle.std.proofs.Common.{List, None, Option, Some, [], ◌∷◌, ◌++◌, ◌≡◌, ◌∙◌, ◌||◌, ◌==◌, ℕ, suc, ap, ap₂}
-use Rattle.std.proofs.Common.{append-nil, append_assoc, arith, bytes_eq, false, length, map, not, refl, subst, sym}
-use Rattle.std.proofs.Common.{true}
-use Rattle.std.proofs.lemmas.Bool.{and_from, false≢true, or_from, or_left}
-use Rattle.std.proofs.lemmas.List.{map-append}
-use Rattle.std.specs.Prelude.{filter}
-use Rattle.std.specs.List.{AllByRecursion, list_all}
-use Rattle.std.specs.Option.{option_map, option_map_or}
-use Rattle.sc_base.proofs.Texts.{bytes_eq_self, same_either_way}
-use Rattle.sc_event.specs.Prelude.{export_at, imports, is_function}
-use Rattle.sc_event.specs.declared.interface.Import.{Import}
+use Rattle.sc_performers.proofs.Common.{Action, AllByRecursion, Decl, Entry, FunctionTree, GlobalTree, HeadTree, Import}
+use Rattle.sc_performers.proofs.Common.{Int, Interface, Interfaces, IsPerformer, IsUsable, List, MayDo, NamesHold, None}
+use Rattle.sc_performers.proofs.Common.{Option, ParamTree, Proto, Row, Scalar, SectionTree, Some, StmtTree, StructTree}
+use Rattle.sc_performers.proofs.Common.{Text, Unsigned, [], action_kind, among, and_from, ap, append-nil, append_assoc}
+use Rattle.sc_performers.proofs.Common.{ap₂, are_distinct, arith, base_known, base_tree, body_lines, bytes_eq}
+use Rattle.sc_performers.proofs.Common.{bytes_eq_self, call_kind, counter_name, declared, export_at, false, false≢true}
+use Rattle.sc_performers.proofs.Common.{filter, function_names, function_params, global_known, head_of_known}
+use Rattle.sc_performers.proofs.Common.{import_names, imports, input_proto, is_callable, is_function, is_new, is_of}
+use Rattle.sc_performers.proofs.Common.{length, list_all, map, map-append, not, option_map, option_map_or, or_from}
+use Rattle.sc_performers.proofs.Common.{or_left, output_proto, param_of, proto_known, proto_of, proto_params, refl}
+use Rattle.sc_performers.proofs.Common.{result_known, same_either_way, stmt_lines, subst, suc, sym, true, type_name}
+use Rattle.sc_performers.proofs.Common.{unless, ℕ, ◌++◌, ◌==◌, ◌||◌, ◌∙◌, ◌∷◌, ◌≡◌}
+use Rattle.sc_scope.specs.Prelude.{decl_lines, function_lines, lines_from}
 use Rattle.sc_event.specs.declared.interface.Import.TheVariants as import
-use Rattle.sc_event.specs.declared.interface.Interface.{Interface}
-use Rattle.sc_event.specs.declared.interface.Interfaces.{Interfaces}
-use Rattle.sc_event.specs.declared.interface.Proto.{Proto}
-use Rattle.sc_event.specs.declared.interface.Scalar.{Scalar}
-use Rattle.sc_event.specs.declared.interface.Scalar.TheVariants.{Int, Unsigned}
-use Rattle.sc_event.specs.declared.row.Action.{Action}
 use Rattle.sc_event.specs.declared.row.Action.TheVariants as action
-use Rattle.sc_event.specs.declared.row.Entry.{Entry}
-use Rattle.sc_event.specs.declared.row.Row.{Row}
-use Rattle.sc_ast.specs.Prelude.{param_of}
-use Rattle.sc_ast.specs.declared.section.Decl.{Decl}
 use Rattle.sc_ast.specs.declared.section.Decl.TheVariants as decl
-use Rattle.sc_ast.specs.declared.section.FunctionTree.{FunctionTree}
-use Rattle.sc_ast.specs.declared.section.HeadTree.{HeadTree}
-use Rattle.sc_ast.specs.declared.section.ParamTree.{ParamTree}
-use Rattle.sc_ast.specs.declared.section.SectionTree.{SectionTree}
-use Rattle.sc_ast.specs.declared.section.StructTree.{StructTree}
-use Rattle.sc_ast.specs.declared.section.GlobalTree.{GlobalTree}
-use Rattle.sc_ast.specs.declared.stmt.StmtTree.{StmtTree}
 use Rattle.sc_ast.specs.declared.stmt.StmtKind.TheVariants as stmt
-use Rattle.sc_scope.specs.Prelude.{Text, among, are_distinct, base_known, body_lines, decl_lines, declared}
-use Rattle.sc_scope.specs.Prelude.{function_lines, function_names, global_known, head_of_known}
-use Rattle.sc_scope.specs.Prelude.{import_names, is_callable, is_new, lines_from, proto_known, result_known}
-use Rattle.sc_scope.specs.Prelude.{stmt_lines, unless}
 use Rattle.sc_scope.specs.declared.section_names.SectionNames.{SectionNames}
-use Rattle.sc_back.specs.Text.{input_proto, is_of, output_proto}
-use Rattle.sc_back.specs.Tree.{action_kind, base_tree, call_kind, counter_name, function_params, proto_params}
-use Rattle.sc_back.specs.Tree.{type_name}
-use Rattle.sc_replay.specs.Replay.{proto_of}
-use Rattle.sc_performers.specs.Laws.{NamesHold}
-use Rattle.sc_performers.specs.Performer.{IsPerformer, IsUsable, MayDo}
 use Rattle.sc_performers.proofs.BackTree.{AreFunctions, AreHeads, IsBackBody, IsBackTree, and_function, and_head}
-use Rattle.sc_performers.proofs.BackTree.{counter_at, does, ends, function_at, head_at, no_functions, no_heads}
-use Rattle.sc_performers.proofs.BackTree.{stmt_at}
+use Rattle.sc_performers.proofs.BackTree.{counter_at, does, ends, function_at, head_at, no_functions, no_heads, stmt_at}
 use Rattle.sc_performers.proofs.Undone.{back_tree_is}
 use Rattle.sc_performers.proofs.Declared.{all_functions, all_globals, all_protos, all_structs, decls_of}
 use Rattle.sc_performers.proofs.Declared.{protos_functions, protos_globals, protos_protos, protos_structs}
-use Rattle.sc_performers.proofs.Distinct.{among_back, front_distinct, not_counter, not_from, not_param}
-use Rattle.sc_performers.proofs.Distinct.{params_distinct, params_named, apart}
+use Rattle.sc_performers.proofs.Distinct.{among_back, front_distinct, not_counter, not_from, not_param, params_distinct}
+use Rattle.sc_performers.proofs.Distinct.{params_named, apart}
 use Rattle.sc_performers.proofs.Uses.{AllFit, AreEntries, IsAmong, are_entries, calls_use, input_use, output_use}
 use Rattle.sc_performers.proofs.Uses.{rows_fit}
 use Rattle.sc_performers.proofs.RowNames.{calls_known, known, returns_known, row_known, while_known}

@@ -1,34 +1,20 @@
 -- How many nodes the statements of a performing section have.
-use Rattle.std.proofs.Common.{Bool, List, None, Option, Some, [], ◌∷◌, ◌≡◌, ◌==◌, ◌+◌, ◌*◌, ◌≤◌, ◌^◌, ◌-◌, ℕ, suc}
-use Rattle.std.proofs.Common.{arith}
-use Rattle.std.proofs.Common.{false, if◌then◌else◌, length, map, nat_le, refl, rules, true}
-use Rattle.std.proofs.lemmas.Bool.{false≢true}
-use Rattle.std.specs.Option.{option_map_or}
-use Rattle.sc_event.specs.Prelude.{export_at, imports, is_function}
+use Rattle.sc_performers.proofs.Common.{Action, Bool, Callees, Int, Interface, Interfaces, IsPerformer, IsUsable, List}
+use Rattle.sc_performers.proofs.Common.{MayDo, None, Option, Proto, Row, Scalar, Some, Ty, TypedExpr, TypedStmt}
+use Rattle.sc_performers.proofs.Common.{Unsigned, [], arith, calls_out, counter, counter_is, export_at, expr_nodes}
+use Rattle.sc_performers.proofs.Common.{false, false≢true, if◌then◌else◌, imports, input_proto, int_expr, is_function}
+use Rattle.sc_performers.proofs.Common.{least_int, length, map, minus, nat_le, option_map_or, or_int, output_proto}
+use Rattle.sc_performers.proofs.Common.{refl, rules, stmt_at, stmt_nodes, suc, total, true, waits, word_expr}
+use Rattle.sc_performers.proofs.Common.{word_exprs, ℕ, ◌*◌, ◌+◌, ◌-◌, ◌==◌, ◌^◌, ◌∷◌, ◌≡◌, ◌≤◌}
 use Rattle.sc_event.specs.declared.interface.Import.TheVariants as import
-use Rattle.sc_event.specs.declared.interface.Interface.{Interface}
-use Rattle.sc_event.specs.declared.interface.Interfaces.{Interfaces}
-use Rattle.sc_event.specs.declared.interface.Proto.{Proto}
-use Rattle.sc_event.specs.declared.interface.Scalar.{Scalar}
-use Rattle.sc_event.specs.declared.interface.Scalar.TheVariants.{Int, Unsigned}
-use Rattle.sc_event.specs.declared.row.Action.{Action}
 use Rattle.sc_event.specs.declared.row.Action.TheVariants as action
-use Rattle.sc_event.specs.declared.row.Row.{Row}
-use Rattle.sc_core.specs.Prelude.{expr_nodes, stmt_nodes, total}
 use Rattle.sc_core.specs.declared.expr.CallTarget.{CallTarget}
-use Rattle.sc_core.specs.declared.expr.TypedExpr.{TypedExpr}
 use Rattle.sc_core.specs.declared.expr.TypedExpr as typed_exprs
 use Rattle.sc_core.specs.declared.expr.TypedKind as typed_kinds
-use Rattle.sc_core.specs.declared.stmt.TypedStmt.{TypedStmt}
 use Rattle.sc_core.specs.declared.stmt.TypedStmt as typed_stmts
 use Rattle.sc_core.specs.declared.stmt.TypedStmtKind as kind
-use Rattle.sc_core.specs.declared.ty.Ty.{Ty}
 use Rattle.sc_core.specs.declared.ty.Ty.TheVariants as ty
-use Rattle.sc_elab_expr.specs.Prelude.{Callees}
-use Rattle.sc_back.specs.Text.{input_proto, output_proto}
-use Rattle.sc_replay.specs.Texts.{calls_out, counter, counter_is, int_expr, least_int, literal, minus, or_int, stmt_at}
-use Rattle.sc_replay.specs.Texts.{waits, word_expr, word_exprs}
-use Rattle.sc_performers.specs.Performer.{IsPerformer, IsUsable, MayDo}
+use Rattle.sc_replay.specs.Texts.{literal}
 use Rattle.sc_performers.proofs.SectionFacts.{use_holds, uses_usable}
 use Rattle.sc_performers.proofs.BackTree.{uses}
 use Rattle.sc_performers.proofs.TypedRows.{IsTypedBody, action_typed, row_typed, then_does, waits_on}

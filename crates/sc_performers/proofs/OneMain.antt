@@ -1,21 +1,13 @@
 -- One section of a text that keeps the rules defines `main`.
-use Rattle.std.proofs.Common.{Bool, List, [], ◌∷◌, ◌++◌, ◌≡◌, ◌∙◌, ◌==◌, ◌&&◌, ◌||◌, ◌+◌, ℕ, suc, zero, ap, arith}
-use Rattle.std.proofs.Common.{bytes_eq, eq-eqb, false}
-use Rattle.std.proofs.Common.{Some, if◌then◌else◌, map, not, refl, slice_get, subst, sym, true}
-use Rattle.std.proofs.lemmas.Bool.{false≢true}
-use Rattle.std.specs.List.{list_any}
-use Rattle.sc_base.proofs.Bools.{and_rest}
-use Rattle.sc_base.proofs.Texts.{same_either_way}
-use Rattle.sc_ast.specs.Prelude.{head_of}
-use Rattle.sc_ast.specs.declared.section.Decl.{Decl}
-use Rattle.sc_ast.specs.declared.section.Decl.TheVariants.{Function, Global, Proto, Struct}
-use Rattle.sc_ast.specs.declared.section.SectionTree.{SectionTree}
-use Rattle.sc_scope.specs.Interfaces.{main_from, main_name}
-use Rattle.sc_scope.specs.Prelude.{among, defines_main, function_names, line_of_text, unless}
-use Rattle.sc_interfaces.specs.Faces.{decls_from, exports_from, head_holds, imported_agrees, imports_from, lines_from}
-use Rattle.sc_interfaces.specs.Faces.{is_main, main_holds, name_holds, section_lines}
-use Rattle.sc_types.proofs.Basics.{Each, back_empty, front_empty, map_empty, none_some, rule_holds, some_is}
-use Rattle.sc_types.proofs.Lookups.{each_at}
+use Rattle.sc_performers.proofs.Common.{Bool, Decl, Each, Function, Global, List, SectionTree, Some, Struct, [], among}
+use Rattle.sc_performers.proofs.Common.{and_rest, ap, arith, back_empty, bytes_eq, decls_from, defines_main, each_at}
+use Rattle.sc_performers.proofs.Common.{eq-eqb, exports_from, false, false≢true, front_empty, function_names}
+use Rattle.sc_performers.proofs.Common.{head_holds, head_of, if◌then◌else◌, imported_agrees, imports_from, is_main}
+use Rattle.sc_performers.proofs.Common.{line_of_text, lines_from, list_any, main_from, main_holds, main_name, map}
+use Rattle.sc_performers.proofs.Common.{map_empty, name_holds, none_some, not, refl, rule_holds, same_either_way}
+use Rattle.sc_performers.proofs.Common.{section_lines, slice_get, some_is, subst, suc, sym, true, unless, zero, ℕ, ◌&&◌}
+use Rattle.sc_performers.proofs.Common.{◌++◌, ◌+◌, ◌==◌, ◌||◌, ◌∙◌, ◌∷◌, ◌≡◌}
+use Rattle.sc_ast.specs.declared.section.Decl.TheVariants.{Proto}
 
 or_false : (a b : Bool) → a ≡ false → b ≡ false → (a || b) ≡ false
 or_false a b h k = λ i. h i || k i

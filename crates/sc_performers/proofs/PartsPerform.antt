@@ -1,36 +1,18 @@
 -- Each compartment of a program can perform its part of a legal trace in a text.
-use Rattle.std.proofs.Common.{Bool, List, None, Option, Some, [], ◌∷◌, ◌≡◌, ◌∙◌, ◌==◌, ◌||◌, ◌+◌, ◌<◌, ◌≤◌, ℕ, suc}
-use Rattle.std.proofs.Common.{zero}
-use Rattle.std.proofs.Common.{ap, arith, bytes_eq, false, if◌then◌else◌, length, map, refl, slice_get, subst, sym, true}
-use Rattle.std.proofs.lemmas.Bool.{and_parts, false≢true}
-use Rattle.std.proofs.lemmas.List.Elements.{All-from_recursion, recursion_from_All}
-use Rattle.std.specs.List.{AllByRecursion}
-use Rattle.std.specs.Option.{option_and_then, option_map_or}
-use Rattle.std.specs.Prelude.{All, IsTrue}
-use Rattle.sc_base.specs.Prelude.{is_name}
-use Rattle.sc_base.proofs.Texts.{same_text}
-use Rattle.sc_event.specs.Prelude.{Standing, action_of, at_start, export_at, imports, is_allowed, is_function}
-use Rattle.sc_event.specs.Prelude.{is_legal_from, legal, may_perform, part, performer, rows_from, stands_after, takes}
-use Rattle.sc_event.specs.declared.event.Event.{Event}
-use Rattle.sc_event.specs.declared.event.Event.TheVariants.{Call, Ret, Out, In, End}
-use Rattle.sc_event.specs.declared.interface.Interfaces.{Interfaces}
-use Rattle.sc_event.specs.declared.interface.Proto.{Proto}
-use Rattle.sc_ast.specs.Prelude.{is_ident}
-use Rattle.sc_ast.specs.declared.section.Decl.{Decl}
+use Rattle.sc_performers.proofs.Common.{All, All-from_recursion, AllByRecursion, AreNumbered, Bool, Call, Decl, Each}
+use Rattle.sc_performers.proofs.Common.{End, Event, ExportFacts, ExportLine, FaceFacts, HasWords, ImportFacts}
+use Rattle.sc_performers.proofs.Common.{ImportLine, In, Interfaces, IsCalled, IsImported, IsSpoken, IsTrue, List, None}
+use Rattle.sc_performers.proofs.Common.{Option, Out, Proto, Ret, SectionTree, Some, Standing, Text, [], action_of}
+use Rattle.sc_performers.proofs.Common.{among, and_parts, ap, arith, at_start, bytes_eq, comp_is, counts_broken}
+use Rattle.sc_performers.proofs.Common.{export_at, false, false≢true, function_names, heads_in, if◌then◌else◌}
+use Rattle.sc_performers.proofs.Common.{import_of, imports, interface_broken, interface_of, interfaces_from}
+use Rattle.sc_performers.proofs.Common.{interfaces_of, is_allowed, is_function, is_ident, is_legal_from, is_name, legal}
+use Rattle.sc_performers.proofs.Common.{length, map, may_perform, none_some, option_and_then, option_map_or, part}
+use Rattle.sc_performers.proofs.Common.{performer, program_of, proto_names, recursion_from_All, refl, rows_from}
+use Rattle.sc_performers.proofs.Common.{same_text, slice_get, some_is, stands_after, subst, suc, sym, takes, true, zero}
+use Rattle.sc_performers.proofs.Common.{ℕ, ◌+◌, ◌<◌, ◌==◌, ◌||◌, ◌∙◌, ◌∷◌, ◌≡◌, ◌≤◌}
+use Rattle.sc_scope.specs.Prelude.{proto_of}
 use Rattle.sc_ast.specs.declared.section.Decl.TheVariants as decl
-use Rattle.sc_ast.specs.declared.section.ExportLine.{ExportLine}
-use Rattle.sc_ast.specs.declared.section.ImportLine.{ImportLine}
-use Rattle.sc_ast.specs.declared.section.SectionTree.{SectionTree}
-use Rattle.sc_scope.specs.Interfaces.{interface_of, interfaces_from, proto_of}
-use Rattle.sc_scope.specs.Prelude.{Text, among, function_names, heads_in, import_of, interfaces_of, proto_names}
-use Rattle.sc_elab.specs.Prelude.{program_of}
-use Rattle.sc_interfaces.specs.Faces.{interface_broken}
-use Rattle.sc_types.specs.Counts.{counts_broken}
-use Rattle.sc_types.proofs.Basics.{Each, none_some, some_is}
-use Rattle.sc_types.proofs.Calls.{comp_is}
-use Rattle.sc_types.proofs.Facts.{ExportFacts, FaceFacts, ImportFacts}
-use Rattle.sc_back.specs.Sections.{AreNumbered, IsCalled, IsImported, IsSpoken}
-use Rattle.sc_replay.specs.Replay.{HasWords}
 use Rattle.sc_performers.specs.Performing.{IsCalledSo, IsFromSo, IsNamed, PartsPerform, PerformsPart}
 use Rattle.sc_performers.proofs.Fitting.{all_promised, all_resolved, facts, proto_named}
 use Rattle.sc_performers.proofs.Resolved.{IsPromised, IsResolved}

@@ -1,31 +1,16 @@
 -- Typed statements that do the rows of an entry perform all rows of a compartment that are of it.
-use Rattle.std.proofs.Common.{Bool, List, None, Option, Some, [], ◌∷◌, ◌≡◌, ◌∙◌, ◌==◌, ℕ, suc, ap, false, if◌then◌else◌}
-use Rattle.std.proofs.Common.{length}
-use Rattle.std.proofs.Common.{refl, subst, sym, true}
-use Rattle.std.proofs.lemmas.Bool.{eq-eqb, false≢true}
-use Rattle.std.specs.Prelude.{filter}
-use Rattle.std.specs.Option.{option_map_or}
-use Rattle.sc_event.specs.Prelude.{export_at, imports, is_function}
-use Rattle.sc_event.specs.declared.interface.Import.{Import}
+use Rattle.sc_performers.proofs.Common.{Action, Bool, Callees, Entry, Export, Import, Interface, Interfaces}
+use Rattle.sc_performers.proofs.Common.{IsPerformer, IsPerforming, List, Main, MayDo, None, Option, Proto, Row, Scalar}
+use Rattle.sc_performers.proofs.Common.{Some, TypedStmt, [], ap, calls_out, counter, counter_is, ends, eq-eqb}
+use Rattle.sc_performers.proofs.Common.{export_at, false, false≢true, filter, if◌then◌else◌, import_target, imports}
+use Rattle.sc_performers.proofs.Common.{input_proto, int_expr, is_function, is_of, length, option_map_or, output_proto}
+use Rattle.sc_performers.proofs.Common.{performs, refl, skips, stmt_at, subst, suc, sym, true, word_exprs, ℕ, ◌==◌, ◌∙◌}
+use Rattle.sc_performers.proofs.Common.{◌∷◌, ◌≡◌}
 use Rattle.sc_event.specs.declared.interface.Import.TheVariants as import
-use Rattle.sc_event.specs.declared.interface.Interface.{Interface}
-use Rattle.sc_event.specs.declared.interface.Interfaces.{Interfaces}
-use Rattle.sc_event.specs.declared.interface.Proto.{Proto}
-use Rattle.sc_event.specs.declared.interface.Scalar.{Scalar}
-use Rattle.sc_event.specs.declared.row.Action.{Action}
 use Rattle.sc_event.specs.declared.row.Action.TheVariants as action
-use Rattle.sc_event.specs.declared.row.Entry.{Entry}
-use Rattle.sc_event.specs.declared.row.Entry.TheVariants.{Export, Main}
-use Rattle.sc_event.specs.declared.row.Row.{Row}
-use Rattle.sc_core.specs.declared.stmt.TypedStmt.{TypedStmt}
 use Rattle.sc_core.specs.declared.stmt.TypedStmtKind as kind
 use Rattle.sc_core.specs.declared.ty.Ty.TheVariants as ty
-use Rattle.sc_elab_expr.specs.Prelude.{Callees}
-use Rattle.sc_elab.specs.Prelude.{import_target}
-use Rattle.sc_back.specs.Text.{input_proto, is_of, output_proto}
-use Rattle.sc_replay.specs.Texts.{IsPerforming, action_kind, calls_out, counter, counter_is, ends, int_expr, literal}
-use Rattle.sc_replay.specs.Texts.{performs, skips, stmt_at, word_exprs}
-use Rattle.sc_performers.specs.Performer.{IsPerformer, MayDo}
+use Rattle.sc_replay.specs.Texts.{action_kind, literal}
 use Rattle.sc_performers.proofs.BackTree.{uses}
 use Rattle.sc_performers.proofs.TypedRows.{IsTypedBody, action_typed, row_typed, then_does, waits_on}
 use Rattle.sc_performers.proofs.Uses.{AllFit, IsAmong, calls_use, entry_is, input_use, output_use}

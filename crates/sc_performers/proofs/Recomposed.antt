@@ -1,37 +1,24 @@
 -- The sections of a text in which some perform their parts of a trace keep the rules, and are the program recomposed.
-use Rattle.std.proofs.Common.{Bool, List, None, Option, Some, [], ◌∷◌, ◌++◌, ◌≡◌, ◌∙◌, ◌==◌, ◌||◌, ◌+◌, ◌<◌, ℕ, suc}
-use Rattle.std.proofs.Common.{zero, ap}
-use Rattle.std.proofs.Common.{append_assoc, arith, eqb-true, false, length, map, refl, slice_get, subst, sym, true}
-use Rattle.std.proofs.lemmas.Bool.{false≢true}
-use Rattle.std.specs.List.{concat, list_any}
-use Rattle.sc_event.specs.Prelude.{legal, part}
-use Rattle.sc_event.specs.declared.event.Event.{Event}
-use Rattle.sc_ast.specs.declared.section.SectionTree.{SectionTree}
-use Rattle.sc_scope.specs.Interfaces.{interface_of, main_from}
+use Rattle.sc_performers.proofs.Common.{AllBecome, Bool, Callees, Event, ImportFacts, IsRecomposed, IsTyped, List, None}
+use Rattle.sc_performers.proofs.Common.{Option, RecomposedHold, SectionTree, Some, [], among, ap, append_assoc, arith}
+use Rattle.sc_performers.proofs.Common.{back_empty, callees_of, concat, decls_from, defines_main, each_at, each_empty}
+use Rattle.sc_performers.proofs.Common.{eqb-true, exports_from, false, false≢true, front_empty, imports_from}
+use Rattle.sc_performers.proofs.Common.{interface_broken, interface_of, interfaces_of, legal, length, line_of_text}
+use Rattle.sc_performers.proofs.Common.{list_any, main_from, map, map_empty, most_compartments, name_fits, name_holds}
+use Rattle.sc_performers.proofs.Common.{part, program_of, proto_names, refl, slice_get, some_item, subst, suc, sym}
+use Rattle.sc_performers.proofs.Common.{true, unless, zero, ℕ, ◌++◌, ◌+◌, ◌<◌, ◌==◌, ◌||◌, ◌∙◌, ◌∷◌, ◌≡◌}
 use Rattle.sc_scope.specs.Names as names
-use Rattle.sc_scope.specs.Prelude.{among, defines_main, interfaces_of, line_of_text, proto_names, unless}
-use Rattle.sc_interfaces.specs.Faces.{decls_from, exports_from, imports_from, interface_broken, name_fits, name_holds}
 use Rattle.sc_interfaces.specs.Faces as faces
-use Rattle.sc_elab.specs.Prelude.{callees_of, program_of}
-use Rattle.sc_elab_expr.specs.Prelude.{Callees}
 use Rattle.sc_elab.specs.Sections as elab
-use Rattle.sc_types.specs.Acceptance.{IsTyped}
-use Rattle.sc_types.specs.Common.{most_compartments}
 use Rattle.sc_types.specs.Counts as counts
-use Rattle.sc_types.proofs.Basics.{back_empty, each_empty, front_empty, map_empty, some_item}
-use Rattle.sc_types.proofs.Facts.{ImportFacts}
-use Rattle.sc_types.proofs.Lookups.{each_at}
-use Rattle.sc_back.specs.Sections.{AllBecome}
-use Rattle.sc_replay.specs.Replay.{IsRecomposed}
-use Rattle.sc_performers.specs.Recomposed.{RecomposedHold}
 use Rattle.sc_performers.proofs.CountsKept.{counts_hold}
 use Rattle.sc_performers.proofs.Fitting.{each_map, facts, none_before}
 use Rattle.sc_performers.proofs.NamesKept.{names_hold}
 use Rattle.sc_performers.proofs.ReplacedHolds.{decls_new, exports_hold, imports_new}
 use Rattle.sc_performers.proofs.Resolved.{counted_at}
 use Rattle.sc_performers.proofs.Seen.{AreSeenAs, IsSeenAs, alike_self, interfaces_same}
-use Rattle.sc_performers.proofs.SeenKept.{both_empty, callees_same, decls_kept, exports_kept, imports_hold}
-use Rattle.sc_performers.proofs.SeenKept.{moved, types_same}
+use Rattle.sc_performers.proofs.SeenKept.{both_empty, callees_same, decls_kept, exports_kept, imports_hold, moved}
+use Rattle.sc_performers.proofs.SeenKept.{types_same}
 use Rattle.sc_performers.proofs.Turned.{AllTurn, IsRightTrace, Turns, all_turn, recomposed, seen_from, stays, turns}
 use Rattle.sc_performers.proofs.TypesKept.{types_hold}
 use Rattle.sc_performers.proofs.Undone.{back_tree_is}

@@ -1,34 +1,13 @@
 -- A performing section with its types performs its rows.
-use Rattle.std.proofs.Common.{Bool, List, None, Option, Some, [], ◌∷◌, ◌++◌, ◌≡◌, ◌∙◌, ◌==◌, ◌+◌, ℕ, zero, suc, ap, ap₂}
-use Rattle.std.proofs.Common.{arith, bytes_eq, cond, false}
-use Rattle.std.proofs.Common.{if◌then◌else◌, inl, inr, map, refl, slice_get, subst, sym, true, ◌⊎◌, ◌||◌}
-use Rattle.std.proofs.lemmas.Bool.{or_right}
-use Rattle.std.proofs.lemmas.List.Elements.{recursion_from_All}
-use Rattle.std.proofs.lemmas.Option.{none-some}
-use Rattle.std.specs.Prelude.{filter, position}
-use Rattle.std.specs.List.{AllByRecursion}
-use Rattle.std.specs.Option.{option_and_then, option_map}
-use Rattle.sc_base.proofs.Lists.{position-cons}
-use Rattle.sc_base.proofs.Texts.{bytes_eq_self, same_text}
-use Rattle.sc_event.specs.declared.interface.Import.{Import}
-use Rattle.sc_event.specs.declared.interface.Interface.{Interface}
-use Rattle.sc_event.specs.declared.interface.Interfaces.{Interfaces}
-use Rattle.sc_event.specs.declared.interface.Proto.{Proto}
-use Rattle.sc_event.specs.declared.row.Entry.{Entry}
-use Rattle.sc_event.specs.declared.row.Entry.TheVariants.{Export, Main}
-use Rattle.sc_event.specs.declared.row.Row.{Row}
-use Rattle.sc_ast.specs.declared.section.FunctionTree.{FunctionTree}
-use Rattle.sc_ast.specs.declared.section.SectionTree.{SectionTree}
-use Rattle.sc_ast.specs.declared.stmt.StmtTree.{StmtTree}
-use Rattle.sc_core.specs.declared.section.TypedFunction.{TypedFunction}
-use Rattle.sc_scope.specs.Prelude.{among, are_distinct, import_of}
-use Rattle.sc_elab_expr.specs.Prelude.{Callees}
-use Rattle.sc_elab.specs.Prelude.{callees_of, typed_function, typed_global, typed_section}
-use Rattle.sc_back.specs.Text.{imported, is_of, main_proto}
-use Rattle.sc_replay.specs.Replay.{IsReplaced, Performs, proto_of}
-use Rattle.sc_replay.specs.Texts.{IsPerforming}
-use Rattle.sc_performers.specs.Laws.{RowsPerform}
-use Rattle.sc_performers.specs.Performer.{IsImportedAs, IsPerformer, IsUsable}
+use Rattle.sc_performers.proofs.Common.{AllByRecursion, Bool, Callees, Entry, Export, FunctionTree, Import, Interface}
+use Rattle.sc_performers.proofs.Common.{Interfaces, IsImportedAs, IsPerformer, IsPerforming, IsReplaced, IsUsable, List}
+use Rattle.sc_performers.proofs.Common.{Main, None, Option, Performs, Proto, Row, RowsPerform, SectionTree, Some}
+use Rattle.sc_performers.proofs.Common.{StmtTree, TypedFunction, [], among, ap, ap₂, are_distinct, arith, bytes_eq}
+use Rattle.sc_performers.proofs.Common.{bytes_eq_self, callees_of, cond, false, filter, if◌then◌else◌, import_of}
+use Rattle.sc_performers.proofs.Common.{imported, inl, inr, is_of, main_proto, map, none-some, option_and_then}
+use Rattle.sc_performers.proofs.Common.{option_map, or_right, position, position-cons, proto_of, recursion_from_All}
+use Rattle.sc_performers.proofs.Common.{refl, same_text, slice_get, subst, suc, sym, true, typed_function, typed_global}
+use Rattle.sc_performers.proofs.Common.{typed_section, zero, ℕ, ◌++◌, ◌+◌, ◌==◌, ◌||◌, ◌∙◌, ◌∷◌, ◌≡◌, ◌⊎◌}
 use Rattle.sc_performers.proofs.BackTree.{AreFunctions, IsBackBody, IsBackTree, and_function, counter_at, entries_from}
 use Rattle.sc_performers.proofs.BackTree.{entries_of, function_at, import_at, main_entries, no_functions, use_of, uses}
 use Rattle.sc_performers.proofs.Undone.{back_tree_is}
@@ -36,8 +15,7 @@ use Rattle.sc_performers.proofs.Distinct.{first_new, front_distinct, is_false, n
 use Rattle.sc_performers.proofs.Performing.{HasTargets, performing}
 use Rattle.sc_performers.proofs.SectionFacts.{distinct_names, entries, entries_usable, entry_names}
 use Rattle.sc_performers.proofs.SectionTypes.{body_is, functions_are, no_counter, no_locals, no_tags, one_global}
-use Rattle.sc_performers.proofs.SectionTypes.{signatures}
-use Rattle.sc_performers.proofs.SectionTypes.{targets, typed_params}
+use Rattle.sc_performers.proofs.SectionTypes.{signatures, targets, typed_params}
 use Rattle.sc_performers.proofs.TypedRows.{typed_body}
 use Rattle.sc_performers.proofs.Uses.{IsAmong, first, later, is_first_or_later, none_among, rows_fit}
 

@@ -1,44 +1,20 @@
 -- A section that performs breaks no rule of interfaces in a text of which it sees the same.
-use Rattle.std.proofs.Common.{Bool, List, Some, [], ◌∷◌, ◌++◌, ◌≡◌, ◌∙◌, ◌==◌, ◌||◌, ℕ, suc, ap, ap₂}
-use Rattle.std.proofs.Common.{bytes_eq, false, if◌then◌else◌, map, not, refl, slice_get}
-use Rattle.std.proofs.Common.{subst, sym, true}
-use Rattle.std.proofs.lemmas.Bool.{and_from, or_left}
-use Rattle.std.proofs.lemmas.List.{map-append}
-use Rattle.std.specs.List.{list_all}
-use Rattle.sc_base.proofs.Lists.{map_twice}
-use Rattle.sc_base.proofs.Texts.{same_text}
-use Rattle.sc_event.specs.declared.interface.Import.{Import}
-use Rattle.sc_event.specs.declared.interface.Interfaces.{Interfaces}
-use Rattle.sc_event.specs.declared.interface.Proto.{Proto}
-use Rattle.sc_event.specs.declared.row.Entry.{Entry}
-use Rattle.sc_event.specs.declared.row.Entry.TheVariants.{Main}
-use Rattle.sc_event.specs.declared.row.Row.{Row}
-use Rattle.sc_ast.specs.Prelude.{head_of}
+use Rattle.sc_performers.proofs.Common.{Bool, DeclFacts, Each, Entry, ExportFacts, ExportLine, FaceFacts, Fresh}
+use Rattle.sc_performers.proofs.Common.{FunctionTree, HeadTree, Import, ImportLine, Interfaces, IsPerformer, List, Main}
+use Rattle.sc_performers.proofs.Common.{Proto, Row, SectionTree, Some, StmtTree, Text, [], agrees_as, among, and_from}
+use Rattle.sc_performers.proofs.Common.{ap, ap₂, are_distinct, both_distinct, bytes_eq, counts_broken, decls_from}
+use Rattle.sc_performers.proofs.Common.{export_names, exports_from, false, fresh_distinct, function_names, head_crosses}
+use Rattle.sc_performers.proofs.Common.{head_of, heads_in, if◌then◌else◌, import_names, import_of, imports_from}
+use Rattle.sc_performers.proofs.Common.{interface_broken, interface_of, interfaces_of, is_plain, list_all, main_holds}
+use Rattle.sc_performers.proofs.Common.{main_name, main_proto, map, map-append, map_twice, not, or_left, proto_names}
+use Rattle.sc_performers.proofs.Common.{protos_in, refl, same_text, slice_get, subst, suc, sym, true, ℕ, ◌++◌, ◌==◌}
+use Rattle.sc_performers.proofs.Common.{◌||◌, ◌∙◌, ◌∷◌, ◌≡◌}
+use Rattle.sc_scope.specs.Prelude.{proto_of}
 use Rattle.sc_ast.specs.declared.section.Decl.TheVariants as decl
-use Rattle.sc_ast.specs.declared.section.ExportLine.{ExportLine}
-use Rattle.sc_ast.specs.declared.section.FunctionTree.{FunctionTree}
-use Rattle.sc_ast.specs.declared.section.HeadTree.{HeadTree}
-use Rattle.sc_ast.specs.declared.section.ImportLine.{ImportLine}
-use Rattle.sc_ast.specs.declared.section.SectionTree.{SectionTree}
-use Rattle.sc_ast.specs.declared.stmt.StmtTree.{StmtTree}
-use Rattle.sc_scope.specs.Declarations.{protos_in}
-use Rattle.sc_scope.specs.Interfaces.{interface_of, main_name, proto_of}
-use Rattle.sc_scope.specs.Prelude.{Text, among, are_distinct, export_names, function_names, heads_in, import_names}
-use Rattle.sc_scope.specs.Prelude.{import_of, interfaces_of, proto_names}
-use Rattle.sc_interfaces.specs.Faces.{agrees_as, decls_from, exports_from, head_crosses}
-use Rattle.sc_interfaces.specs.Faces.{imports_from, interface_broken}
-use Rattle.sc_interfaces.specs.Faces.{is_plain, main_holds}
-use Rattle.sc_types.specs.Counts.{counts_broken}
-use Rattle.sc_types.proofs.Basics.{Each}
-use Rattle.sc_types.proofs.Facts.{DeclFacts, ExportFacts, FaceFacts, Fresh, fresh_distinct}
-use Rattle.sc_types.proofs.Sections.{both_distinct}
-use Rattle.sc_back.specs.Text.{main_proto}
-use Rattle.sc_performers.specs.Performer.{IsPerformer}
 use Rattle.sc_performers.proofs.Agreeing.{declared_crosses, defined_crosses}
 use Rattle.sc_performers.proofs.BackTree.{AreFunctions, AreHeads, IsBackTree, and_function, and_head, counter_at}
 use Rattle.sc_performers.proofs.BackTree.{entries_from, entries_of, function_at, head_at, no_functions, no_heads}
-use Rattle.sc_performers.proofs.BackTree.{use_of}
-use Rattle.sc_performers.proofs.BackTree.{uses}
+use Rattle.sc_performers.proofs.BackTree.{use_of, uses}
 use Rattle.sc_performers.proofs.Declared.{all_heads, all_protos, heads_of}
 use Rattle.sc_performers.proofs.Distinct.{among_front, apart, back_distinct, front_distinct}
 use Rattle.sc_performers.proofs.Fitting.{all_resolved, each_map, facts, own_defined, proto_named}
@@ -50,8 +26,7 @@ use Rattle.sc_performers.proofs.Seen.{AreAlike, AreSeenAs, IsAlike}
 use Rattle.sc_performers.proofs.SeenKept.{agrees_as_too, imports_hold}
 use Rattle.sc_performers.proofs.Uses.{IsAmong, first, later}
 use Rattle.sc_performers.proofs.ReplacedRules.{alike_names, decls_distinct, each_both, each_onto, each_there}
-use Rattle.sc_performers.proofs.ReplacedRules.{each_unmap}
-use Rattle.sc_performers.proofs.ReplacedRules.{exports_new, head_names, if_named, none_of_less, same_line}
+use Rattle.sc_performers.proofs.ReplacedRules.{each_unmap, exports_new, head_names, if_named, none_of_less, same_line}
 
 abbrev HeadsBy : List (Import × Proto) → List HeadTree → Type 0
 HeadsBy [] [] = Unit {0}

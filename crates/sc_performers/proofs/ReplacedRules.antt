@@ -1,27 +1,12 @@
 -- Declarations of distinct names agree, and what holds of lists of names.
-use Rattle.std.proofs.Common.{Bool, List, [], ◌∷◌, ◌++◌, ◌≡◌, ◌∙◌, ◌&&◌, ◌||◌, ℕ, ap}
-use Rattle.std.proofs.Common.{append_assoc, bytes_eq, false, inl, inr, map, not, refl}
-use Rattle.std.proofs.Common.{subst, sym, true, ◌⊎◌}
-use Rattle.std.proofs.lemmas.Bool.{and_from, false≢true, or_left, or_right}
-use Rattle.std.proofs.lemmas.List.{map-append}
-use Rattle.std.proofs.lemmas.List.Elements.{filter_map-append}
-use Rattle.sc_base.proofs.Texts.{bytes_eq_self, same_text}
-use Rattle.sc_ast.specs.Prelude.{head_of}
-use Rattle.sc_ast.specs.declared.section.Decl.{Decl}
+use Rattle.sc_performers.proofs.Common.{Bool, Decl, DeclFacts, Each, ExportLine, Fresh, HeadTree, ImportLine, List}
+use Rattle.sc_performers.proofs.Common.{SectionTree, Text, [], agrees_with, among, and_from, ap, append_assoc}
+use Rattle.sc_performers.proofs.Common.{are_distinct, bytes_eq, bytes_eq_self, decls_from, export_holds, exports_from}
+use Rattle.sc_performers.proofs.Common.{false, false≢true, filter_map-append, function_names, head_holds, head_in}
+use Rattle.sc_performers.proofs.Common.{head_of, heads_in, imported_agrees, inl, inr, is_new, is_plain, main_holds}
+use Rattle.sc_performers.proofs.Common.{main_name, map, map-append, not, or_left, or_right, refl, same_text, subst, sym}
+use Rattle.sc_performers.proofs.Common.{true, unless, ℕ, ◌&&◌, ◌++◌, ◌||◌, ◌∙◌, ◌∷◌, ◌≡◌, ◌⊎◌}
 use Rattle.sc_ast.specs.declared.section.Decl.TheVariants as decl
-use Rattle.sc_ast.specs.declared.section.ExportLine.{ExportLine}
-use Rattle.sc_ast.specs.declared.section.HeadTree.{HeadTree}
-use Rattle.sc_ast.specs.declared.section.ImportLine.{ImportLine}
-use Rattle.sc_ast.specs.declared.section.SectionTree.{SectionTree}
-use Rattle.sc_scope.specs.Declarations.{head_in}
-use Rattle.sc_scope.specs.Interfaces.{main_name}
-use Rattle.sc_scope.specs.Prelude.{Text, among, are_distinct, function_names, heads_in}
-use Rattle.sc_scope.specs.Prelude.{is_new, unless}
-use Rattle.sc_interfaces.specs.Faces.{agrees_with, decls_from, export_holds, exports_from}
-use Rattle.sc_interfaces.specs.Faces.{head_holds, imported_agrees}
-use Rattle.sc_interfaces.specs.Faces.{is_plain, main_holds}
-use Rattle.sc_types.proofs.Basics.{Each}
-use Rattle.sc_types.proofs.Facts.{DeclFacts, Fresh}
 use Rattle.sc_performers.proofs.Distinct.{apart, first_new, rest_distinct}
 use Rattle.sc_performers.proofs.Made.{none_named}
 use Rattle.sc_performers.proofs.Seen.{AreAlike}

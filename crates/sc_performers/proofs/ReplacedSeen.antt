@@ -1,34 +1,16 @@
 -- A section that performs is seen by others as the section is that it replaces.
-use Rattle.std.proofs.Common.{Bool, List, Some, [], ◌∷◌, ◌++◌, ◌≡◌, ◌∙◌, ◌==◌, ◌||◌, ℕ, suc, ap, bytes_eq}
-use Rattle.std.proofs.Common.{inl, inr, append-nil, false, if◌then◌else◌, map, not, refl, slice_get, subst, sym, true}
-use Rattle.std.proofs.lemmas.Bool.{false≢true}
-use Rattle.sc_base.proofs.Lists.{map_twice}
-use Rattle.sc_base.proofs.Texts.{bytes_eq_self, same_either_way}
-use Rattle.sc_event.specs.declared.interface.Import.{Import}
-use Rattle.sc_event.specs.declared.interface.Interfaces.{Interfaces}
-use Rattle.sc_event.specs.declared.interface.Proto.{Proto}
-use Rattle.sc_event.specs.declared.row.Entry.{Entry}
-use Rattle.sc_event.specs.declared.row.Entry.TheVariants.{Main}
-use Rattle.sc_event.specs.declared.row.Row.{Row}
-use Rattle.sc_ast.specs.Prelude.{head_of}
-use Rattle.sc_ast.specs.declared.section.ExportLine.{ExportLine}
-use Rattle.sc_ast.specs.declared.section.HeadTree.{HeadTree}
-use Rattle.sc_ast.specs.declared.section.ImportLine.{ImportLine}
-use Rattle.sc_ast.specs.declared.section.SectionTree.{SectionTree}
-use Rattle.sc_ast.specs.declared.stmt.StmtTree.{StmtTree}
-use Rattle.sc_scope.specs.Interfaces.{function_named, interface_of, main_name, promised, proto_of}
-use Rattle.sc_scope.specs.Prelude.{Text, among, are_distinct, defines_main, export_names, function_names, functions_in}
-use Rattle.sc_scope.specs.Prelude.{heads_in, import_of, interfaces_of}
-use Rattle.sc_interfaces.specs.Faces.{agree, agrees_with, interface_broken}
-use Rattle.sc_interfaces.proofs.Agreeing.{agree_left}
-use Rattle.sc_types.specs.Counts.{counts_broken}
-use Rattle.sc_types.proofs.Basics.{Each, front_empty}
-use Rattle.sc_types.proofs.Facts.{ExportFacts, FaceFacts}
-use Rattle.sc_back.specs.Text.{main_proto}
-use Rattle.sc_performers.specs.Performer.{IsPerformer, names_of}
+use Rattle.sc_performers.proofs.Common.{Bool, Each, Entry, ExportFacts, ExportLine, FaceFacts, HeadTree, Import}
+use Rattle.sc_performers.proofs.Common.{ImportLine, Interfaces, IsPerformer, List, Main, Proto, Row, SectionTree, Some}
+use Rattle.sc_performers.proofs.Common.{StmtTree, Text, [], agree, agree_left, agrees_with, among, ap, append-nil}
+use Rattle.sc_performers.proofs.Common.{are_distinct, bytes_eq, bytes_eq_self, counts_broken, defines_main}
+use Rattle.sc_performers.proofs.Common.{export_names, false, false≢true, front_empty, function_named, function_names}
+use Rattle.sc_performers.proofs.Common.{functions_in, head_of, heads_in, if◌then◌else◌, import_of, inl, inr}
+use Rattle.sc_performers.proofs.Common.{interface_broken, interface_of, interfaces_of, main_name, main_proto, map}
+use Rattle.sc_performers.proofs.Common.{map_twice, names_of, not, promised, refl, same_either_way, slice_get, subst}
+use Rattle.sc_performers.proofs.Common.{suc, sym, true, ℕ, ◌++◌, ◌==◌, ◌||◌, ◌∙◌, ◌∷◌, ◌≡◌}
+use Rattle.sc_scope.specs.Prelude.{proto_of}
 use Rattle.sc_performers.proofs.Agreeing.{all_front, promise_defined}
-use Rattle.sc_performers.proofs.BackTree.{AreImports, IsBackTree}
-use Rattle.sc_performers.proofs.BackTree.{counter_at, entries_from, entries_of, function_at}
+use Rattle.sc_performers.proofs.BackTree.{AreImports, IsBackTree, counter_at, entries_from, entries_of, function_at}
 use Rattle.sc_performers.proofs.BackTree.{main_entries, use_of, uses}
 use Rattle.sc_performers.proofs.Declared.{all_functions, all_heads, heads_of}
 use Rattle.sc_performers.proofs.Distinct.{among_front, apart, front_distinct, is_false}

@@ -1,49 +1,27 @@
 -- What the import lines of a text that keeps the rules lead to.
-use Rattle.std.proofs.Common.{Bool, List, None, Option, Some, [], ◌∷◌, ◌++◌, ◌≡◌, ◌∙◌, ◌&&◌, ◌||◌, ◌≤◌, ℕ, suc, zero}
-use Rattle.std.proofs.Common.{ap, arith, bytes_eq}
-use Rattle.std.proofs.Common.{◌+◌, ◌==◌, false, if◌then◌else◌, is_some, length, map, nat_le, not, refl, slice_get}
-use Rattle.std.proofs.Common.{subst, sym, true}
-use Rattle.std.proofs.lemmas.Bool.{false≢true}
-use Rattle.std.specs.List.{concat, list_any}
-use Rattle.std.specs.Option.{option_map_or}
-use Rattle.sc_base.proofs.Bools.{and_first, and_rest}
-use Rattle.sc_base.proofs.Texts.{bytes_eq_self, same_text}
-use Rattle.sc_event.specs.declared.interface.Import.{Import}
+use Rattle.sc_performers.proofs.Common.{Bool, Decl, Each, ExportFacts, ExportLine, FaceFacts, FoundBy, FoundFunction}
+use Rattle.sc_performers.proofs.Common.{FunctionParam, FunctionTree, HeadTree, Import, ImportLine, Interface}
+use Rattle.sc_performers.proofs.Common.{Interfaces, List, None, Offering, Option, Proto, SectionTree, Some, Text, []}
+use Rattle.sc_performers.proofs.Common.{agree, agree_left, agree_symm, agrees_as, agrees_there, agrees_with, and_first}
+use Rattle.sc_performers.proofs.Common.{and_rest, ap, arith, back_empty, bytes_eq, bytes_eq_self, callees_of, comp_is}
+use Rattle.sc_performers.proofs.Common.{concat, counts_broken, crossing, defines_main, each_at, each_empty, environment}
+use Rattle.sc_performers.proofs.Common.{export_is, false, false≢true, find_offering, found_by, front_empty}
+use Rattle.sc_performers.proofs.Common.{functions_in, g, globals_in, head_crosses, head_of, heads_in, if◌then◌else◌}
+use Rattle.sc_performers.proofs.Common.{import_of, imported, input_name, input_proto, interface_broken, interfaces_of}
+use Rattle.sc_performers.proofs.Common.{is_environment, is_input, is_offered, is_output, is_plain, is_some, length}
+use Rattle.sc_performers.proofs.Common.{line_of_text, lines_from, list_any, map, map_empty, map_length}
+use Rattle.sc_performers.proofs.Common.{most_compartments, most_exports, most_nodes, most_params, nat_le, none_beyond}
+use Rattle.sc_performers.proofs.Common.{none_some, not, number_or_zero, offered, offering, option_map_or, output_name}
+use Rattle.sc_performers.proofs.Common.{output_proto, owner_name, param_of, promised, refl, rule_holds, same_text}
+use Rattle.sc_performers.proofs.Common.{scalar_of, section_lines, slice_get, some_is, structs_in, subst, suc, sym, true}
+use Rattle.sc_performers.proofs.Common.{unless, zero, ℕ, ◌&&◌, ◌++◌, ◌+◌, ◌==◌, ◌||◌, ◌∙◌, ◌∷◌, ◌≡◌, ◌≤◌}
+use Rattle.sc_scope.specs.Prelude.{proto_of}
 use Rattle.sc_event.specs.declared.interface.Import.TheVariants as import
-use Rattle.sc_event.specs.declared.interface.Interface.{Interface}
-use Rattle.sc_event.specs.declared.interface.Interfaces.{Interfaces}
-use Rattle.sc_event.specs.declared.interface.Proto.{Proto}
-use Rattle.sc_ast.specs.Prelude.{head_of, param_of}
-use Rattle.sc_ast.specs.declared.section.Decl.{Decl}
 use Rattle.sc_ast.specs.declared.section.Decl.TheVariants as decl
-use Rattle.sc_ast.specs.declared.section.ExportLine.{ExportLine}
-use Rattle.sc_ast.specs.declared.section.FunctionParam.{FunctionParam}
-use Rattle.sc_ast.specs.declared.section.FunctionTree.{FunctionTree}
-use Rattle.sc_ast.specs.declared.section.HeadTree.{HeadTree}
-use Rattle.sc_ast.specs.declared.section.ImportLine.{ImportLine}
-use Rattle.sc_ast.specs.declared.section.SectionTree.{SectionTree}
-use Rattle.sc_scope.specs.Interfaces.{number_or_zero, offered, promised, proto_of}
-use Rattle.sc_scope.specs.Prelude.{Text, defines_main, environment, functions_in, heads_in, import_of}
-use Rattle.sc_scope.specs.Prelude.{interfaces_of, globals_in, is_environment, line_of_text, offering, scalar_of}
-use Rattle.sc_scope.specs.Prelude.{structs_in, unless}
-use Rattle.sc_interfaces.specs.Faces.{agree, agrees_as, agrees_there, agrees_with, head_crosses, input_name, is_input}
-use Rattle.sc_interfaces.specs.Faces.{interface_broken, is_offered, is_output, is_plain, lines_from, output_name}
-use Rattle.sc_interfaces.specs.Faces.{section_lines}
 use Rattle.sc_interfaces.specs.Faces as faces
-use Rattle.sc_interfaces.proofs.Agreeing.{agree_left, agree_symm}
-use Rattle.sc_elab.specs.Prelude.{callees_of}
 use Rattle.sc_types.specs.Counts as counts
-use Rattle.sc_types.specs.Counts.{counts_broken}
-use Rattle.sc_types.specs.Common.{most_compartments, most_exports, most_nodes, most_params}
 use Rattle.sc_types.proofs.Places.{is_at_most}
-use Rattle.sc_types.proofs.Basics.{Each, back_empty, each_empty, front_empty, map_empty, rule_holds, some_is, none_some}
-use Rattle.sc_types.proofs.Calls.{FoundBy, Offering, comp_is, export_is, find_offering, found_by}
-use Rattle.sc_types.proofs.Facts.{ExportFacts, FaceFacts}
-use Rattle.sc_types.proofs.Functions.{map_length}
-use Rattle.sc_types.proofs.Lookups.{FoundFunction, each_at}
-use Rattle.sc_types.proofs.Sections.{crossing, g, none_beyond}
 use Rattle.sc_types.proofs.Whole.{count_at, hold}
-use Rattle.sc_back.specs.Text.{imported, input_proto, output_proto, owner_name}
 use Rattle.sc_performers.proofs.Agreeing.{AreAgreed, all_agree, are_agreed, promise_declared}
 use Rattle.sc_performers.proofs.BackTree.{head_at}
 use Rattle.sc_performers.proofs.Uses.{IsAmong, first, later}

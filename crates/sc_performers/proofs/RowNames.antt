@@ -1,25 +1,14 @@
 -- The statements of a performing section break no rule of names.
-use Rattle.std.proofs.Common.{Bool, List, None, Option, Some, [], ◌∷◌, ◌++◌, ◌≡◌, ◌∙◌, ◌^◌, ◌-◌, ◌==◌, ℕ, suc, ap, ap₂}
-use Rattle.std.proofs.Common.{false, if◌then◌else◌, nat_le, refl, rules, true}
-use Rattle.std.proofs.lemmas.Bool.{and_from}
-use Rattle.std.specs.List.{list_all}
-use Rattle.sc_base.specs.declared.op.BinaryOp.TheVariants.{Equal, Sub}
-use Rattle.sc_base.specs.declared.op.UnaryOp.TheVariants.{Minus}
-use Rattle.sc_event.specs.declared.interface.Interfaces.{Interfaces}
-use Rattle.sc_event.specs.declared.interface.Proto.{Proto}
-use Rattle.sc_event.specs.declared.interface.Scalar.{Scalar}
-use Rattle.sc_event.specs.declared.interface.Scalar.TheVariants.{Int, Unsigned}
-use Rattle.sc_event.specs.declared.row.Row.{Row}
-use Rattle.sc_ast.specs.declared.expr.CallTree.{CallTree}
-use Rattle.sc_ast.specs.declared.expr.ExprTree.{ExprTree}
+use Rattle.sc_performers.proofs.Common.{Binary, Bool, CallTree, Equal, ExprTree, Int, Interfaces, Known, List, Minus}
+use Rattle.sc_performers.proofs.Common.{None, Option, Proto, Row, Scalar, Some, StmtTree, Sub, Text, Unary, Unsigned}
+use Rattle.sc_performers.proofs.Common.{Variable, [], action_kind, and_from, ap, ap₂, call_kind, call_known}
+use Rattle.sc_performers.proofs.Common.{counter_name, expr_known, false, if◌then◌else◌, is_callable, list_all, literal}
+use Rattle.sc_performers.proofs.Common.{nat_le, refl, return_kind, rules, stmt_lines, suc, true, unless, value_tree}
+use Rattle.sc_performers.proofs.Common.{value_trees, ℕ, ◌++◌, ◌-◌, ◌==◌, ◌^◌, ◌∙◌, ◌∷◌, ◌≡◌}
 use Rattle.sc_ast.specs.declared.expr.ExprTree as exprs
-use Rattle.sc_ast.specs.declared.expr.ExprTree.TheVariants.{Binary, Unary, Variable}
 use Rattle.sc_ast.specs.declared.stmt.StmtKind as kinds
 use Rattle.sc_ast.specs.declared.stmt.StmtTree as stmts
-use Rattle.sc_ast.specs.declared.stmt.StmtTree.{StmtTree}
-use Rattle.sc_scope.specs.Prelude.{Known, Text, call_known, expr_known, is_callable, stmt_lines, unless}
 use Rattle.sc_scope.proofs.Statements.{if-at, while-at}
-use Rattle.sc_back.specs.Tree.{action_kind, call_kind, counter_name, literal, return_kind, value_tree, value_trees}
 use Rattle.sc_performers.proofs.BackTree.{row_at, stmt_at, while_at}
 
 module _ (own callables hiding : List Text) where

@@ -1,28 +1,11 @@
 -- The names of a performing section: they are distinct, and none is one of its own variables.
-use Rattle.std.proofs.Common.{List, [], ◌∷◌, ◌++◌, ◌≡◌, ◌∙◌, ℕ, ap, ap₂, map, refl, subst}
-use Rattle.std.proofs.Common.{sym, true}
-use Rattle.std.proofs.lemmas.List.{map-append}
-use Rattle.std.proofs.lemmas.List.Elements.{recursion_from_All}
-use Rattle.std.specs.List.{AllByRecursion}
-use Rattle.sc_base.proofs.Lists.{map_twice}
-use Rattle.sc_event.specs.declared.interface.Import.{Import}
-use Rattle.sc_event.specs.declared.interface.Interface.{Interface}
-use Rattle.sc_event.specs.declared.interface.Interfaces.{Interfaces}
-use Rattle.sc_event.specs.declared.interface.Proto.{Proto}
-use Rattle.sc_event.specs.declared.row.Entry.{Entry}
-use Rattle.sc_event.specs.declared.row.Row.{Row}
-use Rattle.sc_ast.specs.declared.section.FunctionTree.{FunctionTree}
-use Rattle.sc_ast.specs.declared.section.HeadTree.{HeadTree}
-use Rattle.sc_ast.specs.declared.section.ImportLine.{ImportLine}
-use Rattle.sc_ast.specs.declared.section.SectionTree.{SectionTree}
-use Rattle.sc_scope.specs.Prelude.{Text, among, are_distinct, function_names, import_names}
-use Rattle.sc_base.proofs.Texts.{bytes_eq_self}
-use Rattle.std.proofs.lemmas.Bool.{or_left, or_right}
-use Rattle.std.specs.Prelude.{bytes_eq}
-use Rattle.sc_performers.specs.Performer.{IsPerformer, IsUsable, all_of, names_of, used}
+use Rattle.sc_performers.proofs.Common.{AllByRecursion, Entry, FunctionTree, HeadTree, Import, ImportLine, Interface}
+use Rattle.sc_performers.proofs.Common.{Interfaces, IsPerformer, IsUsable, List, Proto, Row, SectionTree, Text, []}
+use Rattle.sc_performers.proofs.Common.{all_of, among, ap, ap₂, are_distinct, bytes_eq, bytes_eq_self, function_names}
+use Rattle.sc_performers.proofs.Common.{import_names, map, map-append, map_twice, names_of, or_left, or_right}
+use Rattle.sc_performers.proofs.Common.{recursion_from_All, refl, subst, sym, true, used, ℕ, ◌++◌, ◌∙◌, ◌∷◌, ◌≡◌}
 use Rattle.sc_performers.proofs.BackTree.{AreFunctions, AreHeads, AreImports, IsBackTree, and_function, and_head}
-use Rattle.sc_performers.proofs.BackTree.{and_import, counter_at, entries_of, no_functions}
-use Rattle.sc_performers.proofs.BackTree.{no_heads, no_imports, uses}
+use Rattle.sc_performers.proofs.BackTree.{and_import, counter_at, entries_of, no_functions, no_heads, no_imports, uses}
 use Rattle.sc_performers.proofs.Declared.{all_functions}
 use Rattle.sc_performers.proofs.Uses.{IsAmong, entries_protos, first, later, protos_of, used_protos}
 

@@ -1,56 +1,30 @@
 -- What names stand for in a performing section.
-use Rattle.std.proofs.Common.{List, None, Option, Some, [], ◌∷◌, ◌++◌, ◌≡◌, ◌∙◌, ◌+◌, ◌<◌, ◌≤◌, ◌^◌, ℕ, suc, ap, ap₂}
-use Rattle.std.proofs.Common.{arith, bytes_eq, codes, cond, drop, false, if◌then◌else◌, is_some, length, map, inl, inr}
-use Rattle.std.proofs.Common.{refl, subst, sym, true, ◌⊎◌}
-use Rattle.std.proofs.lemmas.Bool.{false≢true, or_parts}
-use Rattle.std.proofs.lemmas.Fmt.{digits_decimal}
+use Rattle.sc_performers.proofs.Common.{Callees, FunctionTree, GlobalTree, HeadTree, Import, ImportLine, Int, Interface}
+use Rattle.sc_performers.proofs.Common.{Interfaces, IsPerformer, List, None, Option, Param, Proto, Row, Scalar}
+use Rattle.sc_performers.proofs.Common.{SectionTree, Some, StmtTree, StructTree, Text, TypedParam, Unsigned, [], among}
+use Rattle.sc_performers.proofs.Common.{ap, ap₂, are_distinct, arith, bytes_eq, bytes_eq_self, callees_of, codes, cond}
+use Rattle.sc_performers.proofs.Common.{counter_name, decimal, digits_decimal, drop, false, false≢true, found_in}
+use Rattle.sc_performers.proofs.Common.{function_named, function_names, function_params, functions_in, global_variable}
+use Rattle.sc_performers.proofs.Common.{globals_in, head_named, heads_in, if◌then◌else◌, import_named, import_of}
+use Rattle.sc_performers.proofs.Common.{import_target, imported_target, inl, inr, is_some, length, map, number_of}
+use Rattle.sc_performers.proofs.Common.{option_and_then, option_map, or_first, or_parts, param_name, param_ty, position}
+use Rattle.sc_performers.proofs.Common.{position-cons, proto_params, proto_signature, refl, result_of, result_ty}
+use Rattle.sc_performers.proofs.Common.{same_either_way, same_text, scalar_ty, scope_in, signature_by, struct_names}
+use Rattle.sc_performers.proofs.Common.{structs, structs_in, subst, suc, sym, target_or, true, type_name, type_of}
+use Rattle.sc_performers.proofs.Common.{type_of_name, typed_function, typed_param, typed_stmt, visible_of, ℕ, ◌++◌, ◌+◌}
+use Rattle.sc_performers.proofs.Common.{◌<◌, ◌^◌, ◌∙◌, ◌∷◌, ◌≡◌, ◌≤◌, ◌⊎◌}
 use Rattle.std.proofs.lemmas.Str.Parse.{IsNumeralModel, numerals_by_value, tells_all_ascii_digits}
-use Rattle.std.specs.Prelude.{position}
-use Rattle.std.specs.Fmt.{decimal}
-use Rattle.std.specs.Option.{option_and_then, option_map}
 use Rattle.std.specs.Str.{all_ascii_digits}
 use Rattle.std.specs.Str.Parse.{digits_value}
-use Rattle.sc_base.proofs.Lists.{position-cons}
 use Rattle.sc_base.proofs.Numbers.{has-number}
-use Rattle.sc_base.proofs.Texts.{bytes_eq_self, same_either_way, same_text}
-use Rattle.sc_base.specs.Prelude.{number_of}
-use Rattle.sc_event.specs.declared.interface.Import.{Import}
-use Rattle.sc_event.specs.declared.interface.Interface.{Interface}
-use Rattle.sc_event.specs.declared.interface.Interfaces.{Interfaces}
-use Rattle.sc_event.specs.declared.interface.Proto.{Proto}
-use Rattle.sc_event.specs.declared.interface.Scalar.{Scalar}
-use Rattle.sc_event.specs.declared.interface.Scalar.TheVariants.{Int, Unsigned}
-use Rattle.sc_event.specs.declared.row.Row.{Row}
-use Rattle.sc_ast.specs.declared.section.FunctionTree.{FunctionTree}
-use Rattle.sc_ast.specs.declared.section.GlobalTree.{GlobalTree}
-use Rattle.sc_ast.specs.declared.section.HeadTree.{HeadTree}
-use Rattle.sc_ast.specs.declared.section.ImportLine.{ImportLine}
-use Rattle.sc_ast.specs.declared.section.SectionTree.{SectionTree}
-use Rattle.sc_ast.specs.declared.section.StructTree.{StructTree}
-use Rattle.sc_ast.specs.declared.stmt.StmtTree.{StmtTree}
-use Rattle.sc_core.specs.Prelude.{proto_signature, result_ty, scalar_ty}
-use Rattle.sc_core.specs.declared.expr.VarRef.TheVariants.{Param}
-use Rattle.sc_core.specs.declared.section.TypedParam.{TypedParam}
-use Rattle.sc_scope.specs.Prelude.{Text, among, are_distinct, function_named, function_names, functions_in, globals_in}
-use Rattle.sc_scope.specs.Prelude.{heads_in}
-use Rattle.sc_scope.specs.Prelude.{import_of, struct_names, structs_in}
-use Rattle.sc_elab_expr.specs.Prelude.{Callees, found_in, target_or}
-use Rattle.sc_elab.specs.Prelude.{callees_of, global_variable, head_named, import_named, import_target, imported_target}
-use Rattle.sc_elab.specs.Prelude.{or_first}
-use Rattle.sc_elab.specs.Prelude.{param_ty, result_of, scope_in, signature_by, structs, type_of, type_of_name}
-use Rattle.sc_elab.specs.Prelude.{typed_function, typed_param, visible_of}
-use Rattle.sc_elab_stmt.specs.Prelude.{typed_stmt}
 unfoldable use Rattle.sc_elab.specs.Prelude.{typed_locals, typed_structs}
-use Rattle.sc_back.specs.Tree.{counter_name, function_params, param_name, proto_params, type_name}
-use Rattle.sc_performers.specs.Performer.{IsPerformer}
 use Rattle.sc_performers.proofs.BackTree.{AreHeads, AreImports, IsBackTree, and_head, and_import, counter_at}
 use Rattle.sc_performers.proofs.BackTree.{function_at, head_at, import_at, no_heads, no_imports}
 use Rattle.sc_performers.proofs.Declared.{all_functions, all_globals, all_heads, all_structs, heads_of}
 use Rattle.sc_performers.proofs.Distinct.{apart, back_distinct, first_new, is_false, not_both, rest_distinct}
 use Rattle.sc_performers.proofs.Judging.{scope}
 use Rattle.sc_performers.proofs.SectionFacts.{distinct_names, entries, entry_names, functions_named, imported_uses}
-use Rattle.sc_performers.proofs.SectionFacts.{names_defined}
-use Rattle.sc_performers.proofs.SectionFacts.{tree_names, use_named, use_names}
+use Rattle.sc_performers.proofs.SectionFacts.{names_defined, tree_names, use_named, use_names}
 use Rattle.sc_performers.proofs.TypedRows.{HasSignatures}
 use Rattle.sc_performers.proofs.TypedTrees.{visible}
 use Rattle.sc_performers.proofs.Uses.{IsAmong, is_first_or_later, none_among}

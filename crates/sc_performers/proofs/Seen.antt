@@ -1,19 +1,12 @@
 -- Sections of two texts of which other sections see the same: names, exports and imports.
-use Rattle.std.proofs.Common.{Bool, List, [], ◌∷◌, ◌≡◌, ◌∙◌, ◌==◌, ℕ, suc, ap, bytes_eq, codes, false, if◌then◌else◌}
-use Rattle.std.proofs.Common.{is_some, map}
-use Rattle.std.proofs.Common.{not, refl, true}
-use Rattle.sc_base.specs.Prelude.{all_hold, number_of}
-use Rattle.sc_base.proofs.Bools.{and_rest}
-use Rattle.std.proofs.Common.{Some, subst}
+use Rattle.sc_performers.proofs.Common.{Bool, HeadTree, ImportLine, List, SectionTree, Some, [], agrees_there}
+use Rattle.sc_performers.proofs.Common.{agrees_with, all_hold, among, and_rest, ap, bytes_eq, codes, defines_main}
+use Rattle.sc_performers.proofs.Common.{environment, export_names, false, heads_in, if◌then◌else◌, import_of}
+use Rattle.sc_performers.proofs.Common.{interface_of, interfaces_from, interfaces_of, is_some, main_from, map, not}
+use Rattle.sc_performers.proofs.Common.{number_of, number_or_zero, offered, offering, offers, refl, subst, suc, true, ℕ}
+use Rattle.sc_performers.proofs.Common.{◌==◌, ◌∙◌, ◌∷◌, ◌≡◌}
+use Rattle.sc_scope.specs.Prelude.{proto_of}
 use Rattle.sc_event.specs.declared.interface.Import.TheVariants as import
-use Rattle.sc_ast.specs.declared.section.HeadTree.{HeadTree}
-use Rattle.sc_ast.specs.declared.section.ImportLine.{ImportLine}
-use Rattle.sc_ast.specs.declared.section.SectionTree.{SectionTree}
-use Rattle.sc_scope.specs.Interfaces.{interface_of, interfaces_from, main_from, number_or_zero, offered, offers}
-use Rattle.sc_scope.specs.Interfaces.{proto_of}
-use Rattle.sc_scope.specs.Prelude.{among, defines_main, environment, export_names, heads_in, import_of, interfaces_of}
-use Rattle.sc_scope.specs.Prelude.{offering}
-use Rattle.sc_interfaces.specs.Faces.{agrees_there, agrees_with}
 
 -- import lines of the same names
 pub record IsAlike (a b : ImportLine) : Type 0 where

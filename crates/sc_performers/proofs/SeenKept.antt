@@ -1,29 +1,16 @@
 -- A section that is kept among sections of which it sees the same is typed as before, and breaks no more rules.
-use Rattle.std.proofs.Common.{Bool, List, None, Option, Some, [], ◌∷◌, ◌++◌, ◌≡◌, ◌∙◌, ◌&&◌, ◌||◌, ℕ, ap, bytes_eq}
-use Rattle.std.proofs.Common.{false}
-use Rattle.std.proofs.Common.{if◌then◌else◌, not, refl, subst, sym, true}
-use Rattle.std.proofs.lemmas.Bool.{and_from}
-use Rattle.std.specs.List.{list_all}
-use Rattle.sc_base.specs.Prelude.{number_of}
-use Rattle.sc_base.proofs.Bools.{and_first, and_rest}
-use Rattle.sc_base.proofs.Texts.{same_text}
-use Rattle.sc_ast.specs.Prelude.{head_of}
-use Rattle.sc_ast.specs.declared.section.Decl.{Decl}
-use Rattle.sc_ast.specs.declared.section.Decl.TheVariants.{Function, Global, Proto, Struct}
-use Rattle.sc_ast.specs.declared.section.ExportLine.{ExportLine}
-use Rattle.sc_ast.specs.declared.section.HeadTree.{HeadTree}
-use Rattle.sc_ast.specs.declared.section.ImportLine.{ImportLine}
-use Rattle.sc_ast.specs.declared.section.SectionTree.{SectionTree}
-use Rattle.sc_scope.specs.Prelude.{Text, among, environment, function_names, is_environment}
-use Rattle.sc_scope.specs.Prelude.{is_new, offering, proto_names, unless}
-use Rattle.sc_interfaces.specs.Faces.{agrees_as, agrees_there, decls_from, environment_offers, export_holds}
-use Rattle.sc_interfaces.specs.Faces.{exports_from}
-use Rattle.sc_interfaces.specs.Faces.{head_holds, import_fits, import_holds, imported_agrees, imports_from, input_name}
-use Rattle.sc_interfaces.specs.Faces.{is_input, is_offered, is_output, is_plain, main_holds, output_name}
-use Rattle.sc_elab_expr.specs.Prelude.{target_or}
-use Rattle.sc_elab.specs.Sections.{callees_of, import_named, import_target, imported_target, typed_section}
+use Rattle.sc_performers.proofs.Common.{Bool, Decl, Each, ExportLine, Function, Global, HeadTree, ImportLine, List}
+use Rattle.sc_performers.proofs.Common.{None, Option, SectionTree, Some, Struct, Text, [], agrees_as, agrees_there}
+use Rattle.sc_performers.proofs.Common.{among, and_first, and_from, and_rest, ap, back_empty, bytes_eq, callees_of}
+use Rattle.sc_performers.proofs.Common.{decls_from, environment, environment_offers, export_holds, exports_from, false}
+use Rattle.sc_performers.proofs.Common.{front_empty, function_names, head_holds, head_of, if◌then◌else◌, import_fits}
+use Rattle.sc_performers.proofs.Common.{import_holds, import_named, import_target, imported_agrees, imported_target}
+use Rattle.sc_performers.proofs.Common.{imports_from, input_name, is_environment, is_input, is_new, is_offered}
+use Rattle.sc_performers.proofs.Common.{is_output, is_plain, list_all, main_holds, not, number_of, offering}
+use Rattle.sc_performers.proofs.Common.{output_name, proto_names, refl, rule_holds, same_text, subst, sym, target_or}
+use Rattle.sc_performers.proofs.Common.{true, typed_section, unless, ℕ, ◌&&◌, ◌++◌, ◌||◌, ◌∙◌, ◌∷◌, ◌≡◌}
+use Rattle.sc_ast.specs.declared.section.Decl.TheVariants.{Proto}
 use Rattle.sc_elab.specs.Sections as elab
-use Rattle.sc_types.proofs.Basics.{Each, back_empty, front_empty, rule_holds}
 use Rattle.sc_performers.proofs.Seen.{AreAlike, AreSeenAs, IsAlike, IsSeenAs, agrees_there_too, alike_self, import_same}
 use Rattle.sc_performers.proofs.Seen.{some_same}
 

@@ -1,18 +1,7 @@
 -- The rows of all entries are no more than the rows.
-use Rattle.std.proofs.Common.{Bool, List, [], ◌∷◌, ◌++◌, ◌≡◌, ◌∙◌, ◌==◌, ◌+◌, ◌<◌, ◌≤◌, ℕ, suc, ap₂, arith, false}
-use Rattle.std.proofs.Common.{if◌then◌else◌, length, map}
-use Rattle.std.proofs.Common.{refl, true}
-use Rattle.std.proofs.lemmas.Bool.{eqb-true}
-use Rattle.std.specs.Prelude.{filter}
-use Rattle.sc_event.specs.declared.interface.Interface.{Interface}
-use Rattle.sc_event.specs.declared.interface.Interfaces.{Interfaces}
-use Rattle.sc_event.specs.declared.interface.Proto.{Proto}
-use Rattle.sc_event.specs.declared.row.Action.{Action}
-use Rattle.sc_event.specs.declared.row.Entry.{Entry}
-use Rattle.sc_event.specs.declared.row.Entry.TheVariants.{Export, Main}
-use Rattle.sc_event.specs.declared.row.Row.{Row}
-use Rattle.sc_core.specs.Prelude.{total}
-use Rattle.sc_back.specs.Text.{is_of, main_proto}
+use Rattle.sc_performers.proofs.Common.{Action, Bool, Entry, Export, Interface, Interfaces, List, Main, Proto, Row, []}
+use Rattle.sc_performers.proofs.Common.{ap₂, arith, eqb-true, false, filter, if◌then◌else◌, is_of, length, main_proto}
+use Rattle.sc_performers.proofs.Common.{map, refl, suc, total, true, ℕ, ◌++◌, ◌+◌, ◌<◌, ◌==◌, ◌∙◌, ◌∷◌, ◌≡◌, ◌≤◌}
 use Rattle.sc_performers.proofs.BackTree.{entries_from, entries_of, main_entries}
 
 abbrev one_if : Bool → ℕ

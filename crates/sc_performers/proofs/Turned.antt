@@ -1,31 +1,11 @@
 -- What becomes of sections whose compartments perform their parts of a trace.
-use Rattle.std.proofs.Common.{Bool, List, Some, [], ◌∷◌, ◌≡◌, ◌∙◌, ◌+◌, ◌<◌, ◌≤◌, ℕ, suc, zero, ap, arith, false}
-use Rattle.std.proofs.Common.{length}
-use Rattle.std.proofs.Common.{map, refl, slice_get, subst, sym, true}
-use Rattle.std.proofs.lemmas.Bool.{false≢true}
-use Rattle.std.proofs.lemmas.List.Elements.{All-from_recursion}
-use Rattle.std.specs.List.{AllByRecursion}
-use Rattle.std.specs.Prelude.{All}
-use Rattle.sc_event.specs.Prelude.{legal, part}
-use Rattle.sc_event.specs.declared.event.Event.{Event}
-use Rattle.sc_event.specs.declared.interface.Interfaces.{Interfaces}
-use Rattle.sc_event.specs.declared.row.Row.{Row}
-use Rattle.sc_ast.specs.Prelude.{SameButLines}
-use Rattle.sc_ast.specs.declared.section.ImportLine.{ImportLine}
-use Rattle.sc_ast.specs.declared.section.SectionTree.{SectionTree}
-use Rattle.sc_scope.specs.Interfaces.{interface_of}
-use Rattle.sc_scope.specs.Prelude.{import_of, interfaces_of}
-use Rattle.sc_interfaces.specs.Faces.{interface_broken}
-use Rattle.sc_elab.specs.Prelude.{callees_of, program_of, typed_section}
-use Rattle.sc_elab.specs.Sections.{sections_from}
-use Rattle.sc_types.specs.Counts.{counts_broken}
-use Rattle.sc_types.proofs.Basics.{Each, some_is}
-use Rattle.sc_types.proofs.Calls.{comp_is}
-use Rattle.sc_back.specs.Sections.{AllBecome, Becomes, kept, replaced}
-use Rattle.sc_back.specs.Text.{owner_name}
-use Rattle.sc_back.specs.Tree.{back_tree}
-use Rattle.sc_replay.specs.Replay.{HasReplaced, HasWords, IsRecomposed}
-use Rattle.sc_performers.specs.Performer.{IsImportedAs, IsPerformer}
+use Rattle.sc_performers.proofs.Common.{All, All-from_recursion, AllBecome, AllByRecursion, Becomes, Bool, Each, Event}
+use Rattle.sc_performers.proofs.Common.{HasReplaced, HasWords, ImportLine, Interfaces, IsImportedAs, IsPerformer}
+use Rattle.sc_performers.proofs.Common.{IsRecomposed, List, Row, SameButLines, SectionTree, Some, [], ap, arith}
+use Rattle.sc_performers.proofs.Common.{back_tree, callees_of, comp_is, counts_broken, false, false≢true, import_of}
+use Rattle.sc_performers.proofs.Common.{interface_broken, interface_of, interfaces_of, kept, legal, length, map}
+use Rattle.sc_performers.proofs.Common.{owner_name, part, program_of, refl, replaced, sections_from, slice_get, some_is}
+use Rattle.sc_performers.proofs.Common.{subst, suc, sym, true, typed_section, zero, ℕ, ◌+◌, ◌<◌, ◌∙◌, ◌∷◌, ◌≡◌, ◌≤◌}
 use Rattle.sc_performers.proofs.Fitting.{all_resolved, can_perform}
 use Rattle.sc_performers.proofs.Replaced.{rows_perform}
 use Rattle.sc_performers.proofs.ReplacedSeen.{seen}

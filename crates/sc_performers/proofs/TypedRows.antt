@@ -1,37 +1,18 @@
 -- The rows of a performing section with their types.
-use Rattle.std.proofs.Common.{List, None, Option, Some, [], ◌∷◌, ◌≡◌, ◌∙◌, ◌==◌, ℕ, suc, ap, false, length, map, refl}
-use Rattle.std.proofs.Common.{subst, sym, true}
-use Rattle.std.proofs.lemmas.Bool.{false≢true}
-use Rattle.std.specs.Option.{option_map_or}
-use Rattle.sc_event.specs.Prelude.{export_at, imports, is_function}
-use Rattle.sc_event.specs.declared.interface.Import.{Import}
+use Rattle.sc_performers.proofs.Common.{Action, Binary, Callees, Equal, Import, Int, Interface, Interfaces, IsPerformer}
+use Rattle.sc_performers.proofs.Common.{List, MayDo, None, Option, Param, Proto, Row, Scalar, Some, StmtTree}
+use Rattle.sc_performers.proofs.Common.{TypedParam, TypedStmt, TypedStmtKind, Unsigned, Variable, [], action_kind, ap}
+use Rattle.sc_performers.proofs.Common.{call_kind, calls_out, counter, counter_is, counter_name, export_at, false}
+use Rattle.sc_performers.proofs.Common.{false≢true, found_in, going_to_all, imports, input_proto, int_expr, is_function}
+use Rattle.sc_performers.proofs.Common.{length, map, option_map_or, or_int, output_proto, params_of, proto_signature}
+use Rattle.sc_performers.proofs.Common.{refl, result_ty, scalar_ty, stmt_at, subst, suc, sym, true, typed, typed_stmt}
+use Rattle.sc_performers.proofs.Common.{value_tree, value_trees, waits, word_expr, word_exprs, ℕ, ◌==◌, ◌∙◌, ◌∷◌, ◌≡◌}
 use Rattle.sc_event.specs.declared.interface.Import.TheVariants as import
-use Rattle.sc_event.specs.declared.interface.Interface.{Interface}
-use Rattle.sc_event.specs.declared.interface.Interfaces.{Interfaces}
-use Rattle.sc_event.specs.declared.interface.Proto.{Proto}
-use Rattle.sc_event.specs.declared.interface.Scalar.{Scalar}
-use Rattle.sc_event.specs.declared.interface.Scalar.TheVariants.{Int, Unsigned}
-use Rattle.sc_event.specs.declared.row.Action.{Action}
 use Rattle.sc_event.specs.declared.row.Action.TheVariants as action
-use Rattle.sc_event.specs.declared.row.Row.{Row}
-use Rattle.sc_ast.specs.declared.stmt.StmtTree.{StmtTree}
 use Rattle.sc_ast.specs.declared.stmt.StmtKind.TheVariants as stmt
-use Rattle.sc_ast.specs.declared.expr.ExprTree.TheVariants.{Binary, Variable}
-use Rattle.sc_base.specs.declared.op.BinaryOp.TheVariants.{Equal}
-use Rattle.sc_core.specs.Prelude.{proto_signature, result_ty, scalar_ty}
-use Rattle.sc_core.specs.declared.expr.VarRef.TheVariants.{Param}
-use Rattle.sc_core.specs.declared.section.TypedParam.{TypedParam}
-use Rattle.sc_core.specs.declared.stmt.TypedStmt.{TypedStmt}
-use Rattle.sc_core.specs.declared.stmt.TypedStmtKind.{TypedStmtKind}
 use Rattle.sc_core.specs.declared.stmt.TypedStmtKind as kind
 use Rattle.sc_core.specs.declared.ty.Ty.TheVariants as ty
-use Rattle.sc_elab_expr.specs.Prelude.{Callees, found_in, typed}
-use Rattle.sc_elab_stmt.specs.Prelude.{going_to_all, params_of, typed_stmt}
-use Rattle.sc_back.specs.Text.{input_proto, output_proto}
-use Rattle.sc_back.specs.Tree.{action_kind, call_kind, counter_name, value_tree, value_trees}
-use Rattle.sc_replay.specs.Texts.{calls_out, counter, counter_is, int_expr, literal, or_int, stmt_at, waits, word_expr}
-use Rattle.sc_replay.specs.Texts.{word_exprs}
-use Rattle.sc_performers.specs.Performer.{IsPerformer, MayDo}
+use Rattle.sc_replay.specs.Texts.{literal}
 use Rattle.sc_performers.proofs.BackTree.{IsBackBody, does, ends, row_at, uses}
 use Rattle.sc_performers.proofs.BackTree as back
 use Rattle.sc_performers.proofs.TypedTrees.{assign_at, call_at, goes, if_at, return_at, typed_test, typed_value}

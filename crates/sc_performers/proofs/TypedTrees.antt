@@ -1,31 +1,18 @@
 -- The expressions and statements of a performing section with their types.
-use Rattle.std.proofs.Common.{Bool, List, None, Option, Some, [], ◌∷◌, ◌≡◌, ◌∙◌, ◌^◌, ◌-◌, ◌==◌, ℕ, ap, ap₂}
-use Rattle.std.proofs.Common.{arith, false, if◌then◌else◌, leb-true, map, nat_le, refl, rules, true}
-use Rattle.std.proofs.lemmas.Bool.{eqb-true}
-use Rattle.sc_base.specs.declared.op.BinaryOp.TheVariants.{Equal, Sub}
-use Rattle.sc_base.specs.declared.op.UnaryOp.TheVariants.{Minus}
-use Rattle.sc_event.specs.declared.interface.Scalar.{Scalar}
-use Rattle.sc_event.specs.declared.interface.Scalar.TheVariants.{Int, Unsigned}
-use Rattle.sc_ast.specs.declared.expr.CallTree.{CallTree}
-use Rattle.sc_ast.specs.declared.expr.ExprTree.{ExprTree}
+use Rattle.sc_performers.proofs.Common.{Binary, Bool, CallTree, Callees, Equal, ExprTree, Int, List, Minus, None}
+use Rattle.sc_performers.proofs.Common.{Option, Param, Scalar, Some, StmtTree, Sub, Ty, TypedExpr, TypedParam}
+use Rattle.sc_performers.proofs.Common.{TypedStmtKind, Unary, Unsigned, Variable, Visible, [], ap, ap₂, arith}
+use Rattle.sc_performers.proofs.Common.{calls_out, counter, counter_is, counter_name, eqb-true, false, found, found_in}
+use Rattle.sc_performers.proofs.Common.{going_to, going_to_all, if◌then◌else◌, int_expr, least_int, leb-true, literal}
+use Rattle.sc_performers.proofs.Common.{map, minus, nat_le, or_else, refl, rules, scalar_ty, stmt_at, true, typed}
+use Rattle.sc_performers.proofs.Common.{typed_call, typed_stmt, value_tree, value_trees, waits, word_expr, word_exprs}
+use Rattle.sc_performers.proofs.Common.{ℕ, ◌-◌, ◌==◌, ◌^◌, ◌∙◌, ◌∷◌, ◌≡◌}
 use Rattle.sc_ast.specs.declared.expr.ExprTree as exprs
-use Rattle.sc_ast.specs.declared.expr.ExprTree.TheVariants.{Binary, Unary, Variable}
 use Rattle.sc_ast.specs.declared.stmt.StmtKind as kinds
 use Rattle.sc_ast.specs.declared.stmt.StmtTree as stmts
-use Rattle.sc_ast.specs.declared.stmt.StmtTree.{StmtTree}
-use Rattle.sc_core.specs.Prelude.{scalar_ty}
-use Rattle.sc_core.specs.declared.expr.TypedExpr.{TypedExpr}
-use Rattle.sc_core.specs.declared.expr.VarRef.TheVariants.{Global, Param}
-use Rattle.sc_core.specs.declared.section.TypedParam.{TypedParam}
-use Rattle.sc_core.specs.declared.stmt.TypedStmtKind.{TypedStmtKind}
+use Rattle.sc_core.specs.declared.expr.VarRef.TheVariants.{Global}
 use Rattle.sc_core.specs.declared.stmt.TypedStmtKind as typed_stmt_kinds
-use Rattle.sc_core.specs.declared.ty.Ty.{Ty}
 use Rattle.sc_core.specs.declared.ty.Ty.TheVariants as ty
-use Rattle.sc_elab_expr.specs.Prelude.{Callees, Visible, found, found_in, going_to, or_else, typed}
-use Rattle.sc_elab_stmt.specs.Prelude.{going_to_all, typed_call, typed_stmt}
-use Rattle.sc_back.specs.Tree.{counter_name, literal, value_tree, value_trees}
-use Rattle.sc_replay.specs.Texts.{calls_out, counter, counter_is, int_expr, least_int, minus, stmt_at, waits, word_expr}
-use Rattle.sc_replay.specs.Texts.{word_exprs}
 use Rattle.sc_replay.specs.Texts as texts
 use Rattle.sc_performers.proofs.BackTree as back
 

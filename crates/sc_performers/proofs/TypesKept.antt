@@ -1,54 +1,25 @@
 -- A performing section breaks no rule of types.
-use Rattle.std.proofs.Common.{List, None, Option, Some, [], ◌∷◌, ◌++◌, ◌≡◌, ◌∙◌, ◌==◌, ◌<◌, ◌^◌, ℕ, suc, ap, ap₂, arith}
-use Rattle.std.proofs.Common.{false, length, map, not, refl, rules, true}
-use Rattle.std.proofs.lemmas.Bool.{false≢true}
-use Rattle.std.proofs.lemmas.Bool.Decides.{Decides-eqb}
-use Rattle.std.proofs.lemmas.List.Elements.{recursion_from_All}
-use Rattle.std.specs.Prelude.{filter, is_some}
-use Rattle.std.specs.List.{AllByRecursion, concat}
-use Rattle.std.specs.Option.{option_map_or}
-use Rattle.sc_base.specs.declared.op.BinaryOp.TheVariants.{Equal}
-use Rattle.sc_event.specs.Prelude.{export_at, imports, is_function}
+use Rattle.sc_performers.proofs.Common.{Action, AllByRecursion, Binary, CallTree, Callees, Decides-eqb, Entry, Equal}
+use Rattle.sc_performers.proofs.Common.{ExprTree, FunctionTree, HeadTree, Int, Interface, Interfaces, IsPerformer}
+use Rattle.sc_performers.proofs.Common.{IsUsable, IsWord, List, MayDo, None, Option, Param, Proto, Row, Scalar}
+use Rattle.sc_performers.proofs.Common.{SectionTree, Some, StmtTree, Ty, TypedParam, TypesHold, Unsigned, Variable, []}
+use Rattle.sc_performers.proofs.Common.{action_kind, ap, ap₂, args_fit, arith, assign_fits, assign_holds, call_holds}
+use Rattle.sc_performers.proofs.Common.{call_kind, callees_of, concat, cond_holds, counter_name, decl_lines, export_at}
+use Rattle.sc_performers.proofs.Common.{false, false≢true, filter, found_in, function_lines, goes_into, going_to}
+use Rattle.sc_performers.proofs.Common.{going_to_all, imports, input_proto, is_function, is_of, is_scalar, is_some}
+use Rattle.sc_performers.proofs.Common.{judged, length, literal, map, not, option_map_or, output_proto, params_of}
+use Rattle.sc_performers.proofs.Common.{proto_of, proto_signature, recursion_from_All, refl, result_ty}
+use Rattle.sc_performers.proofs.Common.{return_value_holds, rules, scalar_ty, suc, true, typed, unless, value_tree}
+use Rattle.sc_performers.proofs.Common.{value_trees, ℕ, ◌++◌, ◌<◌, ◌==◌, ◌^◌, ◌∙◌, ◌∷◌, ◌≡◌}
+use Rattle.sc_elab_stmt.specs.Prelude.{stmt_lines}
+use Rattle.sc_elab.specs.Prelude.{section_lines}
 use Rattle.sc_event.specs.declared.interface.Import.TheVariants as import
-use Rattle.sc_event.specs.declared.interface.Interface.{Interface}
-use Rattle.sc_event.specs.declared.interface.Interfaces.{Interfaces}
-use Rattle.sc_event.specs.declared.interface.Proto.{Proto}
-use Rattle.sc_event.specs.declared.interface.Scalar.{Scalar}
-use Rattle.sc_event.specs.declared.interface.Scalar.TheVariants.{Int, Unsigned}
-use Rattle.sc_event.specs.declared.row.Action.{Action}
 use Rattle.sc_event.specs.declared.row.Action.TheVariants as action
-use Rattle.sc_event.specs.declared.row.Entry.{Entry}
-use Rattle.sc_event.specs.declared.row.Row.{Row}
-use Rattle.sc_ast.specs.declared.expr.CallTree.{CallTree}
-use Rattle.sc_ast.specs.declared.expr.ExprTree.{ExprTree}
-use Rattle.sc_ast.specs.declared.expr.ExprTree.TheVariants.{Binary, Variable}
 use Rattle.sc_ast.specs.declared.expr.ExprTree as exprs
 use Rattle.sc_ast.specs.declared.stmt.StmtKind as kinds
 use Rattle.sc_ast.specs.declared.stmt.StmtKind.TheVariants as stmt
 use Rattle.sc_ast.specs.declared.stmt.StmtTree as stmts
-use Rattle.sc_ast.specs.declared.stmt.StmtTree.{StmtTree}
 use Rattle.sc_ast.specs.declared.section.Decl.TheVariants as decl
-use Rattle.sc_ast.specs.declared.section.FunctionTree.{FunctionTree}
-use Rattle.sc_ast.specs.declared.section.HeadTree.{HeadTree}
-use Rattle.sc_ast.specs.declared.section.SectionTree.{SectionTree}
-use Rattle.sc_core.specs.Prelude.{args_fit, goes_into, judged, proto_signature, result_ty, scalar_ty}
-use Rattle.sc_core.specs.Prelude.{is_scalar, assign_fits}
-use Rattle.sc_core.specs.declared.expr.VarRef.TheVariants.{Param}
-use Rattle.sc_core.specs.declared.section.TypedParam.{TypedParam}
-use Rattle.sc_core.specs.declared.ty.Ty.{Ty}
-use Rattle.sc_scope.specs.Prelude.{unless}
-use Rattle.sc_elab_expr.specs.Prelude.{Callees, found_in, going_to, typed}
-use Rattle.sc_elab_stmt.specs.Prelude.{assign_holds, call_holds, cond_holds, going_to_all, params_of}
-use Rattle.sc_elab_stmt.specs.Prelude.{return_value_holds}
-use Rattle.sc_elab_stmt.specs.Prelude.{stmt_lines}
-use Rattle.sc_elab.specs.Prelude.{callees_of, decl_lines, function_lines}
-use Rattle.sc_elab.specs.Prelude.{section_lines}
-use Rattle.sc_back.specs.Text.{input_proto, is_of, output_proto}
-use Rattle.sc_back.specs.Tree.{action_kind, call_kind, counter_name, literal, value_tree}
-use Rattle.sc_back.specs.Tree.{value_trees}
-use Rattle.sc_replay.specs.Replay.{IsWord, proto_of}
-use Rattle.sc_performers.specs.Laws.{TypesHold}
-use Rattle.sc_performers.specs.Performer.{IsPerformer, IsUsable, MayDo}
 use Rattle.sc_performers.proofs.BackTree.{AreFunctions, IsBackBody, IsBackTree, and_function, counter_at, does, ends}
 use Rattle.sc_performers.proofs.BackTree.{function_at, no_functions, row_at, stmt_at, uses, while_at}
 use Rattle.sc_performers.proofs.Undone.{back_tree_is}
@@ -58,8 +29,7 @@ use Rattle.sc_performers.proofs.SectionTypes.{no_counter, result_is, scope_is, s
 use Rattle.sc_performers.proofs.TypedRows.{HasSignatures}
 use Rattle.sc_performers.proofs.TypedTrees.{goes, typed_counter, typed_literal, typed_test, typed_value, typed_values}
 use Rattle.sc_performers.proofs.TypedTrees.{typed_word, visible}
-use Rattle.sc_performers.proofs.Uses.{AllFit, AreEntries, are_entries, calls_use, input_use, output_use}
-use Rattle.sc_performers.proofs.Uses.{rows_fit}
+use Rattle.sc_performers.proofs.Uses.{AllFit, AreEntries, are_entries, calls_use, input_use, output_use, rows_fit}
 
 module _ (params : List TypedParam) (absent : found_in Param params counter_name ≡ None) (types : List Ty)
     (callees : Callees) where

@@ -1,46 +1,23 @@
 -- A tree that is that of a performing section, lines aside, is that tree with lines.
-use Rattle.std.proofs.Common.{List, [], ◌∷◌, ◌++◌, ◌≡◌, ◌∙◌, ◌==◌, ℕ, suc, ap, ap₂, refl, subst, sym, map, Bool, true}
-use Rattle.std.proofs.Common.{false, Option, Some, None, if◌then◌else◌}
-use Rattle.std.proofs.lemmas.List.{map-append}
-use Rattle.std.specs.Prelude.{filter}
-use Rattle.std.specs.List.{cons_option, filter_map}
-use Rattle.std.specs.Option.{option_map, option_map_or}
-use Rattle.sc_base.proofs.Lists.{map_twice}
-use Rattle.sc_base.specs.declared.op.BinaryOp.TheVariants.{Equal}
-use Rattle.sc_event.specs.Prelude.{export_at}
-use Rattle.sc_event.specs.declared.interface.Import.{Import}
-use Rattle.sc_event.specs.declared.interface.Interface.{Interface}
-use Rattle.sc_event.specs.declared.interface.Interfaces.{Interfaces}
-use Rattle.sc_event.specs.declared.interface.Proto.{Proto}
-use Rattle.sc_event.specs.declared.interface.Scalar.{Scalar}
-use Rattle.sc_event.specs.declared.interface.Scalar.TheVariants.{Int, Unsigned}
-use Rattle.sc_event.specs.declared.row.Action.{Action}
+use Rattle.sc_performers.proofs.Common.{Action, Binary, Bool, Decl, Entry, Equal, Export, ExportLine, ExprTree}
+use Rattle.sc_performers.proofs.Common.{FunctionTree, HeadTree, Import, ImportLine, Int, Interface, Interfaces, List}
+use Rattle.sc_performers.proofs.Common.{Main, None, Option, Proto, Row, SameButLines, Scalar, SectionTree, Some}
+use Rattle.sc_performers.proofs.Common.{StmtKind, StmtTree, Unsigned, Variable, [], action_kind, all_functions, ap, ap₂}
+use Rattle.sc_performers.proofs.Common.{back_tree, body_tree, call_kind, cons_option, counter_name, export_at}
+use Rattle.sc_performers.proofs.Common.{export_line, false, filter, filter_map, function_tree, function_trees}
+use Rattle.sc_performers.proofs.Common.{if◌then◌else◌, imported, input_proto, is_of, lineless_decl, lineless_export}
+use Rattle.sc_performers.proofs.Common.{lineless_function, lineless_head, lineless_import, lineless_kind}
+use Rattle.sc_performers.proofs.Common.{lineless_local, lineless_stmt, lineless_stmts, literal, main_proto, map}
+use Rattle.sc_performers.proofs.Common.{map-append, map_twice, names_of, option_map, option_map_or, out-StmtKind}
+use Rattle.sc_performers.proofs.Common.{output_proto, proto_head, refl, return_kind, row_kind, subst, suc, sym, true}
+use Rattle.sc_performers.proofs.Common.{unlined, value_tree, ℕ, ◌++◌, ◌==◌, ◌∙◌, ◌∷◌, ◌≡◌}
+use Rattle.sc_back.specs.Prelude.{counter}
 use Rattle.sc_event.specs.declared.row.Action.TheVariants as action
-use Rattle.sc_event.specs.declared.row.Entry.{Entry}
-use Rattle.sc_event.specs.declared.row.Entry.TheVariants.{Export, Main}
-use Rattle.sc_event.specs.declared.row.Row.{Row}
-use Rattle.sc_ast.specs.Prelude.{SameButLines, lineless_decl, lineless_export, lineless_function, lineless_head}
-use Rattle.sc_ast.specs.Prelude.{lineless_import, lineless_kind, lineless_local, lineless_stmt, lineless_stmts}
 use Rattle.sc_ast.proofs.Statements.{bare_stmt}
-use Rattle.sc_ast.specs.declared.expr.ExprTree.{ExprTree}
-use Rattle.sc_ast.specs.declared.expr.ExprTree.TheVariants.{Binary, Variable}
-use Rattle.sc_ast.specs.declared.stmt.StmtKind.{StmtKind, out-StmtKind}
 use Rattle.sc_ast.specs.declared.stmt.StmtKind.TheOpen as layer
 use Rattle.sc_ast.specs.declared.stmt.StmtKind.TheVariants as stmt
-use Rattle.sc_ast.specs.declared.stmt.StmtTree.{StmtTree}
-use Rattle.sc_ast.specs.declared.section.Decl.{Decl}
 use Rattle.sc_ast.specs.declared.section.Decl.TheVariants as decl
-use Rattle.sc_ast.specs.declared.section.ExportLine.{ExportLine}
-use Rattle.sc_ast.specs.declared.section.FunctionTree.{FunctionTree}
-use Rattle.sc_ast.specs.declared.section.HeadTree.{HeadTree}
-use Rattle.sc_ast.specs.declared.section.ImportLine.{ImportLine}
 use Rattle.sc_ast.specs.declared.section.LocalTree.{LocalTree}
-use Rattle.sc_ast.specs.declared.section.SectionTree.{SectionTree}
-use Rattle.sc_back.specs.Text.{imported, input_proto, is_of, main_proto, output_proto}
-use Rattle.sc_back.specs.Tree.{action_kind, all_functions, back_tree, body_tree, call_kind, counter, counter_name}
-use Rattle.sc_back.specs.Tree.{export_line, function_tree, function_trees, literal}
-use Rattle.sc_back.specs.Tree.{proto_head, return_kind, row_kind, unlined, value_tree}
-use Rattle.sc_performers.specs.Performer.{names_of}
 use Rattle.sc_performers.proofs.BareKinds.{IsIf, IsLeaf, IsWhile, if_kind, kind_of_layer, leaf_kind, while_kind}
 use Rattle.sc_performers.proofs.BackTree.{AreFunctions, AreHeads, AreImports, IsBackBody, IsBackTree, and_function}
 use Rattle.sc_performers.proofs.BackTree.{and_head, and_import, counter_at, does, ends, entries_from, entries_of}

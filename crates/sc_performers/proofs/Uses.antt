@@ -1,30 +1,14 @@
 -- What the premises say of a section's functions, of what it imports and of its rows.
-use Rattle.std.proofs.Common.{Bool, List, None, Option, Some, [], ◌∷◌, ◌++◌, ◌≡◌, ◌∙◌, ◌==◌, ◌||◌, ℕ, suc, ap, ap₂}
-use Rattle.std.proofs.Common.{append_assoc, arith, false, if◌then◌else◌, inl, inr, length, length-append, map, refl}
-use Rattle.std.proofs.Common.{slice_get, subst, sym, true, ◌⊎◌}
-use Rattle.std.proofs.lemmas.Bool.{false≢true}
-use Rattle.std.proofs.lemmas.Bool.Decides.{Decides-eqb}
-use Rattle.std.proofs.lemmas.List.{map-append}
-use Rattle.std.proofs.lemmas.List.Elements.{recursion_from_All}
-use Rattle.std.specs.Prelude.{filter}
-use Rattle.std.specs.List.{AllByRecursion, cons_option, filter_map, list_any}
-use Rattle.std.specs.Option.{option_and_then, option_map_or}
-use Rattle.sc_base.proofs.Bools.{and_first, and_rest}
-use Rattle.sc_base.proofs.Lists.{get_behind}
-use Rattle.sc_event.specs.Prelude.{export_at, imports, is_function, is_input, is_output}
-use Rattle.sc_event.specs.declared.interface.Import.{Import}
+use Rattle.sc_performers.proofs.Common.{Action, AllByRecursion, Bool, Decides-eqb, Entry, Export, FitsRow, Import}
+use Rattle.sc_performers.proofs.Common.{Interface, Interfaces, IsPerformer, IsWord, List, Main, MayDo, None, Option}
+use Rattle.sc_performers.proofs.Common.{Proto, Row, Scalar, Some, [], and_first, and_rest, ap, append_assoc, ap₂, arith}
+use Rattle.sc_performers.proofs.Common.{cons_option, defined, export_at, false, false≢true, filter, filter_map}
+use Rattle.sc_performers.proofs.Common.{get_behind, if◌then◌else◌, imported, imports, inl, inr, is_function, is_of}
+use Rattle.sc_performers.proofs.Common.{length, length-append, list_any, main_proto, map, map-append, option_and_then}
+use Rattle.sc_performers.proofs.Common.{option_map_or, proto_of, recursion_from_All, refl, slice_get, subst, suc, sym}
+use Rattle.sc_performers.proofs.Common.{true, used, ℕ, ◌++◌, ◌==◌, ◌||◌, ◌∙◌, ◌∷◌, ◌≡◌, ◌⊎◌}
+use Rattle.sc_event.specs.Prelude.{is_input, is_output}
 use Rattle.sc_event.specs.declared.interface.Import.TheVariants.{Function, Input, Output}
-use Rattle.sc_event.specs.declared.interface.Interface.{Interface}
-use Rattle.sc_event.specs.declared.interface.Interfaces.{Interfaces}
-use Rattle.sc_event.specs.declared.interface.Proto.{Proto}
-use Rattle.sc_event.specs.declared.interface.Scalar.{Scalar}
-use Rattle.sc_event.specs.declared.row.Action.{Action}
-use Rattle.sc_event.specs.declared.row.Entry.{Entry}
-use Rattle.sc_event.specs.declared.row.Entry.TheVariants.{Export, Main}
-use Rattle.sc_event.specs.declared.row.Row.{Row}
-use Rattle.sc_back.specs.Text.{imported, is_of, main_proto}
-use Rattle.sc_replay.specs.Replay.{IsWord, proto_of}
-use Rattle.sc_performers.specs.Performer.{FitsRow, IsPerformer, MayDo, defined, used}
 use Rattle.sc_performers.proofs.BackTree.{entries_from, entries_of, main_entries, use_of, uses}
 
 -- x is one of these

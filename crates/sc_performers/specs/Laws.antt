@@ -1,18 +1,10 @@
 -- The rules that a section keeps which performs a compartment's part of a trace.
+use Rattle.sc_performers.specs.Common.{Event, HasWords, Interface, Interfaces, IsReplaced, Row, SameButLines}
+use Rattle.sc_performers.specs.Common.{SectionTree, back_tree, callees_of, legal, part, typed_section}
 use Rattle.std.specs.Prelude.{◌≡◌, ◌≤◌, ℕ, List, [], All, length, true}
-use Rattle.sc_event.specs.Prelude.{legal, part}
-use Rattle.sc_event.specs.declared.event.Event.{Event}
-use Rattle.sc_event.specs.declared.interface.Interface.{Interface}
-use Rattle.sc_event.specs.declared.interface.Interfaces.{Interfaces}
-use Rattle.sc_event.specs.declared.row.Row.{Row}
-use Rattle.sc_ast.specs.Prelude.{SameButLines}
-use Rattle.sc_ast.specs.declared.section.SectionTree.{SectionTree}
 use Rattle.sc_scope.specs.Names as names
 use Rattle.sc_elab.specs.Sections as types
-use Rattle.sc_elab.specs.Prelude.{callees_of, typed_section}
 use Rattle.sc_types.specs.Counts as counts
-use Rattle.sc_back.specs.Tree.{back_tree}
-use Rattle.sc_replay.specs.Replay.{HasWords, IsReplaced}
 use Rattle.sc_performers.specs.Performer.{FitsRow, IsImportedAs, IsPerformer}
 
 -- it breaks no rule of names

@@ -1,3 +1,4 @@
+pub mod Common
 pub mod Performer
 pub mod Laws
 pub mod Recomposed

@@ -1,22 +1,17 @@
 -- What the section that performs a compartment's part of a trace needs, so that it keeps the rules of its language.
-use Rattle.std.specs.Prelude.{◌≡◌, ℕ, suc, ◌≤◌, ◌==◌, true, if◌then◌else◌, List, [], ◌∷◌, ◌++◌, length}
-use Rattle.std.specs.Prelude.{map, All, Option, Some, None}
+use Rattle.sc_performers.specs.Common.{Interface, Interfaces, IsWord, Row, SectionTree, Text, are_distinct, comp_at}
+use Rattle.sc_performers.specs.Common.{fits_result, import_of, imported, imports, is_function, is_input, is_output}
+use Rattle.sc_performers.specs.Common.{main_proto, owner_name, proto_of, takes}
+use Rattle.sc_interfaces.specs.Prelude.{is_plain}
+use Rattle.std.specs.Prelude.{◌≡◌, ℕ, suc, ◌≤◌, ◌==◌, true, if◌then◌else◌, List, [], ◌∷◌, ◌++◌, length, map, All}
+use Rattle.std.specs.Prelude.{Option, Some, None}
 use Rattle.std.specs.List.{filter_map}
-use Rattle.sc_event.specs.Prelude.{comp_at, fits_result, imports, is_function, is_input, is_output, takes}
 use Rattle.sc_event.specs.declared.interface.Import.{Import}
-use Rattle.sc_event.specs.declared.interface.Interface.{Interface}
-use Rattle.sc_event.specs.declared.interface.Interfaces.{Interfaces}
 use Rattle.sc_event.specs.declared.interface.Proto.{Proto}
 use Rattle.sc_event.specs.declared.interface.Scalar.{Scalar}
 use Rattle.sc_event.specs.declared.interface.Scalar.TheVariants.{Int}
 use Rattle.sc_event.specs.declared.row.Action.{Action}
 use Rattle.sc_event.specs.declared.row.Action.TheVariants.{Call, Ret, Out, In, End}
-use Rattle.sc_event.specs.declared.row.Row.{Row}
-use Rattle.sc_ast.specs.declared.section.SectionTree.{SectionTree}
-use Rattle.sc_scope.specs.Prelude.{Text, are_distinct, import_of}
-use Rattle.sc_interfaces.specs.Prelude.{is_plain}
-use Rattle.sc_back.specs.Text.{imported, main_proto, owner_name}
-use Rattle.sc_replay.specs.Replay.{IsWord, proto_of}
 
 -- Functions.
 

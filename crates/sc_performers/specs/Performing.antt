@@ -1,17 +1,10 @@
 -- What lets the sections of a set be written so that they perform their parts of a trace.
-use Rattle.std.specs.Prelude.{◌≡◌, ℕ, ◌<◌, IsTrue, List, length, All, Some}
+use Rattle.sc_performers.specs.Common.{CanPerform, Event, Interface, IsTyped, ProgramTree, SectionTree, comp_at}
+use Rattle.sc_performers.specs.Common.{heads_in, is_ident, part}
 use Rattle.sc_base.specs.Prelude.{is_name}
-use Rattle.sc_event.specs.Prelude.{comp_at, part}
-use Rattle.sc_event.specs.declared.event.Event.{Event}
-use Rattle.sc_event.specs.declared.interface.Interface.{Interface}
-use Rattle.sc_ast.specs.Prelude.{is_ident}
+use Rattle.std.specs.Prelude.{◌≡◌, ℕ, ◌<◌, IsTrue, List, length, All, Some}
 use Rattle.sc_ast.specs.declared.section.HeadTree.{HeadTree}
 use Rattle.sc_ast.specs.declared.section.ImportLine.{ImportLine}
-use Rattle.sc_ast.specs.declared.section.SectionTree.{SectionTree}
-use Rattle.sc_core.specs.declared.program.ProgramTree.{ProgramTree}
-use Rattle.sc_scope.specs.Prelude.{heads_in}
-use Rattle.sc_types.specs.Acceptance.{IsTyped}
-use Rattle.sc_back.specs.Sections.{CanPerform}
 use Rattle.sc_performers.specs.Recomposed.{IsPerformable}
 
 abbrev pub IsCalledSo : HeadTree → Type 0

@@ -1,13 +1,7 @@
 -- The sections of a text in which those of some compartments are replaced by ones that perform their parts of a trace.
+use Rattle.sc_performers.specs.Common.{AllBecome, Event, HasWords, IsRecomposed, IsTyped, ProgramTree, SectionTree}
+use Rattle.sc_performers.specs.Common.{legal, part, program_of}
 use Rattle.std.specs.Prelude.{◌≡◌, ℕ, ◌<◌, ◌≤◌, Bool, true, List, length, All}
-use Rattle.sc_event.specs.Prelude.{legal, part}
-use Rattle.sc_event.specs.declared.event.Event.{Event}
-use Rattle.sc_ast.specs.declared.section.SectionTree.{SectionTree}
-use Rattle.sc_core.specs.declared.program.ProgramTree.{ProgramTree}
-use Rattle.sc_elab.specs.Prelude.{program_of}
-use Rattle.sc_types.specs.Acceptance.{IsTyped}
-use Rattle.sc_back.specs.Sections.{AllBecome}
-use Rattle.sc_replay.specs.Replay.{HasWords, IsRecomposed}
 
 -- a trace that is not too long, which the interfaces allow, with values of 32 bits
 pub record IsPerformable (program : ProgramTree) (trace : List Event) : Type 0 where

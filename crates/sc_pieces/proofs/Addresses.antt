@@ -1,18 +1,12 @@
 -- Addresses of places of one block: so many cells further or back, modulo 2 ^ 32, and how far apart.
-use Rattle.std.proofs.Common.{◌≡◌, ℕ, zero, suc, ◌+◌, ◌-◌, ◌*◌, ◌/◌, ◌%◌, ◌^◌, ◌<◌, ℤ, pos, negsuc, ◌+ℤ◌, ◌-ℤ◌, ◌*ℤ◌}
-use Rattle.std.proofs.Common.{neg_ℤ, int_div, int_lt, Bool, true, false, nat_lt, ◌==◌, if◌then◌else◌, refl, sym, ◌∙◌}
-use Rattle.std.proofs.Common.{ap}
-use Rattle.std.proofs.Common.{subst, arith, inl, inr, ⊎_elim, ap₂, mul-add}
+use Rattle.sc_pieces.proofs.Common.{Bool, add_word, ap, ap₂, arith, bytes_of, div_word, false, if◌then◌else◌, inl, inr}
+use Rattle.sc_pieces.proofs.Common.{int_div, int_lt, mul-add, mul-mod_second, mul_word, nat_lt, neg_ℤ, negsuc}
+use Rattle.sc_pieces.proofs.Common.{number_of, pos, refl, signed_of, stepped_word, sub_word, subst, suc, sym, true}
+use Rattle.sc_pieces.proofs.Common.{word_of, word_of-unsigned_sub, zero, ℕ, ℤ, ⊎_elim, ◌%◌, ◌*ℤ◌, ◌*◌, ◌+ℤ◌, ◌+◌, ◌-ℤ◌}
+use Rattle.sc_pieces.proofs.Common.{◌-◌, ◌/◌, ◌<◌, ◌==◌, ◌^◌, ◌∙◌, ◌≡◌, ◌⊎◌}
 use Rattle.std.proofs.lemmas.Bool.{cases_lt}
-use Rattle.std.specs.Prelude.{◌⊎◌}
 use Rattle.std.proofs.lemmas.Int.{ints}
-use Rattle.std.proofs.lemmas.Nat.{mul-mod_second}
 use Rattle.std.proofs.Math.Nat.{mul-div-mul_left}
-use Rattle.sc_word.specs.Prelude.{word_of, signed_of, add_word, sub_word, mul_word, div_word}
-use Rattle.sc_word.proofs.Words.{word_of-unsigned_sub}
-use Rattle.sc_core.specs.Value.{number_of}
-use Rattle.sc_select.specs.Operators.{bytes_of}
-use Rattle.sc_pieces.specs.Operators.{stepped_word}
 
 -- k cells on from cell i of a block at x
 cells_on : (x i k m : ℕ) → x + 4 * m < 2 ^ 32 → i + k ≡ m → (x + 4 * i + 4 * k % 2 ^ 32) % 2 ^ 32 ≡ x + 4 * m

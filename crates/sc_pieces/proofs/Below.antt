@@ -1,20 +1,12 @@
 -- What an operator's code computes is a word.
-use Rattle.std.proofs.Common.{ℕ, ◌^◌, ◌<◌, ◌≤◌, Bool, true, false, bit_and, arith}
-use Rattle.std.proofs.lemmas.Nat.{and_le_l, or_of_32, xor_of_32}
-use Rattle.sc_base.specs.declared.op.UnaryOp.{UnaryOp}
+use Rattle.sc_pieces.proofs.Common.{BinaryOp, Bool, TacOp, UnaryOp, and_le_l, arith, bit_and, bytes_of, false}
+use Rattle.sc_pieces.proofs.Common.{is_unsigned, negated_word, on_all_words, op_word, or_of_32, stepped_word, sub_word}
+use Rattle.sc_pieces.proofs.Common.{true, truth, unary_word, word_of-lt, xor_of_32, ℕ, ◌<◌, ◌^◌, ◌≤◌}
 use Rattle.sc_base.specs.declared.op.UnaryOp.TheVariants as unary
-use Rattle.sc_base.specs.declared.op.BinaryOp.{BinaryOp}
 use Rattle.sc_base.specs.declared.op.BinaryOp.TheVariants as op
 use Rattle.sc_word.proofs.Below.{add_word-lt, sub_word-lt, mul_word-lt, div_word-lt, divu_word-lt, rem_word-lt}
 use Rattle.sc_word.proofs.Below.{remu_word-lt, sll_word-lt, srl_word-lt, sra_word-lt}
-use Rattle.sc_word.specs.Prelude.{sub_word}
-use Rattle.sc_word.proofs.Words.{word_of-lt}
-use Rattle.sc_core.specs.Value.{truth, on_all_words, negated_word}
-use Rattle.sc_tac.specs.Code.{is_unsigned}
-use Rattle.sc_tac.specs.declared.stmt.TacOp.{TacOp}
 use Rattle.sc_tac.specs.declared.stmt.TacOp.TheVariants as tacop
-use Rattle.sc_select.specs.Operators.{bytes_of}
-use Rattle.sc_pieces.specs.Operators.{unary_word, stepped_word, op_word}
 
 truth_below : (t : Bool) → truth t < 2 ^ 32
 truth_below true = omega arith

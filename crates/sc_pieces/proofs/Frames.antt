@@ -1,23 +1,10 @@
 -- The way into a function, and the way out of it.
-use Rattle.std.proofs.Common.{◌≡◌, ℕ, ◌+◌, ◌*◌, ◌%◌, ◌^◌, ◌<◌, pos, List, [], ◌∷◌, length}
-use Rattle.std.proofs.Common.{refl, ◌∙◌, ap, arith, length-append}
-use Rattle.sc_word.specs.Prelude.{add_word, sub_word}
-use Rattle.sc_word.proofs.Words.{word_of-lt, word_of-unsigned_sub}
-use Rattle.rv_code.specs.declared.instr.Instr.{Instr}
-use Rattle.rv_code.specs.declared.instr.Instr.TheVariants.{Jalr, Load, Store}
-use Rattle.rv_code.specs.declared.instr.LoadOp.TheVariants.{Lw}
-use Rattle.rv_code.specs.declared.instr.StoreOp.TheVariants.{Sw}
-use Rattle.sc_store.specs.Memory.{Memory}
-use Rattle.sc_image.specs.declared.parts.ImageParts.{ImageParts}
-use Rattle.sc_image.specs.Layout.{data_start}
-use Rattle.sc_hart.specs.Code.{Fetches, CodeAt}
-use Rattle.sc_hart.specs.Hart.{Registers, World}
-use Rattle.sc_hart.specs.Words.{word, Owned}
-use Rattle.sc_hart.proofs.Fetching.{front_at, back_at}
-use Rattle.sc_hart.proofs.Steps.{sw_traps}
-use Rattle.sc_select.specs.Pieces.{moved_by, frame_taken, frame_left}
+use Rattle.sc_pieces.proofs.Common.{CodeAt, Computes, Fetches, ImageParts, Instr, Jalr, List, Load, Lw, Memory, Owned}
+use Rattle.sc_pieces.proofs.Common.{Registers, Store, Stores, Sw, World, [], add_word, ap, arith, back_at, data_start}
+use Rattle.sc_pieces.proofs.Common.{frame_left, frame_taken, front_at, length, length-append, moved_by, pos, refl}
+use Rattle.sc_pieces.proofs.Common.{sub_word, sw_traps, word, word_of-lt, word_of-unsigned_sub, ℕ, ◌%◌, ◌*◌, ◌+◌, ◌<◌}
+use Rattle.sc_pieces.proofs.Common.{◌^◌, ◌∙◌, ◌∷◌, ◌≡◌}
 use Rattle.sc_pieces.specs.Frames.{frame_raised, TakesFrame, FrameOverflows, LeavesFrame}
-use Rattle.sc_pieces.specs.Pieces.{Computes, Stores}
 use Rattle.sc_pieces.proofs.Rows.{in_row, computes, loads, stores}
 use Rattle.sc_pieces.proofs.Loading.{moves_on}
 

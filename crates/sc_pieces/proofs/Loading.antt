@@ -1,16 +1,8 @@
 -- Words loaded, and registers moved.
-use Rattle.std.proofs.Common.{◌≡◌, ◌≢◌, ℕ, ◌^◌, ◌<◌, pos, List, [], ◌∷◌, ◌++◌, Bool, true, false, if◌then◌else◌}
-use Rattle.std.proofs.Common.{refl, ◌∙◌, ap, arith}
-use Rattle.sc_word.specs.Prelude.{word_of, signed_of, add_word}
-use Rattle.rv_code.specs.declared.instr.Instr.TheVariants.{Upper, OpImm, Op}
-use Rattle.rv_code.specs.declared.instr.UpperOp.TheVariants.{Lui}
-use Rattle.rv_code.specs.declared.instr.OpImmOp.TheVariants.{Addi}
-use Rattle.rv_code.specs.declared.instr.OpOp.TheVariants.{Add}
-use Rattle.sc_store.specs.Memory.{Memory}
-use Rattle.sc_image.specs.declared.parts.ImageParts.{ImageParts}
-use Rattle.sc_hart.specs.Hart.{Registers, look, World}
-use Rattle.sc_select.specs.Pieces.{is_short, upper_part, lower_part, move, loading, moved_by}
-use Rattle.sc_pieces.specs.Pieces.{IsWritable, Computes}
+use Rattle.sc_pieces.proofs.Common.{Add, Addi, Bool, Computes, ImageParts, IsWritable, List, Lui, Memory, Op, OpImm}
+use Rattle.sc_pieces.proofs.Common.{Registers, Upper, World, [], add_word, ap, arith, false, if◌then◌else◌, is_short}
+use Rattle.sc_pieces.proofs.Common.{loading, look, lower_part, move, moved_by, pos, refl, signed_of, true, upper_part}
+use Rattle.sc_pieces.proofs.Common.{word_of, ℕ, ◌++◌, ◌<◌, ◌^◌, ◌∙◌, ◌∷◌, ◌≡◌, ◌≢◌}
 use Rattle.sc_pieces.proofs.Rows.{followed_by, computes, look_at, looked, upper, with_number, of_two}
 use Rattle.sc_pieces.proofs.Numbers.{word_of-signed_of, two_parts}
 

@@ -1,17 +1,8 @@
 -- Words of the frame, near the stack pointer and far from it.
-use Rattle.std.proofs.Common.{◌≡◌, ◌≢◌, ℕ, ◌+◌, ◌^◌, ◌<◌, List, [], ◌∷◌, ◌++◌, Bool, true, false, if◌then◌else◌}
-use Rattle.std.proofs.Common.{refl, ◌∙◌, ap, arith}
-use Rattle.sc_word.specs.Prelude.{word_of, signed_of, add_word}
-use Rattle.rv_code.specs.declared.instr.Instr.TheVariants.{Load, Store}
-use Rattle.rv_code.specs.declared.instr.LoadOp.TheVariants.{Lw}
-use Rattle.rv_code.specs.declared.instr.StoreOp.TheVariants.{Sw}
-use Rattle.rv_code.specs.declared.instr.OpOp.TheVariants.{Add}
-use Rattle.sc_store.specs.Memory.{Memory}
-use Rattle.sc_image.specs.declared.parts.ImageParts.{ImageParts}
-use Rattle.sc_hart.specs.Hart.{Registers, look, World}
-use Rattle.sc_hart.specs.Words.{word}
-use Rattle.sc_select.specs.Pieces.{is_short, upper_part, lower_part, far_from_sp, load_word, store_word}
-use Rattle.sc_pieces.specs.Pieces.{IsWritable, IsFromSp, Computes, Stores}
+use Rattle.sc_pieces.proofs.Common.{Add, Bool, Computes, ImageParts, IsFromSp, IsWritable, List, Load, Lw, Memory}
+use Rattle.sc_pieces.proofs.Common.{Registers, Store, Stores, Sw, World, [], add_word, ap, arith, false, far_from_sp}
+use Rattle.sc_pieces.proofs.Common.{if◌then◌else◌, is_short, load_word, look, lower_part, refl, signed_of, store_word}
+use Rattle.sc_pieces.proofs.Common.{true, upper_part, word, word_of, ℕ, ◌++◌, ◌+◌, ◌<◌, ◌^◌, ◌∙◌, ◌∷◌, ◌≡◌, ◌≢◌}
 use Rattle.sc_pieces.proofs.Rows.{followed_by, stores_behind, computes, stored, looked, upper, of_two, loads, stores}
 use Rattle.sc_pieces.proofs.Numbers.{word_of-signed_of, parts}
 

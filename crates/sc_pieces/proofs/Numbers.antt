@@ -1,8 +1,7 @@
 -- Words and the immediates that make them.
-use Rattle.std.proofs.Common.{◌≡◌, ℕ, suc, ◌-◌, ◌*◌, ◌%◌, ◌^◌, ◌<◌, ◌≤◌, pos, negsuc, Bool, true, false, nat_lt}
-use Rattle.std.proofs.Common.{if◌then◌else◌, refl, arith, ltb-true, ltb-false}
-use Rattle.sc_word.specs.Prelude.{word_of, signed_of, add_word}
-use Rattle.sc_select.specs.Pieces.{upper_part, lower_part}
+use Rattle.sc_pieces.proofs.Common.{Bool, add_word, arith, false, if◌then◌else◌, lower_part, ltb-false, ltb-true}
+use Rattle.sc_pieces.proofs.Common.{nat_lt, negsuc, pos, refl, signed_of, suc, true, upper_part, word_of, ℕ, ◌%◌, ◌*◌}
+use Rattle.sc_pieces.proofs.Common.{◌-◌, ◌<◌, ◌^◌, ◌≡◌, ◌≤◌}
 
 signed_by : (w : ℕ) (below : Bool) → nat_lt w (2 ^ 31) ≡ below → w < 2 ^ 32 → word_of (signed_of w) ≡ w
 signed_by w true is h = let same : signed_of w ≡ pos w = grind arith in rw same (omega arith)

@@ -1,31 +1,15 @@
 -- The code of each operator computes its word.
-use Rattle.std.proofs.Common.{◌≡◌, ℕ, ◌-◌, ◌^◌, ◌<◌, ℤ, pos, negsuc, List, [], ◌∷◌, ◌++◌, Bool, true}
-use Rattle.std.proofs.Common.{false, ◌==◌, bit_or, bit_xor, refl, sym, ◌∙◌, arith}
-use Rattle.sc_base.specs.declared.op.UnaryOp.{UnaryOp}
+use Rattle.sc_pieces.proofs.Common.{Add, And, AreOperands, BinaryOp, Bool, Computes, Div, Divu, ImageParts, Instr}
+use Rattle.sc_pieces.proofs.Common.{IsWritable, List, Memory, Mul, Op, OpImm, OpImmOp, OpOp, Or, Registers, Rem, Remu}
+use Rattle.sc_pieces.proofs.Common.{Sll, Slt, Sltiu, Sltu, Sra, Srl, Sub, TacOp, UnaryOp, World, Xor, Xori, []}
+use Rattle.sc_pieces.proofs.Common.{add_word, arith, binary_code, bit_or, bit_xor, bytes_of, computed, div_word, false}
+use Rattle.sc_pieces.proofs.Common.{is_unsigned, loading, mul_word, negated_word, negsuc, on_all_words, on_registers}
+use Rattle.sc_pieces.proofs.Common.{op_code, op_word, pointer_difference, pointer_move, pos, refl, signed_wraps}
+use Rattle.sc_pieces.proofs.Common.{slt_word, sltu_word, stepped_word, sub_word, sym, tests_are_words, true, truth}
+use Rattle.sc_pieces.proofs.Common.{unary_code, unary_word, word_of, ℕ, ℤ, ◌++◌, ◌-◌, ◌<◌, ◌==◌, ◌^◌, ◌∙◌, ◌∷◌, ◌≡◌}
 use Rattle.sc_base.specs.declared.op.UnaryOp.TheVariants as unary
-use Rattle.sc_base.specs.declared.op.BinaryOp.{BinaryOp}
 use Rattle.sc_base.specs.declared.op.BinaryOp.TheVariants as op
-use Rattle.sc_word.specs.Prelude.{word_of, add_word, sub_word, mul_word, div_word, slt_word, sltu_word}
-use Rattle.sc_word.proofs.OnAllWords.{signed_wraps, tests_are_words}
-use Rattle.rv_code.specs.declared.instr.Instr.{Instr}
-use Rattle.rv_code.specs.declared.instr.Instr.TheVariants.{OpImm, Op}
-use Rattle.rv_code.specs.declared.instr.OpImmOp.{OpImmOp}
-use Rattle.rv_code.specs.declared.instr.OpImmOp.TheVariants.{Sltiu, Xori}
-use Rattle.rv_code.specs.declared.instr.OpOp.{OpOp}
-use Rattle.rv_code.specs.declared.instr.OpOp.TheVariants.{Add, And, Div, Divu, Mul, Or, Rem, Remu, Sll, Slt, Sltu, Sra}
-use Rattle.rv_code.specs.declared.instr.OpOp.TheVariants.{Srl, Sub, Xor}
-use Rattle.sc_core.specs.Value.{truth, on_all_words, negated_word}
-use Rattle.sc_store.specs.Memory.{Memory}
-use Rattle.sc_image.specs.declared.parts.ImageParts.{ImageParts}
-use Rattle.sc_image.specs.Step.{computed, on_registers}
-use Rattle.sc_hart.specs.Hart.{Registers, World}
-use Rattle.sc_tac.specs.Code.{is_unsigned}
-use Rattle.sc_tac.specs.declared.stmt.TacOp.{TacOp}
 use Rattle.sc_tac.specs.declared.stmt.TacOp.TheVariants as tacop
-use Rattle.sc_select.specs.Operators.{bytes_of, unary_code, binary_code, pointer_move, pointer_difference, op_code}
-use Rattle.sc_select.specs.Pieces.{loading}
-use Rattle.sc_pieces.specs.Pieces.{IsWritable, Computes}
-use Rattle.sc_pieces.specs.Operators.{unary_word, stepped_word, op_word, AreOperands}
 use Rattle.sc_pieces.proofs.Rows.{followed_by, computes, looked, with_number, of_two}
 use Rattle.sc_pieces.proofs.Loading.{moves, loads_number, moves_on}
 use Rattle.sc_pieces.proofs.Tests.{zero_test, equal_test, unequal_test, either_test, both_test, complement}

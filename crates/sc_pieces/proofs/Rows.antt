@@ -1,27 +1,11 @@
 -- Pieces of code in a row, and pieces of one instruction.
-use Rattle.std.proofs.Common.{◌≡◌, ◌≢◌, ℕ, ◌+◌, ◌*◌, ◌<◌, ℤ, List, [], ◌∷◌, ◌++◌, length, refl, sym, ◌∙◌, ap, subst}
-use Rattle.std.proofs.Common.{arith}
-use Rattle.std.proofs.Common.{length-append, nat_eq, if◌then◌else◌}
-use Rattle.std.proofs.lemmas.Bool.{ne_eqb}
-use Rattle.sc_word.specs.Prelude.{word_of, add_word}
-use Rattle.rv_code.specs.declared.instr.Instr.{Instr}
-use Rattle.rv_code.specs.declared.instr.Instr.TheVariants.{Upper, Load, Store, OpImm, Op}
-use Rattle.rv_code.specs.declared.instr.UpperOp.TheVariants.{Lui}
-use Rattle.rv_code.specs.declared.instr.LoadOp.TheVariants.{Lw}
-use Rattle.rv_code.specs.declared.instr.StoreOp.TheVariants.{Sw}
-use Rattle.rv_code.specs.declared.instr.OpImmOp.{OpImmOp}
-use Rattle.rv_code.specs.declared.instr.OpOp.{OpOp}
-use Rattle.sc_store.specs.Memory.{Memory}
-use Rattle.sc_image.specs.declared.parts.ImageParts.{ImageParts}
-use Rattle.sc_image.specs.Step.{computed, on_registers}
-use Rattle.sc_image.specs.Walks.{Walks}
-use Rattle.sc_hart.specs.Code.{Fetches}
-use Rattle.sc_hart.specs.Hart.{Registers, look, set, World, at}
-use Rattle.sc_hart.specs.Words.{word, put_word, Owned}
-use Rattle.sc_hart.proofs.Fetching.{front_at, back_at}
+use Rattle.sc_pieces.proofs.Common.{Besides, Computes, Does, Fetches, ImageParts, Instr, IsWritable, List, Load, Lui}
+use Rattle.sc_pieces.proofs.Common.{Lw, Memory, Op, OpImm, OpImmOp, OpOp, Owned, Registers, Store, Stores, Sw, Upper}
+use Rattle.sc_pieces.proofs.Common.{Walks, World, [], add_word, ap, arith, at, back_at, computed, front_at}
+use Rattle.sc_pieces.proofs.Common.{if◌then◌else◌, length, length-append, look, lui, lw, nat_eq, ne_eqb, on_registers}
+use Rattle.sc_pieces.proofs.Common.{op_imm, operate, put_word, refl, set, subst, sw, sym, then_go, word, word_of, ℕ, ℤ}
+use Rattle.sc_pieces.proofs.Common.{◌*◌, ◌++◌, ◌+◌, ◌<◌, ◌∙◌, ◌∷◌, ◌≡◌, ◌≢◌}
 use Rattle.sc_hart.proofs.Registers.{put_here, put_there}
-use Rattle.sc_hart.proofs.Steps.{then_go, lui, op_imm, operate, lw, sw}
-use Rattle.sc_pieces.specs.Pieces.{Besides, IsWritable, Does, Computes, Stores}
 
 pub besides_front : (rs ss : List ℕ) (q : ℕ) → Besides (rs ++ ss) q → Besides rs q
 besides_front [] ss q h = tt

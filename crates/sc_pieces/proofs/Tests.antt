@@ -1,11 +1,8 @@
 -- Tests of words, as instructions compute them.
-use Rattle.std.proofs.Common.{◌≡◌, ℕ, ◌+◌, ◌-◌, ◌*◌, ◌%◌, ◌^◌, ◌<◌, ◌≤◌, not, ◌&&◌, ◌||◌, ◌==◌, bit_or}
-use Rattle.std.proofs.Common.{bit_xor, bit_and, sym, ◌∙◌, ap, arith}
+use Rattle.sc_pieces.proofs.Common.{and_le_l, and_le_r, and_mask, ap, arith, bit_and, bit_or, bit_xor, le_or_l, le_or_r}
+use Rattle.sc_pieces.proofs.Common.{not, sltu_word, sym, tests_are_words, truth, ℕ, ◌%◌, ◌&&◌, ◌*◌, ◌+◌, ◌-◌, ◌<◌, ◌==◌}
+use Rattle.sc_pieces.proofs.Common.{◌^◌, ◌||◌, ◌∙◌, ◌≡◌, ◌≤◌}
 use Rattle.std.specs.Int.Bits.{or_add_and, xor_add_and, xor_self}
-use Rattle.std.proofs.lemmas.Nat.{and_le_l, and_le_r, and_mask, le_or_l, le_or_r}
-use Rattle.sc_word.specs.Prelude.{sltu_word}
-use Rattle.sc_word.proofs.OnAllWords.{tests_are_words}
-use Rattle.sc_core.specs.Value.{truth}
 
 pub zero_test : (a : ℕ) → sltu_word a 1 ≡ truth (a == 0)
 zero_test a = grind arith

@@ -1,16 +1,10 @@
 -- What the way into a function does, and the way out of it.
+use Rattle.sc_pieces.specs.Common.{ImageParts, Instr, Memory, Registers, Traps, Walks, World, address_scratch, at}
+use Rattle.sc_pieces.specs.Common.{frame_taken, moved_by, put_word, ra, sp, step, word}
 use Rattle.std.specs.Prelude.{◌≡◌, ℕ, ◌+◌, ◌<◌, List, [], ◌∷◌, length, pos}
-use Rattle.rv_code.specs.declared.instr.Instr.{Instr}
 use Rattle.rv_code.specs.declared.instr.Instr.TheVariants.{Load}
 use Rattle.rv_code.specs.declared.instr.LoadOp.TheVariants.{Lw}
 use Rattle.sc_base.specs.declared.stop.TrapReason.TheVariants.{Owner}
-use Rattle.sc_store.specs.Memory.{Memory}
-use Rattle.sc_image.specs.declared.parts.ImageParts.{ImageParts}
-use Rattle.sc_image.specs.Step.{Traps, step}
-use Rattle.sc_image.specs.Walks.{Walks}
-use Rattle.sc_hart.specs.Hart.{Registers, World, at}
-use Rattle.sc_hart.specs.Words.{word, put_word}
-use Rattle.sc_select.specs.Pieces.{ra, sp, address_scratch, moved_by, frame_taken}
 use Rattle.sc_pieces.specs.Pieces.{Besides, Does}
 
 -- the way out but for the jump that ends it

@@ -1,15 +1,13 @@
 -- What the code of an operator computes of two words.
+use Rattle.sc_pieces.specs.Common.{Registers, address_scratch, bytes_of, first_scratch, look, second_scratch}
+use Rattle.sc_word.specs.Prelude.{add_word, div_word, mul_word, sub_word}
+use Rattle.sc_core.specs.Prelude.{negated_word, on_all_words, truth}
+use Rattle.sc_tac.specs.Prelude.{is_unsigned}
 use Rattle.std.specs.Prelude.{◌≡◌, ◌≢◌, ℕ, ◌-◌, ◌^◌, ◌<◌, Bool, true, false, ◌==◌}
 use Rattle.sc_base.specs.declared.op.UnaryOp.{UnaryOp}
 use Rattle.sc_base.specs.declared.op.UnaryOp.TheVariants as unary
-use Rattle.sc_word.specs.Prelude.{add_word, sub_word, mul_word, div_word}
-use Rattle.sc_core.specs.Value.{truth, on_all_words, negated_word}
-use Rattle.sc_hart.specs.Hart.{Registers, look}
-use Rattle.sc_tac.specs.Code.{is_unsigned}
 use Rattle.sc_tac.specs.declared.stmt.TacOp.{TacOp}
 use Rattle.sc_tac.specs.declared.stmt.TacOp.TheVariants as tacop
-use Rattle.sc_select.specs.Operators.{bytes_of}
-use Rattle.sc_select.specs.Pieces.{first_scratch, second_scratch, address_scratch}
 
 abbrev pub unary_word : (unsigned : Bool) → UnaryOp → ℕ → ℕ
 unary_word unsigned unary.Minus a = negated_word unsigned a

@@ -1,13 +1,6 @@
 -- What straight code does wherever it stands, an instruction a step: to the registers and to memory.
+use Rattle.sc_pieces.specs.Common.{CodeAt, ImageParts, Instr, Memory, Owned, Registers, Walks, World, at, put_word, sp}
 use Rattle.std.specs.Prelude.{◌≡◌, ◌≢◌, ℕ, ◌+◌, ◌*◌, ◌^◌, ◌<◌, List, [], ◌∷◌, length}
-use Rattle.rv_code.specs.declared.instr.Instr.{Instr}
-use Rattle.sc_store.specs.Memory.{Memory}
-use Rattle.sc_image.specs.declared.parts.ImageParts.{ImageParts}
-use Rattle.sc_image.specs.Walks.{Walks}
-use Rattle.sc_hart.specs.Code.{CodeAt}
-use Rattle.sc_hart.specs.Hart.{Registers, World, at}
-use Rattle.sc_hart.specs.Words.{put_word, Owned}
-use Rattle.sc_select.specs.Pieces.{sp}
 
 -- a register is none of these
 abbrev pub Besides : List ℕ → ℕ → Type 0

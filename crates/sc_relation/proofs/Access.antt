@@ -1,15 +1,10 @@
 -- What a load and a store of the meaning say of blocks.
-use Rattle.std.proofs.Common.{◌≡◌, ◌≢◌, ℕ, zero, suc, ◌<◌, Bool, true, false, List, [], ◌∷◌, length, Option, None, Some}
-use Rattle.std.proofs.Common.{Ok, Err, if◌then◌else◌, nat_lt, refl, sym, ◌∙◌, ap}
-use Rattle.std.specs.Prelude.{slice_get, slice_set}
-use Rattle.std.proofs.lemmas.Bool.{ltb-true}
-use Rattle.sc_core.specs.declared.cause.Cause.TheVariants.{Dangling, OutOfBounds, BadType}
-use Rattle.sc_core.specs.declared.value.Cell.{Cell}
+use Rattle.sc_relation.proofs.Common.{BadType, Block, Blocks, Bool, Cell, Dangling, Err, List, None, Null, Ok, Option}
+use Rattle.sc_relation.proofs.Common.{OutOfBounds, Pointer, Ptr, Some, Value, Word, [], ap, bind, cell_of, false}
+use Rattle.sc_relation.proofs.Common.{if◌then◌else◌, is_live, length, live_cells, load, loaded, ltb-true, nat_lt, refl}
+use Rattle.sc_relation.proofs.Common.{slice_get, slice_set, store, suc, sym, true, with_cell, zero, ℕ, ◌<◌, ◌∙◌, ◌∷◌}
+use Rattle.sc_relation.proofs.Common.{◌≡◌, ◌≢◌}
 use Rattle.sc_core.specs.declared.value.Cell.TheVariants as cell
-use Rattle.sc_core.specs.declared.value.Pointer.{Pointer}
-use Rattle.sc_core.specs.declared.value.Value.{Value}
-use Rattle.sc_core.specs.declared.value.Value.TheVariants.{Word, Null, Ptr}
-use Rattle.sc_core.specs.Memory.{Block, Blocks, bind, is_live, live_cells, cell_of, loaded, load, with_cell, store}
 
 -- a list after a write
 pub get_set_same : {A : Type 0} (xs : List A) (i : ℕ) (y x : A) → slice_get xs i ≡ Some x →

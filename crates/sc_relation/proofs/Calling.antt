@@ -1,39 +1,18 @@
 -- A call of a function, from its first instruction to its jump back: what its code begins with, and what is left of it.
-use Rattle.std.proofs.Common.{◌≡◌, ◌≢◌, ℕ, ◌+◌, ◌%◌, ◌<◌, ◌≤◌, false, List, All, length}
-use Rattle.std.proofs.Common.{Option, Some, refl, sym, ◌∙◌, ap, subst, arith, ⊎_elim, inr}
-use Rattle.std.specs.Prelude.{◌⊎◌, slice_get}
-use Rattle.std.proofs.lemmas.Bool.{cases_eq, eq-eqb, ne_eqb}
-use Rattle.std.proofs.lemmas.Option.{slice_get_within, same_Some}
-use Rattle.sc_core.specs.declared.value.Cell.{Cell}
-use Rattle.sc_core.specs.declared.value.Value.{Value}
-use Rattle.sc_core.specs.Calls.{Function, begun, done}
-use Rattle.sc_core.specs.Words.{State as Meant}
-use Rattle.sc_laws.specs.Rooms.{open_room}
-use Rattle.sc_store.specs.Memory.{Memory as Bytes}
-use Rattle.sc_image.specs.Layout.{data_start, stack_top, stack_size}
-use Rattle.sc_image.specs.Walks.{Walks}
-use Rattle.sc_image.specs.WellFormed.{IsWord, IsWellFormed}
-use Rattle.sc_tac.specs.declared.frame.FrameTree.{FrameTree}
-use Rattle.sc_tac.specs.declared.place.Place.{Place}
-use Rattle.sc_tac.specs.Code.{no_temps}
-use Rattle.sc_tac.specs.Frames.{IsFrame, HasRoom}
-use Rattle.sc_tac.specs.Points.{Set}
-use Rattle.sc_select.specs.Pieces.{sp, a0}
-use Rattle.sc_hart.specs.Hart.{Registers, put}
-use Rattle.sc_hart.specs.Words.{word}
-use Rattle.sc_hart.proofs.Steps.{then_go}
-use Rattle.sc_relation.specs.Blocks.{StandsFor, LiveAt, Placed, BlocksMatch}
-use Rattle.sc_relation.specs.Frames.{Activation, IsActivation, FrameMatches}
-use Rattle.sc_relation.specs.Stretches.{Setting, Joint, Standpoint, machine, Settled, Protected, Effect, Leads}
-use Rattle.sc_relation.specs.Following.{seen_from, Ready, Returns}
-use Rattle.sc_relation.specs.Calls.{Begins, IsLeft}
+use Rattle.sc_relation.proofs.Common.{Activation, All, Begins, BlocksMatch, Cell, Effect, FrameMatches, FrameTree}
+use Rattle.sc_relation.proofs.Common.{Function, HasRoom, IsActivation, IsFrame, IsLeft, IsWellFormed, IsWord, Joint}
+use Rattle.sc_relation.proofs.Common.{Leads, List, LiveAt, Memory as Bytes, Option, Place, Placed, Protected, Ready}
+use Rattle.sc_relation.proofs.Common.{Registers, Returns, Set, Setting, Settled, Some, Standpoint, StandsFor}
+use Rattle.sc_relation.proofs.Common.{State as Meant, Value, Walks, a0, ap, arith, begun, cases_eq, data_start, done}
+use Rattle.sc_relation.proofs.Common.{eq-eqb, false, inr, length, machine, ne_eqb, no_temps, open_room, put, refl}
+use Rattle.sc_relation.proofs.Common.{same_Some, seen_from, slice_get, slice_get_within, sp, stack_size, stack_top}
+use Rattle.sc_relation.proofs.Common.{subst, sym, then_go, walks_steady, word, ℕ, ⊎_elim, ◌%◌, ◌+◌, ◌<◌, ◌∙◌, ◌≡◌, ◌≢◌}
+use Rattle.sc_relation.proofs.Common.{◌≤◌, ◌⊎◌}
 use Rattle.sc_relation.proofs.Ending.{lives_on, length_closed, LivesOn, room_begun, room_begun_else, room_done}
 use Rattle.sc_relation.proofs.Ending.{room_done_else, told_closed, told_opened}
 use Rattle.sc_relation.proofs.Held.{held_at_entry}
-use Rattle.sc_relation.proofs.Opening.{Prepared, injection_opened, other_range, lived_before}
-use Rattle.sc_relation.proofs.Opening.{blocks_opened, injection_grows, own_guarded, above_guarded, objects_placed}
-use Rattle.sc_relation.proofs.Opening.{length_opened}
-use Rattle.sc_hart.proofs.Steady.{walks_steady}
+use Rattle.sc_relation.proofs.Opening.{Prepared, injection_opened, other_range, lived_before, blocks_opened}
+use Rattle.sc_relation.proofs.Opening.{injection_grows, own_guarded, above_guarded, objects_placed, length_opened}
 use Rattle.sc_relation.proofs.Coming.{came_by}
 
 -- a call of a function that begins here, with its frame from this address on

@@ -1,6 +1,5 @@
 -- What holds of each of some elements holds of each in a part.
-use Rattle.std.proofs.Common.{List, [], ◌∷◌, ◌++◌, All}
-use Rattle.std.proofs.lemmas.List.Elements.{All-nil, All-cons, All-head, All-tail}
+use Rattle.sc_relation.proofs.Common.{All, All-cons, All-head, All-nil, All-tail, List, [], ◌++◌, ◌∷◌}
 
 module _ {X : Type 0} (P : X → Type 0) where
   pub all_front : (xs ys : List X) → All P (xs ++ ys) → All P xs

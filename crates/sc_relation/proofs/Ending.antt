@@ -1,17 +1,10 @@
 -- A call ends: its blocks no longer live, and the room of its frame is free again.
-use Rattle.std.proofs.Common.{◌≡◌, ◌≢◌, ℕ, zero, suc, ◌+◌, ◌-◌, ◌<◌, ◌≤◌, Bool, true, false, List, [], ◌∷◌, ◌++◌}
-use Rattle.std.proofs.Common.{length}
-use Rattle.std.proofs.Common.{Option, Some, if◌then◌else◌, refl, sym, ◌∙◌, ap, arith, ⊎_elim, inl, inr}
-use Rattle.std.specs.Prelude.{◌⊎◌, ◌==◌, slice_get}
-use Rattle.std.proofs.lemmas.Bool.{cases_eq, eq-eqb, ne_eqb}
-use Rattle.std.proofs.lemmas.Option.{same_Some}
-use Rattle.sc_core.specs.declared.value.Cell.{Cell}
-use Rattle.sc_core.specs.declared.value.Value.{Value}
-use Rattle.sc_core.specs.Calls.{Function, begun, done}
-use Rattle.sc_core.specs.Memory.{Block, Blocks, Memory, with_blocks, ended}
-use Rattle.sc_core.specs.Words.{State as Meant, FrameChange, Opened, Closed}
-use Rattle.sc_laws.specs.Rooms.{room_after, open_room, AllBefore}
-use Rattle.sc_relation.specs.Blocks.{LiveAt}
+use Rattle.sc_relation.proofs.Common.{AllBefore, Block, Blocks, Bool, Cell, Closed, FrameChange, Function, List, LiveAt}
+use Rattle.sc_relation.proofs.Common.{Opened, Option, Some, State as Meant, Value, [], ap, arith, begun, cases_eq, done}
+use Rattle.sc_relation.proofs.Common.{ended, eq-eqb, false, if◌then◌else◌, inl, inr, length, ne_eqb, open_room, refl}
+use Rattle.sc_relation.proofs.Common.{room_after, same_Some, slice_get, suc, sym, true, with_blocks, zero, ℕ, ⊎_elim}
+use Rattle.sc_relation.proofs.Common.{◌++◌, ◌+◌, ◌-◌, ◌<◌, ◌==◌, ◌∙◌, ◌∷◌, ◌≡◌, ◌≢◌, ◌≤◌, ◌⊎◌}
+use Rattle.sc_core.specs.Prelude.{Memory}
 use Rattle.sc_relation.proofs.Access.{LivesIn}
 
 -- a block that lives once some have ended lived before, and is none of these

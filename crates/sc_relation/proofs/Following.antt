@@ -1,18 +1,10 @@
 -- What comes of the parts of a statement: it reads what was assigned, it computes what the meaning computes, or both
 -- sides end; and a call that came back.
-use Rattle.std.proofs.Common.{◌≡◌, ℕ, ◌+◌, true, false, List, All, Option, None, Some}
-use Rattle.std.proofs.Common.{Result, Ok, Err, refl, ap, subst, arith, inl}
-use Rattle.sc_core.specs.declared.cause.Cause.{Cause}
-use Rattle.sc_core.specs.declared.expr.CallTarget.{CallTarget}
-use Rattle.sc_core.specs.declared.value.Value.{Value}
-use Rattle.sc_core.specs.Words.{State as Meant, Here, Piece, Left, and_then, computed}
-use Rattle.sc_tac.specs.Code.{Temps, known, read}
-use Rattle.sc_tac.specs.Places.{IsClear}
-use Rattle.sc_tac.specs.Points.{Lives, plain_points, live_across}
-use Rattle.sc_select.specs.Pieces.{a0}
-use Rattle.sc_relation.specs.Stretches.{Setting, Joint, Standpoint, Leads, GivenBack}
-use Rattle.sc_relation.specs.Following.{Ends, Running, seen_from, Ready, Comes}
-use Rattle.sc_relation.specs.Calls.{ComesBack}
+use Rattle.sc_relation.proofs.Common.{All, CallTarget, Cause, Comes, ComesBack, Ends, Err, GivenBack, Here, IsClear}
+use Rattle.sc_relation.proofs.Common.{Joint, Leads, Left, List, Lives, None, Ok, Option, Piece, Ready, Result, Running}
+use Rattle.sc_relation.proofs.Common.{Setting, Some, Standpoint, State as Meant, Temps, Value, a0, and_then, ap, arith}
+use Rattle.sc_relation.proofs.Common.{computed, false, inl, known, live_across, plain_points, read, refl, seen_from}
+use Rattle.sc_relation.proofs.Common.{subst, true, ℕ, ◌+◌, ◌≡◌}
 use Rattle.sc_relation.proofs.Straight.{live_plain, call_from, leads_from, called}
 use Rattle.sc_relation.proofs.Stretches.{shows_here}
 

@@ -1,16 +1,11 @@
 -- The words that a frame keeps for itself, and its objects: they lie inside it, and no two meet.
-use Rattle.std.proofs.Common.{◌≡◌, ◌≢◌, ℕ, zero, suc, ◌+◌, ◌*◌, ◌<◌, ◌≤◌, List, [], ◌∷◌, ◌++◌, map, length, All}
-use Rattle.std.proofs.Common.{AllPairs, Some}
-use Rattle.std.proofs.Common.{zip, refl, ◌∙◌, ap, ap₂, subst, subst₂, arith, ⊎_elim, inl, inr}
-use Rattle.std.specs.Prelude.{◌⊎◌, slice_get}
-use Rattle.std.proofs.lemmas.Bool.{cases_order}
+use Rattle.sc_relation.proofs.Common.{All, AllPairs, Apart, FrameTree, HasRoom, List, Place, Range, Some, [], ap, ap₂}
+use Rattle.sc_relation.proofs.Common.{arith, cases_order, end_of, get_or_from_slice_get, inl, inr, length, map}
+use Rattle.sc_relation.proofs.Common.{object_range, own_words, ranges_of, refl, same_Some, slice_get, slice_get_within}
+use Rattle.sc_relation.proofs.Common.{subst, subst₂, suc, zero, zip, ℕ, ⊎_elim, ◌*◌, ◌++◌, ◌+◌, ◌<◌, ◌∙◌, ◌∷◌, ◌≡◌, ◌≢◌}
+use Rattle.sc_relation.proofs.Common.{◌≤◌, ◌⊎◌}
+use Rattle.sc_tac.specs.Prelude.{Apart as RangesApart, word_at}
 use Rattle.std.proofs.lemmas.List.{length-map}
-use Rattle.std.proofs.lemmas.Option.{slice_get_within, get_or_from_slice_get, same_Some}
-use Rattle.sc_tac.specs.declared.frame.FrameTree.{FrameTree}
-use Rattle.sc_tac.specs.declared.place.Place.{Place}
-use Rattle.sc_tac.specs.Frames.{Range, end_of, word_at, object_range, ranges_of, HasRoom, Apart as RangesApart}
-use Rattle.sc_hart.specs.Words.{Apart}
-use Rattle.sc_relation.specs.Frames.{own_words}
 
 pub each_at : {X : Type 0} (P : X → Type 0) (xs : List X) (i : ℕ) (x : X) → All P xs → slice_get xs i ≡ Some x → P x
 each_at P xs i x all e = subst P (get_or_from_slice_get xs i x x e) (all i x (slice_get_within xs i x e))

@@ -1,28 +1,13 @@
 -- What comes of a call of a function, from what comes of its body; and of one whose frame goes below the stack.
-use Rattle.std.proofs.Common.{◌≡◌, ℕ, ◌+◌, ◌<◌, ◌≤◌, List, All, length, Option, Some, sym, ◌∙◌, ap}
-use Rattle.std.proofs.Common.{subst, arith, ⊎_elim, inl, inr}
-use Rattle.std.specs.Prelude.{◌⊎◌, slice_get}
+use Rattle.sc_relation.proofs.Common.{All, Begins, FrameTree, Function, FunctionGives, Grown, HasRoom, IsFrame}
+use Rattle.sc_relation.proofs.Common.{IsWellFormed, IsWord, Joint, List, Memory as Bytes, Option, Overflows, Piece}
+use Rattle.sc_relation.proofs.Common.{Place, Reached, Registers, Returns, Running, Setting, Shows, Some, Standpoint}
+use Rattle.sc_relation.proofs.Common.{State as Meant, Stopped, Traps, Value, Walks, and_then, ap, arith, begun}
+use Rattle.sc_relation.proofs.Common.{data_start, done, done_goes, inl, inr, last, length, machine, more, open_room}
+use Rattle.sc_relation.proofs.Common.{reached, seen_from, slice_get, stack_size, step, subst, sym, then_from, then_go}
+use Rattle.sc_relation.proofs.Common.{ℕ, ⊎_elim, ◌+◌, ◌<◌, ◌∙◌, ◌≡◌, ◌≤◌, ◌⊎◌}
+use Rattle.sc_image.specs.Prelude.{State}
 use Rattle.sc_base.specs.declared.stop.TrapReason.TheVariants.{Owner}
-use Rattle.sc_core.specs.declared.value.Value.{Value}
-use Rattle.sc_core.specs.Calls.{Function, begun, done}
-use Rattle.sc_core.specs.Words.{State as Meant, Piece, Reached, Stopped, and_then}
-use Rattle.sc_laws.specs.Growth.{Grown, last}
-use Rattle.sc_laws.specs.Rooms.{open_room}
-use Rattle.sc_laws.proofs.Growing.{reached, done_goes, more, then_from}
-use Rattle.sc_store.specs.Memory.{Memory as Bytes}
-use Rattle.sc_image.specs.Layout.{data_start, stack_size}
-use Rattle.sc_image.specs.State.{State}
-use Rattle.sc_image.specs.Step.{Traps, step}
-use Rattle.sc_image.specs.Walks.{Walks}
-use Rattle.sc_image.specs.WellFormed.{IsWord, IsWellFormed}
-use Rattle.sc_tac.specs.declared.frame.FrameTree.{FrameTree}
-use Rattle.sc_tac.specs.declared.place.Place.{Place}
-use Rattle.sc_tac.specs.Frames.{IsFrame, HasRoom}
-use Rattle.sc_hart.specs.Hart.{Registers}
-use Rattle.sc_hart.proofs.Steps.{then_go}
-use Rattle.sc_relation.specs.Stretches.{Setting, Joint, Standpoint, machine, Shows, Overflows}
-use Rattle.sc_relation.specs.Following.{Running, seen_from, Returns}
-use Rattle.sc_relation.specs.Calls.{Begins, FunctionGives}
 use Rattle.sc_relation.proofs.Ending.{told_opened}
 use Rattle.sc_relation.proofs.Calling.{activated, entered, Enters, is_left, too_deep}
 

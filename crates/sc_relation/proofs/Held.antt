@@ -1,26 +1,11 @@
 -- The frame of the running call and the values in its places, across what code does.
-use Rattle.std.proofs.Common.{◌≡◌, ◌≢◌, ℕ, suc, ◌+◌, true, List, Option, Some}
-use Rattle.std.proofs.Common.{refl, sym, ◌∙◌, ap, subst, arith, ⊎_elim}
-use Rattle.std.specs.Prelude.{slice_get}
-use Rattle.std.proofs.lemmas.Bool.{cases_eq, eq-eqb, ne_eqb}
-use Rattle.std.proofs.lemmas.Option.{same_Some}
-use Rattle.sc_core.specs.declared.value.Value.{Value}
-use Rattle.sc_core.specs.declared.value.Value.TheVariants.{Word, Null, Ptr}
-use Rattle.sc_core.specs.Memory.{Memory}
-use Rattle.sc_store.specs.Memory.{Memory as Bytes}
-use Rattle.sc_image.specs.declared.parts.ImageParts.{ImageParts}
-use Rattle.sc_tac.specs.declared.place.Place.{Place}
-use Rattle.sc_tac.specs.declared.place.Place.TheVariants.{Register, Slot}
-use Rattle.sc_tac.specs.Code.{Temps, no_temps, with_temp}
-use Rattle.sc_tac.specs.Frames.{HasRoom}
-use Rattle.sc_tac.specs.Places.{IsClear, InSlot}
-use Rattle.sc_tac.specs.Points.{Set, Point}
-use Rattle.sc_select.specs.Pieces.{register_of}
-use Rattle.sc_hart.specs.Hart.{Registers}
-use Rattle.sc_hart.specs.Words.{word, put_word, Apart}
-use Rattle.sc_hart.proofs.Words.{word_apart, apart_from}
-use Rattle.sc_relation.specs.Blocks.{Injection, Means, StandsFor, Guarded}
-use Rattle.sc_relation.specs.Frames.{Activation, own_words, FrameMatches, InPlace, IsHeld, AreHeld}
+use Rattle.sc_relation.proofs.Common.{Activation, Apart, AreHeld, FrameMatches, Guarded, HasRoom, ImageParts, InPlace}
+use Rattle.sc_relation.proofs.Common.{InSlot, Injection, IsClear, IsHeld, List, Means, Memory as Bytes, Null, Option}
+use Rattle.sc_relation.proofs.Common.{Place, Point, Ptr, Register, Registers, Set, Slot, Some, StandsFor, Temps, Value}
+use Rattle.sc_relation.proofs.Common.{Word, ap, apart_from, arith, cases_eq, eq-eqb, ne_eqb, no_temps, own_words}
+use Rattle.sc_relation.proofs.Common.{put_word, refl, register_of, same_Some, slice_get, subst, suc, sym, true}
+use Rattle.sc_relation.proofs.Common.{with_temp, word, word_apart, ℕ, ⊎_elim, ◌+◌, ◌∙◌, ◌≡◌, ◌≢◌}
+use Rattle.sc_core.specs.Prelude.{Memory}
 use Rattle.sc_relation.proofs.Frames.{own_apart}
 use Rattle.sc_relation.proofs.Registers.{HasNoOtherUse, no_other_use, register_same}
 

@@ -1,25 +1,11 @@
 -- Jumps inside the code of a function: over lines, and back.
-use Rattle.std.proofs.Common.{◌≡◌, ℕ, zero, suc, ◌+◌, ◌-◌, ◌*◌, ◌%◌, ◌^◌, ◌<◌, ◌≤◌, ℤ, pos, [], ◌∷◌}
-use Rattle.std.proofs.Common.{Some, refl, ◌∙◌, ap, arith, inl}
-use Rattle.std.proofs.Common.{IsSome, All}
-use Rattle.std.specs.Prelude.{neg_ℤ, is_some}
-use Rattle.rv_code.specs.declared.instr.Instr.TheVariants.{Jal}
-use Rattle.sc_core.specs.Words.{Break, Continue, leave}
-use Rattle.sc_laws.proofs.Growing.{stays}
-use Rattle.sc_word.specs.Prelude.{word_of, add_word}
-use Rattle.sc_image.specs.Layout.{word_at}
-use Rattle.sc_image.specs.WellFormed.{IsWord, IsWellFormed}
-use Rattle.sc_hart.specs.Code.{Fetches}
-use Rattle.sc_hart.proofs.Inside.{IsInside, code_inside}
-use Rattle.sc_hart.proofs.Steady.{walks_steady}
+use Rattle.sc_relation.proofs.Common.{All, Arrives, Break, Continue, Fetches, Follows, IsInside, IsSome, IsWellFormed}
+use Rattle.sc_relation.proofs.Common.{IsWord, Jal, Joint, Leads, Ready, Running, Set, Setting, Some, Standpoint, Temps}
+use Rattle.sc_relation.proofs.Common.{[], add_word, ap, arith, code_inside, inl, is_some, jal, jump_over, leave}
+use Rattle.sc_relation.proofs.Common.{machine, neg_ℤ, pos, refl, seen_from, stays, suc, trail_step, walks_steady}
+use Rattle.sc_relation.proofs.Common.{word_at, word_of, zero, ℕ, ℤ, ◌%◌, ◌*◌, ◌+◌, ◌-◌, ◌<◌, ◌^◌, ◌∙◌, ◌∷◌, ◌≡◌, ◌≤◌}
 use Rattle.sc_relation.proofs.Coming.{came_by}
-use Rattle.sc_hart.proofs.Steps.{jal}
 use Rattle.sc_tac.specs.declared.stmt.TacStmt.TheOpen as tac
-use Rattle.sc_tac.specs.Code.{Temps}
-use Rattle.sc_tac.specs.Points.{Set, trail_step}
-use Rattle.sc_select.specs.Selection.{jump_over}
-use Rattle.sc_relation.specs.Stretches.{Setting, Joint, Standpoint, machine, Leads}
-use Rattle.sc_relation.specs.Following.{Running, seen_from, Ready, Arrives, Follows}
 use Rattle.sc_relation.proofs.Stretches.{effect_still, arrives_with}
 
 -- minus so many bytes, as a word

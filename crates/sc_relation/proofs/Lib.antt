@@ -1,3 +1,4 @@
+pub mod Common
 pub mod Access
 pub mod Calling
 pub mod Clear

@@ -1,12 +1,8 @@
 -- Lines that the linker completed, in parts.
-use Rattle.std.proofs.Common.{◌≡◌, ℕ, suc, ◌+◌, ◌*◌, List, [], ◌∷◌, ◌++◌, length, Option, None, refl, ◌∙◌, ap}
-use Rattle.std.proofs.Common.{subst, arith}
-use Rattle.rv_code.specs.declared.instr.Instr.{Instr}
-use Rattle.sc_image.specs.declared.parts.ImageParts.{ImageParts}
-use Rattle.sc_select.specs.Lines.{Line, plainly}
-use Rattle.sc_hart.specs.Code.{CodeAt}
+use Rattle.sc_relation.proofs.Common.{Addresses, CodeAt, ImageParts, Instr, Line, List, None, Option, [], ap, arith}
+use Rattle.sc_relation.proofs.Common.{completed, length, low_after, low_behind, plainly, refl, subst, suc, with_low}
+use Rattle.sc_relation.proofs.Common.{with_target, ℕ, ◌*◌, ◌++◌, ◌+◌, ◌∙◌, ◌∷◌, ◌≡◌}
 use Rattle.sc_hart.proofs.Fetching.{front_at, back_at}
-use Rattle.sc_select.specs.Linking.{Addresses, with_low, with_target, low_behind, completed, low_after}
 
 module _ (addresses : Addresses) where
   pub completed_length : (pc : ℕ) (low : Option ℕ) (lines : List Line) → length (completed addresses pc low lines) ≡

@@ -1,13 +1,10 @@
 -- Code as the linker completes it by its relocations is what it completes line by line.
-use Rattle.std.proofs.Common.{◌≡◌, ℕ, suc, ◌+◌, ◌<◌, List, [], ◌∷◌, ◌++◌, map, Option, None, Some, refl}
-use Rattle.std.proofs.Common.{◌∙◌, ap, ap₂, arith}
-use Rattle.std.proofs.lemmas.Bool.{eq-eqb, ne_eqb}
-use Rattle.rv_code.specs.declared.instr.Instr.{Instr}
+use Rattle.sc_relation.proofs.Common.{Addresses, Instr, Line, List, None, Option, Some, [], ap, ap₂, arith}
+use Rattle.sc_relation.proofs.Common.{code_of_lines, completed, eq-eqb, linked, linked_from, low_behind, map, ne_eqb}
+use Rattle.sc_relation.proofs.Common.{refl, relocation_of, relocations_behind, relocations_from, suc, target_at}
+use Rattle.sc_relation.proofs.Common.{with_low, with_target, ℕ, ◌++◌, ◌+◌, ◌<◌, ◌∙◌, ◌∷◌, ◌≡◌}
 use Rattle.sc_tac.specs.declared.machine_code.Relocation.{Relocation}
 use Rattle.sc_tac.specs.declared.machine_code.Target.{Target}
-use Rattle.sc_select.specs.Lines.{Line, relocation_of, relocations_from, code_of_lines}
-use Rattle.sc_select.specs.Linking.{Addresses, with_low, with_target, low_behind, completed, target_at}
-use Rattle.sc_select.specs.Linking.{relocations_behind, linked_from, linked}
 
 module _ (A : Addresses) where
   -- no later line refers to something at an earlier number

@@ -1,42 +1,26 @@
 -- Loops.
-use Rattle.std.proofs.Common.{◌≡◌, ℕ, zero, suc, ◌+◌, ◌*◌, ◌≤◌, Bool, true, false, pos, List, [], ◌∷◌, ◌++◌, length}
-use Rattle.std.proofs.Common.{None, refl, sym, ◌∙◌, ap, subst, arith, inl, inr, ⊎_elim, All}
-use Rattle.std.specs.Prelude.{neg_ℤ}
-use Rattle.std.proofs.lemmas.List.{length-append}
-use Rattle.std.proofs.lemmas.List.Elements.{All-tail}
-use Rattle.rv_code.specs.declared.instr.Instr.TheVariants.{Jal, OpImm}
+use Rattle.sc_relation.proofs.Common.{All, All-tail, Arrives, Bool, Break, Came, Codes, Comes, Continue, Does, Ends}
+use Rattle.sc_relation.proofs.Common.{Exit, ExitGives, Fetches, Follows, Gives, Goes, IsClear, IsSteady, IsWellFormed}
+use Rattle.sc_relation.proofs.Common.{IsWord, Jal, Joint, Leads, Left, Line, List, Lives, Next, None, Overflows, Piece}
+use Rattle.sc_relation.proofs.Common.{Point, Reached, Ready, Return, Running, Set, Setting, Settled, Standpoint}
+use Rattle.sc_relation.proofs.Common.{StandsAt, Starts, Stopped, Temps, Trail, Walks, [], add_word, ahead_at, and_then}
+use Rattle.sc_relation.proofs.Common.{ap, arith, code_inside, cycle, ends_of, false, follow, follow_goes, in_body}
+use Rattle.sc_relation.proofs.Common.{in_head, in_loop, in_next, inl, inr, jump_back, length, length-append}
+use Rattle.sc_relation.proofs.Common.{live_at_start, live_before, loop, loop_points, low_after, machine, neg_ℤ, no_turn}
+use Rattle.sc_relation.proofs.Common.{op_imm, part_ahead, point, pos, readings, refl, rounds, row, row_first}
+use Rattle.sc_relation.proofs.Common.{row_points, seen_from, stays, subst, suc, sym, take, then_from, then_goes}
+use Rattle.sc_relation.proofs.Common.{trail_step, true, turn, turn_goes, turn_of, walks_steady, word_of, zero, ℕ}
+use Rattle.sc_relation.proofs.Common.{⊎_elim, ◌*◌, ◌++◌, ◌+◌, ◌∙◌, ◌∷◌, ◌≡◌, ◌≤◌}
+use Rattle.sc_select.specs.Prelude.{Piece as Code}
+use Rattle.rv_code.specs.declared.instr.Instr.TheVariants.{OpImm}
 use Rattle.rv_code.specs.declared.instr.OpImmOp.TheVariants.{Addi}
-use Rattle.sc_word.specs.Prelude.{word_of, add_word}
-use Rattle.sc_core.specs.Words.{Piece, Reached, Stopped, Exit, Next, Break, Continue, Return, Left, Does}
-use Rattle.sc_core.specs.Words.{and_then, follow, in_loop, take, turn, turn_of, rounds, loop}
-use Rattle.sc_laws.specs.Growth.{Goes}
-use Rattle.sc_laws.proofs.Growing.{stays, no_turn, follow_goes, then_goes, turn_goes, then_from}
-use Rattle.sc_image.specs.WellFormed.{IsWord, IsWellFormed}
-use Rattle.sc_image.specs.Steady.{IsSteady}
-use Rattle.sc_image.specs.Walks.{Walks}
-use Rattle.sc_hart.specs.Code.{Fetches}
-use Rattle.sc_hart.proofs.Inside.{code_inside}
-use Rattle.sc_hart.proofs.Steady.{walks_steady}
 use Rattle.sc_relation.proofs.Coming.{came_by}
-use Rattle.sc_hart.proofs.Steps.{op_imm}
 use Rattle.sc_tac.specs.declared.stmt.TacStmt.TheOpen as tac
-use Rattle.sc_tac.specs.Code.{Temps, Codes}
-use Rattle.sc_tac.specs.Flow.{row_first, part_ahead}
-use Rattle.sc_tac.specs.Places.{IsClear}
-use Rattle.sc_tac.specs.Points.{Point, Set, Lives, Trail, ahead_at, readings, live_before, row_points, point}
-use Rattle.sc_tac.specs.Points.{live_at_start, in_next, in_body, in_head, loop_points, trail_step}
-use Rattle.sc_select.specs.Lines.{Line}
-use Rattle.sc_select.specs.Selection.{Piece as Code, cycle, jump_back}
-use Rattle.sc_select.specs.Linking.{low_after}
-use Rattle.sc_relation.specs.Stretches.{Setting, Joint, Standpoint, Came, machine, Settled, Leads, Overflows}
-use Rattle.sc_relation.specs.Following.{Running, Ends, ends_of, seen_from, row, Ready, Arrives}
-use Rattle.sc_relation.specs.Following.{ExitGives, Gives, Comes, StandsAt, Starts, Follows}
 use Rattle.sc_relation.proofs.Clear.{all_front, all_back}
 use Rattle.sc_relation.proofs.Jumps.{back_to, jumps}
 use Rattle.sc_relation.proofs.Lines.{InParts, in_parts, low_append}
 use Rattle.sc_relation.proofs.Stretches.{effect_still, leads_then, leads_then_steps, shows_here, shows_after}
-use Rattle.sc_relation.proofs.Stretches.{overflows_with}
-use Rattle.sc_relation.proofs.Stretches.{comes_after, arrives_with}
+use Rattle.sc_relation.proofs.Stretches.{overflows_with, comes_after, arrives_with}
 
 -- a second round adds nothing, whatever the round is
 twice_by : (f : Bool → Bool) (b : Bool) → f false ≡ b → f b ≡ true → b ≡ true

@@ -1,32 +1,17 @@
 -- A call begins: its blocks, their places in its frame, and how the bytes stand for all blocks then.
-use Rattle.std.proofs.Common.{◌≡◌, ◌≢◌, ℕ, zero, suc, ◌+◌, ◌-◌, ◌*◌, ◌%◌, ◌<◌, ◌≤◌, Bool, true, false, List, []}
-use Rattle.std.proofs.Common.{◌∷◌, ◌++◌}
-use Rattle.std.proofs.Common.{length, replicate, Option, None, Some, nat_eq, nat_le, if◌then◌else◌, refl, sym, ◌∙◌, ap}
-use Rattle.std.proofs.Common.{subst, arith, ⊎_elim, inl, inr, length-append}
-use Rattle.std.specs.Prelude.{◌⊎◌, ◌&&◌, slice_get}
+use Rattle.sc_relation.proofs.Common.{Block, BlocksMatch, Bool, Cell, FrameTree, Guarded, HasRoom, ImageParts, InCell}
+use Rattle.sc_relation.proofs.Common.{Injection, IsFrame, IsWellFormed, List, LiveAt, Memory as Bytes, None, Option}
+use Rattle.sc_relation.proofs.Common.{Owned, Place, Placed, Some, StandsFor, Value, [], ap, arith, blocks_for, cases_eq}
+use Rattle.sc_relation.proofs.Common.{cases_lt, cases_order, cell_of, data_start, eq-eqb, false, few_globals}
+use Rattle.sc_relation.proofs.Common.{if◌then◌else◌, inl, inr, le-leb, length, length-append, lt-leb, nat_eq, nat_le}
+use Rattle.sc_relation.proofs.Common.{ne_eqb, own_words, put, refl, replicate, same_Some, slice_get, slice_get_within}
+use Rattle.sc_relation.proofs.Common.{stack_top, subst, suc, sym, true, with_blocks, word, zero, ℕ, ⊎_elim, ◌%◌, ◌&&◌}
+use Rattle.sc_relation.proofs.Common.{◌*◌, ◌++◌, ◌+◌, ◌-◌, ◌<◌, ◌∙◌, ◌∷◌, ◌≡◌, ◌≢◌, ◌≤◌, ◌⊎◌}
+use Rattle.sc_core.specs.Prelude.{Memory}
 use Rattle.std.specs.Option.{option_map}
-use Rattle.std.proofs.lemmas.Bool.{cases_eq, cases_lt, cases_order, eq-eqb, ne_eqb, le-leb, lt-leb}
-use Rattle.std.proofs.lemmas.Option.{slice_get_within, same_Some}
-use Rattle.sc_core.specs.declared.value.Cell.{Cell}
 use Rattle.sc_core.specs.declared.value.Cell.TheVariants as cell
-use Rattle.sc_core.specs.declared.value.Value.{Value}
-use Rattle.sc_core.specs.Memory.{Block, Memory, with_blocks, cell_of}
-use Rattle.sc_core.specs.Calls.{blocks_for}
-use Rattle.sc_store.specs.Memory.{Memory as Bytes}
-use Rattle.sc_image.specs.declared.parts.ImageParts.{ImageParts}
-use Rattle.sc_image.specs.Layout.{data_start, stack_top}
-use Rattle.sc_image.specs.WellFormed.{IsWellFormed}
-use Rattle.sc_image.proofs.Bytes.{few_globals}
-use Rattle.sc_tac.specs.declared.frame.FrameTree.{FrameTree}
-use Rattle.sc_tac.specs.declared.place.Place.{Place}
-use Rattle.sc_tac.specs.Frames.{IsFrame, HasRoom}
-use Rattle.sc_hart.specs.Hart.{put}
-use Rattle.sc_hart.specs.Words.{word, Owned}
-use Rattle.sc_relation.specs.Blocks.{Injection, StandsFor, InCell, LiveAt, Placed, BlocksMatch, Guarded}
-use Rattle.sc_relation.specs.Frames.{own_words}
 use Rattle.sc_relation.proofs.Frames.{each_at, get_front, get_back, own_inside, object_there, object_inside}
-use Rattle.sc_relation.proofs.Frames.{objects_apart}
-use Rattle.sc_relation.proofs.Frames.{own_beside}
+use Rattle.sc_relation.proofs.Frames.{objects_apart, own_beside}
 use Rattle.sc_relation.proofs.Held.{Grows, stands_more}
 use Rattle.sc_relation.proofs.Storing.{in_cell, block_owned}
 

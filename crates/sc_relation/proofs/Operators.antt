@@ -1,41 +1,26 @@
 -- The word that an operator's code computes stands for the operator's value.
-use Rattle.std.proofs.Common.{◌≡◌, ◌≢◌, ℕ, ◌+◌, ◌*◌, ◌^◌, ◌<◌, ◌≤◌, ℤ, pos, ◌+ℤ◌, ◌-ℤ◌, ◌*ℤ◌, neg_ℤ, int_div, int_rem}
-use Rattle.std.proofs.Common.{◌-◌, Bool, true, false, not, ◌&&◌, ◌==◌, nat_lt, List, length, Option, Some, Result, Ok}
-use Rattle.std.proofs.Common.{Err}
-use Rattle.std.proofs.Common.{if◌then◌else◌, refl, sym, ◌∙◌, ap, ap₂, subst, arith, ⊎_elim, eqb-true, true≢false}
-use Rattle.std.proofs.lemmas.Bool.{eq-eqb, ne_eqb}
-use Rattle.std.proofs.lemmas.Option.{same_Some}
+use Rattle.sc_relation.proofs.Common.{BadPointer, BadType, BlocksMatch, Bool, Cause, Cell, Err, ImageParts, Injection}
+use Rattle.sc_relation.proofs.Common.{IsAddress, IsElement, IsSound, IsWellFormed, List, LiveAt, Means, Memory as Bytes}
+use Rattle.sc_relation.proofs.Common.{Null, Ok, Option, Pointer, Ptr, Result, Some, StandsFor, Value, Word, add_word}
+use Rattle.sc_relation.proofs.Common.{ap, apart, applied_one, ap₂, arith, between, bind, bytes_of, data_end, div_word}
+use Rattle.sc_relation.proofs.Common.{eq-eqb, eqb-true, false, few_globals, if◌then◌else◌, in_elements, int_div}
+use Rattle.sc_relation.proofs.Common.{int_rem, is_comparison, is_inside, is_pointer, is_unsigned, is_zero, length}
+use Rattle.sc_relation.proofs.Common.{moved, moved_back, moved_on, nat_lt, ne_eqb, neg_ℤ, negated_word, not, number_of}
+use Rattle.sc_relation.proofs.Common.{of_bool, on_all_words, on_words, operated, ordered, pos, refl, same_Some}
+use Rattle.sc_relation.proofs.Common.{same_place, sub_word, subst, sym, takes_two, true, true≢false, truth, word_of}
+use Rattle.sc_relation.proofs.Common.{wrapping, ℕ, ℤ, ⊎_elim, ◌&&◌, ◌*ℤ◌, ◌*◌, ◌+ℤ◌, ◌+◌, ◌-ℤ◌, ◌-◌, ◌<◌, ◌==◌, ◌^◌}
+use Rattle.sc_relation.proofs.Common.{◌∙◌, ◌≡◌, ◌≢◌, ◌≤◌}
+use Rattle.sc_core.specs.Prelude.{Memory}
 use Rattle.sc_base.specs.declared.op.UnaryOp.{UnaryOp}
 use Rattle.sc_base.specs.declared.op.UnaryOp.TheVariants as unary
 use Rattle.sc_base.specs.declared.op.BinaryOp.{BinaryOp}
 use Rattle.sc_base.specs.declared.op.BinaryOp.TheVariants as op
-use Rattle.sc_word.specs.Prelude.{word_of, add_word, sub_word, div_word}
-use Rattle.sc_core.specs.declared.cause.Cause.{Cause}
-use Rattle.sc_core.specs.declared.cause.Cause.TheVariants.{BadPointer, BadType}
-use Rattle.sc_core.specs.declared.value.Cell.{Cell}
-use Rattle.sc_core.specs.declared.value.Pointer.{Pointer}
-use Rattle.sc_core.specs.declared.value.Value.{Value}
-use Rattle.sc_core.specs.declared.value.Value.TheVariants.{Word, Null, Ptr}
-use Rattle.sc_core.specs.Memory.{Memory, bind}
-use Rattle.sc_core.specs.Value.{wrapping, truth, on_all_words, negated_word, number_of, moved, moved_on, moved_back}
-use Rattle.sc_core.specs.Value.{apart, is_zero, in_elements, ordered}
-use Rattle.sc_core.specs.Value.{is_inside, same_place, of_bool, applied_one, on_words, between}
-use Rattle.sc_store.specs.Memory.{Memory as Bytes}
-use Rattle.sc_image.specs.declared.parts.ImageParts.{ImageParts}
-use Rattle.sc_image.specs.WellFormed.{IsWellFormed}
-use Rattle.sc_image.proofs.Bytes.{few_globals}
-use Rattle.sc_hart.specs.Words.{data_end}
-use Rattle.sc_tac.specs.Code.{is_unsigned, is_pointer, is_comparison, operated}
-use Rattle.sc_tac.specs.Functions.{takes_two}
 use Rattle.sc_tac.specs.declared.stmt.TacOp.{TacOp}
 use Rattle.sc_tac.specs.declared.stmt.TacOp.TheVariants as tacop
-use Rattle.sc_select.specs.Operators.{bytes_of}
 use Rattle.sc_pieces.specs.Operators.{unary_word, stepped_word, op_word}
 use Rattle.sc_pieces.proofs.Addresses.{elements_on, elements_back, member_on, elements_between, order_of, order_back}
 use Rattle.sc_pieces.proofs.Addresses.{same_of}
 use Rattle.sc_pieces.proofs.Below.{op_below}
-use Rattle.sc_relation.specs.Blocks.{Injection, IsAddress, Means, StandsFor, LiveAt, BlocksMatch}
-use Rattle.sc_relation.specs.Operators.{IsElement, IsSound}
 use Rattle.sc_relation.proofs.Pointers.{moved_found, between_found, Apart, apart_found, bound}
 
 -- the data of a compartment end below 2 ^ 31

@@ -1,16 +1,9 @@
 -- What operators on pointers have found, where they gave a value.
-use Rattle.std.proofs.Common.{◌≡◌, ℕ, ◌<◌, ◌≤◌, ℤ, pos, negsuc, ◌+ℤ◌, ◌-ℤ◌, Bool, true, false, ◌&&◌, ◌==◌, nat_le}
-use Rattle.std.proofs.Common.{nat_lt, List, length, Option, None, Some, Result, Ok, Err, if◌then◌else◌, refl}
-use Rattle.std.proofs.Common.{subst, leb-true, ltb-true, eqb-true}
-use Rattle.std.specs.Prelude.{slice_get}
-use Rattle.sc_core.specs.declared.cause.Cause.{Cause}
-use Rattle.sc_core.specs.declared.cause.Cause.TheVariants.{OutOfBounds, BadPointer, Dangling}
-use Rattle.sc_core.specs.declared.value.Cell.{Cell}
-use Rattle.sc_core.specs.declared.value.Pointer.{Pointer}
-use Rattle.sc_core.specs.declared.value.Value.{Value}
-use Rattle.sc_core.specs.declared.value.Value.TheVariants.{Word, Null, Ptr}
-use Rattle.sc_core.specs.Memory.{Block, Blocks, bind, live_cells, cells_at}
-use Rattle.sc_core.specs.Value.{place_at, moved, apart, is_inside}
+use Rattle.sc_relation.proofs.Common.{BadPointer, Block, Blocks, Bool, Cause, Cell, Dangling, Err, List, None, Null, Ok}
+use Rattle.sc_relation.proofs.Common.{Option, OutOfBounds, Pointer, Ptr, Result, Some, Value, Word, apart, bind}
+use Rattle.sc_relation.proofs.Common.{cells_at, eqb-true, false, if◌then◌else◌, is_inside, leb-true, length, live_cells}
+use Rattle.sc_relation.proofs.Common.{ltb-true, moved, nat_le, nat_lt, negsuc, place_at, pos, refl, slice_get, subst}
+use Rattle.sc_relation.proofs.Common.{true, ℕ, ℤ, ◌&&◌, ◌+ℤ◌, ◌-ℤ◌, ◌<◌, ◌==◌, ◌≡◌, ◌≤◌}
 use Rattle.sc_relation.proofs.Access.{LivesIn, alive}
 
 -- what is bound gave a result

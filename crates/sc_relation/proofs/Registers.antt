@@ -1,8 +1,7 @@
 -- The registers of temporaries: each is one register, and none that pieces of code compute in, or that has another use.
-use Rattle.std.proofs.Common.{◌≡◌, ◌≢◌, ℕ, ◌+◌, ◌<◌, ◌≤◌, refl, arith, ⊎_elim, inl, inr}
-use Rattle.std.specs.Prelude.{◌⊎◌}
-use Rattle.std.proofs.lemmas.Bool.{cases_lt, lt-ltb, le-ltb}
-use Rattle.sc_select.specs.Pieces.{ra, sp, first_scratch, second_scratch, address_scratch, a0, a7, register_of}
+use Rattle.sc_relation.proofs.Common.{a0, a7, address_scratch, arith, cases_lt, first_scratch, inl, inr, le-ltb, lt-ltb}
+use Rattle.sc_relation.proofs.Common.{ra, refl, register_of, second_scratch, sp, ℕ, ⊎_elim, ◌+◌, ◌<◌, ◌≡◌, ◌≢◌, ◌≤◌}
+use Rattle.sc_relation.proofs.Common.{◌⊎◌}
 
 -- a register with no other use: not x0, ra, sp, a scratch register or one of an argument
 pub record HasNoOtherUse (q : ℕ) : Type 0 where

@@ -1,19 +1,12 @@
 -- Statements in order.
-use Rattle.std.proofs.Common.{◌≡◌, ℕ, ◌+◌, ◌*◌, List, [], ◌∷◌, length, None, refl, sym, ◌∙◌, ap}
-use Rattle.std.proofs.Common.{ap₂, subst, arith, inl, inr, ⊎_elim}
-use Rattle.std.proofs.lemmas.List.{length-append}
-use Rattle.sc_core.specs.Words.{State as Meant, Piece, Reached, Stopped, Exit, Next, Break, Continue, Return, Left}
-use Rattle.sc_core.specs.Words.{all_do, follow, in_order as in_turn, take}
-use Rattle.sc_laws.specs.Growth.{Goes}
-use Rattle.sc_laws.proofs.Growing.{stays, follow_goes, then_from}
-use Rattle.sc_tac.specs.Code.{Temps, Codes}
-use Rattle.sc_tac.specs.Places.{IsClear}
-use Rattle.sc_tac.specs.Points.{Lives, Trail, live_before, row_points}
-use Rattle.sc_select.specs.Selection.{Piece as Code, nothing, followed}
-use Rattle.sc_select.specs.Linking.{low_after}
-use Rattle.sc_relation.specs.Stretches.{Setting, Joint, Overflows}
-use Rattle.sc_relation.specs.Following.{Running, Ends, ends_of, seen_from, row, Ready}
-use Rattle.sc_relation.specs.Following.{ExitGives, Gives, Comes, StandsAt, Starts, Follows}
+use Rattle.sc_relation.proofs.Common.{Break, Codes, Comes, Continue, Ends, Exit, ExitGives, Follows, Gives, Goes}
+use Rattle.sc_relation.proofs.Common.{IsClear, Joint, Left, List, Lives, Next, None, Overflows, Piece, Reached, Ready}
+use Rattle.sc_relation.proofs.Common.{Return, Running, Setting, StandsAt, Starts, State as Meant, Stopped, Temps, Trail}
+use Rattle.sc_relation.proofs.Common.{[], all_do, ap, ap₂, arith, ends_of, follow, follow_goes, followed}
+use Rattle.sc_relation.proofs.Common.{in_order as in_turn, inl, inr, length, length-append, live_before, low_after}
+use Rattle.sc_relation.proofs.Common.{nothing, refl, row, row_points, seen_from, stays, subst, sym, take, then_from, ℕ}
+use Rattle.sc_relation.proofs.Common.{⊎_elim, ◌*◌, ◌+◌, ◌∙◌, ◌∷◌, ◌≡◌}
+use Rattle.sc_select.specs.Prelude.{Piece as Code}
 use Rattle.sc_relation.proofs.Clear.{all_front, all_back}
 use Rattle.sc_relation.proofs.Lines.{InParts, in_parts, low_append}
 use Rattle.sc_relation.proofs.Stretches.{leads_none, shows_less, overflows_with, comes_after, arrives_with}

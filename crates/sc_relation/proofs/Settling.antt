@@ -1,26 +1,10 @@
 -- Both sides stay settled while code of the running call changes registers and words of its frame, and across a store
 -- through a pointer; and what such a stretch leaves alone.
-use Rattle.std.proofs.Common.{◌≡◌, ℕ, ◌+◌, ◌*◌, ◌≤◌, false, List, All, Some, Ok}
-use Rattle.std.proofs.Common.{refl, arith, ⊎_elim, inr}
-use Rattle.std.specs.Prelude.{slice_get}
-use Rattle.std.proofs.lemmas.Bool.{cases_eq}
-use Rattle.sc_core.specs.declared.value.Pointer.{Pointer}
-use Rattle.sc_core.specs.declared.value.Value.{Value}
-use Rattle.sc_core.specs.declared.value.Value.TheVariants.{Ptr}
-use Rattle.sc_core.specs.Memory.{Blocks, store}
-use Rattle.sc_core.specs.Words.{with_memory}
-use Rattle.sc_store.specs.Memory.{Memory as Bytes}
-use Rattle.sc_image.specs.Walks.{Walks}
-use Rattle.sc_image.specs.WellFormed.{IsWord, IsWellFormed}
-use Rattle.sc_tac.specs.declared.place.Place.{Place}
-use Rattle.sc_hart.proofs.Steady.{walks_steady}
-use Rattle.sc_hart.specs.Hart.{Registers}
-use Rattle.sc_hart.specs.Words.{word, put_word, Apart}
-use Rattle.sc_hart.proofs.Words.{word_apart}
-use Rattle.sc_relation.specs.Blocks.{StandsFor}
-use Rattle.sc_relation.specs.Frames.{Activation, own_words, IsActivation, FrameMatches}
-use Rattle.sc_relation.specs.Stretches.{Setting, Joint, Standpoint, machine, Settled, Protected, Leads}
-use Rattle.sc_relation.specs.Following.{seen_from}
+use Rattle.sc_relation.proofs.Common.{Activation, All, Apart, Blocks, FrameMatches, IsActivation, IsWellFormed, IsWord}
+use Rattle.sc_relation.proofs.Common.{Joint, Leads, List, Memory as Bytes, Ok, Place, Pointer, Protected, Ptr}
+use Rattle.sc_relation.proofs.Common.{Registers, Setting, Settled, Some, Standpoint, StandsFor, Value, Walks, arith}
+use Rattle.sc_relation.proofs.Common.{cases_eq, false, inr, machine, own_words, put_word, refl, seen_from, slice_get}
+use Rattle.sc_relation.proofs.Common.{store, walks_steady, with_memory, word, word_apart, ℕ, ⊎_elim, ◌*◌, ◌+◌, ◌≡◌, ◌≤◌}
 use Rattle.sc_relation.proofs.Frames.{own_inside}
 use Rattle.sc_relation.proofs.Storing.{CellsKept, other_data, blocks_kept, guarded_cells, was, guarded_kept}
 use Rattle.sc_relation.proofs.Storing.{blocks_after}

@@ -1,22 +1,12 @@
 -- Blocks and guarded words across stores: at a guarded word, and through a pointer to a live cell.
-use Rattle.std.proofs.Common.{◌≡◌, ◌≢◌, ℕ, ◌+◌, ◌*◌, ◌<◌, ◌≤◌, Bool, true, false, List, length, Option, Some, Ok}
-use Rattle.std.proofs.Common.{refl, sym, ◌∙◌, ap, subst, arith, ⊎_elim, inl, inr}
-use Rattle.std.specs.Prelude.{◌⊎◌, slice_get, slice_set}
-use Rattle.std.proofs.lemmas.Bool.{cases_eq, cases_order, eq-eqb, ne_eqb}
-use Rattle.std.proofs.lemmas.Option.{slice_get_within, slice_get-get_or, same_Some}
-use Rattle.std.proofs.lemmas.List.{length-set}
-use Rattle.sc_core.specs.declared.value.Cell.{Cell}
-use Rattle.sc_core.specs.declared.value.Pointer.{Pointer}
-use Rattle.sc_core.specs.declared.value.Value.{Value}
-use Rattle.sc_core.specs.declared.value.Value.TheVariants.{Word, Null, Ptr}
-use Rattle.sc_core.specs.Memory.{Block, Blocks, Memory, with_blocks, cell_of, load, store}
-use Rattle.sc_store.specs.Memory.{Memory as Bytes}
-use Rattle.sc_image.specs.declared.parts.ImageParts.{ImageParts}
-use Rattle.sc_image.specs.WellFormed.{IsWellFormed}
-use Rattle.sc_image.proofs.Bytes.{few_globals}
-use Rattle.sc_hart.specs.Words.{word, put_word, Apart, Owned}
-use Rattle.sc_hart.proofs.Words.{word_same, word_apart, apart_from}
-use Rattle.sc_relation.specs.Blocks.{Injection, StandsFor, InCell, LiveAt, Beside, Placed, BlocksMatch, Guarded}
+use Rattle.sc_relation.proofs.Common.{Apart, Beside, Block, Blocks, BlocksMatch, Bool, Cell, Guarded, ImageParts}
+use Rattle.sc_relation.proofs.Common.{InCell, Injection, IsWellFormed, List, LiveAt, Memory as Bytes, Null, Ok, Option}
+use Rattle.sc_relation.proofs.Common.{Owned, Placed, Pointer, Ptr, Some, StandsFor, Value, Word, ap, apart_from, arith}
+use Rattle.sc_relation.proofs.Common.{cases_eq, cases_order, cell_of, eq-eqb, false, few_globals, inl, inr, length}
+use Rattle.sc_relation.proofs.Common.{length-set, load, ne_eqb, put_word, refl, same_Some, slice_get, slice_get-get_or}
+use Rattle.sc_relation.proofs.Common.{slice_get_within, slice_set, store, subst, sym, true, with_blocks, word}
+use Rattle.sc_relation.proofs.Common.{word_apart, word_same, ℕ, ⊎_elim, ◌*◌, ◌+◌, ◌<◌, ◌∙◌, ◌≡◌, ◌≢◌, ◌≤◌, ◌⊎◌}
+use Rattle.sc_core.specs.Prelude.{Memory}
 use Rattle.sc_relation.proofs.Access.{get_set_same, get_set_other, with_value, Loads, load_found, Stores, store_found}
 
 -- the data of two compartments don't meet

@@ -1,38 +1,19 @@
 -- Straight code of the running call: it moves on, it assigns a temporary, it stores through a pointer, it has called.
-use Rattle.std.proofs.Common.{◌≡◌, ◌≢◌, ℕ, suc, ◌+◌, ◌*◌, ◌^◌, ◌<◌, ◌≤◌, Bool, true, false, not, List, All}
-use Rattle.std.proofs.Common.{Option, None, Some, Ok, refl, sym, ◌∙◌, subst, arith}
-use Rattle.std.specs.Prelude.{◌||◌, ◌&&◌, slice_get}
-use Rattle.std.proofs.lemmas.Bool.{ne_eqb}
-use Rattle.sc_core.specs.declared.value.Pointer.{Pointer}
-use Rattle.sc_core.specs.declared.value.Value.{Value}
-use Rattle.sc_core.specs.declared.value.Value.TheVariants.{Word, Null, Ptr}
-use Rattle.sc_core.specs.Memory.{Blocks, load, store}
-use Rattle.sc_core.specs.Words.{State as Meant, Piece, with_memory}
-use Rattle.sc_store.specs.Memory.{Memory as Bytes}
-use Rattle.sc_image.specs.Walks.{Walks}
-use Rattle.sc_image.specs.WellFormed.{IsWord, IsWellFormed}
-use Rattle.sc_tac.specs.declared.place.Place.{Place}
-use Rattle.sc_tac.specs.declared.place.Place.TheVariants.{Register, Slot}
-use Rattle.sc_tac.specs.Code.{Temps, with_temp}
-use Rattle.sc_tac.specs.Flow.{is_one, plain}
-use Rattle.sc_tac.specs.Parts.{one_or_none}
-use Rattle.sc_tac.specs.Places.{IsClear}
-use Rattle.sc_tac.specs.Points.{Set, Point, Lives, ahead_at, plain_points, live_across}
-use Rattle.sc_select.specs.Pieces.{sp, register_of}
-use Rattle.sc_hart.specs.Hart.{Registers}
-use Rattle.sc_hart.specs.Words.{word, put_word, Owned}
-use Rattle.sc_hart.proofs.Words.{word_same}
-use Rattle.sc_relation.specs.Blocks.{StandsFor, Guarded}
-use Rattle.sc_relation.specs.Frames.{Activation, own_words, IsActivation, FrameMatches, InPlace}
-use Rattle.sc_relation.specs.Stretches.{Setting, Joint, Standpoint, machine, Settled, Protected, Effect, Leads}
-use Rattle.sc_relation.specs.Stretches.{Shows, Overflows}
-use Rattle.sc_relation.specs.Following.{Running, seen_from, Ready, Arrives}
+use Rattle.sc_relation.proofs.Common.{Activation, All, Arrives, Blocks, Bool, Effect, FrameMatches, Guarded, InPlace}
+use Rattle.sc_relation.proofs.Common.{IsActivation, IsClear, IsWellFormed, IsWord, Joint, Leads, List, Lives}
+use Rattle.sc_relation.proofs.Common.{Memory as Bytes, None, Null, Ok, Option, Overflows, Owned, Piece, Place, Point}
+use Rattle.sc_relation.proofs.Common.{Pointer, Protected, Ptr, Ready, Register, Registers, Running, Set, Setting}
+use Rattle.sc_relation.proofs.Common.{Settled, Shows, Slot, Some, Standpoint, StandsFor, State as Meant, Temps, Value}
+use Rattle.sc_relation.proofs.Common.{Walks, Word, ahead_at, arith, false, is_one, live_across, load, machine, ne_eqb}
+use Rattle.sc_relation.proofs.Common.{not, one_or_none, own_words, plain, plain_points, put_word, refl, register_of}
+use Rattle.sc_relation.proofs.Common.{seen_from, slice_get, sp, store, subst, suc, sym, true, with_memory, with_temp}
+use Rattle.sc_relation.proofs.Common.{word, word_same, ℕ, ◌&&◌, ◌*◌, ◌+◌, ◌<◌, ◌^◌, ◌||◌, ◌∙◌, ◌≡◌, ◌≢◌, ◌≤◌}
 use Rattle.sc_relation.proofs.Frames.{each_at, own_inside}
-use Rattle.sc_relation.proofs.Held.{PlaceKept, frame_kept, kept_but_register, kept_but_slot, kept_all}
-use Rattle.sc_relation.proofs.Held.{ra_kept, held_kept, held_assigned, held_over_call}
+use Rattle.sc_relation.proofs.Held.{PlaceKept, frame_kept, kept_but_register, kept_but_slot, kept_all, ra_kept}
+use Rattle.sc_relation.proofs.Held.{held_kept, held_assigned, held_over_call}
 use Rattle.sc_relation.proofs.Registers.{HasNoOtherUse}
-use Rattle.sc_relation.proofs.Settling.{moved, moved_with, settled_moved, leads_moved, settled_stored}
-use Rattle.sc_relation.proofs.Settling.{leads_stored, own_cells, own_keeps}
+use Rattle.sc_relation.proofs.Settling.{moved, moved_with, settled_moved, leads_moved, settled_stored, leads_stored}
+use Rattle.sc_relation.proofs.Settling.{own_cells, own_keeps}
 use Rattle.sc_relation.proofs.Storing.{CellsKept, LoadsWord, loads_word, target_owned, guarded_after, guarded_kept}
 use Rattle.sc_relation.proofs.Stretches.{protected_on}
 

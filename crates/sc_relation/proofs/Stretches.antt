@@ -1,20 +1,10 @@
 -- Stretches in a row.
-use Rattle.std.proofs.Common.{◌≡◌, ℕ, ◌+◌, ◌≤◌, length, Option, refl, sym, ◌∙◌, subst}
-use Rattle.std.proofs.Common.{arith, inl, inr, ⊎_elim}
-use Rattle.std.proofs.lemmas.Option.{same_Some}
-use Rattle.sc_core.specs.declared.value.Value.{Value}
-use Rattle.sc_core.specs.Words.{State as Meant, Piece, Reached, Stopped, Exit, Next, Break, Continue, Return, Left}
-use Rattle.sc_core.specs.Words.{and_then}
-use Rattle.sc_laws.specs.Growth.{Grown, Goes, last}
-use Rattle.sc_laws.proofs.Growing.{more, then_from}
-use Rattle.sc_tac.specs.Code.{Temps}
-use Rattle.sc_tac.specs.Points.{Set, Lives}
-use Rattle.sc_hart.specs.Hart.{Registers}
-use Rattle.sc_hart.proofs.Steps.{stay, then_go}
-use Rattle.sc_relation.specs.Blocks.{Beside}
-use Rattle.sc_relation.specs.Stretches.{Setting, Joint, Standpoint, machine, Settled, Protected, Effect, Costs, Leads}
-use Rattle.sc_relation.specs.Stretches.{Shows, Overflows}
-use Rattle.sc_relation.specs.Following.{Ends, Running, seen_from, Arrives, Returns, ExitGives, Gives, Comes}
+use Rattle.sc_relation.proofs.Common.{Arrives, Beside, Break, Comes, Continue, Costs, Effect, Ends, Exit, ExitGives}
+use Rattle.sc_relation.proofs.Common.{Gives, Goes, Grown, Joint, Leads, Left, Lives, Next, Option, Overflows, Piece}
+use Rattle.sc_relation.proofs.Common.{Protected, Reached, Registers, Return, Returns, Running, Set, Setting, Settled}
+use Rattle.sc_relation.proofs.Common.{Shows, Standpoint, State as Meant, Stopped, Temps, Value, and_then, arith, inl}
+use Rattle.sc_relation.proofs.Common.{inr, last, length, machine, more, refl, same_Some, seen_from, stay, subst, sym}
+use Rattle.sc_relation.proofs.Common.{then_from, then_go, ℕ, ⊎_elim, ◌+◌, ◌∙◌, ◌≡◌, ◌≤◌}
 
 module _ (T : Setting) (P : Standpoint) where
   -- what is protected stays so

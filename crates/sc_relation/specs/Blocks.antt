@@ -1,17 +1,11 @@
 -- How the bytes of the machine stand for the blocks of a meaning, for every compartment outside a set of those that
 -- perform.
+use Rattle.sc_relation.specs.Common.{Cell, ImageParts, Memory, Owned, Value, data_end, data_start, word}
+use Rattle.sc_store.specs.Prelude.{Memory as Bytes}
 use Rattle.std.specs.Prelude.{◌≡◌, ◌≢◌, ℕ, ◌+◌, ◌*◌, ◌%◌, ◌^◌, ◌<◌, ◌≤◌, ◌⊎◌, Bool, true, false, List, length, Option}
-use Rattle.std.specs.Prelude.{Some}
-use Rattle.std.specs.Prelude.{slice_get}
-use Rattle.sc_core.specs.declared.value.Cell.{Cell}
+use Rattle.std.specs.Prelude.{Some, slice_get}
 use Rattle.sc_core.specs.declared.value.Cell.TheVariants as cell
-use Rattle.sc_core.specs.declared.value.Value.{Value}
 use Rattle.sc_core.specs.declared.value.Value.TheVariants.{Word, Null, Ptr}
-use Rattle.sc_core.specs.Memory.{Memory}
-use Rattle.sc_store.specs.Memory.{Memory as Bytes}
-use Rattle.sc_image.specs.declared.parts.ImageParts.{ImageParts}
-use Rattle.sc_image.specs.Layout.{data_start}
-use Rattle.sc_hart.specs.Words.{word, data_end, Owned}
 
 -- where each block of each compartment begins; a block that has ended keeps its address, so this only grows (a memory
 -- injection: Leroy and Blazy, Formal verification of a C-like memory model)

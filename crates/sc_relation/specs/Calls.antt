@@ -1,20 +1,11 @@
 -- What the code of a function follows, where the calls in it are followed.
+use Rattle.sc_relation.specs.Common.{CallTarget, Calls, Ecall, Fetches, Function, Goes, Jal, Jalr, Piece, Reached}
+use Rattle.sc_relation.specs.Common.{State as Meant, Stopped, Value, a0, a7, and_then, begun, done, jalr_target, look}
+use Rattle.sc_relation.specs.Common.{ra, sp, stack_top, word_at}
+use Rattle.sc_word.specs.Prelude.{add_word, word_of}
 use Rattle.std.specs.Prelude.{◌≡◌, ◌≢◌, ℕ, ◌+◌, ◌%◌, ◌<◌, ◌≤◌, ◌⊎◌, ℤ, pos, Bool, true, false, List, length, Option}
-use Rattle.std.specs.Prelude.{Some}
-use Rattle.std.specs.Prelude.{slice_get, IsSome}
-use Rattle.rv_code.specs.declared.instr.Instr.TheVariants.{Jal, Jalr, Ecall}
-use Rattle.sc_word.specs.Prelude.{word_of, add_word}
-use Rattle.sc_core.specs.declared.expr.CallTarget.{CallTarget}
+use Rattle.std.specs.Prelude.{Some, slice_get, IsSome}
 use Rattle.sc_core.specs.declared.expr.CallTarget.TheVariants.{Own, Cross, Input, Output}
-use Rattle.sc_core.specs.declared.value.Value.{Value}
-use Rattle.sc_core.specs.Calls.{Function, begun, done}
-use Rattle.sc_core.specs.Words.{State as Meant, Piece, Reached, Stopped, Calls, and_then}
-use Rattle.sc_laws.specs.Growth.{Goes}
-use Rattle.sc_image.specs.Layout.{stack_top, word_at}
-use Rattle.sc_image.specs.Step.{jalr_target}
-use Rattle.sc_select.specs.Pieces.{ra, sp, a0, a7}
-use Rattle.sc_hart.specs.Code.{Fetches}
-use Rattle.sc_hart.specs.Hart.{look}
 use Rattle.sc_relation.specs.Blocks.{StandsFor}
 use Rattle.sc_relation.specs.Frames.{AreFloors}
 use Rattle.sc_relation.specs.Stretches.{Setting, Joint, Standpoint, Settled, Leads, Shows, Overflows, GivenBack}

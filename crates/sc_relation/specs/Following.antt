@@ -1,19 +1,11 @@
 -- A piece of code follows what statements do: what it is to stand at its start, and what it gives.
+use Rattle.sc_relation.specs.Common.{Break, CodeAt, Codes, Continue, Exit, Fetches, Goes, IsClear, Jalr, Left, Lives}
+use Rattle.sc_relation.specs.Common.{Next, Piece, Place, Reached, Return, Set, State as Meant, Stopped, Temps, Trail}
+use Rattle.sc_relation.specs.Common.{Value, a0, ahead_at, completed, low_after, ra, readings, row_first, row_fresh}
+use Rattle.sc_relation.specs.Common.{row_points, sp}
+use Rattle.sc_select.specs.Prelude.{Piece as Code}
 use Rattle.std.specs.Prelude.{◌≡◌, ℕ, ◌+◌, ◌*◌, ◌≤◌, ◌⊎◌, pos, List, length, All, Option, None}
-use Rattle.rv_code.specs.declared.instr.Instr.TheVariants.{Jalr}
-use Rattle.sc_core.specs.declared.value.Value.{Value}
-use Rattle.sc_core.specs.Words.{State as Meant, Piece, Reached, Stopped, Exit, Next, Break, Continue, Return, Left}
-use Rattle.sc_laws.specs.Growth.{Goes}
-use Rattle.sc_tac.specs.declared.place.Place.{Place}
-use Rattle.sc_tac.specs.Code.{Temps, Codes}
-use Rattle.sc_tac.specs.Flow.{row_first, row_fresh}
-use Rattle.sc_tac.specs.Places.{IsClear}
-use Rattle.sc_tac.specs.Points.{Set, Lives, Trail, ahead_at, readings, row_points}
-use Rattle.sc_select.specs.Pieces.{ra, sp, a0}
-use Rattle.sc_select.specs.Selection.{Piece as Code}
-use Rattle.sc_hart.specs.Code.{Fetches, CodeAt}
 use Rattle.sc_relation.specs.Frames.{Activation, FrameMatches, AreHeld}
-use Rattle.sc_select.specs.Linking.{completed, low_after}
 use Rattle.sc_relation.specs.Stretches.{Setting, Joint, Standpoint, Settled, Leads, Shows, Overflows, GivenBack}
 
 -- statements in order as one

@@ -1,21 +1,10 @@
 -- The running call: its frame, and the places of its temporaries.
+use Rattle.sc_relation.specs.Common.{Crossing, HasRoom, Here, ImageParts, IsFrame, Memory, Place, Registers, Set, Temps}
+use Rattle.sc_relation.specs.Common.{Value, data_start, register_of, stack_top, word}
+use Rattle.sc_store.specs.Prelude.{Memory as Bytes}
 use Rattle.std.specs.Prelude.{◌≡◌, ℕ, ◌+◌, ◌%◌, ◌<◌, ◌≤◌, Bool, true, false, List, ◌∷◌, Some, slice_get}
-use Rattle.sc_core.specs.declared.value.Value.{Value}
-use Rattle.sc_core.specs.Memory.{Memory}
-use Rattle.sc_core.specs.Words.{Here}
-use Rattle.sc_store.specs.Memory.{Memory as Bytes}
-use Rattle.sc_image.specs.declared.parts.ImageParts.{ImageParts}
-use Rattle.sc_image.specs.State.{Crossing}
-use Rattle.sc_image.specs.Layout.{data_start, stack_top}
 use Rattle.sc_tac.specs.declared.frame.FrameTree.{FrameTree}
-use Rattle.sc_tac.specs.declared.place.Place.{Place}
 use Rattle.sc_tac.specs.declared.place.Place.TheVariants.{Register, Slot}
-use Rattle.sc_tac.specs.Code.{Temps}
-use Rattle.sc_tac.specs.Frames.{IsFrame, HasRoom}
-use Rattle.sc_tac.specs.Points.{Set}
-use Rattle.sc_select.specs.Pieces.{register_of}
-use Rattle.sc_hart.specs.Hart.{Registers}
-use Rattle.sc_hart.specs.Words.{word}
 use Rattle.sc_relation.specs.Blocks.{Injection, StandsFor, Guarded}
 
 -- what stays while a call runs: where it runs, its frame and the address of that, where it returns to, the open cross

@@ -1,3 +1,5 @@
+pub mod Common
+pub mod Prelude
 pub mod Blocks
 pub mod Calls
 pub mod Following

@@ -1,24 +1,12 @@
 -- Stretches of a run on both sides: of the machine, and of a meaning whose state stands beside the machine's.
+use Rattle.sc_relation.specs.Common.{Addresses, AllBefore, CallTarget, Cell, Crossing, Grown, ImageParts, IsSteady}
+use Rattle.sc_relation.specs.Common.{Memory, Piece, Registers, State as Meant, Traps, Value, Walks, at, last, open_room}
+use Rattle.sc_relation.specs.Common.{stack_size, stack_top, step, word}
+use Rattle.sc_store.specs.Prelude.{Memory as Bytes}
+use Rattle.sc_image.specs.Prelude.{State}
 use Rattle.std.specs.Prelude.{◌≡◌, ◌≢◌, ℕ, suc, ◌+◌, ◌*◌, ◌<◌, ◌≤◌, Bool, false, List, length, drop, Option, None, Some}
 use Rattle.std.specs.Prelude.{slice_index}
 use Rattle.sc_base.specs.declared.stop.TrapReason.TheVariants.{Owner}
-use Rattle.sc_core.specs.declared.expr.CallTarget.{CallTarget}
-use Rattle.sc_core.specs.declared.value.Cell.{Cell}
-use Rattle.sc_core.specs.declared.value.Value.{Value}
-use Rattle.sc_core.specs.Memory.{Memory}
-use Rattle.sc_core.specs.Words.{State as Meant, Piece}
-use Rattle.sc_laws.specs.Growth.{Grown, last}
-use Rattle.sc_laws.specs.Rooms.{open_room, AllBefore}
-use Rattle.sc_store.specs.Memory.{Memory as Bytes}
-use Rattle.sc_image.specs.declared.parts.ImageParts.{ImageParts}
-use Rattle.sc_image.specs.Layout.{stack_size, stack_top}
-use Rattle.sc_image.specs.State.{State, Crossing}
-use Rattle.sc_image.specs.Step.{Traps, step}
-use Rattle.sc_image.specs.Steady.{IsSteady}
-use Rattle.sc_image.specs.Walks.{Walks}
-use Rattle.sc_hart.specs.Hart.{Registers, at}
-use Rattle.sc_hart.specs.Words.{word}
-use Rattle.sc_select.specs.Linking.{Addresses}
 use Rattle.sc_relation.specs.Blocks.{Injection, StandsFor, LiveAt, BlocksMatch, Guarded}
 
 -- what stays for a whole run: the image, the inputs and the state that it began in, the compartments that perform in

@@ -1,40 +1,20 @@
 -- Bodies of functions in both runs, from what bodies do with one call less open.
-use Rattle.std.proofs.Common.{Bool, List, Option, Some, None, [], ap, arith, drop, false, if◌then◌else◌, length}
-use Rattle.std.proofs.Common.{inl, inr, map, refl, slice_get, subst, suc, sym, true, ℕ, ◌++◌, ◌<◌, ◌&&◌, ◌∙◌}
-use Rattle.std.proofs.Common.{◌∷◌, ◌≡◌, ◌≤◌}
-use Rattle.std.specs.List.{list_all}
-use Rattle.std.specs.Prelude.{IsSome}
-use Rattle.sc_base.proofs.Bools.{and_first, and_rest}
-use Rattle.sc_event.specs.Prelude.{count_of, imports, is_function, performer, takes}
-use Rattle.sc_event.specs.declared.event.Event.{Event}
-use Rattle.sc_event.specs.declared.event.Event.TheVariants.{Call, In, Out}
-use Rattle.sc_event.specs.declared.row.Entry.{Entry}
-use Rattle.sc_event.specs.declared.row.Entry.TheVariants.{Export}
-use Rattle.sc_core.specs.Prelude.{Body, Function, Here, Library, Piece, Reached, Roles, State, Step, Stopped, and_then}
-use Rattle.sc_core.specs.Prelude.{back_cross, back_own, begun, block_does, c_arith, call_cross, call_own, called, calls}
-use Rattle.sc_core.specs.Prelude.{crossed, done}
-use Rattle.sc_core.specs.Prelude.{first_word, found, function, is_word, leads, may_call, next_input, read_input, run_in}
-use Rattle.sc_core.specs.Prelude.{run_step, scripted_step, tell, word_in}
+use Rattle.sc_replay.proofs.Common.{Blamed, Body, BodyGoes, Bool, Call, CallTarget, CallsTwins, Cross, Entry, Event}
+use Rattle.sc_replay.proofs.Common.{Export, Function, FunctionTwins, Here, In, Input, IsFixed, IsSome, Library, List}
+use Rattle.sc_replay.proofs.Common.{Meets, None, Obedient, Option, Out, Output, Own, Piece, Reached, Roles, Some, State}
+use Rattle.sc_replay.proofs.Common.{Step, Stopped, TurnsOut, Value, Word, [], and_first, and_rest, and_then, ap, arith}
+use Rattle.sc_replay.proofs.Common.{back_cross, back_own, begun, block_does, c_arith, call_cross, call_own, called}
+use Rattle.sc_replay.proofs.Common.{calls, calls_go, count_of, counts_its_own, crossed, done, drop, false, first_word}
+use Rattle.sc_replay.proofs.Common.{found, function, function_twins, if◌then◌else◌, imports, inl, inr, is_function}
+use Rattle.sc_replay.proofs.Common.{is_word, leads, length, list_all, map, may_call, next_input, now, performer}
+use Rattle.sc_replay.proofs.Common.{proto_of, read_input, refl, run_in, run_step, scripted_step, slice_get, subst, suc}
+use Rattle.sc_replay.proofs.Common.{sym, takes, tell, true, word_in, ℕ, ◌&&◌, ◌++◌, ◌<◌, ◌∙◌, ◌∷◌, ◌≡◌, ◌≤◌}
 use Rattle.sc_core.specs.declared.cause.Cause.TheVariants.{BadType}
-use Rattle.sc_core.specs.declared.expr.CallTarget.{CallTarget}
-use Rattle.sc_core.specs.declared.expr.CallTarget.TheVariants.{Cross, Input, Output, Own}
-use Rattle.sc_core.specs.declared.run.RunEnd.TheVariants.{Blamed, TurnsOut}
-use Rattle.sc_core.specs.declared.value.Value.{Value}
-use Rattle.sc_core.specs.declared.value.Value.TheVariants.{Word}
-use Rattle.sc_laws.proofs.Growing.{BodyGoes, calls_go}
-use Rattle.sc_laws.specs.Interactions.{Obedient}
-use Rattle.sc_laws.specs.Agreement.{Meets}
-use Rattle.sc_laws.specs.Laws.{IsFixed}
-use Rattle.sc_laws.specs.Steady.{now}
-use Rattle.sc_laws.proofs.Libraries.{CallsTwins, FunctionTwins, function_twins}
-use Rattle.sc_laws.proofs.Rows.{counts_its_own}
-use Rattle.sc_replay.specs.Replay.{proto_of}
 use Rattle.sc_replay.proofs.Near.{Both, Near, NearBy, Reaches, Returns, Told, ahead, both_so, both_then, counts, firsts}
 use Rattle.sc_replay.proofs.Near.{near_begun, near_done, near_told, reached, stopped, told_ahead, told_other}
 use Rattle.sc_replay.proofs.Step.{Back, IsOut, function_alike}
 use Rattle.sc_replay.proofs.Kept.{Alike, IsKept, kept_twins, turn_both}
-use Rattle.sc_replay.proofs.Crossing.{at, both_and, came_back, came_kept, cross_counts, inside}
-use Rattle.sc_replay.proofs.Crossing.{inside_cross}
+use Rattle.sc_replay.proofs.Crossing.{at, both_and, came_back, came_kept, cross_counts, inside, inside_cross}
 use Rattle.sc_replay.proofs.Recomposed.{Performed, Recomposed, may_same, taken}
 
 module _ (roles : Roles) (L M : Library) (r : Recomposed roles L M) (obedient : Obedient L) (step : Step)

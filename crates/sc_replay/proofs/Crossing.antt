@@ -1,20 +1,10 @@
 -- Calls across in both runs, once their functions are found.
-use Rattle.std.proofs.Common.{Bool, List, Option, Some, None, [], ap, arith, false, length, map, refl, subst, suc, sym}
-use Rattle.std.proofs.Common.{true}
-use Rattle.std.proofs.Common.{ℕ, ◌++◌, ◌<◌, ◌==◌, ◌∷◌, ◌≡◌, ◌≤◌}
-use Rattle.std.specs.Prelude.{filter, if◌then◌else◌}
-use Rattle.sc_event.specs.Prelude.{count_of, export_at, performer}
-use Rattle.sc_event.specs.declared.event.Event.{Event}
-use Rattle.sc_event.specs.declared.event.Event.TheVariants.{Call, Ret}
-use Rattle.sc_event.specs.declared.interface.Interfaces.{Interfaces}
-use Rattle.sc_core.specs.Prelude.{Body, Front, Function, Here, Library, Piece, Reached, Roles, State, Stopped, and_then}
-use Rattle.sc_core.specs.Prelude.{back_cross, begun, call_cross, crossed, crossing, done, found, option_value, run_in}
-use Rattle.sc_core.specs.Prelude.{tell, word_in}
-use Rattle.sc_core.specs.declared.value.Value.{Value}
-use Rattle.sc_event.specs.declared.row.Entry.TheVariants.{Export}
-use Rattle.sc_laws.specs.Growth.{Gone}
-use Rattle.sc_laws.proofs.Growing.{BodyGoes, back_goes, run_goes}
-use Rattle.sc_laws.proofs.Rows.{counts_its_own}
+use Rattle.sc_replay.proofs.Common.{Body, BodyGoes, Bool, Call, Event, Export, Front, Function, Gone, Here, Interfaces}
+use Rattle.sc_replay.proofs.Common.{Library, List, None, Option, Piece, Reached, Ret, Roles, Some, State, Stopped}
+use Rattle.sc_replay.proofs.Common.{Value, [], and_then, ap, arith, back_cross, back_goes, begun, call_cross, count_of}
+use Rattle.sc_replay.proofs.Common.{counts_its_own, crossed, crossing, done, export_at, false, filter, found}
+use Rattle.sc_replay.proofs.Common.{if◌then◌else◌, length, map, option_value, performer, refl, run_goes, run_in, subst}
+use Rattle.sc_replay.proofs.Common.{suc, sym, tell, true, word_in, ℕ, ◌++◌, ◌<◌, ◌==◌, ◌∷◌, ◌≡◌, ◌≤◌}
 use Rattle.sc_replay.proofs.Near.{Both, Firsts, Near, NearBy, Reaches, Returns, Told, ahead, both_so, both_then, counts}
 use Rattle.sc_replay.proofs.Near.{firsts, near_begun, near_done, near_told, reached, stopped, told_ahead, told_other}
 

@@ -1,32 +1,19 @@
 -- Entries of a well-typed program lead to functions, and different ones to different functions.
-use Rattle.std.proofs.Common.{Bool, List, Option, Some, None, [], ap, bytes_eq, codes, eqb-true, false, if◌then◌else◌}
-use Rattle.std.proofs.Common.{length, map, nat_le, not, refl, slice_get, slice_index_or, subst, suc, sym, true}
-use Rattle.std.proofs.Common.{zero, ℕ, ◌&&◌, ◌||◌, ◌==◌, ◌∙◌, ◌∷◌, ◌≡◌}
-use Rattle.std.specs.List.{list_all, list_any}
-use Rattle.std.specs.Option.{option_map, option_map_or}
-use Rattle.std.specs.Prelude.{IsSome}
-use Rattle.std.proofs.lemmas.Bool.{false≢true, ne_eqb, or_right}
+use Rattle.sc_replay.proofs.Common.{Arith, Bool, Entry, Export, Interfaces, IsSome, IsWellTyped, List, Main, None}
+use Rattle.sc_replay.proofs.Common.{Option, ProgramTree, Proto, Some, TypedFunction, TypedSection, [], and_first}
+use Rattle.sc_replay.proofs.Common.{and_rest, ap, are_distinct, bytes_eq, callable_names, codes, comp_at, entry_in}
+use Rattle.sc_replay.proofs.Common.{eqb-true, export_at, export_fits, false, false≢true, function, function_of}
+use Rattle.sc_replay.proofs.Common.{functions_in, functions_of, if◌then◌else◌, is_main, is_number, is_plain_name}
+use Rattle.sc_replay.proofs.Common.{length, library_of, list_all, list_any, main_fits, main_name, main_proto}
+use Rattle.sc_replay.proofs.Common.{main_signature, mains_in, map, most_compartments, nat_le, ne_eqb, not, option_map}
+use Rattle.sc_replay.proofs.Common.{option_map_or, or_right, place_named, place_of_export, proto_of, proto_signature}
+use Rattle.sc_replay.proofs.Common.{refl, same_signature, sections_fit, signature_of, slice_get, slice_index_or, subst}
+use Rattle.sc_replay.proofs.Common.{suc, sym, true, zero, ℕ, ◌&&◌, ◌==◌, ◌||◌, ◌∙◌, ◌∷◌, ◌≡◌}
 use Rattle.std.proofs.lemmas.Option.{slice_get-map}
-use Rattle.sc_base.proofs.Bools.{and_first, and_rest}
 use Rattle.sc_base.proofs.Texts.{bytes_eq_self, same_text}
-use Rattle.sc_event.specs.Prelude.{comp_at, export_at}
 use Rattle.sc_event.specs.declared.interface.Interface.{Interface}
-use Rattle.sc_event.specs.declared.interface.Interfaces.{Interfaces}
-use Rattle.sc_event.specs.declared.interface.Proto.{Proto}
-use Rattle.sc_event.specs.declared.row.Entry.{Entry}
-use Rattle.sc_event.specs.declared.row.Entry.TheVariants.{Export, Main}
-use Rattle.sc_core.specs.Prelude.{Arith, IsWellTyped, are_distinct, entry_in, export_fits, function}
-use Rattle.sc_core.specs.Prelude.{function_of, functions_in, functions_of, is_main, is_number}
-use Rattle.sc_core.specs.Prelude.{is_plain_name, library_of, main_fits, main_name, mains_in, most_compartments}
-use Rattle.sc_core.specs.Prelude.{place_named, place_of_export, proto_signature, same_signature, sections_fit}
-use Rattle.sc_core.specs.Prelude.{signature_of}
-use Rattle.sc_core.specs.WellTyped.{callable_names, main_signature}
-use Rattle.sc_core.specs.declared.program.ProgramTree.{ProgramTree}
-use Rattle.sc_core.specs.declared.section.TypedFunction.{TypedFunction}
-use Rattle.sc_core.specs.declared.section.TypedSection.{TypedSection}
 use Rattle.sc_kinds.proofs.Results.{Behind, behind}
 use Rattle.sc_kinds.proofs.Sections.{First, all_at, any_along, first_of, for_interface, found_passes}
-use Rattle.sc_replay.specs.Replay.{main_proto, proto_of}
 
 -- NAMES OF EXPORTS
 abbrev named : Proto → List ℕ

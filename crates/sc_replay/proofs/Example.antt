@@ -1,31 +1,19 @@
 -- A worked replay, in which a compartment that performs is entered again while it waits: `Main` calls `f` of `A`, which
 -- calls `g` of `B`, which calls `h` of `A`; the texts of `f` and `h` show the whole trace.
-use Rattle.std.proofs.Common.{List, Some, [], arith, codes, eqb-true, false, refl, subst, suc, true, zero, ℕ, ◌-◌}
-use Rattle.std.proofs.Common.{slice_get, ◌+◌, ◌==◌, ◌^◌, ◌∙◌, ◌∷◌, ◌≡◌}
-use Rattle.std.specs.Prelude.{All}
-use Rattle.std.proofs.lemmas.Bool.{false≢true, true≢false}
-use Rattle.std.proofs.lemmas.List.Elements.{All-from_recursion}
-use Rattle.sc_event.specs.Prelude.{part}
-use Rattle.sc_event.specs.declared.interface.Proto.{Proto}
+use Rattle.sc_replay.proofs.Common.{All, All-from_recursion, Ended, Entry, Export, HasReplaced, HasWords, IsPerforming}
+use Rattle.sc_replay.proofs.Common.{IsReplay, IsWord, List, Main, Performs, ProgramTree, Proto, Row, Some}
+use Rattle.sc_replay.proofs.Common.{TypedFunction, TypedSection, TypedStmt, [], arith, codes, ends, eqb-true, false}
+use Rattle.sc_replay.proofs.Common.{false≢true, int_expr, least_int, literal, meaning, minus, part, proto_of, refl}
+use Rattle.sc_replay.proofs.Common.{row_kind, skips, slice_get, stmt_at, subst, suc, true, true≢false, waits, zero, ℕ}
+use Rattle.sc_replay.proofs.Common.{◌+◌, ◌-◌, ◌==◌, ◌^◌, ◌∙◌, ◌∷◌, ◌≡◌}
 use Rattle.sc_event.specs.declared.interface.Scalar.TheVariants as scalar
 use Rattle.sc_event.specs.declared.row.Action.TheVariants as act
-use Rattle.sc_event.specs.declared.row.Entry.{Entry}
-use Rattle.sc_event.specs.declared.row.Entry.TheVariants.{Export, Main}
-use Rattle.sc_event.specs.declared.row.Row.{Row}
-use Rattle.sc_core.specs.Prelude.{meaning}
-use Rattle.sc_core.specs.declared.program.ProgramTree.{ProgramTree}
-use Rattle.sc_core.specs.declared.run.RunEnd.TheVariants.{Ended}
-use Rattle.sc_core.specs.declared.section.TypedFunction.{TypedFunction}
-use Rattle.sc_core.specs.declared.section.TypedSection.{TypedSection}
-use Rattle.sc_core.specs.declared.stmt.TypedStmt.{TypedStmt}
 use Rattle.sc_core.specs.declared.ty.Ty.TheVariants as ty
 use Rattle.sc_core.proofs.Plans.{program}
 use Rattle.sc_core.proofs.Programs.{reentry, reentry_interfaces}
 use Rattle.sc_core.proofs.Rows.{reentry_performed, reentry_trace}
 use Rattle.sc_core.proofs.Typed.{reentry_is_typed}
-use Rattle.sc_replay.specs.Replay.{HasReplaced, HasWords, IsReplay, IsWord, Performs, proto_of}
-use Rattle.sc_replay.specs.Texts.{IsPerforming, ends, int_expr, literal, minus, least_int, performs, row_kind, skips}
-use Rattle.sc_replay.specs.Texts.{stmt_at, waits}
+use Rattle.sc_replay.specs.Texts.{performs}
 use Rattle.sc_replay.proofs.Replays.{replays}
 
 -- THE TEXT OF `A`

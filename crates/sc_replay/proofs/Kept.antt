@@ -1,16 +1,9 @@
 -- Functions of the compartments that keep their sections do the same in both runs.
-use Rattle.std.proofs.Common.{Err, Ok, Result, ap, arith, false, if◌then◌else◌, ne_eqb, refl, subst, suc, sym}
-use Rattle.std.proofs.Common.{zero, ℕ, ◌<◌, ◌==◌, ◌∙◌, ◌≡◌}
-use Rattle.std.proofs.lemmas.Bool.{both_ways}
-use Rattle.sc_core.specs.Prelude.{Here, Library, Piece, Roles, State, and_then, computed, turn}
-use Rattle.sc_core.specs.Prelude.{turn_of}
-use Rattle.sc_core.specs.declared.cause.Cause.{Cause}
-use Rattle.sc_core.specs.declared.run.RunEnd.TheVariants.{Blamed, TurnsOut}
-use Rattle.sc_laws.specs.Growth.{Goes, Gone, Grown}
-use Rattle.sc_laws.specs.Interactions.{Never, Obedient}
+use Rattle.sc_replay.proofs.Common.{Blamed, Cause, Err, Goes, Gone, Grown, Here, Library, LibraryTwins, Never, Obedient}
+use Rattle.sc_replay.proofs.Common.{Ok, Piece, Result, Roles, State, TurnsOut, and_then, ap, arith, both_ways, computed}
+use Rattle.sc_replay.proofs.Common.{false, if◌then◌else◌, library_twins, ne_eqb, refl, subst, suc, sym, turn, turn_of}
+use Rattle.sc_replay.proofs.Common.{zero, ℕ, ◌<◌, ◌==◌, ◌∙◌, ◌≡◌}
 use Rattle.sc_laws.proofs.Expressions.{Keeps, alike, blamed}
-use Rattle.sc_laws.proofs.Libraries.{LibraryTwins}
-use Rattle.sc_laws.proofs.Matching.{library_twins}
 use Rattle.sc_laws.proofs.Twins.{Kept, KeptAt}
 use Rattle.sc_replay.proofs.Near.{Both, Near, NearBy, Reaches, counts, near_turns, reached, stopped}
 

@@ -1,15 +1,10 @@
 -- States of the run of the texts beside states of the run in which compartments perform, and pieces of both runs.
-use Rattle.std.proofs.Common.{Bool, List, Option, [], ap, ap₂, arith, eq-eqb, false, if◌then◌else◌, length}
-use Rattle.std.proofs.Common.{ne_eqb, refl, suc, sym, true, ℕ, ⊎_elim, ◌++◌, ◌==◌, ◌∙◌, ◌∷◌, ◌≡◌, ◌≤◌}
-use Rattle.std.specs.Prelude.{filter}
-use Rattle.std.proofs.lemmas.Bool.{both_ways, cases_eq}
-use Rattle.sc_event.specs.Prelude.{count_of, performer}
-use Rattle.sc_event.specs.declared.event.Event.{Event}
-use Rattle.sc_core.specs.Prelude.{Blocks, FrameChange, Function, Piece, Reached, Roles, State, Stopped, and_then, begun}
-use Rattle.sc_core.specs.Prelude.{blocks_for, done, ended, tell, with_blocks}
+use Rattle.sc_replay.proofs.Common.{Blocks, Bool, Event, FrameChange, Function, List, Option, Piece, Reached, Roles}
+use Rattle.sc_replay.proofs.Common.{State, Stopped, Value, [], and_then, ap, ap₂, arith, begun, blocks_for, both_ways}
+use Rattle.sc_replay.proofs.Common.{cases_eq, count_of, counts_its_own, done, ended, eq-eqb, false, filter}
+use Rattle.sc_replay.proofs.Common.{if◌then◌else◌, length, ne_eqb, performer, refl, suc, sym, tell, true, with_blocks}
+use Rattle.sc_replay.proofs.Common.{ℕ, ⊎_elim, ◌++◌, ◌==◌, ◌∙◌, ◌∷◌, ◌≡◌, ◌≤◌}
 use Rattle.sc_core.specs.declared.run.RunEnd.{RunEnd}
-use Rattle.sc_core.specs.declared.value.Value.{Value}
-use Rattle.sc_laws.proofs.Rows.{counts_its_own}
 use Rattle.sc_replay.proofs.Text.{counted, counting}
 
 -- PIECES OF BOTH RUNS

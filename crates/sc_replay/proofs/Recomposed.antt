@@ -1,24 +1,11 @@
 -- Two libraries, of which the other has functions that perform rows by their texts: the same calls may be made in both.
-use Rattle.std.proofs.Common.{Bool, List, Option, Some, None, ap, false, is_some, length, refl, sym, true, ℕ, ◌&&◌}
-use Rattle.std.proofs.Common.{slice_get, ◌==◌, ◌∙◌, ◌≡◌, ◌⊎◌, inl, inr}
-use Rattle.std.specs.List.{list_all}
-use Rattle.std.specs.Option.{option_map_or}
-use Rattle.std.specs.Prelude.{IsSome}
-use Rattle.std.proofs.lemmas.Bool.{false≢true}
-use Rattle.sc_event.specs.Prelude.{export_at, imports, is_function, is_input, is_output, takes}
-use Rattle.sc_event.specs.declared.interface.Proto.{Proto}
-use Rattle.sc_event.specs.declared.interface.Scalar.{Scalar}
-use Rattle.sc_event.specs.declared.row.Entry.{Entry}
-use Rattle.sc_event.specs.declared.row.Entry.TheVariants.{Export}
-use Rattle.sc_core.specs.Prelude.{Calls, Function, Left, Library, Piece, Reached, Return, Roles, State, and_then}
-use Rattle.sc_core.specs.Prelude.{block_does, c_arith, function, functions_of, is_number, is_word, leads, may_call}
-use Rattle.sc_core.specs.declared.expr.CallTarget.{CallTarget}
-use Rattle.sc_core.specs.declared.expr.CallTarget.TheVariants.{Cross, Input, Output, Own}
-use Rattle.sc_core.specs.declared.section.TypedStruct.{TypedStruct}
-use Rattle.sc_core.specs.declared.stmt.TypedStmt.{TypedStmt}
-use Rattle.sc_core.specs.declared.value.Value.{Value}
-use Rattle.sc_replay.specs.Replay.{proto_of}
-use Rattle.sc_replay.specs.Texts.{IsPerforming}
+use Rattle.sc_replay.proofs.Common.{Bool, CallTarget, Calls, Cross, Entry, Export, Function, Input, IsPerforming}
+use Rattle.sc_replay.proofs.Common.{IsSome, Left, Library, List, None, Option, Output, Own, Piece, Proto, Reached}
+use Rattle.sc_replay.proofs.Common.{Return, Roles, Scalar, Some, State, TypedStmt, TypedStruct, Value, and_then, ap}
+use Rattle.sc_replay.proofs.Common.{block_does, c_arith, export_at, false, false≢true, function, functions_of, imports}
+use Rattle.sc_replay.proofs.Common.{inl, inr, is_function, is_input, is_number, is_output, is_some, is_word, leads}
+use Rattle.sc_replay.proofs.Common.{length, list_all, may_call, option_map_or, proto_of, refl, slice_get, sym, takes}
+use Rattle.sc_replay.proofs.Common.{true, ℕ, ◌&&◌, ◌==◌, ◌∙◌, ◌≡◌, ◌⊎◌}
 use Rattle.sc_replay.proofs.Crossing.{at}
 use Rattle.sc_replay.proofs.Step.{Fair, IsOut}
 

@@ -1,33 +1,17 @@
 -- Programs whose other form performs parts of a trace by texts mean what the scripted meaning says.
-use Rattle.std.proofs.Common.{Bool, List, Option, Some, None, [], ap, bytes_eq, false, is_some, length, map, refl}
-use Rattle.std.proofs.Common.{slice_get, subst, sym, true, ℕ, ◌&&◌, ◌==◌, ◌∙◌, ◌∷◌, ◌≡◌}
-use Rattle.std.specs.Option.{option_map_or}
-use Rattle.std.specs.Prelude.{IsSome}
-use Rattle.std.proofs.lemmas.Bool.{false≢true}
-use Rattle.sc_event.specs.Prelude.{export_at, part}
-use Rattle.sc_event.specs.declared.event.Event.{Event}
-use Rattle.sc_event.specs.declared.interface.Interfaces.{Interfaces}
-use Rattle.sc_event.specs.declared.interface.Proto.{Proto}
-use Rattle.sc_event.specs.declared.row.Entry.{Entry}
-use Rattle.sc_event.specs.declared.row.Entry.TheVariants.{Export, Main}
-use Rattle.sc_event.specs.declared.row.Row.{Row}
-use Rattle.sc_core.specs.Prelude.{Blocks, Calls, Library, Roles, State, and_then, block_does, c_arith}
-use Rattle.sc_core.specs.Prelude.{closed, first_blocks, follow, function_of, functions_in}
-use Rattle.sc_core.specs.Prelude.{functions_of, global_block, globals_of, in_order, inits_do, leads, library_of}
-use Rattle.sc_core.specs.Prelude.{main_name, place_named, place_of_export, roles_in, scripted_meaning, all_do}
-use Rattle.sc_core.specs.Prelude.{stopped_at, struct_zeros}
-use Rattle.sc_core.specs.declared.cause.Cause.{Cause}
-use Rattle.sc_core.specs.declared.program.ProgramTree.{ProgramTree}
-use Rattle.sc_core.specs.declared.run.RunEnd.TheVariants.{Blamed}
-use Rattle.sc_core.specs.declared.section.TypedFunction.{TypedFunction}
+use Rattle.sc_replay.proofs.Common.{Blamed, Blocks, Bool, Calls, Cause, Entry, Event, Export, HasReplaced, Interfaces}
+use Rattle.sc_replay.proofs.Common.{IsCounter, IsRecomposed, IsReplaced, IsReplay, IsSome, Library, List, Main, None}
+use Rattle.sc_replay.proofs.Common.{Option, Performs, ProgramTree, Proto, Roles, Row, Some, State, TextsPerform}
+use Rattle.sc_replay.proofs.Common.{TypedFunction, TypedSection, TypedStruct, [], all_do, and_then, ap, block_does}
+use Rattle.sc_replay.proofs.Common.{bytes_eq, c_arith, closed, export_at, false, false≢true, first_blocks, follow}
+use Rattle.sc_replay.proofs.Common.{function_of, functions_in, functions_of, global_block, globals_of, in_order}
+use Rattle.sc_replay.proofs.Common.{inits_do, is_some, leads, length, library_of, main_name, map, option_map_or, part}
+use Rattle.sc_replay.proofs.Common.{place_named, place_of_export, proto_of, refl, roles_in, scripted_meaning, slice_get}
+use Rattle.sc_replay.proofs.Common.{stopped_at, struct_zeros, subst, sym, true, ℕ, ◌&&◌, ◌==◌, ◌∙◌, ◌∷◌, ◌≡◌}
 use Rattle.sc_core.specs.declared.section.TypedGlobal.{TypedGlobal}
-use Rattle.sc_core.specs.declared.section.TypedSection.{TypedSection}
-use Rattle.sc_core.specs.declared.section.TypedStruct.{TypedStruct}
 use Rattle.sc_core.specs.declared.ty.Ty.TheVariants as ty
 use Rattle.sc_core.specs.Meaning as core
 use Rattle.sc_laws.proofs.ProgramLaws as laws
-use Rattle.sc_replay.specs.Replay.{HasReplaced, IsCounter, IsRecomposed, IsReplaced, IsReplay, Performs, TextsPerform}
-use Rattle.sc_replay.specs.Replay.{proto_of}
 use Rattle.sc_replay.proofs.Text.{counting}
 use Rattle.sc_replay.proofs.Crossing.{at}
 use Rattle.sc_replay.proofs.Entries.{Leads, apart, entry_named, function_is, functions_are}

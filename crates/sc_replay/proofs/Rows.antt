@@ -1,27 +1,13 @@
 -- The rows of a part of a legal trace: they are numbered, of entries that there are, and may be done.
-use Rattle.std.proofs.Common.{Bool, List, Option, Some, None, [], ap, arith, eqb-true, false, if◌then◌else◌, length}
-use Rattle.std.proofs.Common.{map, refl}
-use Rattle.std.proofs.Common.{subst, suc, sym, true, ℕ, ◌&&◌, ◌==◌, ◌∙◌, ◌∷◌, ◌≡◌, eq-eqb, is_some}
-use Rattle.std.specs.List.{AllByRecursion, list_all}
-use Rattle.std.specs.Option.{option_map_or}
-use Rattle.std.specs.Prelude.{All, IsSome}
-use Rattle.std.proofs.lemmas.Bool.{and_from, and_parts, false≢true}
+use Rattle.sc_replay.proofs.Common.{Activation, All, AllByRecursion, Bool, Call, Cross, End, Event, Export, HasWords}
+use Rattle.sc_replay.proofs.Common.{In, Interfaces, IsSome, IsWord, Library, List, None, Option, Out, Proto, Ret}
+use Rattle.sc_replay.proofs.Common.{Scalar, Some, Standing, Word, [], action_of, and_from, and_parts, ap, arith}
+use Rattle.sc_replay.proofs.Common.{at_start, eq-eqb, eqb-true, export_at, false, false≢true, if◌then◌else◌, imports}
+use Rattle.sc_replay.proofs.Common.{is_allowed, is_function, is_legal_from, is_output, is_some, is_word, leads, legal}
+use Rattle.sc_replay.proofs.Common.{length, list_all, main_proto, map, may_call, may_perform, option_map_or, params_at}
+use Rattle.sc_replay.proofs.Common.{part, performer, proto_of, recursion_from_All, refl, resumed, rows_from}
+use Rattle.sc_replay.proofs.Common.{stands_after, subst, suc, sym, takes, true, ℕ, ◌&&◌, ◌==◌, ◌∙◌, ◌∷◌, ◌≡◌}
 use Rattle.std.proofs.lemmas.List.{length-map}
-use Rattle.std.proofs.lemmas.List.Elements.{recursion_from_All}
-use Rattle.sc_event.specs.Prelude.{Activation, Standing, action_of, at_start, export_at, imports, is_allowed}
-use Rattle.sc_event.specs.Prelude.{is_function, is_legal_from, is_output, legal, may_perform, part}
-use Rattle.sc_event.specs.Prelude.{performer, resumed, rows_from, stands_after, takes}
-use Rattle.sc_event.specs.declared.event.Event.{Event}
-use Rattle.sc_event.specs.declared.event.Event.TheVariants.{Call, Ret, Out, In, End}
-use Rattle.sc_event.specs.declared.interface.Interfaces.{Interfaces}
-use Rattle.sc_event.specs.declared.interface.Proto.{Proto}
-use Rattle.sc_event.specs.declared.interface.Scalar.{Scalar}
-use Rattle.sc_event.specs.declared.row.Entry.TheVariants.{Export}
-use Rattle.sc_core.specs.Prelude.{Library, is_word, leads, may_call}
-use Rattle.sc_core.specs.declared.expr.CallTarget.TheVariants.{Cross}
-use Rattle.sc_core.specs.declared.value.Value.TheVariants.{Word}
-use Rattle.sc_replay.specs.Replay.{HasWords, IsWord, main_proto, proto_of}
-use Rattle.sc_replay.specs.Texts.{params_at}
 use Rattle.sc_replay.proofs.Step.{Fair, MayAct, Suit}
 
 -- WORDS

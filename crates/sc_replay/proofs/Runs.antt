@@ -1,25 +1,15 @@
 -- Whole runs: the other library's run is the one in which the compartments of a set perform.
-use Rattle.std.proofs.Common.{Bool, List, Option, Some, None, [], ap, ap₂, arith, eq-eqb, false, if◌then◌else◌, length}
-use Rattle.std.proofs.Common.{refl, subst, suc, sym, true, zero, ℕ, ◌++◌, ◌∙◌, ◌∷◌, ◌≡◌, ◌≤◌}
-use Rattle.std.specs.Prelude.{IsSome, is_some}
-use Rattle.sc_event.specs.declared.event.Event.TheVariants.{End}
-use Rattle.sc_event.specs.declared.row.Entry.TheVariants.{Main}
-use Rattle.sc_core.specs.Prelude.{Blocks, Body, Function, Here, Library, Memory, Piece, Roles, State, Step}
-use Rattle.sc_core.specs.Prelude.{and_then, back_own, begun, call_own, done, exit_word, first_state, found}
-use Rattle.sc_core.specs.Prelude.{function, performs, rows_left, run_by, run_step, run_to, scripted_step, within}
-use Rattle.sc_core.specs.declared.run.RunEnd.TheVariants.{Ended, TurnsOut}
-use Rattle.sc_core.specs.declared.value.Value.{Value}
-use Rattle.sc_laws.specs.Interactions.{Obedient}
-use Rattle.sc_laws.specs.Laws.{IsFixed}
-use Rattle.sc_laws.specs.Steady.{now}
+use Rattle.sc_replay.proofs.Common.{Blocks, Body, BodyGoes, Bool, End, Ended, Function, Here, IsFixed, IsSome, Library}
+use Rattle.sc_replay.proofs.Common.{List, Main, Memory, None, Obedient, Option, Piece, Roles, Some, State, Step}
+use Rattle.sc_replay.proofs.Common.{TurnsOut, Value, [], and_then, ap, ap₂, arith, back_own, begun, call_own, done}
+use Rattle.sc_replay.proofs.Common.{eq-eqb, exit_word, false, first_state, found, function, if◌then◌else◌, is_some}
+use Rattle.sc_replay.proofs.Common.{length, main_proto, now, performs, proto_of, refl, rows_left, run_by, run_goes_on}
+use Rattle.sc_replay.proofs.Common.{run_step, run_to, scripted_goes_on, scripted_step, subst, suc, sym, true, within}
+use Rattle.sc_replay.proofs.Common.{within_goes, zero, ℕ, ◌++◌, ◌∙◌, ◌∷◌, ◌≡◌, ◌≤◌}
 use Rattle.sc_laws.proofs.Fixed.{scripted_fixed}
-use Rattle.sc_laws.proofs.Growing.{BodyGoes, within_goes}
-use Rattle.sc_laws.proofs.Matching.{run_goes_on, scripted_goes_on}
-use Rattle.sc_replay.specs.Replay.{main_proto, proto_of}
 use Rattle.sc_replay.proofs.Text.{counting}
 use Rattle.sc_replay.proofs.Near.{Both, Near, Reaches, Returns, ahead, both_so, both_then, counts, near_begun}
-use Rattle.sc_replay.proofs.Near.{near_below}
-use Rattle.sc_replay.proofs.Near.{near_within, reached, stopped}
+use Rattle.sc_replay.proofs.Near.{near_below, near_within, reached, stopped}
 use Rattle.sc_replay.proofs.Crossing.{at, inside}
 use Rattle.sc_replay.proofs.Recomposed.{Performed, Recomposed}
 use Rattle.sc_replay.proofs.Bodies.{BodiesAlike, kept_step, own_both, text_step}

@@ -1,30 +1,14 @@
 -- A function that performs its part by its text, beside the one that performs its rows.
-use Rattle.std.proofs.Common.{Bool, List, Option, Some, None, [], ap, arith, drop, eq-eqb, false, if◌then◌else◌, map}
-use Rattle.std.proofs.Common.{refl, subst, suc, sym, true, zero, ℕ, ⊎_elim, ◌+◌, ◌-◌, ◌<◌, ◌∙◌, ◌∷◌, ◌≡◌, ◌≤◌}
-use Rattle.std.specs.Prelude.{IsSome}
-use Rattle.std.proofs.lemmas.Bool.{cases_eq}
-use Rattle.std.proofs.lemmas.List.{drop-drop}
-use Rattle.sc_event.specs.Prelude.{count_of}
-use Rattle.sc_event.specs.declared.interface.Scalar.{Scalar}
-use Rattle.sc_event.specs.declared.row.Action.{Action}
+use Rattle.sc_replay.proofs.Common.{Action, Blocks, Body, Bool, CallTarget, Calls, Cross, Entry, Here, Input, IsFixed}
+use Rattle.sc_replay.proofs.Common.{IsPerforming, IsSome, IsWord, Left, Library, List, None, Option, Output, Own, Piece}
+use Rattle.sc_replay.proofs.Common.{Reached, Return, Roles, Row, Scalar, Some, State, Step, Stopped, TurnsOut}
+use Rattle.sc_replay.proofs.Common.{TypedStmt, TypedStruct, Value, Word, [], acts, all_do, and_then, ap, arith, calls}
+use Rattle.sc_replay.proofs.Common.{cases_eq, count_of, drop, drop-drop, ends, eq-eqb, false, follow, if◌then◌else◌}
+use Rattle.sc_replay.proofs.Common.{in_order, is_number, map, may_call, now, or_int, params_at, performs, proto_of}
+use Rattle.sc_replay.proofs.Common.{refl, row_kind, rows_left, scripted_step, skips, stmt_at, subst, suc, sym, true}
+use Rattle.sc_replay.proofs.Common.{waits, zero, ℕ, ⊎_elim, ◌+◌, ◌-◌, ◌<◌, ◌∙◌, ◌∷◌, ◌≡◌, ◌≤◌}
 use Rattle.sc_event.specs.declared.row.Action.TheVariants as act
-use Rattle.sc_event.specs.declared.row.Entry.{Entry}
-use Rattle.sc_event.specs.declared.row.Row.{Row}
-use Rattle.sc_core.specs.Prelude.{Blocks, Body, Calls, Here, Left, Library, Piece, Reached, Return, Roles, State, Step}
-use Rattle.sc_core.specs.Prelude.{Stopped, acts, all_do, and_then, calls, follow, in_order, is_number, may_call}
-use Rattle.sc_core.specs.Prelude.{performs, rows_left, scripted_step}
-use Rattle.sc_core.specs.declared.expr.CallTarget.{CallTarget}
-use Rattle.sc_core.specs.declared.expr.CallTarget.TheVariants.{Cross, Input, Output, Own}
-use Rattle.sc_core.specs.declared.run.RunEnd.TheVariants.{TurnsOut}
-use Rattle.sc_core.specs.declared.section.TypedStruct.{TypedStruct}
-use Rattle.sc_core.specs.declared.stmt.TypedStmt.{TypedStmt}
-use Rattle.sc_core.specs.declared.value.Value.{Value}
-use Rattle.sc_core.specs.declared.value.Value.TheVariants.{Word}
-use Rattle.sc_laws.specs.Laws.{IsFixed}
-use Rattle.sc_laws.specs.Steady.{now}
-use Rattle.sc_replay.specs.Replay.{IsWord, proto_of}
-use Rattle.sc_replay.specs.Texts.{IsPerforming, ends, or_int, params_at, performs as performs_row, row_kind, skips}
-use Rattle.sc_replay.specs.Texts.{stmt_at, waits}
+use Rattle.sc_replay.specs.Texts.{performs as performs_row}
 use Rattle.sc_replay.proofs.Values.{int_gives, int_shape, word_gives, word_shape, word_shapes}
 use Rattle.sc_replay.proofs.Text.{Give, Halts, acts_there, action_does, call_does, counted, counting, does, none, one}
 use Rattle.sc_replay.proofs.Text.{passes, return_does, row_does_is, waits_halts}

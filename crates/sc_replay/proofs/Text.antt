@@ -1,38 +1,25 @@
 -- What the statements of a text that performs a part do, one by one.
-use Rattle.std.proofs.Common.{List, Ok, Option, Some, None, [], ap, eq-eqb, map}
-use Rattle.std.proofs.Common.{ne_eqb, refl, suc, sym, true, zero, ℕ, ◌++◌, ◌==◌, ◌∙◌, ◌∷◌, ◌≡◌}
+use Rattle.sc_replay.proofs.Common.{Action, Acts, AssignLine, Block, Blocks, CallLine, CallTarget, Calls, Cross, Here}
+use Rattle.sc_replay.proofs.Common.{IfLine, Input, Interfaces, Left, Lines, List, Lit, Next, NoLine, None, Ok, Option}
+use Rattle.sc_replay.proofs.Common.{Output, Piece, Reached, Return, ReturnLine, ReturnValueLine, Row, Scalar, Shape}
+use Rattle.sc_replay.proofs.Common.{Some, State, Stopped, TurnsOut, Two, TypedStmt, TypedStruct, Value, Var, Ways}
+use Rattle.sc_replay.proofs.Common.{WhileLine, Word, [], action_kind, all_do, and_then, ap, assign, block_does, c_arith}
+use Rattle.sc_replay.proofs.Common.{call_alone, calls_out, choose, computed, counter, counter_is, eq-eqb, evaluated}
+use Rattle.sc_replay.proofs.Common.{expr, follow, in_order, leave, lines_are, lines_do, map, ne_eqb, of_bool, or_int}
+use Rattle.sc_replay.proofs.Common.{params_at, refl, rolls-Binary, rolls-Variable, rounds, row_kind, stmt_at, stmt_does}
+use Rattle.sc_replay.proofs.Common.{stmts, store, suc, sym, test, true, turn_of, values, variable_at, waits, way}
+use Rattle.sc_replay.proofs.Common.{with_memory, zero, ℕ, ◌++◌, ◌==◌, ◌∙◌, ◌∷◌, ◌≡◌}
 use Rattle.sc_base.specs.declared.op.BinaryOp.TheVariants as op
-use Rattle.sc_event.specs.declared.interface.Interfaces.{Interfaces}
-use Rattle.sc_event.specs.declared.interface.Scalar.{Scalar}
-use Rattle.sc_event.specs.declared.row.Action.{Action}
 use Rattle.sc_event.specs.declared.row.Action.TheVariants as act
-use Rattle.sc_event.specs.declared.row.Row.{Row}
-use Rattle.sc_core.specs.Prelude.{Acts, Blocks, Calls, Here, Left, Next, Piece, Reached, Return, State, Stopped, Ways}
-use Rattle.sc_core.specs.Prelude.{all_do, and_then, assign, block_does, c_arith, call_alone, choose, computed}
-use Rattle.sc_core.specs.Prelude.{evaluated, follow, in_order, leave, of_bool, rounds, stmt_does, store, test}
-use Rattle.sc_core.specs.Prelude.{turn_of, values, variable_at, with_memory}
-use Rattle.sc_core.specs.Memory.{Block}
-use Rattle.sc_core.specs.declared.expr.CallTarget.{CallTarget}
-use Rattle.sc_core.specs.declared.expr.CallTarget.TheVariants.{Cross, Input, Output}
 use Rattle.sc_core.specs.declared.expr.TypedKind
-use Rattle.sc_core.specs.declared.expr.TypedKind.TheVariants.{rolls-Binary, rolls-Variable}
 use Rattle.sc_core.specs.declared.expr.VarRef.TheVariants.{Global}
-use Rattle.sc_core.specs.declared.run.RunEnd.TheVariants.{TurnsOut}
-use Rattle.sc_core.specs.declared.section.TypedStruct.{TypedStruct}
-use Rattle.sc_core.specs.declared.stmt.TypedStmt.{TypedStmt}
 use Rattle.sc_core.specs.declared.stmt.TypedStmtKind.{TypedStmtKind}
 use Rattle.sc_core.specs.declared.stmt.TypedStmtKind as kind
 use Rattle.sc_core.specs.declared.stmt.TypedStmtKind.TheVariants.{rolls-Assign, rolls-Call, rolls-If, rolls-Return}
 use Rattle.sc_core.specs.declared.stmt.TypedStmtKind.TheVariants.{rolls-ReturnValue, rolls-While}
 use Rattle.sc_core.specs.declared.ty.Ty.TheVariants as ty
 use Rattle.sc_core.specs.declared.value.Cell.TheVariants as cell
-use Rattle.sc_core.specs.declared.value.Value.{Value}
-use Rattle.sc_core.specs.declared.value.Value.TheVariants.{Word}
 use Rattle.sc_core.specs.declared.value.Want.TheVariants as want
-use Rattle.sc_core.proofs.Shapes.{AssignLine, CallLine, IfLine, Lines, Lit, NoLine, ReturnLine, ReturnValueLine, Shape}
-use Rattle.sc_core.proofs.Shapes.{Two, Var, WhileLine, expr, lines_are, lines_do, stmts, way}
-use Rattle.sc_replay.specs.Texts.{action_kind, calls_out, counter, counter_is, or_int, params_at}
-use Rattle.sc_replay.specs.Texts.{row_kind, stmt_at, waits}
 use Rattle.sc_replay.proofs.Values.{Gives, int_is, int_shape, literal_is, word_is, word_shape, word_shapes, words_are}
 
 -- STATEMENTS BY SHAPES

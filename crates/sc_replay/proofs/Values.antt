@@ -1,25 +1,18 @@
 -- How a word is written as an expression, and that this gives the word.
-use Rattle.std.proofs.Common.{Bool, Err, List, Ok, [], ap, ap₂, arith, false, if◌then◌else◌, leb-false, map}
-use Rattle.std.proofs.Common.{nat_le, neg_ℤ, negsuc, pos, refl, suc, sym, true, zero, ℕ, ◌-◌}
-use Rattle.std.proofs.Common.{◌<◌, ◌==◌, ◌^◌, ◌∙◌, ◌∷◌, ◌≡◌}
-use Rattle.std.proofs.lemmas.Bool.{eq-eqb, eqb-true}
+use Rattle.sc_replay.proofs.Common.{Blocks, Bool, Err, Here, IsWord, List, Lit, Ok, One, Scalar, Shape, Two}
+use Rattle.sc_replay.proofs.Common.{TypedStruct, Word, [], ap, ap₂, arith, as_word, c_arith, eq-eqb, eqb-true, expr}
+use Rattle.sc_replay.proofs.Common.{false, if◌then◌else◌, int_expr, least_int, leb-false, literal, map, minus, nat_le}
+use Rattle.sc_replay.proofs.Common.{neg_ℤ, negsuc, or_cause, pos, refl, rolls-Binary, rolls-Literal, rolls-Unary, suc}
+use Rattle.sc_replay.proofs.Common.{sym, true, way, word_expr, word_exprs, zero, ℕ, ◌-◌, ◌<◌, ◌==◌, ◌^◌, ◌∙◌, ◌∷◌, ◌≡◌}
+use Rattle.sc_word.specs.Prelude.{fits_signed, neg_signed, signed_of, word_of}
 use Rattle.sc_base.specs.declared.op.BinaryOp.TheVariants as op
 use Rattle.sc_base.specs.declared.op.UnaryOp.TheVariants as unary
-use Rattle.sc_event.specs.declared.interface.Scalar.{Scalar}
 use Rattle.sc_event.specs.declared.interface.Scalar.TheVariants as scalar
-use Rattle.sc_word.specs.Prelude.{fits_signed, neg_signed, signed_of, word_of}
 use Rattle.sc_word.specs.declared.fault.WordFault.TheVariants.{Overflow}
-use Rattle.sc_core.specs.Prelude.{Blocks, Here, as_word, c_arith, or_cause}
 use Rattle.sc_core.specs.declared.expr.TypedKind
-use Rattle.sc_core.specs.declared.expr.TypedKind.TheVariants.{rolls-Binary, rolls-Literal, rolls-Unary}
-use Rattle.sc_core.specs.declared.section.TypedStruct.{TypedStruct}
 use Rattle.sc_core.specs.declared.ty.Ty.{Ty}
 use Rattle.sc_core.specs.declared.ty.Ty.TheVariants as ty
-use Rattle.sc_core.specs.declared.value.Value.TheVariants.{Word}
 use Rattle.sc_core.specs.declared.value.Want.TheVariants as want
-use Rattle.sc_core.proofs.Shapes.{Shape, Lit, One, Two, expr, way}
-use Rattle.sc_replay.specs.Replay.{IsWord}
-use Rattle.sc_replay.specs.Texts.{int_expr, least_int, literal, minus, word_expr, word_exprs}
 
 -- SHAPES
 abbrev pub least_shape : Shape

@@ -1,8 +1,8 @@
 -- Programs in which the sections of some compartments are replaced by ones that perform their parts of a trace.
-use Rattle.std.specs.Prelude.{◌≡◌, ℕ, ◌<◌, ◌^◌, ◌==◌, if◌then◌else◌, Bool, true, false, List, [], ◌∷◌, Option, Some}
-use Rattle.std.specs.Prelude.{None}
-use Rattle.std.specs.Prelude.{All, IfSome, slice_get}
 use Rattle.sc_event.specs.Prelude.{export_at, legal, part}
+use Rattle.sc_core.specs.Prelude.{IsWellTyped, main_name, meaning, place_named, scripted_meaning}
+use Rattle.std.specs.Prelude.{◌≡◌, ℕ, ◌<◌, ◌^◌, ◌==◌, if◌then◌else◌, Bool, true, false, List, [], ◌∷◌, Option, Some}
+use Rattle.std.specs.Prelude.{None, All, IfSome, slice_get}
 use Rattle.sc_event.specs.declared.event.Event.{Event}
 use Rattle.sc_event.specs.declared.event.Event.TheVariants.{Call, Ret, Out, In, End}
 use Rattle.sc_event.specs.declared.interface.Interfaces.{Interfaces}
@@ -11,7 +11,6 @@ use Rattle.sc_event.specs.declared.interface.Scalar.TheVariants as scalar
 use Rattle.sc_event.specs.declared.row.Entry.{Entry}
 use Rattle.sc_event.specs.declared.row.Entry.TheVariants.{Main, Export}
 use Rattle.sc_event.specs.declared.row.Row.{Row}
-use Rattle.sc_core.specs.Prelude.{IsWellTyped, main_name, meaning, place_named, scripted_meaning}
 use Rattle.sc_core.specs.declared.cause.Cause.{Cause}
 use Rattle.sc_core.specs.declared.program.ProgramTree.{ProgramTree}
 use Rattle.sc_core.specs.declared.run.RunEnd.TheVariants.{Blamed}

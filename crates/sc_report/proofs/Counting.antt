@@ -1,10 +1,7 @@
 -- Texts that are told number by number.
-use Rattle.sc_report.proofs.Common.{List, [], ap, flat_map, sym, ℕ, ◌++◌, ◌+◌, ◌∙◌, ◌∷◌, ◌≡◌}
-use Rattle.std.proofs.Common.{Bool, append-nil, arith, false, filter, suc, true, zero}
-use Rattle.std.specs.Prelude.{cond}
-use Rattle.std.proofs.lemmas.List.{flat_map_more}
+use Rattle.sc_report.proofs.Common.{Bool, List, [], ap, append-nil, arith, cond, false, filter, flat_map, flat_map_more}
+use Rattle.sc_report.proofs.Common.{numbers_from, suc, sym, true, zero, ℕ, ◌++◌, ◌+◌, ◌∙◌, ◌∷◌, ◌≡◌}
 use Rattle.std.proofs.lemmas.List.Elements.{filter-append}
-use Rattle.sc_made.specs.Text.{numbers_from}
 
 last_number : (first count : ℕ) → numbers_from first (suc count) ≡ numbers_from first count ++ (first + count) ∷ []
 last_number first zero =

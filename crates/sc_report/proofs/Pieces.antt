@@ -1,7 +1,6 @@
 -- Texts that are told piece by piece.
-use Rattle.sc_report.proofs.Common.{Err, List, Ok, OnOk, Result, [], ap, append_assoc, flat_map, get_or, length, sym}
-use Rattle.sc_report.proofs.Common.{take, ℕ, ◌++◌, ◌+◌, ◌<◌, ◌∙◌, ◌∷◌, ◌≡◌}
-use Rattle.std.proofs.lemmas.List.{flat_map_more, take_more}
+use Rattle.sc_report.proofs.Common.{Err, List, Ok, OnOk, Result, [], ap, append_assoc, flat_map, flat_map_more, get_or}
+use Rattle.sc_report.proofs.Common.{length, sym, take, take_more, ℕ, ◌++◌, ◌+◌, ◌<◌, ◌∙◌, ◌∷◌, ◌≡◌}
 
 -- three pieces, one behind the other
 pub three_pieces : {E : Type 0} (r : Result (Unit {0}) E) (old o1 o2 o3 a b c : List ℕ) → o1 ≡ old ++ a → o2 ≡ o1 ++ b →

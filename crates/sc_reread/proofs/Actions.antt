@@ -1,16 +1,15 @@
 -- Actions as statements: their words, and what these come to.
-use Rattle.sc_reread.proofs.Common.{ExprTree, IsTrue, List, None, Option, Piece, Some, StmtKind, [], and_from, ap}
-use Rattle.sc_reread.proofs.Common.{append_assoc, arith, ap₂, blank, codes, expr_height, expr_words, exprs_height}
-use Rattle.sc_reread.proofs.Common.{flat_map, flat_map-append, is_ident, is_kept, is_kept_stmt, is_name, is_reserved}
-use Rattle.sc_reread.proofs.Common.{join_by, list_all, comma, piece_text, refl, rules, stmt_height, stmt_layout, suc}
-use Rattle.sc_reread.proofs.Common.{text_of, true, word, ended, call_words, return_words, ℕ, ◌&&◌, ◌++◌, ◌∙◌, ◌∷◌, ◌≡◌}
+use Rattle.sc_reread.proofs.Common.{AllByRecursion, ExprTree, Interfaces, IsSpoken, IsTrue, IsWord, IsWordOrNone, List}
+use Rattle.sc_reread.proofs.Common.{None, Option, Piece, Proto, Scalar, Some, [], action_kind, action_text, and_from}
+use Rattle.sc_reread.proofs.Common.{ap, append_assoc, ap₂, arith, blank, call_kind, call_text, call_words, codes, comma}
+use Rattle.sc_reread.proofs.Common.{ended, expr_height, expr_words, exprs_height, flat_map, flat_map-append}
+use Rattle.sc_reread.proofs.Common.{input_proto, is_ident, is_kept, is_kept_stmt, is_name, is_reserved, join_by, joined}
+use Rattle.sc_reread.proofs.Common.{list_all, output_proto, piece_text, recursion_from_All, refl, return_kind}
+use Rattle.sc_reread.proofs.Common.{return_text, return_words, rules, stmt_height, stmt_layout, suc, text_of, true}
+use Rattle.sc_reread.proofs.Common.{unlined, value_texts, value_tree, value_trees, word, ℕ, ◌&&◌, ◌++◌, ◌∙◌, ◌∷◌, ◌≡◌}
 use Rattle.sc_reread.proofs.Common.{◌≤◌}
-use Rattle.std.specs.List.{AllByRecursion}
-use Rattle.std.proofs.lemmas.List.Elements.{recursion_from_All}
 use Rattle.sc_event.specs.Prelude.{export_at}
-use Rattle.sc_event.specs.declared.interface.Interfaces.{Interfaces}
-use Rattle.sc_event.specs.declared.interface.Proto.{Proto}
-use Rattle.sc_event.specs.declared.interface.Scalar.{Scalar}
+use Rattle.sc_ast.specs.declared.stmt.StmtKind.{StmtKind}
 use Rattle.sc_event.specs.declared.interface.Scalar.TheVariants as scalar
 use Rattle.sc_event.specs.declared.row.Action.{Action}
 use Rattle.sc_event.specs.declared.row.Action.TheVariants as action
@@ -20,10 +19,6 @@ use Rattle.sc_ast.specs.declared.stmt.StmtTree as stmts
 use Rattle.sc_ast.specs.declared.stmt.StmtKind as kinds
 use Rattle.sc_ast.specs.declared.stmt.StmtKind.TheVariants as stmt
 use Rattle.sc_expr.specs.declared.mark.Keyword.TheVariants as keyword
-use Rattle.sc_back.specs.Text.{action_text, call_text, input_proto, joined, output_proto, return_text}
-use Rattle.sc_back.specs.Text.{value_texts}
-use Rattle.sc_back.specs.Tree.{action_kind, call_kind, return_kind, unlined, value_tree, value_trees}
-use Rattle.sc_back.specs.Sections.{IsSpoken, IsWord, IsWordOrNone}
 use Rattle.sc_reread.proofs.Nesting.{Nested, even_comma, even_ident, even_keyword, even_semicolon, nested_append}
 use Rattle.sc_reread.proofs.Nesting.{nested_blank, nested_even, nested_more, nested_none, nested_parens}
 use Rattle.sc_reread.proofs.Values.{value_is}

@@ -1,18 +1,11 @@
 -- A compartment that can perform, and the text by which it does.
-use Rattle.sc_reread.proofs.Common.{List, None, Some, [], arith, codes, is_name, is_reserved, refl, ◌∷◌}
-use Rattle.std.proofs.lemmas.List.Elements.{All-from_recursion}
+use Rattle.sc_reread.proofs.Common.{All-from_recursion, CanPerform, Interface, Interfaces, IsCalled, IsImported}
+use Rattle.sc_reread.proofs.Common.{IsReadAs, IsSpoken, IsWord, List, None, Proto, Row, Some, [], arith, back_text}
+use Rattle.sc_reread.proofs.Common.{back_tree, codes, is_name, is_reserved, refl, ◌∷◌}
 use Rattle.sc_event.specs.declared.interface.Import.TheVariants as import
-use Rattle.sc_event.specs.declared.interface.Interface.{Interface}
-use Rattle.sc_event.specs.declared.interface.Interfaces.{Interfaces}
-use Rattle.sc_event.specs.declared.interface.Proto.{Proto}
 use Rattle.sc_event.specs.declared.interface.Scalar.TheVariants.{Int}
 use Rattle.sc_event.specs.declared.row.Action.TheVariants.{Call, End}
 use Rattle.sc_event.specs.declared.row.Entry.TheVariants.{Main}
-use Rattle.sc_event.specs.declared.row.Row.{Row}
-use Rattle.sc_back.specs.Text.{back_text}
-use Rattle.sc_back.specs.Tree.{back_tree}
-use Rattle.sc_back.specs.Sections.{CanPerform, IsCalled, IsImported, IsSpoken, IsWord}
-use Rattle.sc_reread.specs.Performing.{IsReadAs}
 use Rattle.sc_reread.proofs.Reading.{performing_texts}
 
 abbrev get : Proto

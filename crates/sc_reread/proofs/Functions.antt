@@ -1,30 +1,20 @@
 -- Functions that perform: their words, and what these come to.
-use Rattle.sc_reread.proofs.Common.{Bool, List, Option, Piece, StmtTree, [], and_from, ap, append_assoc, arith, ap₂}
-use Rattle.sc_reread.proofs.Common.{are_kept, blank, codes, false, filter, flat_map, flat_map-append, head_of}
-use Rattle.sc_reread.proofs.Common.{head_words, indent, is_kept_stmt, kept_function, kept_head, layouts, line_of}
-use Rattle.sc_reread.proofs.Common.{lines_at, literal_text, newline, piece_text, refl, rules, stmt_height, stmt_layout}
-use Rattle.sc_reread.proofs.Common.{stmts_height, subst, sym, symbols, text_of, true, word, word_symbol, ℕ}
-use Rattle.sc_reread.proofs.Common.{function_words, if◌then◌else◌, ◌++◌, ◌∙◌, ◌∷◌, ◌≡◌, ◌≤◌}
-use Rattle.std.specs.Fmt.{digits}
-use Rattle.sc_event.specs.declared.interface.Interfaces.{Interfaces}
-use Rattle.sc_event.specs.declared.interface.Proto.{Proto}
-use Rattle.sc_event.specs.declared.interface.Scalar.{Scalar}
-use Rattle.sc_event.specs.declared.row.Entry.{Entry}
-use Rattle.sc_event.specs.declared.row.Row.{Row}
+use Rattle.sc_reread.proofs.Common.{Bool, Entry, FunctionTree, Interfaces, IsCalled, List, Option, Piece, Proto, Row}
+use Rattle.sc_reread.proofs.Common.{Scalar, StmtTree, [], and_from, ap, append_assoc, ap₂, are_kept, arith, at_level}
+use Rattle.sc_reread.proofs.Common.{blank, body_tree, codes, digits, false, filter, flat_map, flat_map-append}
+use Rattle.sc_reread.proofs.Common.{function_head, function_height, function_text, function_tree, function_words, gap}
+use Rattle.sc_reread.proofs.Common.{head_of, head_tidy, head_words, if◌then◌else◌, indent, is_kept_stmt, is_of}
+use Rattle.sc_reread.proofs.Common.{joined_symbols, kept_function, kept_head, layouts, line_end, line_of, lines_at}
+use Rattle.sc_reread.proofs.Common.{literal, literal_text, newline, next, piece_text, proto_head, refl, row_kind}
+use Rattle.sc_reread.proofs.Common.{row_text, rules, stmt_height, stmt_layout, stmts_height, subst, sym, symbols}
+use Rattle.sc_reread.proofs.Common.{text_of, tidy_append, true, unlined, word, word_symbol, ℕ, ◌++◌, ◌∙◌, ◌∷◌, ◌≡◌, ◌≤◌}
 use Rattle.sc_ast.specs.declared.expr.ExprTree as exprs
-use Rattle.sc_ast.specs.declared.section.FunctionTree.{FunctionTree}
 use Rattle.sc_ast.specs.declared.stmt.StmtTree as stmts
 use Rattle.sc_ast.specs.declared.stmt.StmtKind as kinds
 use Rattle.sc_ast.specs.declared.stmt.StmtKind.TheVariants as stmt
-use Rattle.sc_ast.specs.Height.{function_height}
 use Rattle.sc_expr.specs.declared.mark.Keyword.TheVariants as keyword
 use Rattle.sc_print.proofs.Apart as apart
-use Rattle.sc_print.proofs.DeclSpacing.{head_tidy}
-use Rattle.sc_print.proofs.Reading.{joined_symbols}
-use Rattle.sc_print.proofs.Spacing.{at_level, gap, line_end, next, none, tidy_append}
-use Rattle.sc_back.specs.Text.{function_text, is_of, row_text}
-use Rattle.sc_back.specs.Tree.{body_tree, function_head, function_tree, literal, proto_head, row_kind, unlined}
-use Rattle.sc_back.specs.Sections.{IsCalled}
+use Rattle.sc_print.proofs.Spacing.{none}
 use Rattle.sc_reread.proofs.Nesting.{Nested, even_keyword, even_literal, nested_append, nested_blank, nested_curly}
 use Rattle.sc_reread.proofs.Nesting.{nested_even, nested_level, nested_line, nested_more, nested_none, nested_parens}
 use Rattle.sc_reread.proofs.Rows.{AreSpoken, Same, literal_word, row_is}

@@ -1,17 +1,13 @@
 -- Where compartment lines stand in joined texts.
-use Rattle.sc_reread.proofs.Common.{Bool, List, [], and_from, and_parts, ap, append_assoc, ap₂, arith}
-use Rattle.sc_reread.proofs.Common.{codes, drop, eq-eqb, eqb-true, false, false≢true, length}
-use Rattle.sc_reread.proofs.Common.{list_all, ne_eqb, not, refl, slice_index, subst, suc, sym, take, true}
-use Rattle.sc_reread.proofs.Common.{zero, ℕ, ◌&&◌, ◌++◌, ◌+◌, ◌-◌, ◌<◌, ◌==◌, ◌∙◌, ◌∷◌, ◌≡◌, ◌≤◌}
-use Rattle.std.proofs.Common.{append-nil, cond, drop-drop, get_or-drop, inl, inr, length-drop, take-append-drop, ◌⊎◌}
-use Rattle.std.proofs.Common.{◌||◌}
-use Rattle.std.proofs.Math.Seq.{drop-append_seam}
-use Rattle.std.proofs.lemmas.List.{drop-append-le, get_or_append_left, take-append-le}
+use Rattle.sc_reread.proofs.Common.{Bool, List, [], and_from, and_parts, ap, append-nil, append_assoc, ap₂, arith}
+use Rattle.sc_reread.proofs.Common.{begins_heading, begins_line, codes, cond, drop, drop-append-le, drop-append_seam}
+use Rattle.sc_reread.proofs.Common.{drop-drop, eq-eqb, eqb-true, false, false≢true, first_line, get_or-drop}
+use Rattle.sc_reread.proofs.Common.{get_or_append_left, heading_begins, inl, inr, is_heading, is_inside_line, length}
+use Rattle.sc_reread.proofs.Common.{length-drop, line_len, list_all, ne_eqb, not, refl, slice_index, subst, suc, sym}
+use Rattle.sc_reread.proofs.Common.{take, take-append-drop, take-append-le, true, zero, ℕ, ◌&&◌, ◌++◌, ◌+◌, ◌-◌, ◌<◌}
+use Rattle.sc_reread.proofs.Common.{◌==◌, ◌||◌, ◌∙◌, ◌∷◌, ◌≡◌, ◌≤◌, ◌⊎◌}
 use Rattle.std.proofs.lemmas.Bool.Decides.{Decides-eqb}
 use Rattle.std.proofs.lemmas.Slice.Eq.{slice_eq-Decides}
-use Rattle.sc_lex.specs.Prelude.{begins_heading, begins_line, is_heading, is_inside_line, line_len}
-use Rattle.sc_lex.specs.Lines.{first_line}
-use Rattle.sc_print.proofs.DirectiveWords.{heading_begins}
 
 -- the bytes with which a compartment line begins
 abbrev pub mark : List ℕ

@@ -1,38 +1,23 @@
 -- In the text of a performing section stands no other compartment line.
-use Rattle.sc_reread.proofs.Common.{Bool, IsTrue, List, None, Option, Piece, Some, [], and_from, and_parts, ap}
-use Rattle.sc_reread.proofs.Common.{append_assoc, arith, codes, drop, false, false≢true, filter, flat_map, is_name}
-use Rattle.sc_reread.proofs.Common.{is_name_byte, length, list_all, not, refl, slice_index, subst, suc, sym, take}
-use Rattle.sc_reread.proofs.Common.{text_of, true, zero, ℕ, if◌then◌else◌, ◌&&◌, ◌++◌, ◌==◌, ◌∙◌, ◌∷◌, ◌≡◌, ◌≤◌}
-use Rattle.std.proofs.Common.{append-nil, is_some, nat_lt, replicate, ◌*◌}
-use Rattle.std.proofs.lemmas.List.{drop_all}
-use Rattle.std.proofs.Math.Seq.{take-append_seam}
-use Rattle.std.proofs.lemmas.Bool.{or_left}
-use Rattle.std.proofs.lemmas.List.Elements.{recursion_from_All}
-use Rattle.std.specs.List.{AllByRecursion}
-use Rattle.std.specs.Option.{option_or}
-use Rattle.sc_base.specs.Prelude.{is_digit, is_nondigit}
+use Rattle.sc_reread.proofs.Common.{AllByRecursion, Bool, CanPerform, Entry, Import, Interface, Interfaces, IsCalled}
+use Rattle.sc_reread.proofs.Common.{IsImported, IsTrue, List, None, Option, Piece, Proto, Row, Some, TokenKind, []}
+use Rattle.sc_reread.proofs.Common.{and_from, and_parts, ap, append-nil, append_assoc, arith, begins_heading}
+use Rattle.sc_reread.proofs.Common.{begins_line, codes, directive_kind, drop, drop_all, export_text, false, false≢true}
+use Rattle.sc_reread.proofs.Common.{filter, first_line, flat_map, function_text, functions_text, head_text}
+use Rattle.sc_reread.proofs.Common.{heading_begins, heading_is, heading_line_is, if◌then◌else◌, import_text, is_digit}
+use Rattle.sc_reread.proofs.Common.{is_directive, is_export, is_heading, is_import, is_inside_line, is_name}
+use Rattle.sc_reread.proofs.Common.{is_name_byte, is_nondigit, is_of, is_pragma, is_some, length, list_all, main_proto}
+use Rattle.sc_reread.proofs.Common.{main_text, mark_kind, marks, nat_lt, no_table, not, option_or, or_left, owner_name}
+use Rattle.sc_reread.proofs.Common.{proto_text, recursion_from_All, refl, replicate, row_text, section_text}
+use Rattle.sc_reread.proofs.Common.{slice_index, subst, suc, sym, take, take-append_seam, text_of, true, zero, ℕ, ◌&&◌}
+use Rattle.sc_reread.proofs.Common.{◌*◌, ◌++◌, ◌==◌, ◌∙◌, ◌∷◌, ◌≡◌, ◌≤◌}
 use Rattle.sc_base.proofs.Lists.{list_all_along}
-use Rattle.sc_event.specs.declared.interface.Import.{Import}
-use Rattle.sc_event.specs.declared.interface.Interface.{Interface}
-use Rattle.sc_event.specs.declared.interface.Interfaces.{Interfaces}
-use Rattle.sc_event.specs.declared.interface.Proto.{Proto}
-use Rattle.sc_event.specs.declared.row.Entry.{Entry}
 use Rattle.sc_event.specs.declared.row.Entry.TheVariants as entry
-use Rattle.sc_event.specs.declared.row.Row.{Row}
-use Rattle.sc_lex.specs.Prelude.{begins_heading, begins_line, is_directive, is_export, is_heading, is_import}
-use Rattle.sc_lex.specs.Prelude.{directive_kind, is_inside_line, is_pragma, mark_kind, marks}
 unfoldable use Rattle.sc_lex.specs.Prelude.{heading_name, is_mark, kind_of, line_kind, word_kind, words}
-use Rattle.sc_lex.specs.Lines.{first_line}
-use Rattle.sc_lex.specs.declared.token.TokenKind.{TokenKind}
 use Rattle.sc_lex.specs.declared.token.TokenKind.TheVariants as kind
 use Rattle.sc_lex.proofs.Texts.{word_run}
 use Rattle.sc_print.proofs.Apart.{IsWord, run_is}
-use Rattle.sc_print.proofs.DirectiveWords.{heading_begins, heading_is, heading_line_is}
-use Rattle.sc_print.proofs.Literals.{no_table}
 use Rattle.sc_print.proofs.Spacing as spacing
-use Rattle.sc_back.specs.Text.{export_text, function_text, functions_text, head_text, import_text}
-use Rattle.sc_back.specs.Text.{is_of, main_proto, main_text, owner_name, proto_text, row_text, section_text}
-use Rattle.sc_back.specs.Sections.{CanPerform, IsCalled, IsImported}
 use Rattle.sc_reread.proofs.Headings.{last, last_append, mark, to_begins}
 use Rattle.sc_reread.proofs.Performing.{decls_are, ident_name}
 use Rattle.sc_reread.proofs.Splitting.{IsText}

@@ -1,19 +1,16 @@
 -- Heads of functions: their words, and what these come to.
-use Rattle.sc_reread.proofs.Common.{Bool, List, None, Option, Piece, Some, [], and_from, and_parts, ap, append-nil}
-use Rattle.sc_reread.proofs.Common.{append_assoc, arith, ap₂, cases_lt, codes, comma, decimal, flat_map}
-use Rattle.sc_reread.proofs.Common.{flat_map-append, head_of, head_words, is_ident, is_name, is_reserved, kept_head}
-use Rattle.sc_reread.proofs.Common.{kept_param, length, list_all, map, option_map, param_of, param_words, params_words}
-use Rattle.sc_reread.proofs.Common.{piece_text, refl, result_words, subst, suc, text_of, true, word, zero, ℕ, ⊎_elim}
-use Rattle.sc_reread.proofs.Common.{◌&&◌, ◌++◌, ◌+◌, ◌<◌, ◌∙◌, ◌∷◌, ◌≡◌, ◌≤◌}
+use Rattle.sc_reread.proofs.Common.{Bool, IsCalled, List, None, Option, Piece, Proto, Scalar, Some, [], and_from}
+use Rattle.sc_reread.proofs.Common.{and_parts, ap, append-nil, append_assoc, ap₂, arith, cases_lt, codes, comma}
+use Rattle.sc_reread.proofs.Common.{decimal, flat_map, flat_map-append, function_head, function_params, head_of}
+use Rattle.sc_reread.proofs.Common.{head_text, head_words, is_ident, is_name, is_reserved, kept_head, kept_param}
+use Rattle.sc_reread.proofs.Common.{length, list_all, map, option_map, param_name, param_of, param_text, param_texts}
+use Rattle.sc_reread.proofs.Common.{param_words, params_text, params_words, piece_text, proto_head, proto_params, refl}
+use Rattle.sc_reread.proofs.Common.{result_text, result_words, subst, suc, text_of, true, type_name, word, zero, ℕ}
+use Rattle.sc_reread.proofs.Common.{⊎_elim, ◌&&◌, ◌++◌, ◌+◌, ◌<◌, ◌∙◌, ◌∷◌, ◌≡◌, ◌≤◌}
 use Rattle.std.proofs.lemmas.Fmt.{decimal_digit}
-use Rattle.sc_event.specs.declared.interface.Proto.{Proto}
-use Rattle.sc_event.specs.declared.interface.Scalar.{Scalar}
 use Rattle.sc_event.specs.declared.interface.Scalar.TheVariants as scalar
 use Rattle.sc_ast.specs.declared.section.ParamTree.{ParamTree}
 use Rattle.sc_expr.specs.declared.mark.Keyword.TheVariants as keyword
-use Rattle.sc_back.specs.Text.{head_text, param_text, param_texts, params_text, result_text}
-use Rattle.sc_back.specs.Tree.{function_head, function_params, param_name, proto_head, proto_params, type_name}
-use Rattle.sc_back.specs.Sections.{IsCalled}
 use Rattle.sc_reread.proofs.Nesting.{Nested, even_comma, even_ident, even_keyword, nested_append, nested_blank}
 use Rattle.sc_reread.proofs.Nesting.{nested_even, nested_none, nested_parens}
 

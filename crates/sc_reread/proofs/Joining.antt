@@ -1,14 +1,9 @@
 -- Joined texts of sections are split into them.
-use Rattle.sc_reread.proofs.Common.{List, [], ap, append-nil, append_assoc, ap₂, arith, concat, drop, length}
-use Rattle.sc_reread.proofs.Common.{length-append, map, refl, subst, sym, take, true, ℕ, ◌++◌, ◌+◌, ◌-◌}
-use Rattle.sc_reread.proofs.Common.{◌∙◌, ◌∷◌, ◌≡◌}
-use Rattle.std.proofs.Common.{inl, inr, take-append-drop, ◌⊎◌}
-use Rattle.std.proofs.Math.Seq.{drop-append_seam, take-append_seam}
-use Rattle.sc_lex.specs.Prelude.{AreSections, IsSection, IsSplit, is_heading, line_at}
-use Rattle.sc_lex.specs.Prelude.{none, section}
+use Rattle.sc_reread.proofs.Common.{AreSections, IsSection, IsSplit, List, Section, [], ap, append-nil, append_assoc}
+use Rattle.sc_reread.proofs.Common.{ap₂, arith, concat, drop, drop-append_seam, first_line, inl, inr, is_heading}
+use Rattle.sc_reread.proofs.Common.{length, length-append, line_at, map, none, refl, section, subst, sym, take}
+use Rattle.sc_reread.proofs.Common.{take-append-drop, take-append_seam, true, ℕ, ◌++◌, ◌+◌, ◌-◌, ◌∙◌, ◌∷◌, ◌≡◌, ◌⊎◌}
 unfoldable use Rattle.sc_lex.specs.Prelude.{heading_name}
-use Rattle.sc_lex.specs.Lines.{first_line}
-use Rattle.sc_lex.specs.declared.section.Section.{Section}
 use Rattle.sc_reread.proofs.Headings.{Ends, begins_outside, first_line_kept, front_ends, heading_behind, heading_first}
 use Rattle.sc_reread.proofs.Headings.{heading_inside, heading_outside, last, last_any, last_append}
 use Rattle.sc_reread.proofs.Splitting.{IsText, Joined, bytes_of, more, nothing, some_bytes}

@@ -1,36 +1,24 @@
 -- Names in trees that were read are identifiers: they come from symbols, which tokens say.
-use Rattle.sc_reread.proofs.Common.{Bool, IsTrue, Lexeme, List, None, Option, Some, Symbol, [], and_from, ap, false}
-use Rattle.sc_reread.proofs.Common.{if◌then◌else◌, is_ident, is_reserved, map, not, option_map, refl, subst, true, ℕ}
-use Rattle.sc_reread.proofs.Common.{drop, get_or, head_of, is_name, slice_index, slice_range, ◌&&◌, ◌++◌, ◌∷◌, ◌≡◌}
-use Rattle.std.specs.List.{AllByRecursion, AllZip}
-use Rattle.std.specs.Option.{option_and_then}
-use Rattle.std.proofs.lemmas.List.Elements.{All-from_recursion}
-use Rattle.sc_base.specs.Prelude.{name_of}
-use Rattle.sc_lex.specs.Prelude.{begins_heading, is_blank, only_name}
+use Rattle.sc_reread.proofs.Common.{All-from_recursion, AllByRecursion, AllZip, Bool, Decl, FunctionTree, Grouped}
+use Rattle.sc_reread.proofs.Common.{ImportLine, IsRead, IsTrue, Lexeme, List, None, Option, Part, SectionTree, Some}
+use Rattle.sc_reread.proofs.Common.{SpellsDecl, SpellsDirectives, SpellsFunction, SpellsHead, SpellsSection, Symbol}
+use Rattle.sc_reread.proofs.Common.{Token, TokenKind, [], and_from, ap, begins_heading, drop, false, fourth_word}
+use Rattle.sc_reread.proofs.Common.{get_or, head_of, ident_in, ident_of, if◌then◌else◌, import_of, is_blank, is_ident}
+use Rattle.sc_reread.proofs.Common.{is_name, is_reserved, keyword_of, lexemes_of, map, mark_of, name_of, not, number_in}
+use Rattle.sc_reread.proofs.Common.{only_name, option_and_then, option_map, or_unused, refl, slice_index, slice_range}
+use Rattle.sc_reread.proofs.Common.{subst, third_word, true, ℕ, ◌&&◌, ◌++◌, ◌∷◌, ◌≡◌}
+use Rattle.sc_scope.specs.Prelude.{function_names, heads_in}
 unfoldable use Rattle.sc_lex.specs.Prelude.{heading_name, words}
-use Rattle.sc_lex.specs.declared.token.Token.{Token}
-use Rattle.sc_lex.specs.declared.token.TokenKind.{TokenKind}
 use Rattle.sc_lex.specs.declared.token.TokenKind.TheVariants as kind
-use Rattle.sc_ast.specs.Prelude.{ident_of}
-use Rattle.sc_ast.specs.declared.section.Decl.{Decl}
 use Rattle.sc_ast.specs.declared.section.Decl.TheVariants as decl
 use Rattle.sc_ast.specs.declared.section.ExportLine.{ExportLine}
-use Rattle.sc_ast.specs.declared.section.FunctionTree.{FunctionTree}
 use Rattle.sc_ast.specs.declared.section.GlobalTree.{GlobalTree}
 use Rattle.sc_ast.specs.declared.section.HeadTree.{HeadTree}
-use Rattle.sc_ast.specs.declared.section.ImportLine.{ImportLine}
-use Rattle.sc_ast.specs.declared.section.SectionTree.{SectionTree}
-use Rattle.sc_expr.specs.Lexemes.{ident_in, import_of, or_unused, third_word, fourth_word, mark_of, keyword_of}
-use Rattle.sc_expr.specs.Lexemes.{number_in}
 unfoldable use Rattle.sc_expr.specs.Lexemes.{says}
 use Rattle.sc_expr.specs.declared.lexeme.Symbol.TheVariants as symbol
-use Rattle.sc_parse.specs.Prelude.{Grouped, SpellsDecl, SpellsDirectives, SpellsFunction, SpellsHead, SpellsSection}
-use Rattle.sc_parse.specs.Prelude.{lexemes_of}
 use Rattle.sc_parse.specs.Declarations as decls
 use Rattle.sc_parse.specs.Lists as lists
 use Rattle.sc_parse.specs.Sections as spell
-use Rattle.sc_read.specs.Reading.{IsRead, Part}
-use Rattle.sc_scope.specs.Prelude.{function_names, heads_in}
 use Rattle.sc_reread.specs.Names.{IsIdentifier, IsNamedExport, IsNamedHead, IsNamedImport, IsNamedSection}
 use Rattle.sc_reread.specs.Names.{NamesAreIdentifiers}
 

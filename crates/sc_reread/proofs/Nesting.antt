@@ -1,17 +1,13 @@
 -- How many brackets are open along words.
-use Rattle.sc_reread.proofs.Common.{IsTrue, Lexeme, List, Number, Piece, Symbol, [], ap, append_assoc, arith, codes}
-use Rattle.sc_reread.proofs.Common.{fits, is_ident, literal_text, map, max, most_open, open_after, refl, subst, suc}
-use Rattle.sc_reread.proofs.Common.{sym, symbols, blank, indent, newline, word, word_symbol, ℕ, ◌++◌, ◌+◌, ◌-◌, ◌∙◌}
-use Rattle.sc_reread.proofs.Common.{◌∷◌, ◌≡◌, ◌≤◌}
+use Rattle.sc_reread.proofs.Common.{IsTrue, Lexeme, List, Number, Piece, Symbol, [], ap, append_assoc, arith}
+use Rattle.sc_reread.proofs.Common.{binary_text, blank, codes, fits, indent, is_ident, joined_symbols, literal_says}
+use Rattle.sc_reread.proofs.Common.{literal_text, map, max, most_open, name_says, newline, open_after, open_behind}
+use Rattle.sc_reread.proofs.Common.{refl, subst, suc, sym, symbols, word, word_symbol, ℕ, ◌++◌, ◌+◌, ◌-◌, ◌∙◌, ◌∷◌, ◌≡◌}
+use Rattle.sc_reread.proofs.Common.{◌≤◌}
 use Rattle.sc_base.specs.declared.op.BinaryOp.{BinaryOp}
 use Rattle.sc_base.specs.declared.op.BinaryOp.TheVariants as binary
-use Rattle.sc_ast.specs.Prelude.{binary_text}
-use Rattle.sc_expr.specs.Brackets.{open_behind}
 use Rattle.sc_expr.specs.declared.mark.Keyword.{Keyword}
 use Rattle.sc_print.proofs.Tables as tables
-use Rattle.sc_print.proofs.Leaves.{name_says}
-use Rattle.sc_print.proofs.Literals.{literal_says}
-use Rattle.sc_print.proofs.Reading.{joined_symbols}
 
 -- the most brackets that are open along symbols
 abbrev pub opens : ℕ → List Symbol → ℕ

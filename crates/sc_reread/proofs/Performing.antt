@@ -1,43 +1,28 @@
 -- Sections that perform: their words, and what these come to.
-use Rattle.sc_reread.proofs.Common.{List, Piece, Some, [], and_from, and_parts, ap, append-nil, append_assoc}
-use Rattle.sc_reread.proofs.Common.{arith, ap₂, codes, decl_words, export_words, filter_map, flat_map, flat_map-append}
-use Rattle.sc_reread.proofs.Common.{head_words, heading_words, import_words, is_ident, is_kept_decl, is_name}
-use Rattle.sc_reread.proofs.Common.{is_reserved, kept_export, kept_import, kept_section, list_all, map, newline, not}
-use Rattle.sc_reread.proofs.Common.{option_map, piece_text, refl, section_height, section_words, subst}
-use Rattle.sc_reread.proofs.Common.{suc, sym, symbols, text_of, true, word, word_symbol, ended, if◌then◌else◌, Bool}
-use Rattle.sc_reread.proofs.Common.{false, ℕ, ◌++◌, ◌<◌, ◌==◌, ◌^◌, ◌∙◌, ◌∷◌, ◌≡◌, ◌≤◌}
-use Rattle.std.specs.List.{AllByRecursion}
-use Rattle.std.proofs.lemmas.List.Elements.{recursion_from_All}
-use Rattle.sc_event.specs.declared.interface.Import.{Import}
-use Rattle.sc_event.specs.declared.interface.Interface.{Interface}
-use Rattle.sc_event.specs.declared.interface.Interfaces.{Interfaces}
-use Rattle.sc_event.specs.declared.interface.Proto.{Proto}
-use Rattle.sc_event.specs.declared.row.Entry.{Entry}
+use Rattle.sc_reread.proofs.Common.{AllByRecursion, AreNumbered, Bool, CanPerform, Decl, Entry, FunctionTree, Import}
+use Rattle.sc_reread.proofs.Common.{ImportLine, Interface, Interfaces, IsCalled, IsImported, IsSpoken, Lined, List}
+use Rattle.sc_reread.proofs.Common.{Piece, Proto, Row, SectionTree, Some, [], all_functions, and_from, and_parts, ap}
+use Rattle.sc_reread.proofs.Common.{append-nil, append_assoc, ap₂, arith, back_tree, codes, counter, decl_height}
+use Rattle.sc_reread.proofs.Common.{decl_tidy, decl_words, decls_height, ended, export_line, export_says, export_text}
+use Rattle.sc_reread.proofs.Common.{export_words, exports_lined, false, filter_map, flat_map, flat_map-append}
+use Rattle.sc_reread.proofs.Common.{function_text, function_tree, function_trees, functions_text, head_text, head_words}
+use Rattle.sc_reread.proofs.Common.{heading_line_is, heading_says, heading_words, if◌then◌else◌, import_head}
+use Rattle.sc_reread.proofs.Common.{import_says, import_text, import_words, imported, imports_lined, is_ident}
+use Rattle.sc_reread.proofs.Common.{is_kept_decl, is_name, is_reserved, joined_symbols, kept_export, kept_import}
+use Rattle.sc_reread.proofs.Common.{kept_section, line, list_all, main_proto, main_text, main_trees, map, newline, not}
+use Rattle.sc_reread.proofs.Common.{open_after, option_map, owner_name, piece_text, proto_head, proto_text}
+use Rattle.sc_reread.proofs.Common.{recursion_from_All, refl, section_height, section_text, section_words, subst, suc}
+use Rattle.sc_reread.proofs.Common.{sym, symbols, text_of, tidy, true, word, word_symbol, ℕ, ◌++◌, ◌<◌, ◌==◌, ◌^◌, ◌∙◌}
+use Rattle.sc_reread.proofs.Common.{◌∷◌, ◌≡◌, ◌≤◌}
 use Rattle.sc_event.specs.declared.row.Entry.TheVariants as entry
-use Rattle.sc_event.specs.declared.row.Row.{Row}
-use Rattle.sc_ast.specs.Height.{decl_height, decls_height}
-use Rattle.sc_ast.specs.declared.section.Decl.{Decl}
 use Rattle.sc_ast.specs.declared.section.Decl.TheVariants as decl
-use Rattle.sc_ast.specs.declared.section.FunctionTree.{FunctionTree}
-use Rattle.sc_ast.specs.declared.section.ImportLine.{ImportLine}
-use Rattle.sc_ast.specs.declared.section.SectionTree.{SectionTree}
 use Rattle.sc_expr.specs.declared.mark.Keyword.TheVariants as keyword
-use Rattle.sc_print.proofs.DeclSpacing.{decl_tidy}
-use Rattle.sc_print.proofs.DirectiveWords.{export_says, heading_line_is, heading_says, import_says}
-use Rattle.sc_print.proofs.Lined.{Lined, line, tidy}
-use Rattle.sc_print.proofs.Reading.{joined_symbols}
-use Rattle.sc_print.proofs.Whole.{exports_lined, imports_lined}
-use Rattle.sc_back.specs.Text.{export_text, function_text, functions_text, head_text, import_text, imported, main_proto}
-use Rattle.sc_back.specs.Text.{main_text, owner_name, proto_text, section_text}
-use Rattle.sc_back.specs.Tree.{all_functions, back_tree, counter, export_line, function_tree, function_trees}
-use Rattle.sc_back.specs.Tree.{import_head, import_line, main_trees, proto_head}
-use Rattle.sc_back.specs.Sections.{AreNumbered, CanPerform, IsCalled, IsImported, IsSpoken}
+use Rattle.sc_back.specs.Tree.{import_line}
 use Rattle.sc_reread.proofs.Nesting.{Even, Nested, even_ident, even_keyword, even_semicolon, nested_append}
 use Rattle.sc_reread.proofs.Nesting.{nested_blank, nested_even, nested_line, nested_more, nested_none}
 use Rattle.sc_reread.proofs.Rows.{AreSpoken, Same, counter_ident}
 use Rattle.sc_reread.proofs.Heads.{head_is}
 use Rattle.sc_reread.proofs.Functions.{function_is, same_append, same_none}
-use Rattle.sc_expr.specs.Prelude.{open_after}
 
 -- Directives.
 

@@ -1,26 +1,16 @@
 -- A text of words that spell a section is read as its tree, and so is the text of one that performs.
-use Rattle.sc_reread.proofs.Common.{Lexeme, List, Piece, [], ap, arith, codes, flat_map, map, most_open, refl}
-use Rattle.sc_reread.proofs.Common.{section_height, subst, sym, symbol_of, symbols, text_of, true, ℕ, ◌++◌, ◌∙◌, ◌∷◌}
-use Rattle.sc_reread.proofs.Common.{◌≡◌, ◌≤◌}
-use Rattle.sc_lex.specs.Prelude.{begins_heading}
-use Rattle.sc_lex.specs.declared.token.Token.{Token}
-use Rattle.sc_ast.specs.Prelude.{SameButLines}
-use Rattle.sc_ast.specs.declared.section.SectionTree.{SectionTree}
-use Rattle.sc_parse.specs.Prelude.{SpellsSection, lexemes_of}
+use Rattle.sc_reread.proofs.Common.{IsParsedAs, IsReadAs, Lexeme, Lined, List, PerformingTextsAreRead, Piece, Reading}
+use Rattle.sc_reread.proofs.Common.{SameButLines, SectionTree, SpellsSection, Token, [], ap, append-nil, arith}
+use Rattle.sc_reread.proofs.Common.{back_text, back_tree, begins_heading, codes, export_text, flat_map, found_lines}
+use Rattle.sc_reread.proofs.Common.{functions_text, heading_begins, import_text, lexemes_of, main_text, map, most_open}
+use Rattle.sc_reread.proofs.Common.{proto_text, refl, section_height, section_reads, section_text, subst, sym}
+use Rattle.sc_reread.proofs.Common.{symbol_of, symbols, text_of, true, ℕ, ◌++◌, ◌∙◌, ◌∷◌, ◌≡◌, ◌≤◌}
 use Rattle.sc_parse.specs.Sections as spell
 use Rattle.sc_print.proofs.Cut.{Found}
-use Rattle.sc_print.proofs.DirectiveWords.{heading_begins}
 use Rattle.sc_print.proofs.Heights.{sections_same}
-use Rattle.sc_print.proofs.Lined.{Lined, found_lines}
 use Rattle.sc_print.proofs.Lists.{Say}
-use Rattle.sc_print.proofs.Reading.{Reading}
-use Rattle.sc_print.proofs.Whole.{section_reads}
-use Rattle.sc_back.specs.Text.{back_text, export_text, functions_text, import_text, main_text, proto_text, section_text}
-use Rattle.sc_back.specs.Tree.{back_tree}
-use Rattle.sc_reread.specs.Performing.{IsParsedAs, IsReadAs, PerformingTextsAreRead}
 use Rattle.sc_reread.proofs.Nesting.{AtMost, Nested, nested_more, none_more, opens, opens_lexemes}
 use Rattle.sc_reread.proofs.Performing.{IsPerforming, section_is}
-use Rattle.std.proofs.Common.{append-nil}
 
 symbols_of : (bytes : List ℕ) (tokens : List Token) →
     map (λ t. t.symbol) (lexemes_of bytes tokens) ≡ map (λ token. symbol_of bytes token) tokens

@@ -1,24 +1,12 @@
 -- Texts with replaced sections are split and read.
-use Rattle.sc_reread.proofs.Common.{Bool, Lexeme, List, None, Option, Some, [], ap, arith, concat, false}
-use Rattle.sc_reread.proofs.Common.{if◌then◌else◌, length, map, refl, subst, suc, sym, true, ℕ, ◌++◌, ◌+◌}
-use Rattle.sc_reread.proofs.Common.{◌<◌, ◌∙◌, ◌∷◌, ◌≡◌, ◌≤◌}
-use Rattle.std.proofs.Common.{inl, inr, ◌⊎◌}
-use Rattle.std.specs.List.{AllZip}
-use Rattle.sc_event.specs.declared.interface.Interfaces.{Interfaces}
-use Rattle.sc_event.specs.declared.row.Row.{Row}
-use Rattle.sc_lex.specs.Prelude.{IsCut, line_at}
-use Rattle.sc_lex.specs.declared.section.Section.{Section}
-use Rattle.sc_lex.specs.declared.token.Token.{Token}
-use Rattle.sc_ast.specs.declared.section.SectionTree.{SectionTree}
-use Rattle.sc_parse.specs.Prelude.{IsParsed, SpellsSection, lexemes_of}
+use Rattle.sc_reread.proofs.Common.{AllBecome, AllZip, Becomes, Bool, Interfaces, IsCut, IsParsed, IsRead, IsReadAs}
+use Rattle.sc_reread.proofs.Common.{Lexeme, List, None, Option, Part, Row, Section, SectionTree, Some, SpellsSection}
+use Rattle.sc_reread.proofs.Common.{Token, [], ap, arith, back_text, back_tree, concat, false, if◌then◌else◌, inl, inr}
+use Rattle.sc_reread.proofs.Common.{kept, length, lexemes_of, line_at, map, new_text, new_texts, part_of, refl}
+use Rattle.sc_reread.proofs.Common.{replaced, section_text, subst, suc, sym, true, ℕ, ◌++◌, ◌+◌, ◌<◌, ◌∙◌, ◌∷◌, ◌≡◌}
+use Rattle.sc_reread.proofs.Common.{◌≤◌, ◌⊎◌}
 use Rattle.sc_parse.specs.Sections as spell
-use Rattle.sc_read.specs.Reading.{IsRead, Part, part_of}
 use Rattle.sc_read.proofs.Splits.{same_parts, same_preamble}
-use Rattle.sc_back.specs.Text.{back_text, section_text}
-use Rattle.sc_back.specs.Tree.{back_tree}
-use Rattle.sc_back.specs.Sections.{AllBecome, Becomes, kept, replaced}
-use Rattle.sc_back.specs.Replacing.{new_text, new_texts}
-use Rattle.sc_reread.specs.Performing.{IsReadAs}
 use Rattle.sc_reread.specs.Replaced.{IsPerformer, IsReplacement, ReplacedTextsAreRead, texts_of}
 use Rattle.sc_reread.proofs.Headings.{last}
 use Rattle.sc_reread.proofs.Headless.{performing_text, text_closing}

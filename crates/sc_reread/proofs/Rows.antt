@@ -1,17 +1,14 @@
 -- Rows as lines of a text: the same words as those of the tree, on one line.
-use Rattle.sc_reread.proofs.Common.{ExprTree, IsTrue, List, Number, Option, Piece, StmtTree, [], ap}
-use Rattle.sc_reread.proofs.Common.{append_assoc, arith, ap₂, blank, codes, condition_words, expr_height}
-use Rattle.sc_reread.proofs.Common.{expr_words, fits, flat_map-append, indent, is_ident, is_kept}
-use Rattle.sc_reread.proofs.Common.{is_kept_stmt, is_name, is_reserved, line_of, literal_text}
-use Rattle.sc_reread.proofs.Common.{newline, piece_text, refl, rules, stmt_height, stmt_layout, subst, suc}
-use Rattle.sc_reread.proofs.Common.{sym, symbols, text_of, true, word, word_symbol, ℕ, ◌++◌, ◌<◌, ◌∙◌, ◌∷◌, ◌≡◌}
-use Rattle.sc_reread.proofs.Common.{max, piece_symbols, ◌+◌, ◌^◌, ◌≤◌}
-use Rattle.std.specs.List.{AllByRecursion}
+use Rattle.sc_reread.proofs.Common.{AllByRecursion, ExprTree, Interfaces, IsSpoken, IsTrue, List, Number, Option, Piece}
+use Rattle.sc_reread.proofs.Common.{Row, Scalar, StmtTree, Tidy, [], action_kind, action_text, ap, append_assoc, ap₂}
+use Rattle.sc_reread.proofs.Common.{arith, at_level, blank, block_words, codes, condition_words, counter_name}
+use Rattle.sc_reread.proofs.Common.{expr_height, expr_words, fits, flat_map-append, gap, indent, is_ident, is_kept}
+use Rattle.sc_reread.proofs.Common.{is_kept_stmt, is_name, is_reserved, line_end, line_of, literal_kind, literal_some}
+use Rattle.sc_reread.proofs.Common.{literal_text, max, name_kind, name_some, newline, next, piece_symbols, piece_text}
+use Rattle.sc_reread.proofs.Common.{refl, row_kind, row_text, rules, stmt_height, stmt_layout, subst, suc, sym, symbols}
+use Rattle.sc_reread.proofs.Common.{text_of, tidy_append, true, unlined, word, word_symbol, ℕ, ◌++◌, ◌+◌, ◌<◌, ◌^◌, ◌∙◌}
+use Rattle.sc_reread.proofs.Common.{◌∷◌, ◌≡◌, ◌≤◌}
 use Rattle.sc_base.specs.declared.op.BinaryOp.TheVariants as binary
-use Rattle.sc_event.specs.declared.interface.Interfaces.{Interfaces}
-use Rattle.sc_event.specs.declared.interface.Scalar.{Scalar}
-use Rattle.sc_event.specs.declared.row.Row.{Row}
-use Rattle.sc_ast.specs.StmtWords.{block_words}
 use Rattle.sc_ast.specs.declared.expr.ExprTree as exprs
 use Rattle.sc_ast.specs.declared.expr.ExprTree.TheVariants as expr
 use Rattle.sc_ast.specs.declared.stmt.StmtTree as stmts
@@ -19,18 +16,12 @@ use Rattle.sc_ast.specs.declared.stmt.StmtKind as kinds
 use Rattle.sc_ast.specs.declared.stmt.StmtKind.TheVariants as stmt
 use Rattle.sc_expr.specs.declared.mark.Keyword.TheVariants as keyword
 use Rattle.sc_print.proofs.Apart as apart
-use Rattle.sc_print.proofs.Spacing.{Tidy, at_level, gap, line_end, next, none, tidy_append}
+use Rattle.sc_print.proofs.Spacing.{none}
 use Rattle.sc_print.proofs.StmtSpacing.{Free, stmt_holds}
-use Rattle.sc_print.proofs.Literals.{literal_kind, literal_some}
-use Rattle.sc_print.proofs.Leaves.{name_kind, name_some}
 use Rattle.sc_lex.specs.declared.token.TokenKind.TheVariants as kind
-use Rattle.sc_back.specs.Text.{action_text, row_text}
-use Rattle.sc_back.specs.Tree.{action_kind, counter_name, row_kind, unlined}
-use Rattle.sc_back.specs.Sections.{IsSpoken}
 use Rattle.sc_reread.proofs.Nesting.{Nested, even_binary, even_equal, even_ident, even_keyword, even_literal}
-use Rattle.sc_reread.proofs.Nesting.{even_semicolon}
-use Rattle.sc_reread.proofs.Nesting.{nested_append, nested_blank, nested_curly, nested_even, nested_level}
-use Rattle.sc_reread.proofs.Nesting.{nested_line, nested_none, nested_parens}
+use Rattle.sc_reread.proofs.Nesting.{even_semicolon, nested_append, nested_blank, nested_curly, nested_even}
+use Rattle.sc_reread.proofs.Nesting.{nested_level, nested_line, nested_none, nested_parens}
 use Rattle.sc_reread.proofs.Values.{unsigned_fits}
 use Rattle.sc_reread.proofs.Actions.{action_is}
 

@@ -1,19 +1,13 @@
 -- Texts of sections, joined and split.
-use Rattle.sc_reread.proofs.Common.{IsTrue, List, Some, [], ap, append_assoc, ap₂, arith}
-use Rattle.sc_reread.proofs.Common.{drop, length, length-append, length-drop, map, refl, slice_range}
-use Rattle.sc_reread.proofs.Common.{sym, take, true, ℕ, ◌++◌, ◌+◌, ◌-◌, ◌<◌, ◌∙◌, ◌∷◌, ◌≡◌}
-use Rattle.sc_reread.proofs.Common.{◌≤◌}
-use Rattle.std.proofs.Common.{drop-drop, inl, inr, take-append-drop, ◌⊎◌}
-use Rattle.std.proofs.Math.Seq.{drop-append_seam}
-use Rattle.std.proofs.lemmas.List.{drop_all, length-take-le}
-use Rattle.sc_lex.specs.Prelude.{AreSections, IsSection, NoHeading, begins_heading, is_heading, name_at}
-use Rattle.sc_lex.specs.Prelude.{none, section}
+use Rattle.sc_reread.proofs.Common.{AreSections, IsSection, IsTrue, List, NoHeading, Section, Some, [], ap}
+use Rattle.sc_reread.proofs.Common.{append_assoc, ap₂, arith, begins_heading, drop, drop-append_seam, drop-drop}
+use Rattle.sc_reread.proofs.Common.{drop_all, first_line, inl, inr, is_heading, length, length-append, length-drop}
+use Rattle.sc_reread.proofs.Common.{length-take-le, map, name_at, none, refl, section, slice_range, sym, take}
+use Rattle.sc_reread.proofs.Common.{take-append-drop, true, ℕ, ◌++◌, ◌+◌, ◌-◌, ◌<◌, ◌∙◌, ◌∷◌, ◌≡◌, ◌≤◌, ◌⊎◌}
 unfoldable use Rattle.sc_lex.specs.Prelude.{heading_name}
-use Rattle.sc_lex.specs.Lines.{first_line}
-use Rattle.sc_lex.specs.declared.section.Section.{Section}
 use Rattle.sc_reread.proofs.Headings.{Ends, begins_inside, first_line_kept, front_ends, heading_behind}
-use Rattle.sc_reread.proofs.Headings.{heading_begins_behind, heading_outside, last, last_any}
-use Rattle.sc_reread.proofs.Headings.{last_append, mark, to_begins}
+use Rattle.sc_reread.proofs.Headings.{heading_begins_behind, heading_outside, last, last_any, last_append, mark}
+use Rattle.sc_reread.proofs.Headings.{to_begins}
 
 -- the bytes of a section, wherever it stands
 pub record IsText (text : List ℕ) : Type 0 where

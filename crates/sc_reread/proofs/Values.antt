@@ -1,26 +1,19 @@
 -- Values of a type as expressions: their words, and what these come to.
-use Rattle.sc_reread.proofs.Common.{Bool, ExprTree, List, Number, [], and_from, ap, append-nil, arith}
-use Rattle.sc_reread.proofs.Common.{blank, codes, decimal, eq-eqb, expr_height, expr_words, false, false≢true, fits}
-use Rattle.sc_reread.proofs.Common.{if◌then◌else◌, is_kept, le-leb, leb-false, leb-true, literal_text, nat_le, refl}
-use Rattle.sc_reread.proofs.Common.{rules, signed_text, subst, suc, sym, text_of, true, word, ℕ, ◌-◌, ◌<◌, ◌==◌}
-use Rattle.sc_reread.proofs.Common.{◌^◌, ◌∙◌, ◌∷◌, ◌≡◌, ◌≤◌}
+use Rattle.sc_reread.proofs.Common.{Bool, ExprTree, IsWord, List, Number, Scalar, [], and_from, ap, append-nil, arith}
+use Rattle.sc_reread.proofs.Common.{blank, codes, decimal, digits, eq-eqb, expr_height, expr_words, false, false≢true}
+use Rattle.sc_reread.proofs.Common.{fits, if◌then◌else◌, is_kept, le-leb, leb-false, leb-true, literal, literal_text}
+use Rattle.sc_reread.proofs.Common.{nat_le, open_after, refl, rules, signed_decimal, signed_text, subst, suc, sym}
+use Rattle.sc_reread.proofs.Common.{text_of, true, value_text, value_tree, word, word_symbol, ℕ, ◌-◌, ◌<◌, ◌==◌, ◌^◌}
+use Rattle.sc_reread.proofs.Common.{◌∙◌, ◌∷◌, ◌≡◌, ◌≤◌}
 use Rattle.std.specs.Int.{w32, cast_signed}
-use Rattle.std.specs.Fmt.{digits}
-use Rattle.std.specs.Fmt.{signed_decimal}
 use mir.ValLaws.{to_z_pos, to_z-neg}
 use Rattle.sc_base.specs.declared.op.BinaryOp.TheVariants as binary
 use Rattle.sc_base.specs.declared.op.UnaryOp.TheVariants as unary
-use Rattle.sc_event.specs.declared.interface.Scalar.{Scalar}
 use Rattle.sc_event.specs.declared.interface.Scalar.TheVariants as scalar
 use Rattle.sc_ast.specs.declared.expr.ExprTree as exprs
 use Rattle.sc_ast.specs.declared.expr.ExprTree.TheVariants as expr
 use Rattle.sc_print.proofs.Tables as tables
-use Rattle.sc_back.specs.Text.{value_text}
-use Rattle.sc_back.specs.Tree.{literal, value_tree}
-use Rattle.sc_back.specs.Sections.{IsWord}
 use Rattle.sc_reread.proofs.Nesting.{Nested, nested_none, nested_even, nested_blank, even_literal, Even}
-use Rattle.sc_expr.specs.Prelude.{open_after}
-use Rattle.sc_print.specs.Prelude.{word_symbol}
 
 -- an expression that is printed as this text, with few brackets
 pub record IsExpr (e : ExprTree) (text : List ℕ) : Type 0 where

@@ -1,3 +1,4 @@
+pub mod Common
 pub mod Performing
 pub mod Replaced
 pub mod Names

@@ -1,13 +1,11 @@
 -- Names in trees that were read are identifiers.
-use Rattle.std.specs.Prelude.{ℕ, IsTrue, List, All}
+use Rattle.sc_reread.specs.Common.{Reads, SectionTree, is_ident}
 use Rattle.sc_base.specs.Prelude.{is_name}
-use Rattle.sc_ast.specs.Prelude.{is_ident}
+use Rattle.sc_scope.specs.Prelude.{function_names, heads_in}
+use Rattle.std.specs.Prelude.{ℕ, IsTrue, List, All}
 use Rattle.sc_ast.specs.declared.section.ExportLine.{ExportLine}
 use Rattle.sc_ast.specs.declared.section.HeadTree.{HeadTree}
 use Rattle.sc_ast.specs.declared.section.ImportLine.{ImportLine}
-use Rattle.sc_ast.specs.declared.section.SectionTree.{SectionTree}
-use Rattle.sc_read.specs.Reading.{Reads}
-use Rattle.sc_scope.specs.Prelude.{function_names, heads_in}
 
 abbrev pub IsNamedExport : ExportLine → Type 0
 IsNamedExport line = IsTrue (is_name line.name)

@@ -1,18 +1,10 @@
 -- The text of a section that performs is read as its tree.
-use Rattle.std.specs.Prelude.{◌≡◌, ℕ, List, Some}
-use Rattle.sc_event.specs.Prelude.{comp_at}
-use Rattle.sc_event.specs.declared.interface.Interface.{Interface}
-use Rattle.sc_event.specs.declared.interface.Interfaces.{Interfaces}
-use Rattle.sc_event.specs.declared.row.Row.{Row}
-use Rattle.sc_lex.specs.Prelude.{IsCut}
-use Rattle.sc_lex.specs.declared.token.Token.{Token}
-use Rattle.sc_ast.specs.Prelude.{SameButLines}
-use Rattle.sc_ast.specs.declared.section.SectionTree.{SectionTree}
-use Rattle.sc_expr.specs.declared.lexeme.Lexeme.{Lexeme}
+use Rattle.sc_reread.specs.Common.{CanPerform, Interface, Interfaces, IsCut, Row, SameButLines, SectionTree, back_text}
+use Rattle.sc_reread.specs.Common.{back_tree, comp_at}
 use Rattle.sc_parse.specs.Prelude.{IsParsed, lexemes_of}
-use Rattle.sc_back.specs.Text.{back_text}
-use Rattle.sc_back.specs.Tree.{back_tree}
-use Rattle.sc_back.specs.Sections.{CanPerform}
+use Rattle.std.specs.Prelude.{◌≡◌, ℕ, List, Some}
+use Rattle.sc_lex.specs.declared.token.Token.{Token}
+use Rattle.sc_expr.specs.declared.lexeme.Lexeme.{Lexeme}
 
 -- The lexemes are parsed in this line as a section that is the tree, lines aside.
 pub record IsParsedAs (line : ℕ) (lexemes : List Lexeme) (tree : SectionTree) : Type 0 where

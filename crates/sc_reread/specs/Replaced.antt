@@ -1,17 +1,9 @@
 -- Texts in which sections are replaced by ones that perform are split and read as before, the replaced sections aside.
+use Rattle.sc_reread.specs.Common.{AllBecome, CanPerform, Interface, Interfaces, IsSplit, Reads, Row, SectionTree}
+use Rattle.sc_reread.specs.Common.{back_text, comp_at, new_texts}
 use Rattle.std.specs.Prelude.{◌≡◌, ◌<◌, ℕ, Bool, true, List, ◌++◌, length, map, Option, None, Some, if◌then◌else◌}
 use Rattle.std.specs.List.{concat}
-use Rattle.sc_event.specs.Prelude.{comp_at}
-use Rattle.sc_event.specs.declared.interface.Interface.{Interface}
-use Rattle.sc_event.specs.declared.interface.Interfaces.{Interfaces}
-use Rattle.sc_event.specs.declared.row.Row.{Row}
-use Rattle.sc_lex.specs.Prelude.{IsSplit}
 use Rattle.sc_lex.specs.declared.section.Section.{Section}
-use Rattle.sc_ast.specs.declared.section.SectionTree.{SectionTree}
-use Rattle.sc_read.specs.Reading.{Reads}
-use Rattle.sc_back.specs.Text.{back_text}
-use Rattle.sc_back.specs.Sections.{AllBecome, CanPerform}
-use Rattle.sc_back.specs.Replacing.{new_texts}
 
 -- the bytes of each section, its compartment line included
 abbrev pub texts_of : List Section → List (List ℕ)

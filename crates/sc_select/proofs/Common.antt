@@ -15,20 +15,18 @@ pub use Rattle.sc_tac.specs.Prelude.{IsCode, IsFunction, all_true, entry_weight,
 pub use Rattle.sc_tac.specs.Prelude.{is_jal, is_linkable, is_unsigned, op_weight, passes_few, stmt_weight, takes_two}
 pub use Rattle.sc_tac.specs.Prelude.{weight, weight_step, with_parts}
 pub use Rattle.sc_tac.specs.declared.function.TacFnTree.{TacFnTree}
-pub use Rattle.sc_tac.specs.declared.machine_code.Target.{Target}
-pub use Rattle.sc_tac.specs.declared.machine_code.Target.TheVariants.{Entry, Function, Global}
 pub use Rattle.sc_tac.specs.declared.place.Place.TheVariants.{Register, Slot}
 pub use Rattle.sc_tac.specs.declared.stmt.TacStmt.{fold-roll-TacStmt, map-TacStmt}
 unfoldable pub use Rattle.sc_tac.specs.declared.stmt.TacStmt.{roll-TacStmt}
-pub use Rattle.sc_select.specs.Common.{Branch, CodeTree, Div, FrameTree, Instr, Jalr, Lui, Lw, Mul, Place, Sub, Sw}
-pub use Rattle.sc_select.specs.Common.{TacOp, TacStmt, TacStmt-F, fold-TacStmt}
+pub use Rattle.sc_select.specs.Common.{Branch, CodeTree, Div, Entry, FrameTree, Function, Global, Instr, Jalr, Lui, Lw}
+pub use Rattle.sc_select.specs.Common.{Mul, Place, Relocation, Sub, Sw, TacOp, TacStmt, TacStmt-F, Target, fold-TacStmt}
 pub use Rattle.sc_select.specs.Prelude.{Add, Addi, Fits, Jal, Line, Load, Op, OpImm, Piece, Store, Upper, at_hand}
 pub use Rattle.sc_select.specs.Prelude.{binary_code, brought, bytes_of, call_cross, call_own, choice, closing, code_of}
 pub use Rattle.sc_select.specs.Prelude.{code_of_lines, copied, cycle, entrance, environment_call, followed, fork}
 pub use Rattle.sc_select.specs.Prelude.{frame_left, frame_taken, function_lines, in_order, is_short, jump_back}
-pub use Rattle.sc_select.specs.Prelude.{jump_over, keep, kept, lines_of, referring, load_from, load_word, loading}
-pub use Rattle.sc_select.specs.Prelude.{moved_by, object_offset, op_code, operand, operation, pass, place_of_global}
-pub use Rattle.sc_select.specs.Prelude.{plain, plainly, pointer_difference, pointer_move, put, receive, register_of}
+pub use Rattle.sc_select.specs.Prelude.{jump_over, keep, kept, lines_of, load_from, load_word, loading, moved_by}
+pub use Rattle.sc_select.specs.Prelude.{object_offset, op_code, operand, operation, pass, place_of_global, plain}
+pub use Rattle.sc_select.specs.Prelude.{plainly, pointer_difference, pointer_move, put, receive, referring, register_of}
 pub use Rattle.sc_select.specs.Prelude.{relocation_of, relocations_from, result_register, return, round_begins}
 pub use Rattle.sc_select.specs.Prelude.{second_operand, select, select_all, select_step, slot_offset, stepped}
 pub use Rattle.sc_select.specs.Prelude.{store_arguments, store_to, store_word, straightly, take, take_second, taken}

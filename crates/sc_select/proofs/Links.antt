@@ -1,19 +1,19 @@
 -- Lines that refer to targets stand where the linker can complete them.
 use Rattle.sc_select.proofs.Common.{All, AllPairs, Bool, Each, Entry, FrameTree, Function, Global, Inside, Instr}
-use Rattle.sc_select.proofs.Common.{IsCode, IsTrue, Jal, Jalr, Line, List, Lui, None, Option, Piece, Place, Some, Store}
-use Rattle.sc_select.proofs.Common.{Sw, TacFnTree, TacStmt, TacStmt-F, Target, Upper, [], and_first, and_rest, ap}
-use Rattle.sc_select.proofs.Common.{append-nil, arith, brought, call_cross, call_own, choice, closing, code_of_lines}
-use Rattle.sc_select.proofs.Common.{copied, cycle, entrance, environment_call, eq-eqb, everywhere as each_holds, false}
-use Rattle.sc_select.proofs.Common.{fold-roll-TacStmt, followed, fork, frame_taken, function_lines, in_order}
-use Rattle.sc_select.proofs.Common.{is_address, is_jal, is_linkable, jump_back, jump_over, keep, length, length-append}
-use Rattle.sc_select.proofs.Common.{length-map, referring, load_from, loading, map, map-TacStmt, moved_by, object_offset}
-use Rattle.sc_select.proofs.Common.{operation, pass, place_of_global, plain, plainly, pos, receive, refl, relocation_of}
-use Rattle.sc_select.proofs.Common.{relocations_from, result_register, return, select, select_all, select_step}
-use Rattle.sc_select.proofs.Common.{slice_get, stmt_induction, store_arguments, store_to, straightly, sub_word, subst}
-use Rattle.sc_select.proofs.Common.{suc, sym, true, word_of_constant, ℕ, ◌&&◌, ◌++◌, ◌+◌, ◌<◌, ◌∙◌, ◌∷◌, ◌≡◌, ◌≤◌}
+use Rattle.sc_select.proofs.Common.{IsCode, IsTrue, Jal, Jalr, Line, List, Lui, None, Option, Piece, Place, Relocation}
+use Rattle.sc_select.proofs.Common.{Some, Store, Sw, TacFnTree, TacStmt, TacStmt-F, Target, Upper, [], and_first}
+use Rattle.sc_select.proofs.Common.{and_rest, ap, append-nil, arith, brought, call_cross, call_own, choice, closing}
+use Rattle.sc_select.proofs.Common.{code_of_lines, copied, cycle, entrance, environment_call, eq-eqb}
+use Rattle.sc_select.proofs.Common.{everywhere as each_holds, false, fold-roll-TacStmt, followed, fork, frame_taken}
+use Rattle.sc_select.proofs.Common.{function_lines, in_order, is_address, is_jal, is_linkable, jump_back, jump_over}
+use Rattle.sc_select.proofs.Common.{keep, length, length-append, length-map, load_from, loading, map, map-TacStmt}
+use Rattle.sc_select.proofs.Common.{moved_by, object_offset, operation, pass, place_of_global, plain, plainly, pos}
+use Rattle.sc_select.proofs.Common.{receive, referring, refl, relocation_of, relocations_from, result_register, return}
+use Rattle.sc_select.proofs.Common.{select, select_all, select_step, slice_get, stmt_induction, store_arguments}
+use Rattle.sc_select.proofs.Common.{store_to, straightly, sub_word, subst, suc, sym, true, word_of_constant, ℕ, ◌&&◌}
+use Rattle.sc_select.proofs.Common.{◌++◌, ◌+◌, ◌<◌, ◌∙◌, ◌∷◌, ◌≡◌, ◌≤◌}
 use Rattle.std.proofs.lemmas.List.Elements.{All-cons, All-nil, All-weaker}
 use Rattle.std.proofs.lemmas.List.Kept.{AllPairs-cons}
-use Rattle.sc_tac.specs.declared.machine_code.Relocation.{Relocation}
 use Rattle.sc_tac.specs.declared.stmt.TacStmt.TheOpen as tac
 
 -- the instruction of the first line

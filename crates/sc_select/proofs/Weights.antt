@@ -7,14 +7,15 @@ use Rattle.sc_select.proofs.Common.{brought, bytes_of, call_cross, call_own, cho
 use Rattle.sc_select.proofs.Common.{entry_weight, environment_call, everywhere as each_holds, false, fold-TacStmt}
 use Rattle.sc_select.proofs.Common.{fold-roll-TacStmt, frame_left, frame_taken, function_lines, has_operands}
 use Rattle.sc_select.proofs.Common.{if◌then◌else◌, in_order, is_short, is_some, is_unsigned, keep, kept, length}
-use Rattle.sc_select.proofs.Common.{length-append, length-map, referring, load_from, load_word, loading, map, map-TacStmt}
+use Rattle.sc_select.proofs.Common.{length-append, length-map, load_from, load_word, loading, map, map-TacStmt}
 use Rattle.sc_select.proofs.Common.{moved_by, object_offset, op_code, op_weight, operand, operation, pass}
 use Rattle.sc_select.proofs.Common.{place_of_global, plain, plainly, pointer_difference, pointer_move, pos, put}
-use Rattle.sc_select.proofs.Common.{receive, refl, register_of, result_register, return, roll-TacStmt, second_operand}
-use Rattle.sc_select.proofs.Common.{select, select_all, select_step, slice_get, slot_offset, stepped, stmt_induction}
-use Rattle.sc_select.proofs.Common.{stmt_weight, store_arguments, store_to, store_word, sub_word, subst, suc, sym, take}
-use Rattle.sc_select.proofs.Common.{take_second, taken, takes_two, true, unary_code, weight, weight_step, with_parts}
-use Rattle.sc_select.proofs.Common.{word_of_constant, zero, ℕ, ◌&&◌, ◌*◌, ◌++◌, ◌+◌, ◌<◌, ◌^◌, ◌∙◌, ◌∷◌, ◌≡◌, ◌≤◌}
+use Rattle.sc_select.proofs.Common.{receive, referring, refl, register_of, result_register, return, roll-TacStmt}
+use Rattle.sc_select.proofs.Common.{second_operand, select, select_all, select_step, slice_get, slot_offset, stepped}
+use Rattle.sc_select.proofs.Common.{stmt_induction, stmt_weight, store_arguments, store_to, store_word, sub_word, subst}
+use Rattle.sc_select.proofs.Common.{suc, sym, take, take_second, taken, takes_two, true, unary_code, weight}
+use Rattle.sc_select.proofs.Common.{weight_step, with_parts, word_of_constant, zero, ℕ, ◌&&◌, ◌*◌, ◌++◌, ◌+◌, ◌<◌, ◌^◌}
+use Rattle.sc_select.proofs.Common.{◌∙◌, ◌∷◌, ◌≡◌, ◌≤◌}
 use Rattle.sc_core.specs.Prelude.{total}
 use Rattle.sc_tac.specs.Prelude.{everywhere}
 use Rattle.std.specs.Bool.{beq}

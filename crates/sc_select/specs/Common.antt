@@ -10,6 +10,9 @@ pub use Rattle.rv_code.specs.declared.instr.UpperOp.TheVariants.{Lui}
 pub use Rattle.sc_tac.specs.Prelude.{everywhere, is_unsigned, passes_few}
 pub use Rattle.sc_tac.specs.declared.frame.FrameTree.{FrameTree}
 pub use Rattle.sc_tac.specs.declared.machine_code.CodeTree.{CodeTree}
+pub use Rattle.sc_tac.specs.declared.machine_code.Relocation.{Relocation}
+pub use Rattle.sc_tac.specs.declared.machine_code.Target.{Target}
+pub use Rattle.sc_tac.specs.declared.machine_code.Target.TheVariants.{Entry, Function, Global}
 pub use Rattle.sc_tac.specs.declared.place.Place.{Place}
 pub use Rattle.sc_tac.specs.declared.stmt.TacOp.{TacOp}
 pub use Rattle.sc_tac.specs.declared.stmt.TacStmt.{TacStmt, TacStmt-F, fold-TacStmt}

@@ -1,8 +1,6 @@
 -- Lines of code.
-use Rattle.sc_select.specs.Common.{CodeTree, Instr}
+use Rattle.sc_select.specs.Common.{CodeTree, Instr, Relocation, Target}
 use Rattle.std.specs.Prelude.{ℕ, suc, List, [], ◌∷◌, ◌++◌, map, Option, None, Some}
-use Rattle.sc_tac.specs.declared.machine_code.Relocation.{Relocation}
-use Rattle.sc_tac.specs.declared.machine_code.Target.{Target}
 
 -- an instruction, and what it refers to that the linker knows
 pub record Line : Type 0 where

@@ -1,12 +1,8 @@
 -- Lines of code as the linker completes them: with the addresses of what they refer to.
+use Rattle.sc_select.specs.Common.{CodeTree, Entry, Function, Global, Instr, Jal, Jalr, OpImm, Relocation, Target}
+use Rattle.sc_select.specs.Common.{Upper}
 use Rattle.std.specs.Prelude.{ℕ, suc, pos, ◌+◌, ◌-ℤ◌, ◌==◌, if◌then◌else◌, Bool, List, [], ◌∷◌, Option, None, Some}
 use Rattle.std.specs.List.{list_all}
-use Rattle.rv_code.specs.declared.instr.Instr.{Instr}
-use Rattle.rv_code.specs.declared.instr.Instr.TheVariants.{Upper, Jal, Jalr, OpImm}
-use Rattle.sc_tac.specs.declared.machine_code.CodeTree.{CodeTree}
-use Rattle.sc_tac.specs.declared.machine_code.Relocation.{Relocation}
-use Rattle.sc_tac.specs.declared.machine_code.Target.{Target}
-use Rattle.sc_tac.specs.declared.machine_code.Target.TheVariants.{Function, Entry, Global}
 use Rattle.sc_select.specs.Lines.{Line}
 use Rattle.sc_select.specs.Pieces.{upper_part, lower_part}
 

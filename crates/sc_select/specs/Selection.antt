@@ -1,6 +1,7 @@
 -- Instruction selection: the instructions of each statement of three-address code, where each temporary has its place.
-use Rattle.sc_select.specs.Common.{Addi, Branch, CodeTree, Ecall, FrameTree, Instr, Jal, Jalr, Load, Lui, Lw, OpImm}
-use Rattle.sc_select.specs.Common.{Place, Store, Sw, TacOp, TacStmt, TacStmt-F, Upper, fold-TacStmt}
+use Rattle.sc_select.specs.Common.{Addi, Branch, CodeTree, Ecall, Entry as EntryOf, FrameTree, Function, Global, Instr}
+use Rattle.sc_select.specs.Common.{Jal, Jalr, Load, Lui, Lw, OpImm, Place, Store, Sw, TacOp, TacStmt, TacStmt-F, Upper}
+use Rattle.sc_select.specs.Common.{fold-TacStmt}
 use Rattle.std.specs.Prelude.{ℕ, zero, suc, pos, ◌+◌, ◌*◌, List, [], ◌∷◌, ◌++◌, map, length, Option, None, Some}
 use Rattle.std.specs.Prelude.{slice_get, neg_ℤ}
 use Rattle.std.specs.Option.{unwrap_or}
@@ -8,7 +9,6 @@ use Rattle.sc_event.specs.declared.row.Entry.{Entry}
 use Rattle.sc_event.specs.declared.row.Entry.TheVariants.{Main}
 use Rattle.rv_code.specs.declared.instr.BranchOp.TheVariants.{Bne}
 use Rattle.sc_tac.specs.declared.function.TacFnTree.{TacFnTree}
-use Rattle.sc_tac.specs.declared.machine_code.Target.TheVariants.{Function, Entry as EntryOf, Global}
 use Rattle.sc_tac.specs.declared.place.Place.TheVariants.{Register, Slot}
 use Rattle.sc_tac.specs.declared.stmt.Constant.{Constant}
 use Rattle.sc_tac.specs.declared.stmt.Constant.TheVariants as constant

@@ -1,7 +1,6 @@
 //! Calls of functions.
 
-ghost use Rattle.sc_select.specs.Pieces.{a0};
-ghost use Rattle.sc_select.specs.Prelude.{Jal, call_cross, call_own, pass, plainly, receive};
+ghost use Rattle.sc_select.specs.Prelude.{Jal, a0, call_cross, call_own, pass, plainly, receive};
 ghost use Rattle.std.specs.Prelude.{◌≡◌, ◌≤◌, ◌++◌, OnOk, length};
 
 use crate::backward::Backward;

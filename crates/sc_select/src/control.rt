@@ -1,8 +1,7 @@
 //! Statements in order, choices and loops.
 
-ghost use Rattle.sc_select.specs.Bounds.{most_lines};
-ghost use Rattle.sc_select.specs.Prelude.{Addi, Fits, IsJumpOffset, Jal, Line, OpImm, jump_back, jump_over, plain};
-ghost use Rattle.sc_select.specs.Prelude.{round_begins, select, select_all};
+ghost use Rattle.sc_select.specs.Prelude.{Addi, Fits, IsJumpOffset, Jal, Line, OpImm, jump_back, jump_over, most_lines};
+ghost use Rattle.sc_select.specs.Prelude.{plain, round_begins, select, select_all};
 ghost use Rattle.sc_tac.specs.declared.stmt.TacStmt;
 ghost use Rattle.std.specs.Prelude.{◌≡◌, ◌≤◌, ◌<◌, ◌-◌, ◌++◌, ◌∷◌, [], ℕ, OnOk, length};
 

@@ -1,7 +1,6 @@
 //! Statements without others inside. Code is written from its end: what is done first is written last.
 
-ghost use Rattle.sc_select.specs.Pieces.{a0};
-ghost use Rattle.sc_select.specs.Prelude.{brought, choice, copied, environment_call, keep, load_from, loading};
+ghost use Rattle.sc_select.specs.Prelude.{a0, brought, choice, copied, environment_call, keep, load_from, loading};
 ghost use Rattle.sc_select.specs.Prelude.{moved_by, object_offset, operation, place_of_global, plainly, put, receive};
 ghost use Rattle.sc_select.specs.Prelude.{result_register, return, second_operand, store_to, take, take_second};
 ghost use Rattle.sc_select.specs.Prelude.{word_of_constant};

@@ -1,38 +1,17 @@
 -- A call of a function of another compartment, into it and back, whoever calls and whoever is called.
-use Rattle.std.proofs.Common.{All, Bool, List, None, Option, Some, [], ap, arith, false, if◌then◌else◌}
-use Rattle.std.proofs.Common.{length, map, refl, subst, suc, sym, true, ℕ, ⊎_elim, ◌++◌, ◌+◌, ◌<◌, ◌∙◌, ◌∷◌}
-use Rattle.std.proofs.Common.{◌≡◌, ◌≢◌, ◌≤◌}
-use Rattle.std.specs.Prelude.{is_some, slice_index, slice_set}
-use Rattle.std.specs.List.{list_all}
-use Rattle.std.proofs.lemmas.Bool.{cases_eq}
-use Rattle.std.proofs.lemmas.List.{get_or-set_other, get_or-set_same}
-use Rattle.sc_event.specs.declared.event.Event.TheVariants.{Call, Ret}
-use Rattle.sc_event.specs.declared.interface.Proto.{Proto}
-use Rattle.sc_event.specs.declared.row.Entry.TheVariants.{Export}
-use Rattle.sc_core.specs.declared.expr.CallTarget.TheVariants.{Cross}
-use Rattle.sc_core.specs.declared.value.Value.{Value}
-use Rattle.sc_core.specs.Calls.{is_word, option_value, word_back, word_in}
-use Rattle.sc_core.specs.Words.{tell}
-use Rattle.sc_image.specs.Calls.{has_result, may_call, params_of}
-use Rattle.sc_image.specs.Cross.{arguments, called, cleared_for_call, returned_to}
-use Rattle.sc_image.specs.Layout.{gate}
-use Rattle.sc_image.specs.State.{Crossing, State, written}
-use Rattle.sc_image.specs.Walks.{Walks}
-use Rattle.sc_image.specs.WellFormed.{IsWellFormed, IsWord}
-use Rattle.sc_image.proofs.Reached.{called_other}
-use Rattle.sc_select.specs.Pieces.{a0, ra, sp}
-use Rattle.sc_hart.specs.Hart.{listed}
-use Rattle.sc_hart.proofs.Steady.{walks_steady}
-use Rattle.sc_hart.proofs.Steps.{then_go}
-use Rattle.sc_relation.specs.Stretches.{AllHonest, Costs, Effect, GivenBack, Joint, Leads, Protected}
-use Rattle.sc_relation.specs.Stretches.{Setting, Settled, Standpoint, machine}
-use Rattle.sc_relation.specs.Calls.{ArePassed, ComesBack}
-use Rattle.sc_relation.proofs.Coming.{came_by}
-use Rattle.sc_simulation.proofs.Crossing.{arguments_are, called_listed, called_regs}
-use Rattle.sc_simulation.proofs.Crossing.{given_back as given_value, given_is, returned_listed}
-use Rattle.sc_simulation.proofs.Crossing.{returned_regs, returned_sp}
+use Rattle.sc_simulation.proofs.Common.{All, AllHonest, AreFloors, ArePassed, Bool, Call, ComesBack, Costs, Cross}
+use Rattle.sc_simulation.proofs.Common.{Crossing, Effect, Export, GivenBack, IsWellFormed, IsWord, Joint, Leads, List}
+use Rattle.sc_simulation.proofs.Common.{None, Option, Protected, Proto, Ret, Setting, Settled, Some, Standpoint, Value}
+use Rattle.sc_simulation.proofs.Common.{Walks, [], a0, ap, arguments, arith, called_other, came_by, cases_eq}
+use Rattle.sc_simulation.proofs.Common.{cleared_for_call, false, gate, get_or-set_other, get_or-set_same, has_result}
+use Rattle.sc_simulation.proofs.Common.{if◌then◌else◌, is_some, is_word, length, list_all, listed, machine, map}
+use Rattle.sc_simulation.proofs.Common.{option_value, params_of, ra, refl, returned_to, slice_index, slice_set, sp}
+use Rattle.sc_simulation.proofs.Common.{subst, suc, sym, tell, then_go, true, walks_steady, word_back, word_in, written}
+use Rattle.sc_simulation.proofs.Common.{ℕ, ⊎_elim, ◌++◌, ◌+◌, ◌<◌, ◌∙◌, ◌∷◌, ◌≡◌, ◌≢◌, ◌≤◌}
+use Rattle.sc_image.specs.Prelude.{State, called, may_call}
+use Rattle.sc_simulation.proofs.Crossing.{arguments_are, called_listed, called_regs, given_back as given_value}
+use Rattle.sc_simulation.proofs.Crossing.{given_is, returned_listed, returned_regs, returned_sp}
 use Rattle.sc_simulation.proofs.Turning.{GoesIn, before_told, costs_back, turned}
-use Rattle.sc_relation.specs.Frames.{AreFloors}
 
 module _ (T : Setting) (formed : IsWellFormed T.image) (inputs : All IsWord T.inputs) (P : Standpoint) (x : Joint)
     (to index : ℕ) (args : List Value) where

@@ -1,31 +1,15 @@
 -- Runs along a stretch on which no end is told.
-use Rattle.std.proofs.Common.{◌≡◌, ℕ, zero, suc, ◌+◌, ◌<◌, ◌≤◌, Bool, true, false, not, ◌||◌, List, [], ◌∷◌, ◌++◌}
-use Rattle.std.proofs.Common.{length, take, Option, None, Some, refl, sym, ◌∙◌, ap, subst, arith, nat_le}
-use Rattle.std.proofs.Common.{◌-◌, length-append, zero-add, leb-false, le-leb, leb-true}
-use Rattle.std.specs.Prelude.{slice_get}
-use Rattle.std.specs.List.{list_any}
-use Rattle.std.specs.Option.{option_map_or}
-use Rattle.std.proofs.Math.Nat.{suc-add}
-use Rattle.sc_base.specs.declared.stop.Stop.{Stop}
+use Rattle.sc_simulation.proofs.Common.{Bool, Call, Crossing, End, Event, Front, Goes, ImageParts, In, IsFront}
+use Rattle.sc_simulation.proofs.Common.{IsWellFormed, List, None, Option, Out, Outcome, Ret, Some, Stop, Traps, [], ap}
+use Rattle.sc_simulation.proofs.Common.{arith, false, front_long, front_more, front_same, given_back, goes_adds}
+use Rattle.sc_simulation.proofs.Common.{has_no_end, has_result, is_end, is_ended, le-leb, leb-false, leb-true, length}
+use Rattle.sc_simulation.proofs.Common.{length-append, list_any, nat_le, not, not_stopped, option_map_or, refl, reg}
+use Rattle.sc_simulation.proofs.Common.{returned, run, run_goes, run_out, run_stopped, run_traps, slice_get, step}
+use Rattle.sc_simulation.proofs.Common.{step_of, stopped, subst, suc, suc-add, sym, take, take_fronts, then_on, true}
+use Rattle.sc_simulation.proofs.Common.{walk, walk_adds, zero, zero-add, ℕ, ◌++◌, ◌+◌, ◌-◌, ◌<◌, ◌||◌, ◌∙◌, ◌∷◌, ◌≡◌}
+use Rattle.sc_simulation.proofs.Common.{◌≤◌}
+use Rattle.sc_image.specs.Prelude.{State, a0, is_end as ends}
 use Rattle.sc_base.specs.declared.stop.Stop.TheVariants.{EventsOut}
-use Rattle.sc_event.specs.Prelude.{is_end}
-use Rattle.sc_event.specs.declared.event.Event.{Event}
-use Rattle.sc_event.specs.declared.event.Event.TheVariants.{Call, End, In, Out, Ret}
-use Rattle.sc_core.specs.Growth.{Front}
-use Rattle.sc_laws.specs.Rooms.{has_no_end}
-use Rattle.sc_laws.proofs.Growing.{front_more, front_same}
-use Rattle.sc_laws.proofs.Runs.{front_long, take_fronts}
-use Rattle.sc_image.specs.declared.parts.ImageParts.{ImageParts}
-use Rattle.sc_image.specs.Calls.{has_result}
-use Rattle.sc_image.specs.Cross.{given_back, returned}
-use Rattle.sc_image.specs.Machine.{is_end as ends, is_ended, run, stopped}
-use Rattle.sc_image.specs.State.{Crossing, State, a0, reg}
-use Rattle.sc_image.specs.Step.{Goes, Outcome, Traps, step}
-use Rattle.sc_image.specs.Walks.{then_on, walk}
-use Rattle.sc_image.specs.WellFormed.{IsWellFormed}
-use Rattle.sc_image.proofs.Cases.{step_of}
-use Rattle.sc_image.proofs.Running.{run_goes, run_out, run_stopped, run_traps}
-use Rattle.sc_image.proofs.Stretches.{IsFront, goes_adds, not_stopped, walk_adds}
 
 -- LISTS
 

@@ -1,35 +1,16 @@
 -- What calls of functions of a program do: whatever that is, they only go on, and they answer where a value is
 -- promised.
-use Rattle.std.proofs.Common.{◌≡◌, ℕ, Bool, true, false, List, length, map, Option, None, Some, refl}
-use Rattle.std.proofs.Common.{if◌then◌else◌, sym, ap, subst}
-use Rattle.std.specs.Prelude.{slice_get, is_some, IsSome}
-use Rattle.sc_event.specs.Prelude.{export_at}
-use Rattle.sc_event.specs.declared.event.Event.TheVariants.{Call}
-use Rattle.sc_event.specs.declared.interface.Proto.{Proto}
-use Rattle.sc_event.specs.declared.interface.Scalar.{Scalar}
-use Rattle.sc_event.specs.declared.row.Entry.TheVariants.{Export}
-use Rattle.sc_core.specs.declared.cause.Cause.TheVariants.{BadType}
-use Rattle.sc_core.specs.declared.expr.CallTarget.{CallTarget}
-use Rattle.sc_core.specs.declared.expr.CallTarget.TheVariants.{Own, Cross, Input, Output}
-use Rattle.sc_core.specs.declared.run.RunEnd.{RunEnd}
-use Rattle.sc_core.specs.declared.run.RunEnd.TheVariants.{Blamed}
-use Rattle.sc_core.specs.declared.value.Value.{Value}
-use Rattle.sc_core.specs.Calls.{Function, Library, back_cross, back_own, begun, called, crossed, crossing, done}
-use Rattle.sc_core.specs.Calls.{found, function, may_call, option_value, run_in, run_step, word_back, word_in}
-use Rattle.sc_core.specs.Scripts.{Roles, scripted_step}
-use Rattle.sc_core.specs.Value.{wrapping}
-use Rattle.sc_core.specs.Words.{Here, State as Meant, Piece, Reached, Stopped, and_then, tell, turn}
-use Rattle.sc_laws.specs.Growth.{Goes}
-use Rattle.sc_laws.proofs.Growing.{BodyGoes, calls_go, within_goes}
-use Rattle.sc_laws.proofs.Matching.{scripted_goes_on}
-use Rattle.sc_tac.specs.declared.function.TacFnTree.{TacFnTree}
-use Rattle.sc_tac.specs.declared.program.TacTree.{TacTree}
-use Rattle.sc_tac.specs.Code.{code_function, code_library}
-use Rattle.sc_tac.proofs.Matching.{code_obeys}
-use Rattle.sc_relation.specs.Calls.{GivesValue}
-use Rattle.sc_simulation.specs.Bodies.{calls_of, ran}
-use Rattle.sc_simulation.specs.Linked.{functions_in, gives, gives_result, promises_result}
-use Rattle.sc_simulation.specs.Results.{GivesResults, bodies}
+use Rattle.sc_simulation.proofs.Common.{BadType, Blamed, BodyGoes, Bool, Call, CallTarget, Cross, Export, Function}
+use Rattle.sc_simulation.proofs.Common.{GivesResults, GivesValue, Here, Input, IsSome, Library, List, None, Option}
+use Rattle.sc_simulation.proofs.Common.{Output, Own, Piece, Proto, Reached, Roles, RunEnd, Scalar, Some, State as Meant}
+use Rattle.sc_simulation.proofs.Common.{Stopped, TacFnTree, TacTree, Value, and_then, ap, back_cross, back_own, begun}
+use Rattle.sc_simulation.proofs.Common.{bodies, called, calls_go, calls_of, code_function, code_library, code_obeys}
+use Rattle.sc_simulation.proofs.Common.{crossed, crossing, done, export_at, false, found, function, functions_in, gives}
+use Rattle.sc_simulation.proofs.Common.{gives_result, if◌then◌else◌, is_some, length, map, may_call, option_value}
+use Rattle.sc_simulation.proofs.Common.{promises_result, ran, refl, run_in, run_step, scripted_goes_on, scripted_step}
+use Rattle.sc_simulation.proofs.Common.{slice_get, subst, sym, tell, true, turn, within_goes, word_back, word_in}
+use Rattle.sc_simulation.proofs.Common.{wrapping, ℕ, ◌≡◌}
+use Rattle.sc_laws.specs.Prelude.{Goes}
 use Rattle.sc_simulation.proofs.Sections.{function_found}
 
 module _ (program : TacTree) (roles : Roles) (n : ℕ) where

@@ -1,35 +1,17 @@
 -- The induction on open calls: calls are followed where bodies with as many open calls are, and so bodies are followed
 -- in which one more may be open.
-use Rattle.std.proofs.Common.{◌≡◌, ℕ, zero, suc, ◌+◌, Bool, true, false, not, ◌||◌, ◌==◌, List, [], ◌∷◌, All}
-use Rattle.std.proofs.Common.{length, Option, None, Some, if◌then◌else◌, refl, sym, ◌∙◌, ap, subst, arith, inl}
-use Rattle.std.specs.Prelude.{◌⊎◌, slice_get, nat_lt}
-use Rattle.std.proofs.lemmas.Bool.{and_parts, eqb-true}
-use Rattle.sc_event.specs.Prelude.{imports, is_output}
-use Rattle.sc_core.specs.declared.cause.Cause.TheVariants.{BadType}
-use Rattle.sc_core.specs.declared.expr.CallTarget.{CallTarget}
-use Rattle.sc_core.specs.declared.expr.CallTarget.TheVariants.{Own, Cross, Input, Output}
-use Rattle.sc_core.specs.declared.run.RunEnd.TheVariants.{Blamed}
-use Rattle.sc_core.specs.declared.value.Value.{Value}
-use Rattle.sc_core.specs.declared.value.Value.TheVariants.{Word, Null, Ptr}
-use Rattle.sc_core.specs.Calls.{Function, Library, begun, called, done, found, may_call, run_step}
-use Rattle.sc_core.specs.Scripts.{Roles, performs, rows_left}
-use Rattle.sc_core.specs.Value.{wrapping}
-use Rattle.sc_core.specs.Words.{Here, State as Meant, Piece, Reached, and_then}
-use Rattle.sc_image.specs.declared.parts.ImageParts.{ImageParts}
-use Rattle.sc_image.specs.WellFormed.{IsWord}
-use Rattle.sc_tac.specs.declared.function.TacFnTree.{TacFnTree}
-use Rattle.sc_tac.specs.declared.program.TacTree.{TacTree}
-use Rattle.sc_tac.specs.Code.{code_function, code_library}
-use Rattle.sc_tac.specs.Functions.{IsFunction, passes_words}
-use Rattle.sc_tac.specs.Programs.{IsProgram, own_call_fits}
-use Rattle.sc_select.specs.Linking.{Addresses}
-use Rattle.sc_select.specs.Pieces.{sp}
-use Rattle.sc_hart.proofs.Steps.{stay}
-use Rattle.sc_relation.specs.Stretches.{Setting, Joint, Standpoint, machine, Settled, Overflows}
-use Rattle.sc_relation.specs.Calls.{ArePassed, CallStands, CallsFollow, FunctionGives, IsBase}
-use Rattle.sc_simulation.specs.Bodies.{BodiesFollow, IsRun, PerformersFollow, calls_of, ran}
-use Rattle.sc_simulation.specs.Linked.{HasCode, IsLinked, functions_in, gives, setting}
-use Rattle.sc_simulation.specs.Results.{GivesResults, bodies}
+use Rattle.sc_simulation.proofs.Common.{Addresses, All, ArePassed, BadType, Blamed, BodiesFollow, Bool, CallStands}
+use Rattle.sc_simulation.proofs.Common.{CallTarget, CallsFollow, Cross, Function, FunctionGives, GivesResults, HasCode}
+use Rattle.sc_simulation.proofs.Common.{Here, ImageParts, Input, IsBase, IsFunction, IsLinked, IsProgram, IsRun, IsWord}
+use Rattle.sc_simulation.proofs.Common.{Joint, Library, List, None, Null, Option, Output, Overflows, Own}
+use Rattle.sc_simulation.proofs.Common.{PerformersFollow, Piece, Ptr, Reached, Roles, Setting, Settled, Some}
+use Rattle.sc_simulation.proofs.Common.{Standpoint, State as Meant, TacFnTree, TacTree, Value, Word, [], and_parts}
+use Rattle.sc_simulation.proofs.Common.{and_then, ap, arith, begun, bodies, called, calls_of, code_function}
+use Rattle.sc_simulation.proofs.Common.{code_library, done, eqb-true, false, found, functions_in, gives, if◌then◌else◌}
+use Rattle.sc_simulation.proofs.Common.{imports, inl, is_output, length, machine, may_call, nat_lt, not, own_call_fits}
+use Rattle.sc_simulation.proofs.Common.{passes_words, performs, ran, refl, rows_left, run_step, setting, slice_get, sp}
+use Rattle.sc_simulation.proofs.Common.{stay, subst, suc, sym, true, wrapping, zero, ℕ, ◌+◌, ◌==◌, ◌||◌, ◌∙◌, ◌∷◌, ◌≡◌}
+use Rattle.sc_simulation.proofs.Common.{◌⊎◌}
 use Rattle.sc_simulation.proofs.Answering.{answers, calls_only_go, own_is}
 use Rattle.sc_simulation.proofs.CrossCalls.{cross_follows}
 use Rattle.sc_simulation.proofs.Environment.{input_comes, output_comes}

@@ -1,58 +1,26 @@
 -- Calls of functions of other compartments of a program: those that code makes, and those of functions that run theirs.
-use Rattle.std.proofs.Common.{All, Bool, List, None, Option, Some, ap, arith, false, inl, inr, length}
-use Rattle.std.proofs.Common.{map, not, ◌<◌, pos, refl, subst, suc, sym, true, ℕ, ⊎_elim, ◌==◌, ◌||◌, ◌∙◌, ◌≡◌, ◌≢◌}
-use Rattle.std.proofs.Common.{◌≤◌}
-use Rattle.std.specs.Prelude.{is_some, nat_lt, slice_get, slice_index, ◌⊎◌}
-use Rattle.std.specs.List.{list_all}
-use Rattle.std.specs.Option.{option_map}
-use Rattle.std.proofs.lemmas.Bool.{and_parts, cases_eq, eqb-true, lt-ltb}
-use Rattle.std.proofs.lemmas.List.{length-map}
-use Rattle.sc_event.specs.Prelude.{export_at, imports, is_function, takes}
-use Rattle.sc_event.specs.declared.event.Event.TheVariants.{Call, Ret}
-use Rattle.sc_event.specs.declared.interface.Proto.{Proto}
-use Rattle.sc_event.specs.declared.row.Entry.TheVariants.{Export}
-use Rattle.sc_core.specs.declared.cause.Cause.TheVariants.{BadType}
-use Rattle.sc_core.specs.declared.expr.CallTarget.TheVariants.{Cross}
-use Rattle.sc_core.specs.declared.run.RunEnd.TheVariants.{Blamed}
-use Rattle.sc_core.specs.declared.value.Value.{Value}
-use Rattle.sc_core.specs.Calls.{Function, Library, back_cross, begun, call_cross, called, crossed, crossing, done}
-use Rattle.sc_core.specs.Calls.{found, is_word, leads, may_call, option_value, run_in, word_back, word_in}
-use Rattle.sc_core.specs.Scripts.{Roles}
-use Rattle.sc_core.specs.Value.{wrapping}
-use Rattle.sc_core.specs.Words.{Here, Piece, Reached, State as Meant, Stopped, and_then, tell}
-use Rattle.sc_laws.proofs.Growing.{back_goes, then_then}
-use Rattle.sc_image.specs.declared.parts.ImageParts.{ImageParts}
-use Rattle.sc_image.specs.Calls.{export_at as image_export}
-use Rattle.sc_image.specs.Layout.{gate, word_at}
-use Rattle.sc_image.specs.WellFormed.{IsWord}
-use Rattle.sc_image.proofs.Reached.{called_there}
-use Rattle.sc_tac.specs.declared.function.TacFnTree.{TacFnTree}
-use Rattle.sc_tac.specs.declared.program.TacTree.{TacTree}
-use Rattle.sc_tac.specs.Code.{code_function, code_library, function_entered}
-use Rattle.sc_tac.specs.Functions.{IsFunction}
-use Rattle.sc_tac.specs.Programs.{IsProgram, cross_call_fits}
-use Rattle.sc_select.specs.Linking.{Addresses}
-use Rattle.sc_select.specs.Pieces.{ra, sp}
-use Rattle.sc_relation.specs.Stretches.{Joint, Overflows, Setting, Settled, Standpoint, machine}
-use Rattle.sc_relation.specs.Calls.{ArePassed, Begins, CallGives, CallStands, FunctionGives, IsBase, IsLeft}
-use Rattle.sc_simulation.specs.Bodies.{BodiesFollow, IsRun}
-use Rattle.sc_simulation.specs.Bodies.{calls_of, ran}
-use Rattle.sc_simulation.specs.Linked.{EntersBy, HasCode, IsLinked, functions_in, setting}
-use Rattle.sc_simulation.specs.Results.{GivesResults, bodies}
-use Rattle.sc_simulation.proofs.Across.{IsDone, IsMade, across, comes_back, goes_across}
-use Rattle.sc_simulation.proofs.Across.{low_is, opened, seen_across, settled_in, walks_in}
+use Rattle.sc_simulation.proofs.Common.{Addresses, All, ArePassed, BadType, Begins, Blamed, BodiesFollow, Bool, Call}
+use Rattle.sc_simulation.proofs.Common.{CallGives, CallStands, Cross, EntersBy, Export, Function, FunctionGives}
+use Rattle.sc_simulation.proofs.Common.{GivesResults, HasCode, Here, ImageParts, IsBase, IsFunction, IsLeft, IsLinked}
+use Rattle.sc_simulation.proofs.Common.{IsProgram, IsRun, IsWord, Joint, Library, List, None, Option, Overflows, Piece}
+use Rattle.sc_simulation.proofs.Common.{Proto, Reached, Ret, Roles, Setting, Settled, Some, Standpoint, State as Meant}
+use Rattle.sc_simulation.proofs.Common.{Stopped, TacFnTree, TacTree, Value, Walks, and_parts, and_then, ap, arith}
+use Rattle.sc_simulation.proofs.Common.{back_cross, back_goes, begun, bodies, call_cross, called, called_there}
+use Rattle.sc_simulation.proofs.Common.{calls_of, cases_eq, code_function, code_inside, code_library, cross_call_fits}
+use Rattle.sc_simulation.proofs.Common.{crossed, crossing, done, eqb-true, export_at, false, found, function_entered}
+use Rattle.sc_simulation.proofs.Common.{functions_in, gate, imports, inl, inr, is_function, is_some, is_word, jal}
+use Rattle.sc_simulation.proofs.Common.{jalr_target, leads, length, length-map, list_all, lt-ltb, machine, map}
+use Rattle.sc_simulation.proofs.Common.{may_call, nat_lt, not, option_map, option_value, overflows_then, pos, ra, ran}
+use Rattle.sc_simulation.proofs.Common.{read_listed, refl, reg, run_in, setting, settled_moved, slice_get, slice_index}
+use Rattle.sc_simulation.proofs.Common.{sp, steps_tell, subst, suc, sym, takes, tell, then_go, then_then, true, word_at}
+use Rattle.sc_simulation.proofs.Common.{word_back, word_in, wrapping, ℕ, ⊎_elim, ◌<◌, ◌==◌, ◌||◌, ◌∙◌, ◌≡◌, ◌≢◌, ◌≤◌}
+use Rattle.sc_simulation.proofs.Common.{◌⊎◌}
+use Rattle.sc_image.specs.Prelude.{export_at as image_export}
+use Rattle.sc_simulation.proofs.Across.{IsDone, IsMade, across, comes_back, goes_across, low_is, opened, seen_across}
+use Rattle.sc_simulation.proofs.Across.{settled_in, walks_in}
 use Rattle.sc_simulation.proofs.Placing.{word_there}
 use Rattle.sc_simulation.proofs.Sections.{IsEntered, function_found, function_is, is_export}
 use Rattle.sc_simulation.proofs.Turning.{CallComes, GoesIn, overflows_in, shows_in, turned, where_made, where_turns}
-use Rattle.sc_image.specs.Step.{jalr_target}
-use Rattle.sc_image.proofs.Telling.{steps_tell}
-use Rattle.sc_hart.proofs.Registers.{read_listed}
-use Rattle.sc_image.specs.State.{reg}
-use Rattle.sc_image.specs.Walks.{Walks}
-use Rattle.sc_hart.proofs.Inside.{code_inside}
-use Rattle.sc_hart.proofs.Steps.{jal, then_go}
-use Rattle.sc_relation.proofs.Settling.{settled_moved}
-use Rattle.sc_relation.proofs.Stretches.{overflows_then}
 use Rattle.sc_simulation.proofs.Crossing.{called_ra, called_sp, crossed_passed}
 use Rattle.sc_simulation.proofs.OwnCalls.{back_to}
 

@@ -1,25 +1,12 @@
 -- What passes between compartments at a call and at its return.
-use Rattle.std.proofs.Common.{◌≡◌, ℕ, zero, suc, ◌+◌, ◌^◌, ◌<◌, ◌≤◌, Bool, true, false, List, [], ◌∷◌, length}
-use Rattle.std.proofs.Common.{map, take, Option, None, Some, if◌then◌else◌, refl, sym, ◌∙◌, ap, ap₂, subst, arith}
-use Rattle.std.specs.Prelude.{slice_get, is_some}
-use Rattle.std.specs.List.{list_all}
-use Rattle.std.specs.Option.{option_map}
-use Rattle.std.proofs.lemmas.Bool.{and_parts, le-leb, lt-ltb}
-use Rattle.std.proofs.lemmas.Option.{same_Some, slice_get-map, slice_get_within}
-use Rattle.sc_event.specs.declared.interface.Scalar.{Scalar}
-use Rattle.sc_core.specs.declared.value.Value.{Value}
-use Rattle.sc_core.specs.declared.value.Value.TheVariants.{Word, Null, Ptr}
-use Rattle.sc_core.specs.Calls.{crossed, is_word, option_value, word_back, word_in}
-use Rattle.sc_image.specs.Cross.{arguments, cleared_for_call, cleared_for_return, is_argument, is_result, kept}
-use Rattle.sc_image.specs.Cross.{kept_from}
-use Rattle.sc_image.specs.Layout.{gate}
-use Rattle.sc_image.specs.State.{written}
-use Rattle.sc_select.specs.Pieces.{ra, sp, a0}
-use Rattle.sc_hart.specs.Hart.{Registers, listed, put, words_from}
-use Rattle.sc_hart.proofs.Registers.{put_here, put_there, write_listed}
-use Rattle.sc_relation.specs.Blocks.{StandsFor}
-use Rattle.sc_relation.specs.Calls.{ArePassed}
-use Rattle.sc_relation.specs.Stretches.{Setting, GivenBack}
+use Rattle.sc_simulation.proofs.Common.{ArePassed, Bool, GivenBack, List, None, Null, Option, Ptr, Registers, Scalar}
+use Rattle.sc_simulation.proofs.Common.{Setting, Some, StandsFor, Value, Word, [], a0, and_parts, ap, ap₂, arguments}
+use Rattle.sc_simulation.proofs.Common.{arith, cleared_for_call, cleared_for_return, crossed, false, gate}
+use Rattle.sc_simulation.proofs.Common.{if◌then◌else◌, is_argument, is_result, is_some, is_word, kept, kept_from}
+use Rattle.sc_simulation.proofs.Common.{le-leb, length, list_all, listed, lt-ltb, map, option_map, option_value, put}
+use Rattle.sc_simulation.proofs.Common.{put_here, put_there, ra, refl, same_Some, slice_get, slice_get-map}
+use Rattle.sc_simulation.proofs.Common.{slice_get_within, sp, subst, suc, sym, take, true, word_back, word_in}
+use Rattle.sc_simulation.proofs.Common.{words_from, write_listed, written, zero, ℕ, ◌+◌, ◌<◌, ◌^◌, ◌∙◌, ◌∷◌, ◌≡◌, ◌≤◌}
 
 -- Registers of which some are kept.
 

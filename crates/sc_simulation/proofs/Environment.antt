@@ -1,27 +1,11 @@
 -- Calls of the environment.
-use Rattle.std.proofs.Common.{◌≡◌, ℕ, zero, suc, ◌+◌, true, List, [], ◌∷◌, ◌++◌, All, drop}
-use Rattle.std.proofs.Common.{None, Some, refl, sym, ◌∙◌, ap, subst, arith}
-use Rattle.rv_code.specs.declared.instr.Instr.TheVariants.{Ecall}
-use Rattle.sc_event.specs.declared.event.Event.TheVariants.{In, Out}
-use Rattle.sc_core.specs.declared.expr.CallTarget.TheVariants.{Input, Output}
-use Rattle.sc_core.specs.declared.value.Value.TheVariants.{Word}
-use Rattle.sc_core.specs.Calls.{next_input, read_input}
-use Rattle.sc_core.specs.Words.{tell}
-use Rattle.sc_image.specs.Calls.{may_input, may_output}
-use Rattle.sc_image.specs.Cross.{input_at}
-use Rattle.sc_image.specs.State.{State, written}
-use Rattle.sc_image.specs.Walks.{Walks, IsAt}
-use Rattle.sc_image.specs.WellFormed.{IsWord, IsWellFormed}
-use Rattle.sc_image.proofs.Telling.{steps_tell}
-use Rattle.sc_select.specs.Pieces.{sp, a0, a7}
-use Rattle.sc_hart.specs.Code.{Fetches}
-use Rattle.sc_hart.specs.Hart.{put, listed}
-use Rattle.sc_hart.proofs.Registers.{put_here, put_there, read_listed, write_listed}
-use Rattle.sc_hart.proofs.Steady.{walks_steady}
-use Rattle.sc_relation.specs.Blocks.{StandsFor}
-use Rattle.sc_relation.specs.Stretches.{Setting, Joint, Standpoint, machine, Settled}
-use Rattle.sc_relation.specs.Calls.{ComesBack}
-use Rattle.sc_relation.proofs.Coming.{came_by}
+use Rattle.sc_simulation.proofs.Common.{All, ComesBack, Ecall, Fetches, In, Input, IsAt, IsWellFormed, IsWord, Joint}
+use Rattle.sc_simulation.proofs.Common.{List, None, Out, Output, Setting, Settled, Some, Standpoint, StandsFor, Walks}
+use Rattle.sc_simulation.proofs.Common.{Word, [], a0, a7, ap, arith, came_by, drop, input_at, listed, machine}
+use Rattle.sc_simulation.proofs.Common.{may_input, may_output, next_input, put, put_here, put_there, read_input}
+use Rattle.sc_simulation.proofs.Common.{read_listed, refl, sp, steps_tell, subst, suc, sym, tell, true, walks_steady}
+use Rattle.sc_simulation.proofs.Common.{write_listed, written, zero, ℕ, ◌++◌, ◌+◌, ◌∙◌, ◌∷◌, ◌≡◌}
+use Rattle.sc_image.specs.Prelude.{State}
 use Rattle.sc_simulation.proofs.Turning.{before_told}
 
 -- The next input.

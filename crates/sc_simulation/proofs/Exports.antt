@@ -1,23 +1,11 @@
 -- Each export of a program of code leads to a function.
-use Rattle.std.proofs.Common.{◌≡◌, ℕ, zero, suc, ◌+◌, ◌<◌, Bool, true, false, ◌==◌, List, [], ◌∷◌, length, Option, None, Some}
-use Rattle.std.proofs.Common.{refl, ◌∙◌, ap, subst, arith}
-use Rattle.std.specs.Prelude.{slice_get, is_some}
-use Rattle.std.specs.Option.{option_and_then, option_map_or}
-use Rattle.std.proofs.lemmas.Bool.{and_parts, eqb-true, false≢true}
-use Rattle.std.proofs.lemmas.Option.{slice_get_within}
-use Rattle.sc_event.specs.Prelude.{comp_at, export_at}
-use Rattle.sc_event.specs.declared.interface.Interface.{Interface}
-use Rattle.sc_event.specs.declared.interface.Proto.{Proto}
-use Rattle.sc_event.specs.declared.row.Entry.TheVariants.{Export}
-use Rattle.sc_core.specs.Calls.{leads}
-use Rattle.sc_core.specs.Value.{wrapping}
-use Rattle.sc_laws.specs.Turns.{ExportsLead}
-use Rattle.sc_tac.specs.declared.function.TacFnTree.{TacFnTree}
-use Rattle.sc_tac.specs.declared.program.TacSection.{TacSection}
-use Rattle.sc_tac.specs.declared.program.TacTree.{TacTree}
-use Rattle.sc_tac.specs.Code.{code_library, function_entered}
-use Rattle.sc_tac.specs.Programs.{IsProgram, are_headed, count, exports_entered, is_entered, same_entry}
-use Rattle.sc_simulation.specs.Linked.{functions_in, functions_or_none}
+use Rattle.sc_simulation.proofs.Common.{Bool, Export, ExportsLead, Interface, IsProgram, List, None, Option, Proto}
+use Rattle.sc_simulation.proofs.Common.{Some, TacFnTree, TacSection, TacTree, [], and_parts, ap, are_headed, arith}
+use Rattle.sc_simulation.proofs.Common.{code_library, comp_at, count, eqb-true, export_at, exports_entered, false}
+use Rattle.sc_simulation.proofs.Common.{false≢true, function_entered, functions_in, functions_or_none, is_entered}
+use Rattle.sc_simulation.proofs.Common.{is_some, leads, length, option_and_then, option_map_or, refl, same_entry}
+use Rattle.sc_simulation.proofs.Common.{slice_get, slice_get_within, subst, suc, true, wrapping, zero, ℕ, ◌+◌, ◌<◌}
+use Rattle.sc_simulation.proofs.Common.{◌==◌, ◌∙◌, ◌∷◌, ◌≡◌}
 use Rattle.sc_simulation.proofs.Sections.{entered_of, function_found, numbered_at}
 use Rattle.sc_simulation.proofs.Start.{IsFirst, first_of}
 

@@ -1,46 +1,19 @@
 -- What comes of a run of a program, by what its code comes to once `main` has begun.
-use Rattle.std.proofs.Common.{◌≡◌, ℕ, suc, ◌+◌, ◌*◌, ◌<◌, ◌≤◌, true, List, [], ◌∷◌, ◌++◌, length}
-use Rattle.std.proofs.Common.{Option, Some, refl, sym, ◌∙◌, ap, ap₂, subst, arith, inl, inr, pos}
-use Rattle.std.specs.Prelude.{◌⊎◌, is_some, slice_get}
-use Rattle.std.proofs.lemmas.Bool.{lt-ltb}
-use Rattle.sc_event.specs.declared.event.Event.{Event}
-use Rattle.sc_event.specs.declared.event.Event.TheVariants.{End}
-use Rattle.sc_event.specs.declared.row.Entry.TheVariants.{Main}
-use Rattle.sc_core.specs.declared.run.RunEnd.{RunEnd}
-use Rattle.sc_core.specs.declared.run.RunEnd.TheVariants.{TurnsOut}
-use Rattle.sc_core.specs.declared.value.Value.{Value}
-use Rattle.sc_core.specs.declared.value.Value.TheVariants.{Word}
-use Rattle.sc_core.specs.Calls.{Library, Body, begun, call_own, done, found, leads, run_step, within}
-use Rattle.sc_core.specs.Growth.{Front}
-use Rattle.sc_core.specs.Meaning.{exit_word, run_to}
-use Rattle.sc_core.specs.Memory.{Memory}
-use Rattle.sc_core.specs.Value.{wrapping}
-use Rattle.sc_core.specs.Words.{Here, Piece, Reached, State as Meant, Stopped, and_then}
-use Rattle.sc_laws.specs.Growth.{Gone, last}
-use Rattle.sc_laws.specs.Rooms.{AllBefore, AllFrom, has_no_end}
-use Rattle.sc_laws.specs.Turns.{StopsSpent, main_call}
-use Rattle.sc_laws.proofs.Growing.{front_more, front_same, own_goes, within_goes}
-use Rattle.sc_laws.proofs.Matching.{run_goes_on}
-use Rattle.sc_laws.proofs.Rooms.{keeps_rooms}
+use Rattle.sc_simulation.proofs.Common.{AllBefore, AllFrom, AllHonest, BodiesFollow, Body, Costs, End, Event, Finishes}
+use Rattle.sc_simulation.proofs.Common.{Front, FunctionGives, GivenBack, Gone, Here, ImageParts, IsBuilt, IsFull}
+use Rattle.sc_simulation.proofs.Common.{IsLeft, Joint, Library, List, Main, Memory, Option, Overflows, Piece, Reached}
+use Rattle.sc_simulation.proofs.Common.{Reaches, RunEnd, Setting, Shows, Some, Standpoint, Stands, State as Meant}
+use Rattle.sc_simulation.proofs.Common.{Stopped, StopsSpent, TacFnTree, TacTree, TurnsOut, Value, Walks, Word, []}
+use Rattle.sc_simulation.proofs.Common.{and_then, ap, ap₂, arith, begun, bodies, call_own, code_function, code_globals}
+use Rattle.sc_simulation.proofs.Common.{code_library, code_obeys, code_run, done, exit_word, finishes, found}
+use Rattle.sc_simulation.proofs.Common.{front_more, front_same, function_entered, functions_in, gate, has_no_end, inl}
+use Rattle.sc_simulation.proofs.Common.{inr, is_full, is_some, jalr_target, keeps_rooms, last, leads, length, lt-ltb}
+use Rattle.sc_simulation.proofs.Common.{machine, main_call, nobody, own_goes, pos, ran, refl, reg, run_goes_on}
+use Rattle.sc_simulation.proofs.Common.{run_step, run_to, setting, slice_get, stands, steps_tell, subst, suc, sym, true}
+use Rattle.sc_simulation.proofs.Common.{within, within_goes, wrapping, ℕ, ◌*◌, ◌++◌, ◌+◌, ◌<◌, ◌∙◌, ◌∷◌, ◌≡◌, ◌≤◌, ◌⊎◌}
+use Rattle.sc_image.specs.Prelude.{State, a0, ra}
+use Rattle.sc_simulation.specs.Prelude.{Outcome}
 use Rattle.sc_laws.proofs.Turns.{spends_turns}
-use Rattle.sc_image.specs.declared.parts.ImageParts.{ImageParts}
-use Rattle.sc_image.specs.Layout.{gate}
-use Rattle.sc_image.specs.State.{State, a0, ra, reg}
-use Rattle.sc_image.specs.Step.{jalr_target}
-use Rattle.sc_image.specs.Walks.{Walks}
-use Rattle.sc_image.proofs.Telling.{steps_tell}
-use Rattle.sc_tac.specs.declared.function.TacFnTree.{TacFnTree}
-use Rattle.sc_tac.specs.declared.program.TacTree.{TacTree}
-use Rattle.sc_tac.specs.Code.{code_function, code_globals, code_library, code_run, function_entered}
-use Rattle.sc_tac.proofs.Matching.{code_obeys}
-use Rattle.sc_relation.specs.Calls.{FunctionGives, IsLeft}
-use Rattle.sc_relation.specs.Stretches.{AllHonest, Costs, GivenBack, Joint, Overflows, Setting, Shows, Standpoint}
-use Rattle.sc_relation.specs.Stretches.{machine}
-use Rattle.sc_simulation.specs.Bodies.{BodiesFollow, ran}
-use Rattle.sc_simulation.specs.Linked.{functions_in, setting}
-use Rattle.sc_simulation.specs.Outcomes.{Finishes, IsFull, Outcome, Reaches, Stands, finishes, is_full, stands}
-use Rattle.sc_simulation.specs.Results.{bodies}
-use Rattle.sc_simulation.specs.Simulation.{IsBuilt, nobody}
 use Rattle.sc_simulation.proofs.Along.{front_endless}
 use Rattle.sc_simulation.proofs.Sections.{function_found}
 use Rattle.sc_simulation.proofs.Start.{IsMain, P as P', begins, main_there, x as x'}

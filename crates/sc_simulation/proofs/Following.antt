@@ -1,27 +1,11 @@
 -- The induction on open calls where some compartments perform their parts of the machine's own trace: what they perform
 -- is followed, whatever code they have, and all others are followed by their code.
-use Rattle.std.proofs.Common.{◌≡◌, ℕ, zero, suc, Bool, true, List, All}
-use Rattle.std.proofs.Common.{Some, sym, ap, subst, inl, if◌then◌else◌}
-use Rattle.std.specs.Prelude.{slice_get}
-use Rattle.sc_event.specs.declared.event.Event.{Event}
-use Rattle.sc_event.specs.Prelude.{legal}
-use Rattle.sc_core.specs.Calls.{run_step}
-use Rattle.sc_core.specs.Scripts.{Roles, performs, roles_in, rows_left}
-use Rattle.sc_core.specs.Value.{wrapping}
-use Rattle.sc_core.specs.Words.{Here, State as Meant}
-use Rattle.sc_image.specs.declared.parts.ImageParts.{ImageParts}
-use Rattle.sc_image.specs.WellFormed.{IsWord}
-use Rattle.sc_tac.specs.declared.function.TacFnTree.{TacFnTree}
-use Rattle.sc_tac.specs.declared.program.TacTree.{TacTree}
-use Rattle.sc_tac.specs.Code.{code_library}
-use Rattle.sc_tac.specs.Functions.{IsFunction}
-use Rattle.sc_tac.specs.Programs.{IsProgram}
-use Rattle.sc_select.specs.Linking.{Addresses}
-use Rattle.sc_relation.specs.Stretches.{Setting}
-use Rattle.sc_relation.proofs.Stretches.{shows_here}
-use Rattle.sc_simulation.specs.Bodies.{BodiesFollow, IsShown, PerformersDo, UnknownComes}
-use Rattle.sc_simulation.specs.Linked.{IsLinked, functions_in, setting}
-use Rattle.sc_simulation.specs.Results.{GivesResults, bodies}
+use Rattle.sc_simulation.proofs.Common.{Addresses, All, BodiesFollow, Bool, Event, GivesResults, Here, ImageParts}
+use Rattle.sc_simulation.proofs.Common.{IsFunction, IsLinked, IsProgram, IsShown, IsWord, List, PerformersDo, Roles}
+use Rattle.sc_simulation.proofs.Common.{Setting, Some, State as Meant, TacFnTree, TacTree, UnknownComes, ap, bodies}
+use Rattle.sc_simulation.proofs.Common.{code_library, functions_in, if◌then◌else◌, inl, legal, performs, roles_in}
+use Rattle.sc_simulation.proofs.Common.{rows_left, run_step, setting, shows_here, slice_get, subst, suc, sym, true}
+use Rattle.sc_simulation.proofs.Common.{wrapping, zero, ℕ, ◌≡◌}
 use Rattle.sc_simulation.proofs.Bodies.{more_follow, none_follow}
 use Rattle.sc_simulation.proofs.Unknown.{followed}
 use Rattle.sc_simulation.proofs.Performing.{performers_follow}

@@ -1,14 +1,8 @@
 -- Runs that keep to a trace: so do runs that agree with them.
-use Rattle.std.proofs.Common.{◌≡◌, ◌<◌, Bool, true, false, List, length, refl, sym, subst, arith, inl}
-use Rattle.std.proofs.Common.{inr, nat_le, leb-true, leb-false, ⊎_elim}
-use Rattle.sc_event.specs.declared.event.Event.{Event}
-use Rattle.sc_core.specs.declared.run.SourceRun.{SourceRun}
-use Rattle.sc_core.specs.Growth.{Front}
-use Rattle.sc_core.specs.Meaning.{Run}
-use Rattle.sc_laws.specs.Agreement.{RunsAgree}
-use Rattle.sc_laws.specs.Steady.{AgreesInRoom, RunsUntilBlame, blamed_run, same_run}
-use Rattle.sc_laws.proofs.Growing.{front_more}
-use Rattle.sc_simulation.specs.Runs.{IsBlamed, KeepsTo}
+use Rattle.sc_simulation.proofs.Common.{AgreesInRoom, Bool, Event, Front, IsBlamed, KeepsTo, List, Run, RunsAgree}
+use Rattle.sc_simulation.proofs.Common.{RunsUntilBlame, SourceRun, arith, blamed_run, false, front_more, inl, inr}
+use Rattle.sc_simulation.proofs.Common.{leb-false, leb-true, length, nat_le, refl, same_run, subst, sym, true, ⊎_elim}
+use Rattle.sc_simulation.proofs.Common.{◌<◌, ◌≡◌}
 use Rattle.sc_simulation.proofs.Shows.{blamed_too, shorter_first}
 
 module _ (trace : List Event) where

@@ -1,3 +1,4 @@
+pub mod Common
 pub mod Across
 pub mod Along
 pub mod Answering

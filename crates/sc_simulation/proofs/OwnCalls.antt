@@ -1,28 +1,11 @@
 -- Calls of functions of the own compartment.
-use Rattle.std.proofs.Common.{◌≡◌, ℕ, suc, ◌+◌, ◌*◌, ◌/◌, ◌%◌, ◌^◌, ◌<◌, pos, ℤ, false, List, All}
-use Rattle.std.proofs.Common.{Option, None, Some, refl, sym, ◌∙◌, ap, subst, arith, ⊎_elim, inl, inr}
-use Rattle.std.specs.Prelude.{◌⊎◌, IsSome}
-use Rattle.rv_code.specs.declared.instr.Instr.TheVariants.{Jal}
-use Rattle.sc_word.specs.Prelude.{add_word, word_of}
-use Rattle.sc_core.specs.declared.expr.CallTarget.TheVariants.{Own}
-use Rattle.sc_core.specs.declared.value.Value.{Value}
-use Rattle.sc_core.specs.Calls.{Function}
-use Rattle.sc_core.specs.Words.{State as Meant, Piece, Reached, Stopped}
-use Rattle.sc_image.specs.Layout.{word_at}
-use Rattle.sc_image.specs.Step.{jalr_target}
-use Rattle.sc_image.specs.Walks.{Walks}
-use Rattle.sc_image.specs.WellFormed.{IsWord, IsWellFormed}
-use Rattle.sc_select.specs.Pieces.{ra, sp, a0}
-use Rattle.sc_hart.specs.Code.{Fetches}
-use Rattle.sc_hart.specs.Hart.{put}
-use Rattle.sc_hart.proofs.Inside.{IsInside, code_inside}
-use Rattle.sc_hart.proofs.Registers.{put_there, put_here}
-use Rattle.sc_hart.proofs.Steady.{walks_steady}
-use Rattle.sc_hart.proofs.Steps.{jal, jalr, then_go}
-use Rattle.sc_relation.specs.Blocks.{StandsFor}
-use Rattle.sc_relation.specs.Stretches.{Setting, Joint, Standpoint, machine, Settled, Overflows}
-use Rattle.sc_relation.specs.Calls.{ArePassed, Begins, CallGives, ComesBack, FunctionGives, IsBase, IsLeft}
-use Rattle.sc_relation.proofs.Coming.{came_by}
+use Rattle.sc_simulation.proofs.Common.{All, ArePassed, Begins, CallGives, ComesBack, Fetches, Function, FunctionGives}
+use Rattle.sc_simulation.proofs.Common.{IsBase, IsInside, IsLeft, IsSome, IsWellFormed, IsWord, Jal, Joint, List, None}
+use Rattle.sc_simulation.proofs.Common.{Option, Overflows, Own, Piece, Reached, Setting, Settled, Some, Standpoint}
+use Rattle.sc_simulation.proofs.Common.{StandsFor, State as Meant, Stopped, Value, Walks, a0, add_word, ap, arith}
+use Rattle.sc_simulation.proofs.Common.{came_by, code_inside, false, inl, inr, jal, jalr, jalr_target, machine, pos}
+use Rattle.sc_simulation.proofs.Common.{put, put_here, put_there, ra, refl, sp, subst, suc, sym, then_go, walks_steady}
+use Rattle.sc_simulation.proofs.Common.{word_at, word_of, ℕ, ℤ, ⊎_elim, ◌%◌, ◌*◌, ◌+◌, ◌/◌, ◌<◌, ◌^◌, ◌∙◌, ◌≡◌, ◌⊎◌}
 use Rattle.sc_simulation.proofs.Turning.{GoesIn, turned, shows_in, overflows_in, costs_back}
 
 is_some_of : (o : Option ℕ) → IsSome o → (v : ℕ) × (o ≡ Some v)

@@ -1,25 +1,11 @@
 -- A state that the machine reaches, and what a run of so many steps shows: the run doesn't come so far, or it passes.
-use Rattle.std.proofs.Common.{◌≡◌, ℕ, ◌<◌, ◌≤◌, Bool, true, false, List, [], ◌∷◌, ◌++◌, length, take, drop}
-use Rattle.std.proofs.Common.{refl, sym, ◌∙◌, subst, arith, inl, inr, nat_le, nat_lt, leb-true, leb-false, ltb-true}
-use Rattle.std.proofs.Common.{ltb-false, take-append-drop, append-nil, ⊎_elim}
-use Rattle.std.specs.Prelude.{◌⊎◌}
-use Rattle.sc_base.specs.declared.stop.TrapReason.TheVariants.{Owner}
-use Rattle.sc_event.specs.declared.event.Event.{Event}
-use Rattle.sc_event.specs.declared.event.Event.TheVariants.{End}
-use Rattle.sc_core.specs.declared.run.RunEnd.{RunEnd}
-use Rattle.sc_core.specs.declared.run.RunEnd.TheVariants.{Blamed, Ended, EventsOut, TurnsOut}
-use Rattle.sc_core.specs.declared.run.SourceRun.{SourceRun}
-use Rattle.sc_core.specs.Growth.{Front}
-use Rattle.sc_core.specs.Words.{IsStop}
-use Rattle.sc_laws.proofs.Growing.{front_more, front_same}
-use Rattle.sc_image.specs.declared.parts.ImageParts.{ImageParts}
-use Rattle.sc_image.specs.Cross.{ended}
-use Rattle.sc_image.specs.Machine.{machine}
-use Rattle.sc_image.specs.State.{a0, reg}
-use Rattle.sc_image.specs.Step.{Goes, Traps, step}
-use Rattle.sc_image.specs.WellFormed.{IsWellFormed}
-use Rattle.sc_simulation.specs.Outcomes.{Reaches}
-use Rattle.sc_simulation.specs.Runs.{IsBlamed, KeepsTo}
+use Rattle.sc_simulation.proofs.Common.{Blamed, Bool, End, Ended, Event, EventsOut, Front, Goes, ImageParts, IsBlamed}
+use Rattle.sc_simulation.proofs.Common.{IsStop, IsWellFormed, KeepsTo, List, Owner, Reaches, RunEnd, SourceRun, Traps}
+use Rattle.sc_simulation.proofs.Common.{TurnsOut, [], append-nil, arith, drop, ended, false, front_more, front_same}
+use Rattle.sc_simulation.proofs.Common.{inl, inr, leb-false, leb-true, length, ltb-false, ltb-true, nat_le, nat_lt}
+use Rattle.sc_simulation.proofs.Common.{refl, reg, step, subst, sym, take, take-append-drop, true, ℕ, ⊎_elim, ◌++◌, ◌<◌}
+use Rattle.sc_simulation.proofs.Common.{◌∙◌, ◌∷◌, ◌≡◌, ◌≤◌, ◌⊎◌}
+use Rattle.sc_image.specs.Prelude.{a0, machine}
 use Rattle.sc_simulation.proofs.Shows.{ended_is, few, full, later_front, trapped_is}
 
 front_of_take : {A : Type 0} (n : ℕ) (xs : List A) → Front (take n xs) xs

@@ -1,22 +1,8 @@
 -- Calls of compartments that perform are followed where their functions are, from compartments that run their code.
-use Rattle.std.proofs.Common.{◌≡◌, ℕ, List, All}
-use Rattle.std.proofs.Common.{Some}
-use Rattle.std.specs.Prelude.{slice_get}
-use Rattle.sc_core.specs.Calls.{Library}
-use Rattle.sc_core.specs.Scripts.{Roles}
-use Rattle.sc_core.specs.Value.{wrapping}
-use Rattle.sc_image.specs.declared.parts.ImageParts.{ImageParts}
-use Rattle.sc_image.specs.WellFormed.{IsWord}
-use Rattle.sc_tac.specs.declared.function.TacFnTree.{TacFnTree}
-use Rattle.sc_tac.specs.declared.program.TacTree.{TacTree}
-use Rattle.sc_tac.specs.Code.{code_library}
-use Rattle.sc_tac.specs.Functions.{IsFunction}
-use Rattle.sc_tac.specs.Programs.{IsProgram}
-use Rattle.sc_select.specs.Linking.{Addresses}
-use Rattle.sc_relation.specs.Stretches.{Setting}
-use Rattle.sc_simulation.specs.Bodies.{PerformersDo, PerformersFollow}
-use Rattle.sc_simulation.specs.Linked.{IsLinked, functions_in, setting}
-use Rattle.sc_simulation.specs.Results.{GivesResults}
+use Rattle.sc_simulation.proofs.Common.{Addresses, All, GivesResults, ImageParts, IsFunction, IsLinked, IsProgram}
+use Rattle.sc_simulation.proofs.Common.{IsWord, Library, List, PerformersDo, PerformersFollow, Roles, Setting, Some}
+use Rattle.sc_simulation.proofs.Common.{TacFnTree, TacTree, code_library, functions_in, setting, slice_get, wrapping, ℕ}
+use Rattle.sc_simulation.proofs.Common.{◌≡◌}
 use Rattle.sc_simulation.proofs.CrossCalls.{cross_where}
 use Rattle.sc_simulation.proofs.UnknownCrossing.{into_unknown}
 

@@ -1,25 +1,14 @@
 -- Where the machine's run has come: its states follow one another, and what its trace says of who is active.
-use Rattle.std.proofs.Common.{◌≡◌, ℕ, zero, suc, ◌+◌, ◌≤◌, Bool, true, false, List, [], ◌∷◌, ◌++◌, length}
-use Rattle.std.proofs.Common.{Option, None, Some, refl, sym, ◌∙◌, ap, subst, arith, filter, if◌then◌else◌, zero-add}
-use Rattle.std.specs.Prelude.{◌==◌}
-use Rattle.std.proofs.Math.Nat.{suc-add}
-use Rattle.std.proofs.lemmas.Bool.{and_parts}
-use Rattle.sc_event.specs.declared.event.Event.{Event}
-use Rattle.sc_event.specs.declared.event.Event.TheVariants.{Call, End, In, Out, Ret}
+use Rattle.sc_simulation.proofs.Common.{Activation, Bool, Call, Crossing, End, Event, Goes, ImageParts, In}
+use Rattle.sc_simulation.proofs.Common.{IsWellFormed, List, None, Option, Out, Outcome, Ret, Row, Some, Standing, Traps}
+use Rattle.sc_simulation.proofs.Common.{Walks, [], and_parts, ap, arguments, arith, at_start, count_of, entered_by}
+use Rattle.sc_simulation.proofs.Common.{false, filter, given_back, has_result, if◌then◌else◌, input_at, is_allowed}
+use Rattle.sc_simulation.proofs.Common.{is_legal_from, length, params_of, performer, refl, reg, returned, rows_from}
+use Rattle.sc_simulation.proofs.Common.{stands_after, stands_behind, stands_last, start, step, step_of, subst, suc}
+use Rattle.sc_simulation.proofs.Common.{suc-add, sym, then_on, true, walk, zero, zero-add, ℕ, ◌++◌, ◌+◌, ◌==◌, ◌∙◌, ◌∷◌}
+use Rattle.sc_simulation.proofs.Common.{◌≡◌, ◌≤◌}
+use Rattle.sc_image.specs.Prelude.{State, a0}
 use Rattle.sc_event.specs.declared.interface.Interfaces.{Interfaces}
-use Rattle.sc_event.specs.declared.row.Row.{Row}
-use Rattle.sc_event.specs.Prelude.{Activation, Standing, at_start, count_of, is_allowed, is_legal_from, performer}
-use Rattle.sc_event.specs.Prelude.{rows_from, stands_after, stands_behind}
-use Rattle.sc_laws.proofs.Rows.{stands_last}
-use Rattle.sc_image.specs.declared.parts.ImageParts.{ImageParts}
-use Rattle.sc_image.specs.Calls.{has_result, params_of}
-use Rattle.sc_image.specs.Cross.{arguments, given_back, input_at, returned}
-use Rattle.sc_image.specs.State.{Crossing, State, a0, reg, start}
-use Rattle.sc_image.specs.Step.{Goes, Outcome, Traps, step}
-use Rattle.sc_image.specs.Walks.{Walks, then_on, walk}
-use Rattle.sc_image.specs.WellFormed.{IsWellFormed}
-use Rattle.sc_image.proofs.Cases.{step_of}
-use Rattle.sc_simulation.specs.Bodies.{entered_by}
 
 -- THE REST OF A STRETCH
 

@@ -1,49 +1,26 @@
 -- The code of a function of a program is placed where a linked image has it.
-use Rattle.std.proofs.Common.{◌≡◌, ℕ, ◌<◌, ◌≤◌, pos, Bool, true, false, not, ◌&&◌, ◌||◌, ◌==◌, List, [], ◌∷◌, map}
-use Rattle.std.proofs.Common.{length, All}
-use Rattle.std.proofs.Common.{Option, None, Some, refl, sym, ◌∙◌, ap, subst, arith}
-use Rattle.std.specs.Prelude.{slice_get, is_some, nat_lt}
-use Rattle.std.specs.Option.{option_map}
-use Rattle.std.proofs.lemmas.Bool.{and_parts, ltb-true}
-use Rattle.std.proofs.lemmas.List.{length-append, length-map}
-use Rattle.std.proofs.lemmas.Option.{slice_get-map, slice_get_within}
+use Rattle.sc_simulation.proofs.Common.{Addresses, All, Bool, CallTarget, CodeAt, Cross, HasCode, ImageParts, Input}
+use Rattle.sc_simulation.proofs.Common.{IsAddress, IsLinked, IsProgram, IsWord, List, None, Option, Output, Own, Proto}
+use Rattle.sc_simulation.proofs.Common.{Setting, Some, Store, TacFnTree, TacSection, TacStmt, TacStmt-F, TacTree, []}
+use Rattle.sc_simulation.proofs.Common.{all_true, and_parts, ap, arith, calls_exports, calls_imports, calls_own}
+use Rattle.sc_simulation.proofs.Common.{code_globals, cross_call_fits, everywhere, export_at, false, first_blocks}
+use Rattle.sc_simulation.proofs.Common.{fold-roll-TacStmt, frame_taken, functions_in, functions_or_none, gives}
+use Rattle.sc_simulation.proofs.Common.{gives_result, imports, is_function, is_some, length, length-append, length-map}
+use Rattle.sc_simulation.proofs.Common.{linked_from, ltb-true, makes, map, map-TacStmt, moved_by, names_own_global}
+use Rattle.sc_simulation.proofs.Common.{nat_lt, not, option_map, own_call_fits, passes_words, pos, promises_result, ra}
+use Rattle.sc_simulation.proofs.Common.{refl, roll-TacStmt, setting, slice_get, slice_get-map, slice_get_within, sp}
+use Rattle.sc_simulation.proofs.Common.{sub_word, subst, sym, takes_result, true, with_parts, word_at, ℕ, ◌&&◌, ◌<◌}
+use Rattle.sc_simulation.proofs.Common.{◌==◌, ◌||◌, ◌∙◌, ◌∷◌, ◌≡◌, ◌≤◌}
+use Rattle.sc_emit.specs.Prelude.{IsCodeAddress, IsPlaced, calls_only, is_call, names_only}
 use Rattle.rv_code.specs.declared.instr.Instr.{Instr}
-use Rattle.rv_code.specs.declared.instr.Instr.TheVariants.{Store}
 use Rattle.rv_code.specs.declared.instr.StoreOp.TheVariants.{Sw}
-use Rattle.sc_word.specs.Prelude.{sub_word}
-use Rattle.sc_event.specs.Prelude.{export_at, imports, is_function}
-use Rattle.sc_event.specs.declared.interface.Proto.{Proto}
-use Rattle.sc_core.specs.declared.expr.CallTarget.{CallTarget}
-use Rattle.sc_core.specs.declared.expr.CallTarget.TheVariants.{Own, Cross, Input, Output}
 use Rattle.sc_core.proofs.Induction.{Each, everywhere as of_each}
-use Rattle.sc_image.specs.declared.parts.ImageParts.{ImageParts}
-use Rattle.sc_image.specs.Layout.{word_at}
-use Rattle.sc_image.specs.WellFormed.{IsWord}
-use Rattle.sc_tac.specs.declared.function.TacFnTree.{TacFnTree}
-use Rattle.sc_tac.specs.declared.program.TacSection.{TacSection}
-use Rattle.sc_tac.specs.declared.program.TacTree.{TacTree}
-use Rattle.sc_tac.specs.declared.stmt.TacStmt.{TacStmt, TacStmt-F, fold-roll-TacStmt, map-TacStmt, roll-TacStmt}
 use Rattle.sc_tac.specs.declared.stmt.TacStmt.TheOpen as tac
-use Rattle.sc_tac.specs.Code.{code_globals, first_blocks}
-use Rattle.sc_tac.specs.Functions.{passes_words}
-use Rattle.sc_tac.specs.Parts.{all_true, everywhere, with_parts}
-use Rattle.sc_tac.specs.Programs.{IsProgram, calls_exports, calls_imports, calls_own, cross_call_fits, names_own_global}
-use Rattle.sc_tac.specs.Programs.{own_call_fits, takes_result}
 use Rattle.sc_tac.proofs.Induction.{Inside, stmt_induction}
 use Rattle.sc_tac.specs.declared.machine_code.Relocation.{Relocation}
-use Rattle.sc_select.specs.Linking.{Addresses, linked_from}
-use Rattle.sc_select.specs.Pieces.{ra, sp, frame_taken, moved_by}
-use Rattle.sc_hart.specs.Code.{CodeAt}
-use Rattle.sc_relation.specs.Blocks.{IsAddress}
-use Rattle.sc_relation.specs.Stretches.{Setting}
 use Rattle.sc_relation.proofs.Frames.{is_there}
-use Rattle.sc_emit.specs.Emission.{IsPlaced}
-use Rattle.sc_emit.specs.Naming.{IsCodeAddress, calls_only, is_call}
-use Rattle.sc_emit.specs.Shapes.{names_only}
 use Rattle.sc_emit.proofs.Passing.{AllPass, PassesAll, PassesHere, Test, choice_passes, first_passes, loop_passes}
 use Rattle.sc_emit.proofs.Passing.{passes, passes_here, rest_pass}
-use Rattle.sc_simulation.specs.Linked.{HasCode, IsLinked, functions_in, functions_or_none, gives, gives_result, makes}
-use Rattle.sc_simulation.specs.Linked.{promises_result, setting}
 use Rattle.sc_simulation.proofs.Sections.{InSection, in_functions, its_section}
 
 -- the first word of linked code

@@ -1,49 +1,19 @@
 -- The run of a program's code in which a set performs its part of what the machine shows keeps to that, by what its
 -- code comes to once `main` has begun.
-use Rattle.std.proofs.Common.{◌≡◌, ℕ, suc, ◌≤◌, Bool, true, false, List, [], ◌∷◌, ◌++◌, length}
-use Rattle.std.proofs.Common.{Option, Some, refl, sym, ◌∙◌, ap, ap₂, subst, arith, inl, inr, pos, ⊎_elim}
-use Rattle.std.specs.Prelude.{◌⊎◌, is_some, slice_get}
-use Rattle.sc_base.specs.declared.stop.TrapReason.TheVariants.{Owner}
-use Rattle.sc_event.specs.Prelude.{legal}
-use Rattle.sc_event.specs.declared.event.Event.{Event}
-use Rattle.sc_event.specs.declared.event.Event.TheVariants.{End}
-use Rattle.sc_event.specs.declared.row.Entry.TheVariants.{Main}
-use Rattle.sc_core.specs.declared.run.RunEnd.{RunEnd}
-use Rattle.sc_core.specs.declared.run.RunEnd.TheVariants.{TurnsOut}
-use Rattle.sc_core.specs.declared.value.Value.{Value}
-use Rattle.sc_core.specs.declared.value.Value.TheVariants.{Word}
-use Rattle.sc_core.specs.Calls.{Body, Function, Library, begun, call_own, done, found, leads, run_step}
-use Rattle.sc_core.specs.Growth.{Front}
-use Rattle.sc_core.specs.Meaning.{exit_word, run_to}
-use Rattle.sc_core.specs.Memory.{Memory}
-use Rattle.sc_core.specs.Scripts.{Roles, roles_in, scripted_step}
-use Rattle.sc_core.specs.Value.{wrapping}
-use Rattle.sc_core.specs.Words.{Here, Piece, Reached, State as Meant, Stopped, and_then}
-use Rattle.sc_laws.specs.Growth.{Gone, last}
-use Rattle.sc_laws.specs.Rooms.{has_no_end}
-use Rattle.sc_laws.specs.Turns.{scripted_call}
-use Rattle.sc_laws.proofs.Growing.{front_more, own_goes, within_goes}
-use Rattle.sc_laws.proofs.Matching.{scripted_goes_on}
-use Rattle.sc_laws.proofs.Rooms.{keeps_rooms}
-use Rattle.sc_laws.proofs.Scripts.{spends_along}
-use Rattle.sc_image.specs.declared.parts.ImageParts.{ImageParts}
-use Rattle.sc_image.specs.Layout.{gate}
-use Rattle.sc_image.specs.Machine.{machine as ran_by}
-use Rattle.sc_image.specs.State.{State, a0, ra}
-use Rattle.sc_image.specs.Step.{Traps, jalr_target, step}
-use Rattle.sc_image.specs.Walks.{Walks}
-use Rattle.sc_image.proofs.Telling.{steps_tell}
-use Rattle.sc_tac.specs.declared.program.TacTree.{TacTree}
-use Rattle.sc_tac.specs.Code.{code_function, code_globals, code_library, function_entered, scripted_code_run}
-use Rattle.sc_tac.proofs.Matching.{code_obeys}
-use Rattle.sc_relation.specs.Calls.{FunctionGives, IsLeft}
-use Rattle.sc_relation.specs.Stretches.{Joint, Overflows, Setting, Shows, Standpoint, machine}
-use Rattle.sc_simulation.specs.Bodies.{BodiesFollow, Departs, IsRun, IsUnknown, PerformersDo, UnknownGives, ran}
-use Rattle.sc_simulation.specs.Linked.{functions_in, setting}
-use Rattle.sc_simulation.specs.Outcomes.{Reaches}
-use Rattle.sc_simulation.specs.Results.{bodies}
-use Rattle.sc_simulation.specs.Runs.{KeepsTo}
-use Rattle.sc_simulation.specs.Simulation.{IsBuilt}
+use Rattle.sc_simulation.proofs.Common.{BodiesFollow, Body, Bool, Departs, End, Event, Front, Function, FunctionGives}
+use Rattle.sc_simulation.proofs.Common.{Gone, Here, ImageParts, IsBuilt, IsLeft, IsRun, IsUnknown, Joint, KeepsTo}
+use Rattle.sc_simulation.proofs.Common.{Library, List, Main, Memory, Option, Overflows, Owner, PerformersDo, Piece}
+use Rattle.sc_simulation.proofs.Common.{Reached, Reaches, Roles, RunEnd, Setting, Shows, Some, Standpoint}
+use Rattle.sc_simulation.proofs.Common.{State as Meant, Stopped, TacTree, Traps, TurnsOut, UnknownGives, Value, Walks}
+use Rattle.sc_simulation.proofs.Common.{Word, [], and_then, ap, ap₂, arith, begun, bodies, call_own, code_function}
+use Rattle.sc_simulation.proofs.Common.{code_globals, code_library, code_obeys, done, exit_word, false, found}
+use Rattle.sc_simulation.proofs.Common.{front_more, function_entered, functions_in, gate, has_no_end, inl, inr, is_some}
+use Rattle.sc_simulation.proofs.Common.{jalr_target, keeps_rooms, last, leads, legal, length, machine, own_goes, pos}
+use Rattle.sc_simulation.proofs.Common.{ran, refl, roles_in, run_step, run_to, scripted_call, scripted_code_run}
+use Rattle.sc_simulation.proofs.Common.{scripted_goes_on, scripted_step, setting, slice_get, spends_along, step}
+use Rattle.sc_simulation.proofs.Common.{steps_tell, subst, suc, sym, true, within_goes, wrapping, ℕ, ⊎_elim, ◌++◌, ◌∙◌}
+use Rattle.sc_simulation.proofs.Common.{◌∷◌, ◌≡◌, ◌≤◌, ◌⊎◌}
+use Rattle.sc_image.specs.Prelude.{State, a0, machine as ran_by, ra}
 use Rattle.sc_simulation.proofs.Along.{front_endless}
 use Rattle.sc_simulation.proofs.Exports.{exports_lead}
 use Rattle.sc_simulation.proofs.Finish.{body_gave, run_front, word_given}

@@ -1,30 +1,14 @@
 -- The functions of a program by their numbers, and what its rules say of each.
-use Rattle.std.proofs.Common.{◌≡◌, ℕ, zero, suc, ◌+◌, Bool, true, not, ◌||◌, ◌==◌, List, [], ◌∷◌, length}
-use Rattle.std.proofs.Common.{map, Option, None, Some, refl, sym, ◌∙◌, ap, subst, arith}
-use Rattle.std.specs.Prelude.{slice_get, slice_index_or, is_some}
-use Rattle.std.specs.List.{list_all, position}
-use Rattle.std.specs.Option.{option_and_then, option_map}
-use Rattle.std.proofs.lemmas.Bool.{and_parts, eqb-true}
-use Rattle.std.proofs.lemmas.List.Quantifiers.{position-Some}
-use Rattle.std.proofs.lemmas.Option.{get_or_from_slice_get, slice_get-map}
-use Rattle.std.proofs.lemmas.Option.{same_Some}
-use Rattle.sc_event.specs.Prelude.{comp_at, export_at}
-use Rattle.sc_event.specs.declared.interface.Interface.{Interface}
-use Rattle.sc_event.specs.declared.interface.Proto.{Proto}
+use Rattle.sc_simulation.proofs.Common.{Bool, Export, Interface, IsFunction, IsProgram, List, None, Option, Proto, Some}
+use Rattle.sc_simulation.proofs.Common.{TacFnTree, TacSection, TacStmt-F, TacTree, [], and_parts, ap, are_entered}
+use Rattle.sc_simulation.proofs.Common.{are_headed, arith, code_function, code_functions, code_library, comp_at}
+use Rattle.sc_simulation.proofs.Common.{enters_by_words, eqb-true, everywhere, export_at, exports_entered, function}
+use Rattle.sc_simulation.proofs.Common.{function_entered, functions_in, functions_or_none, get_or_from_slice_get}
+use Rattle.sc_simulation.proofs.Common.{has_head, in_section, is_entered, is_some, length, list_all, map, not, numbered}
+use Rattle.sc_simulation.proofs.Common.{option_and_then, option_map, passes_words, position, position-Some, refl}
+use Rattle.sc_simulation.proofs.Common.{same_Some, same_entry, slice_get, slice_get-map, slice_index_or, subst, suc}
+use Rattle.sc_simulation.proofs.Common.{sym, true, wrapping, zero, ℕ, ◌+◌, ◌==◌, ◌||◌, ◌∙◌, ◌∷◌, ◌≡◌}
 use Rattle.sc_event.specs.declared.row.Entry.{Entry}
-use Rattle.sc_event.specs.declared.row.Entry.TheVariants.{Export}
-use Rattle.sc_core.specs.Calls.{function}
-use Rattle.sc_core.specs.Value.{wrapping}
-use Rattle.sc_tac.specs.declared.function.TacFnTree.{TacFnTree}
-use Rattle.sc_tac.specs.declared.program.TacSection.{TacSection}
-use Rattle.sc_tac.specs.declared.program.TacTree.{TacTree}
-use Rattle.sc_tac.specs.declared.stmt.TacStmt.{TacStmt-F}
-use Rattle.sc_tac.specs.Code.{code_function, code_functions, code_library, function_entered}
-use Rattle.sc_tac.specs.Functions.{IsFunction, enters_by_words, passes_words}
-use Rattle.sc_tac.specs.Parts.{everywhere}
-use Rattle.sc_tac.specs.Programs.{IsProgram, are_entered, are_headed, exports_entered, has_head, in_section, is_entered}
-use Rattle.sc_tac.specs.Programs.{numbered, same_entry}
-use Rattle.sc_simulation.specs.Linked.{functions_in, functions_or_none}
 
 -- Lists.
 

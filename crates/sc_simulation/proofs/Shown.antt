@@ -1,13 +1,8 @@
 -- What a run shows was shown by so many steps.
-use Rattle.std.proofs.Common.{◌≡◌, ℕ, zero, suc, List, None, Option, Some, refl, sym, ◌∙◌, ap}
-use Rattle.sc_base.specs.declared.stop.Stop.{Stop}
-use Rattle.sc_image.specs.declared.parts.ImageParts.{ImageParts}
-use Rattle.sc_image.specs.Machine.{machine, run, stopped}
-use Rattle.sc_image.specs.State.{State, start}
-use Rattle.sc_image.specs.Step.{Goes, Outcome, Traps, step}
-use Rattle.sc_image.specs.Walks.{then_on, walk}
-use Rattle.sc_image.proofs.Running.{run_goes, run_out, run_stopped, run_traps}
-use Rattle.sc_simulation.specs.Bodies.{IsShown}
+use Rattle.sc_simulation.proofs.Common.{Goes, ImageParts, IsShown, List, None, Option, Outcome, Some, Stop, Traps, ap}
+use Rattle.sc_simulation.proofs.Common.{refl, run, run_goes, run_out, run_stopped, run_traps, start, step, stopped, suc}
+use Rattle.sc_simulation.proofs.Common.{sym, then_on, walk, zero, ℕ, ◌∙◌, ◌≡◌}
+use Rattle.sc_image.specs.Prelude.{State, machine}
 
 module _ (image : ImageParts) (inputs : List ℕ) (events : ℕ) where
   -- so many steps lead from a state to where a run from it stops

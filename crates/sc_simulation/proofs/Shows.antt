@@ -1,39 +1,19 @@
 -- What the machine's runs show, by what it does beside a run.
-use Rattle.std.proofs.Common.{◌≡◌, ℕ, zero, suc, ◌+◌, ◌-◌, ◌<◌, ◌≤◌, Bool, true, false, List, [], ◌∷◌, ◌++◌}
-use Rattle.std.proofs.Common.{length, take, None, refl, sym, ◌∙◌, ap, subst, arith, inl, inr, nat_le, nat_lt}
-use Rattle.std.proofs.Common.{take_all, leb-true, leb-false, ltb-true, ltb-false, length-append, drop}
-use Rattle.std.proofs.Common.{take-append-drop, ⊎_elim}
-use Rattle.std.specs.Prelude.{◌⊎◌}
-use Rattle.std.proofs.lemmas.Bool.{lt-leb}
+use Rattle.sc_simulation.proofs.Common.{AgreesInRoom, AgreesUntilBlame, AllBefore, AllFrom, Blamed, Bool, Closed, End}
+use Rattle.sc_simulation.proofs.Common.{Ended, Event, EventsOut, Finishes, FrameChange, Front, Goes, ImageParts}
+use Rattle.sc_simulation.proofs.Common.{IsBlamed, IsFull, IsStop, IsWellFormed, List, None, Opened, OutcomesShow, Owner}
+use Rattle.sc_simulation.proofs.Common.{Reaches, Run, RunEnd, RunsAgree, RunsUntilBlame, ShowsRun, SourceRun, Stands}
+use Rattle.sc_simulation.proofs.Common.{Traps, TrapsFull, TurnsOut, [], ap, arith, blamed, blamed_run, deepest}
+use Rattle.sc_simulation.proofs.Common.{deepest_is_reached, depth_in, drop, ended, false, finishes, front_more}
+use Rattle.sc_simulation.proofs.Common.{front_same, inl, inr, is_full, leb-false, leb-true, length, length-append}
+use Rattle.sc_simulation.proofs.Common.{lt-leb, ltb-false, ltb-true, nat_le, nat_lt, not_stopped, reaches, refl, reg}
+use Rattle.sc_simulation.proofs.Common.{room_after, run, run_goes, run_stopped, run_traps, same, same_run, stack_size}
+use Rattle.sc_simulation.proofs.Common.{stands, start, step, steps_tell, stopped, stopped_at, subst, suc, sym, take}
+use Rattle.sc_simulation.proofs.Common.{take-append-drop, take_all, take_fronts, trace_is, true, without_line, zero, ℕ}
+use Rattle.sc_simulation.proofs.Common.{⊎_elim, ◌++◌, ◌+◌, ◌-◌, ◌<◌, ◌∙◌, ◌∷◌, ◌≡◌, ◌≤◌, ◌⊎◌}
+use Rattle.sc_image.specs.Prelude.{State, a0, machine}
+use Rattle.sc_simulation.specs.Prelude.{Outcome}
 use Rattle.sc_base.specs.declared.stop.Stop.TheVariants.{Ended as EndedStop, Trap}
-use Rattle.sc_base.specs.declared.stop.TrapReason.TheVariants.{Owner}
-use Rattle.sc_event.specs.declared.event.Event.{Event}
-use Rattle.sc_event.specs.declared.event.Event.TheVariants.{End}
-use Rattle.sc_core.specs.declared.run.RunEnd.{RunEnd}
-use Rattle.sc_core.specs.declared.run.RunEnd.TheVariants.{Blamed, Ended, EventsOut, TurnsOut}
-use Rattle.sc_core.specs.declared.run.SourceRun.{SourceRun}
-use Rattle.sc_core.specs.Growth.{Front}
-use Rattle.sc_core.specs.Meaning.{Run, deepest, depth_in}
-use Rattle.sc_core.specs.Run.{reaches, stopped_at}
-use Rattle.sc_core.specs.Words.{Closed, FrameChange, IsStop, Opened}
-use Rattle.sc_laws.specs.Agreement.{RunsAgree, without_line}
-use Rattle.sc_laws.specs.Rooms.{AllBefore, AllFrom, room_after}
-use Rattle.sc_laws.specs.Steady.{AgreesInRoom, AgreesUntilBlame, RunsUntilBlame, blamed, blamed_run, same, same_run}
-use Rattle.sc_laws.proofs.Growing.{front_more, front_same}
-use Rattle.sc_laws.proofs.Rooms.{deepest_is_reached}
-use Rattle.sc_laws.proofs.Runs.{take_fronts, trace_is}
-use Rattle.sc_image.specs.declared.parts.ImageParts.{ImageParts}
-use Rattle.sc_image.specs.Cross.{ended}
-use Rattle.sc_image.specs.Layout.{stack_size}
-use Rattle.sc_image.specs.Machine.{machine, run, stopped}
-use Rattle.sc_image.specs.State.{State, a0, reg, start}
-use Rattle.sc_image.specs.Step.{Goes, Traps, step}
-use Rattle.sc_image.specs.WellFormed.{IsWellFormed}
-use Rattle.sc_image.proofs.Running.{run_goes, run_stopped, run_traps}
-use Rattle.sc_image.proofs.Stretches.{not_stopped}
-use Rattle.sc_image.proofs.Telling.{steps_tell}
-use Rattle.sc_simulation.specs.Outcomes.{Reaches, Finishes, Stands, IsFull, Outcome, finishes, stands, is_full}
-use Rattle.sc_simulation.specs.Runs.{IsBlamed, OutcomesShow, ShowsRun, TrapsFull}
 use Rattle.sc_simulation.proofs.Along.{Along, along, front_taken, not_over, run_front}
 
 -- FRAMES

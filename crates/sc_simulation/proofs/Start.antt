@@ -1,36 +1,17 @@
 -- Where both sides stand at the start of a run: the machine, and the meaning of the program whose code it has.
-use Rattle.std.proofs.Common.{◌≡◌, ℕ, zero, suc, ◌+◌, ◌*◌, ◌<◌, ◌≤◌, Bool, true, false, not, ◌||◌, ◌==◌}
-use Rattle.std.proofs.Common.{List, [], ◌∷◌, length, Option, None, Some, refl, sym, ◌∙◌, ap, subst, arith, cond}
-use Rattle.std.proofs.Common.{zero-add}
-use Rattle.std.specs.Prelude.{◌⊎◌, if◌then◌else◌, nat_lt, slice_get, slice_index}
-use Rattle.std.specs.List.{position}
-use Rattle.std.specs.Option.{option_map}
-use Rattle.std.proofs.lemmas.Bool.{and_parts, eqb-true, lt-ltb, ltb-true}
-use Rattle.std.proofs.lemmas.Option.{same_Some, slice_get_within}
+use Rattle.sc_simulation.proofs.Common.{Addresses, Begins, BlocksMatch, Bool, Cell, ImageParts, InCell, Injection}
+use Rattle.sc_simulation.proofs.Common.{IsBase, IsLinked, IsProgram, Joint, List, Main, Memory, None, Option, Placed}
+use Rattle.sc_simulation.proofs.Common.{Registers, Setting, Settled, Some, Standpoint, TacFnTree, TacSection, TacTree}
+use Rattle.sc_simulation.proofs.Common.{[], and_parts, ap, are_headed, arith, code_function, code_globals, cond, count}
+use Rattle.sc_simulation.proofs.Common.{eqb-true, false, first_state, function_entered, functions_in, functions_or_none}
+use Rattle.sc_simulation.proofs.Common.{gate, has_head, if◌then◌else◌, length, lt-ltb, ltb-true, machine, main_entered}
+use Rattle.sc_simulation.proofs.Common.{nat_lt, not, option_map, position, refl, runs_are_steady, same_Some, same_entry}
+use Rattle.sc_simulation.proofs.Common.{setting, slice_get, slice_get_within, slice_index, stack_top, stack_tops, start}
+use Rattle.sc_simulation.proofs.Common.{start_memory, subst, suc, sym, true, truth, word, wrapping, zero, zero-add, ℕ}
+use Rattle.sc_simulation.proofs.Common.{◌*◌, ◌+◌, ◌<◌, ◌==◌, ◌||◌, ◌∙◌, ◌∷◌, ◌≡◌, ◌≤◌, ◌⊎◌}
 use Rattle.sc_base.proofs.Lists.{position-cons}
-use Rattle.sc_event.specs.declared.row.Entry.TheVariants.{Main}
-use Rattle.sc_core.specs.declared.value.Cell.{Cell}
 use Rattle.sc_core.specs.declared.value.Cell.TheVariants as cell
-use Rattle.sc_core.specs.Memory.{Memory}
-use Rattle.sc_core.specs.Meaning.{first_state}
-use Rattle.sc_core.specs.Value.{truth, wrapping}
 use Rattle.sc_image.specs.declared.parts.CompPart.{CompPart}
-use Rattle.sc_image.specs.declared.parts.ImageParts.{ImageParts}
-use Rattle.sc_image.specs.Layout.{gate, stack_top}
-use Rattle.sc_image.specs.State.{stack_tops, start, start_memory}
-use Rattle.sc_image.proofs.Reached.{runs_are_steady}
-use Rattle.sc_tac.specs.declared.function.TacFnTree.{TacFnTree}
-use Rattle.sc_tac.specs.declared.program.TacSection.{TacSection}
-use Rattle.sc_tac.specs.declared.program.TacTree.{TacTree}
-use Rattle.sc_tac.specs.Code.{code_function, code_globals, function_entered}
-use Rattle.sc_tac.specs.Programs.{IsProgram, are_headed, count, has_head, main_entered, same_entry}
-use Rattle.sc_select.specs.Linking.{Addresses}
-use Rattle.sc_hart.specs.Hart.{Registers}
-use Rattle.sc_hart.specs.Words.{word}
-use Rattle.sc_relation.specs.Blocks.{BlocksMatch, InCell, Injection, Placed}
-use Rattle.sc_relation.specs.Calls.{Begins, IsBase}
-use Rattle.sc_relation.specs.Stretches.{Joint, Setting, Settled, Standpoint, machine}
-use Rattle.sc_simulation.specs.Linked.{IsLinked, functions_in, functions_or_none, setting}
 use Rattle.sc_simulation.proofs.Sections.{all_at, position_at}
 
 -- THE FUNCTION OF `main`

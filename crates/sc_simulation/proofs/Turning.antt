@@ -1,19 +1,10 @@
 -- A call takes a turn, and that pays for what is called.
-use Rattle.std.proofs.Common.{◌≡◌, ℕ, zero, suc, ◌+◌, ◌*◌, ◌<◌, ◌≤◌, Bool, true, false, List, [], ◌∷◌, ◌++◌, length}
-use Rattle.std.proofs.Common.{Option, if◌then◌else◌, refl, ap, subst, arith, inl}
-use Rattle.std.specs.Prelude.{◌⊎◌}
-use Rattle.std.proofs.lemmas.List.{length_push}
-use Rattle.sc_event.specs.declared.event.Event.{Event}
-use Rattle.sc_core.specs.declared.expr.CallTarget.{CallTarget}
-use Rattle.sc_core.specs.declared.run.RunEnd.{RunEnd}
-use Rattle.sc_core.specs.declared.value.Value.{Value}
-use Rattle.sc_core.specs.Words.{State as Meant, Piece, FrameChange, Opened, Closed, Stopped, and_then, turn_of}
-use Rattle.sc_laws.specs.Rooms.{AllBefore}
-use Rattle.sc_image.specs.Walks.{Walks}
-use Rattle.sc_hart.proofs.Steps.{then_go}
-use Rattle.sc_relation.specs.Calls.{CallGives}
-use Rattle.sc_relation.specs.Stretches.{AllHonest, Setting, Joint, Standpoint, machine, Costs, Shows, Overflows}
-use Rattle.sc_relation.proofs.Stretches.{shows_here}
+use Rattle.sc_simulation.proofs.Common.{AllBefore, AllHonest, Bool, CallGives, CallTarget, Closed, Costs, Event}
+use Rattle.sc_simulation.proofs.Common.{FrameChange, Joint, List, Opened, Option, Overflows, Piece, RunEnd, Setting}
+use Rattle.sc_simulation.proofs.Common.{Shows, Standpoint, State as Meant, Stopped, Value, Walks, [], and_then, ap}
+use Rattle.sc_simulation.proofs.Common.{arith, false, if◌then◌else◌, inl, length, length_push, machine, refl}
+use Rattle.sc_simulation.proofs.Common.{shows_here, subst, suc, then_go, true, turn_of, zero, ℕ, ◌*◌, ◌++◌, ◌+◌, ◌<◌}
+use Rattle.sc_simulation.proofs.Common.{◌∷◌, ◌≡◌, ◌≤◌, ◌⊎◌}
 
 -- what was told by then was told by later
 pub before_more : (n m : ℕ) → n ≤ m → (changes : List FrameChange) → AllBefore n changes → AllBefore m changes

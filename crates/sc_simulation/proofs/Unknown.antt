@@ -1,69 +1,36 @@
 -- Unknown code: whatever code the compartments have that perform their parts of the machine's own trace, the machine
 -- follows what they perform, and what all others do.
-use Rattle.std.proofs.Common.{◌≡◌, ◌≢◌, ℕ, zero, suc, ◌+◌, ◌-◌, ◌*◌, ◌<◌, ◌≤◌, Bool, true, false, not, ◌||◌, List}
-use Rattle.std.proofs.Common.{[], ◌∷◌, ◌++◌, All, length, Option, None, Some, refl, sym, ◌∙◌, ap, subst, arith}
-use Rattle.std.proofs.Common.{ap₂, append-nil, inl, inr, if◌then◌else◌, drop}
-use Rattle.std.specs.Prelude.{◌⊎◌, nat_lt, slice_get, slice_index}
-use Rattle.std.proofs.lemmas.Bool.{cases_lt}
-use Rattle.std.proofs.lemmas.List.{append_assoc}
-use Rattle.sc_event.specs.declared.event.Event.{Event}
-use Rattle.sc_event.specs.declared.event.Event.TheVariants.{Call, End, In, Out, Ret}
-use Rattle.sc_event.specs.Prelude.{at_start, legal, stands_behind}
-use Rattle.sc_core.specs.declared.expr.CallTarget.TheVariants.{Cross}
-use Rattle.sc_core.specs.declared.value.Value.{Value}
-use Rattle.sc_core.specs.declared.value.Value.TheVariants.{Word}
-use Rattle.sc_core.specs.Calls.{Library, call_cross, next_input, option_value, read_input}
-use Rattle.sc_core.specs.Growth.{Front}
-use Rattle.sc_core.specs.Scripts.{Roles, roles_in}
-use Rattle.sc_core.specs.Value.{wrapping}
-use Rattle.sc_core.specs.Words.{Here, Piece, Reached, State as Meant, Stopped, and_then, tell, turn}
-use Rattle.sc_laws.proofs.Scripts.{allowed_at}
-use Rattle.sc_image.specs.declared.parts.ImageParts.{ImageParts}
-use Rattle.sc_image.specs.Calls.{export_at as image_export, has_result, may_call as may_make, params_of}
-use Rattle.sc_image.specs.Cross.{arguments, called, given_back, input, input_at, output, returned}
-use Rattle.sc_image.specs.State.{Crossing, State, reg, start, with_pc, written}
-use Rattle.sc_image.specs.Steady.{IsSteady}
-use Rattle.sc_image.specs.Step.{Goes as Steps, Traps, step}
-use Rattle.sc_image.specs.Walks.{Walks}
-use Rattle.sc_image.specs.WellFormed.{IsWord}
-use Rattle.sc_image.proofs.Walking.{walk_one}
-use Rattle.sc_store.specs.Memory.{Memory as Bytes}
-use Rattle.sc_tac.specs.declared.function.TacFnTree.{TacFnTree}
-use Rattle.sc_tac.specs.declared.program.TacTree.{TacTree}
-use Rattle.sc_tac.specs.Code.{code_library}
-use Rattle.sc_tac.specs.Functions.{IsFunction}
-use Rattle.sc_tac.specs.Programs.{IsProgram}
-use Rattle.sc_select.specs.Linking.{Addresses}
-use Rattle.sc_select.specs.Pieces.{a0}
-use Rattle.sc_hart.specs.Hart.{listed}
-use Rattle.sc_hart.specs.Words.{word}
-use Rattle.sc_hart.proofs.Registers.{read_listed}
-use Rattle.sc_hart.proofs.Steady.{walks_steady}
-use Rattle.sc_relation.specs.Calls.{ComesBack}
-use Rattle.sc_relation.specs.Frames.{AreFloors}
-use Rattle.sc_relation.specs.Stretches.{AllHonest, Joint, Leads, Overflows, Setting, Settled, Shows}
-use Rattle.sc_relation.specs.Stretches.{Standpoint, machine}
-use Rattle.sc_relation.proofs.Coming.{came_by}
-use Rattle.sc_relation.proofs.Settling.{leads_moved, settled_moved}
+use Rattle.sc_simulation.proofs.Common.{Addresses, All, AllHonest, AreFloors, BodiesFollow, Bool, Call, ComesBack}
+use Rattle.sc_simulation.proofs.Common.{Cross, Crossing, End, Event, Front, GivesResults, Goes as Steps, Here}
+use Rattle.sc_simulation.proofs.Common.{ImageParts, In, IsFunction, IsLinked, IsProgram, IsShown, IsSteady, IsWord}
+use Rattle.sc_simulation.proofs.Common.{Joint, Leads, Library, List, None, Option, Out, Overflows, PerformersDo, Piece}
+use Rattle.sc_simulation.proofs.Common.{Reached, Ret, Roles, Setting, Settled, Shows, Some, Standpoint, State as Meant}
+use Rattle.sc_simulation.proofs.Common.{Stopped, TacFnTree, TacTree, Traps, UnknownComes, UnknownGives, Value, Walks}
+use Rattle.sc_simulation.proofs.Common.{Word, [], a0, allowed_at, and_then, ap, append-nil, append_assoc, ap₂}
+use Rattle.sc_simulation.proofs.Common.{arguments, arith, at_start, bodies, call_cross, came_by, cases_lt, code_library}
+use Rattle.sc_simulation.proofs.Common.{departing, drop, entered_by, false, functions_in, given_back, has_result}
+use Rattle.sc_simulation.proofs.Common.{if◌then◌else◌, inl, input, input_at, inr, leads_moved, leads_then, legal}
+use Rattle.sc_simulation.proofs.Common.{length, listed, machine, nat_lt, next_input, not, option_value, output}
+use Rattle.sc_simulation.proofs.Common.{overflows_after, overflows_then, params_of, read_input, read_listed, refl, reg}
+use Rattle.sc_simulation.proofs.Common.{returned, roles_in, setting, settled_moved, shows_after, shows_here, slice_get}
+use Rattle.sc_simulation.proofs.Common.{slice_index, stands_behind, start, step, subst, suc, sym, tell, true, turn}
+use Rattle.sc_simulation.proofs.Common.{walk_one, walks_steady, with_pc, word, wrapping, written, zero, ℕ, ◌*◌, ◌++◌}
+use Rattle.sc_simulation.proofs.Common.{◌+◌, ◌-◌, ◌<◌, ◌||◌, ◌∙◌, ◌∷◌, ◌≡◌, ◌≢◌, ◌≤◌, ◌⊎◌}
+use Rattle.sc_store.specs.Prelude.{Memory as Bytes}
+use Rattle.sc_image.specs.Prelude.{State, called, export_at as image_export, may_call as may_make}
 use Rattle.sc_relation.proofs.Storing.{block_owned}
-use Rattle.sc_relation.proofs.Stretches.{leads_then, overflows_after, overflows_then, shows_after, shows_here}
-use Rattle.sc_simulation.specs.Bodies.{BodiesFollow, IsShown, PerformersDo, UnknownComes}
-use Rattle.sc_simulation.specs.Bodies.{UnknownGives, departing, entered_by}
-use Rattle.sc_simulation.specs.Linked.{IsLinked, functions_in, setting}
-use Rattle.sc_simulation.specs.Results.{GivesResults, bodies}
 use Rattle.sc_simulation.proofs.Along.{walk_front}
 use Rattle.sc_simulation.proofs.Answering.{bodies_go}
 use Rattle.sc_simulation.proofs.CrossCalls.{IsLed, IsOffered, into_code}
 use Rattle.sc_simulation.proofs.Environment.{drop_next, next_at}
 use Rattle.sc_simulation.proofs.Exports.{IsExported}
-use Rattle.sc_simulation.proofs.Placed.{HasStood, StepsOn, first_step, legal_stood, stands_so, standing_in}
-use Rattle.sc_simulation.proofs.Placed.{walk_rest}
+use Rattle.sc_simulation.proofs.Placed.{HasStood, StepsOn, first_step, legal_stood, stands_so, standing_in, walk_rest}
 use Rattle.sc_simulation.proofs.Sections.{IsEntered, is_export}
 use Rattle.sc_simulation.proofs.Turning.{CallComes, before_told, turned, where_turns}
 use Rattle.sc_simulation.proofs.Across.{IsMade}
 use Rattle.sc_simulation.proofs.UnknownCrossing.{into_unknown}
-use Rattle.sc_simulation.proofs.UnknownEvents.{IsNext, call_is, end_is, enters, input_is, offered, output_is}
-use Rattle.sc_simulation.proofs.UnknownEvents.{return_is, work, work_done}
+use Rattle.sc_simulation.proofs.UnknownEvents.{IsNext, call_is, end_is, enters, input_is, offered, output_is, return_is}
+use Rattle.sc_simulation.proofs.UnknownEvents.{work, work_done}
 use Rattle.sc_simulation.proofs.UnknownRules.{are_words, as_values, entry_is, words_passed}
 use Rattle.sc_simulation.proofs.UnknownSteps.{KeepsOthers, StepIs, calls, leaves, listed_is, moves, reads, shows}
 use Rattle.sc_simulation.proofs.UnknownSteps.{step_is, traps}

@@ -1,38 +1,16 @@
 -- Calls of compartments that perform are followed, whoever makes them, where their functions are.
-use Rattle.std.proofs.Common.{◌≡◌, ◌<◌, ℕ, Bool, true, false, not, ◌||◌, List, All, length, map}
-use Rattle.std.proofs.Common.{Option, None, Some, refl, sym, ◌∙◌, ap, subst, arith, inl, inr, if◌then◌else◌}
-use Rattle.std.specs.Prelude.{nat_lt, slice_get, is_some}
-use Rattle.sc_event.specs.declared.event.Event.TheVariants.{Call, Ret}
-use Rattle.sc_event.specs.declared.interface.Scalar.{Scalar}
-use Rattle.sc_event.specs.declared.row.Entry.TheVariants.{Export}
-use Rattle.sc_core.specs.declared.expr.CallTarget.TheVariants.{Cross}
-use Rattle.sc_core.specs.declared.value.Value.{Value}
-use Rattle.sc_core.specs.Calls.{Function, Library, back_cross, begun, call_cross, crossed, crossing, done, found}
-use Rattle.sc_core.specs.Calls.{option_value, run_in, word_back, word_in}
-use Rattle.sc_core.specs.Scripts.{Roles}
-use Rattle.sc_core.specs.Value.{wrapping}
-use Rattle.sc_core.specs.Words.{Here, Piece, Reached, State as Meant, Stopped, and_then, tell}
-use Rattle.sc_laws.specs.Growth.{Goes}
-use Rattle.sc_laws.proofs.Growing.{back_goes, done_goes, earlier}
-use Rattle.sc_image.specs.declared.parts.ImageParts.{ImageParts}
-use Rattle.sc_image.specs.Calls.{has_result}
-use Rattle.sc_image.specs.WellFormed.{IsWord}
-use Rattle.sc_image.proofs.Reached.{called_there}
-use Rattle.sc_image.proofs.Walking.{walk_one}
-use Rattle.sc_tac.specs.declared.function.TacFnTree.{TacFnTree}
-use Rattle.sc_tac.specs.declared.program.TacTree.{TacTree}
-use Rattle.sc_tac.specs.Code.{code_function, code_library}
-use Rattle.sc_tac.specs.Functions.{IsFunction}
-use Rattle.sc_tac.specs.Programs.{IsProgram}
-use Rattle.sc_select.specs.Linking.{Addresses}
-use Rattle.sc_select.specs.Pieces.{a0}
-use Rattle.sc_hart.proofs.Registers.{read_listed}
-use Rattle.sc_relation.specs.Calls.{CallGives}
-use Rattle.sc_relation.specs.Stretches.{AllHonest, GivenBack, Joint, Setting, Standpoint, machine}
-use Rattle.sc_relation.proofs.Stretches.{overflows_then}
-use Rattle.sc_simulation.specs.Bodies.{Departs, IsUnknown, PerformersDo, UnknownComes, UnknownGives}
-use Rattle.sc_simulation.specs.Linked.{IsLinked, functions_in, setting}
-use Rattle.sc_simulation.specs.Results.{GivesResults, bodies}
+use Rattle.sc_simulation.proofs.Common.{Addresses, All, AllHonest, Bool, Call, CallGives, Cross, Departs, Export}
+use Rattle.sc_simulation.proofs.Common.{Function, GivenBack, GivesResults, Here, ImageParts, IsFunction, IsLinked}
+use Rattle.sc_simulation.proofs.Common.{IsProgram, IsUnknown, IsWord, Joint, Library, List, None, Option, PerformersDo}
+use Rattle.sc_simulation.proofs.Common.{Piece, Reached, Ret, Roles, Scalar, Setting, Some, Standpoint, State as Meant}
+use Rattle.sc_simulation.proofs.Common.{Stopped, TacFnTree, TacTree, UnknownComes, UnknownGives, Value, a0, and_then}
+use Rattle.sc_simulation.proofs.Common.{ap, arith, back_cross, back_goes, begun, bodies, call_cross, called_there}
+use Rattle.sc_simulation.proofs.Common.{code_function, code_library, crossed, crossing, done, done_goes, earlier, false}
+use Rattle.sc_simulation.proofs.Common.{found, functions_in, has_result, if◌then◌else◌, inl, inr, is_some, length}
+use Rattle.sc_simulation.proofs.Common.{machine, map, nat_lt, not, option_value, overflows_then, read_listed, refl}
+use Rattle.sc_simulation.proofs.Common.{run_in, setting, slice_get, subst, sym, tell, true, walk_one, word_back}
+use Rattle.sc_simulation.proofs.Common.{word_in, wrapping, ℕ, ◌<◌, ◌||◌, ◌∙◌, ◌≡◌}
+use Rattle.sc_laws.specs.Prelude.{Goes}
 use Rattle.sc_simulation.proofs.Across.{IsDone, IsMade, across, comes_back, seen_across, settled_in, walks_in}
 use Rattle.sc_simulation.proofs.CrossCalls.{IsLed, IsOffered}
 use Rattle.sc_simulation.proofs.Sections.{function_found}

@@ -1,33 +1,14 @@
 -- What a compartment performs in the meaning, by the next event of the trace of which it performs its part.
-use Rattle.std.proofs.Common.{◌≡◌, ℕ, ◌≤◌, Bool, true, List, [], ◌∷◌, ◌++◌, length, drop}
-use Rattle.std.proofs.Common.{Option, Some, refl, sym, ◌∙◌, ap, subst, if◌then◌else◌}
-use Rattle.std.specs.Prelude.{◌==◌}
-use Rattle.std.specs.List.{list_all}
-use Rattle.std.proofs.lemmas.Bool.{and_from, and_parts, eq-eqb}
-use Rattle.std.proofs.lemmas.List.{drop_all, length-map}
-use Rattle.sc_event.specs.declared.event.Event.{Event}
-use Rattle.sc_event.specs.declared.event.Event.TheVariants.{Call, End, In, Out, Ret}
-use Rattle.sc_event.specs.declared.row.Entry.TheVariants.{Export}
-use Rattle.sc_event.specs.declared.row.Row.{Row}
-use Rattle.sc_event.specs.Prelude.{Standing, action_of, at_start, count_of, imports, is_allowed, is_function}
-use Rattle.sc_event.specs.Prelude.{is_output, may_perform, part, performer, stands_behind, takes}
-use Rattle.sc_core.specs.declared.expr.CallTarget.{CallTarget}
-use Rattle.sc_core.specs.declared.expr.CallTarget.TheVariants.{Cross, Input, Output}
-use Rattle.sc_core.specs.declared.run.RunEnd.TheVariants.{TurnsOut}
-use Rattle.sc_core.specs.declared.value.Value.{Value}
-use Rattle.sc_core.specs.declared.value.Value.TheVariants.{Word}
-use Rattle.sc_core.specs.Calls.{Body, Library, call_cross, called, is_word, leads, may_call, next_input, option_value}
-use Rattle.sc_core.specs.Calls.{read_input}
-use Rattle.sc_core.specs.Growth.{Front}
-use Rattle.sc_core.specs.Scripts.{Roles, acts, asks, is_number, performs, roles_in, rows_left}
-use Rattle.sc_core.specs.Value.{wrapping}
-use Rattle.sc_core.specs.Words.{Here, Piece, Reached, State as Meant, Stopped, and_then, tell, turn}
-use Rattle.sc_laws.proofs.Growing.{asks_is}
-use Rattle.sc_laws.proofs.Rows.{Next, row_of_next, rows_behind}
-use Rattle.sc_tac.specs.declared.program.TacTree.{TacTree}
-use Rattle.sc_tac.specs.Code.{code_library}
-use Rattle.sc_tac.specs.Programs.{IsProgram}
-use Rattle.sc_simulation.specs.Results.{bodies}
+use Rattle.sc_simulation.proofs.Common.{Body, Bool, Call, CallTarget, Cross, End, Event, Export, Front, Here, In, Input}
+use Rattle.sc_simulation.proofs.Common.{IsProgram, Library, List, Next, Option, Out, Output, Piece, Reached, Ret, Roles}
+use Rattle.sc_simulation.proofs.Common.{Row, Some, Standing, State as Meant, Stopped, TacTree, TurnsOut, Value, Word}
+use Rattle.sc_simulation.proofs.Common.{[], action_of, acts, and_from, and_parts, and_then, ap, asks, asks_is, at_start}
+use Rattle.sc_simulation.proofs.Common.{bodies, call_cross, called, code_library, count_of, drop, drop_all, eq-eqb}
+use Rattle.sc_simulation.proofs.Common.{if◌then◌else◌, imports, is_allowed, is_function, is_number, is_output, is_word}
+use Rattle.sc_simulation.proofs.Common.{leads, length, length-map, list_all, may_call, may_perform, next_input}
+use Rattle.sc_simulation.proofs.Common.{option_value, part, performer, performs, read_input, refl, roles_in}
+use Rattle.sc_simulation.proofs.Common.{row_of_next, rows_behind, rows_left, stands_behind, subst, sym, takes, tell}
+use Rattle.sc_simulation.proofs.Common.{true, turn, wrapping, ℕ, ◌++◌, ◌==◌, ◌∙◌, ◌∷◌, ◌≡◌, ◌≤◌}
 use Rattle.sc_simulation.proofs.Answering.{bodies_go}
 use Rattle.sc_simulation.proofs.CrossCalls.{IsOffered}
 use Rattle.sc_simulation.proofs.Exports.{IsExported, exported, exports_lead}

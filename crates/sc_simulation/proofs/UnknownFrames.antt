@@ -1,16 +1,8 @@
 -- The variables and the frame of a function that performs, in the meaning alone: the machine knows nothing of them.
-use Rattle.std.proofs.Common.{◌≡◌, ◌≢◌, ℕ, suc, ◌≤◌, true, false, List, length, refl, sym, ◌∙◌}
-use Rattle.std.proofs.Common.{ap, arith, ⊎_elim}
-use Rattle.std.specs.Prelude.{slice_get}
-use Rattle.std.proofs.lemmas.Bool.{cases_eq, ne_eqb}
-use Rattle.sc_core.specs.declared.value.Cell.{Cell}
-use Rattle.sc_core.specs.declared.value.Value.{Value}
-use Rattle.sc_core.specs.Calls.{Function, begun, done}
-use Rattle.sc_core.specs.Memory.{Memory}
-use Rattle.sc_core.specs.Words.{FrameChange}
-use Rattle.sc_laws.specs.Rooms.{AllBefore, open_room, room_after}
-use Rattle.sc_relation.specs.Blocks.{LiveAt}
-use Rattle.sc_relation.specs.Stretches.{Effect, Joint, Protected, Setting, Settled, Standpoint}
+use Rattle.sc_simulation.proofs.Common.{AllBefore, Cell, Effect, FrameChange, Function, Joint, List, LiveAt, Memory}
+use Rattle.sc_simulation.proofs.Common.{Protected, Setting, Settled, Standpoint, Value, ap, arith, begun, cases_eq}
+use Rattle.sc_simulation.proofs.Common.{done, false, length, ne_eqb, open_room, refl, room_after, slice_get, suc, sym}
+use Rattle.sc_simulation.proofs.Common.{true, ℕ, ⊎_elim, ◌∙◌, ◌≡◌, ◌≢◌, ◌≤◌}
 use Rattle.sc_relation.proofs.Ending.{length_closed, memory_closed, room_begun, room_begun_else, room_done}
 use Rattle.sc_relation.proofs.Ending.{room_done_else, told_closed, told_opened}
 use Rattle.sc_relation.proofs.Opening.{length_opened, memory_opened}

@@ -1,28 +1,12 @@
 -- What the rules of a program and of its image say of calls that any code makes.
-use Rattle.std.proofs.Common.{◌≡◌, ℕ, zero, suc, ◌+◌, ◌^◌, ◌<◌, ◌≤◌, true, false, List, [], ◌∷◌, length, map}
-use Rattle.std.proofs.Common.{Option, None, Some, refl, sym, ◌∙◌, ap, subst, arith}
-use Rattle.std.specs.Prelude.{◌==◌, slice_get, slice_index}
-use Rattle.std.specs.List.{list_all}
-use Rattle.std.specs.Option.{option_map_or}
-use Rattle.std.proofs.lemmas.Bool.{eqb-true, ne_eqb}
-use Rattle.std.proofs.lemmas.List.Quantifiers.{position-Some}
-use Rattle.std.proofs.lemmas.Option.{same_Some}
-use Rattle.sc_event.specs.declared.interface.Proto.{Proto}
-use Rattle.sc_event.specs.Prelude.{export_at, takes}
-use Rattle.sc_core.specs.declared.value.Value.{Value}
-use Rattle.sc_core.specs.declared.value.Value.TheVariants.{Word}
-use Rattle.sc_core.specs.Calls.{is_word}
+use Rattle.sc_simulation.proofs.Common.{ArePassed, ImageParts, List, None, Option, Proto, Registers, Some, StandsFor}
+use Rattle.sc_simulation.proofs.Common.{TacTree, Value, Word, [], a0, ap, arguments, arith, count, eqb-true, export_at}
+use Rattle.sc_simulation.proofs.Common.{exports_of, false, is_word, length, list_all, listed, map, ne_eqb}
+use Rattle.sc_simulation.proofs.Common.{option_map_or, position-Some, read_listed, refl, same_Some, slice_get}
+use Rattle.sc_simulation.proofs.Common.{slice_index, subst, suc, sym, takes, true, words_from, zero, ℕ, ◌+◌, ◌<◌, ◌==◌}
+use Rattle.sc_simulation.proofs.Common.{◌^◌, ◌∙◌, ◌∷◌, ◌≡◌, ◌≤◌}
+use Rattle.sc_image.specs.Prelude.{export_at as image_export}
 use Rattle.sc_image.specs.declared.parts.ExportPart.{ExportPart}
-use Rattle.sc_image.specs.declared.parts.ImageParts.{ImageParts}
-use Rattle.sc_image.specs.Calls.{export_at as image_export, exports_of}
-use Rattle.sc_image.specs.Cross.{arguments}
-use Rattle.sc_tac.specs.declared.program.TacTree.{TacTree}
-use Rattle.sc_tac.specs.Programs.{count}
-use Rattle.sc_select.specs.Pieces.{a0}
-use Rattle.sc_hart.specs.Hart.{Registers, listed, words_from}
-use Rattle.sc_hart.proofs.Registers.{read_listed}
-use Rattle.sc_relation.specs.Blocks.{StandsFor}
-use Rattle.sc_relation.specs.Calls.{ArePassed}
 use Rattle.sc_simulation.proofs.CrossCalls.{IsOffered}
 use Rattle.sc_simulation.proofs.Crossing.{take_words}
 

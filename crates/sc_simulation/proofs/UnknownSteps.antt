@@ -1,22 +1,15 @@
 -- What a step of a compartment comes to, whatever its code is: it touches no data of other compartments.
-use Rattle.std.proofs.Common.{◌≡◌, ◌≢◌, ℕ, zero, suc, ◌+◌, ◌<◌, true, List, [], ◌∷◌, length, Some, refl, sym, ◌∙◌}
-use Rattle.std.proofs.Common.{ap, ap₂, arith}
-use Rattle.std.specs.Prelude.{slice_index}
+use Rattle.sc_simulation.proofs.Common.{Goes, ImageParts, IsWellFormed, List, Outcome, Owned, Registers, Some, Traps}
+use Rattle.sc_simulation.proofs.Common.{[], allowed_data, ap, ap₂, are_data, arith, input, length, listed, may_input}
+use Rattle.sc_simulation.proofs.Common.{may_output, output, params_of, refl, returned, slice_index, step, step_of}
+use Rattle.sc_simulation.proofs.Common.{store_size, suc, sym, true, with_pc, word, words_from, zero, ℕ, ◌+◌, ◌<◌, ◌∙◌}
+use Rattle.sc_simulation.proofs.Common.{◌∷◌, ◌≡◌, ◌≢◌}
+use Rattle.sc_store.specs.Prelude.{Memory as Bytes, stored}
+use Rattle.sc_image.specs.Prelude.{State, called, export_at, may_call}
 use Rattle.sc_base.specs.declared.stop.TrapReason.{TrapReason}
-use Rattle.sc_store.specs.Memory.{Memory as Bytes, stored}
 use Rattle.sc_store.proofs.Words.{load_of-same, stored-apart}
-use Rattle.sc_image.specs.declared.parts.ImageParts.{ImageParts}
-use Rattle.sc_image.specs.Calls.{export_at, may_call, may_input, may_output, params_of}
-use Rattle.sc_image.specs.Cross.{called, input, output, returned}
-use Rattle.sc_image.specs.Layout.{are_data}
-use Rattle.sc_image.specs.State.{State, with_pc}
-use Rattle.sc_image.specs.Step.{Goes, Outcome, Traps, step, store_size}
-use Rattle.sc_image.specs.WellFormed.{IsWellFormed}
-use Rattle.sc_image.proofs.Cases.{allowed_data, step_of}
 use Rattle.sc_image.proofs.Data.{within_data}
 use Rattle.sc_image.proofs.Others.{apart}
-use Rattle.sc_hart.specs.Hart.{Registers, listed, words_from}
-use Rattle.sc_hart.specs.Words.{Owned, word}
 
 -- MEMORY
 

@@ -1,9 +1,6 @@
 -- The machine on an image in which the code of a program stands does what that code does, where functions are followed.
-use Rattle.std.proofs.Common.{List}
-use Rattle.sc_event.specs.declared.event.Event.{Event}
-use Rattle.sc_core.specs.Scripts.{roles_in}
-use Rattle.sc_image.specs.Machine.{machine}
-use Rattle.sc_simulation.specs.Simulation.{ScriptsSimulate, Simulates, nobody}
+use Rattle.sc_simulation.proofs.Common.{Event, List, ScriptsSimulate, Simulates, nobody, roles_in}
+use Rattle.sc_image.specs.Prelude.{machine}
 use Rattle.sc_simulation.proofs.Bodies.{bodies_follow}
 use Rattle.sc_simulation.proofs.Finish.{outcome}
 use Rattle.sc_simulation.proofs.Following.{all_follow}

@@ -1,31 +1,16 @@
 -- What functions do, with all that they call, is followed by their code; what those of compartments that perform do, by
 -- whatever code these have.
+use Rattle.sc_simulation.specs.Common.{AreFloors, ArePassed, Begins, CallGives, CallStands, Calls, Cross, Crossing}
+use Rattle.sc_simulation.specs.Common.{Event, FunctionGives, Goes, ImageParts, IsBase, Joint, Leads, Main, Overflows}
+use Rattle.sc_simulation.specs.Common.{Piece, Reached, Roles, Setting, Settled, Shows, Standpoint, State as Meant}
+use Rattle.sc_simulation.specs.Common.{Stopped, TacFnTree, TacTree, Value, Walks, Word, a0, and_then, begun, calls}
+use Rattle.sc_simulation.specs.Common.{code_function, code_library, done, has_result, option_value, passes_words}
+use Rattle.sc_simulation.specs.Common.{returned, sp, start, step, wrapping}
+use Rattle.sc_image.specs.Prelude.{State}
+use Rattle.sc_relation.specs.Prelude.{machine}
 use Rattle.std.specs.Prelude.{◌≡◌, ℕ, ◌<◌, ◌⊎◌, true, false, List, [], ◌∷◌, length, IsTrue, Option, None, Some}
 use Rattle.std.specs.Prelude.{slice_get, if◌then◌else◌}
-use Rattle.sc_event.specs.declared.event.Event.{Event}
 use Rattle.sc_event.specs.declared.row.Entry.{Entry}
-use Rattle.sc_event.specs.declared.row.Entry.TheVariants.{Main}
-use Rattle.sc_core.specs.declared.expr.CallTarget.TheVariants.{Cross}
-use Rattle.sc_core.specs.declared.value.Value.{Value}
-use Rattle.sc_core.specs.declared.value.Value.TheVariants.{Word}
-use Rattle.sc_core.specs.Calls.{begun, calls, done, option_value}
-use Rattle.sc_core.specs.Scripts.{Roles}
-use Rattle.sc_core.specs.Value.{wrapping}
-use Rattle.sc_core.specs.Words.{Calls, Piece, Reached, State as Meant, Stopped, and_then}
-use Rattle.sc_image.specs.declared.parts.ImageParts.{ImageParts}
-use Rattle.sc_image.specs.Calls.{has_result}
-use Rattle.sc_image.specs.Cross.{returned}
-use Rattle.sc_image.specs.State.{Crossing, State, start}
-use Rattle.sc_image.specs.Step.{Goes, step}
-use Rattle.sc_image.specs.Walks.{Walks}
-use Rattle.sc_select.specs.Pieces.{sp, a0}
-use Rattle.sc_tac.specs.declared.function.TacFnTree.{TacFnTree}
-use Rattle.sc_tac.specs.declared.program.TacTree.{TacTree}
-use Rattle.sc_tac.specs.Code.{code_function, code_library}
-use Rattle.sc_tac.specs.Functions.{passes_words}
-use Rattle.sc_relation.specs.Calls.{ArePassed, Begins, CallGives, CallStands, FunctionGives, IsBase}
-use Rattle.sc_relation.specs.Frames.{AreFloors}
-use Rattle.sc_relation.specs.Stretches.{Joint, Leads, Overflows, Setting, Settled, Shows, Standpoint, machine}
 use Rattle.sc_simulation.specs.Linked.{functions_in}
 use Rattle.sc_simulation.specs.Results.{bodies}
 

@@ -1,3 +1,5 @@
+pub mod Common
+pub mod Prelude
 pub mod Bodies
 pub mod Linked
 pub mod Outcomes

@@ -1,33 +1,21 @@
 -- Images in which the code of a program stands.
+use Rattle.sc_simulation.specs.Common.{Addresses, Cross, Export, ImageParts, InCell, Input, IsAddress, IsWellFormed}
+use Rattle.sc_simulation.specs.Common.{Main, Output, Own, Placed, Proto, Setting, TacFnTree, TacTree, code_globals}
+use Rattle.sc_simulation.specs.Common.{cross_call_fits, export_at, function_entered, has_result, imports, is_function}
+use Rattle.sc_simulation.specs.Common.{is_input, is_output, linked, may_call, may_input, may_output, own_call_fits}
+use Rattle.sc_simulation.specs.Common.{params_of, stack_top, start, start_memory}
+use Rattle.sc_word.specs.Prelude.{add_word, word_of}
+use Rattle.sc_image.specs.Prelude.{export_at as image_export}
+use Rattle.sc_hart.specs.Prelude.{CodeAt, Fetches, word}
+use Rattle.sc_emit.specs.Prelude.{IsCodeAddress, IsEmitted}
 use Rattle.std.specs.Prelude.{◌≡◌, ◌≢◌, ℕ, ℤ, ◌+◌, ◌*◌, ◌<◌, ◌≤◌, ◌⊎◌, Bool, true, false, not, ◌&&◌, ◌||◌, ◌==◌, nat_lt}
 use Rattle.std.specs.Prelude.{List, [], length, Option, None, Some, is_some, slice_get}
 use Rattle.rv_code.specs.declared.instr.Instr.TheVariants.{Jal}
-use Rattle.sc_word.specs.Prelude.{add_word, word_of}
-use Rattle.sc_event.specs.Prelude.{export_at, imports, is_function, is_input, is_output}
-use Rattle.sc_event.specs.declared.interface.Proto.{Proto}
-use Rattle.sc_event.specs.declared.row.Entry.TheVariants.{Export, Main}
 use Rattle.sc_core.specs.declared.expr.CallTarget.{CallTarget}
-use Rattle.sc_core.specs.declared.expr.CallTarget.TheVariants.{Own, Cross, Input, Output}
 use Rattle.sc_core.specs.declared.value.Cell.{Cell}
-use Rattle.sc_image.specs.declared.parts.ImageParts.{ImageParts}
-use Rattle.sc_image.specs.Calls.{export_at as image_export, has_result, may_call, may_input, may_output, params_of}
-use Rattle.sc_image.specs.Layout.{stack_top}
-use Rattle.sc_image.specs.State.{start, start_memory}
-use Rattle.sc_image.specs.WellFormed.{IsWellFormed}
 use Rattle.sc_tac.specs.declared.frame.FrameTree.{FrameTree}
-use Rattle.sc_tac.specs.declared.function.TacFnTree.{TacFnTree}
 use Rattle.sc_tac.specs.declared.machine_code.CodeTree.{CodeTree}
 use Rattle.sc_tac.specs.declared.program.TacSection.{TacSection}
-use Rattle.sc_tac.specs.declared.program.TacTree.{TacTree}
-use Rattle.sc_tac.specs.Code.{code_globals, function_entered}
-use Rattle.sc_tac.specs.Programs.{cross_call_fits, own_call_fits}
-use Rattle.sc_select.specs.Linking.{Addresses, linked}
-use Rattle.sc_hart.specs.Code.{CodeAt, Fetches}
-use Rattle.sc_hart.specs.Words.{word}
-use Rattle.sc_relation.specs.Blocks.{InCell, IsAddress, Placed}
-use Rattle.sc_relation.specs.Stretches.{Setting}
-use Rattle.sc_emit.specs.Emission.{IsEmitted}
-use Rattle.sc_emit.specs.Naming.{IsCodeAddress}
 
 abbrev pub functions_or_none : Option TacSection → List TacFnTree
 functions_or_none None = []

@@ -1,17 +1,9 @@
 -- What the machine does from its start, beside a run of code.
+use Rattle.sc_simulation.specs.Common.{AllBefore, AllFrom, Ended, FrameChange, Front, Goes, ImageParts, IsStop, Owner}
+use Rattle.sc_simulation.specs.Common.{Run, Traps, TurnsOut, Walks, ended, has_no_end, room_after, stack_size, start}
+use Rattle.sc_simulation.specs.Common.{step}
+use Rattle.sc_image.specs.Prelude.{State}
 use Rattle.std.specs.Prelude.{◌≡◌, ℕ, suc, ◌<◌, ◌≤◌, true, List, length}
-use Rattle.sc_base.specs.declared.stop.TrapReason.TheVariants.{Owner}
-use Rattle.sc_core.specs.declared.run.RunEnd.TheVariants.{Ended, TurnsOut}
-use Rattle.sc_core.specs.Growth.{Front}
-use Rattle.sc_core.specs.Meaning.{Run}
-use Rattle.sc_core.specs.Words.{FrameChange, IsStop}
-use Rattle.sc_laws.specs.Rooms.{AllBefore, AllFrom, has_no_end, room_after}
-use Rattle.sc_image.specs.declared.parts.ImageParts.{ImageParts}
-use Rattle.sc_image.specs.Cross.{ended}
-use Rattle.sc_image.specs.Layout.{stack_size}
-use Rattle.sc_image.specs.State.{State, start}
-use Rattle.sc_image.specs.Step.{Goes, Traps, step}
-use Rattle.sc_image.specs.Walks.{Walks}
 
 -- the machine reaches a state within a bound on steps, and no end was told on the way
 pub record Reaches (image : ImageParts) (inputs : List ℕ) (bound : ℕ) : Type 0 where

@@ -1,17 +1,8 @@
 -- What the functions of a program give back, whoever performs and however many calls may be open.
+use Rattle.sc_simulation.specs.Common.{Body, Export, Here, Main, Proto, Reached, Roles, State, TacFnTree, TacTree}
+use Rattle.sc_simulation.specs.Common.{Value, Word, code_library, crossing, export_at, function_entered, option_value}
+use Rattle.sc_simulation.specs.Common.{run_step, scripted_step, within, wrapping}
 use Rattle.std.specs.Prelude.{◌≡◌, ℕ, true, false, Option, Some, slice_get, IsSome}
-use Rattle.sc_event.specs.Prelude.{export_at}
-use Rattle.sc_event.specs.declared.interface.Proto.{Proto}
-use Rattle.sc_event.specs.declared.row.Entry.TheVariants.{Export, Main}
-use Rattle.sc_core.specs.declared.value.Value.{Value}
-use Rattle.sc_core.specs.declared.value.Value.TheVariants.{Word}
-use Rattle.sc_core.specs.Calls.{Body, crossing, option_value, run_step, within}
-use Rattle.sc_core.specs.Scripts.{Roles, scripted_step}
-use Rattle.sc_core.specs.Value.{wrapping}
-use Rattle.sc_core.specs.Words.{Here, Reached, State}
-use Rattle.sc_tac.specs.declared.function.TacFnTree.{TacFnTree}
-use Rattle.sc_tac.specs.declared.program.TacTree.{TacTree}
-use Rattle.sc_tac.specs.Code.{code_library, function_entered}
 use Rattle.sc_simulation.specs.Linked.{functions_in}
 
 -- what its functions do where at most so many calls may be open and some compartments perform

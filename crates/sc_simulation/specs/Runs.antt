@@ -1,20 +1,12 @@
 -- What the machine's runs show of a program's run, wherever either is stopped.
+use Rattle.sc_simulation.specs.Common.{AgreesInRoom, Blamed, Ended, Event, EventsOut, Front, ImageParts, IsWellFormed}
+use Rattle.sc_simulation.specs.Common.{IsWord, Owner, Run, RunsAgree, TurnsOut, depth_in, machine, stack_size}
+use Rattle.sc_simulation.specs.Common.{stopped_at}
+use Rattle.sc_image.specs.Prelude.{Run as MachineRun}
 use Rattle.std.specs.Prelude.{◌≡◌, ℕ, ◌<◌, ◌≤◌, ◌⊎◌, List, All}
 use Rattle.sc_base.specs.declared.stop.Stop.TheVariants.{Trap}
-use Rattle.sc_base.specs.declared.stop.TrapReason.TheVariants.{Owner}
-use Rattle.sc_event.specs.declared.event.Event.{Event}
 use Rattle.sc_core.specs.declared.run.RunEnd.{RunEnd}
-use Rattle.sc_core.specs.declared.run.RunEnd.TheVariants.{Blamed, Ended, EventsOut, TurnsOut}
 use Rattle.sc_core.specs.declared.run.SourceRun.{SourceRun}
-use Rattle.sc_core.specs.Growth.{Front}
-use Rattle.sc_core.specs.Meaning.{Run, depth_in}
-use Rattle.sc_core.specs.Run.{stopped_at}
-use Rattle.sc_laws.specs.Agreement.{RunsAgree}
-use Rattle.sc_laws.specs.Steady.{AgreesInRoom}
-use Rattle.sc_image.specs.declared.parts.ImageParts.{ImageParts}
-use Rattle.sc_image.specs.Layout.{stack_size}
-use Rattle.sc_image.specs.Machine.{Run as MachineRun, machine}
-use Rattle.sc_image.specs.WellFormed.{IsWellFormed, IsWord}
 use Rattle.sc_simulation.specs.Outcomes.{Outcome}
 
 abbrev pub IsBlamed : RunEnd → Type 0

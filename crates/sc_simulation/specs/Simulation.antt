@@ -1,17 +1,7 @@
 -- The machine on a linked image does what the code of its program does.
+use Rattle.sc_simulation.specs.Common.{Addresses, ImageParts, IsFunction, IsProgram, IsWord, Roles, TacFnTree, TacTree}
+use Rattle.sc_simulation.specs.Common.{code_run, legal, machine, scripted_code_run, wrapping}
 use Rattle.std.specs.Prelude.{◌≡◌, ℕ, suc, ◌*◌, Bool, true, false, List, [], All, Some, slice_get}
-use Rattle.sc_event.specs.Prelude.{legal}
-use Rattle.sc_core.specs.Scripts.{Roles}
-use Rattle.sc_core.specs.Value.{wrapping}
-use Rattle.sc_image.specs.declared.parts.ImageParts.{ImageParts}
-use Rattle.sc_image.specs.Machine.{machine}
-use Rattle.sc_image.specs.WellFormed.{IsWord}
-use Rattle.sc_tac.specs.declared.function.TacFnTree.{TacFnTree}
-use Rattle.sc_tac.specs.declared.program.TacTree.{TacTree}
-use Rattle.sc_tac.specs.Code.{code_run, scripted_code_run}
-use Rattle.sc_tac.specs.Functions.{IsFunction}
-use Rattle.sc_tac.specs.Programs.{IsProgram}
-use Rattle.sc_select.specs.Linking.{Addresses}
 use Rattle.sc_simulation.specs.Linked.{IsLinked, functions_in}
 use Rattle.sc_simulation.specs.Outcomes.{Outcome}
 use Rattle.sc_simulation.specs.Results.{GivesResults}

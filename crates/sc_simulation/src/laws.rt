@@ -1,7 +1,6 @@
 // The laws, each the contract of a function with nothing to do.
 
-ghost use Rattle.sc_simulation.specs.Runs.{OutcomesShow};
-ghost use Rattle.sc_simulation.specs.Simulation.{ScriptsSimulate, Simulates};
+ghost use Rattle.sc_simulation.specs.Prelude.{OutcomesShow, ScriptsSimulate, Simulates};
 
 /// From its start, the machine on an image in which the code of a program stands shows what a run of that code shows,
 /// unless a stack is full; and it takes no more steps than the turns pay for.

@@ -1,13 +1,11 @@
 -- What taking a page and a write to it make of the bytes at their places.
-use Rattle.sc_store.proofs.Common.{AreDistinct, AreOut, IfSome, IsNone, IsSome, KeepsOthers, List, None, OnSome, Option}
-use Rattle.sc_store.proofs.Common.{Pages, Some, ap, arith, byte_at, byte_on, cases_eq, cases_lt, cell, cond, count_by}
-use Rattle.sc_store.proofs.Common.{[], ◌∷◌, false, get_or, get_or-replicate, get_or-set_other, get_or-set_same}
-use Rattle.sc_store.proofs.Common.{get_or_past}
-use Rattle.sc_store.proofs.Common.{is_none, is_some, length, length-replicate, nat_le, nat_lt, nat_tests, page_of}
-use Rattle.sc_store.proofs.Common.{refl, replaced}
-use Rattle.sc_store.proofs.Common.{replicate, same_Some, set, subst, suc, sum_by-set, sym, true, with_page}
-use Rattle.sc_store.proofs.Common.{zero, zero_page, ℕ, ⊎_elim, ◌%◌, ◌&&◌, ◌+◌, ◌-◌, ◌/◌, ◌<◌, ◌↔◌, ◌∙◌, ◌≡◌, ◌≢◌, ◌≤◌}
-use borrow.Rule.Slice.PartMut.{put_mid}
+use Rattle.sc_store.proofs.Common.{AreDistinct, AreOut, IfSome, IsNone, IsSome, List, None, OnSome, Option, Some, []}
+use Rattle.sc_store.proofs.Common.{ap, arith, byte_at, byte_on, cases_eq, cases_lt, cell, cond, count_by, false, get_or}
+use Rattle.sc_store.proofs.Common.{get_or-replicate, get_or-set_other, get_or-set_same, get_or_past, is_none, is_some}
+use Rattle.sc_store.proofs.Common.{length, length-replicate, nat_le, nat_lt, nat_tests, put_mid, refl, replaced}
+use Rattle.sc_store.proofs.Common.{replicate, same_Some, set, subst, suc, sum_by-set, sym, true, zero, ℕ, ⊎_elim, ◌%◌}
+use Rattle.sc_store.proofs.Common.{◌&&◌, ◌+◌, ◌-◌, ◌/◌, ◌<◌, ◌↔◌, ◌∙◌, ◌∷◌, ◌≡◌, ◌≢◌, ◌≤◌}
+use Rattle.sc_pool.specs.Pages.{KeepsOthers, Pages, page_of, with_page, zero_page}
 use Rattle.sc_store.proofs.Pieces.{before, within, after}
 
 -- ---- a page is taken

@@ -1,9 +1,8 @@
 -- What a copy into the bytes of a part makes of its memory.
 use Rattle.sc_store.proofs.Common.{List, Memory, None, Some, ap, arith, cases_lt, drop, get_or, get_or-append_right}
 use Rattle.sc_store.proofs.Common.{get_or-drop, get_or-take, get_or_append_left, length, length-append, length-drop}
-use Rattle.sc_store.proofs.Common.{length-take-le, refl, sym, take, take_at, written, ℕ, ⊎_elim, ◌++◌, ◌+◌, ◌-◌, ◌<◌}
-use Rattle.sc_store.proofs.Common.{◌∙◌, ◌≡◌, ◌≤◌}
-use borrow.Rule.Slice.PartMut.{put_mid}
+use Rattle.sc_store.proofs.Common.{length-take-le, put_mid, refl, sym, take, take_at, written, ℕ, ⊎_elim, ◌++◌, ◌+◌}
+use Rattle.sc_store.proofs.Common.{◌-◌, ◌<◌, ◌∙◌, ◌≡◌, ◌≤◌}
 use Rattle.sc_store.proofs.Parts.{written-in, written-apart}
 
 length-put_mid : (o k : ℕ) (xs ys : List ℕ) → o + k ≤ length xs → length ys ≡ k → length (put_mid o k xs ys) ≡ length xs

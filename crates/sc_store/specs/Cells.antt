@@ -1,6 +1,6 @@
 -- Helping: how bytes stand on the pages of a pool.
-use Rattle.std.specs.Prelude.{◌≡◌, ℕ, ◌+◌, ◌-◌, ◌/◌, ◌%◌, ◌&&◌, nat_le, nat_lt, if◌then◌else◌, List, length}
-use Rattle.std.specs.Prelude.{Option, Some, None, IsSome, slice_index, slice_index_or}
+use Rattle.std.specs.Prelude.{◌≡◌, ℕ, ◌+◌, ◌-◌, ◌/◌, ◌%◌, ◌&&◌, nat_le, nat_lt, if◌then◌else◌, List, length, Option}
+use Rattle.std.specs.Prelude.{Some, None, IsSome, slice_index, slice_index_or}
 use Rattle.sc_pool.specs.Pages.{Pages, page_of}
 
 -- the page of each taken place of the table is out

@@ -1,8 +1,8 @@
 // Bytes by their places, on pages.
 #![tactic(auto)]
 
-ghost use Rattle.std.specs.Prelude.{◌≡◌, ◌≤◌, ◌<◌, ◌+◌, ◌*◌, ◌/◌, ◌%◌, length, slice_index, slice_index_or};
-ghost use Rattle.std.specs.Prelude.{EachIndex, IsSome, None, is_none, count_by, replicate, IfOk, ℕ};
+ghost use Rattle.std.specs.Prelude.{◌≡◌, ◌≤◌, ◌<◌, ◌+◌, ◌*◌, ◌/◌, ◌%◌, length, slice_index, slice_index_or, EachIndex};
+ghost use Rattle.std.specs.Prelude.{IsSome, None, is_none, count_by, replicate, IfOk, ℕ};
 ghost use Rattle.sc_store.specs.Cells.{AreOut, AreDistinct, cell, replaced};
 
 use crate::OutOfMemory;

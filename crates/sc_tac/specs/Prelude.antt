@@ -3,8 +3,8 @@ pub use Rattle.sc_tac.specs.Branches.{branch_step, branches, stmt_branches}
 pub use Rattle.sc_tac.specs.Code.{Codes, Temps, call_does, code_depth_by, code_does, code_function, code_functions}
 pub use Rattle.sc_tac.specs.Code.{code_globals, code_library, code_meaning, code_meaning_by, code_run, code_step}
 pub use Rattle.sc_tac.specs.Code.{code_wrapped, compared, constant_value, first_blocks, function_entered, gets}
-pub use Rattle.sc_tac.specs.Code.{is_comparison, is_unsigned, known, no_temps, op_does, operated, read, read_all}
-pub use Rattle.sc_tac.specs.Code.{received, return_does, scripted_code_by, scripted_code_depth_by}
+pub use Rattle.sc_tac.specs.Code.{is_comparison, is_pointer, is_unsigned, known, no_temps, op_does, operated, read}
+pub use Rattle.sc_tac.specs.Code.{read_all, received, return_does, scripted_code_by, scripted_code_depth_by}
 pub use Rattle.sc_tac.specs.Code.{scripted_code_meaning, scripted_code_run, second, start_of, stmt_does, store_does}
 pub use Rattle.sc_tac.specs.Code.{with_temp}
 pub use Rattle.sc_tac.specs.Flow.{Ahead, Reading, all_assigned_first, is_assigned_first, is_one, nothing_ahead}
@@ -19,14 +19,15 @@ pub use Rattle.sc_tac.specs.Intervals.{AreIntervals, Span, Within, from_here, ha
 pub use Rattle.sc_tac.specs.Intervals.{is_used, or_first, span_from}
 pub use Rattle.sc_tac.specs.Laws.{CodeObeys, WrappedCodeAgrees}
 pub use Rattle.sc_tac.specs.MachineCode.{IsCode, is_address, is_jal, is_linkable}
-pub use Rattle.sc_tac.specs.Parts.{all_true, everywhere, one_or_none, with_parts}
-pub use Rattle.sc_tac.specs.Places.{ArePlaces, IsAssignment, IsClear, IsSparing, PlacesAreClear, Share, is_place}
-pub use Rattle.sc_tac.specs.Places.{register_count}
+pub use Rattle.sc_tac.specs.Parts.{all_true, everywhere, one_or_none, parts, with_parts}
+pub use Rattle.sc_tac.specs.Places.{ArePlaces, InSlot, IsAssignment, IsClear, IsSparing, PlacesAreClear, Share}
+pub use Rattle.sc_tac.specs.Places.{is_place, register_count}
 pub use Rattle.sc_tac.specs.Points.{Lives, Point, Set, Trail, ahead_at, function_points, if_calls, in_body, in_head}
 pub use Rattle.sc_tac.specs.Points.{in_next, live_across, live_at_start, live_before, loop_points, nothing}
 pub use Rattle.sc_tac.specs.Points.{nothing_live, part_lives, plain_points, point, points, readings, row_points}
 pub use Rattle.sc_tac.specs.Points.{stmt_points, trail, trail_step}
-pub use Rattle.sc_tac.specs.Programs.{IsProgram, are_entered, calls_exports, calls_imports, calls_own, count}
-pub use Rattle.sc_tac.specs.Programs.{cross_call_fits, entry_known, exports_entered, in_section, is_entered}
-pub use Rattle.sc_tac.specs.Programs.{main_entered, names_own_global, numbered, own_call_fits, same_entry, takes_result}
+pub use Rattle.sc_tac.specs.Programs.{IsProgram, are_entered, are_headed, calls_exports, calls_imports, calls_own}
+pub use Rattle.sc_tac.specs.Programs.{count, cross_call_fits, entry_known, exports_entered, has_head, in_section}
+pub use Rattle.sc_tac.specs.Programs.{is_entered, main_entered, names_own_global, numbered, own_call_fits, same_entry}
+pub use Rattle.sc_tac.specs.Programs.{takes_result}
 pub use Rattle.sc_tac.specs.Weights.{call_weight, entry_weight, op_weight, stmt_weight, weight, weight_step}

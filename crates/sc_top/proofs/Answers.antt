@@ -1,22 +1,19 @@
 -- What an answer says, from what was read.
 use Rattle.sc_top.proofs.Common.{Accepts, Answers, Check, Command, Compile, Exec, Explain, Fails, Failure, FindsBad}
 use Rattle.sc_top.proofs.Common.{IsAccounted, IsAnswer, IsErrOf, IsGood, IsGoodText, IsImage, IsInput, IsOutput}
-use Rattle.sc_top.proofs.Common.{IsTextOutput, IsTrue, IsUndisturbed, IsUnfit, IsWhole, IsWithin}
-use Rattle.sc_top.proofs.Common.{IsWithinLimit, List, Meaning, None, Option, ProgramTree, Refusal, Refuses, Result, Run}
-use Rattle.sc_top.proofs.Common.{SameAnswer, RunOptions, Says, Some, Status, Takes, Traffic, [], ap, append-nil, arith}
-use Rattle.sc_top.proofs.Common.{bad, by_name, cause_in, cause_number, cause_of, compiles, false≢true, inl, inr}
-use Rattle.sc_top.proofs.Common.{large_in, length, length-append, limit_of, none-some, refl, status_by, subst, sym}
-use Rattle.sc_top.proofs.Common.{too_large, ℕ, ⊎_elim, ◌++◌, ◌+◌, ◌∙◌, ◌≡◌, ◌≤◌, ◌⊎◌}
-use Rattle.std.specs.Prelude.{option_and_then}
+use Rattle.sc_top.proofs.Common.{IsTextOutput, IsTrue, IsUndisturbed, IsUnfit, IsWhole, IsWithin, IsWithinLimit, List}
+use Rattle.sc_top.proofs.Common.{Make, Meaning, None, Option, ProgramTree, Refusal, Refuses, Result, Run, RunOptions}
+use Rattle.sc_top.proofs.Common.{SameAnswer, Says, Some, Status, Takes, Traffic, [], ap, append-nil, arith, bad}
+use Rattle.sc_top.proofs.Common.{built_image, by_name, cause_in, cause_number, cause_of, compiles, false≢true, inl, inr}
+use Rattle.sc_top.proofs.Common.{large_in, length, length-append, limit_of, none-some, option_and_then, refl, status_by}
+use Rattle.sc_top.proofs.Common.{subst, sym, too_large, ℕ, ⊎_elim, ◌++◌, ◌+◌, ◌∙◌, ◌≡◌, ◌≤◌, ◌⊎◌}
 use Rattle.std.specs.Option.{option_map}
 use Rattle.sc_lex.specs.declared.refusal.Phase.{Phase}
 use Rattle.sc_lex.specs.declared.refusal.Phase.TheVariants.{Syntax}
 use Rattle.sc_image.proofs.Images.{is_read_again}
-use Rattle.sc_words.specs.declared.command.Command.TheVariants.{Make}
 use Rattle.sc_top.specs.declared.failure.Failure.TheVariants as failure
 use Rattle.sc_top.specs.declared.status.Status.TheVariants as status
 use Rattle.sc_top.specs.declared.status.TooLarge.{TooLarge}
-use Rattle.sc_compile.specs.Image.{built_image}
 use Rattle.sc_top.proofs.Large.{fits_of}
 use Rattle.sc_top.proofs.Lengths.{image_is_short}
 

@@ -1,15 +1,12 @@
 -- What is asked of `explain` and `make` is bounded.
-use Rattle.sc_top.proofs.Common.{Bool, Command, Explain, IsBounded, List, Meaning, None, Option, Run, RunOptions, Some}
-use Rattle.sc_top.proofs.Common.{arith, false, leb-true, none-some, nat_le, refl, subst, true, ℕ, ◌&&◌, ◌≡◌, ◌≤◌}
-use Rattle.std.specs.Prelude.{ℤ, if◌then◌else◌, option_and_then, option_map}
+use Rattle.sc_top.proofs.Common.{Bool, Check, Command, Compile, Exec, Explain, IsBounded, List, Make, MakeOptions}
+use Rattle.sc_top.proofs.Common.{Meaning, None, Option, Run, RunOptions, Some, arith, codes, false, if◌then◌else◌}
+use Rattle.sc_top.proofs.Common.{leb-true, nat_le, none-some, option_and_then, option_map, refl, subst, true, ℕ, ℤ}
+use Rattle.sc_top.proofs.Common.{◌&&◌, ◌≡◌, ◌≤◌}
+use Rattle.sc_words.specs.Prelude.{has_option, number, number_within, value_of, when_within}
 use Rattle.std.specs.Str.{bytes_eq}
-use Rattle.std.proofs.Common.{codes}
-use Rattle.sc_words.specs.Numbers.{number, number_within, when_within}
-use Rattle.sc_words.specs.Options.{has_option, value_of}
 use Rattle.sc_words.specs.Words as words
 unfoldable use Rattle.sc_words.specs.Words.{command}
-use Rattle.sc_words.specs.declared.command.Command.TheVariants.{Check, Compile, Exec, Make}
-use Rattle.sc_words.specs.declared.command.MakeOptions.{MakeOptions}
 
 same_value : {A : Type 0} (x y : A) → ◌≡◌ {A = Option A} (Some x) (Some y) → x ≡ y
 same_value x y same = cc same

@@ -1,26 +1,20 @@
 -- Chains of texts: what stands in their texts, and that a run has one account.
-use Rattle.sc_top.proofs.Common.{Accepts, All-from_recursion, AllByRecursion, ArePerforming, Bool, Err, Event, IfOk}
-use Rattle.sc_top.proofs.Common.{ImageParts, IsAccounted, List, Ok, Option, ProgramTree, Result, RunOptions, Some, None}
-use Rattle.sc_top.proofs.Common.{CompileFault, Decides-eqb, account, ap, ap₂, arith, comp_of, concat, false, length}
-use Rattle.sc_top.proofs.Common.{map, meaning, recursion_from_All, refl, replacement_of, subst, suc, sym, take}
-use Rattle.sc_top.proofs.Common.{text_after, true, word_of, zero, ℕ, [], ◌++◌, ◌==◌, ◌∙◌, ◌∷◌, ◌≡◌, ◌≤◌}
-use Rattle.std.specs.Prelude.{◌||◌, if◌then◌else◌}
-use Rattle.sc_back.specs.Replacing.{new_text, new_texts}
-use Rattle.sc_chain.specs.Chain.{IsChainFrom, IsExplained, IsNext, TellsTrace}
-use Rattle.sc_chain.specs.Recompose.{among, joined, performing, performing_text, recomposed, text_for}
-use Rattle.sc_chain.specs.declared.explanation.Explanation.{Explanation}
-use Rattle.sc_chain.specs.declared.explanation.Link.{Link}
+use Rattle.sc_top.proofs.Common.{Accepts, All-from_recursion, AllByRecursion, ArePerforming, Bool, CompileFault, Err}
+use Rattle.sc_top.proofs.Common.{Event, Explanation, IfOk, ImageParts, IsAccounted, IsChainFrom, IsExplained, IsNext}
+use Rattle.sc_top.proofs.Common.{IsSource, IsSplitInto, IsSummary, Link, List, MakeOptions, None, Ok, Option}
+use Rattle.sc_top.proofs.Common.{ProgramTree, Result, RunOptions, Some, SourceParts, TellsTrace, [], account, among, ap}
+use Rattle.sc_top.proofs.Common.{ap₂, arith, comp_of, concat, false, if◌then◌else◌, joined, length, machine, map}
+use Rattle.sc_top.proofs.Common.{meaning, performing, performing_text, recomposed, recursion_from_All, refl}
+use Rattle.sc_top.proofs.Common.{replacement_of, subst, suc, summary_text, sym, take, text_after, text_for, true}
+use Rattle.sc_top.proofs.Common.{word_of, zero, ℕ, ◌++◌, ◌==◌, ◌||◌, ◌∙◌, ◌∷◌, ◌≡◌, ◌≤◌}
+use Rattle.sc_back.specs.Prelude.{new_text, new_texts}
+use Rattle.std.proofs.lemmas.Bool.Decides.{Decides-eqb}
 use Rattle.sc_chain.specs.declared.composed.Replacement.{Replacement}
-use Rattle.sc_image.specs.Machine.{machine}
 use Rattle.sc_core.specs.declared.run.RunEnd.{RunEnd}
 use Rattle.sc_core.specs.declared.run.RunEnd.TheVariants.{Blamed}
 use Rattle.sc_lex.specs.declared.section.Section.{Section}
 use Rattle.sc_read.specs.Reading.{part_of}
 use Rattle.sc_read.proofs.Splits.{same_parts, same_preamble}
-use Rattle.sc_report.specs.Summary.{summary_text}
-use Rattle.sc_top.specs.Prelude.{IsSummary}
-use Rattle.sc_types.specs.Source.{IsSource, IsSplitInto, SourceParts}
-use Rattle.sc_words.specs.declared.command.MakeOptions.{MakeOptions}
 
 -- THE TEXTS
 

@@ -1,18 +1,15 @@
 -- The numbers of all events stand for something: in the meaning of a program, and where the machine runs an image.
-use Rattle.sc_top.proofs.Common.{All, All-map, Err, Event, IfOk, ImageParts, Interfaces, IsExecuted, IsKnown, IsSome}
-use Rattle.sc_top.proofs.Common.{IsTrue, IsWellFormed, IsWellTyped, IsWord, List, Ok, ProgramTree, Result, RunOptions}
-use Rattle.sc_top.proofs.Common.{TracesAreLegal, [], and_parts, ap, arith, c_arith, comp_at, false≢true, get_or}
-use Rattle.sc_top.proofs.Common.{image_bytes, interface_of, interfaces_of, length, length-map, machine_run}
-use Rattle.sc_top.proofs.Common.{machine_text, main_fits, map, meant, refl, run_text, sections_fit, slice_get, subst}
-use Rattle.sc_top.proofs.Common.{suc, sym, true, word_of, zero, ℕ, ◌<◌, ◌∙◌, ◌∷◌, ◌≡◌}
-use Rattle.std.specs.Prelude.{ℤ}
+use Rattle.sc_top.proofs.Common.{All, All-map, Err, Event, IfOk, ImageParts, Interfaces, IsCompiled, IsExecuted}
+use Rattle.sc_top.proofs.Common.{IsKnown, IsSome, IsTrue, IsWellFormed, IsWellTyped, IsWord, List, Ok, ProgramTree}
+use Rattle.sc_top.proofs.Common.{Result, RunOptions, TracesAreLegal, TypedSection, [], and_parts, ap, arith, c_arith}
+use Rattle.sc_top.proofs.Common.{comp_at, false≢true, get_or, image_bytes, interface_of, interfaces_of}
+use Rattle.sc_top.proofs.Common.{legal as is_legal, length, length-map, machine_run, machine_text, main_fits, map}
+use Rattle.sc_top.proofs.Common.{meant, refl, run_text, sections_fit, slice_get, subst, suc, sym, true, word_of, zero}
+use Rattle.sc_top.proofs.Common.{ℕ, ℤ, ◌<◌, ◌∙◌, ◌∷◌, ◌≡◌}
 use Rattle.sc_laws.specs.Prelude.{TracesAreLegal as SourceTracesAreLegal}
 use Rattle.sc_event.specs.declared.interface.Interface.{Interface}
-use Rattle.sc_compile.specs.Compiled.{IsCompiled}
 use Rattle.sc_event.proofs.Known.{legal_is_known}
-use Rattle.sc_event.specs.Prelude.{legal as is_legal}
 use Rattle.sc_word.proofs.Words.{word_of-lt}
-use Rattle.sc_core.specs.declared.section.TypedSection.{TypedSection}
 use Rattle.sc_base.specs.declared.stop.Stop.{Stop}
 use Rattle.sc_words.specs.declared.command.MeaningOptions.{MeaningOptions}
 

@@ -1,19 +1,13 @@
 -- What is too large is in a compartment of the program, by whose name it is told.
-use Rattle.sc_top.proofs.Common.{AllByRecursion, Bool, Err, ImageParts, Interfaces, IsCompiling, IsNamed, IsSome}
-use Rattle.sc_top.proofs.Common.{IsWellTyped, List, None, Ok, Option, ProgramTree, Some, [], ap, arith, by_name}
-use Rattle.sc_top.proofs.Common.{comp_at, false, length, nat_lt, none-some, of_compile_fault, refl, subst, suc, sym}
-use Rattle.sc_top.proofs.Common.{true, ℕ, ⊎_elim, ◌++◌, ◌+◌, ◌∷◌, ◌≡◌, ◌≤◌, ◌⊎◌}
-use Rattle.std.specs.Prelude.{flat_map, if◌then◌else◌, option_and_then}
-use Rattle.sc_image.specs.Layout.{most_globals, stretch}
-use Rattle.sc_core.specs.declared.section.TypedFunction.{TypedFunction}
-use Rattle.sc_core.specs.declared.section.TypedSection.{TypedSection}
-use Rattle.sc_compile.specs.declared.fault.CompileFault.{CompileFault}
-use Rattle.sc_compile.specs.declared.fault.CompileFault.TheVariants.{CodeTooLarge, DataTooLarge, FrameTooLarge}
-use Rattle.sc_compile.specs.declared.fault.CompileFault.TheVariants.{OutOfMemory}
-use Rattle.std.proofs.Common.{inl, inr}
-use Rattle.sc_compile.specs.Image.{IsFault, built_image, image_of, unless_large}
-use Rattle.sc_compile.specs.Sizes.{above, code_bytes, data_bytes, first, found_in, frame_bytes, large_code, large_data}
-use Rattle.sc_compile.specs.Sizes.{large_frame, large_frames, most_frame, too_large}
+use Rattle.sc_top.proofs.Common.{AllByRecursion, Bool, CodeTooLarge, CompileFault, DataTooLarge, Err, FrameTooLarge}
+use Rattle.sc_top.proofs.Common.{ImageParts, Interfaces, IsCompiling, IsNamed, IsSome, IsWellTyped, List, None, Ok}
+use Rattle.sc_top.proofs.Common.{Option, OutOfMemory, ProgramTree, Some, TypedFunction, TypedSection, [], above, ap}
+use Rattle.sc_top.proofs.Common.{arith, built_image, by_name, code_bytes, comp_at, data_bytes, false, first, flat_map}
+use Rattle.sc_top.proofs.Common.{found_in, frame_bytes, if◌then◌else◌, image_of, inl, inr, large_code, large_data}
+use Rattle.sc_top.proofs.Common.{large_frame, large_frames, length, most_frame, most_globals, nat_lt, none-some}
+use Rattle.sc_top.proofs.Common.{of_compile_fault, option_and_then, refl, stretch, subst, suc, sym, too_large, true}
+use Rattle.sc_top.proofs.Common.{unless_large, ℕ, ⊎_elim, ◌++◌, ◌+◌, ◌∷◌, ◌≡◌, ◌≤◌, ◌⊎◌}
+use Rattle.sc_compile.specs.Prelude.{IsFault}
 use Rattle.sc_top.proofs.Known.{sections_are, within}
 
 -- a program has an image exactly where nothing of it is too large

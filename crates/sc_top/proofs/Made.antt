@@ -1,24 +1,13 @@
 -- Made programs fit, so that each has an image.
-use Rattle.sc_top.proofs.Common.{Accepts, AllByRecursion, Bool, CompileFault, Err, IfOk, Interfaces, List, None, Ok}
-use Rattle.sc_top.proofs.Common.{ProgramTree, Result, [], ap, ap₂, arith, recursion_from_All, refl, subst, suc, sym}
-use Rattle.sc_top.proofs.Common.{too_large, ℕ, ◌++◌, ◌∙◌, ◌∷◌, ◌≡◌, ◌≤◌}
-use Rattle.std.specs.Prelude.{flat_map, if◌then◌else◌}
-use Rattle.std.proofs.lemmas.Bool.{le-ltb}
-use Rattle.sc_core.specs.declared.section.TypedFunction.{TypedFunction}
-use Rattle.sc_core.specs.declared.section.TypedSection.{TypedSection}
-use Rattle.sc_chain.specs.Chain.{IsExplained}
-use Rattle.sc_chain.specs.declared.explanation.Explanation.{Explanation}
-use Rattle.sc_compile.specs.declared.fault.CompileFault.TheVariants.{CodeTooLarge, DataTooLarge, FrameTooLarge}
-use Rattle.sc_compile.specs.Image.{built_image, image_of, unless_large}
-use Rattle.sc_compile.specs.Sizes.{above, code_bytes, data_bytes, first, found_in, frame_bytes, large_code, large_data}
-use Rattle.sc_compile.specs.Sizes.{large_frame, large_frames, most_frame}
-use Rattle.sc_image.specs.Layout.{most_globals, stretch}
-use Rattle.sc_made.specs.Laws.{AreSmall, IsAccepted, IsSmall}
+use Rattle.sc_top.proofs.Common.{Accepts, AllByRecursion, AreSmall, Bool, CodeTooLarge, CompileFault, DataTooLarge, Err}
+use Rattle.sc_top.proofs.Common.{Explanation, FrameTooLarge, IfOk, Interfaces, IsAccepted, IsExplained, IsMadeText}
+use Rattle.sc_top.proofs.Common.{IsSmall, IsSource, IsSummary, List, MakeOptions, None, Ok, ProgramTree, Result}
+use Rattle.sc_top.proofs.Common.{SourceParts, TypedFunction, TypedSection, [], above, ap, ap₂, arith, built_image}
+use Rattle.sc_top.proofs.Common.{code_bytes, data_bytes, first, flat_map, found_in, frame_bytes, if◌then◌else◌}
+use Rattle.sc_top.proofs.Common.{image_of, large_code, large_data, large_frame, large_frames, le-ltb, most_frame}
+use Rattle.sc_top.proofs.Common.{most_globals, recursion_from_All, refl, stretch, subst, suc, summary_text, sym}
+use Rattle.sc_top.proofs.Common.{too_large, unless_large, ℕ, ◌++◌, ◌∙◌, ◌∷◌, ◌≡◌, ◌≤◌}
 use Rattle.sc_made.specs.Text.{made_text}
-use Rattle.sc_report.specs.Summary.{summary_text}
-use Rattle.sc_top.specs.Prelude.{IsMadeText, IsSummary}
-use Rattle.sc_types.specs.Source.{IsSource, SourceParts}
-use Rattle.sc_words.specs.declared.command.MakeOptions.{MakeOptions}
 
 none_above : (limit size : ℕ) (fault : CompileFault) → size ≤ limit → above limit size fault ≡ []
 none_above limit size fault few = ap (λ (large : Bool). if large then fault ∷ [] else []) (le-ltb limit size few)

@@ -1,13 +1,11 @@
 -- What comes of accepted texts: outputs and their causes, and that an output is one.
-use Rattle.sc_top.proofs.Common.{Accepts, BytesNameOneImage, Command, CompileFault, Failure, HasImage, ImageParts}
-use Rattle.sc_top.proofs.Common.{IsCompiling, IsExecuted, IsOutput, IsOutputCause, IsTextOutput, IsTrue, List, Ok}
-use Rattle.sc_top.proofs.Common.{ProgramTree, Result, RunOptions, [], ap, compiles, interfaces_of, machine_text, output}
-use Rattle.sc_top.proofs.Common.{Bool, false, refl, subst, sym, true, ℕ, ◌∙◌, ◌≡◌}
+use Rattle.sc_top.proofs.Common.{Accepts, Bool, BytesNameOneImage, Command, CompileFault, Failure, HasImage, ImageParts}
+use Rattle.sc_top.proofs.Common.{IsCompiling, IsExecuted, IsMadeBy, IsOutput, IsOutputCause, IsTextOutput, IsTrue, List}
+use Rattle.sc_top.proofs.Common.{MakeOptions, Ok, ProgramTree, Result, RunOptions, [], ap, compiles, false}
+use Rattle.sc_top.proofs.Common.{interfaces_of, machine_text, output, refl, subst, sym, true, ℕ, ◌∙◌, ◌≡◌}
 use Rattle.sc_words.specs.declared.command.Command.TheVariants as commands
 use Rattle.sc_top.specs.declared.failure.Failure.TheVariants as failure
 use Rattle.sc_top.proofs.Chains.{one_account, one_summary}
-use Rattle.sc_top.specs.Output.{IsMadeBy}
-use Rattle.sc_words.specs.declared.command.MakeOptions.{MakeOptions}
 
 -- the image that stands where a command compiles none
 pub no_image : ImageParts

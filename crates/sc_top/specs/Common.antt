@@ -1,13 +1,13 @@
 -- The names from below that several definitions of this crate cite, passed on from one place. Declares nothing.
+pub use Rattle.sc_event.specs.Prelude.{comp_at, comp_name}
 pub use Rattle.sc_event.specs.declared.interface.Interfaces.{Interfaces}
 pub use Rattle.sc_edge.specs.Edge.{Adds, IsAtEnd, Rose, Takes}
 pub use Rattle.sc_lex.specs.declared.refusal.Refusal.{Refusal}
-pub use Rattle.sc_core.specs.Prelude.{meaning}
 pub use Rattle.sc_core.specs.declared.program.ProgramTree.{ProgramTree}
-pub use Rattle.sc_types.specs.Prelude.{Accepts, Fails}
+pub use Rattle.sc_types.specs.Prelude.{Accepts, Fails, IsSource, SourceParts}
 pub use Rattle.sc_image.specs.Prelude.{IsImage, Run, bad, cause_number, image_bytes, interfaces_of, machine}
-pub use Rattle.sc_image.specs.declared.parts.ImageParts.{ImageParts}
-pub use Rattle.sc_compile.specs.Sizes.{too_large}
+pub use Rattle.sc_compile.specs.Prelude.{IsCompiled, image_of, too_large}
 pub use Rattle.sc_compile.specs.declared.fault.CompileFault.{CompileFault}
+pub use Rattle.sc_chain.specs.Prelude.{IsExplained, among, performing_text, recomposed}
+pub use Rattle.sc_chain.specs.declared.explanation.Link.{Link}
 pub use Rattle.sc_words.specs.declared.command.Command.{Command}
-pub use Rattle.sc_words.specs.declared.command.RunOptions.{RunOptions}

@@ -1,7 +1,6 @@
 -- What of a program is too large, by the name of its compartment.
-use Rattle.sc_top.specs.Common.{CompileFault, Interfaces, ProgramTree, too_large}
+use Rattle.sc_top.specs.Common.{CompileFault, Interfaces, ProgramTree, comp_name, too_large}
 use Rattle.std.specs.Prelude.{Option, None, Some, option_and_then}
-use Rattle.sc_event.specs.Prelude.{comp_name}
 use Rattle.sc_compile.specs.declared.fault.CompileFault.TheVariants as compiling
 use Rattle.sc_top.specs.declared.status.TooLarge.{TooLarge}
 use Rattle.sc_top.specs.declared.status.TooLarge.TheVariants.{Code, Globals, Frame}

@@ -1,20 +1,18 @@
 -- What each command writes for the program of a text and its image, or for an image.
-use Rattle.sc_top.specs.Common.{Accepts, Command, ImageParts, Interfaces, IsImage, ProgramTree, Run, RunOptions}
-use Rattle.sc_top.specs.Common.{image_bytes, interfaces_of, machine, meaning}
+use Rattle.sc_top.specs.Common.{Accepts, Command, Interfaces, IsCompiled, IsExplained, IsImage, IsSource, Link}
+use Rattle.sc_top.specs.Common.{ProgramTree, Run, SourceParts, among, image_bytes, image_of, interfaces_of, machine}
+use Rattle.sc_top.specs.Common.{recomposed}
 use Rattle.sc_word.specs.Prelude.{word_of}
+use Rattle.sc_core.specs.Prelude.{meaning}
+use Rattle.sc_image.specs.declared.parts.ImageParts.{ImageParts}
+use Rattle.sc_words.specs.declared.command.RunOptions.{RunOptions}
 use Rattle.std.specs.Prelude.{◌≡◌, ℕ, Bool, true, false, IsTrue, List, [], map, take, Option, Some, None, Ok}
-use Rattle.sc_chain.specs.Chain.{IsExplained}
-use Rattle.sc_chain.specs.Recompose.{among, recomposed}
 use Rattle.sc_chain.specs.declared.explanation.Explanation.{Explanation}
-use Rattle.sc_chain.specs.declared.explanation.Link.{Link}
-use Rattle.sc_compile.specs.Compiled.{IsCompiled}
-use Rattle.sc_compile.specs.Image.{image_of}
 use Rattle.sc_core.specs.declared.run.SourceRun.{SourceRun}
 use Rattle.sc_report.specs.Check.{check_text}
 use Rattle.sc_made.specs.Text.{made_text}
 use Rattle.sc_report.specs.Report.{explain_text, meaning_text, run_text}
 use Rattle.sc_report.specs.Summary.{summary_text}
-use Rattle.sc_types.specs.Source.{IsSource, SourceParts}
 use Rattle.sc_words.specs.declared.command.Command.TheVariants as commands
 use Rattle.sc_words.specs.declared.command.MakeOptions.{MakeOptions}
 use Rattle.sc_words.specs.declared.command.MeaningOptions.{MeaningOptions}

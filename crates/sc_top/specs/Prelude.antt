@@ -1,18 +1,21 @@
 -- What this crate's contracts, its proofs and the crates above cite, passed on from one place. Declares nothing.
-pub use Rattle.sc_types.specs.Prelude.{Accepts}
+pub use Rattle.sc_event.specs.Prelude.{IsKnown, comp_at, comp_name, legal}
+pub use Rattle.sc_types.specs.Prelude.{Accepts, IsSource}
+pub use Rattle.sc_compile.specs.Prelude.{IsCompiled, too_large}
+pub use Rattle.sc_chain.specs.Prelude.{IsExplained, IsFault}
 pub use Rattle.sc_words.specs.declared.command.Command.{Command}
 pub use Rattle.sc_words.specs.declared.command.Command.TheVariants.{Check, Compile, Exec, Explain, Meaning, Run}
-pub use Rattle.sc_top.specs.Answer.{Answers, FindsBad, IsAnswer, IsGood, IsGoodText, IsInput, IsSilent}
-pub use Rattle.sc_top.specs.Answer.{IsUndisturbed, IsUnfit, IsWhole, IsWithin, IsWithinLimit, Refuses, SameAnswer, Says}
-pub use Rattle.sc_top.specs.Answer.{Tells, Traffic, cause_in}
+pub use Rattle.sc_top.specs.Answer.{Answers, FindsBad, IsAnswer, IsGood, IsGoodText, IsInput, IsSilent, IsUndisturbed}
+pub use Rattle.sc_top.specs.Answer.{IsUnfit, IsWhole, IsWithin, IsWithinLimit, Refuses, SameAnswer, Says, Tells}
+pub use Rattle.sc_top.specs.Answer.{Traffic, cause_in}
 pub use Rattle.sc_top.specs.Command.{limit_of}
 pub use Rattle.sc_top.specs.Failure.{IsInputCause, IsOutputCause, of_image_fault, of_read_fault, of_text_fault}
 pub use Rattle.sc_top.specs.Failure.{of_words_fault, status_by, status_of}
 pub use Rattle.sc_top.specs.Fetching.{Fetches}
 pub use Rattle.sc_top.specs.Large.{by_name, large_in}
-pub use Rattle.sc_top.specs.Output.{HasImage, IsAccounted, IsExecuted, IsMade, IsMadeText, IsOutput, IsSummary}
-pub use Rattle.sc_top.specs.Output.{IsTextOutput, account, comp_of, compiles, machine_run, machine_text, meant}
-pub use Rattle.sc_top.specs.Output.{output, text_after}
+pub use Rattle.sc_top.specs.Output.{HasImage, IsAccounted, IsExecuted, IsMade, IsMadeBy, IsMadeText, IsOutput}
+pub use Rattle.sc_top.specs.Output.{IsSummary, IsTextOutput, account, comp_of, compiles, machine_run, machine_text}
+pub use Rattle.sc_top.specs.Output.{meant, output, text_after}
 pub use Rattle.sc_top.specs.Status.{bytes_of, fixed_text, kind_text, large_text, own_text, owner_text, phase_word}
 pub use Rattle.sc_top.specs.Status.{refusal_text, status_number, status_text}
 pub use Rattle.sc_top.specs.Texts.{ArePerforming, IsBounded, IsCompiling, IsNamed, IsReading, of_compile_fault}

@@ -1,9 +1,9 @@
 -- The statuses' numbers and texts.
 use Rattle.sc_top.specs.Common.{Refusal}
+use Rattle.sc_words.specs.Prelude.{usage_text}
 use Rattle.std.specs.Prelude.{ℕ, List, [], ◌++◌, codes, decimal}
 use Rattle.sc_lex.specs.declared.refusal.Phase.{Phase}
 use Rattle.sc_lex.specs.declared.refusal.Phase.TheVariants as phase
-use Rattle.sc_words.specs.Usage.{usage_text}
 use Rattle.sc_top.specs.declared.status.TooLarge as large
 use Rattle.sc_top.specs.declared.status.TooLarge.TheVariants as which
 use Rattle.sc_top.specs.declared.status.Status.{Status}

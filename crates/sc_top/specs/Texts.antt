@@ -1,11 +1,8 @@
 -- Helping: texts as commands read them, and what comes of compiling them.
-use Rattle.sc_top.specs.Common.{Command, CompileFault, Fails, Interfaces, ProgramTree}
+use Rattle.sc_top.specs.Common.{Command, CompileFault, Fails, Interfaces, Link, ProgramTree, SourceParts, comp_at}
+use Rattle.sc_top.specs.Common.{performing_text}
 use Rattle.std.specs.Prelude.{◌≡◌, ◌≤◌, ℕ, List, All, Option, None, Some, IsSome}
-use Rattle.sc_event.specs.Prelude.{comp_at}
 use Rattle.sc_event.specs.declared.event.Event.{Event}
-use Rattle.sc_types.specs.Source.{SourceParts}
-use Rattle.sc_chain.specs.Recompose.{performing_text}
-use Rattle.sc_chain.specs.declared.explanation.Link.{Link}
 use Rattle.sc_chain.specs.declared.composed.Replacement.{Replacement}
 use Rattle.sc_compile.specs.declared.fault.CompileFault.TheVariants as compiling
 use Rattle.sc_made.specs.Laws.{IsAsked}

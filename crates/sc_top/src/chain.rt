@@ -1,10 +1,7 @@
 //! The command that accounts for a run.
 
-ghost use Rattle.sc_chain.specs.Chain.{IsExplained};
-ghost use Rattle.sc_chain.specs.Faults.{IsFault};
-ghost use Rattle.sc_event.specs.Prelude.{legal};
-ghost use Rattle.sc_top.specs.Prelude.{ArePerforming, Explain, IsCompiling, IsOutput, IsOutputCause, account};
-ghost use Rattle.sc_top.specs.Prelude.{replacement_of, text_after};
+ghost use Rattle.sc_top.specs.Prelude.{ArePerforming, Explain, IsCompiling, IsExplained, IsFault, IsOutput};
+ghost use Rattle.sc_top.specs.Prelude.{IsOutputCause, account, legal, replacement_of, text_after};
 ghost use Rattle.sc_word.specs.Prelude.{word_of};
 ghost use Rattle.std.specs.Prelude.{◌≡◌, ◌≤◌, true, map, take, None, IfOk, IfErr};
 

@@ -1,5 +1,6 @@
 ghost use Rattle.std.specs.Prelude.{◌≡◌, IsSome};
-ghost use Rattle.sc_event.specs.Prelude.{comp_at, comp_name};
+ghost use Rattle.sc_event.specs.Lookup.{comp_at};
+ghost use Rattle.sc_event.specs.Line.{comp_name};
 ghost use Rattle.sc_top.specs.Failure.{of_words_fault, of_text_fault, of_image_fault, of_read_fault};
 ghost use Rattle.sc_top.specs.Texts.{IsNamed, of_compile_fault};
 

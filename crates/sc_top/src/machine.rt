@@ -1,6 +1,4 @@
-ghost use Rattle.sc_top.specs.Prelude.{machine_run, machine_text};
-ghost use Rattle.sc_compile.specs.Compiled.{IsCompiled};
-ghost use Rattle.sc_event.specs.Prelude.{IsKnown};
+ghost use Rattle.sc_top.specs.Prelude.{IsCompiled, IsKnown, machine_run, machine_text};
 ghost use Rattle.std.specs.Prelude.{◌≡◌, All, IfOk};
 
 use sc_base::{OutOfMemory, Text};

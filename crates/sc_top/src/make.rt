@@ -1,10 +1,7 @@
 //! The command that makes programs.
 
+ghost use Rattle.sc_top.specs.Prelude.{IsExplained, IsMade, IsMadeText, IsSource, IsSummary, too_large};
 ghost use Rattle.sc_made.specs.Laws.{IsAccepted, IsAsked};
-ghost use Rattle.sc_chain.specs.Chain.{IsExplained};
-ghost use Rattle.sc_compile.specs.Sizes.{too_large};
-ghost use Rattle.sc_top.specs.Prelude.{IsMade, IsMadeText, IsSummary};
-ghost use Rattle.sc_types.specs.Source.{IsSource};
 ghost use Rattle.std.specs.Prelude.{◌≡◌, [], None, IfOk};
 
 use sc_base::{OutOfMemory, Text};

@@ -1,9 +1,8 @@
 //! The commands that read texts.
 
 ghost use Rattle.sc_top.specs.Prelude.{Accepts, Check, Compile, HasImage, IsCompiling, IsOutput, IsOutputCause};
-ghost use Rattle.sc_top.specs.Prelude.{IsReading, Meaning, Run, meant};
+ghost use Rattle.sc_top.specs.Prelude.{IsReading, IsSource, Meaning, Run, meant};
 ghost use Rattle.std.specs.Prelude.{◌≡◌, IfOk, IfErr};
-ghost use Rattle.sc_types.specs.Source.{IsSource};
 ghost use Rattle.sc_report.specs.Report.{meaning_text};
 
 use crate::failure::{Failure, compile_failure};

@@ -1,8 +1,8 @@
-ghost use Rattle.sc_top.specs.Prelude.{Answers, Command, IsBounded, IsOutput, IsOutputCause, IsSilent, Says};
-ghost use Rattle.sc_top.specs.Prelude.{Tells, status_by, status_text};
+ghost use Rattle.sc_top.specs.Prelude.{Answers, Command, IsBounded, IsOutput, IsOutputCause, IsSilent, Says, Tells};
+ghost use Rattle.sc_top.specs.Prelude.{status_by, status_text};
+ghost use Rattle.sc_words.specs.Prelude.{command};
 ghost use Rattle.std.specs.Prelude.{◌≡◌, ◌≢◌, ◌⊎◌, None, Some, map, IfOk, IfErr, IsErrOf};
 ghost use Rattle.std.specs.String.{string_bytes};
-ghost use Rattle.sc_words.specs.Words.{command};
 ghost use Rattle.sc_top.specs.declared.failure.Failure.{Failure};
 ghost use Rattle.sc_top.specs.declared.status.Status.{Status};
 

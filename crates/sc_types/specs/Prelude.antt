@@ -4,9 +4,9 @@ pub use Rattle.sc_scope.specs.Prelude.{struct_names, structs_in, with_lines}
 pub use Rattle.sc_core.specs.Prelude.{most_compartments, most_exports, most_nodes, total}
 pub use Rattle.sc_types.specs.Acceptance.{Accepts, AreLow, Fails, FailsRules, FailsTyped, IsTyped}
 pub use Rattle.sc_types.specs.Counts.{counts_broken, function_lines, global_lines, head_lines, is_small, line_beyond}
-pub use Rattle.sc_types.specs.Counts.{line_of_some, lines_from, local_lines, param_small, section_lines, structs_from}
-pub use Rattle.sc_types.specs.Counts.{type_in}
-pub use Rattle.sc_types.specs.Source.{IsSource}
+pub use Rattle.sc_types.specs.Counts.{line_of_some, lines_from, local_lines, param_small, section_lines, section_nodes}
+pub use Rattle.sc_types.specs.Counts.{structs_from, type_in}
+pub use Rattle.sc_types.specs.Source.{IsSource, IsSplitInto, SourceParts}
 pub use Rattle.sc_types.specs.Starts.{AreStarts, IsKept, first_start, parts_from, source_of, start_of}
 pub use Rattle.sc_types.specs.TreeNodes.{call_nodes, decls_nodes, expr_nodes, expr_step, function_nodes, init_nodes}
 pub use Rattle.sc_types.specs.TreeNodes.{kind_nodes, kind_step, local_nodes, part_nodes, simple_nodes, stmt_nodes}

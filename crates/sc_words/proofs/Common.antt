@@ -19,7 +19,6 @@ pub use Rattle.clap.specs.Walk.{idle, long_met, more_values, nothing_held, one_o
 pub use Rattle.clap.specs.Walk.{rows_after, rows_of, settled, subcommand_met, subcommand_or_other, used, used_by_id}
 pub use Rattle.clap.specs.Walk.{walk_from, with_default, with_values}
 unfoldable pub use Rattle.clap.specs.Walk.{walked}
-pub use Rattle.clap.specs.Words.{AddsSubcommand, app_of, found_of, kind_of, with_subcommand}
 pub use Rattle.clap.specs.declared.error.kind.ErrorKind.{ErrorKind}
 pub use Rattle.std.proofs.Math.Bool.{and-false, or-false}
 pub use Rattle.std.proofs.lemmas.List.Folds.{find-append, list_any-append}
@@ -30,16 +29,12 @@ pub use Rattle.std.specs.Str.{all_ascii_digits, bytes_eq}
 pub use Rattle.std.specs.String.{string_bytes}
 pub use Rattle.sc_base.proofs.Lists.{find_passes}
 pub use Rattle.sc_base.proofs.Texts.{bytes_eq_self, same_either_way, same_text}
-pub use Rattle.sc_words.specs.Application.{IsCommandOf, IsReading, Tells, alone_rule, application, flag_text}
-pub use Rattle.sc_words.specs.Application.{shape_with, top, valued_rule}
-pub use Rattle.sc_words.specs.Numbers.{first_piece, in_front, integer, integer_list, is_comma, number_within}
-pub use Rattle.sc_words.specs.Numbers.{onto_first, pieces_behind, when_within}
-unfoldable pub use Rattle.sc_words.specs.Numbers.{integers, pieces}
-pub use Rattle.sc_words.specs.Options.{Form, Setting, Text, begins_with_hyphen, each_once, has_option, has_value}
-pub use Rattle.sc_words.specs.Options.{is_among, is_bare, more, name_and_value, named, named_option, options, value_of}
-pub use Rattle.sc_words.specs.Options.{when_complete}
-unfoldable pub use Rattle.sc_words.specs.Options.{settings}
-pub use Rattle.sc_words.specs.Words.{Values, command_with, commands, events, form_of, inputs, limit, make, make_form}
-pub use Rattle.sc_words.specs.Words.{meaning, parsed, run, text_to_show}
-unfoldable pub use Rattle.sc_words.specs.Words.{command}
+pub use Rattle.sc_words.specs.Prelude.{Form, IsCommandOf, IsReading, Setting, Tells, Text, Values, alone_rule, app_of}
+pub use Rattle.sc_words.specs.Prelude.{application, begins_with_hyphen, command_with, commands, each_once, events}
+pub use Rattle.sc_words.specs.Prelude.{first_piece, flag_text, form_of, found_of, has_option, has_value, in_front}
+pub use Rattle.sc_words.specs.Prelude.{inputs, integer, integer_list, is_among, is_bare, is_comma, kind_of, limit, make}
+pub use Rattle.sc_words.specs.Prelude.{make_form, meaning, more, name_and_value, named, named_option, number_within}
+pub use Rattle.sc_words.specs.Prelude.{onto_first, options, parsed, pieces_behind, run, shape_with, text_to_show, top}
+pub use Rattle.sc_words.specs.Prelude.{value_of, valued_rule, when_complete, when_within}
+unfoldable pub use Rattle.sc_words.specs.Prelude.{command, integers, pieces, settings}
 pub use Rattle.sc_words.specs.declared.command.Command.TheVariants.{Check, Compile, Exec, Explain, Make, Meaning, Run}

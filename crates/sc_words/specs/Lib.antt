@@ -1,3 +1,4 @@
+pub mod Prelude
 pub mod Application
 pub mod Numbers
 pub mod Options

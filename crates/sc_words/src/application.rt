@@ -1,7 +1,6 @@
+ghost use Rattle.sc_words.specs.Prelude.{IsArgumentOf, IsCommandOf, alone_rule, app_of, application, make_form, top};
+ghost use Rattle.sc_words.specs.Prelude.{valued_rule, with_values};
 ghost use Rattle.std.specs.Prelude.{◌≡◌, ◌∷◌, [], codes, true, false, IfOk};
-ghost use Rattle.clap.specs.Words.{app_of};
-ghost use Rattle.sc_words.specs.Application.{IsArgumentOf, IsCommandOf, alone_rule, application, top, valued_rule};
-ghost use Rattle.sc_words.specs.Words.{make_form, with_values};
 
 use clap::{Arg, ArgAction, Command};
 use std::alloc::{AllocError, Global};

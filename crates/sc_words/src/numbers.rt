@@ -1,5 +1,5 @@
+ghost use Rattle.sc_words.specs.Prelude.{first_piece, integer, integer_list, number_within, pieces_behind};
 ghost use Rattle.std.specs.Prelude.{◌≡◌, Some, None, IfOk, IsErrOf, length, option_map, slice_index, ◌==◌};
-ghost use Rattle.sc_words.specs.Numbers.{first_piece, integer, integer_list, number_within, pieces_behind};
 
 use crate::WordsFault;
 use sqlite_items::Items;

@@ -1,11 +1,8 @@
+ghost use Rattle.sc_words.specs.Prelude.{IsReading, command, is_bare, kind_of, parsed};
 ghost use Rattle.std.specs.Prelude.{◌≡◌, ◌≢◌, Some, None, IfOk, IsErrOf, map};
 ghost use Rattle.std.specs.List.{list_any};
 ghost use Rattle.std.specs.String.{string_bytes};
-ghost use Rattle.clap.specs.Words.{kind_of};
 ghost use Rattle.clap.specs.declared.error.kind.ErrorKind.TheVariants as kind;
-ghost use Rattle.sc_words.specs.Application.{IsReading};
-ghost use Rattle.sc_words.specs.Options.{is_bare};
-ghost use Rattle.sc_words.specs.Words.{command, parsed};
 
 use crate::application::application;
 use crate::values::command_with;

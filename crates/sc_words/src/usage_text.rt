@@ -1,5 +1,5 @@
+ghost use Rattle.sc_words.specs.Prelude.{usage_text};
 ghost use Rattle.std.specs.Prelude.{◌≡◌};
-ghost use Rattle.sc_words.specs.Usage.{usage_text};
 
 /// The commands and their options on one screen, for somebody who sees the program for the first time.
 #[tactic(auto, unfolding(crate::specs::Usage::usage_text))]

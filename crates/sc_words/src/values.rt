@@ -1,9 +1,8 @@
+ghost use Rattle.sc_words.specs.Prelude.{command_with, events, explain, flag_text, found_of, inputs, limit, make};
+ghost use Rattle.sc_words.specs.Prelude.{meaning, number_within, run, text_to_show};
 ghost use Rattle.std.specs.Prelude.{◌≡◌, Bool, true, Some, None, IfOk, IsErrOf, codes, option_and_then, option_map};
 ghost use Rattle.std.specs.Str.{bytes_eq};
-ghost use Rattle.clap.specs.Words.{first_value, found_of, one_text};
-ghost use Rattle.sc_words.specs.Application.{flag_text};
-ghost use Rattle.sc_words.specs.Numbers.{number_within};
-ghost use Rattle.sc_words.specs.Words.{command_with, events, explain, inputs, limit, make, meaning, run, text_to_show};
+ghost use Rattle.clap.specs.Words.{first_value, one_text};
 
 use crate::numbers::{read_list, read_number};
 use crate::{Command, MakeOptions, MeaningOptions, RunOptions, WordsFault};

@@ -1,6 +1,5 @@
-use Rattle.sc_alloc.proofs.Common.{Interval, IsNonDecreasingBy, IsNonDecreasingBy-from_sort_by_key, IsStableByKey, ap}
-use Rattle.sc_alloc.proofs.Common.{nat_cmp, rules, sorted_by, ◌∙◌}
-use Rattle.std.proofs.lemmas.List.Sorted.{answers_always}
+use Rattle.sc_alloc.proofs.Common.{Interval, IsNonDecreasingBy, IsNonDecreasingBy-from_sort_by_key, IsStableByKey}
+use Rattle.sc_alloc.proofs.Common.{answers_always, ap, nat_cmp, rules, sorted_by, ◌∙◌}
 use Rattle.sc_alloc.proofs.Sorting.{sorted_is}
 use Rattle.sc_alloc.proofs.places.by_start.Goals as goal
 

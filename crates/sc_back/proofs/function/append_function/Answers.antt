@@ -1,6 +1,4 @@
-use Rattle.std.proofs.Common.{codes, ap, ◌∙◌, ◌++◌}
-use Rattle.sc_back.specs.Rows.{entry_at, own_rows_text}
-use Rattle.sc_back.specs.Text.{head_text}
+use Rattle.sc_back.proofs.Common.{ap, codes, entry_at, head_text, own_rows_text, ◌++◌, ◌∙◌}
 use Rattle.sc_back.proofs.Loops.{four_pieces, own_rows}
 use Rattle.sc_back.proofs.function.append_function.Goals as goal
 

@@ -1,5 +1,4 @@
-use Rattle.std.proofs.Common.{refl}
-use Rattle.sc_back.specs.Rows.{entry_at, own_row_text, own_rows_text}
+use Rattle.sc_back.proofs.Common.{entry_at, own_row_text, own_rows_text, refl}
 use Rattle.sc_back.proofs.Loops.{stepped}
 use Rattle.sc_back.proofs.function.append_rows.Goals as goal
 

@@ -1,5 +1,4 @@
-use Rattle.std.proofs.Common.{◌≡◌, ◌++◌, drop}
-use Rattle.sc_back.specs.Rows.{entry_at, own_rows_text}
+use Rattle.sc_back.proofs.Common.{drop, entry_at, own_rows_text, ◌++◌, ◌≡◌}
 use Rattle.sc_back.proofs.function.append_rows.Given as goal
 
 -- those so far are there

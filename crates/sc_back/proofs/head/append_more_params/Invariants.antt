@@ -1,5 +1,4 @@
-use Rattle.std.proofs.Common.{◌≡◌, ◌++◌, suc, drop, flat_map}
-use Rattle.sc_back.specs.Text.{behind_comma, param_texts}
+use Rattle.sc_back.proofs.Common.{behind_comma, drop, flat_map, param_texts, suc, ◌++◌, ◌≡◌}
 use Rattle.sc_back.proofs.head.append_more_params.Given as goal
 
 -- those so far are there

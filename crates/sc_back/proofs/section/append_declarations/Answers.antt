@@ -1,5 +1,4 @@
-use Rattle.std.proofs.Common.{codes, flat_map}
-use Rattle.sc_back.specs.Text.{functions_text, main_text, proto_text}
+use Rattle.sc_back.proofs.Common.{codes, flat_map, functions_text, main_text, proto_text}
 use Rattle.sc_back.proofs.Loops.{four_pieces}
 use Rattle.sc_back.proofs.section.append_declarations.Goals as goal
 

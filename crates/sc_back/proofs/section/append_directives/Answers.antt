@@ -1,5 +1,4 @@
-use Rattle.std.proofs.Common.{codes, flat_map}
-use Rattle.sc_back.specs.Text.{export_text, import_text}
+use Rattle.sc_back.proofs.Common.{codes, export_text, flat_map, import_text}
 use Rattle.sc_back.proofs.Loops.{headed}
 use Rattle.sc_back.proofs.section.append_directives.Goals as goal
 

@@ -1,5 +1,4 @@
-use Rattle.std.proofs.Common.{flat_map, refl}
-use Rattle.sc_back.specs.Text.{export_text}
+use Rattle.sc_back.proofs.Common.{export_text, flat_map, refl}
 use Rattle.sc_back.proofs.Loops.{stepped}
 use Rattle.sc_back.proofs.section.append_exports.Goals as goal
 

@@ -1,5 +1,4 @@
-use Rattle.std.proofs.Common.{◌≡◌, ◌++◌, drop, flat_map}
-use Rattle.sc_back.specs.Text.{export_text}
+use Rattle.sc_back.proofs.Common.{drop, export_text, flat_map, ◌++◌, ◌≡◌}
 use Rattle.sc_back.proofs.section.append_exports.Given as goal
 
 -- those so far are there

@@ -1,5 +1,4 @@
-use Rattle.std.proofs.Common.{◌≡◌, ◌++◌, drop}
-use Rattle.sc_back.specs.Text.{functions_text}
+use Rattle.sc_back.proofs.Common.{drop, functions_text, ◌++◌, ◌≡◌}
 use Rattle.sc_back.proofs.section.append_functions.Given as goal
 
 -- those so far are there

@@ -1,5 +1,4 @@
-use Rattle.std.proofs.Common.{◌≡◌, ◌++◌, drop, flat_map}
-use Rattle.sc_back.specs.Text.{import_text}
+use Rattle.sc_back.proofs.Common.{drop, flat_map, import_text, ◌++◌, ◌≡◌}
 use Rattle.sc_back.proofs.section.append_imports.Given as goal
 
 -- those so far are there

@@ -1,5 +1,4 @@
-use Rattle.std.proofs.Common.{◌<◌, All, ap, length, map, subst, sym, ◌∙◌}
-use Rattle.sc_word.specs.Prelude.{word_of}
+use Rattle.sc_chain.proofs.Common.{All, ap, length, map, subst, sym, word_of, ◌<◌, ◌∙◌}
 use Rattle.sc_chain.proofs.ChainLoop.{at_first, at_last, at_next, fewer_next, known_next, run_of_text, sections_are}
 use Rattle.sc_chain.proofs.account.chain.Goals as goal
 

@@ -1,5 +1,4 @@
-use Rattle.std.proofs.Common.{◌-◌, length, map}
-use Rattle.sc_word.specs.Prelude.{word_of}
+use Rattle.sc_chain.proofs.Common.{length, map, word_of, ◌-◌}
 use Rattle.sc_chain.proofs.ChainFollowing.{IsAt}
 use Rattle.sc_chain.proofs.account.chain.Given as goal
 

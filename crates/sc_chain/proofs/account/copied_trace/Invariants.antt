@@ -1,4 +1,4 @@
-use Rattle.std.proofs.Common.{take, ◌≡◌}
+use Rattle.sc_chain.proofs.Common.{take, ◌≡◌}
 use Rattle.sc_chain.proofs.account.copied_trace.Given as goal
 
 abbrev pub invariant-loop-event : goal.invariant-loop-event

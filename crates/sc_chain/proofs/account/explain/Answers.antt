@@ -1,4 +1,4 @@
-use Rattle.std.proofs.Common.{◌∙◌}
+use Rattle.sc_chain.proofs.Common.{◌∙◌}
 use Rattle.sc_chain.proofs.ChainShown.{explained, shown_allowed, shown_scripted}
 use Rattle.sc_chain.proofs.account.explain.Goals as goal
 

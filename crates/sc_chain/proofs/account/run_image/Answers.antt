@@ -1,6 +1,4 @@
-use Rattle.std.proofs.Common.{◌≡◌, ◌≤◌, ◌∙◌, length, map, rules, subst, sym}
-use Rattle.sc_image.specs.Machine.{machine}
-use Rattle.sc_word.specs.Prelude.{word_of}
+use Rattle.sc_chain.proofs.Common.{length, machine, map, rules, subst, sym, word_of, ◌∙◌, ◌≡◌, ◌≤◌}
 use Rattle.sc_chain.proofs.ChainMachine.{few_events}
 use Rattle.sc_chain.proofs.account.run_image.Goals as goal
 

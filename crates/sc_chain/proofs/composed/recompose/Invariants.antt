@@ -1,5 +1,4 @@
-use Rattle.std.proofs.Common.{◌≡◌, ◌++◌}
-use Rattle.sc_chain.specs.Recompose.{joined, text_for}
+use Rattle.sc_chain.proofs.Common.{joined, text_for, ◌++◌, ◌≡◌}
 use Rattle.sc_chain.proofs.Joined.{rest_of}
 use Rattle.sc_chain.proofs.composed.recompose.Given as goal
 

@@ -1,5 +1,4 @@
-use Rattle.std.proofs.Common.{◌≡◌, drop}
-use Rattle.sc_chain.specs.Recompose.{text_for}
+use Rattle.sc_chain.proofs.Common.{drop, text_for, ◌≡◌}
 use Rattle.sc_chain.proofs.composed.text_for.Given as goal
 
 -- none of those so far is of the compartment

@@ -1,4 +1,4 @@
-use Rattle.std.proofs.Common.{arith}
+use Rattle.sc_chain.proofs.Common.{arith}
 use Rattle.sc_chain.proofs.Words.{one_more}
 use Rattle.sc_chain.proofs.replacing.have_words.Goals as goal
 

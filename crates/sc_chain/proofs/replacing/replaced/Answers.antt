@@ -1,6 +1,4 @@
-use Rattle.std.proofs.Common.{sym, ◌∙◌, subst, List, ℕ}
-use Rattle.sc_core.specs.declared.program.ProgramTree.{ProgramTree}
-use Rattle.sc_types.specs.Acceptance.{Accepts}
+use Rattle.sc_chain.proofs.Common.{Accepts, List, ProgramTree, subst, sym, ℕ, ◌∙◌}
 use Rattle.sc_chain.proofs.Recomposed.{is_accepted, is_replaced, text_so}
 use Rattle.sc_chain.proofs.replacing.replaced.Goals as goal
 

@@ -1,5 +1,4 @@
-use Rattle.std.proofs.Common.{◌≡◌, map, take}
-use Rattle.sc_chain.specs.Sections.{replacement_of}
+use Rattle.sc_chain.proofs.Common.{map, replacement_of, take, ◌≡◌}
 use Rattle.sc_chain.proofs.replacing.replacements.Given as goal
 
 -- those so far are there

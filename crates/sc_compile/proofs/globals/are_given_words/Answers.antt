@@ -1,6 +1,4 @@
-use Rattle.std.proofs.Common.{All, subst}
-use Rattle.sc_linker.proofs.Beginnings.{all_done, all_more}
-use Rattle.sc_compile.specs.Globals.{BeginAsWords, BeginsAsWords}
+use Rattle.sc_compile.proofs.Common.{All, BeginAsWords, BeginsAsWords, all_done, all_more, subst}
 use Rattle.sc_compile.proofs.globals.are_given_words.Goals as goal
 
 pub loop-section-preserved : goal.loop-section-preserved

@@ -1,5 +1,4 @@
-use Rattle.std.proofs.Common.{All, take}
-use Rattle.sc_compile.specs.Globals.{BeginAsWords}
+use Rattle.sc_compile.proofs.Common.{All, BeginAsWords, take}
 use Rattle.sc_compile.proofs.globals.are_given_words.Given as goal
 
 -- those so far do

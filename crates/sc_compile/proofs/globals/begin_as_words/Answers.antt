@@ -1,6 +1,4 @@
-use Rattle.std.proofs.Common.{All, subst, ◌<◌, ◌^◌}
-use Rattle.sc_linker.proofs.Beginnings.{all_done, all_more}
-use Rattle.sc_compile.specs.Globals.{BeginsAsWords}
+use Rattle.sc_compile.proofs.Common.{All, BeginsAsWords, all_done, all_more, subst, ◌<◌, ◌^◌}
 use Rattle.sc_compile.proofs.globals.begin_as_words.Goals as goal
 
 pub loop-global-preserved : goal.loop-global-preserved

@@ -1,5 +1,4 @@
-use Rattle.std.proofs.Common.{All, take}
-use Rattle.sc_compile.specs.Globals.{BeginsAsWords}
+use Rattle.sc_compile.proofs.Common.{All, BeginsAsWords, take}
 use Rattle.sc_compile.proofs.globals.begin_as_words.Given as goal
 
 -- those so far do

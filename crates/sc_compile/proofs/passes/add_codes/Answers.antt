@@ -1,5 +1,4 @@
-use Rattle.sc_linker.proofs.Beginnings.{all_done, all_more}
-use Rattle.sc_compile.specs.Passes.{EmitsSo}
+use Rattle.sc_compile.proofs.Common.{EmitsSo, all_done, all_more}
 use Rattle.sc_compile.proofs.Emitting.{one_more_code}
 use Rattle.sc_compile.proofs.passes.add_codes.Goals as goal
 

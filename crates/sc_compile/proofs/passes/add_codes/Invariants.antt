@@ -1,6 +1,4 @@
-use Rattle.std.proofs.Common.{All, map, take, ◌++◌, ◌≡◌}
-use Rattle.sc_compile.specs.Image.{function_code}
-use Rattle.sc_compile.specs.Passes.{EmitsSo}
+use Rattle.sc_compile.proofs.Common.{All, EmitsSo, function_code, map, take, ◌++◌, ◌≡◌}
 use Rattle.sc_compile.proofs.passes.add_codes.Given as goal
 
 -- those so far have their codes

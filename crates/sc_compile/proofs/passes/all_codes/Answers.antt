@@ -1,6 +1,4 @@
-use Rattle.std.proofs.Common.{All, subst}
-use Rattle.sc_linker.proofs.Beginnings.{all_done, all_more}
-use Rattle.sc_compile.specs.Passes.{EmitsAll, EmitsSo}
+use Rattle.sc_compile.proofs.Common.{All, EmitsAll, EmitsSo, all_done, all_more, subst}
 use Rattle.sc_compile.proofs.Emitting.{one_more_section}
 use Rattle.sc_compile.proofs.passes.all_codes.Goals as goal
 

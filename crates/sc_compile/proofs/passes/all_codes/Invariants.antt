@@ -1,6 +1,4 @@
-use Rattle.std.proofs.Common.{All, flat_map, take, ◌≡◌}
-use Rattle.sc_compile.specs.Image.{section_codes}
-use Rattle.sc_compile.specs.Passes.{EmitsAll}
+use Rattle.sc_compile.proofs.Common.{All, EmitsAll, flat_map, section_codes, take, ◌≡◌}
 use Rattle.sc_compile.proofs.passes.all_codes.Given as goal
 
 -- those so far have their codes

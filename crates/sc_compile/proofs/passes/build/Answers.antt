@@ -1,7 +1,4 @@
-use Rattle.std.proofs.Common.{All, ap, subst, sym, ◌∙◌}
-use Rattle.sc_linker.specs.Laws.{AreGivenWords}
-use Rattle.sc_linker.specs.Linkable.{IsLinkable}
-use Rattle.sc_compile.specs.Passes.{FitAll}
+use Rattle.sc_compile.proofs.Common.{All, AreGivenWords, FitAll, IsLinkable, ap, subst, sym, ◌∙◌}
 use Rattle.sc_compile.proofs.Building.{image_is, may_link, whole_compiled}
 use Rattle.sc_compile.proofs.Counted.{all_fit, sections_are}
 use Rattle.sc_compile.proofs.passes.build.Goals as goal

@@ -1,6 +1,5 @@
-use Rattle.std.proofs.Common.{All, IfErr, IfOk, List, None, Some, ap, length, subst, sym, ◌∙◌, ◌≡◌, ◌≤◌}
-use Rattle.sc_tac.specs.declared.program.TacSection.{TacSection}
-use Rattle.sc_compile.specs.Counting.{IsCounted, counted_all}
+use Rattle.sc_compile.proofs.Common.{All, IfErr, IfOk, IsCounted, List, None, Some, TacSection, ap, counted_all, length}
+use Rattle.sc_compile.proofs.Common.{subst, sym, ◌∙◌, ◌≡◌, ◌≤◌}
 use Rattle.sc_compile.proofs.Counted.{are_counted, counted_is, few_sections, sections_are}
 use Rattle.sc_compile.proofs.passes.check.Goals as goal
 

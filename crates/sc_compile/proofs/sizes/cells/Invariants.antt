@@ -1,6 +1,4 @@
-use Rattle.std.proofs.Common.{drop, map, ◌+◌, ◌≡◌}
-use Rattle.sc_core.specs.Prelude.{cells_of, total}
-use Rattle.sc_core.specs.declared.section.TypedGlobal.{TypedGlobal}
+use Rattle.sc_compile.proofs.Common.{TypedGlobal, cells_of, drop, map, total, ◌+◌, ◌≡◌}
 use Rattle.sc_compile.proofs.sizes.cells.Given as goal
 
 -- what is summed and what is left to sum is all

@@ -1,6 +1,4 @@
-use Rattle.std.proofs.Common.{drop, ◌≡◌}
-use Rattle.sc_compile.specs.Counting.{counted_code}
-use Rattle.sc_compile.specs.Sizes.{found_in}
+use Rattle.sc_compile.proofs.Common.{counted_code, drop, found_in, ◌≡◌}
 use Rattle.sc_compile.proofs.sizes.check_all_code.Given as goal
 
 -- those so far fit

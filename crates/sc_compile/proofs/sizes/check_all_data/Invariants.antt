@@ -1,6 +1,4 @@
-use Rattle.std.proofs.Common.{drop, ◌≡◌}
-use Rattle.sc_compile.specs.Counting.{counted_data}
-use Rattle.sc_compile.specs.Sizes.{found_in}
+use Rattle.sc_compile.proofs.Common.{counted_data, drop, found_in, ◌≡◌}
 use Rattle.sc_compile.proofs.sizes.check_all_data.Given as goal
 
 -- those so far fit

@@ -1,6 +1,4 @@
-use Rattle.std.proofs.Common.{drop, ◌≡◌}
-use Rattle.sc_compile.specs.Counting.{counted_frames}
-use Rattle.sc_compile.specs.Sizes.{found_in}
+use Rattle.sc_compile.proofs.Common.{counted_frames, drop, found_in, ◌≡◌}
 use Rattle.sc_compile.proofs.sizes.check_all_frames.Given as goal
 
 -- those so far fit

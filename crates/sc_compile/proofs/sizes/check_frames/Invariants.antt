@@ -1,5 +1,4 @@
-use Rattle.std.proofs.Common.{drop, flat_map, ◌≡◌}
-use Rattle.sc_compile.specs.Counting.{counted_frame, counted_frames}
+use Rattle.sc_compile.proofs.Common.{counted_frame, counted_frames, drop, flat_map, ◌≡◌}
 use Rattle.sc_compile.proofs.sizes.check_frames.Given as goal
 
 -- those so far fit

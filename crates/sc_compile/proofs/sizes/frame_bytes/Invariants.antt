@@ -1,5 +1,4 @@
-use Rattle.std.proofs.Common.{drop, ◌+◌, ◌≡◌}
-use Rattle.sc_core.specs.Prelude.{total}
+use Rattle.sc_compile.proofs.Common.{drop, total, ◌+◌, ◌≡◌}
 use Rattle.sc_compile.proofs.sizes.frame_bytes.Given as goal
 
 -- what is summed and what is left to sum is all

@@ -1,6 +1,4 @@
-use Rattle.std.proofs.Common.{drop, map, ◌+◌, ◌≡◌}
-use Rattle.sc_core.specs.Prelude.{total}
-use Rattle.sc_tac.specs.declared.function.TacFnTree.{TacFnTree}
+use Rattle.sc_compile.proofs.Common.{TacFnTree, drop, map, total, ◌+◌, ◌≡◌}
 use Rattle.sc_compile.proofs.sizes.nodes.Given as goal
 
 -- what is summed and what is left to sum is all

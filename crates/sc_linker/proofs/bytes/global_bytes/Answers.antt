@@ -1,6 +1,4 @@
-use Rattle.std.proofs.Common.{ap, arith, flat_map, length, take_all, ◌∙◌}
-use Rattle.byteorder.specs.Endian.{little_bytes}
-use Rattle.sc_linker.specs.Sections.{initial_words}
+use Rattle.sc_linker.proofs.Common.{ap, arith, flat_map, initial_words, length, little_bytes, take_all, ◌∙◌}
 use Rattle.sc_linker.proofs.Zeros.{words_are}
 use Rattle.sc_linker.proofs.bytes.global_bytes.Goals as goal
 

@@ -1,6 +1,4 @@
-use Rattle.std.proofs.Common.{flat_map, take, ◌≡◌}
-use Rattle.byteorder.specs.Endian.{little_bytes}
-use Rattle.sc_linker.specs.Sections.{initial_words}
+use Rattle.sc_linker.proofs.Common.{flat_map, initial_words, little_bytes, take, ◌≡◌}
 use Rattle.sc_linker.proofs.bytes.global_bytes.Given as goal
 
 abbrev pub invariant-loop-global : goal.invariant-loop-global

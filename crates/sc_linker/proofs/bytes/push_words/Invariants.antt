@@ -1,5 +1,4 @@
-use Rattle.std.proofs.Common.{flat_map, take, ◌++◌, ◌≡◌}
-use Rattle.byteorder.specs.Endian.{little_bytes}
+use Rattle.sc_linker.proofs.Common.{flat_map, little_bytes, take, ◌++◌, ◌≡◌}
 use Rattle.sc_linker.proofs.bytes.push_words.Given as goal
 
 abbrev pub invariant-loop-word : goal.invariant-loop-word

@@ -1,5 +1,4 @@
-use Rattle.std.proofs.Common.{flat_map, replicate, ◌++◌, ◌≡◌}
-use Rattle.byteorder.specs.Endian.{little_bytes}
+use Rattle.sc_linker.proofs.Common.{flat_map, little_bytes, replicate, ◌++◌, ◌≡◌}
 use Rattle.sc_linker.proofs.bytes.push_zeros.Given as goal
 
 abbrev pub invariant-loop : goal.invariant-loop

@@ -1,8 +1,4 @@
-use Rattle.std.proofs.Common.{All, arith, subst}
-use Rattle.std.proofs.lemmas.Grind.{common_steps}
-use Rattle.rv_code.specs.Prelude.{IsInstr}
-use Rattle.sc_tac.specs.declared.machine_code.CodeTree.{CodeTree}
-use Rattle.sc_linker.specs.Laws.{IsWhole}
+use Rattle.sc_linker.proofs.Common.{All, CodeTree, IsInstr, IsWhole, arith, common_steps, subst}
 use Rattle.sc_linker.proofs.Beginnings.{all_done, all_more}
 use Rattle.sc_linker.proofs.code.push_codes.Goals as goal
 

@@ -1,9 +1,5 @@
-use Rattle.std.proofs.Common.{All, drop, map, take, ◌++◌, ◌≡◌}
-use Rattle.rv_code.specs.Prelude.{word_of}
-use Rattle.sc_linker.specs.Image.{linked_codes}
-use Rattle.sc_linker.specs.Laws.{IsWhole}
-use Rattle.sc_linker.specs.Layout.{instructions}
-use Rattle.sc_linker.specs.Sections.{HasRoom, addresses_of}
+use Rattle.sc_linker.proofs.Common.{All, HasRoom, IsWhole, addresses_of, drop, instructions, linked_codes, map, take}
+use Rattle.sc_linker.proofs.Common.{word_of, ◌++◌, ◌≡◌}
 use Rattle.sc_linker.proofs.code.push_codes.Given as goal
 
 -- the codes from this one on stand at `next`

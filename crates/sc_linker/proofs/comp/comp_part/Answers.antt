@@ -1,5 +1,4 @@
-use Rattle.std.proofs.Common.{ap, ◌∙◌}
-use Rattle.sc_linker.specs.Layout.{codes_in}
+use Rattle.sc_linker.proofs.Common.{ap, codes_in, ◌∙◌}
 use Rattle.sc_linker.proofs.Fitting.{few_exports, globals_keep, section_links, structs_keep, within}
 use Rattle.sc_linker.proofs.comp.comp_part.Goals as goal
 

@@ -1,7 +1,4 @@
-use Rattle.std.proofs.Common.{IsTrue, arith}
-use Rattle.std.proofs.lemmas.Grind.{common_steps}
-use Rattle.sc_base.specs.Prelude.{is_name}
-use Rattle.sc_event.specs.declared.interface.Proto.{Proto}
+use Rattle.sc_linker.proofs.Common.{IsTrue, Proto, arith, common_steps, is_name}
 use Rattle.sc_linker.proofs.Beginnings.{all_done, all_more}
 use Rattle.sc_linker.proofs.comp.export_parts.Goals as goal
 

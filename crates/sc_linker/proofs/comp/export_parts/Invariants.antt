@@ -1,7 +1,4 @@
-use Rattle.std.proofs.Common.{All, IsTrue, drop, take, ◌++◌, ◌≡◌}
-use Rattle.sc_base.specs.Prelude.{is_name}
-use Rattle.sc_event.specs.declared.interface.Proto.{Proto}
-use Rattle.sc_linker.specs.Image.{export_parts}
+use Rattle.sc_linker.proofs.Common.{All, IsTrue, Proto, drop, export_parts, is_name, take, ◌++◌, ◌≡◌}
 use Rattle.sc_linker.proofs.comp.export_parts.Given as goal
 
 -- the exports from this one on are left

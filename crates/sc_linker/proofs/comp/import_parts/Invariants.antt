@@ -1,5 +1,4 @@
-use Rattle.std.proofs.Common.{flat_map, take, ◌≡◌}
-use Rattle.sc_linker.specs.Image.{import_part}
+use Rattle.sc_linker.proofs.Common.{flat_map, import_part, take, ◌≡◌}
 use Rattle.sc_linker.proofs.comp.import_parts.Given as goal
 
 abbrev pub invariant-loop-import : goal.invariant-loop-import

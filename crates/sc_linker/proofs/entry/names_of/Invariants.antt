@@ -1,5 +1,4 @@
-use Rattle.std.proofs.Common.{map, take, ◌≡◌}
-use Rattle.sc_core.specs.declared.section.TypedFunction.{TypedFunction}
+use Rattle.sc_linker.proofs.Common.{TypedFunction, map, take, ◌≡◌}
 use Rattle.sc_linker.proofs.entry.names_of.Given as goal
 
 abbrev pub invariant-loop-function : goal.invariant-loop-function

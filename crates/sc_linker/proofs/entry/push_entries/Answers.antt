@@ -1,6 +1,4 @@
-use Rattle.std.proofs.Common.{ap, arith, map, ◌∙◌}
-use Rattle.sc_core.specs.declared.section.TypedFunction.{TypedFunction}
-use Rattle.sc_linker.specs.Sections.{addresses_of}
+use Rattle.sc_linker.proofs.Common.{TypedFunction, addresses_of, ap, arith, map, ◌∙◌}
 use Rattle.sc_linker.proofs.Jumps.{has_function, one_jump}
 use Rattle.sc_linker.proofs.entry.push_entries.Goals as goal
 

@@ -1,7 +1,4 @@
-use Rattle.std.proofs.Common.{drop, map, ◌++◌, ◌≡◌}
-use Rattle.rv_code.specs.Prelude.{word_of}
-use Rattle.sc_linker.specs.Image.{entry_jumps}
-use Rattle.sc_linker.specs.Sections.{addresses_of}
+use Rattle.sc_linker.proofs.Common.{addresses_of, drop, entry_jumps, map, word_of, ◌++◌, ◌≡◌}
 use Rattle.sc_linker.proofs.entry.push_entries.Given as goal
 
 -- the entries from this one on are left

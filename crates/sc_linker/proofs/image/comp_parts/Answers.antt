@@ -1,11 +1,5 @@
-use Rattle.std.proofs.Common.{All, List, ap, arith, get_or, length, refl, slice_get, subst, sym, ◌<◌, ◌∙◌, ◌≡◌}
-use Rattle.std.proofs.lemmas.Option.{slice_get_read}
-use Rattle.sc_event.specs.Prelude.{comp_at}
-use Rattle.sc_event.specs.declared.interface.Interface.{Interface}
-use Rattle.sc_linker.specs.Image.{comp_part}
-use Rattle.sc_linker.specs.Laws.{IsWhole}
-use Rattle.sc_linker.specs.Layout.{codes_at}
-use Rattle.sc_linker.specs.Sections.{IsNamed}
+use Rattle.sc_linker.proofs.Common.{All, Interface, IsNamed, IsWhole, List, ap, arith, codes_at, comp_at, comp_part}
+use Rattle.sc_linker.proofs.Common.{get_or, length, refl, slice_get, slice_get_read, subst, sym, ◌<◌, ◌∙◌, ◌≡◌}
 use Rattle.sc_linker.proofs.Beginnings.{all_done, all_more}
 use Rattle.sc_linker.proofs.Compartments.{all_named, few_numbers, one_comp, one_whole, same_count, whole_codes}
 use Rattle.sc_linker.proofs.image.comp_parts.Goals as goal

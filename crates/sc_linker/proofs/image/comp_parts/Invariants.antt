@@ -1,8 +1,4 @@
-use Rattle.std.proofs.Common.{All, drop, take, ℕ, ◌++◌, ◌<◌, ◌≡◌}
-use Rattle.sc_linker.specs.Image.{comp_parts}
-use Rattle.sc_linker.specs.Laws.{IsWhole}
-use Rattle.sc_linker.specs.Layout.{codes_at}
-use Rattle.sc_linker.specs.Sections.{IsNamed}
+use Rattle.sc_linker.proofs.Common.{All, IsNamed, IsWhole, codes_at, comp_parts, drop, take, ℕ, ◌++◌, ◌<◌, ◌≡◌}
 use Rattle.sc_linker.proofs.image.comp_parts.Given as goal
 
 -- the compartments before this one are linked

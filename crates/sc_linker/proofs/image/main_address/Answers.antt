@@ -1,5 +1,4 @@
-use Rattle.std.proofs.Common.{ap, arith, sym, ◌∙◌, ◌≤◌, length}
-use Rattle.sc_linker.specs.Layout.{codes_in}
+use Rattle.sc_linker.proofs.Common.{ap, arith, codes_in, length, sym, ◌∙◌, ◌≤◌}
 use Rattle.sc_linker.proofs.MainAddress.{few_of_main, main_begins, main_in, main_known, not_begun}
 use Rattle.sc_linker.proofs.image.main_address.Goals as goal
 

@@ -1,6 +1,4 @@
-use Rattle.std.proofs.Common.{arith, length, take_all, subst, All, ◌<◌}
-use Rattle.std.proofs.lemmas.Grind.{common_steps}
-use Rattle.sc_tac.specs.declared.machine_code.CodeTree.{CodeTree}
+use Rattle.sc_linker.proofs.Common.{All, CodeTree, arith, common_steps, length, subst, take_all, ◌<◌}
 use Rattle.sc_linker.proofs.Beginnings.{all_more}
 use Rattle.sc_linker.proofs.layout.function_starts.Goals as goal
 

@@ -1,7 +1,5 @@
-use Rattle.std.proofs.Common.{All, drop, length, take, ◌*◌, ◌++◌, ◌+◌, ◌<◌, ◌≡◌}
-use Rattle.sc_tac.specs.declared.machine_code.CodeTree.{CodeTree}
-use Rattle.sc_linker.specs.Layout.{instructions}
-use Rattle.sc_linker.specs.Sections.{code_sizes, starts}
+use Rattle.sc_linker.proofs.Common.{All, CodeTree, code_sizes, drop, instructions, length, starts, take, ◌*◌, ◌++◌, ◌+◌}
+use Rattle.sc_linker.proofs.Common.{◌<◌, ◌≡◌}
 use Rattle.sc_linker.proofs.layout.function_starts.Given as goal
 
 -- the codes from this one on begin at `next`

@@ -1,6 +1,4 @@
-use Rattle.std.proofs.Common.{drop, ◌*◌, ◌++◌, ◌+◌, ◌≡◌}
-use Rattle.sc_linker.specs.Layout.{cells}
-use Rattle.sc_linker.specs.Sections.{global_sizes, starts}
+use Rattle.sc_linker.proofs.Common.{cells, drop, global_sizes, starts, ◌*◌, ◌++◌, ◌+◌, ◌≡◌}
 use Rattle.sc_linker.proofs.layout.global_starts.Given as goal
 
 -- the globals from this one on begin at `next`

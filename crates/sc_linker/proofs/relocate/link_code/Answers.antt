@@ -1,8 +1,5 @@
-use Rattle.std.proofs.Common.{List, ap, arith, get_or, length, length-drop, subst, ◌<◌, ◌∙◌, ◌≡◌}
-use Rattle.rv_code.specs.declared.instr.Instr.{Instr}
-use Rattle.rv_code.specs.Prelude.{IsInstr, word_of}
-use Rattle.sc_select.specs.Linking.{with_low}
-use Rattle.sc_linker.specs.Sections.{addresses_of}
+use Rattle.sc_linker.proofs.Common.{Instr, IsInstr, List, addresses_of, ap, arith, get_or, length, length-drop, subst}
+use Rattle.sc_linker.proofs.Common.{with_low, word_of, ◌<◌, ◌∙◌, ◌≡◌}
 use Rattle.sc_linker.proofs.Beginnings.{all_more}
 use Rattle.sc_linker.proofs.Relocating.{known_at, known_behind, one_linked, room_behind}
 use Rattle.sc_linker.proofs.relocate.link_code.Goals as goal

@@ -1,7 +1,5 @@
-use Rattle.std.proofs.Common.{All, drop, length, map, take, ◌++◌, ◌≡◌, ◌≤◌}
-use Rattle.rv_code.specs.Prelude.{IsInstr, word_of}
-use Rattle.sc_select.specs.Linking.{linked, linked_from}
-use Rattle.sc_linker.specs.Sections.{AreKnown, HasRoom, addresses_of}
+use Rattle.sc_linker.proofs.Common.{All, AreKnown, HasRoom, IsInstr, addresses_of, drop, length, linked, linked_from}
+use Rattle.sc_linker.proofs.Common.{map, take, word_of, ◌++◌, ◌≡◌, ◌≤◌}
 use Rattle.sc_linker.proofs.relocate.link_code.Given as goal
 
 -- the instructions from this one on stand at `pc`

@@ -1,7 +1,4 @@
-use Rattle.std.proofs.Common.{drop, length, map, ◌≡◌}
-use Rattle.sc_core.specs.Prelude.{total}
-use Rattle.sc_core.specs.declared.section.TypedSection.{TypedSection}
-use Rattle.sc_linker.specs.Layout.{codes_in}
+use Rattle.sc_linker.proofs.Common.{TypedSection, codes_in, drop, length, map, total, ◌≡◌}
 use Rattle.sc_linker.proofs.sections.codes_in.Given as goal
 
 -- the sections from this one on have the codes that are left

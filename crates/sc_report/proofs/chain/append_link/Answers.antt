@@ -1,5 +1,4 @@
-use Rattle.sc_report.proofs.Common.{ap, codes, link_end, ◌++◌, ◌∙◌}
-use Rattle.sc_event.specs.Prelude.{comp_name}
+use Rattle.sc_report.proofs.Common.{ap, codes, comp_name, link_end, ◌++◌, ◌∙◌}
 use Rattle.sc_report.proofs.Pieces.{three_pieces}
 use Rattle.sc_report.proofs.chain.append_link.Goals as goal
 

@@ -1,8 +1,5 @@
-use Rattle.sc_report.proofs.Common.{ap, ◌++◌, ◌+◌, ◌∙◌, ◌≡◌}
-use Rattle.std.proofs.Common.{arith, suc}
+use Rattle.sc_report.proofs.Common.{ap, arith, call_text, call_with, state_at, suc, ◌++◌, ◌+◌, ◌∙◌, ◌≡◌}
 use Rattle.sc_report.proofs.Counting.{number_turn}
-use Rattle.sc_report.specs.Making.{call_with, state_at}
-use Rattle.sc_made.specs.Text.{call_text}
 use Rattle.sc_report.proofs.make.append_calls.Goals as goal
 
 pub loop-j-preserved : goal.loop-j-preserved

@@ -1,6 +1,4 @@
-use Rattle.sc_report.proofs.Common.{flat_map, ◌++◌, ◌≡◌}
-use Rattle.sc_made.specs.Text.{call_text, numbers_from}
-use Rattle.sc_report.specs.Making.{state_at}
+use Rattle.sc_report.proofs.Common.{call_text, flat_map, numbers_from, state_at, ◌++◌, ◌≡◌}
 use Rattle.sc_report.proofs.make.append_calls.Given as goal
 
 abbrev pub invariant-loop-j : goal.invariant-loop-j

@@ -1,8 +1,5 @@
-use Rattle.sc_report.proofs.Common.{ap, sym, ◌∙◌}
-use Rattle.std.proofs.Common.{eq-eqb, ne_eqb}
-use Rattle.std.specs.Prelude.{◌%◌, nat_eq}
+use Rattle.sc_report.proofs.Common.{ap, eq-eqb, export_text, nat_eq, ne_eqb, sym, workers, ◌%◌, ◌∙◌}
 use Rattle.sc_report.proofs.Counting.{chosen_turn, passed_turn}
-use Rattle.sc_made.specs.Text.{export_text, workers}
 use Rattle.sc_report.proofs.make.append_exports.Goals as goal
 use Rattle.sc_report.proofs.make.append_exports.Goals.{then-j-workers+in_ok-append_export, else-j-workers}
 

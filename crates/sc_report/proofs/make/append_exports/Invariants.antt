@@ -1,6 +1,4 @@
-use Rattle.sc_report.proofs.Common.{flat_map, ◌++◌, ◌≡◌}
-use Rattle.std.specs.Prelude.{◌%◌, filter, nat_eq}
-use Rattle.sc_made.specs.Text.{export_text, numbers_from, workers}
+use Rattle.sc_report.proofs.Common.{export_text, filter, flat_map, nat_eq, numbers_from, workers, ◌%◌, ◌++◌, ◌≡◌}
 use Rattle.sc_report.proofs.make.append_exports.Given as goal
 
 abbrev pub invariant-loop-j : goal.invariant-loop-j

@@ -1,9 +1,6 @@
-use Rattle.sc_report.proofs.Common.{ap, sym, ◌++◌, ◌+◌, ◌∙◌, ◌≡◌}
-use Rattle.std.proofs.Common.{arith, eq-eqb, ne_eqb, suc}
-use Rattle.std.specs.Prelude.{◌%◌, nat_eq}
+use Rattle.sc_report.proofs.Common.{ap, arith, eq-eqb, function_text, function_with, nat_eq, ne_eqb, state_at, suc, sym}
+use Rattle.sc_report.proofs.Common.{workers, ◌%◌, ◌++◌, ◌+◌, ◌∙◌, ◌≡◌}
 use Rattle.sc_report.proofs.Counting.{chosen_turn, passed_turn}
-use Rattle.sc_report.specs.Making.{function_with, state_at}
-use Rattle.sc_made.specs.Text.{function_text, workers}
 use Rattle.sc_report.proofs.make.append_functions.Goals as goal
 use Rattle.sc_report.proofs.make.append_functions.Goals.{then-j-workers+in_ok-append_function, else-j-workers}
 

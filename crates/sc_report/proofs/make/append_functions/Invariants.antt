@@ -1,7 +1,5 @@
-use Rattle.sc_report.proofs.Common.{flat_map, ◌++◌, ◌≡◌}
-use Rattle.std.specs.Prelude.{◌%◌, filter, nat_eq}
-use Rattle.sc_made.specs.Text.{function_text, numbers_from, workers}
-use Rattle.sc_report.specs.Making.{state_at}
+use Rattle.sc_report.proofs.Common.{filter, flat_map, function_text, nat_eq, numbers_from, state_at, workers, ◌%◌, ◌++◌}
+use Rattle.sc_report.proofs.Common.{◌≡◌}
 use Rattle.sc_report.proofs.make.append_functions.Given as goal
 
 abbrev pub invariant-loop-j : goal.invariant-loop-j

@@ -1,5 +1,5 @@
+use Rattle.sc_report.proofs.Common.{import_text}
 use Rattle.sc_report.proofs.Counting.{number_turn}
-use Rattle.sc_made.specs.Text.{import_text}
 use Rattle.sc_report.proofs.make.append_imports.Goals as goal
 
 pub loop-j-preserved : goal.loop-j-preserved

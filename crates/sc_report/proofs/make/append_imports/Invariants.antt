@@ -1,5 +1,4 @@
-use Rattle.sc_report.proofs.Common.{flat_map, ◌++◌, ◌≡◌}
-use Rattle.sc_made.specs.Text.{import_text, numbers_from}
+use Rattle.sc_report.proofs.Common.{flat_map, import_text, numbers_from, ◌++◌, ◌≡◌}
 use Rattle.sc_report.proofs.make.append_imports.Given as goal
 
 abbrev pub invariant-loop-j : goal.invariant-loop-j

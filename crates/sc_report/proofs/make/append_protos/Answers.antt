@@ -1,5 +1,5 @@
+use Rattle.sc_report.proofs.Common.{proto_text}
 use Rattle.sc_report.proofs.Counting.{number_turn}
-use Rattle.sc_made.specs.Text.{proto_text}
 use Rattle.sc_report.proofs.make.append_protos.Goals as goal
 
 pub loop-j-preserved : goal.loop-j-preserved

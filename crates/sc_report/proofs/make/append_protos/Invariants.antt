@@ -1,5 +1,4 @@
-use Rattle.sc_report.proofs.Common.{flat_map, ◌++◌, ◌≡◌}
-use Rattle.sc_made.specs.Text.{proto_text, numbers_from}
+use Rattle.sc_report.proofs.Common.{flat_map, numbers_from, proto_text, ◌++◌, ◌≡◌}
 use Rattle.sc_report.proofs.make.append_protos.Given as goal
 
 abbrev pub invariant-loop-j : goal.invariant-loop-j

@@ -1,5 +1,5 @@
+use Rattle.sc_report.proofs.Common.{worker_text}
 use Rattle.sc_report.proofs.Counting.{number_turn}
-use Rattle.sc_made.specs.Text.{worker_text}
 use Rattle.sc_report.proofs.make.append_workers.Goals as goal
 
 pub loop-worker-preserved : goal.loop-worker-preserved

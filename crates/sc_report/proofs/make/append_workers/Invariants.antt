@@ -1,5 +1,4 @@
-use Rattle.sc_report.proofs.Common.{flat_map, ◌++◌, ◌≡◌}
-use Rattle.sc_made.specs.Text.{worker_text, numbers_from}
+use Rattle.sc_report.proofs.Common.{flat_map, numbers_from, worker_text, ◌++◌, ◌≡◌}
 use Rattle.sc_report.proofs.make.append_workers.Given as goal
 
 abbrev pub invariant-loop-worker : goal.invariant-loop-worker

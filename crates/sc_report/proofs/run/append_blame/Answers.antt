@@ -1,5 +1,4 @@
-use Rattle.sc_report.proofs.Common.{codes}
-use Rattle.sc_report.specs.Report.{cause_end}
+use Rattle.sc_report.proofs.Common.{cause_end, codes}
 use Rattle.sc_report.proofs.Pieces.{three_pieces}
 use Rattle.sc_report.proofs.run.append_blame.Goals as goal
 

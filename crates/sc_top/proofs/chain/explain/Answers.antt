@@ -1,8 +1,6 @@
-use Rattle.sc_top.proofs.Common.{Explain, refl, rules}
+use Rattle.sc_top.proofs.Common.{Explain, map, refl, rules, word_of}
 use Rattle.sc_top.proofs.Outputs.{compiled_cause}
 use Rattle.sc_top.proofs.Chains.{explained_perform}
-use Rattle.sc_word.specs.Prelude.{word_of}
-use Rattle.std.specs.Prelude.{map}
 use Rattle.sc_top.proofs.chain.explain.Goals as goal
 
 pub account-requires-clause-performing : goal.account-requires-clause-performing

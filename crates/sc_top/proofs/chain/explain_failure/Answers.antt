@@ -1,5 +1,4 @@
-use Rattle.sc_top.proofs.Common.{Interfaces, IsCompiling, IsNamed, ap, inl, of_compile_fault, subst, sym, ◌∙◌}
-use Rattle.sc_chain.specs.Faults.{IsFault}
+use Rattle.sc_top.proofs.Common.{Interfaces, IsCompiling, IsFault, IsNamed, ap, inl, of_compile_fault, subst, sym, ◌∙◌}
 use Rattle.sc_top.proofs.Large.{named_fault, why_not_compiled}
 use Rattle.sc_top.proofs.chain.explain_failure.Goals as goal
 

@@ -1,6 +1,5 @@
-use Rattle.sc_top.proofs.Common.{ProgramTree, ap, subst, sym, ◌∙◌}
+use Rattle.sc_top.proofs.Common.{IsAccepted, ProgramTree, ap, subst, sym, ◌∙◌}
 use Rattle.sc_top.proofs.Made.{summary_result}
-use Rattle.sc_made.specs.Laws.{IsAccepted}
 use Rattle.sc_top.proofs.make.summary.Goals as goal
 
 pub read_made-requires : goal.read_made-requires

@@ -1,8 +1,8 @@
-use Rattle.sc_words.proofs.Common.{AddsSubcommand, App, Form, IfOk-weaker, IsCommandOf, List, Shape, Text, [], ap}
-use Rattle.sc_words.proofs.Common.{app_of, ap₂, codes, false, make_form, shape_with, top, with_subcommand, ◌++◌, ◌∙◌}
-use Rattle.sc_words.proofs.Common.{◌∷◌, ◌≡◌}
+use Rattle.sc_words.proofs.Common.{App, Form, IfOk-weaker, IsCommandOf, List, Shape, Text, [], ap, app_of, ap₂, codes}
+use Rattle.sc_words.proofs.Common.{false, make_form, shape_with, top, ◌++◌, ◌∙◌, ◌∷◌, ◌≡◌}
+use Rattle.sc_words.specs.Prelude.{with_values}
+use Rattle.clap.specs.Words.{AddsSubcommand, with_subcommand}
 use Rattle.clap.specs.declared.builder.command.Command.{Command}
-use Rattle.sc_words.specs.Words.{with_values}
 use Rattle.sc_words.proofs.application.application.Goals as goal
 
 -- one command more

@@ -1,8 +1,6 @@
-use Rattle.sc_alloc.proofs.Common.{IsHeap, IsPermutation, Some, get_or, heap_items, heap_len, length, rules, slice_get}
-use Rattle.sc_alloc.proofs.Common.{soonest_first, subst, sym, ◌<◌, ◌∷◌, ◌≡◌}
-use Rattle.std.specs.declared.cmp.Reverse.{Reverse}
-use Rattle.std.proofs.lemmas.List.Elements.{All-from_recursion}
-use Rattle.sc_alloc.specs.declared.slots.SlotEnd.{SlotEnd}
+use Rattle.sc_alloc.proofs.Common.{All-from_recursion, IsHeap, IsPermutation, Reverse, SlotEnd, Some, get_or}
+use Rattle.sc_alloc.proofs.Common.{heap_items, heap_len, length, rules, slice_get, soonest_first, subst, sym, ◌<◌, ◌∷◌}
+use Rattle.sc_alloc.proofs.Common.{◌≡◌}
 use Rattle.sc_alloc.proofs.FreeSlots.{popped, taken}
 use Rattle.sc_alloc.proofs.SoonestSlot.{IsTop, late, left, soonest_is}
 use Rattle.sc_alloc.proofs.slots.Slots.take_free.Goals as goal

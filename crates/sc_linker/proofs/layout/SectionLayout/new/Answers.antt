@@ -1,5 +1,4 @@
-use Rattle.std.proofs.Common.{All, arith, subst, sym}
-use Rattle.sc_linker.specs.Sections.{IsCodeAddress}
+use Rattle.sc_linker.proofs.Common.{All, IsCodeAddress, arith, subst, sym}
 use Rattle.sc_linker.proofs.Beginnings.{starts_in_code}
 use Rattle.sc_linker.proofs.layout.SectionLayout.new.Goals as goal
 

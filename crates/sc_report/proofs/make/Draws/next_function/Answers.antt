@@ -1,6 +1,4 @@
-use Rattle.sc_report.proofs.Common.{ap, ◌∙◌, ◌≡◌}
-use Rattle.std.proofs.Common.{arith, suc, ◌*◌, ◌/◌}
-use Rattle.sc_made.specs.Text.{next_state, state_after}
+use Rattle.sc_report.proofs.Common.{ap, arith, next_state, state_after, suc, ◌*◌, ◌/◌, ◌∙◌, ◌≡◌}
 use Rattle.sc_report.proofs.make.Draws.next_function.Goals as goal
 
 pub returns : goal.returns

@@ -1,0 +1,11 @@
+-- What this crate's contracts, its proofs and the crates above cite, passed on from one place. Declares nothing.
+pub use Rattle.sc_core.specs.Prelude.{IsWellTyped, cells_of, frame_bound, total}
+pub use Rattle.sc_compile.specs.Compiled.{HasNoTests, IsCompiled, ShowsAll, TellsOrBlames, program_nodes, test_word}
+pub use Rattle.sc_compile.specs.Counting.{IsCounted, cells_in, counted_all, counted_code, counted_data, counted_frame}
+pub use Rattle.sc_compile.specs.Counting.{counted_frames, nodes_in}
+pub use Rattle.sc_compile.specs.Globals.{BeginAsWords, BeginsAsWords}
+pub use Rattle.sc_compile.specs.Image.{IsFault, all_codes, built_image, function_code, image_of, section_codes}
+pub use Rattle.sc_compile.specs.Image.{unless_large}
+pub use Rattle.sc_compile.specs.Passes.{AreEmitted, EachEmits, EmitsAll, EmitsSo, FitAll, Fits}
+pub use Rattle.sc_compile.specs.Sizes.{above, code_bytes, data_bytes, first, found_in, frame_bytes, large_code}
+pub use Rattle.sc_compile.specs.Sizes.{large_data, large_frame, large_frames, most_frame, too_large}

@@ -1,0 +1,109 @@
+-- The names that several proofs of this crate cite, passed on from one place. Declares nothing.
+pub use Rattle.std.proofs.Common.{All, Bool, Err, IfOk, IsSome, IsTrue, List, None, Ok, Option, Result, Some, [], ap}
+pub use Rattle.std.proofs.Common.{append-nil, append_assoc, ap₂, arith, cond, eq-eqb, eqb-true, false, if◌then◌else◌}
+pub use Rattle.std.proofs.Common.{inl, inr, int_le, is_some, le-leb, le-ltb, leb-true, length, length-append, ltb-true}
+pub use Rattle.std.proofs.Common.{map, max, nat_eq, nat_le, nat_lt, ne_eqb, neg_ℤ, negsuc, not, pos, refl, rules}
+pub use Rattle.std.proofs.Common.{slice_get, subst, suc, sym, true, zero, ℕ, ℤ, ⊎_elim, ◌%◌, ◌&&◌, ◌*◌, ◌++◌, ◌+◌, ◌-ℤ◌}
+pub use Rattle.std.proofs.Common.{◌-◌, ◌/◌, ◌<◌, ◌==◌, ◌^◌, ◌||◌, ◌∙◌, ◌∷◌, ◌≡◌, ◌≢◌, ◌≤ℤ◌, ◌≤◌, ◌⊎◌}
+pub use Rattle.std.proofs.lemmas.Bool.{and_from, and_parts, cases_eq, cases_lt}
+pub use Rattle.std.proofs.lemmas.List.{length-map, map-append}
+pub use Rattle.std.proofs.lemmas.List.Elements.{All-cons, All-nil, All-tail}
+pub use Rattle.std.proofs.lemmas.Option.{same_Some, slice_get-get_or, slice_get_within}
+pub use Rattle.std.specs.List.{count_by, list_all, range_with_len}
+pub use Rattle.std.specs.Option.{unwrap_or}
+pub use Rattle.sc_base.proofs.Bools.{and_first, and_rest}
+pub use Rattle.sc_event.specs.declared.row.Entry.{Entry}
+pub use Rattle.sc_event.specs.declared.row.Entry.TheVariants.{Export, Main}
+pub use Rattle.sc_word.proofs.Words.{word_of-lt, word_of-unsigned_sub}
+pub use Rattle.sc_word.specs.Prelude.{add_word, signed_of, sub_word, word_of}
+pub use Rattle.sc_core.proofs.Induction.{Each, everywhere}
+pub use Rattle.sc_core.specs.Prelude.{Blocks, Break, Calls, Continue, Exit, Front, Function, Here, Left, Next, Piece}
+pub use Rattle.sc_core.specs.Prelude.{Reached, Return, State, Stopped, all_do, and_then, at_brace, begun, choose}
+pub use Rattle.sc_core.specs.Prelude.{closed, computed, done, is_true, leave, load, most_params, store, stored, total}
+pub use Rattle.sc_core.specs.Prelude.{with_memory, wrapping}
+pub use Rattle.sc_core.specs.declared.cause.Cause.{Cause}
+pub use Rattle.sc_core.specs.declared.expr.CallTarget.{CallTarget}
+pub use Rattle.sc_core.specs.declared.expr.CallTarget.TheVariants.{Cross, Input, Output, Own}
+pub use Rattle.sc_core.specs.declared.value.Value.{Value}
+pub use Rattle.sc_core.specs.declared.value.Value.TheVariants.{Null, Ptr, Word}
+pub use Rattle.sc_laws.proofs.Growing.{FunctionGoes, done_goes, front_same, no_turn, reached, same, stays, then_from}
+pub use Rattle.sc_laws.proofs.Growing.{then_goes, then_then}
+pub use Rattle.sc_laws.specs.Prelude.{Goes, Gone, Grown, last}
+pub use Rattle.rv_code.specs.Prelude.{IsBranchOffset, IsImmediate, IsInstr, IsJumpOffset, IsReg, IsUpper}
+pub use Rattle.rv_code.specs.declared.instr.BranchOp.TheVariants.{Bne}
+pub use Rattle.rv_code.specs.declared.instr.Instr.{Instr}
+pub use Rattle.rv_code.specs.declared.instr.Instr.TheVariants.{Branch, Ebreak, Ecall, Jal, Jalr, Load, OpImm, Store}
+pub use Rattle.rv_code.specs.declared.instr.Instr.TheVariants.{Upper}
+pub use Rattle.rv_code.specs.declared.instr.LoadOp.TheVariants.{Lw}
+pub use Rattle.rv_code.specs.declared.instr.OpImmOp.TheVariants.{Addi}
+pub use Rattle.rv_code.specs.declared.instr.StoreOp.TheVariants.{Sw}
+pub use Rattle.rv_code.specs.declared.instr.UpperOp.TheVariants.{Lui}
+pub use Rattle.sc_store.specs.Prelude.{Memory}
+pub use Rattle.sc_image.specs.Prelude.{IsWellFormed, IsWord, Traps, Walks, code_start, data_start, gate, globals_of}
+pub use Rattle.sc_image.specs.Prelude.{jalr_target, refused, stack_size, stack_top, start, start_memory, step, unless}
+unfoldable pub use Rattle.sc_image.specs.Prelude.{are_data, word_at}
+pub use Rattle.sc_image.specs.declared.parts.ImageParts.{ImageParts}
+pub use Rattle.sc_hart.proofs.Fetching.{back_at, code_is_fetched, front_at}
+pub use Rattle.sc_hart.proofs.Inside.{IsInside, code_inside}
+pub use Rattle.sc_hart.specs.Prelude.{Apart, CodeAt, Fetches, Owned, Registers, World, at, look, put_word, word}
+pub use Rattle.sc_tac.proofs.Induction.{Inside, stmt_induction}
+pub use Rattle.sc_tac.specs.Prelude.{ArePlaces, Codes, HasRoom, IsAssignment, IsClear, IsFrame, IsFunction, Lives}
+pub use Rattle.sc_tac.specs.Prelude.{Point, Set, Temps, Trail, all_true, branch_step, branches, call_does, code_does}
+pub use Rattle.sc_tac.specs.Prelude.{code_function, code_library, code_step, constant_value, counts_elements}
+pub use Rattle.sc_tac.specs.Prelude.{entry_weight, function_points, gets, has_elements, has_operands, has_words}
+pub use Rattle.sc_tac.specs.Prelude.{interval_of, intervals_of, is_one, is_place, known, live_across, live_before}
+pub use Rattle.sc_tac.specs.Prelude.{names_own_object, names_own_temps, no_temps, nothing, nothing_live, one_or_none}
+pub use Rattle.sc_tac.specs.Prelude.{operated, parts, passes_few, passes_words, plain_points, point, read, read_all}
+pub use Rattle.sc_tac.specs.Prelude.{received, register_count, return_does, row_points, same_entry, slots_of}
+pub use Rattle.sc_tac.specs.Prelude.{slots_up_to, start_of, stmt_branches, stmt_does, takes_two, trail, trail_step}
+pub use Rattle.sc_tac.specs.Prelude.{weight, with_parts, with_temp}
+pub use Rattle.sc_tac.specs.declared.frame.FrameTree.{FrameTree}
+pub use Rattle.sc_tac.specs.declared.function.TacFnTree.{TacFnTree}
+pub use Rattle.sc_tac.specs.declared.machine_code.CodeTree.{CodeTree}
+pub use Rattle.sc_tac.specs.declared.place.Place.{Place}
+pub use Rattle.sc_tac.specs.declared.place.Place.TheVariants.{Register, Slot}
+pub use Rattle.sc_tac.specs.declared.stmt.Constant.{Constant}
+pub use Rattle.sc_tac.specs.declared.stmt.TacOp.{TacOp}
+pub use Rattle.sc_tac.specs.declared.stmt.TacStmt.{TacStmt, TacStmt-F, fold-TacStmt, fold-roll-TacStmt, map-TacStmt}
+pub use Rattle.sc_tac.specs.declared.stmt.TacStmt.{roll-TacStmt}
+pub use Rattle.sc_select.specs.Prelude.{Addresses, Fits, Line, a0, a7, address_scratch, at_hand, binary_code, brought}
+pub use Rattle.sc_select.specs.Prelude.{bytes_of, call_cross, call_own, choice, closing, code_of, completed, copied}
+pub use Rattle.sc_select.specs.Prelude.{cycle, entrance, environment_call, first_scratch, followed, fork, frame_left}
+pub use Rattle.sc_select.specs.Prelude.{frame_taken, function_lines, in_order, is_named, is_short, jump_back, jump_over}
+pub use Rattle.sc_select.specs.Prelude.{keep, kept, linked, load_from, load_word, loading, low_after, lower_part}
+pub use Rattle.sc_select.specs.Prelude.{most_lines, move, moved_by, object_offset, op_code, operand, operation, pass}
+pub use Rattle.sc_select.specs.Prelude.{place_of, place_of_global, plain, plainly, put, ra, receive, referring}
+pub use Rattle.sc_select.specs.Prelude.{refers_only, register_of, relocation_of, relocations_from, result_register}
+pub use Rattle.sc_select.specs.Prelude.{return, round_begins, second_operand, second_scratch, select, select_all}
+pub use Rattle.sc_select.specs.Prelude.{select_step, slot_offset, sp, store_arguments, store_to, store_word, straight}
+pub use Rattle.sc_select.specs.Prelude.{straightly, take, take_second, taken, unary_code, upper_part, word_of_constant}
+pub use Rattle.sc_pieces.proofs.Frames.{leaves_frame, overflows, takes_frame}
+pub use Rattle.sc_pieces.proofs.Loading.{loads_long, loads_number, moves, moves_on}
+pub use Rattle.sc_pieces.proofs.NearSp.{loads_word, stores_word}
+pub use Rattle.sc_pieces.proofs.Rows.{computes, in_row, loads, look_at, looked, stores, upper, with_number}
+pub use Rattle.sc_pieces.specs.Frames.{FrameOverflows, LeavesFrame, TakesFrame, frame_raised}
+pub use Rattle.sc_pieces.specs.Pieces.{Besides, Computes, Does, IsFromSp, IsWritable, Stores}
+pub use Rattle.sc_relation.proofs.Calling.{Enters, activated, entered, is_activation, ready_entered}
+pub use Rattle.sc_relation.proofs.Following.{IsBack, back_with, comes_computed, comes_read, is_back}
+pub use Rattle.sc_relation.proofs.Frames.{each_at, is_there, object_inside, object_there, objects_apart, own_beside}
+pub use Rattle.sc_relation.proofs.Frames.{own_inside}
+pub use Rattle.sc_relation.proofs.Functions.{function_follows, overflows_entering}
+pub use Rattle.sc_relation.proofs.Jumps.{HasNoGap, break_follows, continue_follows, over}
+pub use Rattle.sc_relation.proofs.Lines.{InParts, completed_length, completed_plainly, in_parts, low_append}
+pub use Rattle.sc_relation.proofs.Lines.{low_plainly, plainly_at}
+pub use Rattle.sc_relation.proofs.Registers.{HasNoOtherUse, no_other_use, register_there}
+pub use Rattle.sc_relation.proofs.Settling.{leads_moved, moved, settled_moved}
+pub use Rattle.sc_relation.proofs.Straight.{IsLoaded, MovesOn, across_live, asked, assigned, assigned_at}
+pub use Rattle.sc_relation.proofs.Straight.{assigns_register, assigns_slot, call_from, live_plain, may_store, or_left}
+pub use Rattle.sc_relation.proofs.Straight.{or_right, overflows_from, settled_to, shows_from}
+pub use Rattle.sc_relation.proofs.Stretches.{arrives_with, comes_after, leads_less, leads_none, leads_then}
+pub use Rattle.sc_relation.proofs.Stretches.{overflows_then, overflows_with, returns_with, shows_after, shows_here}
+pub use Rattle.sc_relation.proofs.Stretches.{shows_less}
+pub use Rattle.sc_relation.specs.Prelude.{Activation, AreHeld, ArePassed, Arrives, Begins, CallGives, CallStands}
+pub use Rattle.sc_relation.specs.Prelude.{CallsFollow, Comes, ComesBack, Ends, ExitGives, Follows, FrameMatches}
+pub use Rattle.sc_relation.specs.Prelude.{FunctionFollows, FunctionGives, GivenBack, Gives, GivesValue, InPlace}
+pub use Rattle.sc_relation.specs.Prelude.{IsActivation, IsAddress, IsHeld, IsSound, Joint, Overflows, Ready, Returns}
+pub use Rattle.sc_relation.specs.Prelude.{Running, Setting, Settled, Shows, Standpoint, StandsAt, StandsFor, Starts}
+pub use Rattle.sc_relation.specs.Prelude.{ends_of, live_at, machine, of_environment, row, runs_with, seen_from}
+pub use Rattle.sc_emit.specs.Prelude.{AreReached, CodeFollows, IsEmitted, IsPlaced, calls_only, code_branches}
+pub use Rattle.sc_emit.specs.Prelude.{has_no_ebreak, is_branch, is_call, is_ebreak, names_only}
