@@ -1,5 +1,5 @@
 // Texts with one token a line: the line of a refusal names the first token with which no tree can go on.
-use crate::judge::{Row, WHOLE, judge, wrong_rows};
+use judged_texts::{Row, WHOLE, judge, wrong_rows};
 use sc_lex::{Phase, Refusal};
 use std::alloc::Global;
 use std::test::Fail;

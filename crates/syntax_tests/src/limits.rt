@@ -1,5 +1,5 @@
 // The limits, by texts that are built.
-use crate::judge::judge;
+use judged_texts::judge;
 use sc_lex::{Phase, Refusal};
 use std::alloc::Global;
 use std::test::Fail;

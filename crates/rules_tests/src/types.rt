@@ -1,6 +1,5 @@
 // The rules of types.
-use crate::judge::{DECLARATIONS, Row, WHOLE, wrong_rows};
-use crate::syntax::STATEMENTS;
+use judged_texts::{DECLARATIONS, Row, STATEMENTS, WHOLE, wrong_rows};
 use sc_lex::Phase;
 use std::test::Fail;
 

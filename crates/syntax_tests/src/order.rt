@@ -1,5 +1,5 @@
 // Each phase is taken over the whole text before the next.
-use crate::judge::judge;
+use judged_texts::judge;
 use sc_lex::{Phase, Refusal};
 use std::test::Fail;
 

@@ -1,5 +1,5 @@
 // The rules of names.
-use crate::judge::{DECLARATIONS, Row, WHOLE, wrong_rows};
+use judged_texts::{DECLARATIONS, Row, WHOLE, wrong_rows};
 use sc_lex::Phase;
 use std::test::Fail;
 

@@ -1,5 +1,5 @@
 // The grammar.
-use crate::judge::{DECLARATIONS, Frame, Row, WHOLE, wrong_rows};
+use judged_texts::{DECLARATIONS, Row, STATEMENTS, WHOLE, wrong_rows};
 use sc_lex::Phase;
 use std::test::Fail;
 
@@ -263,21 +263,6 @@ const NOT_DECLARED: [Row; 102] = [
     (b"int f\n{\nreturn 0; }\n", Some(3)),
     (b"\nf\n(void) { return 0; }\n", Some(3)),
 ];
-
-// What each statement of a table may speak of. The statement stands in line 10.
-pub const STATEMENTS: Frame = Frame {
-    before: b"#pragma compartment Main
-struct S { int n; unsigned int m; int *q; struct S *next; int list[3]; };
-struct T { int n; struct S inner; };
-void nothing(void) { }
-int number(int n, int *p) { return n; }
-int *place(void) { return 0; }
-struct T build(void) { }
-int main(void) {
-  int i, j, *p, *q, **pp, a[4]; unsigned int u, *r, b[4]; struct S s, *t, ss[2]; struct T v, *w;
-",
-    after: b"\n  return 0;\n}\n",
-};
 
 const STATED: [Row; 18] = [
     (b";;", None),

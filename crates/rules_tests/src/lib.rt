@@ -1,0 +1,16 @@
+//! Texts that are accepted or refused by the rules of names, types, interfaces and numbers, with the line of each refusal.
+//! This crate has tests alone.
+#![tactic(auto)]
+
+#[cfg(test)]
+mod count;
+#[cfg(test)]
+mod interface;
+#[cfg(test)]
+mod names;
+#[cfg(test)]
+mod parts;
+#[cfg(test)]
+mod results;
+#[cfg(test)]
+mod types;
