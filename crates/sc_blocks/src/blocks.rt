@@ -1,4 +1,4 @@
-ghost use Rattle.std.specs.Prelude.{◌≡◌, ◌<◌, ◌^◌, ℕ, [], ◌∷◌, ◌++◌, length, replicate, IfOk, OnOk, OnErr, Ok, Err};
+ghost use Rattle.std.specs.Prelude.{◌≡◌, ◌<◌, ◌^◌, ℕ, [], ◌∷◌, ◌++◌, length, replicate, IfOk, IfSome, OnOk, OnErr, Ok, Err};
 ghost use Rattle.std.specs.Prelude.{MatchResult, IsTrue, slice_get};
 ghost use Rattle.sc_core.specs.declared.value.Cell.TheVariants.{Undef};
 ghost use Rattle.sc_core.specs.Memory.{with_blocks};
@@ -41,6 +41,14 @@ impl Blocks {
             alloc,
             rows: Vec::new(alloc),
         }
+    }
+
+    /// The blocks of a compartment, where it ever had one.
+    #[inline(always)]
+    pub fn row(&self, comp: CompId) -> Option<&Row>
+        ensures { IfSome result (λ row. row.now ≡ memory_of self.now comp) }
+    {
+        self.rows.get(comp.number() as usize)
     }
 
     // The row of a compartment, made where it isn't there.

@@ -8,4 +8,5 @@ mod row;
 
 pub use blocks::Blocks;
 pub use fault::BlockFault;
+pub use row::Row;
 pub use sc_core::{Cell, Pointer};

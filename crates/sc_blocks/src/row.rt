@@ -1,6 +1,6 @@
-ghost use Rattle.std.specs.Prelude.{◌≡◌, [], ◌∷◌, ◌++◌, length, OnOk, OnErr, Ok, Err, MatchResult, slice_get};
+ghost use Rattle.std.specs.Prelude.{◌≡◌, [], ◌∷◌, ◌++◌, length, OnOk, OnErr, Ok, Err, MatchResult, IfSome, slice_get};
 ghost use Rattle.std.specs.Option.{option_copied};
-ghost use Rattle.sc_core.specs.declared.value.Cell.TheVariants.{Ptr};
+ghost use Rattle.sc_core.specs.declared.value.Cell.TheVariants.{Ptr, Word};
 ghost use Rattle.sc_core.specs.Memory.{is_live, cells_at};
 ghost use Rattle.sc_blocks.specs.Cells.{block_of, stored_in};
 ghost use Rattle.sc_blocks.specs.Rows.{or_cause, cause_of, living, cleared, read_cell, load_cell, store_cell};
@@ -116,6 +116,20 @@ impl Row {
         match self.cells(place.block as usize) {
             Ok(cells) => self.read_cell(cells.get(place.index as usize)),
             Err(fault) => Err(fault),
+        }
+    }
+
+    /// The word at an index of a block, where there is one: what `load` gives there.
+    #[inline(always)]
+    pub fn word(&self, block: usize, index: usize) -> Option<u32>
+        ensures { IfSome result (λ word. load_cell self.now (Ptr (record { block = block; index = index })) ≡ Ok (Word word)) }
+    {
+        match self.blocks.get(block) {
+            Some(Some(cells)) => match cells.as_slice().get(index) {
+                Some(Cell::Word(word)) => Some(*word),
+                _ => None,
+            },
+            _ => None,
         }
     }
 

@@ -6,7 +6,6 @@ ghost use Rattle.std.specs.Prelude.{◌≡◌, [], None, IfOk};
 
 use sc_base::{OutOfMemory, Text};
 use sc_chain::{ExplainFault, Explanation, explain};
-use sc_compile::CompileFault;
 use sc_lex::TextFault;
 use sc_made::made_texts_are_accepted;
 use sc_report::{make_text, summary_text};
@@ -79,9 +78,7 @@ fn explain_made(alloc: Global, source: &SourceText) -> Result<Explanation, OutOf
 {
     match explain(alloc, source, &[], STEPS, EVENTS) {
         Ok(explanation) => Ok(explanation),
-        Err(ExplainFault::OutOfMemory | ExplainFault::CompileFault(CompileFault::OutOfMemory)) => {
-            Err(OutOfMemory)
-        }
+        Err(ExplainFault::OutOfMemory) => Err(OutOfMemory),
         // Nothing of the program is too large.
         Err(ExplainFault::CompileFault(_)) => unreachable!(),
     }

@@ -12,6 +12,7 @@ use crate::Scope;
 use crate::access::load;
 use crate::moves::{moved_back, moved_on, offset_by};
 use crate::pointers::between;
+use crate::quick::quick;
 use crate::words::{applied_one, is_true, of_bool, on_words};
 use sc_base::BinaryOp;
 use sc_blocks::Blocks;
@@ -152,8 +153,8 @@ fn joined(
     }
 }
 
-/// The place or the value of an expression, or the first cause that evaluation from left to right meets.
-pub fn evaluate(
+// The same by the whole tree.
+fn evaluate_whole(
     blocks: &Blocks,
     scope: &Scope,
     want: Want,
@@ -168,41 +169,61 @@ pub fn evaluate(
             wanted(blocks, scope, expr.ty, variable_at(scope, *variable), want)
         }
         TypedKind::Unary { op, of } => {
-            let operand = evaluate(blocks, scope, Want::Value, of.get())?;
+            let operand = evaluate_whole(blocks, scope, Want::Value, of.get())?;
             applied_one(of.get().ty.is_unsigned(), *op, operand)
         }
         TypedKind::Binary { op, left, right } => {
-            let first = evaluate(blocks, scope, Want::Value, left.get())?;
+            let first = evaluate_whole(blocks, scope, Want::Value, left.get())?;
             if let Some(value) = decided(*op, first) {
                 return Ok(value);
             }
-            let second = evaluate(blocks, scope, Want::Value, right.get())?;
+            let second = evaluate_whole(blocks, scope, Want::Value, right.get())?;
             let types = (left.get().ty, right.get().ty);
             joined(blocks, scope, *op, types, first, second)
         }
         TypedKind::Index { base, index } => {
-            let first = evaluate(blocks, scope, Want::Value, base.get())?;
-            let second = evaluate(blocks, scope, Want::Value, index.get())?;
+            let first = evaluate_whole(blocks, scope, Want::Value, base.get())?;
+            let second = evaluate_whole(blocks, scope, Want::Value, index.get())?;
             let types = (base.get().ty, index.get().ty);
             let place = at_pointer(blocks, scope, BinaryOp::Add, types, first, second)?;
             wanted(blocks, scope, expr.ty, place, want)
         }
         TypedKind::Member { base, offset } => {
-            let first = evaluate(blocks, scope, Want::Place, base.get())?;
+            let first = evaluate_whole(blocks, scope, Want::Place, base.get())?;
             let place = offset_by(blocks, *scope.comp, *offset, first)?;
             wanted(blocks, scope, expr.ty, place, want)
         }
         TypedKind::Arrow { base, offset } => {
-            let first = evaluate(blocks, scope, Want::Value, base.get())?;
+            let first = evaluate_whole(blocks, scope, Want::Value, base.get())?;
             let place = offset_by(blocks, *scope.comp, *offset, first)?;
             wanted(blocks, scope, expr.ty, place, want)
         }
         TypedKind::Deref(of) => {
-            let place = evaluate(blocks, scope, Want::Value, of.get())?;
+            let place = evaluate_whole(blocks, scope, Want::Value, of.get())?;
             wanted(blocks, scope, expr.ty, place, want)
         }
-        TypedKind::Address(of) => evaluate(blocks, scope, Want::Place, of.get()),
+        TypedKind::Address(of) => evaluate_whole(blocks, scope, Want::Place, of.get()),
     }
+}
+
+/// The place or the value of an expression, or the first cause that evaluation from left to right meets.
+pub fn evaluate(
+    blocks: &Blocks,
+    scope: &Scope,
+    want: Want,
+    expr: &TypedExpr,
+) -> Result<Value, Cause>
+    ensures { result ≡ ways c_arith scope.now.structs.now (here_of scope.now) scope.now.params expr.now want
+        (memory_of blocks.now scope.now.comp.now) }
+{
+    if let Want::Value = want {
+        if let Some(row) = blocks.row(*scope.comp) {
+            if let Some(word) = quick(row, scope, expr) {
+                return Ok(Value::Word(word));
+            }
+        }
+    }
+    evaluate_whole(blocks, scope, want, expr)
 }
 
 /// The values of expressions from left to right, or the first cause.

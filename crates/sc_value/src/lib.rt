@@ -5,6 +5,7 @@ mod access;
 mod expressions;
 mod moves;
 mod pointers;
+mod quick;
 mod standing;
 mod words;
 
