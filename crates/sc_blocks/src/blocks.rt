@@ -11,8 +11,7 @@ use crate::row::Row;
 use sc_base::OutOfMemory;
 use sc_core::{Cell, Pointer};
 use sc_event::CompId;
-use sqlite_items::Items;
-use std::alloc::{AllocError, Global};
+use std::alloc::Global;
 use std::marker::Model;
 
 /// The blocks of all compartments. Contracts see the rows of blocks, of which `memory_of` is the memory.
@@ -84,8 +83,8 @@ impl Blocks {
             with_blocks comp (memory_of self.old comp ++ living cells.now ∷ []) (memory_of self.old)) }
         ensures err { OnErr result (memory_of self.new ≡ memory_of self.old) }
     {
-        let cells = Items::from_slice(self.alloc, cells)?;
-        self.add(comp, Cells::new(cells))
+        let cells = Cells::copied(self.alloc, cells)?;
+        self.add(comp, cells)
     }
 
     /// A new block of so many cells, in which nothing was stored yet.
@@ -95,7 +94,7 @@ impl Blocks {
             with_blocks comp (memory_of self.old comp ++ living (replicate count Undef) ∷ []) (memory_of self.old)) }
         ensures err { OnErr result (memory_of self.new ≡ memory_of self.old) }
     {
-        let cells = blank(self.alloc, count)?;
+        let cells = Cells::blank(self.alloc, count)?;
         self.add(comp, cells)
     }
 
@@ -161,12 +160,4 @@ impl Blocks {
         let row = &mut self.rows[comp.number() as usize];
         row.store(place, value)
     }
-}
-
-// So many cells in which nothing was stored yet.
-fn blank(alloc: Global, count: u32) -> Result<Cells, AllocError>
-    ensures { IfOk result (λ cells. cells ≡ replicate count Undef) }
-{
-    let cells = Vec::from_elem(alloc, Cell::Undef, count as usize)?;
-    Ok(Cells::new(Items::from_vec(cells)))
 }
