@@ -1,9 +1,10 @@
 #!/bin/sh
-# Times the machine on three endless loops of 16,777,216 steps and on one of 1,048,576 calls of another compartment, and
-# qemu-riscv32 on the first three where it is installed.
+# Times the machine, over pages and over flat memory, on three endless loops of 16,777,216 steps and on one of 1,048,576
+# calls of another compartment, and qemu-riscv32 on the first three where it is installed.
 # Usage: bench/machine.sh [FOLDER]. FOLDER (by default a new one) gets a copy of the machine's crates and a program over
 # them, which is proved and built there; that takes minutes the first time.
-# It prints, for each loop, instructions per second of the machine, of qemu-riscv32, and the ratio of the two.
+# It prints, for each loop, instructions per second of the machine over pages, which the program runs on, and over flat
+# memory, the ratio of the two, instructions per second of qemu-riscv32, and the ratio of pages to that.
 set -e
 top=$(cd "$(dirname "$0")/.." && pwd)
 work=${1:-$(mktemp -d)}
@@ -20,7 +21,7 @@ cp "$top/bench/machine_pair_answers.txt" "$work/crates/bench_machine/proofs/pair
 python3 "$top/bench/riscv_loops.py" "$work/loops"
 for run in 1 2 3; do
     "$work/crates/bench_machine/out/bench_machine"
-done | sort -k1,1 -k3,3n | awk '!seen[$1]++ { printf "%s %.0f\n", $1, $2 / $3 * 1e9 }' > "$work/machine"
+done | sort -k1,2 -k4,4n | awk '!seen[$1 " " $2]++ { printf "%s %s %.0f\n", $1, $2, $3 / $4 * 1e9 }' > "$work/machine"
 : > "$work/qemu"
 if command -v qemu-riscv32 > /dev/null; then
     while read -r loop count; do
@@ -34,5 +35,8 @@ if command -v qemu-riscv32 > /dev/null; then
     done < "$work/loops/counts" | sort -k1,1 -k3,3n | awk '!seen[$1]++ { printf "%s %.0f\n", $1, $2 / $3 * 1e9 }' > "$work/qemu"
 fi
 awk 'FILENAME == ARGV[1] { qemu[$1] = $2; next }
-     { ratio = ($1 in qemu) ? sprintf("%.3f", $2 / qemu[$1]) : "-"
-       printf "%-9s machine %d/s  qemu-riscv32 %s/s  ratio %s\n", $1, $2, ($1 in qemu) ? qemu[$1] : "-", ratio }' "$work/qemu" "$work/machine"
+     $2 == "flat" { flat[$1] = $3; next }
+     { loop = $1; paged = $3
+       ratio = (loop in qemu) ? sprintf("%.3f", paged / qemu[loop]) : "-"
+       printf "%-9s pages %d/s  flat %d/s  ratio %.2f  qemu-riscv32 %s/s  ratio %s\n", loop, paged, flat[loop],
+           paged / flat[loop], (loop in qemu) ? qemu[loop] : "-", ratio }' "$work/qemu" "$work/machine"

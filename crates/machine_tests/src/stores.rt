@@ -51,16 +51,20 @@ fn take<S: Store>(store: &mut S, step: Step, at: u32) -> Option<u32> {
     }
 }
 
-// Two regions that touch, and one up to the last address.
-fn exercise<S: Store>(rt: &impl Abort, alloc: Global) -> Result<(), OutOfMemory> {
+// Two regions that touch, and one up to the last address. The one of this address is in focus.
+fn exercise<S: Store>(rt: &impl Abort, alloc: Global, focus: u32) -> Result<(), OutOfMemory> {
     let regions = [(0x1000, 5), (0x1005, 6), (0xffff_fffc, 4)];
     let regions = regions.map(|(start, bytes)| Region { start, bytes });
     let mut store = S::zeroed(alloc, &regions)?;
+    store.focus(focus);
     for (step, at, want) in STEPS {
         assert_eq!(rt; take(&mut store, step, at), want, "at {at}");
     }
     Ok(())
 }
+
+// No region, and each of the three.
+const FOCUSES: [u32; 4] = [0x0fff, 0x1004, 0x1005, 0xffff_ffff];
 
 const STEPS: [(Step, u32, Option<u32>); 26] = [
     (Step::Load32, 0x1000, Some(0)),
@@ -96,7 +100,10 @@ const STEPS: [(Step, u32, Option<u32>); 26] = [
 
 #[test]
 fn flat(rt: HostRuntime) -> Result<(), OutOfMemory> {
-    exercise::<FlatStore>(&rt, rt.alloc())
+    for focus in FOCUSES {
+        exercise::<FlatStore>(&rt, rt.alloc(), focus)?;
+    }
+    Ok(())
 }
 
 #[test]

@@ -50,20 +50,27 @@ fn take<S: Store>(store: &mut S, step: Step, at: u32) -> Option<u32> {
     }
 }
 
-// Two regions that touch, the first of which is longer than 16 pages by 2 bytes.
-fn exercise<S: Store>(rt: &impl Abort, alloc: Global) -> Result<(), OutOfMemory> {
+// Two regions that touch, the first of which is longer than 16 pages by 2 bytes. The one of this address is in focus.
+fn exercise<S: Store>(rt: &impl Abort, alloc: Global, focus: u32) -> Result<(), OutOfMemory> {
     let regions = [(0x1000, 65_538), (0x1_1002, 6)];
     let regions = regions.map(|(start, bytes)| Region { start, bytes });
     let mut store = S::zeroed(alloc, &regions)?;
+    store.focus(focus);
     for (step, at, want) in STEPS {
         assert_eq!(rt; take(&mut store, step, at), want, "at {at}");
     }
     Ok(())
 }
 
-const STEPS: [(Step, u32, Option<u32>); 18] = [
+// No region, and each of both.
+const FOCUSES: [u32; 3] = [0x0fff, 0x1_1001, 0x1_1002];
+
+const STEPS: [(Step, u32, Option<u32>); 20] = [
     (Step::Load32, 0x1000, Some(0)),
     (Step::Load8, 0x0fff, None),
+    // a zero where no page is taken yet
+    (Step::Store32(0), 0x1000, Some(0)),
+    (Step::Load32, 0x1000, Some(0)),
     // the last word of one page and the first of the next
     (Step::Store32(0x8765_4321), 0x1ffc, Some(0)),
     (Step::Store32(0x0fed_cba9), 0x2000, Some(0)),
@@ -87,7 +94,10 @@ const STEPS: [(Step, u32, Option<u32>); 18] = [
 
 #[test]
 fn pages(rt: HostRuntime) -> Result<(), OutOfMemory> {
-    exercise::<PagedStore>(&rt, rt.alloc())
+    for focus in FOCUSES {
+        exercise::<PagedStore>(&rt, rt.alloc(), focus)?;
+    }
+    Ok(())
 }
 
 // One region that ends 2 bytes into its last page.
@@ -100,5 +110,28 @@ fn last_page(rt: HostRuntime) -> Result<(), OutOfMemory> {
     let store = PagedStore::zeroed(rt.alloc(), &[region])?;
     assert!(rt; store.has(0x1000 + 65_537));
     assert!(rt; !store.has(0x1000 + 65_538));
+    Ok(())
+}
+
+// What one region has stays when another comes into focus.
+#[test]
+fn focus_moves(rt: HostRuntime) -> Result<(), OutOfMemory> {
+    let regions = [(0x1000, 4096), (0x8000, 4096)];
+    let regions = regions.map(|(start, bytes)| Region { start, bytes });
+    let mut store = PagedStore::zeroed(rt.alloc(), &regions)?;
+    let steps = [
+        (Step::Store32(7), 0x1010),
+        (Step::Store32(9), 0x8010),
+        (Step::Load32, 0x1010),
+        (Step::Load32, 0x8010),
+        (Step::Load32, 0x8010),
+    ];
+    let mut given = [None; 5];
+    for (k, (step, at)) in steps.iter().enumerate() {
+        store.focus(at ^ 0x9000);
+        given[k] = take(&mut store, *step, *at);
+        store.focus(*at);
+    }
+    assert_eq!(rt; given, [Some(0), Some(0), Some(7), Some(9), Some(9)]);
     Ok(())
 }

@@ -16,7 +16,7 @@ use sc_event::{CompId, Event, Interfaces, Trace};
 use sc_image::Image;
 use sc_machine::{LoadFault, Machine};
 use sc_run::run_source;
-use sc_store::FlatStore;
+use sc_store::PagedStore;
 use sc_types::{SourceText, one_program};
 use sqlite_items::Items;
 use std::alloc::Global;
@@ -90,7 +90,7 @@ fn run_image(
 {
     // An image is well formed.
     let _parts = image.parts();
-    let mut machine = Machine::<FlatStore>::load(alloc, image, inputs, events).map_err(
+    let mut machine = Machine::<PagedStore>::load(alloc, image, inputs, events).map_err(
         |LoadFault::OutOfMemory(_)| OutOfMemory,
     )?;
     let stop = machine.run(steps);

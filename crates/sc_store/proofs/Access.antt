@@ -94,6 +94,11 @@ first_stored m a v n h =
     (λ k l. get_or-take n (to_le_bytes w32 v) k 0 (omega arith) ∙ byte_place v k (omega arith))
     ∙ ap (λ j. stored m a j v) len
 
+pub byte_stored : (m m' : Memory) (a v : ℕ) (bs : List ℕ) → m' ≡ written m a (get_or bs 0 0 ∷ []) →
+    bs ≡ to_le_bytes w32 v → m' ≡ stored m a 1 v
+byte_stored m m' a v bs w e =
+    w ∙ ap (λ b. written m a (get_or b 0 0 ∷ [])) e ∙ first_stored m a v 1 (omega arith)
+
 pub store_written : (m m' : Memory) (a v n : ℕ) (bs : List ℕ) → n ≤ 4 → m' ≡ written m a (take n bs) →
     bs ≡ to_le_bytes w32 v → m' ≡ stored m a n v
 store_written m m' a v n bs h w e = w ∙ ap (λ b. written m a (take n b)) e ∙ first_stored m a v n h

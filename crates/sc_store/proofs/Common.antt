@@ -15,7 +15,7 @@ pub use Rattle.std.specs.List.{All, find, position, position_or_len}
 pub use Rattle.std.specs.Option.{option_map, option_or}
 pub use borrow.Rule.Slice.PartMut.{put_mid}
 pub use Rattle.sc_store.specs.Prelude.{AreApart, AreBelow, AreDistinct, AreOut, ArePlaced, AreSingle, HasBytes}
-pub use Rattle.sc_store.specs.Prelude.{HoldsBytes, IsIn, IsZero, Memory, byte_at, byte_of, byte_on, bytes_in, bytes_of}
+pub use Rattle.sc_store.specs.Prelude.{HoldsBytes, IsFocus, IsIn, IsZero, Memory, byte_at, byte_of, byte_on, bytes_in, bytes_of}
 pub use Rattle.sc_store.specs.Prelude.{cell, is_in, load_of, memory_of, piece_of, place_found, place_in, place_of}
 pub use Rattle.sc_store.specs.Prelude.{reaches, region_of, regions_in, regions_of, replaced, spans, stored, written}
 pub use Rattle.sc_store.specs.Prelude.{zeros}

@@ -136,6 +136,29 @@ pub replaced-apart : (f : ℕ → ℕ) (a : ℕ) (bs : List ℕ) (k : ℕ) → (
 replaced-apart f a bs k h = let t : (nat_le a k && nat_lt k (a + length bs)) ≡ false = grind (arith, nat_tests) in
     rw t refl
 
+-- zeros that are written to a page that isn't taken
+pub zeros_unwritten : (table : List (Option ℕ)) (pool : Pages) (a : ℕ) (bs : List ℕ) →
+    IsNone (get_or table (a / 4096) None) → a % 4096 + length bs ≤ 4096 →
+    ((k : ℕ) → k < length bs → get_or bs k 0 ≡ 0) → cell table pool ≡ replaced (cell table pool) a bs
+zeros_unwritten table pool a bs free fits zero_bytes = λ j i. at_place i j
+  where
+    no_number : (o : Option ℕ) → IsNone o → o ≡ None
+    no_number None h = refl
+    no_number (Some n) h = absurd (cc)
+    zero_there : (i : ℕ) → i / 4096 ≡ a / 4096 → cell table pool i ≡ 0
+    zero_there i same =
+        ap (λ z. byte_at pool (get_or table z None) (i % 4096)) same
+        ∙ ap (λ o. byte_at pool o (i % 4096)) (no_number (get_or table (a / 4096) None) free)
+    at_place : (i : ℕ) → cell table pool i ≡ replaced (cell table pool) a bs i
+    at_place i = ⊎_elim
+        (λ low. sym (replaced-apart (cell table pool) a bs i (λ l u. omega arith)))
+        (λ from. ⊎_elim
+        (λ here. zero_there i (omega arith)
+        ∙ sym (replaced-in (cell table pool) a bs i from here ∙ zero_bytes (i - a) (omega arith)))
+        (λ past. sym (replaced-apart (cell table pool) a bs i (λ l u. omega arith)))
+        (cases_lt i (a + length bs)))
+        (cases_lt i a)
+
 -- a place is its page and the byte there
 same_page : (a i : ℕ) → i / 4096 ≡ a / 4096 → (i ≡ a + i % 4096 - a % 4096) × (a % 4096 ≤ a)
 same_page a i e = (omega arith, omega arith)

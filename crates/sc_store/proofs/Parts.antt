@@ -75,6 +75,32 @@ found (p ∷ ps) a some =
     let w = somewhere (p ∷ ps) p a some in
     passes (spans a 1) (p ∷ ps) w.0 p w.1 (in_spans a (get_or (p ∷ ps) w.0 p) w.2)
 
+some_value : (o : Option ℕ) → IsSome o → (y : ℕ) × (o ≡ Some y)
+some_value None h = absurd (cc)
+some_value (Some y) h = (y, refl)
+
+-- parts with one address are the same
+same_place : (ps : List Part) (i j : ℕ) (d : Part) (a : ℕ) → AreApart (regions_of ps) → i < length ps →
+    j < length ps → IsIn (region_of (get_or ps i d)) a → IsIn (region_of (get_or ps j d)) a → i ≡ j
+same_place [] i j d a apart h k one other = absurd (omega arith)
+same_place (p ∷ ps) zero zero d a apart h k one other = refl
+same_place (p ∷ ps) zero (suc j) d a apart h k one other =
+    absurd (head_apart p ps j d a apart (omega arith) other one)
+same_place (p ∷ ps) (suc i) zero d a apart h k one other =
+    absurd (head_apart p ps i d a apart (omega arith) one other)
+same_place (p ∷ ps) (suc i) (suc j) d a apart h k one other =
+    ap suc (same_place ps i j d a (tail_apart p ps apart) (omega arith) (omega arith) one other)
+
+-- the part that has all the addresses of an access is the one that a search finds
+pub first_spans : (a n : ℕ) (ps : List Part) (i : ℕ) (d : Part) → 0 < n → AreApart (regions_of ps) → i < length ps →
+    spans a n (get_or ps i d) ≡ true → position (spans a n) ps ≡ Some i
+first_spans a n ps i d some apart h sp =
+    let f = some_value (position (spans a n) ps) (passes (spans a n) ps i d h sp) in
+    let w = position-Some (spans a n) ps f.0 d f.1 in
+    f.1 ∙ ap Some (same_place ps f.0 i d a apart w.0 h
+    (spans_in a n a (get_or ps f.0 d) w.1 (omega arith) (omega arith))
+    (spans_in a n a (get_or ps i d) sp (omega arith) (omega arith)))
+
 -- ---- a write
 pub written-in : (m : Memory) (a : ℕ) (bs : List ℕ) (b : ℕ) → a ≤ b → b < a + length bs →
     written m a bs b ≡ Some (get_or bs (b - a) 0)
@@ -127,10 +153,6 @@ pub bytes_of-set : (ps : List Part) (i : ℕ) (p d : Part) (a : ℕ) (bs : List 
     i < length ps → region_of p ≡ region_of (get_or ps i d) → spans a (length bs) (get_or ps i d) ≡ true →
     piece_of p ≡ written (piece_of (get_or ps i d)) a bs → bytes_of (set ps i p) ≡ written (bytes_of ps) a bs
 bytes_of-set ps i p d a bs apart h e sp w = λ k b. write_at ps i p d a bs apart h e sp w b k
-
-some_value : (o : Option ℕ) → IsSome o → (y : ℕ) × (o ≡ Some y)
-some_value None h = absurd (cc)
-some_value (Some y) h = (y, refl)
 
 -- bytes written where memory is leave bytes of memory
 pub written_holds : (m : Memory) (a : ℕ) (bs : List ℕ) → HasBytes m a (length bs) → ((k : ℕ) → get_or bs k 0 < 256) →

@@ -1,9 +1,9 @@
 -- Where the addresses of a paged store have their places, and what a write to the places makes of its memory.
-use Rattle.sc_store.proofs.Common.{AreApart, ArePlaced, AreSingle, Bool, IsIn, List, None, Option, Region, Some, [], ap}
+use Rattle.sc_store.proofs.Common.{AreApart, ArePlaced, AreSingle, Bool, IsFocus, IsIn, List, None, Option, Region, Some, [], ap}
 use Rattle.sc_store.proofs.Common.{arith, cases_lt, cond, false, find, get_or, get_or-map, inl, inr, is_in, is_some}
 use Rattle.sc_store.proofs.Common.{length, length-map, memory_of, nat_tests, option_map, place_found, place_in}
 use Rattle.sc_store.proofs.Common.{place_of, reaches, refl, regions_in, replaced, same_Some, subst, suc, sym, take}
-use Rattle.sc_store.proofs.Common.{take_more, true, written, zeros, ℕ, ⊎_elim, ◌*◌, ◌++◌, ◌+◌, ◌-◌, ◌<◌, ◌∙◌, ◌∷◌, ◌≡◌}
+use Rattle.sc_store.proofs.Common.{take_more, true, written, zero, zeros, ℕ, ⊎_elim, ◌*◌, ◌++◌, ◌+◌, ◌-◌, ◌<◌, ◌∙◌, ◌∷◌, ◌≡◌}
 use Rattle.sc_store.proofs.Common.{◌≤◌, ◌⊎◌}
 use Rattle.sc_store.specs.declared.area.Area.{Area}
 use Rattle.sc_store.specs.Pages.{pages_of}
@@ -85,6 +85,35 @@ found_places (r ∷ rs) a size i apart e k h =
         ap (λ t. cond t (Some (place_in (a + k) r)) (place_of rs (a + k)))
         (in_false r.region (a + k) (head_apart r rs (a + k) (i + k) apart later))
         ∙ later
+
+-- ---- the area in focus
+not_reached : (r : Area) (a size : ℕ) → (IsIn r.region a → ⊥) → 0 < size → reaches a size r ≡ false
+not_reached r a size out some = grind (arith, nat_tests)
+
+first_in : (r : Area) (a size : ℕ) → reaches a size r ≡ true → 0 < size → IsIn r.region a
+first_in r a size t some = grind (arith, nat_tests)
+
+-- an address of a later area isn't in the first
+later_apart : (r : Area) (rs : List Area) (i : ℕ) (d : Area) (a : ℕ) → AreApart (regions_in (r ∷ rs)) → i < length rs →
+    IsIn (get_or rs i d).region a → IsIn r.region a → ⊥
+later_apart r rs i d a apart h inside first =
+    apart 0 (suc i) d.region (omega arith) (omega (arith, length-map rs (λ q. q.region))) a first
+    (subst (λ q. IsIn q a) (sym (get_or-map (λ q. q.region) rs i d d.region h)) inside)
+
+pub focus_at : (rs : List Area) (i : ℕ) (d : Area) → AreApart (regions_in rs) → i < length rs →
+    IsFocus (get_or rs i d) rs
+focus_at [] i d apart h = absurd (omega arith)
+focus_at (r ∷ rs) zero d apart h = λ a size some t.
+    ap (λ b. option_map (place_in a) (cond b (Some r) (find (reaches a size) rs))) t
+focus_at (r ∷ rs) (suc i) d apart h = λ a size some t.
+    ap (λ b. option_map (place_in a) (cond b (Some r) (find (reaches a size) rs)))
+    (not_reached r a size
+    (later_apart r rs i d a apart (omega arith) (first_in (get_or rs i d) a size t some)) some)
+    ∙ focus_at rs i d (tail_apart r rs apart) (omega arith) a size some t
+
+pub focus_empty : (r : Area) (rs : List Area) → r.region.bytes ≡ 0 → IsFocus r rs
+focus_empty r rs none = λ a size some t. absurd
+    (let out : reaches a size r ≡ false = not_reached r a size (λ i. omega (arith, i.0, i.1, none)) some in cc)
 
 -- the place that was found is on a page
 pub found_page : (rs : List Area) (pages a size i : ℕ) (o : Option ℕ) → AreApart (regions_in rs) →

@@ -1,5 +1,5 @@
 -- Helping: where the bytes of the regions of a paged store are.
-use Rattle.std.specs.Prelude.{◌≡◌, ℕ, ◌+◌, ◌-◌, ◌*◌, ◌<◌, Bool, ◌&&◌, nat_le, if◌then◌else◌, List, [], ◌∷◌, map, find}
+use Rattle.std.specs.Prelude.{◌≡◌, ℕ, ◌+◌, ◌-◌, ◌*◌, ◌<◌, Bool, true, ◌&&◌, nat_le, if◌then◌else◌, List, [], ◌∷◌, map, find}
 use Rattle.std.specs.Prelude.{Option, Some, None}
 use Rattle.std.specs.Option.{option_map}
 use Rattle.sc_store.specs.declared.region.Region.{Region}
@@ -27,6 +27,10 @@ place_of (r ∷ rs) a = if is_in r.region a then Some (place_in a r) else place_
 -- the place of `a`, where an area has all the addresses from it on, so many
 abbrev pub place_found : List Area → ℕ → ℕ → Option ℕ
 place_found rs a size = option_map (place_in a) (find (reaches a size) rs)
+
+-- every access that this area reaches is found in it
+abbrev pub IsFocus : Area → List Area → Type 0
+IsFocus focus rs = (a size : ℕ) → 0 < size → reaches a size focus ≡ true → place_found rs a size ≡ Some (place_in a focus)
 
 -- no two addresses have one place
 abbrev pub AreSingle : List Area → Type 0

@@ -1,13 +1,13 @@
 // A region on pages.
 #![tactic(auto)]
 
-ghost use Rattle.std.specs.Prelude.{◌≡◌, ◌≤◌, IsTrue};
+ghost use Rattle.std.specs.Prelude.{◌≡◌, ◌≤◌};
 
 use crate::Region;
 use sc_pool::PAGE_BYTES;
 
 // The addresses of a region, and the number of its first page.
-#[derive(Drop)]
+#[derive(Clone, Copy)]
 pub(crate) struct Area {
     pub(crate) region: Region,
     pub(crate) first: u32,
@@ -16,7 +16,18 @@ pub(crate) struct Area {
 impl Area {
     ghost use Rattle.sc_store.specs.Paged.{reaches, place_in};
 
+    // A region without addresses.
+    pub(crate) fn empty() -> Area
+        ensures { result.region.bytes ≡ 0 }
+    {
+        Area {
+            region: Region { start: 0, bytes: 0 },
+            first: 0,
+        }
+    }
+
     // Whether this region has the addresses from `at` on, so many.
+    #[inline(always)]
     pub(crate) fn reaches(&self, at: u32, size: usize) -> bool
         requires { size ≤ 4 }
         ensures { result ≡ reaches at size self.now }
@@ -26,6 +37,7 @@ impl Area {
     }
 
     // The place of the byte at this address, where the places go on from page to page.
+    #[inline(always)]
     pub(crate) fn place(&self, at: u32) -> usize
         requires { self.now.region.start ≤ at }
         ensures { result ≡ place_in at self.now }

@@ -1,8 +1,8 @@
 // Bytes by their places, on pages.
 #![tactic(auto)]
 
-ghost use Rattle.std.specs.Prelude.{◌≡◌, ◌≤◌, ◌<◌, ◌+◌, ◌*◌, ◌/◌, ◌%◌, length, slice_index, slice_index_or, EachIndex};
-ghost use Rattle.std.specs.Prelude.{IsSome, None, is_none, count_by, replicate, IfOk, ℕ};
+ghost use Rattle.std.specs.Prelude.{◌≡◌, ◌≤◌, ◌<◌, ◌+◌, ◌*◌, ◌/◌, ◌%◌, if◌then◌else◌, length, slice_index, slice_index_or, EachIndex};
+ghost use Rattle.std.specs.Prelude.{IsNone, IsSome, IsTrue, None, is_none, is_some, count_by, replicate, IfOk, ℕ};
 ghost use Rattle.sc_store.specs.Cells.{AreOut, AreDistinct, cell, replaced};
 
 use crate::OutOfMemory;
@@ -29,6 +29,12 @@ fn untaken(alloc: Global, pages: u32) -> Result<Vec<Option<PageId>>, AllocError>
     Ok(table)
 }
 
+fn are_zero(bytes: &[u8]) -> bool
+    ensures { IsTrue result → EachIndex bytes.now (λ k. slice_index bytes.now k ≡ 0) }
+{
+    bytes.iter().all(|byte| *byte == 0)
+}
+
 impl Cells {
     // Zeros on so many pages, none of which is taken.
     pub(crate) fn zeroed(alloc: Global, pages: u32) -> Result<Cells, OutOfMemory>
@@ -42,6 +48,7 @@ impl Cells {
     }
 
     // Copies the bytes from a place on, all on one page.
+    #[inline(always)]
     pub(crate) fn read(&self, at: usize, into: &mut [u8])
         requires there { at / 4096 < length self.now.table.items }
         requires within { at % 4096 + length into.old ≤ 4096 }
@@ -66,7 +73,45 @@ impl Cells {
         }
     }
 
+    // Puts these bytes at the places from `at` on, all on one page, and says whether it is taken. If not, nothing
+    // changes.
+    #[inline(always)]
+    fn write_taken(&mut self, at: usize, bytes: &[u8]) -> bool
+        requires there { at / 4096 < length self.old.table.items }
+        requires within { at % 4096 + length bytes.now ≤ 4096 }
+        ensures taken { result ≡ is_some (slice_index_or self.old.table.items (at / 4096) None) }
+        ensures table { self.new.table.items ≡ self.old.table.items }
+        ensures bytes { cell self.new.table.items self.new.pool
+            ≡ if result then replaced (cell self.old.table.items self.old.pool) at bytes.now
+            else cell self.old.table.items self.old.pool }
+    {
+        let from = at % PAGE_BYTES;
+        let Some(id) = &self.table[at / PAGE_BYTES] else {
+            return false;
+        };
+        self.pool.page_mut(id)[from..from + bytes.len()].copy_from_slice(bytes);
+        true
+    }
+
+    // The same on a page that isn't taken. It stays so where all bytes are 0.
+    #[inline(never)]
+    fn write_untaken(&mut self, at: usize, bytes: &[u8])
+        requires free { IsNone (slice_index_or self.old.table.items (at / 4096) None) }
+        requires there { at / 4096 < length self.old.table.items }
+        requires within { at % 4096 + length bytes.now ≤ 4096 }
+        ensures length { length self.new.table.items ≡ length self.old.table.items }
+        ensures bytes { cell self.new.table.items self.new.pool
+            ≡ replaced (cell self.old.table.items self.old.pool) at bytes.now }
+    {
+        if are_zero(bytes) {
+            return;
+        }
+        self.touch(at / PAGE_BYTES);
+        self.write_taken(at, bytes);
+    }
+
     // Puts these bytes at the places from `at` on, all on one page.
+    #[inline(always)]
     pub(crate) fn write(&mut self, at: usize, bytes: &[u8])
         requires there { at / 4096 < length self.old.table.items }
         requires within { at % 4096 + length bytes.now ≤ 4096 }
@@ -74,10 +119,8 @@ impl Cells {
         ensures bytes { cell self.new.table.items self.new.pool
             ≡ replaced (cell self.old.table.items self.old.pool) at bytes.now }
     {
-        let from = at % PAGE_BYTES;
-        self.touch(at / PAGE_BYTES);
-        if let Some(id) = &self.table[at / PAGE_BYTES] {
-            self.pool.page_mut(id)[from..from + bytes.len()].copy_from_slice(bytes);
+        if !self.write_taken(at, bytes) {
+            self.write_untaken(at, bytes);
         }
     }
 }

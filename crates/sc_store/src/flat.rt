@@ -1,9 +1,9 @@
 // A store with one vector per region.
 #![tactic(auto)]
 
-ghost use Rattle.std.specs.Prelude.{◌≡◌, ◌<◌, ◌≤◌, ◌∷◌, [], ℕ, Some, length, map, position, All, IfOk, IsTrue, IsSome};
+ghost use Rattle.std.specs.Prelude.{◌≡◌, ◌<◌, ◌≤◌, ◌∷◌, [], ℕ, false, Some, length, map, position, All, IfOk, IsTrue, IsSome};
 ghost use Rattle.sc_store.specs.Region.{AreApart};
-ghost use Rattle.sc_store.specs.Memory.{HoldsBytes, HasBytes};
+ghost use Rattle.sc_store.specs.Memory.{HoldsBytes, HasBytes, load_of, stored};
 ghost use Rattle.sc_store.specs.Flat.{regions_of, bytes_of, spans, IsZero, Reads, written};
 
 use crate::part::Part;
@@ -14,6 +14,8 @@ use std::alloc::{AllocError, Global};
 #[derive(Drop)]
 pub struct FlatStore {
     parts: Vec<Part>,
+    // The place of the part that is looked at first.
+    focus: usize,
     ghost apart: { AreApart (regions_of parts.items) },
     ghost holds: { HoldsBytes (bytes_of parts.items) },
 }
@@ -31,13 +33,37 @@ fn zeroed_parts(alloc: Global, regions: &[Region]) -> Result<Vec<Part>, AllocErr
 
 impl FlatStore {
     // The place of the part that has all these addresses, so many from `at` on.
+    #[inline(always)]
     fn find(&self, at: u32, size: usize) -> Option<usize>
+        requires some { 0 < size }
+        requires few { size ≤ 4 }
+        ensures { result ≡ position (spans at size) self.now.parts.items }
+    {
+        if self.spans_in_focus(at, size) {
+            return Some(self.focus);
+        }
+        self.search(at, size)
+    }
+
+    // Whether the part in focus has all these addresses.
+    #[inline(always)]
+    fn spans_in_focus(&self, at: u32, size: usize) -> bool
+        requires some { 0 < size }
+        requires few { size ≤ 4 }
+        ensures { IsTrue result → position (spans at size) self.now.parts.items ≡ Some self.now.focus }
+    {
+        self.focus < self.parts.len() && self.parts[self.focus].spans(at, size)
+    }
+
+    #[inline(never)]
+    fn search(&self, at: u32, size: usize) -> Option<usize>
         requires { size ≤ 4 }
         ensures { result ≡ position (spans at size) self.now.parts.items }
     {
         self.parts.iter().position(|part| part.spans(at, size))
     }
 
+    #[inline(always)]
     fn byte(&self, at: u32) -> u8
         requires { IsSome (bytes_of self.now.parts.items at) }
         ensures { bytes_of self.now.parts.items at ≡ Some result }
@@ -46,6 +72,7 @@ impl FlatStore {
         self.parts[place].byte(at)
     }
 
+    #[inline(always)]
     fn put(&mut self, at: u32, byte: u8)
         requires { IsSome (bytes_of self.old.parts.items at) }
         ensures { bytes_of self.new.parts.items ≡ written (bytes_of self.old.parts.items) at (byte ∷ []) }
@@ -54,7 +81,7 @@ impl FlatStore {
         self.parts[place].write(at, &[byte]);
     }
 
-    // Where the bytes lie in more than one region.
+    // Byte by byte, wherever they lie.
     fn read_each(&self, at: u32, into: &mut [u8])
         requires size { length into.old ≤ 4 }
         requires there { HasBytes (bytes_of self.now.parts.items) at (length into.old) }
@@ -75,26 +102,66 @@ impl FlatStore {
         }
     }
 
-    fn read(&self, at: u32, into: &mut [u8])
+    // Reads bytes that lie in one region, and says whether they do.
+    #[inline(always)]
+    fn read(&self, at: u32, into: &mut [u8]) -> bool
+        requires some { 0 < length into.old }
         requires size { length into.old ≤ 4 }
-        requires there { HasBytes (bytes_of self.now.parts.items) at (length into.old) }
-        ensures { Reads (bytes_of self.now.parts.items) at into.new }
+        ensures length { length into.new ≡ length into.old }
+        ensures bytes { IsTrue result → Reads (bytes_of self.now.parts.items) at into.new }
     {
-        match self.find(at, into.len()) {
-            Some(place) => self.parts[place].read(at, into),
-            None => self.read_each(at, into),
-        }
+        let Some(place) = self.find(at, into.len()) else {
+            return false;
+        };
+        self.parts[place].read(at, into);
+        true
     }
 
-    fn write(&mut self, at: u32, bytes: &[u8])
+    // Writes bytes whose addresses lie in one region, and says whether they do. If not, nothing changes.
+    #[inline(always)]
+    fn write(&mut self, at: u32, bytes: &[u8]) -> bool
+        requires some { 0 < length bytes.now }
         requires size { length bytes.now ≤ 4 }
         requires there { HasBytes (bytes_of self.old.parts.items) at (length bytes.now) }
-        ensures { bytes_of self.new.parts.items ≡ written (bytes_of self.old.parts.items) at bytes.now }
+        ensures written { IsTrue result →
+            bytes_of self.new.parts.items ≡ written (bytes_of self.old.parts.items) at bytes.now }
+        ensures unchanged { result ≡ false → self.new ≡ self.old }
     {
-        match self.find(at, bytes.len()) {
-            Some(place) => self.parts[place].write(at, bytes),
-            None => self.write_each(at, bytes),
-        }
+        let Some(place) = self.find(at, bytes.len()) else {
+            return false;
+        };
+        self.parts[place].write(at, bytes);
+        true
+    }
+
+    // Loads and stores that reach from one region into another.
+    #[inline(never)]
+    fn load16_each(&self, at: u32) -> u32
+        requires { HasBytes (bytes_of self.now.parts.items) at 2 }
+        ensures { result ≡ load_of (bytes_of self.now.parts.items) at 2 }
+    {
+        let mut bytes = [0; 2];
+        self.read_each(at, &mut bytes);
+        u16::from_le_bytes(bytes).into()
+    }
+
+    #[inline(never)]
+    fn load32_each(&self, at: u32) -> u32
+        requires { HasBytes (bytes_of self.now.parts.items) at 4 }
+        ensures { result ≡ load_of (bytes_of self.now.parts.items) at 4 }
+    {
+        let mut bytes = [0; 4];
+        self.read_each(at, &mut bytes);
+        u32::from_le_bytes(bytes)
+    }
+
+    #[inline(never)]
+    fn store_each(&mut self, at: u32, value: u32, size: usize)
+        requires size { size ≤ 4 }
+        requires there { HasBytes (bytes_of self.old.parts.items) at size }
+        ensures { bytes_of self.new.parts.items ≡ stored (bytes_of self.old.parts.items) at size value }
+    {
+        self.write_each(at, &value.to_le_bytes()[..size]);
     }
 }
 
@@ -105,38 +172,58 @@ impl Store for FlatStore {
 
     fn zeroed(alloc: Global, regions: &[Region]) -> Result<FlatStore, OutOfMemory> {
         let parts = zeroed_parts(alloc, regions)?;
-        Ok(FlatStore { parts })
+        Ok(FlatStore { parts, focus: 0 })
+    }
+
+    fn focus(&mut self, at: u32) {
+        if let Some(place) = self.search(at, 1) {
+            self.focus = place;
+        }
     }
 
     fn has(&self, at: u32) -> bool {
         self.find(at, 1).is_some()
     }
 
+    #[inline(always)]
     fn load8(&self, at: u32) -> u32 {
         self.byte(at).into()
     }
 
+    #[inline(always)]
     fn load16(&self, at: u32) -> u32 {
         let mut bytes = [0; 2];
-        self.read(at, &mut bytes);
+        if !self.read(at, &mut bytes) {
+            return self.load16_each(at);
+        }
         u16::from_le_bytes(bytes).into()
     }
 
+    #[inline(always)]
     fn load32(&self, at: u32) -> u32 {
         let mut bytes = [0; 4];
-        self.read(at, &mut bytes);
+        if !self.read(at, &mut bytes) {
+            return self.load32_each(at);
+        }
         u32::from_le_bytes(bytes)
     }
 
+    #[inline(always)]
     fn store8(&mut self, at: u32, value: u32) {
-        self.write(at, &value.to_le_bytes()[..1]);
+        self.put(at, value.to_le_bytes()[0]);
     }
 
+    #[inline(always)]
     fn store16(&mut self, at: u32, value: u32) {
-        self.write(at, &value.to_le_bytes()[..2]);
+        if !self.write(at, &value.to_le_bytes()[..2]) {
+            self.store_each(at, value, 2);
+        }
     }
 
+    #[inline(always)]
     fn store32(&mut self, at: u32, value: u32) {
-        self.write(at, &value.to_le_bytes());
+        if !self.write(at, &value.to_le_bytes()) {
+            self.store_each(at, value, 4);
+        }
     }
 }

@@ -1,11 +1,11 @@
 // A store on the pages of a pool.
 #![tactic(auto)]
 
-ghost use Rattle.std.specs.Prelude.{◌≡◌, ◌<◌, ◌≤◌, ◌*◌, ◌∷◌, [], ℕ, Some, length, IfOk, IfSome, IsSome};
+ghost use Rattle.std.specs.Prelude.{◌≡◌, ◌<◌, ◌≤◌, ◌*◌, ◌∷◌, [], ℕ, false, Some, length, position, IfOk, IsSome, IsTrue};
 ghost use Rattle.sc_store.specs.Region.{AreApart};
-ghost use Rattle.sc_store.specs.Memory.{HoldsBytes, HasBytes};
+ghost use Rattle.sc_store.specs.Memory.{HoldsBytes, HasBytes, load_of, stored};
 ghost use Rattle.sc_store.specs.Flat.{Reads, written};
-ghost use Rattle.sc_store.specs.Paged.{regions_in, place_of, place_found, memory_of, AreSingle, ArePlaced};
+ghost use Rattle.sc_store.specs.Paged.{reaches, regions_in, place_of, place_found, memory_of, AreSingle, ArePlaced, IsFocus};
 ghost use Rattle.sc_store.specs.Cells.{cell};
 
 use crate::area::Area;
@@ -15,13 +15,16 @@ use sc_pool::PAGE_BYTES;
 use std::alloc::Global;
 
 /// A store that keeps the bytes of each region on pages of its own. Making it reserves a page for each page of each
-/// region, and a page is taken at the first store that touches it; until then a load from it gives 0.
+/// region, and a page is taken at the first store to it of a byte that isn't 0; until then a load from it gives 0.
 #[derive(Drop)]
 pub struct PagedStore {
     areas: Vec<Area>,
+    // The area that is looked at first, or one without addresses.
+    focus: Area,
     cells: Cells,
     ghost apart: { AreApart (regions_in areas.items) },
     ghost single: { AreSingle areas.items },
+    ghost focused: { IsFocus focus areas.items },
     ghost placed: { ArePlaced areas.items (length cells.table.items) },
     ghost holds: { HoldsBytes (memory_of areas.items (cell cells.table.items cells.pool)) },
 }
@@ -52,7 +55,20 @@ impl PagedStore {
     ghost use Rattle.sc_store.specs.Store.{bytes_in};
 
     // The place of the first byte, where one region has all these addresses, so many from `at` on.
+    #[inline(always)]
     fn place(&self, at: u32, size: usize) -> Option<usize>
+        requires some { 0 < size }
+        requires few { size ≤ 4 }
+        ensures { result ≡ place_found self.now.areas.items at size }
+    {
+        if self.focus.reaches(at, size) {
+            return Some(self.focus.place(at));
+        }
+        self.search(at, size)
+    }
+
+    #[inline(never)]
+    fn search(&self, at: u32, size: usize) -> Option<usize>
         requires { size ≤ 4 }
         ensures { result ≡ place_found self.now.areas.items at size }
     {
@@ -60,6 +76,14 @@ impl PagedStore {
         Some(area.place(at))
     }
 
+    // The number of the area with this address.
+    fn number(&self, at: u32) -> Option<usize>
+        ensures { result ≡ position (reaches at 1) self.now.areas.items }
+    {
+        self.areas.iter().position(|area| area.reaches(at, 1))
+    }
+
+    #[inline(always)]
     fn byte(&self, at: u32) -> u8
         requires { IsSome (bytes_in self.now at) }
         ensures { bytes_in self.now at ≡ Some result }
@@ -70,6 +94,7 @@ impl PagedStore {
         byte[0]
     }
 
+    #[inline(always)]
     fn put(&mut self, at: u32, byte: u8)
         requires { IsSome (bytes_in self.old at) }
         ensures { bytes_in self.new ≡ written (bytes_in self.old) at (byte ∷ []) }
@@ -78,7 +103,7 @@ impl PagedStore {
         self.cells.write(place, &[byte]);
     }
 
-    // Where the bytes lie in more than one region or on more than one page.
+    // Byte by byte, wherever they lie.
     fn read_each(&self, at: u32, into: &mut [u8])
         requires size { length into.old ≤ 4 }
         requires there { HasBytes (bytes_in self.now) at (length into.old) }
@@ -99,32 +124,69 @@ impl PagedStore {
         }
     }
 
-    fn read(&self, at: u32, into: &mut [u8])
+    // Reads bytes that lie on one page, and says whether they do.
+    #[inline(always)]
+    fn read(&self, at: u32, into: &mut [u8]) -> bool
         requires some { 0 < length into.old }
         requires size { length into.old ≤ 4 }
-        requires there { HasBytes (bytes_in self.now) at (length into.old) }
-        ensures { Reads (bytes_in self.now) at into.new }
+        ensures length { length into.new ≡ length into.old }
+        ensures bytes { IsTrue result → Reads (bytes_in self.now) at into.new }
     {
         match self.place(at, into.len()) {
-            Some(place) if place % PAGE_BYTES + into.len() <= PAGE_BYTES => self
-                .cells
-                .read(place, into),
-            _ => self.read_each(at, into),
+            Some(place) if place % PAGE_BYTES + into.len() <= PAGE_BYTES => {
+                self.cells.read(place, into);
+                true
+            }
+            _ => false,
         }
     }
 
-    fn write(&mut self, at: u32, bytes: &[u8])
+    // Writes bytes whose addresses lie on one page, and says whether they do. If not, nothing changes.
+    #[inline(always)]
+    fn write(&mut self, at: u32, bytes: &[u8]) -> bool
         requires some { 0 < length bytes.now }
         requires size { length bytes.now ≤ 4 }
         requires there { HasBytes (bytes_in self.old) at (length bytes.now) }
-        ensures { bytes_in self.new ≡ written (bytes_in self.old) at bytes.now }
+        ensures written { IsTrue result → bytes_in self.new ≡ written (bytes_in self.old) at bytes.now }
+        ensures unchanged { result ≡ false → self.new ≡ self.old }
     {
         match self.place(at, bytes.len()) {
-            Some(place) if place % PAGE_BYTES + bytes.len() <= PAGE_BYTES => self
-                .cells
-                .write(place, bytes),
-            _ => self.write_each(at, bytes),
+            Some(place) if place % PAGE_BYTES + bytes.len() <= PAGE_BYTES => {
+                self.cells.write(place, bytes);
+                true
+            }
+            _ => false,
         }
+    }
+
+    // Loads and stores that reach from one page, or from one region, into another.
+    #[inline(never)]
+    fn load16_each(&self, at: u32) -> u32
+        requires { HasBytes (bytes_in self.now) at 2 }
+        ensures { result ≡ load_of (bytes_in self.now) at 2 }
+    {
+        let mut bytes = [0; 2];
+        self.read_each(at, &mut bytes);
+        u16::from_le_bytes(bytes).into()
+    }
+
+    #[inline(never)]
+    fn load32_each(&self, at: u32) -> u32
+        requires { HasBytes (bytes_in self.now) at 4 }
+        ensures { result ≡ load_of (bytes_in self.now) at 4 }
+    {
+        let mut bytes = [0; 4];
+        self.read_each(at, &mut bytes);
+        u32::from_le_bytes(bytes)
+    }
+
+    #[inline(never)]
+    fn store_each(&mut self, at: u32, value: u32, size: usize)
+        requires size { size ≤ 4 }
+        requires there { HasBytes (bytes_in self.old) at size }
+        ensures { bytes_in self.new ≡ stored (bytes_in self.old) at size value }
+    {
+        self.write_each(at, &value.to_le_bytes()[..size]);
     }
 }
 
@@ -138,38 +200,62 @@ impl Store for PagedStore {
     fn zeroed(alloc: Global, regions: &[Region]) -> Result<PagedStore, OutOfMemory> {
         let (areas, pages) = laid(alloc, regions)?;
         let cells = Cells::zeroed(alloc, pages)?;
-        Ok(PagedStore { areas, cells })
+        Ok(PagedStore {
+            areas,
+            focus: Area::empty(),
+            cells,
+        })
+    }
+
+    fn focus(&mut self, at: u32) {
+        if let Some(number) = self.number(at) {
+            self.focus = self.areas[number];
+        }
     }
 
     fn has(&self, at: u32) -> bool {
         self.place(at, 1).is_some()
     }
 
+    #[inline(always)]
     fn load8(&self, at: u32) -> u32 {
         self.byte(at).into()
     }
 
+    #[inline(always)]
     fn load16(&self, at: u32) -> u32 {
         let mut bytes = [0; 2];
-        self.read(at, &mut bytes);
+        if !self.read(at, &mut bytes) {
+            return self.load16_each(at);
+        }
         u16::from_le_bytes(bytes).into()
     }
 
+    #[inline(always)]
     fn load32(&self, at: u32) -> u32 {
         let mut bytes = [0; 4];
-        self.read(at, &mut bytes);
+        if !self.read(at, &mut bytes) {
+            return self.load32_each(at);
+        }
         u32::from_le_bytes(bytes)
     }
 
+    #[inline(always)]
     fn store8(&mut self, at: u32, value: u32) {
-        self.write(at, &value.to_le_bytes()[..1]);
+        self.put(at, value.to_le_bytes()[0]);
     }
 
+    #[inline(always)]
     fn store16(&mut self, at: u32, value: u32) {
-        self.write(at, &value.to_le_bytes()[..2]);
+        if !self.write(at, &value.to_le_bytes()[..2]) {
+            self.store_each(at, value, 2);
+        }
     }
 
+    #[inline(always)]
     fn store32(&mut self, at: u32, value: u32) {
-        self.write(at, &value.to_le_bytes());
+        if !self.write(at, &value.to_le_bytes()) {
+            self.store_each(at, value, 4);
+        }
     }
 }

@@ -23,6 +23,11 @@ pub trait Store: Drop {
         requires below { AreBelow regions.now }
         ensures { IfOk result (λ store. bytes store ≡ zeros regions.now) };
 
+    /// Looks first in the region of this address from now on, whatever that region is. Loads and stores answer as
+    /// before; those in that region are found at once.
+    fn focus(&mut self, at: u32)
+        ensures { bytes self.new ≡ bytes self.old };
+
     /// Whether there is a byte at this address.
     fn has(&self, at: u32) -> bool
         ensures { IsTrue result ↔ IsSome (bytes self.now at) };

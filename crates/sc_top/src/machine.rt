@@ -6,7 +6,7 @@ use sc_core::Program;
 use sc_event::Interfaces;
 use sc_image::Image;
 use sc_machine::{LoadFault, Machine};
-use sc_store::FlatStore;
+use sc_store::PagedStore;
 use sc_words::RunOptions;
 use std::alloc::Global;
 
@@ -21,7 +21,7 @@ pub(crate) fn machine_text(
     ensures { IfOk result (λ text. text ≡ machine_text names.now options.now image) }
 {
     let inputs = options.inputs.as_slice();
-    let mut machine = Machine::<FlatStore>::load(alloc, image, inputs, options.events).map_err(
+    let mut machine = Machine::<PagedStore>::load(alloc, image, inputs, options.events).map_err(
         |LoadFault::OutOfMemory(_)| OutOfMemory,
     )?;
     let stop = machine.run(options.steps);

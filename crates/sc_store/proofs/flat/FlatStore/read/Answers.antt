@@ -8,8 +8,8 @@ read-requires c =
     c.index.result.now
     c.find.ensures c.in-Some.is c.index.ensures
 
-pub returns-in-Some : goal.returns-in-Some
-returns-in-Some c = λ k h.
+pub returns-clause-bytes : goal.returns-clause-bytes
+returns-clause-bytes c = λ t k h.
     found_bytes c.args.at (length c.args.into.now) c.args.self.now.parts.items c.find.result c.in-Some.place
     c.index.result.now
     c.args.self.now.apart c.find.ensures c.in-Some.is c.index.ensures (c.args.at + k) (omega arith) (omega arith)

@@ -8,8 +8,8 @@ write-requires c =
     c.index_mut.result.now
     c.find.ensures c.in-Some.is c.index_mut.ensures.value
 
-pub returns-in-Some : goal.returns-in-Some
-returns-in-Some c =
+pub returns-clause-written : goal.returns-clause-written
+returns-clause-written c = λ t.
     found_written c.args.at c.args.bytes.now c.args.self.now.parts.items c.find.result c.in-Some.place
     c.index_mut.result.now c.write.new.self
     c.args.self.now.apart c.find.ensures c.in-Some.is c.index_mut.ensures.value c.write.ensures.region

@@ -1,9 +1,9 @@
-use Rattle.sc_store.proofs.Common.{arith, bytes_of}
-use Rattle.sc_store.proofs.Access.{store_written}
+use Rattle.sc_store.proofs.Common.{bytes_of}
+use Rattle.sc_store.proofs.Access.{byte_stored}
 use Rattle.sc_store.proofs.flat.FlatStoreStore.store8.Goals as goal
 
 pub returns : goal.returns
 returns c =
-    store_written (bytes_of c.args.self.now.parts.items)
-    (bytes_of c.write.new.self.parts.items) c.args.at c.args.value 1 c.to_le_bytes.result
-    (omega arith) c.write.ensures c.to_le_bytes.ensures
+    byte_stored (bytes_of c.args.self.now.parts.items)
+    (bytes_of c.put.new.self.parts.items) c.args.at c.args.value c.to_le_bytes.result
+    c.put.ensures c.to_le_bytes.ensures

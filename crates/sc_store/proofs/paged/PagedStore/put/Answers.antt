@@ -28,6 +28,7 @@ pub invariant_of-self : goal.invariant_of-self
 invariant_of-self c = record {
   apart = c.args.self.now.apart;
   single = c.args.self.now.single;
+  focused = c.args.self.now.focused;
   placed = subst (λ n. ArePlaced c.args.self.now.areas.items n) (sym c.write.ensures.length)
       c.args.self.now.placed;
   holds = subst HoldsBytes

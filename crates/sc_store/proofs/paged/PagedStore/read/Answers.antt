@@ -11,8 +11,8 @@ read-requires-clause-there c =
           c.place.ensures c.in-Some.is c.requires.some,
     )
 
-pub returns-in-Some : goal.returns-in-Some
-returns-in-Some c = λ k h.
+pub returns-in-Some-clause-bytes : goal.returns-in-Some-clause-bytes
+returns-in-Some-clause-bytes c = λ t k h.
     found_bytes c.args.self.now.areas.items (cell c.args.self.now.cells.table.items c.args.self.now.cells.pool)
     c.args.at (length c.args.into.now) c.in-Some.place c.place.result c.args.self.now.apart c.place.ensures
     c.in-Some.is k (omega arith)

@@ -12,8 +12,8 @@ write-requires-clause-there c =
           c.place.ensures c.in-Some.is c.requires.some,
     )
 
-pub returns-in-Some : goal.returns-in-Some
-returns-in-Some c =
+pub returns-in-Some-clause-written : goal.returns-in-Some-clause-written
+returns-in-Some-clause-written c = λ t.
     found_written c.args.self.now.areas.items (cell c.args.self.now.cells.table.items c.args.self.now.cells.pool)
     (cell c.write.new.self.table.items c.write.new.self.pool) c.args.at c.in-Some.place c.args.bytes.now
     c.place.result c.args.self.now.apart c.args.self.now.single c.place.ensures c.in-Some.is c.write.ensures.bytes
@@ -22,6 +22,7 @@ pub invariant_of-self : goal.invariant_of-self
 invariant_of-self c = record {
   apart = c.args.self.now.apart;
   single = c.args.self.now.single;
+  focused = c.args.self.now.focused;
   placed = subst (λ n. ArePlaced c.args.self.now.areas.items n) (sym c.write.ensures.length)
       c.args.self.now.placed;
   holds = subst HoldsBytes

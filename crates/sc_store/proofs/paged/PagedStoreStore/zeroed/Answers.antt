@@ -1,5 +1,5 @@
 use Rattle.sc_store.proofs.Common.{AreApart, ArePlaced, HoldsBytes, cell, subst, sym}
-use Rattle.sc_store.proofs.Places.{zeros_placed}
+use Rattle.sc_store.proofs.Places.{focus_empty, zeros_placed}
 use Rattle.sc_store.proofs.Regions.{zeros_hold}
 use Rattle.sc_store.proofs.paged.PagedStoreStore.zeroed.Goals as goal
 
@@ -7,6 +7,7 @@ pub invariant_of-result : goal.invariant_of-result
 invariant_of-result c = record {
   apart = subst AreApart (sym c.in_ok-areas.ensures.regions) c.requires.apart;
   single = c.in_ok-areas.ensures.single;
+  focused = focus_empty c.empty.result c.in_ok-areas.areas.items c.empty.ensures;
   placed = subst (λ n. ArePlaced c.in_ok-areas.areas.items n) (sym c.in_ok-cells.ensures.length)
       c.in_ok-areas.ensures.placed;
   holds = subst HoldsBytes (sym (zeros_placed c.in_ok-areas.areas.items c.args.regions.now
