@@ -122,7 +122,8 @@ impl Row {
     /// The word at an index of a block, where there is one: what `load` gives there.
     #[inline(always)]
     pub fn word(&self, block: usize, index: usize) -> Option<u32>
-        ensures { IfSome result (λ word. load_cell self.now (Ptr (record { block = block; index = index })) ≡ Ok (Word word)) }
+        ensures { IfSome result (λ word.
+            load_cell self.now (Ptr (record { block = block; index = index })) ≡ Ok (Word word)) }
     {
         match self.blocks.get(block) {
             Some(Some(cells)) => match cells.as_slice().get(index) {
