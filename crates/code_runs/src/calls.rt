@@ -117,12 +117,7 @@ impl<'a> Run<'a> {
     }
 
     #[cycle(calls)]
-    fn statement(
-        &mut self,
-        fuel: u32,
-        frame: &mut Frame,
-        stmt: &'a TacStmt,
-    ) -> Result<Exit, Halt> {
+    fn statement(&mut self, fuel: u32, frame: &mut Frame, stmt: &'a TacStmt) -> Result<Exit, Halt> {
         let below = less(fuel)?;
         match stmt {
             TacStmt::If {

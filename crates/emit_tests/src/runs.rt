@@ -31,12 +31,7 @@ fn run_by(
 }
 
 // Whether the machine shows these events where the temporaries lie by such a choice.
-fn is_shown(
-    alloc: Global,
-    task: &CodeTask,
-    meant: &[Event],
-    choice: Choice,
-) -> Result<bool, Fail> {
+fn is_shown(alloc: Global, task: &CodeTask, meant: &[Event], choice: Choice) -> Result<bool, Fail> {
     match run_by(alloc, task, choice)? {
         None => Ok(false),
         Some(machine) => Ok(machine.trace() == meant),
@@ -45,11 +40,7 @@ fn is_shown(
 
 /// What a program of code outputs and ends with, if the machine shows all that the code means, wherever the temporaries
 /// lie.
-pub fn shown(
-    alloc: Global,
-    task: &CodeTask,
-    choices: &[Choice],
-) -> Result<Option<Vec<u32>>, Fail> {
+pub fn shown(alloc: Global, task: &CodeTask, choices: &[Choice]) -> Result<Option<Vec<u32>>, Fail> {
     let meant = run_code(alloc, task)?;
     for choice in choices {
         if !is_shown(alloc, task, meant.trace.as_slice(), *choice)? {

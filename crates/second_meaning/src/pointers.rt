@@ -35,12 +35,7 @@ pub fn number_of(unsigned: bool, word: u32) -> i64 {
 }
 
 /// The place so many elements of so many cells behind another.
-pub fn moved_on(
-    memory: &Memory,
-    place: Value,
-    cells: u32,
-    elements: i64,
-) -> Result<Value, Cause> {
+pub fn moved_on(memory: &Memory, place: Value, cells: u32, elements: i64) -> Result<Value, Cause> {
     let by = (cells as i64)
         .checked_mul(elements)
         .ok_or(Cause::OutOfBounds)?;
