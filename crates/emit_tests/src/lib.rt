@@ -1,9 +1,7 @@
-//! The machine code of three-address code, run by the machine over places that the tests choose. This crate has tests
-//! alone.
+//! The machine code of three-address code, run by the machine over places that the tests choose, beside what the code
+//! means. This crate has tests alone.
 #![tactic(auto)]
 
-#[cfg(test)]
-mod arithmetic;
 #[cfg(test)]
 mod images;
 #[cfg(test)]

@@ -4,9 +4,9 @@
 ghost use Rattle.emit_tests.specs.Made.{operating, operation, operations};
 ghost use Rattle.std.specs.Prelude.{◌≡◌, [], ◌∷◌, IfOk, Some, codes};
 
-use crate::arithmetic::binary;
 use crate::placing::{Choice, FIRST_SLOTS};
-use crate::runs::{run_by, told};
+use crate::runs::shown;
+use code_runs::CodeTask;
 use sc_base::{BinaryOp, Name, OutOfMemory};
 use sc_core::{TypedGlobals, TypedStructs};
 use sc_event::{
@@ -118,16 +118,13 @@ fn program(alloc: Global, op: BinaryOp, scalar: Scalar) -> Result<TacTree, OutOf
 // it in others.
 fn choices(alloc: Global) -> Result<Vec<Choice>, OutOfMemory> {
     let mut choices = Vec::new(alloc);
-    let mut number = 0usize;
-    for (left, right) in OPERAND_PLACES {
-        for result in RESULT_PLACES {
-            choices.push(Choice {
-                places: [left, right, result, copy_of(result)],
-                first_slot: FIRST_SLOTS[number % 3],
-            })?;
-            number = number.wrapping_add(1);
-        }
-        number = number.wrapping_add(1);
+    for number in 0..24usize {
+        let (left, right) = OPERAND_PLACES[number / 6];
+        let result = RESULT_PLACES[number % 6];
+        choices.push(Choice {
+            places: [left, right, result, copy_of(result)],
+            first_slot: FIRST_SLOTS[(number + number / 6) % 3],
+        })?;
     }
     Ok(choices)
 }
@@ -197,30 +194,25 @@ const OPERANDS: [i32; 16] = [
     36,
 ];
 
-// What the operator gives on each pair of operands.
-fn results(alloc: Global, op: BinaryOp, scalar: Scalar) -> Result<Vec<u32>, OutOfMemory> {
-    let mut results = Vec::new(alloc);
-    for pair in OPERANDS.chunks_exact(2) {
-        if let [left, right] = pair {
-            results.push(binary(op, scalar, left.cast_unsigned(), right.cast_unsigned()))?;
-        }
-    }
-    Ok(results)
-}
-
 // Each pair is two inputs and an output.
 const EVENTS: u32 = 24;
 
-// Whether the machine outputs what the operator gives on each pair of operands.
-fn is_shown(
-    alloc: Global,
-    program: &TacTree,
-    choice: Choice,
-    results: &[u32],
-) -> Result<bool, Fail> {
-    match run_by(alloc, program, choice, &OPERANDS, EVENTS)? {
+const PAIRS: usize = 8;
+
+const TURNS: u32 = 100;
+
+// Whether the machine shows what an operator means on each pair, wherever its operands and results lie.
+fn is_shown(alloc: Global, op: BinaryOp, scalar: Scalar, choices: &[Choice]) -> Result<bool, Fail> {
+    let program = program(alloc, op, scalar)?;
+    let task = CodeTask {
+        program: &program,
+        inputs: &OPERANDS,
+        turns: TURNS,
+        events: EVENTS,
+    };
+    match shown(alloc, &task, choices)? {
         None => Ok(false),
-        Some(machine) => Ok(told(alloc, machine.trace())?.as_slice() == results),
+        Some(told) => Ok(told.len() == PAIRS),
     }
 }
 
@@ -229,11 +221,7 @@ fn operators_give_what_they_mean(rt: HostRuntime) -> Result<(), Fail> {
     let choices = choices(rt.alloc())?;
     for op in OPERATORS {
         for scalar in [Scalar::Int, Scalar::Unsigned] {
-            let program = program(rt.alloc(), op, scalar)?;
-            let results = results(rt.alloc(), op, scalar)?;
-            for choice in choices.as_slice() {
-                assert!(rt; is_shown(rt.alloc(), &program, *choice, results.as_slice())?);
-            }
+            assert!(rt; is_shown(rt.alloc(), op, scalar, choices.as_slice())?);
         }
     }
     Ok(())

@@ -1,8 +1,9 @@
 // Programs whose statements are of each kind, over each kind of place.
 use crate::placing::{Choice, FIRST_SLOTS};
-use crate::runs::{run_by, told};
+use crate::runs::shown;
+use code_runs::CodeTask;
+use sc_base::OutOfMemory;
 use sc_lower::lower;
-use sc_run::run_source;
 use sc_tac::Place::{self, Register, Slot};
 use sc_types::SourceText;
 use std::alloc::Global;
@@ -361,28 +362,39 @@ const PLACES: [[Place; 4]; 4] = [
     [Slot(0), Register(1), Slot(2), Register(3)],
 ];
 
-// Whether the machine shows what the program means, and tells these words, wherever the temporaries lie.
-fn is_shown(alloc: Global, case: Case, choice: Choice) -> Result<bool, Fail> {
+// Each of these, with slots near the stack pointer and far from it.
+fn choices(alloc: Global) -> Result<Vec<Choice>, OutOfMemory> {
+    let mut choices = Vec::new(alloc);
+    for number in 0..12usize {
+        choices.push(Choice {
+            places: PLACES[number % 4],
+            first_slot: FIRST_SLOTS[number % 3],
+        })?;
+    }
+    Ok(choices)
+}
+
+fn is_shown(alloc: Global, case: Case, choices: &[Choice]) -> Result<bool, Fail> {
     let (text, inputs, words) = case;
     let source = SourceText::read(alloc, text)?;
-    let meant = run_source(alloc, source.program(), inputs, TURNS, EVENTS)?;
     let code = lower(alloc, source.program())?;
-    let Some(machine) = run_by(alloc, code.tree(), choice, inputs, EVENTS)? else {
-        return Ok(false);
+    let task = CodeTask {
+        program: code.tree(),
+        inputs,
+        turns: TURNS,
+        events: EVENTS,
     };
-    let trace = machine.trace();
-    Ok(trace == meant.trace.as_slice() && told(alloc, trace)?.as_slice() == words)
+    match shown(alloc, &task, choices)? {
+        None => Ok(false),
+        Some(told) => Ok(told.as_slice() == words),
+    }
 }
 
 #[test]
 fn statements_do_what_they_mean(rt: HostRuntime) -> Result<(), Fail> {
+    let choices = choices(rt.alloc())?;
     for case in [CONTROL, OWN, ACROSS, ENVIRONMENT, POINTERS, WORDS] {
-        for places in PLACES {
-            for first_slot in FIRST_SLOTS {
-                let choice = Choice { places, first_slot };
-                assert!(rt; is_shown(rt.alloc(), case, choice)?);
-            }
-        }
+        assert!(rt; is_shown(rt.alloc(), case, choices.as_slice())?);
     }
     Ok(())
 }

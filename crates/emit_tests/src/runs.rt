@@ -1,39 +1,57 @@
-// Runs of programs of code on the machine.
+// Runs of programs of code on the machine, and what they show beside what the code means.
 use crate::images::image_by;
 use crate::placing::Choice;
+use code_runs::{CodeTask, run_code};
 use sc_event::Event;
 use sc_image::read_image;
 use sc_machine::Machine;
 use sc_store::FlatStore;
-use sc_tac::TacTree;
 use std::alloc::Global;
 use std::test::Fail;
 
 const STEPS: u32 = 100_000;
 
-/// The machine after a run of a program whose temporaries lie by such a choice, if there is an image of it.
-pub fn run_by(
+// The machine after a run of a program whose temporaries lie by such a choice, if there is an image of it.
+fn run_by(
     alloc: Global,
-    program: &TacTree,
+    task: &CodeTask,
     choice: Choice,
-    inputs: &[i32],
-    events: u32,
 ) -> Result<Option<Machine<FlatStore>>, Fail> {
-    let Some(bytes) = image_by(alloc, program, choice)? else {
+    let Some(bytes) = image_by(alloc, task.program, choice)? else {
         return Ok(None);
     };
     let Ok(image) = read_image(alloc, bytes.as_slice()) else {
         return Ok(None);
     };
-    let Ok(mut machine) = Machine::<FlatStore>::load(alloc, image, inputs, events) else {
+    let Ok(mut machine) = Machine::<FlatStore>::load(alloc, image, task.inputs, task.events) else {
         return Ok(None);
     };
     machine.run(STEPS);
     Ok(Some(machine))
 }
 
-/// The words that are output, and that the run ends with.
-pub fn told(alloc: Global, trace: &[Event]) -> Result<Vec<u32>, Fail> {
+// Whether the machine shows these events where the temporaries lie by such a choice.
+fn is_shown(alloc: Global, task: &CodeTask, meant: &[Event], choice: Choice) -> Result<bool, Fail> {
+    match run_by(alloc, task, choice)? {
+        None => Ok(false),
+        Some(machine) => Ok(machine.trace() == meant),
+    }
+}
+
+/// What a program of code outputs and ends with, if the machine shows all that the code means, wherever the temporaries
+/// lie.
+pub fn shown(alloc: Global, task: &CodeTask, choices: &[Choice]) -> Result<Option<Vec<u32>>, Fail> {
+    let meant = run_code(alloc, task)?;
+    for choice in choices {
+        if !is_shown(alloc, task, meant.trace.as_slice(), *choice)? {
+            return Ok(None);
+        }
+    }
+    Ok(Some(told(alloc, meant.trace.as_slice())?))
+}
+
+// The words that are output, and that the run ends with.
+fn told(alloc: Global, trace: &[Event]) -> Result<Vec<u32>, Fail> {
     let mut words = Vec::new(alloc);
     for event in trace {
         match event {

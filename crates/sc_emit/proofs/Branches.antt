@@ -2,9 +2,9 @@
 -- and each field of its instructions is in the range of its form.
 use Rattle.sc_emit.proofs.Common.{Addi, All, All-cons, All-nil, ArePlaces, Bne, Bool, Branch, Each, Ebreak, Entry}
 use Rattle.sc_emit.proofs.Common.{Export, Fits, FrameTree, Inside, Instr, IsBranchOffset, IsImmediate, IsInstr}
-use Rattle.sc_emit.proofs.Common.{IsJumpOffset, IsReg, IsUpper, Line, List, Load, Lw, Main, None, OpImm, Option, Place}
-use Rattle.sc_emit.proofs.Common.{Register, Slot, Some, Store, Sw, TacFnTree, TacOp, TacStmt, TacStmt-F, [], a0, a7}
-use Rattle.sc_emit.proofs.Common.{address_scratch, all_true, and_first, and_from, and_rest, ap, arith, at_hand}
+use Rattle.sc_emit.proofs.Common.{IsJumpOffset, IsReg, IsUpper, Jal, Jalr, Line, List, Load, Lw, Main, None, OpImm}
+use Rattle.sc_emit.proofs.Common.{Option, Place, Register, Slot, Some, Store, Sw, TacFnTree, TacOp, TacStmt, TacStmt-F}
+use Rattle.sc_emit.proofs.Common.{[], a0, a7, address_scratch, all_true, and_first, and_from, and_rest, arith, at_hand}
 use Rattle.sc_emit.proofs.Common.{binary_code, branch_step, branches, brought, bytes_of, call_cross, call_own, choice}
 use Rattle.sc_emit.proofs.Common.{closing, code_branches, code_of, cond, copied, count_by, cycle, entrance}
 use Rattle.sc_emit.proofs.Common.{environment_call, everywhere, false, first_scratch, fold-TacStmt, fold-roll-TacStmt}
@@ -19,7 +19,8 @@ use Rattle.sc_emit.proofs.Common.{second_operand, second_scratch, select, select
 use Rattle.sc_emit.proofs.Common.{slot_offset, sp, stmt_branches, stmt_induction, store_arguments, store_to, store_word}
 use Rattle.sc_emit.proofs.Common.{straight, sub_word, subst, suc, sym, take, take_second, taken, total, true}
 use Rattle.sc_emit.proofs.Common.{unary_code, upper_part, with_parts, word_of_constant, zero, ℕ, ℤ, ◌%◌, ◌&&◌, ◌*◌}
-use Rattle.sc_emit.proofs.Common.{◌++◌, ◌+◌, ◌<◌, ◌^◌, ◌∙◌, ◌∷◌, ◌≡◌, ◌≤ℤ◌, ◌≤◌}
+use Rattle.sc_emit.proofs.Common.{◌++◌, ◌+◌, ◌<◌, ◌==◌, ◌^◌, ◌∙◌, ◌∷◌, ◌≡◌, ◌≤ℤ◌, ◌≤◌}
+use Rattle.sc_emit.specs.Prelude.{has_known_jumps, is_known_jump}
 use Rattle.sc_select.specs.Prelude.{Piece}
 use Rattle.std.proofs.lemmas.List.Folds.{list_all-append, list_all-map}
 use Rattle.std.proofs.lemmas.List.Sums.{sum_by-append}
@@ -46,13 +47,26 @@ all_weaker strong weak h (x ∷ xs) hx =
     (all_weaker strong weak h xs (and_rest (strong x) (list_all strong xs) hx))
 
 -- PIECES
--- neither a branch nor EBREAK
-abbrev is_straight : Instr → Bool
+-- neither EBREAK nor a jump of another kind than functions have
+abbrev pub is_sound : Instr → Bool
+is_sound instr = not (is_ebreak instr) && is_known_jump instr
+
+-- of these, no branch and no jump within its function
+abbrev pub is_straight : Instr → Bool
 is_straight (Branch o rs1 rs2 imm) = false
 is_straight Ebreak = false
+is_straight (Jal rd imm) = not (rd == 0) && is_known_jump (Jal rd imm)
+is_straight (Jalr rd rs1 imm) = is_known_jump (Jalr rd rs1 imm)
 is_straight _ = true
 
-abbrev Straight : List Instr → Type 0
+straight_sound : (i : Instr) → is_straight i ≡ true → is_sound i ≡ true
+straight_sound (Branch o rs1 rs2 imm) h = refl
+straight_sound Ebreak h = absurd (cc)
+straight_sound (Jal rd imm) h = and_rest (not (rd == 0)) (is_known_jump (Jal rd imm)) h
+straight_sound (Jalr rd rs1 imm) h = h
+straight_sound _ h = refl
+
+abbrev pub Straight : List Instr → Type 0
 Straight instrs = list_all {X = Instr} is_straight instrs ≡ true
 
 both : (xs ys : List Instr) → Straight xs → Straight ys → Straight (xs ++ ys)
@@ -125,7 +139,7 @@ op_straight rd left right (tacop.PointerCompare o) = binary_straight rd left rig
 
 -- PLACES
 module _ (frame : FrameTree) where
-  taken_straight : (scratch : ℕ) (place : Option Place) → Straight (taken frame scratch place)
+  pub taken_straight : (scratch : ℕ) (place : Option Place) → Straight (taken frame scratch place)
   taken_straight scratch (Some (Slot slot)) = load_straight scratch (slot_offset frame slot)
   taken_straight scratch (Some (Register r)) = refl
   taken_straight scratch None = refl
@@ -145,7 +159,7 @@ module _ (frame : FrameTree) where
   put_straight rs (Some (Register r)) = refl
   put_straight rs None = refl
 
-  copied_straight : (dest from : Option Place) → Straight (copied frame dest from)
+  pub copied_straight : (dest from : Option Place) → Straight (copied frame dest from)
   copied_straight (Some (Register r)) from = brought_straight (register_of r) from
   copied_straight (Some (Slot slot)) from =
       both (taken frame first_scratch from) _ (taken_straight first_scratch from)
@@ -153,13 +167,13 @@ module _ (frame : FrameTree) where
   copied_straight None from = refl
 
 -- LINES
-abbrev is_straight_line : Line → Bool
+abbrev pub is_straight_line : Line → Bool
 is_straight_line line = is_straight line.instr
 
-abbrev StraightLines : List Line → Type 0
+abbrev pub StraightLines : List Line → Type 0
 StraightLines lines = list_all {X = Line} is_straight_line lines ≡ true
 
-plainly_straight : (instrs : List Instr) → Straight instrs → StraightLines (plainly instrs)
+pub plainly_straight : (instrs : List Instr) → Straight instrs → StraightLines (plainly instrs)
 plainly_straight instrs h = list_all-map is_straight_line plain instrs ∙ h
 
 both_lines : (xs ys : List Line) → StraightLines xs → StraightLines ys → StraightLines (xs ++ ys)
@@ -167,7 +181,7 @@ both_lines xs ys hx hy = all_append is_straight_line xs ys hx hy
 
 -- STATEMENTS
 module _ (frame : FrameTree) (places : List Place) where
-  take_straight : (scratch t : ℕ) → Straight (take frame places scratch t)
+  pub take_straight : (scratch t : ℕ) → Straight (take frame places scratch t)
   take_straight scratch t = taken_straight frame scratch (place_of frame places t)
 
   keep_straight : (dest : ℕ) → Straight (keep frame places dest)
@@ -177,7 +191,7 @@ module _ (frame : FrameTree) (places : List Place) where
   second_straight None = refl
   second_straight (Some t) = take_straight second_scratch t
 
-  operation_straight : (dest : ℕ) (o : TacOp) (left : ℕ) (right : Option ℕ) →
+  pub operation_straight : (dest : ℕ) (o : TacOp) (left : ℕ) (right : Option ℕ) →
       Straight (operation frame places dest o left right)
   operation_straight dest o left right =
       let rd = result_register frame places dest in
@@ -189,11 +203,11 @@ module _ (frame : FrameTree) (places : List Place) where
       (both (take frame places first_scratch left) (take_second frame places right) (take_straight first_scratch left)
       (second_straight right)) (op_straight rd a b o)) (keep_straight dest)
 
-  load_from_straight : (dest place : ℕ) → Straight (load_from frame places dest place)
+  pub load_from_straight : (dest place : ℕ) → Straight (load_from frame places dest place)
   load_from_straight dest place =
       both (take frame places first_scratch place) _ (take_straight first_scratch place) (keep_straight dest)
 
-  store_to_straight : (place value : ℕ) → Straight (store_to frame places place value)
+  pub store_to_straight : (place value : ℕ) → Straight (store_to frame places place value)
   store_to_straight place value =
       both (take frame places first_scratch place ++ take frame places second_scratch value) _
       (both (take frame places first_scratch place) (take frame places second_scratch value)
@@ -205,47 +219,47 @@ module _ (frame : FrameTree) (places : List Place) where
       both (brought frame rd (place_of frame places t)) _ (brought_straight frame rd (place_of frame places t))
       (pass_straight (suc rd) ts)
 
-  receive_straight : (dest : Option ℕ) → Straight (receive frame places dest)
+  pub receive_straight : (dest : Option ℕ) → Straight (receive frame places dest)
   receive_straight None = refl
   receive_straight (Some dest) = put_straight frame a0 (place_of frame places dest)
 
-  own_straight : (dest : Option ℕ) (function : ℕ) (args : List ℕ) →
+  pub own_straight : (dest : Option ℕ) (function : ℕ) (args : List ℕ) →
       StraightLines (call_own frame places dest function args)
   own_straight dest function args =
       both_lines (plainly (pass frame places a0 args)) _
       (plainly_straight (pass frame places a0 args) (pass_straight a0 args))
       (plainly_straight (receive frame places dest) (receive_straight dest))
 
-  cross_straight : (dest : Option ℕ) (comp index : ℕ) (args : List ℕ) →
+  pub cross_straight : (dest : Option ℕ) (comp index : ℕ) (args : List ℕ) →
       StraightLines (call_cross frame places dest comp index args)
   cross_straight dest comp index args =
       both_lines (plainly (pass frame places a0 args)) _
       (plainly_straight (pass frame places a0 args) (pass_straight a0 args))
       (plainly_straight (receive frame places dest) (receive_straight dest))
 
-  return_straight : (value : Option ℕ) → Straight (return frame places value)
+  pub return_straight : (value : Option ℕ) → Straight (return frame places value)
   return_straight None = left_frame_straight frame.bytes
   return_straight (Some t) =
       both (brought frame a0 (place_of frame places t)) _ (brought_straight frame a0 (place_of frame places t))
       (left_frame_straight frame.bytes)
 
-  loaded_straight : (dest word : ℕ) →
+  pub loaded_straight : (dest word : ℕ) →
       Straight (loading (result_register frame places dest) word ++ keep frame places dest)
   loaded_straight dest word =
       let rd = result_register frame places dest in
       both (loading rd word) (keep frame places dest) (loading_straight rd word) (keep_straight dest)
 
-  object_straight : (dest object : ℕ) → Straight
+  pub object_straight : (dest object : ℕ) → Straight
       (moved_by (result_register frame places dest) sp (object_offset frame object) ++ keep frame places dest)
   object_straight dest object =
       let rd = result_register frame places dest in
       let offset = object_offset frame object in
       both (moved_by rd sp offset) (keep frame places dest) (moved_straight rd sp offset) (keep_straight dest)
 
-  global_straight : (dest global : ℕ) → StraightLines (place_of_global frame places dest global)
+  pub global_straight : (dest global : ℕ) → StraightLines (place_of_global frame places dest global)
   global_straight dest global = plainly_straight (keep frame places dest) (keep_straight dest)
 
-  output_straight : (value : ℕ) → Straight (brought frame a0 (place_of frame places value) ++ environment_call 2)
+  pub output_straight : (value : ℕ) → Straight (brought frame a0 (place_of frame places value) ++ environment_call 2)
   output_straight value =
       both (brought frame a0 (place_of frame places value)) _
       (brought_straight frame a0 (place_of frame places value)) refl
@@ -256,11 +270,11 @@ module _ (frame : FrameTree) (places : List Place) where
       both (store_word (a0 + from) (object_offset frame from)) _
       (store_straight (a0 + from) (object_offset frame from)) (store_arguments_straight params (suc from))
 
-  entrance_straight : (params : ℕ) → Straight (entrance frame places params)
+  pub entrance_straight : (params : ℕ) → Straight (entrance frame places params)
   entrance_straight params =
       both (frame_taken frame.bytes) _ (taken_frame_straight frame.bytes) (store_arguments_straight params 0)
 
-  closing_straight : (entry : Option Entry) → Straight (closing frame places entry)
+  pub closing_straight : (entry : Option Entry) → Straight (closing frame places entry)
   closing_straight (Some Main) = left_frame_straight frame.bytes
   closing_straight (Some (Export index)) = left_frame_straight frame.bytes
   closing_straight None = left_frame_straight frame.bytes
@@ -329,16 +343,13 @@ followed_passes test e f he hf = record {
       (hf.passes b c);
 }
 
--- a test that instructions pass that refer to nothing and aren't EBREAK
+-- a test that each instruction of these passes that refers to nothing
 pub record IsMild (test : Line → Bool) : Type 0 where
-  pub mild : (instr : Instr) → is_ebreak instr ≡ false → test (plain instr) ≡ true
+  pub mild : (instr : Instr) → is_sound instr ≡ true → test (plain instr) ≡ true
 
 module _ (test : Line → Bool) (mild : IsMild test) (frame : FrameTree) (places : List Place) where
   straight_mild : (instr : Instr) → is_straight instr ≡ true → test (plain instr) ≡ true
-  straight_mild instr h = mild.mild instr (by instr h) where
-    by : (i : Instr) → is_straight i ≡ true → is_ebreak i ≡ false
-    by Ebreak h = absurd (cc)
-    by _ h = refl
+  straight_mild instr h = mild.mild instr (straight_sound instr h)
 
   pub plainly_passes : (instrs : List Instr) → Straight instrs → list_all test (plainly instrs) ≡ true
   plainly_passes instrs h =
@@ -383,27 +394,23 @@ module _ (test : Line → Bool) (mild : IsMild test) (frame : FrameTree) (places
   }
 
 -- BRANCHES AND EBREAKS
-abbrev is_no_ebreak : Line → Bool
-is_no_ebreak line = not (is_ebreak line.instr)
+abbrev is_sound_line : Line → Bool
+is_sound_line line = is_sound line.instr
 
--- at most so many branches, and no EBREAK
+-- at most so many branches, and all sound
 record IsShaped (most : ℕ) (piece : Piece) : Type 0 where
   few : (to_break to_continue : ℕ) → count (piece.lines to_break to_continue) ≤ most
-  no_ebreak : PassesAll is_no_ebreak piece
+  sound : PassesAll is_sound_line piece
 
-no_ebreak_mild : IsMild is_no_ebreak
-no_ebreak_mild = record { mild = λ instr h. ap not h }
-
-no_ebreak_here : (line : Line) → is_straight_line line ≡ true → is_no_ebreak line ≡ true
-no_ebreak_here line h = by line.instr h where
-  by : (i : Instr) → is_straight i ≡ true → not (is_ebreak i) ≡ true
-  by Ebreak h = absurd (cc)
-  by _ h = refl
+sound_mild : IsMild is_sound_line
+sound_mild = record { mild = λ instr h. h }
 
 straight_shaped : (lines : List Line) → StraightLines lines → IsShaped 0 (straight lines)
 straight_shaped lines h = record {
   few = λ b c. omega (arith, straight_count lines h);
-  no_ebreak = record { passes = λ b c. all_weaker is_straight_line is_no_ebreak no_ebreak_here lines h };
+  sound = record {
+    passes = λ b c. all_weaker is_straight_line is_sound_line (λ line h. straight_sound line.instr h) lines h;
+  };
 }
 
 followed_shaped : (n m : ℕ) (e f : Piece) → IsShaped n e → IsShaped m f → IsShaped (n + m) (followed e f)
@@ -415,7 +422,7 @@ followed_shaped n m e f he hf = record {
         he.few (f.size + b) (f.size + c),
         hf.few b c,
       );
-  no_ebreak = followed_passes is_no_ebreak e f he.no_ebreak hf.no_ebreak;
+  sound = followed_passes is_sound_line e f he.sound hf.sound;
 }
 
 module _ (frame : FrameTree) (places : List Place) where
@@ -434,7 +441,7 @@ module _ (frame : FrameTree) (places : List Place) where
           he.few (suc (f.size + b)) (suc (f.size + c)),
           hf.few b c,
         );
-    no_ebreak = fork_passes is_no_ebreak no_ebreak_mild frame places cond e f he.no_ebreak hf.no_ebreak;
+    sound = fork_passes is_sound_line sound_mild frame places cond e f he.sound hf.sound;
   }
 
   cycle_shaped : (k n m : ℕ) (h b e : Piece) → IsShaped k h → IsShaped n b → IsShaped m e →
@@ -453,8 +460,7 @@ module _ (frame : FrameTree) (places : List Place) where
           hb.few (suc e.size) 0,
           he.few 1 0,
         );
-    no_ebreak =
-        cycle_passes is_no_ebreak no_ebreak_mild frame places h b e hh.no_ebreak hb.no_ebreak he.no_ebreak;
+    sound = cycle_passes is_sound_line sound_mild frame places h b e hh.sound hb.sound he.sound;
   }
 
   abbrev Shaped : TacStmt → Type 0
@@ -487,8 +493,8 @@ module _ (frame : FrameTree) (places : List Place) where
       fork_shaped cond _ _ _ _ (row_shaped first h.0) (row_shaped second h.1)
   layer_shaped (tac.Loop head body next) h =
       cycle_shaped _ _ _ _ _ _ (row_shaped head h.0) (row_shaped body h.1) (row_shaped next h.2)
-  layer_shaped tac.Break h = record { few = λ b c. omega arith; no_ebreak = record { passes = λ b c. refl } }
-  layer_shaped tac.Continue h = record { few = λ b c. omega arith; no_ebreak = record { passes = λ b c. refl } }
+  layer_shaped tac.Break h = record { few = λ b c. omega arith; sound = record { passes = λ b c. refl } }
+  layer_shaped tac.Continue h = record { few = λ b c. omega arith; sound = record { passes = λ b c. refl } }
   layer_shaped (tac.CallOwn dest function args) h =
       straight_shaped (call_own frame places dest function args) (own_straight frame places dest function args)
   layer_shaped (tac.CallCross dest comp index args) h =
@@ -541,11 +547,23 @@ pub few_branches : (f : TacFnTree) (places : List Place) (frame : FrameTree) →
 few_branches f places frame =
     omega (arith, count_is (function_lines frame places f), function_count frame places f)
 
+all_sound : (f : TacFnTree) (places : List Place) (frame : FrameTree) →
+    list_all {X = Instr} is_sound (code_of f places frame).instrs ≡ true
+all_sound f places frame =
+    list_all-map is_sound (λ line. line.instr) (function_lines frame places f) ∙
+    function_passes frame places is_sound_line sound_mild f (body_shaped frame places f.body).sound
+
 pub no_ebreak : (f : TacFnTree) (places : List Place) (frame : FrameTree) →
     has_no_ebreak (code_of f places frame) ≡ true
 no_ebreak f places frame =
-    list_all-map (λ i. not (is_ebreak i)) (λ line. line.instr) (function_lines frame places f) ∙
-    function_passes frame places is_no_ebreak no_ebreak_mild f (body_shaped frame places f.body).no_ebreak
+    all_weaker is_sound (λ i. not (is_ebreak i)) (λ i h. and_first (not (is_ebreak i)) (is_known_jump i) h)
+    (code_of f places frame).instrs (all_sound f places frame)
+
+pub known_jumps : (f : TacFnTree) (places : List Place) (frame : FrameTree) →
+    has_known_jumps (code_of f places frame) ≡ true
+known_jumps f places frame =
+    all_weaker is_sound is_known_jump (λ i h. and_rest (not (is_ebreak i)) (is_known_jump i) h)
+    (code_of f places frame).instrs (all_sound f places frame)
 
 -- FIELDS
 -- each field is in the range of its form

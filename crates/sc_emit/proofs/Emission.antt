@@ -13,10 +13,11 @@ use Rattle.sc_tac.specs.Prelude.{everywhere}
 use Rattle.std.proofs.lemmas.List.FromFn.{length-range_with_len}
 use Rattle.sc_select.proofs.Sizes.{row_is_sized}
 use Rattle.sc_relation.proofs.Linking.{linked_is}
-use Rattle.sc_emit.proofs.Branches.{few_branches, no_ebreak}
+use Rattle.sc_emit.proofs.Branches.{few_branches, known_jumps, no_ebreak}
 use Rattle.sc_emit.proofs.Functions.{in_call, BodyFollows, code_follows}
 use Rattle.sc_emit.proofs.Operands.{ArePlaced}
 use Rattle.sc_emit.proofs.Returns.{brace_returns}
+use Rattle.sc_emit.proofs.Rounds.{few_back, has_rounds}
 use Rattle.sc_emit.proofs.Statements.{body_follows}
 use Rattle.sc_emit.proofs.Targets.{targets_named}
 
@@ -142,8 +143,11 @@ module _ (f : TacFnTree) (places : List Place) (frame : FrameTree) (rules : IsFu
   is_emitted light = record {
     follows = follows;
     enters = enters;
+    rounds = has_rounds f places frame;
     light = light;
     short = omega (arith, light, rules.light);
+    back_edges = few_back f places frame;
+    jumps = known_jumps f places frame;
     branches = few_branches f places frame;
     no_ebreak = no_ebreak f places frame;
     names = λ function entry global h. targets_named function entry global f places frame h;

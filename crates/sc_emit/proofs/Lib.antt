@@ -14,6 +14,7 @@ pub mod Operations
 pub mod Passing
 pub mod Plain
 pub mod Returns
+pub mod Rounds
 pub mod Statements
 pub mod Straight
 pub mod Targets

@@ -10,7 +10,8 @@ use Rattle.sc_tac.specs.declared.frame.FrameTree.{FrameTree}
 use Rattle.sc_tac.specs.declared.function.TacFnTree.{TacFnTree}
 use Rattle.sc_tac.specs.declared.machine_code.CodeTree.{CodeTree}
 use Rattle.sc_emit.specs.Naming.{calls_only, AreReached}
-use Rattle.sc_emit.specs.Shapes.{code_branches, has_no_ebreak, names_only}
+use Rattle.sc_emit.specs.Shapes.{code_back_edges, code_branches, has_known_jumps, has_no_ebreak, loops, names_only}
+use Rattle.sc_emit.specs.Layout.{HasRounds}
 
 -- the linked code of a function stands at an address of a compartment, all that it names is where it can be reached, it
 -- makes the calls that may be made, its parameters are words, and a turn pays for it
@@ -34,13 +35,22 @@ CodeFollows f code =
     FunctionFollows T comp address (length code.instrs) f.params (code_function wrapping f)
 
 pub record IsEmitted (f : TacFnTree) (frame : FrameTree) (code : CodeTree) : Type 0 where
-  -- steps are at least as many as turns, since each round of a loop begins with one; and, turns apart, at most as many
-  -- as instructions, since none is executed twice without a turn between
+  -- from each state that stands for one of the meaning over code the instructions reach what that reaches; in steps at
+  -- least as many as turns, and, turns apart, at most as many as instructions
   pub follows : CodeFollows f code
   -- the frame is taken, and ra stored at its bottom, before anything else
   pub enters : Front (frame_taken frame.bytes) code.instrs
+  -- each iteration of a loop executes an instruction of the loop's own before its body: the one that it begins with, or
+  -- the one that leads back
+  pub rounds : HasRounds f.body code.instrs
+  -- no more instructions than the function weighs
   pub light : length code.instrs ≤ entry_weight f.params + weight f.body
   pub short : length code.instrs < 24 * f.nodes
+  -- no instruction is executed twice within one call without an iteration between: all lead on, but for one a loop, and
+  -- else calls come back behind themselves, or the call ends
+  pub back_edges : code_back_edges code ≤ loops f.body
+  pub jumps : IsTrue (has_known_jumps code)
+  -- a branch at most for each `If`
   pub branches : code_branches code ≤ branches f.body
   pub no_ebreak : IsTrue (has_no_ebreak code)
   -- relocations name what statements name

@@ -1,4 +1,5 @@
 pub mod Prelude
 pub mod Emission
+pub mod Layout
 pub mod Naming
 pub mod Shapes

@@ -1,9 +1,7 @@
 //! The cells with which globals begin (C11 6.7.9p10).
 use crate::memory::Memory;
 use sc_base::OutOfMemory;
-use sc_core::{
-    BaseTy, Cell, Ty, TypedGlobal, TypedMember, TypedSection, TypedSections, TypedStruct,
-};
+use sc_core::{BaseTy, Cell, Ty, TypedGlobal, TypedMember, TypedSections, TypedStruct};
 use std::alloc::Global;
 
 // The zeros of the structs that stand first.
@@ -100,13 +98,15 @@ fn global_cells(
     Ok(cells)
 }
 
-fn begin_section(
+/// Makes the globals of a section with these structs.
+pub fn begin_section(
     alloc: Global,
     memory: &mut Memory,
-    section: &TypedSection,
+    structs: &[TypedStruct],
+    globals: &[TypedGlobal],
 ) -> Result<(), OutOfMemory> {
-    let known = struct_zeros(alloc, section.structs.as_slice())?;
-    for global in section.globals.as_slice() {
+    let known = struct_zeros(alloc, structs)?;
+    for global in globals {
         memory.begin(global_cells(alloc, &known, global)?)?;
     }
     Ok(())
@@ -121,7 +121,8 @@ pub(crate) fn begin_globals(
     let mut firsts = Vec::new(alloc);
     for section in sections.as_slice() {
         firsts.push(memory.len())?;
-        begin_section(alloc, memory, section)?;
+        let (structs, globals) = (&section.structs, &section.globals);
+        begin_section(alloc, memory, structs.as_slice(), globals.as_slice())?;
     }
     Ok(firsts)
 }

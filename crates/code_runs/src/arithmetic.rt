@@ -1,5 +1,5 @@
-// What operators give on words, by C's rules, and where C gives no result by those of the machine: results are taken
-// modulo 2 ^ 32 and shift counts modulo 32; a quotient by zero is all ones, and its remainder is the dividend.
+//! What operators give on words, by C's rules, and where C gives no result by those of the machine: results are taken
+//! modulo 2 ^ 32 and shift counts modulo 32; a quotient by zero is all ones, and its remainder is the dividend.
 use sc_base::BinaryOp;
 use sc_event::Scalar;
 
@@ -38,7 +38,7 @@ fn shifted_right(scalar: Scalar, left: u32, count: u32) -> u32 {
 }
 
 /// What an operator between two words gives, computed in this type.
-pub fn binary(op: BinaryOp, scalar: Scalar, left: u32, right: u32) -> u32 {
+pub(crate) fn binary(op: BinaryOp, scalar: Scalar, left: u32, right: u32) -> u32 {
     match op {
         BinaryOp::OrElse => u32::from(left != 0 || right != 0),
         BinaryOp::AndAlso => u32::from(left != 0 && right != 0),

@@ -1,0 +1,11 @@
+//! What three-address code means where each operator on words gives one, told a second time and in another way, for the
+//! crates that are tests alone: by recursion, over one memory for all compartments.
+#![tactic(auto)]
+
+mod arithmetic;
+mod calls;
+mod operators;
+mod run;
+mod task;
+
+pub use task::{CodeTask, run_code};

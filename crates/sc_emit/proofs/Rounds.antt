@@ -1,0 +1,343 @@
+-- The code of loops: where it begins, and where it leads back.
+use Rattle.sc_emit.proofs.Common.{Bne, Bool, Branch, Each, Ebreak, FrameTree, Inside, Instr, Jal, Line, List, None}
+use Rattle.sc_emit.proofs.Common.{Place, Some, TacFnTree, TacStmt, TacStmt-F, [], and_first, and_rest, ap, append_assoc}
+use Rattle.sc_emit.proofs.Common.{arith, call_cross, call_own, choice, closing, code_of, cond, count_by, cycle}
+use Rattle.sc_emit.proofs.Common.{entrance, environment_call, everywhere, false, first_scratch, fold-roll-TacStmt, fork}
+use Rattle.sc_emit.proofs.Common.{if◌then◌else◌, inl, jump_back, jump_over, length, length-append, length-map, list_all}
+use Rattle.sc_emit.proofs.Common.{map, map-TacStmt, map-append, neg_ℤ, not, operand, place_of, place_of_global, plain}
+use Rattle.sc_emit.proofs.Common.{plainly, pos, receive, refl, round_begins, select, select_all, select_step}
+use Rattle.sc_emit.proofs.Common.{stmt_induction, straight as lines_of, subst, suc, sym, take, true, word_of_constant}
+use Rattle.sc_emit.proofs.Common.{ℕ, ⊎_elim, ◌&&◌, ◌*◌, ◌++◌, ◌+◌, ◌==◌, ◌∙◌, ◌∷◌, ◌≡◌, ◌≤◌}
+use Rattle.sc_emit.specs.Prelude.{GoesAround, HasRounds, HaveCode, LeadOn, branching, code_back_edges, empty}
+use Rattle.sc_emit.specs.Prelude.{is_backward, is_known_jump, leads_back, leads_on, loop_step, loopless, loops}
+use Rattle.sc_emit.specs.Prelude.{repeating, stmt_loops}
+use Rattle.sc_select.specs.Prelude.{Piece}
+use Rattle.sc_select.proofs.Sizes.{row_is_sized}
+use Rattle.std.proofs.lemmas.Bool.{lt-leb}
+use Rattle.std.proofs.lemmas.List.Folds.{list_all-map}
+use Rattle.std.proofs.lemmas.List.Sums.{sum_by-append}
+unfoldable use Rattle.sc_tac.specs.declared.stmt.TacStmt.{roll-TacStmt}
+use Rattle.sc_tac.specs.declared.stmt.TacStmt.TheOpen as tac
+use Rattle.sc_tac.specs.declared.stmt.TacStmt.TheVariants as emit
+use Rattle.sc_emit.proofs.Branches.{Straight, StraightLines, all_append, all_weaker, closing_straight, copied_straight}
+use Rattle.sc_emit.proofs.Branches.{cross_straight, entrance_straight, global_straight, is_straight, is_straight_line}
+use Rattle.sc_emit.proofs.Branches.{load_from_straight, loaded_straight, object_straight, operation_straight}
+use Rattle.sc_emit.proofs.Branches.{output_straight, own_straight, plainly_straight, receive_straight, return_straight}
+use Rattle.sc_emit.proofs.Branches.{store_to_straight, take_straight}
+
+abbrev instrs_of : List Line → List Instr
+instrs_of lines = map (λ line. line.instr) lines
+
+-- LEADING ON
+straight_on : (i : Instr) → is_straight i ≡ true → leads_on i ≡ true
+straight_on (Branch o rs1 rs2 imm) h = absurd (cc)
+straight_on Ebreak h = absurd (cc)
+straight_on (Jal rd imm) h = by (rd == 0) (and_first (not (rd == 0)) (is_known_jump (Jal rd imm)) h) where
+  by : (b : Bool) → not b ≡ true → not (is_backward (if b then Some imm else None)) ≡ true
+  by true h = absurd (cc)
+  by false h = refl
+straight_on _ h = refl
+
+lines_on : (lines : List Line) → StraightLines lines → LeadOn (instrs_of lines)
+lines_on lines h = list_all-map leads_on (λ line. line.instr) lines ∙
+    all_weaker is_straight_line (λ line. leads_on line.instr) (λ line h. straight_on line.instr h) lines h
+
+both_on : (xs ys : List Instr) → LeadOn xs → LeadOn ys → LeadOn (xs ++ ys)
+both_on xs ys hx hy = all_append leads_on xs ys hx hy
+
+over_on : (lines : ℕ) → LeadOn ((jump_over lines).instr ∷ [])
+over_on lines = ap (λ b. not b && true) (lt-leb (4 * suc lines) 0 (omega arith))
+
+-- LISTS
+choice_parts : (test one two more : List Instr) (over behind : Instr) →
+    (test ++ (over ∷ (one ++ (behind ∷ two)))) ++ more ≡
+    (test ++ over ∷ []) ++ (one ++ ((behind ∷ []) ++ (two ++ more)))
+choice_parts test one two more over behind =
+    append_assoc test (over ∷ (one ++ (behind ∷ two))) more ∙
+    ap (λ t. test ++ (over ∷ t)) (append_assoc one (behind ∷ two) more) ∙
+    sym (append_assoc test (over ∷ []) (one ++ (behind ∷ (two ++ more))))
+
+loop_parts : (head body next more : List Instr) (last : Instr) →
+    (head ++ (body ++ (next ++ (last ∷ [])))) ++ more ≡ (head ++ (body ++ next)) ++ (last ∷ more)
+loop_parts head body next more last =
+    append_assoc head (body ++ (next ++ (last ∷ []))) more ∙
+    ap (λ t. head ++ t) (append_assoc body (next ++ (last ∷ [])) more) ∙
+    ap (λ t. head ++ (body ++ t)) (append_assoc next (last ∷ []) more) ∙
+    sym (append_assoc head (body ++ next) (last ∷ more) ∙ ap (λ t. head ++ t) (append_assoc body next (last ∷ more)))
+
+-- STATEMENTS
+-- the lines of a statement's piece are its code, wherever breaks and continues lead
+record IsCodeOf (stmt : TacStmt) (piece : Piece) : Type 0 where
+  lies : (to_break to_continue : ℕ) (rest : List TacStmt) (more : List Instr) → HaveCode rest more →
+      HaveCode (stmt ∷ rest) (instrs_of (piece.lines to_break to_continue) ++ more)
+
+alone : (layer : TacStmt-F TacStmt) (piece : Piece) → loop_step (map-TacStmt _ _ stmt_loops layer) ≡ 0 →
+    ((to_break to_continue : ℕ) → LeadOn (instrs_of (piece.lines to_break to_continue))) →
+    IsCodeOf (roll-TacStmt layer) piece
+alone layer piece none on = record {
+  lies = λ b c rest more h.
+      loopless (roll-TacStmt layer) (instrs_of (piece.lines b c)) (fold-roll-TacStmt ℕ loop_step layer ∙ none)
+      (on b c) h;
+}
+
+by_lines : (layer : TacStmt-F TacStmt) (lines : List Line) → loop_step (map-TacStmt _ _ stmt_loops layer) ≡ 0 →
+    StraightLines lines → IsCodeOf (roll-TacStmt layer) (lines_of lines)
+by_lines layer lines none h = alone layer (lines_of lines) none (λ b c. lines_on lines h)
+
+by_instrs : (layer : TacStmt-F TacStmt) (instrs : List Instr) → loop_step (map-TacStmt _ _ stmt_loops layer) ≡ 0 →
+    Straight instrs → IsCodeOf (roll-TacStmt layer) (lines_of (plainly instrs))
+by_instrs layer instrs none h = by_lines layer (plainly instrs) none (plainly_straight instrs h)
+
+rolled_if : (cond : ℕ) (first second : List TacStmt) →
+    emit.If cond first second ≡ roll-TacStmt (tac.If cond first second)
+unfolding roll-TacStmt denote.Hole.Carrier.roll
+rolled_if cond first second = refl
+
+rolled_loop : (head body next : List TacStmt) → emit.Loop head body next ≡ roll-TacStmt (tac.Loop head body next)
+unfolding roll-TacStmt denote.Hole.Carrier.roll
+rolled_loop head body next = refl
+
+module _ (frame : FrameTree) (places : List Place) where
+  abbrev Lies : TacStmt → Type 0
+  Lies stmt = IsCodeOf stmt (select frame places stmt)
+
+  row_lies : (stmts : List TacStmt) → Each Lies stmts → (b c : ℕ) →
+      HaveCode stmts (instrs_of ((select_all frame places stmts).lines b c))
+  row_lies [] h b c = empty
+  row_lies (stmt ∷ rest) h b c =
+      let behind : Piece = select_all frame places rest in
+      let own : List Line = (select frame places stmt).lines (behind.size + b) (behind.size + c) in
+      subst (HaveCode (stmt ∷ rest)) (sym (map-append (λ line. line.instr) own (behind.lines b c)))
+      (h.0.lies (behind.size + b) (behind.size + c) rest (instrs_of (behind.lines b c)) (row_lies rest h.1 b c))
+
+  choice_on : (cond lines : ℕ) → LeadOn (instrs_of (plainly (choice frame places cond)) ++ (jump_over lines).instr ∷ [])
+  choice_on cond lines =
+      let before : List Instr = take frame places first_scratch cond in
+      let branch : Instr = Branch Bne (operand frame places first_scratch cond) 0 (pos 8) in
+      both_on (instrs_of (plainly (choice frame places cond))) ((jump_over lines).instr ∷ [])
+      (list_all-map leads_on (λ line. line.instr) (plainly (choice frame places cond)) ∙
+      list_all-map (λ line. leads_on line.instr) plain (choice frame places cond) ∙
+      all_append leads_on before (branch ∷ [])
+      (all_weaker is_straight leads_on straight_on before (take_straight frame places first_scratch cond)) refl)
+      (over_on lines)
+
+  if_lies : (cond : ℕ) (first second : List TacStmt) → Each Lies first → Each Lies second →
+      IsCodeOf (roll-TacStmt (tac.If cond first second))
+      (fork frame places cond (select_all frame places first) (select_all frame places second))
+  if_lies cond first second hf hs = record {
+    lies = λ b c rest more h.
+        let e : Piece = select_all frame places first in
+        let f : Piece = select_all frame places second in
+        let test : List Instr = instrs_of (plainly (choice frame places cond)) in
+        let over : Line = jump_over (suc e.size) in
+        let behind : Line = jump_over f.size in
+        let one : List Line = e.lines (suc (f.size + b)) (suc (f.size + c)) in
+        let two : List Line = f.lines b c in
+        let is : instrs_of (plainly (choice frame places cond) ++ (over ∷ (one ++ (behind ∷ two)))) ≡
+            test ++ (over.instr ∷ (instrs_of one ++ (behind.instr ∷ instrs_of two))) =
+        map-append (λ line. line.instr) (plainly (choice frame places cond)) (over ∷ (one ++ (behind ∷ two))) ∙
+        ap (λ t. test ++ (over.instr ∷ t)) (map-append (λ line. line.instr) one (behind ∷ two)) in
+        subst (λ s. HaveCode (s ∷ rest)
+            (instrs_of (plainly (choice frame places cond) ++ (over ∷ (one ++ (behind ∷ two)))) ++ more))
+        (rolled_if cond first second)
+        (subst (HaveCode (emit.If cond first second ∷ rest))
+        (sym (ap (λ t. t ++ more) is ∙
+        choice_parts test (instrs_of one) (instrs_of two) more over.instr behind.instr))
+        (branching cond (test ++ over.instr ∷ []) (behind.instr ∷ []) (choice_on cond (suc e.size)) (over_on f.size)
+        (row_lies first hf (suc (f.size + b)) (suc (f.size + c))) (row_lies second hs b c) h));
+  }
+
+  loop_lies : (head body next : List TacStmt) → Each Lies head → Each Lies body → Each Lies next →
+      IsCodeOf (roll-TacStmt (tac.Loop head body next))
+      (cycle frame places (select_all frame places head) (select_all frame places body)
+      (select_all frame places next))
+  loop_lies head body next hh hb hn = record {
+    lies = λ b c rest more h.
+        let ph : Piece = select_all frame places head in
+        let pb : Piece = select_all frame places body in
+        let pn : Piece = select_all frame places next in
+        let lh : List Line = ph.lines (pb.size + suc pn.size) 0 in
+        let lb : List Line = pb.lines (suc pn.size) 0 in
+        let ln : List Line = pn.lines 1 0 in
+        let last : Line = jump_back (suc (ph.size + (pb.size + pn.size))) in
+        let inside : List Instr = instrs_of lh ++ (instrs_of lb ++ instrs_of ln) in
+        let is : instrs_of (lh ++ (lb ++ (ln ++ (last ∷ [])))) ≡
+            instrs_of lh ++ (instrs_of lb ++ (instrs_of ln ++ (last.instr ∷ []))) =
+        map-append (λ line. line.instr) lh (lb ++ (ln ++ (last ∷ []))) ∙
+        ap (λ t. instrs_of lh ++ t) (map-append (λ line. line.instr) lb (ln ++ (last ∷ []))) ∙
+        ap (λ t. instrs_of lh ++ (instrs_of lb ++ t)) (map-append (λ line. line.instr) ln (last ∷ [])) in
+        let long : length inside ≡ ph.size + (pb.size + pn.size) =
+        omega (
+          arith,
+          length-append (instrs_of lh) (instrs_of lb ++ instrs_of ln),
+          length-append (instrs_of lb) (instrs_of ln),
+          length-map lh (λ line. line.instr),
+          length-map lb (λ line. line.instr),
+          length-map ln (λ line. line.instr),
+          (row_is_sized frame places head).sized (pb.size + suc pn.size) 0,
+          (row_is_sized frame places body).sized (suc pn.size) 0,
+          (row_is_sized frame places next).sized 1 0,
+        ) in
+        subst (λ s. HaveCode (s ∷ rest)
+            ((round_begins.instr ∷ instrs_of (lh ++ (lb ++ (ln ++ (last ∷ []))))) ++ more))
+        (rolled_loop head body next)
+        (subst (λ t. HaveCode (emit.Loop head body next ∷ rest) (round_begins.instr ∷ t))
+        (sym (ap (λ t. t ++ more) is ∙ loop_parts (instrs_of lh) (instrs_of lb) (instrs_of ln) more last.instr))
+        (repeating inside round_begins.instr last.instr (record {
+          order = inl refl;
+          on = refl;
+          back = inl (ap (λ n. Some (neg_ℤ (pos (4 * suc n)))) (sym long));
+        }) (row_lies head hh (pb.size + suc pn.size) 0) (row_lies body hb (suc pn.size) 0) (row_lies next hn 1 0) h));
+  }
+
+  layer_lies : (layer : TacStmt-F TacStmt) → Inside Lies layer →
+      IsCodeOf (roll-TacStmt layer) (select_step frame places (map-TacStmt _ _ (select frame places) layer))
+  layer_lies (tac.Const dest value) h =
+      by_instrs (tac.Const dest value) _ refl (loaded_straight frame places dest (word_of_constant value))
+  layer_lies (tac.Copy dest from) h =
+      by_instrs (tac.Copy dest from) _ refl
+      (copied_straight frame (place_of frame places dest) (place_of frame places from))
+  layer_lies (tac.Op dest o left right) h =
+      by_instrs (tac.Op dest o left right) _ refl (operation_straight frame places dest o left right)
+  layer_lies (tac.ObjectPlace dest object) h =
+      by_instrs (tac.ObjectPlace dest object) _ refl (object_straight frame places dest object)
+  layer_lies (tac.GlobalPlace dest global) h =
+      by_lines (tac.GlobalPlace dest global) (place_of_global frame places dest global) refl
+      (global_straight frame places dest global)
+  layer_lies (tac.Load dest place pointer) h =
+      by_instrs (tac.Load dest place pointer) _ refl (load_from_straight frame places dest place)
+  layer_lies (tac.Store place value) h =
+      by_instrs (tac.Store place value) _ refl (store_to_straight frame places place value)
+  layer_lies (tac.If cond first second) h = if_lies cond first second h.0 h.1
+  layer_lies (tac.Loop head body next) h = loop_lies head body next h.0 h.1 h.2
+  layer_lies tac.Break h = alone tac.Break _ refl (λ b c. over_on b)
+  layer_lies tac.Continue h = alone tac.Continue _ refl (λ b c. over_on c)
+  layer_lies (tac.CallOwn dest function args) h =
+      by_lines (tac.CallOwn dest function args) (call_own frame places dest function args) refl
+      (own_straight frame places dest function args)
+  layer_lies (tac.CallCross dest comp index args) h =
+      by_lines (tac.CallCross dest comp index args) (call_cross frame places dest comp index args) refl
+      (cross_straight frame places dest comp index args)
+  layer_lies (tac.Input dest) h =
+      by_instrs (tac.Input dest) (environment_call 1 ++ receive frame places dest) refl
+      (receive_straight frame places dest)
+  layer_lies (tac.Output value) h = by_instrs (tac.Output value) _ refl (output_straight frame places value)
+  layer_lies (tac.Return value) h = by_instrs (tac.Return value) _ refl (return_straight frame places value)
+
+  stmt_lies : (stmt : TacStmt) → Lies stmt
+  stmt_lies = stmt_induction Lies (λ layer h.
+      subst (IsCodeOf (roll-TacStmt layer)) (sym (fold-roll-TacStmt Piece (select_step frame places) layer))
+      (layer_lies layer h))
+
+pub has_rounds : (f : TacFnTree) (places : List Place) (frame : FrameTree) →
+    HasRounds f.body (code_of f places frame).instrs
+has_rounds f places frame =
+    let in_lines : List Line = plainly (entrance frame places f.params) in
+    let body : List Line = (select_all frame places f.body).lines 0 0 in
+    let out_lines : List Line = plainly (closing frame places f.entry) in
+    record {
+      before = instrs_of in_lines;
+      inside = instrs_of body;
+      behind = instrs_of out_lines;
+      parts =
+          ap instrs_of (append_assoc in_lines body out_lines) ∙
+          map-append (λ line. line.instr) in_lines (body ++ out_lines) ∙
+          ap (λ t. instrs_of in_lines ++ t) (map-append (λ line. line.instr) body out_lines);
+      in_on =
+          lines_on in_lines
+          (plainly_straight (entrance frame places f.params) (entrance_straight frame places f.params));
+      out_on =
+          lines_on out_lines (plainly_straight (closing frame places f.entry) (closing_straight frame places f.entry));
+      statements = row_lies frame places f.body (everywhere (Lies frame places) (stmt_lies frame places) f.body) 0 0;
+    }
+
+-- COUNTS
+abbrev one_if_back : Instr → ℕ
+one_if_back instr = cond (leads_back instr) 1 0
+
+abbrev count : List Instr → ℕ
+count instrs = count_by {X = Instr} leads_back instrs
+
+count_append : (xs ys : List Instr) → count (xs ++ ys) ≡ count xs + count ys
+count_append xs ys = sum_by-append one_if_back xs ys
+
+counted_append : (xs ys : List Instr) (n m : ℕ) → count xs ≤ n → count ys ≤ m → count (xs ++ ys) ≤ n + m
+counted_append xs ys n m hx hy = by (count xs) (count ys) _ hx hy (count_append xs ys) where
+  by : (a b d : ℕ) → a ≤ n → b ≤ m → d ≡ a + b → d ≤ n + m
+  by a b d h k e = omega (arith, h, k, e)
+
+one_at_most : (i : Instr) → count (i ∷ []) ≤ 1
+one_at_most i = by (leads_back i) where
+  by : (b : Bool) → 0 + cond b 1 0 ≤ 1
+  by true = omega arith
+  by false = omega arith
+
+none_here : (i : Instr) → leads_on i ≡ true → count (i ∷ []) ≤ 0
+none_here i h = by (leads_back i) h where
+  by : (b : Bool) → not b ≡ true → 0 + cond b 1 0 ≤ 0
+  by true h = absurd (cc)
+  by false h = omega arith
+
+none_counted : (instrs : List Instr) → LeadOn instrs → count instrs ≤ 0
+none_counted [] h = omega arith
+none_counted (x ∷ xs) h =
+    counted_append (x ∷ []) xs 0 0 (none_here x (and_first (leads_on x) (list_all {X = Instr} leads_on xs) h))
+    (none_counted xs (and_rest (leads_on x) (list_all {X = Instr} leads_on xs) h))
+
+if_loops : (cond : ℕ) (first second : List TacStmt) → stmt_loops (emit.If cond first second) ≡ loops first + loops second
+unfolding roll-TacStmt denote.Hole.Carrier.roll
+if_loops cond first second = fold-roll-TacStmt ℕ loop_step (tac.If cond first second) ∙ omega arith
+
+loop_loops : (head body next : List TacStmt) →
+    stmt_loops (emit.Loop head body next) ≡ suc (loops head + (loops body + loops next))
+unfolding roll-TacStmt denote.Hole.Carrier.roll
+loop_loops head body next = fold-roll-TacStmt ℕ loop_step (tac.Loop head body next)
+
+around : (head body next inside : List Instr) (first last : Instr) (n m k : ℕ) →
+    GoesAround head body next inside first last → count head ≤ n → count body ≤ m → count next ≤ k →
+    count inside ≤ n + (m + k)
+around head body next inside first last n m k goes hh hb hn = ⊎_elim
+    (λ is. subst (λ l. count l ≤ n + (m + k)) (sym is)
+        (counted_append head (body ++ next) n (m + k) hh (counted_append body next m k hb hn)))
+    (λ is. subst (λ l. count l ≤ n + (m + k)) (sym is)
+        (turned (counted_append body (next ++ head) m (k + n) hb (counted_append next head k n hn hh))))
+    goes.order
+  where
+    turned : {c : ℕ} → c ≤ m + (k + n) → c ≤ n + (m + k)
+    turned {c} h = omega (arith, h)
+
+counted : {stmts : List TacStmt} {instrs : List Instr} → HaveCode stmts instrs → count instrs ≤ loops stmts
+counted empty = omega arith
+counted (loopless {rest = rest} {more = more} stmt own none on h) =
+    let all = counted_append own more 0 (loops rest) (none_counted own on) (counted h) in omega (arith, all)
+counted (branching {first = first} {second = second} {rest = rest} {one = one} {two = two} {more = more} cond test over
+    test_on over_on h k g) =
+    let tail = counted_append two more (loops second) (loops rest) (counted k) (counted g) in
+    let second_part = counted_append over (two ++ more) 0 (loops second + loops rest) (none_counted over over_on) tail in
+    let both = counted_append one (over ++ (two ++ more)) (loops first) (0 + (loops second + loops rest)) (counted h)
+        second_part in
+    let all = counted_append test (one ++ (over ++ (two ++ more))) 0 (loops first + (0 + (loops second + loops rest)))
+        (none_counted test test_on) both in
+    omega (arith, all, if_loops cond first second)
+counted (repeating {head = head} {body = body} {next = next} {rest = rest} {at_head = at_head} {at_body = at_body}
+    {at_next = at_next} {more = more} inside first last goes h b n g) =
+    let behind = counted_append (last ∷ []) more 1 (loops rest) (one_at_most last) (counted g) in
+    let inner = around at_head at_body at_next inside first last (loops head) (loops body) (loops next) goes (counted h)
+        (counted b) (counted n) in
+    let both = counted_append inside (last ∷ more) (loops head + (loops body + loops next)) (1 + loops rest) inner
+        behind in
+    let all = counted_append (first ∷ []) (inside ++ (last ∷ more)) 0
+        (loops head + (loops body + loops next) + (1 + loops rest)) (none_here first goes.on) both in
+    omega (arith, all, loop_loops head body next)
+
+-- no more lead back than there are loops
+pub few_back : (f : TacFnTree) (places : List Place) (frame : FrameTree) →
+    code_back_edges (code_of f places frame) ≤ loops f.body
+few_back f places frame =
+    let has : HasRounds f.body (code_of f places frame).instrs = has_rounds f places frame in
+    let all = counted_append has.before (has.inside ++ has.behind) 0 (loops f.body + 0) (none_counted has.before has.in_on)
+        (counted_append has.inside has.behind (loops f.body) 0 (counted has.statements)
+        (none_counted has.behind has.out_on)) in
+    let one : count (code_of f places frame).instrs ≤ 0 + (loops f.body + 0) =
+        subst (λ l. count l ≤ 0 + (loops f.body + 0)) (sym has.parts) all in
+    omega (arith, one)
