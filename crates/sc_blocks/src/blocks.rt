@@ -1,5 +1,5 @@
-ghost use Rattle.std.specs.Prelude.{◌≡◌, ◌<◌, ◌^◌, ℕ, [], ◌∷◌, ◌++◌, length, replicate, IfOk, IfSome, OnOk, OnErr, Ok, Err};
-ghost use Rattle.std.specs.Prelude.{MatchResult, IsTrue, slice_get};
+ghost use Rattle.std.specs.Prelude.{◌≡◌, ◌<◌, ◌^◌, ℕ, [], ◌∷◌, ◌++◌, length, replicate, IfOk, IfSome, OnOk, OnErr, Ok};
+ghost use Rattle.std.specs.Prelude.{Err, MatchResult, IsTrue, slice_get};
 ghost use Rattle.sc_core.specs.declared.value.Cell.TheVariants.{Undef};
 ghost use Rattle.sc_core.specs.Memory.{with_blocks};
 ghost use Rattle.sc_blocks.specs.Rows.{memory_of, or_cause, cause_of, living, cleared, is_place, load_cell, store_cell};

@@ -8,22 +8,20 @@ use Rattle.sc_emit.proofs.Common.{[], a0, a7, address_scratch, all_true, and_fir
 use Rattle.sc_emit.proofs.Common.{binary_code, branch_step, branches, brought, bytes_of, call_cross, call_own, choice}
 use Rattle.sc_emit.proofs.Common.{closing, code_branches, code_of, cond, copied, count_by, cycle, entrance}
 use Rattle.sc_emit.proofs.Common.{environment_call, everywhere, false, first_scratch, fold-TacStmt, fold-roll-TacStmt}
-use Rattle.sc_emit.proofs.Common.{followed, fork, frame_left, frame_taken, function_lines, has_no_ebreak, if◌then◌else◌}
-use Rattle.sc_emit.proofs.Common.{in_order, int_le, is_branch, is_ebreak, is_place, is_short, jump_back, jump_over}
-use Rattle.sc_emit.proofs.Common.{keep, kept, leb-true, length, list_all, load_from, load_word, loading, lower_part}
-use Rattle.sc_emit.proofs.Common.{ltb-true, map, map-TacStmt, most_lines, most_params, moved_by, nat_le, nat_lt, neg_ℤ}
-use Rattle.sc_emit.proofs.Common.{negsuc, not, object_offset, op_code, operand, operation, pass, passes_few, place_of}
+use Rattle.sc_emit.proofs.Common.{followed, fork, frame_left, frame_taken, function_lines, has_known_jumps}
+use Rattle.sc_emit.proofs.Common.{has_no_ebreak, if◌then◌else◌, in_order, int_le, is_branch, is_ebreak, is_known_jump}
+use Rattle.sc_emit.proofs.Common.{is_place, is_short, jump_back, jump_over, keep, kept, leb-true, length, list_all}
+use Rattle.sc_emit.proofs.Common.{list_all-append, list_all-map, load_from, load_word, loading, lower_part, ltb-true}
+use Rattle.sc_emit.proofs.Common.{map, map-TacStmt, most_lines, most_params, moved_by, nat_le, nat_lt, neg_ℤ, negsuc}
+use Rattle.sc_emit.proofs.Common.{not, object_offset, op_code, operand, operation, pass, passes_few, place_of}
 use Rattle.sc_emit.proofs.Common.{place_of_global, plain, plainly, pos, put, ra, receive, refl, register_count}
 use Rattle.sc_emit.proofs.Common.{register_of, register_there, result_register, return, round_begins, rules}
 use Rattle.sc_emit.proofs.Common.{second_operand, second_scratch, select, select_all, select_step, signed_of, slice_get}
 use Rattle.sc_emit.proofs.Common.{slot_offset, sp, stmt_branches, stmt_induction, store_arguments, store_to, store_word}
-use Rattle.sc_emit.proofs.Common.{straight, sub_word, subst, suc, sym, take, take_second, taken, total, true}
-use Rattle.sc_emit.proofs.Common.{unary_code, upper_part, with_parts, word_of_constant, zero, ℕ, ℤ, ◌%◌, ◌&&◌, ◌*◌}
-use Rattle.sc_emit.proofs.Common.{◌++◌, ◌+◌, ◌<◌, ◌==◌, ◌^◌, ◌∙◌, ◌∷◌, ◌≡◌, ◌≤ℤ◌, ◌≤◌}
-use Rattle.sc_emit.specs.Prelude.{has_known_jumps, is_known_jump}
+use Rattle.sc_emit.proofs.Common.{straight, sub_word, subst, suc, sum_by-append, sym, take, take_second, taken, total}
+use Rattle.sc_emit.proofs.Common.{true, unary_code, upper_part, with_parts, word_of_constant, zero, ℕ, ℤ, ◌%◌, ◌&&◌}
+use Rattle.sc_emit.proofs.Common.{◌*◌, ◌++◌, ◌+◌, ◌<◌, ◌==◌, ◌^◌, ◌∙◌, ◌∷◌, ◌≡◌, ◌≤ℤ◌, ◌≤◌}
 use Rattle.sc_select.specs.Prelude.{Piece}
-use Rattle.std.proofs.lemmas.List.Folds.{list_all-append, list_all-map}
-use Rattle.std.proofs.lemmas.List.Sums.{sum_by-append}
 use Rattle.std.proofs.lemmas.Int.{ints}
 use Rattle.rv_code.proofs.Numbers.{IsImmediate-signed}
 use Rattle.sc_base.specs.declared.op.BinaryOp.{BinaryOp}

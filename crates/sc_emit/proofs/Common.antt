@@ -5,9 +5,11 @@ pub use Rattle.std.proofs.Common.{inl, inr, int_le, is_some, le-leb, le-ltb, leb
 pub use Rattle.std.proofs.Common.{map, max, nat_eq, nat_le, nat_lt, ne_eqb, neg_ℤ, negsuc, not, pos, refl, rules}
 pub use Rattle.std.proofs.Common.{slice_get, subst, suc, sym, true, zero, ℕ, ℤ, ⊎_elim, ◌%◌, ◌&&◌, ◌*◌, ◌++◌, ◌+◌, ◌-ℤ◌}
 pub use Rattle.std.proofs.Common.{◌-◌, ◌/◌, ◌<◌, ◌==◌, ◌^◌, ◌||◌, ◌∙◌, ◌∷◌, ◌≡◌, ◌≢◌, ◌≤ℤ◌, ◌≤◌, ◌⊎◌}
-pub use Rattle.std.proofs.lemmas.Bool.{and_from, and_parts, cases_eq, cases_lt}
+pub use Rattle.std.proofs.lemmas.Bool.{and_from, and_parts, cases_eq, cases_lt, lt-leb}
 pub use Rattle.std.proofs.lemmas.List.{length-map, map-append}
 pub use Rattle.std.proofs.lemmas.List.Elements.{All-cons, All-nil, All-tail}
+pub use Rattle.std.proofs.lemmas.List.Folds.{list_all-append, list_all-map}
+pub use Rattle.std.proofs.lemmas.List.Sums.{sum_by-append}
 pub use Rattle.std.proofs.lemmas.Option.{same_Some, slice_get-get_or, slice_get_within}
 pub use Rattle.std.specs.List.{count_by, list_all, range_with_len}
 pub use Rattle.std.specs.Option.{unwrap_or}
@@ -31,7 +33,6 @@ pub use Rattle.sc_laws.proofs.Growing.{then_goes, then_then}
 pub use Rattle.sc_laws.specs.Prelude.{Goes, Gone, Grown, last}
 pub use Rattle.rv_code.specs.Prelude.{IsBranchOffset, IsImmediate, IsInstr, IsJumpOffset, IsReg, IsUpper}
 pub use Rattle.rv_code.specs.declared.instr.BranchOp.TheVariants.{Bne}
-pub use Rattle.rv_code.specs.declared.instr.Instr.{Instr}
 pub use Rattle.rv_code.specs.declared.instr.Instr.TheVariants.{Branch, Ebreak, Ecall, Jal, Jalr, Load, OpImm, Store}
 pub use Rattle.rv_code.specs.declared.instr.Instr.TheVariants.{Upper}
 pub use Rattle.rv_code.specs.declared.instr.LoadOp.TheVariants.{Lw}
@@ -59,13 +60,12 @@ pub use Rattle.sc_tac.specs.Prelude.{slots_up_to, start_of, stmt_branches, stmt_
 pub use Rattle.sc_tac.specs.Prelude.{weight, with_parts, with_temp}
 pub use Rattle.sc_tac.specs.declared.frame.FrameTree.{FrameTree}
 pub use Rattle.sc_tac.specs.declared.function.TacFnTree.{TacFnTree}
-pub use Rattle.sc_tac.specs.declared.machine_code.CodeTree.{CodeTree}
 pub use Rattle.sc_tac.specs.declared.place.Place.{Place}
 pub use Rattle.sc_tac.specs.declared.place.Place.TheVariants.{Register, Slot}
 pub use Rattle.sc_tac.specs.declared.stmt.Constant.{Constant}
 pub use Rattle.sc_tac.specs.declared.stmt.TacOp.{TacOp}
-pub use Rattle.sc_tac.specs.declared.stmt.TacStmt.{TacStmt, TacStmt-F, fold-TacStmt, fold-roll-TacStmt, map-TacStmt}
-pub use Rattle.sc_tac.specs.declared.stmt.TacStmt.{roll-TacStmt}
+pub use Rattle.sc_tac.specs.declared.stmt.TacStmt.{fold-roll-TacStmt, map-TacStmt, roll-TacStmt}
+pub use Rattle.sc_select.proofs.Sizes.{row_is_sized}
 pub use Rattle.sc_select.specs.Prelude.{Addresses, Fits, Line, a0, a7, address_scratch, at_hand, binary_code, brought}
 pub use Rattle.sc_select.specs.Prelude.{bytes_of, call_cross, call_own, choice, closing, code_of, completed, copied}
 pub use Rattle.sc_select.specs.Prelude.{cycle, entrance, environment_call, first_scratch, followed, fork, frame_left}
@@ -105,5 +105,7 @@ pub use Rattle.sc_relation.specs.Prelude.{FunctionFollows, FunctionGives, GivenB
 pub use Rattle.sc_relation.specs.Prelude.{IsActivation, IsAddress, IsHeld, IsSound, Joint, Overflows, Ready, Returns}
 pub use Rattle.sc_relation.specs.Prelude.{Running, Setting, Settled, Shows, Standpoint, StandsAt, StandsFor, Starts}
 pub use Rattle.sc_relation.specs.Prelude.{ends_of, live_at, machine, of_environment, row, runs_with, seen_from}
-pub use Rattle.sc_emit.specs.Prelude.{AreReached, CodeFollows, IsEmitted, IsPlaced, calls_only, code_branches}
-pub use Rattle.sc_emit.specs.Prelude.{has_no_ebreak, is_branch, is_call, is_ebreak, names_only}
+pub use Rattle.sc_emit.specs.Common.{CodeTree, Instr, TacStmt, TacStmt-F, fold-TacStmt}
+pub use Rattle.sc_emit.specs.Prelude.{AreReached, CodeFollows, IsEmitted, IsPlaced, calls_only, code_back_edges}
+pub use Rattle.sc_emit.specs.Prelude.{code_branches, has_known_jumps, has_no_ebreak, is_backward, is_branch, is_call}
+pub use Rattle.sc_emit.specs.Prelude.{is_ebreak, is_known_jump, leads_back, loop_step, loops, names_only, stmt_loops}

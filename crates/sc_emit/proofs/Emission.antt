@@ -6,12 +6,11 @@ use Rattle.sc_emit.proofs.Common.{TacFnTree, [], and_parts, ap, append_assoc, ar
 use Rattle.sc_emit.proofs.Common.{code_function, code_of, entrance, entry_weight, frame_taken, function_lines}
 use Rattle.sc_emit.proofs.Common.{function_points, interval_of, intervals_of, is_place, length, length-append}
 use Rattle.sc_emit.proofs.Common.{length-map, list_all, ltb-true, map, map-append, max, names_own_temps, plainly}
-use Rattle.sc_emit.proofs.Common.{range_with_len, refl, register_count, row, same_Some, select_all, slice_get}
-use Rattle.sc_emit.proofs.Common.{slice_get-get_or, slots_of, slots_up_to, store_arguments, subst, suc, sym, trail}
-use Rattle.sc_emit.proofs.Common.{true, weight, wrapping, zero, ℕ, ◌++◌, ◌+◌, ◌<◌, ◌∙◌, ◌∷◌, ◌≡◌, ◌≤◌}
+use Rattle.sc_emit.proofs.Common.{range_with_len, refl, register_count, row, row_is_sized, same_Some, select_all}
+use Rattle.sc_emit.proofs.Common.{slice_get, slice_get-get_or, slots_of, slots_up_to, store_arguments, subst, suc, sym}
+use Rattle.sc_emit.proofs.Common.{trail, true, weight, wrapping, zero, ℕ, ◌++◌, ◌+◌, ◌<◌, ◌∙◌, ◌∷◌, ◌≡◌, ◌≤◌}
 use Rattle.sc_tac.specs.Prelude.{everywhere}
 use Rattle.std.proofs.lemmas.List.FromFn.{length-range_with_len}
-use Rattle.sc_select.proofs.Sizes.{row_is_sized}
 use Rattle.sc_relation.proofs.Linking.{linked_is}
 use Rattle.sc_emit.proofs.Branches.{few_branches, known_jumps, no_ebreak}
 use Rattle.sc_emit.proofs.Functions.{in_call, BodyFollows, code_follows}

@@ -1,21 +1,18 @@
 -- The code of loops: where it begins, and where it leads back.
 use Rattle.sc_emit.proofs.Common.{Bne, Bool, Branch, Each, Ebreak, FrameTree, Inside, Instr, Jal, Line, List, None}
 use Rattle.sc_emit.proofs.Common.{Place, Some, TacFnTree, TacStmt, TacStmt-F, [], and_first, and_rest, ap, append_assoc}
-use Rattle.sc_emit.proofs.Common.{arith, call_cross, call_own, choice, closing, code_of, cond, count_by, cycle}
-use Rattle.sc_emit.proofs.Common.{entrance, environment_call, everywhere, false, first_scratch, fold-roll-TacStmt, fork}
-use Rattle.sc_emit.proofs.Common.{if◌then◌else◌, inl, jump_back, jump_over, length, length-append, length-map, list_all}
-use Rattle.sc_emit.proofs.Common.{map, map-TacStmt, map-append, neg_ℤ, not, operand, place_of, place_of_global, plain}
-use Rattle.sc_emit.proofs.Common.{plainly, pos, receive, refl, round_begins, select, select_all, select_step}
-use Rattle.sc_emit.proofs.Common.{stmt_induction, straight as lines_of, subst, suc, sym, take, true, word_of_constant}
-use Rattle.sc_emit.proofs.Common.{ℕ, ⊎_elim, ◌&&◌, ◌*◌, ◌++◌, ◌+◌, ◌==◌, ◌∙◌, ◌∷◌, ◌≡◌, ◌≤◌}
-use Rattle.sc_emit.specs.Prelude.{GoesAround, HasRounds, HaveCode, LeadOn, branching, code_back_edges, empty}
-use Rattle.sc_emit.specs.Prelude.{is_backward, is_known_jump, leads_back, leads_on, loop_step, loopless, loops}
-use Rattle.sc_emit.specs.Prelude.{repeating, stmt_loops}
+use Rattle.sc_emit.proofs.Common.{arith, call_cross, call_own, choice, closing, code_back_edges, code_of, cond}
+use Rattle.sc_emit.proofs.Common.{count_by, cycle, entrance, environment_call, everywhere, false, first_scratch}
+use Rattle.sc_emit.proofs.Common.{fold-roll-TacStmt, fork, if◌then◌else◌, inl, is_backward, is_known_jump, jump_back}
+use Rattle.sc_emit.proofs.Common.{jump_over, leads_back, length, length-append, length-map, list_all, list_all-map}
+use Rattle.sc_emit.proofs.Common.{loop_step, loops, lt-leb, map, map-TacStmt, map-append, neg_ℤ, not, operand, place_of}
+use Rattle.sc_emit.proofs.Common.{place_of_global, plain, plainly, pos, receive, refl, round_begins, row_is_sized}
+use Rattle.sc_emit.proofs.Common.{select, select_all, select_step, stmt_induction, stmt_loops, straight as lines_of}
+use Rattle.sc_emit.proofs.Common.{subst, suc, sum_by-append, sym, take, true, word_of_constant, ℕ, ⊎_elim, ◌&&◌, ◌*◌}
+use Rattle.sc_emit.proofs.Common.{◌++◌, ◌+◌, ◌==◌, ◌∙◌, ◌∷◌, ◌≡◌, ◌≤◌}
 use Rattle.sc_select.specs.Prelude.{Piece}
-use Rattle.sc_select.proofs.Sizes.{row_is_sized}
-use Rattle.std.proofs.lemmas.Bool.{lt-leb}
-use Rattle.std.proofs.lemmas.List.Folds.{list_all-map}
-use Rattle.std.proofs.lemmas.List.Sums.{sum_by-append}
+use Rattle.sc_emit.specs.Layout.{GoesAround, HasRounds, HaveCode, LeadOn, branching, empty, leads_on, loopless}
+use Rattle.sc_emit.specs.Layout.{repeating}
 unfoldable use Rattle.sc_tac.specs.declared.stmt.TacStmt.{roll-TacStmt}
 use Rattle.sc_tac.specs.declared.stmt.TacStmt.TheOpen as tac
 use Rattle.sc_tac.specs.declared.stmt.TacStmt.TheVariants as emit

@@ -1,14 +1,11 @@
 -- What the code of a function keeps.
-use Rattle.sc_core.specs.Prelude.{Front, wrapping}
+use Rattle.sc_emit.specs.Common.{CodeTree, Front, FunctionFollows, Setting, branches, code_function, entry_weight}
+use Rattle.sc_emit.specs.Common.{everywhere, frame_taken, linked, passes_words, refers_only, weight, wrapping}
 use Rattle.sc_image.specs.Prelude.{IsWellFormed, IsWord}
 use Rattle.sc_hart.specs.Prelude.{CodeAt}
-use Rattle.sc_tac.specs.Prelude.{branches, code_function, entry_weight, everywhere, passes_words, weight}
-use Rattle.sc_select.specs.Prelude.{frame_taken, linked, refers_only}
-use Rattle.sc_relation.specs.Prelude.{FunctionFollows, Setting}
 use Rattle.std.specs.Prelude.{ℕ, ◌+◌, ◌*◌, ◌<◌, ◌≤◌, Bool, length, All, IsTrue}
 use Rattle.sc_tac.specs.declared.frame.FrameTree.{FrameTree}
 use Rattle.sc_tac.specs.declared.function.TacFnTree.{TacFnTree}
-use Rattle.sc_tac.specs.declared.machine_code.CodeTree.{CodeTree}
 use Rattle.sc_emit.specs.Naming.{calls_only, AreReached}
 use Rattle.sc_emit.specs.Shapes.{code_back_edges, code_branches, has_known_jumps, has_no_ebreak, loops, names_only}
 use Rattle.sc_emit.specs.Layout.{HasRounds}

@@ -1,9 +1,8 @@
 -- Where the instructions of statements lie in the code of a function. A statement's own are those that belong to no
 -- statement inside of it.
+use Rattle.sc_emit.specs.Common.{Instr, TacStmt}
 use Rattle.std.specs.Prelude.{Bool, IsTrue, List, Some, [], length, neg_ℤ, not, pos, suc, ℕ, ◌*◌, ◌++◌, ◌∷◌, ◌≡◌, ◌⊎◌}
 use Rattle.std.specs.List.{list_all}
-use Rattle.rv_code.specs.declared.instr.Instr.{Instr}
-use Rattle.sc_tac.specs.declared.stmt.TacStmt.{TacStmt}
 use Rattle.sc_tac.specs.declared.stmt.TacStmt.TheVariants as tac
 use Rattle.sc_emit.specs.Shapes.{distance, leads_back, stmt_loops}
 

@@ -1,3 +1,4 @@
+pub mod Common
 pub mod Prelude
 pub mod Emission
 pub mod Layout

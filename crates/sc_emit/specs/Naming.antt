@@ -1,9 +1,8 @@
 -- What the code of a function counts on outside of it.
-use Rattle.sc_relation.specs.Prelude.{IsAddress, Setting}
+use Rattle.sc_emit.specs.Common.{IsAddress, Setting, TacStmt-F}
 use Rattle.std.specs.Prelude.{◌≡◌, ℕ, ◌%◌, ◌^◌, ◌<◌, Bool, true, not, ◌&&◌, ◌||◌, length, Option, None, is_some}
 use Rattle.sc_core.specs.declared.expr.CallTarget.{CallTarget}
 use Rattle.sc_core.specs.declared.expr.CallTarget.TheVariants.{Own, Cross, Input, Output}
-use Rattle.sc_tac.specs.declared.stmt.TacStmt.{TacStmt-F}
 use Rattle.sc_tac.specs.declared.stmt.TacStmt.TheOpen as tac
 
 -- calls are made as these tests say, and a value is taken of one that gives one

@@ -1,16 +1,11 @@
 -- What the code of a function consists of: its branches, how it is left, that no instruction is EBREAK, and what
 -- statements name.
+use Rattle.sc_emit.specs.Common.{CodeTree, Instr, TacStmt, TacStmt-F, fold-TacStmt, parts, ra, total}
 use Rattle.std.specs.Prelude.{Bool, List, None, Option, Some, false, if◌then◌else◌, int_le, map, not, pos, suc, true, ℕ}
 use Rattle.std.specs.Prelude.{ℤ, ◌&&◌, ◌+◌, ◌==◌, ◌||◌}
 use Rattle.std.specs.List.{count_by, list_all}
-use Rattle.rv_code.specs.declared.instr.Instr.{Instr}
 use Rattle.rv_code.specs.declared.instr.Instr.TheVariants.{Branch, Ebreak, Jal, Jalr}
-use Rattle.sc_core.specs.Prelude.{total}
-use Rattle.sc_tac.specs.Prelude.{parts}
-use Rattle.sc_tac.specs.declared.machine_code.CodeTree.{CodeTree}
-use Rattle.sc_tac.specs.declared.stmt.TacStmt.{TacStmt, TacStmt-F, fold-TacStmt}
 use Rattle.sc_tac.specs.declared.stmt.TacStmt.TheOpen as tac
-use Rattle.sc_select.specs.Prelude.{ra}
 
 abbrev pub is_branch : Instr → Bool
 is_branch (Branch op rs1 rs2 imm) = true

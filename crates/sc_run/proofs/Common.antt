@@ -48,13 +48,14 @@ pub use Rattle.sc_core.specs.declared.value.Value.TheVariants.{Null, Ptr, Word}
 pub use Rattle.sc_laws.proofs.Growing.{back_goes, calls_go, done_goes, earlier, follow_goes, front_more, stays}
 pub use Rattle.sc_laws.proofs.Growing.{then_goes, then_then, within_goes}
 pub use Rattle.sc_laws.specs.Prelude.{GoFrom, Goes, Gone, Never}
+pub use Rattle.sc_value.specs.Prelude.{here_of}
 pub use Rattle.sc_run.specs.Common.{Call, Callee, Event, Frame, ProgramTree, Ret, RunEnd, Undef, Value, cleared}
 pub use Rattle.sc_run.specs.Common.{given_back}
 pub use Rattle.sc_run.specs.Prelude.{Begun, CameTo, Comes, EndsAs, EntryAt, FoundAt, Seen, Standing, Stands, Steps}
 pub use Rattle.sc_run.specs.Prelude.{back_from, back_to, back_value, block_acts, block_for, bodies, body_acts, calls_in}
-pub use Rattle.sc_run.specs.Prelude.{cell_with, closes, does_now, ended_as, entry_from, exit_of, function_in, here_of}
-pub use Rattle.sc_run.specs.Prelude.{kept_by, left_by, library, loop_acts, memory_of, next_acts, part_acts, result_goes}
-pub use Rattle.sc_run.specs.Prelude.{resume, returned, seen_of, stmt_acts, told_back, told_call, variable_count, way_in}
+pub use Rattle.sc_run.specs.Prelude.{cell_with, closes, does_now, ended_as, entry_from, exit_of, function_in, kept_by}
+pub use Rattle.sc_run.specs.Prelude.{left_by, library, loop_acts, memory_of, next_acts, part_acts, result_goes, resume}
+pub use Rattle.sc_run.specs.Prelude.{returned, seen_of, stmt_acts, told_back, told_call, variable_count, way_in}
 pub use Rattle.sc_run.specs.Prelude.{with_exit, with_variables, word_crossing}
 pub use Rattle.sc_run.specs.declared.work.Loop.{Loop}
 pub use Rattle.sc_run.specs.declared.work.Now.{Now}

@@ -9,14 +9,15 @@ pub use Rattle.std.proofs.lemmas.Bool.{cases_eq, cases_lt}
 pub use Rattle.std.proofs.lemmas.Bool.Decides.{nat_tests}
 pub use Rattle.std.proofs.lemmas.List.{get_or-append_right, get_or-map, get_or-replicate, get_or_append_left}
 pub use Rattle.std.proofs.lemmas.List.{get_or_past, length-map, length-replicate, take_more}
+pub use Rattle.std.proofs.lemmas.List.Quantifiers.{position-Some}
 pub use Rattle.std.proofs.lemmas.List.Sums.{fails_before_first, sum_by-set}
 pub use Rattle.std.proofs.lemmas.Option.{same_Some}
 pub use Rattle.std.specs.List.{All, find, position, position_or_len}
 pub use Rattle.std.specs.Option.{option_map, option_or}
 pub use borrow.Rule.Slice.PartMut.{put_mid}
 pub use Rattle.sc_store.specs.Prelude.{AreApart, AreBelow, AreDistinct, AreOut, ArePlaced, AreSingle, HasBytes}
-pub use Rattle.sc_store.specs.Prelude.{HoldsBytes, IsFocus, IsIn, IsZero, Memory, byte_at, byte_of, byte_on, bytes_in, bytes_of}
-pub use Rattle.sc_store.specs.Prelude.{cell, is_in, load_of, memory_of, piece_of, place_found, place_in, place_of}
-pub use Rattle.sc_store.specs.Prelude.{reaches, region_of, regions_in, regions_of, replaced, spans, stored, written}
-pub use Rattle.sc_store.specs.Prelude.{zeros}
+pub use Rattle.sc_store.specs.Prelude.{HoldsBytes, IsFocus, IsIn, IsZero, Memory, byte_at, byte_of, byte_on, bytes_in}
+pub use Rattle.sc_store.specs.Prelude.{bytes_of, cell, is_in, load_of, memory_of, piece_of, place_found, place_in}
+pub use Rattle.sc_store.specs.Prelude.{place_of, reaches, region_of, regions_in, regions_of, replaced, spans, stored}
+pub use Rattle.sc_store.specs.Prelude.{written, zeros}
 pub use Rattle.sc_store.specs.declared.region.Region.{Region}

@@ -1,10 +1,10 @@
 -- Where the addresses of a paged store have their places, and what a write to the places makes of its memory.
-use Rattle.sc_store.proofs.Common.{AreApart, ArePlaced, AreSingle, Bool, IsFocus, IsIn, List, None, Option, Region, Some, [], ap}
-use Rattle.sc_store.proofs.Common.{arith, cases_lt, cond, false, find, get_or, get_or-map, inl, inr, is_in, is_some}
-use Rattle.sc_store.proofs.Common.{length, length-map, memory_of, nat_tests, option_map, place_found, place_in}
-use Rattle.sc_store.proofs.Common.{place_of, reaches, refl, regions_in, replaced, same_Some, subst, suc, sym, take}
-use Rattle.sc_store.proofs.Common.{take_more, true, written, zero, zeros, ℕ, ⊎_elim, ◌*◌, ◌++◌, ◌+◌, ◌-◌, ◌<◌, ◌∙◌, ◌∷◌, ◌≡◌}
-use Rattle.sc_store.proofs.Common.{◌≤◌, ◌⊎◌}
+use Rattle.sc_store.proofs.Common.{AreApart, ArePlaced, AreSingle, Bool, IsFocus, IsIn, List, None, Option, Region}
+use Rattle.sc_store.proofs.Common.{Some, [], ap, arith, cases_lt, cond, false, find, get_or, get_or-map, inl, inr}
+use Rattle.sc_store.proofs.Common.{is_in, is_some, length, length-map, memory_of, nat_tests, option_map, place_found}
+use Rattle.sc_store.proofs.Common.{place_in, place_of, reaches, refl, regions_in, replaced, same_Some, subst, suc, sym}
+use Rattle.sc_store.proofs.Common.{take, take_more, true, written, zero, zeros, ℕ, ⊎_elim, ◌*◌, ◌++◌, ◌+◌, ◌-◌, ◌<◌}
+use Rattle.sc_store.proofs.Common.{◌∙◌, ◌∷◌, ◌≡◌, ◌≤◌, ◌⊎◌}
 use Rattle.sc_store.specs.declared.area.Area.{Area}
 use Rattle.sc_store.specs.Pages.{pages_of}
 use Rattle.sc_store.proofs.Regions.{in_true, in_false, in_cases}

@@ -1,6 +1,6 @@
 -- Helping: where the bytes of the regions of a paged store are.
-use Rattle.std.specs.Prelude.{◌≡◌, ℕ, ◌+◌, ◌-◌, ◌*◌, ◌<◌, Bool, true, ◌&&◌, nat_le, if◌then◌else◌, List, [], ◌∷◌, map, find}
-use Rattle.std.specs.Prelude.{Option, Some, None}
+use Rattle.std.specs.Prelude.{◌≡◌, ℕ, ◌+◌, ◌-◌, ◌*◌, ◌<◌, Bool, true, ◌&&◌, nat_le, if◌then◌else◌, List, [], ◌∷◌, map}
+use Rattle.std.specs.Prelude.{find, Option, Some, None}
 use Rattle.std.specs.Option.{option_map}
 use Rattle.sc_store.specs.declared.region.Region.{Region}
 use Rattle.sc_store.specs.declared.area.Area.{Area}

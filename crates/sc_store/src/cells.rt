@@ -1,8 +1,9 @@
 // Bytes by their places, on pages.
 #![tactic(auto)]
 
-ghost use Rattle.std.specs.Prelude.{◌≡◌, ◌≤◌, ◌<◌, ◌+◌, ◌*◌, ◌/◌, ◌%◌, if◌then◌else◌, length, slice_index, slice_index_or, EachIndex};
-ghost use Rattle.std.specs.Prelude.{IsNone, IsSome, IsTrue, None, is_none, is_some, count_by, replicate, IfOk, ℕ};
+ghost use Rattle.std.specs.Prelude.{◌≡◌, ◌≤◌, ◌<◌, ◌+◌, ◌*◌, ◌/◌, ◌%◌, if◌then◌else◌, length, slice_index};
+ghost use Rattle.std.specs.Prelude.{slice_index_or, EachIndex, IsNone, IsSome, IsTrue, None, is_none, is_some};
+ghost use Rattle.std.specs.Prelude.{count_by, replicate, IfOk, ℕ};
 ghost use Rattle.sc_store.specs.Cells.{AreOut, AreDistinct, cell, replaced};
 
 use crate::OutOfMemory;

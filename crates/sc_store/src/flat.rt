@@ -1,7 +1,8 @@
 // A store with one vector per region.
 #![tactic(auto)]
 
-ghost use Rattle.std.specs.Prelude.{◌≡◌, ◌<◌, ◌≤◌, ◌∷◌, [], ℕ, false, Some, length, map, position, All, IfOk, IsTrue, IsSome};
+ghost use Rattle.std.specs.Prelude.{◌≡◌, ◌<◌, ◌≤◌, ◌∷◌, [], ℕ, false, Some, length, map, position, All, IfOk, IsTrue};
+ghost use Rattle.std.specs.Prelude.{IsSome};
 ghost use Rattle.sc_store.specs.Region.{AreApart};
 ghost use Rattle.sc_store.specs.Memory.{HoldsBytes, HasBytes, load_of, stored};
 ghost use Rattle.sc_store.specs.Flat.{regions_of, bytes_of, spans, IsZero, Reads, written};

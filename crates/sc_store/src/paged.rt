@@ -1,11 +1,13 @@
 // A store on the pages of a pool.
 #![tactic(auto)]
 
-ghost use Rattle.std.specs.Prelude.{◌≡◌, ◌<◌, ◌≤◌, ◌*◌, ◌∷◌, [], ℕ, false, Some, length, position, IfOk, IsSome, IsTrue};
+ghost use Rattle.std.specs.Prelude.{◌≡◌, ◌<◌, ◌≤◌, ◌*◌, ◌∷◌, [], ℕ, false, Some, length, position, IfOk, IsSome};
+ghost use Rattle.std.specs.Prelude.{IsTrue};
 ghost use Rattle.sc_store.specs.Region.{AreApart};
 ghost use Rattle.sc_store.specs.Memory.{HoldsBytes, HasBytes, load_of, stored};
 ghost use Rattle.sc_store.specs.Flat.{Reads, written};
-ghost use Rattle.sc_store.specs.Paged.{reaches, regions_in, place_of, place_found, memory_of, AreSingle, ArePlaced, IsFocus};
+ghost use Rattle.sc_store.specs.Paged.{reaches, regions_in, place_of, place_found, memory_of, AreSingle, ArePlaced};
+ghost use Rattle.sc_store.specs.Paged.{IsFocus};
 ghost use Rattle.sc_store.specs.Cells.{cell};
 
 use crate::area::Area;

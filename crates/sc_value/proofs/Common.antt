@@ -10,5 +10,4 @@ pub use Rattle.sc_core.specs.Prelude.{variable_at, wanted, ways, with_cell}
 pub use Rattle.sc_core.specs.declared.cause.Cause.{Cause}
 pub use Rattle.sc_core.specs.declared.expr.TypedExpr.{TypedExpr, fold-roll-TypedExpr}
 pub use Rattle.sc_core.specs.declared.value.Value.{Value}
-pub use Rattle.sc_core.specs.declared.value.Value.TheVariants.{Ptr, Word}
-pub use Rattle.sc_blocks.specs.Rows.{living, load_cell, memory_of, or_cause, put_in, read_cell, store_cell}
+pub use Rattle.sc_value.specs.Prelude.{Ptr, Word, here_of, memory_of, typed}

@@ -1,3 +1,4 @@
+pub mod Prelude
 pub mod Access
 pub mod Evaluation
 pub mod Where

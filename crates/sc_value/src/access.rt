@@ -1,9 +1,7 @@
 //! Loads and stores of values (C11 6.3.2.1, 6.5.16).
 
-ghost use Rattle.sc_core.specs.Prelude.{cell_of, load, store, with_blocks};
+ghost use Rattle.sc_value.specs.Prelude.{cause_of, cell_of, load, memory_of, store, typed, with_blocks};
 ghost use Rattle.std.specs.Prelude.{◌≡◌, Ok, Err, OnErr, MatchResult};
-ghost use Rattle.sc_blocks.specs.Rows.{memory_of, cause_of};
-ghost use Rattle.sc_value.specs.Access.{typed};
 
 use sc_blocks::{BlockFault, Blocks};
 use sc_core::{Cause, Cell, Value};

@@ -1,12 +1,10 @@
 //! Expressions (C11 6.5), by recursion on the tree, whose height is at most 256.
 
-ghost use Rattle.sc_core.specs.Prelude.{applied, at_pointer, c_arith, is_unsigned_op, literal, values, variable_at};
-ghost use Rattle.sc_core.specs.Prelude.{wanted, ways};
+ghost use Rattle.sc_value.specs.Prelude.{applied, at_pointer, c_arith, here_of, is_unsigned_op, literal, memory_of};
+ghost use Rattle.sc_value.specs.Prelude.{values, variable_at, wanted, ways};
 ghost use Rattle.std.specs.Prelude.{◌≡◌, map, IfOk};
 ghost use Rattle.sc_base.specs.declared.op.BinaryOp.TheVariants.{Add};
-ghost use Rattle.sc_blocks.specs.Rows.{memory_of};
 ghost use Rattle.sc_value.specs.Evaluation.{decided, joined};
-ghost use Rattle.sc_value.specs.Where.{here_of};
 
 use crate::Scope;
 use crate::access::load;

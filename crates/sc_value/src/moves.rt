@@ -1,9 +1,7 @@
 //! Places some cells behind others (C11 6.5.2.1, 6.5.6p8).
 
-ghost use Rattle.sc_core.specs.Prelude.{moved, moved_back, moved_on, number_of, place_at};
+ghost use Rattle.sc_value.specs.Prelude.{count_at, memory_of, moved, moved_back, moved_on, number_of, place_at};
 ghost use Rattle.std.specs.Prelude.{◌≡◌, ◌+◌, ◌<◌, ◌^◌, pos, negsuc, ◌+ℤ◌, ◌*ℤ◌, ◌≤ℤ◌, ◌<ℤ◌, neg_ℤ};
-ghost use Rattle.sc_blocks.specs.Rows.{memory_of};
-ghost use Rattle.sc_value.specs.Access.{count_at};
 
 use crate::words::number_of;
 use sc_blocks::Blocks;

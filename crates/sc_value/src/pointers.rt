@@ -1,10 +1,9 @@
 //! Operators between two pointers (C11 6.5.6p9, 6.5.8p5, 6.5.9p6).
 
+ghost use Rattle.sc_value.specs.Prelude.{Ptr, apart, between, bind, in_elements, is_inside, memory_of, of_bool};
+ghost use Rattle.sc_value.specs.Prelude.{ordered, same_place};
 ghost use Rattle.sc_word.specs.Prelude.{word_of};
-ghost use Rattle.sc_core.specs.Prelude.{apart, between, bind, in_elements, is_inside, of_bool, ordered, same_place};
 ghost use Rattle.std.specs.Prelude.{◌≡◌, ◌<◌, ◌^◌, pos, negsuc, ◌≤ℤ◌, ◌<ℤ◌, IfOk, Ok};
-ghost use Rattle.sc_core.specs.declared.value.Value.TheVariants.{Ptr};
-ghost use Rattle.sc_blocks.specs.Rows.{memory_of};
 
 use crate::moves::count_at;
 use crate::words::of_bool;

@@ -1,11 +1,9 @@
 //! Expressions that compute with integers alone, by a way that gives no cause: where it gives nothing, the whole
 //! evaluation says why.
 
-ghost use Rattle.sc_core.specs.Prelude.{applied_one, c_arith, on_words, variable_at, wanted, ways};
-ghost use Rattle.sc_core.specs.declared.value.Value.TheVariants.{Word};
+ghost use Rattle.sc_value.specs.Prelude.{Word, applied_one, c_arith, here_of, on_words, variable_at, wanted, ways};
 ghost use Rattle.sc_core.specs.declared.value.Want.TheVariants as want;
 ghost use Rattle.std.specs.Prelude.{◌≡◌, IfSome, Ok};
-ghost use Rattle.sc_value.specs.Where.{here_of};
 
 use crate::Scope;
 use crate::words::{applied_one, on_words};

@@ -1,7 +1,7 @@
 //! Operators on words (C11 6.5.3.3, 6.5.5 to 6.5.14).
 
-ghost use Rattle.sc_core.specs.Prelude.{applied_one, c_arith, c_binary, c_negated, is_less, is_true, number_of};
-ghost use Rattle.sc_core.specs.Prelude.{of_bool, on_words, or_cause, truth};
+ghost use Rattle.sc_value.specs.Prelude.{applied_one, c_arith, c_binary, c_negated, is_less, is_true, number_of};
+ghost use Rattle.sc_value.specs.Prelude.{of_bool, on_words, or_cause, truth};
 ghost use Rattle.std.specs.Prelude.{◌≡◌, true, false};
 ghost use Rattle.sc_base.specs.declared.op.UnaryOp.TheVariants.{Minus, BitNot};
 

@@ -1,5 +1,4 @@
-use Rattle.sc_value.proofs.Common.{c_arith, drop, map, memory_of, values, ways, ◌≡◌}
-use Rattle.sc_value.specs.Where.{here_of}
+use Rattle.sc_value.proofs.Common.{c_arith, drop, here_of, map, memory_of, values, ways, ◌≡◌}
 use Rattle.sc_value.proofs.Lists.{behind}
 use Rattle.sc_value.proofs.expressions.evaluate_all.Given as goal
 

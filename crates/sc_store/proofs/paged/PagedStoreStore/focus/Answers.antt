@@ -1,5 +1,4 @@
-use Rattle.sc_store.proofs.Common.{IsFocus, reaches, subst, sym, ◌∙◌}
-use Rattle.std.proofs.lemmas.List.Quantifiers.{position-Some}
+use Rattle.sc_store.proofs.Common.{IsFocus, position-Some, reaches, subst, sym, ◌∙◌}
 use Rattle.sc_store.proofs.Places.{focus_at}
 use Rattle.sc_store.proofs.paged.PagedStoreStore.focus.Goals as goal
 
