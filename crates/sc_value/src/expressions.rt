@@ -1,9 +1,14 @@
 //! Expressions (C11 6.5), by recursion on the tree, whose height is at most 256.
 
+<<<<<<< HEAD
 ghost use Rattle.sc_value.specs.Prelude.{applied, at_pointer, c_arith, here_of, is_unsigned_op, literal, memory_of};
 ghost use Rattle.sc_value.specs.Prelude.{values, variable_at, wanted, ways};
 ghost use Rattle.std.specs.Prelude.{◌≡◌, map, IfOk};
-ghost use Rattle.sc_base.specs.declared.op.BinaryOp.TheVariants.{Add};
+ghost use Rattle.sc_base.specs.declared.op.BinaryOp.TheVariants.{Add, Add};
+=======
+ghost use Rattle.std.specs.Prelude.{◌≡◌, map, IfOk, IfSome, Ok};
+ghost use Rattle.sc_core.specs.declared.value.Want.TheVariants as want;
+>>>>>>> a8b13ff1b8c25bc543a3d0d59d5790c3f2b02546
 ghost use Rattle.sc_value.specs.Evaluation.{decided, joined};
 
 use crate::Scope;
@@ -151,7 +156,23 @@ fn joined(
     }
 }
 
-// The same by the whole tree.
+// The value of an expression of integers alone, or of an array by its name. None where it isn't found at once.
+#[inline(always)]
+fn value_at_once(blocks: &Blocks, scope: &Scope, expr: &TypedExpr) -> Option<Value>
+    ensures { IfSome result (λ value. ways c_arith scope.now.structs.now (here_of scope.now) scope.now.params expr.now
+        want.Value (memory_of blocks.now scope.now.comp.now) ≡ Ok value) }
+{
+    if let TypedKind::Variable(name) = &expr.kind {
+        if expr.ty.is_array() {
+            return Some(variable_at(scope, *name));
+        }
+    }
+    let row = blocks.row(*scope.comp)?;
+    let word = quick(row, scope, expr)?;
+    Some(Value::Word(word))
+}
+
+// The place or the value of an expression by its whole tree.
 fn evaluate_whole(
     blocks: &Blocks,
     scope: &Scope,
@@ -180,8 +201,14 @@ fn evaluate_whole(
             joined(blocks, scope, *op, types, first, second)
         }
         TypedKind::Index { base, index } => {
-            let first = evaluate_whole(blocks, scope, Want::Value, base.get())?;
-            let second = evaluate_whole(blocks, scope, Want::Value, index.get())?;
+            let first = match value_at_once(blocks, scope, base.get()) {
+                Some(value) => value,
+                None => evaluate_whole(blocks, scope, Want::Value, base.get())?,
+            };
+            let second = match value_at_once(blocks, scope, index.get()) {
+                Some(value) => value,
+                None => evaluate_whole(blocks, scope, Want::Value, index.get())?,
+            };
             let types = (base.get().ty, index.get().ty);
             let place = at_pointer(blocks, scope, BinaryOp::Add, types, first, second)?;
             wanted(blocks, scope, expr.ty, place, want)
@@ -214,10 +241,15 @@ pub fn evaluate(
     ensures { result ≡ ways c_arith scope.now.structs.now (here_of scope.now) scope.now.params expr.now want
         (memory_of blocks.now scope.now.comp.now) }
 {
-    if let Want::Value = want {
-        if let Some(row) = blocks.row(*scope.comp) {
-            if let Some(word) = quick(row, scope, expr) {
-                return Ok(Value::Word(word));
+    match want {
+        Want::Place => {
+            if let TypedKind::Variable(name) = &expr.kind {
+                return Ok(variable_at(scope, *name));
+            }
+        }
+        Want::Value => {
+            if let Some(value) = value_at_once(blocks, scope, expr) {
+                return Ok(value);
             }
         }
     }
