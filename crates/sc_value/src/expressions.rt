@@ -1,14 +1,10 @@
 //! Expressions (C11 6.5), by recursion on the tree, whose height is at most 256.
 
-<<<<<<< HEAD
 ghost use Rattle.sc_value.specs.Prelude.{applied, at_pointer, c_arith, here_of, is_unsigned_op, literal, memory_of};
 ghost use Rattle.sc_value.specs.Prelude.{values, variable_at, wanted, ways};
-ghost use Rattle.std.specs.Prelude.{◌≡◌, map, IfOk};
-ghost use Rattle.sc_base.specs.declared.op.BinaryOp.TheVariants.{Add, Add};
-=======
 ghost use Rattle.std.specs.Prelude.{◌≡◌, map, IfOk, IfSome, Ok};
+ghost use Rattle.sc_base.specs.declared.op.BinaryOp.TheVariants.{Add};
 ghost use Rattle.sc_core.specs.declared.value.Want.TheVariants as want;
->>>>>>> a8b13ff1b8c25bc543a3d0d59d5790c3f2b02546
 ghost use Rattle.sc_value.specs.Evaluation.{decided, joined};
 
 use crate::Scope;
