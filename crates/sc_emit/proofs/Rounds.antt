@@ -338,7 +338,8 @@ pub few_back : (f : TacFnTree) (places : List Place) (frame : FrameTree) →
 few_back f places frame =
     let has : HasRounds f.body (code_of f places frame).instrs = has_rounds f places frame in
     let all = counted_append has.before (has.inside ++ has.behind) 0 (loops f.body + 0)
-        (none_counted has.before has.in_on) (counted_append has.inside has.behind (loops f.body) 0 (counted has.statements)
+        (none_counted has.before has.in_on)
+        (counted_append has.inside has.behind (loops f.body) 0 (counted has.statements)
         (none_counted has.behind has.out_on)) in
     let one : count (code_of f places frame).instrs ≤ 0 + (loops f.body + 0) =
         subst (λ l. count l ≤ 0 + (loops f.body + 0)) (sym has.parts) all in
