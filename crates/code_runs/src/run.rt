@@ -7,8 +7,8 @@ use sc_tac::{Constant, TacFnTree, TacSection, TacStmt, TacTree};
 use second_meaning::{Halt, Memory};
 use std::alloc::Global;
 
-/// A call that is open: its compartment, the numbers of its first global and of its first variable, and what each of its
-/// temporaries holds.
+/// A call that is open: its compartment, the numbers of its first global and of its first variable, and what each of
+/// its temporaries holds.
 #[derive(Drop)]
 pub(crate) struct Frame {
     pub comp: CompId,

@@ -281,7 +281,8 @@ none_counted (x ∷ xs) h =
     counted_append (x ∷ []) xs 0 0 (none_here x (and_first (leads_on x) (list_all {X = Instr} leads_on xs) h))
     (none_counted xs (and_rest (leads_on x) (list_all {X = Instr} leads_on xs) h))
 
-if_loops : (cond : ℕ) (first second : List TacStmt) → stmt_loops (emit.If cond first second) ≡ loops first + loops second
+if_loops : (cond : ℕ) (first second : List TacStmt) →
+    stmt_loops (emit.If cond first second) ≡ loops first + loops second
 unfolding roll-TacStmt denote.Hole.Carrier.roll
 if_loops cond first second = fold-roll-TacStmt ℕ loop_step (tac.If cond first second) ∙ omega arith
 
@@ -310,7 +311,8 @@ counted (loopless {rest = rest} {more = more} stmt own none on h) =
 counted (branching {first = first} {second = second} {rest = rest} {one = one} {two = two} {more = more} cond test over
     test_on over_on h k g) =
     let tail = counted_append two more (loops second) (loops rest) (counted k) (counted g) in
-    let second_part = counted_append over (two ++ more) 0 (loops second + loops rest) (none_counted over over_on) tail in
+    let second_part =
+        counted_append over (two ++ more) 0 (loops second + loops rest) (none_counted over over_on) tail in
     let both = counted_append one (over ++ (two ++ more)) (loops first) (0 + (loops second + loops rest)) (counted h)
         second_part in
     let all = counted_append test (one ++ (over ++ (two ++ more))) 0 (loops first + (0 + (loops second + loops rest)))
@@ -332,7 +334,8 @@ pub few_back : (f : TacFnTree) (places : List Place) (frame : FrameTree) →
     code_back_edges (code_of f places frame) ≤ loops f.body
 few_back f places frame =
     let has : HasRounds f.body (code_of f places frame).instrs = has_rounds f places frame in
-    let all = counted_append has.before (has.inside ++ has.behind) 0 (loops f.body + 0) (none_counted has.before has.in_on)
+    let all = counted_append has.before (has.inside ++ has.behind) 0 (loops f.body + 0)
+        (none_counted has.before has.in_on)
         (counted_append has.inside has.behind (loops f.body) 0 (counted has.statements)
         (none_counted has.behind has.out_on)) in
     let one : count (code_of f places frame).instrs ≤ 0 + (loops f.body + 0) =
