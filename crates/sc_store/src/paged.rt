@@ -172,4 +172,6 @@ impl Store for PagedStore {
     fn store32(&mut self, at: u32, value: u32) {
         self.write(at, &value.to_le_bytes());
     }
+
+    fn focus(&mut self, at: u32) {}
 }
