@@ -14,6 +14,7 @@ use crate::program::Program;
 use sc_event::CompId;
 use sc_image::Image;
 use sc_image::layout::{STACK_SIZE, code_start, data_start};
+use sc_store::Store;
 use sqlite_items::at;
 use std::marker::Model;
 
@@ -79,14 +80,17 @@ impl<'a> Here<'a> {
         self.comp
     }
 
-    /// Goes over to the compartment that runs now. It is looked up where it isn't this one.
-    pub fn follow(&mut self, active: CompId)
+    /// Goes over to the compartment that runs now, with the memory focused on its data. It is looked
+    /// up where it isn't this one.
+    pub fn follow<S: Store>(&mut self, memory: &mut S, active: CompId)
         requires { IsPlace self.old.image active }
         ensures image { self.new.image ≡ self.old.image }
         ensures comp { self.new.comp ≡ active }
+        ensures memory { S.bytes memory.new ≡ S.bytes memory.old }
     {
         if self.comp != active {
             *self = Here::of(self.program, active);
+            memory.focus(data_start(active));
         }
     }
 

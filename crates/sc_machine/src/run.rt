@@ -9,6 +9,7 @@ use crate::here::Here;
 use crate::program::Program;
 use sc_base::Stop;
 use sc_event::Event;
+use sc_image::layout::data_start;
 use sc_store::Store;
 
 /// Takes at most so many steps, with room for so many events in the whole trace.
@@ -26,6 +27,7 @@ pub(crate) fn run<S: Store>(
     ensures ready { CanRun program.now events hart.new (S.bytes memory.new) }
 {
     let mut here = Here::of(program, hart.active);
+    memory.focus(data_start(here.comp()));
     for _ in 0..steps {
         if let Some(stop) = stopped(events, &hart.trace) {
             return stop;
@@ -36,7 +38,7 @@ pub(crate) fn run<S: Store>(
                 pc: hart.core.pc,
             };
         }
-        here.follow(hart.active);
+        here.follow(memory, hart.active);
     }
     stopped(events, &hart.trace).unwrap_or(Stop::StepsOut)
 }

@@ -227,4 +227,6 @@ impl Store for FlatStore {
             self.store_each(at, value, 4);
         }
     }
+
+    fn focus(&mut self, at: u32) {}
 }

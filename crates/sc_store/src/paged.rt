@@ -260,4 +260,6 @@ impl Store for PagedStore {
             self.store_each(at, value, 4);
         }
     }
+
+    fn focus(&mut self, at: u32) {}
 }

@@ -62,6 +62,11 @@ pub trait Store: Drop {
         requires { HasBytes (bytes self.old) at 4 }
         ensures { bytes self.new ≡ stored (bytes self.old) at 4 value };
 
+    /// Looks first in the region of this address from now on, whatever that region is. Loads and stores answer as before;
+    /// those in that region are found at once.
+    fn focus(&mut self, at: u32)
+        ensures { bytes self.new ≡ bytes self.old };
+
     /// Addresses have 32 bits, and what stands there is a byte.
     ghost holds_bytes: { (s : Self) → HoldsBytes (bytes s) };
 }

@@ -39,14 +39,14 @@ loop-preserved g c =
       ready = record {
         room = c.in_default-step.ensures.leaves.stays.room c.args.events c.loop.invariant.ready.room;
         sound = rw c.loop.invariant.image at c.in_default-step.ensures.leaves.stays.sound;
-        backed = rw c.loop.invariant.image at c.in_default-step.ensures.backed;
+        backed = rw (c.follow.ensures.memory, ← c.loop.invariant.image) c.in_default-step.ensures.backed;
       };
-      same =
-          sym (gone _ (map word_of c.args.inputs.now) _
+      same = rw c.follow.ensures.memory
+          (sym (gone _ (map word_of c.args.inputs.now) _
           (state_in (g.S.Store.bytes c.loop.memory) c.loop.hart) _ _ _ left
           (rw c.deref.ensures.value at (sym c.in_default.ensures))
           (rw c.loop.invariant.image at c.in_default-step.ensures.outcome)) ∙
-          c.loop.invariant.same;
+          c.loop.invariant.same);
     }
 
 pub returns-clause-run : goal.returns-clause-run
