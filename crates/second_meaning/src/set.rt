@@ -18,6 +18,11 @@ impl CompSet {
         CompSet { bits: 0 }
     }
 
+    /// The set of all.
+    pub fn full() -> CompSet {
+        CompSet { bits: u32::MAX }
+    }
+
     /// Each set of so many compartments, that of nobody first; none where they are more than four.
     pub fn all(alloc: Global, count: usize) -> Result<Vec<CompSet>, OutOfMemory> {
         let sets: u32 = match count {
