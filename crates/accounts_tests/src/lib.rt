@@ -3,8 +3,12 @@
 #![tactic(auto)]
 
 #[cfg(test)]
+mod drawn;
+#[cfg(test)]
 mod explain;
 #[cfg(test)]
 mod lines;
 #[cfg(test)]
 mod performing;
+#[cfg(test)]
+mod traces;

@@ -1,114 +1,261 @@
 // Texts in which compartments perform a trace, read and run by the program.
 use crate::lines::told;
-use code_texts::PROGRAMS;
+use crate::traces::{Inputs, LIKE_IMAGES, LONG, Origin, long_text};
+use code_texts::{INPUTS, LEFT_OUT, PROGRAMS, STORE};
 use memory_runs::Run;
-use sc_chain::{explain, replaced};
+use sc_base::OutOfMemory;
+use sc_chain::replaced;
 use sc_event::{Event, legal};
-use sc_run::run_source;
 use sc_types::SourceText;
 use second_meaning::{CompSet, Task, run_task};
 use std::alloc::Global;
 use std::test::Fail;
 
-// The inputs of each run, and as a word of the command line.
-const INPUTS: [i32; 19] = [
-    3, 1, 2, 500, 3, 2, 2, 200, 5, 1, 3, 40, 7, 99, 3, 2, 5, 10, 0,
-];
+// The most events of a trace that a text performs.
+const LIMIT: usize = 4096;
 
-const INPUTS_WORD: &str = "3,1,2,500,3,2,2,200,5,1,3,40,7,99,3,2,5,10,0";
+// Up to here each front of a trace is looked at, from here on those twice as long.
+const CLOSE: usize = 64;
 
-// The turns of each run, and as a word of the command line.
-const TURNS: u32 = 100;
+// A trace of a program, and what is read.
+#[derive(Clone, Copy)]
+struct Matter<'a> {
+    source: &'a SourceText,
+    inputs: Inputs<'a>,
+    trace: &'a [Event],
+}
 
-const TURNS_WORD: &str = "100";
+// How many traces no run shows of each program.
+const SEEDS: u32 = 3;
 
-// Whether the program tells of the text in which a set performs a trace what the source gives where the set performs
-// it, also behind the trace.
-fn is_performed(
-    alloc: Global,
-    source: &SourceText,
-    trace: &[Event],
-    set: CompSet,
-) -> Result<bool, Fail> {
+// What the program tells of the text in which a set performs, beside what the source gives where the set performs.
+#[derive(Clone, Copy, PartialEq, Eq)]
+enum Verdict {
+    Same,
+    Different,
+    NotLegal,
+}
+
+// What the program tells of a text.
+fn is_told(alloc: Global, matter: &Matter, text: &[u8], want: &[u8]) -> Result<bool, Fail> {
+    let events = behind(matter.trace).to_string(alloc)?;
+    let turns = turns(matter.trace).to_string(alloc)?;
+    let words = [
+        "meaning",
+        matter.inputs.word,
+        "--turns",
+        turns.as_str(),
+        "--events",
+        events.as_str(),
+    ];
+    let ran = Run::new(&words, text).run(alloc)?;
+    Ok(ran.status == 0 && ran.out.as_slice() == want)
+}
+
+// Turns enough for the trace, and some behind it. `second_meaning` has stack for so many calls within each other.
+fn turns(trace: &[Event]) -> u32 {
+    (trace.len() as u32).wrapping_mul(2).wrapping_add(200)
+}
+
+// So many events that what is behind a trace is seen too.
+fn behind(trace: &[Event]) -> u32 {
+    match u32::try_from(trace.len().saturating_add(2).min(LIMIT)) {
+        Ok(events) => events,
+        Err(_) => 0,
+    }
+}
+
+fn judge(alloc: Global, matter: &Matter, set: CompSet) -> Result<Verdict, Fail> {
+    let Matter {
+        source,
+        trace,
+        inputs,
+    } = *matter;
     let interfaces = &source.program().tree().interfaces;
     if trace.len() > 4096 || !legal(interfaces, trace) {
-        return Ok(false);
+        return Ok(Verdict::NotLegal);
     }
     let comps = set.members(alloc, interfaces.comps.len())?;
     let text = replaced(alloc, source, trace, comps.as_slice())?;
-    let events = trace.len() as u32 + 2;
     let task = Task {
         program: source.program(),
         set,
         trace,
-        inputs: &INPUTS,
-        turns: TURNS,
-        events,
+        inputs: inputs.numbers,
+        turns: turns(trace),
+        events: behind(trace),
     };
     let run = run_task(alloc, &task)?;
-    let events = events.to_string(alloc)?;
-    let words = [
-        "meaning",
-        "--in",
-        INPUTS_WORD,
-        "--turns",
-        TURNS_WORD,
-        "--events",
-        events.as_str(),
-    ];
-    let ran = Run::new(&words, text.bytes()).run(alloc)?;
     let want = told(alloc, interfaces, &run)?;
-    Ok(ran.status == 0 && ran.out.as_slice() == want.as_bytes())
+    match is_told(alloc, matter, text.bytes(), want.as_bytes())? {
+        true => Ok(Verdict::Same),
+        false => Ok(Verdict::Different),
+    }
 }
 
-// Whether that is so of each front of a trace.
-fn fronts_are_performed(
-    alloc: Global,
-    source: &SourceText,
-    trace: &[Event],
-    set: CompSet,
-) -> Result<bool, Fail> {
-    for count in 0..=trace.len() {
-        let Some(front) = trace.get(..count) else {
-            return Ok(false);
+// The length of the front that is looked at next.
+fn next_length(length: usize) -> usize {
+    if length < CLOSE {
+        return length.wrapping_add(1);
+    }
+    length.wrapping_mul(2)
+}
+
+// The lengths of the fronts that are looked at.
+fn lengths(alloc: Global, whole: usize) -> Result<Vec<usize>, OutOfMemory> {
+    let mut lengths = Vec::new(alloc);
+    let mut length: usize = 0;
+    for _ in 0..LIMIT {
+        if length >= whole {
+            break;
+        }
+        lengths.push(length)?;
+        length = next_length(length);
+    }
+    lengths.push(whole)?;
+    Ok(lengths)
+}
+
+// For how many fronts of a trace both are the same, `None` where they differ for one.
+fn same_fronts(alloc: Global, matter: &Matter, set: CompSet) -> Result<Option<u32>, Fail> {
+    let mut count: u32 = 0;
+    for length in lengths(alloc, matter.trace.len())? {
+        let Some(trace) = matter.trace.get(..length) else {
+            return Ok(None);
         };
-        if !is_performed(alloc, source, front, set)? {
-            return Ok(false);
+        let front = Matter { trace, ..*matter };
+        if judge(alloc, &front, set)? != Verdict::Same {
+            return Ok(None);
         }
+        count = count.wrapping_add(1);
     }
-    Ok(true)
+    Ok(Some(count))
 }
 
-// Whether it is of each set of the program's compartments, of which there are at most four.
-fn are_performed(alloc: Global, source: &SourceText, trace: &[Event]) -> Result<bool, Fail> {
-    let sets = CompSet::all(alloc, source.program().tree().interfaces.comps.len())?;
-    for set in &sets {
-        if !fronts_are_performed(alloc, source, trace, *set)? {
-            return Ok(false);
-        }
+// For how many fronts and sets of compartments they are.
+fn same_sets(alloc: Global, matter: &Matter) -> Result<Option<u32>, Fail> {
+    let mut count: u32 = 0;
+    let comps = matter.source.program().interfaces().comps.len();
+    for set in CompSet::samples(alloc, comps)? {
+        let Some(fronts) = same_fronts(alloc, matter, set)? else {
+            return Ok(None);
+        };
+        count = count.wrapping_add(fronts);
     }
-    Ok(true)
+    Ok(Some(count))
+}
+
+// For how many they are in a text.
+fn same(alloc: Global, text: &[u8], origin: Origin) -> Result<Option<u32>, Fail> {
+    let source = SourceText::read(alloc, text)?;
+    let inputs = Inputs::of(text);
+    let trace = origin.trace(alloc, &source, inputs)?;
+    let matter = Matter {
+        source: &source,
+        inputs,
+        trace: trace.as_slice(),
+    };
+    same_sets(alloc, &matter)
+}
+
+// For how many they are in all of these texts.
+fn same_of_all(alloc: Global, texts: &[&[u8]], origin: Origin) -> Result<Option<u32>, Fail> {
+    let mut count: u32 = 0;
+    for text in texts {
+        let Some(one) = same(alloc, text, origin)? else {
+            return Ok(None);
+        };
+        count = count.wrapping_add(one);
+    }
+    Ok(Some(count))
+}
+
+// For how many they are in the long texts.
+fn same_of_long(alloc: Global) -> Result<Option<u32>, Fail> {
+    let mut count: u32 = 0;
+    for parts in LONG {
+        let text = long_text(alloc, parts)?;
+        let Some(one) = same(alloc, &text, Origin::Meant)? else {
+            return Ok(None);
+        };
+        count = count.wrapping_add(one);
+    }
+    Ok(Some(count))
+}
+
+// For how many they are in traces that no run shows.
+fn same_of_drawn(alloc: Global) -> Result<Option<u32>, Fail> {
+    let mut count: u32 = 0;
+    for seed in 1..=SEEDS {
+        let Some(one) = same_of_all(alloc, PROGRAMS, Origin::Drawn(seed))? else {
+            return Ok(None);
+        };
+        count = count.wrapping_add(one);
+    }
+    Ok(Some(count))
+}
+
+// Whether something was counted, and at least so much.
+fn reaches(count: Option<u32>, floor: u32) -> bool {
+    match count {
+        Some(count) => count >= floor,
+        None => false,
+    }
+}
+
+// What is found of a text and the trace of another one, whose first events are left out.
+fn judge_strange(alloc: Global, text: &[u8], other: &[u8], skip: usize) -> Result<Verdict, Fail> {
+    let source = SourceText::read(alloc, text)?;
+    let stranger = SourceText::read(alloc, other)?;
+    let inputs = Inputs::of(text);
+    let trace = Origin::Shown.trace(alloc, &stranger, inputs)?;
+    let matter = Matter {
+        source: &source,
+        inputs,
+        trace: trace.as_slice().get(skip..).unwrap_or(&[]),
+    };
+    judge(alloc, &matter, CompSet::full())
 }
 
 #[test]
 fn what_programs_mean_is_performed(rt: HostRuntime) -> Result<(), Fail> {
-    for text in PROGRAMS {
-        let source = SourceText::read(rt.alloc(), text)?;
-        let run = run_source(rt.alloc(), source.program(), &INPUTS, TURNS, 48)?;
-        assert!(rt; are_performed(rt.alloc(), &source, run.trace.as_slice())?);
-    }
+    let count = same_of_all(rt.alloc(), PROGRAMS, Origin::Meant)?;
+    assert!(rt; reaches(count, 690));
     Ok(())
 }
 
 #[test]
 fn what_the_machine_shows_is_performed(rt: HostRuntime) -> Result<(), Fail> {
-    for text in PROGRAMS {
-        let source = SourceText::read(rt.alloc(), text)?;
-        let explanation = explain(rt.alloc(), &source, &INPUTS, 2000, 48);
-        assert!(rt; explanation.is_ok());
-        if let Ok(explanation) = explanation {
-            assert!(rt; are_performed(rt.alloc(), &source, explanation.trace.as_slice())?);
-        }
+    let count = same_of_all(rt.alloc(), PROGRAMS, Origin::Shown)?;
+    assert!(rt; reaches(count, 1000));
+    Ok(())
+}
+
+#[test]
+fn what_images_show_is_performed(rt: HostRuntime) -> Result<(), Fail> {
+    let count = same_of_all(rt.alloc(), &LIKE_IMAGES, Origin::Meant)?;
+    assert!(rt; reaches(count, 18));
+    Ok(())
+}
+
+#[test]
+fn what_long_programs_mean_is_performed(rt: HostRuntime) -> Result<(), Fail> {
+    assert!(rt; reaches(same_of_long(rt.alloc())?, 290));
+    Ok(())
+}
+
+#[test]
+fn what_no_run_shows_is_performed(rt: HostRuntime) -> Result<(), Fail> {
+    assert!(rt; reaches(same_of_drawn(rt.alloc())?, 4200));
+    Ok(())
+}
+
+// A trace whose first call is missing, one of other compartments, and one that outputs what isn't imported.
+#[test]
+fn what_is_not_legal_is_left_out(rt: HostRuntime) -> Result<(), Fail> {
+    for (text, other, skip) in [(STORE, STORE, 1), (INPUTS, STORE, 0), (LEFT_OUT, INPUTS, 0)] {
+        assert!(rt; judge_strange(rt.alloc(), text, other, skip)? == Verdict::NotLegal);
     }
+    assert!(rt; judge_strange(rt.alloc(), STORE, STORE, 0)? == Verdict::Same);
     Ok(())
 }

@@ -256,7 +256,8 @@ int main(void) {
 }
 ";
 
-const INPUTS: &[u8] = b"#pragma compartment Main
+/// Three inputs are read and their sum is written.
+pub const INPUTS: &[u8] = b"#pragma compartment Main
 #pragma import Env input
 #pragma import Env output
 int input(void);

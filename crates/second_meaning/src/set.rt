@@ -39,6 +39,24 @@ impl CompSet {
         Ok(all)
     }
 
+    /// Some sets of so many compartments: each one where there are at most four, else that of nobody, that of all, and
+    /// those of one and of two neighbours.
+    pub fn samples(alloc: Global, count: usize) -> Result<Vec<CompSet>, OutOfMemory> {
+        let mut samples = CompSet::all(alloc, count)?;
+        if samples.len() > 0 {
+            return Ok(samples);
+        }
+        samples.push(CompSet::empty())?;
+        samples.push(CompSet::full())?;
+        for number in 0..CompId::LIMIT {
+            for pattern in [1, 3] {
+                let bits = u32::wrapping_shl(pattern, number as u32);
+                samples.push(CompSet { bits })?;
+            }
+        }
+        Ok(samples)
+    }
+
     /// Whether it has a compartment.
     pub fn has(self, comp: CompId) -> bool {
         self.bits.wrapping_shr(comp.number() as u32) & 1 == 1
