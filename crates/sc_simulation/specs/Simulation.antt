@@ -28,7 +28,7 @@ Simulates = (program : TacTree) (image : ImageParts) (turn_pays : ℕ) → IsBui
     Outcome image inputs (turn_pays * suc turns) turns (code_run wrapping program inputs turns)
 
 -- where a set performs its part of what the machine shows, whatever its code does, the run of all other code keeps to
--- that, with as many turns as the machine took steps
+-- that, with as many turns as the machine may take steps
 abbrev pub ScriptsSimulate : Type 0
 ScriptsSimulate = (program : TacTree) (image : ImageParts) (turn_pays : ℕ) → IsBuilt program image turn_pays →
     (inputs : List ℕ) (steps events : ℕ) (set : ℕ → Bool) → All IsWord inputs →
