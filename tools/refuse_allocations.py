@@ -1,0 +1,101 @@
+#!/usr/bin/env python3
+"""Refuses each allocation of a run in turn, and holds the answers to what they may be.
+
+Usage, at the top of the repository: tools/refuse_allocations.py PROGRAM WORD.. < INPUT
+       tools/refuse_allocations.py --build PROGRAM
+
+The second form builds PROGRAM first: secomp with run-time checks in place of proofs, as `rt try --fail-alloc` builds it, with a
+number of the allocation to refuse that stands nowhere else in the program. The first form puts each number from 1 on in
+its place and runs the program on these words and this input. An answer must be that of the run in which nothing is
+refused, or status 9 with nothing written to the output. It ends after 64 numbers in a row that change nothing, since then
+there are no more allocations, and prints how many were refused.
+"""
+import os
+import subprocess
+import sys
+import tempfile
+
+# The number that the build refuses, and how its bytes stand in the program.
+MARK = 0x5EC0_3B1D
+STORED = MARK.to_bytes(4, "little")
+OUT_OF_MEMORY = 9
+QUIET = 64
+
+
+def kit():
+    """The folder of the toolchain."""
+    return os.path.dirname(subprocess.run(["rt", "doc"], capture_output=True, text=True, check=True).stdout.strip())
+
+
+def linked(source, shadow, keep):
+    """Makes a folder with links to the toolchain's files, whose linker keeps a copy of what it links."""
+    os.makedirs(f"{shadow}/bin")
+    os.makedirs(f"{shadow}/toolchain/bin")
+    for name in os.listdir(source):
+        if name not in ("bin", "toolchain"):
+            os.symlink(f"{source}/{name}", f"{shadow}/{name}")
+    for name in os.listdir(f"{source}/bin"):
+        copy = ["cp"] if name.startswith("rt") else ["ln", "-s"]
+        subprocess.run([*copy, f"{source}/bin/{name}", f"{shadow}/bin/{name}"], check=True)
+    os.symlink(f"{source}/toolchain/lib", f"{shadow}/toolchain/lib")
+    for name in os.listdir(f"{source}/toolchain/bin"):
+        if name != "ld.lld":
+            os.symlink(f"{source}/toolchain/bin/{name}", f"{shadow}/toolchain/bin/{name}")
+    linker = f"{shadow}/toolchain/bin/ld.lld"
+    with open(linker, "w", encoding="utf-8") as script:
+        script.write(f'#!/bin/bash\n"{source}/toolchain/bin/ld.lld" "$@"; status=$?\nwhile [ $# -gt 0 ]; do\n'
+                     f'  [ "$1" = -o ] && cp -f "$2" "{keep}"\n  shift\ndone\nexit $status\n')
+    os.chmod(linker, 0o755)
+
+
+def build(program):
+    """Builds secomp into this file."""
+    with tempfile.TemporaryDirectory() as room:
+        linked(kit(), f"{room}/kit", os.path.abspath(program))
+        subprocess.run(["python3", f"{room}/kit/bin/rt", "try", "--fail-alloc", str(MARK)], cwd="crates/secomp",
+                       stdin=subprocess.DEVNULL, stdout=subprocess.DEVNULL, stderr=subprocess.DEVNULL)
+    if not os.path.exists(program):
+        raise SystemExit("it was not built: `rt try` in crates/secomp says why")
+
+
+def refusing(program, number, to):
+    """Writes the program that refuses the allocation of this number."""
+    with open(program, "rb") as it:
+        code = it.read()
+    with open(to, "wb") as it:
+        it.write(code.replace(STORED, number.to_bytes(4, "little")))
+    os.chmod(to, 0o755)
+
+
+def answer(program, words, text):
+    """The status and the output of a run."""
+    lib = f"{kit()}/toolchain/lib"
+    command = [f"{lib}/ld-linux-x86-64.so.2", "--inhibit-cache", "--library-path", lib, program, *words]
+    ran = subprocess.run(command, input=text, capture_output=True)
+    return ran.returncode, ran.stdout
+
+
+def main(words):
+    if len(words) == 2 and words[0] == "--build":
+        return build(words[1])
+    if len(words) < 2:
+        raise SystemExit(__doc__)
+    program, words, text = words[0], words[1:], sys.stdin.buffer.read()
+    with tempfile.TemporaryDirectory() as room:
+        whole = answer(program, words, text)
+        number, quiet, refused = 0, 0, 0
+        while quiet < QUIET:
+            number += 1
+            refusing(program, number, f"{room}/run")
+            given = answer(f"{room}/run", words, text)
+            if given == whole:
+                quiet += 1
+            elif given == (OUT_OF_MEMORY, b""):
+                quiet, refused = 0, refused + 1
+            else:
+                raise SystemExit(f"allocation {number}: status {given[0]}, {len(given[1])} bytes written")
+    print(f"status {whole[0]}: {refused} refused allocations, each answered by status {OUT_OF_MEMORY} and no output")
+
+
+if __name__ == "__main__":
+    main(sys.argv[1:])
