@@ -131,11 +131,11 @@ module _ (frame : FrameTree) (places : List Place) where
         let one : List Line = e.lines (suc (f.size + b)) (suc (f.size + c)) in
         let two : List Line = f.lines b c in
         let is : instrs_of (plainly (choice frame places cond) ++ (over ∷ (one ++ (behind ∷ two)))) ≡
-            test ++ (over.instr ∷ (instrs_of one ++ (behind.instr ∷ instrs_of two))) =
+        test ++ (over.instr ∷ (instrs_of one ++ (behind.instr ∷ instrs_of two))) =
         map-append (λ line. line.instr) (plainly (choice frame places cond)) (over ∷ (one ++ (behind ∷ two))) ∙
         ap (λ t. test ++ (over.instr ∷ t)) (map-append (λ line. line.instr) one (behind ∷ two)) in
         subst (λ s. HaveCode (s ∷ rest)
-            (instrs_of (plainly (choice frame places cond) ++ (over ∷ (one ++ (behind ∷ two)))) ++ more))
+        (instrs_of (plainly (choice frame places cond) ++ (over ∷ (one ++ (behind ∷ two)))) ++ more))
         (rolled_if cond first second)
         (subst (HaveCode (emit.If cond first second ∷ rest))
         (sym (ap (λ t. t ++ more) is ∙
@@ -159,7 +159,7 @@ module _ (frame : FrameTree) (places : List Place) where
         let last : Line = jump_back (suc (ph.size + (pb.size + pn.size))) in
         let inside : List Instr = instrs_of lh ++ (instrs_of lb ++ instrs_of ln) in
         let is : instrs_of (lh ++ (lb ++ (ln ++ (last ∷ [])))) ≡
-            instrs_of lh ++ (instrs_of lb ++ (instrs_of ln ++ (last.instr ∷ []))) =
+        instrs_of lh ++ (instrs_of lb ++ (instrs_of ln ++ (last.instr ∷ []))) =
         map-append (λ line. line.instr) lh (lb ++ (ln ++ (last ∷ []))) ∙
         ap (λ t. instrs_of lh ++ t) (map-append (λ line. line.instr) lb (ln ++ (last ∷ []))) ∙
         ap (λ t. instrs_of lh ++ (instrs_of lb ++ t)) (map-append (λ line. line.instr) ln (last ∷ [])) in
@@ -176,7 +176,7 @@ module _ (frame : FrameTree) (places : List Place) where
           (row_is_sized frame places next).sized 1 0,
         ) in
         subst (λ s. HaveCode (s ∷ rest)
-            ((round_begins.instr ∷ instrs_of (lh ++ (lb ++ (ln ++ (last ∷ []))))) ++ more))
+        ((round_begins.instr ∷ instrs_of (lh ++ (lb ++ (ln ++ (last ∷ []))))) ++ more))
         (rolled_loop head body next)
         (subst (λ t. HaveCode (emit.Loop head body next ∷ rest) (round_begins.instr ∷ t))
         (sym (ap (λ t. t ++ more) is ∙ loop_parts (instrs_of lh) (instrs_of lb) (instrs_of ln) more last.instr))
@@ -296,9 +296,9 @@ around : (head body next inside : List Instr) (first last : Instr) (n m k : ℕ)
     count inside ≤ n + (m + k)
 around head body next inside first last n m k goes hh hb hn = ⊎_elim
     (λ is. subst (λ l. count l ≤ n + (m + k)) (sym is)
-        (counted_append head (body ++ next) n (m + k) hh (counted_append body next m k hb hn)))
+    (counted_append head (body ++ next) n (m + k) hh (counted_append body next m k hb hn)))
     (λ is. subst (λ l. count l ≤ n + (m + k)) (sym is)
-        (turned (counted_append body (next ++ head) m (k + n) hb (counted_append next head k n hn hh))))
+    (turned (counted_append body (next ++ head) m (k + n) hb (counted_append next head k n hn hh))))
     goes.order
   where
     turned : {c : ℕ} → c ≤ m + (k + n) → c ≤ n + (m + k)
@@ -312,21 +312,21 @@ counted (branching {first = first} {second = second} {rest = rest} {one = one} {
     test_on over_on h k g) =
     let tail = counted_append two more (loops second) (loops rest) (counted k) (counted g) in
     let second_part =
-        counted_append over (two ++ more) 0 (loops second + loops rest) (none_counted over over_on) tail in
+    counted_append over (two ++ more) 0 (loops second + loops rest) (none_counted over over_on) tail in
     let both = counted_append one (over ++ (two ++ more)) (loops first) (0 + (loops second + loops rest)) (counted h)
-        second_part in
+    second_part in
     let all = counted_append test (one ++ (over ++ (two ++ more))) 0 (loops first + (0 + (loops second + loops rest)))
-        (none_counted test test_on) both in
+    (none_counted test test_on) both in
     omega (arith, all, if_loops cond first second)
 counted (repeating {head = head} {body = body} {next = next} {rest = rest} {at_head = at_head} {at_body = at_body}
     {at_next = at_next} {more = more} inside first last goes h b n g) =
     let behind = counted_append (last ∷ []) more 1 (loops rest) (one_at_most last) (counted g) in
     let inner = around at_head at_body at_next inside first last (loops head) (loops body) (loops next) goes (counted h)
-        (counted b) (counted n) in
+    (counted b) (counted n) in
     let both = counted_append inside (last ∷ more) (loops head + (loops body + loops next)) (1 + loops rest) inner
-        behind in
+    behind in
     let all = counted_append (first ∷ []) (inside ++ (last ∷ more)) 0
-        (loops head + (loops body + loops next) + (1 + loops rest)) (none_here first goes.on) both in
+    (loops head + (loops body + loops next) + (1 + loops rest)) (none_here first goes.on) both in
     omega (arith, all, loop_loops head body next)
 
 -- no more lead back than there are loops
@@ -335,9 +335,9 @@ pub few_back : (f : TacFnTree) (places : List Place) (frame : FrameTree) →
 few_back f places frame =
     let has : HasRounds f.body (code_of f places frame).instrs = has_rounds f places frame in
     let all = counted_append has.before (has.inside ++ has.behind) 0 (loops f.body + 0)
-        (none_counted has.before has.in_on)
-        (counted_append has.inside has.behind (loops f.body) 0 (counted has.statements)
-        (none_counted has.behind has.out_on)) in
+    (none_counted has.before has.in_on)
+    (counted_append has.inside has.behind (loops f.body) 0 (counted has.statements)
+    (none_counted has.behind has.out_on)) in
     let one : count (code_of f places frame).instrs ≤ 0 + (loops f.body + 0) =
-        subst (λ l. count l ≤ 0 + (loops f.body + 0)) (sym has.parts) all in
+    subst (λ l. count l ≤ 0 + (loops f.body + 0)) (sym has.parts) all in
     omega (arith, one)

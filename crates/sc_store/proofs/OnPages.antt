@@ -145,10 +145,12 @@ zeros_unwritten table pool a bs free fits zero_bytes = λ j i. at_place i j
     no_number : (o : Option ℕ) → IsNone o → o ≡ None
     no_number None h = refl
     no_number (Some n) h = absurd (cc)
+
     zero_there : (i : ℕ) → i / 4096 ≡ a / 4096 → cell table pool i ≡ 0
     zero_there i same =
         ap (λ z. byte_at pool (get_or table z None) (i % 4096)) same
         ∙ ap (λ o. byte_at pool o (i % 4096)) (no_number (get_or table (a / 4096) None) free)
+
     at_place : (i : ℕ) → cell table pool i ≡ replaced (cell table pool) a bs i
     at_place i = ⊎_elim
         (λ low. sym (replaced-apart (cell table pool) a bs i (λ l u. omega arith)))

@@ -57,7 +57,7 @@ fn of_two(unsigned: bool, op: BinaryOp, left: u32, right: u32) -> Option<u32>
 pub(crate) fn quick(row: &Row, scope: &Scope, expr: &TypedExpr) -> Option<u32>
     ensures { IfSome result (λ word.
         ways c_arith scope.now.structs.now (here_of scope.now) scope.now.params expr.now want.Value row.now
-            ≡ Ok (Word word)) }
+        ≡ Ok (Word word)) }
 {
     match &expr.kind {
         TypedKind::Literal { value } => {
