@@ -101,6 +101,7 @@ fn fill<S: Store>(memory: &mut S, start: u32, bytes: &[u8])
     requires there { HasBytes (S.bytes memory.old) start (length bytes.now) }
     ensures { S.bytes memory.new ≡ written (S.bytes memory.old) start bytes.now }
 {
+    memory.focus(start);
     for (k, byte) in bytes.iter().enumerate() {
         memory.store8(start + k as u32, *byte as u32);
     }

@@ -2,9 +2,10 @@
 use Rattle.sc_store.proofs.Common.{All, AreApart, Bool, HasBytes, HoldsBytes, IsIn, IsSome, IsZero, List, Memory, None}
 use Rattle.sc_store.proofs.Common.{Option, Region, Some, [], ap, arith, bytes_of, cases_lt, cond, fails_before_first}
 use Rattle.sc_store.proofs.Common.{false, get_or, get_or-map, get_or-set_same, is_some, length, length-map, length-set}
-use Rattle.sc_store.proofs.Common.{lt-ltb, nat_le, nat_lt, nat_tests, option_or, piece_of, position, position-Some}
-use Rattle.sc_store.proofs.Common.{position_or_len, refl, region_of, regions_of, same_Some, set, spans, subst, suc, sym}
-use Rattle.sc_store.proofs.Common.{true, written, zero, zeros, ℕ, ⊎_elim, ◌&&◌, ◌+◌, ◌-◌, ◌<◌, ◌↔◌, ◌∙◌, ◌∷◌, ◌≡◌, ◌≤◌}
+use Rattle.sc_store.proofs.Common.{lt-ltb, nat_le, nat_lt, nat_tests, option_or, piece_of, position, position_or_len}
+use Rattle.sc_store.proofs.Common.{refl, region_of, regions_of, same_Some, set, spans, subst, suc, sym, true, written}
+use Rattle.sc_store.proofs.Common.{zero, zeros, ℕ, ⊎_elim, ◌&&◌, ◌+◌, ◌-◌, ◌<◌, ◌↔◌, ◌∙◌, ◌∷◌, ◌≡◌, ◌≤◌}
+use Rattle.std.proofs.lemmas.List.Quantifiers.{position-Some}
 use Rattle.std.proofs.Math.Seq.{map-set_same}
 use Rattle.sc_store.specs.declared.part.Part.{Part}
 use Rattle.sc_store.proofs.Regions.{in_true, in_false, in_cases}

@@ -15,7 +15,7 @@ use std::alloc::{AllocError, Global};
 #[derive(Drop)]
 pub struct FlatStore {
     parts: Vec<Part>,
-    // The place of the part that is looked at first.
+    // The place of the part that is looked at first. The one behind it is the second.
     focus: usize,
     ghost apart: { AreApart (regions_of parts.items) },
     ghost holds: { HoldsBytes (bytes_of parts.items) },
@@ -40,27 +40,33 @@ impl FlatStore {
         requires few { size ≤ 4 }
         ensures { result ≡ position (spans at size) self.now.parts.items }
     {
-        if self.spans_in_focus(at, size) {
+        if self.part_spans(self.focus, at, size) {
             return Some(self.focus);
         }
         self.search(at, size)
     }
 
-    // Whether the part in focus has all these addresses.
+    // Whether the part at a place has all these addresses.
     #[inline(always)]
-    fn spans_in_focus(&self, at: u32, size: usize) -> bool
+    fn part_spans(&self, number: usize, at: u32, size: usize) -> bool
         requires some { 0 < size }
         requires few { size ≤ 4 }
-        ensures { IsTrue result → position (spans at size) self.now.parts.items ≡ Some self.now.focus }
+        ensures { IsTrue result → position (spans at size) self.now.parts.items ≡ Some number }
     {
-        self.focus < self.parts.len() && self.parts[self.focus].spans(at, size)
+        number < self.parts.len() && self.parts[number].spans(at, size)
     }
 
+    // Where it isn't the part in focus: the one behind that, or any other.
     #[inline(never)]
     fn search(&self, at: u32, size: usize) -> Option<usize>
-        requires { size ≤ 4 }
+        requires some { 0 < size }
+        requires few { size ≤ 4 }
         ensures { result ≡ position (spans at size) self.now.parts.items }
     {
+        let next = self.focus.saturating_add(1);
+        if self.part_spans(next, at, size) {
+            return Some(next);
+        }
         self.parts.iter().position(|part| part.spans(at, size))
     }
 
@@ -227,6 +233,4 @@ impl Store for FlatStore {
             self.store_each(at, value, 4);
         }
     }
-
-    fn focus(&mut self, at: u32) {}
 }

@@ -21,12 +21,14 @@ use std::alloc::Global;
 #[derive(Drop)]
 pub struct PagedStore {
     areas: Vec<Area>,
-    // The area that is looked at first, or one without addresses.
+    // The areas that are looked at first, the one in focus and the one behind it, or ones without addresses.
     focus: Area,
+    next: Area,
     cells: Cells,
     ghost apart: { AreApart (regions_in areas.items) },
     ghost single: { AreSingle areas.items },
     ghost focused: { IsFocus focus areas.items },
+    ghost followed: { IsFocus next areas.items },
     ghost placed: { ArePlaced areas.items (length cells.table.items) },
     ghost holds: { HoldsBytes (memory_of areas.items (cell cells.table.items cells.pool)) },
 }
@@ -71,9 +73,13 @@ impl PagedStore {
 
     #[inline(never)]
     fn search(&self, at: u32, size: usize) -> Option<usize>
-        requires { size ≤ 4 }
+        requires some { 0 < size }
+        requires few { size ≤ 4 }
         ensures { result ≡ place_found self.now.areas.items at size }
     {
+        if self.next.reaches(at, size) {
+            return Some(self.next.place(at));
+        }
         let area = self.areas.iter().find(|area| area.reaches(at, size))?;
         Some(area.place(at))
     }
@@ -83,6 +89,16 @@ impl PagedStore {
         ensures { result ≡ position (reaches at 1) self.now.areas.items }
     {
         self.areas.iter().position(|area| area.reaches(at, 1))
+    }
+
+    // The area of this number, or one without addresses where there is none.
+    fn area(&self, number: usize) -> Area
+        ensures { IsFocus result self.now.areas.items }
+    {
+        if number < self.areas.len() {
+            return self.areas[number];
+        }
+        Area::empty()
     }
 
     #[inline(always)]
@@ -205,13 +221,15 @@ impl Store for PagedStore {
         Ok(PagedStore {
             areas,
             focus: Area::empty(),
+            next: Area::empty(),
             cells,
         })
     }
 
     fn focus(&mut self, at: u32) {
         if let Some(number) = self.number(at) {
-            self.focus = self.areas[number];
+            self.focus = self.area(number);
+            self.next = self.area(number.saturating_add(1));
         }
     }
 
@@ -260,6 +278,4 @@ impl Store for PagedStore {
             self.store_each(at, value, 4);
         }
     }
-
-    fn focus(&mut self, at: u32) {}
 }

@@ -23,8 +23,8 @@ pub trait Store: Drop {
         requires below { AreBelow regions.now }
         ensures { IfOk result (λ store. bytes store ≡ zeros regions.now) };
 
-    /// Looks first in the region of this address from now on, whatever that region is. Loads and stores answer as
-    /// before; those in that region are found at once.
+    /// Looks first in the region of this address from now on, and then in the one that `zeroed` was given behind it.
+    /// Loads and stores answer as before; those in these two are found at once.
     fn focus(&mut self, at: u32)
         ensures { bytes self.new ≡ bytes self.old };
 
@@ -61,11 +61,6 @@ pub trait Store: Drop {
     fn store32(&mut self, at: u32, value: u32)
         requires { HasBytes (bytes self.old) at 4 }
         ensures { bytes self.new ≡ stored (bytes self.old) at 4 value };
-
-    /// Looks first in the region of this address from now on, whatever that region is. Loads and stores answer as before;
-    /// those in that region are found at once.
-    fn focus(&mut self, at: u32)
-        ensures { bytes self.new ≡ bytes self.old };
 
     /// Addresses have 32 bits, and what stands there is a byte.
     ghost holds_bytes: { (s : Self) → HoldsBytes (bytes s) };

@@ -29,6 +29,7 @@ invariant_of-self c = record {
   apart = c.args.self.now.apart;
   single = c.args.self.now.single;
   focused = c.args.self.now.focused;
+  followed = c.args.self.now.followed;
   placed = subst (λ n. ArePlaced c.args.self.now.areas.items n) (sym c.write.ensures.length)
       c.args.self.now.placed;
   holds = subst HoldsBytes

@@ -8,6 +8,7 @@ invariant_of-result c = record {
   apart = subst AreApart (sym c.in_ok-areas.ensures.regions) c.requires.apart;
   single = c.in_ok-areas.ensures.single;
   focused = focus_empty c.empty.result c.in_ok-areas.areas.items c.empty.ensures;
+  followed = focus_empty c.empty-2.result c.in_ok-areas.areas.items c.empty-2.ensures;
   placed = subst (λ n. ArePlaced c.in_ok-areas.areas.items n) (sym c.in_ok-cells.ensures.length)
       c.in_ok-areas.ensures.placed;
   holds = subst HoldsBytes (sym (zeros_placed c.in_ok-areas.areas.items c.args.regions.now
