@@ -2,9 +2,9 @@
 """Refuses each allocation of a run in turn, and holds the answers to what they may be.
 
 Usage, at the top of the repository: tools/refuse_allocations.py PROGRAM WORD.. < INPUT
-       tools/refuse_allocations.py --build PROGRAM
+       tools/refuse_allocations.py --build PROGRAM [CRATE]
 
-The second form builds PROGRAM first: secomp with run-time checks in place of proofs, as `rt try --fail-alloc` builds it, with a
+The second form builds PROGRAM first: CRATE, or else secomp, with run-time checks in place of proofs, as `rt try --fail-alloc` builds it, with a
 number of the allocation to refuse that stands nowhere else in the program. The first form puts each number from 1 on in
 its place and runs the program on these words and this input. An answer must be that of the run in which nothing is
 refused, or status 9 with nothing written to the output. It ends after 64 numbers in a row that change nothing, since then
@@ -48,14 +48,14 @@ def linked(source, shadow, keep):
     os.chmod(linker, 0o755)
 
 
-def build(program):
-    """Builds secomp into this file."""
+def build(program, crate):
+    """Builds the program of a crate into this file."""
     with tempfile.TemporaryDirectory() as room:
         linked(kit(), f"{room}/kit", os.path.abspath(program))
-        subprocess.run(["python3", f"{room}/kit/bin/rt", "try", "--fail-alloc", str(MARK)], cwd="crates/secomp",
+        subprocess.run(["python3", f"{room}/kit/bin/rt", "try", "--fail-alloc", str(MARK)], cwd=f"crates/{crate}",
                        stdin=subprocess.DEVNULL, stdout=subprocess.DEVNULL, stderr=subprocess.DEVNULL)
     if not os.path.exists(program):
-        raise SystemExit("it was not built: `rt try` in crates/secomp says why")
+        raise SystemExit(f"it was not built: `rt try` in crates/{crate} says why")
 
 
 def refusing(program, number, to):
@@ -76,8 +76,8 @@ def answer(program, words, text):
 
 
 def main(words):
-    if len(words) == 2 and words[0] == "--build":
-        return build(words[1])
+    if words[:1] == ["--build"] and len(words) in (2, 3):
+        return build(words[1], words[2] if len(words) == 3 else "secomp")
     if len(words) < 2:
         raise SystemExit(__doc__)
     program, words, text = words[0], words[1:], sys.stdin.buffer.read()

@@ -1,7 +1,7 @@
-//! Texts and what they must give, for the crates that are tests alone: their program, or the phase and the line at which
-//! they are refused.
+//! Texts and what they must give, for the crates that are tests alone: their program, or the phase and the line at
+//! which they are refused.
 #![tactic(auto)]
 
-mod judge;
+mod rows;
 
-pub use judge::{DECLARATIONS, Frame, Row, STATEMENTS, WHOLE, Wrong, judge, wrong_rows};
+pub use rows::{DECLARATIONS, Frame, Row, STATEMENTS, WHOLE, Wrong, judge, wrong_rows};
