@@ -1,4 +1,4 @@
-//! Memory, images, and machines that run them. This crate has tests alone.
+//! Images, and machines that run them. This crate has tests alone.
 #![tactic(auto)]
 
 #[cfg(test)]
@@ -7,5 +7,3 @@ mod gates;
 mod images;
 #[cfg(test)]
 mod machines;
-#[cfg(test)]
-mod stores;

@@ -1,6 +1,8 @@
-//! Pages of a pool, and a store over them. This crate has tests alone.
+//! Pages of a pool, and stores over pages and over flat memory. This crate has tests alone.
 #![tactic(auto)]
 
+#[cfg(test)]
+mod borders;
 #[cfg(test)]
 mod pools;
 #[cfg(test)]

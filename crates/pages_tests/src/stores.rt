@@ -8,7 +8,7 @@ use std::alloc::Global;
 use std::process::Abort;
 
 #[derive(Clone, Copy)]
-enum Step {
+pub(crate) enum Step {
     Load8,
     Load16,
     Load32,
@@ -29,7 +29,7 @@ fn has_all<S: Store>(store: &S, at: u32, size: u32) -> bool
 }
 
 // What a load gives, and 0 for a store, or nothing where the store lacks a byte of the access.
-fn take<S: Store>(store: &mut S, step: Step, at: u32) -> Option<u32> {
+pub(crate) fn take<S: Store>(store: &mut S, step: Step, at: u32) -> Option<u32> {
     match step {
         Step::Load8 if has_all(store, at, 1) => Some(store.load8(at)),
         Step::Load16 if has_all(store, at, 2) => Some(store.load16(at)),

@@ -1,55 +1,9 @@
-// The calls of a store, through its trait.
-
-ghost use Rattle.sc_store.specs.Prelude.{HasBytes};
-ghost use Rattle.std.specs.Prelude.{IsTrue};
-
-use sc_store::{FlatStore, OutOfMemory, Region, Store};
+// Loads and stores at the borders of small regions, over both stores.
+use crate::stores::{Step, take};
+use sc_store::{FlatStore, OutOfMemory, PagedStore, Region, Store};
 use std::alloc::Global;
 use std::process::Abort;
 use std::test::Fail;
-
-#[derive(Clone, Copy)]
-enum Step {
-    Load8,
-    Load16,
-    Load32,
-    Store8(u32),
-    Store16(u32),
-    Store32(u32),
-}
-
-fn has_all<S: Store>(store: &S, at: u32, size: u32) -> bool
-    ensures { IsTrue result → HasBytes (S.bytes store.now) at size }
-{
-    for k in 0..size {
-        if at > u32::MAX - k || !store.has(at + k) {
-            return false;
-        }
-    }
-    true
-}
-
-// What a load gives, and 0 for a store, or nothing where the store lacks a byte of the access.
-fn take<S: Store>(store: &mut S, step: Step, at: u32) -> Option<u32> {
-    match step {
-        Step::Load8 if has_all(store, at, 1) => Some(store.load8(at)),
-        Step::Load16 if has_all(store, at, 2) => Some(store.load16(at)),
-        Step::Load32 if has_all(store, at, 4) => Some(store.load32(at)),
-        Step::Store8(value) if has_all(store, at, 1) => {
-            store.store8(at, value);
-            Some(0)
-        }
-        Step::Store16(value) if has_all(store, at, 2) => {
-            store.store16(at, value);
-            Some(0)
-        }
-        Step::Store32(value) if has_all(store, at, 4) => {
-            store.store32(at, value);
-            Some(0)
-        }
-        _ => None,
-    }
-}
 
 // Two regions that touch, and one up to the last address. The one of this address is in focus.
 fn exercise<S: Store>(rt: &impl Abort, alloc: Global, focus: u32) -> Result<(), OutOfMemory> {
@@ -102,6 +56,14 @@ const STEPS: [(Step, u32, Option<u32>); 26] = [
 fn flat(rt: HostRuntime) -> Result<(), OutOfMemory> {
     for focus in FOCUSES {
         exercise::<FlatStore>(&rt, rt.alloc(), focus)?;
+    }
+    Ok(())
+}
+
+#[test]
+fn paged(rt: HostRuntime) -> Result<(), OutOfMemory> {
+    for focus in FOCUSES {
+        exercise::<PagedStore>(&rt, rt.alloc(), focus)?;
     }
     Ok(())
 }
