@@ -10,11 +10,9 @@ top=$(cd "$(dirname "$0")/.." && pwd)
 work=${1:-$(mktemp -d)}
 . "$top/bench/copy.sh"
 copy_crates "$work" sc_machine
-echo "bench_machine: sc_base sc_event sc_store sc_image sc_machine sqlite_items" >> "$work/crates.txt"
-mkdir -p "$work/crates/bench_machine/src" "$work/crates/bench_machine/proofs/alone" "$work/crates/bench_machine/proofs/pair" "$work/loops"
+echo "bench_machine: sc_store sc_image sc_machine" >> "$work/crates.txt"
+mkdir -p "$work/crates/bench_machine/src" "$work/loops"
 cp "$top/bench/machine_main.txt" "$work/crates/bench_machine/src/main.rt"
-cp "$top/bench/machine_answers.txt" "$work/crates/bench_machine/proofs/alone/Answers.antt"
-cp "$top/bench/machine_pair_answers.txt" "$work/crates/bench_machine/proofs/pair/Answers.antt"
 (cd "$work/crates/bench_machine" && rt run > "$work/log" 2>&1) || { tail "$work/log"; exit 1; }
 
 # The best of three runs of each.
