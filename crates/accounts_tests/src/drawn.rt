@@ -95,29 +95,34 @@ impl Draft<'_> {
         Ok(true)
     }
 
+    // What an import allows.
+    fn perform(&mut self, alloc: Global, import: Import) -> Result<(), OutOfMemory> {
+        let from = self.active();
+        if let Import::Function { comp, index } = import {
+            let to = comp;
+            return self.call(alloc, Open { from, to, index });
+        }
+        let comp = from;
+        let value = self.word();
+        if let Import::Output = import {
+            self.trace.push(Event::Out { comp, value })?;
+        } else {
+            self.trace.push(Event::In { comp, value })?;
+        }
+        Ok(())
+    }
+
     // One more event, and whether another one may follow.
     fn step(&mut self, alloc: Global) -> Result<bool, OutOfMemory> {
-        let comp = self.active();
         let leaves = self.draw() >> 29 == 0;
-        match self.import() {
-            Some(Import::Function { comp: to, index }) if !leaves => self.call(
-                alloc,
-                Open {
-                    from: comp,
-                    to,
-                    index,
-                },
-            )?,
-            Some(Import::Output) if !leaves => {
-                let value = self.word();
-                self.trace.push(Event::Out { comp, value })?;
-            }
-            Some(Import::Input) if !leaves => {
-                let value = self.word();
-                self.trace.push(Event::In { comp, value })?;
-            }
-            _ => return self.back(),
+        let import = self.import();
+        if leaves {
+            return self.back();
         }
+        let Some(import) = import else {
+            return self.back();
+        };
+        self.perform(alloc, import)?;
         Ok(true)
     }
 }

@@ -21,7 +21,7 @@ const CLOSE: usize = 64;
 #[derive(Clone, Copy)]
 struct Matter<'a> {
     source: &'a SourceText,
-    inputs: Inputs<'a>,
+    inputs: Inputs<'static>,
     trace: &'a [Event],
 }
 
@@ -54,7 +54,10 @@ fn is_told(alloc: Global, matter: &Matter, text: &[u8], want: &[u8]) -> Result<b
 
 // Turns enough for the trace, and some behind it. `second_meaning` has stack for so many calls within each other.
 fn turns(trace: &[Event]) -> u32 {
-    (trace.len() as u32).wrapping_mul(2).wrapping_add(200)
+    match u32::try_from(trace.len()) {
+        Ok(events) => events.wrapping_mul(2).wrapping_add(200),
+        Err(_) => 200,
+    }
 }
 
 // So many events that what is behind a trace is seen too.
@@ -123,7 +126,12 @@ fn same_fronts(alloc: Global, matter: &Matter, set: CompSet) -> Result<Option<u3
         let Some(trace) = matter.trace.get(..length) else {
             return Ok(None);
         };
-        let front = Matter { trace, ..*matter };
+        let inputs = matter.inputs;
+        let front = Matter {
+            source: matter.source,
+            inputs,
+            trace,
+        };
         if judge(alloc, &front, set)? != Verdict::Same {
             return Ok(None);
         }
@@ -150,10 +158,11 @@ fn same(alloc: Global, text: &[u8], origin: Origin) -> Result<Option<u32>, Fail>
     let source = SourceText::read(alloc, text)?;
     let inputs = Inputs::of(text);
     let trace = origin.trace(alloc, &source, inputs)?;
+    let trace = trace.as_slice();
     let matter = Matter {
         source: &source,
         inputs,
-        trace: trace.as_slice(),
+        trace,
     };
     same_sets(alloc, &matter)
 }
@@ -209,10 +218,11 @@ fn judge_strange(alloc: Global, text: &[u8], other: &[u8], skip: usize) -> Resul
     let stranger = SourceText::read(alloc, other)?;
     let inputs = Inputs::of(text);
     let trace = Origin::Shown.trace(alloc, &stranger, inputs)?;
+    let trace = trace.as_slice().get(skip..).unwrap_or(&[]);
     let matter = Matter {
         source: &source,
         inputs,
-        trace: trace.as_slice().get(skip..).unwrap_or(&[]),
+        trace,
     };
     judge(alloc, &matter, CompSet::full())
 }
