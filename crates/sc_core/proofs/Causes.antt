@@ -2,8 +2,9 @@
 -- operators do, computed.
 use Rattle.sc_core.proofs.Common.{BadPointer, BadShift, BadType, BinaryOp, Blamed, End, Ended, Global, In}
 use Rattle.sc_core.proofs.Common.{Indeterminate, Input, Interfaces, List, Local, NullUse, Out, OutOfBounds, Overflow}
-use Rattle.sc_core.proofs.Common.{Own, Some, SourceRun, TurnsOut, TypedStruct, ZeroDivisor, [], codes, meaning, wrapped}
-use Rattle.sc_core.proofs.Common.{ℕ, ◌∷◌, ◌≡◌}
+use Rattle.sc_core.proofs.Common.{Own, Some, TurnsOut, TypedStruct, ZeroDivisor, [], codes, meaning, wrapped, ℕ, ◌∷◌}
+use Rattle.sc_core.proofs.Common.{◌≡◌}
+use Rattle.sc_core.specs.declared.run.SourceRun.{SourceRun}
 use Rattle.sc_event.specs.declared.interface.Import.TheVariants as import
 use Rattle.sc_core.specs.declared.ty.Ty.TheVariants as ty
 use Rattle.sc_base.specs.declared.op.UnaryOp.TheVariants as unary

@@ -1,7 +1,7 @@
 -- The names that several proofs of this crate cite, passed on from one place. Declares nothing.
-pub use Rattle.std.proofs.Common.{Bool, List, None, Ok, Option, Some, [], ap, arith, bytes_eq, codes, false, is_some}
-pub use Rattle.std.proofs.Common.{length, length-append, lt-ltb, map, max, nat_le, not, refl, slice_get, subst, suc}
-pub use Rattle.std.proofs.Common.{take, true, ℕ, ◌&&◌, ◌++◌, ◌+◌, ◌<◌, ◌==◌, ◌∙◌, ◌∷◌, ◌≡◌, ◌≤◌}
+pub use Rattle.std.proofs.Common.{Bool, List, None, Ok, Option, Some, [], ap, bytes_eq, codes, false, is_some, length}
+pub use Rattle.std.proofs.Common.{map, max, nat_le, not, refl, slice_get, subst, suc, true, ℕ, ◌&&◌, ◌++◌, ◌+◌, ◌==◌}
+pub use Rattle.std.proofs.Common.{◌∙◌, ◌∷◌, ◌≡◌}
 pub use Rattle.std.specs.List.{list_all}
 pub use Rattle.sc_event.specs.declared.interface.Interface.{Interface}
 pub use Rattle.sc_core.specs.Common.{BinaryOp, Call, End, Event, Import, In, Interfaces, Out, Proto, Ret, Scalar}
@@ -21,8 +21,8 @@ pub use Rattle.sc_core.specs.Prelude.{on_all_words, params_fit, result_fits, ret
 pub use Rattle.sc_core.specs.Prelude.{roles_in, run_by, run_of, run_step, scope_of, scripted_depth_by, scripted_meaning}
 pub use Rattle.sc_core.specs.Prelude.{scripted_run_of, scripted_step, section_fits, sections_fit, stmt_does, stmt_fits}
 pub use Rattle.sc_core.specs.Prelude.{stmt_height, stmt_nodes, stmt_step, stopped_at, structs_fit, term_height}
-pub use Rattle.sc_core.specs.Prelude.{term_judged, term_nodes, term_step, test, thin_meaning, total, variable_at}
-pub use Rattle.sc_core.specs.Prelude.{variable_fits, variables, ways, wrapped, wrapped_depth, wrapping}
+pub use Rattle.sc_core.specs.Prelude.{term_judged, term_nodes, term_step, test, total, variable_at, variable_fits}
+pub use Rattle.sc_core.specs.Prelude.{variables, ways, wrapped, wrapped_depth, wrapping}
 pub use Rattle.sc_core.specs.declared.cause.Cause.TheVariants.{BadPointer, BadShift, BadType, Dangling, Indeterminate}
 pub use Rattle.sc_core.specs.declared.cause.Cause.TheVariants.{NoReturn, NullUse, OutOfBounds, Overflow, ZeroDivisor}
 pub use Rattle.sc_core.specs.declared.expr.CallTarget.{CallTarget}
@@ -33,7 +33,6 @@ pub use Rattle.sc_core.specs.declared.expr.TypedKind.{TypedKind, TypedKind-F, fo
 pub use Rattle.sc_core.specs.declared.expr.TypedKind.{map-TypedKind, roll-TypedKind}
 pub use Rattle.sc_core.specs.declared.expr.VarRef.TheVariants.{Global, Local, Param}
 pub use Rattle.sc_core.specs.declared.run.RunEnd.TheVariants.{Blamed, Ended, EventsOut, TurnsOut}
-pub use Rattle.sc_core.specs.declared.run.SourceRun.{SourceRun}
 pub use Rattle.sc_core.specs.declared.section.TypedGlobal.{TypedGlobal}
 pub use Rattle.sc_core.specs.declared.section.TypedSection.{TypedSection}
 pub use Rattle.sc_core.specs.declared.section.TypedStruct.{TypedStruct}

@@ -10,5 +10,4 @@ pub mod Plans
 pub mod Programs
 pub mod Rows
 pub mod Shapes
-pub mod Stopped
 pub mod Typed

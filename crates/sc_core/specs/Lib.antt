@@ -9,7 +9,6 @@ pub mod Places
 pub mod Run
 pub mod Scripts
 pub mod Sizes
-pub mod Thin
 pub mod Tree
 pub mod Types
 pub mod Typing

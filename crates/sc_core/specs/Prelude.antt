@@ -19,7 +19,6 @@ pub use Rattle.sc_core.specs.Run.{reaches, stopped_at}
 pub use Rattle.sc_core.specs.Scripts.{Roles, acts, asks, is_number, performs, roles_in, rows_left, scripted_step}
 pub use Rattle.sc_core.specs.Sizes.{call_nodes, code_bound, expr_nodes, frame_bound, init_nodes, kind_nodes}
 pub use Rattle.sc_core.specs.Sizes.{local_nodes, nodes, part_nodes, simple_nodes, stmt_nodes, term_nodes, total}
-pub use Rattle.sc_core.specs.Thin.{thin_meaning}
 pub use Rattle.sc_core.specs.Tree.{Acts, Meant, Ways, applied, assign, assign_call, at_place, at_pointer, binary}
 pub use Rattle.sc_core.specs.Tree.{block_does, call, call_alone, evaluated, is_unsigned_op, kind_step, literal, meant}
 pub use Rattle.sc_core.specs.Tree.{meant_step, part_does, simple_does, stmt_does, stmt_step, store_at, store_result}

@@ -9,7 +9,6 @@ mod run;
 mod section;
 mod sizes;
 mod stmt;
-mod thin;
 mod ty;
 mod value;
 
@@ -25,6 +24,5 @@ pub use section::{
 };
 pub use sizes::{cells_of, target_cells};
 pub use stmt::{TypedSimple, TypedSimpleKind, TypedStmt, TypedStmtKind, TypedStmts};
-pub use thin::{ThinProgram, run_thin};
 pub use ty::{BaseTy, Ty, is_unsigned_op};
 pub use value::{Cell, Pointer, Value, Want};
