@@ -3,7 +3,6 @@ use Rattle.sc_blocks.proofs.Common.{Blocks, Bool, List, Memory, [], ap, arith, c
 use Rattle.sc_blocks.proofs.Common.{get_or_default, if◌then◌else◌, length, memory_of, refl, slice_index_or, slice_set}
 use Rattle.sc_blocks.proofs.Common.{subst, suc, sym, true, with_blocks, zero, ℕ, ◌++◌, ◌<◌, ◌==◌, ◌∙◌, ◌∷◌, ◌≡◌, ◌≤◌}
 use Rattle.std.proofs.Math.Dec.{eqb-suc-zero, eqb-zero-suc, eqb-suc-suc}
-use Rattle.sc_blocks.proofs.Ending.{nothing_cleared}
 
 row_of_more : (rows : List Blocks) (comp : ℕ) → slice_index_or (rows ++ [] ∷ []) comp [] ≡ slice_index_or rows comp []
 row_of_more [] zero = refl
@@ -56,6 +55,11 @@ no_row (row ∷ rows) (suc comp) h = no_row rows comp (omega (arith, h))
 same_at : (memory : Memory) (comp c : ℕ) (b : Bool) → (c == comp) ≡ b → memory c ≡ (if b then memory comp else memory c)
 same_at memory comp c true is = ap memory (eqb-true c comp is)
 same_at memory comp c false is = refl
+
+nothing_cleared : (first count : ℕ) → cleared first count [] ≡ []
+nothing_cleared zero zero = refl
+nothing_cleared zero (suc count) = refl
+nothing_cleared (suc first) count = refl
 
 -- a compartment without a row has no blocks that could end
 pub none_end : (rows : List Blocks) (comp first count : ℕ) → length rows ≤ comp →

@@ -1,9 +1,10 @@
 -- A store into one block of a row.
-use Rattle.sc_blocks.proofs.Common.{Block, Blocks, Cell, Err, List, MatchResult, Ok, Option, Result, Some, ap, bind}
-use Rattle.sc_blocks.proofs.Common.{block_of, cause_of, cells_at, get_or, length, live_cells, living, map, map-set}
-use Rattle.sc_blocks.proofs.Common.{put_in, refl, slice_get, slice_set, store_cell, stored_in, sym, ℕ, ◌<◌, ◌∙◌, ◌≡◌}
-use Rattle.std.specs.Option.{option_map}
-use Rattle.std.proofs.lemmas.Option.{slice_get-map, slice_get_read}
+use Rattle.sc_blocks.proofs.Common.{Block, Blocks, Cell, Err, IsRising, List, MatchResult, Ok, Result, Slot, Some, ap, arith}
+use Rattle.sc_blocks.proofs.Common.{bind, cause_of, cells_among, cells_at, get_or, get_or-set_same, laid_out, length}
+use Rattle.sc_blocks.proofs.Common.{length-set, live_cells, living, put_in, refl, slice_get, slice_set, store_cell, stored_in}
+use Rattle.sc_blocks.proofs.Common.{subst, sym, ℕ, ◌+◌, ◌<◌, ◌∙◌, ◌≡◌}
+use Rattle.sc_blocks.proofs.Laying.{set_laid}
+use Rattle.sc_blocks.proofs.Living.{found_at, others_found, rising_at, rising_set}
 use Rattle.sc_core.specs.declared.cause.Cause.{Cause}
 use Rattle.sc_core.specs.declared.value.Cell.TheVariants.{Ptr}
 use Rattle.sc_core.specs.declared.value.Pointer.{Pointer}
@@ -30,26 +31,41 @@ store_is bs p cell block is =
     ap (λ o. bind (bind (live_cells o) (λ cells. bind (put_in cells p.index cell) (λ cells. Ok (living cells))))
     (λ block. Ok (slice_set bs p.block block))) is
 
-module _ (os : List (Option (List Cell))) (p : Pointer) (cell : Cell) (b c : Option (List Cell))
-    (there : p.block < length os) (old : b ≡ get_or os p.block b) where
-  abbrev row : Blocks
-  row = map block_of os
+module _ (slots : List Slot) (made place n : ℕ) (old new : Slot) (up : IsRising 0 made slots)
+    (within : place < length slots) (is : old ≡ get_or slots place old) (number : old.number ≡ n)
+    (same : new.number ≡ old.number) where
+  abbrev after : List Slot
+  after = slice_set slots place new
 
-  abbrev after : Blocks
-  after = map block_of (slice_set os p.block c)
+  here : new.number ≡ (get_or slots place old).number
+  here = same ∙ ap (λ s. s.number) is
 
-  found : slice_get row p.block ≡ Some (block_of b)
-  found = slice_get-map block_of os p.block ∙ ap (λ o. option_map block_of o)
-      (slice_get_read os (length os) p.block b refl there old)
+  pub rising_after : IsRising 0 made after
+  rising_after = rising_set slots 0 made place new old up here
 
-  -- what a store did to the row, by what it did to the block
-  pub stored : (r : Result (Unit {0}) BlockFault) → MatchResult r
-      (λ _. stored_in (block_of b) p.index cell ≡ Ok (block_of c))
-      (λ fault. stored_in (block_of b) p.index cell ≡ Err (cause_of fault)) →
-      MatchResult r (λ _. store_cell row (Ptr p) cell ≡ Ok after)
-      (λ fault. store_cell row (Ptr p) cell ≡ Err (cause_of fault))
-  stored (Ok done) h =
-      store_is row p cell (block_of b) found ∙ ap (λ q. bind q (λ block. Ok (slice_set row p.block block))) h ∙
-      ap Ok (sym (map-set block_of os p.block c))
-  stored (Err fault) h = store_is row p cell (block_of b) found ∙
-      ap (λ q. bind q (λ block. Ok (slice_set row p.block block))) h
+  found_new : cells_among after n ≡ Some new.cells
+  found_new =
+      found_at after 0 made place new n rising_after
+      (subst (λ k. place < k) (sym (length-set slots place new)) within)
+      (sym (get_or-set_same slots place new new within)) (same ∙ number)
+
+  pub row_after : slice_set (laid_out (cells_among slots) made 0) n (living new.cells) ≡
+      laid_out (cells_among after) made 0
+  row_after =
+      let between = rising_at slots 0 made place old up within in
+      set_laid (cells_among slots) (cells_among after) made 0 n n new.cells (omega arith)
+      (omega (arith, between.1, ap (λ s. s.number) is, number)) found_new
+      (λ m other. others_found slots place new old m here (λ e. other (e ∙ same ∙ number)))
+
+-- what a store did to the row, by what it did to the block
+pub stored : (bs changed : Blocks) (p : Pointer) (cell : Cell) (old new : List Cell) →
+    slice_get bs p.block ≡ Some (living old) → slice_set bs p.block (living new) ≡ changed →
+    (r : Result (Unit {0}) BlockFault) → MatchResult r
+    (λ _. stored_in (living old) p.index cell ≡ Ok (living new))
+    (λ fault. stored_in (living old) p.index cell ≡ Err (cause_of fault)) →
+    MatchResult r (λ _. store_cell bs (Ptr p) cell ≡ Ok changed)
+    (λ fault. store_cell bs (Ptr p) cell ≡ Err (cause_of fault))
+stored bs changed p cell old new found is (Ok done) h =
+    store_is bs p cell (living old) found ∙ ap (λ q. bind q (λ block. Ok (slice_set bs p.block block))) h ∙ ap Ok is
+stored bs changed p cell old new found is (Err fault) h =
+    store_is bs p cell (living old) found ∙ ap (λ q. bind q (λ block. Ok (slice_set bs p.block block))) h

@@ -5,6 +5,7 @@ mod blocks;
 mod cells;
 mod fault;
 mod row;
+mod slots;
 
 pub use blocks::Blocks;
 pub use fault::BlockFault;

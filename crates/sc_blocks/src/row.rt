@@ -1,31 +1,37 @@
-ghost use Rattle.std.specs.Prelude.{◌≡◌, [], ◌∷◌, ◌++◌, length, OnOk, OnErr, Ok, Err, MatchResult, IfSome, slice_get};
+ghost use Rattle.std.specs.Prelude.{◌≡◌, [], ◌∷◌, ◌++◌, length, OnOk, OnErr, Ok, Err, MatchResult, IfSome, MatchOption, Some};
+ghost use Rattle.std.specs.Prelude.{slice_get};
 ghost use Rattle.std.specs.Option.{option_copied};
 ghost use Rattle.sc_core.specs.declared.value.Cell.TheVariants.{Ptr, Word};
 ghost use Rattle.sc_core.specs.Memory.{is_live, cells_at};
-ghost use Rattle.sc_blocks.specs.Cells.{block_of, stored_in};
 ghost use Rattle.sc_blocks.specs.Rows.{or_cause, cause_of, living, cleared, read_cell, load_cell, store_cell};
 ghost use Rattle.sc_blocks.specs.Rows.{cell_count};
+ghost use Rattle.sc_blocks.specs.Slots.{IsOver};
 
 use crate::BlockFault;
 use crate::cells::Cells;
+use crate::slots::{Slot, lower, place_of, put, remove};
 use sc_core::{Cell, Pointer};
 use std::alloc::{AllocError, Global};
 use std::marker::Model;
 
-/// The blocks of one compartment, in the order in which they were made. A block that has ended keeps its place alone.
+/// The blocks of one compartment, in the order in which they were made. Those alone that live take memory. Contracts see
+/// all of them.
 #[derive(Drop)]
 pub struct Row {
-    blocks: Vec<Option<Cells>>,
+    slots: Vec<Slot>,
+    made: usize,
 }
 
 impl Model for Row {
-    ghost use Rattle.std.specs.Prelude.{List, map};
+    ghost use Rattle.std.specs.Prelude.{List};
     ghost use Rattle.sc_core.specs.Memory.{Block};
-    ghost use Rattle.sc_blocks.specs.Cells.{block_of};
+    ghost use Rattle.sc_blocks.specs.Slots.{IsRising, cells_among, laid_out};
 
     ghost Value = { List Block };
 
-    ghost view = { λ row. map block_of row.blocks.items };
+    ghost view = { λ row. laid_out (cells_among row.slots.items) row.made 0 };
+
+    ghost invariant = { λ row. IsRising 0 row.made row.slots.items };
 }
 
 impl Row {
@@ -33,14 +39,15 @@ impl Row {
         ensures { result ≡ [] }
     {
         Row {
-            blocks: Vec::new(alloc),
+            slots: Vec::new(alloc),
+            made: 0,
         }
     }
 
     pub fn len(&self) -> usize
         ensures { result ≡ length self.now }
     {
-        self.blocks.len()
+        self.made
     }
 
     /// One more block, with these cells.
@@ -48,7 +55,12 @@ impl Row {
         ensures ok { OnOk result (self.new ≡ self.old ++ living cells ∷ []) }
         ensures err { OnErr result (self.new ≡ self.old) }
     {
-        self.blocks.push(Some(cells))?;
+        if self.made == usize::MAX {
+            return Err(AllocError);
+        }
+        let number = self.made;
+        self.slots.push(Slot { number, cells })?;
+        self.made += 1;
         Ok(())
     }
 
@@ -56,9 +68,20 @@ impl Row {
     pub fn end(&mut self, first: usize, count: usize)
         ensures { self.new ≡ cleared first count self.old }
     {
-        let end = first.saturating_add(count).min(self.blocks.len());
-        for block in first..end {
-            self.blocks[block] = None;
+        let from = lower(self.slots.as_slice(), first);
+        let to = lower(self.slots.as_slice(), first.saturating_add(count));
+        remove(&mut self.slots, from, to);
+    }
+
+    // The cells of a block that lives.
+    #[inline(always)]
+    fn living(&self, block: usize) -> Option<&Cells>
+        ensures { MatchOption result (IsOver (slice_get self.now block))
+            (λ cells. slice_get self.now block ≡ Some (living cells.now)) }
+    {
+        match place_of(self.slots.as_slice(), block) {
+            Some(place) => Some(&self.slots[place].cells),
+            None => None,
         }
     }
 
@@ -67,27 +90,27 @@ impl Row {
             (λ cells. cells_at self.now block ≡ Ok cells.now)
             (λ fault. cells_at self.now block ≡ Err (cause_of fault)) }
     {
-        match self.blocks.get(block) {
-            Some(Some(cells)) => Ok(cells.as_slice()),
-            _ => Err(BlockFault::Dangling),
+        match self.living(block) {
+            Some(cells) => Ok(cells.as_slice()),
+            None => Err(BlockFault::Dangling),
         }
     }
 
     pub fn count(&self, block: usize) -> Option<u32>
         ensures { result ≡ cell_count (slice_get self.now block) }
     {
-        match self.blocks.get(block) {
-            Some(Some(cells)) => Some(cells.len()),
-            _ => None,
+        match self.living(block) {
+            Some(cells) => Some(cells.len()),
+            None => None,
         }
     }
 
     pub fn is_live(&self, block: usize) -> bool
         ensures { result ≡ is_live (slice_get self.now block) }
     {
-        match self.blocks.get(block) {
-            Some(Some(_)) => true,
-            _ => false,
+        match self.living(block) {
+            Some(_) => true,
+            None => false,
         }
     }
 
@@ -125,12 +148,12 @@ impl Row {
         ensures { IfSome result (λ word.
             load_cell self.now (Ptr (record { block = block; index = index })) ≡ Ok (Word word)) }
     {
-        match self.blocks.get(block) {
-            Some(Some(cells)) => match cells.as_slice().get(index) {
+        match self.living(block) {
+            Some(cells) => match cells.as_slice().get(index) {
                 Some(Cell::Word(word)) => Some(*word),
                 _ => None,
             },
-            _ => None,
+            None => None,
         }
     }
 
@@ -140,29 +163,9 @@ impl Row {
             (λ fault. store_cell self.old (Ptr place) cell ≡ Err (cause_of fault)) }
         ensures err { OnErr result (self.new ≡ self.old) }
     {
-        let block = place.block as usize;
-        if block >= self.blocks.len() {
-            return Err(BlockFault::Dangling);
-        }
-        put(&mut self.blocks[block], place.index, cell)
-    }
-}
-
-// Puts a cell into a block that lives.
-fn put(block: &mut Option<Cells>, index: u32, cell: Cell) -> Result<(), BlockFault>
-    ensures value { MatchResult result
-        (λ _. stored_in (block_of block.old) index cell ≡ Ok (block_of block.new))
-        (λ fault. stored_in (block_of block.old) index cell ≡ Err (cause_of fault)) }
-    ensures err { OnErr result (block.new ≡ block.old) }
-{
-    match block {
-        None => Err(BlockFault::Dangling),
-        Some(cells) => {
-            if index >= cells.len() {
-                return Err(BlockFault::OutOfBounds);
-            }
-            cells.set(index, cell);
-            Ok(())
+        match place_of(self.slots.as_slice(), place.block as usize) {
+            Some(at) => put(&mut self.slots[at], place.index, cell),
+            None => Err(BlockFault::Dangling),
         }
     }
 }

@@ -1,55 +1,61 @@
-use Rattle.sc_blocks.proofs.Common.{None, ap, arith, block_of, cleared, ended_block, length, length-map, map-set}
-use Rattle.sc_blocks.proofs.Common.{slice_set, suc, sym, ◌+◌, ◌-◌, ◌∙◌, ◌≡◌}
-use Rattle.sc_blocks.proofs.Ending.{none_cleared, one_cleared, cleared_to}
+use Rattle.sc_blocks.proofs.Common.{IsRising, List, Slot, ap, arith, cleared, count_below, subst, sym, without, ℕ, ◌∙◌, ◌≡◌}
+use Rattle.sc_blocks.proofs.Common.{◌≤◌}
+use Rattle.sc_blocks.proofs.Removing.{below_order, removed, rising_without, row_without}
+use Rattle.std.specs.List.{remove_range}
 use Rattle.sc_blocks.proofs.row.Row.end.Goals as goal
 
-pub loop-block-init : goal.loop-block-init
-loop-block-init c =
-    let none : 0 ≡ c.args.first - c.args.first = omega arith in (
-      sym (none_cleared c.args.first c.self.inside.blocks.items) ∙
-          (λ i. cleared c.args.first (none i) (c.self.view_is i)),
-      omega arith,
+module _ (slots : List Slot) (made : ℕ) (up : IsRising 0 made slots) where
+  -- a count that was taken of these blocks
+  counted : (seen : List Slot) (number count : ℕ) → seen ≡ slots →
+      ((from made : ℕ) → IsRising from made seen → count ≡ count_below number seen) → count ≡ count_below number slots
+  counted seen number count same is =
+      subst (λ ss. count ≡ count_below number ss) same (is 0 made (subst (λ ss. IsRising 0 made ss) (sym same) up))
+
+  -- those that are left once they are taken out
+  left : (after : List Slot) (from to first end : ℕ) → first ≤ end → from ≡ count_below first slots →
+      to ≡ count_below end slots → after ≡ remove_range slots from to → after ≡ without first end slots
+  left after from to first end order low high is =
+      is ∙ (λ i. remove_range slots (low i) (high i)) ∙ removed slots 0 made first end order up
+
+pub remove-requires-clause-order : goal.remove-requires-clause-order
+remove-requires-clause-order c =
+    let slots = c.self.inside.slots.items in
+    let made = c.self.inside.made in
+    let end = c.saturating_add.result in
+    let order : c.args.first ≤ end = omega (arith, c.saturating_add.ensures) in
+    omega (
+      arith,
+      below_order slots c.args.first end order,
+      counted slots made c.self.invariant c.as_slice.result.now c.args.first c.lower-from.result c.as_slice.ensures.value
+          c.lower-from.ensures.count,
+      counted slots made c.self.invariant c.as_slice-2.result.now end c.lower-to.result c.as_slice-2.ensures.value
+          c.lower-to.ensures.count,
     )
 
-pub loop-block-preserved : goal.loop-block-preserved
-loop-block-preserved c =
-    let first = c.args.first in
-    let at = c.loop-block.block in
-    let here : at ≡ first + (at - first) = omega (arith, c.loop-block.auto.block) in
-    let next : suc (at - first) ≡ at + 1 - first = omega (arith, c.loop-block.auto.block) in (
-      map-set block_of c.loop-block.self-inside.blocks.items at None
-          ∙ ap (λ bs. slice_set bs at ended_block) c.loop-block.invariant.0
-          ∙ one_cleared first (at - first) at c.args.self.now here
-          ∙ ap (λ n. cleared first n c.args.self.now) next,
-      omega (arith, c.loop-block-test.true, c.min-end.ensures, c.saturating_add.ensures),
-    )
+those : (c : goal.After-remove) →
+    c.remove.new.slots.items ≡ without c.args.first c.saturating_add.result c.self.inside.slots.items
+those c =
+    let slots = c.self.inside.slots.items in
+    let made = c.self.inside.made in
+    let end = c.saturating_add.result in
+    left slots made c.self.invariant c.remove.new.slots.items c.lower-from.result c.lower-to.result c.args.first end
+    (omega (arith, c.saturating_add.ensures))
+    (counted slots made c.self.invariant c.as_slice.result.now c.args.first c.lower-from.result c.as_slice.ensures.value
+    c.lower-from.ensures.count)
+    (counted slots made c.self.invariant c.as_slice-2.result.now end c.lower-to.result c.as_slice-2.ensures.value
+    c.lower-to.ensures.count)
+    c.remove.ensures
+
+pub invariant_of-self : goal.invariant_of-self
+invariant_of-self c =
+    subst (λ ss. IsRising 0 c.self.inside.made ss) (sym (those c))
+    (rising_without c.self.inside.slots.items 0 c.self.inside.made c.args.first c.saturating_add.result
+    c.self.invariant)
 
 pub returns : goal.returns
 returns c =
-    let size : length c.args.self.now ≡ length c.self.inside.blocks.items =
-    ap length (sym c.self.view_is) ∙ length-map c.self.inside.blocks.items block_of in
-    c.loop-block.invariant.0
-    ∙ cleared_to c.args.first c.args.count c.loop-block.block c.args.self.now c.loop-block.auto.block
-    (λ short. omega (
-      arith,
-      short,
-      size,
-      c.loop-block.invariant.1,
-      c.loop-block-test.false,
-      c.min-end.ensures,
-      c.saturating_add.ensures,
-      c.len.ensures,
-      c.len.type_inv,
-    ))
-    (λ long. omega (
-      arith,
-      long,
-      size,
-      c.loop-block.invariant.1,
-      c.loop-block-test.false,
-      c.min-end.ensures,
-      c.saturating_add.ensures,
-      c.len.ensures,
-      c.len.type_inv,
-    ))
-    c.loop-block.invariant.1
+    row_without c.self.inside.slots.items c.remove.new.slots.items c.self.inside.made c.args.first c.args.count
+    c.saturating_add.result (those c)
+    (λ n below inside. omega (arith, below, inside, c.saturating_add.ensures))
+    (omega (arith, c.saturating_add.ensures))
+    ∙ ap (cleared c.args.first c.args.count) c.self.view_is
