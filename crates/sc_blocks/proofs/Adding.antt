@@ -1,6 +1,6 @@
 -- One more block in a row.
-use Rattle.sc_blocks.proofs.Common.{Cell, IsRising, List, Slot, [], add-one, ap, arith, cells_among, laid_out, living, refl}
-use Rattle.sc_blocks.proofs.Common.{subst, suc, sym, ℕ, ◌++◌, ◌+◌, ◌<◌, ◌∙◌, ◌∷◌, ◌≡◌}
+use Rattle.sc_blocks.proofs.Common.{IsRising, List, Slot, [], add-one, ap, arith, cells_among, laid_out, living, subst}
+use Rattle.sc_blocks.proofs.Common.{sym, ℕ, ◌++◌, ◌+◌, ◌∙◌, ◌∷◌, ◌≡◌}
 use Rattle.sc_blocks.proofs.Laying.{push_laid}
 use Rattle.sc_blocks.proofs.Living.{new_found, old_found, rising_push}
 

@@ -1,7 +1,7 @@
 -- The blocks that live, by rising numbers: which is found at a number, and what changes leave there.
-use Rattle.sc_blocks.proofs.Common.{Bool, Cell, IsRising, List, None, Option, Slot, Some, [], ap, arith, cells_among}
-use Rattle.sc_blocks.proofs.Common.{eqb-false, false, get_or, if◌then◌else◌, length, ne_eqb, refl, slice_set}
-use Rattle.sc_blocks.proofs.Common.{subst, suc, sym, true, zero, ℕ, ◌++◌, ◌+◌, ◌<◌, ◌==◌, ◌∙◌, ◌∷◌, ◌≡◌, ◌≤◌}
+use Rattle.sc_blocks.proofs.Common.{Bool, IsRising, List, None, Slot, Some, [], ap, arith, cells_among, eqb-false}
+use Rattle.sc_blocks.proofs.Common.{false, get_or, if◌then◌else◌, length, ne_eqb, refl, slice_set, subst, suc, sym}
+use Rattle.sc_blocks.proofs.Common.{true, zero, ℕ, ◌++◌, ◌<◌, ◌==◌, ◌∙◌, ◌∷◌, ◌≡◌, ◌≤◌}
 
 -- a list whose numbers rise from one on does so from any lower one
 pub rising_down : (slots : List Slot) (from made low : ℕ) → IsRising from made slots → low ≤ from →

@@ -1,7 +1,8 @@
 -- The memory of rows, as rows are made and change.
 use Rattle.sc_blocks.proofs.Common.{Blocks, Bool, List, Memory, [], ap, arith, cleared, eqb-true, false, get_or}
-use Rattle.sc_blocks.proofs.Common.{get_or_default, if◌then◌else◌, length, memory_of, refl, slice_index_or, slice_set}
-use Rattle.sc_blocks.proofs.Common.{subst, suc, sym, true, with_blocks, zero, ℕ, ◌++◌, ◌<◌, ◌==◌, ◌∙◌, ◌∷◌, ◌≡◌, ◌≤◌}
+use Rattle.sc_blocks.proofs.Common.{if◌then◌else◌, length, memory_of, refl, slice_index_or, slice_set, subst, suc, sym}
+use Rattle.sc_blocks.proofs.Common.{true, with_blocks, zero, ℕ, ◌++◌, ◌<◌, ◌==◌, ◌∙◌, ◌∷◌, ◌≡◌, ◌≤◌}
+use Rattle.std.proofs.lemmas.List.{get_or_default}
 use Rattle.std.proofs.Math.Dec.{eqb-suc-zero, eqb-zero-suc, eqb-suc-suc}
 
 row_of_more : (rows : List Blocks) (comp : ℕ) → slice_index_or (rows ++ [] ∷ []) comp [] ≡ slice_index_or rows comp []

@@ -1,10 +1,9 @@
 -- What a row has at the number of a block, by what was found among those that live.
-use Rattle.sc_blocks.proofs.Common.{Block, Err, IsOver, IsRising, List, None, Option, Slot, Some, ap, arith, cells_among}
-use Rattle.sc_blocks.proofs.Common.{get_or, inl, inr, laid_out, length, live_cells, living, refl, slice_get, subst, sym, ℕ}
-use Rattle.sc_blocks.proofs.Common.{◌<◌, ◌∙◌, ◌≡◌}
+use Rattle.sc_blocks.proofs.Common.{Block, Err, HoldsAt, IsOver, IsRising, List, None, Option, Slot, Some, ap, arith}
+use Rattle.sc_blocks.proofs.Common.{cells_among, get_or, inl, inr, laid_out, length, live_cells, living, slice_get}
+use Rattle.sc_blocks.proofs.Common.{subst, sym, ℕ, ◌<◌, ◌∙◌, ◌≡◌}
 use Rattle.sc_blocks.proofs.Laying.{lives_at, over_at}
 use Rattle.sc_blocks.proofs.Living.{found_at, rising_at}
-use Rattle.std.specs.List.{HoldsAt}
 use Rattle.sc_core.specs.declared.cause.Cause.TheVariants.{Dangling}
 
 -- a block that was found by its place lives

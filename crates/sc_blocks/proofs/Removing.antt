@@ -1,11 +1,10 @@
 -- Blocks of a row that end, among those that live.
-use Rattle.sc_blocks.proofs.Common.{Bool, IsRising, List, None, Option, Slot, Some, [], ap, arith, cells_among, count_below}
-use Rattle.sc_blocks.proofs.Common.{drop, false, get_or, if◌then◌else◌, length, nat_lt, refl, suc, sym, take, true, without}
-use Rattle.sc_blocks.proofs.Common.{zero, ℕ, ◌++◌, ◌+◌, ◌<◌, ◌==◌, ◌∙◌, ◌∷◌, ◌≡◌, ◌≤◌, ◌⊎◌, inl, inr, laid_out, cleared}
+use Rattle.sc_blocks.proofs.Common.{IsRising, List, None, Slot, Some, [], ap, arith, cases_lt, cells_among, cleared}
+use Rattle.sc_blocks.proofs.Common.{count_below, get_or, if◌then◌else◌, inl, inr, laid_out, le-ltb, length, lt-ltb}
+use Rattle.sc_blocks.proofs.Common.{refl, remove_range, suc, sym, without, zero, ℕ, ◌+◌, ◌<◌, ◌==◌, ◌∙◌, ◌∷◌, ◌≡◌, ◌≤◌}
+use Rattle.sc_blocks.proofs.Common.{◌⊎◌}
 use Rattle.sc_blocks.proofs.Laying.{cleared_laid}
 use Rattle.sc_blocks.proofs.Living.{rising_at, rising_down, skipped}
-use Rattle.std.specs.List.{remove_range}
-use Rattle.std.proofs.lemmas.Bool.{cases_lt, le-ltb, lt-ltb}
 
 below : (number : ℕ) (s : Slot) (slots : List Slot) → s.number < number →
     count_below number (s ∷ slots) ≡ suc (count_below number slots)

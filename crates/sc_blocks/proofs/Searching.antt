@@ -1,14 +1,12 @@
 -- A search among blocks whose numbers rise.
 use Rattle.sc_blocks.proofs.Common.{Bool, IsRising, List, None, Slot, [], add-one, arith, cells_among, false, get_or}
-use Rattle.sc_blocks.proofs.Common.{if◌then◌else◌, length, nat_lt, refl, rules, suc, sym, true, zero, ℕ, ◌+◌, ◌<◌, ◌==◌}
-use Rattle.sc_blocks.proofs.Common.{◌∷◌, ◌≡◌, ◌≤◌}
+use Rattle.sc_blocks.proofs.Common.{if◌then◌else◌, le-ltb, length, ltb-false, ltb-true, nat_lt, refl}
+use Rattle.sc_blocks.proofs.Common.{searchable_from_sorted, suc, sym, true, zero, ℕ, ◌+◌, ◌<◌, ◌==◌, ◌∷◌, ◌≡◌, ◌≤◌}
 use Rattle.sc_blocks.proofs.Living.{none_found, rising_at}
 use Rattle.std.specs.List.Sorted.{IsNonDecreasingBy, IsPartitionPoint, IsSortedBy}
 use Rattle.std.specs.Ordering.{is_lt, nat_cmp, ordering_index}
 use Rattle.std.specs.declared.cmp.Ordering.TheVariants.{Less, Equal, Greater}
-use Rattle.std.proofs.lemmas.Bool.{le-ltb, ltb-false, ltb-true}
 use Rattle.std.proofs.lemmas.Cmp.{nat_cmp_total, ranked}
-use Rattle.std.proofs.lemmas.List.Sorted.{searchable_from_sorted}
 
 rises : (slots : List Slot) (from made k : ℕ) (d : Slot) → IsRising from made slots → suc k < length slots →
     (get_or slots k d).number < (get_or slots (suc k) d).number

@@ -1,7 +1,7 @@
 -- Helping: the blocks of a row that live, by rising numbers, and the row that they are.
 use Rattle.sc_core.specs.Prelude.{Block}
-use Rattle.std.specs.Prelude.{ℕ, zero, suc, ◌≡◌, ◌≤◌, if◌then◌else◌, ◌==◌, nat_lt, List, [], ◌∷◌}
-use Rattle.std.specs.Prelude.{Option, None, Some, ◌⊎◌}
+use Rattle.std.specs.Prelude.{ℕ, zero, suc, ◌≡◌, ◌≤◌, if◌then◌else◌, ◌==◌, nat_lt, List, [], ◌∷◌, Option, None, Some}
+use Rattle.std.specs.Prelude.{◌⊎◌}
 use Rattle.sc_core.specs.declared.value.Cell.{Cell}
 use Rattle.sc_blocks.specs.Cells.{block_of}
 use Rattle.sc_blocks.specs.Rows.{ended_block}

@@ -1,5 +1,5 @@
-ghost use Rattle.std.specs.Prelude.{◌≡◌, ◌<◌, ◌≤◌, ℕ, length, vec_len, MatchOption, IfSome, IsTrue, MatchResult, OnErr, Ok, Err};
-ghost use Rattle.std.specs.Prelude.{None};
+ghost use Rattle.std.specs.Prelude.{◌≡◌, ◌<◌, ◌≤◌, ℕ, length, vec_len, MatchOption, IfSome, IsTrue, MatchResult, OnErr};
+ghost use Rattle.std.specs.Prelude.{Ok, Err, None};
 ghost use Rattle.std.specs.List.{HoldsAt, remove_range};
 ghost use Rattle.sc_blocks.specs.Cells.{stored_in};
 ghost use Rattle.sc_blocks.specs.Rows.{cause_of, living};

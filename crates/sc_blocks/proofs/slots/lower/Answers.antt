@@ -1,4 +1,4 @@
-use Rattle.sc_blocks.proofs.Common.{arith, get_or, length, suc, ◌-◌, ◌<◌, ◌≤◌}
+use Rattle.sc_blocks.proofs.Common.{arith, ◌-◌}
 use Rattle.sc_blocks.proofs.Removing.{at_least, at_most, few_below}
 use Rattle.sc_blocks.proofs.slots.lower.Goals as goal
 

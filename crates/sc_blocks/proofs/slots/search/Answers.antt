@@ -1,6 +1,5 @@
-use Rattle.sc_blocks.proofs.Common.{Slot, rules}
+use Rattle.sc_blocks.proofs.Common.{Slot, answers_always, rules}
 use Rattle.sc_blocks.proofs.Searching.{between}
-use Rattle.std.proofs.lemmas.List.Sorted.{answers_always}
 use Rattle.std.proofs.lemmas.Map.Lookups.{exact_unsigned}
 use Rattle.sc_blocks.proofs.slots.search.Goals as goal
 

@@ -1,7 +1,6 @@
-use Rattle.sc_blocks.proofs.Common.{IsRising, List, Slot, ap, arith, cleared, count_below, subst, sym, without, ℕ, ◌∙◌, ◌≡◌}
-use Rattle.sc_blocks.proofs.Common.{◌≤◌}
+use Rattle.sc_blocks.proofs.Common.{IsRising, List, Slot, ap, arith, cleared, count_below, remove_range, subst, sym}
+use Rattle.sc_blocks.proofs.Common.{without, ℕ, ◌∙◌, ◌≡◌, ◌≤◌}
 use Rattle.sc_blocks.proofs.Removing.{below_order, removed, rising_without, row_without}
-use Rattle.std.specs.List.{remove_range}
 use Rattle.sc_blocks.proofs.row.Row.end.Goals as goal
 
 module _ (slots : List Slot) (made : ℕ) (up : IsRising 0 made slots) where
