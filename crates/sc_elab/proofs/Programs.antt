@@ -45,3 +45,7 @@ module _ (sections : List SectionTree) where
         interface.imports ≡ map (import_of sections i) section.imports
     imports_at interface at =
         ap (λ (x : Interface). x.imports) (same_some interface (interface_of sections i section) (sym at ∙ stands_at))
+
+    -- a section has an interface, by its number
+    pub is_there : IsSome (slice_get interfaces.comps i)
+    is_there = rw stands_at tt

@@ -12,7 +12,7 @@ mod tree_ty;
 mod typing;
 
 pub use members::build_structs;
-pub use program::build_program;
+pub use program::{build_program, into_program};
 pub use sc_elab_expr::Structs;
 pub use section::build_tags;
 pub use tree_ty::{type_of, type_of_name};

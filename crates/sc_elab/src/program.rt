@@ -1,5 +1,6 @@
 ghost use Rattle.sc_elab.specs.Prelude.{callees_of, interfaces_of, program_of, sections_from, typed_section};
-ghost use Rattle.std.specs.Prelude.{◌≡◌, slice_get, Some, IfOk};
+ghost use Rattle.std.specs.Prelude.{◌≡◌, List, slice_get, Some, IsSome, IfOk};
+ghost use Rattle.sc_ast.specs.declared.section.SectionTree.{SectionTree};
 
 use crate::section::build_section;
 use sc_ast::SectionTree;
@@ -9,19 +10,18 @@ use sc_event::Interfaces;
 use sqlite_items::Items;
 use std::alloc::Global;
 
-// The section of this number.
+// The section of this number, which is the tree's, over all sections that have these interfaces.
 fn section_at(
     alloc: Global,
-    sections: &[SectionTree],
     interfaces: &Interfaces,
     number: usize,
     section: &SectionTree,
 ) -> Result<TypedSection, OutOfMemory>
-    requires section { slice_get sections.now number ≡ Some section.now }
-    requires interfaces { interfaces.now ≡ interfaces_of sections.now }
-    ensures { IfOk result (λ built. built ≡ typed_section section.now (callees_of sections.now number section.now)) }
+    requires { IsSome (slice_get interfaces.now.comps number) }
+    ensures { (sections : List SectionTree) → interfaces.now ≡ interfaces_of sections →
+        slice_get sections number ≡ Some section.now →
+        IfOk result (λ built. built ≡ typed_section section.now (callees_of sections number section.now)) }
 {
-    let _ = sections;
     let Some(interface) = interfaces.comps.get(number) else {
         unreachable!()
     };
@@ -38,8 +38,24 @@ fn build_sections(
 {
     let mut built = Items::new(alloc);
     for number in 0..sections.len() {
-        let section = &sections[number];
-        built.push(section_at(alloc, sections, interfaces, number, section)?)?;
+        built.push(section_at(alloc, interfaces, number, &sections[number])?)?;
+    }
+    Ok(built)
+}
+
+// The same, where the tree of a section is given back once the section is built.
+fn into_sections(
+    alloc: Global,
+    mut sections: Items<SectionTree>,
+    interfaces: &Interfaces,
+) -> Result<TypedSections, OutOfMemory>
+    requires { interfaces.now ≡ interfaces_of sections }
+    ensures { IfOk result (λ built. built ≡ sections_from sections 0 sections) }
+{
+    let mut built = Items::new(alloc);
+    for number in 0..sections.len() {
+        let section = sections.remove(0);
+        built.push(section_at(alloc, interfaces, number, &section)?)?;
     }
     Ok(built)
 }
@@ -55,6 +71,23 @@ pub fn build_program(
     ensures { IfOk result (λ program. program ≡ program_of sections.now) }
 {
     let sections = build_sections(alloc, sections, &interfaces)?;
+    Ok(ProgramTree {
+        interfaces,
+        sections,
+    })
+}
+
+/// The same of sections that nobody needs any more. Trees and typed sections are never all kept side by side, so this
+/// takes little more memory than the larger of the two. It is meant for few sections, as many as a program may have.
+pub fn into_program(
+    alloc: Global,
+    sections: Items<SectionTree>,
+    interfaces: Interfaces,
+) -> Result<ProgramTree, OutOfMemory>
+    requires { interfaces ≡ interfaces_of sections }
+    ensures { IfOk result (λ program. program ≡ program_of sections) }
+{
+    let sections = into_sections(alloc, sections, &interfaces)?;
     Ok(ProgramTree {
         interfaces,
         sections,

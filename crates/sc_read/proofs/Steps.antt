@@ -13,6 +13,7 @@ use Rattle.sc_read.proofs.Common.{slice_index, slice_range, star_first, subst, s
 use Rattle.sc_read.proofs.Common.{take_all, token, true, uncut, white_space, zero, ℕ, ◌++◌, ◌+◌, ◌-◌, ◌<◌, ◌∙◌, ◌∷◌}
 use Rattle.sc_read.proofs.Common.{◌≡◌, ◌≤◌}
 use Rattle.std.proofs.lemmas.List.{take_more, drop_more}
+use Rattle.std.specs.Prelude.{slice_set}
 use Rattle.sc_lex.specs.declared.refusal.Phase.TheVariants as phase
 
 -- what the loops over sections keep
@@ -217,12 +218,29 @@ as_many R [] (y ∷ ys) h = absurd h
 as_many R (x ∷ xs) [] h = absurd h
 as_many R (x ∷ xs) (y ∷ ys) h = omega (arith, as_many R xs ys h.1)
 
-pub zip_at : {A B : Type 0} (R : A → B → Type 0) (xs : List A) (ys : List B) (at : ℕ) (x : A) (y : B) → AllZip R xs ys →
-    at < length xs → x ≡ get_or xs at x → y ≡ get_or ys at y → R x y
-zip_at R [] ys at x y h low p q = absurd (omega arith)
-zip_at R (a ∷ xs) [] at x y h low p q = absurd h
-zip_at R (a ∷ xs) (b ∷ ys) zero x y h low p q = subst (λ z. R z y) (sym p) (subst (λ z. R a z) (sym q) h.0)
-zip_at R (a ∷ xs) (b ∷ ys) (suc at) x y h low p q = zip_at R xs ys at x y h.1 (omega arith) p q
+pub zip_at : {A B : Type 0} (R : A → B → Type 0) (xs : List A) (ys : List B) (at : ℕ) (x : A) (y : B) →
+    AllZip R (drop at xs) (drop at ys) → at < length xs → at < length ys → x ≡ get_or xs at x → y ≡ get_or ys at y → R x y
+zip_at R [] ys at x y h low few p q = absurd (omega arith)
+zip_at R (a ∷ xs) [] at x y h low few p q = absurd (omega arith)
+zip_at R (a ∷ xs) (b ∷ ys) zero x y h low few p q =
+    subst (λ z. R z y) (sym p) (subst (λ z. R a z) (sym q) h.0)
+zip_at R (a ∷ xs) (b ∷ ys) (suc at) x y h low few p q =
+    zip_at R xs ys at x y h (omega arith) (omega arith) p q
+
+-- as many of the one as of the other from a place on, and so in all
+pub as_many_from : {A B : Type 0} (R : A → B → Type 0) (xs : List A) (ys : List B) (at : ℕ) →
+    AllZip R (drop at xs) (drop at ys) → at < length xs → at < length ys
+as_many_from R xs ys at h low =
+    omega (arith, length-drop at xs, length-drop at ys, as_many R (drop at xs) (drop at ys) h)
+
+-- what stands behind a place stays, whatever is put there
+pub zip_behind : {A B : Type 0} (R : A → B → Type 0) (xs : List A) (ys : List B) (at : ℕ) (z : B) →
+    AllZip R (drop at xs) (drop at ys) → at < length xs → at < length ys →
+    AllZip R (drop (suc at) xs) (drop (suc at) (slice_set ys at z))
+zip_behind R [] ys at z h low few = absurd (omega arith)
+zip_behind R (a ∷ xs) [] at z h low few = absurd (omega arith)
+zip_behind R (a ∷ xs) (b ∷ ys) zero z h low few = h.1
+zip_behind R (a ∷ xs) (b ∷ ys) (suc at) z h low few = zip_behind R xs ys at z h (omega arith) (omega arith)
 
 pub lex_phase : {refusal : Refusal} {ss : List Section} →
     First IsCuttable (λ s. RefusesBytes s.bytes.now s.line refusal) ss → refusal.phase ≡ phase.Lex

@@ -31,7 +31,7 @@ pub fn read_trees(alloc: Global, text: &[u8]) -> Result<Trees, TextFault>
             line: first.line,
         }));
     }
-    parse_sections(alloc, sections.as_slice(), cuts.as_slice())
+    parse_sections(alloc, sections.as_slice(), cuts)
 }
 
 // The tokens of each section.
@@ -47,20 +47,23 @@ fn cut_sections(alloc: Global, sections: &[Section<'_>]) -> Result<Items<Tokens>
     Ok(cuts)
 }
 
-// The tree of each section.
+// The tree of each section. Its tokens are given back as soon as it stands, so that all tokens and all trees are never
+// kept side by side.
 fn parse_sections(
     alloc: Global,
     sections: &[Section<'_>],
-    cuts: &[Tokens],
+    mut cuts: Items<Tokens>,
 ) -> Result<Trees, TextFault>
-    requires { AllZip IsCutInto sections.now cuts.now }
+    requires { AllZip IsCutInto sections.now cuts }
     ensures read { IfOk result (AllZip IsTreeOf sections.now) }
     ensures refused { (refusal : Refusal) → IsErrOf result (TextFault.Refused refusal) →
         (refusal.phase ≡ Syntax) × First IsParsable (RefusesTokens refusal.line) sections.now }
 {
     let mut trees = Items::new(alloc);
     for at in 0..sections.len() {
-        trees.push(parse_section(alloc, &sections[at], cuts[at].as_slice())?)?;
+        let tokens = cuts.as_slice()[at].as_slice();
+        trees.push(parse_section(alloc, &sections[at], tokens)?)?;
+        cuts.set(at, Items::new(alloc));
     }
     Ok(trees)
 }

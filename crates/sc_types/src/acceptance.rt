@@ -10,7 +10,7 @@ use sc_core::Program;
 use sc_elab::{broken_type, build_program};
 use sc_interfaces::{broken_interface, interfaces};
 use sc_lex::{Phase, Refusal};
-use sc_read::TextFault;
+use sc_read::{TextFault, Trees};
 use sc_scope::broken_name;
 use std::alloc::Global;
 
@@ -22,11 +22,34 @@ pub fn type_program(alloc: Global, sections: &[SectionTree]) -> Result<Program, 
     ensures refused { (refusal : Refusal) → IsErrOf result (TextFault.Refused refusal) →
         FailsRules sections.now refusal.phase refusal.line }
 {
+    check_rules(alloc, sections)?;
+    build(alloc, sections)
+}
+
+/// The same, where the trees of a section are given back once it is built.
+pub(crate) fn into_program(alloc: Global, sections: Trees) -> Result<Program, TextFault>
+    requires { AreLow sections }
+    ensures accepted { IfOk result (IsTyped sections) }
+    ensures refused { (refusal : Refusal) → IsErrOf result (TextFault.Refused refusal) →
+        FailsRules sections refusal.phase refusal.line }
+{
+    check_rules(alloc, sections.as_slice())?;
+    built_from(alloc, sections)
+}
+
+// Tries the rules of all four phases.
+fn check_rules(alloc: Global, sections: &[SectionTree]) -> Result<(), TextFault>
+    ensures names { OnOk result (names_broken sections.now ≡ []) }
+    ensures types { OnOk result (types_broken sections.now ≡ []) }
+    ensures interfaces { OnOk result (interface_broken sections.now ≡ []) }
+    ensures counts { OnOk result (counts_broken sections.now ≡ []) }
+    ensures refused { (refusal : Refusal) → IsErrOf result (TextFault.Refused refusal) →
+        FailsRules sections.now refusal.phase refusal.line }
+{
     check_names(alloc, sections)?;
     check_types(alloc, sections)?;
     check_interfaces(alloc, sections)?;
-    check_counts(alloc, sections)?;
-    build(alloc, sections)
+    check_counts(alloc, sections)
 }
 
 #[tactic(auto, using(crate::proofs::Phases::passes))]
@@ -107,5 +130,22 @@ fn build(alloc: Global, sections: &[SectionTree]) -> Result<Program, TextFault>
 {
     let interfaces = interfaces(alloc, sections).map_err(|_| TextFault::OutOfMemory)?;
     let tree = build_program(alloc, sections, interfaces).map_err(|_| TextFault::OutOfMemory)?;
+    Ok(Program::new(tree))
+}
+
+#[tactic(auto, using(crate::proofs::Phases::within_counts, crate::proofs::Phases::built_well))]
+fn built_from(alloc: Global, sections: Trees) -> Result<Program, TextFault>
+    requires low { AreLow sections }
+    requires names { names_broken sections ≡ [] }
+    requires types { types_broken sections ≡ [] }
+    requires interfaces { interface_broken sections ≡ [] }
+    requires counts { counts_broken sections ≡ [] }
+    ensures built { IfOk result (λ program. program ≡ program_of sections) }
+    ensures memory { (refusal : Refusal) → IsErrOf result (TextFault.Refused refusal) → ⊥ }
+{
+    let interfaces =
+        interfaces(alloc, sections.as_slice()).map_err(|_| TextFault::OutOfMemory)?;
+    let tree =
+        sc_elab::into_program(alloc, sections, interfaces).map_err(|_| TextFault::OutOfMemory)?;
     Ok(Program::new(tree))
 }

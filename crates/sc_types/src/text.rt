@@ -5,7 +5,7 @@ ghost use Rattle.sc_types.specs.Acceptance.{Accepts, Fails};
 ghost use Rattle.sc_types.specs.Source.{IsSource};
 ghost use Rattle.sc_types.specs.Starts.{start_of, AreStarts, first_start, parts_from};
 
-use crate::type_program;
+use crate::acceptance::into_program;
 use sc_core::Program;
 use sc_event::CompId;
 use sc_lex::{Section, Split, sections};
@@ -101,7 +101,7 @@ fn read_program(alloc: Global, text: &[u8]) -> Result<Program, TextFault>
         Fails text.now refusal.phase refusal.line }
 {
     let trees = read_trees(alloc, text)?;
-    type_program(alloc, trees.as_slice())
+    into_program(alloc, trees)
 }
 
 fn section_starts(alloc: Global, text: &[u8]) -> Result<Items<usize>, TextFault>

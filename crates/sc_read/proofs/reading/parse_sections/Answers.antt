@@ -1,14 +1,34 @@
 use Rattle.sc_read.proofs.Common.{Err, IsCutInto, IsTreeOf, Refused, ap, arith, err_from_is_err_and, sym, ◌∙◌, ◌≡◌}
-use Rattle.sc_read.proofs.Steps.{more_sections, first_bad, as_many, zip_at}
+use Rattle.sc_read.proofs.Steps.{more_sections, first_bad, as_many_from, zip_at, zip_behind}
+use Rattle.sc_read.proofs.Common.{AllZip, drop, subst, suc, ℕ, ◌+◌}
 use Rattle.sc_read.proofs.reading.parse_sections.Goals as goal
 
-pub bounds-cuts-at : goal.bounds-cuts-at
-bounds-cuts-at c = omega (arith, as_many IsCutInto c.args.sections.now c.args.cuts.now c.requires)
+further : (at : ℕ) → suc at ≡ at + 1
+further at = omega arith
+
+pub bounds-as_slice-at : goal.bounds-as_slice-at
+bounds-as_slice-at c =
+    rw c.as_slice.ensures (as_many_from IsCutInto c.args.sections.now c.loop-at.cuts c.loop-at.at c.loop-at.invariant.1
+    c.loop-at-test.true)
 
 pub parse_section-requires : goal.parse_section-requires
 parse_section-requires c =
-    rw c.as_slice.ensures (zip_at IsCutInto c.args.sections.now c.args.cuts.now c.loop-at.at c.index-sections-at.result
-    c.index-cuts-at.result c.requires c.loop-at-test.true c.index-sections-at.is c.index-cuts-at.is)
+    rw c.as_slice-tokens.ensures (zip_at IsCutInto c.args.sections.now c.loop-at.cuts c.loop-at.at
+    c.index-sections-at.result c.index-as_slice-at.result c.loop-at.invariant.1 c.loop-at-test.true
+    (as_many_from IsCutInto c.args.sections.now c.loop-at.cuts c.loop-at.at c.loop-at.invariant.1 c.loop-at-test.true)
+    c.index-sections-at.is (rw c.as_slice.ensures at c.index-as_slice-at.is))
+
+pub loop-at-preserved : goal.loop-at-preserved
+loop-at-preserved c =
+    let few = as_many_from IsCutInto c.args.sections.now c.loop-at.cuts c.loop-at.at c.loop-at.invariant.1
+    c.loop-at-test.true in (
+      rw c.in_ok-push.ensures.ok (more_sections IsTreeOf c.args.sections.now c.loop-at.trees c.loop-at.at
+          c.index-sections-at.result c.in_ok-parse_section.field-0 c.loop-at-test.true c.index-sections-at.is
+          c.loop-at.invariant.0 c.in_ok-parse_section.ensures.read),
+      subst (λ k. AllZip IsCutInto (drop k c.args.sections.now) (drop k c.set.new.self)) (further c.loop-at.at)
+          (rw c.set.ensures (zip_behind IsCutInto c.args.sections.now c.loop-at.cuts c.loop-at.at c.new.result
+          c.loop-at.invariant.1 c.loop-at-test.true few)),
+    )
 
 pub returns-in_err-parse_section-clause-refused : goal.returns-in_err-parse_section-clause-refused
 returns-in_err-parse_section-clause-refused c = λ refusal is.
@@ -22,11 +42,5 @@ returns-in_err-parse_section-clause-refused c = λ refusal is.
         tree,
         is,
       )) c.args.sections.now c.loop-at.trees c.loop-at.at c.index-sections-at.result c.loop-at-test.true
-          c.index-sections-at.is c.loop-at.invariant refused.1,
+          c.index-sections-at.is c.loop-at.invariant.0 refused.1,
     )
-
-pub loop-at-preserved : goal.loop-at-preserved
-loop-at-preserved c =
-    rw c.in_ok-push.ensures.ok (more_sections IsTreeOf c.args.sections.now c.loop-at.trees c.loop-at.at
-    c.index-sections-at.result c.in_ok-parse_section.field-0 c.loop-at-test.true c.index-sections-at.is
-    c.loop-at.invariant c.in_ok-parse_section.ensures.read)

@@ -10,16 +10,15 @@ returns-in_err-trees-clause-refused c = λ refusal is.
     let below : c.in_err-trees.field-0.0 ≡ Refused refusal = cc in
     unread_fails c.args.text.now refusal.phase refusal.line (c.in_err-trees.ensures.refused refusal (ap Err below))
 
-pub type_program-requires : goal.type_program-requires
-type_program-requires c = rw c.as_slice.ensures (reads_low c.args.text.now c.in_ok-trees.trees
-    c.in_ok-trees.ensures.read)
+pub into_program-requires : goal.into_program-requires
+into_program-requires c = reads_low c.args.text.now c.in_ok-trees.trees c.in_ok-trees.ensures.read
 
 pub returns-clause-accepted : goal.returns-clause-accepted
 returns-clause-accepted c =
-    typed_accepted c.args.text.now c.in_ok-trees.trees c.type_program.result c.in_ok-trees.ensures.read
-    (rw c.as_slice.ensures at c.type_program.ensures.accepted)
+    typed_accepted c.args.text.now c.in_ok-trees.trees c.into_program.result c.in_ok-trees.ensures.read
+    c.into_program.ensures.accepted
 
 pub returns-clause-refused : goal.returns-clause-refused
 returns-clause-refused c = λ refusal is.
     untyped_fails c.args.text.now c.in_ok-trees.trees refusal.phase refusal.line c.in_ok-trees.ensures.read
-    (rw c.as_slice.ensures at (c.type_program.ensures.refused refusal is))
+    (c.into_program.ensures.refused refusal is)
