@@ -2,6 +2,7 @@
 use Rattle.sc_elab.proofs.Common.{List, None, SectionTree, Some, [], ap, arith, import_of, interface_of}
 use Rattle.sc_elab.proofs.Common.{interfaces_from, interfaces_of, map, option_map, refl, slice_get, suc, sym, zero, ℕ}
 use Rattle.sc_elab.proofs.Common.{◌+◌, ◌∙◌, ◌∷◌, ◌≡◌}
+use Rattle.std.specs.Prelude.{IsSome}
 use Rattle.sc_event.specs.declared.interface.Interface.{Interface}
 use Rattle.sc_event.specs.declared.interface.Interfaces.{Interfaces}
 
