@@ -485,7 +485,8 @@ module _ (frame : FrameTree) (places : List Place) where
   any_more most piece h = record { few = λ b c. omega (arith, h.few b c); sound = h.sound }
 
   turn_shaped : (before : Role) (stmts : List TacStmt) → Each Shaped stmts →
-      IsShaped (total (map stmt_branches stmts)) (in_turn (joined frame places before (map (select frame places) stmts)))
+      IsShaped (total (map stmt_branches stmts))
+      (in_turn (joined frame places before (map (select frame places) stmts)))
   turn_shaped before [] h = straight_shaped [] refl
   turn_shaped before (stmt ∷ rest) h =
       let behind : Role = role_first (map (select frame places) rest) in

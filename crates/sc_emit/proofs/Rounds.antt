@@ -136,7 +136,8 @@ module _ (frame : FrameTree) (places : List Place) where
       HaveCode stmts (instrs_of ((in_turn (joined frame places before (map (select frame places) stmts))).lines b c))
   turn_lies before [] h b c = empty
   turn_lies before (stmt ∷ rest) h b c =
-      let behind : Piece = in_turn (joined frame places (select frame places stmt).role (map (select frame places) rest))
+      let behind : Piece =
+      in_turn (joined frame places (select frame places stmt).role (map (select frame places) rest))
       in
       let next : Role = role_first (map (select frame places) rest) in
       let own : List Line =

@@ -107,7 +107,8 @@ module _ (T : Setting) (R : Running) (formed : IsWellFormed T.image) (inputs : A
       (first (omega (arith, all))) (later (omega (arith, all))))
 
   -- the word of a variable, which two statements read
-  read_follows_here : (dest object : ℕ) (pointer : Bool) → PassesAll tests (roll-TacStmt (tac.ObjectPlace dest object)) →
+  read_follows_here : (dest object : ℕ) (pointer : Bool) →
+      PassesAll tests (roll-TacStmt (tac.ObjectPlace dest object)) →
       Follows T R (reads T R formed inputs cells nodes is placed calls dest object pointer)
       (straightly frame R.places (object_read frame R.places dest object))
       (both_trails T R formed inputs cells nodes is placed calls dest object pointer)

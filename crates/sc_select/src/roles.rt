@@ -1,4 +1,5 @@
-//! Two statements that are one piece of code: the first gives the place of a variable, the second loads what stands there.
+//! Two statements that are one piece of code: the first gives the place of a variable, the second loads what stands
+//! there.
 
 ghost use Rattle.sc_select.specs.Prelude.{joins, role_before, role_first, select};
 ghost use Rattle.sc_tac.specs.declared.frame.FrameTree.{FrameTree};
