@@ -1,4 +1,5 @@
 pub mod Prelude
 pub mod Access
+pub mod Assigning
 pub mod Evaluation
 pub mod Where
