@@ -1,14 +1,13 @@
 -- A variable that is read: one load, where its place is wanted for that load alone.
-use Rattle.sc_emit.proofs.Common.{All, All-cons, All-nil, Arrives, Bool, Calls, Codes, Comes, Computes, Follows}
-use Rattle.sc_emit.proofs.Common.{FrameTree, Goes, Instr, IsActivation, IsClear, IsFromSp, IsLoaded, IsWellFormed}
-use Rattle.sc_emit.proofs.Common.{IsWord, Joint, List, Lives, Next, Ok, Place, Point, Ready, Running, Set, Setting}
-use Rattle.sc_emit.proofs.Common.{Some, StandsFor, State as Meant, Temps, Trail, Value, [], ap, arith, code_step}
-use Rattle.sc_emit.proofs.Common.{comes_computed, comes_read, each_at, eq-eqb, false, gets, if◌then◌else◌, is_one, keep}
-use Rattle.sc_emit.proofs.Common.{leave, length, live_across, live_at, live_plain, load, load_word, loads, loads_word}
-use Rattle.sc_emit.proofs.Common.{not, object_offset, object_read, plain_points, point, refl, result_register, row}
-use Rattle.sc_emit.proofs.Common.{same_Some, slice_get, start_of, stays, straightly, subst, sym, trail_step, true}
-use Rattle.sc_emit.proofs.Common.{unwrap_or, with_temp, word, wrapping, ℕ, ◌&&◌, ◌*◌, ◌++◌, ◌+◌, ◌<◌, ◌==◌, ◌^◌, ◌||◌}
-use Rattle.sc_emit.proofs.Common.{◌∙◌, ◌∷◌, ◌≡◌, ◌≤◌}
+use Rattle.sc_emit.proofs.Common.{All, All-cons, All-nil, Arrives, Bool, Calls, Codes, Follows, FrameTree, Goes, Instr}
+use Rattle.sc_emit.proofs.Common.{IsActivation, IsClear, IsFromSp, IsLoaded, IsWellFormed, IsWord, Joint, List, Lives}
+use Rattle.sc_emit.proofs.Common.{Next, Ok, Place, Point, Ready, Running, Set, Setting, Some, StandsFor, State as Meant}
+use Rattle.sc_emit.proofs.Common.{Temps, Trail, Value, [], ap, arith, code_step, comes_computed, comes_read, each_at}
+use Rattle.sc_emit.proofs.Common.{eq-eqb, false, gets, if◌then◌else◌, is_one, leave, length, live_across, live_at}
+use Rattle.sc_emit.proofs.Common.{live_plain, load, load_word, loads, loads_word, not, object_offset, object_read}
+use Rattle.sc_emit.proofs.Common.{plain_points, point, refl, result_register, row, same_Some, slice_get, start_of}
+use Rattle.sc_emit.proofs.Common.{stays, straightly, subst, sym, trail_step, true, unwrap_or, with_temp, word, wrapping}
+use Rattle.sc_emit.proofs.Common.{ℕ, ◌&&◌, ◌*◌, ◌+◌, ◌==◌, ◌||◌, ◌∙◌, ◌∷◌, ◌≡◌, ◌≤◌}
 use Rattle.sc_tac.specs.declared.stmt.TacStmt.TheOpen as tac
 use Rattle.sc_emit.proofs.Operands.{ArePlaced, Gives, keeps, world}
 use Rattle.sc_emit.proofs.Plain.{IsResult, gives_by, result_is, start_stands}

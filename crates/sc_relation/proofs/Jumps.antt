@@ -3,7 +3,7 @@ use Rattle.sc_relation.proofs.Common.{All, Arrives, Break, Continue, Fetches, Fo
 use Rattle.sc_relation.proofs.Common.{IsWord, Jal, Joint, Leads, Ready, Running, Set, Setting, Some, Standpoint, Temps}
 use Rattle.sc_relation.proofs.Common.{add_word, ap, arith, breaking, code_inside, continuing, inl, is_some, jal, leave}
 use Rattle.sc_relation.proofs.Common.{machine, neg_ℤ, pos, refl, seen_from, stays, suc, trail_step, walks_steady}
-use Rattle.sc_relation.proofs.Common.{word_at, word_of, zero, ℕ, ℤ, ◌%◌, ◌*◌, ◌+◌, ◌-◌, ◌<◌, ◌^◌, ◌∙◌, ◌∷◌, ◌≡◌, ◌≤◌}
+use Rattle.sc_relation.proofs.Common.{word_at, word_of, zero, ℕ, ℤ, ◌%◌, ◌*◌, ◌+◌, ◌-◌, ◌<◌, ◌^◌, ◌∙◌, ◌≡◌, ◌≤◌}
 use Rattle.sc_relation.proofs.Coming.{came_by}
 use Rattle.sc_tac.specs.declared.stmt.TacStmt.TheOpen as tac
 use Rattle.sc_relation.proofs.Stretches.{effect_still, arrives_with}

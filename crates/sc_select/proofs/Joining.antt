@@ -1,11 +1,11 @@
 -- Pieces between others: what holds of each piece of statements holds of all of them in order, and which statements are
 -- one piece.
-use Rattle.sc_select.proofs.Common.{Bool, Each, FrameTree, Inside, List, Loads, Other, Piece, Place, Places, Role}
-use Rattle.sc_select.proofs.Common.{TacStmt, TacStmt-F, [], ap, ap₂, arith, between, drop, eqb-true, false}
-use Rattle.sc_select.proofs.Common.{fold-roll-TacStmt, followed, get_or, if◌then◌else◌, in_order, in_turn, joined}
-use Rattle.sc_select.proofs.Common.{joins, length, map, map-TacStmt, nothing, object_read, reading, refl, role_before}
-use Rattle.sc_select.proofs.Common.{role_first, role_of_load, roll-TacStmt, select, select_step, stmt_induction}
-use Rattle.sc_select.proofs.Common.{straightly, subst, suc, sym, true, zero, ℕ, ◌-◌, ◌<◌, ◌==◌, ◌∙◌, ◌∷◌, ◌≡◌, ◌≤◌}
+use Rattle.sc_select.proofs.Common.{Bool, Each, FrameTree, List, Loads, Other, Piece, Place, Places, Role, TacStmt}
+use Rattle.sc_select.proofs.Common.{TacStmt-F, [], ap, ap₂, arith, between, drop, eqb-true, false, fold-roll-TacStmt}
+use Rattle.sc_select.proofs.Common.{followed, get_or, if◌then◌else◌, in_order, in_turn, joined, joins, length, map}
+use Rattle.sc_select.proofs.Common.{map-TacStmt, nothing, object_read, reading, refl, role_before, role_first}
+use Rattle.sc_select.proofs.Common.{roll-TacStmt, select, select_step, stmt_induction, straightly, suc, sym, true, zero}
+use Rattle.sc_select.proofs.Common.{ℕ, ◌-◌, ◌<◌, ◌==◌, ◌∙◌, ◌∷◌, ◌≡◌, ◌≤◌}
 use Rattle.sc_tac.specs.declared.stmt.TacStmt.TheOpen as tac
 
 -- ROLES
