@@ -1,7 +1,5 @@
 -- What is done at once, or not at all.
-use Rattle.sc_core.specs.Prelude.{Blocks, Memory, Ways, is_true}
-use Rattle.std.proofs.Common.{Bool, Ok, false, sym, true, ℕ, ◌≡◌}
-use Rattle.sc_core.specs.declared.value.Value.{Value}
+use Rattle.sc_value.proofs.Common.{Blocks, Bool, Memory, Ok, Value, Ways, false, is_true, sym, true, ℕ, ◌≡◌}
 use Rattle.sc_core.specs.declared.value.Want.TheVariants as want
 use Rattle.sc_value.specs.Assigning.{AssignedIf, HoldsIf, PutIf, StoredIf}
 

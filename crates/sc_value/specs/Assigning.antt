@@ -1,7 +1,6 @@
 -- Helping: what is done at once, or not at all.
-use Rattle.sc_core.specs.Prelude.{Blocks, Memory, Ways, is_true, store, with_blocks}
+use Rattle.sc_value.specs.Common.{Blocks, Memory, Value, Ways, is_true, store, with_blocks}
 use Rattle.std.specs.Prelude.{◌≡◌, ℕ, Bool, true, false, Ok}
-use Rattle.sc_core.specs.declared.value.Value.{Value}
 use Rattle.sc_core.specs.declared.value.Want.TheVariants as want
 
 -- the condition holds; where that isn't known, nothing is said

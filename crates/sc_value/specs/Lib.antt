@@ -1,3 +1,4 @@
+pub mod Common
 pub mod Prelude
 pub mod Access
 pub mod Assigning

@@ -7,5 +7,4 @@ pub use Rattle.sc_core.specs.Prelude.{wanted, ways, with_blocks}
 pub use Rattle.sc_core.specs.declared.value.Value.TheVariants.{Ptr, Word}
 pub use Rattle.sc_blocks.specs.Rows.{cause_of, memory_of}
 pub use Rattle.sc_value.specs.Access.{count_at, typed}
-pub use Rattle.sc_value.specs.Assigning.{Assigned, AssignedIf, Holding, HoldsIf, Put, PutIf, Stored, StoredIf}
 pub use Rattle.sc_value.specs.Where.{here_of}

@@ -1,6 +1,7 @@
 //! Assignments and conditions at once: where they aren't found so, nothing is done, and evaluation says why.
 
-ghost use Rattle.sc_value.specs.Prelude.{AssignedIf, HoldsIf, PutIf, StoredIf, c_arith, here_of, memory_of, ways};
+ghost use Rattle.sc_value.specs.Prelude.{c_arith, here_of, memory_of, ways};
+ghost use Rattle.sc_value.specs.Assigning.{AssignedIf, HoldsIf, PutIf, StoredIf};
 ghost use Rattle.std.specs.Prelude.{◌≡◌, IfSome, Ok};
 ghost use Rattle.sc_core.specs.declared.value.Want.TheVariants as want;
 
