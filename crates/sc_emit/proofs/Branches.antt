@@ -3,24 +3,26 @@
 use Rattle.sc_emit.proofs.Common.{Addi, All, All-cons, All-nil, ArePlaces, Bne, Bool, Branch, Each, Ebreak, Entry}
 use Rattle.sc_emit.proofs.Common.{Export, Fits, FrameTree, Inside, Instr, IsBranchOffset, IsImmediate, IsInstr}
 use Rattle.sc_emit.proofs.Common.{IsJumpOffset, IsReg, IsUpper, Jal, Jalr, Line, List, Load, Lw, Main, None, OpImm}
-use Rattle.sc_emit.proofs.Common.{Option, Place, Register, Slot, Some, Store, Sw, TacFnTree, TacOp, TacStmt, TacStmt-F}
-use Rattle.sc_emit.proofs.Common.{[], a0, a7, address_scratch, all_true, and_first, and_from, and_rest, arith, at_hand}
-use Rattle.sc_emit.proofs.Common.{binary_code, branch_step, branches, brought, bytes_of, call_cross, call_own, choice}
-use Rattle.sc_emit.proofs.Common.{closing, code_branches, code_of, cond, copied, count_by, cycle, entrance}
-use Rattle.sc_emit.proofs.Common.{environment_call, everywhere, false, first_scratch, fold-TacStmt, fold-roll-TacStmt}
-use Rattle.sc_emit.proofs.Common.{followed, fork, frame_left, frame_taken, function_lines, has_known_jumps}
-use Rattle.sc_emit.proofs.Common.{has_no_ebreak, if◌then◌else◌, in_order, int_le, is_branch, is_ebreak, is_known_jump}
-use Rattle.sc_emit.proofs.Common.{is_place, is_short, jump_back, jump_over, keep, kept, leb-true, length, list_all}
-use Rattle.sc_emit.proofs.Common.{list_all-append, list_all-map, load_from, load_word, loading, lower_part, ltb-true}
-use Rattle.sc_emit.proofs.Common.{map, map-TacStmt, most_lines, most_params, moved_by, nat_le, nat_lt, neg_ℤ, negsuc}
-use Rattle.sc_emit.proofs.Common.{not, object_offset, op_code, operand, operation, pass, passes_few, place_of}
+use Rattle.sc_emit.proofs.Common.{Option, Other, Place, Places, Register, Role, Slot, Some, Store, Sw, TacFnTree, TacOp}
+use Rattle.sc_emit.proofs.Common.{TacStmt, TacStmt-F, [], a0, a7, address_scratch, all_true, and_first, and_from}
+use Rattle.sc_emit.proofs.Common.{and_rest, arith, at_hand, between, between_keeps, binary_code, branch_step, branches}
+use Rattle.sc_emit.proofs.Common.{brought, bytes_of, call_cross, call_own, choice, closing, code_branches, code_of}
+use Rattle.sc_emit.proofs.Common.{cond, copied, count_by, cycle, entrance, environment_call, everywhere, false}
+use Rattle.sc_emit.proofs.Common.{first_scratch, fold-TacStmt, fold-roll-TacStmt, followed, fork, frame_left}
+use Rattle.sc_emit.proofs.Common.{frame_taken, function_lines, has_known_jumps, has_no_ebreak, if◌then◌else◌, in_order}
+use Rattle.sc_emit.proofs.Common.{in_turn, int_le, is_branch, is_ebreak, is_known_jump, is_place, is_short, joined}
+use Rattle.sc_emit.proofs.Common.{jump_back, jump_over, keep, kept, leb-true, length, list_all, list_all-append}
+use Rattle.sc_emit.proofs.Common.{list_all-map, load_from, load_word, loading, lower_part, ltb-true, map, map-TacStmt}
+use Rattle.sc_emit.proofs.Common.{most_lines, most_params, moved_by, nat_le, nat_lt, neg_ℤ, negsuc, not, object_offset}
+use Rattle.sc_emit.proofs.Common.{object_read, op_code, operand, operation, order_keeps, pass, passes_few, place_of}
 use Rattle.sc_emit.proofs.Common.{place_of_global, plain, plainly, pos, put, ra, receive, refl, register_count}
-use Rattle.sc_emit.proofs.Common.{register_of, register_there, result_register, return, round_begins, rules}
-use Rattle.sc_emit.proofs.Common.{second_operand, second_scratch, select, select_all, select_step, signed_of, slice_get}
-use Rattle.sc_emit.proofs.Common.{slot_offset, sp, stmt_branches, stmt_induction, store_arguments, store_to, store_word}
-use Rattle.sc_emit.proofs.Common.{straight, sub_word, subst, suc, sum_by-append, sym, take, take_second, taken, total}
-use Rattle.sc_emit.proofs.Common.{true, unary_code, upper_part, with_parts, word_of_constant, zero, ℕ, ℤ, ◌%◌, ◌&&◌}
-use Rattle.sc_emit.proofs.Common.{◌*◌, ◌++◌, ◌+◌, ◌<◌, ◌==◌, ◌^◌, ◌∙◌, ◌∷◌, ◌≡◌, ◌≤ℤ◌, ◌≤◌}
+use Rattle.sc_emit.proofs.Common.{register_of, register_there, result_register, return, role_first, role_of_load}
+use Rattle.sc_emit.proofs.Common.{round_begins, rules, second_operand, second_scratch, select, select_all, select_step}
+use Rattle.sc_emit.proofs.Common.{signed_of, slice_get, slot_offset, sp, stmt_branches, stmt_induction, store_arguments}
+use Rattle.sc_emit.proofs.Common.{store_to, store_word, straight, straightly, sub_word, subst, suc, sum_by-append, sym}
+use Rattle.sc_emit.proofs.Common.{take, take_second, taken, total, true, unary_code, upper_part, with_parts}
+use Rattle.sc_emit.proofs.Common.{word_of_constant, zero, ℕ, ℤ, ◌%◌, ◌&&◌, ◌*◌, ◌++◌, ◌+◌, ◌<◌, ◌==◌, ◌^◌, ◌∙◌, ◌∷◌}
+use Rattle.sc_emit.proofs.Common.{◌≡◌, ◌≤ℤ◌, ◌≤◌}
 use Rattle.sc_select.specs.Prelude.{Piece}
 use Rattle.std.proofs.lemmas.Int.{ints}
 use Rattle.rv_code.proofs.Numbers.{IsImmediate-signed}
@@ -254,6 +256,12 @@ module _ (frame : FrameTree) (places : List Place) where
       let offset = object_offset frame object in
       both (moved_by rd sp offset) (keep frame places dest) (moved_straight rd sp offset) (keep_straight dest)
 
+  pub object_read_straight : (dest object : ℕ) → Straight (object_read frame places dest object)
+  object_read_straight dest object =
+      let rd = result_register frame places dest in
+      let offset = object_offset frame object in
+      both (load_word rd offset) (keep frame places dest) (load_straight rd offset) (keep_straight dest)
+
   pub global_straight : (dest global : ℕ) → StraightLines (place_of_global frame places dest global)
   global_straight dest global = plainly_straight (keep frame places dest) (keep_straight dest)
 
@@ -464,16 +472,36 @@ module _ (frame : FrameTree) (places : List Place) where
   abbrev Shaped : TacStmt → Type 0
   Shaped stmt = IsShaped (stmt_branches stmt) (select frame places stmt)
 
-  row_shaped : (stmts : List TacStmt) → Each Shaped stmts →
-      IsShaped (total (map stmt_branches stmts)) (in_order (map (select frame places) stmts))
-  row_shaped [] h = straight_shaped [] refl
-  row_shaped (stmt ∷ rest) h =
-      followed_shaped (stmt_branches stmt) (total (map stmt_branches rest)) (select frame places stmt)
-      (in_order (map (select frame places) rest)) h.0 (row_shaped rest h.1)
-
   -- those without statements inside
   plainly_shaped : (instrs : List Instr) → Straight instrs → IsShaped 0 (straight (plainly instrs))
   plainly_shaped instrs h = straight_shaped (plainly instrs) (plainly_straight instrs h)
+
+  -- what a piece is to its neighbours changes nothing
+  in_role : (most : ℕ) (role : Role) (piece : Piece) → IsShaped most piece →
+      IsShaped most (record piece { role = role })
+  in_role most role piece h = record { few = h.few; sound = record { passes = h.sound.passes } }
+
+  any_more : (most : ℕ) (piece : Piece) → IsShaped 0 piece → IsShaped most piece
+  any_more most piece h = record { few = λ b c. omega (arith, h.few b c); sound = h.sound }
+
+  turn_shaped : (before : Role) (stmts : List TacStmt) → Each Shaped stmts →
+      IsShaped (total (map stmt_branches stmts))
+      (in_turn (joined frame places before (map (select frame places) stmts)))
+  turn_shaped before [] h = straight_shaped [] refl
+  turn_shaped before (stmt ∷ rest) h =
+      let behind : Role = role_first (map (select frame places) rest) in
+      followed_shaped (stmt_branches stmt) (total (map stmt_branches rest))
+      (between frame places before (select frame places stmt) behind)
+      (in_turn (joined frame places (select frame places stmt).role (map (select frame places) rest)))
+      (between_keeps frame places (IsShaped (stmt_branches stmt))
+      (any_more (stmt_branches stmt) (straight []) (straight_shaped [] refl))
+      (λ t o. any_more (stmt_branches stmt) (straightly frame places (object_read frame places t o))
+      (plainly_shaped (object_read frame places t o) (object_read_straight frame places t o))) before behind
+      (select frame places stmt) h.0) (turn_shaped (select frame places stmt).role rest h.1)
+
+  row_shaped : (stmts : List TacStmt) → Each Shaped stmts →
+      IsShaped (total (map stmt_branches stmts)) (in_order frame places (map (select frame places) stmts))
+  row_shaped stmts h = turn_shaped Other stmts h
 
   layer_shaped : (layer : TacStmt-F TacStmt) → Inside Shaped layer →
       IsShaped (branch_step (map-TacStmt _ _ stmt_branches layer))
@@ -482,10 +510,13 @@ module _ (frame : FrameTree) (places : List Place) where
   layer_shaped (tac.Copy dest from) h =
       plainly_shaped _ (copied_straight frame (place_of frame places dest) (place_of frame places from))
   layer_shaped (tac.Op dest o left right) h = plainly_shaped _ (operation_straight frame places dest o left right)
-  layer_shaped (tac.ObjectPlace dest object) h = plainly_shaped _ (object_straight frame places dest object)
+  layer_shaped (tac.ObjectPlace dest object) h =
+      in_role 0 (Places dest object) _ (plainly_shaped _ (object_straight frame places dest object))
   layer_shaped (tac.GlobalPlace dest global) h =
       straight_shaped (place_of_global frame places dest global) (global_straight frame places dest global)
-  layer_shaped (tac.Load dest place pointer) h = plainly_shaped _ (load_from_straight frame places dest place)
+  layer_shaped (tac.Load dest place pointer) h =
+      in_role 0 (role_of_load frame places dest place) _
+      (plainly_shaped _ (load_from_straight frame places dest place))
   layer_shaped (tac.Store place value) h = plainly_shaped _ (store_to_straight frame places place value)
   layer_shaped (tac.If cond first second) h =
       fork_shaped cond _ _ _ _ (row_shaped first h.0) (row_shaped second h.1)
@@ -923,6 +954,13 @@ module _ (frame : FrameTree) (places : List Place) (there : (t : ℕ) → IsTher
       both_instr_lines (plainly (pass frame places a0 args)) _ (passed_instrs args few)
       ((first_there, no_upper), ((ra_there, first_there, no_immediate), received_instrs dest))
 
+  object_read_instrs : (dest object : ℕ) → AreInstrs (object_read frame places dest object)
+  object_read_instrs dest object =
+      let rd = result_register frame places dest in
+      let offset = object_offset frame object in
+      both_instrs (load_word rd offset) (keep frame places dest) (load_instrs rd offset (first_at dest))
+      (keep_instrs dest)
+
   global_instrs : (dest global : ℕ) → AreInstrLines (place_of_global frame places dest global)
   global_instrs dest global = (
     (first_at dest, no_upper),
@@ -1009,12 +1047,22 @@ module _ (frame : FrameTree) (places : List Place) (there : (t : ℕ) → IsTher
   Encodable stmt = few_inside stmt ≡ true → IsEncodable (select frame places stmt)
 
   row_encodable : (stmts : List TacStmt) → Each Encodable stmts → all_true (map few_inside stmts) ≡ true →
-      IsEncodable (in_order (map (select frame places) stmts))
-  row_encodable [] h all = straight_encodable [] tt
-  row_encodable (stmt ∷ rest) h all =
-      followed_encodable (select frame places stmt) (in_order (map (select frame places) rest))
-      (h.0 (and_first (few_inside stmt) (all_true (map few_inside rest)) all))
-      (row_encodable rest h.1 (and_rest (few_inside stmt) (all_true (map few_inside rest)) all))
+      IsEncodable (in_order frame places (map (select frame places) stmts))
+  row_encodable stmts h all =
+      order_keeps frame places IsEncodable (straight_encodable [] tt)
+      (λ t o. plainly_encodable (object_read frame places t o) (object_read_instrs t o)) followed_encodable stmts
+      (each_encodable stmts h all)
+    where
+      each_encodable : (stmts : List TacStmt) → Each Encodable stmts → all_true (map few_inside stmts) ≡ true →
+          Each (λ stmt. IsEncodable (select frame places stmt)) stmts
+      each_encodable [] h all = tt
+      each_encodable (stmt ∷ rest) h all = (
+        h.0 (and_first (few_inside stmt) (all_true (map few_inside rest)) all),
+        each_encodable rest h.1 (and_rest (few_inside stmt) (all_true (map few_inside rest)) all),
+      )
+
+  of_role : (role : Role) (piece : Piece) → IsEncodable piece → IsEncodable (record piece { role = role })
+  of_role role piece h = record { encodable = h.encodable }
 
   layer_encodable : (layer : TacStmt-F TacStmt) → Inside Encodable layer →
       with_parts passes_few (map-TacStmt _ _ few_inside layer) ≡ true →
@@ -1024,10 +1072,12 @@ module _ (frame : FrameTree) (places : List Place) (there : (t : ℕ) → IsTher
       plainly_encodable _
       (copied_instrs frame (slice_get places dest) (slice_get places from) (there dest) (there from))
   layer_encodable (tac.Op dest o left right) h all = plainly_encodable _ (operation_instrs dest o left right)
-  layer_encodable (tac.ObjectPlace dest object) h all = plainly_encodable _ (object_instrs dest object)
+  layer_encodable (tac.ObjectPlace dest object) h all =
+      of_role (Places dest object) _ (plainly_encodable _ (object_instrs dest object))
   layer_encodable (tac.GlobalPlace dest global) h all =
       straight_encodable (place_of_global frame places dest global) (global_instrs dest global)
-  layer_encodable (tac.Load dest place pointer) h all = plainly_encodable _ (load_from_instrs dest place)
+  layer_encodable (tac.Load dest place pointer) h all =
+      of_role (role_of_load frame places dest place) _ (plainly_encodable _ (load_from_instrs dest place))
   layer_encodable (tac.Store place value) h all = plainly_encodable _ (store_to_instrs place value)
   layer_encodable (tac.If cond first second) h all =
       let a = all_true (map few_inside first) in

@@ -53,11 +53,11 @@ pub use Rattle.sc_tac.specs.Prelude.{Point, Set, Temps, Trail, all_true, branch_
 pub use Rattle.sc_tac.specs.Prelude.{code_function, code_library, code_step, constant_value, counts_elements}
 pub use Rattle.sc_tac.specs.Prelude.{entry_weight, function_points, gets, has_elements, has_operands, has_words}
 pub use Rattle.sc_tac.specs.Prelude.{interval_of, intervals_of, is_one, is_place, known, live_across, live_before}
-pub use Rattle.sc_tac.specs.Prelude.{names_own_object, names_own_temps, no_temps, nothing, nothing_live, one_or_none}
-pub use Rattle.sc_tac.specs.Prelude.{operated, parts, passes_few, passes_words, plain_points, point, read, read_all}
-pub use Rattle.sc_tac.specs.Prelude.{received, register_count, return_does, row_points, same_entry, slots_of}
-pub use Rattle.sc_tac.specs.Prelude.{slots_up_to, start_of, stmt_branches, stmt_does, takes_two, trail, trail_step}
-pub use Rattle.sc_tac.specs.Prelude.{weight, with_parts, with_temp}
+pub use Rattle.sc_tac.specs.Prelude.{names_own_object, names_own_temps, no_temps, nothing_live, one_or_none, operated}
+pub use Rattle.sc_tac.specs.Prelude.{parts, passes_few, passes_words, plain_points, point, read, read_all, received}
+pub use Rattle.sc_tac.specs.Prelude.{register_count, return_does, row_points, same_entry, slots_of, slots_up_to}
+pub use Rattle.sc_tac.specs.Prelude.{start_of, stmt_branches, stmt_does, takes_two, trail, trail_step, weight}
+pub use Rattle.sc_tac.specs.Prelude.{with_parts, with_temp}
 pub use Rattle.sc_tac.specs.declared.frame.FrameTree.{FrameTree}
 pub use Rattle.sc_tac.specs.declared.function.TacFnTree.{TacFnTree}
 pub use Rattle.sc_tac.specs.declared.place.Place.{Place}
@@ -65,22 +65,27 @@ pub use Rattle.sc_tac.specs.declared.place.Place.TheVariants.{Register, Slot}
 pub use Rattle.sc_tac.specs.declared.stmt.Constant.{Constant}
 pub use Rattle.sc_tac.specs.declared.stmt.TacOp.{TacOp}
 pub use Rattle.sc_tac.specs.declared.stmt.TacStmt.{fold-roll-TacStmt, map-TacStmt, roll-TacStmt}
+pub use Rattle.sc_select.proofs.Joining.{between_keeps, gives_place, is_read, loads_it, none_behind, order_keeps}
 pub use Rattle.sc_select.proofs.Sizes.{row_is_sized}
-pub use Rattle.sc_select.specs.Prelude.{Addresses, Fits, Line, a0, a7, address_scratch, at_hand, binary_code, brought}
-pub use Rattle.sc_select.specs.Prelude.{bytes_of, call_cross, call_own, choice, closing, code_of, completed, copied}
-pub use Rattle.sc_select.specs.Prelude.{cycle, entrance, environment_call, first_scratch, followed, fork, frame_left}
-pub use Rattle.sc_select.specs.Prelude.{frame_taken, function_lines, in_order, is_named, is_short, jump_back, jump_over}
-pub use Rattle.sc_select.specs.Prelude.{keep, kept, linked, load_from, load_word, loading, low_after, lower_part}
-pub use Rattle.sc_select.specs.Prelude.{most_lines, move, moved_by, object_offset, op_code, operand, operation, pass}
-pub use Rattle.sc_select.specs.Prelude.{place_of, place_of_global, plain, plainly, put, ra, receive, referring}
+pub use Rattle.sc_select.specs.Prelude.{Addresses, Fits, Line, a0, a7, address_scratch, at_hand, between, binary_code}
+pub use Rattle.sc_select.specs.Prelude.{brought, bytes_of, call_cross, call_own, choice, closing, code_of, completed}
+pub use Rattle.sc_select.specs.Prelude.{copied, cycle, entrance, environment_call, first_scratch, followed, fork}
+pub use Rattle.sc_select.specs.Prelude.{frame_left, frame_taken, function_lines, in_order, in_turn, is_named, is_short}
+pub use Rattle.sc_select.specs.Prelude.{joined, joins, jump_back, jump_over, keep, kept, linked, load_from, load_word}
+pub use Rattle.sc_select.specs.Prelude.{loading, low_after, lower_part, most_lines, move, moved_by, nothing}
+pub use Rattle.sc_select.specs.Prelude.{object_offset, object_read, op_code, operand, operation, pass, place_of}
+pub use Rattle.sc_select.specs.Prelude.{place_of_global, plain, plainly, put, ra, reading, receive, referring}
 pub use Rattle.sc_select.specs.Prelude.{refers_only, register_of, relocation_of, relocations_from, result_register}
-pub use Rattle.sc_select.specs.Prelude.{return, round_begins, second_operand, second_scratch, select, select_all}
-pub use Rattle.sc_select.specs.Prelude.{select_step, slot_offset, sp, store_arguments, store_to, store_word, straight}
-pub use Rattle.sc_select.specs.Prelude.{straightly, take, take_second, taken, unary_code, upper_part, word_of_constant}
+pub use Rattle.sc_select.specs.Prelude.{return, role_first, role_of_load, round_begins, second_operand, second_scratch}
+pub use Rattle.sc_select.specs.Prelude.{select, select_all, select_step, slot_offset, sp, store_arguments, store_to}
+pub use Rattle.sc_select.specs.Prelude.{store_word, straight, straightly, take, take_second, taken, unary_code}
+pub use Rattle.sc_select.specs.Prelude.{upper_part, word_of_constant}
+pub use Rattle.sc_select.specs.declared.roles.Role.{Role}
+pub use Rattle.sc_select.specs.declared.roles.Role.TheVariants.{Other, Places}
 pub use Rattle.sc_pieces.proofs.Frames.{leaves_frame, overflows, takes_frame}
 pub use Rattle.sc_pieces.proofs.Loading.{loads_long, loads_number, moves, moves_on}
 pub use Rattle.sc_pieces.proofs.NearSp.{loads_word, stores_word}
-pub use Rattle.sc_pieces.proofs.Rows.{computes, in_row, loads, look_at, looked, stores, upper, with_number}
+pub use Rattle.sc_pieces.proofs.Rows.{computes, in_row, look_at, looked, stores, upper, with_number}
 pub use Rattle.sc_pieces.specs.Frames.{FrameOverflows, LeavesFrame, TakesFrame, frame_raised}
 pub use Rattle.sc_pieces.specs.Pieces.{Besides, Computes, Does, IsFromSp, IsWritable, Stores}
 pub use Rattle.sc_relation.proofs.Calling.{Enters, activated, entered, is_activation, ready_entered}
@@ -94,8 +99,8 @@ pub use Rattle.sc_relation.proofs.Lines.{low_plainly, plainly_at}
 pub use Rattle.sc_relation.proofs.Registers.{HasNoOtherUse, no_other_use, register_there}
 pub use Rattle.sc_relation.proofs.Settling.{leads_moved, moved, settled_moved}
 pub use Rattle.sc_relation.proofs.Straight.{IsLoaded, MovesOn, across_live, asked, assigned, assigned_at}
-pub use Rattle.sc_relation.proofs.Straight.{assigns_register, assigns_slot, call_from, live_plain, may_store, or_left}
-pub use Rattle.sc_relation.proofs.Straight.{or_right, overflows_from, settled_to, shows_from}
+pub use Rattle.sc_relation.proofs.Straight.{assigns_register, assigns_slot, call_from, live_plain, loads, may_store}
+pub use Rattle.sc_relation.proofs.Straight.{or_left, or_right, overflows_from, settled_to, shows_from}
 pub use Rattle.sc_relation.proofs.Stretches.{arrives_with, comes_after, leads_less, leads_none, leads_then}
 pub use Rattle.sc_relation.proofs.Stretches.{overflows_then, overflows_with, returns_with, shows_after, shows_here}
 pub use Rattle.sc_relation.proofs.Stretches.{shows_less}

@@ -13,6 +13,7 @@ pub mod Operands
 pub mod Operations
 pub mod Passing
 pub mod Plain
+pub mod Reading
 pub mod Returns
 pub mod Rounds
 pub mod Statements

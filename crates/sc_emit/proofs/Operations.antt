@@ -6,21 +6,22 @@ use Rattle.sc_emit.proofs.Common.{Place, Reached, Ready, Registers, Result, Runn
 use Rattle.sc_emit.proofs.Common.{StandsFor, State as Meant, Store, Stores, Sw, TacOp, Temps, Value, [], add_word}
 use Rattle.sc_emit.proofs.Common.{and_then, ap, append-nil, append_assoc, arith, code_step, comes_computed, comes_read}
 use Rattle.sc_emit.proofs.Common.{computed, eq-eqb, false, first_scratch, front_same, gets, in_row, inl, is_one}
-use Rattle.sc_emit.proofs.Common.{is_some, keep, leave, length, live_plain, load, load_from, loads as loads_from, look}
-use Rattle.sc_emit.proofs.Common.{looked, may_store, one_or_none, op_code, operand, operated, operation, or_left}
-use Rattle.sc_emit.proofs.Common.{or_right, plain_points, pos, read, refl, result_register, same, second_operand}
+use Rattle.sc_emit.proofs.Common.{is_some, keep, leave, length, live_plain, load, load_from, loads, look, looked}
+use Rattle.sc_emit.proofs.Common.{may_store, one_or_none, op_code, operand, operated, operation, or_left, or_right}
+use Rattle.sc_emit.proofs.Common.{plain_points, pos, read, refl, result_register, role_of_load, same, second_operand}
 use Rattle.sc_emit.proofs.Common.{second_scratch, seen_from, select_step, shows_here, slice_get, sp, stays, store}
-use Rattle.sc_emit.proofs.Common.{store_to, stored, stores as stores_to, subst, sym, take, takes_two, trail_step, true}
-use Rattle.sc_emit.proofs.Common.{with_memory, with_temp, word, word_of, wrapping, ℕ, ⊎_elim, ◌*◌, ◌++◌, ◌+◌, ◌==◌, ◌∙◌}
-use Rattle.sc_emit.proofs.Common.{◌∷◌, ◌≡◌}
+use Rattle.sc_emit.proofs.Common.{store_to, stored, stores as stores_to, straightly, subst, sym, take, takes_two}
+use Rattle.sc_emit.proofs.Common.{trail_step, true, with_memory, with_temp, word, word_of, wrapping, ℕ, ⊎_elim, ◌*◌}
+use Rattle.sc_emit.proofs.Common.{◌++◌, ◌+◌, ◌==◌, ◌∙◌, ◌∷◌, ◌≡◌}
+use Rattle.sc_pieces.proofs.Rows.{loads as loads_from}
 use Rattle.sc_tac.specs.declared.stmt.TacStmt.TheOpen as tac
 use Rattle.sc_pieces.specs.Operators.{AreOperands, op_word}
 use Rattle.sc_pieces.proofs.Operators.{gives_word}
 use Rattle.sc_relation.proofs.Operators.{operator_stands}
-use Rattle.sc_relation.proofs.Straight.{loads, stores}
+use Rattle.sc_relation.proofs.Straight.{stores}
 use Rattle.sc_emit.proofs.Operands.{ArePlaced, AtHand, Gives, first_is, second_is, brings, keeps, world}
 use Rattle.sc_emit.proofs.Plain.{IsResult, result_is}
-use Rattle.sc_emit.proofs.Straight.{comes_behind, read_goes, computed_goes, straight_follows}
+use Rattle.sc_emit.proofs.Straight.{comes_behind, read_goes, computed_goes, straight_follows, with_role}
 
 module _ (T : Setting) (R : Running) (formed : IsWellFormed T.image) (inputs : All IsWord T.inputs) (cells : List ℕ)
     (nodes : ℕ) (is : IsActivation T.performs cells R.places nodes R.activation) (placed : ArePlaced R) (calls : Calls)
@@ -107,7 +108,10 @@ module _ (T : Setting) (R : Running) (formed : IsWellFormed T.image) (inputs : A
         let code : List Instr = before ++ Load Lw rd rs (pos 0) ∷ [] in
         let whole : code ++ keep frame R.places dest ≡ load_from frame R.places dest place =
         append_assoc before (Load Lw rd rs (pos 0) ∷ []) (keep frame R.places dest) in
-        straight_follows T R (code_step wrapping R.activation.here calls (tac.Load dest place pointer))
+        with_role T R (code_step wrapping R.activation.here calls (tac.Load dest place pointer))
+        (straightly frame R.places (load_from frame R.places dest place)) (role_of_load frame R.places dest place)
+        (trail_step (tac.Load dest place pointer))
+        (straight_follows T R (code_step wrapping R.activation.here calls (tac.Load dest place pointer))
         (load_from frame R.places dest place) (trail_step (tac.Load dest place pointer))
         (λ temps. read_goes R.activation.here place temps
         (λ q s. gets R.activation.here dest (load (s.memory R.activation.here.comp) pointer q) temps s)
@@ -149,7 +153,7 @@ module _ (T : Setting) (R : Running) (formed : IsWellFormed T.image) (inputs : A
         (x.pc + 4 * length code)) whole
         (keeps T R x cells nodes is placed ready.frame ready.sp formed inputs lives temps (place ∷ []) dest left ready
         clear v
-        code to its g (subst (CodeAt T.image R.activation.here.comp x.pc) (sym whole) at))) ends e f))))
+        code to its g (subst (CodeAt T.image R.activation.here.comp x.pc) (sym whole) at))) ends e f)))))
 
     -- Stores.
 

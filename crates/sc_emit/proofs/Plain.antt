@@ -1,7 +1,7 @@
 -- Statements that assign what no store decides: constants, copies, places.
 use Rattle.sc_emit.proofs.Common.{Addi, All, Arrives, Calls, CodeAt, Comes, Computes, Constant, Follows, FrameTree}
 use Rattle.sc_emit.proofs.Common.{InPlace, Instr, IsActivation, IsAddress, IsClear, IsHeld, IsWellFormed, IsWord}
-use Rattle.sc_emit.proofs.Common.{IsWritable, Joint, Line, List, Lives, Lui, Next, OpImm, Option, Place, Ready}
+use Rattle.sc_emit.proofs.Common.{IsWritable, Joint, Line, List, Lives, Lui, Next, OpImm, Option, Place, Places, Ready}
 use Rattle.sc_emit.proofs.Common.{Register, Running, Setting, Slot, Some, StandsFor, Temps, Upper, Value, Walks, []}
 use Rattle.sc_emit.proofs.Common.{add_word, ap, ap₂, arith, at, at_hand, brought, code_step, comes_read}
 use Rattle.sc_emit.proofs.Common.{completed_plainly, computes, constant_value, copied, eq-eqb, false, first_scratch}
@@ -9,13 +9,13 @@ use Rattle.sc_emit.proofs.Common.{is_one, keep, leave, length, length-map, live_
 use Rattle.sc_emit.proofs.Common.{loads_number, loads_word, look_at, low_plainly, lower_part, move, moved_by, moves}
 use Rattle.sc_emit.proofs.Common.{moves_on, no_other_use, object_offset, or_left, place_of, place_of_global, plain}
 use Rattle.sc_emit.proofs.Common.{plain_points, plainly, refl, register_of, register_there, result_register, same_Some}
-use Rattle.sc_emit.proofs.Common.{select_step, slice_get, slot_offset, sp, start_of, stays, store_word, subst, sym}
-use Rattle.sc_emit.proofs.Common.{trail_step, true, unwrap_or, upper_part, with_temp, word, word_of_constant, wrapping}
-use Rattle.sc_emit.proofs.Common.{ℕ, ◌*◌, ◌++◌, ◌+◌, ◌<◌, ◌^◌, ◌∙◌, ◌∷◌, ◌≡◌, ◌≢◌, ◌≤◌}
+use Rattle.sc_emit.proofs.Common.{select_step, slice_get, slot_offset, sp, start_of, stays, store_word, straightly}
+use Rattle.sc_emit.proofs.Common.{subst, sym, trail_step, true, unwrap_or, upper_part, with_temp, word}
+use Rattle.sc_emit.proofs.Common.{word_of_constant, wrapping, ℕ, ◌*◌, ◌++◌, ◌+◌, ◌<◌, ◌^◌, ◌∙◌, ◌∷◌, ◌≡◌, ◌≢◌, ◌≤◌}
 use Rattle.sc_tac.specs.declared.stmt.Constant.TheVariants as constant
 use Rattle.sc_tac.specs.declared.stmt.TacStmt.TheOpen as tac
 use Rattle.sc_emit.proofs.Operands.{IsPlace, ArePlaced, Gives, keeps, keeps_register, keeps_slot, slot_from_sp, world}
-use Rattle.sc_emit.proofs.Straight.{comes_behind, read_goes, lines_follow, straight_follows}
+use Rattle.sc_emit.proofs.Straight.{comes_behind, read_goes, lines_follow, straight_follows, with_role}
 
 -- a register that may be written, and isn't sp
 pub record IsResult (q : ℕ) : Type 0 where
@@ -220,7 +220,7 @@ module _ (T : Setting) (R : Running) (formed : IsWellFormed T.image) (inputs : A
     -- Places of variables.
 
     -- the first word of a block
-    start_stands : (block address : ℕ) (x : Joint) → x.inj R.activation.here.comp block ≡ Some address →
+    pub start_stands : (block address : ℕ) (x : Joint) → x.inj R.activation.here.comp block ≡ Some address →
         IsAddress address → StandsFor (x.inj R.activation.here.comp) address (start_of block)
     start_stands block address x e h =
         let same : address ≡ address + 4 * 0 = omega arith in
@@ -235,7 +235,10 @@ module _ (T : Setting) (R : Running) (formed : IsWellFormed T.image) (inputs : A
         let rd : ℕ = result_register frame R.places dest in
         let code : List Instr = moved_by rd sp (object_offset frame object) in
         let is_offset : object_offset frame object ≡ offset = ap (λ o. unwrap_or o 0) there in
-        straight_follows T R (code_step wrapping R.activation.here calls (tac.ObjectPlace dest object))
+        with_role T R (code_step wrapping R.activation.here calls (tac.ObjectPlace dest object))
+        (straightly frame R.places (code ++ keep frame R.places dest)) (Places dest object)
+        (trail_step (tac.ObjectPlace dest object))
+        (straight_follows T R (code_step wrapping R.activation.here calls (tac.ObjectPlace dest object))
         (code ++ keep frame R.places dest) (trail_step (tac.ObjectPlace dest object))
         (λ temps. stays (record { exit = Next; carried = with_temp dest (start_of block) temps }))
         (λ lives temps x left ready clear at.
@@ -252,7 +255,7 @@ module _ (T : Setting) (R : Running) (formed : IsWellFormed T.image) (inputs : A
         (moves_on T.image T.inputs (world T R x) x.bytes x.regs rd sp (object_offset frame object) R.activation.sp
         w.writable (omega arith) (λ e. omega (arith, e)) ready.sp
         (subst (λ o. o < 2 ^ 32) (sym is_offset) (omega (arith, is.high, is.known, inside)))) sum (λ q h. h)))
-        at))
+        at)))
 
     pub global_follows : (dest global : ℕ) (place : Place) → slice_get R.places dest ≡ Some place →
         global < T.globals R.activation.here.comp → IsAddress ((T.addresses R.activation.here.comp).global global) →

@@ -6,9 +6,10 @@ use Rattle.sc_emit.proofs.Common.{Return, Returns, Running, Set, Setting, Some, 
 use Rattle.sc_emit.proofs.Common.{Value, Walks, Word, [], a0, ap, append_assoc, arith, at, back_at, brought, closing}
 use Rattle.sc_emit.proofs.Common.{code_step, comes_read, eq-eqb, frame_left, frame_raised, front_at, in_row, inl}
 use Rattle.sc_emit.proofs.Common.{is_one, leads_less, leads_moved, leave, leaves_frame, length, length-append, machine}
-use Rattle.sc_emit.proofs.Common.{moved, nothing, one_or_none, place_of, pos, ra, refl, return, return_does, same_entry}
+use Rattle.sc_emit.proofs.Common.{moved, one_or_none, place_of, pos, ra, refl, return, return_does, same_entry}
 use Rattle.sc_emit.proofs.Common.{seen_from, select_step, settled_moved, sp, stays, subst, sym, trail_step, true}
 use Rattle.sc_emit.proofs.Common.{with_number, word, wrapping, ℕ, ◌*◌, ◌++◌, ◌+◌, ◌∙◌, ◌∷◌, ◌≡◌, ◌≤◌}
+use Rattle.sc_tac.specs.Prelude.{nothing}
 use Rattle.sc_tac.specs.declared.stmt.TacStmt.TheOpen as tac
 use Rattle.sc_emit.proofs.Arguments.{Brings, brings}
 use Rattle.sc_emit.proofs.Functions.{given_at_brace, in_call, BraceReturns}

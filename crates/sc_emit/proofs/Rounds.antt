@@ -1,13 +1,15 @@
 -- The code of loops: where it begins, and where it leads back.
 use Rattle.sc_emit.proofs.Common.{Bne, Bool, Branch, Each, Ebreak, FrameTree, Inside, Instr, Jal, Line, List, None}
-use Rattle.sc_emit.proofs.Common.{Place, Some, TacFnTree, TacStmt, TacStmt-F, [], and_first, and_rest, ap, append_assoc}
-use Rattle.sc_emit.proofs.Common.{arith, call_cross, call_own, choice, closing, code_back_edges, code_of, cond}
-use Rattle.sc_emit.proofs.Common.{count_by, cycle, entrance, environment_call, everywhere, false, first_scratch}
-use Rattle.sc_emit.proofs.Common.{fold-roll-TacStmt, fork, if◌then◌else◌, inl, is_backward, is_known_jump, jump_back}
+use Rattle.sc_emit.proofs.Common.{Other, Place, Places, Role, Some, TacFnTree, TacStmt, TacStmt-F, [], and_first}
+use Rattle.sc_emit.proofs.Common.{and_rest, ap, append_assoc, arith, between, call_cross, call_own, choice, closing}
+use Rattle.sc_emit.proofs.Common.{code_back_edges, code_of, cond, count_by, cycle, entrance, environment_call}
+use Rattle.sc_emit.proofs.Common.{everywhere, false, first_scratch, fold-roll-TacStmt, fork, gives_place, if◌then◌else◌}
+use Rattle.sc_emit.proofs.Common.{in_turn, inl, is_backward, is_known_jump, is_read, joined, joins, jump_back}
 use Rattle.sc_emit.proofs.Common.{jump_over, leads_back, length, length-append, length-map, list_all, list_all-map}
-use Rattle.sc_emit.proofs.Common.{loop_step, loops, lt-leb, map, map-TacStmt, map-append, neg_ℤ, not, operand, place_of}
-use Rattle.sc_emit.proofs.Common.{place_of_global, plain, plainly, pos, receive, refl, round_begins, row_is_sized}
-use Rattle.sc_emit.proofs.Common.{select, select_all, select_step, stmt_induction, stmt_loops, straight as lines_of}
+use Rattle.sc_emit.proofs.Common.{loads_it, loop_step, loops, lt-leb, map, map-TacStmt, map-append, neg_ℤ, not}
+use Rattle.sc_emit.proofs.Common.{object_read, operand, place_of, place_of_global, plain, plainly, pos, reading}
+use Rattle.sc_emit.proofs.Common.{receive, refl, role_first, role_of_load, round_begins, row_is_sized, select}
+use Rattle.sc_emit.proofs.Common.{select_all, select_step, stmt_induction, stmt_loops, straight as lines_of, straightly}
 use Rattle.sc_emit.proofs.Common.{subst, suc, sum_by-append, sym, take, true, word_of_constant, ℕ, ⊎_elim, ◌&&◌, ◌*◌}
 use Rattle.sc_emit.proofs.Common.{◌++◌, ◌+◌, ◌==◌, ◌∙◌, ◌∷◌, ◌≡◌, ◌≤◌}
 use Rattle.sc_select.specs.Prelude.{Piece}
@@ -18,9 +20,9 @@ use Rattle.sc_tac.specs.declared.stmt.TacStmt.TheOpen as tac
 use Rattle.sc_tac.specs.declared.stmt.TacStmt.TheVariants as emit
 use Rattle.sc_emit.proofs.Branches.{Straight, StraightLines, all_append, all_weaker, closing_straight, copied_straight}
 use Rattle.sc_emit.proofs.Branches.{cross_straight, entrance_straight, global_straight, is_straight, is_straight_line}
-use Rattle.sc_emit.proofs.Branches.{load_from_straight, loaded_straight, object_straight, operation_straight}
-use Rattle.sc_emit.proofs.Branches.{output_straight, own_straight, plainly_straight, receive_straight, return_straight}
-use Rattle.sc_emit.proofs.Branches.{store_to_straight, take_straight}
+use Rattle.sc_emit.proofs.Branches.{load_from_straight, loaded_straight, object_read_straight, object_straight}
+use Rattle.sc_emit.proofs.Branches.{operation_straight, output_straight, own_straight, plainly_straight}
+use Rattle.sc_emit.proofs.Branches.{receive_straight, return_straight, store_to_straight, take_straight}
 
 abbrev instrs_of : List Line → List Instr
 instrs_of lines = map (λ line. line.instr) lines
@@ -98,14 +100,59 @@ module _ (frame : FrameTree) (places : List Place) where
   abbrev Lies : TacStmt → Type 0
   Lies stmt = IsCodeOf stmt (select frame places stmt)
 
+  -- a statement that loads what the one before it has read has no code, and that one has what reads it
+  reading_lies : (stmt : TacStmt) (role : Role) → (select frame places stmt).role ≡ role → (second : Role) →
+      joins role second ≡ true → IsCodeOf stmt (reading frame places role)
+  reading_lies stmt role is second h =
+      let pair = is_read role second h in
+      subst (λ role. IsCodeOf stmt (reading frame places role)) (sym pair.gives)
+      (subst (λ stmt. IsCodeOf stmt (straightly frame places (object_read frame places pair.temp pair.object)))
+      (sym (gives_place frame places stmt pair.temp pair.object (is ∙ pair.gives)))
+      (by_instrs (tac.ObjectPlace pair.temp pair.object) (object_read frame places pair.temp pair.object) refl
+      (object_read_straight frame places pair.temp pair.object)))
+
+  read_lies : (stmt : TacStmt) (first : Role) → joins first (select frame places stmt).role ≡ true →
+      IsCodeOf stmt (lines_of [])
+  read_lies stmt first h =
+      let pair = is_read first (select frame places stmt).role h in
+      let load = loads_it frame places stmt pair.temp pair.loads in
+      subst (λ stmt. IsCodeOf stmt (lines_of [])) (sym load.is)
+      (by_lines (tac.Load pair.temp pair.temp load.pointer) [] refl refl)
+
+  between_lies : (before : Role) (stmt : TacStmt) (behind : Role) → Lies stmt →
+      IsCodeOf stmt (between frame places before (select frame places stmt) behind)
+  between_lies before stmt behind h =
+      by (joins before (select frame places stmt).role) (joins (select frame places stmt).role behind) refl refl
+    where
+      by : (one two : Bool) → joins before (select frame places stmt).role ≡ one →
+          joins (select frame places stmt).role behind ≡ two →
+          IsCodeOf stmt (if one then lines_of [] else if two then reading frame places (select frame places stmt).role
+          else select frame places stmt)
+      by true two e f = read_lies stmt before e
+      by false true e f = reading_lies stmt (select frame places stmt).role refl behind f
+      by false false e f = h
+
+  turn_lies : (before : Role) (stmts : List TacStmt) → Each Lies stmts → (b c : ℕ) →
+      HaveCode stmts (instrs_of ((in_turn (joined frame places before (map (select frame places) stmts))).lines b c))
+  turn_lies before [] h b c = empty
+  turn_lies before (stmt ∷ rest) h b c =
+      let behind : Piece =
+      in_turn (joined frame places (select frame places stmt).role (map (select frame places) rest))
+      in
+      let next : Role = role_first (map (select frame places) rest) in
+      let own : List Line =
+      (between frame places before (select frame places stmt) next).lines (behind.size + b) (behind.size + c) in
+      subst (HaveCode (stmt ∷ rest)) (sym (map-append (λ line. line.instr) own (behind.lines b c)))
+      ((between_lies before stmt next h.0).lies (behind.size + b) (behind.size + c) rest (instrs_of (behind.lines b c))
+      (turn_lies (select frame places stmt).role rest h.1 b c))
+
   row_lies : (stmts : List TacStmt) → Each Lies stmts → (b c : ℕ) →
       HaveCode stmts (instrs_of ((select_all frame places stmts).lines b c))
-  row_lies [] h b c = empty
-  row_lies (stmt ∷ rest) h b c =
-      let behind : Piece = select_all frame places rest in
-      let own : List Line = (select frame places stmt).lines (behind.size + b) (behind.size + c) in
-      subst (HaveCode (stmt ∷ rest)) (sym (map-append (λ line. line.instr) own (behind.lines b c)))
-      (h.0.lies (behind.size + b) (behind.size + c) rest (instrs_of (behind.lines b c)) (row_lies rest h.1 b c))
+  row_lies stmts h b c = turn_lies Other stmts h b c
+
+  in_role : (stmt : TacStmt) (role : Role) (piece : Piece) → IsCodeOf stmt piece →
+      IsCodeOf stmt (record piece { role = role })
+  in_role stmt role piece h = record { lies = h.lies }
 
   choice_on : (cond lines : ℕ) → LeadOn (instrs_of (plainly (choice frame places cond)) ++ (jump_over lines).instr ∷ [])
   choice_on cond lines =
@@ -197,12 +244,14 @@ module _ (frame : FrameTree) (places : List Place) where
   layer_lies (tac.Op dest o left right) h =
       by_instrs (tac.Op dest o left right) _ refl (operation_straight frame places dest o left right)
   layer_lies (tac.ObjectPlace dest object) h =
-      by_instrs (tac.ObjectPlace dest object) _ refl (object_straight frame places dest object)
+      in_role (roll-TacStmt (tac.ObjectPlace dest object)) (Places dest object) _
+      (by_instrs (tac.ObjectPlace dest object) _ refl (object_straight frame places dest object))
   layer_lies (tac.GlobalPlace dest global) h =
       by_lines (tac.GlobalPlace dest global) (place_of_global frame places dest global) refl
       (global_straight frame places dest global)
   layer_lies (tac.Load dest place pointer) h =
-      by_instrs (tac.Load dest place pointer) _ refl (load_from_straight frame places dest place)
+      in_role (roll-TacStmt (tac.Load dest place pointer)) (role_of_load frame places dest place) _
+      (by_instrs (tac.Load dest place pointer) _ refl (load_from_straight frame places dest place))
   layer_lies (tac.Store place value) h =
       by_instrs (tac.Store place value) _ refl (store_to_straight frame places place value)
   layer_lies (tac.If cond first second) h = if_lies cond first second h.0 h.1

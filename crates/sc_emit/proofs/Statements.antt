@@ -1,16 +1,19 @@
 -- The code of statements follows what they do: by induction over their layers.
 use Rattle.sc_emit.proofs.Common.{All, AreReached, Bool, CallTarget, Calls, CallsFollow, Codes, Constant, Cross, Each}
 use Rattle.sc_emit.proofs.Common.{Follows, FrameTree, GivesValue, HasNoGap, Here, Input, Inside, IsActivation, IsSound}
-use Rattle.sc_emit.proofs.Common.{IsWellFormed, IsWord, List, None, Option, Output, Own, Piece, Reached, Register}
-use Rattle.sc_emit.proofs.Common.{Running, Setting, Some, State as Meant, Stopped, TacOp, TacStmt, TacStmt-F, Trail}
-use Rattle.sc_emit.proofs.Common.{Value, [], all_do, and_parts, arith, break_follows, calls_only, code_does, code_step}
-use Rattle.sc_emit.proofs.Common.{continue_follows, counts_elements, everywhere, false, fold-roll-TacStmt, has_elements}
-use Rattle.sc_emit.proofs.Common.{has_operands, has_words, in_order, is_call, is_some, leb-true, length, list_all}
-use Rattle.sc_emit.proofs.Common.{ltb-true, map, map-TacStmt, names_only, names_own_object, names_own_temps, nat_lt}
-use Rattle.sc_emit.proofs.Common.{not, object_inside, object_there, one_or_none, passes_few, refl, roll-TacStmt, row}
-use Rattle.sc_emit.proofs.Common.{select, select_all, select_step, slice_get-get_or, stmt_does, stmt_induction, subst}
-use Rattle.sc_emit.proofs.Common.{sym, takes_two, trail, trail_step, true, word_of_constant, wrapping, ℕ, ◌++◌, ◌<◌}
-use Rattle.sc_emit.proofs.Common.{◌^◌, ◌||◌, ◌∷◌, ◌≡◌, ◌≤◌}
+use Rattle.sc_emit.proofs.Common.{IsWellFormed, IsWord, List, None, Option, Other, Output, Own, Piece, Reached}
+use Rattle.sc_emit.proofs.Common.{Register, Role, Running, Setting, Some, State as Meant, Stopped, TacOp, TacStmt}
+use Rattle.sc_emit.proofs.Common.{TacStmt-F, Trail, Value, [], all_do, and_parts, ap, ap₂, arith, between}
+use Rattle.sc_emit.proofs.Common.{break_follows, calls_only, code_does, code_step, continue_follows, counts_elements}
+use Rattle.sc_emit.proofs.Common.{everywhere, false, fold-roll-TacStmt, followed, gives_place, has_elements}
+use Rattle.sc_emit.proofs.Common.{has_operands, has_words, if◌then◌else◌, in_order, in_turn, is_call, is_read, is_some}
+use Rattle.sc_emit.proofs.Common.{joined, joins, leb-true, length, list_all, loads_it, ltb-true, map, map-TacStmt}
+use Rattle.sc_emit.proofs.Common.{names_only, names_own_object, names_own_temps, nat_lt, none_behind, not}
+use Rattle.sc_emit.proofs.Common.{nothing as no_lines, object_inside, object_read, object_there, one_or_none}
+use Rattle.sc_emit.proofs.Common.{passes_few, reading, refl, role_first, roll-TacStmt, row, select, select_all}
+use Rattle.sc_emit.proofs.Common.{select_step, slice_get-get_or, stmt_does, stmt_induction, straightly, subst, sym}
+use Rattle.sc_emit.proofs.Common.{takes_two, trail, trail_step, true, word_of_constant, wrapping, ℕ, ◌++◌, ◌+◌, ◌<◌}
+use Rattle.sc_emit.proofs.Common.{◌^◌, ◌||◌, ◌∙◌, ◌∷◌, ◌≡◌, ◌≤◌}
 use Rattle.sc_select.specs.Prelude.{Piece as Code}
 use Rattle.std.specs.Bool.{beq}
 use Rattle.sc_tac.specs.declared.stmt.Constant.TheVariants as constant
@@ -26,7 +29,9 @@ use Rattle.sc_emit.proofs.Operations.{op_follows, load_follows, store_follows}
 use Rattle.sc_emit.proofs.Passing.{Test, PassesAll, AllPass, PassesHere, first_passes, rest_pass, passes_here}
 use Rattle.sc_emit.proofs.Passing.{choice_passes, loop_passes}
 use Rattle.sc_emit.proofs.Plain.{const_follows, copy_follows, object_follows, global_follows}
+use Rattle.sc_emit.proofs.Reading.{both_trails, read_follows, reads}
 use Rattle.sc_emit.proofs.Returns.{return_follows}
+use Rattle.sc_emit.proofs.Straight.{behind_nothing}
 
 beq_same : (a b : Bool) → beq a b ≡ true → a ≡ b
 beq_same true true h = refl
@@ -61,15 +66,153 @@ module _ (T : Setting) (R : Running) (formed : IsWellFormed T.image) (inputs : A
   Followed stmt =
       PassesAll tests stmt → (code stmt).size ≤ T.turn_pays → Follows T R (does stmt) (code stmt) (trail stmt)
 
-  -- Statements in order.
+  -- the place of a temporary that a statement names first
+  place_there : (t : ℕ) (rest : List ℕ) → list_all (λ t. nat_lt t (length R.places)) (t ∷ rest) ≡ true →
+      HasPlace R.places (Some t)
+  place_there t rest h =
+      let below : t < length R.places =
+      ltb-true t (length R.places) (and_parts (nat_lt t (length R.places)) _ h).0 in
+      (_, slice_get-get_or R.places t (Register 0) below)
+
+  -- Statements in order, which may be one piece of code.
+  abbrev coded : Role → List TacStmt → Code
+  coded before stmts = in_turn (joined frame R.places before (map code stmts))
+
+  abbrev Row : Role → List TacStmt → Type 0
+  Row before stmts =
+      (coded before stmts).size ≤ T.turn_pays →
+      Follows T R (all_do (map does stmts)) (coded before stmts) (row (map trail stmts))
+
+  piece_by : (before behind : Role) (stmt : TacStmt) (one two : Bool) → joins before (code stmt).role ≡ one →
+      joins (code stmt).role behind ≡ two →
+      between frame R.places before (code stmt) behind ≡
+      (if one then no_lines else if two then reading frame R.places (code stmt).role else code stmt)
+  piece_by before behind stmt one two h k =
+      ap₂ (λ a b. if a then no_lines else if b then reading frame R.places (code stmt).role else code stmt) h k
+
+  -- a statement that has code of its own, before others
+  by_itself : (before : Role) (stmt : TacStmt) (rest : List TacStmt) → joins before (code stmt).role ≡ false →
+      joins (code stmt).role (role_first (map code rest)) ≡ false →
+      ((code stmt).size ≤ T.turn_pays → Follows T R (does stmt) (code stmt) (trail stmt)) →
+      Row (code stmt).role rest → Row before (stmt ∷ rest)
+  by_itself before stmt rest none alone first later few =
+      let behind : Code = coded (code stmt).role rest in
+      let same : between frame R.places before (code stmt) (role_first (map code rest)) ≡ code stmt =
+      piece_by before (role_first (map code rest)) stmt false false none alone in
+      let all : (code stmt).size + behind.size ≤ T.turn_pays =
+      subst (λ p. p.size + behind.size ≤ T.turn_pays) same few in
+      subst (λ p. Follows T R (all_do (map does (stmt ∷ rest))) (followed p behind) (row (map trail (stmt ∷ rest))))
+      (sym same)
+      (row_follows T R (does stmt) (all_do (map does rest)) (code stmt) behind (trail stmt) (map trail rest)
+      (first (omega (arith, all))) (later (omega (arith, all))))
+
+  -- the word of a variable, which two statements read
+  read_follows_here : (dest object : ℕ) (pointer : Bool) →
+      PassesAll tests (roll-TacStmt (tac.ObjectPlace dest object)) →
+      Follows T R (reads T R formed inputs cells nodes is placed calls dest object pointer)
+      (straightly frame R.places (object_read frame R.places dest object))
+      (both_trails T R formed inputs cells nodes is placed calls dest object pointer)
+  read_follows_here dest object pointer pass =
+      let h = passes_here tests (tac.ObjectPlace dest object) pass in
+      let place = place_there dest [] h.0 in
+      let below : object < length cells = ltb-true object (length cells) h.1.0 in
+      let its = slice_get-get_or cells object 0 below in
+      let there = object_there cells R.places nodes frame is.room object _ its in
+      read_follows T R formed inputs cells nodes is placed calls dest object pointer there.0 place.0 place.1 there.1
+      (omega (arith, object_inside cells R.places nodes frame is.room object there.0 _ there.1 its))
+
+  -- two statements that are one piece, before others
+  as_one : (before : Role) (stmt next : TacStmt) (rest : List TacStmt) → joins before (code stmt).role ≡ false →
+      joins (code stmt).role (code next).role ≡ true → PassesAll tests stmt →
+      (joins (code next).role (role_first (map code rest)) ≡ false → Row (code next).role rest) →
+      Row before (stmt ∷ next ∷ rest)
+  as_one before stmt next rest none both pass later few =
+      let pair = is_read (code stmt).role (code next).role both in
+      let dest : ℕ = pair.temp in
+      let object : ℕ = pair.object in
+      let first : stmt ≡ roll-TacStmt (tac.ObjectPlace dest object) =
+      gives_place frame R.places stmt dest object pair.gives in
+      let second = loads_it frame R.places next dest pair.loads in
+      let behind : Code = coded (code next).role rest in
+      let one : Code = straightly frame R.places (object_read frame R.places dest object) in
+      let c1 : between frame R.places before (code stmt) (code next).role ≡ one =
+      piece_by before (code next).role stmt false true none both ∙ ap (reading frame R.places) pair.gives in
+      let c2 : between frame R.places (code stmt).role (code next) (role_first (map code rest)) ≡ no_lines =
+      piece_by (code stmt).role (role_first (map code rest)) next true
+      (joins (code next).role (role_first (map code rest))) both refl in
+      let d1 : does stmt ≡ code_step wrapping here calls (tac.ObjectPlace dest object) =
+      ap does first ∙ fold-roll-TacStmt Codes (code_step wrapping here calls) (tac.ObjectPlace dest object) in
+      let d2 : does next ≡ code_step wrapping here calls (tac.Load dest dest second.pointer) =
+      ap does second.is ∙
+      fold-roll-TacStmt Codes (code_step wrapping here calls) (tac.Load dest dest second.pointer) in
+      let t1 : trail stmt ≡ trail_step (tac.ObjectPlace dest object) =
+      ap trail first ∙ fold-roll-TacStmt Trail trail_step (tac.ObjectPlace dest object) in
+      let t2 : trail next ≡ trail_step (tac.Load dest dest second.pointer) =
+      ap trail second.is ∙ fold-roll-TacStmt Trail trail_step (tac.Load dest dest second.pointer) in
+      let last : joins (code next).role (role_first (map code rest)) ≡ false =
+      ap (λ r. joins r (role_first (map code rest))) pair.loads in
+      let sizes : one.size + (no_lines.size + behind.size) ≤ T.turn_pays =
+      subst (λ p. p.size + (no_lines.size + behind.size) ≤ T.turn_pays) c1
+      (subst (λ p. (between frame R.places before (code stmt) (code next).role).size + (p.size + behind.size) ≤
+      T.turn_pays) c2 few) in
+      let done : Follows T R
+      (all_do (code_step wrapping here calls (tac.ObjectPlace dest object) ∷
+      code_step wrapping here calls (tac.Load dest dest second.pointer) ∷ map does rest))
+      (followed one (followed no_lines behind))
+      (row (trail_step (tac.ObjectPlace dest object) ∷ trail_step (tac.Load dest dest second.pointer) ∷
+      map trail rest)) =
+      row_follows T R (reads T R formed inputs cells nodes is placed calls dest object second.pointer)
+      (all_do (map does rest)) one (followed no_lines behind)
+      (both_trails T R formed inputs cells nodes is placed calls dest object second.pointer) (map trail rest)
+      (read_follows_here dest object second.pointer (subst (PassesAll tests) first pass))
+      (behind_nothing T R (all_do (map does rest)) behind (row (map trail rest))
+      (later last (omega (arith, sizes)))) in
+      subst (λ p. Follows T R (all_do (map does (stmt ∷ next ∷ rest))) (followed p (followed
+      (between frame R.places (code stmt).role (code next) (role_first (map code rest))) behind))
+      (row (map trail (stmt ∷ next ∷ rest)))) (sym c1)
+      (subst (λ p. Follows T R (all_do (map does (stmt ∷ next ∷ rest))) (followed one (followed p behind))
+      (row (map trail (stmt ∷ next ∷ rest)))) (sym c2)
+      (subst (λ d. Follows T R (all_do (d ∷ does next ∷ map does rest)) (followed one (followed no_lines behind))
+      (row (map trail (stmt ∷ next ∷ rest)))) (sym d1)
+      (subst (λ d. Follows T R (all_do (code_step wrapping here calls (tac.ObjectPlace dest object) ∷ d ∷
+      map does rest)) (followed one (followed no_lines behind)) (row (map trail (stmt ∷ next ∷ rest)))) (sym d2)
+      (subst (λ t. Follows T R (all_do (code_step wrapping here calls (tac.ObjectPlace dest object) ∷
+      code_step wrapping here calls (tac.Load dest dest second.pointer) ∷ map does rest))
+      (followed one (followed no_lines behind)) (row (t ∷ trail next ∷ map trail rest))) (sym t1)
+      (subst (λ t. Follows T R (all_do (code_step wrapping here calls (tac.ObjectPlace dest object) ∷
+      code_step wrapping here calls (tac.Load dest dest second.pointer) ∷ map does rest))
+      (followed one (followed no_lines behind)) (row (trail_step (tac.ObjectPlace dest object) ∷ t ∷
+      map trail rest))) (sym t2) done)))))
+
+  either_way : (before : Role) (stmt next : TacStmt) (rest : List TacStmt) → joins before (code stmt).role ≡ false →
+      ((code stmt).size ≤ T.turn_pays → Follows T R (does stmt) (code stmt) (trail stmt)) → PassesAll tests stmt →
+      (joins (code stmt).role (code next).role ≡ false → Row (code stmt).role (next ∷ rest)) →
+      (joins (code next).role (role_first (map code rest)) ≡ false → Row (code next).role rest) →
+      Row before (stmt ∷ next ∷ rest)
+  either_way before stmt next rest none first pass later behind =
+      by (joins (code stmt).role (code next).role) refl
+    where
+      by : (b : Bool) → joins (code stmt).role (code next).role ≡ b → Row before (stmt ∷ next ∷ rest)
+      by true both few = as_one before stmt next rest none both pass behind few
+      by false alone few = by_itself before stmt (next ∷ rest) none alone first (later alone) few
+
+  row_from : (before : Role) (stmts : List TacStmt) → Each Followed stmts → AllPass tests stmts →
+      joins before (role_first (map code stmts)) ≡ false → Row before stmts
+  row_from before [] each pass none few = nothing_follows T R
+  row_from before (stmt ∷ []) each pass none few =
+      by_itself before stmt [] none (none_behind (code stmt).role) (each.0 (first_passes tests stmt [] pass))
+      (λ few. nothing_follows T R) few
+  row_from before (stmt ∷ next ∷ rest) each pass none few =
+      let behind = rest_pass tests stmt (next ∷ rest) pass in
+      either_way before stmt next rest none (each.0 (first_passes tests stmt (next ∷ rest) pass))
+      (first_passes tests stmt (next ∷ rest) pass)
+      (λ alone few. row_from (code stmt).role (next ∷ rest) each.1 behind alone few)
+      (λ alone few. row_from (code next).role rest each.1.1 (rest_pass tests next rest behind) alone few) few
+
   row_of : (stmts : List TacStmt) → Each Followed stmts → AllPass tests stmts →
-      (in_order (map code stmts)).size ≤ T.turn_pays →
-      Follows T R (all_do (map does stmts)) (in_order (map code stmts)) (row (map trail stmts))
-  row_of [] each pass few = nothing_follows T R
-  row_of (stmt ∷ rest) each pass few =
-      row_follows T R (does stmt) (all_do (map does rest)) (code stmt) (in_order (map code rest)) (trail stmt)
-      (map trail rest) (each.0 (first_passes tests stmt rest pass) (omega (arith, few)))
-      (row_of rest each.1 (rest_pass tests stmt rest pass) (omega (arith, few)))
+      (in_order frame R.places (map code stmts)).size ≤ T.turn_pays →
+      Follows T R (all_do (map does stmts)) (in_order frame R.places (map code stmts)) (row (map trail stmts))
+  row_of stmts each pass few = row_from Other stmts each pass refl few
 
   -- A statement by its outermost layer.
   abbrev Shape : TacStmt-F TacStmt → Type 0
@@ -82,14 +225,6 @@ module _ (T : Setting) (R : Running) (formed : IsWellFormed T.image) (inputs : A
   -- shut in a record: the kernel compares clauses' types, and would open an abbreviation there
   record Level (layer : TacStmt-F TacStmt) : Type 0 where
     holds : Shape layer
-
-  -- the place of a temporary that a statement names first
-  place_there : (t : ℕ) (rest : List ℕ) → list_all (λ t. nat_lt t (length R.places)) (t ∷ rest) ≡ true →
-      HasPlace R.places (Some t)
-  place_there t rest h =
-      let below : t < length R.places =
-      ltb-true t (length R.places) (and_parts (nat_lt t (length R.places)) _ h).0 in
-      (_, slice_get-get_or R.places t (Register 0) below)
 
   place_wanted : (dest : Option ℕ) (rest : List ℕ) →
       list_all (λ t. nat_lt t (length R.places)) (one_or_none dest ++ rest) ≡ true → HasPlace R.places dest
@@ -182,7 +317,7 @@ module _ (T : Setting) (R : Running) (formed : IsWellFormed T.image) (inputs : A
       let pass = choice_passes tests cond first second all in
       fork_follows T R formed inputs cells nodes is placed gapless cond (all_do (map does first)) (all_do (map does
       second))
-      (in_order (map code first)) (in_order (map code second)) (map trail first) (map trail second)
+      (in_order frame R.places (map code first)) (in_order frame R.places (map code second)) (map trail first) (map trail second)
       (row_of first each pass.0 (omega (arith, few))) (row_of second each' pass.1 (omega (arith, few)))
 
   loop_level : (head body next : List TacStmt) → Each Followed head → Each Followed body → Each Followed next →
@@ -190,7 +325,7 @@ module _ (T : Setting) (R : Running) (formed : IsWellFormed T.image) (inputs : A
   loop_level head body next each each' each'' h all few =
       let pass = loop_passes tests head body next all in
       loop_follows T R formed inputs (all_do (map does head)) (all_do (map does body)) (all_do (map does next))
-      (in_order (map code head)) (in_order (map code body)) (in_order (map code next)) (map trail head) (map trail body)
+      (in_order frame R.places (map code head)) (in_order frame R.places (map code body)) (in_order frame R.places (map code next)) (map trail head) (map trail body)
       (map trail next) (row_of head each pass.0 (omega (arith, few))) (row_of body each' pass.1 (omega (arith, few)))
       (row_of next each'' pass.2 (omega (arith, few))) few
 

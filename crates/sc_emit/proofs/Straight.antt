@@ -1,10 +1,11 @@
 -- Statements without others inside, as straight code.
 use Rattle.sc_emit.proofs.Common.{All, Arrives, Cause, CodeAt, Codes, Comes, Ends, Err, Follows, Goes, Here, Instr}
-use Rattle.sc_emit.proofs.Common.{IsClear, Joint, Left, Line, List, Lives, Next, None, Ok, Piece, Reached, Ready}
-use Rattle.sc_emit.proofs.Common.{Result, Running, Setting, State as Meant, Temps, Trail, Value, and_then, ap, arith}
-use Rattle.sc_emit.proofs.Common.{completed, computed, ends_of, inl, known, length, length-map, live_at, low_after}
-use Rattle.sc_emit.proofs.Common.{low_plainly, plain, plainly, plainly_at, read, refl, same, straight, straightly}
-use Rattle.sc_emit.proofs.Common.{subst, sym, ℕ, ◌*◌, ◌+◌, ◌≡◌, ◌≤◌}
+use Rattle.sc_emit.proofs.Common.{IsClear, Joint, Left, Line, List, Lives, Next, None, Ok, Other, Piece, Reached, Ready}
+use Rattle.sc_emit.proofs.Common.{Result, Role, Running, Setting, State as Meant, Temps, Trail, Value, and_then, ap}
+use Rattle.sc_emit.proofs.Common.{arith, completed, computed, ends_of, followed, inl, known, length, length-map}
+use Rattle.sc_emit.proofs.Common.{live_at, low_after, low_plainly, nothing as no_lines, plain, plainly, plainly_at}
+use Rattle.sc_emit.proofs.Common.{read, refl, same, straight, straightly, subst, sym, ℕ, ◌*◌, ◌+◌, ◌≡◌, ◌≤◌}
+use Rattle.sc_select.specs.Prelude.{Piece as Code}
 
 -- what is computed only goes on
 pub computed_goes : {V W : Type 0} (here : Here) (result : Result V Cause) (go : V → Meant → Piece W) →
@@ -68,3 +69,28 @@ module _ (T : Setting) (R : Running) where
         (plainly_at (T.addresses R.activation.here.comp) T.image R.activation.here.comp x.pc instrs starts.stands) ends
         refl (ap (λ n. x.pc + 4 * n) long)));
   }
+
+  -- what a piece is to its neighbours changes nothing
+  pub with_role : (does : Codes) (code : Code) (role : Role) (trail : Trail) → Follows T R does code trail →
+      Follows T R does (record code { role = role }) trail
+  with_role does code role trail F = record {
+    sized = F.sized;
+    closed = F.closed;
+    goes = F.goes;
+    runs = λ lives temps x left to_break to_continue starts.
+        F.runs lives temps x left to_break to_continue (record {
+          ready = starts.ready;
+          clear = starts.clear;
+          stands = starts.stands;
+          breaks = starts.breaks;
+          continues = starts.continues;
+        });
+  }
+
+  -- no lines, and those of a piece
+  pub behind_nothing : (does : Codes) (code : Code) (trail : Trail) → Follows T R does code trail →
+      Follows T R does (followed no_lines code) trail
+  behind_nothing does code trail F =
+      let same : code.size ≡ 0 + code.size = omega arith in
+      subst (λ size. Follows T R does (record { size = size; lines = code.lines; role = Other }) trail) same
+      (with_role does code Other trail F)

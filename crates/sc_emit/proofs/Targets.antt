@@ -2,10 +2,11 @@
 use Rattle.sc_emit.proofs.Common.{Bool, Each, FrameTree, Inside, Instr, Line, List, None, Option, Place, Some}
 use Rattle.sc_emit.proofs.Common.{TacFnTree, TacStmt, TacStmt-F, [], a0, all_true, and_first, and_from, and_rest}
 use Rattle.sc_emit.proofs.Common.{call_cross, call_own, code_of, environment_call, everywhere as each_of, fold-TacStmt}
-use Rattle.sc_emit.proofs.Common.{fold-roll-TacStmt, function_lines, in_order, is_named, keep, list_all, map}
-use Rattle.sc_emit.proofs.Common.{map-TacStmt, names_only, pass, place_of_global, plainly, receive, refers_only, refl}
-use Rattle.sc_emit.proofs.Common.{relocation_of, relocations_from, select, select_all, select_step, stmt_induction}
-use Rattle.sc_emit.proofs.Common.{straight, subst, suc, sym, true, with_parts, ℕ, ◌&&◌, ◌++◌, ◌∙◌, ◌∷◌, ◌≡◌}
+use Rattle.sc_emit.proofs.Common.{fold-roll-TacStmt, function_lines, in_order, is_named, keep, list_all, load_from, map}
+use Rattle.sc_emit.proofs.Common.{map-TacStmt, moved_by, names_only, object_offset, object_read, order_keeps, pass}
+use Rattle.sc_emit.proofs.Common.{place_of_global, plainly, receive, refers_only, refl, relocation_of, relocations_from}
+use Rattle.sc_emit.proofs.Common.{result_register, select, select_all, select_step, sp, stmt_induction, straight, subst}
+use Rattle.sc_emit.proofs.Common.{suc, sym, true, with_parts, ℕ, ◌&&◌, ◌++◌, ◌∙◌, ◌∷◌, ◌≡◌}
 use Rattle.sc_tac.specs.Prelude.{everywhere}
 use Rattle.sc_select.specs.Prelude.{Piece}
 use Rattle.sc_tac.specs.declared.machine_code.Relocation.{Relocation}
@@ -60,12 +61,19 @@ module _ (function : ℕ → Bool) (entry : (comp index : ℕ) → Bool) (global
     Named stmt = named_inside stmt ≡ true → PassesAll is_named_line (select frame places stmt)
 
     row_named : (stmts : List TacStmt) → Each Named stmts → all_true (map named_inside stmts) ≡ true →
-        PassesAll is_named_line (in_order (map (select frame places) stmts))
-    row_named [] h all = record { passes = λ b c. refl }
-    row_named (stmt ∷ rest) h all =
-        followed_passes is_named_line (select frame places stmt) (in_order (map (select frame places) rest))
-        (h.0 (and_first (named_inside stmt) (all_true (map named_inside rest)) all))
-        (row_named rest h.1 (and_rest (named_inside stmt) (all_true (map named_inside rest)) all))
+        PassesAll is_named_line (in_order frame places (map (select frame places) stmts))
+    row_named stmts h all =
+        order_keeps frame places (PassesAll is_named_line) (record { passes = λ b c. refl })
+        (λ t o. record { passes = λ b c. plainly_named (object_read frame places t o) })
+        (followed_passes is_named_line) stmts (each_named stmts h all)
+      where
+        each_named : (stmts : List TacStmt) → Each Named stmts → all_true (map named_inside stmts) ≡ true →
+            Each (λ stmt. PassesAll is_named_line (select frame places stmt)) stmts
+        each_named [] h all = tt
+        each_named (stmt ∷ rest) h all = (
+          h.0 (and_first (named_inside stmt) (all_true (map named_inside rest)) all),
+          each_named rest h.1 (and_rest (named_inside stmt) (all_true (map named_inside rest)) all),
+        )
 
     straight_named : (lines : List Line) → list_all is_named_line lines ≡ true →
         PassesAll is_named_line (straight lines)
@@ -97,9 +105,14 @@ module _ (function : ℕ → Bool) (entry : (comp index : ℕ) → Bool) (global
     layer_named (tac.Const dest value) h all = unlinked _
     layer_named (tac.Copy dest from) h all = unlinked _
     layer_named (tac.Op dest o left right) h all = unlinked _
-    layer_named (tac.ObjectPlace dest object) h all = unlinked _
+    layer_named (tac.ObjectPlace dest object) h all = record {
+      passes = λ b c.
+          plainly_named
+          (moved_by (result_register frame places dest) sp (object_offset frame object) ++ keep frame places dest);
+    }
     layer_named (tac.GlobalPlace dest number) h all = global_named dest number (and_first (global number) true all)
-    layer_named (tac.Load dest place pointer) h all = unlinked _
+    layer_named (tac.Load dest place pointer) h all =
+        record { passes = λ b c. plainly_named (load_from frame places dest place) }
     layer_named (tac.Store place value) h all = unlinked _
     layer_named (tac.If cond first second) h all =
         let a = all_true (map named_inside first) in

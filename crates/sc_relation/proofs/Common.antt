@@ -41,11 +41,11 @@ pub use Rattle.sc_tac.specs.Prelude.{object_range, one_or_none, operated, part_a
 pub use Rattle.sc_tac.specs.Prelude.{ranges_of, read, readings, row_first, row_points, takes_two, trail_step, with_temp}
 pub use Rattle.sc_tac.specs.declared.frame.FrameTree.{FrameTree}
 pub use Rattle.sc_tac.specs.declared.place.Place.TheVariants.{Register, Slot}
-pub use Rattle.sc_select.specs.Prelude.{Addresses, Line, a0, a7, address_scratch, bytes_of, code_of_lines, completed}
-pub use Rattle.sc_select.specs.Prelude.{cycle, first_scratch, followed, jump_back, jump_over, linked, linked_from}
-pub use Rattle.sc_select.specs.Prelude.{low_after, low_behind, nothing, plainly, ra, register_of, relocation_of}
-pub use Rattle.sc_select.specs.Prelude.{relocations_behind, relocations_from, second_scratch, sp, target_at, with_low}
-pub use Rattle.sc_select.specs.Prelude.{with_target}
+pub use Rattle.sc_select.specs.Prelude.{Addresses, Line, a0, a7, address_scratch, breaking, bytes_of, code_of_lines}
+pub use Rattle.sc_select.specs.Prelude.{completed, continuing, cycle, first_scratch, followed, jump_back, linked}
+pub use Rattle.sc_select.specs.Prelude.{linked_from, low_after, low_behind, nothing, plainly, ra, register_of}
+pub use Rattle.sc_select.specs.Prelude.{relocation_of, relocations_behind, relocations_from, second_scratch, sp}
+pub use Rattle.sc_select.specs.Prelude.{target_at, with_low, with_target}
 pub use Rattle.sc_relation.specs.Common.{CallTarget, Cell, ImageParts, Jal, Place, Value}
 pub use Rattle.sc_relation.specs.Prelude.{Activation, AreHeld, Arrives, Begins, Beside, BlocksMatch, Came, Comes}
 pub use Rattle.sc_relation.specs.Prelude.{ComesBack, Costs, Effect, Ends, ExitGives, Follows, FrameMatches}

@@ -1,9 +1,9 @@
 -- Jumps inside the code of a function: over lines, and back.
 use Rattle.sc_relation.proofs.Common.{All, Arrives, Break, Continue, Fetches, Follows, IsInside, IsSome, IsWellFormed}
 use Rattle.sc_relation.proofs.Common.{IsWord, Jal, Joint, Leads, Ready, Running, Set, Setting, Some, Standpoint, Temps}
-use Rattle.sc_relation.proofs.Common.{[], add_word, ap, arith, code_inside, inl, is_some, jal, jump_over, leave}
+use Rattle.sc_relation.proofs.Common.{add_word, ap, arith, breaking, code_inside, continuing, inl, is_some, jal, leave}
 use Rattle.sc_relation.proofs.Common.{machine, neg_ℤ, pos, refl, seen_from, stays, suc, trail_step, walks_steady}
-use Rattle.sc_relation.proofs.Common.{word_at, word_of, zero, ℕ, ℤ, ◌%◌, ◌*◌, ◌+◌, ◌-◌, ◌<◌, ◌^◌, ◌∙◌, ◌∷◌, ◌≡◌, ◌≤◌}
+use Rattle.sc_relation.proofs.Common.{word_at, word_of, zero, ℕ, ℤ, ◌%◌, ◌*◌, ◌+◌, ◌-◌, ◌<◌, ◌^◌, ◌∙◌, ◌≡◌, ◌≤◌}
 use Rattle.sc_relation.proofs.Coming.{came_by}
 use Rattle.sc_tac.specs.declared.stmt.TacStmt.TheOpen as tac
 use Rattle.sc_relation.proofs.Stretches.{effect_still, arrives_with}
@@ -94,12 +94,7 @@ module _ (T : Setting) (R : Running) (formed : IsWellFormed T.image) (words : Al
           ready = ready_at live temps x (x.pc + 4 * suc lines) (suc left) left leads ready;
         }
 
-    pub break_follows : Follows T R (leave Break) (record {
-      size = 1;
-      lines = λ to_break to_continue. jump_over
-          to_break ∷ [];
-    })
-        (trail_step tac.Break)
+    pub break_follows : Follows T R (leave Break) breaking (trail_step tac.Break)
     break_follows = record {
       sized = λ to_break to_continue. refl;
       closed = λ to_break to_continue. refl;
@@ -110,8 +105,7 @@ module _ (T : Setting) (R : Running) (formed : IsWellFormed T.image) (words : Al
           (over lives.broken temps x to_break left starts.ready starts.stands.0 (omega (arith, starts.breaks))));
     }
 
-    pub continue_follows : Follows T R (leave Continue)
-        (record { size = 1; lines = λ to_break to_continue. jump_over to_continue ∷ [] }) (trail_step tac.Continue)
+    pub continue_follows : Follows T R (leave Continue) continuing (trail_step tac.Continue)
     continue_follows = record {
       sized = λ to_break to_continue. refl;
       closed = λ to_break to_continue. refl;

@@ -5,6 +5,7 @@ pub use Rattle.std.proofs.Common.{if◌then◌else◌, is_some, le-leb, length, 
 pub use Rattle.std.proofs.Common.{lt-ltb, map, nat_lt, not, pos, refl, replicate, reverse, rules, slice_get}
 pub use Rattle.std.proofs.Common.{slice_index_or, slice_set, subst, suc, sym, take, take_all, true, true≢false, zero, ℕ}
 pub use Rattle.std.proofs.Common.{ℤ, ◌&&◌, ◌++◌, ◌+ℤ◌, ◌+◌, ◌-◌, ◌<◌, ◌==◌, ◌∙◌, ◌∷◌, ◌≡◌, ◌≤◌}
+pub use Rattle.std.proofs.lemmas.Bool.{false≢true}
 pub use Rattle.std.proofs.lemmas.List.{drop_all, length-map, map-append, map-set, reverse-append, take-append-le}
 pub use Rattle.std.proofs.lemmas.List.{take-map, take_more}
 pub use Rattle.std.proofs.lemmas.Result.{IfOk-weaker}
@@ -13,8 +14,8 @@ pub use denote.Bor.{Bor}
 pub use Rattle.sc_event.specs.declared.event.Event.TheVariants.{End, In, Out}
 pub use Rattle.sc_event.specs.declared.row.Entry.TheVariants.{Export, Main}
 pub use Rattle.sc_core.proofs.Layers.{expr_at, layer_of, stmt_at, term_of, typed}
-pub use Rattle.sc_core.specs.Prelude.{Acts, Blocks, Break, Calls, Exit, Front, Function, Here, IsStop, Left, Meant}
-pub use Rattle.sc_core.specs.Prelude.{Memory, Next, Piece, Reached, Return, Route, State, Stopped, Ways, all_do}
+pub use Rattle.sc_core.specs.Prelude.{Acts, Blocks, Break, Calls, Continue, Exit, Front, Function, Here, IsStop, Left}
+pub use Rattle.sc_core.specs.Prelude.{Meant, Memory, Next, Piece, Reached, Return, Route, State, Stopped, Ways, all_do}
 pub use Rattle.sc_core.specs.Prelude.{and_then, applied, applied_one, assign, assign_call, at_place, at_pointer}
 pub use Rattle.sc_core.specs.Prelude.{back_cross, back_own, begun, between, binary, bind, block_does, blocks_for}
 pub use Rattle.sc_core.specs.Prelude.{c_arith, call, call_own, called, cell_of, cells_at, cells_of, choose, computed}
@@ -41,7 +42,12 @@ pub use Rattle.sc_core.specs.declared.section.TypedLocal.{TypedLocal}
 pub use Rattle.sc_core.specs.declared.section.TypedParam.{TypedParam}
 pub use Rattle.sc_core.specs.declared.section.TypedSection.{TypedSection}
 pub use Rattle.sc_core.specs.declared.section.TypedStruct.{TypedStruct}
-pub use Rattle.sc_core.specs.declared.stmt.TypedStmt.{TypedStmt}
+pub use Rattle.sc_core.specs.declared.stmt.TypedSimple.{TypedSimple}
+pub use Rattle.sc_core.specs.declared.stmt.TypedStmtKind.{TypedStmtKind, TypedStmtKind-F, roll-TypedStmtKind}
+pub use Rattle.sc_core.specs.declared.stmt.TypedStmtKind.TheVariants.{rolls-Assign, rolls-AssignCall, rolls-Break}
+pub use Rattle.sc_core.specs.declared.stmt.TypedStmtKind.TheVariants.{rolls-Call, rolls-Continue, rolls-Empty}
+pub use Rattle.sc_core.specs.declared.stmt.TypedStmtKind.TheVariants.{rolls-For, rolls-If, rolls-Return}
+pub use Rattle.sc_core.specs.declared.stmt.TypedStmtKind.TheVariants.{rolls-ReturnCall, rolls-ReturnValue, rolls-While}
 pub use Rattle.sc_core.specs.declared.value.Cell.{Cell}
 pub use Rattle.sc_core.specs.declared.value.Pointer.{Pointer}
 pub use Rattle.sc_core.specs.declared.value.Value.TheVariants.{Null, Ptr, Word}
@@ -49,15 +55,15 @@ pub use Rattle.sc_laws.proofs.Growing.{back_goes, calls_go, done_goes, earlier, 
 pub use Rattle.sc_laws.proofs.Growing.{then_goes, then_then, within_goes}
 pub use Rattle.sc_laws.specs.Prelude.{GoFrom, Goes, Gone, Never}
 pub use Rattle.sc_value.specs.Prelude.{here_of}
-pub use Rattle.sc_run.specs.Common.{Call, Callee, Event, Frame, ProgramTree, Ret, RunEnd, Undef, Value, cleared}
-pub use Rattle.sc_run.specs.Common.{given_back}
-pub use Rattle.sc_run.specs.Prelude.{Begun, CameTo, Comes, EndsAs, EntryAt, FoundAt, Seen, Standing, Stands, Steps}
-pub use Rattle.sc_run.specs.Prelude.{back_from, back_to, back_value, block_acts, block_for, bodies, body_acts, calls_in}
-pub use Rattle.sc_run.specs.Prelude.{cell_with, closes, does_now, ended_as, entry_from, exit_of, function_in, kept_by}
-pub use Rattle.sc_run.specs.Prelude.{left_by, library, loop_acts, memory_of, next_acts, part_acts, result_goes, resume}
-pub use Rattle.sc_run.specs.Prelude.{returned, seen_of, stmt_acts, told_back, told_call, variable_count, way_in}
-pub use Rattle.sc_run.specs.Prelude.{with_exit, with_variables, word_crossing}
-pub use Rattle.sc_run.specs.declared.work.Loop.{Loop}
+pub use Rattle.sc_run.specs.Common.{Call, Callee, Event, Frame, Loop, ProgramTree, Ret, RunEnd, TypedStmt, Undef, Value}
+pub use Rattle.sc_run.specs.Common.{cleared, given_back}
+pub use Rattle.sc_run.specs.Prelude.{Begun, CameTo, Comes, Doing, EndsAs, EntryAt, FoundAt, Passes, PassesIf, Seen}
+pub use Rattle.sc_run.specs.Prelude.{Standing, Stands, Steps, back_from, back_to, back_value, block_acts, block_for}
+pub use Rattle.sc_run.specs.Prelude.{bodies, body_acts, calls_in, cell_with, closes, does_now, ended_as, ended_so}
+pub use Rattle.sc_run.specs.Prelude.{entry_from, exit_of, function_in, in_body, kept_by, left_by, library, loop_acts}
+pub use Rattle.sc_run.specs.Prelude.{memory_of, next_acts, part_acts, result_goes, resume, returned, seen_of, stmt_acts}
+pub use Rattle.sc_run.specs.Prelude.{told_back, told_call, variable_count, way_in, with_exit, with_variables}
+pub use Rattle.sc_run.specs.Prelude.{word_crossing}
 pub use Rattle.sc_run.specs.declared.work.Now.{Now}
 pub use Rattle.sc_run.specs.declared.work.Now.TheVariants.{Leave, Run}
 pub use Rattle.sc_run.specs.declared.work.Step.{Step}

@@ -1,4 +1,5 @@
 pub mod Common
+pub mod Ahead
 pub mod Beginning
 pub mod Blank
 pub mod Calling

@@ -1,14 +1,14 @@
 -- Statements, by their layers.
-use Rattle.sc_run.proofs.Common.{Acts, Bor, Exit, Frame, Left, List, Loop, Next, None, Option, Piece, ProgramTree, Rest}
-use Rattle.sc_run.proofs.Common.{Route, Seen, Some, State, Step, Steps, TypedExpr, TypedStmt, Work, [], and_then, ap}
-use Rattle.sc_run.proofs.Common.{arith, assign, block_acts, c_arith, calls_in, choose, drop, evaluated, follow, get_or}
-use Rattle.sc_run.proofs.Common.{here_of, in_order, kind_step, layer_of, leave, length, length-drop, loop, loop_acts}
-use Rattle.sc_run.proofs.Common.{part_acts, part_does, refl, resume, reverse, stmt_acts, stmt_at, stmt_step, subst, sym}
-use Rattle.sc_run.proofs.Common.{take, take_all, test, way_in, ℕ, ◌++◌, ◌-◌, ◌∙◌, ◌∷◌, ◌≡◌, ◌≤◌}
-use Rattle.sc_core.specs.declared.stmt.TypedStmtKind.{TypedStmtKind, TypedStmtKind-F, roll-TypedStmtKind}
+use Rattle.sc_run.proofs.Common.{Acts, Bor, Break, Continue, Exit, Frame, Left, List, Loop, Next, None, Option, Piece}
+use Rattle.sc_run.proofs.Common.{ProgramTree, Reached, Rest, Return, Route, Seen, Some, State, Step, Steps, Stopped}
+use Rattle.sc_run.proofs.Common.{TypedExpr, TypedSimple, TypedStmt, TypedStmtKind, TypedStmtKind-F, Work, [], and_then}
+use Rattle.sc_run.proofs.Common.{ap, arith, assign, block_acts, c_arith, calls_in, choose, drop, drop_all, evaluated}
+use Rattle.sc_run.proofs.Common.{follow, get_or, here_of, in_order, kind_step, layer_of, leave, length, length-drop}
+use Rattle.sc_run.proofs.Common.{loop, loop_acts, part_acts, part_does, refl, resume, reverse, roll-TypedStmtKind}
+use Rattle.sc_run.proofs.Common.{stmt_acts, stmt_at, stmt_step, subst, sym, take, take_all, test, way_in, ℕ, ◌++◌, ◌-◌}
+use Rattle.sc_run.proofs.Common.{◌∙◌, ◌∷◌, ◌≡◌, ◌≤◌}
 use Rattle.sc_core.specs.declared.stmt.TypedStmtKind.TheOpen as layer
 use Rattle.sc_core.specs.declared.value.Want.TheVariants as want
-use Rattle.sc_core.specs.declared.stmt.TypedSimple.{TypedSimple}
 use Rattle.sc_run.proofs.Standing.{Acting}
 use Rattle.sc_run.proofs.Looping.{steps_as, steps_wait}
 
@@ -18,7 +18,7 @@ layer_acts program n f k line s =
     layer_of _ _ (kind_step c_arith f.scope.structs.now (here_of f.scope) f.scope.params
     (calls_in program n)) stmt_step k line tt s
 
-stmt_is : (program : ProgramTree) (f : Frame) (stmt : TypedStmt) (k : TypedStmtKind-F TypedStmtKind TypedStmt) →
+pub stmt_is : (program : ProgramTree) (f : Frame) (stmt : TypedStmt) (k : TypedStmtKind-F TypedStmtKind TypedStmt) →
     stmt.kind ≡ roll-TypedStmtKind k → (n : ℕ) (s : State) →
     stmt_acts program n f stmt tt s ≡ layer_acts program n f k stmt.line s
 stmt_is program f stmt k is n s =
@@ -55,6 +55,29 @@ list_steps program before work later f stmts stmt rest step after last g split s
     (λ n s. ap (λ xs. block_acts program n f xs tt s) (split ∙ ap (λ xs. stmt ∷ xs) (sym same)))
     (steps_wait program before work f (Rest rest) later (λ n s. block_acts program n f (stmt ∷ rest.now) tt s)
     (λ n. stmt_acts program n f stmt tt) step after last g pushed (λ n s. refl) h)
+
+by_exit : (exit : Exit) (s : State) → follow in_order (leave exit tt s) (leave {A = Unit {0}} Next) ≡ leave exit tt s
+by_exit Next s = refl
+by_exit Break s = refl
+by_exit Continue s = refl
+by_exit (Return v) s = refl
+
+-- nothing follows the last statement
+alone : (p : Piece (Left (Unit {0}))) → follow in_order p (leave Next) ≡ p
+alone (Reached left s) = by_exit left.exit s
+alone (Stopped end s) = refl
+
+-- the last statement, with nothing that waits for it
+pub last_steps : (program : ProgramTree) (before : Seen) (work : List Work) (f : Frame) (stmts : List TypedStmt)
+    (stmt : TypedStmt) (step : Step) (after : Seen) (later : List Work) (g : Frame) →
+    stmts ≡ stmt ∷ drop 1 stmts → length stmts ≡ 1 →
+    Steps program before work f (λ n. stmt_acts program n f stmt tt) step after later g →
+    Steps program before work f (λ n s. block_acts program n f stmts tt s) step after later g
+last_steps program before work f stmts stmt step after later g split one h =
+    steps_as program before work f (λ n s. block_acts program n f stmts tt s)
+    (λ n. stmt_acts program n f stmt tt) step after later g
+    (λ n s. ap (λ xs. block_acts program n f xs tt s)
+    (split ∙ ap (λ xs. stmt ∷ xs) (drop_all 1 stmts (omega (arith, one)))) ∙ alone (stmt_acts program n f stmt tt s)) h
 
 -- a part of a `for`, while the loop waits: the first one, or what comes before the next round
 pub part_steps : (program : ProgramTree) (before : Seen) (work later : List Work) (f : Frame) (route : Exit → Route)

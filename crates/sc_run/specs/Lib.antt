@@ -1,5 +1,6 @@
 pub mod Common
 pub mod Prelude
+pub mod Ahead
 pub mod Comes
 pub mod Entering
 pub mod Finding

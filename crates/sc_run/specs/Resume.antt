@@ -1,17 +1,15 @@
 -- Helping: what a run that has got somewhere does from there.
-use Rattle.sc_run.specs.Common.{Acts, Body, Break, Calls, Continue, Event, Exit, Frame, Function, Left, Library, Next}
-use Rattle.sc_run.specs.Common.{Piece, ProgramTree, Return, Run, RunEnd, State, Value, Ways, and_then, back_cross}
-use Rattle.sc_run.specs.Common.{back_own, block_does, c_arith, calls, closed, done, follow, function_of, here_of}
-use Rattle.sc_run.specs.Common.{in_loop, in_order, leave, library_of, loop, main_name, part_does, run_step, run_to}
-use Rattle.sc_run.specs.Common.{stmt_does, stopped_at, store_result, test, ways, within}
+use Rattle.sc_run.specs.Common.{Acts, Body, Break, Calls, Continue, Event, Exit, Frame, Function, Left, Library, Loop}
+use Rattle.sc_run.specs.Common.{Next, Piece, ProgramTree, Return, Run, RunEnd, State, TypedStmt, Value, Ways, and_then}
+use Rattle.sc_run.specs.Common.{back_cross, back_own, block_does, c_arith, calls, closed, done, follow, function_of}
+use Rattle.sc_run.specs.Common.{here_of, in_loop, in_order, leave, library_of, loop, main_name, part_does, run_step}
+use Rattle.sc_run.specs.Common.{run_to, stmt_does, stopped_at, store_result, test, ways, within}
 use Rattle.std.specs.Prelude.{◌≡◌, ℕ, suc, ◌≤◌, ◌&&◌, ◌==◌, bytes_eq, List, [], ◌∷◌, reverse, Option, None, Some}
 use Rattle.std.specs.Prelude.{is_some}
 use Rattle.std.specs.Option.{option_copied}
 use Rattle.sc_core.specs.declared.expr.TypedExpr.{TypedExpr}
 use Rattle.sc_core.specs.declared.stmt.TypedSimple.{TypedSimple}
-use Rattle.sc_core.specs.declared.stmt.TypedStmt.{TypedStmt}
 use Rattle.sc_core.specs.declared.run.SourceRun.{SourceRun}
-use Rattle.sc_run.specs.declared.work.Loop.{Loop}
 use Rattle.sc_run.specs.declared.work.To.{To}
 use Rattle.sc_run.specs.declared.work.To.TheVariants.{Nowhere, Place, Back}
 use Rattle.sc_run.specs.declared.work.Work.{Work}

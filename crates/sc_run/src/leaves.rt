@@ -7,6 +7,7 @@ ghost use Rattle.std.specs.Prelude.{◌≡◌, ◌++◌, [], ◌∷◌, IfOk, On
 
 use crate::calls::{hand_back, word_in};
 use crate::machine::{Machine, tell};
+use crate::plain::is_next_done;
 use crate::simple::simple;
 use crate::steps::round;
 use crate::work::{Frame, Leaving, Loop, Now, Run, Step, To, Work};
@@ -70,8 +71,8 @@ fn leave_before_round<'a>(
     }
 }
 
-// What stands between the body of a loop and its next round.
-fn next_part<'a>(
+// What stands between the body of a loop and its next round, while the loop waits.
+fn begin_next<'a>(
     program: &'a ProgramTree,
     run: &mut Run<'a, '_>,
     whole: &Loop<'a>,
@@ -87,6 +88,22 @@ fn next_part<'a>(
             simple(program, run, next)
         }
     }
+}
+
+// What stands between the body of a loop and its next round, at once where it may be.
+fn next_part<'a>(
+    program: &'a ProgramTree,
+    run: &mut Run<'a, '_>,
+    whole: &Loop<'a>,
+) -> Result<Step<'a>, OutOfMemory>
+    ensures { IfOk result (λ step. Advances program.now run.old
+        (λ n s. follow in_loop (next_acts program.now n run.old.frame whole.now tt s)
+        (loop_acts program.now n run.old.frame whole.now)) step run.new) }
+{
+    if is_next_done(program, &mut run.machine, &run.frame, whole) {
+        return round(program, run, whole);
+    }
+    begin_next(program, run, whole)
 }
 
 // What follows the body of a loop.

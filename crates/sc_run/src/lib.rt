@@ -6,6 +6,7 @@ mod globals;
 mod leaves;
 mod lookups;
 mod machine;
+mod plain;
 mod run;
 mod simple;
 mod steps;

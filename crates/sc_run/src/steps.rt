@@ -6,6 +6,7 @@ ghost use Rattle.std.specs.Prelude.{IfOk, Some};
 ghost use Rattle.sc_core.specs.declared.value.Want.TheVariants as want;
 
 use crate::machine::{evaluated, take_turn};
+use crate::plain::{done_first, done_rounds};
 use crate::simple::{assigned, call, simple};
 use crate::work::{Leaving, Loop, Now, Run, Step, To, Work};
 use sc_base::OutOfMemory;
@@ -38,8 +39,8 @@ fn branch<'a>(
     }
 }
 
-// A loop from here: its test, a turn, and its body.
-pub fn round<'a>(
+// A round of a loop: its test, a turn, and its body.
+fn begin_round<'a>(
     program: &'a ProgramTree,
     run: &mut Run<'a, '_>,
     whole: &Loop<'a>,
@@ -67,6 +68,24 @@ pub fn round<'a>(
             }
         }
         Err(end) => Ok(Step::Stop(end)),
+    }
+}
+
+/// A loop from here.
+pub fn round<'a>(
+    program: &'a ProgramTree,
+    run: &mut Run<'a, '_>,
+    whole: &Loop<'a>,
+) -> Result<Step<'a>, OutOfMemory>
+    ensures { IfOk result (λ step. Advances program.now run.old
+        (λ n. loop_acts program.now n run.old.frame whole.now tt) step run.new) }
+{
+    match done_rounds(program, &mut run.machine, &run.frame, whole) {
+        None => begin_round(program, run, whole),
+        Some(count) => {
+            run.work.push(Work::Body(*whole))?;
+            Ok(Step::Go(Now::Run(&whole.body[count..])))
+        }
     }
 }
 
@@ -190,8 +209,8 @@ fn statement<'a>(
     }
 }
 
-/// The first of these statements, or what follows them.
-pub fn run_list<'a>(
+// The first of these statements, or what follows them. Nothing waits behind the last one.
+fn run_first<'a>(
     program: &'a ProgramTree,
     run: &mut Run<'a, '_>,
     stmts: &'a [TypedStmt],
@@ -202,8 +221,24 @@ pub fn run_list<'a>(
     match stmts {
         [] => Ok(Step::Go(Now::Leave(Leaving::Next))),
         [stmt, rest @ ..] => {
+            if stmts.len() == 1 {
+                return statement(program, run, stmt);
+            }
             run.work.push(Work::Rest(rest))?;
             statement(program, run, stmt)
         }
     }
+}
+
+/// The first of these statements that isn't done at once, or what follows them.
+pub fn run_list<'a>(
+    program: &'a ProgramTree,
+    run: &mut Run<'a, '_>,
+    stmts: &'a [TypedStmt],
+) -> Result<Step<'a>, OutOfMemory>
+    ensures { IfOk result (λ step. Advances program.now run.old
+        (λ n s. block_acts program.now n run.old.frame stmts.now tt s) step run.new) }
+{
+    let count = done_first(program, &mut run.machine, &run.frame, stmts);
+    run_first(program, run, &stmts[count..])
 }

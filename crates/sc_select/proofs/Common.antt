@@ -1,9 +1,9 @@
 -- The names that several proofs of this crate cite, passed on from one place. Declares nothing.
 pub use Rattle.std.proofs.Common.{All, AllPairs, Bool, IsTrue, List, None, OnOk, Option, Some, [], ap, append-nil}
-pub use Rattle.std.proofs.Common.{append_assoc, ap₂, arith, drop, drop-cons, eq-eqb, false, get_or, if◌then◌else◌}
-pub use Rattle.std.proofs.Common.{is_some, length, length-append, map, negsuc, pos, pred, refl, reverse, slice_get}
-pub use Rattle.std.proofs.Common.{slice_set, subst, suc, sym, true, zero, ℕ, ◌&&◌, ◌*◌, ◌++◌, ◌+◌, ◌-◌, ◌<◌, ◌^◌, ◌∙◌}
-pub use Rattle.std.proofs.Common.{◌∷◌, ◌≡◌, ◌≤◌}
+pub use Rattle.std.proofs.Common.{append_assoc, ap₂, arith, drop, drop-cons, eq-eqb, eqb-true, false, get_or}
+pub use Rattle.std.proofs.Common.{if◌then◌else◌, is_some, length, length-append, map, negsuc, pos, pred, refl, reverse}
+pub use Rattle.std.proofs.Common.{slice_get, slice_set, subst, suc, sym, true, zero, ℕ, ◌&&◌, ◌*◌, ◌++◌, ◌+◌, ◌-◌, ◌<◌}
+pub use Rattle.std.proofs.Common.{◌==◌, ◌^◌, ◌∙◌, ◌∷◌, ◌≡◌, ◌≤◌}
 pub use Rattle.std.proofs.lemmas.List.{length-map, length-reverse, reverse-append, reverse-reverse}
 pub use Rattle.std.proofs.lemmas.Result.{on_ok_weaker}
 pub use Rattle.sc_base.proofs.Bools.{and_first, and_rest}
@@ -20,14 +20,17 @@ pub use Rattle.sc_tac.specs.declared.stmt.TacStmt.{fold-roll-TacStmt, map-TacStm
 unfoldable pub use Rattle.sc_tac.specs.declared.stmt.TacStmt.{roll-TacStmt}
 pub use Rattle.sc_select.specs.Common.{Branch, CodeTree, Div, Entry, FrameTree, Function, Global, Instr, Jalr, Lui, Lw}
 pub use Rattle.sc_select.specs.Common.{Mul, Place, Relocation, Sub, Sw, TacOp, TacStmt, TacStmt-F, Target, fold-TacStmt}
-pub use Rattle.sc_select.specs.Prelude.{Add, Addi, Fits, Jal, Line, Load, Op, OpImm, Piece, Store, Upper, at_hand}
-pub use Rattle.sc_select.specs.Prelude.{binary_code, brought, bytes_of, call_cross, call_own, choice, closing, code_of}
-pub use Rattle.sc_select.specs.Prelude.{code_of_lines, copied, cycle, entrance, environment_call, followed, fork}
-pub use Rattle.sc_select.specs.Prelude.{frame_left, frame_taken, function_lines, in_order, is_short, jump_back}
-pub use Rattle.sc_select.specs.Prelude.{jump_over, keep, kept, lines_of, load_from, load_word, loading, moved_by}
-pub use Rattle.sc_select.specs.Prelude.{object_offset, op_code, operand, operation, pass, place_of_global, plain}
-pub use Rattle.sc_select.specs.Prelude.{plainly, pointer_difference, pointer_move, put, receive, referring, register_of}
-pub use Rattle.sc_select.specs.Prelude.{relocation_of, relocations_from, result_register, return, round_begins}
-pub use Rattle.sc_select.specs.Prelude.{second_operand, select, select_all, select_step, slot_offset, stepped}
-pub use Rattle.sc_select.specs.Prelude.{store_arguments, store_to, store_word, straightly, take, take_second, taken}
-pub use Rattle.sc_select.specs.Prelude.{unary_code, word_of_constant}
+pub use Rattle.sc_select.specs.Prelude.{Add, Addi, Fits, FitsBetween, Jal, Line, Load, Op, OpImm, Piece, Store, Upper}
+pub use Rattle.sc_select.specs.Prelude.{at_hand, between, binary_code, brought, bytes_of, call_cross, call_own, choice}
+pub use Rattle.sc_select.specs.Prelude.{closing, code_of, code_of_lines, copied, cycle, entrance, environment_call}
+pub use Rattle.sc_select.specs.Prelude.{followed, fork, frame_left, frame_taken, function_lines, in_order, in_turn}
+pub use Rattle.sc_select.specs.Prelude.{is_short, joined, joins, jump_back, jump_over, keep, kept, lines_of, load_from}
+pub use Rattle.sc_select.specs.Prelude.{load_word, loading, moved_by, nothing, object_offset, object_read, op_code}
+pub use Rattle.sc_select.specs.Prelude.{operand, operation, pass, place_of_global, plain, plainly, pointer_difference}
+pub use Rattle.sc_select.specs.Prelude.{pointer_move, put, reading, receive, referring, register_of, relocation_of}
+pub use Rattle.sc_select.specs.Prelude.{relocations_from, result_register, return, role_before, role_first}
+pub use Rattle.sc_select.specs.Prelude.{role_of_load, round_begins, second_operand, select, select_all, select_step}
+pub use Rattle.sc_select.specs.Prelude.{slot_offset, stepped, store_arguments, store_to, store_word, straightly, take}
+pub use Rattle.sc_select.specs.Prelude.{take_second, taken, unary_code, word_of_constant}
+pub use Rattle.sc_select.specs.declared.roles.Role.{Role}
+pub use Rattle.sc_select.specs.declared.roles.Role.TheVariants.{Loads, Other, Places}

@@ -1,16 +1,18 @@
 -- What the code of statements in order, of choices and of loops is made of, and that the jumps of their parts reach.
-use Rattle.sc_select.proofs.Common.{Bool, Fits, FrameTree, Instr, Line, List, OnOk, Piece, Place, TacStmt, []}
-use Rattle.sc_select.proofs.Common.{and_first, and_rest, ap, append_assoc, arith, choice, cycle, drop, drop-cons}
-use Rattle.sc_select.proofs.Common.{fold-TacStmt, fold-roll-TacStmt, fork, get_or, jump_back, jump_over, length}
-use Rattle.sc_select.proofs.Common.{length-append, on_ok_weaker, passes_few, plain, plainly, refl, roll-TacStmt}
-use Rattle.sc_select.proofs.Common.{round_begins, select, select_all, select_step, stmt_weight, subst, suc, sym, true}
-use Rattle.sc_select.proofs.Common.{weight, weight_step, with_parts, zero, ℕ, ◌&&◌, ◌++◌, ◌+◌, ◌-◌, ◌<◌, ◌∙◌, ◌∷◌, ◌≡◌}
-use Rattle.sc_select.proofs.Common.{◌≤◌}
+use Rattle.sc_select.proofs.Common.{Bool, Fits, FitsBetween, FrameTree, Instr, Line, List, OnOk, Other, Piece, Place}
+use Rattle.sc_select.proofs.Common.{Role, TacStmt, [], and_first, and_rest, ap, append_assoc, ap₂, arith, between}
+use Rattle.sc_select.proofs.Common.{choice, cycle, drop, drop-cons, false, fold-TacStmt, fold-roll-TacStmt, fork}
+use Rattle.sc_select.proofs.Common.{get_or, if◌then◌else◌, in_turn, joined, joins, jump_back, jump_over, length}
+use Rattle.sc_select.proofs.Common.{length-append, length-map, map, nothing, on_ok_weaker, passes_few, plain, plainly}
+use Rattle.sc_select.proofs.Common.{reading, refl, role_before, role_first, roll-TacStmt, round_begins, select}
+use Rattle.sc_select.proofs.Common.{select_all, select_step, stmt_weight, subst, suc, sym, true, weight, weight_step}
+use Rattle.sc_select.proofs.Common.{with_parts, zero, ℕ, ◌&&◌, ◌++◌, ◌+◌, ◌-◌, ◌<◌, ◌∙◌, ◌∷◌, ◌≡◌, ◌≤◌}
 use Rattle.sc_tac.specs.Prelude.{everywhere}
 use Rattle.std.specs.declared.result.Result.{Result}
 use Rattle.sc_tac.specs.declared.stmt.TacStmt.TheOpen as tac
 use Rattle.sc_tac.specs.declared.stmt.TacStmt.TheVariants as emit
-use Rattle.sc_select.proofs.Sizes.{row_is_sized}
+use Rattle.sc_select.proofs.Joining.{drop_map, joined_at, joined_length, none_behind, role_in}
+use Rattle.sc_select.proofs.Sizes.{row_is_sized, row_from_sized}
 
 -- FEW ARGUMENTS
 few_in_fork : (cond : ℕ) (first second : List TacStmt) →
@@ -100,6 +102,11 @@ module _ (frame : FrameTree) (places : List Place) where
   abbrev size : List TacStmt → ℕ
   size stmts = (select_all frame places stmts).size
 
+  -- a statement alone
+  alone : (b c : ℕ) (stmt : TacStmt) → size (stmt ∷ []) ≡ (select frame places stmt).size + 0
+  alone b c stmt = ap (λ (behind : Bool). (if behind then reading frame places (select frame places stmt).role
+      else select frame places stmt).size + 0) (none_behind (select frame places stmt).role)
+
   -- how many lines statements have put in front
   counted : (stmts : List TacStmt) (b c : ℕ) (new old : List Line) (n m : ℕ) → n ≡ length new → m ≡ length old →
       new ≡ (select_all frame places stmts).lines b c ++ old → n ≡ size stmts + m
@@ -121,14 +128,12 @@ module _ (frame : FrameTree) (places : List Place) where
   fork_breaks : (cond : ℕ) (first second : List TacStmt) (b c : ℕ) →
       Fits frame places (emit.If cond first second ∷ []) b c → size first + size second + 2 + b < 262143
   fork_breaks cond first second b c h =
-      let whole : (select frame places (emit.If cond first second)).size + 0 + b < 262143 = h.breaks in
-      omega (arith, whole, fork_size cond first second)
+      omega (arith, h.breaks, alone b c (emit.If cond first second), fork_size cond first second)
 
   fork_continues : (cond : ℕ) (first second : List TacStmt) (b c : ℕ) →
       Fits frame places (emit.If cond first second ∷ []) b c → size first + size second + 2 + c < 262143
   fork_continues cond first second b c h =
-      let whole : (select frame places (emit.If cond first second)).size + 0 + c < 262143 = h.continues in
-      omega (arith, whole, fork_size cond first second)
+      omega (arith, h.continues, alone b c (emit.If cond first second), fork_size cond first second)
 
   pub second_fits : (cond : ℕ) (first second : List TacStmt) (b c : ℕ) →
       Fits frame places (emit.If cond first second ∷ []) b c → Fits frame places second b c
@@ -232,10 +237,9 @@ module _ (frame : FrameTree) (places : List Place) where
   cycle_reaches : (head body next : List TacStmt) (b c : ℕ) →
       Fits frame places (emit.Loop head body next ∷ []) b c → 2 + (size head + (size body + size next)) < 262143
   cycle_reaches head body next b c h =
-      let whole : (select frame places (emit.Loop head body next)).size + 0 + b < 262143 = h.breaks in
       let parts : (select frame places (emit.Loop head body next)).size ≡ 2 + (size head + (size body + size next)) =
       ap (λ p. p.size) (cycle_is head body next) in
-      omega (arith, whole, parts)
+      omega (arith, h.breaks, alone b c (emit.Loop head body next), parts)
 
   next_fits : (head body next : List TacStmt) (b c n : ℕ) → n ≡ 1 →
       Fits frame places (emit.Loop head body next ∷ []) b c → Fits frame places next n 0
@@ -403,76 +407,203 @@ module _ (frame : FrameTree) (places : List Place) where
       }
 
   -- STATEMENTS IN ORDER
-  size_from : (stmts : List TacStmt) (i : ℕ) → size (drop i stmts) ≤ size stmts
-  size_from stmts zero = omega arith
-  size_from [] (suc i) = omega arith
-  size_from (x ∷ rest) (suc i) = omega (arith, size_from rest i)
+  abbrev pieces : List TacStmt → List Piece
+  pieces stmts = joined frame places Other (map (select frame places) stmts)
+
+  -- the statements from one on
+  abbrev from : List TacStmt → ℕ → Piece
+  from stmts i = in_turn (drop i (pieces stmts))
+
+  turn_from : (parts : List Piece) (i : ℕ) → (in_turn (drop i parts)).size ≤ (in_turn parts).size
+  turn_from parts zero = omega arith
+  turn_from [] (suc i) = omega arith
+  turn_from (part ∷ parts) (suc i) = omega (arith, turn_from parts i)
+
+  -- how many lines those have put in front
+  written_from : (stmts : List TacStmt) (i b c n m : ℕ) (new old : List Line) → n ≡ length new → m ≡ length old →
+      new ≡ (from stmts i).lines b c ++ old → n - m ≡ (from stmts i).size
+  written_from stmts i b c n m new old hn hm h =
+      let lines : List Line = (from stmts i).lines b c in
+      let whole : length new ≡ length (lines ++ old) = ap length h in
+      omega (arith, hn, hm, whole, length-append lines old, (row_from_sized frame places stmts i).sized b c)
+
+  -- one of them, and those behind it
+  abbrev one : List TacStmt → ℕ → TacStmt → Piece
+  one stmts i stmt =
+      between frame places (role_before (map (select frame places) stmts) i) (select frame places stmt)
+      (role_first (map (select frame places) (drop (suc i) stmts)))
+
+  selected_at : (stmts : List TacStmt) (i : ℕ) (stmt : TacStmt) → stmt ≡ get_or stmts i stmt →
+      select frame places stmt ≡ get_or (map (select frame places) stmts) i (select frame places stmt)
+  selected_at [] i stmt is = refl
+  selected_at (first ∷ rest) zero stmt is = ap (select frame places) is
+  selected_at (first ∷ rest) (suc i) stmt is = selected_at rest i stmt is
+
+  before_is : (parts : List Piece) (i : ℕ) → role_in frame places Other parts i ≡ role_before parts i
+  before_is parts zero = refl
+  before_is parts (suc i) = refl
+
+  parted_at : (stmts : List TacStmt) (i : ℕ) (stmt : TacStmt) → i < length stmts → stmt ≡ get_or stmts i stmt →
+      drop i (pieces stmts) ≡ one stmts i stmt ∷ drop (suc i) (pieces stmts)
+  parted_at stmts i stmt h is =
+      let parts : List Piece = map (select frame places) stmts in
+      joined_at frame places Other parts i (select frame places stmt) (omega (
+        arith,
+        h,
+        length-map stmts (select frame
+            places),
+      )) (selected_at stmts i stmt is) ∙
+      ap (λ role. between frame places role (select frame places stmt) (role_first (drop (suc i) parts)) ∷
+      drop (suc i) (pieces stmts)) (before_is parts i) ∙
+      ap (λ behind. between frame places (role_before parts i) (select frame places stmt) (role_first behind) ∷
+      drop (suc i) (pieces stmts)) (drop_map frame places stmts (suc i))
 
   -- what the statements from one on need is no more than what all need
   rest_reaches : (stmts : List TacStmt) (i b c : ℕ) → Fits frame places stmts b c →
-      (size (drop i stmts) + b < 262143) × (size (drop i stmts) + c < 262143)
+      ((from stmts i).size + b < 262143) × ((from stmts i).size + c < 262143)
   rest_reaches stmts i b c h =
-      (omega (arith, size_from stmts i, h.breaks), omega (arith, size_from stmts i, h.continues))
+      (omega (arith, turn_from (pieces stmts) i, h.breaks), omega (arith, turn_from (pieces stmts) i, h.continues))
 
-  one_fits : (stmts : List TacStmt) (i : ℕ) (x : TacStmt) (b c n : ℕ) → i < length stmts →
-      x ≡ get_or stmts i x → n ≡ size (drop (suc i) stmts) → Fits frame places stmts b c →
-      Fits frame places (x ∷ []) (n + b) (n + c)
-  one_fits stmts i x b c n h is n_is fits =
-      let parts : size (drop i stmts) ≡ (select frame places x).size + size (drop (suc i) stmts) =
-      ap size (parted stmts i x h is) in
+  one_fits : (stmts : List TacStmt) (i : ℕ) (stmt : TacStmt) (before behind : Role) (b c n : ℕ) → i < length stmts →
+      stmt ≡ get_or stmts i stmt → n ≡ (from stmts (suc i)).size →
+      before ≡ role_before (map (select frame places) stmts) i →
+      behind ≡ role_first (map (select frame places) (drop (suc i) stmts)) → Fits frame places stmts b c →
+      FitsBetween frame places before stmt behind (n + b) (n + c)
+  one_fits stmts i stmt before behind b c n h is n_is before_is behind_is fits =
+      let parts : (from stmts i).size ≡ (one stmts i stmt).size + (from stmts (suc i)).size =
+      ap (λ parts. (in_turn parts).size) (parted_at stmts i stmt h is) in
+      let same : between frame places before (select frame places stmt) behind ≡ one stmts i stmt =
+      ap₂ (λ r s. between frame places r (select frame places stmt) s) before_is behind_is in
+      let size_is : (between frame places before (select frame places stmt) behind).size ≡ (one stmts i stmt).size =
+      ap (λ p. p.size) same in
       record {
-        few_arguments = ap (λ b. b && true) (and_first (fold-TacStmt Bool (with_parts passes_few) x) _
-            (subst (λ l. everywhere passes_few l ≡ true) (parted stmts i x h is)
+        few_arguments = ap (λ b. b && true) (and_first (fold-TacStmt Bool (with_parts passes_few) stmt) _
+            (subst (λ l. everywhere passes_few l ≡ true) (parted stmts i stmt h is)
             (few_from stmts i fits.few_arguments)));
-        breaks = omega (arith, n_is, parts, size_from stmts i, fits.breaks);
-        continues = omega (arith, n_is, parts, size_from stmts i, fits.continues);
+        breaks = omega (arith, n_is, parts, size_is, turn_from (pieces stmts) i, fits.breaks);
+        continues = omega (arith, n_is, parts, size_is, turn_from (pieces stmts) i, fits.continues);
       }
 
-  one_written : (stmts : List TacStmt) (i : ℕ) (x : TacStmt) (b c n : ℕ) (old l1 l2 : List Line) →
-      i < length stmts → x ≡ get_or stmts i x → n ≡ size (drop (suc i) stmts) →
-      l1 ≡ (select_all frame places (drop (suc i) stmts)).lines b c ++ old →
-      l2 ≡ (select frame places x).lines (n + b) (n + c) ++ l1 →
-      l2 ≡ (select_all frame places (drop i stmts)).lines b c ++ old
-  one_written stmts i x b c n old l1 l2 h is n_is h1 h2 =
-      let rest : List TacStmt = drop (suc i) stmts in
-      let first : List Line = (select frame places x).lines (size rest + b) (size rest + c) in
-      let e2 : l2 ≡ first ++ ((select_all frame places rest).lines b c ++ old) = cc in
-      e2 ∙ sym (append_assoc first ((select_all frame places rest).lines b c) old) ∙
-      ap (λ l. (select_all frame places l).lines b c ++ old) (sym (parted stmts i x h is))
+  one_written : (stmts : List TacStmt) (i : ℕ) (stmt : TacStmt) (b c n : ℕ) (old l1 l2 : List Line) →
+      i < length stmts → stmt ≡ get_or stmts i stmt → n ≡ (from stmts (suc i)).size →
+      l1 ≡ (from stmts (suc i)).lines b c ++ old → l2 ≡ (one stmts i stmt).lines (n + b) (n + c) ++ l1 →
+      l2 ≡ (from stmts i).lines b c ++ old
+  one_written stmts i stmt b c n old l1 l2 h is n_is h1 h2 =
+      let rest : Piece = from stmts (suc i) in
+      let first : List Line = (one stmts i stmt).lines (rest.size + b) (rest.size + c) in
+      let e2 : l2 ≡ first ++ (rest.lines b c ++ old) =
+      h2 ∙ ap (λ n. (one stmts i stmt).lines (n + b) (n + c) ++ l1) n_is ∙ ap (λ l. first ++ l) h1 in
+      e2 ∙ sym (append_assoc first (rest.lines b c) old) ∙
+      ap (λ parts. (in_turn parts).lines b c ++ old) (sym (parted_at stmts i stmt h is))
 
   -- the same where the statements from a number on are written, and the one before them is next
   pub step_reaches : (stmts list : List TacStmt) (at b c n m : ℕ) (now old : List Line) → list ≡ stmts →
-      Fits frame places stmts b c → n ≡ length now → m ≡ length old →
-      now ≡ (select_all frame places (drop at list)).lines b c ++ old →
+      Fits frame places stmts b c → n ≡ length now → m ≡ length old → now ≡ (from list at).lines b c ++ old →
       (n - m + b < 262143) × (n - m + c < 262143)
   step_reaches stmts list at b c n m now old same fits hn hm h =
-      let size_is : n - m ≡ size (drop at list) = written (drop at list) b c n m now old hn hm h in
+      let size_is : n - m ≡ (from list at).size = written_from list at b c n m now old hn hm h in
       let within : Fits frame places list b c = subst (λ l. Fits frame places l b c) (sym same) fits in
-      let reaches : (size (drop at list) + b < 262143) × (size (drop at list) + c < 262143) =
+      let reaches : ((from list at).size + b < 262143) × ((from list at).size + c < 262143) =
       rest_reaches list at b c within in
       (omega (arith, size_is, reaches.0), omega (arith, size_is, reaches.1))
 
   from_next : (list : List TacStmt) (at n m b c : ℕ) (now old : List Line) → 0 < at → n ≡ length now → m ≡ length old →
-      now ≡ (select_all frame places (drop at list)).lines b c ++ old → n - m ≡ size (drop (suc (at - 1)) list)
+      now ≡ (from list at).lines b c ++ old → n - m ≡ (from list (suc (at - 1))).size
   from_next list at n m b c now old some hn hm h =
       let next : at ≡ suc (at - 1) = omega (arith, some) in
-      written (drop at list) b c n m now old hn hm h ∙ ap (λ i. size (drop i list)) next
+      written_from list at b c n m now old hn hm h ∙ ap (λ i. (from list i).size) next
 
-  pub step_fits : (stmts list : List TacStmt) (at b c n m : ℕ) (stmt : TacStmt) (now old : List Line) → list ≡ stmts →
-      0 < at → at ≤ length list → stmt ≡ get_or list (at - 1) stmt → Fits frame places stmts b c → n ≡ length now →
-      m ≡ length old → now ≡ (select_all frame places (drop at list)).lines b c ++ old →
-      Fits frame places (stmt ∷ []) (n - m + b) (n - m + c)
-  step_fits stmts list at b c n m stmt now old same some within is fits hn hm h =
-      one_fits list (at - 1) stmt b c (n - m) (omega (arith, some, within)) is
-      (from_next list at n m b c now old some hn hm h) (subst (λ l. Fits frame places l b c) (sym same) fits)
+  pub step_fits : (stmts list : List TacStmt) (at b c n m : ℕ) (stmt : TacStmt) (before behind : Role)
+      (now old : List Line) → list ≡ stmts → 0 < at → at ≤ length list → stmt ≡ get_or list (at - 1) stmt →
+      ((frame : FrameTree) (places : List Place) → before ≡ role_before (map (select frame places) list) (at - 1)) →
+      ((frame : FrameTree) (places : List Place) →
+      behind ≡ role_first (map (select frame places) (drop (at - 1 + 1) list))) →
+      Fits frame places stmts b c → n ≡ length now → m ≡ length old → now ≡ (from list at).lines b c ++ old →
+      FitsBetween frame places before stmt behind (n - m + b) (n - m + c)
+  step_fits stmts list at b c n m stmt before behind now old same some within is before_is behind_is fits hn hm h =
+      let next : at - 1 + 1 ≡ suc (at - 1) = omega arith in
+      one_fits list (at - 1) stmt before behind b c (n - m) (omega (arith, some, within)) is
+      (from_next list at n m b c now old some hn hm h) (before_is frame places)
+      (behind_is frame places ∙ ap (λ i. role_first (map (select frame places) (drop i list))) next)
+      (subst (λ l. Fits frame places l b c) (sym same) fits)
 
-  pub step_written : (list : List TacStmt) (at b c n m : ℕ) (stmt : TacStmt) (now old new : List Line) → 0 < at →
-      at ≤ length list → stmt ≡ get_or list (at - 1) stmt → n ≡ length now → m ≡ length old →
-      now ≡ (select_all frame places (drop at list)).lines b c ++ old →
-      new ≡ (select frame places stmt).lines (n - m + b) (n - m + c) ++ now →
-      new ≡ (select_all frame places (drop (at - 1) list)).lines b c ++ old
-  step_written list at b c n m stmt now old new some within is hn hm h k =
+  pub step_written : (list : List TacStmt) (at b c n m : ℕ) (stmt : TacStmt) (before behind : Role)
+      (now old new : List Line) → 0 < at → at ≤ length list → stmt ≡ get_or list (at - 1) stmt →
+      ((frame : FrameTree) (places : List Place) → before ≡ role_before (map (select frame places) list) (at - 1)) →
+      ((frame : FrameTree) (places : List Place) →
+      behind ≡ role_first (map (select frame places) (drop (at - 1 + 1) list))) →
+      n ≡ length now → m ≡ length old → now ≡ (from list at).lines b c ++ old →
+      new ≡ (between frame places before (select frame places stmt) behind).lines (n - m + b) (n - m + c) ++ now →
+      new ≡ (from list (at - 1)).lines b c ++ old
+  step_written list at b c n m stmt before behind now old new some within is before_is behind_is hn hm h k =
       let next : at ≡ suc (at - 1) = omega (arith, some) in
+      let next' : at - 1 + 1 ≡ suc (at - 1) = omega arith in
+      let behind_here = behind_is frame places ∙
+      ap (λ i. role_first (map (select frame places) (drop i list))) next' in
       one_written list (at - 1) stmt b c (n - m) old now new (omega (arith, some, within)) is
-      (from_next list at n m b c now old some hn hm h)
-      (h ∙ ap (λ i. (select_all frame places (drop i list)).lines b c ++ old) next) k
+      (from_next list at n m b c now old some hn hm h) (h ∙ ap (λ i. (from list i).lines b c ++ old) next)
+      (k ∙ ap₂ (λ r s. (between frame places r (select frame places stmt) s).lines (n - m + b) (n - m + c) ++ now)
+      (before_is frame places) behind_here)
+
+  -- all are written, and none yet
+  pub none_written : (list : List TacStmt) (b c : ℕ) (old : List Line) →
+      old ≡ (from list (length list)).lines b c ++ old
+  none_written list b c old =
+      ap (λ parts. (in_turn parts).lines b c ++ old)
+      (sym (all_dropped (pieces list) (length list) (joined_length frame places Other (map (select frame places) list) ∙
+      length-map list (select frame places))))
+    where
+      all_dropped : (parts : List Piece) (n : ℕ) → length parts ≡ n → drop n parts ≡ []
+      all_dropped [] zero h = refl
+      all_dropped [] (suc n) h = refl
+      all_dropped (part ∷ parts) zero h = absurd (omega (arith, h))
+      all_dropped (part ∷ parts) (suc n) h = all_dropped parts n (omega (arith, h))
+
+  -- A STATEMENT BETWEEN TWO OTHERS
+  module _ (before : Role) (stmt : TacStmt) (behind role : Role) (is : role ≡ (select frame places stmt).role) where
+    abbrev itself : Piece
+    itself = select frame places stmt
+
+    -- what the tests found
+    first_test : (found b : Bool) → found ≡ joins before role → found ≡ b → joins before itself.role ≡ b
+    first_test found b h k = ap (joins before) (sym is) ∙ sym h ∙ k
+
+    second_test : (found b : Bool) → found ≡ joins role behind → found ≡ b → joins itself.role behind ≡ b
+    second_test found b h k = ap (λ r. joins r behind) (sym is) ∙ sym h ∙ k
+
+    by_tests : (one two : Bool) → joins before itself.role ≡ one → joins itself.role behind ≡ two →
+        between frame places before itself behind ≡
+        (if one then nothing else if two then reading frame places itself.role else itself)
+    by_tests one two h k =
+        ap₂ (λ a b. if a then nothing else if b then reading frame places itself.role else itself) h k
+
+    pub is_nothing : (found : Bool) → found ≡ joins before role → found ≡ true →
+        nothing ≡ between frame places before itself behind
+    is_nothing found h k = sym (by_tests true (joins itself.role behind) (first_test found true h k) refl)
+
+    module _ (found : Bool) (none : found ≡ joins before role) (none_is : found ≡ false) (other : Bool)
+        (both : other ≡ joins role behind) where
+      pub is_reading : other ≡ true → reading frame places role ≡ between frame places before itself behind
+      is_reading k =
+          ap (reading frame places) is ∙
+          sym (by_tests false true (first_test found false none none_is) (second_test other true both k))
+
+      pub is_itself : other ≡ false → itself ≡ between frame places before itself behind
+      is_itself k =
+          sym (by_tests false false (first_test found false none none_is) (second_test other false both k))
+
+      pub alone_fits : (b c : ℕ) → other ≡ false → FitsBetween frame places before stmt behind b c →
+          Fits frame places (stmt ∷ []) b c
+      alone_fits b c k h =
+          let same : itself.size ≡ (between frame places before itself behind).size =
+          ap (λ p. p.size) (is_itself k) in
+          record {
+            few_arguments = h.few_arguments;
+            breaks = omega (arith, h.breaks, same, alone b c stmt);
+            continues = omega (arith, h.continues, same, alone b c stmt);
+          }
+
+-- one piece is written, which is another
+pub as_written : {T E : Type 0} (r : Result T E) (p q : Piece) (b c : ℕ) (new old : List Line) → p ≡ q →
+    OnOk r (new ≡ p.lines b c ++ old) → OnOk r (new ≡ q.lines b c ++ old)
+as_written r p q b c new old is h = on_ok_weaker r (λ k. k ∙ ap (λ p. p.lines b c ++ old) is) h

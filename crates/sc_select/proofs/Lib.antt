@@ -1,5 +1,6 @@
 pub mod Common
 pub mod Composition
+pub mod Joining
 pub mod Lines
 pub mod Links
 pub mod Rows

@@ -1,20 +1,21 @@
 -- Lines that refer to targets stand where the linker can complete them.
 use Rattle.sc_select.proofs.Common.{All, AllPairs, Bool, Each, Entry, FrameTree, Function, Global, Inside, Instr}
-use Rattle.sc_select.proofs.Common.{IsCode, IsTrue, Jal, Jalr, Line, List, Lui, None, Option, Piece, Place, Relocation}
-use Rattle.sc_select.proofs.Common.{Some, Store, Sw, TacFnTree, TacStmt, TacStmt-F, Target, Upper, [], and_first}
-use Rattle.sc_select.proofs.Common.{and_rest, ap, append-nil, arith, brought, call_cross, call_own, choice, closing}
-use Rattle.sc_select.proofs.Common.{code_of_lines, copied, cycle, entrance, environment_call, eq-eqb}
+use Rattle.sc_select.proofs.Common.{IsCode, IsTrue, Jal, Jalr, Line, List, Lui, None, Option, Piece, Place, Places}
+use Rattle.sc_select.proofs.Common.{Relocation, Role, Some, Store, Sw, TacFnTree, TacStmt, TacStmt-F, Target, Upper, []}
+use Rattle.sc_select.proofs.Common.{and_first, and_rest, ap, append-nil, arith, brought, call_cross, call_own, choice}
+use Rattle.sc_select.proofs.Common.{closing, code_of_lines, copied, cycle, entrance, environment_call, eq-eqb}
 use Rattle.sc_select.proofs.Common.{everywhere as each_holds, false, fold-roll-TacStmt, followed, fork, frame_taken}
 use Rattle.sc_select.proofs.Common.{function_lines, in_order, is_address, is_jal, is_linkable, jump_back, jump_over}
 use Rattle.sc_select.proofs.Common.{keep, length, length-append, length-map, load_from, loading, map, map-TacStmt}
-use Rattle.sc_select.proofs.Common.{moved_by, object_offset, operation, pass, place_of_global, plain, plainly, pos}
-use Rattle.sc_select.proofs.Common.{receive, referring, refl, relocation_of, relocations_from, result_register, return}
-use Rattle.sc_select.proofs.Common.{select, select_all, select_step, slice_get, stmt_induction, store_arguments}
-use Rattle.sc_select.proofs.Common.{store_to, straightly, sub_word, subst, suc, sym, true, word_of_constant, ℕ, ◌&&◌}
-use Rattle.sc_select.proofs.Common.{◌++◌, ◌+◌, ◌<◌, ◌∙◌, ◌∷◌, ◌≡◌, ◌≤◌}
+use Rattle.sc_select.proofs.Common.{moved_by, object_offset, object_read, operation, pass, place_of_global, plain}
+use Rattle.sc_select.proofs.Common.{plainly, pos, receive, referring, refl, relocation_of, relocations_from}
+use Rattle.sc_select.proofs.Common.{result_register, return, role_of_load, select, select_all, select_step, slice_get}
+use Rattle.sc_select.proofs.Common.{stmt_induction, store_arguments, store_to, straightly, sub_word, subst, suc, sym}
+use Rattle.sc_select.proofs.Common.{true, word_of_constant, ℕ, ◌&&◌, ◌++◌, ◌+◌, ◌<◌, ◌∙◌, ◌∷◌, ◌≡◌, ◌≤◌}
 use Rattle.std.proofs.lemmas.List.Elements.{All-cons, All-nil, All-weaker}
 use Rattle.std.proofs.lemmas.List.Kept.{AllPairs-cons}
 use Rattle.sc_tac.specs.declared.stmt.TacStmt.TheOpen as tac
+use Rattle.sc_select.proofs.Joining.{order_keeps}
 
 -- the instruction of the first line
 abbrev first_of : List Line → Option Instr
@@ -117,9 +118,13 @@ module _ (frame : FrameTree) (places : List Place) where
   Complete stmt = IsComplete (select frame places stmt)
 
   row_complete : (stmts : List TacStmt) → Each Complete stmts →
-      IsComplete (in_order (map (select frame places) stmts))
-  row_complete [] h = record { complete = λ b c. refl }
-  row_complete (stmt ∷ rest) h = followed_complete (select frame places stmt) _ h.0 (row_complete rest h.1)
+      IsComplete (in_order frame places (map (select frame places) stmts))
+  row_complete stmts h =
+      order_keeps frame places IsComplete (record { complete = λ b c. refl })
+      (λ t o. straightly_complete (object_read frame places t o)) followed_complete stmts h
+
+  with_role : (instrs : List Instr) (role : Role) → IsComplete (record (straightly frame places instrs) { role = role })
+  with_role instrs role = record { complete = λ b c. plain_complete instrs }
 
   layer_complete : (layer : TacStmt-F TacStmt) → Inside Complete layer →
       IsComplete (select_step frame places (map-TacStmt _ _ (select frame places) layer))
@@ -131,11 +136,12 @@ module _ (frame : FrameTree) (places : List Place) where
   layer_complete (tac.Op dest op left right) h =
       straightly_complete (operation frame places dest op left right)
   layer_complete (tac.ObjectPlace dest object) h =
-      straightly_complete
+      with_role
       (moved_by (result_register frame places dest) 2 (object_offset frame object) ++ keep frame places dest)
+      (Places dest object)
   layer_complete (tac.GlobalPlace dest global) h = record { complete = λ b c. global_complete dest global }
   layer_complete (tac.Load dest place pointer) h =
-      straightly_complete (load_from frame places dest place)
+      with_role (load_from frame places dest place) (role_of_load frame places dest place)
   layer_complete (tac.Store place value) h =
       straightly_complete (store_to frame places place value)
   layer_complete (tac.If cond first second) h =

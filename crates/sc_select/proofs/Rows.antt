@@ -13,7 +13,7 @@ use Rattle.sc_tac.proofs.Shapes.{Cycle, Done, Fork, Line as Then, rows, rows_are
 -- the code of a function by its plan, on which it computes
 abbrev pub planned : FrameTree → List Place → Plan → List Piece → CodeTree
 planned frame places plan pieces = code_of_lines (plainly (entrance frame places plan.params) ++
-    (in_order pieces).lines 0 0 ++ plainly (closing frame places plan.entry))
+    (in_order frame places pieces).lines 0 0 ++ plainly (closing frame places plan.entry))
 
 abbrev pub framed : Plan → List Place → FrameTree
 framed plan places = frame_of plan.objects places
@@ -47,11 +47,10 @@ down_places =
 pub down_code : code_of (function down) down_places (framed down down_places) ≡ record {
   instrs =
       OpImm Addi 2 2 (negsuc 7) ∷ Store Sw 2 1 (pos 0) ∷ Store Sw 2 10 (pos 4) ∷ OpImm Addi 0 0 (pos 0) ∷
-      OpImm Addi 3 2 (pos 4) ∷ Load Lw 3 3 (pos 0) ∷ Branch Bne 3 0 (pos 8) ∷ Jal 0 (pos 8) ∷ Jal 0 (pos 8) ∷
-      Jal 0 (pos 32) ∷ OpImm Addi 3 2 (pos 4) ∷ Load Lw 3 3 (pos 0) ∷ OpImm Addi 4 0 (pos 1) ∷ Op Sub 3 3 4 ∷
-      OpImm Addi 4 2 (pos 4) ∷ Store Sw 4 3 (pos 0) ∷ Jal 0 (negsuc 51) ∷ OpImm Addi 3 2 (pos 4) ∷
-      Load Lw 3 3 (pos 0) ∷ OpImm Addi 10 3 (pos 0) ∷ Load Lw 1 2 (pos 0) ∷ OpImm Addi 2 2 (pos 8) ∷
-      Jalr 0 1 (pos 0) ∷ Load Lw 1 2 (pos 0) ∷ OpImm Addi 2 2 (pos 8) ∷ Jalr 0 1 (pos 0) ∷ [];
+      Load Lw 3 2 (pos 4) ∷ Branch Bne 3 0 (pos 8) ∷ Jal 0 (pos 8) ∷ Jal 0 (pos 8) ∷ Jal 0 (pos 28) ∷
+      Load Lw 3 2 (pos 4) ∷ OpImm Addi 4 0 (pos 1) ∷ Op Sub 3 3 4 ∷ OpImm Addi 4 2 (pos 4) ∷ Store Sw 4 3 (pos 0) ∷
+      Jal 0 (negsuc 43) ∷ Load Lw 3 2 (pos 4) ∷ OpImm Addi 10 3 (pos 0) ∷ Load Lw 1 2 (pos 0) ∷
+      OpImm Addi 2 2 (pos 8) ∷ Jalr 0 1 (pos 0) ∷ Load Lw 1 2 (pos 0) ∷ OpImm Addi 2 2 (pos 8) ∷ Jalr 0 1 (pos 0) ∷ [];
   relocations = [];
 }
 down_code = code_is down down_places

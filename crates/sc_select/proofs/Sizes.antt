@@ -1,10 +1,11 @@
 -- Pieces have as many lines as they say.
-use Rattle.sc_select.proofs.Common.{Each, FrameTree, Inside, Line, List, Piece, Place, TacStmt, TacStmt-F, [], arith}
-use Rattle.sc_select.proofs.Common.{choice, cycle, everywhere, fold-roll-TacStmt, followed, fork, in_order, jump_back}
-use Rattle.sc_select.proofs.Common.{jump_over, length, length-append, length-map, map, map-TacStmt, plain, plainly}
-use Rattle.sc_select.proofs.Common.{refl, select, select_all, select_step, stmt_induction, subst, suc, sym, ℕ, ◌++◌}
-use Rattle.sc_select.proofs.Common.{◌+◌, ◌∷◌, ◌≡◌}
+use Rattle.sc_select.proofs.Common.{Each, FrameTree, Inside, Line, List, Other, Piece, Place, TacStmt, TacStmt-F, []}
+use Rattle.sc_select.proofs.Common.{arith, choice, cycle, drop, everywhere, fold-roll-TacStmt, followed, fork, in_order}
+use Rattle.sc_select.proofs.Common.{in_turn, joined, jump_back, jump_over, length, length-append, length-map, map}
+use Rattle.sc_select.proofs.Common.{map-TacStmt, plain, plainly, refl, select, select_all, select_step, stmt_induction}
+use Rattle.sc_select.proofs.Common.{subst, suc, sym, ℕ, ◌++◌, ◌+◌, ◌∷◌, ◌≡◌}
 use Rattle.sc_tac.specs.declared.stmt.TacStmt.TheOpen as tac
+use Rattle.sc_select.proofs.Joining.{from_keeps}
 
 pub record IsSized (piece : Piece) : Type 0 where
   pub sized : (to_break to_continue : ℕ) → length (piece.lines to_break to_continue) ≡ piece.size
@@ -56,9 +57,16 @@ module _ (frame : FrameTree) (places : List Place) where
   abbrev Sized : TacStmt → Type 0
   Sized stmt = IsSized (select frame places stmt)
 
-  row_sized : (stmts : List TacStmt) → Each Sized stmts → IsSized (in_order (map (select frame places) stmts))
-  row_sized [] h = record { sized = λ b c. refl }
-  row_sized (stmt ∷ rest) h = followed_sized (select frame places stmt) _ h.0 (row_sized rest h.1)
+  -- also of those from a number on
+  pub from_sized : (stmts : List TacStmt) → Each Sized stmts → (i : ℕ) →
+      IsSized (in_turn (drop i (joined frame places Other (map (select frame places) stmts))))
+  from_sized stmts h i =
+      from_keeps frame places IsSized (record { sized = λ b c. refl }) (λ t o. record { sized = λ b c. refl })
+      followed_sized stmts h i
+
+  row_sized : (stmts : List TacStmt) → Each Sized stmts →
+      IsSized (in_order frame places (map (select frame places) stmts))
+  row_sized stmts h = from_sized stmts h 0
 
   layer_sized : (layer : TacStmt-F TacStmt) → Inside Sized layer →
       IsSized (select_step frame places (map-TacStmt _ _ (select frame places) layer))
@@ -83,6 +91,10 @@ module _ (frame : FrameTree) (places : List Place) where
   pub stmt_sized : (stmt : TacStmt) → IsSized (select frame places stmt)
   stmt_sized = stmt_induction Sized (λ layer h.
       subst IsSized (sym (fold-roll-TacStmt Piece (select_step frame places) layer)) (layer_sized layer h))
+
+  pub row_from_sized : (stmts : List TacStmt) (i : ℕ) →
+      IsSized (in_turn (drop i (joined frame places Other (map (select frame places) stmts))))
+  row_from_sized stmts i = from_sized stmts (everywhere Sized stmt_sized stmts) i
 
   pub row_is_sized : (stmts : List TacStmt) → IsSized (select_all frame places stmts)
   row_is_sized stmts = row_sized stmts (everywhere Sized stmt_sized stmts)

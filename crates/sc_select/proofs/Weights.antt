@@ -1,21 +1,22 @@
 -- Code has no more instructions than its function weighs.
 use Rattle.sc_select.proofs.Common.{Add, Bne, Bool, Branch, Div, Each, Entry as EntryOf, Fits, FrameTree, Function}
-use Rattle.sc_select.proofs.Common.{Inside, Instr, IsFunction, Jal, Jalr, Line, List, Load, Lui, Lw, Mul, None, Op}
-use Rattle.sc_select.proofs.Common.{Option, Piece, Place, Register, Slot, Some, Store, Sw, TacFnTree, TacOp, TacStmt}
-use Rattle.sc_select.proofs.Common.{TacStmt-F, Upper, [], all_true, and_first, and_rest, arith, at_hand, binary_code}
-use Rattle.sc_select.proofs.Common.{brought, bytes_of, call_cross, call_own, choice, closing, code_of, copied, entrance}
-use Rattle.sc_select.proofs.Common.{entry_weight, environment_call, everywhere as each_holds, false, fold-TacStmt}
-use Rattle.sc_select.proofs.Common.{fold-roll-TacStmt, frame_left, frame_taken, function_lines, has_operands}
-use Rattle.sc_select.proofs.Common.{if◌then◌else◌, in_order, is_short, is_some, is_unsigned, keep, kept, length}
-use Rattle.sc_select.proofs.Common.{length-append, length-map, load_from, load_word, loading, map, map-TacStmt}
-use Rattle.sc_select.proofs.Common.{moved_by, object_offset, op_code, op_weight, operand, operation, pass}
+use Rattle.sc_select.proofs.Common.{Inside, Instr, IsFunction, Jal, Jalr, Line, List, Load, Loads, Lui, Lw, Mul, None}
+use Rattle.sc_select.proofs.Common.{Op, Option, Other, Piece, Place, Places, Register, Role, Slot, Some, Store, Sw}
+use Rattle.sc_select.proofs.Common.{TacFnTree, TacOp, TacStmt, TacStmt-F, Upper, [], all_true, and_first, and_rest, ap}
+use Rattle.sc_select.proofs.Common.{arith, at_hand, between, binary_code, brought, bytes_of, call_cross, call_own}
+use Rattle.sc_select.proofs.Common.{choice, closing, code_of, copied, entrance, entry_weight, environment_call}
+use Rattle.sc_select.proofs.Common.{everywhere as each_holds, false, fold-TacStmt, fold-roll-TacStmt, frame_left}
+use Rattle.sc_select.proofs.Common.{frame_taken, function_lines, has_operands, if◌then◌else◌, in_order, in_turn}
+use Rattle.sc_select.proofs.Common.{is_short, is_some, is_unsigned, joined, joins, keep, kept, length, length-append}
+use Rattle.sc_select.proofs.Common.{length-map, load_from, load_word, loading, map, map-TacStmt, moved_by, nothing}
+use Rattle.sc_select.proofs.Common.{object_offset, object_read, op_code, op_weight, operand, operation, pass}
 use Rattle.sc_select.proofs.Common.{place_of_global, plain, plainly, pointer_difference, pointer_move, pos, put}
-use Rattle.sc_select.proofs.Common.{receive, referring, refl, register_of, result_register, return, roll-TacStmt}
-use Rattle.sc_select.proofs.Common.{second_operand, select, select_all, select_step, slice_get, slot_offset, stepped}
-use Rattle.sc_select.proofs.Common.{stmt_induction, stmt_weight, store_arguments, store_to, store_word, sub_word, subst}
-use Rattle.sc_select.proofs.Common.{suc, sym, take, take_second, taken, takes_two, true, unary_code, weight}
-use Rattle.sc_select.proofs.Common.{weight_step, with_parts, word_of_constant, zero, ℕ, ◌&&◌, ◌*◌, ◌++◌, ◌+◌, ◌<◌, ◌^◌}
-use Rattle.sc_select.proofs.Common.{◌∙◌, ◌∷◌, ◌≡◌, ◌≤◌}
+use Rattle.sc_select.proofs.Common.{reading, receive, referring, refl, register_of, result_register, return, role_first}
+use Rattle.sc_select.proofs.Common.{roll-TacStmt, second_operand, select, select_all, select_step, slice_get}
+use Rattle.sc_select.proofs.Common.{slot_offset, stepped, stmt_induction, stmt_weight, store_arguments, store_to}
+use Rattle.sc_select.proofs.Common.{store_word, straightly, sub_word, subst, suc, sym, take, take_second, taken}
+use Rattle.sc_select.proofs.Common.{takes_two, true, unary_code, weight, weight_step, with_parts, word_of_constant}
+use Rattle.sc_select.proofs.Common.{zero, ℕ, ◌&&◌, ◌*◌, ◌++◌, ◌+◌, ◌<◌, ◌^◌, ◌∙◌, ◌∷◌, ◌≡◌, ◌≤◌}
 use Rattle.sc_core.specs.Prelude.{total}
 use Rattle.sc_tac.specs.Prelude.{everywhere}
 use Rattle.std.specs.Bool.{beq}
@@ -27,6 +28,7 @@ use Rattle.sc_event.specs.declared.row.Entry.{Entry}
 use Rattle.sc_event.specs.declared.row.Entry.TheVariants as entry
 use Rattle.sc_tac.specs.declared.stmt.TacOp.TheVariants as tacop
 use Rattle.sc_tac.specs.declared.stmt.TacStmt.TheOpen as tac
+use Rattle.sc_select.proofs.Joining.{gives_place}
 use Rattle.sc_select.proofs.Sizes.{row_is_sized}
 
 either : (b : Bool) (xs ys : List Instr) (n : ℕ) → length xs ≤ n → length ys ≤ n → length (if b then xs else ys) ≤ n
@@ -202,6 +204,16 @@ module _ (frame : FrameTree) (places : List Place) where
         kept_few frame (slice_get places dest),
       )
 
+  object_read_few : (dest object : ℕ) → length (object_read frame places dest object) ≤ 6
+  object_read_few dest object =
+      let rd : ℕ = result_register frame places dest in
+      omega (
+        arith,
+        length-append (load_word rd (object_offset frame object)) (keep frame places dest),
+        load_one rd (object_offset frame object),
+        kept_few frame (slice_get places dest),
+      )
+
   global_few : (dest global : ℕ) → length (place_of_global frame places dest global) ≤ 6
   global_few dest global =
       omega (
@@ -316,15 +328,49 @@ module _ (frame : FrameTree) (places : List Place) where
   abbrev Small : TacStmt → Type 0
   Small stmt = has stmt ≡ true → (select frame places stmt).size ≤ stmt_weight stmt
 
-  row_small : (stmts : List TacStmt) → Each Small stmts → all_true (map has stmts) ≡ true →
-      (in_order (map (select frame places) stmts)).size ≤ total (map stmt_weight stmts)
-  row_small [] h is = omega arith
-  row_small (stmt ∷ rest) h is =
+  -- what reads a variable is no larger than the statement that gives its place weighs
+  reading_few : (stmt : TacStmt) → (reading frame places (select frame places stmt).role).size ≤ stmt_weight stmt
+  reading_few stmt = by (select frame places stmt).role refl
+    where
+      by : (role : Role) → (select frame places stmt).role ≡ role →
+          (reading frame places role).size ≤ stmt_weight stmt
+      by (Places temp object) is =
+          let heavy : stmt_weight stmt ≡ 6 =
+          ap stmt_weight (gives_place frame places stmt temp object is) ∙
+          fold-roll-TacStmt ℕ weight_step (tac.ObjectPlace temp object) in
+          let few : (straightly frame places (object_read frame places temp object)).size ≤ 6 =
+          straightly_few _ 6 (object_read_few temp object) in
+          omega (arith, heavy, few)
+      by (Loads temp) is = omega arith
+      by Other is = omega arith
+
+  between_few : (before : Role) (stmt : TacStmt) (behind : Role) →
+      (select frame places stmt).size ≤ stmt_weight stmt →
+      (between frame places before (select frame places stmt) behind).size ≤ stmt_weight stmt
+  between_few before stmt behind h =
+      by (joins before (select frame places stmt).role) (joins (select frame places stmt).role behind)
+    where
+      by : (one two : Bool) →
+          (if one then nothing else if two then reading frame places (select frame places stmt).role
+          else select frame places stmt).size ≤ stmt_weight stmt
+      by true two = omega arith
+      by false true = reading_few stmt
+      by false false = h
+
+  turn_small : (before : Role) (stmts : List TacStmt) → Each Small stmts → all_true (map has stmts) ≡ true →
+      (in_turn (joined frame places before (map (select frame places) stmts))).size ≤ total (map stmt_weight stmts)
+  turn_small before [] h is = omega arith
+  turn_small before (stmt ∷ rest) h is =
       omega (
         arith,
-        h.0 (and_first (has stmt) (all_true (map has rest)) is),
-        row_small rest h.1 (and_rest (has stmt) (all_true (map has rest)) is),
+        between_few before stmt (role_first (map (select frame places) rest))
+            (h.0 (and_first (has stmt) (all_true (map has rest)) is)),
+        turn_small (select frame places stmt).role rest h.1 (and_rest (has stmt) (all_true (map has rest)) is),
       )
+
+  row_small : (stmts : List TacStmt) → Each Small stmts → all_true (map has stmts) ≡ true →
+      (in_order frame places (map (select frame places) stmts)).size ≤ total (map stmt_weight stmts)
+  row_small stmts h is = turn_small Other stmts h is
 
   layer_small : (layer : TacStmt-F TacStmt) → Inside Small layer →
       with_parts has_operands (map-TacStmt _ _ has layer) ≡ true →

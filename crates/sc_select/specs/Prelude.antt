@@ -4,7 +4,7 @@ pub use Rattle.rv_code.specs.declared.instr.Instr.TheVariants.{Jal, Load, Op, Op
 pub use Rattle.rv_code.specs.declared.instr.OpImmOp.TheVariants.{Addi, Sltiu, Xori}
 pub use Rattle.rv_code.specs.declared.instr.OpOp.TheVariants.{Add, Slt, Sltu}
 pub use Rattle.sc_tac.specs.Prelude.{IsCode, IsFunction, entry_weight, is_place, is_unsigned, register_count, weight}
-pub use Rattle.sc_select.specs.Bounds.{Fits, most_lines}
+pub use Rattle.sc_select.specs.Bounds.{Fits, FitsBetween, most_lines}
 pub use Rattle.sc_select.specs.Lines.{Line, code_of_lines, lines_of, plain, plainly, referring, relocation_of}
 pub use Rattle.sc_select.specs.Lines.{relocations_from}
 pub use Rattle.sc_select.specs.Linking.{Addresses, completed, is_named, linked, linked_from, low_after, low_behind}
@@ -14,10 +14,11 @@ pub use Rattle.sc_select.specs.Operators.{pointer_difference, pointer_move, step
 pub use Rattle.sc_select.specs.Pieces.{a0, a7, address_scratch, far_from_sp, first_scratch, frame_left, frame_taken}
 pub use Rattle.sc_select.specs.Pieces.{is_short, load_word, loading, lower_part, move, moved_by, ra, register_of}
 pub use Rattle.sc_select.specs.Pieces.{second_scratch, sp, store_word, upper_part}
-pub use Rattle.sc_select.specs.Selection.{Piece, at_hand, brought, call_cross, call_own, choice, closing, code_of}
-pub use Rattle.sc_select.specs.Selection.{copied, cycle, entrance, environment_call, followed, fork, function_lines}
-pub use Rattle.sc_select.specs.Selection.{in_order, jump_back, jump_over, keep, kept, load_from, nothing, object_offset}
-pub use Rattle.sc_select.specs.Selection.{operand, operation, pass, place_of, place_of_global, put, receive}
-pub use Rattle.sc_select.specs.Selection.{result_register, return, round_begins, second_operand, select, select_all}
-pub use Rattle.sc_select.specs.Selection.{select_step, slot_offset, store_arguments, store_to, straight, straightly}
-pub use Rattle.sc_select.specs.Selection.{take, take_second, taken, word_of_constant}
+pub use Rattle.sc_select.specs.Selection.{Piece, at_hand, between, breaking, brought, call_cross, call_own, choice}
+pub use Rattle.sc_select.specs.Selection.{closing, code_of, continuing, copied, cycle, entrance, environment_call}
+pub use Rattle.sc_select.specs.Selection.{followed, fork, function_lines, in_order, in_turn, joined, joins, jump_back}
+pub use Rattle.sc_select.specs.Selection.{jump_over, keep, kept, load_from, nothing, object_offset, object_read}
+pub use Rattle.sc_select.specs.Selection.{operand, operation, pass, place_of, place_of_global, put, reading, receive}
+pub use Rattle.sc_select.specs.Selection.{result_register, return, role_before, role_first, role_of_load, round_begins}
+pub use Rattle.sc_select.specs.Selection.{second_operand, select, select_all, select_step, slot_offset, store_arguments}
+pub use Rattle.sc_select.specs.Selection.{store_to, straight, straightly, take, take_second, taken, word_of_constant}

@@ -3,7 +3,7 @@ use Rattle.sc_select.specs.Common.{Addi, Branch, CodeTree, Ecall, Entry as Entry
 use Rattle.sc_select.specs.Common.{Jal, Jalr, Load, Lui, Lw, OpImm, Place, Store, Sw, TacOp, TacStmt, TacStmt-F, Upper}
 use Rattle.sc_select.specs.Common.{fold-TacStmt}
 use Rattle.std.specs.Prelude.{ℕ, zero, suc, pos, ◌+◌, ◌*◌, List, [], ◌∷◌, ◌++◌, map, length, Option, None, Some}
-use Rattle.std.specs.Prelude.{slice_get, neg_ℤ}
+use Rattle.std.specs.Prelude.{slice_get, neg_ℤ, ◌==◌, if◌then◌else◌, Bool, drop, false}
 use Rattle.std.specs.Option.{unwrap_or}
 use Rattle.sc_event.specs.declared.row.Entry.{Entry}
 use Rattle.sc_event.specs.declared.row.Entry.TheVariants.{Main}
@@ -13,18 +13,22 @@ use Rattle.sc_tac.specs.declared.place.Place.TheVariants.{Register, Slot}
 use Rattle.sc_tac.specs.declared.stmt.Constant.{Constant}
 use Rattle.sc_tac.specs.declared.stmt.Constant.TheVariants as constant
 use Rattle.sc_tac.specs.declared.stmt.TacStmt.TheOpen as tac
+use Rattle.sc_select.specs.declared.roles.Role.{Role}
+use Rattle.sc_select.specs.declared.roles.Role.TheVariants.{Loads, Other, Places}
 use Rattle.sc_select.specs.Lines.{Line, plain, plainly, referring, code_of_lines}
 use Rattle.sc_select.specs.Pieces.{ra, sp, first_scratch, second_scratch, a0, a7, register_of, move, loading, moved_by}
 use Rattle.sc_select.specs.Pieces.{load_word, store_word, frame_taken, frame_left}
 use Rattle.sc_select.specs.Operators.{op_code}
 
--- how many lines a piece of code has, and which, where so many lie between its end and where a break leads, and a continue
+-- how many lines a piece of code has, and which, where so many lie between its end and where a break leads, and a
+-- continue; and whether one piece may stand for it and its neighbour
 pub record Piece : Type 0 where
   pub size : ℕ
   pub lines : (to_break to_continue : ℕ) → List Line
+  pub role : Role
 
 abbrev pub straight : List Line → Piece
-straight lines = record { size = length lines; lines = λ to_break to_continue. lines }
+straight lines = record { size = length lines; lines = λ to_break to_continue. lines; role = Other }
 
 abbrev pub nothing : Piece
 nothing = straight []
@@ -34,15 +38,37 @@ followed first second = record {
   size = first.size + second.size;
   lines = λ to_break to_continue.
       first.lines (second.size + to_break) (second.size + to_continue) ++ second.lines to_break to_continue;
+  role = Other;
 }
 
-abbrev pub in_order : List Piece → Piece
-in_order [] = nothing
-in_order (piece ∷ pieces) = followed piece (in_order pieces)
+-- one piece behind the other
+abbrev pub in_turn : List Piece → Piece
+in_turn [] = nothing
+in_turn (piece ∷ pieces) = followed piece (in_turn pieces)
+
+-- the second loads what stands at the place that the first gives, in place of that
+abbrev pub joins : (first second : Role) → Bool
+joins (Places temp object) (Loads other) = temp == other
+joins _ _ = false
+
+abbrev pub role_first : List Piece → Role
+role_first [] = Other
+role_first (piece ∷ pieces) = piece.role
+
+-- Helping: the role of the piece before the one at a number
+abbrev pub role_before : List Piece → (at : ℕ) → Role
+role_before pieces zero = Other
+role_before pieces (suc at) = role_first (drop at pieces)
 
 -- a jump over so many lines
 abbrev pub jump_over : ℕ → Line
 jump_over lines = plain (Jal 0 (pos (4 * suc lines)))
+
+abbrev pub breaking : Piece
+breaking = record { size = 1; lines = λ to_break to_continue. jump_over to_break ∷ []; role = Other }
+
+abbrev pub continuing : Piece
+continuing = record { size = 1; lines = λ to_break to_continue. jump_over to_continue ∷ []; role = Other }
 
 -- a jump back to where so many lines begin, behind which it stands
 abbrev pub jump_back : ℕ → Line
@@ -180,6 +206,7 @@ module _ (frame : FrameTree) (places : List Place) where
         plainly (choice cond) ++ (jump_over (suc first.size) ∷
         (first.lines (suc (second.size + to_break)) (suc (second.size + to_continue)) ++
         (jump_over second.size ∷ second.lines to_break to_continue)));
+    role = Other;
   }
 
   -- a break leads behind the jump back, a continue to the next part
@@ -189,24 +216,54 @@ module _ (frame : FrameTree) (places : List Place) where
     lines = λ to_break to_continue.
         round_begins ∷ (head.lines (body.size + suc next.size) 0 ++ (body.lines (suc next.size) 0 ++
         (next.lines 1 0 ++ (jump_back (suc (head.size + (body.size + next.size))) ∷ []))));
+    role = Other;
   }
 
   abbrev pub straightly : List Instr → Piece
   straightly instrs = straight (plainly instrs)
+
+  -- a variable's word into a temporary
+  abbrev pub object_read : (dest object : ℕ) → List Instr
+  object_read dest object = load_word (result_register dest) (object_offset frame object) ++ keep dest
+
+  abbrev pub reading : Role → Piece
+  reading (Places temp object) = straightly (object_read temp object)
+  reading _ = nothing
+
+  -- a piece between two others: one that gives the place of a variable reads the variable, where the next one would
+  abbrev pub between : (before : Role) → Piece → (behind : Role) → Piece
+  between before piece behind =
+      if joins before piece.role then nothing
+      else if joins piece.role behind then reading piece.role
+      else piece
+
+  abbrev pub joined : (before : Role) → List Piece → List Piece
+  joined before [] = []
+  joined before (piece ∷ pieces) = between before piece (role_first pieces) ∷ joined piece.role pieces
+
+  abbrev pub in_order : List Piece → Piece
+  in_order pieces = in_turn (joined Other pieces)
+
+  -- what a load of what stands at a place does to the temporary of the place
+  abbrev pub role_of_load : (dest place : ℕ) → Role
+  role_of_load dest place = if dest == place then Loads dest else Other
 
   abbrev pub select_step : TacStmt-F Piece → Piece
   select_step (tac.Const dest value) = straightly (loading (result_register dest) (word_of_constant value) ++ keep dest)
   select_step (tac.Copy dest from) = straightly (copied frame (place_of dest) (place_of from))
   select_step (tac.Op dest o left right) = straightly (operation dest o left right)
   select_step (tac.ObjectPlace dest object) =
-      straightly (moved_by (result_register dest) sp (object_offset frame object) ++ keep dest)
+      record (straightly (moved_by (result_register dest) sp (object_offset frame object) ++ keep dest)) {
+        role = Places dest object;
+      }
   select_step (tac.GlobalPlace dest global) = straight (place_of_global dest global)
-  select_step (tac.Load dest place pointer) = straightly (load_from dest place)
+  select_step (tac.Load dest place pointer) =
+      record (straightly (load_from dest place)) { role = role_of_load dest place }
   select_step (tac.Store place value) = straightly (store_to place value)
   select_step (tac.If cond first second) = fork cond (in_order first) (in_order second)
   select_step (tac.Loop head body next) = cycle (in_order head) (in_order body) (in_order next)
-  select_step tac.Break = record { size = 1; lines = λ to_break to_continue. jump_over to_break ∷ [] }
-  select_step tac.Continue = record { size = 1; lines = λ to_break to_continue. jump_over to_continue ∷ [] }
+  select_step tac.Break = breaking
+  select_step tac.Continue = continuing
   select_step (tac.CallOwn dest function args) = straight (call_own dest function args)
   select_step (tac.CallCross dest comp index args) = straight (call_cross dest comp index args)
   select_step (tac.Input dest) = straightly (environment_call 1 ++ receive dest)

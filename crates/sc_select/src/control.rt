@@ -1,13 +1,14 @@
 //! Statements in order, choices and loops.
 
-ghost use Rattle.sc_select.specs.Prelude.{Addi, Fits, IsJumpOffset, Jal, Line, OpImm, jump_back, jump_over, most_lines};
-ghost use Rattle.sc_select.specs.Prelude.{plain, round_begins, select, select_all};
+ghost use Rattle.sc_select.specs.Prelude.{Addi, Fits, FitsBetween, IsJumpOffset, Jal, Line, OpImm, between, jump_back};
+ghost use Rattle.sc_select.specs.Prelude.{jump_over, most_lines, plain, round_begins, select, select_all};
 ghost use Rattle.sc_tac.specs.declared.stmt.TacStmt;
 ghost use Rattle.std.specs.Prelude.{◌≡◌, ◌≤◌, ◌<◌, ◌-◌, ◌++◌, ◌∷◌, [], ℕ, OnOk, length};
 
 use crate::backward::Backward;
 use crate::homes::Homes;
 use crate::pieces::{ZERO, addi, immediate, register};
+use crate::roles::{Role, joins, role_at, role_before, role_of};
 use rv_code::{Instr, JumpOffset};
 use sc_base::OutOfMemory;
 use sc_tac::{TacStmt, TacStmts};
@@ -74,9 +75,36 @@ impl Backward {
                 to_break: behind + distances.to_break,
                 to_continue: behind + distances.to_continue,
             };
-            self.statement(homes, from_here, &list[at])?;
+            let before = role_before(list, at);
+            self.between(homes, from_here, before, &list[at], role_at(list, at + 1))?;
         }
         Ok(())
+    }
+
+    // A statement between two others, with which it may be one piece of code.
+    #[cycle(control)]
+    fn between(
+        &mut self,
+        homes: &Homes,
+        distances: Distances,
+        before: Role,
+        stmt: &TacStmt,
+        behind: Role,
+    ) -> Result<(), OutOfMemory>
+        requires fits { FitsBetween homes.now.frame.now homes.now.places.now before stmt.now behind
+            distances.to_break distances.to_continue }
+        ensures { OnOk result (self.new ≡ (between homes.now.frame.now homes.now.places.now before
+            (select homes.now.frame.now homes.now.places.now stmt.now) behind).lines distances.to_break
+            distances.to_continue ++ self.old) }
+    {
+        let role = role_of(stmt);
+        if joins(before, role) {
+            return Ok(());
+        }
+        if joins(role, behind) {
+            return self.reading(homes, role);
+        }
+        self.statement(homes, distances, stmt)
     }
 
     // A part of a loop: a break leads to where the loop ends, which has so many lines behind it.

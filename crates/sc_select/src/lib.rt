@@ -8,6 +8,7 @@ mod function;
 mod homes;
 mod operators;
 mod pieces;
+mod roles;
 mod statements;
 
 pub use backward::Backward;
@@ -16,3 +17,4 @@ pub use function::select;
 pub use homes::Homes;
 pub use operators::Operands;
 pub use pieces::{lower_part, upper_part};
+pub use roles::Role;

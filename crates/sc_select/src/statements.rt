@@ -1,10 +1,10 @@
 //! Statements without others inside. Code is written from its end: what is done first is written last.
 
 ghost use Rattle.sc_select.specs.Prelude.{a0, brought, choice, copied, environment_call, keep, load_from, loading};
-ghost use Rattle.sc_select.specs.Prelude.{moved_by, object_offset, operation, place_of_global, plainly, put, receive};
-ghost use Rattle.sc_select.specs.Prelude.{result_register, return, second_operand, store_to, take, take_second};
-ghost use Rattle.sc_select.specs.Prelude.{word_of_constant};
-ghost use Rattle.std.specs.Prelude.{◌≡◌, ◌++◌, ◌∷◌, [], ◌+◌, ◌<◌, OnOk, Some, None, length, slice_get};
+ghost use Rattle.sc_select.specs.Prelude.{moved_by, object_offset, operation, place_of_global, plainly, put, reading};
+ghost use Rattle.sc_select.specs.Prelude.{receive, result_register, return, second_operand, store_to, take};
+ghost use Rattle.sc_select.specs.Prelude.{take_second, word_of_constant};
+ghost use Rattle.std.specs.Prelude.{◌≡◌, ◌++◌, ◌∷◌, [], ◌+◌, ◌<◌, ℕ, OnOk, Some, None, length, slice_get};
 
 use crate::backward::Backward;
 use crate::homes::{Homes, register_of};
@@ -13,6 +13,7 @@ use crate::pieces::{
     A0, A7, FIRST_SCRATCH, SECOND_SCRATCH, SP, ZERO, addi, immediate, load, move_to, register,
     store, upper,
 };
+use crate::roles::Role;
 use rv_code::{BranchOffset, BranchOp, Instr, Reg};
 use sc_base::OutOfMemory;
 use sc_tac::{Constant, Place, TacOp, Target};
@@ -150,6 +151,21 @@ impl Backward {
         self.keep(homes, dest)?;
         let rd = homes.operand(register(FIRST_SCRATCH), dest);
         self.moved_by(rd, register(SP), homes.object_offset(object))
+    }
+
+    /// A temporary gets the word of a variable, where its role is to give the place of that.
+    pub fn reading(&mut self, homes: &Homes, role: Role) -> Result<(), OutOfMemory>
+        ensures { (to_break to_continue : ℕ) → OnOk result (self.new ≡
+            (reading homes.now.frame.now homes.now.places.now role).lines to_break to_continue ++ self.old) }
+    {
+        match role {
+            Role::Places { temp, object } => {
+                self.keep(homes, temp)?;
+                let rd = homes.operand(register(FIRST_SCRATCH), temp);
+                self.load_word(rd, homes.object_offset(object))
+            }
+            _ => Ok(()),
+        }
     }
 
     /// A temporary gets the address of a global.

@@ -1,4 +1,5 @@
 pub mod Common
+pub mod Assigning
 pub mod Lists
 pub mod Loads
 pub mod Shifts

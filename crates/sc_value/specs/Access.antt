@@ -1,12 +1,9 @@
 -- Helping: which cells give a value.
-use Rattle.sc_core.specs.Prelude.{Blocks, bind, cells_at}
+use Rattle.sc_value.specs.Common.{Blocks, Cause, Null, Ptr, Value, Word, bind, cells_at}
 use Rattle.std.specs.Prelude.{ℕ, Bool, if◌then◌else◌, length, Result, Ok, Err}
-use Rattle.sc_core.specs.declared.cause.Cause.{Cause}
 use Rattle.sc_core.specs.declared.cause.Cause.TheVariants.{Indeterminate, BadType}
 use Rattle.sc_core.specs.declared.value.Cell.{Cell}
 use Rattle.sc_core.specs.declared.value.Cell.TheVariants as cell
-use Rattle.sc_core.specs.declared.value.Value.{Value}
-use Rattle.sc_core.specs.declared.value.Value.TheVariants.{Word, Null, Ptr}
 
 -- the value of a cell where a pointer, or else an integer, is wanted (C11 6.5p7)
 abbrev pub typed : Bool → Cell → Result Value Cause

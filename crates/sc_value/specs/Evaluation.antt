@@ -1,13 +1,10 @@
 -- Helping: the operators `&&` and `||`, which may need no second operand, beside the others (C11 6.5.13, 6.5.14).
-use Rattle.sc_core.specs.Prelude.{Blocks, applied, c_arith, is_true, of_bool}
+use Rattle.sc_value.specs.Common.{Blocks, Cause, Value, Word, applied, c_arith, is_true, of_bool}
 use Rattle.std.specs.Prelude.{List, if◌then◌else◌, Option, None, Some, Result, Ok}
-use Rattle.sc_core.specs.declared.cause.Cause.{Cause}
 use Rattle.sc_base.specs.declared.op.BinaryOp.{BinaryOp}
 use Rattle.sc_base.specs.declared.op.BinaryOp.TheVariants as op
 use Rattle.sc_core.specs.declared.section.TypedStruct.{TypedStruct}
 use Rattle.sc_core.specs.declared.ty.Ty.{Ty}
-use Rattle.sc_core.specs.declared.value.Value.{Value}
-use Rattle.sc_core.specs.declared.value.Value.TheVariants.{Word}
 
 -- what the first operand decides alone
 abbrev pub decided : BinaryOp → Value → Option Value

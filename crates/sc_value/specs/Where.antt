@@ -1,5 +1,5 @@
 -- Helping: where an expression stands.
-use Rattle.sc_core.specs.Prelude.{Here}
+use Rattle.sc_value.specs.Common.{Here}
 use Rattle.sc_value.specs.declared.standing.Scope.{Scope}
 
 -- the compartment and the first block of the call

@@ -154,7 +154,7 @@ fn joined(
 
 // The value of an expression of integers alone, or of an array by its name. None where it isn't found at once.
 #[inline(always)]
-fn value_at_once(blocks: &Blocks, scope: &Scope, expr: &TypedExpr) -> Option<Value>
+pub(crate) fn value_at_once(blocks: &Blocks, scope: &Scope, expr: &TypedExpr) -> Option<Value>
     ensures { IfSome result (λ value. ways c_arith scope.now.structs.now (here_of scope.now) scope.now.params expr.now
         want.Value (memory_of blocks.now scope.now.comp.now) ≡ Ok value) }
 {
@@ -169,7 +169,7 @@ fn value_at_once(blocks: &Blocks, scope: &Scope, expr: &TypedExpr) -> Option<Val
 }
 
 // The place or the value of an expression by its whole tree.
-fn evaluate_whole(
+pub(crate) fn evaluate_whole(
     blocks: &Blocks,
     scope: &Scope,
     want: Want,

@@ -2,6 +2,7 @@
 #![tactic(auto)]
 
 mod access;
+mod at_once;
 mod expressions;
 mod moves;
 mod pointers;
@@ -10,6 +11,7 @@ mod standing;
 mod words;
 
 pub use access::{cell_of, load, store};
+pub use at_once::{holds, is_assigned};
 pub use expressions::{evaluate, evaluate_all, variable_at};
 pub use standing::Scope;
 pub use words::is_true;

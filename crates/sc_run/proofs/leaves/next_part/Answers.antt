@@ -1,11 +1,17 @@
-use Rattle.sc_run.proofs.Common.{Again, IfOk-weaker, ap, in_loop, kept_by, option_copied, refl}
-use Rattle.sc_run.proofs.Stating.{part_steps}
+use Rattle.sc_run.proofs.Common.{IfOk-weaker, follow, in_loop, kept_by, loop_acts, next_acts}
+use Rattle.sc_run.proofs.Ahead.{next_behind, steps_unchanged}
 use Rattle.sc_run.proofs.leaves.next_part.Goals as goal
 
-pub returns-in_ok-push-in-Some : goal.returns-in_ok-push-in-Some
-returns-in_ok-push-in-Some c =
-    IfOk-weaker c.simple.result _ _ (λ step h. part_steps c.args.program.now
-    (kept_by c.args.run.now.machine) c.args.run.now.work.items c.push.new.self.items c.args.run.now.frame
-    in_loop (Again c.args.whole.now) (option_copied c.args.whole.now.next) c.in-Some.next.now c.args.whole.now
-    step _ _ _ (λ n ws p. refl)
-    (ap option_copied c.in-Some.is) c.in_ok-push-in-Some.ensures.items h) c.simple.ensures
+pub returns-then-is_next_done : goal.returns-then-is_next_done
+returns-then-is_next_done c =
+    IfOk-weaker c.round.result _ _ (λ step h. next_behind c.args.program.now c.args.run.now.frame c.args.whole.now
+    (kept_by c.args.run.now.machine) (kept_by c.is_next_done.new.machine) c.args.run.now.work.items step _ _ _
+    c.if-is_next_done.ensures h) c.round.ensures
+
+pub returns : goal.returns
+returns c =
+    let f = c.args.run.now.frame in
+    IfOk-weaker c.begin_next.result _ _ (λ step h. steps_unchanged c.args.program.now c.args.run.now.work.items f step
+    _ _ _ (kept_by c.args.run.now.machine) (kept_by c.is_next_done.new.machine)
+    (λ n s. follow in_loop (next_acts c.args.program.now n f c.args.whole.now tt s)
+    (loop_acts c.args.program.now n f c.args.whole.now)) c.if-is_next_done.ensures h) c.begin_next.ensures

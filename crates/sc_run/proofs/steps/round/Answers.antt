@@ -1,21 +1,17 @@
-use Rattle.sc_run.proofs.Common.{kept_by, sym}
-use Rattle.sc_run.proofs.Looping.{round_in, round_out, round_err}
+use Rattle.sc_run.proofs.Common.{IfOk-weaker, kept_by, loop_acts}
+use Rattle.sc_run.proofs.Ahead.{left_in_body, rest_at, steps_behind}
 use Rattle.sc_run.proofs.steps.round.Goals as goal
 
-pub returns-in_ok-push-in-Ok-take_turn : goal.returns-in_ok-push-in-Ok-take_turn
-returns-in_ok-push-in-Ok-take_turn c =
-    round_in c.args.program.now (kept_by c.args.run.now.machine)
-    (kept_by c.take_turn.new.machine) c.args.run.now.work.items c.push.new.self.items c.args.run.now.frame
-    c.args.whole.now c.in-Ok.value c.in-Ok.ensures
-    (sym c.if-not-is_true.ensures) c.in-Ok-take_turn.ensures.comes c.in_ok-push-in-Ok-take_turn.ensures.items
+pub returns-in-None : goal.returns-in-None
+returns-in-None c =
+    let f = c.args.run.now.frame in
+    IfOk-weaker c.begin_round.result _ _ (λ step h. steps_behind c.args.program.now c.args.run.now.work.items f step
+    _ _ _ (kept_by c.args.run.now.machine) (kept_by c.done_rounds.new.machine)
+    (λ n. loop_acts c.args.program.now n f c.args.whole.now tt)
+    (λ n. loop_acts c.args.program.now n f c.args.whole.now tt) c.in-None.ensures.passes h) c.begin_round.ensures
 
-pub returns-in-Err-take_turn : goal.returns-in-Err-take_turn
-returns-in-Err-take_turn c =
-    round_out c.args.program.now (kept_by c.args.run.now.machine) c.args.run.now.work.items c.args.run.now.frame
-    c.args.whole.now c.in-Ok.value (kept_by c.take_turn.new.machine) c.in-Err-take_turn.end c.in-Ok.ensures
-    (sym c.if-not-is_true.ensures) c.in-Err-take_turn.ensures.comes
-
-pub returns-in-Err : goal.returns-in-Err
-returns-in-Err c =
-    round_err c.args.program.now (kept_by c.args.run.now.machine) c.args.run.now.work.items c.args.run.now.frame
-    c.args.whole.now c.in-Err.end c.in-Err.ensures
+pub returns-in_ok-push-in-Some : goal.returns-in_ok-push-in-Some
+returns-in_ok-push-in-Some c =
+    left_in_body c.args.program.now c.args.run.now.frame c.args.whole.now (kept_by c.args.run.now.machine)
+    (kept_by c.done_rounds.new.machine) c.args.run.now.work.items c.push.new.self.items c.in-Some.count _
+    c.in-Some.ensures.passes (rest_at c.in-Some.count c.args.whole.now.body.now) c.in_ok-push-in-Some.ensures.items

@@ -1,11 +1,9 @@
 use Rattle.sc_run.proofs.Common.{IfOk-weaker, kept_by}
-use Rattle.sc_run.proofs.Stating.{list_steps, first_and_rest, rest_of}
+use Rattle.sc_run.proofs.Ahead.{list_behind}
 use Rattle.sc_run.proofs.steps.run_list.Goals as goal
 
-pub returns-in_ok-push-in-len1-up : goal.returns-in_ok-push-in-len1-up
-returns-in_ok-push-in-len1-up c =
-    IfOk-weaker c.statement.result _ _ (λ step h. list_steps c.args.program.now
-    (kept_by c.args.run.now.machine) c.args.run.now.work.items c.push.new.self.items c.args.run.now.frame
-    c.args.stmts.now c.stmt-item.result _ step _ _ _
-    (first_and_rest c.args.stmts.now c.stmt-item.result c.in-len1-up.len_at_least c.stmt-item.is)
-    (rest_of c.args.stmts.now) c.in_ok-push-in-len1-up.ensures.items h) c.statement.ensures
+pub returns : goal.returns
+returns c =
+    IfOk-weaker c.run_first.result _ _ (λ step h. list_behind c.args.program.now c.args.run.now.frame
+    (kept_by c.args.run.now.machine) (kept_by c.done_first-count.new.machine) c.args.run.now.work.items
+    c.args.stmts.now c.done_first-count.result step _ _ _ c.done_first-count.ensures.passes h) c.run_first.ensures

@@ -1,9 +1,7 @@
-use Rattle.sc_run.proofs.Common.{Go, IfOk-weaker, Leave, None, kept_by, option_copied, refl, sym, ◌∙◌}
+use Rattle.sc_run.proofs.Common.{Go, IfOk-weaker, Leave, None, kept_by, option_copied, refl, rolls-Assign}
+use Rattle.sc_run.proofs.Common.{rolls-AssignCall, rolls-Break, rolls-Call, rolls-Continue, rolls-Empty, rolls-For}
+use Rattle.sc_run.proofs.Common.{rolls-If, rolls-Return, rolls-ReturnCall, rolls-ReturnValue, rolls-While, sym, ◌∙◌}
 use Rattle.sc_core.specs.declared.stmt.TypedStmtKind.TheOpen as layer
-use Rattle.sc_core.specs.declared.stmt.TypedStmtKind.TheVariants.{rolls-Empty, rolls-Assign, rolls-AssignCall}
-use Rattle.sc_core.specs.declared.stmt.TypedStmtKind.TheVariants.{rolls-Call, rolls-If, rolls-While, rolls-For}
-use Rattle.sc_core.specs.declared.stmt.TypedStmtKind.TheVariants.{rolls-Break, rolls-Continue, rolls-Return}
-use Rattle.sc_core.specs.declared.stmt.TypedStmtKind.TheVariants.{rolls-ReturnValue, rolls-ReturnCall}
 use Rattle.sc_run.specs.declared.work.Leaving.TheVariants as leaving
 use Rattle.sc_run.proofs.Invoking.{stored_call}
 use Rattle.sc_run.proofs.Looping.{steps_later}

@@ -3,6 +3,7 @@ use Rattle.sc_select.proofs.Common.{◌-◌, ◌<◌, ◌∙◌, ◌≡◌, ◌�
 use Rattle.sc_select.proofs.Composition.{cycle_heavier, fork_heavier, back_reaches, body_reaches, cycle_written}
 use Rattle.sc_select.proofs.Composition.{first_reaches, fork_returns, as_is, cycle_fits, head_reaches, next_reaches}
 use Rattle.sc_select.proofs.Composition.{over_first, over_second, second_fits, step_fits, step_lighter, step_reaches}
+use Rattle.sc_select.proofs.Composition.{alone_fits, as_written, is_itself, is_nothing, is_reading, none_written}
 use Rattle.sc_select.proofs.Composition.{step_written}
 use Rattle.sc_select.proofs.backward.Backward.+control.Goals as goal
 
@@ -99,13 +100,14 @@ part-in_order-requires t c = (
 )
 
 -- STATEMENTS IN ORDER
-pub in_order-statement-requires : goal.in_order-statement-requires
-in_order-statement-requires t c =
+pub in_order-between-requires : goal.in_order-between-requires
+in_order-between-requires t c =
     let lighter : stmt_weight c.index-list-at.result ≤ weight c.args.stmts.now =
     step_lighter _ _ _ _ c.as_slice-list.ensures c.loop-at-test.true c.loop-at.auto.at c.index-list-at.is in (
       omega (arith, lighter, c.decreases),
-      step_fits _ _ _ _ _ _ _ _ _ _ _ _ c.as_slice-list.ensures c.loop-at-test.true c.loop-at.auto.at c.index-list-at.is
-          c.requires.fits c.len.ensures c.len-end.ensures c.loop-at.invariant,
+      step_fits _ _ _ _ _ _ _ _ _ _ _ _ _ _ c.as_slice-list.ensures c.loop-at-test.true c.loop-at.auto.at
+          c.index-list-at.is c.role_before-before.ensures c.role_at.ensures c.requires.fits c.len.ensures
+          c.len-end.ensures c.loop-at.invariant,
     )
 
 pub in_order-overflow_add-from_here : goal.in_order-overflow_add-from_here
@@ -124,8 +126,51 @@ in_order-overflow_add-from_here-in-loop-at t c =
     c.requires.fits c.len.ensures c.len-end.ensures c.loop-at.invariant in
     omega (arith, reaches.1)
 
+pub in_order-loop-at-init : goal.in_order-loop-at-init
+in_order-loop-at-init t c =
+    none_written c.args.homes.now.frame.now c.args.homes.now.places.now c.as_slice-list.result.now
+    c.args.distances.to_break c.args.distances.to_continue c.args.self.now
+
 pub in_order-loop-at-preserved : goal.in_order-loop-at-preserved
 in_order-loop-at-preserved t c =
-    step_written c.args.homes.now.frame.now c.args.homes.now.places.now _ _ _ _ c.len.result c.len-end.result _ _ _ _
-    c.loop-at-test.true c.loop-at.auto.at c.index-list-at.is c.len.ensures c.len-end.ensures c.loop-at.invariant
-    c.in_ok-statement.ensures
+    step_written c.args.homes.now.frame.now c.args.homes.now.places.now _ _ _ _ c.len.result c.len-end.result _ _ _ _ _
+    _ c.loop-at-test.true c.loop-at.auto.at c.index-list-at.is c.role_before-before.ensures c.role_at.ensures
+    c.len.ensures c.len-end.ensures c.loop-at.invariant c.in_ok-between.ensures
+
+-- A STATEMENT BETWEEN TWO OTHERS
+pub between-statement-requires : goal.between-statement-requires
+between-statement-requires t c =
+    let frame = c.args.homes.now.frame.now in
+    let places = c.args.homes.now.places.now in (
+      omega (arith, c.decreases),
+      alone_fits frame places c.args.before c.args.stmt.now c.args.behind c.role_of-role.result
+          (c.role_of-role.ensures frame places) c.joins.result c.joins.ensures c.if-joins.false c.joins-2.result
+          c.joins-2.ensures c.args.distances.to_break c.args.distances.to_continue c.if-joins-2.false c.requires.fits,
+    )
+
+pub between-returns-then-joins : goal.between-returns-then-joins
+between-returns-then-joins t c =
+    let frame = c.args.homes.now.frame.now in
+    let places = c.args.homes.now.places.now in
+    ap (λ p. p.lines c.args.distances.to_break c.args.distances.to_continue ++ c.args.self.now)
+    (is_nothing frame places c.args.before c.args.stmt.now c.args.behind c.role_of-role.result
+    (c.role_of-role.ensures frame places) c.joins.result c.joins.ensures c.if-joins.true)
+
+pub between-returns-then-joins-2 : goal.between-returns-then-joins-2
+between-returns-then-joins-2 t c =
+    let frame = c.args.homes.now.frame.now in
+    let places = c.args.homes.now.places.now in
+    as_written c.reading.result _ _ c.args.distances.to_break c.args.distances.to_continue _ c.args.self.now
+    (is_reading frame places c.args.before c.args.stmt.now c.args.behind c.role_of-role.result
+    (c.role_of-role.ensures frame places) c.joins.result c.joins.ensures c.if-joins.false c.joins-2.result
+    c.joins-2.ensures c.if-joins-2.true)
+    (c.reading.ensures c.args.distances.to_break c.args.distances.to_continue)
+
+pub between-returns : goal.between-returns
+between-returns t c =
+    let frame = c.args.homes.now.frame.now in
+    let places = c.args.homes.now.places.now in
+    as_written c.statement.result _ _ c.args.distances.to_break c.args.distances.to_continue _ c.args.self.now
+    (is_itself frame places c.args.before c.args.stmt.now c.args.behind c.role_of-role.result
+    (c.role_of-role.ensures frame places) c.joins.result c.joins.ensures c.if-joins.false c.joins-2.result
+    c.joins-2.ensures c.if-joins-2.false) c.statement.ensures

@@ -1,0 +1,139 @@
+//! Statements that are done at once, without anything that waits: where one isn't, the steps of `steps` do it.
+
+ghost use Rattle.sc_run.specs.Prelude.{Passes, PassesIf, assign, block_acts, c_arith, calls_in, ended_so, here_of};
+ghost use Rattle.sc_run.specs.Prelude.{in_body, in_round, kept_by, loop_acts, next_acts, simple_does, stmt_acts};
+ghost use Rattle.sc_run.specs.Prelude.{way_in};
+ghost use Rattle.std.specs.Prelude.{◌≡◌, ◌≤◌, IfSome, drop, length, suc, true};
+
+use crate::machine::Machine;
+use crate::work::{Frame, Loop};
+use sc_core::{ProgramTree, TypedExpr, TypedSimple, TypedSimpleKind, TypedStmt, TypedStmtKind};
+
+// An assignment that meets no cause of blame, or nothing.
+#[inline(always)]
+fn is_assigned(
+    machine: &mut Machine,
+    frame: &Frame,
+    place: &TypedExpr,
+    value: &TypedExpr,
+    line: u32,
+) -> bool
+    ensures { PassesIf result (kept_by machine.old) (kept_by machine.new)
+        (λ n. assign (here_of frame.now.scope) (way_in frame.now place.now) (way_in frame.now value.now) line tt)
+        ended_so }
+{
+    sc_value::is_assigned(&mut machine.blocks, &frame.scope, place, value)
+}
+
+// A statement that makes no call and doesn't leave, or nothing.
+#[inline(always)]
+fn is_done(program: &ProgramTree, machine: &mut Machine, frame: &Frame, stmt: &TypedStmt) -> bool
+    ensures { PassesIf result (kept_by machine.old) (kept_by machine.new)
+        (λ n. stmt_acts program.now n frame.now stmt.now tt) ended_so }
+{
+    match &stmt.kind {
+        TypedStmtKind::Empty => true,
+        TypedStmtKind::Assign { place, value } => {
+            is_assigned(machine, frame, place.get(), value, stmt.line)
+        }
+        _ => false,
+    }
+}
+
+/// How many of the first statements were done at once.
+pub fn done_first(
+    program: &ProgramTree,
+    machine: &mut Machine,
+    frame: &Frame,
+    stmts: &[TypedStmt],
+) -> usize
+    ensures within { result ≤ length stmts.now }
+    ensures passes { Passes (kept_by machine.old) (kept_by machine.new)
+        (λ n s. block_acts program.now n frame.now stmts.now tt s)
+        (λ n s. block_acts program.now n frame.now (drop result stmts.now) tt s) }
+{
+    for at in 0..stmts.len() {
+        if !is_done(program, machine, frame, &stmts[at]) {
+            return at;
+        }
+    }
+    stmts.len()
+}
+
+// A part of a `for` that makes no call, or nothing.
+#[inline(always)]
+fn is_part_done(
+    program: &ProgramTree,
+    machine: &mut Machine,
+    frame: &Frame,
+    part: &TypedSimple,
+) -> bool
+    ensures { PassesIf result (kept_by machine.old) (kept_by machine.new)
+        (λ n. simple_does c_arith frame.now.scope.structs.now (here_of frame.now.scope) frame.now.scope.params
+        (calls_in program.now n) part.now.kind part.now.line tt) ended_so }
+{
+    match &part.kind {
+        TypedSimpleKind::Assign { place, value } => {
+            is_assigned(machine, frame, place.get(), value, part.line)
+        }
+        _ => false,
+    }
+}
+
+/// What comes before the next round of a loop, or nothing.
+pub fn is_next_done(
+    program: &ProgramTree,
+    machine: &mut Machine,
+    frame: &Frame,
+    whole: &Loop,
+) -> bool
+    ensures { PassesIf result (kept_by machine.old) (kept_by machine.new)
+        (λ n. next_acts program.now n frame.now whole.now tt) ended_so }
+{
+    match whole.next {
+        None => true,
+        Some(next) => is_part_done(program, machine, frame, next),
+    }
+}
+
+// The test of a loop where it holds, and a turn; or nothing.
+#[inline(always)]
+fn is_begun(program: &ProgramTree, machine: &mut Machine, frame: &Frame, whole: &Loop) -> bool
+    ensures passes { PassesIf result (kept_by machine.old) (kept_by machine.new)
+        (λ n. loop_acts program.now n frame.now whole.now tt)
+        (in_body program.now frame.now whole.now whole.now.body.now) }
+    ensures taken { result ≡ true → machine.old.turns ≡ suc machine.new.turns }
+{
+    if machine.turns == 0 {
+        return false;
+    }
+    if !sc_value::holds(&machine.blocks, &frame.scope, whole.cond) {
+        return false;
+    }
+    machine.turns -= 1;
+    true
+}
+
+/// As many rounds of a loop as are done at once: how many statements of the body were done in a round that isn't, or
+/// none where the loop stands before a round.
+pub fn done_rounds(
+    program: &ProgramTree,
+    machine: &mut Machine,
+    frame: &Frame,
+    whole: &Loop,
+) -> Option<usize>
+    ensures within { IfSome result (λ count. count ≤ length whole.now.body.now) }
+    ensures passes { Passes (kept_by machine.old) (kept_by machine.new)
+        (λ n. loop_acts program.now n frame.now whole.now tt) (in_round program.now frame.now whole.now result) }
+{
+    while is_begun(program, machine, frame, whole) {
+        let count = done_first(program, machine, frame, whole.body);
+        if count < whole.body.len() {
+            return Some(count);
+        }
+        if !is_next_done(program, machine, frame, whole) {
+            return Some(count);
+        }
+    }
+    None
+}

@@ -1,0 +1,197 @@
+-- Pieces between others: what holds of each piece of statements holds of all of them in order, and which statements are
+-- one piece.
+use Rattle.sc_select.proofs.Common.{Bool, Each, FrameTree, List, Loads, Other, Piece, Place, Places, Role, TacStmt}
+use Rattle.sc_select.proofs.Common.{TacStmt-F, [], ap, ap₂, arith, between, drop, eqb-true, false, fold-roll-TacStmt}
+use Rattle.sc_select.proofs.Common.{followed, get_or, if◌then◌else◌, in_order, in_turn, joined, joins, length, map}
+use Rattle.sc_select.proofs.Common.{map-TacStmt, nothing, object_read, reading, refl, role_before, role_first}
+use Rattle.sc_select.proofs.Common.{roll-TacStmt, select, select_step, stmt_induction, straightly, suc, sym, true, zero}
+use Rattle.sc_select.proofs.Common.{ℕ, ◌-◌, ◌<◌, ◌==◌, ◌∙◌, ◌∷◌, ◌≡◌, ◌≤◌}
+use Rattle.sc_tac.specs.declared.stmt.TacStmt.TheOpen as tac
+
+-- ROLES
+pub none_behind : (role : Role) → joins role Other ≡ false
+none_behind (Places temp object) = refl
+none_behind (Loads temp) = refl
+none_behind Other = refl
+
+pub none_before : (role : Role) → joins Other role ≡ false
+none_before role = refl
+
+pub load_first : (temp : ℕ) (role : Role) → joins (Loads temp) role ≡ false
+load_first temp role = refl
+
+-- two statements that are one piece
+pub record IsRead (first second : Role) : Type 0 where
+  pub temp : ℕ
+  pub object : ℕ
+  pub gives : first ≡ Places temp object
+  pub loads : second ≡ Loads temp
+
+pub is_read : (first second : Role) → joins first second ≡ true → IsRead first second
+is_read (Places temp object) (Loads other) h = record {
+  temp = temp;
+  object = object;
+  gives = refl;
+  loads = ap Loads (sym (eqb-true temp other h));
+}
+is_read (Places temp object) (Places other place) h = cc h
+is_read (Places temp object) Other h = cc h
+is_read (Loads temp) second h = cc h
+is_read Other second h = cc h
+
+module _ (frame : FrameTree) (places : List Place) where
+  abbrev role_of : TacStmt → Role
+  role_of stmt = (select frame places stmt).role
+
+  abbrev layer_role : TacStmt-F TacStmt → Role
+  layer_role layer = (select_step frame places (map-TacStmt _ _ (select frame places) layer)).role
+
+  role_is : (layer : TacStmt-F TacStmt) → role_of (roll-TacStmt layer) ≡ layer_role layer
+  role_is layer = ap (λ p. p.role) (fold-roll-TacStmt Piece (select_step frame places) layer)
+
+  -- which statement gives the place of a variable
+  abbrev Gives : TacStmt → Type 0
+  Gives stmt = (temp object : ℕ) → role_of stmt ≡ Places temp object → stmt ≡ roll-TacStmt (tac.ObjectPlace temp object)
+
+  of_load : (b : Bool) (dest temp object : ℕ) → (if b then Loads dest else Other) ≡ Places temp object → ⊥
+  of_load true dest temp object h = cc h
+  of_load false dest temp object h = cc h
+
+  layer_gives : (layer : TacStmt-F TacStmt) (temp object : ℕ) → layer_role layer ≡ Places temp object →
+      roll-TacStmt layer ≡ roll-TacStmt (tac.ObjectPlace temp object)
+  layer_gives (tac.ObjectPlace dest place) temp object h =
+      let one : dest ≡ temp = cc h in
+      let two : place ≡ object = cc h in
+      ap₂ (λ t o. roll-TacStmt (tac.ObjectPlace t o)) one two
+  layer_gives (tac.Load dest place pointer) temp object h =
+      absurd (of_load (dest == place) dest temp object h)
+  layer_gives _ temp object h = cc h
+
+  pub gives_place : (stmt : TacStmt) → Gives stmt
+  gives_place = stmt_induction Gives (λ layer inside temp object h.
+      layer_gives layer temp object (sym (role_is layer) ∙ h))
+
+  -- which loads what stands at the place in its own temporary
+  pub record IsLoad (stmt : TacStmt) (temp : ℕ) : Type 0 where
+    pub pointer : Bool
+    pub is : stmt ≡ roll-TacStmt (tac.Load temp temp pointer)
+
+  layer_loads : (layer : TacStmt-F TacStmt) (temp : ℕ) → layer_role layer ≡ Loads temp →
+      IsLoad (roll-TacStmt layer) temp
+  layer_loads (tac.Load dest place pointer) temp h = by (dest == place) refl h
+    where
+      by : (b : Bool) → (dest == place) ≡ b → (if b then Loads dest else Other) ≡ Loads temp →
+          IsLoad (roll-TacStmt (tac.Load dest place pointer)) temp
+      by true e h =
+          let one : dest ≡ temp = cc h in
+          let two : place ≡ temp = sym (eqb-true dest place e) ∙ one in
+          record { pointer = pointer; is = ap₂ (λ t u. roll-TacStmt (tac.Load t u pointer)) one two }
+      by false e h = cc h
+  layer_loads _ temp h = cc h
+
+  pub loads_it : (stmt : TacStmt) (temp : ℕ) → role_of stmt ≡ Loads temp → IsLoad stmt temp
+  loads_it = stmt_induction (λ stmt. (temp : ℕ) → role_of stmt ≡ Loads temp → IsLoad stmt temp)
+      (λ layer inside temp h. layer_loads layer temp (sym (role_is layer) ∙ h))
+
+  -- the role of the first of those from a number on
+  pub role_found : (stmts : List TacStmt) (i : ℕ) (stmt : TacStmt) → i < length stmts → stmt ≡ get_or stmts i stmt →
+      (select frame places stmt).role ≡ role_first (map (select frame places) (drop i stmts))
+  role_found [] i stmt h is = absurd (omega (arith, h))
+  role_found (first ∷ rest) zero stmt h is = ap role_of is
+  role_found (first ∷ rest) (suc i) stmt h is = role_found rest i stmt (omega (arith, h)) is
+
+  pub role_missing : (stmts : List TacStmt) (i : ℕ) → length stmts ≤ i →
+      Other ≡ role_first (map (select frame places) (drop i stmts))
+  role_missing [] zero h = refl
+  role_missing [] (suc i) h = refl
+  role_missing (first ∷ rest) zero h = absurd (omega (arith, h))
+  role_missing (first ∷ rest) (suc i) h = role_missing rest i (omega (arith, h))
+
+  pub drop_map : (stmts : List TacStmt) (i : ℕ) →
+      drop i (map (select frame places) stmts) ≡ map (select frame places) (drop i stmts)
+  drop_map stmts zero = refl
+  drop_map [] (suc i) = refl
+  drop_map (stmt ∷ rest) (suc i) = drop_map rest i
+
+  pub before_found : (stmts : List TacStmt) (i : ℕ) → (i ≡ 0 → ⊥) →
+      role_first (map (select frame places) (drop (i - 1) stmts)) ≡ role_before (map (select frame places) stmts) i
+  before_found stmts zero h = absurd (h refl)
+  before_found stmts (suc i) h =
+      let same : suc i - 1 ≡ i = omega arith in
+      ap (λ n. role_first (map (select frame places) (drop n stmts))) same ∙
+      ap role_first (sym (drop_map stmts i))
+
+  -- PIECES
+  -- what holds of a piece and of those that may stand for it and its neighbours
+  module _ (P : Piece → Type 0) (none : P nothing)
+      (read : (temp object : ℕ) → P (straightly frame places (object_read frame places temp object))) where
+    reading_keeps : (role : Role) → P (reading frame places role)
+    reading_keeps (Places temp object) = read temp object
+    reading_keeps (Loads temp) = none
+    reading_keeps Other = none
+
+    pub between_keeps : (before behind : Role) (piece : Piece) → P piece → P (between frame places before piece behind)
+    between_keeps before behind piece h = by (joins before piece.role) (joins piece.role behind)
+      where
+        by : (one two : Bool) → P (if one then nothing else if two then reading frame places piece.role else piece)
+        by true two = none
+        by false true = reading_keeps piece.role
+        by false false = h
+
+    joined_keeps : (before : Role) (pieces : List Piece) → Each P pieces → Each P (joined frame places before pieces)
+    joined_keeps before [] h = tt
+    joined_keeps before (piece ∷ pieces) h =
+        (between_keeps before (role_first pieces) piece h.0, joined_keeps piece.role pieces h.1)
+
+    module _ (both : (e f : Piece) → P e → P f → P (followed e f)) where
+      turn_keeps : (pieces : List Piece) (i : ℕ) → Each P pieces → P (in_turn (drop i pieces))
+      turn_keeps [] zero h = none
+      turn_keeps [] (suc i) h = none
+      turn_keeps (piece ∷ pieces) zero h = both piece (in_turn pieces) h.0 (turn_keeps pieces 0 h.1)
+      turn_keeps (piece ∷ pieces) (suc i) h = turn_keeps pieces i h.1
+
+      selected : (stmts : List TacStmt) → Each (λ stmt. P (select frame places stmt)) stmts →
+          Each P (map (select frame places) stmts)
+      selected [] h = tt
+      selected (stmt ∷ rest) h = (h.0, selected rest h.1)
+
+      -- of those from a number on
+      pub from_keeps : (stmts : List TacStmt) → Each (λ stmt. P (select frame places stmt)) stmts → (i : ℕ) →
+          P (in_turn (drop i (joined frame places Other (map (select frame places) stmts))))
+      from_keeps stmts h i =
+          turn_keeps (joined frame places Other (map (select frame places) stmts)) i
+          (joined_keeps Other (map (select frame places) stmts) (selected stmts h))
+
+      -- of all
+      pub order_keeps : (stmts : List TacStmt) → Each (λ stmt. P (select frame places stmt)) stmts →
+          P (in_order frame places (map (select frame places) stmts))
+      order_keeps stmts h = from_keeps stmts h 0
+
+  -- NUMBERS
+  pub joined_length : (before : Role) (pieces : List Piece) →
+      length (joined frame places before pieces) ≡ length pieces
+  joined_length before [] = refl
+  joined_length before (piece ∷ pieces) = ap suc (joined_length piece.role pieces)
+
+  -- the role of the piece before the one at a number, where this one stands before them all
+  abbrev pub role_in : Role → List Piece → ℕ → Role
+  role_in before pieces zero = before
+  role_in before pieces (suc at) = role_first (drop at pieces)
+
+  within : (piece : Piece) (pieces : List Piece) (i : ℕ) →
+      role_in piece.role pieces i ≡ role_first (drop i (piece ∷ pieces))
+  within piece pieces zero = refl
+  within piece pieces (suc i) = refl
+
+  pub joined_at : (before : Role) (pieces : List Piece) (i : ℕ) (piece : Piece) → i < length pieces →
+      piece ≡ get_or pieces i piece →
+      drop i (joined frame places before pieces) ≡
+      between frame places (role_in before pieces i) piece (role_first (drop (suc i) pieces)) ∷
+      drop (suc i) (joined frame places before pieces)
+  joined_at before [] i piece h is = absurd (omega (arith, h))
+  joined_at before (first ∷ pieces) zero piece h is =
+      ap (λ p. between frame places before p (role_first pieces) ∷ joined frame places first.role pieces) (sym is)
+  joined_at before (first ∷ pieces) (suc i) piece h is =
+      joined_at first.role pieces i piece (omega (arith, h)) is ∙
+      ap (λ r. between frame places r piece (role_first (drop (suc i) pieces)) ∷
+      drop (suc i) (joined frame places first.role pieces)) (within first pieces i)

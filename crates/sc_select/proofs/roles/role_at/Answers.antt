@@ -1,0 +1,8 @@
+use Rattle.sc_select.proofs.Common.{◌∙◌}
+use Rattle.sc_select.proofs.Joining.{role_found}
+use Rattle.sc_select.proofs.roles.role_at.Goals as goal
+
+pub returns-then-at-stmts : goal.returns-then-at-stmts
+returns-then-at-stmts c frame places =
+    c.role_of.ensures frame places ∙
+    role_found frame places c.args.stmts.now c.args.at _ c.if-at-stmts.true c.index-stmts-at.is

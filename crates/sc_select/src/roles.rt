@@ -1,0 +1,73 @@
+//! Two statements that are one piece of code: the first gives the place of a variable, the second loads what stands
+//! there.
+
+ghost use Rattle.sc_select.specs.Prelude.{joins, role_before, role_first, select};
+ghost use Rattle.sc_tac.specs.declared.frame.FrameTree.{FrameTree};
+ghost use Rattle.sc_tac.specs.declared.place.Place.{Place};
+ghost use Rattle.std.specs.Prelude.{◌≡◌, ◌≤◌, List, drop, length, map};
+
+use sc_tac::TacStmt;
+
+/// What a statement is to its neighbours.
+#[derive(Clone, Copy)]
+pub enum Role {
+    /// A temporary gets the place of a variable.
+    Places { temp: u32, object: u32 },
+    /// A temporary gets what stands at the place that it holds.
+    Loads { temp: u32 },
+    /// All else.
+    Other,
+}
+
+/// The role of a statement.
+pub(crate) fn role_of(stmt: &TacStmt) -> Role
+    ensures { (frame : FrameTree) (places : List Place) → result ≡ (select frame places stmt.now).role }
+{
+    match stmt {
+        TacStmt::ObjectPlace { dest, object } => Role::Places {
+            temp: *dest,
+            object: *object,
+        },
+        TacStmt::Load { dest, place, .. } => {
+            if *dest == *place {
+                Role::Loads { temp: *dest }
+            } else {
+                Role::Other
+            }
+        }
+        _ => Role::Other,
+    }
+}
+
+/// The role of the statement at a number, if there is one.
+#[tactic(auto, using(crate::proofs::Joining::role_found, crate::proofs::Joining::role_missing))]
+pub(crate) fn role_at(stmts: &[TacStmt], at: usize) -> Role
+    ensures { (frame : FrameTree) (places : List Place) → result ≡
+        role_first (map (select frame places) (drop at stmts.now)) }
+{
+    if at < stmts.len() {
+        return role_of(&stmts[at]);
+    }
+    Role::Other
+}
+
+/// The role of the statement before the one at a number, if there is one.
+pub(crate) fn role_before(stmts: &[TacStmt], at: usize) -> Role
+    ensures { (frame : FrameTree) (places : List Place) → result ≡
+        role_before (map (select frame places) stmts.now) at }
+{
+    if at == 0 {
+        return Role::Other;
+    }
+    role_at(stmts, at - 1)
+}
+
+/// Whether one piece is for two statements.
+pub(crate) fn joins(first: Role, second: Role) -> bool
+    ensures { result ≡ joins first second }
+{
+    match (first, second) {
+        (Role::Places { temp, .. }, Role::Loads { temp: other }) => temp == other,
+        _ => false,
+    }
+}
