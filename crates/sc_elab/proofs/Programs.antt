@@ -2,9 +2,27 @@
 use Rattle.sc_elab.proofs.Common.{List, None, SectionTree, Some, [], ap, arith, import_of, interface_of}
 use Rattle.sc_elab.proofs.Common.{interfaces_from, interfaces_of, map, option_map, refl, slice_get, suc, sym, zero, ℕ}
 use Rattle.sc_elab.proofs.Common.{◌+◌, ◌∙◌, ◌∷◌, ◌≡◌}
-use Rattle.std.specs.Prelude.{IsSome}
+use Rattle.std.specs.Prelude.{IsSome, length, get_or, drop, ◌++◌, ◌<◌}
+use Rattle.std.proofs.lemmas.Option.{slice_get-get_or, slice_get_within, get_or_from_slice_get}
+use Rattle.std.proofs.lemmas.List.{append_assoc}
+use Rattle.sc_base.proofs.Lists.{drop-step}
+use Rattle.sc_elab.specs.Prelude.{callees_of, sections_from, typed_section}
+use Rattle.sc_core.specs.declared.section.TypedSection.{TypedSection}
 use Rattle.sc_event.specs.declared.interface.Interface.{Interface}
 use Rattle.sc_event.specs.declared.interface.Interfaces.{Interfaces}
+
+-- what stands at a place, and at the front of what is left from there on
+pub stands : {A : Type 0} (xs : List A) (i : ℕ) (x : A) → i < length xs → x ≡ get_or xs i x → slice_get xs i ≡ Some x
+stands xs i x low is = slice_get-get_or xs i x low ∙ ap Some (sym is)
+
+pub at_front : {A : Type 0} (xs : List A) (i : ℕ) (x : A) → slice_get (drop i xs) 0 ≡ Some x → slice_get xs i ≡ Some x
+at_front [] zero x h = h
+at_front [] (suc i) x h = h
+at_front (y ∷ xs) zero x h = h
+at_front (y ∷ xs) (suc i) x h = at_front xs i x h
+
+pub left_from : {A : Type 0} (xs : List A) (i : ℕ) (x : A) → slice_get xs i ≡ Some x → drop i xs ≡ x ∷ drop (i + 1) xs
+left_from xs i x h = drop-step xs i x (slice_get_within xs i x h) (sym (get_or_from_slice_get xs i x x h))
 
 from_zero : (i : ℕ) → 0 + i ≡ i
 from_zero i = omega arith
@@ -49,4 +67,21 @@ module _ (sections : List SectionTree) where
 
     -- a section has an interface, by its number
     pub is_there : IsSome (slice_get interfaces.comps i)
-    is_there = rw stands_at tt
+    is_there = rw stands_at refl
+
+  next_number : (k : ℕ) → suc k ≡ k + 1
+  next_number k = omega arith
+
+  -- one more section is built
+  pub built_more : (built : List TypedSection) (i : ℕ) (section : SectionTree) (it : TypedSection) →
+      slice_get sections i ≡ Some section → it ≡ typed_section section (callees_of sections i section) →
+      built ++ sections_from sections i (drop i sections) ≡ sections_from sections 0 sections →
+      (built ++ it ∷ []) ++ sections_from sections (i + 1) (drop (i + 1) sections) ≡ sections_from sections 0 sections
+  built_more built i section it at is before =
+      let rest : List SectionTree = drop (i + 1) sections in
+      append_assoc built (it ∷ []) (sections_from sections (i + 1) rest)
+      ∙ ap (λ (x : TypedSection). built ++ x ∷ sections_from sections (i + 1) rest) is
+      ∙ ap (λ k. built ++ typed_section section (callees_of sections i section) ∷ sections_from sections k rest)
+      (sym (next_number i))
+      ∙ ap (λ xs. built ++ sections_from sections i xs) (sym (left_from sections i section at))
+      ∙ before

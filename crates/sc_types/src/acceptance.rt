@@ -143,9 +143,9 @@ fn built_from(alloc: Global, sections: Trees) -> Result<Program, TextFault>
     ensures built { IfOk result (λ program. program ≡ program_of sections) }
     ensures memory { (refusal : Refusal) → IsErrOf result (TextFault.Refused refusal) → ⊥ }
 {
-    let interfaces =
-        interfaces(alloc, sections.as_slice()).map_err(|_| TextFault::OutOfMemory)?;
-    let tree =
-        sc_elab::into_program(alloc, sections, interfaces).map_err(|_| TextFault::OutOfMemory)?;
+    let interfaces = interfaces(alloc, sections.as_slice()).map_err(|_| TextFault::OutOfMemory)?;
+    let tree = sc_elab::into_program(alloc, sections, interfaces).map_err(
+        |_| TextFault::OutOfMemory,
+    )?;
     Ok(Program::new(tree))
 }
