@@ -1,11 +1,12 @@
 -- The names that several proofs of this crate cite, passed on from one place. Declares nothing.
-pub use Rattle.std.proofs.Common.{Bool, IfOk, List, None, OnOk, Option, Result, Some, [], add-one, ap, append-nil}
-pub use Rattle.std.proofs.Common.{append_assoc, arith, bytes_eq, codes, cond, drop, false, filter_map, get_or}
-pub use Rattle.std.proofs.Common.{if◌then◌else◌, is_some, length, map, ne_eqb, option_copied, option_map, position}
-pub use Rattle.std.proofs.Common.{refl, slice_get, subst, suc, sym, take, true, true≢false, zero, ℕ, ◌&&◌, ◌++◌, ◌+◌}
-pub use Rattle.std.proofs.Common.{◌<◌, ◌==◌, ◌||◌, ◌∙◌, ◌∷◌, ◌≡◌, ◌≤◌}
+pub use Rattle.std.proofs.Common.{Bool, IfOk, IsSome, List, None, OnOk, Option, Result, Some, [], add-one, ap}
+pub use Rattle.std.proofs.Common.{append-nil, append_assoc, arith, bytes_eq, codes, cond, drop, false, filter_map}
+pub use Rattle.std.proofs.Common.{get_or, if◌then◌else◌, is_some, length, map, ne_eqb, option_copied, option_map}
+pub use Rattle.std.proofs.Common.{position, refl, slice_get, subst, suc, sym, take, true, true≢false, zero, ℕ, ◌&&◌}
+pub use Rattle.std.proofs.Common.{◌++◌, ◌+◌, ◌<◌, ◌==◌, ◌||◌, ◌∙◌, ◌∷◌, ◌≡◌, ◌≤◌}
 pub use Rattle.std.proofs.Math.Seq.{drop-cons, take-suc}
 pub use Rattle.std.proofs.lemmas.List.{drop_all}
+pub use Rattle.std.proofs.lemmas.Option.{get_or_from_slice_get, slice_get-get_or, slice_get-map, slice_get_within}
 pub use Rattle.std.specs.List.{concat, cons_option, list_any}
 pub use Rattle.std.specs.Option.{option_and_then}
 pub use Rattle.sc_base.proofs.Lists.{drop-step, map_twice, position-cons}
@@ -30,15 +31,15 @@ pub use Rattle.sc_elab_expr.specs.declared.scope.SectionScope.{SectionScope}
 pub use Rattle.sc_elab_stmt.proofs.Noted.{noted-all, noted-next, on_ok, two}
 pub use Rattle.sc_elab_stmt.specs.Prelude.{init_goes, stmt_lines, typed_stmt}
 unfoldable pub use Rattle.sc_elab_stmt.specs.Prelude.{stmt_in, value_in}
-pub use Rattle.sc_elab.specs.Common.{Decl, FunctionTree, HeadTree, Import, ImportLine, LocalTree, SectionTree}
-pub use Rattle.sc_elab.specs.Common.{StructTree, TypedLocal}
-pub use Rattle.sc_elab.specs.Prelude.{CallsIn, Stands, StandsIn, base_of, called_head, callees_of, calling_heads}
-pub use Rattle.sc_elab.specs.Prelude.{cells_from, decl_lines, end_of_member, function_lines, function_name}
-pub use Rattle.sc_elab.specs.Prelude.{function_signature, global_lines, global_variable, head_name, head_named}
-pub use Rattle.sc_elab.specs.Prelude.{import_line_name, import_named, import_target, imported_target, init_holds}
-pub use Rattle.sc_elab.specs.Prelude.{is_sized, local_holds, local_in, local_variable, locals_from, members_from}
-pub use Rattle.sc_elab.specs.Prelude.{or_first, param_ty, result_of, scope_in, section_lines, sections_from}
-pub use Rattle.sc_elab.specs.Prelude.{signature_by, struct_name, tags, type_of, type_of_name, type_with, typed_function}
-pub use Rattle.sc_elab.specs.Prelude.{typed_global, typed_init, typed_local, typed_param, typed_section, typed_struct}
-pub use Rattle.sc_elab.specs.Prelude.{types_broken, visible_in, word_of_const}
+pub use Rattle.sc_elab.specs.Common.{Decl, FunctionTree, HeadTree, Import, ImportLine, LocalTree, StructTree}
+pub use Rattle.sc_elab.specs.Common.{TypedLocal}
+pub use Rattle.sc_elab.specs.Prelude.{CallsIn, SectionTree, Stands, StandsIn, base_of, called_head, callees_of}
+pub use Rattle.sc_elab.specs.Prelude.{calling_heads, cells_from, decl_lines, end_of_member, function_lines}
+pub use Rattle.sc_elab.specs.Prelude.{function_name, function_signature, global_lines, global_variable, head_name}
+pub use Rattle.sc_elab.specs.Prelude.{head_named, import_line_name, import_named, import_target, imported_target}
+pub use Rattle.sc_elab.specs.Prelude.{init_holds, is_sized, local_holds, local_in, local_variable, locals_from}
+pub use Rattle.sc_elab.specs.Prelude.{members_from, or_first, param_ty, result_of, scope_in, section_lines}
+pub use Rattle.sc_elab.specs.Prelude.{sections_from, signature_by, struct_name, tags, type_of, type_of_name, type_with}
+pub use Rattle.sc_elab.specs.Prelude.{typed_function, typed_global, typed_init, typed_local, typed_param, typed_section}
+pub use Rattle.sc_elab.specs.Prelude.{typed_struct, types_broken, visible_in, word_of_const}
 unfoldable pub use Rattle.sc_elab.specs.Prelude.{typed_locals, typed_structs}

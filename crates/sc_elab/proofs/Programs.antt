@@ -1,12 +1,9 @@
 -- Sections and their interfaces, one after another.
-use Rattle.sc_elab.proofs.Common.{List, None, SectionTree, Some, [], ap, arith, import_of, interface_of}
-use Rattle.sc_elab.proofs.Common.{interfaces_from, interfaces_of, map, option_map, refl, slice_get, suc, sym, zero, ℕ}
-use Rattle.sc_elab.proofs.Common.{◌+◌, ◌∙◌, ◌∷◌, ◌≡◌}
-use Rattle.std.specs.Prelude.{IsSome, length, get_or, drop, ◌++◌, ◌<◌}
-use Rattle.std.proofs.lemmas.Option.{slice_get-get_or, slice_get_within, get_or_from_slice_get}
-use Rattle.std.proofs.lemmas.List.{append_assoc}
-use Rattle.sc_base.proofs.Lists.{drop-step}
-use Rattle.sc_elab.specs.Prelude.{callees_of, sections_from, typed_section}
+use Rattle.sc_elab.proofs.Common.{IsSome, List, None, SectionTree, Some, [], ap, append_assoc, arith, callees_of, drop}
+use Rattle.sc_elab.proofs.Common.{drop-step, get_or, get_or_from_slice_get, import_of, interface_of, interfaces_from}
+use Rattle.sc_elab.proofs.Common.{interfaces_of, length, map, option_map, refl, sections_from, slice_get}
+use Rattle.sc_elab.proofs.Common.{slice_get-get_or, slice_get_within, suc, sym, typed_section, zero, ℕ, ◌++◌, ◌+◌, ◌<◌}
+use Rattle.sc_elab.proofs.Common.{◌∙◌, ◌∷◌, ◌≡◌}
 use Rattle.sc_core.specs.declared.section.TypedSection.{TypedSection}
 use Rattle.sc_event.specs.declared.interface.Interface.{Interface}
 use Rattle.sc_event.specs.declared.interface.Interfaces.{Interfaces}

@@ -4,16 +4,15 @@ use Rattle.sc_elab.proofs.Common.{StructTree, Suits, Ty, TypedStruct, Visible, [
 use Rattle.sc_elab.proofs.Common.{end_of_member, false, found_in, global_variable, globals_in, has_member, is_some}
 use Rattle.sc_elab.proofs.Common.{is_type, list_any, local_variable, map, map_twice, members_from, ne_eqb, no_ty}
 use Rattle.sc_elab.proofs.Common.{option_and_then, or_else, position, refl, same_base, same_ty, scope_in, slice_get}
-use Rattle.sc_elab.proofs.Common.{starred, structs_in, suc, sym, take, true, true≢false, type_of, type_with}
-use Rattle.sc_elab.proofs.Common.{typed_param, typed_struct, typed_structs, variable_ty, visible_in, zero, ℕ, ◌&&◌}
-use Rattle.sc_elab.proofs.Common.{◌++◌, ◌+◌, ◌==◌, ◌||◌, ◌∙◌, ◌∷◌, ◌≡◌}
+use Rattle.sc_elab.proofs.Common.{slice_get-map, starred, structs_in, suc, sym, take, true, true≢false, type_of}
+use Rattle.sc_elab.proofs.Common.{type_with, typed_param, typed_struct, typed_structs, variable_ty, visible_in, zero, ℕ}
+use Rattle.sc_elab.proofs.Common.{◌&&◌, ◌++◌, ◌+◌, ◌==◌, ◌||◌, ◌∙◌, ◌∷◌, ◌≡◌}
 use Rattle.sc_core.specs.declared.ty.BaseTy.{BaseTy}
 use Rattle.sc_core.specs.declared.section.TypedMember.{TypedMember}
 use Rattle.sc_core.specs.declared.section.TypedParam.{TypedParam}
 use Rattle.sc_core.specs.declared.expr.VarRef.{VarRef}
 use Rattle.std.proofs.Math.Bool.{and-false}
 use Rattle.std.specs.Option.{option_map}
-use Rattle.std.proofs.lemmas.Option.{slice_get-map}
 use Rattle.sc_ast.specs.declared.section.MemberTree.{MemberTree}
 use Rattle.sc_ast.specs.declared.types.TypeTree.{TypeTree}
 use Rattle.sc_core.specs.declared.ty.BaseTy.TheVariants as base

@@ -1,5 +1,6 @@
 -- What this crate's contracts, its proofs and the crates above cite, passed on from one place. Declares nothing.
 pub use Rattle.sc_ast.specs.Prelude.{head_of, limited, param_of}
+pub use Rattle.sc_ast.specs.declared.section.SectionTree.{SectionTree}
 pub use Rattle.sc_scope.specs.Prelude.{functions_in, globals_in, heads_in, import_of, interfaces_of, line_of_text}
 pub use Rattle.sc_scope.specs.Prelude.{refused_at, struct_names, structs_in, unless, with_lines}
 unfoldable pub use Rattle.sc_scope.specs.Prelude.{noted_all}

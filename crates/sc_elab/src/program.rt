@@ -1,6 +1,6 @@
-ghost use Rattle.sc_elab.specs.Prelude.{callees_of, interfaces_of, program_of, sections_from, typed_section};
+ghost use Rattle.sc_elab.specs.Prelude.{SectionTree, callees_of, interfaces_of, program_of, sections_from};
+ghost use Rattle.sc_elab.specs.Prelude.{typed_section};
 ghost use Rattle.std.specs.Prelude.{◌≡◌, List, slice_get, Some, IsSome, IfOk};
-ghost use Rattle.sc_ast.specs.declared.section.SectionTree.{SectionTree};
 
 use crate::section::build_section;
 use sc_ast::SectionTree;

@@ -1,9 +1,8 @@
 //! Sections.
 
-ghost use Rattle.sc_elab.specs.Prelude.{CallsIn, Stands, called, callees_of, functions_in, import_of, struct_name};
-ghost use Rattle.sc_elab.specs.Prelude.{struct_names, structs_in, typed_function, typed_section};
+ghost use Rattle.sc_elab.specs.Prelude.{CallsIn, SectionTree, Stands, called, callees_of, functions_in, import_of};
+ghost use Rattle.sc_elab.specs.Prelude.{struct_name, struct_names, structs_in, typed_function, typed_section};
 ghost use Rattle.std.specs.Prelude.{◌≡◌, ℕ, ◌++◌, ◌∷◌, [], List, map, IfOk, OnOk};
-ghost use Rattle.sc_ast.specs.declared.section.SectionTree.{SectionTree};
 
 use crate::calls::build_callees;
 use crate::function::build_function;

@@ -9,11 +9,10 @@ use Rattle.sc_read.proofs.Common.{block_comment, codes, drop, false, false≢tru
 use Rattle.sc_read.proofs.Common.{here, in_preamble, in_section, is_white_space, later, length, length-drop}
 use Rattle.sc_read.proofs.Common.{length-take-le, lexemes_of, line_after, line_at, line_comment, map, newlines, none}
 use Rattle.sc_read.proofs.Common.{none-some, nothing, part_of, parts_of, refl, section, slash_first, slice_get}
-use Rattle.sc_read.proofs.Common.{slice_index, slice_range, star_first, subst, suc, sym, take, take-append-drop}
-use Rattle.sc_read.proofs.Common.{take_all, token, true, uncut, white_space, zero, ℕ, ◌++◌, ◌+◌, ◌-◌, ◌<◌, ◌∙◌, ◌∷◌}
-use Rattle.sc_read.proofs.Common.{◌≡◌, ◌≤◌}
+use Rattle.sc_read.proofs.Common.{slice_index, slice_range, slice_set, star_first, subst, suc, sym, take}
+use Rattle.sc_read.proofs.Common.{take-append-drop, take_all, token, true, uncut, white_space, zero, ℕ, ◌++◌, ◌+◌, ◌-◌}
+use Rattle.sc_read.proofs.Common.{◌<◌, ◌∙◌, ◌∷◌, ◌≡◌, ◌≤◌}
 use Rattle.std.proofs.lemmas.List.{take_more, drop_more}
-use Rattle.std.specs.Prelude.{slice_set}
 use Rattle.sc_lex.specs.declared.refusal.Phase.TheVariants as phase
 
 -- what the loops over sections keep

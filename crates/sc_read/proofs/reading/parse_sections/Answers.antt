@@ -1,6 +1,6 @@
-use Rattle.sc_read.proofs.Common.{Err, IsCutInto, IsTreeOf, Refused, ap, arith, err_from_is_err_and, sym, ◌∙◌, ◌≡◌}
+use Rattle.sc_read.proofs.Common.{AllZip, Err, IsCutInto, IsTreeOf, Refused, ap, arith, drop, err_from_is_err_and}
+use Rattle.sc_read.proofs.Common.{subst, suc, sym, ℕ, ◌+◌, ◌∙◌, ◌≡◌}
 use Rattle.sc_read.proofs.Steps.{more_sections, first_bad, as_many_from, zip_at, zip_behind}
-use Rattle.sc_read.proofs.Common.{AllZip, drop, subst, suc, ℕ, ◌+◌}
 use Rattle.sc_read.proofs.reading.parse_sections.Goals as goal
 
 further : (at : ℕ) → suc at ≡ at + 1
