@@ -11,6 +11,7 @@ use sc_base::TrapReason;
 use sc_event::Event;
 use sc_image::layout::{A0, A7, INPUT, OUTPUT};
 
+#[inline(never)]
 pub(crate) fn environment_call(
     here: &Here<'_>,
     inputs: &[i32],

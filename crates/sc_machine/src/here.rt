@@ -47,6 +47,7 @@ impl<'a> Model for Here<'a> {
 
 impl<'a> Here<'a> {
     /// Looks a compartment up.
+    #[inline(never)]
     pub fn of(program: &'a Program, comp: CompId) -> Here<'a>
         requires { IsPlace program.now comp }
         ensures image { result.image ≡ program.now }
