@@ -11,7 +11,6 @@ use sc_base::TrapReason;
 use sc_store::Store;
 
 /// Loads from an address into a register.
-#[inline(never)]
 pub(crate) fn load<S: Store>(
     here: &Here<'_>,
     core: &mut Core,
@@ -34,7 +33,6 @@ pub(crate) fn load<S: Store>(
 }
 
 /// Stores the lowest bytes of a word at an address.
-#[inline(never)]
 pub(crate) fn store<S: Store>(
     here: &Here<'_>,
     core: &mut Core,
