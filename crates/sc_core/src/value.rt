@@ -17,9 +17,10 @@ pub enum Cell {
 }
 
 /// What an expression gives.
-#[derive(Clone, Copy, Debug, PartialEq, Eq)]
+#[derive(Clone, Copy, Debug, Default, PartialEq, Eq)]
 pub enum Value {
     Word(u32),
+    #[default]
     Null,
     Ptr(Pointer),
 }

@@ -1,11 +1,12 @@
 -- The names that several proofs of this crate cite, passed on from one place. Declares nothing.
-pub use Rattle.std.proofs.Common.{All, Bool, IsSome, List, None, OnSome, Option, Some, [], add-one, add-zero, add_assoc}
-pub use Rattle.std.proofs.Common.{ap, ap₂, arith, eq-eqb, eqb-true, false, fold, get_or, if◌then◌else◌, is_some, le-leb}
-pub use Rattle.std.proofs.Common.{le-ltb, leb-false, leb-true, length, length-append, length-set, lt-ltb, map, nat_eq}
-pub use Rattle.std.proofs.Common.{nat_le, nat_lt, ne_eqb, position, refl, rules, slice_index, subst, suc, sum, sym}
-pub use Rattle.std.proofs.Common.{take, true, unwrap_or, zero, ℕ, ℤ, ⊎_elim, ◌%◌, ◌&&◌, ◌*◌, ◌++◌, ◌+◌, ◌-◌, ◌/◌, ◌<◌}
-pub use Rattle.std.proofs.Common.{◌==◌, ◌^◌, ◌∙◌, ◌∷◌, ◌≡◌, ◌≢◌, ◌≤◌, ◌⊎◌}
-pub use Rattle.std.proofs.lemmas.Bool.{cases_eq, cases_lt, lt-leb}
+pub use Rattle.std.proofs.Common.{All, Bool, Err, IsSome, IsTrue, List, None, Ok, OnSome, Option, Result, Some, []}
+pub use Rattle.std.proofs.Common.{add-one, add-zero, add_assoc, ap, ap₂, arith, eq-eqb, eqb-true, false, fold, get_or}
+pub use Rattle.std.proofs.Common.{if◌then◌else◌, is_ok, is_some, le-leb, le-ltb, leb-false, leb-true, length}
+pub use Rattle.std.proofs.Common.{length-append, length-set, lt-ltb, map, nat_eq, nat_le, nat_lt, ne_eqb, position}
+pub use Rattle.std.proofs.Common.{refl, rules, slice_index, subst, suc, sum, sym, take, true, unwrap_or, zero, ℕ, ℤ}
+pub use Rattle.std.proofs.Common.{⊎_elim, ◌%◌, ◌&&◌, ◌*◌, ◌++◌, ◌+◌, ◌-◌, ◌/◌, ◌<◌, ◌==◌, ◌^◌, ◌∙◌, ◌∷◌, ◌≡◌, ◌≢◌, ◌≤◌}
+pub use Rattle.std.proofs.Common.{◌⊎◌}
+pub use Rattle.std.proofs.lemmas.Bool.{cases_eq, cases_lt, false≢true, lt-leb}
 pub use Rattle.std.proofs.lemmas.List.{get_or-map, get_or_past, length-map, length_push}
 pub use Rattle.std.proofs.lemmas.List.Elements.{All-cons, All-head, All-nil, All-tail}
 pub use Rattle.std.proofs.lemmas.Option.{get_or_from_slice_get, slice_get-get_or, slice_get_cases, slice_get_within}
@@ -19,7 +20,7 @@ pub use Rattle.sc_store.specs.Prelude.{AreApart, AreBelow, HasBytes, IsIn, Memor
 pub use Rattle.sc_store.specs.Prelude.{written, zeros}
 pub use Rattle.sc_store.specs.declared.region.Region.{Region}
 pub use Rattle.sc_image.proofs.AtStart.{start_is}
-pub use Rattle.sc_image.proofs.Running.{run_goes, run_more, run_stopped, run_traps}
+pub use Rattle.sc_image.proofs.Running.{run_goes, run_more, run_out, run_stopped, run_traps}
 pub use Rattle.sc_image.specs.Prelude.{Crossing, Filled, Goes, IsDistinct, IsEntry, IsExport, IsWellFormed, Outcome}
 pub use Rattle.sc_image.specs.Prelude.{Run, State, Traps, are_data, byte_at, called, calls, code_of, code_start}
 pub use Rattle.sc_image.specs.Prelude.{comp_of_code, comp_of_data, compares, continued, data_start, data_with, execute}
@@ -33,6 +34,8 @@ pub use Rattle.sc_image.specs.declared.parts.CompPart.{CompPart}
 pub use Rattle.sc_image.specs.declared.parts.ExportPart.{ExportPart}
 pub use Rattle.sc_gate.specs.Waiting.{Waiting, crossing_of}
 pub use Rattle.sc_machine.specs.Place.{IsLookedUp, IsPlace}
-pub use Rattle.sc_machine.specs.Prelude.{AreCallees, CanRun, ImageParts, IsBacked, IsCallee, active_in, at, state_in}
+pub use Rattle.sc_machine.specs.Prelude.{AreCallees, CanRun, ImageParts, IsBacked, IsCallee, IsSound, LeavesSound}
+pub use Rattle.sc_machine.specs.Prelude.{StaysSound, active_in, at, outcome_of, state_in}
 pub use Rattle.sc_machine.specs.Regions.{HasFewGlobals, all_data, filled_with, regions_of}
 pub use Rattle.sc_machine.specs.declared.calling.Callee.{Callee}
+pub use Rattle.sc_machine.specs.declared.hart.Hart.{Hart}

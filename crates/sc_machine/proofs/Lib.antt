@@ -7,3 +7,4 @@ pub mod Crossings
 pub mod Callees
 pub mod Imports
 pub mod Runs
+pub mod Answered

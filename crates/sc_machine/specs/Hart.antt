@@ -17,6 +17,10 @@ comp_in c state = record state { active = c }
 abbrev pub active_in : ℕ → Memory → State → State
 active_in c memory state = record state { active = c; memory = memory }
 
+-- and one that has these registers and this pc, too
+abbrev pub running : ℕ → Memory → Core → State → State
+running c memory core state = at (active_in c memory state) core
+
 -- the state of a machine with this memory
 abbrev pub state_in : Memory → Hart → State
 state_in memory hart = record {

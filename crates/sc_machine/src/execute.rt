@@ -2,7 +2,7 @@
 
 ghost use Rattle.sc_machine.specs.Prelude.{IsBacked, IsReady, LeavesSound, execute, outcome_of, state_in, step};
 ghost use Rattle.sc_machine.specs.Prelude.{word_of};
-ghost use Rattle.std.specs.Prelude.{◌≡◌, ◌+◌, ◌^◌, ◌<◌, map, OnErr};
+ghost use Rattle.std.specs.Prelude.{◌≡◌, ◌+◌, ◌^◌, ◌<◌, false, map, Ok, OnErr};
 
 use crate::arithmetic::{op, op_imm, shift, upper};
 use crate::environment::environment_call;
@@ -10,17 +10,19 @@ use crate::hart::Hart;
 use crate::here::Here;
 use crate::jump::{branch, jal, jalr};
 use crate::memory::{load, store};
+use crate::quick::execute_quick;
 use rv_code::{Instr, decode};
 use sc_base::TrapReason;
 use sc_store::Store;
 
-/// Executes the instruction at the pc.
+/// Executes the instruction at the pc. Says whether the trace or the compartment that runs may have
+/// changed.
 pub(crate) fn step<S: Store>(
     here: &Here<'_>,
     inputs: &[i32],
     hart: &mut Hart,
     memory: &mut S,
-) -> Result<(), TrapReason>
+) -> Result<bool, TrapReason>
     requires ready { IsReady here.now hart.old }
     requires backed { IsBacked here.now.image (S.bytes memory.old) }
     ensures outcome { outcome_of result (state_in (S.bytes memory.new) hart.new) ≡
@@ -28,6 +30,7 @@ pub(crate) fn step<S: Store>(
     ensures leaves { LeavesSound here.now.image result hart.old hart.new }
     ensures memory { OnErr result (S.bytes memory.new ≡ S.bytes memory.old) }
     ensures backed { IsBacked here.now.image (S.bytes memory.new) }
+    ensures quiet { result ≡ Ok false → hart.new ≡ record hart.old { core = hart.new.core } }
 {
     let Some(word) = here.word_at(hart.core.pc) else {
         return Err(TrapReason::BadJump);
@@ -35,9 +38,18 @@ pub(crate) fn step<S: Store>(
     let Some(instr) = decode(word) else {
         return Err(TrapReason::Illegal);
     };
-    execute(here, inputs, hart, memory, &instr)
+    if execute_quick(here, &mut hart.core, memory, &instr) {
+        return Ok(false);
+    }
+    // A copy, so that only what isn't quick keeps an instruction in memory.
+    let other = instr;
+    match execute(here, inputs, hart, memory, &other) {
+        Ok(()) => Ok(true),
+        Err(reason) => Err(reason),
+    }
 }
 
+#[inline(never)]
 fn execute<S: Store>(
     here: &Here<'_>,
     inputs: &[i32],

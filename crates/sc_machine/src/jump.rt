@@ -16,7 +16,7 @@ use sc_image::layout::GATE;
 use sc_word::add;
 
 /// Where a jump from the pc leads.
-fn jump_target(core: &Core, imm: JumpOffset) -> u32
+pub(crate) fn jump_target(core: &Core, imm: JumpOffset) -> u32
     ensures { result ≡ add_word core.now.pc (word_of imm) }
 {
     add(core.pc, imm.value().cast_unsigned())

@@ -15,6 +15,7 @@ mod machine;
 mod memory;
 mod own_view;
 mod program;
+mod quick;
 mod returning;
 mod run;
 

@@ -13,6 +13,7 @@ use sc_image::layout::data_start;
 use sc_store::Store;
 
 /// Takes at most so many steps, with room for so many events in the whole trace.
+#[inline(never)]
 pub(crate) fn run<S: Store>(
     program: &Program,
     inputs: &[i32],
@@ -28,19 +29,28 @@ pub(crate) fn run<S: Store>(
 {
     let mut here = Here::of(program, hart.active);
     memory.focus(data_start(here.comp()));
+    if let Some(stop) = stopped(events, &hart.trace) {
+        return stop;
+    }
     for _ in 0..steps {
+        let loud = match step(&here, inputs, hart, memory) {
+            Ok(loud) => loud,
+            Err(reason) => {
+                return Stop::Trap {
+                    reason,
+                    pc: hart.core.pc,
+                };
+            }
+        };
+        if !loud {
+            continue;
+        }
+        here.follow(memory, hart.active);
         if let Some(stop) = stopped(events, &hart.trace) {
             return stop;
         }
-        if let Err(reason) = step(&here, inputs, hart, memory) {
-            return Stop::Trap {
-                reason,
-                pc: hart.core.pc,
-            };
-        }
-        here.follow(memory, hart.active);
     }
-    stopped(events, &hart.trace).unwrap_or(Stop::StepsOut)
+    Stop::StepsOut
 }
 
 /// Why a run with this trace stops before another step, if it does.

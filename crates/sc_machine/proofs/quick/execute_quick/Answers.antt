@@ -1,0 +1,64 @@
+use Rattle.sc_machine.proofs.Common.{active_in, add_word, at, calls, execute_by, leaves, refl, slice_index, word_of}
+use Rattle.sc_machine.proofs.Common.{◌*◌, ◌/◌}
+use Rattle.sc_machine.proofs.Answered.{goes_if}
+use Rattle.sc_machine.proofs.quick.execute_quick.Goals as goal
+
+pub returns-in-Load-clause-goes : goal.returns-in-Load-clause-goes
+unfolding execute_by
+returns-in-Load-clause-goes g c = λ went inputs state.
+    let there = active_in c.args.here.now.comp (g.S.Store.bytes c.args.memory.now) state in
+    goes_if c.load.result c.is_ok.result _ _ c.is_ok.ensures.value
+    (rw c.in-Load.is (rw c.displaced-address.ensures at (c.load.ensures.outcome there))) went
+
+pub returns-in-Store-clause-goes : goal.returns-in-Store-clause-goes
+unfolding execute_by
+returns-in-Store-clause-goes g c = λ went inputs state.
+    goes_if c.store.result c.is_ok-in-Store.result _ _ c.is_ok-in-Store.ensures.value
+    (rw c.in-Store.is (rw (c.displaced-address-in-Store.ensures, c.register-word.ensures) at
+    (c.store.ensures.outcome state))) went
+
+pub returns-in-Branch-clause-goes : goal.returns-in-Branch-clause-goes
+returns-in-Branch-clause-goes g c = λ went inputs state.
+    let there = active_in c.args.here.now.comp (g.S.Store.bytes c.args.memory.now) state in
+    goes_if c.branch-here.result c.is_ok-in-Branch.result _ _ c.is_ok-in-Branch.ensures.value
+    (rw c.in-Branch.is (c.branch-here.ensures.outcome inputs there)) went
+
+pub returns-in-Jal-clause-goes : goal.returns-in-Jal-clause-goes
+unfolding execute_by
+returns-in-Jal-clause-goes g c = λ went inputs state.
+    let there = active_in c.args.here.now.comp (g.S.Store.bytes c.args.memory.now) state in
+    rw c.in-Jal.is (rw (c.number.ensures.same, c.jump_target-target.ensures) at
+    (c.jump_inside.ensures.goes went there (calls c.args.here.now.image (at there c.args.core.now) c.in-Jal.rd
+    (add_word c.args.core.now.pc (word_of c.in-Jal.imm)))))
+
+pub returns-in-Jalr-clause-goes : goal.returns-in-Jalr-clause-goes
+unfolding execute_by
+returns-in-Jalr-clause-goes g c = λ went inputs state.
+    let there = active_in c.args.here.now.comp (g.S.Store.bytes c.args.memory.now) state in
+    rw c.in-Jalr.is (rw (c.number-in-Jalr.ensures.same, c.displaced.ensures) at
+    (c.jump_inside-in-Jalr.ensures.goes went there (leaves c.args.here.now.image (at there c.args.core.now)
+    c.in-Jalr.rd (add_word (slice_index c.args.core.now.registers c.in-Jalr.rs1) (word_of c.in-Jalr.imm) / 2 * 2))))
+
+pub returns-in-Upper-clause-goes : goal.returns-in-Upper-clause-goes
+returns-in-Upper-clause-goes g c = λ went inputs state.
+    let there = active_in c.args.here.now.comp (g.S.Store.bytes c.args.memory.now) state in
+    rw c.in-Upper.is (c.upper.ensures c.args.here.now.image inputs there)
+
+pub returns-in-OpImm-clause-goes : goal.returns-in-OpImm-clause-goes
+returns-in-OpImm-clause-goes g c = λ went inputs state.
+    let there = active_in c.args.here.now.comp (g.S.Store.bytes c.args.memory.now) state in
+    rw c.in-OpImm.is (c.op_imm.ensures c.args.here.now.image inputs there)
+
+pub returns-in-Shift-clause-goes : goal.returns-in-Shift-clause-goes
+returns-in-Shift-clause-goes g c = λ went inputs state.
+    let there = active_in c.args.here.now.comp (g.S.Store.bytes c.args.memory.now) state in
+    rw c.in-Shift.is (c.shift.ensures c.args.here.now.image inputs there)
+
+pub returns-in-Op-clause-goes : goal.returns-in-Op-clause-goes
+returns-in-Op-clause-goes g c = λ went inputs state.
+    let there = active_in c.args.here.now.comp (g.S.Store.bytes c.args.memory.now) state in
+    rw c.in-Op.is (c.op.ensures c.args.here.now.image inputs there)
+
+pub returns-in-Fence-clause-goes : goal.returns-in-Fence-clause-goes
+unfolding execute_by
+returns-in-Fence-clause-goes g c = λ went inputs state. rw (c.in-Fence.is, c.advance.ensures) refl
