@@ -134,7 +134,7 @@ fn option_height(simple: &Option<SimpleTree>) -> u32
 {
     match simple {
         None => 0,
-        Some(simple) => one_more(simple_kind_height(&simple.kind)),
+        Some(simple) => one_more(simple_kind_height(simple.kind.get())),
     }
 }
 

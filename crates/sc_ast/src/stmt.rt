@@ -3,7 +3,7 @@ ghost use Rattle.std.specs.Prelude.{◌≡◌};
 
 use crate::expr::{CallTree, ExprTree};
 use crate::place::PlaceTree;
-use sqlite_items::Items;
+use sqlite_items::{Boxed, Items};
 
 /// A statement (C11 6.8) and the line, counted in its section, at which it begins.
 #[cycle(stmt)]
@@ -68,7 +68,7 @@ pub type Stmts = Items<StmtTree>;
 #[derive(Drop)]
 pub struct SimpleTree {
     pub line: u32,
-    pub kind: SimpleKind,
+    pub kind: Boxed<SimpleKind>,
 }
 
 /// The statements that may stand in the head of a `for`; each is a kind of statement of the same name.
@@ -88,7 +88,7 @@ impl SimpleTree {
         ensures { result ≡ stmt_of self }
     {
         let SimpleTree { line, kind } = self;
-        let kind = match kind {
+        let kind = match kind.into_inner() {
             SimpleKind::Assign { place, value } => StmtKind::Assign { place, value },
             SimpleKind::AssignCall { place, call } => StmtKind::AssignCall { place, call },
             SimpleKind::Call(call) => StmtKind::Call(call),

@@ -28,7 +28,7 @@ impl Place<'_> {
         match part {
             None => Ok(()),
             Some(simple) => {
-                let holds = self.simple_holds(alloc, &simple.kind)?;
+                let holds = self.simple_holds(alloc, simple.kind.get())?;
                 lines.unless(holds, simple.line);
                 Ok(())
             }

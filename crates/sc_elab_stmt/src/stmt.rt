@@ -193,7 +193,7 @@ fn build_part(
     match part {
         None => Ok(None),
         Some(simple) => {
-            let kind = build_simple_kind(alloc, section, function, &simple.kind)?;
+            let kind = build_simple_kind(alloc, section, function, simple.kind.get())?;
             Ok(Some(TypedSimple {
                 line: simple.line,
                 kind,

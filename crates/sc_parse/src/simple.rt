@@ -318,7 +318,7 @@ pub fn part_at(
         return Err(refused(rest));
     }
     let line = first_line(rest);
-    let kind = simple_at(alloc, room - 1, rest)?;
+    let kind = Boxed::new(alloc, simple_at(alloc, room - 1, rest)?)?;
     Ok(Some(SimpleTree { line, kind }))
 }
 

@@ -81,7 +81,7 @@ fn keeps_option(simple: &Option<SimpleTree>)
     ensures { IsTrue (kept_option simple.now) }
 {
     if let Some(simple) = simple {
-        keeps_simple(&simple.kind);
+        keeps_simple(simple.kind.get());
     }
 }
 

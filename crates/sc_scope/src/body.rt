@@ -93,7 +93,7 @@ fn part_lines(
 {
     match part {
         None => {}
-        Some(simple) => lines.unless(simple_known(names, own, &simple.kind), simple.line),
+        Some(simple) => lines.unless(simple_known(names, own, simple.kind.get()), simple.line),
     }
 }
 

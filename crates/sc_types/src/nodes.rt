@@ -72,7 +72,7 @@ fn part_nodes(part: &Option<SimpleTree>) -> u32
 {
     match part {
         None => 0,
-        Some(simple) => simple_nodes(&simple.kind),
+        Some(simple) => simple_nodes(simple.kind.get()),
     }
 }
 

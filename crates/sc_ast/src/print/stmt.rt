@@ -54,7 +54,7 @@ fn append_first(out: &mut Text, first: &Option<SimpleTree>) -> Result<(), OutOfM
 {
     match first {
         None => Ok(()),
-        Some(simple) => append_simple(out, &simple.kind),
+        Some(simple) => append_simple(out, simple.kind.get()),
     }
 }
 
@@ -65,7 +65,7 @@ fn append_next(out: &mut Text, next: &Option<SimpleTree>) -> Result<(), OutOfMem
         None => Ok(()),
         Some(simple) => {
             out.push(b' ')?;
-            append_simple(out, &simple.kind)
+            append_simple(out, simple.kind.get())
         }
     }
 }
