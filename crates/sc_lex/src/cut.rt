@@ -58,7 +58,7 @@ fn allows_directive(bytes: &[u8], at: usize) -> bool
     requires { at ≤ length bytes.now }
     ensures { result ≡ allows_directive bytes.now at }
 {
-    begins_heading(bytes) && begins_line(bytes, at)
+    begins_line(bytes, at) && begins_heading(bytes)
 }
 
 // The piece at the front and its length, where directives are allowed or not.
