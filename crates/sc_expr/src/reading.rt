@@ -1,8 +1,8 @@
 //! Tokens as lexemes.
 
-ghost use Rattle.sc_expr.specs.Prelude.{IsSpan, fourth_word, ident_in, import_of, keyword_of, look_up, mark_of};
+ghost use Rattle.sc_expr.specs.Prelude.{IsSpan, fourth_word, ident_in, import_of, keyword_of, mark_of};
 ghost use Rattle.sc_expr.specs.Prelude.{name_of, number_in, says, symbol_of, third_word, words};
-ghost use Rattle.std.specs.Prelude.{◌≡◌, [], get_or, map};
+ghost use Rattle.std.specs.Prelude.{◌≡◌, [], ◌∷◌, bytes_eq, get_or, Some, None, if◌then◌else◌};
 ghost use Rattle.std.specs.Option.{option_map};
 
 use crate::lexeme::Symbol;
@@ -11,93 +11,138 @@ use sc_ast::{Ident, Literal};
 use sc_base::Name;
 use sc_lex::{Token, TokenKind, first_words, heading_name, integer_of};
 
-const MARK_TEXTS: [(&[u8], Mark); 43] = [
-    (b"+", Mark::Plus),
-    (b"-", Mark::Minus),
-    (b"*", Mark::Star),
-    (b"/", Mark::Slash),
-    (b"%", Mark::Percent),
-    (b"<<", Mark::LessLess),
-    (b">>", Mark::GreaterGreater),
-    (b"<", Mark::Less),
-    (b">", Mark::Greater),
-    (b"<=", Mark::LessEqual),
-    (b">=", Mark::GreaterEqual),
-    (b"==", Mark::EqualEqual),
-    (b"!=", Mark::NotEqual),
-    (b"&", Mark::And),
-    (b"^", Mark::Caret),
-    (b"|", Mark::Or),
-    (b"&&", Mark::AndAnd),
-    (b"||", Mark::OrOr),
-    (b"!", Mark::Not),
-    (b"~", Mark::Tilde),
-    (b"=", Mark::Equal),
-    (b"+=", Mark::PlusEqual),
-    (b"-=", Mark::MinusEqual),
-    (b"*=", Mark::StarEqual),
-    (b"/=", Mark::SlashEqual),
-    (b"%=", Mark::PercentEqual),
-    (b"<<=", Mark::LessLessEqual),
-    (b">>=", Mark::GreaterGreaterEqual),
-    (b"&=", Mark::AndEqual),
-    (b"^=", Mark::CaretEqual),
-    (b"|=", Mark::OrEqual),
-    (b"++", Mark::PlusPlus),
-    (b"--", Mark::MinusMinus),
-    (b".", Mark::Dot),
-    (b"->", Mark::Arrow),
-    (b"(", Mark::OpenParen),
-    (b")", Mark::CloseParen),
-    (b"[", Mark::OpenSquare),
-    (b"]", Mark::CloseSquare),
-    (b"{", Mark::OpenCurly),
-    (b"}", Mark::CloseCurly),
-    (b",", Mark::Comma),
-    (b";", Mark::Semicolon),
-];
-
-const KEYWORD_TEXTS: [(&[u8], Keyword); 12] = [
-    (b"break", Keyword::Break),
-    (b"continue", Keyword::Continue),
-    (b"else", Keyword::Else),
-    (b"for", Keyword::For),
-    (b"if", Keyword::If),
-    (b"int", Keyword::Int),
-    (b"return", Keyword::Return),
-    (b"signed", Keyword::Signed),
-    (b"struct", Keyword::Struct),
-    (b"unsigned", Keyword::Unsigned),
-    (b"void", Keyword::Void),
-    (b"while", Keyword::While),
-];
-
-// What stands beside a text in a table.
-fn look_up<T: Copy>(table: &[(&[u8], T)], text: &[u8]) -> Option<T>
-    ensures { result ≡ look_up (map (λ row. (row.0.now, row.1)) table.now) text.now }
-{
-    let [row, rest @ ..] = table else {
-        return None;
-    };
-    if row.0 == text {
-        Some(row.1)
-    } else {
-        look_up(rest, text)
-    }
-}
-
 #[tactic(auto, unfolding(crate::specs::Lexemes::mark_of))]
 fn mark_of(text: &[u8]) -> Option<Mark>
     ensures { result ≡ mark_of text.now }
 {
-    look_up(&MARK_TEXTS, text)
+    match text {
+        [only] => single_mark(*only),
+        [first, second] => mark_pair(*first, *second),
+        [b'<', b'<', b'='] => Some(Mark::LessLessEqual),
+        [b'>', b'>', b'='] => Some(Mark::GreaterGreaterEqual),
+        _ => None,
+    }
+}
+
+#[tactic(auto, unfolding(crate::specs::Lexemes::mark_of))]
+fn single_mark(only: u8) -> Option<Mark>
+    ensures { result ≡ mark_of (only ∷ []) }
+{
+    match only {
+        b'+' => Some(Mark::Plus),
+        b'-' => Some(Mark::Minus),
+        b'*' => Some(Mark::Star),
+        b'/' => Some(Mark::Slash),
+        b'%' => Some(Mark::Percent),
+        b'<' => Some(Mark::Less),
+        b'>' => Some(Mark::Greater),
+        b'&' => Some(Mark::And),
+        b'^' => Some(Mark::Caret),
+        b'|' => Some(Mark::Or),
+        b'!' => Some(Mark::Not),
+        b'~' => Some(Mark::Tilde),
+        b'=' => Some(Mark::Equal),
+        b'.' => Some(Mark::Dot),
+        b'(' => Some(Mark::OpenParen),
+        b')' => Some(Mark::CloseParen),
+        b'[' => Some(Mark::OpenSquare),
+        b']' => Some(Mark::CloseSquare),
+        b'{' => Some(Mark::OpenCurly),
+        b'}' => Some(Mark::CloseCurly),
+        b',' => Some(Mark::Comma),
+        b';' => Some(Mark::Semicolon),
+        _ => None,
+    }
+}
+
+#[tactic(auto, unfolding(crate::specs::Lexemes::mark_of))]
+fn mark_pair(first: u8, second: u8) -> Option<Mark>
+    ensures { result ≡ mark_of (first ∷ second ∷ []) }
+{
+    match (first, second) {
+        (_, b'=') => mark_before_equal(first),
+        (b'<', b'<') => Some(Mark::LessLess),
+        (b'>', b'>') => Some(Mark::GreaterGreater),
+        (b'&', b'&') => Some(Mark::AndAnd),
+        (b'|', b'|') => Some(Mark::OrOr),
+        (b'+', b'+') => Some(Mark::PlusPlus),
+        (b'-', b'-') => Some(Mark::MinusMinus),
+        (b'-', b'>') => Some(Mark::Arrow),
+        _ => None,
+    }
+}
+
+// The mark of this byte and a `=`.
+#[tactic(auto, unfolding(crate::specs::Lexemes::mark_of))]
+fn mark_before_equal(first: u8) -> Option<Mark>
+    ensures { result ≡ mark_of (first ∷ 61 ∷ []) }
+{
+    match first {
+        b'<' => Some(Mark::LessEqual),
+        b'>' => Some(Mark::GreaterEqual),
+        b'=' => Some(Mark::EqualEqual),
+        b'!' => Some(Mark::NotEqual),
+        b'+' => Some(Mark::PlusEqual),
+        b'-' => Some(Mark::MinusEqual),
+        b'*' => Some(Mark::StarEqual),
+        b'/' => Some(Mark::SlashEqual),
+        b'%' => Some(Mark::PercentEqual),
+        b'&' => Some(Mark::AndEqual),
+        b'^' => Some(Mark::CaretEqual),
+        b'|' => Some(Mark::OrEqual),
+        _ => None,
+    }
+}
+
+// The keyword where this is how it goes on behind its first letter.
+fn keyword_if(ending: &[u8], rest: &[u8], keyword: Keyword) -> Option<Keyword>
+    ensures { result ≡ (if bytes_eq ending.now rest.now then Some keyword else None) }
+{
+    if ending == rest { Some(keyword) } else { None }
+}
+
+#[tactic(auto, unfolding(crate::specs::Lexemes::keyword_of))]
+fn keyword_behind_i(rest: &[u8]) -> Option<Keyword>
+    ensures { result ≡ keyword_of (105 ∷ rest.now) }
+{
+    if b"f".as_slice() == rest {
+        Some(Keyword::If)
+    } else {
+        keyword_if(b"nt", rest, Keyword::Int)
+    }
+}
+
+#[tactic(auto, unfolding(crate::specs::Lexemes::keyword_of))]
+fn keyword_behind_s(rest: &[u8]) -> Option<Keyword>
+    ensures { result ≡ keyword_of (115 ∷ rest.now) }
+{
+    if b"igned".as_slice() == rest {
+        Some(Keyword::Signed)
+    } else {
+        keyword_if(b"truct", rest, Keyword::Struct)
+    }
 }
 
 #[tactic(auto, unfolding(crate::specs::Lexemes::keyword_of))]
 fn keyword_of(text: &[u8]) -> Option<Keyword>
     ensures { result ≡ keyword_of text.now }
 {
-    look_up(&KEYWORD_TEXTS, text)
+    let [first, rest @ ..] = text else {
+        return None;
+    };
+    match first {
+        b'b' => keyword_if(b"reak", rest, Keyword::Break),
+        b'c' => keyword_if(b"ontinue", rest, Keyword::Continue),
+        b'e' => keyword_if(b"lse", rest, Keyword::Else),
+        b'f' => keyword_if(b"or", rest, Keyword::For),
+        b'i' => keyword_behind_i(rest),
+        b'r' => keyword_if(b"eturn", rest, Keyword::Return),
+        b's' => keyword_behind_s(rest),
+        b'u' => keyword_if(b"nsigned", rest, Keyword::Unsigned),
+        b'v' => keyword_if(b"oid", rest, Keyword::Void),
+        b'w' => keyword_if(b"hile", rest, Keyword::While),
+        _ => None,
+    }
 }
 
 fn ident_in(text: &[u8]) -> Option<Ident>
