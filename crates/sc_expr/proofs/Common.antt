@@ -1,8 +1,8 @@
 -- The names that several proofs of this crate cite, passed on from one place. Declares nothing.
 pub use Rattle.std.proofs.Common.{Bool, Bor, Err, IfOk, IsErrOf, List, None, Ok, Option, Result, Some, [], ap}
-pub use Rattle.std.proofs.Common.{append_assoc, ap₂, arith, cond, false, le-leb, leb, leb-true, length, map, max, refl}
-pub use Rattle.std.proofs.Common.{rules, subst, suc, sym, take, true, zero, ℕ, ⊎_elim, ◌*◌, ◌++◌, ◌+◌, ◌-◌, ◌<◌, ◌∙◌}
-pub use Rattle.std.proofs.Common.{◌∷◌, ◌≡◌, ◌≤◌}
+pub use Rattle.std.proofs.Common.{append_assoc, ap₂, arith, cond, false, le-leb, leb, leb-true, map, max, refl, rules}
+pub use Rattle.std.proofs.Common.{subst, suc, sym, take, true, zero, ℕ, ⊎_elim, ◌*◌, ◌++◌, ◌+◌, ◌-◌, ◌<◌, ◌∙◌, ◌∷◌, ◌≡◌}
+pub use Rattle.std.proofs.Common.{◌≤◌}
 pub use Rattle.std.proofs.lemmas.Bool.{cases_lt, lt-leb}
 pub use Rattle.std.proofs.lemmas.Option.{cond_some, none-some}
 pub use Rattle.std.specs.Option.{option_map}

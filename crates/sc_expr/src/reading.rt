@@ -1,7 +1,7 @@
 //! Tokens as lexemes.
 
-ghost use Rattle.sc_expr.specs.Prelude.{IsSpan, fourth_word, ident_in, import_of, keyword_of, mark_of};
-ghost use Rattle.sc_expr.specs.Prelude.{name_of, number_in, says, symbol_of, third_word, words};
+ghost use Rattle.sc_expr.specs.Prelude.{IsSpan, fourth_word, ident_in, import_of, keyword_of, mark_of, name_of};
+ghost use Rattle.sc_expr.specs.Prelude.{number_in, says, symbol_of, third_word, words};
 ghost use Rattle.std.specs.Prelude.{◌≡◌, [], ◌∷◌, bytes_eq, get_or, Some, None, if◌then◌else◌};
 ghost use Rattle.std.specs.Option.{option_map};
 
