@@ -3,6 +3,7 @@
 
 mod access;
 mod at_once;
+mod elements;
 mod expressions;
 mod moves;
 mod pointers;
