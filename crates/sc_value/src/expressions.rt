@@ -7,6 +7,7 @@ ghost use Rattle.sc_core.specs.declared.value.Want.TheVariants as want;
 
 use crate::Scope;
 use crate::access::load;
+use crate::arguments::Arguments;
 use crate::elements::{array_block, block_of};
 use crate::moves::{moved_back, moved_on, offset_by};
 use crate::pointers::between;
@@ -17,7 +18,6 @@ use sc_blocks::Blocks;
 use sc_core::{
     Cause, Pointer, Ty, TypedExpr, TypedKind, Value, VarRef, Want, is_unsigned_op, target_cells,
 };
-use sqlite_items::Items;
 use std::alloc::{AllocError, Global};
 
 fn literal(ty: Ty, word: u32) -> Value
@@ -251,12 +251,12 @@ pub fn evaluate_all(
     blocks: &Blocks,
     scope: &Scope,
     exprs: &[TypedExpr],
-) -> Result<Result<Items<Value>, Cause>, AllocError>
+) -> Result<Result<Arguments, Cause>, AllocError>
     ensures { IfOk result (λ found. found ≡ values (map
         (ways c_arith scope.now.structs.now (here_of scope.now) scope.now.params) exprs.now)
         (memory_of blocks.now scope.now.comp.now)) }
 {
-    let mut found = Items::new(alloc);
+    let mut found = Arguments::new(alloc);
     for expr in exprs {
         match evaluate(blocks, scope, Want::Value, expr) {
             Ok(value) => found.push(value)?,
