@@ -1,7 +1,6 @@
 pub mod Common
 pub mod Assigning
 pub mod Lists
-pub mod Indexing
 pub mod Loads
 pub mod Shifts
 pub mod Operands

@@ -1,9 +1,10 @@
 -- What the store of blocks gives and takes is what the memory does.
-use Rattle.sc_value.proofs.Common.{BadType, Blocks, Bool, Cause, Cell, Dangling, Err, List, None, Ok, Option}
-use Rattle.sc_value.proofs.Common.{OutOfBounds, Ptr, Result, Some, Value, bind, cell_of, cells_at, false, if◌then◌else◌}
-use Rattle.sc_value.proofs.Common.{is_live, length, living, load, load_cell, loaded, nat_lt, or_cause, put_in}
-use Rattle.sc_value.proofs.Common.{read_cell, refl, slice_get, slice_set, store, store_cell, true, typed, with_cell}
-use Rattle.sc_value.proofs.Common.{◌≡◌}
+use Rattle.sc_value.proofs.Common.{Blocks, Bool, Cause, Err, List, None, Ok, Option, Ptr, Result, Some, Value, bind}
+use Rattle.sc_value.proofs.Common.{cell_of, cells_at, false, if◌then◌else◌, is_live, length, load, loaded, nat_lt, refl}
+use Rattle.sc_value.proofs.Common.{slice_get, slice_set, store, true, typed, with_cell, ◌≡◌}
+use Rattle.sc_core.specs.declared.cause.Cause.TheVariants.{BadType, Dangling, OutOfBounds}
+use Rattle.sc_core.specs.declared.value.Cell.{Cell}
+use Rattle.sc_blocks.specs.Rows.{living, load_cell, or_cause, put_in, read_cell, store_cell}
 use Rattle.sc_core.specs.declared.value.Cell.TheVariants as cell
 use Rattle.sc_core.specs.declared.value.Pointer.{Pointer}
 use Rattle.sc_blocks.specs.declared.fault.BlockFault.{BlockFault}

@@ -1,9 +1,11 @@
 -- What an expression gives, by what its parts give.
-use Rattle.sc_value.proofs.Common.{Blocks, Bool, Cause, Err, Here, List, Meant, None, Ok, Result, Some, Ty, TypedExpr}
-use Rattle.sc_value.proofs.Common.{TypedStruct, Value, Ways, Word, ap, applied_one, at_pointer, binary, bind, c_arith}
-use Rattle.sc_value.proofs.Common.{decided, false, fold-roll-TypedExpr, if◌then◌else◌, is_array, is_pointer, is_true}
+use Rattle.sc_value.proofs.Common.{Blocks, Bool, Cause, Err, Here, List, Meant, None, Ok, Result, Some, TypedExpr}
+use Rattle.sc_value.proofs.Common.{Value, Ways, Word, ap, applied_one, at_pointer, binary, bind, c_arith, decided}
+use Rattle.sc_value.proofs.Common.{false, fold-roll-TypedExpr, if◌then◌else◌, is_array, is_pointer, is_true}
 use Rattle.sc_value.proofs.Common.{is_unsigned, joined, literal, load, meant, meant_step, moved, of_bool, pos, refl}
 use Rattle.sc_value.proofs.Common.{sym, term_step, true, variable_at, wanted, ways, ℕ, ◌∙◌, ◌≡◌}
+use Rattle.sc_core.specs.declared.ty.Ty.{Ty}
+use Rattle.sc_core.specs.declared.section.TypedStruct.{TypedStruct}
 use Rattle.sc_base.specs.declared.op.UnaryOp.{UnaryOp}
 use Rattle.sc_base.specs.declared.op.BinaryOp.{BinaryOp}
 use Rattle.sc_base.specs.declared.op.BinaryOp.TheVariants as op

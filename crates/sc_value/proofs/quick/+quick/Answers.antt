@@ -1,4 +1,5 @@
-use Rattle.sc_value.proofs.Common.{IfSome_then, Word, ap, c_arith, here_of, sym, ways, ◌∙◌}
+use Rattle.sc_value.proofs.Common.{Word, ap, c_arith, here_of, sym, ways, ◌∙◌}
+use Rattle.std.proofs.lemmas.Option.{IfSome_then}
 use Rattle.sc_core.specs.declared.value.Want.TheVariants as want
 use Rattle.sc_value.proofs.Operands.{binary_known, element_known, word_same}
 use Rattle.sc_value.proofs.quick.+quick.Goals as goal
