@@ -1,21 +1,21 @@
 -- What is done at once, and leaves nothing that waits.
 use Rattle.sc_run.proofs.Common.{Acts, Body as Body', Bool, Bor, CameTo, Comes, Doing, Exit, Frame, Go, Left, List}
-use Rattle.sc_run.proofs.Common.{Loop, Memory, Next, None, Ok, Passes, PassesIf, Piece, ProgramTree, Reached, Route}
-use Rattle.sc_run.proofs.Common.{Run as Run', Seen, Some, SourceRun, Standing, State, Step, Steps, Stopped, TypedExpr}
-use Rattle.sc_run.proofs.Common.{TypedSimple, TypedStmt, Work, [], add-one, and_then, ap, arith, assign, block_acts}
-use Rattle.sc_run.proofs.Common.{c_arith, calls_in, drop, drop-cons, drop_all, ended_so, evaluated, false, follow}
-use Rattle.sc_run.proofs.Common.{get_or, here_of, in_body, in_loop, in_order, is_true, leave, length, length-drop}
-use Rattle.sc_run.proofs.Common.{loop_acts, next_acts, option_copied, part_acts, refl, resume, reverse}
-use Rattle.sc_run.proofs.Common.{roll-TypedStmtKind, seen_of, simple_does, stmt_acts, store_at, stored, subst, suc, sym}
-use Rattle.sc_run.proofs.Common.{take, take_all, true, turn, way_in, with_exit, ℕ, ◌++◌, ◌+◌, ◌-◌, ◌<◌, ◌∙◌, ◌∷◌, ◌≡◌}
-use Rattle.sc_run.proofs.Common.{◌≤◌}
+use Rattle.sc_run.proofs.Common.{Loop, Memory, Next, None, Ok, Passes, PassesIf, Piece, ProgramTree, Reached, Return}
+use Rattle.sc_run.proofs.Common.{Route, Run as Run', RunEnd, Seen, Some, SourceRun, Standing, State, Step, Steps, Stop}
+use Rattle.sc_run.proofs.Common.{Stopped, TypedExpr, TypedSimple, TypedStmt, Value, Work, [], add-one, and_then, ap}
+use Rattle.sc_run.proofs.Common.{arith, assign, block_acts, c_arith, calls_in, drop, drop-cons, drop_all, ended_so}
+use Rattle.sc_run.proofs.Common.{evaluated, false, follow, get_or, here_of, in_body, in_loop, in_order, is_true, leave}
+use Rattle.sc_run.proofs.Common.{length, length-drop, loop_acts, next_acts, option_copied, part_acts, refl, resume}
+use Rattle.sc_run.proofs.Common.{reverse, roll-TypedStmtKind, seen_of, simple_does, stmt_acts, store_at, stored, subst}
+use Rattle.sc_run.proofs.Common.{suc, sym, take, take_all, true, turn, way_in, with_exit, ℕ, ◌++◌, ◌+◌, ◌-◌, ◌<◌, ◌∙◌}
+use Rattle.sc_run.proofs.Common.{◌∷◌, ◌≡◌, ◌≤◌}
 use Rattle.sc_core.specs.declared.stmt.TypedStmtKind.TheOpen as layer
 use Rattle.sc_core.specs.declared.stmt.TypedSimpleKind.TheVariants as simple
 use Rattle.sc_core.specs.declared.value.Want.TheVariants as want
 use Rattle.sc_value.specs.Assigning.{AssignedIf, Holding}
 use Rattle.sc_run.proofs.Coming.{computed_comes, stored_ok, then_goes, turn_comes, with_memory}
 use Rattle.sc_run.proofs.Looping.{cond_evaluated, round_is, steps_later, steps_wait, tested}
-use Rattle.sc_run.proofs.Stating.{stmt_is}
+use Rattle.sc_run.proofs.Stating.{first_and_rest, stmt_is}
 use Rattle.sc_run.proofs.Unseen.{way_same}
 
 at_most : (a b c : ℕ) → b ≤ a → c ≤ b → c ≤ a
@@ -199,6 +199,29 @@ module _ (program : ProgramTree) (f : Frame) where
       subst (λ xs. Passes before after (block_by stmts) (block_by xs))
       (drop_all at stmts le ∙ sym (drop_all (length stmts) stmts (omega arith))) h
 
+  -- control leaves a function
+  pub value_leaves : (stmt : TypedStmt) (ref : TypedExpr) (e : TypedExpr) (v : Value) (seen : Seen) →
+      stmt.kind ≡ roll-TypedStmtKind (layer.ReturnValue e) → ref ≡ e →
+      Ok v ≡ way_in f ref want.Value (seen.memory f.scope.comp.now) → (rest : List TypedStmt) →
+      Passes seen seen (λ n s. block_acts program n f (stmt ∷ rest) tt s) (λ n s. leave (Return (Some v)) tt s)
+  value_leaves stmt ref e v seen is same gives rest =
+      passes_as (block_by (stmt ∷ rest)) (λ n s. ap (λ p. follow in_order p (block_acts program n f rest))
+      (stmt_is program f stmt (layer.ReturnValue e) is n s))
+      (passes_follow in_order (λ n. block_acts program n f rest)
+      (passes_by seen seen v (evaluated (here_of f.scope) want.Value (way_in f e) stmt.line)
+      (λ n v s. leave (Return (Some v)) tt s)
+      (computed_comes (here_of f.scope) stmt.line (λ bs. way_in f e want.Value bs)
+      (way_same f.scope.structs.now (here_of f.scope) f.scope.params e want.Value) seen v
+      (subst (λ x. Ok v ≡ way_in f x want.Value (seen.memory f.scope.comp.now)) same gives))))
+
+  pub first_leaves : (stmts : List TypedStmt) (stmt : TypedStmt) (exit : Exit) (seen : Seen) → 1 ≤ length stmts →
+      stmt ≡ get_or stmts 0 stmt → ((rest : List TypedStmt) →
+      Passes seen seen (λ n s. block_acts program n f (stmt ∷ rest) tt s) (λ n s. leave exit tt s)) →
+      Passes seen seen (λ n s. block_acts program n f stmts tt s) (λ n s. leave exit tt s)
+  first_leaves stmts stmt exit seen le item h =
+      passes_as (block_by stmts) (λ n s. ap (λ xs. block_by xs n s) (first_and_rest stmts stmt le item))
+      (h (drop 1 stmts))
+
   -- a part in the head of a `for`
   abbrev part_by : TypedSimple → Doing
   part_by part n s = part_acts program n f (Some part) tt s
@@ -305,3 +328,38 @@ module _ (program : ProgramTree) (f : Frame) where
       steps_behind program work f step after later g before middle (block_by stmts) (block_by (drop count stmts)) h
       (subst (λ xs. Steps program middle work f (λ n s. block_acts program n f xs tt s) step after later g)
       (rest_at count stmts) k)
+
+  -- control leaves the function behind the statements that were done
+  pub left_behind : (before middle : Seen) (work : List Work) (stmts body : List TypedStmt) (count : ℕ) (exit : Exit)
+      (step : Step) (after : Seen) (later : List Work) (g : Frame) → stmts ≡ body →
+      Passes before middle (λ n s. block_acts program n f stmts tt s)
+      (λ n s. block_acts program n f (drop count stmts) tt s) →
+      Passes middle middle (λ n s. block_acts program n f (take (length stmts - count) (drop count stmts)) tt s)
+      (λ n s. leave exit tt s) →
+      Steps program middle work f (λ n s. leave exit tt s) step after later g →
+      Steps program before work f (λ n s. block_acts program n f body tt s) step after later g
+  left_behind before middle work stmts body count exit step after later g same h left k =
+      subst (λ xs. Steps program before work f (block_by xs) step after later g) same
+      (list_behind before middle work stmts count step after later g h
+      (steps_behind program work f step after later g middle middle
+      (block_by (take (length stmts - count) (drop count stmts))) (λ n s. leave exit tt s) left k))
+
+  -- the function that called waits for the rest
+  pub rest_waits : (before middle : Seen) (work later : List Work) (stmts body : List TypedStmt) (count : ℕ)
+      (rest : Bor (List TypedStmt)) → stmts ≡ body → later ≡ work →
+      rest.now ≡ take (length stmts - count) (drop count stmts) →
+      Passes before middle (λ n s. block_acts program n f stmts tt s)
+      (λ n s. block_acts program n f (drop count stmts) tt s) →
+      Steps program before work f (λ n s. block_acts program n f body tt s) (Go (Run' rest)) middle later f
+  rest_waits before middle work later stmts body count rest is pushed same h =
+      subst (λ xs. Steps program before work f (block_by xs) (Go (Run' rest)) middle later f) is
+      (subst (λ ws. Steps program before work f (block_by stmts) (Go (Run' rest)) middle ws f) (sym pushed)
+      (list_behind before middle work stmts count (Go (Run' rest)) middle work f h
+      (steps_later program middle work f (Run' rest) (block_by (take (length stmts - count) (drop count stmts)))
+      (λ n s. ap (λ xs. block_by xs n s) (sym same)))))
+
+-- the end of a run, whatever waits
+pub stops_anywhere : (program : ProgramTree) (before after : Seen) (work : List Work) (f : Frame) (p : Doing)
+    (end : RunEnd) (later last : List Work) (g h : Frame) →
+    Steps program before work f p (Stop end) after later g → Steps program before work f p (Stop end) after last h
+stops_anywhere program before after work f p end later last g h steps = record { stands = steps.stands }

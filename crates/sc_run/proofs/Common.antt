@@ -8,6 +8,7 @@ pub use Rattle.std.proofs.Common.{ℤ, ◌&&◌, ◌++◌, ◌+ℤ◌, ◌+◌, 
 pub use Rattle.std.proofs.lemmas.Bool.{false≢true}
 pub use Rattle.std.proofs.lemmas.List.{drop_all, length-map, map-append, map-set, reverse-append, take-append-le}
 pub use Rattle.std.proofs.lemmas.List.{take-map, take_more}
+pub use Rattle.std.proofs.lemmas.Option.{IfSome_then, none-some, slice_get-map}
 pub use Rattle.std.proofs.lemmas.Result.{IfOk-weaker}
 pub use Rattle.std.specs.Option.{option_copied, option_map}
 pub use denote.Bor.{Bor}

@@ -1,8 +1,8 @@
 -- Functions of a program's library, by the program's tree.
 use Rattle.sc_run.proofs.Common.{EntryAt, List, None, ProgramTree, Some, TypedFunction, TypedSection, TypedStruct, []}
-use Rattle.sc_run.proofs.Common.{ap, c_arith, entry_in, function, function_of, functions_in, library, map, option_map}
-use Rattle.sc_run.proofs.Common.{refl, slice_get, slice_index_or, subst, suc, sym, zero, ℕ, ◌∙◌, ◌∷◌, ◌≡◌}
-use Rattle.std.proofs.lemmas.Option.{none-some, slice_get-map}
+use Rattle.sc_run.proofs.Common.{ap, c_arith, entry_in, function, function_of, functions_in, library, map, none-some}
+use Rattle.sc_run.proofs.Common.{option_map, refl, slice_get, slice_get-map, slice_index_or, subst, suc, sym, zero, ℕ}
+use Rattle.sc_run.proofs.Common.{◌∙◌, ◌∷◌, ◌≡◌}
 use Rattle.sc_event.specs.declared.row.Entry.{Entry}
 
 module _ (program : ProgramTree) where

@@ -1,11 +1,13 @@
 //! Calls: from their arguments to the first statement of what is called, and back (C11 6.5.2.2).
 
-ghost use Rattle.sc_run.specs.Prelude.{Advances, Begun, Steps, and_then, back_from, bodies, body_acts, c_arith};
-ghost use Rattle.sc_run.specs.Prelude.{entry_from, function, function_of, kept_by, library, result_goes, run_in};
-ghost use Rattle.sc_run.specs.Prelude.{told_call, turn, word_in};
-ghost use Rattle.std.specs.Prelude.{◌≡◌, ◌<◌, ◌^◌, IfOk, OnOk, Some, map, length};
+ghost use Rattle.sc_run.specs.Prelude.{Advances, Begun, Steps, and_then, back_from, block_acts, bodies, body_acts};
+ghost use Rattle.sc_run.specs.Prelude.{c_arith, entry_from, function, function_of, kept_by, library, result_goes};
+ghost use Rattle.sc_run.specs.Prelude.{run_in, told_call, turn, word_in};
+ghost use Rattle.std.specs.Prelude.{◌≡◌, ◌<◌, ◌^◌, ◌++◌, [], ◌∷◌, IfOk, OnOk, Some, map, length};
 
+use crate::leaves::return_to;
 use crate::machine::{Machine, init_all, make_blocks, store_at, take_turn, tell};
+use crate::plain::{done_first, left_at_once};
 use crate::work::{Callee, Frame, Leaving, Now, Run, Step, To, Work};
 use sc_base::OutOfMemory;
 use sc_core::{ProgramTree, Value};
@@ -140,6 +142,54 @@ fn words_of(alloc: Global, values: &[Value]) -> Result<Args, OutOfMemory>
     Ok(words)
 }
 
+// The statements of a call that has begun. Where what is left of them leaves the function at once, the function that
+// called doesn't wait for it.
+fn run_body<'a>(
+    program: &'a ProgramTree,
+    run: &mut Run<'a, '_>,
+    next: &Frame<'a>,
+    to: To<'a>,
+    crossing: Option<u16>,
+) -> Result<Step<'a>, OutOfMemory>
+    ensures { IfOk result (λ step. Steps program.now (kept_by run.old.machine)
+        (run.old.work.items ++ Work.Caller run.old.frame to.entry crossing ∷ []) next.now
+        (λ n s. block_acts program.now n next.now next.now.function.now.body tt s) step
+        (kept_by run.new.machine) run.new.work.items run.new.frame) }
+{
+    let stmts = next.function.body.as_slice();
+    let count = done_first(program, &mut run.machine, next, stmts);
+    let rest = &stmts[count..];
+    let caller = run.frame;
+    run.frame = *next;
+    match left_at_once(program, &run.machine, &run.frame, rest) {
+        Some(exit) => return_to(program, run, &caller, to, crossing, exit),
+        None => {
+            run.work.push(Work::Caller(caller, to, crossing))?;
+            Ok(Step::Go(Now::Run(rest)))
+        }
+    }
+}
+
+// The initialisers and the statements of a call that has begun.
+fn run_called<'a>(
+    program: &'a ProgramTree,
+    run: &mut Run<'a, '_>,
+    next: &Frame<'a>,
+    to: To<'a>,
+    crossing: Option<u16>,
+) -> Result<Step<'a>, OutOfMemory>
+    requires { length next.now.function.now.locals < 2 ^ 32 }
+    ensures { IfOk result (λ step. Steps program.now (kept_by run.old.machine)
+        (run.old.work.items ++ Work.Caller run.old.frame to.entry crossing ∷ []) next.now
+        (λ n s. body_acts program.now n next.now tt s) step
+        (kept_by run.new.machine) run.new.work.items run.new.frame) }
+{
+    match init_all(&mut run.machine, next) {
+        Ok(()) => run_body(program, run, next, to, crossing),
+        Err(end) => Ok(Step::Stop(end)),
+    }
+}
+
 // A function begins, once it is found: a turn, its event, its variables, and its first statement.
 pub fn enter<'a>(
     program: &'a ProgramTree,
@@ -163,9 +213,7 @@ pub fn enter<'a>(
         Ok(()) => {
             tell_call(&mut run.machine, &run.frame, callee, args, crossing)?;
             let next = begin(&mut run.machine, callee, args)?;
-            run.work.push(Work::Caller(run.frame, to, crossing))?;
-            run.frame = next;
-            Ok(start(program, &mut run.machine, &run.work, &run.frame))
+            run_called(program, run, &next, to, crossing)
         }
     }
 }

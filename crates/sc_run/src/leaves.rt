@@ -227,8 +227,8 @@ fn tell_back(
     }
 }
 
-// A call ends, and the function that called goes on.
-fn return_to<'a>(
+/// A call ends, and the function that called goes on.
+pub fn return_to<'a>(
     program: &'a ProgramTree,
     run: &mut Run<'a, '_>,
     caller: &Frame<'a>,

@@ -1,13 +1,15 @@
 //! Statements that are done at once, without anything that waits: where one isn't, the steps of `steps` do it.
 
-ghost use Rattle.sc_run.specs.Prelude.{Passes, PassesIf, assign, block_acts, c_arith, calls_in, ended_so, here_of};
-ghost use Rattle.sc_run.specs.Prelude.{in_body, in_round, kept_by, loop_acts, next_acts, simple_does, stmt_acts};
-ghost use Rattle.sc_run.specs.Prelude.{way_in};
-ghost use Rattle.std.specs.Prelude.{◌≡◌, ◌≤◌, IfSome, drop, length, suc, true};
+ghost use Rattle.sc_run.specs.Prelude.{Passes, PassesIf, assign, block_acts, c_arith, calls_in, ended_so, exit_of};
+ghost use Rattle.sc_run.specs.Prelude.{here_of, in_body, in_round, kept_by, leave, loop_acts, next_acts, simple_does};
+ghost use Rattle.sc_run.specs.Prelude.{stmt_acts, way_in};
+ghost use Rattle.std.specs.Prelude.{◌≡◌, ◌≤◌, ◌∷◌, IfSome, List, drop, length, suc, true};
 
 use crate::machine::Machine;
-use crate::work::{Frame, Loop};
-use sc_core::{ProgramTree, TypedExpr, TypedSimple, TypedSimpleKind, TypedStmt, TypedStmtKind};
+use crate::work::{Frame, Leaving, Loop};
+use sc_core::{
+    ProgramTree, TypedExpr, TypedSimple, TypedSimpleKind, TypedStmt, TypedStmtKind, Want,
+};
 
 // An assignment that meets no cause of blame, or nothing.
 #[inline(always)]
@@ -58,6 +60,45 @@ pub fn done_first(
         }
     }
     stmts.len()
+}
+
+// How control leaves a function by a statement, where that is known.
+#[inline(always)]
+fn left_by(
+    program: &ProgramTree,
+    machine: &Machine,
+    frame: &Frame,
+    stmt: &TypedStmt,
+) -> Option<Leaving>
+    ensures { IfSome result (λ exit. (rest : List TypedStmt) → Passes (kept_by machine.now) (kept_by machine.now)
+        (λ n s. block_acts program.now n frame.now (stmt.now ∷ rest) tt s) (λ n s. leave (exit_of exit) tt s)) }
+{
+    match &stmt.kind {
+        TypedStmtKind::Return => Some(Leaving::Return(None)),
+        TypedStmtKind::ReturnValue(value) => {
+            match sc_value::evaluate(&machine.blocks, &frame.scope, Want::Value, value) {
+                Ok(value) => Some(Leaving::Return(Some(value))),
+                Err(_) => None,
+            }
+        }
+        _ => None,
+    }
+}
+
+/// How control leaves the last statements of a function, where that is known at once.
+pub fn left_at_once(
+    program: &ProgramTree,
+    machine: &Machine,
+    frame: &Frame,
+    stmts: &[TypedStmt],
+) -> Option<Leaving>
+    ensures { IfSome result (λ exit. Passes (kept_by machine.now) (kept_by machine.now)
+        (λ n s. block_acts program.now n frame.now stmts.now tt s) (λ n s. leave (exit_of exit) tt s)) }
+{
+    match stmts {
+        [] => Some(Leaving::Next),
+        [stmt, ..] => left_by(program, machine, frame, stmt),
+    }
 }
 
 // A part of a `for` that makes no call, or nothing.

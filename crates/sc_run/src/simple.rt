@@ -18,7 +18,7 @@ use sc_core::{
     Value,
 };
 use sc_event::{CompId, Entry, Event, Interfaces};
-use sqlite_items::Items;
+use sc_value::Arguments;
 use std::alloc::AllocError;
 
 // The values of arguments from left to right.
@@ -27,7 +27,7 @@ fn given_all(
     frame: &Frame,
     exprs: &[TypedExpr],
     line: u32,
-) -> Result<Result<Items<Value>, RunEnd>, AllocError>
+) -> Result<Result<Arguments, RunEnd>, AllocError>
     ensures { IfOk result (λ found. Comes (kept_by machine.now) (kept_by machine.now) found
         (λ s. computed (here_of frame.now.scope) line
         (values (map (way_in frame.now) exprs.now) (s.memory frame.now.scope.comp.now)) s)) }

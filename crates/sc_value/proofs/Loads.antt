@@ -2,9 +2,9 @@
 use Rattle.sc_value.proofs.Common.{Blocks, Bool, Cause, Err, List, None, Ok, Option, Ptr, Result, Some, Value, bind}
 use Rattle.sc_value.proofs.Common.{cell_of, cells_at, false, if◌then◌else◌, is_live, length, load, loaded, nat_lt, refl}
 use Rattle.sc_value.proofs.Common.{slice_get, slice_set, store, true, typed, with_cell, ◌≡◌}
-use Rattle.sc_blocks.specs.Rows.{living, load_cell, or_cause, put_in, read_cell, store_cell}
-use Rattle.sc_core.specs.declared.cause.Cause.TheVariants.{OutOfBounds, BadType, Dangling}
+use Rattle.sc_core.specs.declared.cause.Cause.TheVariants.{BadType, Dangling, OutOfBounds}
 use Rattle.sc_core.specs.declared.value.Cell.{Cell}
+use Rattle.sc_blocks.specs.Rows.{living, load_cell, or_cause, put_in, read_cell, store_cell}
 use Rattle.sc_core.specs.declared.value.Cell.TheVariants as cell
 use Rattle.sc_core.specs.declared.value.Pointer.{Pointer}
 use Rattle.sc_blocks.specs.declared.fault.BlockFault.{BlockFault}

@@ -1,13 +1,14 @@
 -- What an expression gives, by what its parts give.
 use Rattle.sc_value.proofs.Common.{Blocks, Bool, Cause, Err, Here, List, Meant, None, Ok, Result, Some, TypedExpr}
-use Rattle.sc_value.proofs.Common.{Value, Ways, Word, ap, applied_one, at_pointer, binary, bind, c_arith, false}
-use Rattle.sc_value.proofs.Common.{fold-roll-TypedExpr, if◌then◌else◌, is_true, is_unsigned, literal, meant, meant_step}
-use Rattle.sc_value.proofs.Common.{moved, of_bool, pos, refl, sym, term_step, true, variable_at, wanted, ways, ℕ, ◌∙◌}
-use Rattle.sc_value.proofs.Common.{◌≡◌}
+use Rattle.sc_value.proofs.Common.{Value, Ways, Word, ap, applied_one, at_pointer, binary, bind, c_arith, decided}
+use Rattle.sc_value.proofs.Common.{false, fold-roll-TypedExpr, if◌then◌else◌, is_array, is_pointer, is_true}
+use Rattle.sc_value.proofs.Common.{is_unsigned, joined, literal, load, meant, meant_step, moved, of_bool, pos, refl}
+use Rattle.sc_value.proofs.Common.{sym, term_step, true, variable_at, wanted, ways, ℕ, ◌∙◌, ◌≡◌}
+use Rattle.sc_core.specs.declared.ty.Ty.{Ty}
+use Rattle.sc_core.specs.declared.section.TypedStruct.{TypedStruct}
 use Rattle.sc_base.specs.declared.op.UnaryOp.{UnaryOp}
 use Rattle.sc_base.specs.declared.op.BinaryOp.{BinaryOp}
 use Rattle.sc_base.specs.declared.op.BinaryOp.TheVariants as op
-use Rattle.sc_core.specs.declared.ty.Ty.{Ty}
 use Rattle.sc_core.specs.declared.expr.TypedKind.{TypedKind, TypedKind-F, roll-TypedKind}
 use Rattle.sc_core.specs.declared.expr.TypedKind.TheOpen as term
 use Rattle.sc_core.specs.declared.expr.TypedKind.TheVariants.{Literal, Variable, Unary, Binary, Index, Member, Arrow}
@@ -15,11 +16,10 @@ use Rattle.sc_core.specs.declared.expr.TypedKind.TheVariants.{Deref, Address, ro
 use Rattle.sc_core.specs.declared.expr.TypedKind.TheVariants.{rolls-Unary, rolls-Binary, rolls-Index, rolls-Member}
 use Rattle.sc_core.specs.declared.expr.TypedKind.TheVariants.{rolls-Arrow, rolls-Deref, rolls-Address}
 use Rattle.sc_core.specs.declared.expr.VarRef.{VarRef}
-use Rattle.sc_core.specs.declared.section.TypedStruct.{TypedStruct}
 use Rattle.sc_core.specs.declared.value.Want.{Want}
 use Rattle.sc_core.specs.declared.value.Want.TheVariants as want
 use Rattle.sc_core.proofs.Layers.{expr_at, term_of}
-use Rattle.sc_value.specs.Evaluation.{decided, joined, or_else}
+use Rattle.sc_value.specs.Evaluation.{or_else}
 
 by_first : (r : Result Value Cause) (f g : Value → Result Value Cause) → ((v : Value) → f v ≡ g v) → bind r f ≡ bind r g
 by_first (Err cause) f g h = refl
@@ -150,3 +150,53 @@ module _ (structs : List TypedStruct) where
     pub address_gives : (e a : TypedExpr) (wish : Want) (blocks : Blocks) → e.kind ≡ Address a →
         way e wish blocks ≡ way a want.Place blocks
     address_gives e a wish blocks is = λ i. way_at e (term.Address a) (is ∙ sym (rolls-Address a)) i wish blocks
+
+    -- an expression that was found to be another, and its word
+    pub word_same : (a b : TypedExpr) (blocks : Blocks) (v w : ℕ) → b ≡ a → v ≡ w →
+        way b want.Value blocks ≡ Ok (Word w) → way a want.Value blocks ≡ Ok (Word v)
+    word_same a b blocks v w same is gives =
+        ap (λ e. way e want.Value blocks) (sym same) ∙ gives ∙ ap (λ n. Ok (Word n)) (sym is)
+
+    module _ (e a b left right : TypedExpr) (blocks : Blocks) (v w x : Value) (l : left ≡ a) (r : right ≡ b)
+        (first : way a want.Value blocks ≡ Ok v) (second : way b want.Value blocks ≡ Ok w) where
+      -- both operands are known, and the first decides nothing
+      pub binary_known : (o : BinaryOp) → e.kind ≡ Binary o a b → decided o v ≡ None →
+          joined structs blocks o left.ty right.ty v w ≡ Ok x → way e want.Value blocks ≡ Ok x
+      binary_known o is none both =
+          binary_gives e o a b want.Value blocks is
+          ∙ ap (λ r. bind r (λ v. or_else (decided o v) (bind (way b want.Value blocks)
+          (joined structs blocks o a.ty b.ty v)))) first
+          ∙ ap (λ d. or_else d (bind (way b want.Value blocks) (joined structs blocks o a.ty b.ty v))) none
+          ∙ ap (λ r. bind r (joined structs blocks o a.ty b.ty v)) second
+          ∙ ap (λ t. joined structs blocks o t.ty b.ty v w) (sym l)
+          ∙ ap (λ t. joined structs blocks o left.ty t.ty v w) (sym r) ∙ both
+
+      -- array and index are known, and the element is of an integer type
+      pub element_known : e.kind ≡ Index a b → is_array e.ty ≡ false → is_pointer e.ty ≡ false →
+          bind (at_pointer structs blocks op.Add left.ty right.ty v w) (load blocks false) ≡ Ok x →
+          way e want.Value blocks ≡ Ok x
+      element_known is array pointer both =
+          index_gives e a b want.Value blocks is
+          ∙ ap (λ r. bind (bind r (λ v. bind (way b want.Value blocks) (at_pointer structs blocks op.Add a.ty b.ty v)))
+          (λ q. wanted e.ty q want.Value blocks)) first
+          ∙ ap (λ r. bind (bind r (at_pointer structs blocks op.Add a.ty b.ty v))
+          (λ q. wanted e.ty q want.Value blocks)) second
+          ∙ ap (λ t. bind (at_pointer structs blocks op.Add a.ty b.ty v w)
+          (λ q. if t then Ok q else load blocks (is_pointer e.ty) q)) array
+          ∙ ap (λ t. bind (at_pointer structs blocks op.Add a.ty b.ty v w) (load blocks t)) pointer
+          ∙ ap (λ t. bind (at_pointer structs blocks op.Add t.ty b.ty v w) (load blocks false)) (sym l)
+          ∙ ap (λ t. bind (at_pointer structs blocks op.Add left.ty t.ty v w) (load blocks false)) (sym r) ∙ both
+
+      -- array and index are known, and with them the place of the element
+      pub place_known : (row : Blocks) → row ≡ blocks → e.kind ≡ Index a b →
+          at_pointer structs row op.Add left.ty right.ty v w ≡ Ok x → way e want.Place blocks ≡ Ok x
+      place_known row same is both =
+          index_gives e a b want.Place blocks is
+          ∙ ap (λ r. bind (bind r (λ v. bind (way b want.Value blocks) (at_pointer structs blocks op.Add a.ty b.ty v)))
+          (λ q. wanted e.ty q want.Place blocks)) first
+          ∙ ap (λ r. bind (bind r (at_pointer structs blocks op.Add a.ty b.ty v))
+          (λ q. wanted e.ty q want.Place blocks)) second
+          ∙ ap (λ t. bind (at_pointer structs blocks op.Add t.ty b.ty v w) (λ q. Ok q)) (sym l)
+          ∙ ap (λ t. bind (at_pointer structs blocks op.Add left.ty t.ty v w) (λ q. Ok q)) (sym r)
+          ∙ ap (λ bs. bind (at_pointer structs bs op.Add left.ty right.ty v w) (λ q. Ok q)) (sym same)
+          ∙ ap (λ r. bind r (λ q. Ok q)) both

@@ -7,7 +7,9 @@ ghost use Rattle.sc_core.specs.declared.value.Want.TheVariants as want;
 
 use crate::Scope;
 use crate::access::store;
+use crate::elements::{array_block, element_place};
 use crate::expressions::{evaluate_whole, value_at_once, variable_at};
+use crate::quick::quick;
 use crate::words::is_true;
 use sc_blocks::Blocks;
 use sc_core::{TypedExpr, TypedKind, Value, Want};
@@ -38,7 +40,7 @@ fn is_stored(blocks: &mut Blocks, comp: CompId, place: Value, value: Value) -> b
     }
 }
 
-// The place that a variable is. None of another expression.
+// The place that a variable is, or an element of an array that is named. None of another expression.
 #[inline(always)]
 fn place_at_once(blocks: &Blocks, scope: &Scope, expr: &TypedExpr) -> Option<Value>
     ensures { IfSome result (λ place. ways c_arith scope.now.structs.now (here_of scope.now) scope.now.params expr.now
@@ -46,6 +48,14 @@ fn place_at_once(blocks: &Blocks, scope: &Scope, expr: &TypedExpr) -> Option<Val
 {
     match &expr.kind {
         TypedKind::Variable(name) => Some(variable_at(scope, *name)),
+        TypedKind::Index { base, index } => {
+            let block = array_block(scope, base.get())?;
+            let row = blocks.row(*scope.comp)?;
+            let word = quick(row, scope, index.get())?;
+            let types = (base.get().ty, index.get().ty);
+            let place = element_place(row, scope, types, block, word)?;
+            Some(Value::Ptr(place))
+        }
         _ => None,
     }
 }

@@ -1,14 +1,14 @@
 //! Expressions (C11 6.5), by recursion on the tree, whose height is at most 256.
 
-ghost use Rattle.sc_value.specs.Prelude.{applied, at_pointer, c_arith, here_of, is_unsigned_op, literal, memory_of};
-ghost use Rattle.sc_value.specs.Prelude.{values, variable_at, wanted, ways};
+ghost use Rattle.sc_value.specs.Prelude.{Add, applied, at_pointer, c_arith, decided, here_of, is_unsigned_op, joined};
+ghost use Rattle.sc_value.specs.Prelude.{literal, memory_of, values, variable_at, wanted, ways};
 ghost use Rattle.std.specs.Prelude.{◌≡◌, map, IfOk, IfSome, Ok};
-ghost use Rattle.sc_base.specs.declared.op.BinaryOp.TheVariants.{Add};
 ghost use Rattle.sc_core.specs.declared.value.Want.TheVariants as want;
-ghost use Rattle.sc_value.specs.Evaluation.{decided, joined};
 
 use crate::Scope;
 use crate::access::load;
+use crate::arguments::Arguments;
+use crate::elements::{array_block, block_of};
 use crate::moves::{moved_back, moved_on, offset_by};
 use crate::pointers::between;
 use crate::quick::quick;
@@ -18,7 +18,6 @@ use sc_blocks::Blocks;
 use sc_core::{
     Cause, Pointer, Ty, TypedExpr, TypedKind, Value, VarRef, Want, is_unsigned_op, target_cells,
 };
-use sqlite_items::Items;
 use std::alloc::{AllocError, Global};
 
 fn literal(ty: Ty, word: u32) -> Value
@@ -35,11 +34,7 @@ fn literal(ty: Ty, word: u32) -> Value
 pub fn variable_at(scope: &Scope, variable: VarRef) -> Value
     ensures { result ≡ variable_at (here_of scope.now) scope.now.params variable }
 {
-    let block = match variable {
-        VarRef::Global(number) => number as u64,
-        VarRef::Param(number) => scope.first as u64 + number as u64,
-        VarRef::Local(number) => scope.first as u64 + scope.params as u64 + number as u64,
-    };
+    let block = block_of(scope, variable);
     Value::Ptr(Pointer { block, index: 0 })
 }
 
@@ -158,10 +153,8 @@ pub(crate) fn value_at_once(blocks: &Blocks, scope: &Scope, expr: &TypedExpr) ->
     ensures { IfSome result (λ value. ways c_arith scope.now.structs.now (here_of scope.now) scope.now.params expr.now
         want.Value (memory_of blocks.now scope.now.comp.now) ≡ Ok value) }
 {
-    if let TypedKind::Variable(name) = &expr.kind {
-        if expr.ty.is_array() {
-            return Some(variable_at(scope, *name));
-        }
+    if let Some(block) = array_block(scope, expr) {
+        return Some(Value::Ptr(Pointer { block, index: 0 }));
     }
     let row = blocks.row(*scope.comp)?;
     let word = quick(row, scope, expr)?;
@@ -258,12 +251,12 @@ pub fn evaluate_all(
     blocks: &Blocks,
     scope: &Scope,
     exprs: &[TypedExpr],
-) -> Result<Result<Items<Value>, Cause>, AllocError>
+) -> Result<Result<Arguments, Cause>, AllocError>
     ensures { IfOk result (λ found. found ≡ values (map
         (ways c_arith scope.now.structs.now (here_of scope.now) scope.now.params) exprs.now)
         (memory_of blocks.now scope.now.comp.now)) }
 {
-    let mut found = Items::new(alloc);
+    let mut found = Arguments::new(alloc);
     for expr in exprs {
         match evaluate(blocks, scope, Want::Value, expr) {
             Ok(value) => found.push(value)?,

@@ -2,7 +2,9 @@
 #![tactic(auto)]
 
 mod access;
+mod arguments;
 mod at_once;
+mod elements;
 mod expressions;
 mod moves;
 mod pointers;
@@ -11,6 +13,7 @@ mod standing;
 mod words;
 
 pub use access::{cell_of, load, store};
+pub use arguments::Arguments;
 pub use at_once::{holds, is_assigned};
 pub use expressions::{evaluate, evaluate_all, variable_at};
 pub use standing::Scope;

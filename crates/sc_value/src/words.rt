@@ -9,6 +9,7 @@ use sc_base::{BinaryOp, UnaryOp};
 use sc_core::{Cause, Value};
 use sc_word::WordFault;
 
+#[inline(always)]
 fn or_cause(answer: Result<u32, WordFault>) -> Result<u32, Cause>
     ensures { result ≡ or_cause answer }
 {
@@ -20,12 +21,14 @@ fn or_cause(answer: Result<u32, WordFault>) -> Result<u32, Cause>
     }
 }
 
-fn truth(holds: bool) -> u32
+#[inline(always)]
+pub(crate) fn truth(holds: bool) -> u32
     ensures { result ≡ truth holds }
 {
     if holds { 1 } else { 0 }
 }
 
+#[inline(always)]
 fn is_less(unsigned: bool, a: u32, b: u32) -> bool
     ensures { result ≡ is_less unsigned a b }
 {
@@ -36,6 +39,7 @@ fn is_less(unsigned: bool, a: u32, b: u32) -> bool
     }
 }
 
+#[inline(always)]
 fn on_signed(op: BinaryOp, a: u32, b: u32) -> Result<u32, Cause>
     ensures { result ≡ c_binary false op a b }
 {
@@ -61,6 +65,7 @@ fn on_signed(op: BinaryOp, a: u32, b: u32) -> Result<u32, Cause>
     }
 }
 
+#[inline(always)]
 fn on_unsigned(op: BinaryOp, a: u32, b: u32) -> Result<u32, Cause>
     ensures { result ≡ c_binary true op a b }
 {
@@ -87,6 +92,7 @@ fn on_unsigned(op: BinaryOp, a: u32, b: u32) -> Result<u32, Cause>
 }
 
 /// An operator between two words, of which pointers are none.
+#[inline(always)]
 pub fn on_words(unsigned: bool, op: BinaryOp, left: Value, right: Value) -> Result<Value, Cause>
     ensures { result ≡ on_words c_arith unsigned op left right }
 {
@@ -104,6 +110,7 @@ pub fn on_words(unsigned: bool, op: BinaryOp, left: Value, right: Value) -> Resu
     Ok(Value::Word(word))
 }
 
+#[inline(always)]
 fn negated(unsigned: bool, a: u32) -> Result<u32, Cause>
     ensures { result ≡ c_negated unsigned a }
 {
@@ -115,6 +122,7 @@ fn negated(unsigned: bool, a: u32) -> Result<u32, Cause>
 }
 
 /// An operator in front of its operand.
+#[inline(always)]
 pub fn applied_one(unsigned: bool, op: UnaryOp, value: Value) -> Result<Value, Cause>
     ensures { result ≡ applied_one c_arith unsigned op value }
 {
@@ -126,6 +134,7 @@ pub fn applied_one(unsigned: bool, op: UnaryOp, value: Value) -> Result<Value, C
     }
 }
 
+#[inline(always)]
 fn minus(unsigned: bool, value: Value) -> Result<Value, Cause>
     ensures { result ≡ applied_one c_arith unsigned Minus value }
 {
@@ -135,6 +144,7 @@ fn minus(unsigned: bool, value: Value) -> Result<Value, Cause>
     Ok(Value::Word(negated(unsigned, a)?))
 }
 
+#[inline(always)]
 fn bit_not(value: Value) -> Result<Value, Cause>
     ensures { result ≡ applied_one c_arith false BitNot value }
 {
@@ -145,6 +155,7 @@ fn bit_not(value: Value) -> Result<Value, Cause>
 }
 
 /// Whether a condition holds: a word that is not 0, or a pointer that is not null.
+#[inline(always)]
 pub fn is_true(value: Value) -> bool
     ensures { result ≡ is_true value }
 {
@@ -156,6 +167,7 @@ pub fn is_true(value: Value) -> bool
 }
 
 /// `int` 1 or 0.
+#[inline(always)]
 pub fn of_bool(holds: bool) -> Value
     ensures { result ≡ of_bool holds }
 {
@@ -163,6 +175,7 @@ pub fn of_bool(holds: bool) -> Value
 }
 
 /// The whole number that an index of this signedness stands for.
+#[inline(always)]
 pub fn number_of(unsigned: bool, word: u32) -> i64
     ensures { result ≡ number_of unsigned word }
 {
