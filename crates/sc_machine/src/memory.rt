@@ -11,6 +11,7 @@ use sc_base::TrapReason;
 use sc_store::Store;
 
 /// Loads from an address into a register.
+#[inline(always)]
 pub(crate) fn load<S: Store>(
     here: &Here<'_>,
     core: &mut Core,
@@ -33,6 +34,7 @@ pub(crate) fn load<S: Store>(
 }
 
 /// Stores the lowest bytes of a word at an address.
+#[inline(always)]
 pub(crate) fn store<S: Store>(
     here: &Here<'_>,
     core: &mut Core,
@@ -100,8 +102,20 @@ fn store_size(op: StoreOp) -> u32
     }
 }
 
-/// The word that is loaded from an address.
+/// The word that is loaded from an address. Whole words, the most frequent, are loaded without a call.
+#[inline(always)]
 fn loaded<S: Store>(memory: &S, op: LoadOp, address: u32) -> u32
+    requires { HasBytes (S.bytes memory.now) address (load_size op) }
+    ensures { result ≡ extended op (load_of (S.bytes memory.now) address (load_size op)) }
+{
+    match op {
+        LoadOp::Lw => memory.load32(address),
+        _ => loaded_any(memory, op, address),
+    }
+}
+
+#[inline(never)]
+fn loaded_any<S: Store>(memory: &S, op: LoadOp, address: u32) -> u32
     requires { HasBytes (S.bytes memory.now) address (load_size op) }
     ensures { result ≡ extended op (load_of (S.bytes memory.now) address (load_size op)) }
 {
@@ -138,8 +152,20 @@ fn signed_half(half: u32) -> u32
     }
 }
 
-/// Puts the lowest bytes of a word at an address.
+/// Puts the lowest bytes of a word at an address. Whole words are put without a call.
+#[inline(always)]
 fn put<S: Store>(memory: &mut S, op: StoreOp, address: u32, word: u32)
+    requires { HasBytes (S.bytes memory.old) address (store_size op) }
+    ensures { S.bytes memory.new ≡ stored (S.bytes memory.old) address (store_size op) word }
+{
+    match op {
+        StoreOp::Sw => memory.store32(address, word),
+        _ => put_any(memory, op, address, word),
+    }
+}
+
+#[inline(never)]
+fn put_any<S: Store>(memory: &mut S, op: StoreOp, address: u32, word: u32)
     requires { HasBytes (S.bytes memory.old) address (store_size op) }
     ensures { S.bytes memory.new ≡ stored (S.bytes memory.old) address (store_size op) word }
 {
