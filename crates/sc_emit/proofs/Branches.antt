@@ -12,12 +12,12 @@ use Rattle.sc_emit.proofs.Common.{first_scratch, fold-TacStmt, fold-roll-TacStmt
 use Rattle.sc_emit.proofs.Common.{frame_taken, function_lines, has_known_jumps, has_no_ebreak, if◌then◌else◌, in_order}
 use Rattle.sc_emit.proofs.Common.{in_turn, int_le, is_branch, is_ebreak, is_known_jump, is_place, is_short, joined}
 use Rattle.sc_emit.proofs.Common.{jump_back, jump_over, keep, kept, leb-true, length, list_all, list_all-append}
-use Rattle.sc_emit.proofs.Common.{list_all-map, load_from, load_word, loading, lower_part, ltb-true, map, map-TacStmt}
-use Rattle.sc_emit.proofs.Common.{most_lines, most_params, moved_by, nat_le, nat_lt, neg_ℤ, negsuc, not, object_offset}
-use Rattle.sc_emit.proofs.Common.{object_read, op_code, operand, operation, order_keeps, pass, passes_few, place_of}
-use Rattle.sc_emit.proofs.Common.{place_of_global, plain, plainly, pos, put, ra, receive, refl, register_count}
-use Rattle.sc_emit.proofs.Common.{register_of, register_there, result_register, return, role_first, role_of_load}
-use Rattle.sc_emit.proofs.Common.{round_begins, rules, second_operand, second_scratch, select, select_all, select_step}
+use Rattle.sc_emit.proofs.Common.{list_all-map, load_from, load_word, loading, loop_begins, lower_part, ltb-true, map}
+use Rattle.sc_emit.proofs.Common.{map-TacStmt, most_lines, most_params, moved_by, nat_le, nat_lt, neg_ℤ, negsuc, not}
+use Rattle.sc_emit.proofs.Common.{object_offset, object_read, op_code, operand, operation, order_keeps, pass}
+use Rattle.sc_emit.proofs.Common.{passes_few, place_of, place_of_global, plain, plainly, pos, put, ra, receive, refl}
+use Rattle.sc_emit.proofs.Common.{register_count, register_of, register_there, result_register, return, role_first}
+use Rattle.sc_emit.proofs.Common.{role_of_load, rules, second_operand, second_scratch, select, select_all, select_step}
 use Rattle.sc_emit.proofs.Common.{signed_of, slice_get, slot_offset, sp, stmt_branches, stmt_induction, store_arguments}
 use Rattle.sc_emit.proofs.Common.{store_to, store_word, straight, straightly, sub_word, subst, suc, sum_by-append, sym}
 use Rattle.sc_emit.proofs.Common.{take, take_second, taken, total, true, unary_code, upper_part, with_parts}
@@ -388,15 +388,15 @@ module _ (test : Line → Bool) (mild : IsMild test) (frame : FrameTree) (places
       PassesAll test (cycle frame places h b n)
   cycle_passes h b n hh hb hn = record {
     passes = λ to_break to_continue.
-        let back : List Line = jump_back (suc (h.size + (b.size + n.size))) ∷ [] in
+        let back : List Line = jump_back (h.size + (b.size + n.size)) ∷ [] in
         let last : List Line = n.lines 1 0 ++ back in
         let middle : List Line = b.lines (suc n.size) 0 ++ last in
         let head : List Line = h.lines (b.size + suc n.size) 0 in
-        and_from (test round_begins) (list_all test (head ++ middle)) (mild.mild _ refl)
+        and_from (test loop_begins) (list_all test (head ++ middle)) (mild.mild _ refl)
         (all_append test head middle (hh.passes (b.size + suc n.size) 0)
         (all_append test (b.lines (suc n.size) 0) last (hb.passes (suc n.size) 0)
         (all_append test (n.lines 1 0) back (hn.passes 1 0)
-        (and_from (test (jump_back (suc (h.size + (b.size + n.size))))) true (mild.mild _ refl) refl))));
+        (and_from (test (jump_back (h.size + (b.size + n.size)))) true (mild.mild _ refl) refl))));
   }
 
 -- BRANCHES AND EBREAKS
@@ -454,7 +454,7 @@ module _ (frame : FrameTree) (places : List Place) where
       IsShaped (k + (n + (m + 0))) (cycle frame places h b e)
   cycle_shaped k n m h b e hh hb he = record {
     few = λ to_break to_continue.
-        let back : List Line = jump_back (suc (h.size + (b.size + e.size))) ∷ [] in
+        let back : List Line = jump_back (h.size + (b.size + e.size)) ∷ [] in
         let last : List Line = e.lines 1 0 ++ back in
         let middle : List Line = b.lines (suc e.size) 0 ++ last in
         omega (
@@ -1026,7 +1026,7 @@ module _ (frame : FrameTree) (places : List Place) (there : (t : ℕ) → IsTher
       IsEncodable (cycle frame places h b n)
   cycle_encodable h b n eh eb en = record {
     encodable = λ to_break to_continue hb hc.
-        let back : List Line = jump_back (suc (h.size + (b.size + n.size))) ∷ [] in
+        let back : List Line = jump_back (h.size + (b.size + n.size)) ∷ [] in
         let last : List Line = n.lines 1 0 ++ back in
         let middle : List Line = b.lines (suc n.size) 0 ++ last in
         let head : List Line = h.lines (b.size + suc n.size) 0 in (
@@ -1036,7 +1036,7 @@ module _ (frame : FrameTree) (places : List Place) (there : (t : ℕ) → IsTher
               (both_instr_lines (b.lines (suc n.size) 0) last
               (eb.encodable (suc n.size) 0 (omega (arith, hb)) (omega (arith, hb)))
               (both_instr_lines (n.lines 1 0) back (en.encodable 1 0 (omega (arith, hb)) (omega (arith, hb)))
-              ((x0_there, back_fits (suc (h.size + (b.size + n.size))) (omega (arith, hb))), tt))),
+              ((x0_there, back_fits (h.size + (b.size + n.size)) (omega (arith, hb))), tt))),
         );
   }
 

@@ -72,14 +72,14 @@ pub use Rattle.sc_select.specs.Prelude.{brought, bytes_of, call_cross, call_own,
 pub use Rattle.sc_select.specs.Prelude.{copied, cycle, entrance, environment_call, first_scratch, followed, fork}
 pub use Rattle.sc_select.specs.Prelude.{frame_left, frame_taken, function_lines, in_order, in_turn, is_named, is_short}
 pub use Rattle.sc_select.specs.Prelude.{joined, joins, jump_back, jump_over, keep, kept, linked, load_from, load_word}
-pub use Rattle.sc_select.specs.Prelude.{loading, low_after, lower_part, most_lines, move, moved_by, nothing}
-pub use Rattle.sc_select.specs.Prelude.{object_offset, object_read, op_code, operand, operation, pass, place_of}
-pub use Rattle.sc_select.specs.Prelude.{place_of_global, plain, plainly, put, ra, reading, receive, referring}
+pub use Rattle.sc_select.specs.Prelude.{loading, loop_begins, low_after, lower_part, most_lines, move, moved_by}
+pub use Rattle.sc_select.specs.Prelude.{nothing, object_offset, object_read, op_code, operand, operation, pass}
+pub use Rattle.sc_select.specs.Prelude.{place_of, place_of_global, plain, plainly, put, ra, reading, receive, referring}
 pub use Rattle.sc_select.specs.Prelude.{refers_only, register_of, relocation_of, relocations_from, result_register}
-pub use Rattle.sc_select.specs.Prelude.{return, role_first, role_of_load, round_begins, second_operand, second_scratch}
-pub use Rattle.sc_select.specs.Prelude.{select, select_all, select_step, slot_offset, sp, store_arguments, store_to}
-pub use Rattle.sc_select.specs.Prelude.{store_word, straight, straightly, take, take_second, taken, unary_code}
-pub use Rattle.sc_select.specs.Prelude.{upper_part, word_of_constant}
+pub use Rattle.sc_select.specs.Prelude.{return, role_first, role_of_load, second_operand, second_scratch, select}
+pub use Rattle.sc_select.specs.Prelude.{select_all, select_step, slot_offset, sp, store_arguments, store_to, store_word}
+pub use Rattle.sc_select.specs.Prelude.{straight, straightly, take, take_second, taken, unary_code, upper_part}
+pub use Rattle.sc_select.specs.Prelude.{word_of_constant}
 pub use Rattle.sc_select.specs.declared.roles.Role.{Role}
 pub use Rattle.sc_select.specs.declared.roles.Role.TheVariants.{Other, Places}
 pub use Rattle.sc_pieces.proofs.Frames.{leaves_frame, overflows, takes_frame}

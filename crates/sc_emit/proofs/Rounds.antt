@@ -4,14 +4,14 @@ use Rattle.sc_emit.proofs.Common.{Other, Place, Places, Role, Some, TacFnTree, T
 use Rattle.sc_emit.proofs.Common.{and_rest, ap, append_assoc, arith, between, call_cross, call_own, choice, closing}
 use Rattle.sc_emit.proofs.Common.{code_back_edges, code_of, cond, count_by, cycle, entrance, environment_call}
 use Rattle.sc_emit.proofs.Common.{everywhere, false, first_scratch, fold-roll-TacStmt, fork, gives_place, if◌then◌else◌}
-use Rattle.sc_emit.proofs.Common.{in_turn, inl, is_backward, is_known_jump, is_read, joined, joins, jump_back}
+use Rattle.sc_emit.proofs.Common.{in_turn, inl, inr, is_backward, is_known_jump, is_read, joined, joins, jump_back}
 use Rattle.sc_emit.proofs.Common.{jump_over, leads_back, length, length-append, length-map, list_all, list_all-map}
-use Rattle.sc_emit.proofs.Common.{loads_it, loop_step, loops, lt-leb, map, map-TacStmt, map-append, neg_ℤ, not}
-use Rattle.sc_emit.proofs.Common.{object_read, operand, place_of, place_of_global, plain, plainly, pos, reading}
-use Rattle.sc_emit.proofs.Common.{receive, refl, role_first, role_of_load, round_begins, row_is_sized, select}
-use Rattle.sc_emit.proofs.Common.{select_all, select_step, stmt_induction, stmt_loops, straight as lines_of, straightly}
-use Rattle.sc_emit.proofs.Common.{subst, suc, sum_by-append, sym, take, true, word_of_constant, ℕ, ⊎_elim, ◌&&◌, ◌*◌}
-use Rattle.sc_emit.proofs.Common.{◌++◌, ◌+◌, ◌==◌, ◌∙◌, ◌∷◌, ◌≡◌, ◌≤◌}
+use Rattle.sc_emit.proofs.Common.{loads_it, loop_begins, loop_step, loops, lt-leb, map, map-TacStmt, map-append, neg_ℤ}
+use Rattle.sc_emit.proofs.Common.{not, object_read, operand, place_of, place_of_global, plain, plainly, pos, reading}
+use Rattle.sc_emit.proofs.Common.{receive, refl, role_first, role_of_load, row_is_sized, select, select_all}
+use Rattle.sc_emit.proofs.Common.{select_step, stmt_induction, stmt_loops, straight as lines_of, straightly, subst, suc}
+use Rattle.sc_emit.proofs.Common.{sum_by-append, sym, take, true, word_of_constant, ℕ, ⊎_elim, ◌&&◌, ◌*◌, ◌++◌, ◌+◌}
+use Rattle.sc_emit.proofs.Common.{◌==◌, ◌∙◌, ◌∷◌, ◌≡◌, ◌≤◌}
 use Rattle.sc_select.specs.Prelude.{Piece}
 use Rattle.sc_emit.specs.Layout.{GoesAround, HasRounds, HaveCode, LeadOn, branching, empty, leads_on, loopless}
 use Rattle.sc_emit.specs.Layout.{repeating}
@@ -203,7 +203,7 @@ module _ (frame : FrameTree) (places : List Place) where
         let lh : List Line = ph.lines (pb.size + suc pn.size) 0 in
         let lb : List Line = pb.lines (suc pn.size) 0 in
         let ln : List Line = pn.lines 1 0 in
-        let last : Line = jump_back (suc (ph.size + (pb.size + pn.size))) in
+        let last : Line = jump_back (ph.size + (pb.size + pn.size)) in
         let inside : List Instr = instrs_of lh ++ (instrs_of lb ++ instrs_of ln) in
         let is : instrs_of (lh ++ (lb ++ (ln ++ (last ∷ [])))) ≡
         instrs_of lh ++ (instrs_of lb ++ (instrs_of ln ++ (last.instr ∷ []))) =
@@ -223,14 +223,14 @@ module _ (frame : FrameTree) (places : List Place) where
           (row_is_sized frame places next).sized 1 0,
         ) in
         subst (λ s. HaveCode (s ∷ rest)
-        ((round_begins.instr ∷ instrs_of (lh ++ (lb ++ (ln ++ (last ∷ []))))) ++ more))
+        ((loop_begins.instr ∷ instrs_of (lh ++ (lb ++ (ln ++ (last ∷ []))))) ++ more))
         (rolled_loop head body next)
-        (subst (λ t. HaveCode (emit.Loop head body next ∷ rest) (round_begins.instr ∷ t))
+        (subst (λ t. HaveCode (emit.Loop head body next ∷ rest) (loop_begins.instr ∷ t))
         (sym (ap (λ t. t ++ more) is ∙ loop_parts (instrs_of lh) (instrs_of lb) (instrs_of ln) more last.instr))
-        (repeating inside round_begins.instr last.instr (record {
+        (repeating inside loop_begins.instr last.instr (record {
           order = inl refl;
           on = refl;
-          back = inl (ap (λ n. Some (neg_ℤ (pos (4 * suc n)))) (sym long));
+          back = inr (ap (λ n. Some (neg_ℤ (pos (4 * n)))) (sym long));
         }) (row_lies head hh (pb.size + suc pn.size) 0) (row_lies body hb (suc pn.size) 0) (row_lies next hn 1 0) h));
   }
 

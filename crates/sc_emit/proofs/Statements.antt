@@ -327,7 +327,7 @@ module _ (T : Setting) (R : Running) (formed : IsWellFormed T.image) (inputs : A
       loop_follows T R formed inputs (all_do (map does head)) (all_do (map does body)) (all_do (map does next))
       (in_order frame R.places (map code head)) (in_order frame R.places (map code body)) (in_order frame R.places (map code next)) (map trail head) (map trail body)
       (map trail next) (row_of head each pass.0 (omega (arith, few))) (row_of body each' pass.1 (omega (arith, few)))
-      (row_of next each'' pass.2 (omega (arith, few))) few
+      (row_of next each'' pass.2 (omega (arith, few))) gapless few
 
   -- the operator counts elements of few cells, if it counts any
   is_sound : (o : TacOp) → counts_elements o ≡ true → IsSound o

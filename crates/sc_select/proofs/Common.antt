@@ -25,11 +25,11 @@ pub use Rattle.sc_select.specs.Prelude.{at_hand, between, binary_code, brought, 
 pub use Rattle.sc_select.specs.Prelude.{closing, code_of, code_of_lines, copied, cycle, entrance, environment_call}
 pub use Rattle.sc_select.specs.Prelude.{followed, fork, frame_left, frame_taken, function_lines, in_order, in_turn}
 pub use Rattle.sc_select.specs.Prelude.{is_short, joined, joins, jump_back, jump_over, keep, kept, lines_of, load_from}
-pub use Rattle.sc_select.specs.Prelude.{load_word, loading, moved_by, nothing, object_offset, object_read, op_code}
-pub use Rattle.sc_select.specs.Prelude.{operand, operation, pass, place_of_global, plain, plainly, pointer_difference}
-pub use Rattle.sc_select.specs.Prelude.{pointer_move, put, reading, receive, referring, register_of, relocation_of}
-pub use Rattle.sc_select.specs.Prelude.{relocations_from, result_register, return, role_before, role_first}
-pub use Rattle.sc_select.specs.Prelude.{role_of_load, round_begins, second_operand, select, select_all, select_step}
+pub use Rattle.sc_select.specs.Prelude.{load_word, loading, loop_begins, moved_by, nothing, object_offset, object_read}
+pub use Rattle.sc_select.specs.Prelude.{op_code, operand, operation, pass, place_of_global, plain, plainly}
+pub use Rattle.sc_select.specs.Prelude.{pointer_difference, pointer_move, put, reading, receive, referring, register_of}
+pub use Rattle.sc_select.specs.Prelude.{relocation_of, relocations_from, result_register, return, role_before}
+pub use Rattle.sc_select.specs.Prelude.{role_first, role_of_load, second_operand, select, select_all, select_step}
 pub use Rattle.sc_select.specs.Prelude.{slot_offset, stepped, store_arguments, store_to, store_word, straightly, take}
 pub use Rattle.sc_select.specs.Prelude.{take_second, taken, unary_code, word_of_constant}
 pub use Rattle.sc_select.specs.declared.roles.Role.{Role}

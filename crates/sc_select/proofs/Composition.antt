@@ -3,8 +3,8 @@ use Rattle.sc_select.proofs.Common.{Bool, Fits, FitsBetween, FrameTree, Instr, L
 use Rattle.sc_select.proofs.Common.{Role, TacStmt, [], and_first, and_rest, ap, append_assoc, ap₂, arith, between}
 use Rattle.sc_select.proofs.Common.{choice, cycle, drop, drop-cons, false, fold-TacStmt, fold-roll-TacStmt, fork}
 use Rattle.sc_select.proofs.Common.{get_or, if◌then◌else◌, in_turn, joined, joins, jump_back, jump_over, length}
-use Rattle.sc_select.proofs.Common.{length-append, length-map, map, nothing, on_ok_weaker, passes_few, plain, plainly}
-use Rattle.sc_select.proofs.Common.{reading, refl, role_before, role_first, roll-TacStmt, round_begins, select}
+use Rattle.sc_select.proofs.Common.{length-append, length-map, loop_begins, map, nothing, on_ok_weaker, passes_few}
+use Rattle.sc_select.proofs.Common.{plain, plainly, reading, refl, role_before, role_first, roll-TacStmt, select}
 use Rattle.sc_select.proofs.Common.{select_all, select_step, stmt_weight, subst, suc, sym, true, weight, weight_step}
 use Rattle.sc_select.proofs.Common.{with_parts, zero, ℕ, ◌&&◌, ◌++◌, ◌+◌, ◌-◌, ◌<◌, ◌∙◌, ◌∷◌, ◌≡◌, ◌≤◌}
 use Rattle.sc_tac.specs.Prelude.{everywhere}
@@ -288,20 +288,18 @@ module _ (frame : FrameTree) (places : List Place) where
       let after : length l2 ≡ size next + length l1 = counted next d 0 l2 l1 (length l2) (length l1) refl refl h2 in
       omega (arith, start, after, counted body e 0 l3 l2 (length l3) (length l2) refl refl h3, end_is)
 
-  whole_distance : (head body next : List TacStmt) (first begin : Instr) (old l1 l2 l3 l4 l5 : List Line)
+  whole_distance : (head body next : List TacStmt) (first : Instr) (old l1 l2 l3 l4 : List Line)
       (end d e g : ℕ) → l1 ≡ plain first ∷ old → l2 ≡ (select_all frame places next).lines d 0 ++ l1 →
       l3 ≡ (select_all frame places body).lines e 0 ++ l2 → l4 ≡ (select_all frame places head).lines g 0 ++ l3 →
-      l5 ≡ plain begin ∷ l4 → end ≡ length old →
-      length l5 ≡ end + (2 + (size head + (size body + size next)))
-  whole_distance head body next first begin old l1 l2 l3 l4 l5 end d e g h1 h2 h3 h4 h5 end_is =
+      end ≡ length old → length l4 ≡ end + suc (size head + (size body + size next))
+  whole_distance head body next first old l1 l2 l3 l4 end d e g h1 h2 h3 h4 end_is =
       let start : length l1 ≡ suc (length old) = ap length h1 in
       let after : length l2 ≡ size next + length l1 = counted next d 0 l2 l1 (length l2) (length l1) refl refl h2 in
       let between : length l3 ≡ size body + length l2 =
       counted body e 0 l3 l2 (length l3) (length l2) refl refl h3 in
       let before : length l4 ≡ size head + length l3 =
       counted head g 0 l4 l3 (length l4) (length l3) refl refl h4 in
-      let whole : length l5 ≡ suc (length l4) = ap length h5 in
-      omega (arith, start, after, between, before, whole, end_is)
+      omega (arith, start, after, between, before, end_is)
 
   -- what writing the parts needs: that some lines lie between, and that jumps reach over them
   pub next_reaches : (head body next : List TacStmt) (b c : ℕ) (first : Instr) (old l1 : List Line) (end : ℕ) →
@@ -337,22 +335,21 @@ module _ (frame : FrameTree) (places : List Place) where
             fits,
       )
 
-  pub back_reaches : (head body next : List TacStmt) (b c : ℕ) (first begin : Instr)
-      (old l1 l2 l3 l4 l5 : List Line) (n end d e g : ℕ) → Fits frame places (emit.Loop head body next ∷ []) b c →
+  pub back_reaches : (head body next : List TacStmt) (b c : ℕ) (first : Instr)
+      (old l1 l2 l3 l4 : List Line) (n end d e g : ℕ) → Fits frame places (emit.Loop head body next ∷ []) b c →
       l1 ≡ plain first ∷ old →
       l2 ≡ (select_all frame places next).lines d 0 ++ l1 → l3 ≡ (select_all frame places body).lines e 0 ++ l2 →
-      l4 ≡ (select_all frame places head).lines g 0 ++ l3 → l5 ≡ plain begin ∷ l4 → n ≡ length l5 → end ≡ length old →
-      n - end - 1 < 262143
-  back_reaches head body next b c first begin old l1 l2 l3 l4 l5 n end d e g fits h1 h2 h3 h4 h5 n_is end_is =
-      let whole : length l5 ≡ end + (2 + (size head + (size body + size next))) =
-      whole_distance head body next first begin old l1 l2 l3 l4 l5 end d e g h1 h2 h3 h4 h5 end_is in
+      l4 ≡ (select_all frame places head).lines g 0 ++ l3 → n ≡ length l4 → end ≡ length old → n - end - 1 < 262143
+  back_reaches head body next b c first old l1 l2 l3 l4 n end d e g fits h1 h2 h3 h4 n_is end_is =
+      let whole : length l4 ≡ end + suc (size head + (size body + size next)) =
+      whole_distance head body next first old l1 l2 l3 l4 end d e g h1 h2 h3 h4 end_is in
       let reaches : 2 + (size head + (size body + size next)) < 262143 =
       cycle_reaches head body next b c fits in
       omega (arith, whole, n_is, reaches)
 
   pub cycle_written : (head body next : List TacStmt) (b c n end : ℕ)
-      (first begin jump : Instr) (old l1 l2 l3 l4 l5 new : List Line) → n ≡ length l5 → end ≡ length old →
-      plain begin ≡ round_begins →
+      (first begin jump : Instr) (old l1 l2 l3 l4 l5 new : List Line) → n ≡ length l4 → end ≡ length old →
+      plain begin ≡ loop_begins →
       l1 ≡ plain first ∷ old → l2 ≡ (select_all frame places next).lines (length l1 - end) 0 ++ l1 →
       l3 ≡ (select_all frame places body).lines (length l2 - end) 0 ++ l2 →
       l4 ≡ (select_all frame places head).lines (length l3 - end) 0 ++ l3 → l5 ≡ plain begin ∷ l4 →
@@ -365,7 +362,7 @@ module _ (frame : FrameTree) (places : List Place) where
       let xs : List Line = (select_all frame places head).lines (size body + suc (size next)) 0 in
       let ys : List Line = (select_all frame places body).lines (suc (size next)) 0 in
       let zs : List Line = (select_all frame places next).lines 1 0 in
-      let last : Line = jump_back (suc (size head + (size body + size next))) in
+      let last : Line = jump_back (size head + (size body + size next)) in
       let e2 : l2 ≡ zs ++ (plain first ∷ old) =
       h2 ∙ ap (λ n. (select_all frame places next).lines n 0 ++ l1) (next_distance first old l1 end h1 end_is) ∙
       ap (λ t. zs ++ t) h1 in
@@ -376,22 +373,22 @@ module _ (frame : FrameTree) (places : List Place) where
       h4 ∙ ap (λ n. (select_all frame places head).lines n 0 ++ l3)
       (head_distance body next first old l1 l2 l3 end (length l1 - end) (length l2 - end) h1 h2 h3 end_is) ∙
       ap (λ t. xs ++ t) e3 in
-      let e5 : l5 ≡ round_begins ∷ (xs ++ (ys ++ (zs ++ (plain first ∷ old)))) =
-      h5 ∙ ap (λ l. l ∷ l4) opens ∙ ap (λ t. round_begins ∷ t) e4 in
-      let split : l5 ≡ (round_begins ∷ (xs ++ (ys ++ zs))) ++ (plain first ∷ old) =
-      e5 ∙ ap (λ t. round_begins ∷ t) (sym (three_parts xs ys zs (plain first ∷ old))) in
-      let put : new ≡ (round_begins ∷ (xs ++ (ys ++ zs))) ++ (plain jump ∷ old) =
-      replaced (round_begins ∷ (xs ++ (ys ++ zs))) old (plain first) split (sym end_is) in
-      let whole : length l5 ≡ end + (2 + (size head + (size body + size next))) =
-      whole_distance head body next first begin old l1 l2 l3 l4 l5 end (length l1 - end) (length l2 - end)
-      (length l3 - end) h1 h2 h3 h4 h5 end_is in
-      let lines : n - end - 1 ≡ suc (size head + (size body + size next)) = omega (arith, whole, n_is) in
+      let e5 : l5 ≡ loop_begins ∷ (xs ++ (ys ++ (zs ++ (plain first ∷ old)))) =
+      h5 ∙ ap (λ l. l ∷ l4) opens ∙ ap (λ t. loop_begins ∷ t) e4 in
+      let split : l5 ≡ (loop_begins ∷ (xs ++ (ys ++ zs))) ++ (plain first ∷ old) =
+      e5 ∙ ap (λ t. loop_begins ∷ t) (sym (three_parts xs ys zs (plain first ∷ old))) in
+      let put : new ≡ (loop_begins ∷ (xs ++ (ys ++ zs))) ++ (plain jump ∷ old) =
+      replaced (loop_begins ∷ (xs ++ (ys ++ zs))) old (plain first) split (sym end_is) in
+      let whole : length l4 ≡ end + suc (size head + (size body + size next)) =
+      whole_distance head body next first old l1 l2 l3 l4 end (length l1 - end) (length l2 - end)
+      (length l3 - end) h1 h2 h3 h4 end_is in
+      let lines : n - end - 1 ≡ size head + (size body + size next) = omega (arith, whole, n_is) in
       let same : plain jump ≡ last = back ∙ ap jump_back lines in
       let joined : (xs ++ (ys ++ zs)) ++ (last ∷ old) ≡ (xs ++ (ys ++ (zs ++ (last ∷ [])))) ++ old =
       sym (append_assoc (xs ++ (ys ++ zs)) (last ∷ []) old) ∙
       ap (λ t. t ++ old) (three_parts xs ys zs (last ∷ [])) in
-      put ∙ ap (λ l. (round_begins ∷ (xs ++ (ys ++ zs))) ++ (l ∷ old)) same ∙
-      ap (λ t. round_begins ∷ t) joined ∙
+      put ∙ ap (λ l. (loop_begins ∷ (xs ++ (ys ++ zs))) ++ (l ∷ old)) same ∙
+      ap (λ t. loop_begins ∷ t) joined ∙
       ap (λ p. p.lines b c ++ old) (sym (cycle_is head body next))
 
   -- a loop needs as much wherever it stands

@@ -85,7 +85,7 @@ module _ (frame : FrameTree) (places : List Place) where
   cycle_complete : (h b n : Piece) → IsComplete h → IsComplete b → IsComplete n → IsComplete (cycle frame places h b n)
   cycle_complete h b n hh hb hn = record {
     complete = λ to_break to_continue.
-        let back : List Line = jump_back (suc (h.size + (b.size + n.size))) ∷ [] in
+        let back : List Line = jump_back (h.size + (b.size + n.size)) ∷ [] in
         joined (h.lines (b.size + suc n.size) 0) (b.lines (suc n.size) 0 ++ (n.lines 1 0 ++ back))
         (hh.complete (b.size + suc n.size) 0)
         (joined (b.lines (suc n.size) 0) (n.lines 1 0 ++ back) (hb.complete (suc n.size) 0)

@@ -40,7 +40,7 @@ module _ (frame : FrameTree) (places : List Place) where
   cycle_sized : (h b n : Piece) → IsSized h → IsSized b → IsSized n → IsSized (cycle frame places h b n)
   cycle_sized h b n hh hb hn = record {
     sized = λ to_break to_continue.
-        let back : List Line = jump_back (suc (h.size + (b.size + n.size))) ∷ [] in
+        let back : List Line = jump_back (h.size + (b.size + n.size)) ∷ [] in
         let last : List Line = n.lines 1 0 ++ back in
         let middle : List Line = b.lines (suc n.size) 0 ++ last in
         omega (

@@ -74,9 +74,9 @@ continuing = record { size = 1; lines = λ to_break to_continue. jump_over to_co
 abbrev pub jump_back : ℕ → Line
 jump_back lines = plain (Jal 0 (neg_ℤ (pos (4 * lines))))
 
--- what each round of a loop begins with, so that no round is without an instruction
-abbrev pub round_begins : Line
-round_begins = plain (OpImm Addi 0 0 (pos 0))
+-- what a loop begins with, so that its first round isn't without an instruction. A jump back begins each further one
+abbrev pub loop_begins : Line
+loop_begins = plain (OpImm Addi 0 0 (pos 0))
 
 abbrev pub word_of_constant : Constant → ℕ
 word_of_constant (constant.Word w) = w
@@ -209,13 +209,13 @@ module _ (frame : FrameTree) (places : List Place) where
     role = Other;
   }
 
-  -- a break leads behind the jump back, a continue to the next part
+  -- a break leads behind the jump back, a continue to the next part. The jump back leads to the head
   abbrev pub cycle : Piece → Piece → Piece → Piece
   cycle head body next = record {
     size = 2 + (head.size + (body.size + next.size));
     lines = λ to_break to_continue.
-        round_begins ∷ (head.lines (body.size + suc next.size) 0 ++ (body.lines (suc next.size) 0 ++
-        (next.lines 1 0 ++ (jump_back (suc (head.size + (body.size + next.size))) ∷ []))));
+        loop_begins ∷ (head.lines (body.size + suc next.size) 0 ++ (body.lines (suc next.size) 0 ++
+        (next.lines 1 0 ++ (jump_back (head.size + (body.size + next.size)) ∷ []))));
     role = Other;
   }
 

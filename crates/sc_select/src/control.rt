@@ -1,7 +1,7 @@
 //! Statements in order, choices and loops.
 
 ghost use Rattle.sc_select.specs.Prelude.{Addi, Fits, FitsBetween, IsJumpOffset, Jal, Line, OpImm, between, jump_back};
-ghost use Rattle.sc_select.specs.Prelude.{jump_over, most_lines, plain, round_begins, select, select_all};
+ghost use Rattle.sc_select.specs.Prelude.{jump_over, loop_begins, most_lines, plain, select, select_all};
 ghost use Rattle.sc_tac.specs.declared.stmt.TacStmt;
 ghost use Rattle.std.specs.Prelude.{◌≡◌, ◌≤◌, ◌<◌, ◌-◌, ◌++◌, ◌∷◌, [], ℕ, OnOk, length};
 
@@ -45,9 +45,9 @@ fn jump_back(lines: usize) -> Instr
     jump(-4 * lines as i32)
 }
 
-// What each round of a loop begins with.
-fn round_begins() -> Instr
-    ensures { plain result ≡ round_begins }
+// What a loop begins with.
+fn loop_begins() -> Instr
+    ensures { plain result ≡ loop_begins }
 {
     let zero = register(ZERO);
     addi(zero, zero, immediate(0))
@@ -167,12 +167,12 @@ impl Backward {
             homes.now.places.now (TacStmt.Loop head.now body.now next.now)).lines to_break to_continue ++ self.old) }
     {
         let end = self.len();
-        self.plain(round_begins())?;
+        self.plain(loop_begins())?;
         self.part(homes, end, next)?;
         self.part(homes, end, body)?;
         self.part(homes, end, head)?;
-        self.plain(round_begins())?;
         let lines = self.len() - end - 1;
+        self.plain(loop_begins())?;
         self.replace(end, jump_back(lines));
         Ok(())
     }

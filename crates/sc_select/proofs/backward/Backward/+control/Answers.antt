@@ -81,15 +81,14 @@ cycle-part-requires-3 t c = (
 pub cycle-jump_back-requires : goal.cycle-jump_back-requires
 cycle-jump_back-requires t c =
     back_reaches c.args.homes.now.frame.now c.args.homes.now.places.now c.args.head.now c.args.body.now
-    c.args.next.now _ _ _ _ _ _ _ _ _ _ c.len.result c.len-end.result _ _ _ c.requires.fits c.in_ok-plain.ensures
-    c.in_ok-part.ensures c.in_ok-part-2.ensures c.in_ok-part-3.ensures c.in_ok-plain-2.ensures c.len.ensures
-    c.len-end.ensures
+    c.args.next.now _ _ _ _ _ _ _ _ c.len.result c.len-end.result _ _ _ c.requires.fits c.in_ok-plain.ensures
+    c.in_ok-part.ensures c.in_ok-part-2.ensures c.in_ok-part-3.ensures c.len.ensures c.len-end.ensures
 
 pub cycle-returns : goal.cycle-returns
 cycle-returns t c to_break to_continue =
     cycle_written c.args.homes.now.frame.now c.args.homes.now.places.now c.args.head.now c.args.body.now
     c.args.next.now to_break to_continue c.len.result c.len-end.result _ _ _ _ _ _ _ _ _ _ c.len.ensures
-    c.len-end.ensures c.round_begins-2.ensures c.in_ok-plain.ensures c.in_ok-part.ensures c.in_ok-part-2.ensures
+    c.len-end.ensures c.loop_begins-2.ensures c.in_ok-plain.ensures c.in_ok-part.ensures c.in_ok-part-2.ensures
     c.in_ok-part-3.ensures c.in_ok-plain-2.ensures c.jump_back.ensures c.replace.ensures
 
 pub part-in_order-requires : goal.part-in_order-requires
