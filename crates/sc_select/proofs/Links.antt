@@ -15,7 +15,7 @@ use Rattle.sc_select.proofs.Common.{true, word_of_constant, ℕ, ◌&&◌, ◌++
 use Rattle.std.proofs.lemmas.List.Elements.{All-cons, All-nil, All-weaker}
 use Rattle.std.proofs.lemmas.List.Kept.{AllPairs-cons}
 use Rattle.sc_tac.specs.declared.stmt.TacStmt.TheOpen as tac
-use Rattle.sc_select.proofs.Joining.{order_keeps}
+use Rattle.sc_select.proofs.Joining.{fork_keeps, order_keeps}
 
 -- the instruction of the first line
 abbrev first_of : List Line → Option Instr
@@ -71,17 +71,6 @@ followed_complete e f he hf = record {
 }
 
 module _ (frame : FrameTree) (places : List Place) where
-  fork_complete : (cond : ℕ) (e f : Piece) → IsComplete e → IsComplete f → IsComplete (fork frame places cond e f)
-  fork_complete cond e f he hf = record {
-    complete = λ b c.
-        let first : List Line = e.lines (suc (f.size + b)) (suc (f.size + c)) in
-        joined (plainly (choice frame places cond))
-        (jump_over (suc e.size) ∷ (first ++ (jump_over f.size ∷ f.lines b c)))
-        (plain_complete (choice frame places cond))
-        (joined first (jump_over f.size ∷ f.lines b c) (he.complete (suc (f.size + b)) (suc (f.size + c)))
-        (hf.complete b c));
-  }
-
   cycle_complete : (h b n : Piece) → IsComplete h → IsComplete b → IsComplete n → IsComplete (cycle frame places h b n)
   cycle_complete h b n hh hb hn = record {
     complete = λ to_break to_continue.
@@ -145,7 +134,9 @@ module _ (frame : FrameTree) (places : List Place) where
   layer_complete (tac.Store place value) h =
       straightly_complete (store_to frame places place value)
   layer_complete (tac.If cond first second) h =
-      fork_complete cond _ _ (row_complete first h.0) (row_complete second h.1)
+      fork_keeps frame places IsComplete (record { complete = λ b c. refl }) (λ lines. record { complete = λ b c. refl })
+      followed_complete cond _ _ (straightly_complete (choice frame places cond)) (row_complete first h.0)
+      (row_complete second h.1)
   layer_complete (tac.Loop head body next) h =
       cycle_complete _ _ _ (row_complete head h.0) (row_complete body h.1) (row_complete next h.2)
   layer_complete tac.Break h = record { complete = λ b c. refl }

@@ -1,9 +1,9 @@
 //! Statements in order, choices and loops.
 
 ghost use Rattle.sc_select.specs.Prelude.{Addi, Fits, FitsBetween, IsJumpOffset, Jal, Line, OpImm, between, jump_back};
-ghost use Rattle.sc_select.specs.Prelude.{jump_over, loop_begins, most_lines, plain, select, select_all};
+ghost use Rattle.sc_select.specs.Prelude.{jump_over, loop_begins, most_lines, past, plain, select, select_all};
 ghost use Rattle.sc_tac.specs.declared.stmt.TacStmt;
-ghost use Rattle.std.specs.Prelude.{◌≡◌, ◌≤◌, ◌<◌, ◌-◌, ◌++◌, ◌∷◌, [], ℕ, OnOk, length};
+ghost use Rattle.std.specs.Prelude.{◌≡◌, ◌≤◌, ◌<◌, ◌-◌, ◌++◌, ◌∷◌, [], ℕ, OnOk, length, ◌&&◌, ◌==◌};
 
 use crate::backward::Backward;
 use crate::homes::Homes;
@@ -43,6 +43,13 @@ fn jump_back(lines: usize) -> Instr
     ensures { plain result ≡ jump_back lines }
 {
     jump(-4 * lines as i32)
+}
+
+// Whether a branch leads over the second part of a choice alone: one line, where there is no first part.
+fn is_skip(first: &TacStmts, lines: usize) -> bool
+    ensures { result ≡ (length first.now == 0 && lines == 1) }
+{
+    first.as_slice().is_empty() && lines == 1
 }
 
 // What a loop begins with.
@@ -122,6 +129,17 @@ impl Backward {
         self.in_order(homes, distances, part)
     }
 
+    // A jump past so many lines, where there are any.
+    fn past(&mut self, lines: usize) -> Result<(), OutOfMemory>
+        requires { lines < most_lines }
+        ensures { OnOk result (self.new ≡ past lines ++ self.old) }
+    {
+        if lines == 0 {
+            return Ok(());
+        }
+        self.plain(jump_over(lines))
+    }
+
     // The first part where the value is true, else the second.
     #[cycle(control)]
     fn fork(
@@ -140,15 +158,18 @@ impl Backward {
         let end = self.len();
         self.in_order(homes, distances, second)?;
         let behind = self.len() - end;
-        self.plain(jump_over(behind))?;
+        if is_skip(first, behind) {
+            return self.choice(homes, cond);
+        }
+        self.past(behind)?;
+        let over = self.len() - end;
         let over_second = Distances {
-            to_break: behind + distances.to_break + 1,
-            to_continue: behind + distances.to_continue + 1,
+            to_break: over + distances.to_break,
+            to_continue: over + distances.to_continue,
         };
-        let middle = self.len();
         self.in_order(homes, over_second, first)?;
-        let before = self.len() - middle;
-        self.plain(jump_over(before + 1))?;
+        let before = self.len() - end - behind;
+        self.plain(jump_over(before))?;
         self.choice(homes, cond)
     }
 
