@@ -2,7 +2,7 @@
 use Rattle.sc_select.proofs.Common.{Bool, Fits, FitsBetween, FrameTree, Instr, Line, List, OnOk, Other, Piece, Place}
 use Rattle.sc_select.proofs.Common.{Role, TacStmt, [], and_first, and_rest, ap, append_assoc, ap₂, arith, between}
 use Rattle.sc_select.proofs.Common.{choice, choosing, cycle, drop, drop-cons, false, fold-TacStmt, fold-roll-TacStmt}
-use Rattle.sc_select.proofs.Common.{fork, get_or, if◌then◌else◌, in_turn, joined, joins, jump_back, jump_over, length}
+use Rattle.sc_select.proofs.Common.{get_or, if◌then◌else◌, in_turn, joined, joins, jump_back, jump_over, length}
 use Rattle.sc_select.proofs.Common.{length-append, length-map, loop_begins, map, nothing, on_ok_weaker, passes_few}
 use Rattle.sc_select.proofs.Common.{past, plain, plainly, reading, refl, role_before, role_first, roll-TacStmt, select}
 use Rattle.sc_select.proofs.Common.{select_all, select_step, skipping, stmt_weight, subst, suc, sym, true, weight}

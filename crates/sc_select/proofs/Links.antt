@@ -4,14 +4,14 @@ use Rattle.sc_select.proofs.Common.{IsCode, IsTrue, Jal, Jalr, Line, List, Lui, 
 use Rattle.sc_select.proofs.Common.{Relocation, Role, Some, Store, Sw, TacFnTree, TacStmt, TacStmt-F, Target, Upper, []}
 use Rattle.sc_select.proofs.Common.{and_first, and_rest, ap, append-nil, arith, brought, call_cross, call_own, choice}
 use Rattle.sc_select.proofs.Common.{closing, code_of_lines, copied, cycle, entrance, environment_call, eq-eqb}
-use Rattle.sc_select.proofs.Common.{everywhere as each_holds, false, fold-roll-TacStmt, followed, fork, frame_taken}
-use Rattle.sc_select.proofs.Common.{function_lines, in_order, is_address, is_jal, is_linkable, jump_back, jump_over}
-use Rattle.sc_select.proofs.Common.{keep, length, length-append, length-map, load_from, loading, map, map-TacStmt}
-use Rattle.sc_select.proofs.Common.{moved_by, object_offset, object_read, operation, pass, place_of_global, plain}
-use Rattle.sc_select.proofs.Common.{plainly, pos, receive, referring, refl, relocation_of, relocations_from}
-use Rattle.sc_select.proofs.Common.{result_register, return, role_of_load, select, select_all, select_step, slice_get}
-use Rattle.sc_select.proofs.Common.{stmt_induction, store_arguments, store_to, straightly, sub_word, subst, suc, sym}
-use Rattle.sc_select.proofs.Common.{true, word_of_constant, ℕ, ◌&&◌, ◌++◌, ◌+◌, ◌<◌, ◌∙◌, ◌∷◌, ◌≡◌, ◌≤◌}
+use Rattle.sc_select.proofs.Common.{everywhere as each_holds, false, fold-roll-TacStmt, followed, frame_taken}
+use Rattle.sc_select.proofs.Common.{function_lines, in_order, is_address, is_jal, is_linkable, jump_back, keep, length}
+use Rattle.sc_select.proofs.Common.{length-append, length-map, load_from, loading, map, map-TacStmt, moved_by}
+use Rattle.sc_select.proofs.Common.{object_offset, object_read, operation, pass, place_of_global, plain, plainly, pos}
+use Rattle.sc_select.proofs.Common.{receive, referring, refl, relocation_of, relocations_from, result_register, return}
+use Rattle.sc_select.proofs.Common.{role_of_load, select, select_all, select_step, slice_get, stmt_induction}
+use Rattle.sc_select.proofs.Common.{store_arguments, store_to, straightly, sub_word, subst, suc, sym, true}
+use Rattle.sc_select.proofs.Common.{word_of_constant, ℕ, ◌&&◌, ◌++◌, ◌+◌, ◌<◌, ◌∙◌, ◌∷◌, ◌≡◌, ◌≤◌}
 use Rattle.std.proofs.lemmas.List.Elements.{All-cons, All-nil, All-weaker}
 use Rattle.std.proofs.lemmas.List.Kept.{AllPairs-cons}
 use Rattle.sc_tac.specs.declared.stmt.TacStmt.TheOpen as tac

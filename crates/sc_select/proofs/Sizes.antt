@@ -1,9 +1,9 @@
 -- Pieces have as many lines as they say.
 use Rattle.sc_select.proofs.Common.{Each, FrameTree, Inside, Line, List, Other, Piece, Place, TacStmt, TacStmt-F, []}
-use Rattle.sc_select.proofs.Common.{arith, choice, cycle, drop, everywhere, fold-roll-TacStmt, followed, fork, in_order}
-use Rattle.sc_select.proofs.Common.{in_turn, joined, jump_back, jump_over, length, length-append, length-map, map}
-use Rattle.sc_select.proofs.Common.{map-TacStmt, plain, plainly, refl, select, select_all, select_step, stmt_induction}
-use Rattle.sc_select.proofs.Common.{straight, subst, suc, sym, ℕ, ◌++◌, ◌+◌, ◌∷◌, ◌≡◌}
+use Rattle.sc_select.proofs.Common.{arith, choice, cycle, drop, everywhere, fold-roll-TacStmt, followed, in_order}
+use Rattle.sc_select.proofs.Common.{in_turn, joined, jump_back, jump_over, length, length-append, map, map-TacStmt}
+use Rattle.sc_select.proofs.Common.{plainly, refl, select, select_all, select_step, stmt_induction, straight, subst}
+use Rattle.sc_select.proofs.Common.{suc, sym, ℕ, ◌++◌, ◌+◌, ◌∷◌, ◌≡◌}
 use Rattle.sc_tac.specs.declared.stmt.TacStmt.TheOpen as tac
 use Rattle.sc_select.proofs.Joining.{fork_keeps, from_keeps}
 

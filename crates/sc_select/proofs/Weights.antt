@@ -10,14 +10,13 @@ use Rattle.sc_select.proofs.Common.{fork, frame_left, frame_taken, function_line
 use Rattle.sc_select.proofs.Common.{in_order, in_turn, is_short, is_some, is_unsigned, joined, joins, keep, kept}
 use Rattle.sc_select.proofs.Common.{length, length-append, length-map, load_from, load_word, loading, map, map-TacStmt}
 use Rattle.sc_select.proofs.Common.{moved_by, nothing, object_offset, object_read, op_code, op_weight, operand}
-use Rattle.sc_select.proofs.Common.{operation, pass, past, place_of_global, plain, plainly, pointer_difference}
-use Rattle.sc_select.proofs.Common.{pointer_move, pos, put, reading, receive, referring, refl, register_of}
-use Rattle.sc_select.proofs.Common.{result_register, return, role_first, roll-TacStmt, second_operand, select}
-use Rattle.sc_select.proofs.Common.{select_all, select_step, skipping, slice_get, slot_offset, stepped, stmt_induction}
-use Rattle.sc_select.proofs.Common.{stmt_weight, store_arguments, store_to, store_word, straightly, sub_word, subst}
-use Rattle.sc_select.proofs.Common.{suc, sym, take, take_second, taken, takes_two, true, unary_code, weight}
-use Rattle.sc_select.proofs.Common.{weight_step, with_parts, word_of_constant, zero, ℕ, ◌&&◌, ◌*◌, ◌++◌, ◌+◌, ◌<◌, ◌==◌}
-use Rattle.sc_select.proofs.Common.{◌^◌, ◌∙◌, ◌∷◌, ◌≡◌, ◌≤◌}
+use Rattle.sc_select.proofs.Common.{operation, pass, place_of_global, plain, plainly, pointer_difference, pointer_move}
+use Rattle.sc_select.proofs.Common.{pos, put, reading, receive, referring, refl, register_of, result_register, return}
+use Rattle.sc_select.proofs.Common.{role_first, roll-TacStmt, second_operand, select, select_all, select_step, skipping}
+use Rattle.sc_select.proofs.Common.{slice_get, slot_offset, stepped, stmt_induction, stmt_weight, store_arguments}
+use Rattle.sc_select.proofs.Common.{store_to, store_word, straightly, sub_word, subst, suc, sym, take, take_second}
+use Rattle.sc_select.proofs.Common.{taken, takes_two, true, unary_code, weight, weight_step, with_parts}
+use Rattle.sc_select.proofs.Common.{word_of_constant, zero, ℕ, ◌&&◌, ◌*◌, ◌++◌, ◌+◌, ◌<◌, ◌==◌, ◌^◌, ◌∙◌, ◌∷◌, ◌≡◌, ◌≤◌}
 use Rattle.sc_core.specs.Prelude.{total}
 use Rattle.sc_tac.specs.Prelude.{everywhere}
 use Rattle.sc_select.proofs.Joining.{past_few, gives_place}

@@ -253,7 +253,7 @@ module _ (frame : FrameTree) (places : List Place) where
   abbrev pub in_order : List Piece → Piece
   in_order pieces = in_turn (joined Other pieces)
 
-  -- the first part where the value is true, else the second
+  -- the first part where the value is true, else the second. One line as the second, without a first, needs no jump
   abbrev pub fork : ℕ → (first second : List Piece) → Piece
   fork cond first second =
       if length first == 0 && (in_order second).size == 1 then skipping cond (in_order second)
