@@ -6,23 +6,23 @@ use Rattle.sc_emit.proofs.Common.{IsJumpOffset, IsReg, IsUpper, Jal, Jalr, Line,
 use Rattle.sc_emit.proofs.Common.{Option, Other, Place, Places, Register, Role, Slot, Some, Store, Sw, TacFnTree, TacOp}
 use Rattle.sc_emit.proofs.Common.{TacStmt, TacStmt-F, [], a0, a7, address_scratch, all_true, and_first, and_from}
 use Rattle.sc_emit.proofs.Common.{and_rest, arith, at_hand, between, between_keeps, binary_code, branch_step, branches}
-use Rattle.sc_emit.proofs.Common.{brought, bytes_of, call_cross, call_own, choice, closing, code_branches, code_of}
-use Rattle.sc_emit.proofs.Common.{cond, copied, count_by, cycle, entrance, environment_call, everywhere, false}
-use Rattle.sc_emit.proofs.Common.{first_scratch, fold-TacStmt, fold-roll-TacStmt, followed, fork, frame_left}
-use Rattle.sc_emit.proofs.Common.{frame_taken, function_lines, has_known_jumps, has_no_ebreak, if◌then◌else◌, in_order}
-use Rattle.sc_emit.proofs.Common.{in_turn, int_le, is_branch, is_ebreak, is_known_jump, is_place, is_short, joined}
-use Rattle.sc_emit.proofs.Common.{jump_back, jump_over, keep, kept, leb-true, length, list_all, list_all-append}
-use Rattle.sc_emit.proofs.Common.{list_all-map, load_from, load_word, loading, lower_part, ltb-true, map, map-TacStmt}
-use Rattle.sc_emit.proofs.Common.{most_lines, most_params, moved_by, nat_le, nat_lt, neg_ℤ, negsuc, not, object_offset}
-use Rattle.sc_emit.proofs.Common.{object_read, op_code, operand, operation, order_keeps, pass, passes_few, place_of}
-use Rattle.sc_emit.proofs.Common.{place_of_global, plain, plainly, pos, put, ra, receive, refl, register_count}
-use Rattle.sc_emit.proofs.Common.{register_of, register_there, result_register, return, role_first, role_of_load}
-use Rattle.sc_emit.proofs.Common.{round_begins, rules, second_operand, second_scratch, select, select_all, select_step}
-use Rattle.sc_emit.proofs.Common.{signed_of, slice_get, slot_offset, sp, stmt_branches, stmt_induction, store_arguments}
-use Rattle.sc_emit.proofs.Common.{store_to, store_word, straight, straightly, sub_word, subst, suc, sum_by-append, sym}
-use Rattle.sc_emit.proofs.Common.{take, take_second, taken, total, true, unary_code, upper_part, with_parts}
-use Rattle.sc_emit.proofs.Common.{word_of_constant, zero, ℕ, ℤ, ◌%◌, ◌&&◌, ◌*◌, ◌++◌, ◌+◌, ◌<◌, ◌==◌, ◌^◌, ◌∙◌, ◌∷◌}
-use Rattle.sc_emit.proofs.Common.{◌≡◌, ◌≤ℤ◌, ◌≤◌}
+use Rattle.sc_emit.proofs.Common.{brought, bytes_of, call_cross, call_own, choice, choosing, closing, code_branches}
+use Rattle.sc_emit.proofs.Common.{code_of, cond, copied, count_by, cycle, ending_past, entrance, environment_call}
+use Rattle.sc_emit.proofs.Common.{everywhere, false, first_scratch, fold-TacStmt, fold-roll-TacStmt, followed, fork}
+use Rattle.sc_emit.proofs.Common.{fork_keeps, frame_left, frame_taken, function_lines, has_known_jumps, has_no_ebreak}
+use Rattle.sc_emit.proofs.Common.{if◌then◌else◌, in_order, in_turn, int_le, is_branch, is_ebreak, is_known_jump}
+use Rattle.sc_emit.proofs.Common.{is_place, is_short, joined, jump_back, jump_over, keep, kept, leb-true, length}
+use Rattle.sc_emit.proofs.Common.{list_all, list_all-append, list_all-map, load_from, load_word, loading, loop_begins}
+use Rattle.sc_emit.proofs.Common.{lower_part, ltb-true, map, map-TacStmt, most_lines, most_params, moved_by, nat_le}
+use Rattle.sc_emit.proofs.Common.{nat_lt, neg_ℤ, negsuc, not, object_offset, object_read, op_code, operand, operation}
+use Rattle.sc_emit.proofs.Common.{order_keeps, pass, passes_few, past, place_of, place_of_global, plain, plainly, pos}
+use Rattle.sc_emit.proofs.Common.{put, ra, receive, refl, register_count, register_of, register_there, result_register}
+use Rattle.sc_emit.proofs.Common.{return, role_first, role_of_load, rules, second_operand, second_scratch, select}
+use Rattle.sc_emit.proofs.Common.{select_all, select_step, signed_of, skipping, slice_get, slot_offset, sp}
+use Rattle.sc_emit.proofs.Common.{stmt_branches, stmt_induction, store_arguments, store_to, store_word, straight}
+use Rattle.sc_emit.proofs.Common.{straightly, sub_word, subst, suc, sum_by-append, sym, take, take_second, taken, total}
+use Rattle.sc_emit.proofs.Common.{true, unary_code, upper_part, with_parts, word_of_constant, zero, ℕ, ℤ, ◌%◌, ◌&&◌}
+use Rattle.sc_emit.proofs.Common.{◌*◌, ◌++◌, ◌+◌, ◌<◌, ◌==◌, ◌^◌, ◌∙◌, ◌∷◌, ◌≡◌, ◌≤ℤ◌, ◌≤◌}
 use Rattle.sc_select.specs.Prelude.{Piece}
 use Rattle.std.proofs.lemmas.Int.{ints}
 use Rattle.rv_code.proofs.Numbers.{IsImmediate-signed}
@@ -371,32 +371,26 @@ module _ (test : Line → Bool) (mild : IsMild test) (frame : FrameTree) (places
       (take_straight frame places first_scratch cond))
       (and_from (test (plain branch)) true (mild.mild branch refl) refl)
 
-  pub fork_passes : (cond : ℕ) (e f : Piece) → PassesAll test e → PassesAll test f →
-      PassesAll test (fork frame places cond e f)
-  fork_passes cond e f he hf = record {
-    passes = λ b c.
-        let first : List Line = e.lines (suc (f.size + b)) (suc (f.size + c)) in
-        let second : List Line = jump_over f.size ∷ f.lines b c in
-        all_append test (plainly (choice frame places cond)) (jump_over (suc e.size) ∷ (first ++ second))
-        (choice_passes cond)
-        (and_from (test (jump_over (suc e.size))) (list_all test (first ++ second)) (mild.mild _ refl)
-        (all_append test first second (he.passes (suc (f.size + b)) (suc (f.size + c)))
-        (and_from (test (jump_over f.size)) (list_all test (f.lines b c)) (mild.mild _ refl) (hf.passes b c))));
-  }
+  pub fork_passes : (cond : ℕ) (first second : List Piece) → PassesAll test (in_order frame places first) →
+      PassesAll test (in_order frame places second) → PassesAll test (fork frame places cond first second)
+  fork_passes cond first second he hf =
+      fork_keeps frame places (PassesAll test) (record { passes = λ b c. refl })
+      (λ lines. record { passes = λ b c. and_from (test (jump_over lines)) true (mild.mild _ refl) refl })
+      (followed_passes test) cond first second (record { passes = λ b c. choice_passes cond }) he hf
 
   pub cycle_passes : (h b n : Piece) → PassesAll test h → PassesAll test b → PassesAll test n →
       PassesAll test (cycle frame places h b n)
   cycle_passes h b n hh hb hn = record {
     passes = λ to_break to_continue.
-        let back : List Line = jump_back (suc (h.size + (b.size + n.size))) ∷ [] in
+        let back : List Line = jump_back (h.size + (b.size + n.size)) ∷ [] in
         let last : List Line = n.lines 1 0 ++ back in
         let middle : List Line = b.lines (suc n.size) 0 ++ last in
         let head : List Line = h.lines (b.size + suc n.size) 0 in
-        and_from (test round_begins) (list_all test (head ++ middle)) (mild.mild _ refl)
+        and_from (test loop_begins) (list_all test (head ++ middle)) (mild.mild _ refl)
         (all_append test head middle (hh.passes (b.size + suc n.size) 0)
         (all_append test (b.lines (suc n.size) 0) last (hb.passes (suc n.size) 0)
         (all_append test (n.lines 1 0) back (hn.passes 1 0)
-        (and_from (test (jump_back (suc (h.size + (b.size + n.size))))) true (mild.mild _ refl) refl))));
+        (and_from (test (jump_back (h.size + (b.size + n.size)))) true (mild.mild _ refl) refl))));
   }
 
 -- BRANCHES AND EBREAKS
@@ -432,29 +426,55 @@ followed_shaped n m e f he hf = record {
 }
 
 module _ (frame : FrameTree) (places : List Place) where
-  fork_shaped : (cond n m : ℕ) (e f : Piece) → IsShaped n e → IsShaped m f →
-      IsShaped (suc (n + m)) (fork frame places cond e f)
-  fork_shaped cond n m e f he hf = record {
-    few = λ b c.
-        let first : List Line = e.lines (suc (f.size + b)) (suc (f.size + c)) in
-        let second : List Line = jump_over f.size ∷ f.lines b c in
-        omega (
-          arith,
-          count_append (plainly (choice frame places cond)) (jump_over (suc e.size) ∷ (first ++ second)),
-          one_branch (take frame places first_scratch cond) (operand frame places first_scratch cond)
-              (take_straight frame places first_scratch cond),
-          count_append first second,
-          he.few (suc (f.size + b)) (suc (f.size + c)),
-          hf.few b c,
-        );
-    sound = fork_passes is_sound_line sound_mild frame places cond e f he.sound hf.sound;
+  past_counts : (lines : ℕ) → count (past lines) ≤ 0
+  past_counts zero = omega arith
+  past_counts (suc lines) = omega arith
+
+  choice_counts : (cond : ℕ) → count (plainly (choice frame places cond)) ≤ 1
+  choice_counts cond =
+      one_branch (take frame places first_scratch cond) (operand frame places first_scratch cond)
+      (take_straight frame places first_scratch cond)
+
+  fork_shaped : (cond n m : ℕ) (first second : List Piece) → IsShaped n (in_order frame places first) →
+      IsShaped m (in_order frame places second) → IsShaped (suc (n + m)) (fork frame places cond first second)
+  fork_shaped cond n m first second he hf = record {
+    few = λ b c. by b c (length first == 0 && (in_order frame places second).size == 1);
+    sound = fork_passes is_sound_line sound_mild frame places cond first second he.sound hf.sound;
   }
+    where
+      e : Piece
+      e = in_order frame places first
+
+      f : Piece
+      f = in_order frame places second
+
+      test : List Line
+      test = plainly (choice frame places cond)
+
+      by : (b c : ℕ) (found : Bool) →
+          count ((if found then skipping frame places cond f else choosing frame places cond e f).lines b c) ≤
+          suc (n + m)
+      by b c true = omega (arith, count_append test (f.lines b c), choice_counts cond, hf.few b c)
+      by b c false =
+          let over : List Line = past f.size in
+          let one : List Line = e.lines (length over + (f.size + b)) (length over + (f.size + c)) in
+          let jump : Line = jump_over (ending_past frame places e f).size in
+          omega (
+            arith,
+            count_append test (jump ∷ ((one ++ over) ++ f.lines b c)),
+            choice_counts cond,
+            count_append (one ++ over) (f.lines b c),
+            count_append one over,
+            past_counts f.size,
+            he.few (length over + (f.size + b)) (length over + (f.size + c)),
+            hf.few b c,
+          )
 
   cycle_shaped : (k n m : ℕ) (h b e : Piece) → IsShaped k h → IsShaped n b → IsShaped m e →
       IsShaped (k + (n + (m + 0))) (cycle frame places h b e)
   cycle_shaped k n m h b e hh hb he = record {
     few = λ to_break to_continue.
-        let back : List Line = jump_back (suc (h.size + (b.size + e.size))) ∷ [] in
+        let back : List Line = jump_back (h.size + (b.size + e.size)) ∷ [] in
         let last : List Line = e.lines 1 0 ++ back in
         let middle : List Line = b.lines (suc e.size) 0 ++ last in
         omega (
@@ -1005,28 +1025,47 @@ module _ (frame : FrameTree) (places : List Place) (there : (t : ℕ) → IsTher
       plainly_instrs (choice frame places cond) (both_instrs (take frame places first_scratch cond) _
       (first_taken cond) ((first_at cond, x0_there, branch_fits), tt))
 
-  fork_encodable : (cond : ℕ) (e f : Piece) → IsEncodable e → IsEncodable f →
-      IsEncodable (fork frame places cond e f)
-  fork_encodable cond e f he hf = record {
+  past_instrs : (lines : ℕ) → lines < most_lines → AreInstrLines (past lines)
+  past_instrs zero h = tt
+  past_instrs (suc lines) h = ((x0_there, over_fits (suc lines) h), tt)
+
+  skipping_encodable : (cond : ℕ) (f : Piece) → IsEncodable f → IsEncodable (skipping frame places cond f)
+  skipping_encodable cond f hf =
+      followed_encodable (straightly frame places (choice frame places cond)) f
+      (straight_encodable (plainly (choice frame places cond)) (choice_instrs cond)) hf
+
+  choosing_encodable : (cond : ℕ) (e f : Piece) → IsEncodable e → IsEncodable f →
+      IsEncodable (choosing frame places cond e f)
+  choosing_encodable cond e f he hf = record {
     encodable = λ b c hb hc.
-        let first : List Line = e.lines (suc (f.size + b)) (suc (f.size + c)) in
-        let second : List Line = jump_over f.size ∷ f.lines b c in
-        both_instr_lines (plainly (choice frame places cond)) (jump_over (suc e.size) ∷ (first ++ second))
-        (choice_instrs cond) (
-          (x0_there, over_fits (suc e.size) (omega (arith, hb))),
-          both_instr_lines first second
-              (he.encodable (suc (f.size + b)) (suc (f.size + c)) (omega (arith, hb)) (omega (arith, hc))) (
-                (x0_there, over_fits f.size (omega (arith, hb))),
-                hf.encodable b c (omega (arith, hb)) (omega (arith, hc)),
-              ),
+        let over : List Line = past f.size in
+        let one : List Line = e.lines (length over + (f.size + b)) (length over + (f.size + c)) in
+        let two : List Line = f.lines b c in
+        let jump : Line = jump_over (ending_past frame places e f).size in
+        both_instr_lines (plainly (choice frame places cond)) (jump ∷ ((one ++ over) ++ two)) (choice_instrs cond) (
+          (x0_there, over_fits (ending_past frame places e f).size (omega (arith, hb))),
+          both_instr_lines (one ++ over) two
+              (both_instr_lines one over
+              (he.encodable (length over + (f.size + b)) (length over + (f.size + c)) (omega (arith, hb))
+              (omega (arith, hc))) (past_instrs f.size (omega (arith, hb))))
+              (hf.encodable b c (omega (arith, hb)) (omega (arith, hc))),
         );
   }
+
+  fork_encodable : (cond : ℕ) (first second : List Piece) → IsEncodable (in_order frame places first) →
+      IsEncodable (in_order frame places second) → IsEncodable (fork frame places cond first second)
+  fork_encodable cond first second he hf = by (length first == 0 && (in_order frame places second).size == 1)
+    where
+      by : (found : Bool) → IsEncodable (if found then skipping frame places cond (in_order frame places second)
+          else choosing frame places cond (in_order frame places first) (in_order frame places second))
+      by true = skipping_encodable cond (in_order frame places second) hf
+      by false = choosing_encodable cond (in_order frame places first) (in_order frame places second) he hf
 
   cycle_encodable : (h b n : Piece) → IsEncodable h → IsEncodable b → IsEncodable n →
       IsEncodable (cycle frame places h b n)
   cycle_encodable h b n eh eb en = record {
     encodable = λ to_break to_continue hb hc.
-        let back : List Line = jump_back (suc (h.size + (b.size + n.size))) ∷ [] in
+        let back : List Line = jump_back (h.size + (b.size + n.size)) ∷ [] in
         let last : List Line = n.lines 1 0 ++ back in
         let middle : List Line = b.lines (suc n.size) 0 ++ last in
         let head : List Line = h.lines (b.size + suc n.size) 0 in (
@@ -1036,7 +1075,7 @@ module _ (frame : FrameTree) (places : List Place) (there : (t : ℕ) → IsTher
               (both_instr_lines (b.lines (suc n.size) 0) last
               (eb.encodable (suc n.size) 0 (omega (arith, hb)) (omega (arith, hb)))
               (both_instr_lines (n.lines 1 0) back (en.encodable 1 0 (omega (arith, hb)) (omega (arith, hb)))
-              ((x0_there, back_fits (suc (h.size + (b.size + n.size))) (omega (arith, hb))), tt))),
+              ((x0_there, back_fits (h.size + (b.size + n.size)) (omega (arith, hb))), tt))),
         );
   }
 
@@ -1082,7 +1121,7 @@ module _ (frame : FrameTree) (places : List Place) (there : (t : ℕ) → IsTher
   layer_encodable (tac.If cond first second) h all =
       let a = all_true (map few_inside first) in
       let b = all_true (map few_inside second) in
-      fork_encodable cond (select_all frame places first) (select_all frame places second)
+      fork_encodable cond (map (select frame places) first) (map (select frame places) second)
       (row_encodable first h.0 (and_first a (b && true) all))
       (row_encodable second h.1 (and_first b true (and_rest a (b && true) all)))
   layer_encodable (tac.Loop head body next) h all =

@@ -65,21 +65,22 @@ pub use Rattle.sc_tac.specs.declared.place.Place.TheVariants.{Register, Slot}
 pub use Rattle.sc_tac.specs.declared.stmt.Constant.{Constant}
 pub use Rattle.sc_tac.specs.declared.stmt.TacOp.{TacOp}
 pub use Rattle.sc_tac.specs.declared.stmt.TacStmt.{fold-roll-TacStmt, map-TacStmt, roll-TacStmt}
-pub use Rattle.sc_select.proofs.Joining.{between_keeps, gives_place, is_read, loads_it, none_behind, order_keeps}
+pub use Rattle.sc_select.proofs.Joining.{between_keeps, fork_keeps, gives_place, is_empty, is_read, loads_it}
+pub use Rattle.sc_select.proofs.Joining.{none_behind, order_keeps, parts_least}
 pub use Rattle.sc_select.proofs.Sizes.{row_is_sized}
 pub use Rattle.sc_select.specs.Prelude.{Addresses, Fits, Line, a0, a7, address_scratch, at_hand, between, binary_code}
-pub use Rattle.sc_select.specs.Prelude.{brought, bytes_of, call_cross, call_own, choice, closing, code_of, completed}
-pub use Rattle.sc_select.specs.Prelude.{copied, cycle, entrance, environment_call, first_scratch, followed, fork}
-pub use Rattle.sc_select.specs.Prelude.{frame_left, frame_taken, function_lines, in_order, in_turn, is_named, is_short}
-pub use Rattle.sc_select.specs.Prelude.{joined, joins, jump_back, jump_over, keep, kept, linked, load_from, load_word}
-pub use Rattle.sc_select.specs.Prelude.{loading, low_after, lower_part, most_lines, move, moved_by, nothing}
-pub use Rattle.sc_select.specs.Prelude.{object_offset, object_read, op_code, operand, operation, pass, place_of}
-pub use Rattle.sc_select.specs.Prelude.{place_of_global, plain, plainly, put, ra, reading, receive, referring}
-pub use Rattle.sc_select.specs.Prelude.{refers_only, register_of, relocation_of, relocations_from, result_register}
-pub use Rattle.sc_select.specs.Prelude.{return, role_first, role_of_load, round_begins, second_operand, second_scratch}
-pub use Rattle.sc_select.specs.Prelude.{select, select_all, select_step, slot_offset, sp, store_arguments, store_to}
-pub use Rattle.sc_select.specs.Prelude.{store_word, straight, straightly, take, take_second, taken, unary_code}
-pub use Rattle.sc_select.specs.Prelude.{upper_part, word_of_constant}
+pub use Rattle.sc_select.specs.Prelude.{brought, bytes_of, call_cross, call_own, choice, choosing, closing, code_of}
+pub use Rattle.sc_select.specs.Prelude.{completed, copied, cycle, ending_past, entrance, environment_call}
+pub use Rattle.sc_select.specs.Prelude.{first_scratch, followed, fork, frame_left, frame_taken, function_lines}
+pub use Rattle.sc_select.specs.Prelude.{in_order, in_turn, is_named, is_short, joined, joins, jump_back, jump_over}
+pub use Rattle.sc_select.specs.Prelude.{keep, kept, linked, load_from, load_word, loading, loop_begins, low_after}
+pub use Rattle.sc_select.specs.Prelude.{lower_part, most_lines, move, moved_by, nothing, object_offset, object_read}
+pub use Rattle.sc_select.specs.Prelude.{op_code, operand, operation, pass, past, place_of, place_of_global, plain}
+pub use Rattle.sc_select.specs.Prelude.{plainly, put, ra, reading, receive, referring, refers_only, register_of}
+pub use Rattle.sc_select.specs.Prelude.{relocation_of, relocations_from, result_register, return, role_first}
+pub use Rattle.sc_select.specs.Prelude.{role_of_load, second_operand, second_scratch, select, select_all, select_step}
+pub use Rattle.sc_select.specs.Prelude.{skipping, slot_offset, sp, store_arguments, store_to, store_word, straight}
+pub use Rattle.sc_select.specs.Prelude.{straightly, take, take_second, taken, unary_code, upper_part, word_of_constant}
 pub use Rattle.sc_select.specs.declared.roles.Role.{Role}
 pub use Rattle.sc_select.specs.declared.roles.Role.TheVariants.{Other, Places}
 pub use Rattle.sc_pieces.proofs.Frames.{leaves_frame, overflows, takes_frame}

@@ -1,17 +1,18 @@
 -- The code of loops: where it begins, and where it leads back.
 use Rattle.sc_emit.proofs.Common.{Bne, Bool, Branch, Each, Ebreak, FrameTree, Inside, Instr, Jal, Line, List, None}
 use Rattle.sc_emit.proofs.Common.{Other, Place, Places, Role, Some, TacFnTree, TacStmt, TacStmt-F, [], and_first}
-use Rattle.sc_emit.proofs.Common.{and_rest, ap, append_assoc, arith, between, call_cross, call_own, choice, closing}
-use Rattle.sc_emit.proofs.Common.{code_back_edges, code_of, cond, count_by, cycle, entrance, environment_call}
-use Rattle.sc_emit.proofs.Common.{everywhere, false, first_scratch, fold-roll-TacStmt, fork, gives_place, if◌then◌else◌}
-use Rattle.sc_emit.proofs.Common.{in_turn, inl, is_backward, is_known_jump, is_read, joined, joins, jump_back}
-use Rattle.sc_emit.proofs.Common.{jump_over, leads_back, length, length-append, length-map, list_all, list_all-map}
-use Rattle.sc_emit.proofs.Common.{loads_it, loop_step, loops, lt-leb, map, map-TacStmt, map-append, neg_ℤ, not}
-use Rattle.sc_emit.proofs.Common.{object_read, operand, place_of, place_of_global, plain, plainly, pos, reading}
-use Rattle.sc_emit.proofs.Common.{receive, refl, role_first, role_of_load, round_begins, row_is_sized, select}
-use Rattle.sc_emit.proofs.Common.{select_all, select_step, stmt_induction, stmt_loops, straight as lines_of, straightly}
-use Rattle.sc_emit.proofs.Common.{subst, suc, sum_by-append, sym, take, true, word_of_constant, ℕ, ⊎_elim, ◌&&◌, ◌*◌}
-use Rattle.sc_emit.proofs.Common.{◌++◌, ◌+◌, ◌==◌, ◌∙◌, ◌∷◌, ◌≡◌, ◌≤◌}
+use Rattle.sc_emit.proofs.Common.{and_rest, ap, append_assoc, arith, between, call_cross, call_own, choice, choosing}
+use Rattle.sc_emit.proofs.Common.{closing, code_back_edges, code_of, cond, count_by, cycle, ending_past, entrance}
+use Rattle.sc_emit.proofs.Common.{environment_call, everywhere, false, first_scratch, fold-roll-TacStmt, fork}
+use Rattle.sc_emit.proofs.Common.{gives_place, if◌then◌else◌, in_turn, inl, inr, is_backward, is_empty, is_known_jump}
+use Rattle.sc_emit.proofs.Common.{is_read, joined, joins, jump_back, jump_over, leads_back, length, length-append}
+use Rattle.sc_emit.proofs.Common.{length-map, list_all, list_all-map, loads_it, loop_begins, loop_step, loops, lt-leb}
+use Rattle.sc_emit.proofs.Common.{map, map-TacStmt, map-append, neg_ℤ, not, object_read, operand, past, place_of}
+use Rattle.sc_emit.proofs.Common.{place_of_global, plain, plainly, pos, reading, receive, refl, role_first}
+use Rattle.sc_emit.proofs.Common.{role_of_load, row_is_sized, select, select_all, select_step, skipping, stmt_induction}
+use Rattle.sc_emit.proofs.Common.{stmt_loops, straight as lines_of, straightly, subst, suc, sum_by-append, sym, take}
+use Rattle.sc_emit.proofs.Common.{true, word_of_constant, zero, ℕ, ⊎_elim, ◌&&◌, ◌*◌, ◌++◌, ◌+◌, ◌==◌, ◌∙◌, ◌∷◌, ◌≡◌}
+use Rattle.sc_emit.proofs.Common.{◌≤◌}
 use Rattle.sc_select.specs.Prelude.{Piece}
 use Rattle.sc_emit.specs.Layout.{GoesAround, HasRounds, HaveCode, LeadOn, branching, empty, leads_on, loopless}
 use Rattle.sc_emit.specs.Layout.{repeating}
@@ -48,13 +49,19 @@ over_on : (lines : ℕ) → LeadOn ((jump_over lines).instr ∷ [])
 over_on lines = ap (λ b. not b && true) (lt-leb (4 * suc lines) 0 (omega arith))
 
 -- LISTS
-choice_parts : (test one two more : List Instr) (over behind : Instr) →
-    (test ++ (over ∷ (one ++ (behind ∷ two)))) ++ more ≡
-    (test ++ over ∷ []) ++ (one ++ ((behind ∷ []) ++ (two ++ more)))
-choice_parts test one two more over behind =
-    append_assoc test (over ∷ (one ++ (behind ∷ two))) more ∙
-    ap (λ t. test ++ (over ∷ t)) (append_assoc one (behind ∷ two) more) ∙
-    sym (append_assoc test (over ∷ []) (one ++ (behind ∷ (two ++ more))))
+choice_parts : (test one over two : List Line) (more : List Instr) (jump : Line) →
+    instrs_of (test ++ (jump ∷ ((one ++ over) ++ two))) ++ more ≡
+    (instrs_of test ++ jump.instr ∷ []) ++ (instrs_of one ++ (instrs_of over ++ (instrs_of two ++ more)))
+choice_parts test one over two more jump =
+    ap (λ t. t ++ more) (map-append (λ line. line.instr) test (jump ∷ ((one ++ over) ++ two)) ∙
+    ap (λ t. instrs_of test ++ (jump.instr ∷ t)) (map-append (λ line. line.instr) (one ++ over) two ∙
+    ap (λ t. t ++ instrs_of two) (map-append (λ line. line.instr) one over))) ∙
+    append_assoc (instrs_of test) (jump.instr ∷ ((instrs_of one ++ instrs_of over) ++ instrs_of two)) more ∙
+    ap (λ t. instrs_of test ++ (jump.instr ∷ t))
+    (append_assoc (instrs_of one ++ instrs_of over) (instrs_of two) more ∙
+    append_assoc (instrs_of one) (instrs_of over) (instrs_of two ++ more)) ∙
+    sym (append_assoc (instrs_of test) (jump.instr ∷ [])
+    (instrs_of one ++ (instrs_of over ++ (instrs_of two ++ more))))
 
 loop_parts : (head body next more : List Instr) (last : Instr) →
     (head ++ (body ++ (next ++ (last ∷ [])))) ++ more ≡ (head ++ (body ++ next)) ++ (last ∷ more)
@@ -154,42 +161,70 @@ module _ (frame : FrameTree) (places : List Place) where
       IsCodeOf stmt (record piece { role = role })
   in_role stmt role piece h = record { lies = h.lies }
 
-  choice_on : (cond lines : ℕ) → LeadOn (instrs_of (plainly (choice frame places cond)) ++ (jump_over lines).instr ∷ [])
-  choice_on cond lines =
+  choice_on : (cond : ℕ) → LeadOn (instrs_of (plainly (choice frame places cond)))
+  choice_on cond =
       let before : List Instr = take frame places first_scratch cond in
       let branch : Instr = Branch Bne (operand frame places first_scratch cond) 0 (pos 8) in
-      both_on (instrs_of (plainly (choice frame places cond))) ((jump_over lines).instr ∷ [])
-      (list_all-map leads_on (λ line. line.instr) (plainly (choice frame places cond)) ∙
+      list_all-map leads_on (λ line. line.instr) (plainly (choice frame places cond)) ∙
       list_all-map (λ line. leads_on line.instr) plain (choice frame places cond) ∙
       all_append leads_on before (branch ∷ [])
-      (all_weaker is_straight leads_on straight_on before (take_straight frame places first_scratch cond)) refl)
-      (over_on lines)
+      (all_weaker is_straight leads_on straight_on before (take_straight frame places first_scratch cond)) refl
 
-  if_lies : (cond : ℕ) (first second : List TacStmt) → Each Lies first → Each Lies second →
-      IsCodeOf (roll-TacStmt (tac.If cond first second))
-      (fork frame places cond (select_all frame places first) (select_all frame places second))
-  if_lies cond first second hf hs = record {
+  past_on : (lines : ℕ) → LeadOn (instrs_of (past lines))
+  past_on zero = refl
+  past_on (suc lines) = over_on (suc lines)
+
+  -- an `If` has its own before each of its parts
+  parts_lie : (cond : ℕ) (first second : List TacStmt) → Each Lies first → Each Lies second →
+      IsCodeOf (emit.If cond first second)
+      (choosing frame places cond (select_all frame places first) (select_all frame places second))
+  parts_lie cond first second hf hs = record {
     lies = λ b c rest more h.
         let e : Piece = select_all frame places first in
         let f : Piece = select_all frame places second in
-        let test : List Instr = instrs_of (plainly (choice frame places cond)) in
-        let over : Line = jump_over (suc e.size) in
-        let behind : Line = jump_over f.size in
-        let one : List Line = e.lines (suc (f.size + b)) (suc (f.size + c)) in
-        let two : List Line = f.lines b c in
-        let is : instrs_of (plainly (choice frame places cond) ++ (over ∷ (one ++ (behind ∷ two)))) ≡
-        test ++ (over.instr ∷ (instrs_of one ++ (behind.instr ∷ instrs_of two))) =
-        map-append (λ line. line.instr) (plainly (choice frame places cond)) (over ∷ (one ++ (behind ∷ two))) ∙
-        ap (λ t. test ++ (over.instr ∷ t)) (map-append (λ line. line.instr) one (behind ∷ two)) in
-        subst (λ s. HaveCode (s ∷ rest)
-        (instrs_of (plainly (choice frame places cond) ++ (over ∷ (one ++ (behind ∷ two)))) ++ more))
-        (rolled_if cond first second)
-        (subst (HaveCode (emit.If cond first second ∷ rest))
-        (sym (ap (λ t. t ++ more) is ∙
-        choice_parts test (instrs_of one) (instrs_of two) more over.instr behind.instr))
-        (branching cond (test ++ over.instr ∷ []) (behind.instr ∷ []) (choice_on cond (suc e.size)) (over_on f.size)
-        (row_lies first hf (suc (f.size + b)) (suc (f.size + c))) (row_lies second hs b c) h));
+        let test : List Line = plainly (choice frame places cond) in
+        let over : List Line = past f.size in
+        let n : ℕ = length over + (f.size + b) in
+        let m : ℕ = length over + (f.size + c) in
+        let jump : Line = jump_over (ending_past frame places e f).size in
+        subst (HaveCode (emit.If cond first second ∷ rest))
+        (sym (choice_parts test (e.lines n m) over (f.lines b c) more jump))
+        (branching cond (instrs_of test ++ jump.instr ∷ []) (instrs_of over)
+        (both_on (instrs_of test) (jump.instr ∷ []) (choice_on cond) (over_on (ending_past frame places e f).size))
+        (past_on f.size) (row_lies first hf n m) (row_lies second hs b c) h);
   }
+
+  -- or one without a first part has a branch before the second
+  second_lies : (cond : ℕ) (second : List TacStmt) → Each Lies second →
+      IsCodeOf (emit.If cond [] second) (skipping frame places cond (select_all frame places second))
+  second_lies cond second hs = record {
+    lies = λ b c rest more h.
+        let test : List Line = plainly (choice frame places cond) in
+        let two : List Line = (select_all frame places second).lines b c in
+        subst (HaveCode (emit.If cond [] second ∷ rest))
+        (sym (ap (λ t. t ++ more) (map-append (λ line. line.instr) test two) ∙
+        append_assoc (instrs_of test) (instrs_of two) more))
+        (branching cond (instrs_of test) [] (choice_on cond) refl empty (row_lies second hs b c) h);
+  }
+
+  if_lies : (cond : ℕ) (first second : List TacStmt) → Each Lies first → Each Lies second →
+      IsCodeOf (roll-TacStmt (tac.If cond first second))
+      (fork frame places cond (map (select frame places) first) (map (select frame places) second))
+  if_lies cond first second hf hs =
+      subst (λ stmt. IsCodeOf stmt (fork frame places cond (map (select frame places) first) (map (select frame
+      places) second))) (rolled_if cond first second) (by (length (map (select frame places) first) == 0 &&
+      (select_all frame places second).size == 1) refl)
+    where
+      by : (found : Bool) → (length (map (select frame places) first) == 0 &&
+          (select_all frame places second).size == 1) ≡ found → IsCodeOf (emit.If cond first second) (if found
+          then skipping frame places cond (select_all frame places second)
+          else choosing frame places cond (select_all frame places first) (select_all frame places second))
+      by true is =
+          let none : first ≡ [] = is_empty first (sym (ap (λ n. n == 0) (length-map first (select frame places))) ∙
+          and_first (length (map (select frame places) first) == 0) _ is) in
+          subst (λ stmts. IsCodeOf (emit.If cond stmts second)
+          (skipping frame places cond (select_all frame places second))) (sym none) (second_lies cond second hs)
+      by false is = parts_lie cond first second hf hs
 
   loop_lies : (head body next : List TacStmt) → Each Lies head → Each Lies body → Each Lies next →
       IsCodeOf (roll-TacStmt (tac.Loop head body next))
@@ -203,7 +238,7 @@ module _ (frame : FrameTree) (places : List Place) where
         let lh : List Line = ph.lines (pb.size + suc pn.size) 0 in
         let lb : List Line = pb.lines (suc pn.size) 0 in
         let ln : List Line = pn.lines 1 0 in
-        let last : Line = jump_back (suc (ph.size + (pb.size + pn.size))) in
+        let last : Line = jump_back (ph.size + (pb.size + pn.size)) in
         let inside : List Instr = instrs_of lh ++ (instrs_of lb ++ instrs_of ln) in
         let is : instrs_of (lh ++ (lb ++ (ln ++ (last ∷ [])))) ≡
         instrs_of lh ++ (instrs_of lb ++ (instrs_of ln ++ (last.instr ∷ []))) =
@@ -223,14 +258,14 @@ module _ (frame : FrameTree) (places : List Place) where
           (row_is_sized frame places next).sized 1 0,
         ) in
         subst (λ s. HaveCode (s ∷ rest)
-        ((round_begins.instr ∷ instrs_of (lh ++ (lb ++ (ln ++ (last ∷ []))))) ++ more))
+        ((loop_begins.instr ∷ instrs_of (lh ++ (lb ++ (ln ++ (last ∷ []))))) ++ more))
         (rolled_loop head body next)
-        (subst (λ t. HaveCode (emit.Loop head body next ∷ rest) (round_begins.instr ∷ t))
+        (subst (λ t. HaveCode (emit.Loop head body next ∷ rest) (loop_begins.instr ∷ t))
         (sym (ap (λ t. t ++ more) is ∙ loop_parts (instrs_of lh) (instrs_of lb) (instrs_of ln) more last.instr))
-        (repeating inside round_begins.instr last.instr (record {
+        (repeating inside loop_begins.instr last.instr (record {
           order = inl refl;
           on = refl;
-          back = inl (ap (λ n. Some (neg_ℤ (pos (4 * suc n)))) (sym long));
+          back = inr (ap (λ n. Some (neg_ℤ (pos (4 * n)))) (sym long));
         }) (row_lies head hh (pb.size + suc pn.size) 0) (row_lies body hb (suc pn.size) 0) (row_lies next hn 1 0) h));
   }
 

@@ -10,10 +10,10 @@ use Rattle.sc_emit.proofs.Common.{has_operands, has_words, if◌then◌else◌, 
 use Rattle.sc_emit.proofs.Common.{joined, joins, leb-true, length, list_all, loads_it, ltb-true, map, map-TacStmt}
 use Rattle.sc_emit.proofs.Common.{names_only, names_own_object, names_own_temps, nat_lt, none_behind, not}
 use Rattle.sc_emit.proofs.Common.{nothing as no_lines, object_inside, object_read, object_there, one_or_none}
-use Rattle.sc_emit.proofs.Common.{passes_few, reading, refl, role_first, roll-TacStmt, row, select, select_all}
-use Rattle.sc_emit.proofs.Common.{select_step, slice_get-get_or, stmt_does, stmt_induction, straightly, subst, sym}
-use Rattle.sc_emit.proofs.Common.{takes_two, trail, trail_step, true, word_of_constant, wrapping, ℕ, ◌++◌, ◌+◌, ◌<◌}
-use Rattle.sc_emit.proofs.Common.{◌^◌, ◌||◌, ◌∙◌, ◌∷◌, ◌≡◌, ◌≤◌}
+use Rattle.sc_emit.proofs.Common.{parts_least, passes_few, reading, refl, role_first, roll-TacStmt, row, select}
+use Rattle.sc_emit.proofs.Common.{select_all, select_step, slice_get-get_or, stmt_does, stmt_induction, straightly}
+use Rattle.sc_emit.proofs.Common.{subst, sym, takes_two, trail, trail_step, true, word_of_constant, wrapping, ℕ, ◌++◌}
+use Rattle.sc_emit.proofs.Common.{◌+◌, ◌<◌, ◌^◌, ◌||◌, ◌∙◌, ◌∷◌, ◌≡◌, ◌≤◌}
 use Rattle.sc_select.specs.Prelude.{Piece as Code}
 use Rattle.std.specs.Bool.{beq}
 use Rattle.sc_tac.specs.declared.stmt.Constant.TheVariants as constant
@@ -315,10 +315,10 @@ module _ (T : Setting) (R : Running) (formed : IsWellFormed T.image) (inputs : A
       Shape (tac.If cond first second)
   if_level cond first second each each' h all few =
       let pass = choice_passes tests cond first second all in
+      let least = parts_least frame R.places cond (map code first) (map code second) in
       fork_follows T R formed inputs cells nodes is placed gapless cond (all_do (map does first)) (all_do (map does
-      second))
-      (in_order frame R.places (map code first)) (in_order frame R.places (map code second)) (map trail first) (map trail second)
-      (row_of first each pass.0 (omega (arith, few))) (row_of second each' pass.1 (omega (arith, few)))
+      second)) (map code first) (map code second) (map trail first) (map trail second)
+      (row_of first each pass.0 (omega (arith, few, least.0))) (row_of second each' pass.1 (omega (arith, few, least.1)))
 
   loop_level : (head body next : List TacStmt) → Each Followed head → Each Followed body → Each Followed next →
       Shape (tac.Loop head body next)
@@ -327,7 +327,7 @@ module _ (T : Setting) (R : Running) (formed : IsWellFormed T.image) (inputs : A
       loop_follows T R formed inputs (all_do (map does head)) (all_do (map does body)) (all_do (map does next))
       (in_order frame R.places (map code head)) (in_order frame R.places (map code body)) (in_order frame R.places (map code next)) (map trail head) (map trail body)
       (map trail next) (row_of head each pass.0 (omega (arith, few))) (row_of body each' pass.1 (omega (arith, few)))
-      (row_of next each'' pass.2 (omega (arith, few))) few
+      (row_of next each'' pass.2 (omega (arith, few))) gapless few
 
   -- the operator counts elements of few cells, if it counts any
   is_sound : (o : TacOp) → counts_elements o ≡ true → IsSound o

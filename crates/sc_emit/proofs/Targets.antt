@@ -117,8 +117,8 @@ module _ (function : ℕ → Bool) (entry : (comp index : ℕ) → Bool) (global
     layer_named (tac.If cond first second) h all =
         let a = all_true (map named_inside first) in
         let b = all_true (map named_inside second) in
-        fork_passes is_named_line named_mild frame places cond (select_all frame places first)
-        (select_all frame places second) (row_named first h.0 (and_first a (b && true) all))
+        fork_passes is_named_line named_mild frame places cond (map (select frame places) first)
+        (map (select frame places) second) (row_named first h.0 (and_first a (b && true) all))
         (row_named second h.1 (and_first b true (and_rest a (b && true) all)))
     layer_named (tac.Loop head body next) h all =
         let a = all_true (map named_inside head) in

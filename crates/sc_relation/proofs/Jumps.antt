@@ -13,8 +13,9 @@ neg_word : (n : ℕ) → 0 < n → n < 2 ^ 32 → word_of (neg_ℤ (pos n)) ≡ 
 neg_word zero h k = absurd (omega (arith, h))
 neg_word (suc n) h k = omega (arith, k)
 
-pub back_to : (pc n : ℕ) → 0 < n → 4 * n ≤ pc → pc < 2 ^ 31 → add_word pc (word_of (neg_ℤ (pos (4 * n)))) ≡ pc - 4 * n
-back_to pc n h k l = ap (add_word pc) (neg_word (4 * n) (omega arith) (omega arith)) ∙ omega arith
+pub back_to : (pc n : ℕ) → 4 * n ≤ pc → pc < 2 ^ 31 → add_word pc (word_of (neg_ℤ (pos (4 * n)))) ≡ pc - 4 * n
+back_to pc zero k l = omega (arith, l)
+back_to pc (suc n) k l = ap (add_word pc) (neg_word (4 * suc n) (omega arith) (omega arith)) ∙ omega arith
 
 pub over_to : (pc n : ℕ) → pc + 4 * suc n < 2 ^ 31 → add_word pc (word_of (pos (4 * suc n))) ≡ pc + 4 * suc n
 over_to pc n h = omega (arith, h)
@@ -32,6 +33,12 @@ module _ (T : Setting) (formed : IsWellFormed T.image) (P : Standpoint) where
     costs = record { least = omega arith; most = λ all. omega (arith, h) };
     effect = effect_still T P x target x.regs;
   }
+
+  pub jumps_once : (x : Joint) (imm : ℤ) (target word budget left : ℕ) (f : Fetches T.image P.comp x.pc (Jal 0 imm))
+      (e : add_word x.pc (word_of imm) ≡ target) (there : word_at T.image P.comp target ≡ Some word)
+      (h : suc left ≤ budget) → (jumps x imm target word budget left f e there h).steps ≡ 1
+  unfolding jumps
+  jumps_once x imm target word budget left f e there h = refl
 
 -- the code of a function has no gap up to its last word
 abbrev pub HasNoGap : Setting → Running → Type 0

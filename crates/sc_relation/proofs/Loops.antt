@@ -5,7 +5,7 @@ use Rattle.sc_relation.proofs.Common.{IsWord, Jal, Joint, Leads, Left, Line, Lis
 use Rattle.sc_relation.proofs.Common.{Point, Reached, Ready, Return, Running, Set, Setting, Settled, Standpoint}
 use Rattle.sc_relation.proofs.Common.{StandsAt, Starts, Stopped, Temps, Trail, Walks, [], add_word, ahead_at, and_then}
 use Rattle.sc_relation.proofs.Common.{ap, arith, code_inside, cycle, ends_of, false, follow, follow_goes, in_body}
-use Rattle.sc_relation.proofs.Common.{in_head, in_loop, in_next, inl, inr, jump_back, length, length-append}
+use Rattle.sc_relation.proofs.Common.{in_head, in_loop, in_next, inl, inr, is_some, jump_back, length, length-append}
 use Rattle.sc_relation.proofs.Common.{live_at_start, live_before, loop, loop_points, low_after, machine, neg_ℤ, no_turn}
 use Rattle.sc_relation.proofs.Common.{op_imm, part_ahead, point, pos, readings, refl, rounds, row, row_first}
 use Rattle.sc_relation.proofs.Common.{row_points, seen_from, stays, subst, suc, sym, take, then_from, then_goes}
@@ -17,7 +17,7 @@ use Rattle.rv_code.specs.declared.instr.OpImmOp.TheVariants.{Addi}
 use Rattle.sc_relation.proofs.Coming.{came_by}
 use Rattle.sc_tac.specs.declared.stmt.TacStmt.TheOpen as tac
 use Rattle.sc_relation.proofs.Clear.{all_front, all_back}
-use Rattle.sc_relation.proofs.Jumps.{back_to, jumps}
+use Rattle.sc_relation.proofs.Jumps.{HasNoGap, back_to, jumps, jumps_once}
 use Rattle.sc_relation.proofs.Lines.{InParts, in_parts, low_append}
 use Rattle.sc_relation.proofs.Stretches.{effect_still, leads_then, leads_then_steps, shows_here, shows_after}
 use Rattle.sc_relation.proofs.Stretches.{overflows_with, comes_after, arrives_with}
@@ -55,7 +55,7 @@ module _ {A : Type 0} (head body next : Does A) (H : (a : A) → Goes (head a)) 
 
 module _ (T : Setting) (R : Running) (formed : IsWellFormed T.image) (words : All IsWord T.inputs)
     (head body next : Codes) (h b n : Code) (hs bs ns : List Trail) (H : Follows T R head h (row hs))
-    (B : Follows T R body b (row bs)) (N : Follows T R next n (row ns)) where
+    (B : Follows T R body b (row bs)) (N : Follows T R next n (row ns)) (gapless : HasNoGap T R) where
   abbrev whole : Code
   whole = cycle R.activation.frame R.places h b n
 
@@ -75,7 +75,7 @@ module _ (T : Setting) (R : Running) (formed : IsWellFormed T.image) (words : Al
   back_pc L = next_pc L + 4 * n.size
 
   abbrev back_lines : ℕ
-  back_lines = suc (h.size + (b.size + n.size))
+  back_lines = h.size + (b.size + n.size)
 
   -- the code's parts
   record Parts (L : ℕ) : Type 0 where
@@ -188,10 +188,19 @@ module _ (T : Setting) (R : Running) (formed : IsWellFormed T.image) (words : Al
           taken Continue temps = goes temps
           taken (Return v) temps = stays (record { exit = Return v; carried = temps })
 
-      -- one more round, as it is known of fewer
+      abbrev head_left : ℕ
+      head_left = b.size + (1 + (n.size + left))
+
+      -- where the head begins
+      abbrev inside : Joint → Joint
+      inside x = record x { pc = L + 4 }
+
+      -- one more round, as it is known of fewer, where one step leads to the head: the first instruction of the loop, or
+      -- the jump back
       abbrev Rounds : ℕ → Type 0
-      Rounds k = (temps : Temps) (x : Joint) → Ready T R begin temps x → x.pc ≡ L →
-          Goal x (whole.size + left) (rounds k head body next temps x.meant)
+      Rounds k = (temps : Temps) (x : Joint) (budget : ℕ) → Ready T R begin temps x →
+          (first : Leads T P x (inside x) budget (h.size + head_left)) → first.steps ≡ 1 →
+          Goal x budget (rounds k head body next temps x.meant)
 
       -- the state at another pc, where a stretch of silent steps led
       ready_at : (live : Set) (temps : Temps) (x y : Joint) (budget rest_budget : ℕ) →
@@ -223,20 +232,22 @@ module _ (T : Setting) (R : Running) (formed : IsWellFormed T.image) (words : Al
       again : (k : ℕ) → Rounds k → (temps : Temps) (u : Joint) → Ready T R begin temps u → u.pc ≡ back_pc L →
           Goal u (1 + (left + W)) (rounds k head body next temps u.meant)
       again k more temps u ready place =
-          let there = code_inside T.image formed comp L code.first.word code.first.fetched in
+          let first = code_inside T.image formed comp L code.first.word code.first.fetched in
+          let there = gapless L (L + 4) (ap is_some code.first.fetched) (omega arith) (omega (arith, breaks))
+          (omega (arith, first.aligned)) in
           let from = code_inside T.image formed comp (back_pc L) code.back.word code.back.fetched in
-          let target : add_word (back_pc L) (word_of (neg_ℤ (pos (4 * back_lines)))) ≡ L =
-          back_to (back_pc L) back_lines (omega arith) (omega arith) (omega (arith, from.low)) ∙ omega arith in
-          let v : Joint = record u { pc = L } in
-          let leads : Leads T P u v (1 + (left + W)) (whole.size + left) =
-          jumps T formed P u (neg_ℤ (pos (4 * back_lines))) L code.first.word (1 + (left + W)) (whole.size + left)
-          (subst (λ pc. Fetches T.image comp pc (Jal 0 (neg_ℤ (pos (4 * back_lines))))) (sym place) code.back)
-          (subst (λ pc. add_word pc (word_of (neg_ℤ (pos (4 * back_lines)))) ≡ L) (sym place) target) code.first.fetched
-          (omega (arith, pays)) in
-          comes_after T R lives u v (1 + (left + W)) (whole.size + left) ends (rounds k head body next temps u.meant)
-          ready.settled leads
-          (more temps v (ready_at begin temps u v (1 + (left + W)) (whole.size + left) leads refl (λ t on. on) ready)
-          refl)
+          let target : add_word (back_pc L) (word_of (neg_ℤ (pos (4 * back_lines)))) ≡ L + 4 =
+          back_to (back_pc L) back_lines (omega arith) (omega (arith, from.low)) ∙ omega arith in
+          let jump : Fetches T.image comp u.pc (Jal 0 (neg_ℤ (pos (4 * back_lines)))) =
+          subst (λ pc. Fetches T.image comp pc (Jal 0 (neg_ℤ (pos (4 * back_lines))))) (sym place) code.back in
+          let leads : add_word u.pc (word_of (neg_ℤ (pos (4 * back_lines)))) ≡ L + 4 =
+          subst (λ pc. add_word pc (word_of (neg_ℤ (pos (4 * back_lines)))) ≡ L + 4) (sym place) target in
+          let paid : suc (h.size + head_left) ≤ 1 + (left + W) = omega (arith, pays) in
+          more temps u (1 + (left + W)) ready
+          (jumps T formed P u (neg_ℤ (pos (4 * back_lines))) (L + 4) there.0 (1 + (left + W)) (h.size + head_left) jump
+          leads there.1 paid)
+          (jumps_once T formed P u (neg_ℤ (pos (4 * back_lines))) (L + 4) there.0 (1 + (left + W)) (h.size + head_left)
+          jump leads there.1 paid)
 
       abbrev next_ends : Ends
       next_ends = record { left = 1 + (left + W); behind = back_pc L; broken = ends.behind; continued = back_pc L }
@@ -338,20 +349,17 @@ module _ (T : Setting) (R : Running) (formed : IsWellFormed T.image) (words : Al
           (λ o. overflow_in z (b.size + body_left) (body temps z.meant) (rest k) (rest_goes k) o)
           (B.runs (in_body hs bs ns lives) temps z body_left (suc n.size) 0 starts)
 
-      abbrev head_left : ℕ
-      head_left = b.size + (1 + (n.size + left))
-
       -- the turn: what it pays comes in, and the first instruction of the round is its step
-      turned : (k : ℕ) → Rounds k → (temps : Temps) (x y : Joint) → Settled T P x →
-          (l : Leads T P x y (whole.size + left) head_left) → suc x.meant.turns ≤ y.meant.turns + l.steps →
+      turned : (k : ℕ) → Rounds k → (temps : Temps) (x y : Joint) (budget : ℕ) → Settled T P x →
+          (l : Leads T P x y budget head_left) → suc x.meant.turns ≤ y.meant.turns + l.steps →
           Ready T R (live_before bs (in_body hs bs ns lives)) temps y → y.pc ≡ body_pc L → (m : ℕ) → y.meant.turns ≡ m →
-          Goal x (whole.size + left) (and_then (turn_of m y.meant) (λ u s. follow in_loop (body temps s) (rest k)))
-      turned k more temps x y settled l spare ready place zero e =
-          inl (shows_after T P x y (whole.size + left) head_left y.meant l (shows_here T P y head_left))
-      turned k more temps x y settled l spare ready place (suc m) e =
+          Goal x budget (and_then (turn_of m y.meant) (λ u s. follow in_loop (body temps s) (rest k)))
+      turned k more temps x y budget settled l spare ready place zero e =
+          inl (shows_after T P x y budget head_left y.meant l (shows_here T P y head_left))
+      turned k more temps x y budget settled l spare ready place (suc m) e =
           let z : Joint = record y { meant = record y.meant { turns = m } } in
           let product : W * y.meant.turns ≡ W + W * m = ap (λ t. W * t) e ∙ omega arith in
-          let leads : Leads T P x z (whole.size + left) (b.size + body_left) = record {
+          let leads : Leads T P x z budget (b.size + body_left) = record {
             steps = l.steps;
             run = l.run;
             costs = record { least = omega (arith, e, spare); most = λ all. omega (arith, l.costs.most all, product) };
@@ -377,50 +385,45 @@ module _ (T : Setting) (R : Running) (formed : IsWellFormed T.image) (words : Al
             held = ready.held;
             sp = ready.sp;
           } in
-          comes_after T R lives x z (whole.size + left) (b.size + body_left) ends
+          comes_after T R lives x z budget (b.size + body_left) ends
           (follow in_loop (body temps z.meant) (rest k)) settled leads (bodies k more temps z there place)
 
       abbrev head_ends : Ends
       head_ends = record { left = head_left; behind = body_pc L; broken = ends.behind; continued = body_pc L }
 
-      -- behind the first instruction
-      abbrev inside : Joint → Joint
-      inside x = record x { pc = L + 4 }
-
-      after_head : (k : ℕ) → Rounds k → (x : Joint) → Settled T P x →
-          (first : Leads T P x (inside x) (whole.size + left) (h.size + head_left)) → first.steps ≡ 1 →
+      after_head : (k : ℕ) → Rounds k → (x : Joint) (budget : ℕ) → Settled T P x →
+          (first : Leads T P x (inside x) budget (h.size + head_left)) → first.steps ≡ 1 →
           (piece : Piece (Left Temps)) →
           Gives T R (in_head hs bs ns lives) (inside x) (h.size + head_left) head_ends piece →
-          Goal x (whole.size + left) (follow in_loop piece (behind_head k))
-      after_head k more x settled first one (Stopped end s) g =
-          inl (shows_after T P x (inside x) (whole.size + left) (h.size + head_left) s first g)
-      after_head k more x settled first one (Reached l s) g = by l.exit g
+          Goal x budget (follow in_loop piece (behind_head k))
+      after_head k more x budget settled first one (Stopped end s) g =
+          inl (shows_after T P x (inside x) budget (h.size + head_left) s first g)
+      after_head k more x budget settled first one (Reached l s) g = by l.exit g
         where
           then_on : (piece : Piece (Left Temps)) → Goal (inside x) (h.size + head_left) piece →
-              Goal x (whole.size + left) piece
+              Goal x budget piece
           then_on piece g =
-              comes_after T R lives x (inside x) (whole.size + left) (h.size + head_left) ends piece settled first g
+              comes_after T R lives x (inside x) budget (h.size + head_left) ends piece settled first g
 
           steps : (g : Arrives T R (live_before bs (in_body hs bs ns lives)) (inside x) (h.size + head_left) head_left
               l.carried s (body_pc L)) →
-              (leads_then T P x (inside x) g.y (whole.size + left) (h.size + head_left) head_left settled first
+              (leads_then T P x (inside x) g.y budget (h.size + head_left) head_left settled first
               g.leads).steps ≡ first.steps + g.leads.steps
           steps g =
-              leads_then_steps T P x (inside x) g.y (whole.size + left) (h.size +
-              head_left) head_left settled first g.leads
+              leads_then_steps T P x (inside x) g.y budget (h.size + head_left) head_left settled first g.leads
 
           on : Arrives T R (live_before bs (in_body hs bs ns lives)) (inside x) (h.size +
               head_left) head_left l.carried s
-              (body_pc L) → Goal x (whole.size + left) (behind_head k l.carried s)
+              (body_pc L) → Goal x budget (behind_head k l.carried s)
           on g =
-              subst (λ s. Goal x (whole.size + left) (behind_head k l.carried s)) g.meant_is
-              (turned k more l.carried x g.y settled
-              (leads_then T P x (inside x) g.y (whole.size + left) (h.size + head_left) head_left settled first g.leads)
+              subst (λ s. Goal x budget (behind_head k l.carried s)) g.meant_is
+              (turned k more l.carried x g.y budget settled
+              (leads_then T P x (inside x) g.y budget (h.size + head_left) head_left settled first g.leads)
               (omega (arith, g.leads.costs.least, one, steps g)) g.ready g.pc_is g.y.meant.turns refl)
 
           by : (exit : Exit) →
               ExitGives T R (in_head hs bs ns lives) (inside x) (h.size + head_left) head_ends exit l.carried s →
-              Goal x (whole.size + left) (take (in_loop exit) (behind_head k) l.carried s)
+              Goal x budget (take (in_loop exit) (behind_head k) l.carried s)
           by Next g = on g
           by Continue g = on g
           by Break g =
@@ -431,42 +434,51 @@ module _ (T : Setting) (R : Running) (formed : IsWellFormed T.image) (words : Al
 
       -- so many rounds
       rounds_follow : (k : ℕ) → Rounds k
-      rounds_follow zero temps x ready place = inl (shows_here T P x (whole.size + left))
-      rounds_follow (suc k) temps x ready place =
-          let y : Joint = record x { pc = L + 4 } in
-          let leads : Leads T P x y (whole.size + left) (h.size + head_left) = record {
-            steps = 1;
-            run =
-                subst (λ pc. Walks T.image T.inputs 1 (machine P (record x { pc = pc })) (machine P y)) (sym place)
-                (op_imm T.image T.inputs L x.regs x.bytes (record {
-                  active = comp;
-                  saved = x.saved;
-                  cross = P.cross;
-                  input = x.input;
-                  trace = x.meant.trace;
-                }) Addi 0 0 (pos 0) (add_word 0 0) (omega arith) (omega arith) code.first refl);
-            costs = record { least = omega arith; most = λ all. omega arith };
-            effect = effect_still T P x (L + 4) x.regs;
-          } in
+      rounds_follow zero temps x budget ready leads one = inl (shows_here T P x budget)
+      rounds_follow (suc k) temps x budget ready leads one =
+          let y : Joint = inside x in
           let e : ends_of h (L + 4) head_left (b.size + suc n.size) 0 ≡ head_ends =
           (let e2 : L + 4 + 4 * (h.size + (b.size + suc n.size)) ≡ ends.behind = omega arith in
           let e3 : L + 4 + 4 * (h.size + 0) ≡ body_pc L = omega arith in rw (e2, e3) refl) in
           let starts : Starts T R h (row hs) (in_head hs bs ns lives) temps y (b.size + suc n.size) 0 = record {
             ready =
-                ready_at (live_before hs (in_head hs bs ns lives)) temps x y (whole.size + left) (h.size + head_left)
-                leads refl (head_live hs bs ns lives) ready;
+                ready_at (live_before hs (in_head hs bs ns lives)) temps x y budget (h.size + head_left) leads refl
+                (head_live hs bs ns lives) ready;
             clear = clear_head;
             stands = code.of_head;
             breaks = omega (arith, breaks);
             continues = omega (arith, breaks);
           } in
           ⊎_elim
-          (λ g. after_head k (rounds_follow k) x ready.settled leads refl (head temps x.meant)
+          (λ g. after_head k (rounds_follow k) x budget ready.settled leads one (head temps x.meant)
           (subst (λ ends. Gives T R (in_head hs bs ns lives) y (h.size + head_left) ends (head temps x.meant)) e g))
-          (λ o. comes_after T R lives x y (whole.size + left) (h.size + head_left) ends
+          (λ o. comes_after T R lives x y budget (h.size + head_left) ends
           (follow in_loop (head temps x.meant) (behind_head k)) ready.settled leads
           (overflow_in y (h.size + head_left) (head temps x.meant) (behind_head k) (behind_goes k) o))
           (H.runs (in_head hs bs ns lives) temps y head_left (b.size + suc n.size) 0 starts)
+
+      -- the instruction that the loop begins with
+      begins : (x : Joint) → x.pc ≡ L → Leads T P x (inside x) (whole.size + left) (h.size + head_left)
+      begins x place = record {
+        steps = 1;
+        run =
+            subst (λ pc. Walks T.image T.inputs 1 (machine P (record x { pc = pc })) (machine P (inside x))) (sym place)
+            (op_imm T.image T.inputs L x.regs x.bytes (record {
+              active = comp;
+              saved = x.saved;
+              cross = P.cross;
+              input = x.input;
+              trace = x.meant.trace;
+            }) Addi 0 0 (pos 0) (add_word 0 0) (omega arith) (omega arith) code.first refl);
+        costs = record { least = omega arith; most = λ all. omega arith };
+        effect = effect_still T P x (L + 4) x.regs;
+      }
+
+      loop_comes : (k : ℕ) (temps : Temps) (x : Joint) → Ready T R begin temps x → x.pc ≡ L →
+          Goal x (whole.size + left) (rounds k head body next temps x.meant)
+      unfolding begins
+      loop_comes k temps x ready place =
+          rounds_follow k temps x (whole.size + left) ready (begins x place) refl
 
   pub loop_follows : whole.size ≤ T.turn_pays → Follows T R (loop head body next) whole (trail_step (tac.Loop hs bs ns))
   loop_follows pays = record {
@@ -486,7 +498,7 @@ module _ (T : Setting) (R : Running) (formed : IsWellFormed T.image) (words : Al
     closed = λ to_break to_continue. closed_by;
     goes = λ temps s. rounds_goes head body next H.goes B.goes N.goes (suc s.turns) temps s;
     runs = λ lives temps x left to_break to_continue starts.
-        rounds_follow pays lives x.pc left to_break to_continue (parts x.pc to_break to_continue starts.stands)
+        loop_comes pays lives x.pc left to_break to_continue (parts x.pc to_break to_continue starts.stands)
         starts.clear starts.breaks (suc x.meant.turns) temps x starts.ready refl;
   }
     where

@@ -22,15 +22,16 @@ pub use Rattle.sc_select.specs.Common.{Branch, CodeTree, Div, Entry, FrameTree, 
 pub use Rattle.sc_select.specs.Common.{Mul, Place, Relocation, Sub, Sw, TacOp, TacStmt, TacStmt-F, Target, fold-TacStmt}
 pub use Rattle.sc_select.specs.Prelude.{Add, Addi, Fits, FitsBetween, Jal, Line, Load, Op, OpImm, Piece, Store, Upper}
 pub use Rattle.sc_select.specs.Prelude.{at_hand, between, binary_code, brought, bytes_of, call_cross, call_own, choice}
-pub use Rattle.sc_select.specs.Prelude.{closing, code_of, code_of_lines, copied, cycle, entrance, environment_call}
-pub use Rattle.sc_select.specs.Prelude.{followed, fork, frame_left, frame_taken, function_lines, in_order, in_turn}
-pub use Rattle.sc_select.specs.Prelude.{is_short, joined, joins, jump_back, jump_over, keep, kept, lines_of, load_from}
-pub use Rattle.sc_select.specs.Prelude.{load_word, loading, moved_by, nothing, object_offset, object_read, op_code}
-pub use Rattle.sc_select.specs.Prelude.{operand, operation, pass, place_of_global, plain, plainly, pointer_difference}
-pub use Rattle.sc_select.specs.Prelude.{pointer_move, put, reading, receive, referring, register_of, relocation_of}
-pub use Rattle.sc_select.specs.Prelude.{relocations_from, result_register, return, role_before, role_first}
-pub use Rattle.sc_select.specs.Prelude.{role_of_load, round_begins, second_operand, select, select_all, select_step}
-pub use Rattle.sc_select.specs.Prelude.{slot_offset, stepped, store_arguments, store_to, store_word, straightly, take}
-pub use Rattle.sc_select.specs.Prelude.{take_second, taken, unary_code, word_of_constant}
+pub use Rattle.sc_select.specs.Prelude.{choosing, closing, code_of, code_of_lines, copied, cycle, ending_past, entrance}
+pub use Rattle.sc_select.specs.Prelude.{environment_call, followed, fork, frame_left, frame_taken, function_lines}
+pub use Rattle.sc_select.specs.Prelude.{in_order, in_turn, is_short, joined, joins, jump_back, jump_over, keep, kept}
+pub use Rattle.sc_select.specs.Prelude.{lines_of, load_from, load_word, loading, loop_begins, moved_by, nothing}
+pub use Rattle.sc_select.specs.Prelude.{object_offset, object_read, op_code, operand, operation, pass, past}
+pub use Rattle.sc_select.specs.Prelude.{place_of_global, plain, plainly, pointer_difference, pointer_move, put, reading}
+pub use Rattle.sc_select.specs.Prelude.{receive, referring, register_of, relocation_of, relocations_from}
+pub use Rattle.sc_select.specs.Prelude.{result_register, return, role_before, role_first, role_of_load, second_operand}
+pub use Rattle.sc_select.specs.Prelude.{select, select_all, select_step, skipping, slot_offset, stepped}
+pub use Rattle.sc_select.specs.Prelude.{store_arguments, store_to, store_word, straight, straightly, take, take_second}
+pub use Rattle.sc_select.specs.Prelude.{taken, unary_code, word_of_constant}
 pub use Rattle.sc_select.specs.declared.roles.Role.{Role}
 pub use Rattle.sc_select.specs.declared.roles.Role.TheVariants.{Loads, Other, Places}

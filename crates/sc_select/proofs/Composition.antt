@@ -1,12 +1,13 @@
 -- What the code of statements in order, of choices and of loops is made of, and that the jumps of their parts reach.
 use Rattle.sc_select.proofs.Common.{Bool, Fits, FitsBetween, FrameTree, Instr, Line, List, OnOk, Other, Piece, Place}
 use Rattle.sc_select.proofs.Common.{Role, TacStmt, [], and_first, and_rest, ap, append_assoc, ap₂, arith, between}
-use Rattle.sc_select.proofs.Common.{choice, cycle, drop, drop-cons, false, fold-TacStmt, fold-roll-TacStmt, fork}
+use Rattle.sc_select.proofs.Common.{choice, choosing, cycle, drop, drop-cons, false, fold-TacStmt, fold-roll-TacStmt}
 use Rattle.sc_select.proofs.Common.{get_or, if◌then◌else◌, in_turn, joined, joins, jump_back, jump_over, length}
-use Rattle.sc_select.proofs.Common.{length-append, length-map, map, nothing, on_ok_weaker, passes_few, plain, plainly}
-use Rattle.sc_select.proofs.Common.{reading, refl, role_before, role_first, roll-TacStmt, round_begins, select}
-use Rattle.sc_select.proofs.Common.{select_all, select_step, stmt_weight, subst, suc, sym, true, weight, weight_step}
-use Rattle.sc_select.proofs.Common.{with_parts, zero, ℕ, ◌&&◌, ◌++◌, ◌+◌, ◌-◌, ◌<◌, ◌∙◌, ◌∷◌, ◌≡◌, ◌≤◌}
+use Rattle.sc_select.proofs.Common.{length-append, length-map, loop_begins, map, nothing, on_ok_weaker, passes_few}
+use Rattle.sc_select.proofs.Common.{past, plain, plainly, reading, refl, role_before, role_first, roll-TacStmt, select}
+use Rattle.sc_select.proofs.Common.{select_all, select_step, skipping, stmt_weight, subst, suc, sym, true, weight}
+use Rattle.sc_select.proofs.Common.{weight_step, with_parts, zero, ℕ, ◌&&◌, ◌++◌, ◌+◌, ◌-◌, ◌<◌, ◌==◌, ◌∙◌, ◌∷◌, ◌≡◌}
+use Rattle.sc_select.proofs.Common.{◌≤◌}
 use Rattle.sc_tac.specs.Prelude.{everywhere}
 use Rattle.std.specs.declared.result.Result.{Result}
 use Rattle.sc_tac.specs.declared.stmt.TacStmt.TheOpen as tac
@@ -116,67 +117,43 @@ module _ (frame : FrameTree) (places : List Place) where
       omega (arith, hn, hm, whole, length-append lines old, (row_is_sized frame places stmts).sized b c)
 
   -- A CHOICE
-  fork_is : (cond : ℕ) (first second : List TacStmt) → select frame places (emit.If cond first second) ≡
-      fork frame places cond (select_all frame places first) (select_all frame places second)
+  abbrev both_ways : ℕ → (first second : List TacStmt) → Bool → Piece
+  both_ways cond first second found =
+      if found then skipping frame places cond (select_all frame places second)
+      else choosing frame places cond (select_all frame places first) (select_all frame places second)
+
+  -- which code a choice has, by what the test found
+  fork_is : (cond : ℕ) (first second : List TacStmt) (lines : ℕ) (found is : Bool) → lines ≡ size second →
+      found ≡ (length first == 0 && lines == 1) → found ≡ is →
+      select frame places (emit.If cond first second) ≡ both_ways cond first second is
   unfolding roll-TacStmt denote.Hole.Carrier.roll
-  fork_is cond first second = fold-roll-TacStmt Piece (select_step frame places) (tac.If cond first second)
+  fork_is cond first second lines found is lines_is test found_is =
+      fold-roll-TacStmt Piece (select_step frame places) (tac.If cond first second) ∙
+      ap (λ n. both_ways cond first second (n == 0 && size second == 1)) (length-map first (select frame places)) ∙
+      ap (λ n. both_ways cond first second (length first == 0 && n == 1)) (sym lines_is) ∙
+      ap (both_ways cond first second) (sym test ∙ found_is)
 
-  fork_size : (cond : ℕ) (first second : List TacStmt) → (select frame places (emit.If cond first second)).size ≡
-      length (choice frame places cond) + (2 + (size first + size second))
-  fork_size cond first second = ap (λ p. p.size) (fork_is cond first second)
-
-  fork_breaks : (cond : ℕ) (first second : List TacStmt) (b c : ℕ) →
-      Fits frame places (emit.If cond first second ∷ []) b c → size first + size second + 2 + b < 262143
-  fork_breaks cond first second b c h =
-      omega (arith, h.breaks, alone b c (emit.If cond first second), fork_size cond first second)
-
-  fork_continues : (cond : ℕ) (first second : List TacStmt) (b c : ℕ) →
-      Fits frame places (emit.If cond first second ∷ []) b c → size first + size second + 2 + c < 262143
-  fork_continues cond first second b c h =
-      omega (arith, h.continues, alone b c (emit.If cond first second), fork_size cond first second)
+  -- the second part has no more lines than the whole
+  second_least : (cond : ℕ) (first second : List TacStmt) →
+      size second ≤ (select frame places (emit.If cond first second)).size
+  second_least cond first second =
+      by (length first == 0 && size second == 1) (fork_is cond first second (size second) _ _ refl refl refl)
+    where
+      by : (found : Bool) → select frame places (emit.If cond first second) ≡ both_ways cond first second found →
+          size second ≤ (select frame places (emit.If cond first second)).size
+      by true is = let whole = ap (λ p. p.size) is in omega (arith, whole)
+      by false is = let whole = ap (λ p. p.size) is in omega (arith, whole)
 
   pub second_fits : (cond : ℕ) (first second : List TacStmt) (b c : ℕ) →
       Fits frame places (emit.If cond first second ∷ []) b c → Fits frame places second b c
-  second_fits cond first second b c h = record {
-    few_arguments = (few_in_fork cond first second h.few_arguments).1;
-    breaks = omega (arith, fork_breaks cond first second b c h);
-    continues = omega (arith, fork_continues cond first second b c h);
-  }
-
-  first_fits : (cond : ℕ) (first second : List TacStmt) (b c n : ℕ) → n ≡ size second →
-      Fits frame places (emit.If cond first second ∷ []) b c → Fits frame places first (n + b + 1) (n + c + 1)
-  first_fits cond first second b c n is h = record {
-    few_arguments = (few_in_fork cond first second h.few_arguments).0;
-    breaks = omega (arith, is, fork_breaks cond first second b c h);
-    continues = omega (arith, is, fork_continues cond first second b c h);
-  }
-
-  fork_written : (cond : ℕ) (first second : List TacStmt) (b c n m : ℕ) (old l1 l2 l3 l4 new : List Line) →
-      n ≡ size second → m ≡ size first → l1 ≡ (select_all frame places second).lines b c ++ old →
-      l2 ≡ jump_over n ∷ l1 → l3 ≡ (select_all frame places first).lines (n + b + 1) (n + c + 1) ++ l2 →
-      l4 ≡ jump_over (m + 1) ∷ l3 → new ≡ plainly (choice frame places cond) ++ l4 →
-      new ≡ (select frame places (emit.If cond first second)).lines b c ++ old
-  fork_written cond first second b c n m old l1 l2 l3 l4 new n_is m_is h1 h2 h3 h4 h5 =
-      let k = size second in
-      let branch : List Line = plainly (choice frame places cond) in
-      let lines1 : List Line = (select_all frame places second).lines b c in
-      let lines3 : List Line = (select_all frame places first).lines (suc (k + b)) (suc (k + c)) in
-      let to_break : n + b + 1 ≡ suc (k + b) = omega (arith, n_is) in
-      let to_continue : n + c + 1 ≡ suc (k + c) = omega (arith, n_is) in
-      let over : m + 1 ≡ suc (size first) = omega (arith, m_is) in
-      let e2 : l2 ≡ (jump_over k ∷ lines1) ++ old =
-      h2 ∙ ap (λ i. jump_over i ∷ l1) n_is ∙ ap (λ t. jump_over k ∷ t) h1 in
-      let e3 : l3 ≡ lines3 ++ ((jump_over k ∷ lines1) ++ old) =
-      h3 ∙ ap (λ i. (select_all frame places first).lines i (n + c + 1) ++ l2) to_break ∙
-      ap (λ i. (select_all frame places first).lines (suc (k + b)) i ++ l2) to_continue ∙ ap (λ t. lines3 ++ t) e2 in
-      let e4 : l4 ≡ jump_over (suc (size first)) ∷ (lines3 ++ ((jump_over k ∷ lines1) ++ old)) =
-      h4 ∙ ap (λ i. jump_over i ∷ l3) over ∙ ap (λ t. jump_over (suc (size first)) ∷ t) e3 in
-      let inner : (lines3 ++ (jump_over k ∷ lines1)) ++ old ≡ lines3 ++ ((jump_over k ∷ lines1) ++ old) =
-      append_assoc lines3 (jump_over k ∷ lines1) old in
-      let e5 : new ≡ (branch ++ (jump_over (suc (size first)) ∷ (lines3 ++ (jump_over k ∷ lines1)))) ++ old =
-      h5 ∙ ap (λ t. branch ++ t) (e4 ∙ ap (λ t. jump_over (suc (size first)) ∷ t) (sym inner)) ∙
-      sym (append_assoc branch (jump_over (suc (size first)) ∷ (lines3 ++ (jump_over k ∷ lines1))) old) in
-      e5 ∙ ap (λ p. p.lines b c ++ old) (sym (fork_is cond first second))
+  second_fits cond first second b c h =
+      let least : size second ≤ (select frame places (emit.If cond first second)).size =
+      second_least cond first second in
+      record {
+        few_arguments = (few_in_fork cond first second h.few_arguments).1;
+        breaks = omega (arith, h.breaks, alone b c (emit.If cond first second), least);
+        continues = omega (arith, h.continues, alone b c (emit.If cond first second), least);
+      }
 
   -- a statement of a known kind
   pub as_is : (stmt other : TacStmt) (b c : ℕ) → stmt ≡ other → Fits frame places (stmt ∷ []) b c →
@@ -189,44 +166,108 @@ module _ (frame : FrameTree) (places : List Place) where
       let whole : n ≡ size stmts + m = counted stmts b c new old n m hn hm h in
       omega (arith, whole)
 
-  pub over_second : (cond : ℕ) (first second : List TacStmt) (b c n m : ℕ) (l1 old : List Line) →
-      Fits frame places (emit.If cond first second ∷ []) b c → n ≡ length l1 → m ≡ length old →
-      l1 ≡ (select_all frame places second).lines b c ++ old → n - m < 262143
-  over_second cond first second b c n m l1 old fits hn hm h =
-      let size_is : n - m ≡ size second = written second b c n m l1 old hn hm h in
-      omega (arith, size_is, fork_breaks cond first second b c fits)
+  -- the second part is written, and so many lines were there before
+  module _ (cond : ℕ) (first second : List TacStmt) (b c : ℕ)
+      (fits : Fits frame places (emit.If cond first second ∷ []) b c) (old l1 : List Line) (end n1 : ℕ)
+      (n1_is : n1 ≡ length l1) (end_is : end ≡ length old) (h1 : l1 ≡ (select_all frame places second).lines b c ++ old)
+    where
+      abbrev branch : List Line
+      branch = plainly (choice frame places cond)
 
-  pub first_reaches : (cond : ℕ) (first second : List TacStmt) (b c n m : ℕ) (l1 old : List Line) →
-      Fits frame places (emit.If cond first second ∷ []) b c → n ≡ length l1 → m ≡ length old →
-      l1 ≡ (select_all frame places second).lines b c ++ old →
-      Fits frame places first (n - m + b + 1) (n - m + c + 1)
-  first_reaches cond first second b c n m l1 old fits hn hm h =
-      first_fits cond first second b c (n - m) (written second b c n m l1 old hn hm h)
-      fits
+      abbrev whole : Piece
+      whole = select frame places (emit.If cond first second)
 
-  pub over_first : (cond : ℕ) (first second : List TacStmt) (b c d e n m : ℕ) (l3 l2 : List Line) →
-      Fits frame places (emit.If cond first second ∷ []) b c → n ≡ length l3 → m ≡ length l2 →
-      l3 ≡ (select_all frame places first).lines d e ++ l2 → n - m + 1 < 262143
-  over_first cond first second b c d e n m l3 l2 fits hn hm h =
-      let size_is : n - m ≡ size first = written first d e n m l3 l2 hn hm h in
-      omega (arith, size_is, fork_breaks cond first second b c fits)
+      behind_is : n1 - end ≡ size second
+      behind_is = written second b c n1 end l1 old n1_is end_is h1
 
-  pub fork_returns : {T E : Type 0} (r : Result T E) (cond : ℕ) (first second : List TacStmt)
-      (b c n m n' m' : ℕ) (over_second over_first : Instr) (old l1 l2 l3 l4 new : List Line) →
-      n ≡ length l1 → m ≡ length old → n' ≡ length l3 → m' ≡ length l2 →
-      l1 ≡ (select_all frame places second).lines b c ++ old → l2 ≡ plain over_second ∷ l1 →
-      plain over_second ≡ jump_over (n - m) →
-      l3 ≡ (select_all frame places first).lines (n - m + b + 1) (n - m + c + 1) ++ l2 →
-      l4 ≡ plain over_first ∷ l3 → plain over_first ≡ jump_over (n' - m' + 1) →
-      OnOk r (new ≡ plainly (choice frame places cond) ++ l4) →
-      OnOk r (new ≡ (select frame places (emit.If cond first second)).lines b c ++ old)
-  fork_returns r cond first second b c n m n' m' over_second over_first old l1 l2 l3 l4 new n_is m_is n'_is m'_is h1 h2
-      j2 h3 h4 j4 h5 =
-      on_ok_weaker r (λ h.
-      fork_written cond first second b c (n - m) (n' - m') old l1 l2 l3 l4 new
-      (written second b c n m l1 old n_is m_is h1)
-      (written first (n - m + b + 1) (n - m + c + 1) n' m' l3 l2 n'_is m'_is h3) h1
-      (h2 ∙ ap (λ l. l ∷ l1) j2) h3 (h4 ∙ ap (λ l. l ∷ l3) j4) h) h5
+      pub over_second : n1 - end < 262143
+      over_second =
+          omega (
+            arith,
+            behind_is,
+            second_least cond first second,
+            fits.breaks,
+            alone b c (emit.If cond first second),
+          )
+
+      module _ (found : Bool) (test : found ≡ (length first == 0 && n1 - end == 1)) where
+        pub skip_returns : {T E : Type 0} (r : Result T E) (new : List Line) → found ≡ true → OnOk r (new ≡ branch ++ l1) →
+            OnOk r (new ≡ whole.lines b c ++ old)
+        skip_returns r new is h =
+            on_ok_weaker r (λ h.
+            h ∙ ap (λ t. branch ++ t) h1 ∙ sym (append_assoc branch ((select_all frame places second).lines b c) old) ∙
+            ap (λ p. p.lines b c ++ old) (sym (fork_is cond first second (n1 - end) found true behind_is test is))) h
+
+        -- the jump past the second part is written
+        module _ (none : found ≡ false) (l2 : List Line) (n2 : ℕ) (n2_is : n2 ≡ length l2)
+            (h2 : l2 ≡ past (n1 - end) ++ l1) where
+          abbrev k : ℕ
+          k = size second
+
+          whole_is : whole ≡ both_ways cond first second false
+          whole_is = fork_is cond first second (n1 - end) found false behind_is test none
+
+          size_is : whole.size ≡ length branch + (1 + (size first + length (past k) + k))
+          size_is = ap (λ p. p.size) whole_is
+
+          l2_is : l2 ≡ past k ++ l1
+          l2_is = h2 ∙ ap (λ n. past n ++ l1) behind_is
+
+          over_is : n2 - end ≡ length (past k) + k
+          over_is =
+              let two : length l2 ≡ length (past k ++ l1) = ap length l2_is in
+              let one : n1 ≡ k + end = counted second b c l1 old n1 end n1_is end_is h1 in
+              omega (arith, n2_is, two, length-append (past k) l1, one, n1_is)
+
+          pub over_reaches : (n2 - end + b < 262143) × (n2 - end + c < 262143)
+          over_reaches = (
+            omega (arith, over_is, size_is, fits.breaks, alone b c (emit.If cond first second)),
+            omega (arith, over_is, size_is, fits.continues, alone b c (emit.If cond first second)),
+          )
+
+          pub first_reaches : Fits frame places first (n2 - end + b) (n2 - end + c)
+          first_reaches = record {
+            few_arguments = (few_in_fork cond first second fits.few_arguments).0;
+            breaks = omega (arith, over_is, size_is, fits.breaks, alone b c (emit.If cond first second));
+            continues = omega (arith, over_is, size_is, fits.continues, alone b c (emit.If cond first second));
+          }
+
+          -- the first part is written
+          module _ (l3 : List Line) (n3 : ℕ) (n3_is : n3 ≡ length l3)
+              (h3 : l3 ≡ (select_all frame places first).lines (n2 - end + b) (n2 - end + c) ++ l2) where
+            ahead_is : n3 - end - (n1 - end) ≡ size first + length (past k)
+            ahead_is =
+                let two : length l2 ≡ length (past k ++ l1) = ap length l2_is in
+                let one : n1 ≡ k + end = counted second b c l1 old n1 end n1_is end_is h1 in
+                let three : n3 ≡ size first + n2 =
+                counted first (n2 - end + b) (n2 - end + c) l3 l2 n3 n2 n3_is n2_is h3 in
+                omega (arith, n2_is, two, length-append (past k) l1, one, n1_is, three)
+
+            pub over_first : n3 - end - (n1 - end) < 262143
+            over_first = omega (arith, ahead_is, size_is, fits.breaks, alone b c (emit.If cond first second))
+
+            pub choice_returns : {T E : Type 0} (r : Result T E) (over : Instr) (l4 new : List Line) →
+                l4 ≡ plain over ∷ l3 → plain over ≡ jump_over (n3 - end - (n1 - end)) →
+                OnOk r (new ≡ branch ++ l4) → OnOk r (new ≡ whole.lines b c ++ old)
+            choice_returns r over l4 new h4 over_is' h =
+                let one : List Line = (select_all frame places first).lines (length (past k) + (k + b))
+                (length (past k) + (k + c)) in
+                let two : List Line = (select_all frame places second).lines b c in
+                let to_break : n2 - end + b ≡ length (past k) + (k + b) = omega (arith, over_is) in
+                let to_continue : n2 - end + c ≡ length (past k) + (k + c) = omega (arith, over_is) in
+                let e3 : l3 ≡ one ++ (past k ++ (two ++ old)) =
+                h3 ∙ ap (λ i. (select_all frame places first).lines i (n2 - end + c) ++ l2) to_break ∙
+                ap (λ i. (select_all frame places first).lines (length (past k) + (k + b)) i ++ l2) to_continue ∙
+                ap (λ t. one ++ t) (l2_is ∙ ap (λ t. past k ++ t) h1) in
+                let jump : Line = jump_over (size first + length (past k)) in
+                let e4 : l4 ≡ jump ∷ (one ++ (past k ++ (two ++ old))) =
+                h4 ∙ ap (λ l. l ∷ l3) (over_is' ∙ ap jump_over ahead_is) ∙ ap (λ t. jump ∷ t) e3 in
+                let inner : ((one ++ past k) ++ two) ++ old ≡ one ++ (past k ++ (two ++ old)) =
+                append_assoc (one ++ past k) two old ∙ append_assoc one (past k) (two ++ old) in
+                on_ok_weaker r (λ h.
+                h ∙ ap (λ t. branch ++ t) (e4 ∙ ap (λ t. jump ∷ t) (sym inner)) ∙
+                sym (append_assoc branch (jump ∷ ((one ++ past k) ++ two)) old) ∙
+                ap (λ p. p.lines b c ++ old) (sym whole_is)) h
 
   -- A LOOP
   cycle_is : (head body next : List TacStmt) → select frame places (emit.Loop head body next) ≡ cycle frame places
@@ -288,20 +329,18 @@ module _ (frame : FrameTree) (places : List Place) where
       let after : length l2 ≡ size next + length l1 = counted next d 0 l2 l1 (length l2) (length l1) refl refl h2 in
       omega (arith, start, after, counted body e 0 l3 l2 (length l3) (length l2) refl refl h3, end_is)
 
-  whole_distance : (head body next : List TacStmt) (first begin : Instr) (old l1 l2 l3 l4 l5 : List Line)
+  whole_distance : (head body next : List TacStmt) (first : Instr) (old l1 l2 l3 l4 : List Line)
       (end d e g : ℕ) → l1 ≡ plain first ∷ old → l2 ≡ (select_all frame places next).lines d 0 ++ l1 →
       l3 ≡ (select_all frame places body).lines e 0 ++ l2 → l4 ≡ (select_all frame places head).lines g 0 ++ l3 →
-      l5 ≡ plain begin ∷ l4 → end ≡ length old →
-      length l5 ≡ end + (2 + (size head + (size body + size next)))
-  whole_distance head body next first begin old l1 l2 l3 l4 l5 end d e g h1 h2 h3 h4 h5 end_is =
+      end ≡ length old → length l4 ≡ end + suc (size head + (size body + size next))
+  whole_distance head body next first old l1 l2 l3 l4 end d e g h1 h2 h3 h4 end_is =
       let start : length l1 ≡ suc (length old) = ap length h1 in
       let after : length l2 ≡ size next + length l1 = counted next d 0 l2 l1 (length l2) (length l1) refl refl h2 in
       let between : length l3 ≡ size body + length l2 =
       counted body e 0 l3 l2 (length l3) (length l2) refl refl h3 in
       let before : length l4 ≡ size head + length l3 =
       counted head g 0 l4 l3 (length l4) (length l3) refl refl h4 in
-      let whole : length l5 ≡ suc (length l4) = ap length h5 in
-      omega (arith, start, after, between, before, whole, end_is)
+      omega (arith, start, after, between, before, end_is)
 
   -- what writing the parts needs: that some lines lie between, and that jumps reach over them
   pub next_reaches : (head body next : List TacStmt) (b c : ℕ) (first : Instr) (old l1 : List Line) (end : ℕ) →
@@ -337,22 +376,21 @@ module _ (frame : FrameTree) (places : List Place) where
             fits,
       )
 
-  pub back_reaches : (head body next : List TacStmt) (b c : ℕ) (first begin : Instr)
-      (old l1 l2 l3 l4 l5 : List Line) (n end d e g : ℕ) → Fits frame places (emit.Loop head body next ∷ []) b c →
+  pub back_reaches : (head body next : List TacStmt) (b c : ℕ) (first : Instr)
+      (old l1 l2 l3 l4 : List Line) (n end d e g : ℕ) → Fits frame places (emit.Loop head body next ∷ []) b c →
       l1 ≡ plain first ∷ old →
       l2 ≡ (select_all frame places next).lines d 0 ++ l1 → l3 ≡ (select_all frame places body).lines e 0 ++ l2 →
-      l4 ≡ (select_all frame places head).lines g 0 ++ l3 → l5 ≡ plain begin ∷ l4 → n ≡ length l5 → end ≡ length old →
-      n - end - 1 < 262143
-  back_reaches head body next b c first begin old l1 l2 l3 l4 l5 n end d e g fits h1 h2 h3 h4 h5 n_is end_is =
-      let whole : length l5 ≡ end + (2 + (size head + (size body + size next))) =
-      whole_distance head body next first begin old l1 l2 l3 l4 l5 end d e g h1 h2 h3 h4 h5 end_is in
+      l4 ≡ (select_all frame places head).lines g 0 ++ l3 → n ≡ length l4 → end ≡ length old → n - end - 1 < 262143
+  back_reaches head body next b c first old l1 l2 l3 l4 n end d e g fits h1 h2 h3 h4 n_is end_is =
+      let whole : length l4 ≡ end + suc (size head + (size body + size next)) =
+      whole_distance head body next first old l1 l2 l3 l4 end d e g h1 h2 h3 h4 end_is in
       let reaches : 2 + (size head + (size body + size next)) < 262143 =
       cycle_reaches head body next b c fits in
       omega (arith, whole, n_is, reaches)
 
   pub cycle_written : (head body next : List TacStmt) (b c n end : ℕ)
-      (first begin jump : Instr) (old l1 l2 l3 l4 l5 new : List Line) → n ≡ length l5 → end ≡ length old →
-      plain begin ≡ round_begins →
+      (first begin jump : Instr) (old l1 l2 l3 l4 l5 new : List Line) → n ≡ length l4 → end ≡ length old →
+      plain begin ≡ loop_begins →
       l1 ≡ plain first ∷ old → l2 ≡ (select_all frame places next).lines (length l1 - end) 0 ++ l1 →
       l3 ≡ (select_all frame places body).lines (length l2 - end) 0 ++ l2 →
       l4 ≡ (select_all frame places head).lines (length l3 - end) 0 ++ l3 → l5 ≡ plain begin ∷ l4 →
@@ -365,7 +403,7 @@ module _ (frame : FrameTree) (places : List Place) where
       let xs : List Line = (select_all frame places head).lines (size body + suc (size next)) 0 in
       let ys : List Line = (select_all frame places body).lines (suc (size next)) 0 in
       let zs : List Line = (select_all frame places next).lines 1 0 in
-      let last : Line = jump_back (suc (size head + (size body + size next))) in
+      let last : Line = jump_back (size head + (size body + size next)) in
       let e2 : l2 ≡ zs ++ (plain first ∷ old) =
       h2 ∙ ap (λ n. (select_all frame places next).lines n 0 ++ l1) (next_distance first old l1 end h1 end_is) ∙
       ap (λ t. zs ++ t) h1 in
@@ -376,22 +414,22 @@ module _ (frame : FrameTree) (places : List Place) where
       h4 ∙ ap (λ n. (select_all frame places head).lines n 0 ++ l3)
       (head_distance body next first old l1 l2 l3 end (length l1 - end) (length l2 - end) h1 h2 h3 end_is) ∙
       ap (λ t. xs ++ t) e3 in
-      let e5 : l5 ≡ round_begins ∷ (xs ++ (ys ++ (zs ++ (plain first ∷ old)))) =
-      h5 ∙ ap (λ l. l ∷ l4) opens ∙ ap (λ t. round_begins ∷ t) e4 in
-      let split : l5 ≡ (round_begins ∷ (xs ++ (ys ++ zs))) ++ (plain first ∷ old) =
-      e5 ∙ ap (λ t. round_begins ∷ t) (sym (three_parts xs ys zs (plain first ∷ old))) in
-      let put : new ≡ (round_begins ∷ (xs ++ (ys ++ zs))) ++ (plain jump ∷ old) =
-      replaced (round_begins ∷ (xs ++ (ys ++ zs))) old (plain first) split (sym end_is) in
-      let whole : length l5 ≡ end + (2 + (size head + (size body + size next))) =
-      whole_distance head body next first begin old l1 l2 l3 l4 l5 end (length l1 - end) (length l2 - end)
-      (length l3 - end) h1 h2 h3 h4 h5 end_is in
-      let lines : n - end - 1 ≡ suc (size head + (size body + size next)) = omega (arith, whole, n_is) in
+      let e5 : l5 ≡ loop_begins ∷ (xs ++ (ys ++ (zs ++ (plain first ∷ old)))) =
+      h5 ∙ ap (λ l. l ∷ l4) opens ∙ ap (λ t. loop_begins ∷ t) e4 in
+      let split : l5 ≡ (loop_begins ∷ (xs ++ (ys ++ zs))) ++ (plain first ∷ old) =
+      e5 ∙ ap (λ t. loop_begins ∷ t) (sym (three_parts xs ys zs (plain first ∷ old))) in
+      let put : new ≡ (loop_begins ∷ (xs ++ (ys ++ zs))) ++ (plain jump ∷ old) =
+      replaced (loop_begins ∷ (xs ++ (ys ++ zs))) old (plain first) split (sym end_is) in
+      let whole : length l4 ≡ end + suc (size head + (size body + size next)) =
+      whole_distance head body next first old l1 l2 l3 l4 end (length l1 - end) (length l2 - end)
+      (length l3 - end) h1 h2 h3 h4 end_is in
+      let lines : n - end - 1 ≡ size head + (size body + size next) = omega (arith, whole, n_is) in
       let same : plain jump ≡ last = back ∙ ap jump_back lines in
       let joined : (xs ++ (ys ++ zs)) ++ (last ∷ old) ≡ (xs ++ (ys ++ (zs ++ (last ∷ [])))) ++ old =
       sym (append_assoc (xs ++ (ys ++ zs)) (last ∷ []) old) ∙
       ap (λ t. t ++ old) (three_parts xs ys zs (last ∷ [])) in
-      put ∙ ap (λ l. (round_begins ∷ (xs ++ (ys ++ zs))) ++ (l ∷ old)) same ∙
-      ap (λ t. round_begins ∷ t) joined ∙
+      put ∙ ap (λ l. (loop_begins ∷ (xs ++ (ys ++ zs))) ++ (l ∷ old)) same ∙
+      ap (λ t. loop_begins ∷ t) joined ∙
       ap (λ p. p.lines b c ++ old) (sym (cycle_is head body next))
 
   -- a loop needs as much wherever it stands

@@ -1,11 +1,12 @@
 -- Pieces between others: what holds of each piece of statements holds of all of them in order, and which statements are
 -- one piece.
 use Rattle.sc_select.proofs.Common.{Bool, Each, FrameTree, List, Loads, Other, Piece, Place, Places, Role, TacStmt}
-use Rattle.sc_select.proofs.Common.{TacStmt-F, [], ap, ap₂, arith, between, drop, eqb-true, false, fold-roll-TacStmt}
-use Rattle.sc_select.proofs.Common.{followed, get_or, if◌then◌else◌, in_order, in_turn, joined, joins, length, map}
-use Rattle.sc_select.proofs.Common.{map-TacStmt, nothing, object_read, reading, refl, role_before, role_first}
-use Rattle.sc_select.proofs.Common.{roll-TacStmt, select, select_step, stmt_induction, straightly, suc, sym, true, zero}
-use Rattle.sc_select.proofs.Common.{ℕ, ◌-◌, ◌<◌, ◌==◌, ◌∙◌, ◌∷◌, ◌≡◌, ◌≤◌}
+use Rattle.sc_select.proofs.Common.{TacStmt-F, [], and_first, ap, ap₂, arith, between, choice, choosing, drop}
+use Rattle.sc_select.proofs.Common.{ending_past, eqb-true, false, fold-roll-TacStmt, followed, fork, get_or}
+use Rattle.sc_select.proofs.Common.{if◌then◌else◌, in_order, in_turn, joined, joins, jump_over, length, map}
+use Rattle.sc_select.proofs.Common.{map-TacStmt, nothing, object_read, past, reading, refl, role_before, role_first}
+use Rattle.sc_select.proofs.Common.{roll-TacStmt, select, select_step, skipping, stmt_induction, straight, straightly}
+use Rattle.sc_select.proofs.Common.{suc, sym, true, zero, ℕ, ◌&&◌, ◌-◌, ◌<◌, ◌==◌, ◌∙◌, ◌∷◌, ◌≡◌, ◌≤◌}
 use Rattle.sc_tac.specs.declared.stmt.TacStmt.TheOpen as tac
 
 -- ROLES
@@ -39,7 +40,65 @@ is_read (Places temp object) Other h = cc h
 is_read (Loads temp) second h = cc h
 is_read Other second h = cc h
 
+-- A CHOICE
+pub is_empty : {A : Type 0} (xs : List A) → (length xs == 0) ≡ true → xs ≡ []
+is_empty [] h = refl
+is_empty (x ∷ xs) h = absurd (omega (arith, eqb-true (length (x ∷ xs)) 0 h))
+
+pub past_few : (n : ℕ) → length (past n) ≤ 1
+past_few zero = omega arith
+past_few (suc n) = omega arith
+
 module _ (frame : FrameTree) (places : List Place) where
+  -- what holds of the branch, of a jump over lines, and of pieces one behind the other holds of a choice
+  pub fork_keeps : (P : Piece → Type 0) → P nothing → ((lines : ℕ) → P (straight (jump_over lines ∷ []))) →
+      ((e f : Piece) → P e → P f → P (followed e f)) → (cond : ℕ) (first second : List Piece) →
+      P (straightly frame places (choice frame places cond)) → P (in_order frame places first) →
+      P (in_order frame places second) → P (fork frame places cond first second)
+  fork_keeps P none over follows cond first second branch he hf =
+      by (length first == 0 && (in_order frame places second).size == 1)
+    where
+      over_all : (lines : ℕ) → P (straight (past lines))
+      over_all zero = none
+      over_all (suc lines) = over (suc lines)
+
+      by : (b : Bool) → P (if b then skipping frame places cond (in_order frame places second)
+          else choosing frame places cond (in_order frame places first) (in_order frame places second))
+      by true = follows _ _ branch hf
+      by false =
+          follows _ _ branch (follows _ _ (over (ending_past frame places (in_order frame places first) (in_order frame
+          places second)).size) (follows _ _ (follows _ _ he (over_all _)) hf))
+
+  -- neither part has more lines than the whole
+  pub parts_least : (cond : ℕ) (first second : List Piece) →
+      ((in_order frame places first).size ≤ (fork frame places cond first second).size) ×
+      ((in_order frame places second).size ≤ (fork frame places cond first second).size)
+  parts_least cond first second = by (length first == 0 && (in_order frame places second).size == 1) refl
+    where
+      e : Piece
+      e = in_order frame places first
+
+      f : Piece
+      f = in_order frame places second
+
+      by : (b : Bool) → (length first == 0 && f.size == 1) ≡ b →
+          (e.size ≤ (if b then skipping frame places cond f else choosing frame places cond e f).size) ×
+          (f.size ≤ (if b then skipping frame places cond f else choosing frame places cond e f).size)
+      by true is =
+          let none : e.size ≡ 0 =
+          ap (λ pieces. (in_order frame places pieces).size)
+          (is_empty first (and_first (length first == 0) (f.size == 1) is)) in
+          (omega (arith, none), omega arith)
+      by false is = (omega arith, omega arith)
+
+  fork_role : (cond : ℕ) (first second : List Piece) → (fork frame places cond first second).role ≡ Other
+  fork_role cond first second = by (length first == 0 && (in_order frame places second).size == 1)
+    where
+      by : (b : Bool) → (if b then skipping frame places cond (in_order frame places second)
+          else choosing frame places cond (in_order frame places first) (in_order frame places second)).role ≡ Other
+      by true = refl
+      by false = refl
+
   abbrev role_of : TacStmt → Role
   role_of stmt = (select frame places stmt).role
 
@@ -65,6 +124,8 @@ module _ (frame : FrameTree) (places : List Place) where
       ap₂ (λ t o. roll-TacStmt (tac.ObjectPlace t o)) one two
   layer_gives (tac.Load dest place pointer) temp object h =
       absurd (of_load (dest == place) dest temp object h)
+  layer_gives (tac.If cond first second) temp object h =
+      cc (sym (fork_role cond (map (select frame places) first) (map (select frame places) second)) ∙ h)
   layer_gives _ temp object h = cc h
 
   pub gives_place : (stmt : TacStmt) → Gives stmt
@@ -87,6 +148,9 @@ module _ (frame : FrameTree) (places : List Place) where
           let two : place ≡ temp = sym (eqb-true dest place e) ∙ one in
           record { pointer = pointer; is = ap₂ (λ t u. roll-TacStmt (tac.Load t u pointer)) one two }
       by false e h = cc h
+  layer_loads (tac.If cond first second) temp h =
+      let other : Other ≡ Loads temp =
+      sym (fork_role cond (map (select frame places) first) (map (select frame places) second)) ∙ h in cc other
   layer_loads _ temp h = cc h
 
   pub loads_it : (stmt : TacStmt) (temp : ℕ) → role_of stmt ≡ Loads temp → IsLoad stmt temp

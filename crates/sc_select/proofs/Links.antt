@@ -4,18 +4,18 @@ use Rattle.sc_select.proofs.Common.{IsCode, IsTrue, Jal, Jalr, Line, List, Lui, 
 use Rattle.sc_select.proofs.Common.{Relocation, Role, Some, Store, Sw, TacFnTree, TacStmt, TacStmt-F, Target, Upper, []}
 use Rattle.sc_select.proofs.Common.{and_first, and_rest, ap, append-nil, arith, brought, call_cross, call_own, choice}
 use Rattle.sc_select.proofs.Common.{closing, code_of_lines, copied, cycle, entrance, environment_call, eq-eqb}
-use Rattle.sc_select.proofs.Common.{everywhere as each_holds, false, fold-roll-TacStmt, followed, fork, frame_taken}
-use Rattle.sc_select.proofs.Common.{function_lines, in_order, is_address, is_jal, is_linkable, jump_back, jump_over}
-use Rattle.sc_select.proofs.Common.{keep, length, length-append, length-map, load_from, loading, map, map-TacStmt}
-use Rattle.sc_select.proofs.Common.{moved_by, object_offset, object_read, operation, pass, place_of_global, plain}
-use Rattle.sc_select.proofs.Common.{plainly, pos, receive, referring, refl, relocation_of, relocations_from}
-use Rattle.sc_select.proofs.Common.{result_register, return, role_of_load, select, select_all, select_step, slice_get}
-use Rattle.sc_select.proofs.Common.{stmt_induction, store_arguments, store_to, straightly, sub_word, subst, suc, sym}
-use Rattle.sc_select.proofs.Common.{true, word_of_constant, ℕ, ◌&&◌, ◌++◌, ◌+◌, ◌<◌, ◌∙◌, ◌∷◌, ◌≡◌, ◌≤◌}
+use Rattle.sc_select.proofs.Common.{everywhere as each_holds, false, fold-roll-TacStmt, followed, frame_taken}
+use Rattle.sc_select.proofs.Common.{function_lines, in_order, is_address, is_jal, is_linkable, jump_back, keep, length}
+use Rattle.sc_select.proofs.Common.{length-append, length-map, load_from, loading, map, map-TacStmt, moved_by}
+use Rattle.sc_select.proofs.Common.{object_offset, object_read, operation, pass, place_of_global, plain, plainly, pos}
+use Rattle.sc_select.proofs.Common.{receive, referring, refl, relocation_of, relocations_from, result_register, return}
+use Rattle.sc_select.proofs.Common.{role_of_load, select, select_all, select_step, slice_get, stmt_induction}
+use Rattle.sc_select.proofs.Common.{store_arguments, store_to, straightly, sub_word, subst, suc, sym, true}
+use Rattle.sc_select.proofs.Common.{word_of_constant, ℕ, ◌&&◌, ◌++◌, ◌+◌, ◌<◌, ◌∙◌, ◌∷◌, ◌≡◌, ◌≤◌}
 use Rattle.std.proofs.lemmas.List.Elements.{All-cons, All-nil, All-weaker}
 use Rattle.std.proofs.lemmas.List.Kept.{AllPairs-cons}
 use Rattle.sc_tac.specs.declared.stmt.TacStmt.TheOpen as tac
-use Rattle.sc_select.proofs.Joining.{order_keeps}
+use Rattle.sc_select.proofs.Joining.{fork_keeps, order_keeps}
 
 -- the instruction of the first line
 abbrev first_of : List Line → Option Instr
@@ -71,21 +71,10 @@ followed_complete e f he hf = record {
 }
 
 module _ (frame : FrameTree) (places : List Place) where
-  fork_complete : (cond : ℕ) (e f : Piece) → IsComplete e → IsComplete f → IsComplete (fork frame places cond e f)
-  fork_complete cond e f he hf = record {
-    complete = λ b c.
-        let first : List Line = e.lines (suc (f.size + b)) (suc (f.size + c)) in
-        joined (plainly (choice frame places cond))
-        (jump_over (suc e.size) ∷ (first ++ (jump_over f.size ∷ f.lines b c)))
-        (plain_complete (choice frame places cond))
-        (joined first (jump_over f.size ∷ f.lines b c) (he.complete (suc (f.size + b)) (suc (f.size + c)))
-        (hf.complete b c));
-  }
-
   cycle_complete : (h b n : Piece) → IsComplete h → IsComplete b → IsComplete n → IsComplete (cycle frame places h b n)
   cycle_complete h b n hh hb hn = record {
     complete = λ to_break to_continue.
-        let back : List Line = jump_back (suc (h.size + (b.size + n.size))) ∷ [] in
+        let back : List Line = jump_back (h.size + (b.size + n.size)) ∷ [] in
         joined (h.lines (b.size + suc n.size) 0) (b.lines (suc n.size) 0 ++ (n.lines 1 0 ++ back))
         (hh.complete (b.size + suc n.size) 0)
         (joined (b.lines (suc n.size) 0) (n.lines 1 0 ++ back) (hb.complete (suc n.size) 0)
@@ -145,7 +134,9 @@ module _ (frame : FrameTree) (places : List Place) where
   layer_complete (tac.Store place value) h =
       straightly_complete (store_to frame places place value)
   layer_complete (tac.If cond first second) h =
-      fork_complete cond _ _ (row_complete first h.0) (row_complete second h.1)
+      fork_keeps frame places IsComplete (record { complete = λ b c. refl }) (λ lines. record { complete = λ b c. refl })
+      followed_complete cond _ _ (straightly_complete (choice frame places cond)) (row_complete first h.0)
+      (row_complete second h.1)
   layer_complete (tac.Loop head body next) h =
       cycle_complete _ _ _ (row_complete head h.0) (row_complete body h.1) (row_complete next h.2)
   layer_complete tac.Break h = record { complete = λ b c. refl }

@@ -47,9 +47,9 @@ down_places =
 pub down_code : code_of (function down) down_places (framed down down_places) ≡ record {
   instrs =
       OpImm Addi 2 2 (negsuc 7) ∷ Store Sw 2 1 (pos 0) ∷ Store Sw 2 10 (pos 4) ∷ OpImm Addi 0 0 (pos 0) ∷
-      Load Lw 3 2 (pos 4) ∷ Branch Bne 3 0 (pos 8) ∷ Jal 0 (pos 8) ∷ Jal 0 (pos 8) ∷ Jal 0 (pos 28) ∷
+      Load Lw 3 2 (pos 4) ∷ Branch Bne 3 0 (pos 8) ∷ Jal 0 (pos 28) ∷
       Load Lw 3 2 (pos 4) ∷ OpImm Addi 4 0 (pos 1) ∷ Op Sub 3 3 4 ∷ OpImm Addi 4 2 (pos 4) ∷ Store Sw 4 3 (pos 0) ∷
-      Jal 0 (negsuc 43) ∷ Load Lw 3 2 (pos 4) ∷ OpImm Addi 10 3 (pos 0) ∷ Load Lw 1 2 (pos 0) ∷
+      Jal 0 (negsuc 31) ∷ Load Lw 3 2 (pos 4) ∷ OpImm Addi 10 3 (pos 0) ∷ Load Lw 1 2 (pos 0) ∷
       OpImm Addi 2 2 (pos 8) ∷ Jalr 0 1 (pos 0) ∷ Load Lw 1 2 (pos 0) ∷ OpImm Addi 2 2 (pos 8) ∷ Jalr 0 1 (pos 0) ∷ [];
   relocations = [];
 }

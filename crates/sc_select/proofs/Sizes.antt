@@ -1,11 +1,11 @@
 -- Pieces have as many lines as they say.
 use Rattle.sc_select.proofs.Common.{Each, FrameTree, Inside, Line, List, Other, Piece, Place, TacStmt, TacStmt-F, []}
-use Rattle.sc_select.proofs.Common.{arith, choice, cycle, drop, everywhere, fold-roll-TacStmt, followed, fork, in_order}
-use Rattle.sc_select.proofs.Common.{in_turn, joined, jump_back, jump_over, length, length-append, length-map, map}
-use Rattle.sc_select.proofs.Common.{map-TacStmt, plain, plainly, refl, select, select_all, select_step, stmt_induction}
-use Rattle.sc_select.proofs.Common.{subst, suc, sym, ℕ, ◌++◌, ◌+◌, ◌∷◌, ◌≡◌}
+use Rattle.sc_select.proofs.Common.{arith, choice, cycle, drop, everywhere, fold-roll-TacStmt, followed, in_order}
+use Rattle.sc_select.proofs.Common.{in_turn, joined, jump_back, jump_over, length, length-append, map, map-TacStmt}
+use Rattle.sc_select.proofs.Common.{plainly, refl, select, select_all, select_step, stmt_induction, straight, subst}
+use Rattle.sc_select.proofs.Common.{suc, sym, ℕ, ◌++◌, ◌+◌, ◌∷◌, ◌≡◌}
 use Rattle.sc_tac.specs.declared.stmt.TacStmt.TheOpen as tac
-use Rattle.sc_select.proofs.Joining.{from_keeps}
+use Rattle.sc_select.proofs.Joining.{fork_keeps, from_keeps}
 
 pub record IsSized (piece : Piece) : Type 0 where
   pub sized : (to_break to_continue : ℕ) → length (piece.lines to_break to_continue) ≡ piece.size
@@ -22,25 +22,13 @@ followed_sized e f he hf = record {
 }
 
 module _ (frame : FrameTree) (places : List Place) where
-  fork_sized : (cond : ℕ) (e f : Piece) → IsSized e → IsSized f → IsSized (fork frame places cond e f)
-  fork_sized cond e f he hf = record {
-    sized = λ b c.
-        let first : List Line = e.lines (suc (f.size + b)) (suc (f.size + c)) in
-        let second : List Line = jump_over f.size ∷ f.lines b c in
-        omega (
-          arith,
-          length-append (plainly (choice frame places cond)) (jump_over (suc e.size) ∷ (first ++ second)),
-          length-map (choice frame places cond) plain,
-          length-append first second,
-          he.sized (suc (f.size + b)) (suc (f.size + c)),
-          hf.sized b c,
-        );
-  }
+  straight_sized : (lines : List Line) → IsSized (straight lines)
+  straight_sized lines = record { sized = λ b c. refl }
 
   cycle_sized : (h b n : Piece) → IsSized h → IsSized b → IsSized n → IsSized (cycle frame places h b n)
   cycle_sized h b n hh hb hn = record {
     sized = λ to_break to_continue.
-        let back : List Line = jump_back (suc (h.size + (b.size + n.size))) ∷ [] in
+        let back : List Line = jump_back (h.size + (b.size + n.size)) ∷ [] in
         let last : List Line = n.lines 1 0 ++ back in
         let middle : List Line = b.lines (suc n.size) 0 ++ last in
         omega (
@@ -77,7 +65,9 @@ module _ (frame : FrameTree) (places : List Place) where
   layer_sized (tac.GlobalPlace dest global) h = record { sized = λ b c. refl }
   layer_sized (tac.Load dest place pointer) h = record { sized = λ b c. refl }
   layer_sized (tac.Store place value) h = record { sized = λ b c. refl }
-  layer_sized (tac.If cond first second) h = fork_sized cond _ _ (row_sized first h.0) (row_sized second h.1)
+  layer_sized (tac.If cond first second) h =
+      fork_keeps frame places IsSized (straight_sized []) (λ lines. straight_sized (jump_over lines ∷ [])) followed_sized
+      cond _ _ (straight_sized (plainly (choice frame places cond))) (row_sized first h.0) (row_sized second h.1)
   layer_sized (tac.Loop head body next) h =
       cycle_sized _ _ _ (row_sized head h.0) (row_sized body h.1) (row_sized next h.2)
   layer_sized tac.Break h = record { sized = λ b c. refl }

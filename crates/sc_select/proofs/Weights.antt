@@ -4,21 +4,22 @@ use Rattle.sc_select.proofs.Common.{Inside, Instr, IsFunction, Jal, Jalr, Line, 
 use Rattle.sc_select.proofs.Common.{Op, Option, Other, Piece, Place, Places, Register, Role, Slot, Some, Store, Sw}
 use Rattle.sc_select.proofs.Common.{TacFnTree, TacOp, TacStmt, TacStmt-F, Upper, [], all_true, and_first, and_rest, ap}
 use Rattle.sc_select.proofs.Common.{arith, at_hand, between, binary_code, brought, bytes_of, call_cross, call_own}
-use Rattle.sc_select.proofs.Common.{choice, closing, code_of, copied, entrance, entry_weight, environment_call}
-use Rattle.sc_select.proofs.Common.{everywhere as each_holds, false, fold-TacStmt, fold-roll-TacStmt, frame_left}
-use Rattle.sc_select.proofs.Common.{frame_taken, function_lines, has_operands, if◌then◌else◌, in_order, in_turn}
-use Rattle.sc_select.proofs.Common.{is_short, is_some, is_unsigned, joined, joins, keep, kept, length, length-append}
-use Rattle.sc_select.proofs.Common.{length-map, load_from, load_word, loading, map, map-TacStmt, moved_by, nothing}
-use Rattle.sc_select.proofs.Common.{object_offset, object_read, op_code, op_weight, operand, operation, pass}
-use Rattle.sc_select.proofs.Common.{place_of_global, plain, plainly, pointer_difference, pointer_move, pos, put}
-use Rattle.sc_select.proofs.Common.{reading, receive, referring, refl, register_of, result_register, return, role_first}
-use Rattle.sc_select.proofs.Common.{roll-TacStmt, second_operand, select, select_all, select_step, slice_get}
-use Rattle.sc_select.proofs.Common.{slot_offset, stepped, stmt_induction, stmt_weight, store_arguments, store_to}
-use Rattle.sc_select.proofs.Common.{store_word, straightly, sub_word, subst, suc, sym, take, take_second, taken}
-use Rattle.sc_select.proofs.Common.{takes_two, true, unary_code, weight, weight_step, with_parts, word_of_constant}
-use Rattle.sc_select.proofs.Common.{zero, ℕ, ◌&&◌, ◌*◌, ◌++◌, ◌+◌, ◌<◌, ◌^◌, ◌∙◌, ◌∷◌, ◌≡◌, ◌≤◌}
+use Rattle.sc_select.proofs.Common.{choice, choosing, closing, code_of, copied, entrance, entry_weight}
+use Rattle.sc_select.proofs.Common.{environment_call, everywhere as each_holds, false, fold-TacStmt, fold-roll-TacStmt}
+use Rattle.sc_select.proofs.Common.{fork, frame_left, frame_taken, function_lines, has_operands, if◌then◌else◌}
+use Rattle.sc_select.proofs.Common.{in_order, in_turn, is_short, is_some, is_unsigned, joined, joins, keep, kept}
+use Rattle.sc_select.proofs.Common.{length, length-append, length-map, load_from, load_word, loading, map, map-TacStmt}
+use Rattle.sc_select.proofs.Common.{moved_by, nothing, object_offset, object_read, op_code, op_weight, operand}
+use Rattle.sc_select.proofs.Common.{operation, pass, place_of_global, plain, plainly, pointer_difference, pointer_move}
+use Rattle.sc_select.proofs.Common.{pos, put, reading, receive, referring, refl, register_of, result_register, return}
+use Rattle.sc_select.proofs.Common.{role_first, roll-TacStmt, second_operand, select, select_all, select_step, skipping}
+use Rattle.sc_select.proofs.Common.{slice_get, slot_offset, stepped, stmt_induction, stmt_weight, store_arguments}
+use Rattle.sc_select.proofs.Common.{store_to, store_word, straightly, sub_word, subst, suc, sym, take, take_second}
+use Rattle.sc_select.proofs.Common.{taken, takes_two, true, unary_code, weight, weight_step, with_parts}
+use Rattle.sc_select.proofs.Common.{word_of_constant, zero, ℕ, ◌&&◌, ◌*◌, ◌++◌, ◌+◌, ◌<◌, ◌==◌, ◌^◌, ◌∙◌, ◌∷◌, ◌≡◌, ◌≤◌}
 use Rattle.sc_core.specs.Prelude.{total}
 use Rattle.sc_tac.specs.Prelude.{everywhere}
+use Rattle.sc_select.proofs.Joining.{past_few, gives_place}
 use Rattle.std.specs.Bool.{beq}
 use Rattle.sc_base.specs.declared.op.BinaryOp.{BinaryOp}
 use Rattle.sc_base.specs.declared.op.BinaryOp.TheVariants as op
@@ -28,7 +29,6 @@ use Rattle.sc_event.specs.declared.row.Entry.{Entry}
 use Rattle.sc_event.specs.declared.row.Entry.TheVariants as entry
 use Rattle.sc_tac.specs.declared.stmt.TacOp.TheVariants as tacop
 use Rattle.sc_tac.specs.declared.stmt.TacStmt.TheOpen as tac
-use Rattle.sc_select.proofs.Joining.{gives_place}
 use Rattle.sc_select.proofs.Sizes.{row_is_sized}
 
 either : (b : Bool) (xs ys : List Instr) (n : ℕ) → length xs ≤ n → length ys ≤ n → length (if b then xs else ys) ≤ n
@@ -256,6 +256,21 @@ module _ (frame : FrameTree) (places : List Place) where
         taken_few frame 5 (slice_get places cond),
       )
 
+  fork_few : (cond : ℕ) (first second : List Piece) → (fork frame places cond first second).size ≤
+      6 + (in_order frame places first).size + (in_order frame places second).size
+  fork_few cond first second = by (length first == 0 && (in_order frame places second).size == 1)
+    where
+      e : Piece
+      e = in_order frame places first
+
+      f : Piece
+      f = in_order frame places second
+
+      by : (b : Bool) → (if b then skipping frame places cond f else choosing frame places cond e f).size ≤
+          6 + e.size + f.size
+      by true = omega (arith, length-map (choice frame places cond) plain, choice_few cond)
+      by false = omega (arith, length-map (choice frame places cond) plain, choice_few cond, past_few f.size)
+
   pass_few : (rd : ℕ) (args : List ℕ) → length (pass frame places rd args) ≤ 3 * length args
   pass_few rd [] = omega arith
   pass_few rd (t ∷ ts) =
@@ -389,7 +404,7 @@ module _ (frame : FrameTree) (places : List Place) where
   layer_small (tac.If cond first second) h is =
       omega (
         arith,
-        choice_few cond,
+        fork_few cond (map (select frame places) first) (map (select frame places) second),
         row_small first h.0 (and_first (all_true (map has first)) (all_true (map has second) && true) is),
         row_small second h.1 (and_first (all_true (map has second)) true
             (and_rest (all_true (map has first)) (all_true (map has second) && true) is)),

@@ -15,10 +15,11 @@ pub use Rattle.sc_select.specs.Pieces.{a0, a7, address_scratch, far_from_sp, fir
 pub use Rattle.sc_select.specs.Pieces.{is_short, load_word, loading, lower_part, move, moved_by, ra, register_of}
 pub use Rattle.sc_select.specs.Pieces.{second_scratch, sp, store_word, upper_part}
 pub use Rattle.sc_select.specs.Selection.{Piece, at_hand, between, breaking, brought, call_cross, call_own, choice}
-pub use Rattle.sc_select.specs.Selection.{closing, code_of, continuing, copied, cycle, entrance, environment_call}
-pub use Rattle.sc_select.specs.Selection.{followed, fork, function_lines, in_order, in_turn, joined, joins, jump_back}
-pub use Rattle.sc_select.specs.Selection.{jump_over, keep, kept, load_from, nothing, object_offset, object_read}
-pub use Rattle.sc_select.specs.Selection.{operand, operation, pass, place_of, place_of_global, put, reading, receive}
-pub use Rattle.sc_select.specs.Selection.{result_register, return, role_before, role_first, role_of_load, round_begins}
-pub use Rattle.sc_select.specs.Selection.{second_operand, select, select_all, select_step, slot_offset, store_arguments}
-pub use Rattle.sc_select.specs.Selection.{store_to, straight, straightly, take, take_second, taken, word_of_constant}
+pub use Rattle.sc_select.specs.Selection.{choosing, closing, code_of, continuing, copied, cycle, ending_past, entrance}
+pub use Rattle.sc_select.specs.Selection.{environment_call, followed, fork, function_lines, in_order, in_turn, joined}
+pub use Rattle.sc_select.specs.Selection.{joins, jump_back, jump_over, keep, kept, load_from, loop_begins, nothing}
+pub use Rattle.sc_select.specs.Selection.{object_offset, object_read, operand, operation, pass, past, place_of}
+pub use Rattle.sc_select.specs.Selection.{place_of_global, put, reading, receive, result_register, return, role_before}
+pub use Rattle.sc_select.specs.Selection.{role_first, role_of_load, second_operand, select, select_all, select_step}
+pub use Rattle.sc_select.specs.Selection.{skipping, slot_offset, store_arguments, store_to, straight, straightly, take}
+pub use Rattle.sc_select.specs.Selection.{take_second, taken, word_of_constant}

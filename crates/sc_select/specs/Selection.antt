@@ -3,7 +3,7 @@ use Rattle.sc_select.specs.Common.{Addi, Branch, CodeTree, Ecall, Entry as Entry
 use Rattle.sc_select.specs.Common.{Jal, Jalr, Load, Lui, Lw, OpImm, Place, Store, Sw, TacOp, TacStmt, TacStmt-F, Upper}
 use Rattle.sc_select.specs.Common.{fold-TacStmt}
 use Rattle.std.specs.Prelude.{ℕ, zero, suc, pos, ◌+◌, ◌*◌, List, [], ◌∷◌, ◌++◌, map, length, Option, None, Some}
-use Rattle.std.specs.Prelude.{slice_get, neg_ℤ, ◌==◌, if◌then◌else◌, Bool, drop, false}
+use Rattle.std.specs.Prelude.{slice_get, neg_ℤ, ◌==◌, ◌&&◌, if◌then◌else◌, Bool, drop, false}
 use Rattle.std.specs.Option.{unwrap_or}
 use Rattle.sc_event.specs.declared.row.Entry.{Entry}
 use Rattle.sc_event.specs.declared.row.Entry.TheVariants.{Main}
@@ -64,6 +64,11 @@ role_before pieces (suc at) = role_first (drop at pieces)
 abbrev pub jump_over : ℕ → Line
 jump_over lines = plain (Jal 0 (pos (4 * suc lines)))
 
+-- a jump past so many lines, where there are any
+abbrev pub past : ℕ → List Line
+past zero = []
+past (suc lines) = jump_over (suc lines) ∷ []
+
 abbrev pub breaking : Piece
 breaking = record { size = 1; lines = λ to_break to_continue. jump_over to_break ∷ []; role = Other }
 
@@ -74,9 +79,9 @@ continuing = record { size = 1; lines = λ to_break to_continue. jump_over to_co
 abbrev pub jump_back : ℕ → Line
 jump_back lines = plain (Jal 0 (neg_ℤ (pos (4 * lines))))
 
--- what each round of a loop begins with, so that no round is without an instruction
-abbrev pub round_begins : Line
-round_begins = plain (OpImm Addi 0 0 (pos 0))
+-- what a loop begins with, so that its first round isn't without an instruction. A jump back begins each further one
+abbrev pub loop_begins : Line
+loop_begins = plain (OpImm Addi 0 0 (pos 0))
 
 abbrev pub word_of_constant : Constant → ℕ
 word_of_constant (constant.Word w) = w
@@ -195,32 +200,36 @@ module _ (frame : FrameTree) (places : List Place) where
   return None = frame_left frame.bytes
   return (Some t) = brought frame a0 (place_of t) ++ frame_left frame.bytes
 
-  -- one branch, over the jump to the second part
+  abbrev pub straightly : List Instr → Piece
+  straightly instrs = straight (plainly instrs)
+
+  -- a branch over the instruction behind it, where a value is true
   abbrev pub choice : ℕ → List Instr
   choice cond = take first_scratch cond ++ Branch Bne (operand first_scratch cond) 0 (pos 8) ∷ []
 
-  abbrev pub fork : ℕ → Piece → Piece → Piece
-  fork cond first second = record {
-    size = length (choice cond) + (2 + (first.size + second.size));
-    lines = λ to_break to_continue.
-        plainly (choice cond) ++ (jump_over (suc first.size) ∷
-        (first.lines (suc (second.size + to_break)) (suc (second.size + to_continue)) ++
-        (jump_over second.size ∷ second.lines to_break to_continue)));
-    role = Other;
-  }
+  -- the first part, which a jump past the second ends
+  abbrev pub ending_past : (first second : Piece) → Piece
+  ending_past first second = followed first (straight (past second.size))
 
-  -- a break leads behind the jump back, a continue to the next part
+  -- the branch leads over a jump to the second part
+  abbrev pub choosing : ℕ → (first second : Piece) → Piece
+  choosing cond first second =
+      followed (straightly (choice cond)) (followed (straight (jump_over (ending_past first second).size ∷ []))
+      (followed (ending_past first second) second))
+
+  -- the branch leads over one line
+  abbrev pub skipping : ℕ → Piece → Piece
+  skipping cond line = followed (straightly (choice cond)) line
+
+  -- a break leads behind the jump back, a continue to the next part. The jump back leads to the head
   abbrev pub cycle : Piece → Piece → Piece → Piece
   cycle head body next = record {
     size = 2 + (head.size + (body.size + next.size));
     lines = λ to_break to_continue.
-        round_begins ∷ (head.lines (body.size + suc next.size) 0 ++ (body.lines (suc next.size) 0 ++
-        (next.lines 1 0 ++ (jump_back (suc (head.size + (body.size + next.size))) ∷ []))));
+        loop_begins ∷ (head.lines (body.size + suc next.size) 0 ++ (body.lines (suc next.size) 0 ++
+        (next.lines 1 0 ++ (jump_back (head.size + (body.size + next.size)) ∷ []))));
     role = Other;
   }
-
-  abbrev pub straightly : List Instr → Piece
-  straightly instrs = straight (plainly instrs)
 
   -- a variable's word into a temporary
   abbrev pub object_read : (dest object : ℕ) → List Instr
@@ -244,6 +253,12 @@ module _ (frame : FrameTree) (places : List Place) where
   abbrev pub in_order : List Piece → Piece
   in_order pieces = in_turn (joined Other pieces)
 
+  -- the first part where the value is true, else the second. One line as the second, without a first, needs no jump
+  abbrev pub fork : ℕ → (first second : List Piece) → Piece
+  fork cond first second =
+      if length first == 0 && (in_order second).size == 1 then skipping cond (in_order second)
+      else choosing cond (in_order first) (in_order second)
+
   -- what a load of what stands at a place does to the temporary of the place
   abbrev pub role_of_load : (dest place : ℕ) → Role
   role_of_load dest place = if dest == place then Loads dest else Other
@@ -260,7 +275,7 @@ module _ (frame : FrameTree) (places : List Place) where
   select_step (tac.Load dest place pointer) =
       record (straightly (load_from dest place)) { role = role_of_load dest place }
   select_step (tac.Store place value) = straightly (store_to place value)
-  select_step (tac.If cond first second) = fork cond (in_order first) (in_order second)
+  select_step (tac.If cond first second) = fork cond first second
   select_step (tac.Loop head body next) = cycle (in_order head) (in_order body) (in_order next)
   select_step tac.Break = breaking
   select_step tac.Continue = continuing

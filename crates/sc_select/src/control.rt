@@ -1,9 +1,9 @@
 //! Statements in order, choices and loops.
 
 ghost use Rattle.sc_select.specs.Prelude.{Addi, Fits, FitsBetween, IsJumpOffset, Jal, Line, OpImm, between, jump_back};
-ghost use Rattle.sc_select.specs.Prelude.{jump_over, most_lines, plain, round_begins, select, select_all};
+ghost use Rattle.sc_select.specs.Prelude.{jump_over, loop_begins, most_lines, past, plain, select, select_all};
 ghost use Rattle.sc_tac.specs.declared.stmt.TacStmt;
-ghost use Rattle.std.specs.Prelude.{◌≡◌, ◌≤◌, ◌<◌, ◌-◌, ◌++◌, ◌∷◌, [], ℕ, OnOk, length};
+ghost use Rattle.std.specs.Prelude.{◌≡◌, ◌≤◌, ◌<◌, ◌-◌, ◌++◌, ◌∷◌, [], ℕ, OnOk, length, ◌&&◌, ◌==◌};
 
 use crate::backward::Backward;
 use crate::homes::Homes;
@@ -45,9 +45,16 @@ fn jump_back(lines: usize) -> Instr
     jump(-4 * lines as i32)
 }
 
-// What each round of a loop begins with.
-fn round_begins() -> Instr
-    ensures { plain result ≡ round_begins }
+// Whether a branch leads over the second part of a choice alone: one line, where there is no first part.
+fn is_skip(first: &TacStmts, lines: usize) -> bool
+    ensures { result ≡ (length first.now == 0 && lines == 1) }
+{
+    first.as_slice().is_empty() && lines == 1
+}
+
+// What a loop begins with.
+fn loop_begins() -> Instr
+    ensures { plain result ≡ loop_begins }
 {
     let zero = register(ZERO);
     addi(zero, zero, immediate(0))
@@ -122,6 +129,17 @@ impl Backward {
         self.in_order(homes, distances, part)
     }
 
+    // A jump past so many lines, where there are any.
+    fn past(&mut self, lines: usize) -> Result<(), OutOfMemory>
+        requires { lines < most_lines }
+        ensures { OnOk result (self.new ≡ past lines ++ self.old) }
+    {
+        if lines == 0 {
+            return Ok(());
+        }
+        self.plain(jump_over(lines))
+    }
+
     // The first part where the value is true, else the second.
     #[cycle(control)]
     fn fork(
@@ -140,15 +158,18 @@ impl Backward {
         let end = self.len();
         self.in_order(homes, distances, second)?;
         let behind = self.len() - end;
-        self.plain(jump_over(behind))?;
+        if is_skip(first, behind) {
+            return self.choice(homes, cond);
+        }
+        self.past(behind)?;
+        let over = self.len() - end;
         let over_second = Distances {
-            to_break: behind + distances.to_break + 1,
-            to_continue: behind + distances.to_continue + 1,
+            to_break: over + distances.to_break,
+            to_continue: over + distances.to_continue,
         };
-        let middle = self.len();
         self.in_order(homes, over_second, first)?;
-        let before = self.len() - middle;
-        self.plain(jump_over(before + 1))?;
+        let before = self.len() - end - behind;
+        self.plain(jump_over(before))?;
         self.choice(homes, cond)
     }
 
@@ -167,12 +188,12 @@ impl Backward {
             homes.now.places.now (TacStmt.Loop head.now body.now next.now)).lines to_break to_continue ++ self.old) }
     {
         let end = self.len();
-        self.plain(round_begins())?;
+        self.plain(loop_begins())?;
         self.part(homes, end, next)?;
         self.part(homes, end, body)?;
         self.part(homes, end, head)?;
-        self.plain(round_begins())?;
         let lines = self.len() - end - 1;
+        self.plain(loop_begins())?;
         self.replace(end, jump_back(lines));
         Ok(())
     }

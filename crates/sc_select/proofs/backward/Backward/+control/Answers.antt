@@ -1,10 +1,10 @@
 use Rattle.sc_select.proofs.Common.{Fits, ap, arith, on_ok_weaker, select, stmt_weight, subst, sym, weight, ◌++◌, ◌+◌}
 use Rattle.sc_select.proofs.Common.{◌-◌, ◌<◌, ◌∙◌, ◌≡◌, ◌≤◌}
 use Rattle.sc_select.proofs.Composition.{cycle_heavier, fork_heavier, back_reaches, body_reaches, cycle_written}
-use Rattle.sc_select.proofs.Composition.{first_reaches, fork_returns, as_is, cycle_fits, head_reaches, next_reaches}
-use Rattle.sc_select.proofs.Composition.{over_first, over_second, second_fits, step_fits, step_lighter, step_reaches}
-use Rattle.sc_select.proofs.Composition.{alone_fits, as_written, is_itself, is_nothing, is_reading, none_written}
-use Rattle.sc_select.proofs.Composition.{step_written}
+use Rattle.sc_select.proofs.Composition.{first_reaches, choice_returns, skip_returns, as_is, cycle_fits, head_reaches}
+use Rattle.sc_select.proofs.Composition.{next_reaches, over_first, over_reaches, over_second, second_fits, step_fits}
+use Rattle.sc_select.proofs.Composition.{step_lighter, step_reaches, alone_fits, as_written, is_itself, is_nothing}
+use Rattle.sc_select.proofs.Composition.{is_reading, none_written, step_written}
 use Rattle.sc_select.proofs.backward.Backward.+control.Goals as goal
 
 -- A CHOICE
@@ -18,30 +18,50 @@ pub fork-in_order-requires : goal.fork-in_order-requires
 fork-in_order-requires t c =
     (omega (arith, c.decreases), second_fits _ _ c.args.cond c.args.first.now c.args.second.now _ _ c.requires.fits)
 
-pub fork-jump_over-requires : goal.fork-jump_over-requires
-fork-jump_over-requires t c =
-    over_second _ _ c.args.cond c.args.first.now c.args.second.now _ _ _ _ _ _ c.requires.fits c.len.ensures
+pub fork-past-requires : goal.fork-past-requires
+fork-past-requires t c =
+    over_second _ _ c.args.cond c.args.first.now c.args.second.now _ _ c.requires.fits _ _ _ _ c.len.ensures
     c.len-end.ensures c.in_ok-in_order.ensures
+
+pub fork-overflow_add-over_second : goal.fork-overflow_add-over_second
+fork-overflow_add-over_second t c =
+    let reaches = over_reaches c.args.homes.now.frame.now c.args.homes.now.places.now c.args.cond c.args.first.now
+    c.args.second.now _ _ c.requires.fits _ _ _ _ c.len.ensures c.len-end.ensures c.in_ok-in_order.ensures _
+    c.is_skip.ensures c.if-is_skip.false _ _ c.len-2.ensures c.in_ok-past.ensures in
+    omega (arith, reaches.0)
+
+pub fork-overflow_add-over_second-2 : goal.fork-overflow_add-over_second-2
+fork-overflow_add-over_second-2 t c =
+    let reaches = over_reaches c.args.homes.now.frame.now c.args.homes.now.places.now c.args.cond c.args.first.now
+    c.args.second.now _ _ c.requires.fits _ _ _ _ c.len.ensures c.len-end.ensures c.in_ok-in_order.ensures _
+    c.is_skip.ensures c.if-is_skip.false _ _ c.len-2.ensures c.in_ok-past.ensures in
+    omega (arith, reaches.1)
 
 pub fork-in_order-requires-2 : goal.fork-in_order-requires-2
 fork-in_order-requires-2 t c = (
   omega (arith, c.decreases),
-  first_reaches _ _ c.args.cond c.args.first.now c.args.second.now _ _ _ _ _ _ c.requires.fits c.len.ensures
-      c.len-end.ensures c.in_ok-in_order.ensures,
+  first_reaches _ _ c.args.cond c.args.first.now c.args.second.now _ _ c.requires.fits _ _ _ _ c.len.ensures
+      c.len-end.ensures c.in_ok-in_order.ensures _ c.is_skip.ensures c.if-is_skip.false _ _ c.len-2.ensures
+      c.in_ok-past.ensures,
 )
 
-pub fork-jump_over-requires-2 : goal.fork-jump_over-requires-2
-fork-jump_over-requires-2 t c =
-    over_first _ _ c.args.cond c.args.first.now c.args.second.now _ _ _ _ _ _ _ _ c.requires.fits c.len-2.ensures
-    c.len-middle.ensures c.in_ok-in_order-2.ensures
+pub fork-jump_over-requires : goal.fork-jump_over-requires
+fork-jump_over-requires t c =
+    over_first _ _ c.args.cond c.args.first.now c.args.second.now _ _ c.requires.fits _ _ _ _ c.len.ensures
+    c.len-end.ensures c.in_ok-in_order.ensures _ c.is_skip.ensures c.if-is_skip.false _ _ c.len-2.ensures
+    c.in_ok-past.ensures _ _ c.len-3.ensures c.in_ok-in_order-2.ensures
+
+pub fork-returns-then-is_skip : goal.fork-returns-then-is_skip
+fork-returns-then-is_skip t c =
+    skip_returns _ _ c.args.cond c.args.first.now c.args.second.now _ _ c.requires.fits _ _ _ _ c.len.ensures
+    c.len-end.ensures c.in_ok-in_order.ensures _ c.is_skip.ensures _ _ c.if-is_skip.true c.choice.ensures
 
 pub fork-returns : goal.fork-returns
 fork-returns t c =
-    fork_returns c.args.homes.now.frame.now c.args.homes.now.places.now _ c.args.cond c.args.first.now
-    c.args.second.now c.args.distances.to_break c.args.distances.to_continue c.len.result c.len-end.result
-    c.len-2.result c.len-middle.result _ _ _ _ _ _ _ _ c.len.ensures c.len-end.ensures c.len-2.ensures
-    c.len-middle.ensures c.in_ok-in_order.ensures c.in_ok-plain.ensures c.jump_over.ensures
-    c.in_ok-in_order-2.ensures c.in_ok-plain-2.ensures c.jump_over-2.ensures c.choice.ensures
+    choice_returns _ _ c.args.cond c.args.first.now c.args.second.now _ _ c.requires.fits _ _ _ _ c.len.ensures
+    c.len-end.ensures c.in_ok-in_order.ensures _ c.is_skip.ensures c.if-is_skip.false _ _ c.len-2.ensures
+    c.in_ok-past.ensures _ _ c.len-3.ensures c.in_ok-in_order-2.ensures _ _ _ _ c.in_ok-plain.ensures
+    c.jump_over.ensures c.choice-2.ensures
 
 -- A LOOP
 pub statement-cycle-requires : goal.statement-cycle-requires
@@ -81,15 +101,14 @@ cycle-part-requires-3 t c = (
 pub cycle-jump_back-requires : goal.cycle-jump_back-requires
 cycle-jump_back-requires t c =
     back_reaches c.args.homes.now.frame.now c.args.homes.now.places.now c.args.head.now c.args.body.now
-    c.args.next.now _ _ _ _ _ _ _ _ _ _ c.len.result c.len-end.result _ _ _ c.requires.fits c.in_ok-plain.ensures
-    c.in_ok-part.ensures c.in_ok-part-2.ensures c.in_ok-part-3.ensures c.in_ok-plain-2.ensures c.len.ensures
-    c.len-end.ensures
+    c.args.next.now _ _ _ _ _ _ _ _ c.len.result c.len-end.result _ _ _ c.requires.fits c.in_ok-plain.ensures
+    c.in_ok-part.ensures c.in_ok-part-2.ensures c.in_ok-part-3.ensures c.len.ensures c.len-end.ensures
 
 pub cycle-returns : goal.cycle-returns
 cycle-returns t c to_break to_continue =
     cycle_written c.args.homes.now.frame.now c.args.homes.now.places.now c.args.head.now c.args.body.now
     c.args.next.now to_break to_continue c.len.result c.len-end.result _ _ _ _ _ _ _ _ _ _ c.len.ensures
-    c.len-end.ensures c.round_begins-2.ensures c.in_ok-plain.ensures c.in_ok-part.ensures c.in_ok-part-2.ensures
+    c.len-end.ensures c.loop_begins-2.ensures c.in_ok-plain.ensures c.in_ok-part.ensures c.in_ok-part-2.ensures
     c.in_ok-part-3.ensures c.in_ok-plain-2.ensures c.jump_back.ensures c.replace.ensures
 
 pub part-in_order-requires : goal.part-in_order-requires
