@@ -1,4 +1,4 @@
-use Rattle.sc_run.proofs.Common.{IfOk-weaker, Next, None, Some, exit_of, kept_by, leave}
+use Rattle.sc_run.proofs.Common.{IfOk-weaker, None, exit_of, kept_by}
 use Rattle.sc_run.proofs.Ahead.{at_behind, caller_behind, left_behind, none_in}
 use Rattle.sc_run.proofs.calls.run_body.Goals as goal
 

@@ -1,4 +1,4 @@
-use Rattle.sc_run.proofs.Common.{Caller, IfOk-weaker, Left, Next, [], all_do, block_acts, c_arith, here_of, in_order}
+use Rattle.sc_run.proofs.Common.{Caller, IfOk-weaker, Next, [], all_do, block_acts, c_arith, here_of, in_order}
 use Rattle.sc_run.proofs.Common.{inits_do, kept_by, ◌++◌, ◌∷◌}
 use Rattle.sc_core.specs.Prelude.{take}
 use Rattle.sc_run.proofs.Ahead.{stops_anywhere}

@@ -1,4 +1,4 @@
-use Rattle.sc_run.proofs.Common.{None, Some, [], drop, in_body, in_round, kept_by, length, loop_acts, refl}
+use Rattle.sc_run.proofs.Common.{Some, [], in_round, kept_by, length, loop_acts, refl}
 use Rattle.sc_run.proofs.Ahead.{behind_body, body_done, round_done, stays_so, then_passes, turns_fall, unchanged}
 use Rattle.sc_run.proofs.plain.done_rounds.Goals as goal
 
