@@ -1,21 +1,23 @@
 -- What is done at once, and leaves nothing that waits.
 use Rattle.sc_run.proofs.Common.{Acts, Body as Body', Bool, Bor, CameTo, Comes, Doing, Exit, Frame, Go, Left, List}
-use Rattle.sc_run.proofs.Common.{Loop, Memory, Next, None, Ok, Passes, PassesIf, Piece, ProgramTree, Reached, Return}
-use Rattle.sc_run.proofs.Common.{Route, Run as Run', RunEnd, Seen, Some, SourceRun, Standing, State, Step, Steps, Stop}
-use Rattle.sc_run.proofs.Common.{Stopped, TypedExpr, TypedSimple, TypedStmt, Value, Work, [], add-one, and_then, ap}
-use Rattle.sc_run.proofs.Common.{arith, assign, block_acts, c_arith, calls_in, drop, drop-cons, drop_all, ended_so}
-use Rattle.sc_run.proofs.Common.{evaluated, false, follow, get_or, here_of, in_body, in_loop, in_order, is_true, leave}
-use Rattle.sc_run.proofs.Common.{length, length-drop, loop_acts, next_acts, option_copied, part_acts, refl, resume}
-use Rattle.sc_run.proofs.Common.{reverse, roll-TypedStmtKind, seen_of, simple_does, stmt_acts, store_at, stored, subst}
-use Rattle.sc_run.proofs.Common.{suc, sym, take, take_all, true, turn, way_in, with_exit, ℕ, ◌++◌, ◌+◌, ◌-◌, ◌<◌, ◌∙◌}
-use Rattle.sc_run.proofs.Common.{◌∷◌, ◌≡◌, ◌≤◌}
+use Rattle.sc_run.proofs.Common.{Loop, Memory, Next, None, Ok, Option, Passes, PassesIf, Piece, ProgramTree, Reached}
+use Rattle.sc_run.proofs.Common.{Return, Route, Run as Run', RunEnd, Seen, Some, SourceRun, Standing, State, Step}
+use Rattle.sc_run.proofs.Common.{Steps, Stop, Stopped, TypedExpr, TypedSimple, TypedStmt, Value, Work, [], add-one}
+use Rattle.sc_run.proofs.Common.{and_then, ap, arith, assign, block_acts, c_arith, calls_in, choose, drop, drop-cons}
+use Rattle.sc_run.proofs.Common.{drop_all, ended_so, evaluated, false, follow, get_or, here_of, if◌then◌else◌, in_body}
+use Rattle.sc_run.proofs.Common.{in_loop, in_order, in_round, is_true, leave, left_at, length, length-drop, loop_acts}
+use Rattle.sc_run.proofs.Common.{next_acts, option_copied, part_acts, refl, resume, reverse, roll-TypedStmtKind}
+use Rattle.sc_run.proofs.Common.{seen_of, simple_does, stmt_acts, store_at, stored, subst, suc, sym, take, take_all}
+use Rattle.sc_run.proofs.Common.{true, turn, way_in, with_exit, ℕ, ◌++◌, ◌+◌, ◌-◌, ◌<◌, ◌==◌, ◌∙◌, ◌∷◌, ◌≡◌, ◌≤◌}
+use Rattle.sc_run.specs.declared.work.Position.{Position}
+use Rattle.sc_run.specs.declared.work.Leaving.TheVariants as leaving
 use Rattle.sc_core.specs.declared.stmt.TypedStmtKind.TheOpen as layer
 use Rattle.sc_core.specs.declared.stmt.TypedSimpleKind.TheVariants as simple
 use Rattle.sc_core.specs.declared.value.Want.TheVariants as want
 use Rattle.sc_value.specs.Assigning.{AssignedIf, Holding}
 use Rattle.sc_run.proofs.Coming.{computed_comes, stored_ok, then_goes, turn_comes, with_memory}
-use Rattle.sc_run.proofs.Looping.{cond_evaluated, round_is, steps_later, steps_wait, tested}
-use Rattle.sc_run.proofs.Stating.{first_and_rest, stmt_is}
+use Rattle.sc_run.proofs.Looping.{cond_evaluated, round_is, steps_as, steps_later, steps_wait, tested}
+use Rattle.sc_run.proofs.Stating.{alone, first_and_rest, stmt_is}
 use Rattle.sc_run.proofs.Unseen.{way_same}
 
 at_most : (a b c : ℕ) → b ≤ a → c ≤ b → c ≤ a
@@ -148,6 +150,10 @@ module _ (f : Frame) (place value : TypedExpr) (line : ℕ) (seen : Seen) (memor
 pub rest_at : {A : Type 0} (n : ℕ) (xs : List A) → take (length xs - n) (drop n xs) ≡ drop n xs
 rest_at n xs = take_all (length xs - n) (drop n xs) (omega (arith, length-drop n xs))
 
+pub none_in : (xs : List TypedStmt) (b : Bool) → b ≡ (length xs == 0) → b ≡ true → xs ≡ []
+none_in [] b is empty = refl
+none_in (x ∷ xs) b is empty = grind arith
+
 split_at : {A : Type 0} (xs : List A) (n : ℕ) (x : A) → n < length xs → x ≡ get_or xs n x →
     drop n xs ≡ x ∷ drop (n + 1) xs
 split_at xs n x there item = rw (add-one, drop-cons xs n x) (λ k. sym item k ∷ drop (suc n) xs)
@@ -198,6 +204,84 @@ module _ (program : ProgramTree) (f : Frame) where
   all_done stmts at before after le h =
       subst (λ xs. Passes before after (block_by stmts) (block_by xs))
       (drop_all at stmts le ∙ sym (drop_all (length stmts) stmts (omega arith))) h
+
+  -- the statements that a condition chooses
+  choosing : (stmt : TypedStmt) (cond : TypedExpr) (x y : List TypedStmt) (v : Value) (seen : Seen) →
+      stmt.kind ≡ roll-TypedStmtKind (layer.If cond x y) →
+      Ok v ≡ way_in f cond want.Value (seen.memory f.scope.comp.now) →
+      Passes seen seen (λ n. stmt_acts program n f stmt tt) (λ n s. choose v (block_by x n s) (block_by y n s))
+  choosing stmt cond x y v seen is gives =
+      passes_as (stmt_by stmt) (stmt_is program f stmt (layer.If cond x y) is)
+      (passes_by seen seen v (evaluated (here_of f.scope) want.Value (way_in f cond) stmt.line)
+      (λ n v s. choose v (block_by x n s) (block_by y n s))
+      (computed_comes (here_of f.scope) stmt.line (λ bs. way_in f cond want.Value bs)
+      (way_same f.scope.structs.now (here_of f.scope) f.scope.params cond want.Value) seen v gives))
+
+  pub first_chosen : (stmt : TypedStmt) (cond : TypedExpr) (x y part : List TypedStmt) (v : Value) (seen : Seen) →
+      stmt.kind ≡ roll-TypedStmtKind (layer.If cond x y) →
+      Ok v ≡ way_in f cond want.Value (seen.memory f.scope.comp.now) →
+      is_true v ≡ true → part ≡ x →
+      Passes seen seen (λ n. stmt_acts program n f stmt tt) (λ n. block_acts program n f part tt)
+  first_chosen stmt cond x y part v seen is gives holds same =
+      then_passes (choosing stmt cond x y v seen is gives)
+      (passes_as (λ n s. choose v (block_by x n s) (block_by y n s))
+      (λ n s. ap (λ b. if b then block_by x n s else block_by y n s) holds ∙ ap (λ xs. block_by xs n s) (sym same))
+      (stays_so seen (block_by part)))
+
+  pub second_chosen : (stmt : TypedStmt) (cond : TypedExpr) (x y part : List TypedStmt) (v : Value) (seen : Seen) →
+      stmt.kind ≡ roll-TypedStmtKind (layer.If cond x y) →
+      Ok v ≡ way_in f cond want.Value (seen.memory f.scope.comp.now) →
+      is_true v ≡ false → part ≡ y →
+      Passes seen seen (λ n. stmt_acts program n f stmt tt) (λ n. block_acts program n f part tt)
+  second_chosen stmt cond x y part v seen is gives fails same =
+      then_passes (choosing stmt cond x y v seen is gives)
+      (passes_as (λ n s. choose v (block_by x n s) (block_by y n s))
+      (λ n s. ap (λ b. if b then block_by x n s else block_by y n s) fails ∙ ap (λ xs. block_by xs n s) (sym same))
+      (stays_so seen (block_by part)))
+
+  -- what is left of the part that was chosen
+  pub part_left : (before middle after : Seen) (stmt : TypedStmt) (part : List TypedStmt) (count : ℕ) →
+      middle ≡ before →
+      Passes middle middle (λ n. stmt_acts program n f stmt tt) (λ n. block_acts program n f part tt) →
+      Passes middle after (λ n s. block_acts program n f part tt s)
+      (λ n s. block_acts program n f (drop count part) tt s) →
+      Passes before after (λ n. stmt_acts program n f stmt tt)
+      (λ n. block_acts program n f (take (length part - count) (drop count part)) tt)
+  part_left before middle after stmt part count same h k =
+      subst (λ x. Passes x after (stmt_by stmt) (block_by (take (length part - count) (drop count part)))) same
+      (then_passes h (subst (λ xs. Passes middle after (block_by part) (block_by xs)) (sym (rest_at count part)) k))
+
+  -- part of one more statement
+  pub within_one : (stmts part : List TypedStmt) (at : ℕ) (stmt : TypedStmt) (before middle after : Seen) →
+      at < length stmts → stmt ≡ get_or stmts at stmt →
+      Passes before middle (λ n s. block_acts program n f stmts tt s)
+      (λ n s. block_acts program n f (drop at stmts) tt s) →
+      Passes middle after (λ n. stmt_acts program n f stmt tt) (λ n. block_acts program n f part tt) →
+      Passes before after (λ n s. block_acts program n f stmts tt s)
+      (λ n s. follow in_order (block_acts program n f part tt s) (block_acts program n f (drop (at + 1) stmts)))
+  within_one stmts part at stmt before middle after there item h k =
+      then_passes h (passes_as (block_by (drop at stmts))
+      (λ n s. ap (λ xs. block_by xs n s) (split_at stmts at stmt there item))
+      (passes_follow in_order (λ n. block_acts program n f (drop (at + 1) stmts)) k))
+
+  pub one_over : (stmts part : List TypedStmt) (at : ℕ) (stmt : TypedStmt) (before middle after : Seen) → part ≡ [] →
+      at < length stmts → stmt ≡ get_or stmts at stmt →
+      Passes before middle (λ n s. block_acts program n f stmts tt s)
+      (λ n s. block_acts program n f (drop at stmts) tt s) →
+      Passes middle after (λ n. stmt_acts program n f stmt tt) (λ n. block_acts program n f part tt) →
+      Passes before after (λ n s. block_acts program n f stmts tt s)
+      (λ n s. block_acts program n f (drop (at + 1) stmts) tt s)
+  one_over stmts part at stmt before middle after empty there item h k =
+      within_one stmts [] at stmt before middle after there item h
+      (subst (λ xs. Passes middle after (stmt_by stmt) (block_by xs)) empty k)
+
+  pub none_behind : (stmts : List TypedStmt) (at : ℕ) (before after : Seen) → length stmts ≤ at →
+      Passes before after (λ n s. block_acts program n f stmts tt s)
+      (λ n s. block_acts program n f (drop at stmts) tt s) →
+      Passes before after (λ n s. block_acts program n f stmts tt s) (λ n s. leave Next tt s)
+  none_behind stmts at before after le h =
+      then_passes h (passes_as (block_by (drop at stmts)) (λ n s. ap (λ xs. block_by xs n s) (drop_all at stmts le))
+      (stays_so after (block_by [])))
 
   -- control leaves a function
   pub value_leaves : (stmt : TypedStmt) (ref : TypedExpr) (e : TypedExpr) (v : Value) (seen : Seen) →
@@ -271,26 +355,39 @@ module _ (program : ProgramTree) (f : Frame) where
         (turn_comes k seen turns))))
 
     -- statements of the body are done
-    pub body_done : (before middle after : Seen) (count : ℕ) →
+    pub body_done : (before middle after : Seen) (at : Option Position) →
         Passes before middle (λ n. loop_acts program n f l tt) (in_body program f l l.body.now) →
-        Passes middle after (λ n s. block_acts program n f l.body.now tt s)
-        (λ n s. block_acts program n f (drop count l.body.now) tt s) →
-        Passes before after (λ n. loop_acts program n f l tt) (in_body program f l (drop count l.body.now))
-    body_done before middle after count h k =
+        Passes middle after (λ n. block_acts program n f l.body.now tt) (left_at program f l.body.now at) →
+        Passes before after (λ n. loop_acts program n f l tt)
+        (λ n s. follow in_loop (left_at program f l.body.now at n s)
+        (λ a s. follow in_loop (next_acts program n f l a s) (loop_acts program n f l)))
+    body_done before middle after at h k =
         then_passes h (passes_follow in_loop (λ n a s. follow in_loop (next_acts program n f l a s)
         (loop_acts program n f l)) k)
 
+    -- the loop stands behind its body
+    pub behind_body : (before middle after : Seen) (none : Bor (List TypedStmt)) →
+        Passes before middle (λ n. loop_acts program n f l tt) (in_body program f l l.body.now) →
+        Passes middle after (λ n. block_acts program n f l.body.now tt) (left_at program f l.body.now None) →
+        none.now ≡ [] →
+        Passes before after (λ n. loop_acts program n f l tt)
+        (in_round program f l (Some (record { part = none; count = length l.body.now })))
+    behind_body before middle after none h k empty =
+        then_passes (body_done before middle after None h k)
+        (passes_as (λ n s. follow in_loop (next_acts program n f l tt s) (loop_acts program n f l))
+        (λ n s. λ i. follow in_loop (follow in_order (block_by (sym empty i) n s)
+        (block_acts program n f (sym (drop_all (length l.body.now) l.body.now (omega arith)) i)))
+        (λ a s. follow in_loop (next_acts program n f l a s) (loop_acts program n f l)))
+        (stays_so after (in_round program f l (Some (record { part = none; count = length l.body.now })))))
+
     -- the loop stands before a round again
-    pub round_done : (before middle after : Seen) (count : ℕ) → length l.body.now ≤ count →
-        Passes before middle (λ n. loop_acts program n f l tt) (in_body program f l (drop count l.body.now)) →
-        Passes middle after (λ n. next_acts program n f l tt) ended_so →
+    pub round_done : (before middle done after : Seen) →
+        Passes before middle (λ n. loop_acts program n f l tt) (in_body program f l l.body.now) →
+        Passes middle done (λ n. block_acts program n f l.body.now tt) (left_at program f l.body.now None) →
+        Passes done after (λ n. next_acts program n f l tt) ended_so →
         Passes before after (λ n. loop_acts program n f l tt) (λ n. loop_acts program n f l tt)
-    round_done before middle after count le h k =
-        then_passes h (passes_as (in_body program f l (drop count l.body.now))
-        (λ n s. ap (λ xs. in_body program f l xs n s) (drop_all count l.body.now le)) (on_again k)) where
-          on_again : Passes middle after (λ n. next_acts program n f l tt) ended_so →
-              Passes middle after (in_body program f l []) loop_by
-          on_again k = passes_follow in_loop (λ n. loop_acts program n f l) k
+    round_done before middle done after h k m =
+        then_passes (body_done before middle done None h k) (passes_follow in_loop (λ n. loop_acts program n f l) m)
 
     -- what comes before the next round, and the loop again
     pub next_behind : (before middle : Seen) (work : List Work) (step : Step) (after : Seen) (later : List Work)
@@ -304,59 +401,76 @@ module _ (program : ProgramTree) (f : Frame) where
         (passes_follow in_loop (λ n. loop_acts program n f l) h) k
 
     -- a round that is left in its body
-    pub left_in_body : (before middle : Seen) (work later : List Work) (count : ℕ) (rest : Bor (List TypedStmt)) →
-        Passes before middle (λ n. loop_acts program n f l tt) (in_body program f l (drop count l.body.now)) →
-        rest.now ≡ drop count l.body.now → later ≡ work ++ Body' l ∷ [] →
-        Steps program before work f (λ n. loop_acts program n f l tt) (Go (Run' rest)) middle later f
-    left_in_body before middle work later count rest h same is =
-        steps_behind program work f (Go (Run' rest)) middle later f before middle loop_by
-        (in_body program f l (drop count l.body.now)) h
-        (steps_wait program middle work f (Body' l) later (in_body program f l (drop count l.body.now))
-        (block_by (drop count l.body.now)) (Go (Run' rest)) middle later f is (λ n s. refl)
-        (steps_later program middle later f (Run' rest) (block_by (drop count l.body.now))
-        (λ n s. ap (λ xs. block_by xs n s) (sym same))))
+    pub left_in_body : (before middle : Seen) (work later : List Work) (at : Position) (step : Step) (after : Seen)
+        (last : List Work) (g : Frame) →
+        Passes before middle (λ n. loop_acts program n f l tt) (in_round program f l (Some at)) →
+        later ≡ work ++ Body' l ∷ [] →
+        Steps program middle later f (left_at program f l.body.now (Some at)) step after last g →
+        Steps program before work f (λ n. loop_acts program n f l tt) step after last g
+    left_in_body before middle work later at step after last g h is k =
+        steps_behind program work f step after last g before middle loop_by (in_round program f l (Some at)) h
+        (steps_wait program middle work f (Body' l) later (in_round program f l (Some at))
+        (left_at program f l.body.now (Some at)) step after last g is (λ n s. refl) k)
 
-  -- the statements behind those that were done
-  pub list_behind : (before middle : Seen) (work : List Work) (stmts : List TypedStmt) (count : ℕ) (step : Step)
-      (after : Seen) (later : List Work) (g : Frame) →
-      Passes before middle (λ n s. block_acts program n f stmts tt s)
-      (λ n s. block_acts program n f (drop count stmts) tt s) →
-      Steps program middle work f (λ n s. block_acts program n f (take (length stmts - count) (drop count stmts)) tt s)
-      step after later g →
-      Steps program before work f (λ n s. block_acts program n f stmts tt s) step after later g
-  list_behind before middle work stmts count step after later g h k =
-      steps_behind program work f step after later g before middle (block_by stmts) (block_by (drop count stmts)) h
-      (subst (λ xs. Steps program middle work f (λ n s. block_acts program n f xs tt s) step after later g)
-      (rest_at count stmts) k)
+  no_part : (stmts : List TypedStmt) (at : Position) → at.part.now ≡ [] → (n : ℕ) (s : State) →
+      left_at program f stmts (Some at) n s ≡ block_by (drop at.count stmts) n s
+  no_part stmts at empty n s =
+      ap (λ xs. follow in_order (block_by xs n s) (block_acts program n f (drop at.count stmts))) empty
+
+  -- nothing follows the part
+  pub part_last : (before : Seen) (work : List Work) (stmts rest : List TypedStmt) (at : Position) (b : Bool) →
+      rest ≡ take (length stmts - at.count) (drop at.count stmts) → b ≡ (length rest == 0) → b ≡ true →
+      Steps program before work f (left_at program f stmts (Some at)) (Go (Run' at.part)) before work f
+  part_last before work stmts rest at b same none empty =
+      steps_later program before work f (Run' at.part) (left_at program f stmts (Some at))
+      (λ n s. ap (λ xs. follow in_order (block_by at.part.now n s) (block_acts program n f xs))
+      (sym (same ∙ rest_at at.count stmts) ∙ none_in rest b none empty) ∙ alone (block_by at.part.now n s))
+
+  -- a step behind what was done of statements
+  pub at_behind : (before middle : Seen) (work : List Work) (stmts body : List TypedStmt) (at : Option Position)
+      (step : Step) (after : Seen) (later : List Work) (g : Frame) → stmts ≡ body →
+      Passes before middle (λ n. block_acts program n f stmts tt) (left_at program f stmts at) →
+      Steps program middle work f (left_at program f stmts at) step after later g →
+      Steps program before work f (λ n s. block_acts program n f body tt s) step after later g
+  at_behind before middle work stmts body at step after later g same h k =
+      subst (λ xs. Steps program before work f (block_by xs) step after later g) same
+      (steps_behind program work f step after later g before middle (block_by stmts) (left_at program f stmts at) h k)
+
+  -- something more waits for the statements
+  pub caller_behind : (before middle : Seen) (work pushed : List Work) (stmts body : List TypedStmt) (at : Position)
+      (step : Step) (after : Seen) (later : List Work) (g : Frame) → stmts ≡ body → pushed ≡ work →
+      Passes before middle (λ n. block_acts program n f stmts tt) (left_at program f stmts (Some at)) →
+      Steps program middle pushed f (left_at program f stmts (Some at)) step after later g →
+      Steps program before work f (λ n s. block_acts program n f body tt s) step after later g
+  caller_behind before middle work pushed stmts body at step after later g same is h k =
+      at_behind before middle work stmts body (Some at) step after later g same h
+      (subst (λ ws. Steps program middle ws f (left_at program f stmts (Some at)) step after later g) is k)
+
+  pub rest_behind : (before middle : Seen) (work : List Work) (stmts body : List TypedStmt) (at : Position)
+      (step : Step) (after : Seen) (later : List Work) (g : Frame) → stmts ≡ body → at.part.now ≡ [] →
+      Passes before middle (λ n. block_acts program n f stmts tt) (left_at program f stmts (Some at)) →
+      Steps program middle work f
+      (λ n s. block_acts program n f (take (length stmts - at.count) (drop at.count stmts)) tt s) step after later g →
+      Steps program before work f (λ n s. block_acts program n f body tt s) step after later g
+  rest_behind before middle work stmts body at step after later g same empty h k =
+      at_behind before middle work stmts body (Some at) step after later g same h
+      (steps_as program middle work f (left_at program f stmts (Some at))
+      (block_by (take (length stmts - at.count) (drop at.count stmts))) step after later g
+      (λ n s. no_part stmts at empty n s ∙ ap (λ xs. block_by xs n s) (sym (rest_at at.count stmts))) k)
 
   -- control leaves the function behind the statements that were done
-  pub left_behind : (before middle : Seen) (work : List Work) (stmts body : List TypedStmt) (count : ℕ) (exit : Exit)
-      (step : Step) (after : Seen) (later : List Work) (g : Frame) → stmts ≡ body →
-      Passes before middle (λ n s. block_acts program n f stmts tt s)
-      (λ n s. block_acts program n f (drop count stmts) tt s) →
-      Passes middle middle (λ n s. block_acts program n f (take (length stmts - count) (drop count stmts)) tt s)
+  pub left_behind : (before middle : Seen) (work : List Work) (stmts body : List TypedStmt) (at : Position)
+      (exit : Exit) (step : Step) (after : Seen) (later : List Work) (g : Frame) → stmts ≡ body → at.part.now ≡ [] →
+      Passes before middle (λ n. block_acts program n f stmts tt) (left_at program f stmts (Some at)) →
+      Passes middle middle
+      (λ n s. block_acts program n f (take (length stmts - at.count) (drop at.count stmts)) tt s)
       (λ n s. leave exit tt s) →
       Steps program middle work f (λ n s. leave exit tt s) step after later g →
       Steps program before work f (λ n s. block_acts program n f body tt s) step after later g
-  left_behind before middle work stmts body count exit step after later g same h left k =
-      subst (λ xs. Steps program before work f (block_by xs) step after later g) same
-      (list_behind before middle work stmts count step after later g h
+  left_behind before middle work stmts body at exit step after later g same empty h left k =
+      rest_behind before middle work stmts body at step after later g same empty h
       (steps_behind program work f step after later g middle middle
-      (block_by (take (length stmts - count) (drop count stmts))) (λ n s. leave exit tt s) left k))
-
-  -- the function that called waits for the rest
-  pub rest_waits : (before middle : Seen) (work later : List Work) (stmts body : List TypedStmt) (count : ℕ)
-      (rest : Bor (List TypedStmt)) → stmts ≡ body → later ≡ work →
-      rest.now ≡ take (length stmts - count) (drop count stmts) →
-      Passes before middle (λ n s. block_acts program n f stmts tt s)
-      (λ n s. block_acts program n f (drop count stmts) tt s) →
-      Steps program before work f (λ n s. block_acts program n f body tt s) (Go (Run' rest)) middle later f
-  rest_waits before middle work later stmts body count rest is pushed same h =
-      subst (λ xs. Steps program before work f (block_by xs) (Go (Run' rest)) middle later f) is
-      (subst (λ ws. Steps program before work f (block_by stmts) (Go (Run' rest)) middle ws f) (sym pushed)
-      (list_behind before middle work stmts count (Go (Run' rest)) middle work f h
-      (steps_later program middle work f (Run' rest) (block_by (take (length stmts - count) (drop count stmts)))
-      (λ n s. ap (λ xs. block_by xs n s) (sym same)))))
+      (block_by (take (length stmts - at.count) (drop at.count stmts))) (λ n s. leave exit tt s) left k)
 
 -- the end of a run, whatever waits
 pub stops_anywhere : (program : ProgramTree) (before after : Seen) (work : List Work) (f : Frame) (p : Doing)

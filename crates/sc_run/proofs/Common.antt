@@ -61,10 +61,10 @@ pub use Rattle.sc_run.specs.Common.{cleared, given_back}
 pub use Rattle.sc_run.specs.Prelude.{Begun, CameTo, Comes, Doing, EndsAs, EntryAt, FoundAt, Passes, PassesIf, Seen}
 pub use Rattle.sc_run.specs.Prelude.{Standing, Stands, Steps, back_from, back_to, back_value, block_acts, block_for}
 pub use Rattle.sc_run.specs.Prelude.{bodies, body_acts, calls_in, cell_with, closes, does_now, ended_as, ended_so}
-pub use Rattle.sc_run.specs.Prelude.{entry_from, exit_of, function_in, in_body, kept_by, left_by, library, loop_acts}
-pub use Rattle.sc_run.specs.Prelude.{memory_of, next_acts, part_acts, result_goes, resume, returned, seen_of, stmt_acts}
-pub use Rattle.sc_run.specs.Prelude.{told_back, told_call, variable_count, way_in, with_exit, with_variables}
-pub use Rattle.sc_run.specs.Prelude.{word_crossing}
+pub use Rattle.sc_run.specs.Prelude.{entry_from, exit_of, function_in, in_body, in_round, kept_by, left_at, left_by}
+pub use Rattle.sc_run.specs.Prelude.{library, loop_acts, memory_of, next_acts, part_acts, result_goes, resume, returned}
+pub use Rattle.sc_run.specs.Prelude.{seen_of, stmt_acts, told_back, told_call, variable_count, way_in, with_exit}
+pub use Rattle.sc_run.specs.Prelude.{with_variables, word_crossing}
 pub use Rattle.sc_run.specs.declared.work.Now.{Now}
 pub use Rattle.sc_run.specs.declared.work.Now.TheVariants.{Leave, Run}
 pub use Rattle.sc_run.specs.declared.work.Step.{Step}

@@ -63,7 +63,7 @@ by_exit Continue s = refl
 by_exit (Return v) s = refl
 
 -- nothing follows the last statement
-alone : (p : Piece (Left (Unit {0}))) → follow in_order p (leave Next) ≡ p
+pub alone : (p : Piece (Left (Unit {0}))) → follow in_order p (leave Next) ≡ p
 alone (Reached left s) = by_exit left.exit s
 alone (Stopped end s) = refl
 

@@ -1,6 +1,8 @@
 -- Helping: what is done at once, and leaves nothing that waits.
-use Rattle.sc_run.specs.Common.{Frame, Left, Loop, Next, Piece, ProgramTree, State, TypedStmt, follow, in_loop, leave}
+use Rattle.sc_run.specs.Common.{Frame, Left, Loop, Next, Piece, ProgramTree, State, TypedStmt, follow, in_loop}
+use Rattle.sc_run.specs.Common.{in_order, leave}
 use Rattle.std.specs.Prelude.{◌≡◌, ℕ, ◌≤◌, Bool, true, false, List, drop, Option, None, Some}
+use Rattle.sc_run.specs.declared.work.Position.{Position}
 use Rattle.sc_run.specs.Seen.{Seen, seen_of}
 use Rattle.sc_run.specs.Resume.{block_acts, loop_acts, next_acts}
 
@@ -28,7 +30,15 @@ in_body program f l stmts n s =
     follow in_loop (block_acts program n f stmts tt s)
     (λ a s. follow in_loop (next_acts program n f l a s) (loop_acts program n f l))
 
--- a loop stands before a round, or in its body behind so many statements
-abbrev pub in_round : ProgramTree → Frame → Loop → Option ℕ → Doing
+-- what is left of statements, at a place in them or behind the last one
+abbrev pub left_at : ProgramTree → Frame → List TypedStmt → Option Position → Doing
+left_at program f stmts None n s = leave Next tt s
+left_at program f stmts (Some at) n s =
+    follow in_order (block_acts program n f at.part.now tt s) (block_acts program n f (drop at.count stmts))
+
+-- a loop stands before a round, or at a place in its body
+abbrev pub in_round : ProgramTree → Frame → Loop → Option Position → Doing
 in_round program f l None n s = loop_acts program n f l tt s
-in_round program f l (Some count) n s = in_body program f l (drop count l.body.now) n s
+in_round program f l (Some at) n s =
+    follow in_loop (left_at program f l.body.now (Some at) n s)
+    (λ a s. follow in_loop (next_acts program n f l a s) (loop_acts program n f l))

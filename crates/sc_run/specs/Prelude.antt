@@ -8,7 +8,7 @@ pub use Rattle.sc_core.specs.Prelude.{stored, struct_zeros, test, turn, values, 
 pub use Rattle.sc_core.specs.Prelude.{zeros_of}
 pub use Rattle.sc_blocks.specs.Rows.{memory_of}
 pub use Rattle.sc_value.specs.Prelude.{here_of}
-pub use Rattle.sc_run.specs.Ahead.{Doing, Passes, PassesIf, ended_so, in_body, in_round}
+pub use Rattle.sc_run.specs.Ahead.{Doing, Passes, PassesIf, ended_so, in_body, in_round, left_at}
 pub use Rattle.sc_run.specs.Comes.{CameTo, Comes, with_exit}
 pub use Rattle.sc_run.specs.Entering.{Begun, back_from, block_for, body_acts, entry_from, told_call, with_variables}
 pub use Rattle.sc_run.specs.Finding.{EntryAt, FoundAt}

@@ -7,7 +7,8 @@ ghost use Rattle.std.specs.Prelude.{◌≡◌, ◌<◌, ◌^◌, ◌++◌, [], �
 
 use crate::leaves::return_to;
 use crate::machine::{Machine, init_all, make_blocks, store_at, take_turn, tell};
-use crate::plain::{done_first, left_at_once};
+use crate::plain::{done_first, exit_at_once};
+use crate::steps::go_on;
 use crate::work::{Callee, Frame, Leaving, Now, Run, Step, To, Work};
 use sc_base::OutOfMemory;
 use sc_core::{ProgramTree, Value};
@@ -157,15 +158,19 @@ fn run_body<'a>(
         (kept_by run.new.machine) run.new.work.items run.new.frame) }
 {
     let stmts = next.function.body.as_slice();
-    let count = done_first(program, &mut run.machine, next, stmts);
-    let rest = &stmts[count..];
     let caller = run.frame;
     run.frame = *next;
-    match left_at_once(program, &run.machine, &run.frame, rest) {
-        Some(exit) => return_to(program, run, &caller, to, crossing, exit),
-        None => {
+    match done_first(program, &mut run.machine, &run.frame, stmts) {
+        None => return_to(program, run, &caller, to, crossing, Leaving::Next),
+        Some(at) => {
+            if at.part.is_empty() {
+                let rest = &stmts[at.count..];
+                if let Some(exit) = exit_at_once(program, &run.machine, &run.frame, rest) {
+                    return return_to(program, run, &caller, to, crossing, exit);
+                }
+            }
             run.work.push(Work::Caller(caller, to, crossing))?;
-            Ok(Step::Go(Now::Run(rest)))
+            go_on(program, run, stmts, at)
         }
     }
 }

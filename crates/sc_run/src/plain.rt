@@ -1,15 +1,16 @@
 //! Statements that are done at once, without anything that waits: where one isn't, the steps of `steps` do it.
 
 ghost use Rattle.sc_run.specs.Prelude.{Passes, PassesIf, assign, block_acts, c_arith, calls_in, ended_so, exit_of};
-ghost use Rattle.sc_run.specs.Prelude.{here_of, in_body, in_round, kept_by, leave, loop_acts, next_acts, simple_does};
-ghost use Rattle.sc_run.specs.Prelude.{stmt_acts, way_in};
-ghost use Rattle.std.specs.Prelude.{◌≡◌, ◌≤◌, ◌∷◌, IfSome, List, drop, length, suc, true};
+ghost use Rattle.sc_run.specs.Prelude.{here_of, in_body, in_round, kept_by, leave, left_at, loop_acts, next_acts};
+ghost use Rattle.sc_run.specs.Prelude.{simple_does, stmt_acts, way_in};
+ghost use Rattle.std.specs.Prelude.{◌≡◌, ◌≤◌, ◌∷◌, IfSome, List, MatchOption, drop, length, suc, true};
 
 use crate::machine::Machine;
-use crate::work::{Frame, Leaving, Loop};
+use crate::work::{Frame, Leaving, Loop, Position};
 use sc_core::{
     ProgramTree, TypedExpr, TypedSimple, TypedSimpleKind, TypedStmt, TypedStmtKind, Want,
 };
+use sc_value::is_true;
 
 // An assignment that meets no cause of blame, or nothing.
 #[inline(always)]
@@ -42,8 +43,8 @@ fn is_done(program: &ProgramTree, machine: &mut Machine, frame: &Frame, stmt: &T
     }
 }
 
-/// How many of the first statements were done at once.
-pub fn done_first(
+// How many of the first statements were done at once, of those that choose nothing.
+fn done_plainly(
     program: &ProgramTree,
     machine: &mut Machine,
     frame: &Frame,
@@ -62,9 +63,89 @@ pub fn done_first(
     stmts.len()
 }
 
+// The statements that a condition chooses, where it is known.
+fn chosen<'a>(
+    program: &'a ProgramTree,
+    machine: &Machine,
+    frame: &Frame,
+    stmt: &'a TypedStmt,
+) -> Option<&'a [TypedStmt]>
+    ensures { IfSome result (λ part. Passes (kept_by machine.now) (kept_by machine.now)
+        (λ n. stmt_acts program.now n frame.now stmt.now tt) (λ n. block_acts program.now n frame.now part.now tt)) }
+{
+    match &stmt.kind {
+        TypedStmtKind::If {
+            cond,
+            then_part,
+            else_part,
+        } => match sc_value::evaluate(&machine.blocks, &frame.scope, Want::Value, cond) {
+            Ok(value) => {
+                if is_true(value) {
+                    return Some(then_part.as_slice());
+                }
+                Some(else_part.as_slice())
+            }
+            Err(_) => None,
+        },
+        _ => None,
+    }
+}
+
+// What is left of a statement once what of it is done at once was done. None where nothing is.
+#[inline(always)]
+fn left_of<'a>(
+    program: &'a ProgramTree,
+    machine: &mut Machine,
+    frame: &Frame,
+    stmt: &'a TypedStmt,
+) -> Option<&'a [TypedStmt]>
+    ensures { MatchOption result (kept_by machine.new ≡ kept_by machine.old)
+        (λ rest. Passes (kept_by machine.old) (kept_by machine.new)
+        (λ n. stmt_acts program.now n frame.now stmt.now tt) (λ n. block_acts program.now n frame.now rest.now tt)) }
+{
+    if is_done(program, machine, frame, stmt) {
+        return Some(&[]);
+    }
+    let part = chosen(program, machine, frame, stmt)?;
+    let count = done_plainly(program, machine, frame, part);
+    Some(&part[count..])
+}
+
+/// Does at once what it can of statements: where that stopped, if not behind the last one.
+pub fn done_first<'a>(
+    program: &'a ProgramTree,
+    machine: &mut Machine,
+    frame: &Frame,
+    stmts: &'a [TypedStmt],
+) -> Option<Position<'a>>
+    ensures within { IfSome result (λ at. at.count ≤ length stmts.now) }
+    ensures passes { Passes (kept_by machine.old) (kept_by machine.new)
+        (λ n. block_acts program.now n frame.now stmts.now tt) (left_at program.now frame.now stmts.now result) }
+{
+    for at in 0..stmts.len() {
+        match left_of(program, machine, frame, &stmts[at]) {
+            None => {
+                return Some(Position {
+                    part: &[],
+                    count: at,
+                });
+            }
+            Some(part) => {
+                if !part.is_empty() {
+                    return Some(Position {
+                        part,
+                        count: at + 1,
+                    });
+                }
+            }
+        }
+    }
+    None
+}
+
 // How control leaves a function by a statement, where that is known.
 #[inline(always)]
-fn left_by(
+fn exit_by(
     program: &ProgramTree,
     machine: &Machine,
     frame: &Frame,
@@ -86,7 +167,7 @@ fn left_by(
 }
 
 /// How control leaves the last statements of a function, where that is known at once.
-pub fn left_at_once(
+pub fn exit_at_once(
     program: &ProgramTree,
     machine: &Machine,
     frame: &Frame,
@@ -97,7 +178,7 @@ pub fn left_at_once(
 {
     match stmts {
         [] => Some(Leaving::Next),
-        [stmt, ..] => left_by(program, machine, frame, stmt),
+        [stmt, ..] => exit_by(program, machine, frame, stmt),
     }
 }
 
@@ -155,25 +236,27 @@ fn is_begun(program: &ProgramTree, machine: &mut Machine, frame: &Frame, whole: 
     true
 }
 
-/// As many rounds of a loop as are done at once: how many statements of the body were done in a round that isn't, or
-/// none where the loop stands before a round.
-pub fn done_rounds(
-    program: &ProgramTree,
+/// As many rounds of a loop as are done at once: where that stopped in the body of a round, or none where the loop
+/// stands before a round.
+pub fn done_rounds<'a>(
+    program: &'a ProgramTree,
     machine: &mut Machine,
     frame: &Frame,
-    whole: &Loop,
-) -> Option<usize>
-    ensures within { IfSome result (λ count. count ≤ length whole.now.body.now) }
+    whole: &Loop<'a>,
+) -> Option<Position<'a>>
+    ensures within { IfSome result (λ at. at.count ≤ length whole.now.body.now) }
     ensures passes { Passes (kept_by machine.old) (kept_by machine.new)
         (λ n. loop_acts program.now n frame.now whole.now tt) (in_round program.now frame.now whole.now result) }
 {
     while is_begun(program, machine, frame, whole) {
-        let count = done_first(program, machine, frame, whole.body);
-        if count < whole.body.len() {
-            return Some(count);
+        if let Some(at) = done_first(program, machine, frame, whole.body) {
+            return Some(at);
         }
         if !is_next_done(program, machine, frame, whole) {
-            return Some(count);
+            return Some(Position {
+                part: &[],
+                count: whole.body.len(),
+            });
         }
     }
     None

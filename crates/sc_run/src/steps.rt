@@ -1,14 +1,15 @@
 //! Statements, one step at a time.
 
 ghost use Rattle.sc_run.specs.Prelude.{Advances, Next, Return, and_then, block_acts, choose, evaluated, follow};
-ghost use Rattle.sc_run.specs.Prelude.{here_of, in_order, leave, loop, loop_acts, part_acts, stmt_acts, test, way_in};
-ghost use Rattle.std.specs.Prelude.{IfOk, Some};
+ghost use Rattle.sc_run.specs.Prelude.{here_of, in_order, leave, left_at, loop, loop_acts, part_acts, stmt_acts, test};
+ghost use Rattle.sc_run.specs.Prelude.{way_in};
+ghost use Rattle.std.specs.Prelude.{◌≤◌, IfOk, Some, length};
 ghost use Rattle.sc_core.specs.declared.value.Want.TheVariants as want;
 
 use crate::machine::{evaluated, take_turn};
 use crate::plain::{done_first, done_rounds};
 use crate::simple::{assigned, call, simple};
-use crate::work::{Leaving, Loop, Now, Run, Step, To, Work};
+use crate::work::{Leaving, Loop, Now, Position, Run, Step, To, Work};
 use sc_base::OutOfMemory;
 use sc_core::{ProgramTree, TypedExpr, TypedSimple, TypedStmt, TypedStmtKind, Want};
 use sc_value::is_true;
@@ -71,6 +72,28 @@ fn begin_round<'a>(
     }
 }
 
+/// Statements from a place in them. Those behind a part wait for it, if there are any.
+pub fn go_on<'a>(
+    program: &'a ProgramTree,
+    run: &mut Run<'a, '_>,
+    stmts: &'a [TypedStmt],
+    at: Position<'a>,
+) -> Result<Step<'a>, OutOfMemory>
+    requires { at.count ≤ length stmts.now }
+    ensures { IfOk result (λ step. Advances program.now run.old
+        (left_at program.now run.old.frame stmts.now (Some at.entry)) step run.new) }
+{
+    let rest = &stmts[at.count..];
+    if at.part.is_empty() {
+        return Ok(Step::Go(Now::Run(rest)));
+    }
+    if rest.is_empty() {
+        return Ok(Step::Go(Now::Run(at.part)));
+    }
+    run.work.push(Work::Rest(rest))?;
+    Ok(Step::Go(Now::Run(at.part)))
+}
+
 /// A loop from here.
 pub fn round<'a>(
     program: &'a ProgramTree,
@@ -82,9 +105,9 @@ pub fn round<'a>(
 {
     match done_rounds(program, &mut run.machine, &run.frame, whole) {
         None => begin_round(program, run, whole),
-        Some(count) => {
+        Some(at) => {
             run.work.push(Work::Body(*whole))?;
-            Ok(Step::Go(Now::Run(&whole.body[count..])))
+            go_on(program, run, whole.body, at)
         }
     }
 }
@@ -239,6 +262,13 @@ pub fn run_list<'a>(
     ensures { IfOk result (λ step. Advances program.now run.old
         (λ n s. block_acts program.now n run.old.frame stmts.now tt s) step run.new) }
 {
-    let count = done_first(program, &mut run.machine, &run.frame, stmts);
-    run_first(program, run, &stmts[count..])
+    match done_first(program, &mut run.machine, &run.frame, stmts) {
+        None => Ok(Step::Go(Now::Leave(Leaving::Next))),
+        Some(at) => {
+            if at.part.is_empty() {
+                return run_first(program, run, &stmts[at.count..]);
+            }
+            go_on(program, run, stmts, at)
+        }
+    }
 }

@@ -30,6 +30,13 @@ pub struct Loop<'a> {
     pub line: u32,
 }
 
+/// A place in statements: in the part of one that was chosen, or in no part, and before the others from a number on.
+#[derive(Clone, Copy)]
+pub struct Position<'a> {
+    pub part: &'a [TypedStmt],
+    pub count: usize,
+}
+
 /// What is done with the result of a call.
 #[derive(Clone, Copy)]
 pub enum To<'a> {

@@ -1,19 +1,26 @@
-use Rattle.sc_run.proofs.Common.{IfOk-weaker, exit_of, kept_by, refl}
-use Rattle.sc_run.proofs.Ahead.{left_behind, rest_waits}
+use Rattle.sc_run.proofs.Common.{IfOk-weaker, None, exit_of, kept_by}
+use Rattle.sc_run.proofs.Ahead.{at_behind, caller_behind, left_behind, none_in}
 use Rattle.sc_run.proofs.calls.run_body.Goals as goal
 
-pub returns-in-Some : goal.returns-in-Some
-returns-in-Some c =
-    IfOk-weaker c.return_to.result _ _ (λ step h. left_behind c.args.program.now c.args.next.now
-    (kept_by c.args.run.now.machine) (kept_by c.done_first-count.new.machine) _
-    c.as_slice-stmts.result.now c.args.next.now.function.now.body c.done_first-count.result (exit_of c.in-Some.exit)
-    step _ _ _ c.as_slice-stmts.ensures
-    c.done_first-count.ensures.passes c.in-Some.ensures h) c.return_to.ensures
+pub returns-in-None : goal.returns-in-None
+returns-in-None c =
+    IfOk-weaker c.return_to.result _ _ (λ step h. at_behind c.args.program.now c.args.next.now
+    (kept_by c.args.run.now.machine) (kept_by c.done_first.new.machine) _
+    c.as_slice-stmts.result.now c.args.next.now.function.now.body None step _ _ _ c.as_slice-stmts.ensures
+    c.in-None.ensures.passes h) c.return_to.ensures
 
-pub returns-in_ok-push-in-None : goal.returns-in_ok-push-in-None
-returns-in_ok-push-in-None c =
-    rest_waits c.args.program.now c.args.next.now
-    (kept_by c.args.run.now.machine) (kept_by c.done_first-count.new.machine) _ _
-    c.as_slice-stmts.result.now c.args.next.now.function.now.body c.done_first-count.result _ c.as_slice-stmts.ensures
-    c.in_ok-push-in-None.ensures.items refl
-    c.done_first-count.ensures.passes
+pub returns-in-Some-exit_at_once : goal.returns-in-Some-exit_at_once
+returns-in-Some-exit_at_once c =
+    IfOk-weaker c.return_to-in-Some-exit_at_once.result _ _ (λ step h. left_behind c.args.program.now c.args.next.now
+    (kept_by c.args.run.now.machine) (kept_by c.done_first.new.machine) _
+    c.as_slice-stmts.result.now c.args.next.now.function.now.body c.in-Some.at (exit_of c.in-Some-exit_at_once.exit)
+    step _ _ _ c.as_slice-stmts.ensures
+    (none_in c.in-Some.at.part.now c.is_empty.result c.is_empty.ensures c.if-is_empty.true)
+    c.in-Some.ensures.passes c.in-Some-exit_at_once.ensures h) c.return_to-in-Some-exit_at_once.ensures
+
+pub returns-in_ok-push-in-Some : goal.returns-in_ok-push-in-Some
+returns-in_ok-push-in-Some c =
+    IfOk-weaker c.go_on.result _ _ (λ step h. caller_behind c.args.program.now c.args.next.now
+    (kept_by c.args.run.now.machine) (kept_by c.done_first.new.machine) _ c.push.new.self.items
+    c.as_slice-stmts.result.now c.args.next.now.function.now.body c.in-Some.at step _ _ _ c.as_slice-stmts.ensures
+    c.in_ok-push-in-Some.ensures.items c.in-Some.ensures.passes h) c.go_on.ensures

@@ -1,4 +1,4 @@
-use Rattle.sc_run.proofs.Common.{Caller, IfOk-weaker, Left, Next, [], all_do, block_acts, c_arith, here_of, in_order}
+use Rattle.sc_run.proofs.Common.{Caller, IfOk-weaker, Next, [], all_do, block_acts, c_arith, here_of, in_order}
 use Rattle.sc_run.proofs.Common.{inits_do, kept_by, ◌++◌, ◌∷◌}
 use Rattle.sc_core.specs.Prelude.{take}
 use Rattle.sc_run.proofs.Ahead.{stops_anywhere}
@@ -11,8 +11,8 @@ returns-in-Ok c =
     let f = c.args.next.now in
     let program = c.args.program.now in
     IfOk-weaker c.run_body.result _ _ (λ step h. steps_on program (kept_by c.args.run.now.machine) _ f
-    (kept_by c.init_all.new.machine) _ (record { exit = Next; carried = tt }) (all_do (inits_do c_arith f.scope.structs.now
-    (here_of f.scope) f.scope.params 0 f.function.now.locals) tt)
+    (kept_by c.init_all.new.machine) _ (record { exit = Next; carried = tt })
+    (all_do (inits_do c_arith f.scope.structs.now (here_of f.scope) f.scope.params 0 f.function.now.locals) tt)
     (λ n left s. take (in_order left.exit) (block_acts program n f f.function.now.body) left.carried s)
     step _ _ c.in-Ok.ensures h) c.run_body.ensures
 

@@ -1,5 +1,5 @@
 use Rattle.sc_run.proofs.Common.{IfOk-weaker, kept_by, loop_acts}
-use Rattle.sc_run.proofs.Ahead.{left_in_body, rest_at, steps_behind}
+use Rattle.sc_run.proofs.Ahead.{left_in_body, steps_behind}
 use Rattle.sc_run.proofs.steps.round.Goals as goal
 
 pub returns-in-None : goal.returns-in-None
@@ -12,6 +12,6 @@ returns-in-None c =
 
 pub returns-in_ok-push-in-Some : goal.returns-in_ok-push-in-Some
 returns-in_ok-push-in-Some c =
-    left_in_body c.args.program.now c.args.run.now.frame c.args.whole.now (kept_by c.args.run.now.machine)
-    (kept_by c.done_rounds.new.machine) c.args.run.now.work.items c.push.new.self.items c.in-Some.count _
-    c.in-Some.ensures.passes (rest_at c.in-Some.count c.args.whole.now.body.now) c.in_ok-push-in-Some.ensures.items
+    IfOk-weaker c.go_on.result _ _ (λ step h. left_in_body c.args.program.now c.args.run.now.frame c.args.whole.now
+    (kept_by c.args.run.now.machine) (kept_by c.done_rounds.new.machine) c.args.run.now.work.items c.push.new.self.items
+    c.in-Some.at step _ _ _ c.in-Some.ensures.passes c.in_ok-push-in-Some.ensures.items h) c.go_on.ensures

@@ -31,11 +31,11 @@ pub returns-after-leaf-4 : goal.returns-after-leaf-4
 returns-after-leaf-4 t c =
     let s = c.args.scope.now in
     let same = word_same s.structs.now (here_of s) s.params in
-    IfSome_then c.element_word.result c.element_word.ensures (λ found h. element_known s.structs.now (here_of s) s.params
-    c.args.expr.now c.in-Index.base c.in-Index.index c.get-in-Index-3.result.now c.get-in-Index-4.result.now
+    IfSome_then c.element_word.result c.element_word.ensures (λ found h. element_known s.structs.now (here_of s)
+    s.params c.args.expr.now c.in-Index.base c.in-Index.index c.get-in-Index-3.result.now c.get-in-Index-4.result.now
     c.args.row.now _ (Word c.match-leaf-4.word) (Word found) c.get-in-Index-3.ensures c.get-in-Index-4.ensures
-    (ap (λ e. ways c_arith s.structs.now (here_of s) s.params e want.Value c.args.row.now) (sym c.get-in-Index.ensures)
-    ∙ c.in_ok-block-in-Index.ensures c.args.row.now)
+    (ap (λ e. ways c_arith s.structs.now (here_of s) s.params e want.Value c.args.row.now)
+    (sym c.get-in-Index.ensures) ∙ c.in_ok-block-in-Index.ensures c.args.row.now)
     (elim c.match-leaf-4.branch [
       | in-Some-leaf-3 w ↦ same _ _ _ _ _ c.get-in-Index-2.ensures w.word-is w.in-Some-leaf-3.ensures
       | in-None-leaf-3+in_ok-word-in-None-leaf-3 w ↦ same _ _ _ _ _ w.get-in-None-leaf-3.ensures w.word-is
