@@ -10,7 +10,6 @@ use Rattle.sc_run.proofs.Common.{next_acts, option_copied, part_acts, refl, resu
 use Rattle.sc_run.proofs.Common.{seen_of, simple_does, stmt_acts, store_at, stored, subst, suc, sym, take, take_all}
 use Rattle.sc_run.proofs.Common.{true, turn, way_in, with_exit, ℕ, ◌++◌, ◌+◌, ◌-◌, ◌<◌, ◌==◌, ◌∙◌, ◌∷◌, ◌≡◌, ◌≤◌}
 use Rattle.sc_run.specs.declared.work.Position.{Position}
-use Rattle.sc_run.specs.declared.work.Leaving.TheVariants as leaving
 use Rattle.sc_core.specs.declared.stmt.TypedStmtKind.TheOpen as layer
 use Rattle.sc_core.specs.declared.stmt.TypedSimpleKind.TheVariants as simple
 use Rattle.sc_core.specs.declared.value.Want.TheVariants as want
