@@ -12,7 +12,9 @@ use crate::table::{
     AUIPC, BRANCH, EBREAK_WORD, ECALL_WORD, FENCE, JAL, JALR, LOAD, LUI, OP, OP_IMM, STORE,
 };
 
-/// The instruction of a word, if the word is one of RV32IM.
+/// The instruction of a word, if the word is one of RV32IM. It stands in the loop that decodes, so that no instruction is
+/// built there in memory.
+#[inline(always)]
 pub fn decode(word: u32) -> Option<Instr>
     ensures same { result ≡ decoded word }
     ensures found { IfSome result (λ instr. HasWord instr word) }
@@ -21,6 +23,7 @@ pub fn decode(word: u32) -> Option<Instr>
     decode_by_opcode(word)
 }
 
+#[inline(always)]
 #[tactic(auto, unfolding(crate::specs::Decoding::decoded))]
 fn decode_by_opcode(word: u32) -> Option<Instr>
     ensures { result ≡ decoded word }
@@ -40,6 +43,7 @@ fn decode_by_opcode(word: u32) -> Option<Instr>
     }
 }
 
+#[inline(always)]
 fn upper(op: UpperOp, word: u32) -> Instr
     ensures { result ≡ Instr.Upper op (rd_of word) (u_imm_of word) }
 {
@@ -50,6 +54,7 @@ fn upper(op: UpperOp, word: u32) -> Instr
     }
 }
 
+#[inline(always)]
 fn jal(word: u32) -> Instr
     ensures { result ≡ Instr.Jal (rd_of word) (j_imm_of word) }
 {
@@ -59,6 +64,7 @@ fn jal(word: u32) -> Instr
     }
 }
 
+#[inline(always)]
 #[tactic(auto, unfolding(crate::specs::Decoding::jalr_in))]
 fn jalr(word: u32) -> Option<Instr>
     ensures { result ≡ jalr_in word }
@@ -73,6 +79,7 @@ fn jalr(word: u32) -> Option<Instr>
     })
 }
 
+#[inline(always)]
 #[tactic(auto, unfolding(crate::specs::Decoding::branch_in))]
 fn branch(word: u32) -> Option<Instr>
     ensures { result ≡ branch_in word }
@@ -86,6 +93,7 @@ fn branch(word: u32) -> Option<Instr>
     })
 }
 
+#[inline(always)]
 #[tactic(auto, unfolding(crate::specs::Decoding::load_in))]
 fn load(word: u32) -> Option<Instr>
     ensures { result ≡ load_in word }
@@ -99,6 +107,7 @@ fn load(word: u32) -> Option<Instr>
     })
 }
 
+#[inline(always)]
 #[tactic(auto, unfolding(crate::specs::Decoding::store_in))]
 fn store(word: u32) -> Option<Instr>
     ensures { result ≡ store_in word }
@@ -112,6 +121,7 @@ fn store(word: u32) -> Option<Instr>
     })
 }
 
+#[inline(always)]
 #[tactic(auto, unfolding(crate::specs::Decoding::op_imm_in))]
 fn op_imm(word: u32) -> Option<Instr>
     ensures { result ≡ op_imm_in word }
@@ -127,6 +137,7 @@ fn op_imm(word: u32) -> Option<Instr>
     })
 }
 
+#[inline(always)]
 #[tactic(auto, unfolding(crate::specs::Decoding::shift_in))]
 fn shift(word: u32) -> Option<Instr>
     ensures { result ≡ shift_in word }
@@ -140,6 +151,7 @@ fn shift(word: u32) -> Option<Instr>
     })
 }
 
+#[inline(always)]
 #[tactic(auto, unfolding(crate::specs::Decoding::op_in))]
 fn op(word: u32) -> Option<Instr>
     ensures { result ≡ op_in word }
@@ -153,6 +165,7 @@ fn op(word: u32) -> Option<Instr>
     })
 }
 
+#[inline(always)]
 #[tactic(auto, unfolding(crate::specs::Decoding::fence_in))]
 fn fence(word: u32) -> Option<Instr>
     ensures { result ≡ fence_in word }
@@ -167,6 +180,7 @@ fn fence(word: u32) -> Option<Instr>
     })
 }
 
+#[inline(always)]
 #[tactic(auto, unfolding(crate::specs::Decoding::system_in))]
 fn system(word: u32) -> Option<Instr>
     ensures { result ≡ system_in word }

@@ -61,6 +61,7 @@ impl BranchOp {
     }
 
     /// The operation with that code, if there is one.
+    #[inline(always)]
     #[tactic(auto, unfolding(crate::specs::Decoding::branch_op_of))]
     pub(crate) fn from_funct3(funct3: u32) -> Option<BranchOp>
         ensures { result ≡ branch_op_of funct3 }
@@ -92,6 +93,7 @@ impl LoadOp {
     }
 
     /// The operation with that code, if there is one.
+    #[inline(always)]
     #[tactic(auto, unfolding(crate::specs::Decoding::load_op_of))]
     pub(crate) fn from_funct3(funct3: u32) -> Option<LoadOp>
         ensures { result ≡ load_op_of funct3 }
@@ -120,6 +122,7 @@ impl StoreOp {
     }
 
     /// The operation with that code, if there is one.
+    #[inline(always)]
     #[tactic(auto, unfolding(crate::specs::Decoding::store_op_of))]
     pub(crate) fn from_funct3(funct3: u32) -> Option<StoreOp>
         ensures { result ≡ store_op_of funct3 }
@@ -149,6 +152,7 @@ impl OpImmOp {
     }
 
     /// The operation with that code, if there is one.
+    #[inline(always)]
     #[tactic(auto, unfolding(crate::specs::Decoding::op_imm_op_of))]
     pub(crate) fn from_funct3(funct3: u32) -> Option<OpImmOp>
         ensures { result ≡ op_imm_op_of funct3 }
@@ -189,6 +193,7 @@ impl ShiftOp {
     }
 
     /// The operation with those codes, if there is one.
+    #[inline(always)]
     #[tactic(auto, unfolding(crate::specs::Decoding::shift_op_of))]
     pub(crate) fn from_codes(funct7: u32, funct3: u32) -> Option<ShiftOp>
         ensures { result ≡ shift_op_of funct7 funct3 }
@@ -248,6 +253,7 @@ impl OpOp {
     }
 
     /// The operation with those codes, if there is one.
+    #[inline(always)]
     #[tactic(auto, unfolding(crate::specs::Decoding::op_op_of))]
     pub(crate) fn from_codes(funct7: u32, funct3: u32) -> Option<OpOp>
         ensures { result ≡ op_op_of funct7 funct3 }

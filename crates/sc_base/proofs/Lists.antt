@@ -1,15 +1,52 @@
--- Lists: an element at the end of the first part, one step of a loop, the first or the only one that passes, and maps.
-use Rattle.sc_base.proofs.Common.{Bool, List, None, Some, [], add-one, and_from, and_parts, ap, arith, cases_lt, cond}
-use Rattle.sc_base.proofs.Common.{drop, drop-cons, false, find, get_or, if◌then◌else◌, length, list_all, lt-ltb, ltb}
-use Rattle.sc_base.proofs.Common.{map, nat_lt, not, position, position_or_len, refl, slice_get, suc, sym, take}
-use Rattle.sc_base.proofs.Common.{take_more, true, ℕ, ⊎_elim, ◌++◌, ◌+◌, ◌<◌, ◌∙◌, ◌∷◌, ◌≡◌, ◌≤◌}
+-- Lists: elements at their places, fronts and rests, one step of a loop, the first or the only one that passes, and maps.
+use Rattle.sc_base.proofs.Common.{All, Bool, List, None, Some, [], add-one, and_from, and_parts, ap, arith, cases_lt}
+use Rattle.sc_base.proofs.Common.{cond, drop, drop-cons, false, find, get_or, if◌then◌else◌, length, list_all, lt-ltb}
+use Rattle.sc_base.proofs.Common.{ltb, map, nat_lt, not, position, position_or_len, refl, slice_get, subst, suc, sym}
+use Rattle.sc_base.proofs.Common.{take, take_more, true, zero, ℕ, ⊎_elim, ◌++◌, ◌+◌, ◌<◌, ◌∙◌, ◌∷◌, ◌≡◌, ◌≤◌}
 use Rattle.std.specs.Option.{option_map}
 use Rattle.std.proofs.lemmas.List.Sums.{passes_at_first, fails_before_first}
+use Rattle.std.proofs.lemmas.Option.{get_or_from_slice_get, slice_get-get_or, slice_get_within}
 
 -- the element behind a first part
 pub get_behind : {A : Type 0} (xs : List A) (y : A) (ys : List A) → slice_get (xs ++ y ∷ ys) (length xs) ≡ Some y
 get_behind [] y ys = refl
 get_behind (x ∷ xs) y ys = get_behind xs y ys
+
+-- what stands at a number below the length
+pub is_there : {A : Type 0} (xs : List A) (i : ℕ) → i < length xs → (x : A) × (slice_get xs i ≡ Some x)
+is_there [] i h = absurd (omega arith)
+is_there (x ∷ xs) zero h = (x, refl)
+is_there (x ∷ xs) (suc i) h = is_there xs i (omega arith)
+
+-- an element of the first of two lists in a row
+pub get_front : {A : Type 0} (xs ys : List A) (i : ℕ) → i < length xs → slice_get (xs ++ ys) i ≡ slice_get xs i
+get_front [] ys i h = absurd (omega arith)
+get_front (x ∷ xs) ys zero h = refl
+get_front (x ∷ xs) ys (suc i) h = get_front xs ys i (omega arith)
+
+-- what holds of all holds at each place, and what holds at each place holds of all
+pub all_at : {A : Type 0} (P : A → Type 0) (xs : List A) (i : ℕ) (x : A) → All P xs → slice_get xs i ≡ Some x → P x
+all_at P xs i x all e = subst P (get_or_from_slice_get xs i x x e) (all i x (slice_get_within xs i x e))
+
+pub all_by : {A : Type 0} (P : A → Type 0) (xs : List A) → ((i : ℕ) (x : A) → slice_get xs i ≡ Some x → P x) → All P xs
+all_by P xs h = λ i d within. h i (get_or xs i d) (slice_get-get_or xs i d within)
+
+-- as many elements as a list has, or more
+pub take_all : {A : Type 0} (n : ℕ) (xs : List A) → length xs ≤ n → take n xs ≡ xs
+take_all zero [] h = refl
+take_all (suc n) [] h = refl
+take_all zero (x ∷ xs) h = absurd (omega arith)
+take_all (suc n) (x ∷ xs) h = ap (λ rest. x ∷ rest) (take_all n xs (omega arith))
+
+pub take_front : {A : Type 0} (xs ys : List A) → take (length xs) (xs ++ ys) ≡ xs
+take_front [] ys = refl
+take_front (x ∷ xs) ys = ap (λ rest. x ∷ rest) (take_front xs ys)
+
+pub drop_next : {A : Type 0} (xs : List A) (i : ℕ) → drop 1 (drop i xs) ≡ drop (suc i) xs
+drop_next [] zero = refl
+drop_next [] (suc i) = refl
+drop_next (x ∷ xs) zero = refl
+drop_next (x ∷ xs) (suc i) = drop_next xs i
 
 -- one step of a loop over a list: what is left, and what was
 pub drop-step : {A : Type 0} (xs : List A) (i : ℕ) (x : A) → i < length xs → x ≡ get_or xs i x →
@@ -69,6 +106,14 @@ position-cons p x xs = by (p x) where
   by false =
       ap (λ k. cond (ltb k (suc (length xs))) (Some k) None) (one_more (position_or_len p xs))
       ∙ within_suc (position_or_len p xs) (length xs)
+
+pub position_map : {A B : Type 0} (f : A → B) (p : B → Bool) (xs : List A) →
+    position p (map f xs) ≡ position (λ x. p (f x)) xs
+position_map f p [] = refl
+position_map f p (x ∷ xs) =
+    position-cons p (f x) (map f xs)
+    ∙ ap (λ o. cond (p (f x)) (Some 0) (option_map suc o)) (position_map f p xs)
+    ∙ sym (position-cons (λ x. p (f x)) x xs)
 
 not_both : (b : Bool) → b ≡ true → b ≡ false → ⊥
 not_both b holds fails = let never : true ≡ false = sym holds ∙ fails in cc never
