@@ -1,9 +1,9 @@
 -- The names that several proofs of this crate cite, passed on from one place. Declares nothing.
 pub use Rattle.std.proofs.Common.{All, Bool, List, None, Ok, Option, Some, [], ap, append-nil, append_assoc, ap₂, arith}
-pub use Rattle.std.proofs.Common.{drop, eq-eqb, eqb-true, false, get_or, if◌then◌else◌, inl, inr, le-leb, leb-false}
-pub use Rattle.std.proofs.Common.{length, length-append, map, nat_le, ne_eqb, refl, rules, slice_get, slice_index_or}
-pub use Rattle.std.proofs.Common.{subst, suc, sym, take, take_all, true, zero, ℕ, ℤ, ⊎_elim, ◌++◌, ◌+◌, ◌-◌, ◌<◌, ◌==◌}
-pub use Rattle.std.proofs.Common.{◌^◌, ◌||◌, ◌∙◌, ◌∷◌, ◌≡◌, ◌≤◌, ◌⊎◌}
+pub use Rattle.std.proofs.Common.{drop, eq-eqb, eqb-true, false, get_or, if◌then◌else◌, inl, inr, le-leb, length}
+pub use Rattle.std.proofs.Common.{length-append, map, nat_le, ne_eqb, refl, rules, slice_get, slice_index_or, subst}
+pub use Rattle.std.proofs.Common.{suc, sym, take, take_all, true, zero, ℕ, ℤ, ⊎_elim, ◌++◌, ◌+◌, ◌-◌, ◌<◌, ◌==◌, ◌^◌}
+pub use Rattle.std.proofs.Common.{◌||◌, ◌∙◌, ◌∷◌, ◌≡◌, ◌≤◌, ◌⊎◌}
 pub use Rattle.std.proofs.lemmas.Bool.{cases_eq, cases_lt}
 pub use Rattle.std.proofs.lemmas.List.{at_drop_all, at_drop_more, get_or_read_under, length-map, map-append}
 pub use Rattle.std.proofs.lemmas.List.{take-append-le}
@@ -19,9 +19,8 @@ pub use Rattle.sc_core.specs.declared.run.SourceRun.{SourceRun}
 pub use Rattle.sc_types.specs.Prelude.{Accepts, AreLow, IsSource, IsSplitInto, IsTyped, SourceParts}
 pub use Rattle.sc_laws.proofs.ProgramLaws.{blamed_are_there, chain_exists, chain_is_least, chains_rise, empty_set}
 pub use Rattle.sc_laws.specs.Prelude.{AreFresh, IsBlamedOutside, IsLink, IsRising, Set, nobody, performed, with}
-pub use Rattle.sc_image.specs.Prelude.{Crossing, Goes, IsWellFormed, IsWord, Outcome, Run, State, Traps, a0, given_back}
-pub use Rattle.sc_image.specs.Prelude.{has_result, is_ended, machine, reg, returned, run, start, step}
-unfoldable pub use Rattle.sc_image.specs.Prelude.{stopped}
+pub use Rattle.sc_image.specs.Prelude.{Goes, IsWellFormed, IsWord, Outcome, Run, State, Traps, machine, run, start}
+pub use Rattle.sc_image.specs.Prelude.{step, stopped}
 pub use Rattle.sc_image.specs.declared.parts.ImageParts.{ImageParts}
 pub use Rattle.sc_linker.proofs.Compartments.{few_numbers, same_count}
 pub use Rattle.sc_compile.specs.Prelude.{IsCompiled, TellsOrBlames, image_of}

@@ -28,7 +28,7 @@ pub use Rattle.sc_elab_expr.specs.Prelude.{or_else, or_first_own, target_or, typ
 pub use Rattle.sc_elab_expr.specs.declared.callees.Callees.{Callees}
 pub use Rattle.sc_elab_expr.specs.declared.scope.FunctionScope.{FunctionScope}
 pub use Rattle.sc_elab_expr.specs.declared.scope.SectionScope.{SectionScope}
-pub use Rattle.sc_elab_stmt.proofs.Noted.{noted-all, noted-next, on_ok, two}
+pub use Rattle.sc_elab_stmt.proofs.Noted.{noted-all, noted-next, on_ok}
 pub use Rattle.sc_elab_stmt.specs.Prelude.{init_goes, stmt_lines, typed_stmt}
 unfoldable pub use Rattle.sc_elab_stmt.specs.Prelude.{stmt_in, value_in}
 pub use Rattle.sc_elab.specs.Common.{Decl, FunctionTree, HeadTree, Import, ImportLine, LocalTree, StructTree}

@@ -3,12 +3,13 @@ use Rattle.sc_elab.proofs.Common.{BrokenLines, ExprTree, FunctionScope, Function
 use Rattle.sc_elab.proofs.Common.{OnOk, Option, Result, SectionScope, SectionTree, Some, Stands, StandsIn, Suits, Ty}
 use Rattle.sc_elab.proofs.Common.{ap, concat, drop, drop-step, drop_all, function_lines, get_or, global_lines}
 use Rattle.sc_elab.proofs.Common.{init_fits, init_goes, init_holds, is_sized, length, local_holds, locals_from, map}
-use Rattle.sc_elab.proofs.Common.{on_ok, refl, result_of, scope_in, stmt_lines, subst, suc, sym, tags, two, type_of}
+use Rattle.sc_elab.proofs.Common.{on_ok, refl, result_of, scope_in, stmt_lines, subst, suc, sym, tags, type_of}
 use Rattle.sc_elab.proofs.Common.{typed_init, unless, visible, visible_in, with_lines, with_lines-append}
 use Rattle.sc_elab.proofs.Common.{with_lines-nil, ℕ, ◌&&◌, ◌++◌, ◌+◌, ◌<◌, ◌∙◌, ◌≡◌, ◌≤◌}
 use Rattle.sc_elab_expr.specs.Calls as calls
 use Rattle.sc_elab.proofs.Functions.{next_place, seen}
 use Rattle.sc_elab.proofs.Suiting.{suiting}
+use Rattle.sc_scope.proofs.Lines.{then}
 
 module _ (scope : SectionScope) (section : SectionTree) (stands : Stands scope section) where
   pub global_noted : (tree : GlobalTree) (a b : BrokenLines) →
@@ -75,7 +76,7 @@ module _ (scope : SectionScope) (section : SectionTree) (stands : Stands scope s
         (scope_in section tree) function.result) tree.body))) →
         OnOk r (c ≡ with_lines a (function_lines section callees tree))
     function_noted r function within a b c first =
-        on_ok r (λ second. two a b c (locals_from section callees tree 0 tree.locals)
+        on_ok r (λ second. then a b c (locals_from section callees tree 0 tree.locals)
         (concat (map (stmt_lines (visible_in section tree (length tree.locals)) callees (scope_in section tree)
         (result_of section tree)) tree.body)) first
         (second ∙ (λ j. with_lines b (concat (map

@@ -1,19 +1,10 @@
 -- Variables and members are found by their names' first places.
-use Rattle.sc_elab_expr.proofs.Common.{Bool, Found, List, None, Option, Some, Ty, TypedParam, TypedStruct, VarRef, []}
-use Rattle.sc_elab_expr.proofs.Common.{ap, bytes_eq, cond, found_in, map, member_named, member_names, option_and_then}
-use Rattle.sc_elab_expr.proofs.Common.{option_map, placed, position, refl, slice_get, suc, sym, variable_names, ℕ, ◌∙◌}
-use Rattle.sc_elab_expr.proofs.Common.{◌∷◌, ◌≡◌}
+use Rattle.sc_elab_expr.proofs.Common.{Found, List, None, Option, Some, Ty, TypedParam, TypedStruct, VarRef, ap}
+use Rattle.sc_elab_expr.proofs.Common.{bytes_eq, found_in, member_named, member_names, option_and_then, option_map}
+use Rattle.sc_elab_expr.proofs.Common.{placed, refl, slice_get, sym, variable_names, ℕ, ◌∙◌, ◌≡◌}
 use Rattle.sc_base.specs.Prelude.{number_of}
-use Rattle.sc_base.proofs.Lists.{position-cons}
 use Rattle.std.proofs.lemmas.Option.{slice_get-map}
-
-pub position-map : {A B : Type 0} (f : A → B) (p : B → Bool) (xs : List A) →
-    position p (map f xs) ≡ position (λ x. p (f x)) xs
-position-map f p [] = refl
-position-map f p (x ∷ xs) =
-    position-cons p (f x) (map f xs)
-    ∙ ap (λ o. cond (p (f x)) (Some 0) (option_map suc o)) (position-map f p xs)
-    ∙ sym (position-cons (λ x. p (f x)) x xs)
+use Rattle.sc_base.proofs.Lists.{position_map}
 
 -- a variable at its place
 abbrev pub found_at : (ℕ → VarRef) → (ℕ × Ty) → Found
@@ -27,7 +18,7 @@ pub found_in_placed : (reference : ℕ → VarRef) (variables : List TypedParam)
     found_in reference variables name ≡ option_map (found_at reference) (placed variables name)
 found_in_placed reference variables name =
     ap (option_and_then (λ place. option_map (found_with reference place) (slice_get variables place)))
-    (sym (position-map (λ variable. variable.name) (bytes_eq name) variables))
+    (sym (position_map (λ variable. variable.name) (bytes_eq name) variables))
     ∙ each (number_of (variable_names variables) name)
   where
     at : (place : ℕ) (o : Option TypedParam) → option_map (found_with reference place) o ≡
@@ -45,6 +36,6 @@ found_in_placed reference variables name =
 pub member_placed : (name : List ℕ) (tree : TypedStruct) →
     member_named name (Some tree) ≡ option_and_then (slice_get tree.members) (number_of (member_names tree) name)
 member_placed name tree = ap (option_and_then (slice_get tree.members))
-    (sym (position-map (λ member. member.name) (bytes_eq name) tree.members))
+    (sym (position_map (λ member. member.name) (bytes_eq name) tree.members))
 
 pub ruleset members = (member_placed, slice_get-map)

@@ -8,11 +8,7 @@ use Rattle.sc_scope.specs.declared.broken.BrokenLines.{BrokenLines}
 use Rattle.sc_scope.proofs.Noting.{with_lines-append, with_lines-nil}
 use Rattle.sc_ast.specs.declared.stmt.StmtTree as trees
 use Rattle.sc_ast.specs.declared.stmt.StmtKind as tree
-
--- two parts
-pub two : (a b c : BrokenLines) (xs ys : List ℕ) → b ≡ with_lines a xs → c ≡ with_lines b ys →
-    c ≡ with_lines a (xs ++ ys)
-two a b c xs ys first second = second ∙ ap (λ b. with_lines b ys) first ∙ sym (with_lines-append a xs ys)
+use Rattle.sc_scope.proofs.Lines.{then}
 
 module _ (visible : Visible) (callees : Callees) (scope : Scope) (result : Option Ty) where
   abbrev at : StmtKind → ℕ → List ℕ
@@ -70,15 +66,15 @@ module _ (visible : Visible) (callees : Callees) (scope : Scope) (result : Optio
         kind ≡ tree.If cond xs ys → holds ≡ cond_is cond → b ≡ with_lines a (unless holds line) →
         c ≡ with_lines b (all xs) → d ≡ with_lines c (all ys) → d ≡ with_lines a here
     noted-if a b c d cond xs ys holds is tested first second third =
-        two a b d (unless (cond_is cond) line) _ (first ∙ ap (λ h. with_lines a (unless h line)) tested)
-        (two b c d _ _ second third)
+        then a b d (unless (cond_is cond) line) _ (first ∙ ap (λ h. with_lines a (unless h line)) tested)
+        (then b c d _ _ second third)
         ∙ ap (with_lines a) (sym (kind-if cond xs ys line) ∙ ap (λ k. at k line) (sym is))
 
     pub noted-while : (a b c : BrokenLines) (cond : ExprTree) (xs : List StmtTree) (holds : Bool) →
         kind ≡ tree.While cond xs → holds ≡ cond_is cond → b ≡ with_lines a (unless holds line) →
         c ≡ with_lines b (all xs) → c ≡ with_lines a here
     noted-while a b c cond xs holds is tested first second =
-        two a b c (unless (cond_is cond) line) _ (first ∙ ap (λ h. with_lines a (unless h line)) tested) second
+        then a b c (unless (cond_is cond) line) _ (first ∙ ap (λ h. with_lines a (unless h line)) tested) second
         ∙ ap (with_lines a) (sym (kind-while cond xs line) ∙ ap (λ k. at k line) (sym is))
 
     pub noted-for : (a b c d e : BrokenLines) (begin : Option SimpleTree) (cond : ExprTree) (next : Option SimpleTree)
@@ -86,8 +82,8 @@ module _ (visible : Visible) (callees : Callees) (scope : Scope) (result : Optio
         holds ≡ cond_is cond → c ≡ with_lines b (unless holds line) → d ≡ with_lines c (part next) →
         e ≡ with_lines d (all xs) → e ≡ with_lines a here
     noted-for a b c d e begin cond next xs holds is first tested second third fourth =
-        two a b e _ _ first (two b c e (unless (cond_is cond) line) _
-        (second ∙ ap (λ h. with_lines b (unless h line)) tested) (two c d e _ _ third fourth))
+        then a b e _ _ first (then b c e (unless (cond_is cond) line) _
+        (second ∙ ap (λ h. with_lines b (unless h line)) tested) (then c d e _ _ third fourth))
         ∙ ap (with_lines a) (sym (kind-for begin cond next xs line) ∙ ap (λ k. at k line) (sym is))
 
     quiet : (a : BrokenLines) → here ≡ [] → a ≡ with_lines a here

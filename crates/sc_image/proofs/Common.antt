@@ -29,6 +29,7 @@ pub use Rattle.std.specs.Cmp.{IsEquivalence, unsigned_Decides}
 pub use Rattle.std.specs.Cmp.Lexicographic.{bytes_decides, same_text}
 pub use Rattle.std.specs.List.{AllByRecursion, list_all, list_any, position_or_len, range_with_len, slice_get}
 pub use Rattle.std.specs.Option.{IsSomeAnd, option_and_then, option_map, option_map_or}
+pub use Rattle.sc_base.proofs.Lists.{all_by, is_there}
 pub use Rattle.sc_base.specs.Prelude.{is_between, is_name_byte, is_nondigit}
 unfoldable pub use Rattle.sc_base.specs.Prelude.{is_name}
 pub use Rattle.sc_event.specs.Prelude.{Activation, Standing, at_start, awaits, fits_result, imports, is_allowed}

@@ -32,7 +32,8 @@ length-kept : (keeps : ℕ → Bool) (r : ℕ) (regs : List ℕ) → length (kep
 length-kept keeps r [] = refl
 length-kept keeps r (word ∷ words) = ap suc (length-kept keeps (suc r) words)
 
-length-stack_tops : (c : ℕ) (comps : List CompPart) → length (stack_tops c comps) ≡ length comps
+-- as many stacks as compartments
+pub length-stack_tops : (c : ℕ) (comps : List CompPart) → length (stack_tops c comps) ≡ length comps
 length-stack_tops c [] = refl
 length-stack_tops c (comp ∷ comps) = ap suc (length-stack_tops (suc c) comps)
 

@@ -63,6 +63,37 @@ step_adds image inputs state formed = step_of image inputs formed state (Adds_to
   reads = λ may. (In state.active (input_at inputs state.input) ∷ [], refl);
 })
 
+-- A step tells one event at most.
+abbrev AddsOne : List Event → Outcome → Type 0
+AddsOne trace (Goes next) = length next.trace ≤ suc (length trace)
+AddsOne trace (Traps reason) = Unit {0}
+
+one_more : (trace : List Event) (event : Event) → length (trace ++ event ∷ []) ≤ suc (length trace)
+one_more trace event = omega (arith, length-append trace (event ∷ []))
+
+return_one : (image : ImageParts) (state : State) (cross : List Crossing) →
+    length (returned image state cross).trace ≤ suc (length state.trace)
+return_one image state [] = one_more state.trace (End state.active (reg state a0))
+return_one image state (x ∷ xs) =
+    one_more state.trace (Ret state.active x.caller (given_back (has_result image x.callee x.entry) state))
+
+step_one : (image : ImageParts) (inputs : List ℕ) (state : State) → IsWellFormed image →
+    AddsOne state.trace (step image inputs state)
+step_one image inputs state formed = step_of image inputs formed state (AddsOne state.trace) (record {
+  same = λ a owned. refl;
+  traps = λ reason. tt;
+  quiet = λ regs pc moves. omega arith;
+  stores = λ op a word allowed. omega arith;
+  calls = λ to index target at may. one_more state.trace _;
+  returns = return_one image state state.cross;
+  outputs = λ may. one_more state.trace _;
+  reads = λ may. one_more state.trace _;
+})
+
+pub goes_one : (image : ImageParts) (inputs : List ℕ) → IsWellFormed image → (state next : State) →
+    step image inputs state ≡ Goes next → length next.trace ≤ suc (length state.trace)
+goes_one image inputs formed state next goes = subst (AddsOne state.trace) goes (step_one image inputs state formed)
+
 module _ (image : ImageParts) (inputs : List ℕ) (formed : IsWellFormed image) where
   pub goes_adds : (state next : State) → step image inputs state ≡ Goes next → IsFront state.trace next.trace
   goes_adds state next goes = subst (Adds_to state.trace) goes (step_adds image inputs state formed)

@@ -180,7 +180,7 @@ not_others image formed c d address other of (Some word) at =
 
 -- Jumps out of the own code.
 
-jump_out : (image : ImageParts) (state : State) (rd target : ℕ) (elsewhere : Outcome) → target % 4 ≡ 0 →
+pub jump_out : (image : ImageParts) (state : State) (rd target : ℕ) (elsewhere : Outcome) → target % 4 ≡ 0 →
     is_some (word_at image state.active target) ≡ false → jump image state rd target elsewhere ≡ elsewhere
 jump_out image state rd target elsewhere aligned none = rw (eq-eqb (target % 4) 0 aligned, none) refl
 

@@ -7,13 +7,13 @@ use Rattle.sc_image.proofs.Common.{Traps, [], a0, after, and_from, and_parts, ap
 use Rattle.sc_image.proofs.Common.{drop, eq-eqb, exports_of, false, fits_result, get_or_from_slice_get, given_back}
 use Rattle.sc_image.proofs.Common.{has_result, if◌then◌else◌, import_of, imports, inl, input_at, inr, interface_of}
 use Rattle.sc_image.proofs.Common.{interfaces_of, is_allowed, is_end, is_ended, is_function, is_input, is_legal_from}
-use Rattle.sc_image.proofs.Common.{is_output, length, length-append, length-drop, length-replicate, length-take-le}
-use Rattle.sc_image.proofs.Common.{list_any, ltb, ltb-true, machine, map, may_return, nat_le, option_and_then}
-use Rattle.sc_image.proofs.Common.{option_map, option_map_or, or_left, or_right, params_of, position, position_or_len}
-use Rattle.sc_image.proofs.Common.{proto_of, refl, reg, replicate, resumed, returned, run, slice_get, slice_get-map}
-use Rattle.sc_image.proofs.Common.{slice_get_within, stands_after, stands_behind, start, step, stopped, stops_or, subst}
-use Rattle.sc_image.proofs.Common.{suc, sym, takes, true, true≢false, zero, ℕ, ◌&&◌, ◌++◌, ◌-◌, ◌<◌, ◌==◌, ◌||◌, ◌∙◌}
-use Rattle.sc_image.proofs.Common.{◌∷◌, ◌≡◌, ◌≤◌, ◌⊎◌}
+use Rattle.sc_image.proofs.Common.{is_output, is_there, length, length-append, length-drop, length-replicate}
+use Rattle.sc_image.proofs.Common.{length-take-le, list_any, ltb, ltb-true, machine, map, may_return, nat_le}
+use Rattle.sc_image.proofs.Common.{option_and_then, option_map, option_map_or, or_left, or_right, params_of, position}
+use Rattle.sc_image.proofs.Common.{position_or_len, proto_of, refl, reg, replicate, resumed, returned, run, slice_get}
+use Rattle.sc_image.proofs.Common.{slice_get-map, slice_get_within, stands_after, stands_behind, start, step, stopped}
+use Rattle.sc_image.proofs.Common.{stops_or, subst, suc, sym, takes, true, true≢false, zero, ℕ, ◌&&◌, ◌++◌, ◌-◌, ◌<◌}
+use Rattle.sc_image.proofs.Common.{◌==◌, ◌||◌, ◌∙◌, ◌∷◌, ◌≡◌, ◌≤◌, ◌⊎◌}
 use Rattle.sc_event.specs.declared.interface.Import.TheVariants.{Input, Output}
 use Rattle.sc_event.specs.Lookup as lookup
 use Rattle.sc_event.specs.Legal as law
@@ -62,11 +62,6 @@ any_map : {A B : Type 0} (test : B → Bool) (f : A → B) (xs : List A) →
     list_any test (map f xs) ≡ list_any (λ x. test (f x)) xs
 any_map test f [] = refl
 any_map test f (x ∷ xs) = ap (λ (later : Bool). test (f x) || later) (any_map test f xs)
-
-some_at : {A : Type 0} (xs : List A) (k : ℕ) → k < length xs → (x : A) × (slice_get xs k ≡ Some x)
-some_at [] k within = let never : ⊥ = omega (arith, within) in absurd never
-some_at (x ∷ xs) zero within = (x, refl)
-some_at (x ∷ xs) (suc k) within = some_at xs k (omega (arith, within))
 
 -- what the imports of a compartment allow
 abbrev allowed_by : Bool → Bool → List ImportPart → (Import → Bool) → Bool
@@ -144,7 +139,7 @@ module _ (image : ImageParts) where
 
   said_at : (c index : ℕ) → index < length (exports_of image c) → (export : ExportPart) × IsSaid c index export
   said_at c index within =
-      let found = some_at (exports_of image c) index within in
+      let found = is_there (exports_of image c) index within in
       (found.0, record { there = found.1; said_so = export_of c index (slice_get image.comps c) refl found.0 found.1 })
 
   module _ (formed : IsWellFormed image) where

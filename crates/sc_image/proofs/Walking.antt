@@ -108,7 +108,8 @@ globals_placed image c comp k formed found below =
 
 -- The bytes of words, one after the other.
 
-first_byte : (word : ℕ) (others : List ℕ) (j : ℕ) → j < 4 →
+-- the bytes of the first word
+pub first_byte : (word : ℕ) (others : List ℕ) (j : ℕ) → j < 4 →
     slice_get (little_bytes 4 word ++ others) j ≡ Some (byte_of word j)
 first_byte word others zero within = ap Some (omega arith)
 first_byte word others (suc zero) within = refl
@@ -129,11 +130,12 @@ word_byte (first ∷ words) (suc k) j word within at =
     ap (slice_get (flat_map (little_bytes 4) (first ∷ words))) place ∙ word_byte words k j word within at
 
 -- four bytes are the number that they make
-four_bytes : (word : ℕ) → word < 2 ^ 32 →
+pub four_bytes : (word : ℕ) → word < 2 ^ 32 →
     0 + byte_of word 0 * 256 ^ 0 + byte_of word 1 * 256 ^ 1 + byte_of word 2 * 256 ^ 2 + byte_of word 3 * 256 ^ 3 ≡ word
 four_bytes word below = omega (arith, below)
 
-load_is : (memory : Memory) (a word : ℕ) → word < 2 ^ 32 →
+-- the number that four bytes in memory make
+pub load_is : (memory : Memory) (a word : ℕ) → word < 2 ^ 32 →
     ((j : ℕ) → j < 4 → memory (a + j) ≡ Some (byte_of word j)) → load_of memory a 4 ≡ word
 load_is memory a word below bytes =
     rw (bytes 0 (omega arith), bytes 1 (omega arith), bytes 2 (omega arith), bytes 3 (omega arith))

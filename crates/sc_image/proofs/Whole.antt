@@ -3,16 +3,15 @@ use Rattle.sc_image.proofs.Common.{All, All-from_recursion, AllByRecursion, AllP
 use Rattle.sc_image.proofs.Common.{Decides, Decides-and, Decides-like, ExportPart, ImageParts, ImportPart, IsByte}
 use Rattle.sc_image.proofs.Common.{IsComp, IsDistinct, IsDistinct-from_AllPairs, IsDistinct-from_count, IsEquivalence}
 use Rattle.sc_image.proofs.Common.{IsExport, IsImport, IsSomeAnd, IsWellFormed, IsWord, List, None, Option, Some, []}
-use Rattle.sc_image.proofs.Common.{and_from, and_parts, ap, are_distinct, arith, bytes_decides, code_of, code_start}
-use Rattle.sc_image.proofs.Common.{codes, comps_keep, cond, distinct_count-from_IsDistinct, eq-eqb, eqb-false, eqb-true}
-use Rattle.sc_image.proofs.Common.{exports_keep, false, false_from_ne_true, get_or_default, imports_keep, is_entry}
-use Rattle.sc_image.proofs.Common.{is_import, is_same_import, is_same_name, is_some, keeps_rules, length, list_all}
-use Rattle.sc_image.proofs.Common.{lit≤, lt-ltb, ltb-true, map, nat_eq, nat_le, nat_lt, ne_eqb, not-true}
-use Rattle.sc_image.proofs.Common.{not_from_Decides, not_from_false, option_map_or, recursion_from_All, refl}
-use Rattle.sc_image.proofs.Common.{same_from_decides, slice_get, slice_get_within, stretch, subst, suc, sym, true}
-use Rattle.sc_image.proofs.Common.{unsigned_Decides, word_at, zero, zero-add, ℕ, ◌%◌, ◌&&◌, ◌*◌, ◌+◌, ◌-◌, ◌/◌, ◌<◌}
-use Rattle.sc_image.proofs.Common.{◌==◌, ◌^◌, ◌∙◌, ◌∷◌, ◌≡◌, ◌≤◌}
-use Rattle.sc_image.proofs.Fits.{all_of}
+use Rattle.sc_image.proofs.Common.{all_by, and_from, and_parts, ap, are_distinct, arith, bytes_decides, code_of}
+use Rattle.sc_image.proofs.Common.{code_start, codes, comps_keep, cond, distinct_count-from_IsDistinct, eq-eqb}
+use Rattle.sc_image.proofs.Common.{eqb-false, eqb-true, exports_keep, false, false_from_ne_true, get_or_default}
+use Rattle.sc_image.proofs.Common.{imports_keep, is_entry, is_import, is_same_import, is_same_name, is_some}
+use Rattle.sc_image.proofs.Common.{keeps_rules, length, list_all, lit≤, lt-ltb, ltb-true, map, nat_eq, nat_le, nat_lt}
+use Rattle.sc_image.proofs.Common.{ne_eqb, not-true, not_from_Decides, not_from_false, option_map_or}
+use Rattle.sc_image.proofs.Common.{recursion_from_All, refl, same_from_decides, slice_get, slice_get_within, stretch}
+use Rattle.sc_image.proofs.Common.{subst, suc, sym, true, unsigned_Decides, word_at, zero, zero-add, ℕ, ◌%◌, ◌&&◌, ◌*◌}
+use Rattle.sc_image.proofs.Common.{◌+◌, ◌-◌, ◌/◌, ◌<◌, ◌==◌, ◌^◌, ◌∙◌, ◌∷◌, ◌≡◌, ◌≤◌}
 use Rattle.sc_image.proofs.Fields.{IsBytes, bytes_fit}
 use Rattle.sc_image.proofs.FileFields.{FitsExport, FitsImport, FitsComp, FitsParts}
 
@@ -295,5 +294,5 @@ module _ (image : ImageParts) (formed : IsWellFormed image) where
     main = formed.main;
     entry = entry_fits image.main image.entry formed.main formed.entry;
     comps = recursion_from_All (FitsComp (length image.comps)) image.comps
-        (all_of (FitsComp (length image.comps)) image.comps comp_fits);
+        (all_by (FitsComp (length image.comps)) image.comps comp_fits);
   }

@@ -54,7 +54,8 @@ written_zero regs (suc r) word h = by_zero (nat_eq (suc r) 0)
     by_zero true = h
     by_zero false = set_zero regs r word h
 
-if_zero : (b : Bool) → ◌≡◌ {A = ℕ} (if b then 0 else 0) 0
+-- zero, either way
+pub if_zero : (b : Bool) → ◌≡◌ {A = ℕ} (if b then 0 else 0) 0
 if_zero true = refl
 if_zero false = refl
 

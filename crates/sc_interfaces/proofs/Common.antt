@@ -1,8 +1,8 @@
 -- The names that several proofs of this crate cite, passed on from one place. Declares nothing.
 pub use Rattle.std.proofs.Common.{All, Bool, IfNone, List, None, Option, Some, [], ap, ap₂, arith, bytes_eq, codes}
 pub use Rattle.std.proofs.Common.{cond, drop, drop-cons, eqb-true, false, get_or, if◌then◌else◌, inl, inr, is_some}
-pub use Rattle.std.proofs.Common.{length, length-take-le, map, min, nat_eq, nat_lt, not, refl, slice_get, subst, suc}
-pub use Rattle.std.proofs.Common.{sym, take, true, zero, ℕ, ◌&&◌, ◌++◌, ◌+◌, ◌<◌, ◌==◌, ◌||◌, ◌∙◌, ◌∷◌, ◌≡◌, ◌≤◌, ◌⊎◌}
+pub use Rattle.std.proofs.Common.{length, length-take-le, map, min, nat_eq, not, refl, slice_get, subst, suc, sym, take}
+pub use Rattle.std.proofs.Common.{true, ℕ, ◌&&◌, ◌++◌, ◌+◌, ◌<◌, ◌==◌, ◌||◌, ◌∙◌, ◌∷◌, ◌≡◌, ◌≤◌, ◌⊎◌}
 pub use Rattle.std.proofs.Math.Bool.{and-false, and-true, and_assoc, or_assoc}
 pub use Rattle.std.proofs.lemmas.Bool.{and_parts, and_right}
 pub use Rattle.std.proofs.lemmas.Cmp.{nat_eq_equiv, nat_list_eq_equiv}
@@ -11,20 +11,21 @@ pub use Rattle.std.proofs.lemmas.List.Elements.{All-cons, All-get_or, All-head, 
 pub use Rattle.std.proofs.lemmas.List.Folds.{list_all-append, list_any-append}
 pub use Rattle.std.proofs.lemmas.Option.{get_or_from_slice_get, slice_get-map, slice_get_read, slice_get_within}
 pub use Rattle.std.specs.Cmp.Lexicographic.{pointwise}
-pub use Rattle.std.specs.List.{list_all, list_any, position, position_or_len}
+pub use Rattle.std.specs.List.{list_all, list_any}
 pub use Rattle.std.specs.Option.{option_and_then, option_map}
+pub use Rattle.sc_base.proofs.Lists.{position-cons, take_all}
 pub use Rattle.sc_base.specs.Prelude.{first_by_name, is_numbered, number_of, numbered, with_first}
 pub use Rattle.sc_ast.specs.Prelude.{head_of, param_of}
 pub use Rattle.sc_ast.specs.declared.section.Decl.TheVariants.{Global, Struct}
 pub use Rattle.sc_ast.specs.declared.section.FunctionParam.{FunctionParam}
 pub use Rattle.sc_ast.specs.declared.section.ParamTree.{ParamTree}
 pub use Rattle.sc_ast.specs.declared.types.TypeName.{TypeName}
+pub use Rattle.sc_scope.proofs.Noting.{noted_all-append, with_lines-append, with_lines-nil}
 pub use Rattle.sc_scope.specs.Prelude.{Text, among, defines_main, environment, export_names, function_in}
 pub use Rattle.sc_scope.specs.Prelude.{function_named, function_names, functions_in, head_in, heads_in, import_names}
 pub use Rattle.sc_scope.specs.Prelude.{import_of, interface_of, interfaces_from, interfaces_of, is_environment}
-pub use Rattle.sc_scope.specs.Prelude.{line_of_text, main_from, main_name, noted, number_or_zero, offered, offering}
-pub use Rattle.sc_scope.specs.Prelude.{offers, promised, proto_names, proto_of, refused_at, scalar_of, unless}
-pub use Rattle.sc_scope.specs.Prelude.{with_lines}
+pub use Rattle.sc_scope.specs.Prelude.{line_of_text, main_from, main_name, number_or_zero, offered, offering, offers}
+pub use Rattle.sc_scope.specs.Prelude.{promised, proto_names, proto_of, refused_at, scalar_of, unless, with_lines}
 unfoldable pub use Rattle.sc_scope.specs.Prelude.{noted_all}
 pub use Rattle.sc_interfaces.specs.Common.{Decl, ExportLine, Function, HeadTree, ImportLine, Proto, SectionTable}
 pub use Rattle.sc_interfaces.specs.Common.{SectionTree}

@@ -8,12 +8,11 @@ use Rattle.sc_interfaces.proofs.Common.{function_names, function_places, functio
 use Rattle.sc_interfaces.proofs.Common.{if◌then◌else◌, import_by, import_of, inl, input_name, inr, interface_by}
 use Rattle.sc_interfaces.proofs.Common.{interface_of, interfaces_by, interfaces_from, interfaces_of, is_environment}
 use Rattle.sc_interfaces.proofs.Common.{is_some, length, length-map, main_by, main_from, main_name, map, min}
-use Rattle.sc_interfaces.proofs.Common.{nat_list_eq_equiv, nat_lt, not, number_of, number_or_zero, offered, offered_by}
-use Rattle.sc_interfaces.proofs.Common.{offering, option_and_then, option_map, pointwise, position, position_or_len}
-use Rattle.sc_interfaces.proofs.Common.{promised, promised_by, proto_of, refl, scalar_of, slice_get, slice_get-map}
-use Rattle.sc_interfaces.proofs.Common.{slice_get_within, subst, suc, sym, table_of, true, with_first, ℕ, ◌++◌, ◌+◌}
-use Rattle.sc_interfaces.proofs.Common.{◌<◌, ◌==◌, ◌∙◌, ◌∷◌, ◌≡◌, ◌≤◌, ◌⊎◌}
-use Rattle.std.proofs.lemmas.Bool.Decides.{nat_tests}
+use Rattle.sc_interfaces.proofs.Common.{nat_list_eq_equiv, number_of, number_or_zero, offered, offered_by, offering}
+use Rattle.sc_interfaces.proofs.Common.{option_and_then, option_map, pointwise, position-cons, promised, promised_by}
+use Rattle.sc_interfaces.proofs.Common.{proto_of, refl, scalar_of, slice_get, slice_get-map, slice_get_within, subst}
+use Rattle.sc_interfaces.proofs.Common.{suc, sym, table_of, take_all, true, with_first, ℕ, ◌++◌, ◌+◌, ◌<◌, ◌==◌, ◌∙◌}
+use Rattle.sc_interfaces.proofs.Common.{◌∷◌, ◌≡◌, ◌≤◌, ◌⊎◌}
 use Rattle.sc_event.specs.declared.interface.Scalar.{Scalar}
 use Rattle.sc_event.specs.declared.interface.Proto.{Proto}
 use Rattle.sc_event.specs.declared.interface.Import.{Import}
@@ -23,7 +22,6 @@ use Rattle.sc_event.specs.declared.interface.Interfaces.{Interfaces}
 use Rattle.sc_ast.specs.declared.section.FunctionTree.{FunctionTree}
 use Rattle.sc_ast.specs.declared.section.Decl.TheVariants as declared
 use Rattle.sc_interfaces.proofs.Allowing.{same_text, all_numbered_same}
-use Rattle.sc_interfaces.proofs.Placing.{take_all}
 use Rattle.sc_interfaces.proofs.Telling.{Stands, number_in, offering_number_is, offering_stands}
 
 -- Places.
@@ -125,22 +123,12 @@ place_is items name = all_placed_is items [] 0 name ∙ moved_zero (first_place 
 
 -- Exports.
 
-counted : (here : Bool) (n len : ℕ) → cond (nat_lt (cond (not here) (1 + n) 0) (suc len))
-    (Some (cond (not here) (1 + n) 0)) None ≡
-    cond here (Some 0) (option_map suc (cond (nat_lt n len) (Some n) None))
-counted true n len = grind (arith, nat_tests)
-counted false n len = grind (arith, nat_tests)
-
-position_cons : {X : Type 0} (p : X → Bool) (x : X) (xs : List X) →
-    position p (x ∷ xs) ≡ cond (p x) (Some 0) (option_map suc (position p xs))
-position_cons p x xs = counted (p x) (position_or_len p xs) (length xs)
-
 number_is : (lines : List ExportLine) (name : Text) →
     first_place name (map export_name lines) ≡ number_of (map {A = ExportLine} (λ line. line.name) lines) name
 number_is [] name = refl
 number_is (line ∷ lines) name =
     ap (λ later. cond (pointwise ◌==◌ name line.name) (Some 0) (option_map suc later)) (number_is lines name) ∙
-    sym (position_cons (pointwise ◌==◌ name) line.name (map {A = ExportLine} (λ other. other.name) lines))
+    sym (position-cons (pointwise ◌==◌ name) line.name (map {A = ExportLine} (λ other. other.name) lines))
 
 -- a place is one of the list
 abbrev IsPlace : ℕ → Option ℕ → Type 0

@@ -1,13 +1,6 @@
 -- The first 8 of a list.
-use Rattle.sc_interfaces.proofs.Common.{IfNone, List, None, Option, Some, [], ap, arith, false, is_some, length}
-use Rattle.sc_interfaces.proofs.Common.{length-map, length-take-le, map, refl, suc, sym, take, take-map, true, zero, ℕ}
-use Rattle.sc_interfaces.proofs.Common.{◌<◌, ◌∙◌, ◌∷◌, ◌≡◌, ◌≤◌}
-
-pub take_all : {A : Type 0} (n : ℕ) (xs : List A) → length xs ≤ n → take n xs ≡ xs
-take_all zero [] h = refl
-take_all (suc n) [] h = refl
-take_all zero (x ∷ xs) h = absurd (omega arith)
-take_all (suc n) (x ∷ xs) h = ap (λ rest. x ∷ rest) (take_all n xs (omega arith))
+use Rattle.sc_interfaces.proofs.Common.{IfNone, List, None, Option, Some, ap, arith, false, is_some, length, length-map}
+use Rattle.sc_interfaces.proofs.Common.{length-take-le, map, sym, take, take-map, take_all, true, ℕ, ◌<◌, ◌∙◌, ◌≡◌, ◌≤◌}
 
 pub front_done : {A B : Type 0} (f : A → B) (xs : List A) (ys : List B) (i : ℕ) → ys ≡ map f (take i xs) →
     length xs ≤ i → i ≤ 8 → ys ≡ take 8 (map f xs)

@@ -10,12 +10,13 @@ use Rattle.sc_interfaces.proofs.Common.{head_in, head_of, heads_in, if◌then◌
 use Rattle.sc_interfaces.proofs.Common.{imported_by, imports_added, imports_told, input_head, input_name, int_type}
 use Rattle.sc_interfaces.proofs.Common.{is_environment, is_input, is_offered_by, is_output, is_plain, is_some, length}
 use Rattle.sc_interfaces.proofs.Common.{length-map, line_of_text, lines_told, list_all, list_all-append, list_any}
-use Rattle.sc_interfaces.proofs.Common.{list_any-append, main_holds, main_name, map, no_heads, not, noted, noted_all}
-use Rattle.sc_interfaces.proofs.Common.{numbered, offering, offering_number, offering_table, offers, option_and_then}
-use Rattle.sc_interfaces.proofs.Common.{option_map, or_assoc, others_added, output_head, output_name, proto_names, refl}
-use Rattle.sc_interfaces.proofs.Common.{refused_at, same_params, same_result, section_told, slice_get, slice_get-map}
-use Rattle.sc_interfaces.proofs.Common.{slice_get_read, suc, sym, table_of, takes_int, takes_nothing, true, unless, ℕ}
-use Rattle.sc_interfaces.proofs.Common.{◌&&◌, ◌++◌, ◌+◌, ◌<◌, ◌==◌, ◌||◌, ◌∙◌, ◌∷◌, ◌≡◌, ◌≤◌}
+use Rattle.sc_interfaces.proofs.Common.{list_any-append, main_holds, main_name, map, no_heads, not, noted_all}
+use Rattle.sc_interfaces.proofs.Common.{noted_all-append, numbered, offering, offering_number, offering_table, offers}
+use Rattle.sc_interfaces.proofs.Common.{option_and_then, option_map, or_assoc, others_added, output_head, output_name}
+use Rattle.sc_interfaces.proofs.Common.{proto_names, refl, refused_at, same_params, same_result, section_told}
+use Rattle.sc_interfaces.proofs.Common.{slice_get, slice_get-map, slice_get_read, suc, sym, table_of, takes_int}
+use Rattle.sc_interfaces.proofs.Common.{takes_nothing, true, unless, ℕ, ◌&&◌, ◌++◌, ◌+◌, ◌<◌, ◌==◌, ◌||◌, ◌∙◌, ◌∷◌, ◌≡◌}
+use Rattle.sc_interfaces.proofs.Common.{◌≤◌}
 use Rattle.sc_interfaces.specs.Faces
 use Rattle.sc_interfaces.proofs.Agreeing.{type_symm}
 use Rattle.sc_interfaces.proofs.Allowing.{same_text, is_numbered-numbered, all_numbered_same, allowed_forbidden}
@@ -422,11 +423,6 @@ lines_told_is sections k mains seen before (section ∷ rest) found same =
     (lines_told_is sections (suc k) (mains || among (table_of section).functions main_name) (numbered seen section.name)
     (before ++ section ∷ []) rest
     (mains_more mains before section found) (same_sections seen before section same))
-
-noted_all-append : (least : Option ℕ) (xs ys : List ℕ) → noted_all least (xs ++ ys) ≡ noted_all (noted_all least xs) ys
-unfolding noted_all
-noted_all-append least [] ys = refl
-noted_all-append least (x ∷ xs) ys = noted_all-append (noted least x) xs ys
 
 noted_none : (least : Option ℕ) → noted_all least [] ≡ least
 unfolding noted_all

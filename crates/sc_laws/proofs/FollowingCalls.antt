@@ -22,6 +22,7 @@ use Rattle.sc_laws.proofs.Following.{Abreast, Beyond, KeepsUp, Keeping, near_blo
 use Rattle.sc_laws.proofs.Following.{follow_kept, Stands, OneSided, Performs, Perform, left_goes, perform_kept}
 use Rattle.sc_laws.proofs.Following.{stands_stored, MovesOrReturns, beyond_back, beyond_in, KeepsUp as follows}
 use Rattle.sc_laws.proofs.Following.{Performs as performing, MovesOn as passed, MovesOrReturns as passing}
+use Rattle.sc_laws.proofs.Scripts.{words_are}
 
 -- a call of this compartment, whose first block is this
 abbrev pub at : (comp first : ℕ) → Here
@@ -46,10 +47,6 @@ crossed_again (v ∷ args) = ap (λ rest. Word (word_in v) ∷ rest) (crossed_ag
 words_again : (words : List ℕ) → map word_in (map (λ w. Word w) words) ≡ words
 words_again [] = refl
 words_again (w ∷ words) = ap (λ rest. w ∷ rest) (words_again words)
-
-words_are : (words : List ℕ) → list_all is_word (map (λ w. Word w) words) ≡ true
-words_are [] = refl
-words_are (w ∷ words) = words_are words
 
 as_many : (args : List Value) → length (map (λ w. Word w) (map word_in args)) ≡ length args
 as_many [] = refl

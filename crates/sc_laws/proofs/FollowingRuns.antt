@@ -20,6 +20,7 @@ use Rattle.sc_laws.proofs.Following.{Performs, Perform, left_goes, perform_kept,
 use Rattle.sc_laws.proofs.Following.{Agreed, IfBlamed, BeyondIn, KeepsUp as follows, Performs as performing}
 use Rattle.sc_laws.proofs.Following.{MovesOn as passed, MovesOrReturns as passing}
 use Rattle.sc_laws.proofs.FollowingCalls.{at, first_step, second_step, N, Bodies, Telling, performs_next, all_bodies}
+use Rattle.sc_base.proofs.Lists.{take_front}
 
 -- what is shown of a piece goes on from where it is
 behaviour_front : (main : ℕ) (o : Piece (Option Value)) → Front (last o).trace (run_to main o).behaviour.trace
@@ -273,10 +274,6 @@ front_taken (suc n) [] = record { more = []; is = refl }
 front_taken (suc n) (x ∷ xs) =
     let rest : Front (take n xs) xs = front_taken n xs in
     record { more = rest.more; is = ap (λ ys. x ∷ ys) rest.is }
-
-take_front : {A : Type 0} (xs more : List A) → take (length xs) (xs ++ more) ≡ xs
-take_front [] more = refl
-take_front (x ∷ xs) more = ap (λ ys. x ∷ ys) (take_front xs more)
 
 -- THE LAWS
 module _ (t : List Event) (x y : SourceRun) where

@@ -45,7 +45,8 @@ before_append n [] ys h k = k
 before_append n (Opened told c more ∷ xs) ys h k = (h.0, before_append n xs ys h.1 k)
 before_append n (Closed told c less ∷ xs) ys h k = (h.0, before_append n xs ys h.1 k)
 
-before_more : (n m : ℕ) → n ≤ m → (xs : List FrameChange) → AllBefore n xs → AllBefore m xs
+-- what was told by then was told by later
+pub before_more : (n m : ℕ) → n ≤ m → (xs : List FrameChange) → AllBefore n xs → AllBefore m xs
 before_more n m le [] h = tt
 before_more n m le (Opened told c more ∷ xs) h = let first =
     h.0 in (omega (arith, le, first), before_more n m le xs h.1)

@@ -65,6 +65,11 @@ still_unreached events more_events run EventsOut le is =
     (let few : length run.trace < events = leb-false events (length run.trace) is in
     lt-leb more_events (length run.trace) (omega (arith, few, le)))
 
+-- the frames of a run are those of its last state
+pub frames_are : (main : ℕ) (p : Piece (Option Value)) → (run_to main p).frames ≡ (last p).frames
+frames_are main (Reached v s) = refl
+frames_are main (Stopped end s) = refl
+
 -- THE SAME RUN, OR ONE THAT GOES ON
 module _ (d : ℕ) (Soft : Cause → Type 0) (Turns : Type 0) where
   -- the second run is the first, or goes on where that stopped, in its frames too; where it comes to an end it has more
@@ -95,11 +100,6 @@ module _ (d : ℕ) (Soft : Cause → Type 0) (Turns : Type 0) where
   past main trace (Stopped (Blamed comp cause line) s) stop front = (front, λ is. absurd (cc))
   past main trace (Stopped TurnsOut s) stop front = (front, λ is. absurd (cc))
   past main trace (Stopped EventsOut s) stop front = absurd stop
-
-  -- the frames of a run are those of its last state
-  frames_are : (main : ℕ) (p : Piece (Option Value)) → (run_to main p).frames ≡ (last p).frames
-  frames_are main (Reached v s) = refl
-  frames_are main (Stopped end s) = refl
 
   -- frames that go on, where they change at so many events and later
   abbrev FramesOn : ℕ → List FrameChange → List FrameChange → Type 0

@@ -41,7 +41,8 @@ left_behind zero (y ∷ xs) x rest is = cc is
 left_behind (suc n) [] x rest is = absurd (cc)
 left_behind (suc n) (y ∷ xs) x rest is = left_behind n xs x rest is
 
-words_are : (args : List ℕ) → list_all is_word (map (λ w. Word w) args) ≡ true
+-- words are words
+pub words_are : (args : List ℕ) → list_all is_word (map (λ w. Word w) args) ≡ true
 words_are [] = refl
 words_are (w ∷ args) = words_are args
 

@@ -15,7 +15,7 @@ pub use Rattle.std.specs.Option.{option_and_then, option_map_or}
 pub use Rattle.sc_base.specs.declared.stop.TrapReason.{TrapReason}
 pub use Rattle.sc_base.specs.declared.stop.TrapReason.TheVariants.{BadJump, Misaligned, NoImport}
 pub use Rattle.sc_word.specs.Prelude.{add_word, word_of}
-pub use Rattle.sc_store.proofs.Access.{next_there, written-stored, written_more}
+pub use Rattle.sc_store.proofs.Access.{next_there, written-stored, written_more, written_nothing}
 pub use Rattle.sc_store.specs.Prelude.{AreApart, AreBelow, HasBytes, IsIn, Memory, byte_of, is_in, load_of, stored}
 pub use Rattle.sc_store.specs.Prelude.{written, zeros}
 pub use Rattle.sc_store.specs.declared.region.Region.{Region}

@@ -6,8 +6,8 @@ use Rattle.sc_machine.proofs.Common.{cases_lt, comp_of_data, data_start, data_wi
 use Rattle.sc_machine.proofs.Common.{get_or_past, if◌then◌else◌, is_in, length, lt-ltb, most_globals, nat_le, nat_lt}
 use Rattle.sc_machine.proofs.Common.{option_and_then, refl, regions_of, slice_get, slice_get-get_or, slice_index}
 use Rattle.sc_machine.proofs.Common.{stack_size, stack_top, stack_tops, start_is, start_memory, stored, stretch, subst}
-use Rattle.sc_machine.proofs.Common.{suc, sym, take, true, written, written-stored, zero, zeros, ℕ, ⊎_elim, ◌&&◌, ◌++◌}
-use Rattle.sc_machine.proofs.Common.{◌+◌, ◌-◌, ◌<◌, ◌^◌, ◌∙◌, ◌∷◌, ◌≡◌, ◌≤◌}
+use Rattle.sc_machine.proofs.Common.{suc, sym, take, true, written, written-stored, written_nothing, zero, zeros, ℕ}
+use Rattle.sc_machine.proofs.Common.{⊎_elim, ◌&&◌, ◌++◌, ◌+◌, ◌-◌, ◌<◌, ◌^◌, ◌∙◌, ◌∷◌, ◌≡◌, ◌≤◌}
 use Rattle.sc_store.proofs.Regions.{in_true, in_false, in_cases}
 use Rattle.sc_store.proofs.Parts.{written-in, written-apart}
 
@@ -101,10 +101,6 @@ tops_more (x ∷ xs) c zero n place h = let first : c ≡ n = omega arith in ap 
 tops_more (x ∷ xs) c (suc i) n place h =
     ap (λ rest. stack_top c ∷ rest) (tops_more xs (suc c) i n (omega arith) (omega arith))
 
-pub length_tops : (c : ℕ) (comps : List CompPart) → length (stack_tops c comps) ≡ length comps
-length_tops c [] = refl
-length_tops c (comp ∷ comps) = ap suc (length_tops (suc c) comps)
-
 -- A memory of zeros with the bytes that regions begin with.
 
 abbrev AreWithin : List Filled → Type 0
@@ -175,9 +171,6 @@ filled_is (filled ∷ others) low a order within =
 
 -- So far of the compartments: one more of them.
 
-written_none : (m : Memory) (a : ℕ) → written m a [] ≡ m
-written_none m a = λ i b. written-apart m a [] b (λ from upto. omega (arith, from, upto)) i
-
 -- its regions
 regions_more : (comps : List CompPart) (c i n : ℕ) (comp : CompPart) → n ≡ c + i → slice_get comps i ≡ Some comp →
     regions_of (all_data c (take (suc i) comps)) ≡
@@ -200,7 +193,7 @@ filled_more [] c i n m comp place is = let never : ◌≡◌ {A = Option CompPar
 filled_more (x ∷ xs) c zero n m comp place is =
     let first : c ≡ n = omega arith in
     let same : x ≡ comp = cc is in
-    ap (λ (k : Memory). written k (stack_top c) x.globals) (written_none m (data_start c)) ∙
+    ap (λ (k : Memory). written k (stack_top c) x.globals) (written_nothing m (data_start c)) ∙
     ap₂ (λ k (y : CompPart). written m (stack_top k) y.globals) first same
 filled_more (x ∷ xs) c (suc i) n m comp place is =
     filled_more xs (suc c) i n (written (written m (data_start c) []) (stack_top c) x.globals) comp (omega arith) is

@@ -9,11 +9,9 @@ use Rattle.sc_replay.proofs.Common.{part, performer, proto_of, recursion_from_Al
 use Rattle.sc_replay.proofs.Common.{stands_after, subst, suc, sym, takes, true, ℕ, ◌&&◌, ◌==◌, ◌∙◌, ◌∷◌, ◌≡◌}
 use Rattle.std.proofs.lemmas.List.{length-map}
 use Rattle.sc_replay.proofs.Step.{Fair, MayAct, Suit}
+use Rattle.sc_laws.proofs.Scripts.{words_are}
 
 -- WORDS
-words_cross : (words : List ℕ) → list_all is_word (map (λ w. Word w) words) ≡ true
-words_cross [] = refl
-words_cross (word ∷ words) = words_cross words
 
 suits : (params : List Scalar) (words : List ℕ) → length params ≡ length words → AllByRecursion IsWord words →
     Suit params words
@@ -47,7 +45,7 @@ module _ (L : Library)
         and_from (imports faces from (is_function to index)) _ parts.0
             (and_from (takes faces to index (length (map (λ w. Word w) words))) _
             (ap (takes faces to index) (length-map words (λ w. Word w)) ∙ parts.1)
-            (and_from (list_all is_word (map (λ w. Word w) words)) _ (words_cross words) (leads_so to index suit.0))),
+            (and_from (list_all is_word (map (λ w. Word w) words)) _ (words_are words) (leads_so to index suit.0))),
         suit.1,
       )
 

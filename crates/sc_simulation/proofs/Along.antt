@@ -1,14 +1,13 @@
 -- Runs along a stretch on which no end is told.
-use Rattle.sc_simulation.proofs.Common.{Bool, Call, Crossing, End, Event, Front, Goes, ImageParts, In, IsFront}
-use Rattle.sc_simulation.proofs.Common.{IsWellFormed, List, None, Option, Out, Outcome, Ret, Some, Stop, Traps, [], ap}
-use Rattle.sc_simulation.proofs.Common.{arith, false, front_long, front_more, front_same, given_back, goes_adds}
-use Rattle.sc_simulation.proofs.Common.{has_no_end, has_result, is_end, is_ended, le-leb, leb-false, leb-true, length}
-use Rattle.sc_simulation.proofs.Common.{length-append, list_any, nat_le, not, not_stopped, option_map_or, refl, reg}
-use Rattle.sc_simulation.proofs.Common.{returned, run, run_goes, run_out, run_stopped, run_traps, slice_get, step}
-use Rattle.sc_simulation.proofs.Common.{step_of, stopped, subst, suc, suc-add, sym, take, take_fronts, then_on, true}
-use Rattle.sc_simulation.proofs.Common.{walk, walk_adds, zero, zero-add, ℕ, ◌++◌, ◌+◌, ◌-◌, ◌<◌, ◌||◌, ◌∙◌, ◌∷◌, ◌≡◌}
-use Rattle.sc_simulation.proofs.Common.{◌≤◌}
-use Rattle.sc_image.specs.Prelude.{State, a0, is_end as ends}
+use Rattle.sc_simulation.proofs.Common.{Bool, Call, End, Event, Front, Goes, ImageParts, In, IsFront, IsWellFormed}
+use Rattle.sc_simulation.proofs.Common.{List, None, Option, Out, Outcome, Ret, Some, Stop, Traps, [], ap, arith, false}
+use Rattle.sc_simulation.proofs.Common.{front_long, front_more, front_same, goes_adds, goes_one, has_no_end, is_end}
+use Rattle.sc_simulation.proofs.Common.{is_ended, le-leb, leb-false, leb-true, length, list_any, nat_le, not}
+use Rattle.sc_simulation.proofs.Common.{not_stopped, option_map_or, refl, run, run_goes, run_out, run_stopped}
+use Rattle.sc_simulation.proofs.Common.{run_traps, slice_get, step, stopped, subst, suc, suc-add, sym, take}
+use Rattle.sc_simulation.proofs.Common.{take_fronts, then_on, true, walk, walk_adds, zero, zero-add, ℕ, ◌++◌, ◌+◌, ◌-◌}
+use Rattle.sc_simulation.proofs.Common.{◌<◌, ◌||◌, ◌∙◌, ◌∷◌, ◌≡◌, ◌≤◌}
+use Rattle.sc_image.specs.Prelude.{State, is_end as ends}
 use Rattle.sc_base.specs.declared.stop.Stop.TheVariants.{EventsOut}
 
 -- LISTS
@@ -68,37 +67,7 @@ front_endless xs ys front h = fewer xs (subst (λ zs. has_no_end zs ≡ true) fr
 
 -- STEPS
 
--- a step tells one event at most
-abbrev AddsOne : List Event → Outcome → Type 0
-AddsOne trace (Goes next) = length next.trace ≤ suc (length trace)
-AddsOne trace (Traps reason) = Unit {0}
-
-one_more : (trace : List Event) (e : Event) → length (trace ++ e ∷ []) ≤ suc (length trace)
-one_more trace e = omega (arith, length-append trace (e ∷ []))
-
-return_adds : (image : ImageParts) (state : State) (cross : List Crossing) →
-    length (returned image state cross).trace ≤ suc (length state.trace)
-return_adds image state [] = one_more state.trace (End state.active (reg state a0))
-return_adds image state (x ∷ xs) =
-    one_more state.trace (Ret state.active x.caller (given_back (has_result image x.callee x.entry) state))
-
 module _ (image : ImageParts) (inputs : List ℕ) (formed : IsWellFormed image) where
-  step_adds : (state : State) → AddsOne state.trace (step image inputs state)
-  step_adds state = step_of image inputs formed state (AddsOne state.trace) (record {
-    same = λ a owned. refl;
-    traps = λ reason. tt;
-    quiet = λ regs pc moves. omega arith;
-    stores = λ op a word allowed. omega arith;
-    calls = λ to index target at may. one_more state.trace _;
-    returns = return_adds image state state.cross;
-    outputs = λ may. one_more state.trace _;
-    reads = λ may. one_more state.trace _;
-  })
-
-  goes_one : (state next : State) → step image inputs state ≡ Goes next →
-      length next.trace ≤ suc (length state.trace)
-  goes_one state next goes = subst (AddsOne state.trace) goes (step_adds state)
-
   as_front : (xs ys : List Event) → IsFront xs ys → Front xs ys
   as_front xs ys h = record { more = h.0; is = sym h.1 }
 
@@ -202,7 +171,8 @@ module _ (image : ImageParts) (inputs : List ℕ) (formed : IsWellFormed image) 
         by true full = done (suc n) from front short (leb-true events (length from.trace) full)
         by false full =
             let less : length from.trace < events = leb-false events (length from.trace) full in
-            further n from next front less is (later next goes (omega (arith, less, goes_one from next is)))
+            further n from next front less is
+            (later next goes (omega (arith, less, goes_one image inputs formed from next is)))
       along_by n from (Traps reason) is goes front short later = cc goes
 
       pub along : (n : ℕ) (from : State) → walk image inputs n from ≡ Goes to → length from.trace ≤ events →

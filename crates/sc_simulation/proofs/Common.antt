@@ -49,7 +49,7 @@ pub use Rattle.rv_code.specs.declared.instr.Instr.TheVariants.{Ecall, Jal, Store
 pub use Rattle.sc_image.proofs.Cases.{allowed_data, step_of}
 pub use Rattle.sc_image.proofs.Reached.{called_other, called_there, runs_are_steady}
 pub use Rattle.sc_image.proofs.Running.{run_goes, run_out, run_stopped, run_traps}
-pub use Rattle.sc_image.proofs.Stretches.{IsFront, goes_adds, not_stopped, walk_adds}
+pub use Rattle.sc_image.proofs.Stretches.{IsFront, goes_adds, goes_one, not_stopped, walk_adds}
 pub use Rattle.sc_image.proofs.Telling.{steps_tell}
 pub use Rattle.sc_image.proofs.Walking.{walk_one}
 pub use Rattle.sc_image.specs.Prelude.{Crossing, Goes, IsAt, IsSteady, IsWellFormed, IsWord, Outcome, Traps, Walks}

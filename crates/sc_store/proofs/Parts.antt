@@ -9,6 +9,7 @@ use Rattle.std.proofs.lemmas.List.Quantifiers.{position-Some}
 use Rattle.std.proofs.Math.Seq.{map-set_same}
 use Rattle.sc_store.specs.declared.part.Part.{Part}
 use Rattle.sc_store.proofs.Regions.{in_true, in_false, in_cases}
+use Rattle.sc_base.proofs.Bools.{some_value}
 
 -- ---- a part that has the addresses of an access
 spans_in : (a n b : ℕ) (p : Part) → spans a n p ≡ true → a ≤ b → b < a + n → IsIn (region_of p) b
@@ -74,10 +75,6 @@ found [] a some = absurd (cc)
 found (p ∷ ps) a some =
     let w = somewhere (p ∷ ps) p a some in
     passes (spans a 1) (p ∷ ps) w.0 p w.1 (in_spans a (get_or (p ∷ ps) w.0 p) w.2)
-
-some_value : (o : Option ℕ) → IsSome o → (y : ℕ) × (o ≡ Some y)
-some_value None h = absurd (cc)
-some_value (Some y) h = (y, refl)
 
 -- parts with one address are the same
 same_place : (ps : List Part) (i j : ℕ) (d : Part) (a : ℕ) → AreApart (regions_of ps) → i < length ps →

@@ -2,12 +2,13 @@
 use Rattle.sc_tac.proofs.Common.{Bool, Each, IsAssignment, IsClear, IsFunction, List, None, Option, PlacesAreClear}
 use Rattle.sc_tac.proofs.Common.{Point, Share, Some, Span, TacFnTree, Within, [], ap, arith, drop, eq-eqb, false}
 use Rattle.sc_tac.proofs.Common.{from_here, function_points, get_or, has_call, if◌then◌else◌, interval_of, intervals_of}
-use Rattle.sc_tac.proofs.Common.{is_one, is_used, list_any, map, one_or_none, or_first, or_left, or_right}
-use Rattle.sc_tac.proofs.Common.{range_with_len, refl, slice_get, span_from, subst, suc, take, true, zero, ℕ, ◌+◌, ◌-◌}
-use Rattle.sc_tac.proofs.Common.{◌<◌, ◌==◌, ◌||◌, ◌∙◌, ◌∷◌, ◌≡◌, ◌≤◌}
+use Rattle.sc_tac.proofs.Common.{is_one, is_used, map, one_or_none, or_first, or_left, or_right, range_with_len, refl}
+use Rattle.sc_tac.proofs.Common.{slice_get, span_from, subst, suc, take, true, zero, ℕ, ◌+◌, ◌-◌, ◌<◌, ◌==◌, ◌||◌, ◌∙◌}
+use Rattle.sc_tac.proofs.Common.{◌∷◌, ◌≡◌, ◌≤◌}
 use Rattle.std.proofs.lemmas.Option.{same_Some, slice_get-get_or}
 use Rattle.sc_tac.specs.declared.place.Place.{Place}
 use Rattle.sc_tac.proofs.Owned.{OwnPoint, points_own}
+use Rattle.std.proofs.lemmas.Map.Keys.{any_passes_from_place}
 
 -- a span that is found lasts to the number from which points are counted, or longer
 behind_by : (b : Bool) (from : ℕ) (later : Option Span) (span : Span) →
@@ -83,13 +84,6 @@ within xs t k x at used =
     let last : (or_first (span_from t 0 xs)).last ≡ c.some.last = ap (λ s. (or_first s).last) c.is in
     record { begun = omega (arith, first, c.begun); lasts = omega (arith, last, c.lasts) })
 
--- a call at a point of a span is found
-any_at : {A : Type 0} (p : A → Bool) (xs : List A) (i : ℕ) (x : A) → slice_get xs i ≡ Some x → p x ≡ true →
-    list_any p xs ≡ true
-any_at p [] i x at is = absurd (cc at)
-any_at p (z ∷ xs) zero x at is = or_left (p z) (list_any p xs) (ap p (same_Some z x at) ∙ is)
-any_at p (z ∷ xs) (suc i) x at is = or_right (p z) (list_any p xs) (any_at p xs i x at is)
-
 get_dropped : {A : Type 0} (xs : List A) (n k m : ℕ) → m ≡ n + k → slice_get (drop n xs) k ≡ slice_get xs m
 get_dropped [] zero k m e = refl
 get_dropped [] (suc n) k m e = refl
@@ -106,7 +100,8 @@ get_front (x ∷ xs) (suc n) (suc k) less = get_front xs n k (omega (arith, less
 call_found : (xs : List Point) (span : Span) (k : ℕ) (x : Point) → slice_get xs k ≡ Some x → x.calls ≡ true →
     span.first ≤ k → k ≤ span.last → has_call xs span ≡ true
 call_found xs span k x at calls begun lasts =
-    any_at (λ (x : Point). x.calls) (take (suc span.last - span.first) (drop span.first xs)) (k - span.first) x
+    any_passes_from_place (λ (x : Point). x.calls) (take (suc span.last - span.first) (drop span.first xs))
+    (k - span.first) x
     (get_front (drop span.first xs) (suc span.last - span.first) (k - span.first) (omega (arith, begun, lasts)) ∙
     get_dropped xs span.first (k - span.first) k (omega (arith, begun)) ∙ at) calls
 

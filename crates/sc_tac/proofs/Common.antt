@@ -4,7 +4,7 @@ pub use Rattle.std.proofs.Common.{eq-eqb, eqb-true, false, get_or, if◌then◌e
 pub use Rattle.std.proofs.Common.{slice_get, subst, suc, sym, take, true, zero, ℕ, ⊎_elim, ◌&&◌, ◌*◌, ◌++◌, ◌+◌, ◌-◌}
 pub use Rattle.std.proofs.Common.{◌<◌, ◌==◌, ◌||◌, ◌∙◌, ◌∷◌, ◌≡◌, ◌≤◌}
 pub use Rattle.std.proofs.lemmas.Bool.{or_cases, or_left, or_right}
-pub use Rattle.std.specs.List.{list_all, list_any, range_with_len}
+pub use Rattle.std.specs.List.{list_all, range_with_len}
 pub use Rattle.sc_event.specs.declared.interface.Interfaces.{Interfaces}
 pub use Rattle.sc_core.proofs.Induction.{Each}
 pub use Rattle.sc_core.specs.Prelude.{Arith, Blocks, Break, Calls, Continue, Function, Here, Library, Next, Reached}

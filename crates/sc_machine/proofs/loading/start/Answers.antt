@@ -1,6 +1,6 @@
 use Rattle.sc_machine.proofs.Common.{All, All-nil, Crossing, Waiting, arith, length, subst, sym, ◌<◌}
-use Rattle.sc_machine.proofs.Start.{length_tops}
 use Rattle.sc_machine.proofs.loading.start.Goals as goal
+use Rattle.sc_image.proofs.Reached.{length-stack_tops}
 
 pub returns-clause-sound : goal.returns-clause-sound
 returns-clause-sound c =
@@ -13,6 +13,6 @@ returns-clause-sound c =
       callers = subst (λ (w : Waiting). All waits w.calls) (sym c.cross.view_is)
           (subst (All waits) (sym c.in-Ok.ensures.calls) (All-nil waits));
       saved = rw (c.in_ok-stack_tops.ensures, c.as_slice.ensures, c.parts-parts.ensures.parts)
-          (length_tops 0 c.args.image.now.comps);
+          (length-stack_tops 0 c.args.image.now.comps);
       input = omega arith;
     }
