@@ -3,7 +3,7 @@ use Rattle.sc_alloc.proofs.Common.{All, All-permutation, AreFair, AreIntervals, 
 use Rattle.sc_alloc.proofs.Common.{ArePlaces, Contains, Contains-permutation, Given, Interval, IsAssignment}
 use Rattle.sc_alloc.proofs.Common.{IsPermutation, IsPermutation-sym, IsSparing, IsTrue, List, Place, Slot, Some, [], ap}
 use Rattle.sc_alloc.proofs.Common.{arith, cases_order, count_by, eq-eqb, get_or, get_or_from_slice_get, is_place}
-use Rattle.sc_alloc.proofs.Common.{length, length_permutation, map, option_map, refl, same_Some, slice_get}
+use Rattle.sc_alloc.proofs.Common.{is_there, length, length_permutation, map, option_map, refl, same_Some, slice_get}
 use Rattle.sc_alloc.proofs.Common.{slice_get-get_or, slice_get-map, slice_get_within, subst, suc, sum_by-IsPermutation}
 use Rattle.sc_alloc.proofs.Common.{sym, zero, ℕ, ⊎_elim, ◌<◌, ◌∙◌, ◌∷◌, ◌≡◌, ◌≤◌}
 use Rattle.sc_alloc.proofs.Counts.{has_temp, once_from, one, only}
@@ -30,11 +30,6 @@ unmapped : (given : List Given) (i : ℕ) (x : Interval) → slice_get (interval
 unmapped [] i x at = absurd (cc at)
 unmapped (g ∷ given) zero x at = (g, refl, same_Some g.interval x at)
 unmapped (g ∷ given) (suc i) x at = unmapped given i x at
-
-pub some_at : {A : Type 0} (xs : List A) (i : ℕ) → i < length xs → (x : A) × (slice_get xs i ≡ Some x)
-some_at [] i less = absurd (omega arith)
-some_at (x ∷ xs) zero less = (x, refl)
-some_at (x ∷ xs) (suc i) less = some_at xs i (omega (arith, less))
 
 -- intervals in order keep what all keep
 pub all_ordered : (intervals order : List Interval) → AreIntervals intervals → IsPermutation intervals order →
@@ -161,7 +156,7 @@ module _ (intervals : List Interval) (given : List Given) (are : AreIntervals in
     is_known : (t : ℕ) (place : Place) → slice_get places t ≡ Some place → IsTrue (is_place (length places) place)
     is_known t place at =
         (let less : t < length intervals = omega (arith, slice_get_within places t place at, placed.each, size) in
-        let x = some_at intervals t less in
+        let x = is_there intervals t less in
         let f = found t x.0 x.1 in
         let same : f.g.place ≡ place = same_Some f.g.place place (sym f.place ∙ at) in
         subst (λ n. IsTrue (is_place n place)) (sym placed.each)

@@ -2,11 +2,11 @@
 use Rattle.sc_alloc.proofs.Common.{All, All-permutation, AreIntervals, ArePlaced, Contains-permutation, Given, Interval}
 use Rattle.sc_alloc.proofs.Common.{IsPermutation, IsPermutation-map, IsPermutation-sym, IsPermutation-trans, List}
 use Rattle.sc_alloc.proofs.Common.{Place, Some, ap, arith, cases_eq, cases_lt, eq-eqb, get_or, get_or_from_slice_get}
-use Rattle.sc_alloc.proofs.Common.{length, length_permutation, map, option_map, refl, slice_get, slice_get-get_or}
-use Rattle.sc_alloc.proofs.Common.{slice_get-map, slice_get_past, sorted_by, suc, sym, zero, ℕ, ⊎_elim, ◌+◌, ◌-◌, ◌<◌}
-use Rattle.sc_alloc.proofs.Common.{◌∙◌, ◌≡◌, ◌≢◌, ◌≤◌}
+use Rattle.sc_alloc.proofs.Common.{is_there, length, length_permutation, map, option_map, refl, slice_get}
+use Rattle.sc_alloc.proofs.Common.{slice_get-get_or, slice_get-map, slice_get_past, sorted_by, suc, sym, zero, ℕ}
+use Rattle.sc_alloc.proofs.Common.{⊎_elim, ◌+◌, ◌-◌, ◌<◌, ◌∙◌, ◌≡◌, ◌≢◌, ◌≤◌}
 use Rattle.std.proofs.lemmas.List.{length-map}
-use Rattle.sc_alloc.proofs.Assignment.{contained, container, few, intervals_of, mapped_at, numbered, some_at}
+use Rattle.sc_alloc.proofs.Assignment.{contained, container, few, intervals_of, mapped_at, numbered}
 use Rattle.sc_alloc.proofs.Counts.{has_temp, only}
 use Rattle.sc_alloc.proofs.Lists.{same_all}
 use Rattle.sc_alloc.proofs.Sorting.{sorted_moved, sorted_up}
@@ -87,7 +87,7 @@ module _ (intervals : List Interval) (given : List Given) (are : AreIntervals in
     pub by_temps : places ≡ map place_of ordered
     by_temps = sym (same_all (map place_of ordered) places
         (λ i. ⊎_elim
-        (λ less. (let g = some_at ordered i less in found i g.0 g.1 less))
+        (λ less. (let g = is_there ordered i less in found i g.0 g.1 less))
         (λ past. slice_get_past (map place_of ordered) i (omega (arith, length-map ordered place_of, past)) ∙
         sym (slice_get_past places i (omega (arith, placed.each, as_long, past))))
         (cases_lt i (length ordered))))

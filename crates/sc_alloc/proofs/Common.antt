@@ -3,7 +3,7 @@ pub use Rattle.std.proofs.Common.{All, Bool, IsTrue, List, None, Option, Some, [
 pub use Rattle.std.proofs.Common.{get_or, inl, inr, length, length-append, length-set, map, max, nat_eq, nat_le, nat_lt}
 pub use Rattle.std.proofs.Common.{ne_eqb, not, refl, replicate, rules, slice_get, slice_set, subst, suc, sym, take}
 pub use Rattle.std.proofs.Common.{true, zero, ℕ, ⊎_elim, ◌&&◌, ◌++◌, ◌+◌, ◌-◌, ◌<◌, ◌∙◌, ◌∷◌, ◌≡◌, ◌≢◌, ◌≤◌, ◌⊎◌}
-pub use Rattle.std.proofs.lemmas.Bool.{cases_eq, cases_lt, cases_order}
+pub use Rattle.std.proofs.lemmas.Bool.{and_from, and_right, cases_eq, cases_lt, cases_order}
 pub use Rattle.std.proofs.lemmas.Bool.Decides.{nat_tests}
 pub use Rattle.std.proofs.lemmas.List.Elements.{All-cons, All-from_recursion, All-nil, All-tail}
 pub use Rattle.std.proofs.lemmas.List.Sorted.{All-permutation, Contains-permutation, IsNonDecreasingBy-from_sort_by_key}
@@ -20,7 +20,7 @@ pub use Rattle.std.specs.List.Sorted.{IsNonDecreasingBy, IsPermutation, IsStable
 pub use Rattle.std.specs.Option.{IfNone, IfSome, option_map}
 pub use Rattle.std.specs.Ordering.{is_lt, nat_cmp, ordering_then}
 pub use Rattle.std.specs.declared.cmp.Reverse.{Reverse}
-pub use Rattle.sc_base.proofs.Lists.{get_behind, position-cons}
+pub use Rattle.sc_base.proofs.Lists.{get_behind, is_there, position-cons}
 pub use Rattle.sc_tac.specs.Prelude.{AreIntervals, ArePlaces, IsAssignment, IsSparing, is_place, register_count}
 pub use Rattle.sc_alloc.specs.Common.{Interval, Place, Register, Slot}
 pub use Rattle.sc_alloc.specs.Places.{insert_by, is_soonest, slot_for, with_place, with_slot}

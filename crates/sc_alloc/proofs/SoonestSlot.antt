@@ -1,11 +1,11 @@
 -- The slot that is free soonest: it is the greatest of the heap, and leaves it and comes back.
 use Rattle.sc_alloc.proofs.Common.{All, All-cons, All-permutation, All-tail, Bool, HasEnds, IsHeap, IsPermutation}
-use Rattle.sc_alloc.proofs.Common.{LacksOne, List, Reverse, SlotEnd, Some, [], ap, arith, cases_eq, count_by, false}
-use Rattle.sc_alloc.proofs.Common.{get_or, get_or_from_slice_get, is_lt, is_of, is_soonest, length, list_all, max}
-use Rattle.sc_alloc.proofs.Common.{nat_cmp, nat_le, nat_lt, nat_tests, ordering_then, position_or_len_is, refl}
-use Rattle.sc_alloc.proofs.Common.{same_Some, slice_get, slice_get-get_or, slice_get_within, slot_for, soonest_first}
-use Rattle.sc_alloc.proofs.Common.{subst, suc, sum_by-cons, sum_by_popped, sum_by_pushed, sym, true, with_slot, zero, ℕ}
-use Rattle.sc_alloc.proofs.Common.{⊎_elim, ◌&&◌, ◌+◌, ◌<◌, ◌∙◌, ◌∷◌, ◌≡◌, ◌≢◌, ◌≤◌}
+use Rattle.sc_alloc.proofs.Common.{LacksOne, List, Reverse, SlotEnd, Some, [], and_from, and_right, ap, arith, cases_eq}
+use Rattle.sc_alloc.proofs.Common.{count_by, false, get_or, get_or_from_slice_get, is_lt, is_of, is_soonest, length}
+use Rattle.sc_alloc.proofs.Common.{list_all, max, nat_cmp, nat_le, nat_lt, nat_tests, ordering_then, position_or_len_is}
+use Rattle.sc_alloc.proofs.Common.{refl, same_Some, slice_get, slice_get-get_or, slice_get_within, slot_for}
+use Rattle.sc_alloc.proofs.Common.{soonest_first, subst, suc, sum_by-cons, sum_by_popped, sum_by_pushed, sym, true}
+use Rattle.sc_alloc.proofs.Common.{with_slot, zero, ℕ, ⊎_elim, ◌&&◌, ◌+◌, ◌<◌, ◌∙◌, ◌∷◌, ◌≡◌, ◌≢◌, ◌≤◌}
 use Rattle.std.proofs.lemmas.List.Folds.{list_all_at}
 use Rattle.sc_alloc.proofs.Lists.{all_at}
 use Rattle.sc_alloc.proofs.FreeSlots.{counts_none, is_none, is_one, none_of, one_of}
@@ -53,14 +53,6 @@ lowest slots ends count x has top j l at =
     let b = not_before x y (top e.0 x e.1) in
     (omega (arith, b.0, last), λ q. omega (arith, b.1 (sym last ∙ q), same)))
 
-from_both : (a b : Bool) → a ≡ true → b ≡ true → (a && b) ≡ true
-from_both true b one other = other
-from_both false b one other = absurd (cc one)
-
-from_second : (a b : Bool) → b ≡ false → (a && b) ≡ false
-from_second true b other = other
-from_second false b other = refl
-
 from_first : (a b : Bool) → a ≡ false → (a && b) ≡ false
 from_first true b one = absurd (cc one)
 from_first false b one = refl
@@ -85,11 +77,11 @@ module _ (slots : List ℕ) (at : ℕ) where
         let low = lowest slots ends count x has top k l (slice_get-get_or slots k 0 (omega (arith, own, less))) in
         let above : x.0.last < l = ⊎_elim (λ e. absurd (let q : x.0.slot ≤ k = low.1 e in omega (arith, q, less)))
         (λ ne. omega (arith, low.0, ne)) (cases_eq l x.0.last) in
-        from_second (nat_lt l at) (list_all (nat_le l) slots)
+        and_right (nat_lt l at) (list_all (nat_le l) slots)
         (list_all_at (nat_le l) slots x.0.slot 0 own
         (subst (λ last. nat_le l last ≡ false) (sym here) (grind (arith, nat_tests))))))
         (λ less. subst (λ last. is_soonest at slots last ≡ true) (sym here)
-        (from_both (nat_lt x.0.last at) (list_all (nat_le x.0.last) slots) (grind (arith, nat_tests))
+        (and_from (nat_lt x.0.last at) (list_all (nat_le x.0.last) slots) (grind (arith, nat_tests))
         (all_at (nat_le x.0.last) slots
         (λ j l get. (let low = lowest slots ends count x has top j l get in grind (arith, nat_tests)))))))
 

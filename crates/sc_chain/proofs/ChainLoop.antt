@@ -2,8 +2,9 @@
 use Rattle.sc_chain.proofs.Common.{Accepts, All, Event, HasWords, Interfaces, IsChain, IsNextOf, IsReplaced, IsSource}
 use Rattle.sc_chain.proofs.Common.{IsWellTyped, Link, List, None, Option, ProgramTree, Set, Some, SourceParts}
 use Rattle.sc_chain.proofs.Common.{SourceRun, TellsOrBlames, [], among, ap, inl, inr, legal, length, meaning, refl}
-use Rattle.sc_chain.proofs.Common.{same_count, scripted_meaning, subst, sym, true, ℕ, ⊎_elim, ◌++◌, ◌-◌, ◌<◌, ◌∙◌, ◌∷◌}
-use Rattle.sc_chain.proofs.Common.{◌≡◌, ◌≤◌, ◌⊎◌}
+use Rattle.sc_chain.proofs.Common.{scripted_meaning, subst, sym, true, ℕ, ⊎_elim, ◌++◌, ◌-◌, ◌<◌, ◌∙◌, ◌∷◌, ◌≡◌, ◌≤◌}
+use Rattle.sc_chain.proofs.Common.{◌⊎◌}
+use Rattle.sc_linker.proofs.Comps.{same_count}
 use Rattle.sc_chain.proofs.Accepted.{recomposed_means}
 use Rattle.sc_chain.proofs.ChainFollowing.{IsAt, begins, ends, few_links, fewer_left, goes_on, runs}
 use Rattle.sc_chain.proofs.ChainTexts.{is_chain}

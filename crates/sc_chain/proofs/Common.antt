@@ -22,7 +22,6 @@ pub use Rattle.sc_laws.specs.Prelude.{AreFresh, IsBlamedOutside, IsLink, IsRisin
 pub use Rattle.sc_image.specs.Prelude.{Goes, IsWellFormed, IsWord, Outcome, Run, State, Traps, machine, run, start}
 pub use Rattle.sc_image.specs.Prelude.{step, stopped}
 pub use Rattle.sc_image.specs.declared.parts.ImageParts.{ImageParts}
-pub use Rattle.sc_linker.proofs.Compartments.{few_numbers, same_count}
 pub use Rattle.sc_compile.specs.Prelude.{IsCompiled, TellsOrBlames, image_of}
 pub use Rattle.sc_back.specs.Prelude.{HasNext, new_text, new_texts}
 pub use Rattle.sc_replay.specs.Replay.{HasWords, IsRecomposed, IsReplay}

@@ -6,11 +6,11 @@ use Rattle.sc_emit.proofs.Common.{IsActivation, IsBack, IsClear, IsInside, IsSom
 use Rattle.sc_emit.proofs.Common.{Joint, Left, Line, List, Lives, Lui, MovesOn, Next, None, Option, Overflows, Own}
 use Rattle.sc_emit.proofs.Common.{Piece, Place, Point, Reached, Ready, Register, Registers, Running, Setting, Slot}
 use Rattle.sc_emit.proofs.Common.{Some, Standpoint, StandsFor, State as Meant, Stopped, Stores, Temps, Trail, Upper}
-use Rattle.sc_emit.proofs.Common.{Value, [], a0, add_word, and_then, ap, append_assoc, arith, arrives_with, assigned_at}
-use Rattle.sc_emit.proofs.Common.{assigns_register, assigns_slot, back_at, call_cross, call_does, call_from, call_own}
-use Rattle.sc_emit.proofs.Common.{code_inside, code_step, comes_after, completed, completed_length, completed_plainly}
-use Rattle.sc_emit.proofs.Common.{each_at, false, first_scratch, front_at, in_row, inl, inr, is_back, is_one, is_some}
-use Rattle.sc_emit.proofs.Common.{jalr_target, leads_none, leave, length, length-append, live_across, live_at}
+use Rattle.sc_emit.proofs.Common.{Value, [], a0, add_word, all_at, and_then, ap, append_assoc, arith, arrives_with}
+use Rattle.sc_emit.proofs.Common.{assigned_at, assigns_register, assigns_slot, back_at, call_cross, call_does}
+use Rattle.sc_emit.proofs.Common.{call_from, call_own, code_inside, code_step, comes_after, completed, completed_length}
+use Rattle.sc_emit.proofs.Common.{completed_plainly, false, first_scratch, front_at, in_row, inl, inr, is_back, is_one}
+use Rattle.sc_emit.proofs.Common.{is_some, jalr_target, leads_none, leave, length, length-append, live_across, live_at}
 use Rattle.sc_emit.proofs.Common.{live_plain, look_at, low_after, low_append, low_plainly, lower_part, move, moved}
 use Rattle.sc_emit.proofs.Common.{moves, ne_eqb, no_other_use, or_left, overflows_from, overflows_with, pass}
 use Rattle.sc_emit.proofs.Common.{plain_points, plainly, pos, put, put_word, ra, read_all, receive, received, referring}
@@ -369,7 +369,7 @@ module _ (T : Setting) (R : Running) (formed : IsWellFormed T.image) (inputs : A
         (goes calls follow (Own function) dest args)
         (λ lives temps x left ready clear code inside ends left_is behind_is.
         call_runs calls follow (Own function) dest args there made answers lives temps
-        (each_at (IsClear R.places) (plain_points args true dest lives) 2 _ clear refl)
+        (all_at (IsClear R.places) (plain_points args true dest lives) 2 _ clear refl)
         (λ y left v s ready b. is_back T R args dest lives temps y (Own function) left v s is.honest ready clear b) x
         before
         (own_call function args x.pc) left ends left_is behind_is code ready
@@ -421,7 +421,7 @@ module _ (T : Setting) (R : Running) (formed : IsWellFormed T.image) (inputs : A
         (goes calls follow (Cross comp index) dest args)
         (λ lives temps x left ready clear code inside ends left_is behind_is.
         call_runs calls follow (Cross comp index) dest args there made answers lives temps
-        (each_at (IsClear R.places) (plain_points args true dest lives) 2 _ clear refl)
+        (all_at (IsClear R.places) (plain_points args true dest lives) 2 _ clear refl)
         (λ y left v s ready b.
         is_back T R args dest lives temps y (Cross comp index) left v s is.honest ready clear b) x
         before (Jalr ra first_scratch (lower_part address)) left ends left_is behind_is code ready

@@ -5,7 +5,7 @@ pub use Rattle.std.proofs.Common.{inl, inr, int_le, is_some, le-leb, le-ltb, leb
 pub use Rattle.std.proofs.Common.{map, max, nat_eq, nat_le, nat_lt, ne_eqb, neg_ℤ, negsuc, not, pos, refl, rules}
 pub use Rattle.std.proofs.Common.{slice_get, subst, suc, sym, true, zero, ℕ, ℤ, ⊎_elim, ◌%◌, ◌&&◌, ◌*◌, ◌++◌, ◌+◌, ◌-ℤ◌}
 pub use Rattle.std.proofs.Common.{◌-◌, ◌/◌, ◌<◌, ◌==◌, ◌^◌, ◌||◌, ◌∙◌, ◌∷◌, ◌≡◌, ◌≢◌, ◌≤ℤ◌, ◌≤◌, ◌⊎◌}
-pub use Rattle.std.proofs.lemmas.Bool.{and_from, and_parts, cases_eq, cases_lt, lt-leb}
+pub use Rattle.std.proofs.lemmas.Bool.{and_from, and_parts, cases_eq, cases_lt, lt-leb, or_left, or_right}
 pub use Rattle.std.proofs.lemmas.List.{length-map, map-append}
 pub use Rattle.std.proofs.lemmas.List.Elements.{All-cons, All-nil, All-tail}
 pub use Rattle.std.proofs.lemmas.List.Folds.{list_all-append, list_all-map}
@@ -14,6 +14,7 @@ pub use Rattle.std.proofs.lemmas.Option.{same_Some, slice_get-get_or, slice_get_
 pub use Rattle.std.specs.List.{count_by, list_all, range_with_len}
 pub use Rattle.std.specs.Option.{unwrap_or}
 pub use Rattle.sc_base.proofs.Bools.{and_first, and_rest}
+pub use Rattle.sc_base.proofs.Lists.{all_at, is_there}
 pub use Rattle.sc_event.specs.declared.row.Entry.{Entry}
 pub use Rattle.sc_event.specs.declared.row.Entry.TheVariants.{Export, Main}
 pub use Rattle.sc_word.proofs.Words.{word_of-lt, word_of-unsigned_sub}
@@ -91,8 +92,7 @@ pub use Rattle.sc_pieces.specs.Frames.{FrameOverflows, LeavesFrame, TakesFrame, 
 pub use Rattle.sc_pieces.specs.Pieces.{Besides, Computes, Does, IsFromSp, IsWritable, Stores}
 pub use Rattle.sc_relation.proofs.Calling.{Enters, activated, entered, is_activation, ready_entered}
 pub use Rattle.sc_relation.proofs.Following.{IsBack, back_with, comes_computed, comes_read, is_back}
-pub use Rattle.sc_relation.proofs.Frames.{each_at, is_there, object_inside, object_there, objects_apart, own_beside}
-pub use Rattle.sc_relation.proofs.Frames.{own_inside}
+pub use Rattle.sc_relation.proofs.Frames.{object_inside, object_there, objects_apart, own_beside, own_inside}
 pub use Rattle.sc_relation.proofs.Functions.{function_follows, overflows_entering}
 pub use Rattle.sc_relation.proofs.Jumps.{HasNoGap, break_follows, continue_follows, over}
 pub use Rattle.sc_relation.proofs.Lines.{InParts, completed_length, completed_plainly, in_parts, low_append}
@@ -101,7 +101,7 @@ pub use Rattle.sc_relation.proofs.Registers.{HasNoOtherUse, no_other_use, regist
 pub use Rattle.sc_relation.proofs.Settling.{leads_moved, moved, settled_moved}
 pub use Rattle.sc_relation.proofs.Straight.{IsLoaded, MovesOn, across_live, asked, assigned, assigned_at}
 pub use Rattle.sc_relation.proofs.Straight.{assigns_register, assigns_slot, call_from, live_plain, loads, may_store}
-pub use Rattle.sc_relation.proofs.Straight.{or_left, or_right, overflows_from, settled_to, shows_from}
+pub use Rattle.sc_relation.proofs.Straight.{overflows_from, settled_to, shows_from}
 pub use Rattle.sc_relation.proofs.Stretches.{arrives_with, comes_after, leads_less, leads_none, leads_then}
 pub use Rattle.sc_relation.proofs.Stretches.{overflows_then, overflows_with, returns_with, shows_after, shows_here}
 pub use Rattle.sc_relation.proofs.Stretches.{shows_less}

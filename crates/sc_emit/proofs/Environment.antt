@@ -4,10 +4,10 @@ use Rattle.sc_emit.proofs.Common.{Computes, Ecall, Fetches, Follows, FrameTree, 
 use Rattle.sc_emit.proofs.Common.{IsClear, IsWellFormed, IsWord, Joint, List, Lives, None, OpImm, Option, Output, Ready}
 use Rattle.sc_emit.proofs.Common.{Running, Setting, Standpoint, State as Meant, Temps, Value, [], a0, a7, across_live}
 use Rattle.sc_emit.proofs.Common.{ap, append-nil, append_assoc, arith, asked, back_at, back_with, brought, call_does}
-use Rattle.sc_emit.proofs.Common.{call_from, code_step, each_at, environment_call, false, length, live_plain, moved}
+use Rattle.sc_emit.proofs.Common.{call_from, code_step, environment_call, false, length, live_plain, moved}
 use Rattle.sc_emit.proofs.Common.{of_environment, pass, place_of, plain_points, pos, receive, refl, seen_from}
 use Rattle.sc_emit.proofs.Common.{select_step, subst, sym, trail_step, true, with_number, wrapping, ℕ, ◌*◌, ◌++◌, ◌+◌}
-use Rattle.sc_emit.proofs.Common.{◌<◌, ◌^◌, ◌∙◌, ◌∷◌, ◌≡◌, ◌≤◌}
+use Rattle.sc_emit.proofs.Common.{◌<◌, ◌^◌, ◌∙◌, ◌∷◌, ◌≡◌, ◌≤◌, each_at}
 use Rattle.sc_tac.specs.declared.stmt.TacStmt.TheOpen as tac
 use Rattle.sc_emit.proofs.Arguments.{AreRead, read_length, Passes}
 use Rattle.sc_emit.proofs.Calls.{Answers, none_wanted, HasPlace, last_point, Prepares, goes, call_runs, passes_args}

@@ -130,7 +130,7 @@ word_byte (first ∷ words) (suc k) j word within at =
     ap (slice_get (flat_map (little_bytes 4) (first ∷ words))) place ∙ word_byte words k j word within at
 
 -- four bytes are the number that they make
-pub four_bytes : (word : ℕ) → word < 2 ^ 32 →
+four_bytes : (word : ℕ) → word < 2 ^ 32 →
     0 + byte_of word 0 * 256 ^ 0 + byte_of word 1 * 256 ^ 1 + byte_of word 2 * 256 ^ 2 + byte_of word 3 * 256 ^ 3 ≡ word
 four_bytes word below = omega (arith, below)
 

@@ -1,7 +1,7 @@
 -- Values have the kinds of their types: expressions.
 use Rattle.sc_kinds.proofs.Common.{Arith, BadPointer, Blocks, Bool, Cause, Err, Here, Judged, List, Meant, None, Null}
 use Rattle.sc_kinds.proofs.Common.{Ok, Option, Ptr, Result, Scope, Some, Ty, TypedExpr, TypedStruct, Under, Value, Word}
-use Rattle.sc_kinds.proofs.Common.{and_first, and_rest, ap, apart, applied, applied_one, are_equatable, are_ordered}
+use Rattle.sc_kinds.proofs.Common.{[], and_first, and_rest, ap, apart, applied, applied_one, are_equatable, are_ordered}
 use Rattle.sc_kinds.proofs.Common.{as_word, at_place, at_pointer, between, binary, binary_fits, bind, both_ints}
 use Rattle.sc_kinds.proofs.Common.{cells_at, choose, common, decayed, difference_fits, expr_at, expr_induction, false}
 use Rattle.sc_kinds.proofs.Common.{false≢true, if◌then◌else◌, in_elements, int_div, int_rem, is_address, is_array}
@@ -9,9 +9,9 @@ use Rattle.sc_kinds.proofs.Common.{is_int, is_integer, is_live, is_of, is_pointe
 use Rattle.sc_kinds.proofs.Common.{is_unsigned, is_unsigned_op, is_zero, judged, judged_ty, length, literal, load}
 use Rattle.sc_kinds.proofs.Common.{loaded, meant, meant_step, moved, moved_back, moved_on, nat_le, negsuc, not, of_bool}
 use Rattle.sc_kinds.proofs.Common.{on_word, on_words, ordered, place_at, pointer_to, points, pos, refl, same_place}
-use Rattle.sc_kinds.proofs.Common.{same_pointers, same_ty, slice_get, subst, suc, sum_fits, sym, target_cells}
-use Rattle.sc_kinds.proofs.Common.{term_judged, term_of, term_step, true, typed, unary_fits, variable_at, wanted, ways}
-use Rattle.sc_kinds.proofs.Common.{ℕ, ℤ, ◌&&◌, ◌-◌, ◌^◌, ◌||◌, ◌∙◌, ◌≡◌}
+use Rattle.sc_kinds.proofs.Common.{same_pointers, same_ty, same_types, slice_get, subst, suc, sum_fits, sym}
+use Rattle.sc_kinds.proofs.Common.{target_cells, term_judged, term_of, term_step, true, typed, unary_fits, variable_at}
+use Rattle.sc_kinds.proofs.Common.{wanted, ways, ℕ, ℤ, ◌&&◌, ◌-◌, ◌^◌, ◌||◌, ◌∙◌, ◌∷◌, ◌≡◌}
 use Rattle.sc_word.specs.Prelude.{word_of}
 use Rattle.sc_base.specs.declared.op.UnaryOp.{UnaryOp}
 use Rattle.sc_base.specs.declared.op.UnaryOp.TheVariants as unary
@@ -71,6 +71,13 @@ same_kind (ty.Array i a n) ty.Unsigned h = absurd (false≢true h)
 same_kind (ty.Array i a n) (ty.Struct k) h = absurd (false≢true h)
 same_kind (ty.Array i a n) (ty.Pointer j b) h = refl
 same_kind (ty.Array i a n) (ty.Array j b o) h = refl
+
+-- rows of the same types are as long
+pub types_length : (a b : List Ty) → same_types a b ≡ true → length a ≡ length b
+types_length [] [] h = refl
+types_length [] (y ∷ b) h = absurd (false≢true h)
+types_length (x ∷ a) [] h = absurd (false≢true h)
+types_length (x ∷ a) (y ∷ b) h = ap suc (types_length a b (and_rest (same_ty x y) _ h))
 
 -- a type that is the same as `int` is no pointer
 int_kind : (t : Ty) → same_ty t ty.Int ≡ true → is_pointer t ≡ false

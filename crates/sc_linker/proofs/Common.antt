@@ -9,7 +9,7 @@ pub use Rattle.std.proofs.Common.{slice_get, slice_index, slice_index_or, subst,
 pub use Rattle.std.proofs.Common.{take_all, true, zero, ℕ, ℤ, ⊎_elim, ◌%◌, ◌&&◌, ◌*◌, ◌++◌, ◌+◌, ◌-ℤ◌, ◌-◌, ◌/◌, ◌<◌}
 pub use Rattle.std.proofs.Common.{◌==◌, ◌^◌, ◌||◌, ◌∙◌, ◌∷◌, ◌≡◌, ◌≢◌, ◌≤◌, ◌⊎◌}
 pub use Rattle.byteorder.specs.Endian.{little_bytes}
-pub use Rattle.std.proofs.lemmas.Bool.{cases_lt, false≢true, not-true, or_right}
+pub use Rattle.std.proofs.lemmas.Bool.{cases_lt, false≢true, not-true, or_parts, or_right}
 pub use Rattle.std.proofs.lemmas.Grind.{common_steps}
 pub use Rattle.std.proofs.lemmas.List.{get_or_append_left, length-map, length_push, map-append}
 pub use Rattle.std.proofs.lemmas.List.{replicate-append-replicate, take-map}
@@ -33,17 +33,17 @@ pub use Rattle.sc_core.specs.Prelude.{has_distinct_names, has_few_compartments, 
 pub use Rattle.sc_core.specs.Prelude.{import_fits, import_name, interface_fits, is_main, is_plain_name, main_fits}
 pub use Rattle.sc_core.specs.Prelude.{main_name, mains_in, member_zeros, members_fit, most_compartments, most_exports}
 pub use Rattle.sc_core.specs.Prelude.{most_params, place_named, place_of_export, proto_signature, repeated}
-pub use Rattle.sc_core.specs.Prelude.{same_signature, same_ty, same_types, scalar_ty, section_fits, sections_fit}
-pub use Rattle.sc_core.specs.Prelude.{signature_of, starred_cells, starred_within, starred_zeros, struct_cells}
-pub use Rattle.sc_core.specs.Prelude.{struct_fits, struct_zeros, structs_fit, total, type_within, variable_fits}
-pub use Rattle.sc_core.specs.Prelude.{with_words, words_fit, zeros_of}
+pub use Rattle.sc_core.specs.Prelude.{same_signature, same_types, scalar_ty, section_fits, sections_fit, signature_of}
+pub use Rattle.sc_core.specs.Prelude.{starred_cells, starred_within, starred_zeros, struct_cells, struct_fits}
+pub use Rattle.sc_core.specs.Prelude.{struct_zeros, structs_fit, total, type_within, variable_fits, with_words}
+pub use Rattle.sc_core.specs.Prelude.{words_fit, zeros_of}
 pub use Rattle.sc_core.specs.declared.section.TypedMember.{TypedMember}
 pub use Rattle.sc_core.specs.declared.ty.BaseTy.{BaseTy}
 pub use Rattle.sc_core.specs.declared.ty.Ty.{Ty}
 pub use Rattle.sc_kinds.proofs.Sections.{all_at, any_along, first_of, found_passes}
 pub use Rattle.rv_code.proofs.OneEach.{HasWord-own, decoded-word_of, word-below}
 pub use Rattle.rv_code.specs.Prelude.{IsImmediate, IsInstr, IsJumpOffset, IsUpper, word_of}
-pub use Rattle.sc_store.specs.Prelude.{Memory, byte_of, load_of}
+pub use Rattle.sc_store.specs.Prelude.{byte_of, load_of}
 pub use Rattle.sc_image.specs.Prelude.{IsByte, IsComp, IsDistinct, IsEntry, IsExport, IsImport, IsWellFormed, IsWord}
 pub use Rattle.sc_image.specs.Prelude.{code_of, code_start, comp_of_data, data_start, exports_of, has_result, may_call}
 pub use Rattle.sc_image.specs.Prelude.{may_input, may_output, most_globals, params_of, stack_size, stack_top}

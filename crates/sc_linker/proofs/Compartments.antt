@@ -1,14 +1,13 @@
 -- The compartments of an image, one after the other.
-use Rattle.sc_linker.proofs.Common.{All, All-append, AreNamed, CodeTree, CompPart, Interface, Interfaces, IsLinkable}
-use Rattle.sc_linker.proofs.Common.{IsNamed, IsWellFormed, IsWellTyped, IsWhole, List, Main, ProgramTree, TypedSection}
-use Rattle.sc_linker.proofs.Common.{[], add-one, addresses_at, and_first, and_rest, ap, append_assoc, arith, cases_lt}
-use Rattle.sc_linker.proofs.Common.{codes_at, codes_in, comp_part, comp_parts, drop, drop-step, entry_in, false≢true}
-use Rattle.sc_linker.proofs.Common.{function_address, get_or, has_distinct_names, has_few_compartments}
-use Rattle.sc_linker.proofs.Common.{has_fitting_sections, inl, inr, interface_fits, leb-true, length, length-drop, map}
-use Rattle.sc_linker.proofs.Common.{refl, section_fits, sections_fit, subst, suc, sym, take, take-append-drop, total}
-use Rattle.sc_linker.proofs.Common.{true, ℕ, ◌++◌, ◌+◌, ◌<◌, ◌∙◌, ◌∷◌, ◌≡◌, ◌≤◌, ◌⊎◌}
+use Rattle.sc_linker.proofs.Common.{All, All-append, AreNamed, CodeTree, CompPart, Interface, IsLinkable, IsNamed}
+use Rattle.sc_linker.proofs.Common.{IsWellFormed, IsWellTyped, IsWhole, List, Main, ProgramTree, TypedSection, []}
+use Rattle.sc_linker.proofs.Common.{add-one, addresses_at, and_first, ap, append_assoc, arith, cases_lt, codes_at}
+use Rattle.sc_linker.proofs.Common.{codes_in, comp_part, comp_parts, drop, drop-step, entry_in, function_address}
+use Rattle.sc_linker.proofs.Common.{get_or, has_few_compartments, inl, inr, leb-true, length, length-drop, map, subst}
+use Rattle.sc_linker.proofs.Common.{suc, sym, take, take-append-drop, total, ℕ, ◌++◌, ◌+◌, ◌<◌, ◌∙◌, ◌∷◌, ◌≡◌, ◌≤◌, ◌⊎◌}
 use Rattle.sc_linker.proofs.Formed.{linked_is_formed}
 use Rattle.sc_linker.proofs.Fitting.{functions_count}
+use Rattle.sc_linker.proofs.Comps.{same_count}
 
 -- codes are whole where those of each section are
 pub whole_codes : (sections : List TypedSection) (codes : List CodeTree) →
@@ -21,23 +20,6 @@ whole_codes (s ∷ sections) codes each whole =
     (All-append IsWhole (take count codes) (drop count codes) (whole 0 (omega arith))
     (whole_codes sections (drop count codes) (length-drop count codes ∙ omega (arith, each))
     (λ comp within. whole (suc comp) (omega (arith, within)))))
-
--- each compartment has a section
-as_many : (interfaces : Interfaces) (first : ℕ) (comps : List Interface) (sections : List TypedSection) →
-    sections_fit interfaces first comps sections ≡ true → length comps ≡ length sections
-as_many interfaces first [] [] fit = refl
-as_many interfaces first [] (s ∷ sections) fit = absurd (false≢true fit)
-as_many interfaces first (i ∷ comps) [] fit = absurd (false≢true fit)
-as_many interfaces first (i ∷ comps) (s ∷ sections) fit =
-    ap suc (as_many interfaces (suc first) comps sections (and_rest (interface_fits interfaces first i s) _
-    (and_rest (section_fits interfaces first i s) _ fit)))
-
-pub same_count : (program : ProgramTree) → IsWellTyped program →
-    length program.interfaces.comps ≡ length program.sections
-same_count program typed =
-    as_many program.interfaces 0 program.interfaces.comps program.sections
-    (and_first (has_fitting_sections program) _ (and_rest (has_distinct_names program) _
-    (and_rest (has_few_compartments program) _ typed)))
 
 pub few_numbers : (program : ProgramTree) → IsWellTyped program → (number : ℕ) →
     number < length program.interfaces.comps → number < 32

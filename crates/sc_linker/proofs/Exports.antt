@@ -1,23 +1,18 @@
 -- Exports of a compartment: each is of a function of its section, takes few words, and has its place in the image.
-use Rattle.sc_linker.proofs.Common.{Bool, ExportPart, Interface, Interfaces, List, None, Option, Proto, Some, Ty}
+use Rattle.sc_linker.proofs.Common.{Bool, ExportPart, Interface, Interfaces, List, None, Option, Proto, Some}
 use Rattle.sc_linker.proofs.Common.{TypedFunction, TypedSection, [], all_at, and_first, and_rest, any_along, ap}
 use Rattle.sc_linker.proofs.Common.{are_distinct, arith, bytes_eq, callable_in, entry_address, export_fits}
-use Rattle.sc_linker.proofs.Common.{export_parts, false≢true, first_of, found_passes, function_fits, global_fits}
-use Rattle.sc_linker.proofs.Common.{import_fits, import_name, interface_fits, is_plain_name, is_some, leb-true, length}
-use Rattle.sc_linker.proofs.Common.{length-map, list_all, main_name, map, most_exports, most_params, nat_le, not}
-use Rattle.sc_linker.proofs.Common.{option_map, place_named, proto_signature, refl, same_signature, same_ty, same_types}
-use Rattle.sc_linker.proofs.Common.{scalar_ty, section_fits, signature_of, slice_get, slice_get_within, structs_fit}
-use Rattle.sc_linker.proofs.Common.{suc, sym, true, zero, ℕ, ◌&&◌, ◌++◌, ◌+◌, ◌<◌, ◌∙◌, ◌∷◌, ◌≡◌, ◌≤◌}
+use Rattle.sc_linker.proofs.Common.{export_parts, first_of, found_passes, function_fits, global_fits, import_fits}
+use Rattle.sc_linker.proofs.Common.{import_name, interface_fits, is_plain_name, is_some, leb-true, length, length-map}
+use Rattle.sc_linker.proofs.Common.{list_all, main_name, map, most_exports, most_params, nat_le, not, option_map}
+use Rattle.sc_linker.proofs.Common.{place_named, proto_signature, refl, same_signature, same_types, scalar_ty}
+use Rattle.sc_linker.proofs.Common.{section_fits, signature_of, slice_get, slice_get_within, structs_fit, suc, sym}
+use Rattle.sc_linker.proofs.Common.{true, zero, ℕ, ◌&&◌, ◌++◌, ◌+◌, ◌<◌, ◌∙◌, ◌∷◌, ◌≡◌, ◌≤◌}
 use Rattle.sc_core.specs.declared.section.TypedParam.{TypedParam}
+use Rattle.sc_kinds.proofs.Values.{types_length}
 
 abbrev pub name_of : Proto → List ℕ
 name_of proto = proto.name
-
-types_length : (a b : List Ty) → same_types a b ≡ true → length a ≡ length b
-types_length [] [] h = refl
-types_length [] (b ∷ bs) h = absurd (false≢true h)
-types_length (a ∷ types) [] h = absurd (false≢true h)
-types_length (a ∷ types) (b ∷ bs) h = ap suc (types_length types bs (and_rest (same_ty a b) _ h))
 
 -- the function that a name leads to
 pub record Named (section : TypedSection) (name : List ℕ) : Type 0 where

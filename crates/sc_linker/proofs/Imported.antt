@@ -4,8 +4,8 @@ use Rattle.sc_linker.proofs.Common.{Interfaces, IsDistinct, IsImport, IsSomeAnd,
 use Rattle.sc_linker.proofs.Common.{Some, [], and_first, and_rest, ap, are_distinct, arith, bytes_eq, bytes_eq_self}
 use Rattle.sc_linker.proofs.Common.{comp_at, export_at, false, false≢true, flat_map, import_fits, import_name}
 use Rattle.sc_linker.proofs.Common.{import_part, is_some, length, linked_image, list_all, list_any, map, not, not-true}
-use Rattle.sc_linker.proofs.Common.{refl, slice_get, slice_get_within, subst, sym, true, ℕ, ◌&&◌, ◌++◌, ◌<◌, ◌==◌, ◌||◌}
-use Rattle.sc_linker.proofs.Common.{◌∙◌, ◌∷◌, ◌≡◌, ◌≢◌, ◌≤◌}
+use Rattle.sc_linker.proofs.Common.{or_parts, refl, slice_get, slice_get_within, subst, sym, true, ℕ, ◌&&◌, ◌++◌, ◌<◌}
+use Rattle.sc_linker.proofs.Common.{◌==◌, ◌||◌, ◌∙◌, ◌∷◌, ◌≡◌, ◌≢◌, ◌≤◌}
 use Rattle.std.proofs.lemmas.List.Kept.{AllPairs-cons}
 use Rattle.std.specs.Option.{option_and_then}
 use Rattle.sc_event.specs.declared.interface.Import.TheVariants as import
@@ -29,16 +29,12 @@ module _ (interfaces : Interfaces) where
   abbrev AreOther : (comp index : ℕ) → List ImportPart → Type 0
   AreOther comp index parts = All {X = ImportPart} (λ other. part comp index ≢ other) parts
 
-  rest : (b later : Bool) → (b || later) ≡ false → later ≡ false
-  rest true later h = absurd (false≢true (sym h))
-  rest false later h = h
-
   first_other : (comp index : ℕ) (i : Import) (parts : List ImportPart) (later : Bool) →
       (later ≡ false → AreOther comp index parts) →
       (bytes_eq (own_name comp index) (import_name interfaces i) || later) ≡ false →
       AreOther comp index (import_part i ++ parts)
-  first_other comp index import.Input parts later none h = none (rest _ later h)
-  first_other comp index import.Output parts later none h = none (rest _ later h)
+  first_other comp index import.Input parts later none h = none (or_parts _ later h).1
+  first_other comp index import.Output parts later none h = none (or_parts _ later h).1
   first_other comp index (import.Function to place) parts later none h =
       All-cons (λ (other : ImportPart). part comp index ≢ other) (part to place) parts (λ same.
       let one : comp ≡ to = ap (λ (p : ImportPart). p.comp) same in
@@ -46,7 +42,7 @@ module _ (interfaces : Interfaces) where
       let self : bytes_eq (own_name comp index) (own_name to place) ≡ true =
       sym (λ k. bytes_eq (own_name comp index) (own_name (one k) (two k))) ∙ bytes_eq_self (own_name comp index) in
       false≢true (sym h ∙ ap (λ b. b || later) self))
-      (none (rest _ later h))
+      (none (or_parts _ later h).1)
 
   -- no later import has this name, so none is this one
   none_same : (comp index : ℕ) (imports : List Import) (others : List (List ℕ)) →

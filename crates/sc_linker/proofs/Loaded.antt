@@ -1,18 +1,12 @@
 -- Words that a compartment's globals begin with are loaded from the memory of the start.
-use Rattle.sc_linker.proofs.Common.{CompPart, ImageParts, List, Memory, Some, [], ap, arith, byte_of, comp_of_data}
-use Rattle.sc_linker.proofs.Common.{data_start, false, flat_map, le-ltb, length, little_bytes, load_of, most_globals}
-use Rattle.sc_linker.proofs.Common.{nat_lt, refl, slice_get, slice_get_within, stack_size, stack_top, start_memory}
-use Rattle.sc_linker.proofs.Common.{stretch, suc, zero, ℕ, ◌%◌, ◌*◌, ◌++◌, ◌+◌, ◌-◌, ◌<◌, ◌^◌, ◌∙◌, ◌∷◌, ◌≡◌, ◌≤◌}
+use Rattle.sc_linker.proofs.Common.{CompPart, ImageParts, List, Some, [], ap, arith, byte_of, comp_of_data, data_start}
+use Rattle.sc_linker.proofs.Common.{false, flat_map, le-ltb, length, little_bytes, load_of, most_globals, nat_lt, refl}
+use Rattle.sc_linker.proofs.Common.{slice_get, slice_get_within, stack_size, stack_top, start_memory, stretch, suc}
+use Rattle.sc_linker.proofs.Common.{zero, ℕ, ◌%◌, ◌*◌, ◌+◌, ◌-◌, ◌<◌, ◌^◌, ◌∙◌, ◌∷◌, ◌≡◌, ◌≤◌}
 use Rattle.sc_image.proofs.AtStart.{start_is}
+use Rattle.sc_image.proofs.Walking.{first_byte, load_is}
 
 -- THE BYTES OF WORDS
-first_byte : (word : ℕ) (others : List ℕ) (j : ℕ) → j < 4 →
-    slice_get (little_bytes 4 word ++ others) j ≡ Some (byte_of word j)
-first_byte word others zero within = ap Some (omega arith)
-first_byte word others (suc zero) within = refl
-first_byte word others (suc (suc zero)) within = refl
-first_byte word others (suc (suc (suc zero))) within = refl
-first_byte word others (suc (suc (suc (suc j)))) within = absurd (omega (arith, within))
 
 word_byte : (words : List ℕ) (k j at word : ℕ) → at ≡ 4 * k + j → j < 4 → slice_get words k ≡ Some word →
     slice_get (flat_map (little_bytes 4) words) at ≡ Some (byte_of word j)
@@ -26,17 +20,6 @@ word_byte (first ∷ words) (suc k) j at word e within is =
     let place : at ≡ suc (suc (suc (suc (4 * k + j)))) = omega (arith, e) in
     ap (slice_get (flat_map (little_bytes 4) (first ∷ words))) place
     ∙ word_byte words k j (4 * k + j) word refl within is
-
--- four bytes are the number that they make
-four_bytes : (word : ℕ) → word < 2 ^ 32 →
-    0 + byte_of word 0 * 256 ^ 0 + byte_of word 1 * 256 ^ 1 + byte_of word 2 * 256 ^ 2 + byte_of word 3 * 256 ^ 3 ≡ word
-four_bytes word below = omega (arith, below)
-
-load_is : (memory : Memory) (a word : ℕ) → word < 2 ^ 32 →
-    ((j : ℕ) → j < 4 → memory (a + j) ≡ Some (byte_of word j)) → load_of memory a 4 ≡ word
-load_is memory a word below bytes =
-    rw (bytes 0 (omega arith), bytes 1 (omega arith), bytes 2 (omega arith), bytes 3 (omega arith))
-    (four_bytes word below)
 
 -- IN MEMORY
 module _ (image : ImageParts) (c : ℕ) (comp : CompPart) (found : slice_get image.comps c ≡ Some comp)

@@ -11,7 +11,7 @@ pub use Rattle.std.proofs.lemmas.Option.{slice_get-map, slice_get_read}
 pub use Rattle.std.specs.Bool.{beq}
 pub use Rattle.std.specs.List.{All, list_all, list_any}
 pub use Rattle.std.specs.Option.{option_and_then, option_map, option_map_or}
-pub use Rattle.sc_base.proofs.Bools.{and_first, and_rest}
+pub use Rattle.sc_base.proofs.Bools.{and_first, and_rest, implies}
 pub use Rattle.sc_base.proofs.Texts.{bytes_eq_self, same_either_way, same_text}
 pub use Rattle.sc_base.specs.declared.op.UnaryOp.{UnaryOp}
 pub use Rattle.sc_event.specs.Prelude.{comp_at, export_at, imports, is_function, is_input, is_output, takes}
@@ -87,7 +87,7 @@ pub use Rattle.sc_kinds.proofs.Results.{Behind, behind, function_imported, input
 pub use Rattle.sc_kinds.proofs.Results.{reached_good}
 pub use Rattle.sc_kinds.proofs.Sections.{ForSection, Placed, all_at, any_along, for_interface, for_section}
 pub use Rattle.sc_kinds.proofs.Sections.{found_passes, index_map, name_of, named_so, own_names_differ}
-pub use Rattle.sc_kinds.proofs.Values.{address_fits, either, int_fits, integer_kind, sound}
+pub use Rattle.sc_kinds.proofs.Values.{address_fits, either, int_fits, integer_kind, sound, types_length}
 pub use Rattle.sc_kinds.specs.Kinds.{is_of}
 pub use Rattle.sc_tac.proofs.Runs.{across_interfaces, fetched, give, int_op, output, word}
 pub use Rattle.sc_tac.proofs.Shapes.{Cycle, Done, Fork, Line, rows, rows_are}

@@ -11,15 +11,9 @@ use Rattle.sc_lower.proofs.Common.{option_and_then, option_map, place_named, pla
 use Rattle.sc_lower.proofs.Common.{same_entry, same_text, sections_fit, slice_get, subst, suc, sym, true, truth, zero}
 use Rattle.sc_lower.proofs.Common.{ℕ, ◌&&◌, ◌++◌, ◌+◌, ◌==◌, ◌||◌, ◌∙◌, ◌∷◌, ◌≡◌, ◌≤◌}
 use Rattle.std.proofs.Math.Dec.{eqb-suc-zero, eqb-zero-suc, eqb-suc-suc}
-use Rattle.sc_base.proofs.Lists.{position-cons}
+use Rattle.sc_base.proofs.Lists.{position-cons, position_map}
 
 -- POSITIONS
-position_map : {A B : Type 0} (g : A → B) (p : B → Bool) (xs : List A) →
-    position p (map g xs) ≡ position (λ x. p (g x)) xs
-position_map g p [] = refl
-position_map g p (x ∷ xs) =
-    position-cons p (g x) (map g xs) ∙ ap (λ o. cond (p (g x)) (Some 0) (option_map suc o)) (position_map g p xs)
-    ∙ sym (position-cons (λ x. p (g x)) x xs)
 
 position_never : {A : Type 0} (p : A → Bool) (xs : List A) → list_any p xs ≡ false → position p xs ≡ None
 position_never p [] h = refl

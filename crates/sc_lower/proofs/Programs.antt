@@ -4,18 +4,17 @@ use Rattle.sc_lower.proofs.Common.{Option, ProgramTree, Proto, Some, TacFnTree, 
 use Rattle.sc_lower.proofs.Common.{TypedSection, [], and_first, and_from, and_rest, any_along, ap, are_distinct}
 use Rattle.sc_lower.proofs.Common.{are_entered, arith as numbers, beq, bytes_eq, comp_at, count, entry_known, entry_of}
 use Rattle.sc_lower.proofs.Common.{eq-eqb, export_at, export_called, export_fits, exports_entered, exports_of, false}
-use Rattle.sc_lower.proofs.Common.{false≢true, found_passes, if◌then◌else◌, interface_fits, is_entered, is_main}
-use Rattle.sc_lower.proofs.Common.{is_some, is_well_typed, length, length-map, list_all, list_any, lowered_function}
-use Rattle.sc_lower.proofs.Common.{lowered_program, lowered_section, lowered_sections, main_entered, main_fits}
-use Rattle.sc_lower.proofs.Common.{main_name, map, name_of, named_so, not, not-true, numbered, option_and_then}
-use Rattle.sc_lower.proofs.Common.{option_map, position, proto_signature, refl, result_ty, same_either_way, same_entry}
-use Rattle.sc_lower.proofs.Common.{same_results, same_signature, same_text, same_types, scalar_ty, section_fits}
-use Rattle.sc_lower.proofs.Common.{sections_fit, signature_of, slice_get, subst, suc, sym, true, truth, ℕ, ◌&&◌, ◌+◌}
-use Rattle.sc_lower.proofs.Common.{◌==◌, ◌||◌, ◌∙◌, ◌∷◌, ◌≡◌}
+use Rattle.sc_lower.proofs.Common.{false≢true, found_passes, if◌then◌else◌, implies, interface_fits, is_entered}
+use Rattle.sc_lower.proofs.Common.{is_main, is_some, is_well_typed, length, length-map, list_all, list_any}
+use Rattle.sc_lower.proofs.Common.{lowered_function, lowered_program, lowered_section, lowered_sections, main_entered}
+use Rattle.sc_lower.proofs.Common.{main_fits, main_name, map, name_of, named_so, not, not-true, numbered}
+use Rattle.sc_lower.proofs.Common.{option_and_then, option_map, position, proto_signature, refl, result_ty}
+use Rattle.sc_lower.proofs.Common.{same_either_way, same_entry, same_results, same_signature, same_text, same_types}
+use Rattle.sc_lower.proofs.Common.{scalar_ty, section_fits, sections_fit, signature_of, slice_get, subst, suc, sym}
+use Rattle.sc_lower.proofs.Common.{true, truth, types_length, ℕ, ◌&&◌, ◌+◌, ◌==◌, ◌||◌, ◌∙◌, ◌∷◌, ◌≡◌}
 use Rattle.sc_core.specs.declared.ty.Ty.TheVariants as ty
 use Rattle.sc_lower.proofs.Entries.{first_at, main_is, called_so, export_of, sections_so, mains_so}
-use Rattle.sc_lower.proofs.Rules.{place as place_of, types_length, any_headed, exports_fit, distinct_names, beq_same}
-use Rattle.sc_lower.proofs.Rules.{function_kept}
+use Rattle.sc_lower.proofs.Rules.{place as place_of, any_headed, exports_fit, distinct_names, beq_same, function_kept}
 use Rattle.sc_lower.proofs.Sections.{all_made, result_same, globals_named, own_called, exports_called, imports_called}
 
 -- COUNTS
@@ -141,11 +140,8 @@ module _ (program : ProgramTree) (typed : is_well_typed program ≡ true) where
         (lowered_function faces comp section.structs) section.functions ∙ ap (λ p. count p section.functions)
         (λ i f. so f i) ∙ named_once name section.functions distinct any))
         (all_made _ (lowered_function faces comp section.structs) section.functions
-        (λ n f item. by (same_entry entry (entry_of faces comp f.name)) (length f.params == params && beq
-        (is_some f.result) result) (λ k. head n f item (sym (so f) ∙ k)))) where
-          by : (b c : Bool) → (b ≡ true → c ≡ true) → (not b || c) ≡ true
-          by true c h = h refl
-          by false c h = refl
+        (λ n f item. implies (same_entry entry (entry_of faces comp f.name)) (length f.params == params && beq
+        (is_some f.result) result) (λ k. head n f item (sym (so f) ∙ k))))
 
     headed : (f : TypedFunction) (types : List Ty) (result : Option Ty) →
         same_signature (signature_of f) (record { params = types; result = result }) ≡ true →

@@ -19,8 +19,8 @@ use Rattle.sc_lower.proofs.Common.{passes_few, passes_words, position, proto_sig
 use Rattle.sc_lower.proofs.Common.{returns_result, same_base, same_import, same_signature, same_ty, same_types}
 use Rattle.sc_lower.proofs.Common.{scalar_ty, scope_of, signature_of, slice_get, slice_get-map, slice_index_or}
 use Rattle.sc_lower.proofs.Common.{stray_break, stray_continue, structs_fit, subst, suc, sym, takes_two}
-use Rattle.sc_lower.proofs.Common.{target_signature, total, true, type_within, variable_fits, variables, zero, ℕ, ◌&&◌}
-use Rattle.sc_lower.proofs.Common.{◌++◌, ◌+◌, ◌<◌, ◌==◌, ◌∙◌, ◌∷◌, ◌≡◌, ◌≤◌}
+use Rattle.sc_lower.proofs.Common.{target_signature, total, true, type_within, types_length, variable_fits, variables}
+use Rattle.sc_lower.proofs.Common.{zero, ℕ, ◌&&◌, ◌++◌, ◌+◌, ◌<◌, ◌==◌, ◌∙◌, ◌∷◌, ◌≡◌, ◌≤◌}
 use Rattle.std.proofs.lemmas.List.Sums.{AllPass-from_list_all}
 use Rattle.sc_tac.specs.declared.stmt.TacOp.TheVariants as tacop
 use Rattle.sc_event.specs.declared.interface.Import.TheVariants as import
@@ -174,12 +174,6 @@ output_takes_one b signature h =
     found_allowed b (Some (record { params = ty.Int ∷ []; result = None })) signature h in
     let same : record { params = ty.Int ∷ []; result = None } ≡ signature = cc is in
     sym (ap (λ (s : Signature). length s.params) same)
-
-pub types_length : (a b : List Ty) → same_types a b ≡ true → length a ≡ length b
-types_length [] [] h = refl
-types_length [] (y ∷ b) h = absurd (false≢true h)
-types_length (x ∷ a) [] h = absurd (false≢true h)
-types_length (x ∷ a) (y ∷ b) h = ap suc (types_length a b (and_rest (same_ty x y) _ h))
 
 same_base_self : (b : BaseTy) → same_base b b ≡ true
 same_base_self base.Int = refl

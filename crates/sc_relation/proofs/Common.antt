@@ -4,11 +4,12 @@ pub use Rattle.std.proofs.Common.{arith, eq-eqb, eqb-true, false, if◌then◌el
 pub use Rattle.std.proofs.Common.{le-leb, le-ltb, leb-true, length, length-append, length-set, lt-ltb, ltb-true, map}
 pub use Rattle.std.proofs.Common.{nat_eq, nat_le, nat_lt, ne_eqb, neg_ℤ, negsuc, not, pos, refl, replicate, slice_get}
 pub use Rattle.std.proofs.Common.{slice_set, subst, subst₂, suc, sym, true, true≢false, zero, zip, ℕ, ℤ, ⊎_elim, ◌%◌}
-pub use Rattle.std.proofs.Common.{◌&&◌, ◌*ℤ◌, ◌*◌, ◌++◌, ◌+ℤ◌, ◌+◌, ◌-ℤ◌, ◌-◌, ◌<◌, ◌==◌, ◌^◌, ◌||◌, ◌∙◌, ◌∷◌, ◌≡◌, ◌≢◌}
-pub use Rattle.std.proofs.Common.{◌≤◌, ◌⊎◌}
-pub use Rattle.std.proofs.lemmas.Bool.{cases_eq, cases_lt, cases_order, lt-leb}
+pub use Rattle.std.proofs.Common.{◌&&◌, ◌*ℤ◌, ◌*◌, ◌++◌, ◌+ℤ◌, ◌+◌, ◌-ℤ◌, ◌-◌, ◌<◌, ◌==◌, ◌^◌, ◌∙◌, ◌∷◌, ◌≡◌, ◌≢◌, ◌≤◌}
+pub use Rattle.std.proofs.Common.{◌⊎◌}
+pub use Rattle.std.proofs.lemmas.Bool.{and_from, cases_eq, cases_lt, cases_order, lt-leb, or_left, or_right}
 pub use Rattle.std.proofs.lemmas.List.Elements.{All-cons, All-head, All-nil, All-tail}
 pub use Rattle.std.proofs.lemmas.Option.{get_or_from_slice_get, same_Some, slice_get-get_or, slice_get_within}
+pub use Rattle.sc_base.proofs.Lists.{all_at, get_front, is_there}
 pub use Rattle.sc_word.specs.Prelude.{add_word, div_word, sub_word, word_of}
 pub use Rattle.sc_core.specs.Prelude.{Block, Blocks, Break, Closed, Continue, Does, Exit, FrameChange, Function, Here}
 pub use Rattle.sc_core.specs.Prelude.{Left, Next, Opened, Piece, Reached, Return, State, Stopped, all_do, and_then}

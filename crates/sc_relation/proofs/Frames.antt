@@ -1,14 +1,11 @@
 -- The words that a frame keeps for itself, and its objects: they lie inside it, and no two meet.
-use Rattle.sc_relation.proofs.Common.{All, AllPairs, Apart, FrameTree, HasRoom, List, Place, Range, Some, [], ap, ap₂}
-use Rattle.sc_relation.proofs.Common.{arith, cases_order, end_of, get_or_from_slice_get, inl, inr, length, map}
-use Rattle.sc_relation.proofs.Common.{object_range, own_words, ranges_of, refl, same_Some, slice_get, slice_get_within}
-use Rattle.sc_relation.proofs.Common.{subst, subst₂, suc, zero, zip, ℕ, ⊎_elim, ◌*◌, ◌++◌, ◌+◌, ◌<◌, ◌∙◌, ◌∷◌, ◌≡◌, ◌≢◌}
-use Rattle.sc_relation.proofs.Common.{◌≤◌, ◌⊎◌}
+use Rattle.sc_relation.proofs.Common.{AllPairs, Apart, FrameTree, HasRoom, List, Place, Range, Some, [], all_at, ap}
+use Rattle.sc_relation.proofs.Common.{ap₂, arith, cases_order, end_of, get_or_from_slice_get, inl, inr, is_there}
+use Rattle.sc_relation.proofs.Common.{length, map, object_range, own_words, ranges_of, same_Some, slice_get}
+use Rattle.sc_relation.proofs.Common.{slice_get_within, subst₂, suc, zero, zip, ℕ, ⊎_elim, ◌*◌, ◌++◌, ◌+◌, ◌<◌, ◌∙◌}
+use Rattle.sc_relation.proofs.Common.{◌∷◌, ◌≡◌, ◌≢◌, ◌≤◌, ◌⊎◌}
 use Rattle.sc_tac.specs.Prelude.{Apart as RangesApart, word_at}
 use Rattle.std.proofs.lemmas.List.{length-map}
-
-pub each_at : {X : Type 0} (P : X → Type 0) (xs : List X) (i : ℕ) (x : X) → All P xs → slice_get xs i ≡ Some x → P x
-each_at P xs i x all e = subst P (get_or_from_slice_get xs i x x e) (all i x (slice_get_within xs i x e))
 
 pair_at : {X : Type 0} (R : X → X → Type 0) (xs : List X) (i j : ℕ) (x y : X) → AllPairs R xs → i < j →
     slice_get xs i ≡ Some x → slice_get xs j ≡ Some y → R x y
@@ -22,23 +19,12 @@ range_at [] more i offset e = cc e
 range_at (x ∷ xs) more zero offset e = ap (λ o. Some (word_at o)) (same_Some x offset e)
 range_at (x ∷ xs) more (suc i) offset e = range_at xs more i offset e
 
--- an element of two lists in a row
-pub get_front : {A : Type 0} (xs ys : List A) (i : ℕ) → i < length xs → slice_get (xs ++ ys) i ≡ slice_get xs i
-get_front [] ys i h = absurd (omega arith)
-get_front (x ∷ xs) ys zero h = refl
-get_front (x ∷ xs) ys (suc i) h = get_front xs ys i (omega arith)
-
+-- an element of the second of two lists in a row
 pub get_back : {A : Type 0} (xs ys : List A) (i : ℕ) → slice_get (xs ++ ys) (length xs + i) ≡ slice_get ys i
 get_back [] ys i = let e : 0 + i ≡ i = omega arith in ap (slice_get ys) e
 get_back (x ∷ xs) ys i =
     let e : suc (length xs) + i ≡ suc (length xs + i) = omega arith in
     ap (slice_get (x ∷ (xs ++ ys))) e ∙ get_back xs ys i
-
--- what is at a number below the length
-pub is_there : {A : Type 0} (xs : List A) (i : ℕ) → i < length xs → (x : A) × (slice_get xs i ≡ Some x)
-is_there [] i h = absurd (omega arith)
-is_there (x ∷ xs) zero h = (x, refl)
-is_there (x ∷ xs) (suc i) h = is_there xs i (omega arith)
 
 object_in : (offsets cells : List ℕ) (o offset n : ℕ) → slice_get offsets o ≡ Some offset → slice_get cells o ≡ Some n →
     slice_get (map object_range (zip offsets cells)) o ≡ Some (record { offset = offset; bytes = 4 * n })
@@ -56,7 +42,7 @@ module _ (cells : List ℕ) (places : List Place) (nodes : ℕ) (frame : FrameTr
 
   pub own_inside : (i offset : ℕ) → slice_get (own_words frame) i ≡ Some offset → offset + 4 ≤ frame.bytes
   own_inside i offset e =
-      each_at (λ range. end_of range ≤ frame.bytes) (ranges_of cells frame) i (word_at offset) room.inside
+      all_at (λ range. end_of range ≤ frame.bytes) (ranges_of cells frame) i (word_at offset) room.inside
       (own_at i offset e)
 
   in_order : (i j o u : ℕ) → i < j → slice_get (own_words frame) i ≡ Some o → slice_get (own_words frame) j ≡ Some u →
@@ -86,7 +72,7 @@ module _ (cells : List ℕ) (places : List Place) (nodes : ℕ) (frame : FrameTr
   pub object_inside : (o offset n : ℕ) → slice_get frame.objects o ≡ Some offset → slice_get cells o ≡ Some n →
       offset + 4 * n ≤ frame.bytes
   object_inside o offset n e f =
-      each_at (λ range. end_of range ≤ frame.bytes) (ranges_of cells frame) (behind + o) _ room.inside
+      all_at (λ range. end_of range ≤ frame.bytes) (ranges_of cells frame) (behind + o) _ room.inside
       (object_at o offset n e f)
 
   objects_in_order : (o p a b n k : ℕ) → o < p → slice_get frame.objects o ≡ Some a → slice_get cells o ≡ Some n →

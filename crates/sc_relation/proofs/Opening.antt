@@ -1,17 +1,16 @@
 -- A call begins: its blocks, their places in its frame, and how the bytes stand for all blocks then.
 use Rattle.sc_relation.proofs.Common.{Block, BlocksMatch, Bool, Cell, FrameTree, Guarded, HasRoom, ImageParts, InCell}
 use Rattle.sc_relation.proofs.Common.{Injection, IsFrame, IsWellFormed, List, LiveAt, Memory as Bytes, None, Option}
-use Rattle.sc_relation.proofs.Common.{Owned, Place, Placed, Some, StandsFor, Value, [], ap, arith, blocks_for, cases_eq}
-use Rattle.sc_relation.proofs.Common.{cases_lt, cases_order, cell_of, data_start, eq-eqb, false, few_globals}
-use Rattle.sc_relation.proofs.Common.{if◌then◌else◌, inl, inr, le-leb, length, length-append, lt-leb, nat_eq, nat_le}
-use Rattle.sc_relation.proofs.Common.{ne_eqb, own_words, put, refl, replicate, same_Some, slice_get, slice_get_within}
-use Rattle.sc_relation.proofs.Common.{stack_top, subst, suc, sym, true, with_blocks, word, zero, ℕ, ⊎_elim, ◌%◌, ◌&&◌}
-use Rattle.sc_relation.proofs.Common.{◌*◌, ◌++◌, ◌+◌, ◌-◌, ◌<◌, ◌∙◌, ◌∷◌, ◌≡◌, ◌≢◌, ◌≤◌, ◌⊎◌}
+use Rattle.sc_relation.proofs.Common.{Owned, Place, Placed, Some, StandsFor, Value, [], all_at, ap, arith, blocks_for}
+use Rattle.sc_relation.proofs.Common.{cases_eq, cases_lt, cases_order, cell_of, data_start, eq-eqb, false, few_globals}
+use Rattle.sc_relation.proofs.Common.{get_front, if◌then◌else◌, inl, inr, le-leb, length, length-append, lt-leb, nat_eq}
+use Rattle.sc_relation.proofs.Common.{nat_le, ne_eqb, own_words, put, refl, replicate, same_Some, slice_get}
+use Rattle.sc_relation.proofs.Common.{slice_get_within, stack_top, subst, suc, sym, true, with_blocks, word, zero, ℕ}
+use Rattle.sc_relation.proofs.Common.{⊎_elim, ◌%◌, ◌&&◌, ◌*◌, ◌++◌, ◌+◌, ◌-◌, ◌<◌, ◌∙◌, ◌∷◌, ◌≡◌, ◌≢◌, ◌≤◌, ◌⊎◌}
 use Rattle.sc_core.specs.Prelude.{Memory}
 use Rattle.std.specs.Option.{option_map}
 use Rattle.sc_core.specs.declared.value.Cell.TheVariants as cell
-use Rattle.sc_relation.proofs.Frames.{each_at, get_front, get_back, own_inside, object_there, object_inside}
-use Rattle.sc_relation.proofs.Frames.{objects_apart, own_beside}
+use Rattle.sc_relation.proofs.Frames.{get_back, own_inside, object_there, object_inside, objects_apart, own_beside}
 use Rattle.sc_relation.proofs.Held.{Grows, stands_more}
 use Rattle.sc_relation.proofs.Storing.{in_cell, block_owned}
 
@@ -169,7 +168,7 @@ module _ (image : ImageParts) (performs : ℕ → Bool) (floor : ℕ → ℕ) (i
 
     -- the places of new blocks are words
     object_aligned : (o offset : ℕ) → slice_get frame.objects o ≡ Some offset → offset % 4 ≡ 0
-    object_aligned o offset e = each_at (λ offset. offset % 4 ≡ 0) frame.objects o offset whole.objects e
+    object_aligned o offset e = all_at (λ offset. offset % 4 ≡ 0) frame.objects o offset whole.objects e
 
     -- a new block has its object, and fits in it
     record HasObject (o : ℕ) (xs : List Cell) : Type 0 where
@@ -361,7 +360,7 @@ module _ (image : ImageParts) (performs : ℕ → Bool) (floor : ℕ → ℕ) (i
 
     own_aligned : (i u : ℕ) → slice_get (own_words frame) i ≡ Some u → u % 4 ≡ 0
     own_aligned zero u e = let is : 0 ≡ u = same_Some 0 u e in omega (arith, is)
-    own_aligned (suc i) u e = each_at (λ offset. offset % 4 ≡ 0) frame.slots i u whole.slots e
+    own_aligned (suc i) u e = all_at (λ offset. offset % 4 ≡ 0) frame.slots i u whole.slots e
 
     pub own_guarded : (i u : ℕ) → performs c ≡ false → slice_get (own_words frame) i ≡ Some u →
         Guarded image more opened c (low + u)

@@ -4,11 +4,12 @@ use Rattle.sc_relation.proofs.Common.{IsActivation, IsClear, IsWellFormed, IsWor
 use Rattle.sc_relation.proofs.Common.{Memory as Bytes, None, Null, Ok, Option, Overflows, Owned, Piece, Place, Point}
 use Rattle.sc_relation.proofs.Common.{Pointer, Protected, Ptr, Ready, Register, Registers, Running, Set, Setting}
 use Rattle.sc_relation.proofs.Common.{Settled, Shows, Slot, Some, Standpoint, StandsFor, State as Meant, Temps, Value}
-use Rattle.sc_relation.proofs.Common.{Walks, Word, ahead_at, arith, false, is_one, live_across, load, machine, ne_eqb}
-use Rattle.sc_relation.proofs.Common.{not, one_or_none, own_words, plain, plain_points, put_word, refl, register_of}
-use Rattle.sc_relation.proofs.Common.{seen_from, slice_get, sp, store, subst, suc, sym, true, with_memory, with_temp}
-use Rattle.sc_relation.proofs.Common.{word, word_same, ℕ, ◌&&◌, ◌*◌, ◌+◌, ◌<◌, ◌^◌, ◌||◌, ◌∙◌, ◌≡◌, ◌≢◌, ◌≤◌}
-use Rattle.sc_relation.proofs.Frames.{each_at, own_inside}
+use Rattle.sc_relation.proofs.Common.{Walks, Word, ahead_at, all_at, and_from, arith, false, is_one, live_across, load}
+use Rattle.sc_relation.proofs.Common.{machine, ne_eqb, not, one_or_none, or_left, or_right, own_words, plain}
+use Rattle.sc_relation.proofs.Common.{plain_points, put_word, refl, register_of, seen_from, slice_get, sp, store, subst}
+use Rattle.sc_relation.proofs.Common.{suc, sym, true, with_memory, with_temp, word, word_same, ℕ, ◌*◌, ◌+◌, ◌<◌, ◌^◌}
+use Rattle.sc_relation.proofs.Common.{◌∙◌, ◌≡◌, ◌≢◌, ◌≤◌}
+use Rattle.sc_relation.proofs.Frames.{own_inside}
 use Rattle.sc_relation.proofs.Held.{PlaceKept, frame_kept, kept_but_register, kept_but_slot, kept_all, ra_kept}
 use Rattle.sc_relation.proofs.Held.{held_kept, held_assigned, held_over_call}
 use Rattle.sc_relation.proofs.Registers.{HasNoOtherUse}
@@ -18,17 +19,6 @@ use Rattle.sc_relation.proofs.Storing.{CellsKept, LoadsWord, loads_word, target_
 use Rattle.sc_relation.proofs.Stretches.{protected_on}
 
 -- What is live.
-
-pub or_left : (a b : Bool) → a ≡ true → (a || b) ≡ true
-or_left a b is = rw is refl
-
-pub or_right : (a b : Bool) → b ≡ true → (a || b) ≡ true
-or_right true b is = refl
-or_right false b is = is
-
-both : (a b : Bool) → a ≡ true → b ≡ true → (a && b) ≡ true
-both true b is h = h
-both false b is h = cc is
 
 not_one : (t d : ℕ) → t ≢ d → not (is_one t (one_or_none (Some d))) ≡ true
 not_one t d n = rw (ne_eqb d t (λ e. n (sym e))) refl
@@ -49,7 +39,7 @@ module _ (reads : List ℕ) (assigned : Option ℕ) (lives : Lives) where
 pub behind_live : (reads : List ℕ) (lives : Lives) (t d : ℕ) → lives.behind t ≡ true → t ≢ d →
     live_plain reads (Some d) lives t ≡ true
 behind_live reads lives t d on n =
-    or_right (is_one t reads) _ (both (not (is_one t (one_or_none (Some d)))) (lives.behind t) (not_one t d n) on)
+    or_right (is_one t reads) _ (and_from (not (is_one t (one_or_none (Some d)))) (lives.behind t) (not_one t d n) on)
 
 pub behind_unassigned : (reads : List ℕ) (lives : Lives) (t : ℕ) → lives.behind t ≡ true →
     live_plain reads None lives t ≡ true
@@ -179,7 +169,7 @@ module _ (T : Setting) (R : Running) where
     assigned reads lives temps x n left d pc place v regs later ready clear its h walks =
         assigned_at (live_plain reads (Some d) lives)
         (record { assigned = Some d; calls = false; live = lives.behind }) temps x n left d pc place v regs later ready
-        (each_at (IsClear R.places) (plain_points reads false (Some d) lives) 1 _ clear refl) refl its
+        (all_at (IsClear R.places) (plain_points reads false (Some d) lives) 1 _ clear refl) refl its
         (λ t on e. behind_live reads lives t d on e) h walks
 
     -- it assigns what a call gave
@@ -193,8 +183,8 @@ module _ (T : Setting) (R : Running) where
     received_at reads lives temps x n left d pc place v regs later ready clear its h walks =
         assigned_at (live_across reads true (Some d) lives)
         (record { assigned = Some d; calls = false; live = lives.behind }) temps x n left d pc place v regs later ready
-        (each_at (IsClear R.places) (plain_points reads true (Some d) lives) 2 _ clear refl) refl its
-        (λ t on e. both (not (is_one t (one_or_none (Some d)))) (lives.behind t) (not_one t d e) on) h walks
+        (all_at (IsClear R.places) (plain_points reads true (Some d) lives) 2 _ clear refl) refl its
+        (λ t on e. and_from (not (is_one t (one_or_none (Some d)))) (lives.behind t) (not_one t d e) on) h walks
 
     -- a store through a pointer
     pub stored_through : (reads : List ℕ) (lives : Lives) (temps : Temps) (x : Joint) (n left pc a w : ℕ) (p : Pointer)
@@ -404,7 +394,7 @@ module _ (T : Setting) (R : Running) where
     called reads dest lives temps ready clear settled same =
         over_call (live_plain reads dest lives)
         (record { assigned = None; calls = true; live = live_across reads true dest lives })
-        temps ready (each_at (IsClear R.places) (plain_points reads true dest lives) 1 _ clear refl) refl
+        temps ready (all_at (IsClear R.places) (plain_points reads true dest lives) 1 _ clear refl) refl
         (across_live reads dest lives) settled same
 
     -- behind a call of the environment that leaves registers with no other use as they were, all is as it was

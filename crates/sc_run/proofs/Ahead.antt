@@ -2,13 +2,13 @@
 use Rattle.sc_run.proofs.Common.{Acts, Body as Body', Bool, Bor, CameTo, Comes, Doing, Exit, Frame, Go, Left, List}
 use Rattle.sc_run.proofs.Common.{Loop, Memory, Next, None, Ok, Option, Passes, PassesIf, Piece, ProgramTree, Reached}
 use Rattle.sc_run.proofs.Common.{Return, Route, Run as Run', RunEnd, Seen, Some, SourceRun, Standing, State, Step}
-use Rattle.sc_run.proofs.Common.{Steps, Stop, Stopped, TypedExpr, TypedSimple, TypedStmt, Value, Work, [], add-one}
-use Rattle.sc_run.proofs.Common.{and_then, ap, arith, assign, block_acts, c_arith, calls_in, choose, drop, drop-cons}
-use Rattle.sc_run.proofs.Common.{drop_all, ended_so, evaluated, false, follow, get_or, here_of, if◌then◌else◌, in_body}
-use Rattle.sc_run.proofs.Common.{in_loop, in_order, in_round, is_true, leave, left_at, length, length-drop, loop_acts}
-use Rattle.sc_run.proofs.Common.{next_acts, option_copied, part_acts, refl, resume, reverse, roll-TypedStmtKind}
-use Rattle.sc_run.proofs.Common.{seen_of, simple_does, stmt_acts, store_at, stored, subst, suc, sym, take, take_all}
-use Rattle.sc_run.proofs.Common.{true, turn, way_in, with_exit, ℕ, ◌++◌, ◌+◌, ◌-◌, ◌<◌, ◌==◌, ◌∙◌, ◌∷◌, ◌≡◌, ◌≤◌}
+use Rattle.sc_run.proofs.Common.{Steps, Stop, Stopped, TypedExpr, TypedSimple, TypedStmt, Value, Work, [], and_then, ap}
+use Rattle.sc_run.proofs.Common.{arith, assign, block_acts, c_arith, calls_in, choose, drop, drop-step, drop_all}
+use Rattle.sc_run.proofs.Common.{ended_so, evaluated, false, follow, get_or, here_of, if◌then◌else◌, in_body, in_loop}
+use Rattle.sc_run.proofs.Common.{in_order, in_round, is_true, leave, left_at, length, length-drop, loop_acts, next_acts}
+use Rattle.sc_run.proofs.Common.{option_copied, part_acts, refl, resume, reverse, roll-TypedStmtKind, seen_of}
+use Rattle.sc_run.proofs.Common.{simple_does, stmt_acts, store_at, stored, subst, suc, sym, take, take_all, true, turn}
+use Rattle.sc_run.proofs.Common.{way_in, with_exit, ℕ, ◌++◌, ◌+◌, ◌-◌, ◌<◌, ◌==◌, ◌∙◌, ◌∷◌, ◌≡◌, ◌≤◌}
 use Rattle.sc_run.specs.declared.work.Position.{Position}
 use Rattle.sc_core.specs.declared.stmt.TypedStmtKind.TheOpen as layer
 use Rattle.sc_core.specs.declared.stmt.TypedSimpleKind.TheVariants as simple
@@ -153,10 +153,6 @@ pub none_in : (xs : List TypedStmt) (b : Bool) → b ≡ (length xs == 0) → b 
 none_in [] b is empty = refl
 none_in (x ∷ xs) b is empty = grind arith
 
-split_at : {A : Type 0} (xs : List A) (n : ℕ) (x : A) → n < length xs → x ≡ get_or xs n x →
-    drop n xs ≡ x ∷ drop (n + 1) xs
-split_at xs n x there item = rw (add-one, drop-cons xs n x) (λ k. sym item k ∷ drop (suc n) xs)
-
 module _ (program : ProgramTree) (f : Frame) where
   abbrev assigned_by : TypedExpr → TypedExpr → ℕ → Doing
   assigned_by place e line n s = assign (here_of f.scope) (way_in f place) (way_in f e) line tt s
@@ -190,7 +186,7 @@ module _ (program : ProgramTree) (f : Frame) where
       (λ n s. block_acts program n f (drop (at + 1) stmts) tt s)
   one_more stmts at stmt before middle after there item h k =
       then_passes h (passes_as (block_by (drop at stmts))
-      (λ n s. ap (λ xs. block_by xs n s) (split_at stmts at stmt there item)) (next_one k)) where
+      (λ n s. ap (λ xs. block_by xs n s) (drop-step stmts at stmt there item)) (next_one k)) where
         next_one : Passes middle after (λ n. stmt_acts program n f stmt tt) ended_so →
             Passes middle after (block_by (stmt ∷ drop (at + 1) stmts)) (block_by (drop (at + 1) stmts))
         next_one k = passes_follow in_order (λ n. block_acts program n f (drop (at + 1) stmts)) k
@@ -260,7 +256,7 @@ module _ (program : ProgramTree) (f : Frame) where
       (λ n s. follow in_order (block_acts program n f part tt s) (block_acts program n f (drop (at + 1) stmts)))
   within_one stmts part at stmt before middle after there item h k =
       then_passes h (passes_as (block_by (drop at stmts))
-      (λ n s. ap (λ xs. block_by xs n s) (split_at stmts at stmt there item))
+      (λ n s. ap (λ xs. block_by xs n s) (drop-step stmts at stmt there item))
       (passes_follow in_order (λ n. block_acts program n f (drop (at + 1) stmts)) k))
 
   pub one_over : (stmts part : List TypedStmt) (at : ℕ) (stmt : TypedStmt) (before middle after : Seen) → part ≡ [] →

@@ -12,6 +12,7 @@ pub use Rattle.std.proofs.lemmas.Option.{IfSome_then, none-some, slice_get-map}
 pub use Rattle.std.proofs.lemmas.Result.{IfOk-weaker}
 pub use Rattle.std.specs.Option.{option_copied, option_map}
 pub use denote.Bor.{Bor}
+pub use Rattle.sc_base.proofs.Lists.{drop-step, drop_next}
 pub use Rattle.sc_event.specs.declared.event.Event.TheVariants.{End, In, Out}
 pub use Rattle.sc_event.specs.declared.row.Entry.TheVariants.{Export, Main}
 pub use Rattle.sc_core.proofs.Layers.{expr_at, layer_of, stmt_at, term_of, typed}

@@ -1,10 +1,10 @@
 -- Globals, one after the other.
 use Rattle.sc_run.proofs.Common.{Blocks, Cell, List, Memory, Option, Some, TypedGlobal, TypedSection, TypedStruct}
 use Rattle.sc_run.proofs.Common.{Undef, [], add-one, ap, append-nil, append_assoc, arith, cell_with, drop, drop-cons}
-use Rattle.sc_run.proofs.Common.{drop_all, first_blocks, get_or, global_block, globals_of, if◌then◌else◌, length}
-use Rattle.sc_run.proofs.Common.{length-take, map, map-append, member_zeros, refl, repeated, slice_get, struct_zeros}
-use Rattle.sc_run.proofs.Common.{suc, sym, take, take_more, with_blocks, with_words, zero, zeros_of, ℕ, ◌++◌, ◌+◌, ◌<◌}
-use Rattle.sc_run.proofs.Common.{◌==◌, ◌∙◌, ◌∷◌, ◌≡◌, ◌≤◌}
+use Rattle.sc_run.proofs.Common.{drop_all, drop_next, first_blocks, get_or, global_block, globals_of, if◌then◌else◌}
+use Rattle.sc_run.proofs.Common.{length, length-take, map, map-append, member_zeros, refl, repeated, slice_get}
+use Rattle.sc_run.proofs.Common.{struct_zeros, suc, sym, take, take_more, with_blocks, with_words, zero, zeros_of, ℕ}
+use Rattle.sc_run.proofs.Common.{◌++◌, ◌+◌, ◌<◌, ◌==◌, ◌∙◌, ◌∷◌, ◌≡◌, ◌≤◌}
 use Rattle.std.proofs.Math.Dec.{eqb-suc-zero, eqb-zero-suc, eqb-suc-suc}
 use Rattle.sc_core.specs.declared.section.TypedMember.{TypedMember}
 use Rattle.sc_core.specs.declared.value.Cell.TheVariants.{Word, Null, Ptr}
@@ -68,12 +68,6 @@ first_of_rest [] (suc i) = refl
 first_of_rest (w ∷ ws) zero = refl
 first_of_rest (w ∷ ws) (suc i) = first_of_rest ws i
 
-rest_of_rest : (ws : List ℕ) (i : ℕ) → drop 1 (drop i ws) ≡ drop (suc i) ws
-rest_of_rest [] zero = refl
-rest_of_rest [] (suc i) = refl
-rest_of_rest (w ∷ ws) zero = refl
-rest_of_rest (w ∷ ws) (suc i) = rest_of_rest ws i
-
 -- one more cell
 pub word_more : (ws : List ℕ) (cs : List Cell) (i : ℕ) (c new : Cell) (word : Option ℕ) (so_far whole : List Cell) →
     i < length cs → c ≡ get_or cs i Undef → word ≡ slice_get ws i → new ≡ cell_with word c →
@@ -83,7 +77,7 @@ word_more ws cs i c new word so_far whole there item is gives stands_so =
     append_assoc so_far (new ∷ []) (with_words (drop (i + 1) ws) (drop (i + 1) cs))
     ∙ ap (λ xs. so_far ++ xs) ((λ k. (gives ∙ ap (λ o. cell_with o c) (is ∙ sym (first_of_rest ws i))) k ∷
     with_words (drop (plus_one i k) ws) (drop (i + 1) cs)) ∙
-    ap (λ xs. cell_with (slice_get (drop i ws) 0) c ∷ with_words xs (drop (i + 1) cs)) (sym (rest_of_rest ws i)) ∙
+    ap (λ xs. cell_with (slice_get (drop i ws) 0) c ∷ with_words xs (drop (i + 1) cs)) (sym (drop_next ws i)) ∙
     sym (word_first (drop i ws) c (drop (i + 1) cs)) ∙
     ap (with_words (drop i ws)) (sym (rw (add-one, drop-cons cs i Undef) (λ k. sym item k ∷ drop (suc i) cs))))
     ∙ stands_so where

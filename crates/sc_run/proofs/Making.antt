@@ -2,12 +2,11 @@
 use Rattle.sc_run.proofs.Common.{Acts, Blocks, Bool, CameTo, Comes, Err, Here, Left, List, Memory, Next, None, Ok}
 use Rattle.sc_run.proofs.Common.{Option, Piece, Reached, Result, RunEnd, Seen, Some, State, Stopped, TypedExpr}
 use Rattle.sc_run.proofs.Common.{TypedFunction, TypedLocal, TypedParam, TypedStruct, Value, [], all_do, ap, append-nil}
-use Rattle.sc_run.proofs.Common.{append_assoc, arith, block_for, blocks_for, c_arith, cells_of, drop, drop_all, eq-eqb}
-use Rattle.sc_run.proofs.Common.{eqb-true, false, follow, get_or, if◌then◌else◌, in_order, init_does, inits_do, length}
-use Rattle.sc_run.proofs.Common.{length-append, length-map, length-take, map, map-append, refl, seen_of, slice_get}
-use Rattle.sc_run.proofs.Common.{subst, suc, sym, take, take-map, take_more, true, with_blocks, with_exit, ℕ, ◌++◌, ◌+◌}
-use Rattle.sc_run.proofs.Common.{◌<◌, ◌==◌, ◌∙◌, ◌∷◌, ◌≡◌, ◌≤◌}
-use Rattle.sc_base.proofs.Lists.{drop-step}
+use Rattle.sc_run.proofs.Common.{append_assoc, arith, block_for, blocks_for, c_arith, cells_of, drop, drop-step}
+use Rattle.sc_run.proofs.Common.{drop_all, eq-eqb, eqb-true, false, follow, get_or, if◌then◌else◌, in_order, init_does}
+use Rattle.sc_run.proofs.Common.{inits_do, length, length-append, length-map, length-take, map, map-append, refl}
+use Rattle.sc_run.proofs.Common.{seen_of, slice_get, subst, suc, sym, take, take-map, take_more, true, with_blocks}
+use Rattle.sc_run.proofs.Common.{with_exit, ℕ, ◌++◌, ◌+◌, ◌<◌, ◌==◌, ◌∙◌, ◌∷◌, ◌≡◌, ◌≤◌}
 
 with_if : (b : Bool) (x y z : Blocks) → (if b then x else (if b then y else z)) ≡ (if b then x else z)
 with_if true x y z = refl

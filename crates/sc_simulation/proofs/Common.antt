@@ -13,6 +13,7 @@ pub use Rattle.std.proofs.lemmas.List.Quantifiers.{position-Some}
 pub use Rattle.std.proofs.lemmas.Option.{get_or_from_slice_get, same_Some, slice_get-map, slice_get_within}
 pub use Rattle.std.specs.List.{list_all, list_any, position}
 pub use Rattle.std.specs.Option.{option_and_then, option_map, option_map_or}
+pub use Rattle.sc_base.proofs.Lists.{is_there, position-cons}
 pub use Rattle.sc_base.specs.declared.stop.Stop.{Stop}
 pub use Rattle.sc_event.specs.Prelude.{Activation, Standing, action_of, at_start, comp_at, count_of, export_at, imports}
 pub use Rattle.sc_event.specs.Prelude.{is_allowed, is_end, is_function, is_legal_from, is_output, legal, may_perform}

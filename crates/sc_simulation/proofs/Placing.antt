@@ -5,12 +5,12 @@ use Rattle.sc_simulation.proofs.Common.{Setting, Some, Store, TacFnTree, TacSect
 use Rattle.sc_simulation.proofs.Common.{all_true, and_parts, ap, arith, calls_exports, calls_imports, calls_own}
 use Rattle.sc_simulation.proofs.Common.{code_globals, cross_call_fits, everywhere, export_at, false, first_blocks}
 use Rattle.sc_simulation.proofs.Common.{fold-roll-TacStmt, frame_taken, functions_in, functions_or_none, gives}
-use Rattle.sc_simulation.proofs.Common.{gives_result, imports, is_function, is_some, length, length-append, length-map}
-use Rattle.sc_simulation.proofs.Common.{linked_from, ltb-true, makes, map, map-TacStmt, moved_by, names_own_global}
-use Rattle.sc_simulation.proofs.Common.{nat_lt, not, option_map, own_call_fits, passes_words, pos, promises_result, ra}
-use Rattle.sc_simulation.proofs.Common.{refl, roll-TacStmt, setting, slice_get, slice_get-map, slice_get_within, sp}
-use Rattle.sc_simulation.proofs.Common.{sub_word, subst, sym, takes_result, true, with_parts, word_at, ℕ, ◌&&◌, ◌<◌}
-use Rattle.sc_simulation.proofs.Common.{◌==◌, ◌||◌, ◌∙◌, ◌∷◌, ◌≡◌, ◌≤◌}
+use Rattle.sc_simulation.proofs.Common.{gives_result, imports, is_function, is_some, is_there, length, length-append}
+use Rattle.sc_simulation.proofs.Common.{length-map, linked_from, ltb-true, makes, map, map-TacStmt, moved_by}
+use Rattle.sc_simulation.proofs.Common.{names_own_global, nat_lt, not, option_map, own_call_fits, passes_words, pos}
+use Rattle.sc_simulation.proofs.Common.{promises_result, ra, refl, roll-TacStmt, setting, slice_get, slice_get-map}
+use Rattle.sc_simulation.proofs.Common.{slice_get_within, sp, sub_word, subst, sym, takes_result, true, with_parts}
+use Rattle.sc_simulation.proofs.Common.{word_at, ℕ, ◌&&◌, ◌<◌, ◌==◌, ◌||◌, ◌∙◌, ◌∷◌, ◌≡◌, ◌≤◌}
 use Rattle.sc_emit.specs.Prelude.{IsCodeAddress, IsPlaced, calls_only, is_call, names_only}
 use Rattle.rv_code.specs.declared.instr.Instr.{Instr}
 use Rattle.rv_code.specs.declared.instr.StoreOp.TheVariants.{Sw}
@@ -18,7 +18,6 @@ use Rattle.sc_core.proofs.Induction.{Each, everywhere as of_each}
 use Rattle.sc_tac.specs.declared.stmt.TacStmt.TheOpen as tac
 use Rattle.sc_tac.proofs.Induction.{Inside, stmt_induction}
 use Rattle.sc_tac.specs.declared.machine_code.Relocation.{Relocation}
-use Rattle.sc_relation.proofs.Frames.{is_there}
 use Rattle.sc_emit.proofs.Passing.{AllPass, PassesAll, PassesHere, Test, choice_passes, first_passes, loop_passes}
 use Rattle.sc_emit.proofs.Passing.{passes, passes_here, rest_pass}
 use Rattle.sc_simulation.proofs.Sections.{InSection, in_functions, its_section}

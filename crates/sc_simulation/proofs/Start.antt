@@ -5,11 +5,10 @@ use Rattle.sc_simulation.proofs.Common.{Registers, Setting, Settled, Some, Stand
 use Rattle.sc_simulation.proofs.Common.{[], and_parts, ap, are_headed, arith, code_function, code_globals, cond, count}
 use Rattle.sc_simulation.proofs.Common.{eqb-true, false, first_state, function_entered, functions_in, functions_or_none}
 use Rattle.sc_simulation.proofs.Common.{gate, has_head, if◌then◌else◌, length, lt-ltb, ltb-true, machine, main_entered}
-use Rattle.sc_simulation.proofs.Common.{nat_lt, not, option_map, position, refl, runs_are_steady, same_Some, same_entry}
-use Rattle.sc_simulation.proofs.Common.{setting, slice_get, slice_get_within, slice_index, stack_top, stack_tops, start}
-use Rattle.sc_simulation.proofs.Common.{start_memory, subst, suc, sym, true, truth, word, wrapping, zero, zero-add, ℕ}
-use Rattle.sc_simulation.proofs.Common.{◌*◌, ◌+◌, ◌<◌, ◌==◌, ◌||◌, ◌∙◌, ◌∷◌, ◌≡◌, ◌≤◌, ◌⊎◌}
-use Rattle.sc_base.proofs.Lists.{position-cons}
+use Rattle.sc_simulation.proofs.Common.{nat_lt, not, option_map, position, position-cons, refl, runs_are_steady}
+use Rattle.sc_simulation.proofs.Common.{same_Some, same_entry, setting, slice_get, slice_get_within, slice_index}
+use Rattle.sc_simulation.proofs.Common.{stack_top, stack_tops, start, start_memory, subst, suc, sym, true, truth, word}
+use Rattle.sc_simulation.proofs.Common.{wrapping, zero, zero-add, ℕ, ◌*◌, ◌+◌, ◌<◌, ◌==◌, ◌||◌, ◌∙◌, ◌∷◌, ◌≡◌, ◌≤◌, ◌⊎◌}
 use Rattle.sc_core.specs.declared.value.Cell.TheVariants as cell
 use Rattle.sc_image.specs.declared.parts.CompPart.{CompPart}
 use Rattle.sc_simulation.proofs.Sections.{all_at, position_at}

@@ -1,4 +1,4 @@
-use Rattle.sc_chain.proofs.Common.{few_numbers}
+use Rattle.sc_linker.proofs.Compartments.{few_numbers}
 use Rattle.sc_chain.proofs.composed.recompose.Goals as goal
 
 pub comp_id-requires : goal.comp_id-requires

@@ -1,8 +1,9 @@
 use Rattle.sc_linker.proofs.Common.{All, Interface, IsNamed, IsWhole, List, ap, arith, codes_at, comp_at, comp_part}
 use Rattle.sc_linker.proofs.Common.{get_or, length, refl, slice_get, slice_get_read, subst, sym, ◌<◌, ◌∙◌, ◌≡◌}
 use Rattle.sc_linker.proofs.Beginnings.{all_done, all_more}
-use Rattle.sc_linker.proofs.Compartments.{all_named, few_numbers, one_comp, one_whole, same_count, whole_codes}
+use Rattle.sc_linker.proofs.Compartments.{all_named, few_numbers, one_comp, one_whole, whole_codes}
 use Rattle.sc_linker.proofs.image.comp_parts.Goals as goal
+use Rattle.sc_linker.proofs.Comps.{same_count}
 
 pub comp_id-comp-requires : goal.comp_id-comp-requires
 comp_id-comp-requires c =
