@@ -4,15 +4,15 @@ use Rattle.sc_emit.proofs.Common.{All, Apart, Begins, CodeAt, Computes, Does, En
 use Rattle.sc_emit.proofs.Common.{FrameTree, Function, Grown, HasRoom, ImageParts, Instr, IsFrame, IsFromSp}
 use Rattle.sc_emit.proofs.Common.{IsWellFormed, IsWord, Joint, List, Memory as Bytes, Option, Overflows, Piece, Place}
 use Rattle.sc_emit.proofs.Common.{Registers, Setting, Some, Standpoint, Store, Stores, Sw, TakesFrame, Traps, Value}
-use Rattle.sc_emit.proofs.Common.{Walks, World, [], a0, add_word, ap, are_data, arith, at, back_at, begun, cases_eq}
-use Rattle.sc_emit.proofs.Common.{cases_lt, computes, data_start, entrance, eq-eqb, false, frame_taken, front_at}
-use Rattle.sc_emit.proofs.Common.{globals_of, in_row, inl, inr, is_there, last, le-leb, le-ltb, length, length-append}
-use Rattle.sc_emit.proofs.Common.{look_at, moved_by, moves_on, nat_le, nat_lt, object_inside, object_there}
-use Rattle.sc_emit.proofs.Common.{objects_apart, overflows, overflows_entering, own_beside, own_inside, pos, put_word}
-use Rattle.sc_emit.proofs.Common.{ra, refl, refused, same_Some, slice_get, sp, stack_size, stack_top, step}
-use Rattle.sc_emit.proofs.Common.{store_arguments, store_word, stores_word, sub_word, subst, suc, sym, takes_frame}
-use Rattle.sc_emit.proofs.Common.{true, unless, unwrap_or, word, word_of-lt, word_of-unsigned_sub, zero, ℕ, ⊎_elim, ◌%◌}
-use Rattle.sc_emit.proofs.Common.{◌*◌, ◌++◌, ◌+◌, ◌-◌, ◌<◌, ◌^◌, ◌∙◌, ◌∷◌, ◌≡◌, ◌≢◌, ◌≤◌, ◌⊎◌, each_at}
+use Rattle.sc_emit.proofs.Common.{Walks, World, [], a0, add_word, all_at, ap, are_data, arith, at, back_at, begun}
+use Rattle.sc_emit.proofs.Common.{cases_eq, cases_lt, computes, data_start, entrance, eq-eqb, false, frame_taken}
+use Rattle.sc_emit.proofs.Common.{front_at, globals_of, in_row, inl, inr, is_there, last, le-leb, le-ltb, length}
+use Rattle.sc_emit.proofs.Common.{length-append, look_at, moved_by, moves_on, nat_le, nat_lt, object_inside}
+use Rattle.sc_emit.proofs.Common.{object_there, objects_apart, overflows, overflows_entering, own_beside, own_inside}
+use Rattle.sc_emit.proofs.Common.{pos, put_word, ra, refl, refused, same_Some, slice_get, sp, stack_size, stack_top}
+use Rattle.sc_emit.proofs.Common.{step, store_arguments, store_word, stores_word, sub_word, subst, suc, sym}
+use Rattle.sc_emit.proofs.Common.{takes_frame, true, unless, unwrap_or, word, word_of-lt, word_of-unsigned_sub, zero, ℕ}
+use Rattle.sc_emit.proofs.Common.{⊎_elim, ◌%◌, ◌*◌, ◌++◌, ◌+◌, ◌-◌, ◌<◌, ◌^◌, ◌∙◌, ◌∷◌, ◌≡◌, ◌≢◌, ◌≤◌, ◌⊎◌}
 use Rattle.sc_store.specs.Prelude.{stored}
 use Rattle.sc_image.specs.Prelude.{Goes}
 use Rattle.sc_base.specs.declared.stop.TrapReason.TheVariants.{Owner}
@@ -53,7 +53,7 @@ module _ (image : ImageParts) (inputs : List ℕ) (world : World) (cells : List 
       slice_get cells o ≡ Some n → 1 ≤ n → IsFromSp image world regs offset (low + offset)
   object_from_sp regs o offset n at_low e f some =
       let inside : offset + 4 * n ≤ frame.bytes = object_inside cells places nodes frame room o offset n e f in
-      let four : offset % 4 ≡ 0 = each_at (λ offset. offset % 4 ≡ 0) frame.objects o offset whole.objects e in
+      let four : offset % 4 ≡ 0 = all_at (λ offset. offset % 4 ≡ 0) frame.objects o offset whole.objects e in
       record {
         sum = ap (λ s. s + offset) at_low;
         below = omega (arith, inside, some);

@@ -3,11 +3,11 @@ use Rattle.sc_emit.proofs.Common.{Activation, Addi, All, CallStands, CallTarget,
 use Rattle.sc_emit.proofs.Common.{Computes, Ecall, Fetches, Follows, FrameTree, Input, Instr, IsActivation, IsBack}
 use Rattle.sc_emit.proofs.Common.{IsClear, IsWellFormed, IsWord, Joint, List, Lives, None, OpImm, Option, Output, Ready}
 use Rattle.sc_emit.proofs.Common.{Running, Setting, Standpoint, State as Meant, Temps, Value, [], a0, a7, across_live}
-use Rattle.sc_emit.proofs.Common.{ap, append-nil, append_assoc, arith, asked, back_at, back_with, brought, call_does}
-use Rattle.sc_emit.proofs.Common.{call_from, code_step, environment_call, false, length, live_plain, moved}
+use Rattle.sc_emit.proofs.Common.{all_at, ap, append-nil, append_assoc, arith, asked, back_at, back_with, brought}
+use Rattle.sc_emit.proofs.Common.{call_does, call_from, code_step, environment_call, false, length, live_plain, moved}
 use Rattle.sc_emit.proofs.Common.{of_environment, pass, place_of, plain_points, pos, receive, refl, seen_from}
 use Rattle.sc_emit.proofs.Common.{select_step, subst, sym, trail_step, true, with_number, wrapping, ℕ, ◌*◌, ◌++◌, ◌+◌}
-use Rattle.sc_emit.proofs.Common.{◌<◌, ◌^◌, ◌∙◌, ◌∷◌, ◌≡◌, ◌≤◌, each_at}
+use Rattle.sc_emit.proofs.Common.{◌<◌, ◌^◌, ◌∙◌, ◌∷◌, ◌≡◌, ◌≤◌}
 use Rattle.sc_tac.specs.declared.stmt.TacStmt.TheOpen as tac
 use Rattle.sc_emit.proofs.Arguments.{AreRead, read_length, Passes}
 use Rattle.sc_emit.proofs.Calls.{Answers, none_wanted, HasPlace, last_point, Prepares, goes, call_runs, passes_args}
@@ -103,7 +103,7 @@ module _ (T : Setting) (R : Running) (formed : IsWellFormed T.image) (inputs : A
           f,
           e,
         )) there made answers lives temps x left ready
-        (each_at (IsClear R.places) (plain_points [] false dest lives) 1 _ clear refl) code)
+        (all_at (IsClear R.places) (plain_points [] false dest lives) 1 _ clear refl) code)
 
     pub output_follows : (value : ℕ) → T.makes A.here.comp Output 1 ≡ true →
         Follows T R (code_step wrapping A.here calls (tac.Output value)) (select_step frame R.places (tac.Output value))
@@ -120,5 +120,5 @@ module _ (T : Setting) (R : Running) (formed : IsWellFormed T.image) (inputs : A
         (call_does A.here calls None Output (value ∷ []) temps x.meant)) whole
         (asks Output 2 None (value ∷ []) refl (omega arith) (omega arith) (λ y f e. (f, e)) tt made
         (λ vs s. none_wanted (calls A.here.comp Output vs s)) lives temps x left ready
-        (each_at (IsClear R.places) (plain_points (value ∷ []) false None lives) 1 _ clear refl)
+        (all_at (IsClear R.places) (plain_points (value ∷ []) false None lives) 1 _ clear refl)
         (subst (CodeAt T.image A.here.comp x.pc) (sym whole) code)))

@@ -2,12 +2,12 @@
 use Rattle.sc_emit.proofs.Common.{All, All-cons, All-nil, Arrives, Bool, Calls, Codes, Follows, FrameTree, Goes, Instr}
 use Rattle.sc_emit.proofs.Common.{IsActivation, IsClear, IsFromSp, IsLoaded, IsWellFormed, IsWord, Joint, List, Lives}
 use Rattle.sc_emit.proofs.Common.{Next, Ok, Place, Point, Ready, Running, Set, Setting, Some, StandsFor, State as Meant}
-use Rattle.sc_emit.proofs.Common.{Temps, Trail, Value, [], ap, arith, code_step, comes_computed, comes_read, eq-eqb}
-use Rattle.sc_emit.proofs.Common.{false, gets, if◌then◌else◌, is_one, leave, length, live_across, live_at, live_plain}
-use Rattle.sc_emit.proofs.Common.{load, load_word, loads, loads_word, not, object_offset, object_read, plain_points}
-use Rattle.sc_emit.proofs.Common.{point, refl, result_register, row, same_Some, slice_get, start_of, stays, straightly}
-use Rattle.sc_emit.proofs.Common.{subst, sym, trail_step, true, unwrap_or, with_temp, word, wrapping, ℕ, ◌&&◌, ◌*◌, ◌+◌}
-use Rattle.sc_emit.proofs.Common.{◌==◌, ◌||◌, ◌∙◌, ◌∷◌, ◌≡◌, ◌≤◌, each_at}
+use Rattle.sc_emit.proofs.Common.{Temps, Trail, Value, [], all_at, ap, arith, code_step, comes_computed, comes_read}
+use Rattle.sc_emit.proofs.Common.{eq-eqb, false, gets, if◌then◌else◌, is_one, leave, length, live_across, live_at}
+use Rattle.sc_emit.proofs.Common.{live_plain, load, load_word, loads, loads_word, not, object_offset, object_read}
+use Rattle.sc_emit.proofs.Common.{plain_points, point, refl, result_register, row, same_Some, slice_get, start_of}
+use Rattle.sc_emit.proofs.Common.{stays, straightly, subst, sym, trail_step, true, unwrap_or, with_temp, word, wrapping}
+use Rattle.sc_emit.proofs.Common.{ℕ, ◌&&◌, ◌*◌, ◌+◌, ◌==◌, ◌||◌, ◌∙◌, ◌∷◌, ◌≡◌, ◌≤◌}
 use Rattle.sc_tac.specs.declared.stmt.TacStmt.TheOpen as tac
 use Rattle.sc_emit.proofs.Operands.{ArePlaced, Gives, keeps, world}
 use Rattle.sc_emit.proofs.Plain.{IsResult, gives_by, result_is, start_stands}
@@ -63,8 +63,8 @@ module _ (T : Setting) (R : Running) (formed : IsWellFormed T.image) (inputs : A
       All-cons (IsClear R.places) first (last ∷ [])
       (fewer_clear R.places (λ t. is_one t (dest ∷ []) || live_across (dest ∷ []) false (Some dest) lives t)
       (λ t. is_one t [] || live_across [] false (Some dest) lives t) (live_between lives)
-      (each_at (IsClear R.places) (both_trails.points lives) 2 _ clear refl))
-      (All-cons (IsClear R.places) last [] (each_at (IsClear R.places) (both_trails.points lives) 3 _ clear refl)
+      (all_at (IsClear R.places) (both_trails.points lives) 2 _ clear refl))
+      (All-cons (IsClear R.places) last [] (all_at (IsClear R.places) (both_trails.points lives) 3 _ clear refl)
       (All-nil (IsClear R.places)))
 
   -- the temporary holds what was assigned last
