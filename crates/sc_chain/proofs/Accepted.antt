@@ -1,12 +1,10 @@
 -- A text in which compartments perform their parts of a trace is accepted, and means what their scripts say.
-use Rattle.sc_chain.proofs.Common.{Accepts, All, All-from_recursion, AllByRecursion, AllZip, AreLow, Blamed, Bool}
-use Rattle.sc_chain.proofs.Common.{Cause, Event, HasWords, Interfaces, IsRead, IsRecomposed, IsReplay, IsSource}
-use Rattle.sc_chain.proofs.Common.{IsSplitInto, IsTyped, IsWellTyped, List, Part, ProgramTree, Reads, Row, SourceParts}
-use Rattle.sc_chain.proofs.Common.{[], ap, arith, concat, false, le-leb, legal, length, list_all, meaning, nat_le}
-use Rattle.sc_chain.proofs.Common.{new_texts, part, performing, recomposed, recursion_from_All, refl, scripted_meaning}
-use Rattle.sc_chain.proofs.Common.{subst, suc, sym, true, ℕ, ◌++◌, ◌<◌, ◌∙◌, ◌∷◌, ◌≡◌, ◌≤◌}
-use Rattle.sc_ast.specs.Prelude.{section_height}
-use Rattle.sc_scope.specs.Prelude.{interfaces_from}
+use Rattle.sc_chain.proofs.Common.{Accepts, All, All-from_recursion, AllByRecursion, Blamed, Bool, Cause, Event}
+use Rattle.sc_chain.proofs.Common.{HasWords, Interfaces, IsRecomposed, IsReplay, IsSource, IsSplitInto, IsTyped}
+use Rattle.sc_chain.proofs.Common.{IsWellTyped, List, ProgramTree, Reads, Row, SourceParts, [], ap, arith, concat}
+use Rattle.sc_chain.proofs.Common.{false, legal, length, meaning, new_texts, part, performing, recomposed}
+use Rattle.sc_chain.proofs.Common.{recursion_from_All, refl, scripted_meaning, subst, sym, true, ℕ, ◌++◌, ◌<◌, ◌∙◌, ◌∷◌}
+use Rattle.sc_chain.proofs.Common.{◌≡◌, ◌≤◌}
 use Rattle.sc_elab.specs.Prelude.{program_of}
 use Rattle.sc_ast.specs.declared.section.ImportLine.{ImportLine}
 use Rattle.sc_ast.specs.declared.section.SectionTree.{SectionTree}
@@ -20,6 +18,8 @@ use Rattle.sc_performers.specs.Performing.{IsFromSo, IsNamed, PerformsPart}
 use Rattle.sc_performers.specs.Recomposed.{IsPerformable}
 use Rattle.sc_performers.proofs.PartsPerform.{parts_perform}
 use Rattle.sc_performers.proofs.Recomposed.{recomposed_hold}
+use Rattle.sc_types.proofs.Sources.{interfaces_length}
+use Rattle.sc_types.proofs.Readings.{reads_low}
 
 -- what names of trees that were read are
 from_so : (lines : List ImportLine) → AllByRecursion IsNamedImport lines → AllByRecursion IsFromSo lines
@@ -37,23 +37,6 @@ named_so (tree ∷ trees) h = (
   },
   named_so trees h.1,
 )
-
-as_many_interfaces : (sections : List SectionTree) (k : ℕ) (rest : List SectionTree) →
-    length (interfaces_from sections k rest) ≡ length rest
-as_many_interfaces sections k [] = refl
-as_many_interfaces sections k (tree ∷ rest) = ap suc (as_many_interfaces sections (suc k) rest)
-
--- no tree of a text is high
-low_from : (text : List ℕ) (parts : List Part) (trees : List SectionTree) → AllZip (IsRead text) parts trees →
-    list_all {X = SectionTree} (λ tree. nat_le (section_height tree) 256) trees ≡ true
-low_from text [] [] h = refl
-low_from text [] (tree ∷ trees) h = absurd h
-low_from text (part ∷ parts) [] h = absurd h
-low_from text (part ∷ parts) (tree ∷ trees) h =
-    rw (le-leb (section_height tree) 256 h.0.parsed.low, low_from text parts trees h.1) refl
-
-reads_low : (text : List ℕ) (trees : List SectionTree) → Reads text trees → AreLow trees
-reads_low text trees r = low_from text r.sections trees r.each
 
 module _ (source : SourceParts) (trace : List Event) (is : IsSource source)
     (allowed : legal source.program.interfaces trace ≡ true) (few : length trace ≤ 4096)
@@ -82,7 +65,7 @@ module _ (source : SourceParts) (trace : List Event) (is : IsSource source)
       is.accepted.typed.types is.accepted.typed.interfaces is.accepted.typed.counts)
 
   pub as_many : length interfaces.comps ≡ length trees
-  as_many = ap (λ (p : ProgramTree). length p.interfaces.comps) is.accepted.typed.is ∙ as_many_interfaces trees 0 trees
+  as_many = ap (λ (p : ProgramTree). length p.interfaces.comps) is.accepted.typed.is ∙ interfaces_length trees 0 trees
 
   module _ (set : ℕ → Bool) (within : (comp : ℕ) → set comp ≡ true → comp < length interfaces.comps) where
     pub replacement : IsReplacement interfaces rows set (performing interfaces trace set) (length trees)

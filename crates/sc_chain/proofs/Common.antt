@@ -1,22 +1,22 @@
 -- The names that several proofs of this crate cite, passed on from one place. Declares nothing.
 pub use Rattle.std.proofs.Common.{All, Bool, List, None, Ok, Option, Some, [], ap, append-nil, append_assoc, ap₂, arith}
-pub use Rattle.std.proofs.Common.{drop, eq-eqb, eqb-true, false, get_or, if◌then◌else◌, inl, inr, le-leb, length}
-pub use Rattle.std.proofs.Common.{length-append, map, nat_le, ne_eqb, refl, rules, slice_get, slice_index_or, subst}
-pub use Rattle.std.proofs.Common.{suc, sym, take, take_all, true, zero, ℕ, ℤ, ⊎_elim, ◌++◌, ◌+◌, ◌-◌, ◌<◌, ◌==◌, ◌^◌}
-pub use Rattle.std.proofs.Common.{◌||◌, ◌∙◌, ◌∷◌, ◌≡◌, ◌≤◌, ◌⊎◌}
+pub use Rattle.std.proofs.Common.{drop, eq-eqb, eqb-true, false, get_or, if◌then◌else◌, inl, inr, length, length-append}
+pub use Rattle.std.proofs.Common.{map, ne_eqb, refl, rules, slice_get, slice_index_or, subst, suc, sym, take, take_all}
+pub use Rattle.std.proofs.Common.{true, zero, ℕ, ℤ, ⊎_elim, ◌++◌, ◌+◌, ◌-◌, ◌<◌, ◌==◌, ◌^◌, ◌||◌, ◌∙◌, ◌∷◌, ◌≡◌, ◌≤◌}
+pub use Rattle.std.proofs.Common.{◌⊎◌}
 pub use Rattle.std.proofs.lemmas.Bool.{cases_eq, cases_lt}
 pub use Rattle.std.proofs.lemmas.List.{at_drop_all, at_drop_more, get_or_read_under, length-map, map-append}
 pub use Rattle.std.proofs.lemmas.List.{take-append-le}
 pub use Rattle.std.proofs.lemmas.List.Elements.{All-append, All-from_recursion, All-map, All-push, recursion_from_All}
-pub use Rattle.std.specs.List.{AllByRecursion, AllZip, concat, list_all, list_any}
+pub use Rattle.std.specs.List.{AllByRecursion, concat, list_any}
 pub use Rattle.sc_base.specs.declared.stop.Stop.{Stop}
 pub use Rattle.sc_event.specs.Prelude.{Standing, action_of, at_start, legal, part, performer, rows_from, stands_after}
 pub use Rattle.sc_event.specs.declared.row.Row.{Row}
-pub use Rattle.sc_read.specs.Reading.{IsRead, Part, Reads, part_of}
+pub use Rattle.sc_read.specs.Reading.{Part, Reads, part_of}
 pub use Rattle.sc_word.specs.Prelude.{word_of}
 pub use Rattle.sc_core.specs.Prelude.{Front, IsWellTyped, c_arith, meaning, scripted_meaning}
 pub use Rattle.sc_core.specs.declared.run.SourceRun.{SourceRun}
-pub use Rattle.sc_types.specs.Prelude.{Accepts, AreLow, IsSource, IsSplitInto, IsTyped, SourceParts}
+pub use Rattle.sc_types.specs.Prelude.{Accepts, IsSource, IsSplitInto, IsTyped, SourceParts}
 pub use Rattle.sc_laws.proofs.ProgramLaws.{blamed_are_there, chain_exists, chain_is_least, chains_rise, empty_set}
 pub use Rattle.sc_laws.specs.Prelude.{AreFresh, IsBlamedOutside, IsLink, IsRising, Set, nobody, performed, with}
 pub use Rattle.sc_image.specs.Prelude.{Goes, IsWellFormed, IsWord, Outcome, Run, State, Traps, machine, run, start}

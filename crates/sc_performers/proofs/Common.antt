@@ -10,11 +10,11 @@ pub use Rattle.std.proofs.lemmas.Bool.Decides.{Decides-eqb}
 pub use Rattle.std.proofs.lemmas.Fmt.{decimal_injective, digits_decimal}
 pub use Rattle.std.proofs.lemmas.List.{length-map, map-append}
 pub use Rattle.std.proofs.lemmas.List.Elements.{All-from_recursion, All-nil, filter_map-append, recursion_from_All}
-pub use Rattle.std.proofs.lemmas.Option.{none-some}
+pub use Rattle.std.proofs.lemmas.Option.{none-some, same_Some}
 pub use Rattle.std.specs.Fmt.{decimal}
 pub use Rattle.std.specs.List.{AllByRecursion, concat, cons_option, filter_map, list_all, list_any}
 pub use Rattle.std.specs.Option.{option_and_then, option_map, option_map_or}
-pub use Rattle.sc_base.proofs.Bools.{and_first, and_rest}
+pub use Rattle.sc_base.proofs.Bools.{and_first, and_rest, implied, implies}
 pub use Rattle.sc_base.proofs.Lists.{get_behind, map_twice, position-cons}
 pub use Rattle.sc_base.proofs.Texts.{bytes_eq_self, same_either_way, same_text}
 pub use Rattle.sc_base.specs.Prelude.{all_hold, is_name, number_of}
@@ -85,12 +85,11 @@ pub use Rattle.sc_elab.specs.Prelude.{import_target, imported_target, or_first, 
 pub use Rattle.sc_elab.specs.Prelude.{scope_in, sections_from, signature_by, structs, type_of, type_of_name}
 pub use Rattle.sc_elab.specs.Prelude.{typed_function, typed_global, typed_param, typed_section, visible_of}
 pub use Rattle.sc_types.proofs.Basics.{Each, back_empty, each_empty, front_empty, map_empty, none_some, rule_holds}
-pub use Rattle.sc_types.proofs.Basics.{some_is, some_item}
+pub use Rattle.sc_types.proofs.Basics.{some_item}
 pub use Rattle.sc_types.proofs.Calls.{FoundBy, Offering, comp_is, export_is, find_offering, found_by}
 pub use Rattle.sc_types.proofs.Facts.{DeclFacts, ExportFacts, FaceFacts, Fresh, ImportFacts, fresh_distinct}
-pub use Rattle.sc_types.proofs.Functions.{map_length}
 pub use Rattle.sc_types.proofs.Lookups.{FoundFunction, each_at}
-pub use Rattle.sc_types.proofs.Sections.{agrees, both_distinct, crossing, g, none_beyond}
+pub use Rattle.sc_types.proofs.Sections.{agrees, both_distinct, crossing, g, none_beyond, promised_name}
 pub use Rattle.sc_types.specs.Prelude.{IsTyped, counts_broken, global_lines, head_lines, line_beyond, line_of_some}
 pub use Rattle.sc_types.specs.Prelude.{param_small, section_nodes, structs_from}
 pub use Rattle.sc_back.specs.Prelude.{AllBecome, AreNumbered, Becomes, IsCalled, IsImported, IsSpoken, action_kind}

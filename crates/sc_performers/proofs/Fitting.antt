@@ -7,14 +7,14 @@ use Rattle.sc_performers.proofs.Common.{cons_option, counts_broken, defined, def
 use Rattle.sc_performers.proofs.Common.{false, false≢true, filter_map, fresh_distinct, function_named, function_names}
 use Rattle.sc_performers.proofs.Common.{functions_in, if◌then◌else◌, import_names, import_of, imported}
 use Rattle.sc_performers.proofs.Common.{interface_broken, interface_of, interfaces_of, is_plain, legal, length}
-use Rattle.sc_performers.proofs.Common.{lines_from, list_any, main_from, main_name, main_proto, map, map-append}
-use Rattle.sc_performers.proofs.Common.{map_length, names_of, none_some, part, refl, rule_holds, same_text, slice_get}
-use Rattle.sc_performers.proofs.Common.{some_is, subst, suc, sym, true, used, zero, ℕ, ◌++◌, ◌+◌, ◌==◌, ◌||◌, ◌∙◌, ◌∷◌}
-use Rattle.sc_performers.proofs.Common.{◌≡◌, ◌≤◌}
+use Rattle.sc_performers.proofs.Common.{length-map, lines_from, list_any, main_from, main_name, main_proto, map}
+use Rattle.sc_performers.proofs.Common.{map-append, names_of, none_some, part, promised_name, refl, rule_holds}
+use Rattle.sc_performers.proofs.Common.{same_Some, same_text, slice_get, subst, suc, sym, true, used, zero, ℕ, ◌++◌}
+use Rattle.sc_performers.proofs.Common.{◌+◌, ◌==◌, ◌||◌, ◌∙◌, ◌∷◌, ◌≡◌, ◌≤◌}
 use Rattle.sc_scope.specs.Prelude.{proto_of}
 use Rattle.sc_performers.proofs.LegalRows.{legal_rows_fit}
-use Rattle.sc_performers.proofs.Resolved.{IsPromised, IsResolved, facts_at, few_exports, few_imports, promise_name}
-use Rattle.sc_performers.proofs.Resolved.{promised_at, resolved}
+use Rattle.sc_performers.proofs.Resolved.{IsPromised, IsResolved, facts_at, few_exports, few_imports, promised_at}
+use Rattle.sc_performers.proofs.Resolved.{resolved}
 
 pub each_from_places : {A : Type 0} (P : A → Type 0) (xs : List A) →
     ((i : ℕ) (x : A) → slice_get xs i ≡ Some x → P x) → Each P xs
@@ -40,7 +40,7 @@ main_at : (k : ℕ) (xs : List SectionTree) (i : ℕ) (x : SectionTree) → list
     slice_get xs i ≡ Some x → main_from k xs ≡ k + i → defines_main x ≡ true
 main_at k [] i x some got at = none_some x got
 main_at k (y ∷ ys) zero x some got at =
-    subst (λ z. defines_main z ≡ true) (some_is y x got) (by (defines_main y) refl some at) where
+    subst (λ z. defines_main z ≡ true) (same_Some y x got) (by (defines_main y) refl some at) where
       by : (b : Bool) → defines_main y ≡ b → (b || list_any defines_main ys) ≡ true →
           (if b then k else main_from (suc k) ys) ≡ k + 0 → defines_main y ≡ true
       by true is some at = is
@@ -92,7 +92,7 @@ all_both P [] ys h k = k
 all_both P (x ∷ xs) ys h k = (h.0, all_both P xs ys h.1 k)
 
 pub proto_named : (old : SectionTree) (line : ExportLine) → (proto_of old line).name ≡ line.name
-proto_named old line = promise_name line.name (function_named line.name (functions_in old.decls))
+proto_named old line = promised_name line.name (function_named line.name (functions_in old.decls))
 
 pub exports_named : (old : SectionTree) (lines : List ExportLine) →
     names_of (map (proto_of old) lines) ≡ map {A = ExportLine} (λ line. line.name) lines
@@ -256,9 +256,9 @@ module _ (olds : List SectionTree) (in_faces : interface_broken olds ≡ []) (in
         there = comp_is olds number old got;
         distinct = ap are_distinct all_names ∙ all_distinct here refl;
         usable = All-from_recursion IsUsable (all_of interfaces number interface) all_usable;
-        few_exports = subst (λ n. n ≤ 4096) (sym (map_length (proto_of old) old.exports))
+        few_exports = subst (λ n. n ≤ 4096) (sym (length-map old.exports (proto_of old)))
             (few_exports olds in_faces in_counts number old got);
-        few_imports = subst (λ n. n ≤ 4096) (sym (map_length (import_of olds number) old.imports))
+        few_imports = subst (λ n. n ≤ 4096) (sym (length-map old.imports (import_of olds number)))
             (few_imports olds in_faces in_counts number old got);
         few_rows = rows.1;
         rows_fit = rows.0;

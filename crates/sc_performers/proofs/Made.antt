@@ -3,9 +3,9 @@ use Rattle.sc_performers.proofs.Common.{Bool, Each, Entry, Export, FunctionParam
 use Rattle.sc_performers.proofs.Common.{ImportLine, Int, Interfaces, List, Main, None, Option, Proto, Row, Scalar, Some}
 use Rattle.sc_performers.proofs.Common.{StmtTree, Text, Unsigned, [], agree, agrees_with, among, and_from, ap}
 use Rattle.sc_performers.proofs.Common.{are_distinct, bytes_eq, bytes_eq_self, false, false≢true, function_named}
-use Rattle.sc_performers.proofs.Common.{function_params, head_of, if◌then◌else◌, inl, inr, main_proto, map, names_of}
-use Rattle.sc_performers.proofs.Common.{not, option_map, promised, refl, same_either_way, same_text, scalar_of, subst}
-use Rattle.sc_performers.proofs.Common.{suc, sym, true, type_name, ℕ, ◌++◌, ◌||◌, ◌∙◌, ◌∷◌, ◌≡◌, ◌⊎◌}
+use Rattle.sc_performers.proofs.Common.{function_params, head_of, if◌then◌else◌, implies, inl, inr, main_proto, map}
+use Rattle.sc_performers.proofs.Common.{names_of, not, option_map, promised, refl, same_either_way, same_text}
+use Rattle.sc_performers.proofs.Common.{scalar_of, subst, suc, sym, true, type_name, ℕ, ◌++◌, ◌||◌, ◌∙◌, ◌∷◌, ◌≡◌, ◌⊎◌}
 use Rattle.sc_performers.proofs.BackTree.{AreFunctions, AreImports, and_function, and_import, entries_from, function_at}
 use Rattle.sc_performers.proofs.BackTree.{import_at, no_functions, no_imports}
 use Rattle.sc_performers.proofs.Declared.{heads_of}
@@ -123,10 +123,6 @@ imports_by interfaces used lines (and_import u others more line rest) = ((line, 
 not_named : (a b : Bool) → a ≡ false → (not a || b) ≡ true
 not_named a b h = ap (λ t. not t || b) h
 
-if_named : (a b : Bool) → (a ≡ true → b ≡ true) → (not a || b) ≡ true
-if_named true b h = h refl
-if_named false b h = refl
-
 not_among : (a name : Text) (names : List Text) → (bytes_eq name a || among names name) ≡ false →
     (bytes_eq name a ≡ false) × (among names name ≡ false)
 not_among a name names h = by (bytes_eq name a) h where
@@ -152,7 +148,7 @@ pub functions_agree : (interfaces : Interfaces) (rows : List Row) (head : HeadTr
 functions_agree interfaces rows head entries trees no_functions h = refl
 functions_agree interfaces rows head entries trees (and_function entry f others more line close body is rest) h =
     and_from (not (bytes_eq f.name head.name) || agree (head_of (function_at f line close body).head) head) _
-    (if_named (bytes_eq f.name head.name) _ (λ named.
+    (implies (bytes_eq f.name head.name) _ (λ named.
     h (entry, f) (first others) (same_text f.name head.name named) line close body))
     (functions_agree interfaces rows head others more rest (λ e there. h e (later (entry, f) others there)))
 

@@ -4,9 +4,9 @@ use Rattle.sc_performers.proofs.Common.{and_rest, ap, arith, back_empty, bytes_e
 use Rattle.sc_performers.proofs.Common.{eq-eqb, exports_from, false, false≢true, front_empty, function_names}
 use Rattle.sc_performers.proofs.Common.{head_holds, head_of, if◌then◌else◌, imported_agrees, imports_from, is_main}
 use Rattle.sc_performers.proofs.Common.{line_of_text, lines_from, list_any, main_from, main_holds, main_name, map}
-use Rattle.sc_performers.proofs.Common.{map_empty, name_holds, none_some, not, refl, rule_holds, same_either_way}
-use Rattle.sc_performers.proofs.Common.{section_lines, slice_get, some_is, subst, suc, sym, true, unless, zero, ℕ, ◌&&◌}
-use Rattle.sc_performers.proofs.Common.{◌++◌, ◌+◌, ◌==◌, ◌||◌, ◌∙◌, ◌∷◌, ◌≡◌}
+use Rattle.sc_performers.proofs.Common.{map_empty, name_holds, none_some, not, refl, rule_holds, same_Some}
+use Rattle.sc_performers.proofs.Common.{same_either_way, section_lines, slice_get, subst, suc, sym, true, unless, zero}
+use Rattle.sc_performers.proofs.Common.{ℕ, ◌&&◌, ◌++◌, ◌+◌, ◌==◌, ◌||◌, ◌∙◌, ◌∷◌, ◌≡◌}
 use Rattle.sc_ast.specs.declared.section.Decl.TheVariants.{Proto}
 
 or_false : (a b : Bool) → a ≡ false → b ≡ false → (a || b) ≡ false
@@ -112,7 +112,7 @@ module _ (sections : List SectionTree) where
             (suc k + i == main_from (suc k) rest) ≡ false → defines_main x ≡ false) → defines_main x ≡ false
         by true is zero got other all next = absurd (false≢true (sym other ∙ same k))
         by true is (suc i) got other all next = each_at (λ s. defines_main s ≡ false) rest i x (all is) got
-        by false is zero got other all next = subst (λ z. defines_main z ≡ false) (some_is s x got) is
+        by false is zero got other all next = subst (λ z. defines_main z ≡ false) (same_Some s x got) is
         by false is (suc i) got other all next =
             next is i x got (subst (λ n. (n == main_from (suc k) rest) ≡ false) (shift k i) other)
 

@@ -9,8 +9,8 @@ use Rattle.sc_performers.proofs.Common.{import_of, imports, interface_broken, in
 use Rattle.sc_performers.proofs.Common.{interfaces_of, is_allowed, is_function, is_ident, is_legal_from, is_name, legal}
 use Rattle.sc_performers.proofs.Common.{length, map, may_perform, none_some, option_and_then, option_map_or, part}
 use Rattle.sc_performers.proofs.Common.{performer, program_of, proto_names, recursion_from_All, refl, rows_from}
-use Rattle.sc_performers.proofs.Common.{same_text, slice_get, some_is, stands_after, subst, suc, sym, takes, true, zero}
-use Rattle.sc_performers.proofs.Common.{ℕ, ◌+◌, ◌<◌, ◌==◌, ◌||◌, ◌∙◌, ◌∷◌, ◌≡◌, ◌≤◌}
+use Rattle.sc_performers.proofs.Common.{same_Some, same_text, slice_get, stands_after, subst, suc, sym, takes, true}
+use Rattle.sc_performers.proofs.Common.{zero, ℕ, ◌+◌, ◌<◌, ◌==◌, ◌||◌, ◌∙◌, ◌∷◌, ◌≡◌, ◌≤◌}
 use Rattle.sc_scope.specs.Prelude.{proto_of}
 use Rattle.sc_ast.specs.declared.section.Decl.TheVariants as decl
 use Rattle.sc_performers.specs.Performing.{IsCalledSo, IsFromSo, IsNamed, PartsPerform, PerformsPart}
@@ -20,7 +20,7 @@ use Rattle.sc_performers.proofs.Resolved.{IsPromised, IsResolved}
 all_at : {A : Type 0} (P : A → Type 0) (xs : List A) (i : ℕ) (x : A) → AllByRecursion P xs →
     slice_get xs i ≡ Some x → P x
 all_at P [] i x h got = none_some x got
-all_at P (y ∷ xs) zero x h got = subst P (some_is y x got) h.0
+all_at P (y ∷ xs) zero x h got = subst P (same_Some y x got) h.0
 all_at P (y ∷ xs) (suc i) x h got = all_at P xs i x h.1 got
 
 -- Names of functions and prototypes.

@@ -6,8 +6,8 @@ use Rattle.sc_performers.proofs.Common.{StmtTree, TypedFunction, [], among, ap, 
 use Rattle.sc_performers.proofs.Common.{bytes_eq_self, callees_of, cond, false, filter, if◌then◌else◌, import_of}
 use Rattle.sc_performers.proofs.Common.{imported, inl, inr, is_of, main_proto, map, none-some, option_and_then}
 use Rattle.sc_performers.proofs.Common.{option_map, or_right, position, position-cons, proto_of, recursion_from_All}
-use Rattle.sc_performers.proofs.Common.{refl, same_text, slice_get, subst, suc, sym, true, typed_function, typed_global}
-use Rattle.sc_performers.proofs.Common.{typed_section, zero, ℕ, ◌++◌, ◌+◌, ◌==◌, ◌||◌, ◌∙◌, ◌∷◌, ◌≡◌, ◌⊎◌}
+use Rattle.sc_performers.proofs.Common.{refl, same_Some, same_text, slice_get, subst, suc, sym, true, typed_function}
+use Rattle.sc_performers.proofs.Common.{typed_global, typed_section, zero, ℕ, ◌++◌, ◌+◌, ◌==◌, ◌||◌, ◌∙◌, ◌∷◌, ◌≡◌, ◌⊎◌}
 use Rattle.sc_performers.proofs.BackTree.{AreFunctions, IsBackBody, IsBackTree, and_function, counter_at, entries_from}
 use Rattle.sc_performers.proofs.BackTree.{entries_of, function_at, import_at, main_entries, no_functions, use_of, uses}
 use Rattle.sc_performers.proofs.Undone.{back_tree_is}
@@ -29,15 +29,12 @@ among_back : {A : Type 0} (x : A) (xs ys : List A) → IsAmong x ys → IsAmong 
 among_back x [] ys h = h
 among_back x (y ∷ xs) ys h = later y (xs ++ ys) (among_back x xs ys h)
 
-same_some : {A : Type 0} (x y : A) → Some x ≡ Some y → x ≡ y
-same_some x y h = cc
-
 export_among : (exports : List Proto) (start place index : ℕ) (f : Proto) → index ≡ start + place →
     slice_get exports place ≡ Some f → IsAmong (Export index, f) (entries_from start exports)
 export_among [] start place index f e got = absurd (none-some f got)
 export_among (g ∷ exports) start zero index f e got =
     subst (λ x. IsAmong {A = Entry × Proto} (Export index, f) (x ∷ entries_from (suc start) exports))
-    (λ i. (Export (e' i), same_some f g (sym got) i)) (first (entries_from (suc start) exports)) where
+    (λ i. (Export (e' i), same_Some f g (sym got) i)) (first (entries_from (suc start) exports)) where
       e' : index ≡ start
       e' = omega (arith, e)
 export_among (g ∷ exports) start (suc place) index f e got =
@@ -47,7 +44,7 @@ export_among (g ∷ exports) start (suc place) index f e got =
 main_among : (b : Bool) (f : Proto) → (if b then Some main_proto else None) ≡ Some f →
     IsAmong {A = Entry × Proto} (Main, f) (if b then (Main, main_proto) ∷ [] else [])
 main_among true f h =
-    subst (λ x. IsAmong {A = Entry × Proto} (Main, f) ((Main, x) ∷ [])) (sym (same_some main_proto f h)) (first [])
+    subst (λ x. IsAmong {A = Entry × Proto} (Main, f) ((Main, x) ∷ [])) (sym (same_Some main_proto f h)) (first [])
 main_among false f h = absurd (none-some f h)
 
 entry_holds : (e : Entry × Proto) (all : List (Entry × Proto)) → AllByRecursion (λ e. IsUsable e.1) all →

@@ -4,11 +4,11 @@ use Rattle.sc_performers.proofs.Common.{FunctionTree, HeadTree, Import, ImportLi
 use Rattle.sc_performers.proofs.Common.{Proto, Row, SectionTree, Some, StmtTree, Text, [], agrees_as, among, and_from}
 use Rattle.sc_performers.proofs.Common.{ap, ap₂, are_distinct, both_distinct, bytes_eq, counts_broken, decls_from}
 use Rattle.sc_performers.proofs.Common.{export_names, exports_from, false, fresh_distinct, function_names, head_crosses}
-use Rattle.sc_performers.proofs.Common.{head_of, heads_in, if◌then◌else◌, import_names, import_of, imports_from}
-use Rattle.sc_performers.proofs.Common.{interface_broken, interface_of, interfaces_of, is_plain, list_all, main_holds}
-use Rattle.sc_performers.proofs.Common.{main_name, main_proto, map, map-append, map_twice, not, or_left, proto_names}
-use Rattle.sc_performers.proofs.Common.{protos_in, refl, same_text, slice_get, subst, suc, sym, true, ℕ, ◌++◌, ◌==◌}
-use Rattle.sc_performers.proofs.Common.{◌||◌, ◌∙◌, ◌∷◌, ◌≡◌}
+use Rattle.sc_performers.proofs.Common.{head_of, heads_in, if◌then◌else◌, implies, import_names, import_of}
+use Rattle.sc_performers.proofs.Common.{imports_from, interface_broken, interface_of, interfaces_of, is_plain, list_all}
+use Rattle.sc_performers.proofs.Common.{main_holds, main_name, main_proto, map, map-append, map_twice, not, or_left}
+use Rattle.sc_performers.proofs.Common.{proto_names, protos_in, refl, same_text, slice_get, subst, suc, sym, true, ℕ}
+use Rattle.sc_performers.proofs.Common.{◌++◌, ◌==◌, ◌||◌, ◌∙◌, ◌∷◌, ◌≡◌}
 use Rattle.sc_scope.specs.Prelude.{proto_of}
 use Rattle.sc_ast.specs.declared.section.Decl.TheVariants as decl
 use Rattle.sc_performers.proofs.Agreeing.{declared_crosses, defined_crosses}
@@ -26,7 +26,7 @@ use Rattle.sc_performers.proofs.Seen.{AreAlike, AreSeenAs, IsAlike}
 use Rattle.sc_performers.proofs.SeenKept.{agrees_as_too, imports_hold}
 use Rattle.sc_performers.proofs.Uses.{IsAmong, first, later}
 use Rattle.sc_performers.proofs.ReplacedRules.{alike_names, decls_distinct, each_both, each_onto, each_there}
-use Rattle.sc_performers.proofs.ReplacedRules.{each_unmap, exports_new, head_names, if_named, none_of_less, same_line}
+use Rattle.sc_performers.proofs.ReplacedRules.{each_unmap, exports_new, head_names, none_of_less, same_line}
 
 abbrev HeadsBy : List (Import × Proto) → List HeadTree → Type 0
 HeadsBy [] [] = Unit {0}
@@ -47,9 +47,6 @@ each_made : (P : Proto → Type 0) (old : SectionTree) (lines : List ExportLine)
     Each P (map (proto_of old) lines)
 each_made P old [] h = tt
 each_made P old (line ∷ lines) h = (h.0, each_made P old lines h.1)
-
-or_so : (a b : Bool) → a ≡ true → (a || b) ≡ true
-or_so a b h = or_left a b h
 
 module _ (olds : List SectionTree) (in_faces : interface_broken olds ≡ []) (in_counts : counts_broken olds ≡ [])
     (number : ℕ) (old : SectionTree) (got : slice_get olds number ≡ Some old) (rows : List Row)
@@ -158,13 +155,13 @@ module _ (olds : List SectionTree) (in_faces : interface_broken olds ≡ []) (in
     imports_agree (c ∷ xs) [] h there = absurd h
     imports_agree (c ∷ xs) (b ∷ ys) h there =
         and_from (not (bytes_eq b.name made_head.name) || agrees_as news number new made_head b) _
-        (if_named (bytes_eq b.name made_head.name) (agrees_as news number new made_head b)
+        (implies (bytes_eq b.name made_head.name) (agrees_as news number new made_head b)
         (as_imported c b h.0 (there c (first xs))))
         (imports_agree xs ys h.1 (λ d in_xs. there d (later c xs in_xs)))
 
     head_holds_here : DeclFacts news number new mains (decl.Proto made_head)
     head_holds_here = (
-      or_so (head_crosses made_head) _ (declared_crosses r.f line),
+      or_left (head_crosses made_head) _ (declared_crosses r.f line),
       imports_agree old.imports new.imports alike (λ c in_it. in_it),
     )
 
@@ -208,7 +205,7 @@ module _ (olds : List SectionTree) (in_faces : interface_broken olds ≡ []) (in
   functions_hold es trees no_functions h = tt
   functions_hold es trees (and_function entry f others more line close body done rest) h = (
     (
-      or_so (head_crosses (head_of (function_at f line close body).head)) _ (defined_crosses f line close body),
+      or_left (head_crosses (head_of (function_at f line close body).head)) _ (defined_crosses f line close body),
       h.0 line close body,
     ),
     functions_hold others more rest h.1,
@@ -218,7 +215,7 @@ module _ (olds : List SectionTree) (in_faces : interface_broken olds ≡ []) (in
   exports_hold_main =
       each_made HoldsMain old old.exports
       (each_map (ExportFacts olds number old) (λ line. HoldsMain (proto_of old line))
-      (λ line f at close body. or_so (not (bytes_eq (proto_of old line).name main_name)) _
+      (λ line f at close body. or_left (not (bytes_eq (proto_of old line).name main_name)) _
       (ap not (ap (λ n. bytes_eq n main_name) (proto_named old line) ∙ f.no_main))) old.exports fact.exports)
 
   module _ (first_main : here ≡ true → mains ≡ false) where

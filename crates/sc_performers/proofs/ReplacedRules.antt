@@ -78,10 +78,6 @@ same_line (x ∷ lines) distinct a b in_a in_b named =
       by (inr there) (inl q) rest = absurd (not_again a there (sym (ap (λ l. l.name) q) ∙ sym named))
       by (inr p) (inr q) rest = rest p q named
 
-pub if_named : (a b : Bool) → (a ≡ true → b ≡ true) → (not a || b) ≡ true
-if_named true b h = h refl
-if_named false b h = refl
-
 -- Declarations of distinct names.
 
 abbrev pub head_names : List Decl → List Text

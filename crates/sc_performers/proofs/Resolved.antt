@@ -1,20 +1,20 @@
 -- What the import lines of a text that keeps the rules lead to.
 use Rattle.sc_performers.proofs.Common.{Bool, Decl, Each, ExportFacts, ExportLine, FaceFacts, FoundBy, FoundFunction}
-use Rattle.sc_performers.proofs.Common.{FunctionParam, FunctionTree, HeadTree, Import, ImportLine, Interface}
-use Rattle.sc_performers.proofs.Common.{Interfaces, List, None, Offering, Option, Proto, SectionTree, Some, Text, []}
-use Rattle.sc_performers.proofs.Common.{agree, agree_left, agree_symm, agrees_as, agrees_there, agrees_with, and_first}
-use Rattle.sc_performers.proofs.Common.{and_rest, ap, arith, back_empty, bytes_eq, bytes_eq_self, callees_of, comp_is}
-use Rattle.sc_performers.proofs.Common.{concat, counts_broken, crossing, defines_main, each_at, each_empty, environment}
-use Rattle.sc_performers.proofs.Common.{export_is, false, false≢true, find_offering, found_by, front_empty}
-use Rattle.sc_performers.proofs.Common.{functions_in, g, globals_in, head_crosses, head_of, heads_in, if◌then◌else◌}
-use Rattle.sc_performers.proofs.Common.{import_of, imported, input_name, input_proto, interface_broken, interfaces_of}
-use Rattle.sc_performers.proofs.Common.{is_environment, is_input, is_offered, is_output, is_plain, is_some, length}
-use Rattle.sc_performers.proofs.Common.{line_of_text, lines_from, list_any, map, map_empty, map_length}
-use Rattle.sc_performers.proofs.Common.{most_compartments, most_exports, most_nodes, most_params, nat_le, none_beyond}
-use Rattle.sc_performers.proofs.Common.{none_some, not, number_or_zero, offered, offering, option_map_or, output_name}
-use Rattle.sc_performers.proofs.Common.{output_proto, owner_name, param_of, promised, refl, rule_holds, same_text}
-use Rattle.sc_performers.proofs.Common.{scalar_of, section_lines, slice_get, some_is, structs_in, subst, suc, sym, true}
-use Rattle.sc_performers.proofs.Common.{unless, zero, ℕ, ◌&&◌, ◌++◌, ◌+◌, ◌==◌, ◌||◌, ◌∙◌, ◌∷◌, ◌≡◌, ◌≤◌}
+use Rattle.sc_performers.proofs.Common.{FunctionTree, HeadTree, Import, ImportLine, Interface, Interfaces, List}
+use Rattle.sc_performers.proofs.Common.{Offering, Proto, SectionTree, Some, [], agree, agree_left, agree_symm}
+use Rattle.sc_performers.proofs.Common.{agrees_as, agrees_there, agrees_with, and_first, and_rest, ap, arith}
+use Rattle.sc_performers.proofs.Common.{back_empty, bytes_eq, bytes_eq_self, callees_of, comp_is, concat, counts_broken}
+use Rattle.sc_performers.proofs.Common.{crossing, defines_main, each_at, each_empty, environment, export_is, false}
+use Rattle.sc_performers.proofs.Common.{false≢true, find_offering, found_by, front_empty, functions_in, g, globals_in}
+use Rattle.sc_performers.proofs.Common.{head_crosses, head_of, heads_in, if◌then◌else◌, implied, import_of, imported}
+use Rattle.sc_performers.proofs.Common.{input_name, input_proto, interface_broken, interfaces_of, is_environment}
+use Rattle.sc_performers.proofs.Common.{is_input, is_offered, is_output, is_plain, is_some, length, length-map}
+use Rattle.sc_performers.proofs.Common.{line_of_text, lines_from, list_any, map, map_empty, most_compartments}
+use Rattle.sc_performers.proofs.Common.{most_exports, most_nodes, most_params, nat_le, none_beyond, none_some, not}
+use Rattle.sc_performers.proofs.Common.{number_or_zero, offered, offering, option_map_or, output_name, output_proto}
+use Rattle.sc_performers.proofs.Common.{owner_name, param_of, promised, promised_name, refl, rule_holds, same_Some}
+use Rattle.sc_performers.proofs.Common.{same_text, scalar_of, section_lines, slice_get, structs_in, subst, suc, sym}
+use Rattle.sc_performers.proofs.Common.{true, unless, zero, ℕ, ◌&&◌, ◌++◌, ◌+◌, ◌==◌, ◌||◌, ◌∙◌, ◌∷◌, ◌≡◌, ◌≤◌}
 use Rattle.sc_scope.specs.Prelude.{proto_of}
 use Rattle.sc_event.specs.declared.interface.Import.TheVariants as import
 use Rattle.sc_ast.specs.declared.section.Decl.TheVariants as decl
@@ -34,7 +34,7 @@ head_there (decl.Struct other ∷ decls) i tree got = head_there decls i tree go
 head_there (decl.Global other ∷ decls) i tree got = head_there decls i tree got
 head_there (decl.Proto head ∷ decls) i tree got = later head (heads_in decls) (head_there decls i tree got)
 head_there (decl.Function other ∷ decls) zero tree got =
-    subst (λ t. IsAmong (head_of tree.head) (head_of t.head ∷ heads_in decls)) (sym (some_is other tree got))
+    subst (λ t. IsAmong (head_of tree.head) (head_of t.head ∷ heads_in decls)) (sym (same_Some other tree got))
     (first (heads_in decls))
 head_there (decl.Function other ∷ decls) (suc i) tree got =
     later (head_of other.head) (heads_in decls) (head_there decls i tree got)
@@ -56,21 +56,13 @@ with_alike heads x y name same h = sym (all_same heads) ∙ h where
   all_same [] = refl
   all_same (other ∷ heads) = λ i. one_same other i && all_same heads i
 
-unless_other : (a b : Bool) → (not a || b) ≡ true → a ≡ true → b ≡ true
-unless_other true b h is = h
-unless_other false b h is = absurd (false≢true is)
-
 agrees_among : (head x : HeadTree) (heads : List HeadTree) → agrees_with heads head ≡ true → IsAmong x heads →
     x.name ≡ head.name → agree x head ≡ true
 agrees_among head x heads h (first rest) named =
-    unless_other (bytes_eq x.name head.name) (agree x head) (and_first _ _ h)
+    implied (bytes_eq x.name head.name) (agree x head) (and_first _ _ h)
     (subst (λ n. bytes_eq x.name n ≡ true) named (bytes_eq_self x.name))
 agrees_among head x heads h (later y rest there) named =
     agrees_among head x rest (and_rest (not (bytes_eq y.name head.name) || agree y head) _ h) there named
-
-pub promise_name : (name : Text) (found : Option FunctionTree) → (promised name found).name ≡ name
-promise_name name None = refl
-promise_name name (Some tree) = refl
 
 -- What an export promises.
 pub record IsPromised (section : SectionTree) (line : ExportLine) : Type 0 where
@@ -114,7 +106,7 @@ module _ (olds : List SectionTree) where
   rules_from k before [] j section h got = none_some section got
   rules_from k before (s ∷ rest) zero section h got =
       subst (λ n. AreRules olds n section) (plus_zero k)
-      (subst (λ t. AreRules olds k t) (some_is s section got) (record {
+      (subst (λ t. AreRules olds k t) (same_Some s section got) (record {
         mains = list_any defines_main before;
         before = before;
         hold = map_empty _ _ (front_empty _ _ h);
@@ -205,8 +197,8 @@ module _ (olds : List SectionTree) where
         few_params : length (proto_of section line).params ≤ 8
         few_params =
             subst (λ f. length f.params ≤ 8) (sym promise_is)
-            (subst (λ n. n ≤ 8) (map_length {A = FunctionParam} param_of function.tree.head.params ∙
-            sym (map_length {A = FunctionParam} (λ param. scalar_of param.ty) function.tree.head.params))
+            (subst (λ n. n ≤ 8) (length-map function.tree.head.params param_of ∙
+            sym (length-map function.tree.head.params (λ param. scalar_of param.ty)))
             (is_at_most (length (head_of function.tree.head).params) most_params
             (rule_holds _ (head_of function.tree.head).line
             (each_among (λ head. counts.head_lines section head ≡ []) (head_of function.tree.head)
@@ -263,7 +255,7 @@ module _ (olds : List SectionTree) where
           (λ line. ap (agrees_by (head_at f line)) env ∙
           ap (agrees_there olds number old (head_at f line)) o.is ∙
           with_alike (heads_in o.section.decls) (head_of promise.tree.head) (head_at f line)
-          (promise.named ∙ sym (promise_name export.item.name _)) (same line) promise.agrees) where
+          (promise.named ∙ sym (promised_name export.item.name _)) (same line) promise.agrees) where
             export : FoundBy {A = ExportLine} (λ line. line.name) a.name o.section.exports
             export =
                 found_by {A = ExportLine} (λ line. line.name) a.name o.section.exports
@@ -281,7 +273,7 @@ module _ (olds : List SectionTree) where
                 ap (λ n. import.Function o.number (number_or_zero n)) export.place
 
             name : f.name ≡ a.name
-            name = promise_name export.item.name _ ∙ sym (same_text a.name export.item.name export.named)
+            name = promised_name export.item.name _ ∙ sym (same_text a.name export.item.name export.named)
 
             same : (line : ℕ) → agree (head_of promise.tree.head) (head_at f line) ≡ true
             same line =

@@ -4,8 +4,9 @@ use Rattle.sc_performers.proofs.Common.{HasReplaced, HasWords, ImportLine, Inter
 use Rattle.sc_performers.proofs.Common.{IsRecomposed, List, Row, SameButLines, SectionTree, Some, [], ap, arith}
 use Rattle.sc_performers.proofs.Common.{back_tree, callees_of, comp_is, counts_broken, false, false≢true, import_of}
 use Rattle.sc_performers.proofs.Common.{interface_broken, interface_of, interfaces_of, kept, legal, length, map}
-use Rattle.sc_performers.proofs.Common.{owner_name, part, program_of, refl, replaced, sections_from, slice_get, some_is}
-use Rattle.sc_performers.proofs.Common.{subst, suc, sym, true, typed_section, zero, ℕ, ◌+◌, ◌<◌, ◌∙◌, ◌∷◌, ◌≡◌, ◌≤◌}
+use Rattle.sc_performers.proofs.Common.{owner_name, part, program_of, refl, replaced, same_Some, sections_from}
+use Rattle.sc_performers.proofs.Common.{slice_get, subst, suc, sym, true, typed_section, zero, ℕ, ◌+◌, ◌<◌, ◌∙◌, ◌∷◌}
+use Rattle.sc_performers.proofs.Common.{◌≡◌, ◌≤◌}
 use Rattle.sc_performers.proofs.Fitting.{all_resolved, can_perform}
 use Rattle.sc_performers.proofs.Replaced.{rows_perform}
 use Rattle.sc_performers.proofs.ReplacedSeen.{seen}
@@ -45,7 +46,7 @@ module _ (olds : List SectionTree) (in_faces : interface_broken olds ≡ []) (in
   turned k old new got (replaced on interface at same) =
       turns got on (can_perform olds in_faces in_counts k old got trace right.is_legal right.words right.few)
       (subst (λ f. SameButLines new (back_tree faces k (rows k) f))
-      (some_is interface (interface_of olds k old) (sym at ∙ comp_is olds k old got)) same)
+      (same_Some interface (interface_of olds k old) (sym at ∙ comp_is olds k old got)) same)
 
   plus_zero : (n : ℕ) → n + 0 ≡ n
   plus_zero n = omega arith
@@ -92,7 +93,7 @@ module _ (olds : List SectionTree) (in_faces : interface_broken olds ≡ []) (in
         line = line;
       }) (record {
         comp = r.owner;
-        name = ap (λ f. f.name) (some_is proto r.f (sym is ∙ r.is)) ∙ r.name;
+        name = ap (λ f. f.name) (same_Some proto r.f (sym is ∙ r.is)) ∙ r.name;
       }) olds news all;
     }
 

@@ -48,14 +48,6 @@ pub each_passes : {A : Type 0} (p : A → Bool) (xs : List A) → list_all p xs 
 each_passes p [] h = tt
 each_passes p (x ∷ xs) h = (and_first (p x) (list_all p xs) h, each_passes p xs (and_rest (p x) (list_all p xs) h))
 
--- what is in an option
-abbrev pub or_present : {A : Type 0} → A → Option A → A
-or_present present None = present
-or_present present (Some x) = x
-
-pub some_is : {A : Type 0} (x y : A) → Some x ≡ Some y → x ≡ y
-some_is x y h = ap (or_present x) h
-
 abbrev pub is_there : {A : Type 0} → Option A → Bool
 is_there None = false
 is_there (Some x) = true

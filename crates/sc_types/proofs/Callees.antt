@@ -1,15 +1,16 @@
 -- In a text that breaks no rule of interfaces, a call by its name is typed as the call of its target.
 use Rattle.sc_types.proofs.Common.{Bool, Callable, Callees, Decl, ExportLine, FunctionTree, HeadTree, ImportLine, List}
 use Rattle.sc_types.proofs.Common.{None, SectionTree, Some, [], agree, agrees_as, agrees_there, agrees_with, allowed}
-use Rattle.sc_types.proofs.Common.{and_first, and_rest, ap, bytes_eq, callable_in, callees_of, declared, export_at}
-use Rattle.sc_types.proofs.Common.{false, false≢true, function_names, functions_in, head_crosses, head_named, head_of}
-use Rattle.sc_types.proofs.Common.{heads_in, if◌then◌else◌, import_named, import_names, import_of, import_target}
-use Rattle.sc_types.proofs.Common.{imported_target, input_name, interface_of, interfaces_of, is_callable}
-use Rattle.sc_types.proofs.Common.{is_environment, is_input, is_numbered, is_offered, is_output, is_some, known_in}
-use Rattle.sc_types.proofs.Common.{list_any, map, not, number_or_zero, offered, offering, option_map, option_signature}
-use Rattle.sc_types.proofs.Common.{or_first, or_right, output_name, promised, proto_names, proto_signature, refl}
-use Rattle.sc_types.proofs.Common.{same_import, same_text, signature_by, slice_get, subst, sym, tags, target_or}
-use Rattle.sc_types.proofs.Common.{target_signature, true, typed_section, ℕ, ◌&&◌, ◌++◌, ◌==◌, ◌||◌, ◌∙◌, ◌∷◌, ◌≡◌}
+use Rattle.sc_types.proofs.Common.{and_first, and_rest, any_passes_from_place, ap, bytes_eq, callable_in, callees_of}
+use Rattle.sc_types.proofs.Common.{declared, export_at, false, false≢true, function_names, functions_in, head_crosses}
+use Rattle.sc_types.proofs.Common.{head_named, head_of, heads_in, if◌then◌else◌, implied, import_named, import_names}
+use Rattle.sc_types.proofs.Common.{import_of, import_target, imported_target, input_name, interface_of, interfaces_of}
+use Rattle.sc_types.proofs.Common.{is_callable, is_environment, is_input, is_numbered, is_offered, is_output, is_some}
+use Rattle.sc_types.proofs.Common.{known_in, list_any, map, not, number_or_zero, offered, offering, option_map}
+use Rattle.sc_types.proofs.Common.{option_signature, or_first, or_right, output_name, promised, proto_names}
+use Rattle.sc_types.proofs.Common.{proto_signature, refl, same_import, same_text, signature_by, slice_get, subst, sym}
+use Rattle.sc_types.proofs.Common.{tags, target_or, target_signature, true, typed_section, ℕ, ◌&&◌, ◌++◌, ◌==◌, ◌||◌}
+use Rattle.sc_types.proofs.Common.{◌∙◌, ◌∷◌, ◌≡◌}
 use Rattle.sc_event.specs.declared.interface.Import.{Import}
 use Rattle.sc_event.specs.declared.interface.Import.TheVariants as import
 use Rattle.sc_core.specs.declared.ty.Ty.TheVariants as ty
@@ -19,17 +20,12 @@ use Rattle.sc_types.proofs.Lookups.{each_at, FoundFunction, find_function, no_fu
 use Rattle.sc_types.proofs.Lookups.{FoundHead, find_head}
 use Rattle.sc_types.proofs.Facts.{ExportFacts, ImportFacts, DeclFacts, FaceFacts}
 use Rattle.sc_types.proofs.Calls.{agreed_signature, input_signature, output_signature, FoundBy, found_by, get_map}
-use Rattle.sc_types.proofs.Calls.{any_at, own_at, FoundImport, find_import, Offering, find_offering, export_is}
+use Rattle.sc_types.proofs.Calls.{own_at, FoundImport, find_import, Offering, find_offering, export_is}
 
 same_import_refl : (i : Import) → same_import i i ≡ true
 same_import_refl import.Input = refl
 same_import_refl import.Output = refl
 same_import_refl (import.Function comp index) = λ i. eq_refl comp i && eq_refl index i
-
--- a test that must hold of what has this name
-unless_other : (a b : Bool) → (not a || b) ≡ true → a ≡ true → b ≡ true
-unless_other true b h q = h
-unless_other false b h q = absurd (false≢true q)
 
 or_not : (a b : Bool) → (a || not b) ≡ true → b ≡ true → a ≡ true
 or_not true b h q = refl
@@ -62,7 +58,8 @@ module _ (sections : List SectionTree) (hold : (j : ℕ) (s : SectionTree) → s
   imported : (at : ℕ) (line : ImportLine) → slice_get section.imports at ≡ Some line →
       list_any (same_import (import_of sections number line)) callable.imports ≡ true
   imported at line got =
-      any_at (same_import (import_of sections number line)) (map (import_of sections number) section.imports) at
+      any_passes_from_place (same_import (import_of sections number line))
+      (map (import_of sections number) section.imports) at
       (import_of sections number line) (get_map (import_of sections number) section.imports at ∙
       ap (option_map (import_of sections number)) got) (same_import_refl (import_of sections number line))
 
@@ -79,7 +76,7 @@ module _ (sections : List SectionTree) (hold : (j : ℕ) (s : SectionTree) → s
 
     as_line : agrees_as sections number section head line ≡ true
     as_line =
-        unless_other (bytes_eq line.name head.name) _
+        implied (bytes_eq line.name head.name) _
         (each_at (λ line. (not (bytes_eq line.name head.name) || agrees_as sections number section head line) ≡
         true) section.imports f.at line (each_passes {A = ImportLine}
         (λ line. not (bytes_eq line.name head.name) ||
@@ -166,7 +163,7 @@ module _ (sections : List SectionTree) (hold : (j : ℕ) (s : SectionTree) → s
 
       agrees : agree (head_of g.tree.head) head ≡ true
       agrees =
-          unless_other (bytes_eq g.tree.head.name head.name) _
+          implied (bytes_eq g.tree.head.name head.name) _
           (each_at (λ tree. (not (bytes_eq tree.head.name head.name) || agree (head_of tree.head) head) ≡ true)
           (functions_in other.decls) g.at g.tree (heads_of_functions
           (λ other. not (bytes_eq other.name head.name) || agree other head) other.decls with_all) g.got)
@@ -174,7 +171,7 @@ module _ (sections : List SectionTree) (hold : (j : ℕ) (s : SectionTree) → s
 
       there_name : is_numbered (import_names section) head.name ≡ true
       there_name =
-          any_at (bytes_eq head.name) (import_names section) f.at line.name
+          any_passes_from_place (bytes_eq head.name) (import_names section) f.at line.name
           (get_map {A = ImportLine} (λ line. line.name) section.imports f.at ∙
           ap (option_map {T = ImportLine} (λ line. line.name)) f.got)
           (subst (λ n. bytes_eq n line.name ≡ true) same_name (same_refl line.name))

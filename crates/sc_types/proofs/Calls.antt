@@ -6,15 +6,15 @@ use Rattle.sc_types.proofs.Common.{base_scalar, bytes_eq, comp_at, crosses, expo
 use Rattle.sc_types.proofs.Common.{get_behind, gives_int, head_crosses, head_of, if◌then◌else◌, import_named}
 use Rattle.sc_types.proofs.Common.{interface_of, interfaces_from, interfaces_of, is_input, is_int, is_numbered}
 use Rattle.sc_types.proofs.Common.{is_output, is_some, length, list_all, list_any, map, nat_eq, not, number_of}
-use Rattle.sc_types.proofs.Common.{offering, offers, option_and_then, option_map, or_right, param_of, param_ty}
-use Rattle.sc_types.proofs.Common.{promised, proto_of, proto_signature, refl, result_crosses, result_of, result_ty}
+use Rattle.sc_types.proofs.Common.{offering, offers, option_and_then, option_map, param_of, param_ty, promised}
+use Rattle.sc_types.proofs.Common.{proto_of, proto_signature, refl, result_crosses, result_of, result_ty, same_Some}
 use Rattle.sc_types.proofs.Common.{same_params, same_result, same_type, scalar_of, scalar_ty, signature_by}
 use Rattle.sc_types.proofs.Common.{signature_of, slice_get, starred, suc, sym, tags, takes_int, takes_nothing, true}
 use Rattle.sc_types.proofs.Common.{type_of_name, typed_function, typed_param, zero, ℕ, ◌++◌, ◌+◌, ◌||◌, ◌∙◌, ◌∷◌, ◌≡◌}
 use Rattle.sc_interfaces.specs.Prelude.{same_base}
 use Rattle.sc_ast.specs.declared.types.BaseTree.TheVariants as base_tree
 use Rattle.sc_core.specs.declared.ty.Ty.TheVariants as ty
-use Rattle.sc_types.proofs.Basics.{Each, some_is, none_some, find}
+use Rattle.sc_types.proofs.Basics.{Each, none_some, find}
 use Rattle.sc_types.proofs.Places.{Text, number_is}
 use Rattle.sc_types.proofs.Lookups.{same_sym, FoundFunction}
 
@@ -192,12 +192,6 @@ get_map f [] i = refl
 get_map f (x ∷ xs) zero = refl
 get_map f (x ∷ xs) (suc i) = get_map f xs i
 
-pub any_at : {A : Type 0} (p : A → Bool) (xs : List A) (i : ℕ) (x : A) → slice_get xs i ≡ Some x → p x ≡ true →
-    list_any p xs ≡ true
-any_at p [] i x got h = none_some x got
-any_at p (y ∷ xs) zero x got h = ap (λ b. b || list_any p xs) (ap p (some_is y x got) ∙ h)
-any_at p (y ∷ xs) (suc i) x got h = or_right (p y) (list_any p xs) (any_at p xs i x got h)
-
 -- Own functions.
 
 types_of_params : (tags : List Text) (params : List FunctionParam) →
@@ -330,7 +324,7 @@ module _ (sections : List SectionTree) where
       slice_get (interfaces_from sections k rest) j ≡ Some (interface_of sections (k + j) section)
   interface_from k [] j section got = none_some section got
   interface_from k (s ∷ rest) zero section got =
-      λ i. Some (interface_of sections (plus_zero k i) (some_is s section got i)) where
+      λ i. Some (interface_of sections (plus_zero k i) (same_Some s section got i)) where
         plus_zero : (n : ℕ) → n ≡ n + 0
         plus_zero n = omega arith
   interface_from k (s ∷ rest) (suc j) section got =

@@ -5,16 +5,18 @@ pub use Rattle.std.proofs.Common.{flat_map, get_or, if◌then◌else◌, inl, in
 pub use Rattle.std.proofs.Common.{ltb-true, map, max, nat_eq, nat_le, nat_lt, not, position, refl, replicate, rules}
 pub use Rattle.std.proofs.Common.{slice_get, slice_range, subst, suc, sym, take, true, zero, ℕ, ◌%◌, ◌&&◌, ◌*◌, ◌++◌}
 pub use Rattle.std.proofs.Common.{◌+◌, ◌-◌, ◌<◌, ◌==◌, ◌^◌, ◌||◌, ◌∙◌, ◌∷◌, ◌≡◌, ◌≤◌, ◌⊎◌}
-pub use Rattle.std.proofs.lemmas.Bool.{and_from, false≢true, not-true, or_left, or_right}
+pub use Rattle.std.proofs.lemmas.Bool.{and_from, false≢true, not-true, or_left, or_parts, or_right}
 pub use Rattle.std.proofs.lemmas.Bool.Decides.{Decides-eqb, nat_tests}
 pub use Rattle.std.proofs.lemmas.List.{drop_all, length-map, map-append, take_more}
 pub use Rattle.std.proofs.lemmas.List.Elements.{filter_map-append}
+pub use Rattle.std.proofs.lemmas.Map.Keys.{any_passes_from_place}
+pub use Rattle.std.proofs.lemmas.Option.{same_Some}
 pub use Rattle.std.proofs.lemmas.Result.{err_from_is_err_and}
 pub use Rattle.std.proofs.lemmas.Slice.Eq.{bytes_eq-Decides}
 pub use Rattle.std.specs.List.{All, AllZip, concat, filter_map, list_all, list_any, position_from}
 pub use Rattle.std.specs.Option.{option_and_then, option_map, option_map_or}
-pub use Rattle.sc_base.proofs.Bools.{and_first, and_rest}
-pub use Rattle.sc_base.proofs.Lists.{drop-step, get_behind, map_twice}
+pub use Rattle.sc_base.proofs.Bools.{and_first, and_rest, implied}
+pub use Rattle.sc_base.proofs.Lists.{drop-step, get_behind, get_front, map_twice}
 pub use Rattle.sc_base.proofs.Texts.{same_text}
 pub use Rattle.sc_base.specs.Prelude.{is_numbered, number_of}
 pub use Rattle.sc_base.specs.declared.op.BinaryOp.{BinaryOp}

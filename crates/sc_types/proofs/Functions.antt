@@ -7,16 +7,17 @@ use Rattle.sc_types.proofs.Common.{append_assoc, arith, base_known, base_of, bod
 use Rattle.sc_types.proofs.Common.{false≢true, filter_map-append, function_fits, function_names, functions_in}
 use Rattle.sc_types.proofs.Common.{global_fits, global_names, globals_in, head_known, head_of, heads_in, if◌then◌else◌}
 use Rattle.sc_types.proofs.Common.{import_names, init_height, init_holds, init_words, is_array, is_callable, is_null}
-use Rattle.sc_types.proofs.Common.{is_numbered, is_sized, is_small, known_in, length, list_all, local_fits, local_holds}
-use Rattle.sc_types.proofs.Common.{locals_from, map, map-append, map_twice, max, member_known, most_cells, most_height}
-use Rattle.sc_types.proofs.Common.{most_params, nat_eq, nat_le, not, not-true, option_map, param_names, param_of}
-use Rattle.sc_types.proofs.Common.{passed_fits, proto_names, refl, result_fits, result_known, result_of, scope_in}
-use Rattle.sc_types.proofs.Common.{scope_of, slice_get, starred, stmt_height, stmt_lines, struct_cells, struct_in}
-use Rattle.sc_types.proofs.Common.{struct_lines, struct_names, structs, structs_from, structs_in, subst, suc, sym, tags}
-use Rattle.sc_types.proofs.Common.{target_signature, true, type_in, type_of, type_of_name, type_within, typed_function}
-use Rattle.sc_types.proofs.Common.{typed_global, typed_init, typed_local, typed_locals, typed_param, typed_section}
-use Rattle.sc_types.proofs.Common.{typed_stmt, unless, variable_fits, visible_in, visible_of, word_of_const, words_fit}
-use Rattle.sc_types.proofs.Common.{zero, ℕ, ◌%◌, ◌&&◌, ◌++◌, ◌+◌, ◌-◌, ◌<◌, ◌==◌, ◌^◌, ◌∙◌, ◌∷◌, ◌≡◌}
+use Rattle.sc_types.proofs.Common.{is_numbered, is_sized, is_small, known_in, length, length-map, list_all, local_fits}
+use Rattle.sc_types.proofs.Common.{local_holds, locals_from, map, map-append, map_twice, max, member_known, most_cells}
+use Rattle.sc_types.proofs.Common.{most_height, most_params, nat_eq, nat_le, not, not-true, option_map, param_names}
+use Rattle.sc_types.proofs.Common.{param_of, passed_fits, proto_names, refl, result_fits, result_known, result_of}
+use Rattle.sc_types.proofs.Common.{scope_in, scope_of, slice_get, starred, stmt_height, stmt_lines, struct_cells}
+use Rattle.sc_types.proofs.Common.{struct_in, struct_lines, struct_names, structs, structs_from, structs_in, subst, suc}
+use Rattle.sc_types.proofs.Common.{sym, tags, target_signature, true, type_in, type_of, type_of_name, type_within}
+use Rattle.sc_types.proofs.Common.{typed_function, typed_global, typed_init, typed_local, typed_locals, typed_param}
+use Rattle.sc_types.proofs.Common.{typed_section, typed_stmt, unless, variable_fits, visible_in, visible_of}
+use Rattle.sc_types.proofs.Common.{word_of_const, words_fit, zero, ℕ, ◌%◌, ◌&&◌, ◌++◌, ◌+◌, ◌-◌, ◌<◌, ◌==◌, ◌^◌, ◌∙◌}
+use Rattle.sc_types.proofs.Common.{◌∷◌, ◌≡◌}
 use Rattle.sc_scope.specs.Prelude.{are_distinct}
 use Rattle.sc_elab.specs.Prelude.{function_lines}
 use Rattle.std.proofs.Math.Nat.{le-max_left, le-max_right}
@@ -36,10 +37,6 @@ use Rattle.sc_types.proofs.Places.{Text, is_at_most, at_most, numbered_front}
 use Rattle.sc_types.proofs.Structs.{Known, AllKnown, AllSmall, structs_length, type_is_within, name_is_within, is_less}
 use Rattle.sc_types.proofs.Bodies.{fits}
 use Rattle.sc_types.proofs.Heights as heights
-
-pub map_length : {A B : Type 0} (f : A → B) (xs : List A) → length (map f xs) ≡ length xs
-map_length f [] = refl
-map_length f (x ∷ xs) = ap suc (map_length f xs)
 
 low_left : (a b n : ℕ) → nat_le (max a b) n ≡ true → nat_le a n ≡ true
 low_left a b n h = at_most a n (omega (arith, le-max_left a b, is_at_most (max a b) n h))
@@ -116,7 +113,7 @@ module _ (section : SectionTree) where
     small_struct n less =
         ap (λ m. nat_le (struct_cells (slice_get (structs section) m)) most_cells) (omega arith) ∙
         small_at 0 (structs_in section.decls) n small
-        (subst (λ m. n < m) (map_length {A = StructTree} (λ tree. tree.name) (structs_in section.decls)) less)
+        (subst (λ m. n < m) (length-map (structs_in section.decls) (λ tree. tree.name)) less)
 
     small_starred : (stars : ℕ) (b : BaseTy) → type_within (length (tags section)) (length (tags section))
         (starred stars b) ≡ true → is_small section (starred stars b) ≡ true
@@ -181,11 +178,11 @@ module _ (section : SectionTree) where
   words_are (ty.Array zero base.Int count) Absent h = at_most 0 count (omega arith)
   words_are (ty.Array zero base.Int count) (One const) h = absurd (false≢true h)
   words_are (ty.Array zero base.Int count) (Many consts) h =
-      ap (λ n. nat_le n count) (map_length word_of_const consts) ∙ h
+      ap (λ n. nat_le n count) (length-map consts word_of_const) ∙ h
   words_are (ty.Array zero base.Unsigned count) Absent h = at_most 0 count (omega arith)
   words_are (ty.Array zero base.Unsigned count) (One const) h = absurd (false≢true h)
   words_are (ty.Array zero base.Unsigned count) (Many consts) h =
-      ap (λ n. nat_le n count) (map_length word_of_const consts) ∙ h
+      ap (λ n. nat_le n count) (length-map consts word_of_const) ∙ h
   words_are (ty.Array zero (base.Struct n) count) Absent h = refl
   words_are (ty.Array zero (base.Struct n) count) (One const) h = absurd (false≢true h)
   words_are (ty.Array zero (base.Struct n) count) (Many consts) h = absurd (false≢true h)
@@ -315,8 +312,8 @@ module _ (section : SectionTree) where
         let tags_known : head_known (struct_names before) (head_of tree.head) ≡ true =
         and_first _ _ (and_rest (not (is_numbered (function_names before) tree.head.name)) _
         (and_rest (not (is_numbered (global_names before) tree.head.name)) _ head)) in
-        and_from _ _ (ap (λ n. nat_le n most_params) (map_length (typed_param (tags section)) tree.head.params ∙
-        sym (map_length param_of tree.head.params)) ∙ rule_holds _ tree.head.line count)
+        and_from _ _ (ap (λ n. nat_le n most_params) (length-map tree.head.params (typed_param (tags section)) ∙
+        sym (length-map tree.head.params param_of)) ∙ rule_holds _ tree.head.line count)
         (and_from _ _ (params_passed small tree.head.params
         (params_whole before decls whole (map param_of tree.head.params)
         (and_rest (result_known (struct_names before) tree.head.result) _ tags_known)))

@@ -13,10 +13,10 @@ pub mod Noted
 pub mod Phase
 mod Phases
 pub mod Places
-mod Readings
+pub mod Readings
 mod Refusals
 pub mod Sections
-mod Sources
+pub mod Sources
 mod Structs
 pub mod TypedNodes
 mod Verdicts

@@ -3,14 +3,14 @@ use Rattle.sc_types.proofs.Common.{Bool, Decl, Function, FunctionTree, Global, H
 use Rattle.sc_types.proofs.Common.{Struct, [], and_first, and_rest, ap, bytes_eq, bytes_eq-Decides, false, false≢true}
 use Rattle.sc_types.proofs.Common.{function_named, function_names, functions_in, head_named, head_of, heads_in}
 use Rattle.sc_types.proofs.Common.{if◌then◌else◌, is_numbered, list_all, list_any, map, number_of, option_map}
-use Rattle.sc_types.proofs.Common.{proto_names, refl, same_text, slice_get, subst, suc, sym, true, zero, ℕ, ◌||◌, ◌∙◌}
-use Rattle.sc_types.proofs.Common.{◌∷◌, ◌≡◌}
-use Rattle.sc_types.proofs.Basics.{Each, some_is, none_some, find}
+use Rattle.sc_types.proofs.Common.{proto_names, refl, same_Some, same_text, slice_get, subst, suc, sym, true, zero, ℕ}
+use Rattle.sc_types.proofs.Common.{◌||◌, ◌∙◌, ◌∷◌, ◌≡◌}
+use Rattle.sc_types.proofs.Basics.{Each, none_some, find}
 use Rattle.sc_types.proofs.Places.{Text, number_is}
 
 pub each_at : {A : Type 0} (P : A → Type 0) (xs : List A) (i : ℕ) (x : A) → Each P xs → slice_get xs i ≡ Some x → P x
 each_at P [] i x h got = none_some x got
-each_at P (y ∷ xs) zero x h got = subst P (some_is y x got) h.0
+each_at P (y ∷ xs) zero x h got = subst P (same_Some y x got) h.0
 each_at P (y ∷ xs) (suc i) x h got = each_at P xs i x h.1 got
 
 -- names are the same either way round

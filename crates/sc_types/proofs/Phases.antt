@@ -3,16 +3,15 @@ use Rattle.sc_types.proofs.Common.{All, AreLow, Decl, Err, ExportLine, FailsRule
 use Rattle.sc_types.proofs.Common.{ImportLine, IsWellTyped, IsWithinCounts, List, None, Ok, OnOk, Option, Phase}
 use Rattle.sc_types.proofs.Common.{ProgramTree, Result, SectionTree, Some, [], ap, arith, callees_of, concat}
 use Rattle.sc_types.proofs.Common.{counts_broken, functions_in, globals_in, head_of, heads_in, interface_broken, length}
-use Rattle.sc_types.proofs.Common.{line_of_text, map, most_compartments, most_exports, most_nodes, most_params}
-use Rattle.sc_types.proofs.Common.{names_broken, nat_le, param_of, program_of, refused_at, structs_in, subst, suc, sym}
-use Rattle.sc_types.proofs.Common.{types_broken, unless, zero, ℕ, ◌&&◌, ◌++◌, ◌∙◌, ◌∷◌, ◌≡◌}
+use Rattle.sc_types.proofs.Common.{length-map, line_of_text, map, most_compartments, most_exports, most_nodes}
+use Rattle.sc_types.proofs.Common.{most_params, names_broken, nat_le, param_of, program_of, refused_at, structs_in}
+use Rattle.sc_types.proofs.Common.{subst, suc, sym, types_broken, unless, zero, ℕ, ◌&&◌, ◌++◌, ◌∙◌, ◌∷◌, ◌≡◌}
 use Rattle.sc_lex.specs.declared.refusal.Phase.TheVariants as phase
 use Rattle.sc_lex.specs.declared.refusal.Refusal.{Refusal}
 use Rattle.sc_ast.specs.declared.section.Decl.TheVariants as decl
 use Rattle.sc_types.specs.Counts as counts
 use Rattle.sc_types.proofs.Basics.{Each, rule_holds, front_empty, back_empty, map_empty}
 use Rattle.sc_types.proofs.Places.{is_at_most}
-use Rattle.sc_types.proofs.Functions.{map_length}
 use Rattle.sc_types.proofs.Sections.{none_beyond}
 use Rattle.sc_types.proofs.Refusals.{no_line}
 use Rattle.sc_types.proofs.Whole.{well_typed}
@@ -50,7 +49,7 @@ few_params section (decl.Proto head ∷ decls) h = few_params section decls
     (back_empty (counts.head_lines section head) _ h)
 few_params section (decl.Function tree ∷ decls) h = (
   is_at_most (length tree.head.params) most_params
-      (ap (λ n. nat_le n most_params) (sym (map_length param_of tree.head.params)) ∙
+      (ap (λ n. nat_le n most_params) (sym (length-map tree.head.params param_of)) ∙
       rule_holds _ tree.head.line (front_empty _ _ h)),
   few_params section decls (back_empty (counts.head_lines section (head_of tree.head)) _ h),
 )

@@ -1,8 +1,8 @@
 -- The places of names in lists of names.
 use Rattle.sc_types.proofs.Common.{Bool, Decides-eqb, List, Option, Some, [], ap, arith, bytes_eq, bytes_eq-Decides}
 use Rattle.sc_types.proofs.Common.{false, false≢true, if◌then◌else◌, is_numbered, le-leb, leb-true, length, list_any}
-use Rattle.sc_types.proofs.Common.{lt-ltb, nat_le, nat_lt, number_of, number_or_zero, option_map, refl, slice_get}
-use Rattle.sc_types.proofs.Common.{subst, suc, sym, true, ℕ, ◌++◌, ◌<◌, ◌==◌, ◌||◌, ◌∙◌, ◌∷◌, ◌≡◌, ◌≤◌}
+use Rattle.sc_types.proofs.Common.{lt-ltb, nat_le, nat_lt, number_of, number_or_zero, option_map, or_parts, refl}
+use Rattle.sc_types.proofs.Common.{slice_get, subst, suc, sym, true, ℕ, ◌++◌, ◌<◌, ◌==◌, ◌||◌, ◌∙◌, ◌∷◌, ◌≡◌, ◌≤◌}
 use Rattle.sc_types.proofs.Basics.{find, position_is}
 
 abbrev pub Text : Type 0
@@ -82,21 +82,13 @@ module _ {A : Type 0} (p : A → Bool) where
   next_at x rest n true q h = absurd (false≢true (sym q))
   next_at x rest n false q h = ap (option_map suc) h
 
-  none_left : (a b : Bool) → (a || b) ≡ false → a ≡ false
-  none_left true b h = h
-  none_left false b h = refl
-
-  none_right : (a b : Bool) → (a || b) ≡ false → b ≡ false
-  none_right true b h = absurd (false≢true (sym h))
-  none_right false b h = h
-
   -- the first one behind a front in which nothing is found
   pub find_next : (xs : List A) (y : A) (ys : List A) → list_any p xs ≡ false → p y ≡ true →
       find p (xs ++ y ∷ ys) ≡ Some (length xs)
   find_next [] y ys h k = ap (λ c. if c then Some 0 else option_map suc (find p ys)) k
   find_next (x ∷ xs) y ys h k =
-      next_at x (find p (xs ++ y ∷ ys)) (length xs) (p x) (none_left (p x) (list_any p xs) h)
-      (find_next xs y ys (none_right (p x) (list_any p xs) h) k)
+      next_at x (find p (xs ++ y ∷ ys)) (length xs) (p x) (or_parts (p x) (list_any p xs) h).0
+      (find_next xs y ys (or_parts (p x) (list_any p xs) h).1 k)
 
 -- the number of a name is where it is found
 pub number_is : (names : List Text) (name : Text) → number_of names name ≡ find (bytes_eq name) names

@@ -1,11 +1,11 @@
 -- Sections that break a rule are refused, and are those of no program.
 use Rattle.sc_types.proofs.Common.{Accepts, Fails, FailsRules, FailsTyped, IsTyped, List, None, Phase, ProgramTree}
 use Rattle.sc_types.proofs.Common.{Reads, SectionTree, Some, [], ap, counts_broken, earlier, interface_broken}
-use Rattle.sc_types.proofs.Common.{names_broken, noted_all, program_of, refl, refused_at, subst, sym, types_broken, ℕ}
-use Rattle.sc_types.proofs.Common.{◌∙◌, ◌∷◌, ◌≡◌}
+use Rattle.sc_types.proofs.Common.{names_broken, noted_all, program_of, refl, refused_at, same_Some, subst, sym}
+use Rattle.sc_types.proofs.Common.{types_broken, ℕ, ◌∙◌, ◌∷◌, ◌≡◌}
 use Rattle.sc_lex.specs.declared.refusal.Phase.TheVariants as phase
 use Rattle.sc_read.specs.Reading as reading
-use Rattle.sc_types.proofs.Basics.{none_some, some_is}
+use Rattle.sc_types.proofs.Basics.{none_some}
 
 -- a line that was noted stays noted
 some_noted : {C : Type 0} (least : ℕ) (lines : List ℕ) → noted_all (Some least) lines ≡ None → C
@@ -40,28 +40,28 @@ one_refusal sections phase.Lex q line other f g = absurd f
 one_refusal sections phase.Syntax q line other f g = absurd f
 one_refusal sections phase.Names phase.Lex line other f g = absurd g
 one_refusal sections phase.Names phase.Syntax line other f g = absurd g
-one_refusal sections phase.Names phase.Names line other f g = (refl, some_is line other (sym f ∙ g))
+one_refusal sections phase.Names phase.Names line other f g = (refl, same_Some line other (sym f ∙ g))
 one_refusal sections phase.Names phase.Types line other f g = none_refused (names_broken sections) line g.0 f
 one_refusal sections phase.Names phase.Interface line other f g = none_refused (names_broken sections) line g.0 f
 one_refusal sections phase.Names phase.Count line other f g = none_refused (names_broken sections) line g.0 f
 one_refusal sections phase.Types phase.Lex line other f g = absurd g
 one_refusal sections phase.Types phase.Syntax line other f g = absurd g
 one_refusal sections phase.Types phase.Names line other f g = none_refused (names_broken sections) other f.0 g
-one_refusal sections phase.Types phase.Types line other f g = (refl, some_is line other (sym f.1 ∙ g.1))
+one_refusal sections phase.Types phase.Types line other f g = (refl, same_Some line other (sym f.1 ∙ g.1))
 one_refusal sections phase.Types phase.Interface line other f g = none_refused (types_broken sections) line g.1 f.1
 one_refusal sections phase.Types phase.Count line other f g = none_refused (types_broken sections) line g.1 f.1
 one_refusal sections phase.Interface phase.Lex line other f g = absurd g
 one_refusal sections phase.Interface phase.Syntax line other f g = absurd g
 one_refusal sections phase.Interface phase.Names line other f g = none_refused (names_broken sections) other f.0 g
 one_refusal sections phase.Interface phase.Types line other f g = none_refused (types_broken sections) other f.1 g.1
-one_refusal sections phase.Interface phase.Interface line other f g = (refl, some_is line other (sym f.2 ∙ g.2))
+one_refusal sections phase.Interface phase.Interface line other f g = (refl, same_Some line other (sym f.2 ∙ g.2))
 one_refusal sections phase.Interface phase.Count line other f g = none_refused (interface_broken sections) line g.2 f.2
 one_refusal sections phase.Count phase.Lex line other f g = absurd g
 one_refusal sections phase.Count phase.Syntax line other f g = absurd g
 one_refusal sections phase.Count phase.Names line other f g = none_refused (names_broken sections) other f.0 g
 one_refusal sections phase.Count phase.Types line other f g = none_refused (types_broken sections) other f.1 g.1
 one_refusal sections phase.Count phase.Interface line other f g = none_refused (interface_broken sections) other f.2 g.2
-one_refusal sections phase.Count phase.Count line other f g = (refl, some_is line other (sym f.3 ∙ g.3))
+one_refusal sections phase.Count phase.Count line other f g = (refl, same_Some line other (sym f.3 ∙ g.3))
 
 -- Texts, where reading is unique.
 

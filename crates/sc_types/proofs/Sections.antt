@@ -2,19 +2,19 @@
 use Rattle.sc_types.proofs.Common.{BaseTree, BaseTy, Bool, Callees, Decides-eqb, Decl, ExportLine, Function}
 use Rattle.sc_types.proofs.Common.{FunctionTree, Global, HeadTree, ImportLine, Interface, List, None, Option, ParamTree}
 use Rattle.sc_types.proofs.Common.{Proto, SectionTree, Signature, Some, Struct, Ty, TypeName, TypedFunction}
-use Rattle.sc_types.proofs.Common.{TypedSection, [], agree, and_first, and_from, and_rest, ap, append-nil, append_assoc}
-use Rattle.sc_types.proofs.Common.{are_distinct, arith, bytes_eq, callees_of, export_at, export_fits, export_name}
-use Rattle.sc_types.proofs.Common.{export_names, false, false≢true, filter_map-append, function_named, function_names}
-use Rattle.sc_types.proofs.Common.{functions_in, get_behind, globals_in, head_crosses, head_fits, head_of, heads_in}
-use Rattle.sc_types.proofs.Common.{if◌then◌else◌, import_fits, import_name, import_names, import_of, input_name}
-use Rattle.sc_types.proofs.Common.{interface_fits, interface_of, interfaces_of, is_environment, is_numbered, is_offered}
-use Rattle.sc_types.proofs.Common.{is_plain_name, is_some, length, list_all, list_any, main_name, map, map-append}
-use Rattle.sc_types.proofs.Common.{map_twice, most_exports, most_nodes, nat_le, not, not-true, number_or_zero, offered}
-use Rattle.sc_types.proofs.Common.{offering, option_map, or_left, output_name, promised, proto_of, proto_signature}
-use Rattle.sc_types.proofs.Common.{refl, same_base, same_results, same_signature, same_text, same_ty, same_type}
-use Rattle.sc_types.proofs.Common.{same_types, signature_by, signature_of, slice_get, structs, structs_in, subst, suc}
-use Rattle.sc_types.proofs.Common.{sym, tags, true, typed_function, typed_section, unless, zero, ℕ, ◌&&◌, ◌++◌, ◌==◌}
-use Rattle.sc_types.proofs.Common.{◌||◌, ◌∙◌, ◌∷◌, ◌≡◌, ◌≤◌}
+use Rattle.sc_types.proofs.Common.{TypedSection, [], agree, and_first, and_from, and_rest, any_passes_from_place, ap}
+use Rattle.sc_types.proofs.Common.{append-nil, append_assoc, are_distinct, arith, bytes_eq, callees_of, export_at}
+use Rattle.sc_types.proofs.Common.{export_fits, export_name, export_names, false, false≢true, filter_map-append}
+use Rattle.sc_types.proofs.Common.{function_named, function_names, functions_in, get_behind, globals_in, head_crosses}
+use Rattle.sc_types.proofs.Common.{head_fits, head_of, heads_in, if◌then◌else◌, import_fits, import_name, import_names}
+use Rattle.sc_types.proofs.Common.{import_of, input_name, interface_fits, interface_of, interfaces_of, is_environment}
+use Rattle.sc_types.proofs.Common.{is_numbered, is_offered, is_plain_name, is_some, length, length-map, list_all}
+use Rattle.sc_types.proofs.Common.{list_any, main_name, map, map-append, map_twice, most_exports, most_nodes, nat_le}
+use Rattle.sc_types.proofs.Common.{not, not-true, number_or_zero, offered, offering, option_map, or_left, output_name}
+use Rattle.sc_types.proofs.Common.{promised, proto_of, proto_signature, refl, same_base, same_results, same_signature}
+use Rattle.sc_types.proofs.Common.{same_text, same_ty, same_type, same_types, signature_by, signature_of, slice_get}
+use Rattle.sc_types.proofs.Common.{structs, structs_in, subst, suc, sym, tags, true, typed_function, typed_section}
+use Rattle.sc_types.proofs.Common.{unless, zero, ℕ, ◌&&◌, ◌++◌, ◌==◌, ◌||◌, ◌∙◌, ◌∷◌, ◌≡◌, ◌≤◌}
 use Rattle.sc_event.specs.declared.interface.Import.TheVariants as import
 use Rattle.sc_event.specs.declared.interface.Proto as event
 use Rattle.sc_ast.specs.declared.types.BaseTree.TheVariants as tree_base
@@ -28,9 +28,8 @@ use Rattle.sc_types.proofs.Basics.{rule_holds, front_empty, back_empty, Each, no
 use Rattle.sc_types.proofs.Places.{Text, same_refl, eq_refl, at_most}
 use Rattle.sc_types.proofs.Lookups.{each_at, each_function, FoundFunction, find_function}
 use Rattle.sc_types.proofs.Facts.{Fresh, fresh_distinct, ExportFacts, ImportFacts, DeclFacts, FaceFacts}
-use Rattle.sc_types.proofs.Calls.{agreed_signature, FoundBy, found_by, get_map, any_at, own_signature, Offering}
-use Rattle.sc_types.proofs.Calls.{find_offering, export_is}
-use Rattle.sc_types.proofs.Functions.{map_length}
+use Rattle.sc_types.proofs.Calls.{agreed_signature, FoundBy, found_by, get_map, own_signature, Offering, find_offering}
+use Rattle.sc_types.proofs.Calls.{export_is}
 
 -- Signatures are the same as themselves.
 
@@ -151,6 +150,11 @@ functions_fresh section before (Function tree ∷ rest) h =
           (back_empty (names.decl_lines (names.declared section before) (Function tree)) _ h)),
     )
 
+-- the name of what is promised under a name
+pub promised_name : (name : Text) (found : Option FunctionTree) → (promised name found).name ≡ name
+promised_name name None = refl
+promised_name name (Some tree) = refl
+
 module _ (sections : List SectionTree) (hold : (j : ℕ) (s : SectionTree) → slice_get sections j ≡ Some s →
     FaceFacts sections j s) (number : ℕ) (section : SectionTree)
     (there : slice_get sections number ≡ Some section) where
@@ -167,10 +171,6 @@ module _ (sections : List SectionTree) (hold : (j : ℕ) (s : SectionTree) → s
   interface = interface_of sections number section
 
   -- The names by which imports are called.
-
-  pub promised_name : (name : Text) (found : Option FunctionTree) → (promised name found).name ≡ name
-  promised_name name None = refl
-  promised_name name (Some tree) = refl
 
   other_name : (line : ImportLine) → Offering number line sections →
       import_name (interfaces_of sections) (offered line (offering number line 0 sections)) ≡ line.name
@@ -251,7 +251,7 @@ module _ (sections : List SectionTree) (hold : (j : ℕ) (s : SectionTree) → s
 
     exported : is_numbered (export_names section) g.tree.head.name ≡ true
     exported =
-        any_at (bytes_eq g.tree.head.name) (export_names section) at line.name
+        any_passes_from_place (bytes_eq g.tree.head.name) (export_names section) at line.name
         (get_map {A = ExportLine} (λ line. line.name) section.exports at ∙
         ap (option_map {T = ExportLine} (λ line. line.name)) got) g.named
 
@@ -275,7 +275,7 @@ module _ (sections : List SectionTree) (hold : (j : ℕ) (s : SectionTree) → s
     is_function : list_any {X = TypedFunction} (λ f. bytes_eq f.name (proto_of section line).name &&
         same_signature (signature_of f) (proto_signature (proto_of section line))) typed.functions ≡ true
     is_function =
-        any_at {A = TypedFunction} (λ f. bytes_eq f.name (proto_of section line).name &&
+        any_passes_from_place {K = TypedFunction} (λ f. bytes_eq f.name (proto_of section line).name &&
         same_signature (signature_of f) (proto_signature (proto_of section line))) typed.functions g.at
         (typed_function section callees g.tree) (get_map (typed_function section callees)
         (functions_in section.decls) g.at ∙ ap (option_map (typed_function section callees)) g.got)
@@ -341,9 +341,9 @@ module _ (sections : List SectionTree) (hold : (j : ℕ) (s : SectionTree) → s
       and_from _ _ (all_distinct in_names) (and_from _ _ exports_distinct
       (and_from _ _ (exports_are [] section.exports refl facts.exports)
       (and_from _ _ (imports_are section.imports facts.imports)
-      (and_from _ _ (ap (λ n. nat_le n most_exports) (map_length (proto_of section) section.exports) ∙
+      (and_from _ _ (ap (λ n. nat_le n most_exports) (length-map section.exports (proto_of section)) ∙
       none_beyond {A = ExportLine} (λ line. line.line) most_exports section.exports (front_empty _ _ behind))
-      (ap (λ n. nat_le n most_exports) (map_length (import_of sections number) section.imports) ∙
+      (ap (λ n. nat_le n most_exports) (length-map section.imports (import_of sections number)) ∙
       none_beyond {A = ImportLine} (λ line. line.line) most_exports section.imports
       (front_empty _ _ (back_empty (counts.line_beyond {A = ExportLine}
       (λ line. line.line) most_exports section.exports) _ behind)))))))

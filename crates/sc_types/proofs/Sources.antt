@@ -1,13 +1,12 @@
 -- The parts of a text, by the places at which its sections begin.
 use Rattle.sc_types.proofs.Common.{Accepts, AreStarts, IsKept, IsRead, IsSource, List, ProgramTree, Reads, Section}
 use Rattle.sc_types.proofs.Common.{SectionTree, Some, [], add-one, ap, ap₂, arith, as_many, concat, drop, first_start}
-use Rattle.sc_types.proofs.Common.{flat_map, get_or, interfaces_from, length, map, map-append, part_of, parts_from}
-use Rattle.sc_types.proofs.Common.{refl, slice_get, slice_range, source_of, start_of, subst, suc, sym, take, take_more}
-use Rattle.sc_types.proofs.Common.{zero, ℕ, ◌++◌, ◌+◌, ◌-◌, ◌<◌, ◌∙◌, ◌∷◌, ◌≡◌, ◌≤◌}
+use Rattle.sc_types.proofs.Common.{flat_map, get_or, interfaces_from, length, length-map, map, map-append, part_of}
+use Rattle.sc_types.proofs.Common.{parts_from, refl, slice_get, slice_range, source_of, start_of, subst, suc, sym, take}
+use Rattle.sc_types.proofs.Common.{take_more, zero, ℕ, ◌++◌, ◌+◌, ◌-◌, ◌<◌, ◌∙◌, ◌∷◌, ◌≡◌, ◌≤◌}
 use Rattle.sc_lex.specs.Prelude.{AreSections, IsSplit, line_at, none, section}
 use Rattle.sc_lex.proofs.Splits.{progress_joined, sections_rise}
 use Rattle.sc_read.proofs.Splits.{split_good, same_parts}
-use Rattle.sc_types.proofs.Functions.{map_length}
 
 abbrev bytes_of : Section → List ℕ
 bytes_of s = s.bytes.now
@@ -40,7 +39,8 @@ joined {text} {preamble} {found} split =
       good = λ k low bad. split_good split k bad;
     }) (omega arith)
 
-interfaces_length : (sections : List SectionTree) (k : ℕ) (rest : List SectionTree) →
+-- as many interfaces as sections
+pub interfaces_length : (sections : List SectionTree) (k : ℕ) (rest : List SectionTree) →
     length (interfaces_from sections k rest) ≡ length rest
 interfaces_length sections k [] = refl
 interfaces_length sections k (tree ∷ rest) = ap suc (interfaces_length sections (suc k) rest)
@@ -50,7 +50,7 @@ each_has_one : {text preamble : List ℕ} {found : List Section} (program : Prog
     Accepts text program → length found ≡ length program.interfaces.comps
 each_has_one {text} {preamble} {found} program split a =
     let r : Reads text a.sections = a.reads in
-    sym (map_length part_of found)
+    sym (length-map found part_of)
     ∙ ap length (same_parts split r.lexed.split)
     ∙ ap length (sym r.lexed.parts)
     ∙ as_many (IsRead text) r.sections a.sections r.each
@@ -80,13 +80,13 @@ module _ (text starts : List ℕ) (program : ProgramTree) (k : IsKept text start
         ap₂ (λ a b. a ++ b) (ap (λ n. take n text) front_is) (ap concat bytes_are ∙ concat_is k.starts_are.found) ∙
         joined k.starts_are.split;
     each =
-        ap length bytes_are ∙ map_length bytes_of k.starts_are.found ∙
+        ap length bytes_are ∙ length-map k.starts_are.found bytes_of ∙
         each_has_one program k.starts_are.split k.accepted;
   }
 
   pub starts_long : length starts ≡ length program.interfaces.comps
   starts_long =
-      ap length k.starts_are.places ∙ map_length start_of k.starts_are.found ∙
+      ap length k.starts_are.places ∙ length-map k.starts_are.found start_of ∙
       each_has_one program k.starts_are.split k.accepted
 
 part_here : (text starts : List ℕ) (at : ℕ) → at < length starts →

@@ -2,13 +2,13 @@
 use Rattle.sc_types.proofs.Common.{BaseTree, BaseTy, List, MemberTree, None, Option, Some, StructTree, Ty, TypeName}
 use Rattle.sc_types.proofs.Common.{TypeTree, [], and_first, and_from, and_rest, ap, append-nil, append_assoc, arith}
 use Rattle.sc_types.proofs.Common.{base_cells, base_known, base_of, base_within, bytes_eq, cells_from, cells_of}
-use Rattle.sc_types.proofs.Common.{end_of_member, false, false≢true, get_behind, is_numbered, is_sized, length}
-use Rattle.sc_types.proofs.Common.{list_all, ltb-true, map, member_known, members_fit, members_from, most_cells, nat_eq}
-use Rattle.sc_types.proofs.Common.{nat_le, nat_lt, not, number_of, number_or_zero, option_map_or, pointed_known, refl}
-use Rattle.sc_types.proofs.Common.{same_text, slice_get, starred, starred_cells, starred_within, struct_cells}
-use Rattle.sc_types.proofs.Common.{struct_fits, structs_fit, subst, suc, sym, true, type_of, type_of_name, type_with}
-use Rattle.sc_types.proofs.Common.{type_within, typed_struct, typed_structs, zero, ℕ, ◌*◌, ◌++◌, ◌+◌, ◌<◌, ◌==◌, ◌∙◌}
-use Rattle.sc_types.proofs.Common.{◌∷◌, ◌≡◌, ◌≤◌}
+use Rattle.sc_types.proofs.Common.{end_of_member, false, false≢true, get_behind, get_front, is_numbered, is_sized}
+use Rattle.sc_types.proofs.Common.{length, length-map, list_all, ltb-true, map, member_known, members_fit, members_from}
+use Rattle.sc_types.proofs.Common.{most_cells, nat_eq, nat_le, nat_lt, not, number_of, number_or_zero, option_map_or}
+use Rattle.sc_types.proofs.Common.{pointed_known, refl, same_text, slice_get, starred, starred_cells, starred_within}
+use Rattle.sc_types.proofs.Common.{struct_cells, struct_fits, structs_fit, subst, suc, sym, true, type_of, type_of_name}
+use Rattle.sc_types.proofs.Common.{type_with, type_within, typed_struct, typed_structs, zero, ℕ, ◌*◌, ◌++◌, ◌+◌, ◌<◌}
+use Rattle.sc_types.proofs.Common.{◌==◌, ◌∙◌, ◌∷◌, ◌≡◌, ◌≤◌}
 use Rattle.sc_ast.specs.declared.types.BaseTree.TheVariants as base_tree
 use Rattle.sc_core.specs.declared.ty.Ty.TheVariants as ty
 use Rattle.sc_core.specs.declared.ty.BaseTy.TheVariants as base
@@ -110,11 +110,6 @@ module _ (names : List Text) (self : Text) (more : List Text) (new : is_numbered
 
 -- Cells over the first structs are those over all.
 
-pub get_front : {A : Type 0} (xs ys : List A) (n : ℕ) → n < length xs → slice_get (xs ++ ys) n ≡ slice_get xs n
-get_front [] ys n h = absurd (omega (arith, h))
-get_front (x ∷ xs) ys zero h = refl
-get_front (x ∷ xs) ys (suc n) h = get_front xs ys n (omega (arith, h))
-
 module _ (done more : List TypedStruct) (n : ℕ) (size : length done ≡ n) where
   base_cells_same : (b : BaseTy) → base_within n b ≡ true → base_cells (done ++ more) b ≡ base_cells done b
   base_cells_same base.Int h = refl
@@ -200,10 +195,6 @@ module _ (names : List Text) (self : Text) (after : List Text) (new : is_numbere
       (exact offset m members small) (members_are (end offset m) members
       (and_rest (member_known names self m) (list_all (member_known names self) members) known)
       (and_rest (is_sized m.ty) (list_all {X = MemberTree} (λ member. is_sized member.ty) members) sized) small)
-
-map_length : {A B : Type 0} (f : A → B) (xs : List A) → length (map f xs) ≡ length xs
-map_length f [] = refl
-map_length f (x ∷ xs) = ap suc (map_length f xs)
 
 members_length : (all : List Text) (structs : List TypedStruct) (offset : ℕ) (members : List MemberTree) →
     length (members_from all structs offset members) ≡ length members
@@ -312,4 +303,4 @@ pub structs_length : (trees : List StructTree) → length (typed_structs (tags_o
     length (tags_of trees)
 structs_length trees =
     ap length (structs_are (tags_of trees) [] trees) ∙ rest_length (tags_of trees) [] trees ∙
-    sym (map_length {A = StructTree} (λ tree. tree.name) trees)
+    sym (length-map trees (λ tree. tree.name))

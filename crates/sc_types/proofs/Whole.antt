@@ -1,32 +1,33 @@
 -- A text that breaks no rule is a well-typed program.
 use Rattle.sc_types.proofs.Common.{AreLow, Bool, Callees, Decl, ExportLine, Function, FunctionTree, Global, ImportLine}
-use Rattle.sc_types.proofs.Common.{Interface, IsWellTyped, List, Proto, SectionTree, Some, Struct, StructTree}
-use Rattle.sc_types.proofs.Common.{TypedFunction, TypedSection, [], and_first, and_from, and_rest, ap, append_assoc}
-use Rattle.sc_types.proofs.Common.{are_distinct, arith, bytes_eq, callees_of, codes, concat, counts_broken, decl_count}
-use Rattle.sc_types.proofs.Common.{defines_main, environment, false, false≢true, functions_in, get_behind, globals_in}
-use Rattle.sc_types.proofs.Common.{head_of, heads_in, if◌then◌else◌, interface_broken, interface_fits, interface_of}
-use Rattle.sc_types.proofs.Common.{interfaces_from, interfaces_of, is_main, is_numbered, is_well_typed, length}
-use Rattle.sc_types.proofs.Common.{line_of_text, list_any, main_fits, main_from, main_name, mains_in, map, map-append}
-use Rattle.sc_types.proofs.Common.{most_compartments, most_exports, most_nodes, name_holds, names_broken, nat_le, not}
-use Rattle.sc_types.proofs.Common.{not-true, option_map, program_of, refl, same_signature, section_fits, section_height}
-use Rattle.sc_types.proofs.Common.{sections_fit, sections_from, signature_by, signature_of, slice_get, structs}
-use Rattle.sc_types.proofs.Common.{structs_in, subst, suc, sym, tags, true, truth, typed_function, typed_global}
-use Rattle.sc_types.proofs.Common.{typed_section, types_broken, unless, zero, ℕ, ◌&&◌, ◌++◌, ◌+◌, ◌==◌, ◌||◌, ◌∙◌, ◌∷◌}
-use Rattle.sc_types.proofs.Common.{◌≡◌, ◌≤◌}
+use Rattle.sc_types.proofs.Common.{Interface, IsWellTyped, List, Proto, SectionTree, Some, Struct, TypedFunction}
+use Rattle.sc_types.proofs.Common.{TypedSection, [], and_first, and_from, and_rest, any_passes_from_place, ap}
+use Rattle.sc_types.proofs.Common.{append_assoc, are_distinct, arith, bytes_eq, callees_of, codes, concat}
+use Rattle.sc_types.proofs.Common.{counts_broken, decl_count, defines_main, environment, false, false≢true}
+use Rattle.sc_types.proofs.Common.{functions_in, get_behind, globals_in, head_of, heads_in, if◌then◌else◌}
+use Rattle.sc_types.proofs.Common.{interface_broken, interface_fits, interface_of, interfaces_from, interfaces_of}
+use Rattle.sc_types.proofs.Common.{is_main, is_numbered, is_well_typed, length, length-map, line_of_text, list_any}
+use Rattle.sc_types.proofs.Common.{main_fits, main_from, main_name, mains_in, map, map-append, most_compartments}
+use Rattle.sc_types.proofs.Common.{most_exports, most_nodes, name_holds, names_broken, nat_le, not, not-true}
+use Rattle.sc_types.proofs.Common.{option_map, program_of, refl, same_Some, same_signature, section_fits}
+use Rattle.sc_types.proofs.Common.{section_height, sections_fit, sections_from, signature_by, signature_of, slice_get}
+use Rattle.sc_types.proofs.Common.{structs, structs_in, subst, suc, sym, tags, true, truth, typed_function}
+use Rattle.sc_types.proofs.Common.{typed_global, typed_section, types_broken, unless, zero, ℕ, ◌&&◌, ◌++◌, ◌+◌, ◌==◌}
+use Rattle.sc_types.proofs.Common.{◌||◌, ◌∙◌, ◌∷◌, ◌≡◌, ◌≤◌}
 use Rattle.sc_core.specs.declared.ty.Ty.TheVariants as ty
 use Rattle.sc_scope.specs.Names as names
 use Rattle.sc_elab.specs.Sections as elab
 use Rattle.sc_interfaces.specs.Faces as faces
 use Rattle.sc_types.specs.Counts as counts
 use Rattle.sc_types.proofs.Basics.{rule_holds, front_empty, back_empty, map_empty, Each, each_empty, each_passes}
-use Rattle.sc_types.proofs.Basics.{some_is, none_some}
+use Rattle.sc_types.proofs.Basics.{none_some}
 use Rattle.sc_types.proofs.Places.{Text, at_most, is_at_most}
 use Rattle.sc_types.proofs.Structs.{AllSmall, structs_all_fit, structs_length}
 use Rattle.sc_types.proofs.Lookups.{each_at, each_function, same_sym, FoundFunction, find_function}
 use Rattle.sc_types.proofs.Facts.{Fresh, fresh_distinct, DeclFacts, FaceFacts, face_facts, decls_hold}
-use Rattle.sc_types.proofs.Calls.{input_signature, get_map, any_at, own_signature}
+use Rattle.sc_types.proofs.Calls.{input_signature, get_map, own_signature}
 use Rattle.sc_types.proofs.Callees as called
-use Rattle.sc_types.proofs.Functions.{map_length, small_from, functions_are, globals_are, structs_known}
+use Rattle.sc_types.proofs.Functions.{small_from, functions_are, globals_are, structs_known}
 use Rattle.sc_types.proofs.Sections.{none_beyond, interface_is}
 use Rattle.std.proofs.Math.Bool.{or-false, or_assoc}
 
@@ -73,13 +74,13 @@ within_more a b c h k = omega (arith, h, k)
 decl_count_is : (section : SectionTree) (callees : Callees) → decl_count (typed_section section callees) ≡
     length (structs_in section.decls) + (length (globals_in section.decls) + length (functions_in section.decls))
 decl_count_is section callees = λ i.
-    structs_are i + (map_length (typed_global (tags section)) (globals_in section.decls) i +
-    map_length (typed_function section callees) (functions_in section.decls) i)
+    structs_are i + (length-map (globals_in section.decls) (typed_global (tags section)) i +
+    length-map (functions_in section.decls) (typed_function section callees) i)
   where
     structs_are : length (structs section) ≡ length (structs_in section.decls)
     structs_are =
         structs_length (structs_in section.decls) ∙
-        map_length {A = StructTree} (λ tree. tree.name) (structs_in section.decls)
+        length-map (structs_in section.decls) (λ tree. tree.name)
 
 few_kept : (section : SectionTree) (callees : Callees) → nat_le (length section.decls) most_nodes ≡ true →
     nat_le (decl_count (typed_section section callees)) most_nodes ≡ true
@@ -105,7 +106,7 @@ module _ (sections : List SectionTree) where
   face_from k before [] j section h got = none_some section got
   face_from k before (s ∷ rest) zero section h got =
       subst (λ n. FaceFacts sections n section) (plus_zero k)
-      (subst (λ t. FaceFacts sections k t) (some_is s section got)
+      (subst (λ t. FaceFacts sections k t) (same_Some s section got)
       (face_facts sections k s (list_any defines_main before) before (map_empty _ _ (front_empty _ _ h)))) where
         plus_zero : (n : ℕ) → n ≡ n + 0
         plus_zero n = omega arith
@@ -133,7 +134,7 @@ module _ (sections : List SectionTree) where
   count_from k [] j section h got = none_some section got
   count_from k (s ∷ rest) zero section h got =
       subst (λ n. counts.section_lines section (callees_of sections n section) ≡ []) (plus_zero k)
-      (subst (λ t. counts.section_lines t (callees_of sections k t) ≡ []) (some_is s section got)
+      (subst (λ t. counts.section_lines t (callees_of sections k t) ≡ []) (same_Some s section got)
       (map_empty _ _ (front_empty _ _ h))) where
         plus_zero : (n : ℕ) → n ≡ n + 0
         plus_zero n = omega arith
@@ -332,7 +333,7 @@ module _ (sections : List SectionTree) where
         main_found k section facts.mains facts.decls has in
         let is : faces.is_main (head_of g.tree.head) ≡ true =
         and_rest (not facts.mains) _ (main_alone k section facts.mains facts.decls has) in
-        any_at {A = TypedFunction} (λ f. is_main f &&
+        any_passes_from_place {K = TypedFunction} (λ f. is_main f &&
         same_signature (signature_of f) (record { params = []; result = Some ty.Int }))
         (typed_section section (callees_of sections k section)).functions g.at
         (typed_function section (callees_of sections k section) g.tree)
@@ -422,7 +423,7 @@ module _ (sections : List SectionTree) where
         Some (typed_section section (callees_of sections (k + j) section))
     typed_from k [] j section got = none_some section got
     typed_from k (s ∷ rest) zero section got =
-        ap (λ t. Some (typed_section t (callees_of sections k t))) (some_is s section got) ∙
+        ap (λ t. Some (typed_section t (callees_of sections k t))) (same_Some s section got) ∙
         ap (λ n. Some (typed_section section (callees_of sections n section))) (omega arith)
     typed_from k (s ∷ rest) (suc j) section got =
         typed_from (suc k) rest j section got ∙ ap (λ n. Some (typed_section section (callees_of sections n section)))
