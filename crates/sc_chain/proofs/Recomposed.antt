@@ -23,7 +23,8 @@ text_is interfaces trace (one ∷ comps) comp = by (one == comp) refl (text_is i
   by true is h = ap (λ c. Some (performing_text interfaces trace c)) (eqb-true one comp is)
   by false is h = h
 
-new_texts_same : (replace other : ℕ → Option (List ℕ)) → ((comp : ℕ) → replace comp ≡ other comp) → (comp : ℕ)
+-- texts in which the same stands in place of each section
+pub new_texts_same : (replace other : ℕ → Option (List ℕ)) → ((comp : ℕ) → replace comp ≡ other comp) → (comp : ℕ)
     (olds : List (List ℕ)) → new_texts replace comp olds ≡ new_texts other comp olds
 new_texts_same replace other same comp [] = refl
 new_texts_same replace other same comp (old ∷ olds) =

@@ -6,10 +6,11 @@ pub use Rattle.std.proofs.Common.{ltb-true, map, nat_le, nat_lt, not, option_and
 pub use Rattle.std.proofs.Common.{sym, take, true, zero, ℕ, ℤ, ⊎_elim, ◌&&◌, ◌*◌, ◌++◌, ◌+◌, ◌-ℤ◌, ◌<◌, ◌==◌, ◌^◌, ◌||◌}
 pub use Rattle.std.proofs.Common.{◌∙◌, ◌∷◌, ◌≡◌, ◌≢◌, ◌≤◌, ◌⊎◌}
 pub use Rattle.std.proofs.lemmas.List.{length-map, length-replicate, map-append}
-pub use Rattle.std.proofs.lemmas.List.Elements.{All-cons, All-head, All-map, All-nil, All-tail, All-weaker}
 pub use Rattle.std.proofs.lemmas.Option.{same_Some, slice_get-map, slice_get_within}
 pub use Rattle.std.specs.List.{count_by, list_all, list_any}
 pub use Rattle.std.specs.Option.{option_map, option_map_or}
+pub use Rattle.sc_base.proofs.Bools.{and_first, and_rest}
+pub use Rattle.sc_base.proofs.Lists.{all_at, all_by, take-step}
 pub use Rattle.sc_event.specs.Prelude.{Standing, at_start, awaits, comp_at, export_at, fits_result, imports}
 pub use Rattle.sc_event.specs.Prelude.{is_function, is_input, is_legal_from, is_output, legal, may_perform, may_return}
 pub use Rattle.sc_event.specs.Prelude.{performer, stands_after, takes}
@@ -31,7 +32,7 @@ pub use Rattle.sc_core.specs.Prelude.{variables, wrapping}
 pub use Rattle.sc_core.specs.declared.section.TypedFunction.{TypedFunction}
 pub use Rattle.sc_core.specs.declared.section.TypedStruct.{TypedStruct}
 pub use Rattle.sc_laws.specs.Prelude.{AgreesInRoom, Set, piece_without_line, same, same_run}
-pub use Rattle.sc_kinds.proofs.Sections.{all_at, found_passes, named_so, own_names_differ}
+pub use Rattle.sc_kinds.proofs.Sections.{found_passes, named_so, own_names_differ}
 pub use Rattle.rv_code.specs.declared.instr.Instr.{Instr}
 pub use Rattle.sc_image.specs.Prelude.{IsWellFormed, IsWord, code_of, import_of, interface_of, interfaces_of, machine}
 pub use Rattle.sc_image.specs.Prelude.{most_globals, proto_of, start_memory, stretch}

@@ -1,34 +1,28 @@
 -- Sizes on lowered code are those of the program, no count passes a word of 64 bits, and where nothing is too large
 -- each function fits.
-use Rattle.sc_compile.proofs.Common.{All, All-cons, All-head, All-nil, All-tail, Bool, CodeTooLarge, CompileFault}
-use Rattle.sc_compile.proofs.Common.{EachEmits, EmitsAll, EmitsSo, FitAll, Fits as FitsIn, Interfaces, IsCounted}
-use Rattle.sc_compile.proofs.Common.{IsWellTyped, List, None, Option, ProgramTree, Some, TacFnTree, TacSection, TacTree}
-use Rattle.sc_compile.proofs.Common.{TypedFunction, TypedGlobal, TypedSection, TypedStruct, [], above, all_at, ap}
-use Rattle.sc_compile.proofs.Common.{arith, callable_in, cells_in, cells_of, counted_all, counted_code, counted_data}
-use Rattle.sc_compile.proofs.Common.{counted_frame, counted_frames, decl_count, false, few_so, first, first_at}
+use Rattle.sc_compile.proofs.Common.{All, Bool, CodeTooLarge, CompileFault, EachEmits, EmitsAll, EmitsSo, FitAll}
+use Rattle.sc_compile.proofs.Common.{Fits as FitsIn, Interfaces, IsCounted, IsWellTyped, List, None, Option}
+use Rattle.sc_compile.proofs.Common.{ProgramTree, Some, TacFnTree, TacSection, TacTree, TypedFunction, TypedGlobal}
+use Rattle.sc_compile.proofs.Common.{TypedSection, TypedStruct, [], above, all_at as of_all, all_by, and_first}
+use Rattle.sc_compile.proofs.Common.{and_rest, ap, arith, callable_in, cells_in, cells_of, counted_all, counted_code}
+use Rattle.sc_compile.proofs.Common.{counted_data, counted_frame, counted_frames, decl_count, few_so, first, first_at}
 use Rattle.sc_compile.proofs.Common.{flat_map, found_in, frame_bound, function_fits, functions_or_none, global_fits}
-use Rattle.sc_compile.proofs.Common.{large_code, large_data, large_frame, large_frames, leb-true, length, list_all}
-use Rattle.sc_compile.proofs.Common.{local_fits, local_nodes, lowered_function, lowered_program, lowered_section}
-use Rattle.sc_compile.proofs.Common.{lowered_sections, map, most_cells, most_frame, most_nodes, most_params, nat_le}
-use Rattle.sc_compile.proofs.Common.{nodes, of_section, option_map, params_fit, passed_fits, refl, result_fits}
-use Rattle.sc_compile.proofs.Common.{scope_of, section_fits, slice_get, stretch, structs_fit, subst, suc, sym}
-use Rattle.sc_compile.proofs.Common.{too_large, total, true, variable_fits, variables, zero, ℕ, ◌&&◌, ◌*◌, ◌++◌, ◌+◌}
-use Rattle.sc_compile.proofs.Common.{◌<◌, ◌^◌, ◌∙◌, ◌∷◌, ◌≡◌, ◌≤◌}
+use Rattle.sc_compile.proofs.Common.{large_code, large_data, large_frame, large_frames, leb-true, length, length-map}
+use Rattle.sc_compile.proofs.Common.{list_all, local_fits, local_nodes, lowered_function, lowered_program}
+use Rattle.sc_compile.proofs.Common.{lowered_section, lowered_sections, map, most_cells, most_frame, most_nodes}
+use Rattle.sc_compile.proofs.Common.{most_params, nat_le, nodes, of_section, option_map, params_fit, passed_fits, refl}
+use Rattle.sc_compile.proofs.Common.{result_fits, scope_of, section_fits, slice_get, stretch, structs_fit, subst, suc}
+use Rattle.sc_compile.proofs.Common.{sym, too_large, total, true, variable_fits, variables, zero, ℕ, ◌&&◌, ◌*◌, ◌++◌}
+use Rattle.sc_compile.proofs.Common.{◌+◌, ◌<◌, ◌^◌, ◌∙◌, ◌∷◌, ◌≡◌, ◌≤◌}
 use Rattle.sc_compile.specs.Prelude.{Fits}
+use Rattle.sc_kinds.proofs.Sections.{all_at}
 use Rattle.sc_core.specs.declared.section.TypedLocal.{TypedLocal}
 use Rattle.sc_core.specs.declared.section.TypedParam.{TypedParam}
 use Rattle.sc_compile.proofs.Fitting.{code_fits, frames_fit, front_none, rest_none, within}
 use Rattle.sc_compile.proofs.Results.{mapped}
+use Rattle.sc_lower.proofs.Beyond.{locals_few}
 
 -- LISTS
-all_by : {X : Type 0} (P : X → Type 0) (xs : List X) → ((i : ℕ) (x : X) → slice_get xs i ≡ Some x → P x) → All P xs
-all_by P [] h = All-nil P
-all_by P (x ∷ xs) h = All-cons P x xs (h 0 x refl) (all_by P xs (λ i y is. h (suc i) y is))
-
-pub of_all : {X : Type 0} (P : X → Type 0) (xs : List X) (i : ℕ) (x : X) → All P xs → slice_get xs i ≡ Some x → P x
-of_all P [] i x all is = absurd (cc)
-of_all P (y ∷ ys) zero x all is = let same : y ≡ x = cc in subst P same (All-head P y ys all)
-of_all P (y ∷ ys) (suc i) x all is = of_all P ys i x (All-tail P y ys all) is
 
 total_below : (xs : List ℕ) → ((i x : ℕ) → slice_get xs i ≡ Some x → x ≤ most_cells) →
     total xs ≤ length xs * most_cells
@@ -37,10 +31,6 @@ total_below (x ∷ xs) h =
     let one : x ≤ most_cells = h 0 x refl in
     let rest : total xs ≤ length xs * most_cells = total_below xs (λ i y is. h (suc i) y is) in
     omega (arith, one, rest)
-
-count_map : {A B : Type 0} (g : A → B) (xs : List A) → length (map g xs) ≡ length xs
-count_map g [] = refl
-count_map g (x ∷ xs) = ap suc (count_map g xs)
 
 member_below : (xs : List ℕ) (i x : ℕ) → slice_get xs i ≡ Some x → x ≤ total xs
 member_below [] i x is = absurd (cc)
@@ -108,22 +98,10 @@ module _ (program : ProgramTree) where
       (sym (first_at program.interfaces program.sections comp) ∙ h)
 
 -- COUNTS
-and_left : (a b : Bool) → (a && b) ≡ true → a ≡ true
-and_left true b h = refl
-and_left false b h = cc h
-
-and_right : (a b : Bool) → (a && b) ≡ true → b ≡ true
-and_right true b h = h
-and_right false b h = cc h
 
 variable_few : (structs : List TypedStruct) (ty : _) → variable_fits structs ty ≡ true →
     cells_of structs ty ≤ most_cells
-variable_few structs ty h = leb-true (cells_of structs ty) most_cells (and_right _ _ h)
-
-locals_few : (locals : List TypedLocal) → length locals ≤ total (map local_nodes locals)
-locals_few [] = omega arith
-locals_few (l ∷ locals) = let rest : length locals ≤ total (map local_nodes locals) = locals_few locals in
-    omega (arith, rest)
+variable_few structs ty h = leb-true (cells_of structs ty) most_cells (and_rest _ _ h)
 
 module _ (program : ProgramTree) (typed : IsWellTyped program) (comp : ℕ) (source : TypedSection)
     (is : slice_get program.sections comp ≡ Some source) where
@@ -146,23 +124,23 @@ module _ (program : ProgramTree) (typed : IsWellTyped program) (comp : ℕ) (sou
       source.functions
 
   globals_so : globals_kept ≡ true
-  globals_so = and_left globals_kept _ (and_right structs_kept _ own)
+  globals_so = and_first globals_kept _ (and_rest structs_kept _ own)
 
   functions_so : functions_kept ≡ true
-  functions_so = and_left functions_kept _ (and_right globals_kept _ (and_right structs_kept _ own))
+  functions_so = and_first functions_kept _ (and_rest globals_kept _ (and_rest structs_kept _ own))
 
   counts_so : (nat_le (total (map nodes source.functions)) most_nodes && nat_le (decl_count source) most_nodes) ≡ true
-  counts_so = and_right functions_kept _ (and_right globals_kept _ (and_right structs_kept _ own))
+  counts_so = and_rest functions_kept _ (and_rest globals_kept _ (and_rest structs_kept _ own))
 
   few_nodes : total (map nodes source.functions) ≤ most_nodes
   few_nodes =
       leb-true (total (map nodes source.functions)) most_nodes
-      (and_left (nat_le (total (map nodes source.functions)) most_nodes) _ counts_so)
+      (and_first (nat_le (total (map nodes source.functions)) most_nodes) _ counts_so)
 
   few_declared : decl_count source ≤ most_nodes
   few_declared =
       leb-true (decl_count source) most_nodes
-      (and_right (nat_le (total (map nodes source.functions)) most_nodes) _ counts_so)
+      (and_rest (nat_le (total (map nodes source.functions)) most_nodes) _ counts_so)
 
   few_cells : cells_in (lowered_section program.interfaces comp source) < 2 ^ 60
   few_cells =
@@ -172,9 +150,9 @@ module _ (program : ProgramTree) (typed : IsWellTyped program) (comp : ℕ) (sou
       let found = mapped {A = TypedGlobal} (λ g. cells_of source.structs g.ty) source.globals i size at in
       subst (λ n. n ≤ most_cells) found.1.1
       (variable_few source.structs found.0.ty
-      (and_left _ _ (all_at (global_fits source.structs) source.globals globals_so i found.0 found.1.0)))) in
+      (and_first _ _ (all_at (global_fits source.structs) source.globals globals_so i found.0 found.1.0)))) in
       let count : length sizes ≡ length source.globals =
-      count_map {A = TypedGlobal} (λ g. cells_of source.structs g.ty) source.globals in
+      length-map source.globals (λ g. cells_of source.structs g.ty) in
       omega (arith, most, count, few_declared)
 
   module _ (f : TypedFunction) (number : ℕ) (its : slice_get source.functions number ≡ Some f) where
@@ -184,17 +162,17 @@ module _ (program : ProgramTree) (typed : IsWellTyped program) (comp : ℕ) (sou
 
     few_params : length f.params ≤ most_params
     few_params =
-        leb-true (length f.params) most_params (and_left (nat_le (length f.params) most_params) _ fits)
+        leb-true (length f.params) most_params (and_first (nat_le (length f.params) most_params) _ fits)
 
     params_so : params_fit source.structs f.params ≡ true
     params_so =
-        and_left (params_fit source.structs f.params) _ (and_right (nat_le (length f.params) most_params) _ fits)
+        and_first (params_fit source.structs f.params) _ (and_rest (nat_le (length f.params) most_params) _ fits)
 
     locals_so : list_all (local_fits (scope_of source f)) f.locals ≡ true
     locals_so =
-        and_left (list_all (local_fits (scope_of source f)) f.locals) _
-        (and_right (result_fits source.structs f.result) _
-        (and_right (params_fit source.structs f.params) _ (and_right (nat_le (length f.params) most_params) _ fits)))
+        and_first (list_all (local_fits (scope_of source f)) f.locals) _
+        (and_rest (result_fits source.structs f.result) _
+        (and_rest (params_fit source.structs f.params) _ (and_rest (nat_le (length f.params) most_params) _ fits)))
 
     own_nodes : nodes f ≤ most_nodes
     own_nodes =
@@ -220,17 +198,17 @@ module _ (program : ProgramTree) (typed : IsWellTyped program) (comp : ℕ) (sou
         let of_params : total params ≤ length params * most_cells =
         total_below params (λ i size at.
         let found = mapped {A = TypedParam} (λ p. cells_of source.structs p.ty) f.params i size at in
-        subst (λ n. n ≤ most_cells) found.1.1 (variable_few source.structs found.0.ty (and_right _ _
+        subst (λ n. n ≤ most_cells) found.1.1 (variable_few source.structs found.0.ty (and_rest _ _
         (all_at {A = TypedParam} (λ p. passed_fits source.structs p.ty) f.params params_so i found.0 found.1.0)))) in
         let of_locals : total locals ≤ length locals * most_cells =
         total_below locals (λ i size at.
         let found = mapped {A = TypedLocal} (λ l. cells_of source.structs l.ty) f.locals i size at in
-        subst (λ n. n ≤ most_cells) found.1.1 (variable_few source.structs found.0.ty (and_left _ _
+        subst (λ n. n ≤ most_cells) found.1.1 (variable_few source.structs found.0.ty (and_first _ _
         (all_at (local_fits (scope_of source f)) f.locals locals_so i found.0 found.1.0)))) in
         let param_count : length params ≡ length f.params =
-        count_map {A = TypedParam} (λ p. cells_of source.structs p.ty) f.params in
+        length-map f.params (λ p. cells_of source.structs p.ty) in
         let local_count : length locals ≡ length f.locals =
-        count_map {A = TypedLocal} (λ l. cells_of source.structs l.ty) f.locals in
+        length-map f.locals (λ l. cells_of source.structs l.ty) in
         let each : length f.locals ≤ total (map local_nodes f.locals) = locals_few f.locals in
         let both : total (params ++ locals) ≡ total params + total locals = total_append params locals in
         omega (arith, of_params, of_locals, param_count, local_count, each, both, few_params, own_nodes)

@@ -1,25 +1,24 @@
 -- The code of a section consists of instructions, none of them EBREAK, and has no more branches than its functions.
-use Rattle.sc_compile.proofs.Common.{Addresses, All, All-cons, All-head, All-map, All-nil, All-tail, All-weaker}
-use Rattle.sc_compile.proofs.Common.{AreEmitted, Bool, CodeTree, Fits, HasNoTests, Instr, Interfaces, IsLinkable}
-use Rattle.sc_compile.proofs.Common.{IsWellTyped, List, None, Option, ProgramTree, Proto, Some, TacFnTree, TacStmt}
-use Rattle.sc_compile.proofs.Common.{TacStmt-F, TypedFunction, TypedSection, TypedStruct, [], addresses_at, all_codes}
-use Rattle.sc_compile.proofs.Common.{ap, arith, body_code, branch_step, branches, built_image, code_of, codes_at}
-use Rattle.sc_compile.proofs.Common.{comp_code, cond, count_by, entry_address, entry_jump, entry_jumps, exports_at}
-use Rattle.sc_compile.proofs.Common.{false, first_at, fold-TacStmt, function_code, functions_in, functions_or_none, ifs}
-use Rattle.sc_compile.proofs.Common.{ifs_step, is_branch, is_ebreak, length, linked, linked_codes, linked_from}
-use Rattle.sc_compile.proofs.Common.{list_all, low_behind, lower_part, lowered_function, lowered_program}
-use Rattle.sc_compile.proofs.Common.{lowered_section, map, not, of_section, option_map, option_map_or, part_is, pos}
-use Rattle.sc_compile.proofs.Common.{refl, relocations_behind, section_at, slice_get, subst, suc, sym, target_at}
-use Rattle.sc_compile.proofs.Common.{test_word, total, true, upper_part, with_low, with_target, ℕ, ℤ, ◌*◌, ◌++◌, ◌+◌}
-use Rattle.sc_compile.proofs.Common.{◌-ℤ◌, ◌∙◌, ◌∷◌, ◌≡◌, ◌≤◌}
+use Rattle.sc_compile.proofs.Common.{Addresses, All, AreEmitted, Bool, CodeTree, Fits, HasNoTests, Instr, Interfaces}
+use Rattle.sc_compile.proofs.Common.{IsLinkable, IsWellTyped, List, None, Option, ProgramTree, Proto, Some, TacFnTree}
+use Rattle.sc_compile.proofs.Common.{TacStmt, TacStmt-F, TypedFunction, TypedSection, TypedStruct, [], addresses_at}
+use Rattle.sc_compile.proofs.Common.{all_codes, and_first, and_rest, ap, arith, body_code, branch_step, branches}
+use Rattle.sc_compile.proofs.Common.{built_image, code_of, codes_at, comp_code, cond, count_by, entry_address}
+use Rattle.sc_compile.proofs.Common.{entry_jump, entry_jumps, exports_at, false, first_at, fold-TacStmt, function_code}
+use Rattle.sc_compile.proofs.Common.{functions_in, functions_or_none, ifs, ifs_step, is_branch, is_ebreak, length}
+use Rattle.sc_compile.proofs.Common.{linked, linked_codes, linked_from, list_all, low_behind, lower_part}
+use Rattle.sc_compile.proofs.Common.{lowered_function, lowered_program, lowered_section, map, not, of_section}
+use Rattle.sc_compile.proofs.Common.{option_map, option_map_or, part_is, pos, refl, relocations_behind, section_at}
+use Rattle.sc_compile.proofs.Common.{slice_get, subst, suc, sym, target_at, test_word, total, true, upper_part}
+use Rattle.sc_compile.proofs.Common.{with_low, with_target, ℕ, ℤ, ◌*◌, ◌++◌, ◌+◌, ◌-ℤ◌, ◌∙◌, ◌∷◌, ◌≡◌, ◌≤◌}
 use Rattle.rv_code.specs.Prelude.{IsInstr, word_of}
 use Rattle.sc_tac.specs.Prelude.{branches as code_ifs}
+use Rattle.std.proofs.lemmas.List.Elements.{All-cons, All-head, All-map, All-nil, All-tail, All-weaker}
 use Rattle.std.proofs.lemmas.List.Sums.{sum_by-append, sum_by-cons}
 use Rattle.rv_code.proofs.OneEach.{decoded-word_of}
 use Rattle.rv_code.specs.declared.instr.Instr.TheVariants.{Jal, Jalr, OpImm, Upper}
 use Rattle.rv_code.specs.declared.instr.OpImmOp.{OpImmOp}
 use Rattle.rv_code.specs.declared.instr.UpperOp.{UpperOp}
-use Rattle.sc_base.proofs.Bools.{and_first, and_rest}
 use Rattle.sc_image.specs.declared.parts.CompPart.{CompPart}
 use Rattle.sc_tac.specs.declared.machine_code.Relocation.{Relocation}
 use Rattle.sc_tac.specs.declared.machine_code.Target.{Target}

@@ -1,14 +1,13 @@
 -- What the functions of lowered code give back: values of the kinds that their sources promise.
-use Rattle.sc_compile.proofs.Common.{Bool, Export, GivesResults, Here, IsSome, IsWellTyped, List, Main, None, Option}
-use Rattle.sc_compile.proofs.Common.{Piece, ProgramTree, Proto, Reached, Roles, Some, State, Stopped, TacFnTree}
-use Rattle.sc_compile.proofs.Common.{TypedFunction, TypedSection, [], ap, are_distinct, bodies, bytes_eq, crossing}
-use Rattle.sc_compile.proofs.Common.{export_at, false, first_at, found_passes, function_entered, functions_in}
+use Rattle.sc_compile.proofs.Common.{Export, GivesResults, Here, IsSome, IsWellTyped, List, Main, None, Option, Piece}
+use Rattle.sc_compile.proofs.Common.{ProgramTree, Proto, Reached, Roles, Some, State, Stopped, TacFnTree, TypedFunction}
+use Rattle.sc_compile.proofs.Common.{TypedSection, [], and_first, and_rest, ap, are_distinct, bodies, bytes_eq}
+use Rattle.sc_compile.proofs.Common.{crossing, export_at, false, first_at, found_passes, function_entered, functions_in}
 use Rattle.sc_compile.proofs.Common.{functions_or_none, import_name, is_some, keeps_meaning, lowered_function}
 use Rattle.sc_compile.proofs.Common.{lowered_program, lowered_section, main_fits, main_name, main_signature, main_so}
 use Rattle.sc_compile.proofs.Common.{map, named_so, of_section, option_map, option_value, own_names_differ}
 use Rattle.sc_compile.proofs.Common.{piece_without_line, place_named, refl, same_results, same_signature, same_types}
-use Rattle.sc_compile.proofs.Common.{signature_of, slice_get, subst, suc, sym, true, wrapping, zero, ℕ, ◌&&◌, ◌∙◌, ◌∷◌}
-use Rattle.sc_compile.proofs.Common.{◌≡◌}
+use Rattle.sc_compile.proofs.Common.{signature_of, slice_get, subst, suc, sym, true, wrapping, zero, ℕ, ◌∙◌, ◌∷◌, ◌≡◌}
 use Rattle.sc_core.specs.declared.ty.Ty.{Ty}
 use Rattle.sc_core.specs.declared.ty.Ty.TheVariants as ty
 use Rattle.sc_core.specs.declared.value.Value.{Value}
@@ -48,14 +47,6 @@ int_only (Some ty.Unsigned) h = cc h
 int_only (Some (ty.Struct n)) h = cc h
 int_only (Some (ty.Pointer stars base)) h = cc h
 int_only (Some (ty.Array stars base length)) h = cc h
-
-both_rest : (a b : Bool) → (a && b) ≡ true → b ≡ true
-both_rest true b h = h
-both_rest false b h = cc h
-
-both_first : (a b : Bool) → (a && b) ≡ true → a ≡ true
-both_first true b h = refl
-both_first false b h = cc h
 
 module _ (program : ProgramTree) (typed : IsWellTyped program) where
   -- a function of the code, with its source
@@ -105,7 +96,7 @@ module _ (program : ProgramTree) (typed : IsWellTyped program) where
       let same : fits.section ≡ section = cc in
       let any : main_fits (Some section) ≡ true = subst (λ o. main_fits o ≡ true) is (main_so program typed) in
       let names = map (import_name program.interfaces) fits.interface.imports in
-      let distinct = own_names_differ names fits.section.functions (both_first _ _ fits.faces) in
+      let distinct = own_names_differ names fits.section.functions (and_first _ _ fits.faces) in
       let signature = named_so main_name (λ f. same_signature (signature_of f) main_signature) section.functions
       (subst (λ (s : TypedSection). are_distinct (map {A = TypedFunction} (λ f. f.name) s.functions) ≡ true) same
       distinct) any number found.item found.is found.passes in (
@@ -113,7 +104,7 @@ module _ (program : ProgramTree) (typed : IsWellTyped program) where
         (
           found.is,
           int_only found.item.result
-              (both_rest (same_types (signature_of found.item).params []) _ signature),
+              (and_rest (same_types (signature_of found.item).params []) _ signature),
         ),
       )
 

@@ -12,17 +12,17 @@ use Rattle.sc_emit.proofs.Common.{everywhere, false, first_scratch, fold-TacStmt
 use Rattle.sc_emit.proofs.Common.{fork_keeps, frame_left, frame_taken, function_lines, has_known_jumps, has_no_ebreak}
 use Rattle.sc_emit.proofs.Common.{if◌then◌else◌, in_order, in_turn, int_le, is_branch, is_ebreak, is_known_jump}
 use Rattle.sc_emit.proofs.Common.{is_place, is_short, joined, jump_back, jump_over, keep, kept, leb-true, length}
-use Rattle.sc_emit.proofs.Common.{list_all, list_all-append, list_all-map, load_from, load_word, loading, loop_begins}
-use Rattle.sc_emit.proofs.Common.{lower_part, ltb-true, map, map-TacStmt, most_lines, most_params, moved_by, nat_le}
-use Rattle.sc_emit.proofs.Common.{nat_lt, neg_ℤ, negsuc, not, object_offset, object_read, op_code, operand, operation}
-use Rattle.sc_emit.proofs.Common.{order_keeps, pass, passes_few, past, place_of, place_of_global, plain, plainly, pos}
-use Rattle.sc_emit.proofs.Common.{put, ra, receive, refl, register_count, register_of, register_there, result_register}
-use Rattle.sc_emit.proofs.Common.{return, role_first, role_of_load, rules, second_operand, second_scratch, select}
-use Rattle.sc_emit.proofs.Common.{select_all, select_step, signed_of, skipping, slice_get, slot_offset, sp}
-use Rattle.sc_emit.proofs.Common.{stmt_branches, stmt_induction, store_arguments, store_to, store_word, straight}
-use Rattle.sc_emit.proofs.Common.{straightly, sub_word, subst, suc, sum_by-append, sym, take, take_second, taken, total}
-use Rattle.sc_emit.proofs.Common.{true, unary_code, upper_part, with_parts, word_of_constant, zero, ℕ, ℤ, ◌%◌, ◌&&◌}
-use Rattle.sc_emit.proofs.Common.{◌*◌, ◌++◌, ◌+◌, ◌<◌, ◌==◌, ◌^◌, ◌∙◌, ◌∷◌, ◌≡◌, ◌≤ℤ◌, ◌≤◌}
+use Rattle.sc_emit.proofs.Common.{list_all, list_all-append, list_all-map, list_all_along, load_from, load_word}
+use Rattle.sc_emit.proofs.Common.{loading, loop_begins, lower_part, ltb-true, map, map-TacStmt, most_lines, most_params}
+use Rattle.sc_emit.proofs.Common.{moved_by, nat_le, nat_lt, neg_ℤ, negsuc, not, object_offset, object_read, op_code}
+use Rattle.sc_emit.proofs.Common.{operand, operation, order_keeps, pass, passes_few, past, place_of, place_of_global}
+use Rattle.sc_emit.proofs.Common.{plain, plainly, pos, put, ra, receive, refl, register_count, register_of}
+use Rattle.sc_emit.proofs.Common.{register_there, result_register, return, role_first, role_of_load, rules}
+use Rattle.sc_emit.proofs.Common.{second_operand, second_scratch, select, select_all, select_step, signed_of, skipping}
+use Rattle.sc_emit.proofs.Common.{slice_get, slot_offset, sp, stmt_branches, stmt_induction, store_arguments, store_to}
+use Rattle.sc_emit.proofs.Common.{store_word, straight, straightly, sub_word, subst, suc, sum_by-append, sym, take}
+use Rattle.sc_emit.proofs.Common.{take_second, taken, total, true, unary_code, upper_part, with_parts, word_of_constant}
+use Rattle.sc_emit.proofs.Common.{zero, ℕ, ℤ, ◌%◌, ◌&&◌, ◌*◌, ◌++◌, ◌+◌, ◌<◌, ◌==◌, ◌^◌, ◌∙◌, ◌∷◌, ◌≡◌, ◌≤ℤ◌, ◌≤◌}
 use Rattle.sc_select.specs.Prelude.{Piece}
 use Rattle.std.proofs.lemmas.Int.{ints}
 use Rattle.rv_code.proofs.Numbers.{IsImmediate-signed}
@@ -38,13 +38,6 @@ use Rattle.sc_tac.specs.declared.stmt.TacStmt.TheOpen as tac
 pub all_append : {X : Type 0} (test : X → Bool) (xs ys : List X) → list_all test xs ≡ true → list_all test ys ≡ true →
     list_all test (xs ++ ys) ≡ true
 all_append test xs ys hx hy = list_all-append test xs ys ∙ and_from (list_all test xs) (list_all test ys) hx hy
-
-pub all_weaker : {X : Type 0} (strong weak : X → Bool) → ((x : X) → strong x ≡ true → weak x ≡ true) → (xs : List X) →
-    list_all strong xs ≡ true → list_all weak xs ≡ true
-all_weaker strong weak h [] hx = refl
-all_weaker strong weak h (x ∷ xs) hx =
-    and_from (weak x) (list_all weak xs) (h x (and_first (strong x) (list_all strong xs) hx))
-    (all_weaker strong weak h xs (and_rest (strong x) (list_all strong xs) hx))
 
 -- PIECES
 -- neither EBREAK nor a jump of another kind than functions have
@@ -359,7 +352,7 @@ module _ (test : Line → Bool) (mild : IsMild test) (frame : FrameTree) (places
 
   pub plainly_passes : (instrs : List Instr) → Straight instrs → list_all test (plainly instrs) ≡ true
   plainly_passes instrs h =
-      list_all-map test plain instrs ∙ all_weaker is_straight (λ i. test (plain i)) straight_mild instrs h
+      list_all-map test plain instrs ∙ list_all_along is_straight (λ i. test (plain i)) straight_mild instrs h
 
   choice_passes : (cond : ℕ) → list_all test (plainly (choice frame places cond)) ≡ true
   choice_passes cond =
@@ -367,7 +360,7 @@ module _ (test : Line → Bool) (mild : IsMild test) (frame : FrameTree) (places
       let branch : Instr = Branch Bne (operand frame places first_scratch cond) 0 (pos 8) in
       list_all-map test plain (instrs ++ branch ∷ []) ∙
       all_append (λ i. test (plain i)) instrs (branch ∷ [])
-      (all_weaker is_straight (λ i. test (plain i)) straight_mild instrs
+      (list_all_along is_straight (λ i. test (plain i)) straight_mild instrs
       (take_straight frame places first_scratch cond))
       (and_from (test (plain branch)) true (mild.mild branch refl) refl)
 
@@ -409,7 +402,7 @@ straight_shaped : (lines : List Line) → StraightLines lines → IsShaped 0 (st
 straight_shaped lines h = record {
   few = λ b c. omega (arith, straight_count lines h);
   sound = record {
-    passes = λ b c. all_weaker is_straight_line is_sound_line (λ line h. straight_sound line.instr h) lines h;
+    passes = λ b c. list_all_along is_straight_line is_sound_line (λ line h. straight_sound line.instr h) lines h;
   };
 }
 
@@ -605,13 +598,13 @@ all_sound f places frame =
 pub no_ebreak : (f : TacFnTree) (places : List Place) (frame : FrameTree) →
     has_no_ebreak (code_of f places frame) ≡ true
 no_ebreak f places frame =
-    all_weaker is_sound (λ i. not (is_ebreak i)) (λ i h. and_first (not (is_ebreak i)) (is_known_jump i) h)
+    list_all_along is_sound (λ i. not (is_ebreak i)) (λ i h. and_first (not (is_ebreak i)) (is_known_jump i) h)
     (code_of f places frame).instrs (all_sound f places frame)
 
 pub known_jumps : (f : TacFnTree) (places : List Place) (frame : FrameTree) →
     has_known_jumps (code_of f places frame) ≡ true
 known_jumps f places frame =
-    all_weaker is_sound is_known_jump (λ i h. and_rest (not (is_ebreak i)) (is_known_jump i) h)
+    list_all_along is_sound is_known_jump (λ i h. and_rest (not (is_ebreak i)) (is_known_jump i) h)
     (code_of f places frame).instrs (all_sound f places frame)
 
 -- FIELDS

@@ -13,8 +13,8 @@ pub use Rattle.std.proofs.lemmas.List.Sums.{sum_by-append}
 pub use Rattle.std.proofs.lemmas.Option.{same_Some, slice_get-get_or, slice_get_within}
 pub use Rattle.std.specs.List.{count_by, list_all, range_with_len}
 pub use Rattle.std.specs.Option.{unwrap_or}
-pub use Rattle.sc_base.proofs.Bools.{and_first, and_rest}
-pub use Rattle.sc_base.proofs.Lists.{all_at, is_there}
+pub use Rattle.sc_base.proofs.Bools.{and_first, and_rest, some_value}
+pub use Rattle.sc_base.proofs.Lists.{all_at, is_there, list_all_along}
 pub use Rattle.sc_event.specs.declared.row.Entry.{Entry}
 pub use Rattle.sc_event.specs.declared.row.Entry.TheVariants.{Export, Main}
 pub use Rattle.sc_word.proofs.Words.{word_of-lt, word_of-unsigned_sub}

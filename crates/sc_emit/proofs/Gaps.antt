@@ -1,7 +1,7 @@
 -- The code of a compartment has no gaps.
-use Rattle.sc_emit.proofs.Common.{Bool, CodeAt, HasNoGap, ImageParts, Instr, IsSome, List, None, Option, Running}
-use Rattle.sc_emit.proofs.Common.{Setting, Some, [], and_parts, arith, code_start, eq-eqb, false, if◌then◌else◌}
-use Rattle.sc_emit.proofs.Common.{is_there, le-leb, leb-true, length, nat_eq, nat_le, refl, slice_get, slice_get_within}
+use Rattle.sc_emit.proofs.Common.{Bool, CodeAt, HasNoGap, ImageParts, Instr, List, None, Option, Running, Setting, Some}
+use Rattle.sc_emit.proofs.Common.{[], and_parts, arith, code_start, eq-eqb, false, if◌then◌else◌, is_there, le-leb}
+use Rattle.sc_emit.proofs.Common.{leb-true, length, nat_eq, nat_le, refl, slice_get, slice_get_within, some_value}
 use Rattle.sc_emit.proofs.Common.{subst, suc, true, word_at, zero, ℕ, ◌%◌, ◌&&◌, ◌*◌, ◌+◌, ◌-◌, ◌/◌, ◌<◌, ◌∙◌, ◌∷◌, ◌≡◌}
 use Rattle.sc_emit.proofs.Common.{◌≤◌}
 use Rattle.sc_image.specs.Prelude.{code_of}
@@ -50,12 +50,8 @@ module _ (image : ImageParts) (c : ℕ) where
       let word = is_there (code_of image c) ((a - code_start c) / 4) (omega (arith, high.within, below)) in
       (word.0, at_place a aligned from ∙ word.1)
 
-is_some_of : (o : Option ℕ) → IsSome o → (v : ℕ) × (o ≡ Some v)
-is_some_of None h = cc h
-is_some_of (Some v) h = (v, refl)
-
 -- up to a word of code there is none
 pub no_gap : (T : Setting) (R : Running) (w : ℕ) → word_at T.image R.activation.here.comp R.last ≡ Some w → HasNoGap T R
 no_gap T R w end p a first above below aligned =
-    let v = is_some_of (word_at T.image R.activation.here.comp p) first in
+    let v = some_value (word_at T.image R.activation.here.comp p) first in
     between T.image R.activation.here.comp p a R.last v.0 w v.1 end above below aligned

@@ -6,9 +6,9 @@ use Rattle.sc_emit.proofs.Common.{closing, code_back_edges, code_of, cond, count
 use Rattle.sc_emit.proofs.Common.{environment_call, everywhere, false, first_scratch, fold-roll-TacStmt, fork}
 use Rattle.sc_emit.proofs.Common.{gives_place, if◌then◌else◌, in_turn, inl, inr, is_backward, is_empty, is_known_jump}
 use Rattle.sc_emit.proofs.Common.{is_read, joined, joins, jump_back, jump_over, leads_back, length, length-append}
-use Rattle.sc_emit.proofs.Common.{length-map, list_all, list_all-map, loads_it, loop_begins, loop_step, loops, lt-leb}
-use Rattle.sc_emit.proofs.Common.{map, map-TacStmt, map-append, neg_ℤ, not, object_read, operand, past, place_of}
-use Rattle.sc_emit.proofs.Common.{place_of_global, plain, plainly, pos, reading, receive, refl, role_first}
+use Rattle.sc_emit.proofs.Common.{length-map, list_all, list_all-map, list_all_along, loads_it, loop_begins, loop_step}
+use Rattle.sc_emit.proofs.Common.{loops, lt-leb, map, map-TacStmt, map-append, neg_ℤ, not, object_read, operand, past}
+use Rattle.sc_emit.proofs.Common.{place_of, place_of_global, plain, plainly, pos, reading, receive, refl, role_first}
 use Rattle.sc_emit.proofs.Common.{role_of_load, row_is_sized, select, select_all, select_step, skipping, stmt_induction}
 use Rattle.sc_emit.proofs.Common.{stmt_loops, straight as lines_of, straightly, subst, suc, sum_by-append, sym, take}
 use Rattle.sc_emit.proofs.Common.{true, word_of_constant, zero, ℕ, ⊎_elim, ◌&&◌, ◌*◌, ◌++◌, ◌+◌, ◌==◌, ◌∙◌, ◌∷◌, ◌≡◌}
@@ -19,7 +19,7 @@ use Rattle.sc_emit.specs.Layout.{repeating}
 unfoldable use Rattle.sc_tac.specs.declared.stmt.TacStmt.{roll-TacStmt}
 use Rattle.sc_tac.specs.declared.stmt.TacStmt.TheOpen as tac
 use Rattle.sc_tac.specs.declared.stmt.TacStmt.TheVariants as emit
-use Rattle.sc_emit.proofs.Branches.{Straight, StraightLines, all_append, all_weaker, closing_straight, copied_straight}
+use Rattle.sc_emit.proofs.Branches.{Straight, StraightLines, all_append, closing_straight, copied_straight}
 use Rattle.sc_emit.proofs.Branches.{cross_straight, entrance_straight, global_straight, is_straight, is_straight_line}
 use Rattle.sc_emit.proofs.Branches.{load_from_straight, loaded_straight, object_read_straight, object_straight}
 use Rattle.sc_emit.proofs.Branches.{operation_straight, output_straight, own_straight, plainly_straight}
@@ -40,7 +40,7 @@ straight_on _ h = refl
 
 lines_on : (lines : List Line) → StraightLines lines → LeadOn (instrs_of lines)
 lines_on lines h = list_all-map leads_on (λ line. line.instr) lines ∙
-    all_weaker is_straight_line (λ line. leads_on line.instr) (λ line h. straight_on line.instr h) lines h
+    list_all_along is_straight_line (λ line. leads_on line.instr) (λ line h. straight_on line.instr h) lines h
 
 both_on : (xs ys : List Instr) → LeadOn xs → LeadOn ys → LeadOn (xs ++ ys)
 both_on xs ys hx hy = all_append leads_on xs ys hx hy
@@ -168,7 +168,7 @@ module _ (frame : FrameTree) (places : List Place) where
       list_all-map leads_on (λ line. line.instr) (plainly (choice frame places cond)) ∙
       list_all-map (λ line. leads_on line.instr) plain (choice frame places cond) ∙
       all_append leads_on before (branch ∷ [])
-      (all_weaker is_straight leads_on straight_on before (take_straight frame places first_scratch cond)) refl
+      (list_all_along is_straight leads_on straight_on before (take_straight frame places first_scratch cond)) refl
 
   past_on : (lines : ℕ) → LeadOn (instrs_of (past lines))
   past_on zero = refl

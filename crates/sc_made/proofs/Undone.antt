@@ -19,22 +19,7 @@ use Rattle.sc_performers.proofs.BareKinds.{IsFor, IsLeaf, for_kind, kind_of_laye
 use Rattle.sc_made.proofs.Shapes.{AreCalls, AreExports, AreFunctions, AreImports, AreMade, AreProtos, AreWorkers}
 use Rattle.sc_made.proofs.Shapes.{IsMain, IsWorker, and_export, and_function, and_import, and_proto, and_worker, calls}
 use Rattle.sc_made.proofs.Shapes.{ends, no_exports, no_functions, no_imports, no_protos, no_workers}
-
--- Lists that begin alike.
-
-abbrev head_or : {A : Type 0} → A → List A → A
-head_or x [] = x
-head_or x (y ∷ ys) = y
-
-abbrev tail_of : {A : Type 0} → List A → List A
-tail_of [] = []
-tail_of (y ∷ ys) = ys
-
-heads_same : {A : Type 0} (x y : A) (xs ys : List A) → x ∷ xs ≡ y ∷ ys → x ≡ y
-heads_same x y xs ys h = ap (head_or x) h
-
-tails_same : {A : Type 0} (x y : A) (xs ys : List A) → x ∷ xs ≡ y ∷ ys → xs ≡ ys
-tails_same x y xs ys h = ap tail_of h
+use Rattle.sc_performers.proofs.Undone.{heads_same, tails_same}
 
 -- Statements.
 

@@ -33,10 +33,10 @@ abbrev tail_of : {A : Type 0} → List A → List A
 tail_of [] = []
 tail_of (y ∷ ys) = ys
 
-heads_same : {A : Type 0} (x y : A) (xs ys : List A) → x ∷ xs ≡ y ∷ ys → x ≡ y
+pub heads_same : {A : Type 0} (x y : A) (xs ys : List A) → x ∷ xs ≡ y ∷ ys → x ≡ y
 heads_same x y xs ys h = ap (head_or x) h
 
-tails_same : {A : Type 0} (x y : A) (xs ys : List A) → x ∷ xs ≡ y ∷ ys → xs ≡ ys
+pub tails_same : {A : Type 0} (x y : A) (xs ys : List A) → x ∷ xs ≡ y ∷ ys → xs ≡ ys
 tails_same x y xs ys h = ap tail_of h
 
 -- Statements.

@@ -14,6 +14,7 @@ use Rattle.sc_ast.specs.declared.expr.ExprTree as exprs
 use Rattle.sc_ast.specs.declared.expr.ExprTree.TheVariants as expr
 use Rattle.sc_print.proofs.Tables as tables
 use Rattle.sc_reread.proofs.Nesting.{Nested, nested_none, nested_even, nested_blank, even_literal, Even}
+use Rattle.sc_expr.proofs.Heights.{literal_height}
 
 -- an expression that is printed as this text, with few brackets
 pub record IsExpr (e : ExprTree) (text : List ℕ) : Type 0 where
@@ -32,15 +33,12 @@ literal_words n = search (rules, exprs.the_lemmas)
 literal_kept : (n : Number) → fits n ≡ true → is_kept (expr.Literal n) ≡ true
 literal_kept n k = search (rules, exprs.the_lemmas, k)
 
-literal_low : (n : Number) → expr_height (expr.Literal n) ≡ 1
-literal_low n = search (rules, exprs.the_lemmas)
-
 pub literal_is : (n : Number) → fits n ≡ true → IsExpr (expr.Literal n) (literal_text n)
 literal_is n k = record {
   kept = literal_kept n k;
   spelled = ap text_of (literal_words n) ∙ append-nil (literal_text n);
   nested = subst (λ ps. Nested 0 ps) (sym (literal_words n)) (nested_even (even_literal n k) nested_none);
-  low = omega (arith, literal_low n);
+  low = omega (arith, literal_height n);
 }
 
 -- a literal with a sign

@@ -16,6 +16,7 @@ use Rattle.std.proofs.lemmas.List.Elements.{All-cons, All-nil, All-weaker}
 use Rattle.std.proofs.lemmas.List.Kept.{AllPairs-cons}
 use Rattle.sc_tac.specs.declared.stmt.TacStmt.TheOpen as tac
 use Rattle.sc_select.proofs.Joining.{fork_keeps, order_keeps}
+use Rattle.std.proofs.lemmas.Bool.{and_from}
 
 -- the instruction of the first line
 abbrev first_of : List Line → Option Instr
@@ -35,11 +36,6 @@ abbrev all_complete : List Line → Bool
 all_complete [] = true
 all_complete (line ∷ lines) = completes line.target line.instr (first_of lines) && all_complete lines
 
-both : (a b : Bool) → a ≡ true → b ≡ true → (a && b) ≡ true
-both true true h k = refl
-both true false h k = k
-both false b h k = h
-
 -- what stands behind lines that are complete changes nothing
 completes_before : (target : Option Target) (instr : Instr) (lines more : List Line) →
     completes target instr (first_of lines) ≡ true → completes target instr (first_of (lines ++ more)) ≡ true
@@ -55,7 +51,7 @@ joined (line ∷ xs) ys h k =
     let here : completes line.target line.instr (first_of xs) ≡ true =
     and_first (completes line.target line.instr (first_of xs)) (all_complete xs) h in
     let rest : all_complete xs ≡ true = and_rest (completes line.target line.instr (first_of xs)) (all_complete xs) h in
-    both _ _ (completes_before line.target line.instr xs ys here) (joined xs ys rest k)
+    and_from _ _ (completes_before line.target line.instr xs ys here) (joined xs ys rest k)
 
 plain_complete : (instrs : List Instr) → all_complete (plainly instrs) ≡ true
 plain_complete [] = refl
@@ -84,7 +80,7 @@ module _ (frame : FrameTree) (places : List Place) where
   global_complete : (dest global : ℕ) → all_complete (place_of_global frame places dest global) ≡ true
   global_complete dest global =
       let rd : ℕ = result_register frame places dest in
-      both _ _ (eq-eqb rd rd refl) (plain_complete (keep frame places dest))
+      and_from _ _ (eq-eqb rd rd refl) (plain_complete (keep frame places dest))
 
   own_complete : (dest : Option ℕ) (function : ℕ) (args : List ℕ) →
       all_complete (call_own frame places dest function args) ≡ true

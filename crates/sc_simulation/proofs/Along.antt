@@ -4,18 +4,13 @@ use Rattle.sc_simulation.proofs.Common.{List, None, Option, Out, Outcome, Ret, S
 use Rattle.sc_simulation.proofs.Common.{front_long, front_more, front_same, goes_adds, goes_one, has_no_end, is_end}
 use Rattle.sc_simulation.proofs.Common.{is_ended, le-leb, leb-false, leb-true, length, list_any, nat_le, not}
 use Rattle.sc_simulation.proofs.Common.{not_stopped, option_map_or, refl, run, run_goes, run_out, run_stopped}
-use Rattle.sc_simulation.proofs.Common.{run_traps, slice_get, step, stopped, subst, suc, suc-add, sym, take}
-use Rattle.sc_simulation.proofs.Common.{take_fronts, then_on, true, walk, walk_adds, zero, zero-add, ℕ, ◌++◌, ◌+◌, ◌-◌}
-use Rattle.sc_simulation.proofs.Common.{◌<◌, ◌||◌, ◌∙◌, ◌∷◌, ◌≡◌, ◌≤◌}
+use Rattle.sc_simulation.proofs.Common.{run_traps, slice_get, step, stopped, subst, suc, suc-add, sym, take, take_all}
+use Rattle.sc_simulation.proofs.Common.{take_front as take_exactly, take_fronts, then_on, true, walk, walk_adds, zero}
+use Rattle.sc_simulation.proofs.Common.{zero-add, ℕ, ◌++◌, ◌+◌, ◌-◌, ◌<◌, ◌||◌, ◌∙◌, ◌∷◌, ◌≡◌, ◌≤◌}
 use Rattle.sc_image.specs.Prelude.{State, is_end as ends}
 use Rattle.sc_base.specs.declared.stop.Stop.TheVariants.{EventsOut}
 
 -- LISTS
-
-take_exactly : {A : Type 0} (xs more : List A) → take (length xs) (xs ++ more) ≡ xs
-take_exactly [] [] = refl
-take_exactly [] (y ∷ more) = refl
-take_exactly (x ∷ xs) more = ap (λ ys. x ∷ ys) (take_exactly xs more)
 
 -- a front that is as long as this
 pub take_front : {A : Type 0} (n : ℕ) (xs ys : List A) → Front xs ys → length xs ≡ n → take n ys ≡ xs
@@ -25,12 +20,7 @@ take_front n xs ys front long =
 -- and one that is no longer
 pub front_taken : {A : Type 0} (n : ℕ) (xs ys : List A) → Front xs ys → length xs ≤ n → Front xs (take n ys)
 front_taken n xs ys front short =
-    subst (λ zs. Front zs (take n ys)) (take_short n xs short) (take_fronts n n xs ys (omega arith) front) where
-      take_short : {A : Type 0} (n : ℕ) (xs : List A) → length xs ≤ n → take n xs ≡ xs
-      take_short zero [] h = refl
-      take_short zero (x ∷ xs) h = absurd (omega (arith, h))
-      take_short (suc n) [] h = refl
-      take_short (suc n) (x ∷ xs) h = ap (λ ys. x ∷ ys) (take_short n xs (omega (arith, h)))
+    subst (λ zs. Front zs (take n ys)) (take_all n xs short) (take_fronts n n xs ys (omega arith) front)
 
 -- NO END
 

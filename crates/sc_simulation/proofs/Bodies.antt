@@ -8,10 +8,10 @@ use Rattle.sc_simulation.proofs.Common.{PerformersFollow, Piece, Ptr, Reached, R
 use Rattle.sc_simulation.proofs.Common.{Standpoint, State as Meant, TacFnTree, TacTree, Value, Word, [], and_parts}
 use Rattle.sc_simulation.proofs.Common.{and_then, ap, arith, begun, bodies, called, calls_of, code_function}
 use Rattle.sc_simulation.proofs.Common.{code_library, done, eqb-true, false, found, functions_in, gives, if◌then◌else◌}
-use Rattle.sc_simulation.proofs.Common.{imports, inl, is_output, length, machine, may_call, nat_lt, not, own_call_fits}
-use Rattle.sc_simulation.proofs.Common.{passes_words, performs, ran, refl, rows_left, run_step, setting, slice_get, sp}
-use Rattle.sc_simulation.proofs.Common.{stay, subst, suc, sym, true, wrapping, zero, ℕ, ◌+◌, ◌==◌, ◌||◌, ◌∙◌, ◌∷◌, ◌≡◌}
-use Rattle.sc_simulation.proofs.Common.{◌⊎◌}
+use Rattle.sc_simulation.proofs.Common.{imports, inl, is_output, length, machine, may_call, nat_lt, not, or_parts}
+use Rattle.sc_simulation.proofs.Common.{own_call_fits, passes_words, performs, ran, refl, rows_left, run_step, setting}
+use Rattle.sc_simulation.proofs.Common.{slice_get, sp, stay, subst, suc, sym, true, wrapping, zero, ℕ, ◌+◌, ◌==◌, ◌∙◌}
+use Rattle.sc_simulation.proofs.Common.{◌∷◌, ◌≡◌, ◌⊎◌}
 use Rattle.sc_simulation.proofs.Answering.{answers, calls_only_go, own_is}
 use Rattle.sc_simulation.proofs.CrossCalls.{cross_follows}
 use Rattle.sc_simulation.proofs.Environment.{input_comes, output_comes}
@@ -23,10 +23,6 @@ use Rattle.sc_simulation.proofs.Turning.{CallComes, where_made, where_turns}
 not_true : (b : Bool) → not b ≡ true → b ≡ false
 not_true true h = cc h
 not_true false h = refl
-
-first_false : (a b : Bool) → (a || b) ≡ false → a ≡ false
-first_false true b h = cc h
-first_false false b h = refl
 
 -- an own function that may be called with so many arguments
 record IsOwn (program : TacTree) (comp number count : ℕ) : Type 0 where
@@ -60,7 +56,7 @@ module _ (program : TacTree) (image : ImageParts) (inputs : List ℕ) (roles : R
   library = code_library wrapping program
 
   not_scripted : (k : ℕ) → T.performs k ≡ false → roles.scripted k ≡ false
-  not_scripted k h = first_false (roles.scripted k) (not (nat_lt k (length image.comps))) h
+  not_scripted k h = (or_parts (roles.scripted k) (not (nat_lt k (length image.comps))) h).0
 
   module _ (n : ℕ) (runs : BodiesFollow program roles T n) (perform : PerformersFollow program roles T n) where
     module _ (P : Standpoint) (x : Joint) (args : List Value) (honest : T.performs P.comp ≡ false)

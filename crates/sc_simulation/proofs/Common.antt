@@ -3,17 +3,17 @@ pub use Rattle.std.proofs.Common.{All, Bool, IsSome, List, None, Option, Some, [
 pub use Rattle.std.proofs.Common.{arith, cond, drop, eq-eqb, eqb-true, false, filter, get_or-set_other, get_or-set_same}
 pub use Rattle.std.proofs.Common.{if◌then◌else◌, inl, inr, is_some, le-leb, leb-false, leb-true, length, length-append}
 pub use Rattle.std.proofs.Common.{lt-ltb, ltb-false, ltb-true, map, nat_le, nat_lt, ne_eqb, not, pos, refl, slice_get}
-pub use Rattle.std.proofs.Common.{slice_index, slice_index_or, slice_set, subst, suc, sym, take, take-append-drop}
-pub use Rattle.std.proofs.Common.{take_all, true, zero, zero-add, ℕ, ℤ, ⊎_elim, ◌%◌, ◌&&◌, ◌*◌, ◌++◌, ◌+◌, ◌-◌, ◌/◌}
-pub use Rattle.std.proofs.Common.{◌<◌, ◌==◌, ◌^◌, ◌||◌, ◌∙◌, ◌∷◌, ◌≡◌, ◌≢◌, ◌≤◌, ◌⊎◌}
+pub use Rattle.std.proofs.Common.{slice_index, slice_index_or, slice_set, subst, suc, sym, take, take-append-drop, true}
+pub use Rattle.std.proofs.Common.{zero, zero-add, ℕ, ℤ, ⊎_elim, ◌%◌, ◌&&◌, ◌*◌, ◌++◌, ◌+◌, ◌-◌, ◌/◌, ◌<◌, ◌==◌, ◌^◌}
+pub use Rattle.std.proofs.Common.{◌||◌, ◌∙◌, ◌∷◌, ◌≡◌, ◌≢◌, ◌≤◌, ◌⊎◌}
 pub use Rattle.std.proofs.Math.Nat.{suc-add}
-pub use Rattle.std.proofs.lemmas.Bool.{and_from, and_parts, cases_eq, cases_lt, false≢true, lt-leb}
+pub use Rattle.std.proofs.lemmas.Bool.{and_from, and_parts, cases_eq, cases_lt, false≢true, lt-leb, or_parts}
 pub use Rattle.std.proofs.lemmas.List.{drop_all, length-map, length_push}
 pub use Rattle.std.proofs.lemmas.List.Quantifiers.{position-Some}
 pub use Rattle.std.proofs.lemmas.Option.{get_or_from_slice_get, same_Some, slice_get-map, slice_get_within}
 pub use Rattle.std.specs.List.{list_all, list_any, position}
 pub use Rattle.std.specs.Option.{option_and_then, option_map, option_map_or}
-pub use Rattle.sc_base.proofs.Lists.{is_there, position-cons}
+pub use Rattle.sc_base.proofs.Lists.{drop_next, is_there, position-cons, take_all, take_front}
 pub use Rattle.sc_base.specs.declared.stop.Stop.{Stop}
 pub use Rattle.sc_event.specs.Prelude.{Activation, Standing, action_of, at_start, comp_at, count_of, export_at, imports}
 pub use Rattle.sc_event.specs.Prelude.{is_allowed, is_end, is_function, is_legal_from, is_output, legal, may_perform}
@@ -39,9 +39,9 @@ pub use Rattle.sc_core.specs.declared.value.Value.TheVariants.{Null, Ptr}
 pub use Rattle.sc_laws.proofs.Growing.{BodyGoes, asks_is, back_goes, calls_go, done_goes, earlier, front_more}
 pub use Rattle.sc_laws.proofs.Growing.{front_same, own_goes, then_then, within_goes}
 pub use Rattle.sc_laws.proofs.Matching.{run_goes_on, scripted_goes_on}
-pub use Rattle.sc_laws.proofs.Rooms.{deepest_is_reached, keeps_rooms}
+pub use Rattle.sc_laws.proofs.Rooms.{before_more, deepest_is_reached, keeps_rooms}
 pub use Rattle.sc_laws.proofs.Rows.{Next, row_of_next, rows_behind, stands_last}
-pub use Rattle.sc_laws.proofs.Runs.{front_long, take_fronts, trace_is}
+pub use Rattle.sc_laws.proofs.Runs.{frames_are, front_long, take_fronts, trace_is}
 pub use Rattle.sc_laws.proofs.Scripts.{allowed_at, spends_along}
 pub use Rattle.sc_laws.specs.Prelude.{AgreesInRoom, AgreesUntilBlame, AllBefore, AllFrom, ExportsLead, Gone, RunsAgree}
 pub use Rattle.sc_laws.specs.Prelude.{RunsUntilBlame, StopsSpent, blamed, blamed_run, has_no_end, last, main_call}

@@ -1,12 +1,13 @@
 -- What passes between compartments at a call and at its return.
 use Rattle.sc_simulation.proofs.Common.{ArePassed, Bool, GivenBack, List, None, Null, Option, Ptr, Registers, Scalar}
 use Rattle.sc_simulation.proofs.Common.{Setting, Some, StandsFor, Value, Word, [], a0, and_parts, ap, ap₂, arguments}
-use Rattle.sc_simulation.proofs.Common.{arith, cleared_for_call, cleared_for_return, crossed, false, gate}
-use Rattle.sc_simulation.proofs.Common.{if◌then◌else◌, is_argument, is_result, is_some, is_word, kept, kept_from}
-use Rattle.sc_simulation.proofs.Common.{le-leb, length, list_all, listed, lt-ltb, map, option_map, option_value, put}
-use Rattle.sc_simulation.proofs.Common.{put_here, put_there, ra, refl, same_Some, slice_get, slice_get-map}
-use Rattle.sc_simulation.proofs.Common.{slice_get_within, sp, subst, suc, sym, take, true, word_back, word_in}
-use Rattle.sc_simulation.proofs.Common.{words_from, write_listed, written, zero, ℕ, ◌+◌, ◌<◌, ◌^◌, ◌∙◌, ◌∷◌, ◌≡◌, ◌≤◌}
+use Rattle.sc_simulation.proofs.Common.{arith, cleared_for_call, cleared_for_return, crossed, gate, if◌then◌else◌}
+use Rattle.sc_simulation.proofs.Common.{is_argument, is_result, is_some, is_word, kept, kept_from, le-leb, length}
+use Rattle.sc_simulation.proofs.Common.{list_all, listed, lt-ltb, map, option_map, option_value, put, put_here}
+use Rattle.sc_simulation.proofs.Common.{put_there, ra, refl, same_Some, slice_get, slice_get-map, slice_get_within, sp}
+use Rattle.sc_simulation.proofs.Common.{subst, suc, sym, take, true, word_back, word_in, words_from, write_listed}
+use Rattle.sc_simulation.proofs.Common.{written, zero, ℕ, ◌+◌, ◌<◌, ◌^◌, ◌∙◌, ◌∷◌, ◌≡◌, ◌≤◌}
+use Rattle.sc_image.proofs.Words.{if_zero}
 
 -- Registers of which some are kept.
 
@@ -19,12 +20,8 @@ kept_words keeps zero first regs = refl
 kept_words keeps (suc count) first regs = ap (λ xs. kept_ones keeps regs first ∷ xs)
     (kept_words keeps count (suc first) regs)
 
-zero_if : (b : Bool) → ◌≡◌ {A = ℕ} (if b then 0 else 0) 0
-zero_if true = refl
-zero_if false = refl
-
 kept_listed : (keeps : ℕ → Bool) (regs : Registers) → kept keeps (listed regs) ≡ listed (kept_ones keeps regs)
-kept_listed keeps regs = ap₂ (λ x xs. x ∷ xs) (zero_if (keeps 0)) (kept_words keeps 31 1 regs)
+kept_listed keeps regs = ap₂ (λ x xs. x ∷ xs) (if_zero (keeps 0)) (kept_words keeps 31 1 regs)
 
 -- those with which a function of another compartment begins, and those with which its caller goes on
 abbrev pub called_regs : (params low : ℕ) → Registers → Registers

@@ -1,10 +1,10 @@
 -- Calls of the environment.
 use Rattle.sc_simulation.proofs.Common.{All, ComesBack, Ecall, Fetches, In, Input, IsAt, IsWellFormed, IsWord, Joint}
 use Rattle.sc_simulation.proofs.Common.{List, None, Out, Output, Setting, Settled, Some, Standpoint, StandsFor, Walks}
-use Rattle.sc_simulation.proofs.Common.{Word, [], a0, a7, ap, arith, came_by, drop, input_at, listed, machine}
-use Rattle.sc_simulation.proofs.Common.{may_input, may_output, next_input, put, put_here, put_there, read_input}
-use Rattle.sc_simulation.proofs.Common.{read_listed, refl, sp, steps_tell, subst, suc, sym, tell, true, walks_steady}
-use Rattle.sc_simulation.proofs.Common.{write_listed, written, zero, ℕ, ◌++◌, ◌+◌, ◌∙◌, ◌∷◌, ◌≡◌}
+use Rattle.sc_simulation.proofs.Common.{Word, [], a0, a7, ap, arith, came_by, drop, drop_next, input_at, listed}
+use Rattle.sc_simulation.proofs.Common.{machine, may_input, may_output, next_input, put, put_here, put_there}
+use Rattle.sc_simulation.proofs.Common.{read_input, read_listed, refl, sp, steps_tell, subst, suc, sym, tell, true}
+use Rattle.sc_simulation.proofs.Common.{walks_steady, write_listed, written, zero, ℕ, ◌++◌, ◌+◌, ◌∙◌, ◌∷◌, ◌≡◌}
 use Rattle.sc_image.specs.Prelude.{State}
 use Rattle.sc_simulation.proofs.Turning.{before_told}
 
@@ -15,12 +15,6 @@ next_at [] zero = refl
 next_at [] (suc k) = refl
 next_at (w ∷ inputs) zero = refl
 next_at (w ∷ inputs) (suc k) = next_at inputs k
-
-pub drop_next : (inputs : List ℕ) (k : ℕ) → drop 1 (drop k inputs) ≡ drop (suc k) inputs
-drop_next [] zero = refl
-drop_next [] (suc k) = refl
-drop_next (w ∷ inputs) zero = refl
-drop_next (w ∷ inputs) (suc k) = drop_next inputs k
 
 module _ (T : Setting) (formed : IsWellFormed T.image) (inputs : All IsWord T.inputs) (P : Standpoint) (x : Joint)
     (settled : Settled T P x) (asks : Fetches T.image P.comp x.pc Ecall) where

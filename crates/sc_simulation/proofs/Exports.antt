@@ -1,11 +1,10 @@
 -- Each export of a program of code leads to a function.
-use Rattle.sc_simulation.proofs.Common.{Bool, Export, ExportsLead, Interface, IsProgram, List, None, Option, Proto}
-use Rattle.sc_simulation.proofs.Common.{Some, TacFnTree, TacSection, TacTree, [], and_parts, ap, are_headed, arith}
-use Rattle.sc_simulation.proofs.Common.{code_library, comp_at, count, eqb-true, export_at, exports_entered, false}
-use Rattle.sc_simulation.proofs.Common.{false≢true, function_entered, functions_in, functions_or_none, is_entered}
-use Rattle.sc_simulation.proofs.Common.{is_some, leads, length, option_and_then, option_map_or, refl, same_entry}
-use Rattle.sc_simulation.proofs.Common.{slice_get, slice_get_within, subst, suc, true, wrapping, zero, ℕ, ◌+◌, ◌<◌}
-use Rattle.sc_simulation.proofs.Common.{◌==◌, ◌∙◌, ◌∷◌, ◌≡◌}
+use Rattle.sc_simulation.proofs.Common.{Bool, Export, ExportsLead, Interface, IsProgram, None, Option, Proto, Some}
+use Rattle.sc_simulation.proofs.Common.{TacFnTree, TacSection, TacTree, and_parts, ap, are_headed, arith, code_library}
+use Rattle.sc_simulation.proofs.Common.{comp_at, count, eqb-true, export_at, exports_entered, false, false≢true}
+use Rattle.sc_simulation.proofs.Common.{function_entered, functions_in, functions_or_none, is_entered, is_some}
+use Rattle.sc_simulation.proofs.Common.{is_there, leads, length, option_and_then, option_map_or, refl, same_entry}
+use Rattle.sc_simulation.proofs.Common.{slice_get, slice_get_within, subst, true, wrapping, ℕ, ◌+◌, ◌==◌, ◌∙◌, ◌≡◌}
 use Rattle.sc_simulation.proofs.Sections.{entered_of, function_found, numbered_at}
 use Rattle.sc_simulation.proofs.Start.{IsFirst, first_of}
 
@@ -18,11 +17,6 @@ looked_up : {A B : Type 0} (f : A → Option B) (o : Option A) (y : B) → optio
     (x : A) × (o ≡ Some x)
 looked_up f None y h = absurd (cc)
 looked_up f (Some x) y h = (x, refl)
-
-within : {A : Type 0} (xs : List A) (k : ℕ) → k < length xs → (x : A) × (slice_get xs k ≡ Some x)
-within [] k h = absurd (omega (arith, h))
-within (x ∷ xs) zero h = (x, refl)
-within (x ∷ xs) (suc k) h = within xs k (omega (arith, h))
 
 module _ (program : TacTree) (rules : IsProgram program) where
   -- the function of an export
@@ -52,7 +46,7 @@ module _ (program : TacTree) (rules : IsProgram program) where
   exported to index proto export =
       let interface = looked_up (λ (found : Interface). slice_get found.exports index)
       (comp_at program.interfaces to) proto export in
-      let section = within program.sections to
+      let section = is_there program.sections to
       (omega (arith, rules.sections, slice_get_within program.interfaces.comps to interface.0 interface.1)) in
       let same : 0 + to ≡ to = omega arith in
       let entered : exports_entered (comp_at program.interfaces to) section.0 ≡ true =

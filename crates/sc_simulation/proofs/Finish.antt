@@ -6,11 +6,12 @@ use Rattle.sc_simulation.proofs.Common.{Reaches, RunEnd, Setting, Shows, Some, S
 use Rattle.sc_simulation.proofs.Common.{Stopped, StopsSpent, TacFnTree, TacTree, TurnsOut, Value, Walks, Word, []}
 use Rattle.sc_simulation.proofs.Common.{and_then, ap, ap₂, arith, begun, bodies, call_own, code_function, code_globals}
 use Rattle.sc_simulation.proofs.Common.{code_library, code_obeys, code_run, done, exit_word, finishes, found}
-use Rattle.sc_simulation.proofs.Common.{front_more, front_same, function_entered, functions_in, gate, has_no_end, inl}
-use Rattle.sc_simulation.proofs.Common.{inr, is_full, is_some, jalr_target, keeps_rooms, last, leads, length, lt-ltb}
-use Rattle.sc_simulation.proofs.Common.{machine, main_call, nobody, own_goes, pos, ran, refl, reg, run_goes_on}
-use Rattle.sc_simulation.proofs.Common.{run_step, run_to, setting, slice_get, stands, steps_tell, subst, suc, sym, true}
-use Rattle.sc_simulation.proofs.Common.{within, within_goes, wrapping, ℕ, ◌*◌, ◌++◌, ◌+◌, ◌<◌, ◌∙◌, ◌∷◌, ◌≡◌, ◌≤◌, ◌⊎◌}
+use Rattle.sc_simulation.proofs.Common.{frames_are, front_more, front_same, function_entered, functions_in, gate}
+use Rattle.sc_simulation.proofs.Common.{has_no_end, inl, inr, is_full, is_some, jalr_target, keeps_rooms, last, leads}
+use Rattle.sc_simulation.proofs.Common.{length, lt-ltb, machine, main_call, nobody, own_goes, pos, ran, refl, reg}
+use Rattle.sc_simulation.proofs.Common.{run_goes_on, run_step, run_to, setting, slice_get, stands, steps_tell, subst}
+use Rattle.sc_simulation.proofs.Common.{suc, sym, true, within, within_goes, wrapping, ℕ, ◌*◌, ◌++◌, ◌+◌, ◌<◌, ◌∙◌, ◌∷◌}
+use Rattle.sc_simulation.proofs.Common.{◌≡◌, ◌≤◌, ◌⊎◌}
 use Rattle.sc_image.specs.Prelude.{State, a0, ra}
 use Rattle.sc_simulation.specs.Prelude.{Outcome}
 use Rattle.sc_laws.proofs.Turns.{spends_turns}
@@ -40,10 +41,6 @@ within_bound turn_pays turns steps left rest budget less most =
 pub run_front : (main : ℕ) (piece : Piece (Option Value)) → Front (last piece).trace (run_to main piece).behaviour.trace
 run_front main (Reached v s) = record { more = End main (exit_word v) ∷ []; is = refl }
 run_front main (Stopped end s) = front_same s.trace
-
-run_frames : (main : ℕ) (piece : Piece (Option Value)) → (run_to main piece).frames ≡ (last piece).frames
-run_frames main (Reached v s) = refl
-run_frames main (Stopped end s) = refl
 
 -- a0 has the word that `main` gives
 pub word_given : (T : Setting) (place : ℕ → Option ℕ) (a : ℕ) (v : Option Value) (w : ℕ) → v ≡ Some (Word w) →
@@ -207,7 +204,7 @@ module _ (program : TacTree) (image : ImageParts) (turn_pays : ℕ) (built : IsB
       trace = front_more over.reached.trace (last whole).trace (run_to main whole).behaviour.trace shows_front
           (run_front main whole);
       frames = over.begun.frames;
-      front = record { more = over.grown.frames.more; is = run_frames main whole ∙ over.grown.frames.is };
+      front = record { more = over.grown.frames.more; is = frames_are main whole ∙ over.grown.frames.is };
       before = subst (λ (t : List Event). AllBefore (suc (length t)) over.begun.frames) (sym over.trace) over.told;
       behind = subst (λ (t : List Event). AllFrom (length t) over.grown.frames.more) (sym over.trace) over.grown.late;
       deep = over.deep;

@@ -1,16 +1,13 @@
 -- Calls of functions of the own compartment.
 use Rattle.sc_simulation.proofs.Common.{All, ArePassed, Begins, CallGives, ComesBack, Fetches, Function, FunctionGives}
-use Rattle.sc_simulation.proofs.Common.{IsBase, IsInside, IsLeft, IsSome, IsWellFormed, IsWord, Jal, Joint, List, None}
+use Rattle.sc_simulation.proofs.Common.{IsBase, IsInside, IsLeft, IsSome, IsWellFormed, IsWord, Jal, Joint, List}
 use Rattle.sc_simulation.proofs.Common.{Option, Overflows, Own, Piece, Reached, Setting, Settled, Some, Standpoint}
 use Rattle.sc_simulation.proofs.Common.{StandsFor, State as Meant, Stopped, Value, Walks, a0, add_word, ap, arith}
 use Rattle.sc_simulation.proofs.Common.{came_by, code_inside, false, inl, inr, jal, jalr, jalr_target, machine, pos}
 use Rattle.sc_simulation.proofs.Common.{put, put_here, put_there, ra, refl, sp, subst, suc, sym, then_go, walks_steady}
 use Rattle.sc_simulation.proofs.Common.{word_at, word_of, ℕ, ℤ, ⊎_elim, ◌%◌, ◌*◌, ◌+◌, ◌/◌, ◌<◌, ◌^◌, ◌∙◌, ◌≡◌, ◌⊎◌}
 use Rattle.sc_simulation.proofs.Turning.{GoesIn, turned, shows_in, overflows_in, costs_back}
-
-is_some_of : (o : Option ℕ) → IsSome o → (v : ℕ) × (o ≡ Some v)
-is_some_of None h = cc h
-is_some_of (Some v) h = (v, refl)
+use Rattle.sc_base.proofs.Bools.{some_value}
 
 pub back_to : (base a : ℕ) → base ≡ a → a < 2 ^ 32 → a % 2 ≡ 0 → jalr_target base (pos 0) ≡ a
 back_to base a is below even =
@@ -77,7 +74,7 @@ module _ (T : Setting) (formed : IsWellFormed T.image) (inputs : All IsWord T.in
         z = record g.y { pc = x.pc + 4 }
 
         word_behind : (w : ℕ) × (word_at T.image P.comp (x.pc + 4) ≡ Some w)
-        word_behind = is_some_of (word_at T.image P.comp (x.pc + 4)) behind
+        word_behind = some_value (word_at T.image P.comp (x.pc + 4)) behind
 
         place_behind : IsInside (x.pc + 4)
         place_behind = code_inside T.image formed P.comp (x.pc + 4) word_behind.0 word_behind.1

@@ -2,15 +2,15 @@
 use Rattle.sc_simulation.proofs.Common.{Addresses, All, Bool, CallTarget, CodeAt, Cross, HasCode, ImageParts, Input}
 use Rattle.sc_simulation.proofs.Common.{IsAddress, IsLinked, IsProgram, IsWord, List, None, Option, Output, Own, Proto}
 use Rattle.sc_simulation.proofs.Common.{Setting, Some, Store, TacFnTree, TacSection, TacStmt, TacStmt-F, TacTree, []}
-use Rattle.sc_simulation.proofs.Common.{all_true, and_parts, ap, arith, calls_exports, calls_imports, calls_own}
-use Rattle.sc_simulation.proofs.Common.{code_globals, cross_call_fits, everywhere, export_at, false, first_blocks}
-use Rattle.sc_simulation.proofs.Common.{fold-roll-TacStmt, frame_taken, functions_in, functions_or_none, gives}
-use Rattle.sc_simulation.proofs.Common.{gives_result, imports, is_function, is_some, is_there, length, length-append}
-use Rattle.sc_simulation.proofs.Common.{length-map, linked_from, ltb-true, makes, map, map-TacStmt, moved_by}
-use Rattle.sc_simulation.proofs.Common.{names_own_global, nat_lt, not, option_map, own_call_fits, passes_words, pos}
-use Rattle.sc_simulation.proofs.Common.{promises_result, ra, refl, roll-TacStmt, setting, slice_get, slice_get-map}
-use Rattle.sc_simulation.proofs.Common.{slice_get_within, sp, sub_word, subst, sym, takes_result, true, with_parts}
-use Rattle.sc_simulation.proofs.Common.{word_at, ℕ, ◌&&◌, ◌<◌, ◌==◌, ◌||◌, ◌∙◌, ◌∷◌, ◌≡◌, ◌≤◌}
+use Rattle.sc_simulation.proofs.Common.{all_true, and_from, and_parts, ap, arith, calls_exports, calls_imports}
+use Rattle.sc_simulation.proofs.Common.{calls_own, code_globals, cross_call_fits, everywhere, export_at, false}
+use Rattle.sc_simulation.proofs.Common.{first_blocks, fold-roll-TacStmt, frame_taken, functions_in, functions_or_none}
+use Rattle.sc_simulation.proofs.Common.{gives, gives_result, imports, is_function, is_some, is_there, length}
+use Rattle.sc_simulation.proofs.Common.{length-append, length-map, linked_from, ltb-true, makes, map, map-TacStmt}
+use Rattle.sc_simulation.proofs.Common.{moved_by, names_own_global, nat_lt, not, option_map, own_call_fits}
+use Rattle.sc_simulation.proofs.Common.{passes_words, pos, promises_result, ra, refl, roll-TacStmt, setting, slice_get}
+use Rattle.sc_simulation.proofs.Common.{slice_get-map, slice_get_within, sp, sub_word, subst, sym, takes_result, true}
+use Rattle.sc_simulation.proofs.Common.{with_parts, word_at, ℕ, ◌&&◌, ◌<◌, ◌==◌, ◌||◌, ◌∙◌, ◌∷◌, ◌≡◌, ◌≤◌}
 use Rattle.sc_emit.specs.Prelude.{IsCodeAddress, IsPlaced, calls_only, is_call, names_only}
 use Rattle.rv_code.specs.declared.instr.Instr.{Instr}
 use Rattle.rv_code.specs.declared.instr.StoreOp.TheVariants.{Sw}
@@ -43,10 +43,6 @@ word_there image A turn_pays comp number f code =
       length-append (moved_by sp sp (sub_word 0 code.frame.bytes)) (Store Sw sp ra (pos 0) ∷ []),
     )) code.stands
 
-pub both : (a b : Bool) → a ≡ true → b ≡ true → (a && b) ≡ true
-both true b is h = h
-both false b is h = cc is
-
 -- A test that others imply, of each statement by itself, holds everywhere where they do.
 module _ (tests : List Test) (test : Test)
     (implies : (layer : TacStmt-F TacStmt) → PassesHere tests layer → test (map-TacStmt _ _ (passes test) layer) ≡ true)
@@ -58,14 +54,14 @@ module _ (tests : List Test) (test : Test)
         all_true (map (passes test) stmts) ≡ true
     row_implied [] h all = refl
     row_implied (stmt ∷ stmts) h all =
-        both (passes test stmt) (all_true (map (passes test) stmts)) (h.0 (first_passes tests stmt stmts all))
+        and_from (passes test stmt) (all_true (map (passes test) stmts)) (h.0 (first_passes tests stmt stmts all))
         (row_implied stmts h.1 (rest_pass tests stmt stmts all))
 
     abbrev itself : TacStmt-F TacStmt → Bool
     itself layer = test (map-TacStmt _ _ (passes test) layer)
 
     alone : (layer : TacStmt-F TacStmt) → PassesAll tests (roll-TacStmt layer) → (itself layer && true) ≡ true
-    alone layer all = both (itself layer) true (implies layer (passes_here tests layer all)) refl
+    alone layer all = and_from (itself layer) true (implies layer (passes_here tests layer all)) refl
 
     layer_implied : (layer : TacStmt-F TacStmt) → Inside Implied layer → PassesAll tests (roll-TacStmt layer) →
         with_parts test (map-TacStmt _ _ (passes test) layer) ≡ true
@@ -78,24 +74,24 @@ module _ (tests : List Test) (test : Test)
     layer_implied (tac.Store place value) h all = alone (tac.Store place value) all
     layer_implied (tac.If cond first second) h all =
         let inner = choice_passes tests cond first second all in
-        both (itself (tac.If cond first second))
+        and_from (itself (tac.If cond first second))
         (all_true (map (passes test) first) && (all_true (map (passes test) second) && true))
         (implies (tac.If cond first second) (passes_here tests (tac.If cond first second) all))
-        (both (all_true (map (passes test) first)) (all_true (map (passes test) second) && true)
+        (and_from (all_true (map (passes test) first)) (all_true (map (passes test) second) && true)
         (row_implied first h.0 inner.0)
-        (both (all_true (map (passes test) second)) true (row_implied second h.1 inner.1) refl))
+        (and_from (all_true (map (passes test) second)) true (row_implied second h.1 inner.1) refl))
     layer_implied (tac.Loop head body next) h all =
         let inner = loop_passes tests head body next all in
-        both (itself (tac.Loop head body next))
+        and_from (itself (tac.Loop head body next))
         (all_true (map (passes test) head) &&
         (all_true (map (passes test) body) && (all_true (map (passes test) next) && true)))
         (implies (tac.Loop head body next) (passes_here tests (tac.Loop head body next) all))
-        (both (all_true (map (passes test) head))
+        (and_from (all_true (map (passes test) head))
         (all_true (map (passes test) body) && (all_true (map (passes test) next) && true))
         (row_implied head h.0 inner.0)
-        (both (all_true (map (passes test) body)) (all_true (map (passes test) next) && true)
+        (and_from (all_true (map (passes test) body)) (all_true (map (passes test) next) && true)
         (row_implied body h.1 inner.1)
-        (both (all_true (map (passes test) next)) true (row_implied next h.2 inner.2) refl)))
+        (and_from (all_true (map (passes test) next)) true (row_implied next h.2 inner.2) refl)))
     layer_implied tac.Break h all = alone tac.Break all
     layer_implied tac.Continue h all = alone tac.Continue all
     layer_implied (tac.CallOwn dest function args) h all = alone (tac.CallOwn dest function args) all
@@ -120,7 +116,7 @@ own_made None dest count h = cc h
 own_made (Some f) dest count h =
     let one = and_parts (f.params == count) _ h in
     let two = and_parts (passes_words f.params f.objects) (takes_result dest f.result) one.1 in (
-      both (f.params == count) _ one.0 (both (passes_words f.params f.objects) true two.0 refl),
+      and_from (f.params == count) _ one.0 (and_from (passes_words f.params f.objects) true two.0 refl),
       two.1,
       refl,
     )
@@ -130,7 +126,7 @@ cross_made : (o : Option Proto) (dest : Option ℕ) (count : ℕ) → cross_call
 cross_made None dest count h = cc h
 cross_made (Some proto) dest count h =
     let one = and_parts (length proto.params == count) (takes_result dest (is_some proto.result)) h in
-    (both (length proto.params == count) true one.0 refl, one.1, refl)
+    (and_from (length proto.params == count) true one.0 refl, one.1, refl)
 
 -- a call that gives a value where one is taken, of a compartment that doesn't perform
 given_by : (performs result : Bool) (dest : Option ℕ) → performs ≡ false → (not (is_some dest) || result) ≡ true →
@@ -200,7 +196,7 @@ module _ (program : TacTree) (comp : ℕ) (section : TacSection) where
     own_call_here dest number args h =
         let o = slice_get section.functions number in
         let made = own_made o dest (length args) h in
-        both (makes program comp (Own number) (length args)) (not (is_some dest) || its_gives (Own number))
+        and_from (makes program comp (Own number) (length args)) (not (is_some dest) || its_gives (Own number))
         (ap (λ o. own_call_fits o None (length args)) (own_is number) ∙ made.0)
         (given_by (performs comp) (gives program comp (Own number)) dest honest
         (ap (λ o. not (is_some dest) || gives_result o) (own_is number) ∙ made.1))
@@ -211,8 +207,8 @@ module _ (program : TacTree) (comp : ℕ) (section : TacSection) where
         is_call (makes program comp) its_gives (Cross to index) (length args) dest ≡ true
     cross_call_here dest to index args h k =
         let made = cross_made (export_at program.interfaces to index) dest (length args) h in
-        both (makes program comp (Cross to index) (length args)) (not (is_some dest) || its_gives (Cross to index))
-        (both (imports program.interfaces comp (is_function to index)) _ k made.0)
+        and_from (makes program comp (Cross to index) (length args)) (not (is_some dest) || its_gives (Cross to index))
+        (and_from (imports program.interfaces comp (is_function to index)) _ k made.0)
         (given_by (performs comp) (gives program comp (Cross to index)) dest honest made.1)
 
     calls_here : (layer : TacStmt-F TacStmt) → PassesHere rules_of layer →
@@ -231,10 +227,10 @@ module _ (program : TacTree) (comp : ℕ) (section : TacSection) where
     calls_here (tac.CallOwn dest number args) h = own_call_here dest number args h.1.0
     calls_here (tac.CallCross dest to index args) h = cross_call_here dest to index args h.1.1.0 h.1.1.1.0
     calls_here (tac.Input dest) h =
-        both (makes program comp Input 0) (not (is_some dest) || its_gives Input) h.1.1.1.0
+        and_from (makes program comp Input 0) (not (is_some dest) || its_gives Input) h.1.1.1.0
         (given_by (performs comp) true dest honest (or_true (not (is_some dest))))
     calls_here (tac.Output value) h =
-        both (makes program comp Output 1) true (both _ true h.1.1.1.0 refl) refl
+        and_from (makes program comp Output 1) true (and_from _ true h.1.1.1.0 refl) refl
     calls_here (tac.Return value) h = refl
 
     pub calls_all : (stmts : List TacStmt) → AllPass rules_of stmts → everywhere its_calls stmts ≡ true

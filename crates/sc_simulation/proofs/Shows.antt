@@ -3,16 +3,17 @@ use Rattle.sc_simulation.proofs.Common.{AgreesInRoom, AgreesUntilBlame, AllBefor
 use Rattle.sc_simulation.proofs.Common.{Ended, Event, EventsOut, Finishes, FrameChange, Front, Goes, ImageParts}
 use Rattle.sc_simulation.proofs.Common.{IsBlamed, IsFull, IsStop, IsWellFormed, List, None, Opened, OutcomesShow, Owner}
 use Rattle.sc_simulation.proofs.Common.{Reaches, Run, RunEnd, RunsAgree, RunsUntilBlame, ShowsRun, SourceRun, Stands}
-use Rattle.sc_simulation.proofs.Common.{Traps, TrapsFull, TurnsOut, [], ap, arith, blamed, blamed_run, deepest}
-use Rattle.sc_simulation.proofs.Common.{deepest_is_reached, depth_in, drop, ended, false, finishes, front_more}
+use Rattle.sc_simulation.proofs.Common.{Traps, TrapsFull, TurnsOut, [], ap, arith, before_more, blamed, blamed_run}
+use Rattle.sc_simulation.proofs.Common.{deepest, deepest_is_reached, depth_in, drop, ended, false, finishes, front_more}
 use Rattle.sc_simulation.proofs.Common.{front_same, inl, inr, is_full, leb-false, leb-true, length, length-append}
 use Rattle.sc_simulation.proofs.Common.{lt-leb, ltb-false, ltb-true, nat_le, nat_lt, not_stopped, reaches, refl, reg}
 use Rattle.sc_simulation.proofs.Common.{room_after, run, run_goes, run_stopped, run_traps, same, same_run, stack_size}
 use Rattle.sc_simulation.proofs.Common.{stands, start, step, steps_tell, stopped, stopped_at, subst, suc, sym, take}
-use Rattle.sc_simulation.proofs.Common.{take-append-drop, take_all, take_fronts, trace_is, true, without_line, zero, ℕ}
-use Rattle.sc_simulation.proofs.Common.{⊎_elim, ◌++◌, ◌+◌, ◌-◌, ◌<◌, ◌∙◌, ◌∷◌, ◌≡◌, ◌≤◌, ◌⊎◌}
+use Rattle.sc_simulation.proofs.Common.{take-append-drop, take_fronts, trace_is, true, without_line, zero, ℕ, ⊎_elim}
+use Rattle.sc_simulation.proofs.Common.{◌++◌, ◌+◌, ◌-◌, ◌<◌, ◌∙◌, ◌∷◌, ◌≡◌, ◌≤◌, ◌⊎◌}
 use Rattle.sc_image.specs.Prelude.{State, a0, machine}
 use Rattle.sc_simulation.specs.Prelude.{Outcome}
+use Rattle.std.proofs.Common.{take_all}
 use Rattle.sc_base.specs.declared.stop.Stop.TheVariants.{Ended as EndedStop, Trap}
 use Rattle.sc_simulation.proofs.Along.{Along, along, front_taken, not_over, run_front}
 
@@ -40,17 +41,6 @@ earlier_first n m le (x ∷ xs) (y ∷ ys) more less is before late =
 
       on : x ≡ y → Front xs ys → Front (x ∷ xs) (y ∷ ys)
       on first front = record { more = front.more; is = (λ i. sym first i ∷ front.is i) }
-
-before_more : (n m : ℕ) → n ≤ m → (changes : List FrameChange) → AllBefore n changes → AllBefore m changes
-before_more n m le [] h = tt
-before_more n m le (Opened told c room ∷ changes) h = (
-  (let first : told < n = h.0 in omega (arith, le, first)),
-  before_more n m le changes h.1,
-)
-before_more n m le (Closed told c room ∷ changes) h = (
-  (let first : told < n = h.0 in omega (arith, le, first)),
-  before_more n m le changes h.1,
-)
 
 -- TRACES
 take_within : {A : Type 0} (n : ℕ) (xs more : List A) → n ≤ length xs → take n xs ≡ take n (xs ++ more)

@@ -5,10 +5,11 @@ use Rattle.sc_simulation.proofs.Common.{Registers, Setting, Settled, Some, Stand
 use Rattle.sc_simulation.proofs.Common.{[], and_parts, ap, are_headed, arith, code_function, code_globals, cond, count}
 use Rattle.sc_simulation.proofs.Common.{eqb-true, false, first_state, function_entered, functions_in, functions_or_none}
 use Rattle.sc_simulation.proofs.Common.{gate, has_head, if◌then◌else◌, length, lt-ltb, ltb-true, machine, main_entered}
-use Rattle.sc_simulation.proofs.Common.{nat_lt, not, option_map, position, position-cons, refl, runs_are_steady}
-use Rattle.sc_simulation.proofs.Common.{same_Some, same_entry, setting, slice_get, slice_get_within, slice_index}
-use Rattle.sc_simulation.proofs.Common.{stack_top, stack_tops, start, start_memory, subst, suc, sym, true, truth, word}
-use Rattle.sc_simulation.proofs.Common.{wrapping, zero, zero-add, ℕ, ◌*◌, ◌+◌, ◌<◌, ◌==◌, ◌||◌, ◌∙◌, ◌∷◌, ◌≡◌, ◌≤◌, ◌⊎◌}
+use Rattle.sc_simulation.proofs.Common.{nat_lt, not, option_map, or_parts, position, position-cons, refl}
+use Rattle.sc_simulation.proofs.Common.{runs_are_steady, same_Some, same_entry, setting, slice_get, slice_get_within}
+use Rattle.sc_simulation.proofs.Common.{slice_index, stack_top, stack_tops, start, start_memory, subst, suc, sym, true}
+use Rattle.sc_simulation.proofs.Common.{truth, word, wrapping, zero, zero-add, ℕ, ◌*◌, ◌+◌, ◌<◌, ◌==◌, ◌||◌, ◌∙◌, ◌∷◌}
+use Rattle.sc_simulation.proofs.Common.{◌≡◌, ◌≤◌, ◌⊎◌}
 use Rattle.sc_core.specs.declared.value.Cell.TheVariants as cell
 use Rattle.sc_image.specs.declared.parts.CompPart.{CompPart}
 use Rattle.sc_simulation.proofs.Sections.{all_at, position_at}
@@ -88,10 +89,6 @@ tops_at first (comp ∷ comps) (suc k) h =
     let there : suc first + k ≡ first + suc k = omega arith in
     tops_at (suc first) comps k (omega (arith, h)) ∙ ap stack_top there
 
-or_false : (a b : Bool) → (a || b) ≡ false → b ≡ false
-or_false true b h = cc h
-or_false false b h = h
-
 not_false : (b : Bool) → not b ≡ false → b ≡ true
 not_false true h = refl
 not_false false h = cc h
@@ -155,7 +152,7 @@ module _ (program : TacTree) (image : ImageParts) (inputs : List ℕ) (performs 
   within : (k : ℕ) → T.performs k ≡ false → k < length image.comps
   within k honest =
       ltb-true k (length image.comps)
-      (not_false (nat_lt k (length image.comps)) (or_false (performs k) (not (nat_lt k (length image.comps))) honest))
+      (not_false (nat_lt k (length image.comps)) (or_parts (performs k) (not (nat_lt k (length image.comps))) honest).1)
 
   blocks : BlocksMatch T.image T.performs P.floor x.inj x.meant.memory x.bytes
   blocks = record {

@@ -1,18 +1,10 @@
 -- A call takes a turn, and that pays for what is called.
-use Rattle.sc_simulation.proofs.Common.{AllBefore, AllHonest, Bool, CallGives, CallTarget, Closed, Costs, Event}
-use Rattle.sc_simulation.proofs.Common.{FrameChange, Joint, List, Opened, Option, Overflows, Piece, RunEnd, Setting}
-use Rattle.sc_simulation.proofs.Common.{Shows, Standpoint, State as Meant, Stopped, Value, Walks, [], and_then, ap}
-use Rattle.sc_simulation.proofs.Common.{arith, false, if◌then◌else◌, inl, length, length_push, machine, refl}
-use Rattle.sc_simulation.proofs.Common.{shows_here, subst, suc, then_go, true, turn_of, zero, ℕ, ◌*◌, ◌++◌, ◌+◌, ◌<◌}
-use Rattle.sc_simulation.proofs.Common.{◌∷◌, ◌≡◌, ◌≤◌, ◌⊎◌}
-
--- what was told by then was told by later
-pub before_more : (n m : ℕ) → n ≤ m → (changes : List FrameChange) → AllBefore n changes → AllBefore m changes
-before_more n m le [] h = tt
-before_more n m le (Opened told c room ∷ changes) h =
-    let first : told < n = h.0 in (omega (arith, le, first), before_more n m le changes h.1)
-before_more n m le (Closed told c room ∷ changes) h =
-    let first : told < n = h.0 in (omega (arith, le, first), before_more n m le changes h.1)
+use Rattle.sc_simulation.proofs.Common.{AllBefore, AllHonest, Bool, CallGives, CallTarget, Costs, Event, FrameChange}
+use Rattle.sc_simulation.proofs.Common.{Joint, List, Option, Overflows, Piece, RunEnd, Setting, Shows, Standpoint}
+use Rattle.sc_simulation.proofs.Common.{State as Meant, Stopped, Value, Walks, [], and_then, ap, arith, before_more}
+use Rattle.sc_simulation.proofs.Common.{false, if◌then◌else◌, inl, length, length_push, machine, refl, shows_here}
+use Rattle.sc_simulation.proofs.Common.{subst, suc, then_go, true, turn_of, zero, ℕ, ◌*◌, ◌++◌, ◌+◌, ◌<◌, ◌∷◌, ◌≡◌, ◌≤◌}
+use Rattle.sc_simulation.proofs.Common.{◌⊎◌}
 
 pub before_told : (trace : List Event) (event : Event) (changes : List FrameChange) →
     AllBefore (suc (length trace)) changes → AllBefore (suc (length (trace ++ event ∷ []))) changes

@@ -8,9 +8,9 @@ use Rattle.sc_simulation.proofs.Common.{Reached, Ret, Roles, Setting, Settled, S
 use Rattle.sc_simulation.proofs.Common.{Stopped, TacFnTree, TacTree, Traps, UnknownComes, UnknownGives, Value, Walks}
 use Rattle.sc_simulation.proofs.Common.{Word, [], a0, allowed_at, and_then, ap, append-nil, append_assoc, ap₂}
 use Rattle.sc_simulation.proofs.Common.{arguments, arith, at_start, bodies, call_cross, came_by, cases_lt, code_library}
-use Rattle.sc_simulation.proofs.Common.{departing, drop, entered_by, false, functions_in, given_back, has_result}
-use Rattle.sc_simulation.proofs.Common.{if◌then◌else◌, inl, input, input_at, inr, leads_moved, leads_then, legal}
-use Rattle.sc_simulation.proofs.Common.{length, listed, machine, nat_lt, next_input, not, option_value, output}
+use Rattle.sc_simulation.proofs.Common.{departing, drop, drop_next, entered_by, false, functions_in, given_back}
+use Rattle.sc_simulation.proofs.Common.{has_result, if◌then◌else◌, inl, input, input_at, inr, leads_moved, leads_then}
+use Rattle.sc_simulation.proofs.Common.{legal, length, listed, machine, nat_lt, next_input, not, option_value, output}
 use Rattle.sc_simulation.proofs.Common.{overflows_after, overflows_then, params_of, read_input, read_listed, refl, reg}
 use Rattle.sc_simulation.proofs.Common.{returned, roles_in, setting, settled_moved, shows_after, shows_here, slice_get}
 use Rattle.sc_simulation.proofs.Common.{slice_index, stands_behind, start, step, subst, suc, sym, tell, true, turn}
@@ -22,7 +22,7 @@ use Rattle.sc_relation.proofs.Storing.{block_owned}
 use Rattle.sc_simulation.proofs.Along.{walk_front}
 use Rattle.sc_simulation.proofs.Answering.{bodies_go}
 use Rattle.sc_simulation.proofs.CrossCalls.{IsLed, IsOffered, into_code}
-use Rattle.sc_simulation.proofs.Environment.{drop_next, next_at}
+use Rattle.sc_simulation.proofs.Environment.{next_at}
 use Rattle.sc_simulation.proofs.Exports.{IsExported}
 use Rattle.sc_simulation.proofs.Placed.{HasStood, StepsOn, first_step, legal_stood, stands_so, standing_in, walk_rest}
 use Rattle.sc_simulation.proofs.Sections.{IsEntered, is_export}

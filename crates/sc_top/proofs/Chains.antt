@@ -7,7 +7,6 @@ use Rattle.sc_top.proofs.Common.{ap₂, arith, comp_of, concat, false, if◌then
 use Rattle.sc_top.proofs.Common.{meaning, performing, performing_text, recomposed, recursion_from_All, refl}
 use Rattle.sc_top.proofs.Common.{replacement_of, subst, suc, summary_text, sym, take, text_after, text_for, true}
 use Rattle.sc_top.proofs.Common.{word_of, zero, ℕ, ◌++◌, ◌==◌, ◌||◌, ◌∙◌, ◌∷◌, ◌≡◌, ◌≤◌}
-use Rattle.sc_back.specs.Prelude.{new_text, new_texts}
 use Rattle.std.proofs.lemmas.Bool.Decides.{Decides-eqb}
 use Rattle.sc_chain.specs.declared.composed.Replacement.{Replacement}
 use Rattle.sc_core.specs.declared.run.RunEnd.{RunEnd}
@@ -15,6 +14,7 @@ use Rattle.sc_core.specs.declared.run.RunEnd.TheVariants.{Blamed}
 use Rattle.sc_lex.specs.declared.section.Section.{Section}
 use Rattle.sc_read.specs.Reading.{part_of}
 use Rattle.sc_read.proofs.Splits.{same_parts, same_preamble}
+use Rattle.sc_chain.proofs.Recomposed.{new_texts_same}
 
 -- THE TEXTS
 
@@ -56,15 +56,8 @@ module _ (source : SourceParts) (trace : List Event) where
         ap Some (all.0 ∙ ap (performing_text source.program.interfaces trace) (same_number link.comp comp is))
     by others false is = others
 
-  -- texts in which the same stands in place of each section
-  texts_same : (f g : ℕ → Option (List ℕ)) → ((comp : ℕ) → f comp ≡ g comp) → (comp : ℕ) (olds : List (List ℕ)) →
-      new_texts f comp olds ≡ new_texts g comp olds
-  texts_same f g same comp [] = refl
-  texts_same f g same comp (old ∷ olds) =
-      ap₂ (λ x xs. x ∷ xs) (ap (λ replaced. new_text replaced old) (same comp)) (texts_same f g same (suc comp) olds)
-
   joined_same : (f g : ℕ → Option (List ℕ)) → ((comp : ℕ) → f comp ≡ g comp) → joined source f ≡ joined source g
-  joined_same f g same = ap (λ texts. source.preamble ++ concat texts) (texts_same f g same 0 source.sections)
+  joined_same f g same = ap (λ texts. source.preamble ++ concat texts) (new_texts_same f g same 0 source.sections)
 
 -- the links of an explanation perform
 pub explained_perform : (source : SourceParts) (inputs : List ℕ) (steps events : ℕ) (explanation : Explanation) →

@@ -4,6 +4,7 @@ use Rattle.sc_words.proofs.Common.{begins_with_hyphen, bytes_eq, commands, cond,
 use Rattle.sc_words.proofs.Common.{has_value, is_among, is_bare, length, list_all, list_any, more, named, named_option}
 use Rattle.sc_words.proofs.Common.{not, option_and_then, option_map, options, parsed, refl, same_text, settings, subst}
 use Rattle.sc_words.proofs.Common.{sym, true, true≢false, when_complete, ◌&&◌, ◌==◌, ◌∷◌, ◌≡◌}
+use Rattle.sc_base.proofs.Bools.{and_first}
 
 -- ---- what holds of each command holds of the command of a name
 
@@ -35,11 +36,7 @@ names_of_forms = by_command (λ name form. HasNames form) commands
     ((refl, refl), ((refl, refl), ((refl, refl), ((refl, refl), ((refl, refl), ((refl, refl), ((refl, refl), tt)))))))
 
 hyphen_in_front : (word : Text) → is_bare word ≡ true → begins_with_hyphen word ≡ true
-hyphen_in_front word bare = go (begins_with_hyphen word) _ bare
-  where
-    go : (b rest : Bool) → (b && rest) ≡ true → b ≡ true
-    go true rest e = refl
-    go false rest e = absurd (true≢false (sym e))
+hyphen_in_front word bare = and_first (begins_with_hyphen word) _ bare
 
 nothing_behind : (form : Form) (o : Option (Text × Option Text)) (behind : Option Text → Option (List Setting)) →
     ((waiting : Option Text) → behind waiting ≡ None)
