@@ -32,7 +32,7 @@ pub use Rattle.sc_core.specs.Prelude.{variables, wrapping}
 pub use Rattle.sc_core.specs.declared.section.TypedFunction.{TypedFunction}
 pub use Rattle.sc_core.specs.declared.section.TypedStruct.{TypedStruct}
 pub use Rattle.sc_laws.specs.Prelude.{AgreesInRoom, Set, piece_without_line, same, same_run}
-pub use Rattle.sc_kinds.proofs.Sections.{found_passes, named_so, own_names_differ}
+pub use Rattle.sc_kinds.proofs.Sections.{found_passes, main_so, named_so, own_names_differ}
 pub use Rattle.rv_code.specs.declared.instr.Instr.{Instr}
 pub use Rattle.sc_image.specs.Prelude.{IsWellFormed, IsWord, code_of, import_of, interface_of, interfaces_of, machine}
 pub use Rattle.sc_image.specs.Prelude.{most_globals, proto_of, start_memory, stretch}
@@ -53,8 +53,8 @@ pub use Rattle.sc_alloc.specs.Prelude.{assigned}
 pub use Rattle.sc_select.specs.Prelude.{Addresses, linked, linked_from, low_behind, lower_part, refers_only}
 pub use Rattle.sc_select.specs.Prelude.{relocations_behind, target_at, upper_part, with_low, with_target}
 pub use Rattle.sc_linker.proofs.Beginnings.{all_done, all_more}
-pub use Rattle.sc_linker.proofs.Comps.{Fits, comps_length, exports_are, few_so, fits_or_none, main_so, number_below}
-pub use Rattle.sc_linker.proofs.Comps.{of_section, part_at, part_is}
+pub use Rattle.sc_linker.proofs.Comps.{Fits, comps_length, exports_are, few_so, fits_or_none, number_below, of_section}
+pub use Rattle.sc_linker.proofs.Comps.{part_at, part_is}
 pub use Rattle.sc_linker.proofs.Exports.{Named, export_named, export_part, name_of, names_apart, part_first}
 pub use Rattle.sc_linker.proofs.Places.{all_from, distinct_at, total_upto}
 pub use Rattle.sc_linker.specs.Prelude.{AreGivenWords, AreNamed, EntriesStand, FunctionsStand, GlobalsStand}

@@ -42,6 +42,7 @@ pub use Rattle.sc_core.specs.declared.cause.Cause.{Cause}
 pub use Rattle.sc_core.specs.declared.cause.Cause.TheVariants.{BadPointer, BadType}
 pub use Rattle.sc_core.specs.declared.expr.CallTarget.{CallTarget}
 pub use Rattle.sc_core.specs.declared.expr.TypedExpr.{TypedExpr}
+pub use Rattle.sc_core.specs.declared.program.ProgramTree.{ProgramTree}
 pub use Rattle.sc_core.specs.declared.section.TypedFunction.{TypedFunction}
 pub use Rattle.sc_core.specs.declared.section.TypedSection.{TypedSection}
 pub use Rattle.sc_core.specs.declared.section.TypedStruct.{TypedStruct}

@@ -1,21 +1,21 @@
 -- What functions of a well-typed program return, and which calls they ask for.
 use Rattle.sc_kinds.proofs.Common.{Arith, BadType, Body, Bool, CallTarget, Callable, Function, Here, Interface}
-use Rattle.sc_kinds.proofs.Common.{Interfaces, Library, List, None, Null, Option, Piece, Ptr, Reached, Roles, Signature}
-use Rattle.sc_kinds.proofs.Common.{Some, State, Stopped, Ty, TypedFunction, TypedSection, Value, Word, [], allowed}
-use Rattle.sc_kinds.proofs.Common.{and_first, and_from, and_rest, and_then, ap, are_distinct, back_own, begun}
-use Rattle.sc_kinds.proofs.Common.{bodies_of, body_does, body_fits, bytes_eq, call_cross, call_own, callable_in, called}
-use Rattle.sc_kinds.proofs.Common.{calls, closed, codes, crossing, done, entry_in, eq-eqb, eqb-true, export_fits, false}
-use Rattle.sc_kinds.proofs.Common.{false≢true, found, function, function_at, function_fits, function_of, functions_in}
-use Rattle.sc_kinds.proofs.Common.{global_fits, has_kind, have_kinds, if◌then◌else◌, import_name, is_plain_name}
-use Rattle.sc_kinds.proofs.Common.{is_pointer, is_some, is_well_typed, is_word, leads, length, library_of, list_all}
-use Rattle.sc_kinds.proofs.Common.{list_any, local_fits, main_fits, main_name, mains_in, map, may_call}
-use Rattle.sc_kinds.proofs.Common.{most_compartments, most_params, nat_le, not, option_and_then, option_map}
-use Rattle.sc_kinds.proofs.Common.{option_map_or, option_signature, option_value, passed_fits, performs}
-use Rattle.sc_kinds.proofs.Common.{place_of_export, position, proto_signature, refl, result_fits, result_ty}
-use Rattle.sc_kinds.proofs.Common.{returns_kind, rows_left, run_step, same_import, same_results, same_signature}
-use Rattle.sc_kinds.proofs.Common.{same_types, scalar_ty, scope_of, scripted_step, section_functions, sections_fit}
-use Rattle.sc_kinds.proofs.Common.{signature_of, slice_get, slice_index_or, structs_fit, subst, suc, sym}
-use Rattle.sc_kinds.proofs.Common.{target_signature, true, turn, word_back, zero, ℕ, ◌&&◌, ◌++◌, ◌==◌, ◌∙◌, ◌∷◌, ◌≡◌}
+use Rattle.sc_kinds.proofs.Common.{Interfaces, Library, List, None, Null, Option, Piece, ProgramTree, Ptr, Reached}
+use Rattle.sc_kinds.proofs.Common.{Roles, Signature, Some, State, Stopped, Ty, TypedFunction, TypedSection, Value, Word}
+use Rattle.sc_kinds.proofs.Common.{[], allowed, and_first, and_from, and_rest, and_then, ap, are_distinct, back_own}
+use Rattle.sc_kinds.proofs.Common.{begun, bodies_of, body_does, body_fits, bytes_eq, call_cross, call_own, callable_in}
+use Rattle.sc_kinds.proofs.Common.{called, calls, closed, crossing, done, entry_in, eq-eqb, eqb-true, export_fits}
+use Rattle.sc_kinds.proofs.Common.{false, false≢true, found, function, function_at, function_fits, function_of}
+use Rattle.sc_kinds.proofs.Common.{functions_in, global_fits, has_kind, have_kinds, if◌then◌else◌, import_name}
+use Rattle.sc_kinds.proofs.Common.{is_plain_name, is_pointer, is_some, is_well_typed, is_word, leads, length}
+use Rattle.sc_kinds.proofs.Common.{library_of, list_all, list_any, local_fits, main_fits, main_name, map, may_call}
+use Rattle.sc_kinds.proofs.Common.{most_params, nat_le, not, option_and_then, option_map, option_map_or}
+use Rattle.sc_kinds.proofs.Common.{option_signature, option_value, passed_fits, performs, place_of_export, position}
+use Rattle.sc_kinds.proofs.Common.{proto_signature, refl, result_fits, result_ty, returns_kind, rows_left, run_step}
+use Rattle.sc_kinds.proofs.Common.{same_import, same_results, same_signature, same_types, scalar_ty, scope_of}
+use Rattle.sc_kinds.proofs.Common.{scripted_step, section_functions, signature_of, slice_get, slice_index_or}
+use Rattle.sc_kinds.proofs.Common.{structs_fit, subst, suc, sym, target_signature, true, turn, word_back, zero, ℕ, ◌&&◌}
+use Rattle.sc_kinds.proofs.Common.{◌++◌, ◌==◌, ◌∙◌, ◌∷◌, ◌≡◌}
 use Rattle.sc_event.specs.Prelude.{comp_at, export_at, imports, is_function, is_input, is_output, takes}
 use Rattle.std.proofs.lemmas.Option.{slice_get-map}
 use Rattle.std.proofs.lemmas.List.{length-map}
@@ -28,12 +28,11 @@ use Rattle.sc_event.specs.declared.row.Entry.TheVariants.{Export}
 use Rattle.sc_core.specs.declared.ty.Ty.TheVariants as ty
 use Rattle.sc_core.specs.declared.expr.CallTarget.TheVariants.{Own, Cross, Input, Output}
 use Rattle.sc_core.specs.declared.run.RunEnd.TheVariants.{Blamed}
-use Rattle.sc_core.specs.declared.program.ProgramTree.{ProgramTree}
 use Rattle.sc_kinds.proofs.Values.{same_kind}
 use Rattle.sc_kinds.proofs.Pieces.{Lasting, Same, Any, then_same, ExitOk}
 use Rattle.sc_kinds.proofs.Bodies.{CallsFit, body_same, closed_same}
 use Rattle.sc_kinds.proofs.Sections.{ForSection, for_section, for_interface, index_map, all_at, first_of, found_passes}
-use Rattle.sc_kinds.proofs.Sections.{any_along, named_so, own_names_differ}
+use Rattle.sc_kinds.proofs.Sections.{main_so, sections_so, any_along, named_so, own_names_differ}
 
 -- OPTIONS
 record Of {A B : Type 0} (f : A → B) (o : Option A) (y : B) : Type 0 where
@@ -164,24 +163,53 @@ found_lasting (Some v) s = refl
 pub reached_good : {V : Type 0} (G : V → Type 0) (o : Piece V) (v : V) (t : State) → o ≡ Reached v t → Lasting G o → G v
 reached_good G o v t is h = subst (Lasting G) is h
 
+-- EXPORTS
+-- an export, with what its interface keeps, and the section that has its function
+pub record Exported (program : ProgramTree) (to index : ℕ) (proto : Proto) : Type 0 where
+  pub interface : Interface
+  pub face : comp_at program.interfaces to ≡ Some interface
+  pub at : slice_get interface.exports index ≡ Some proto
+  pub section : TypedSection
+  pub is : slice_get program.sections to ≡ Some section
+  pub fits : export_fits section.functions proto ≡ true
+  pub named : list_any {X = TypedFunction} (λ f. bytes_eq f.name proto.name &&
+      same_signature (signature_of f) (proto_signature proto)) section.functions ≡ true
+  pub exports_differ : are_distinct (map {A = Proto} (λ p. p.name) interface.exports) ≡ true
+  pub functions_differ : are_distinct (map {A = TypedFunction} (λ f. f.name) section.functions) ≡ true
+
+pub exported : (program : ProgramTree) → is_well_typed program ≡ true → (to index : ℕ) (proto : Proto) →
+    export_at program.interfaces to index ≡ Some proto → Exported program to index proto
+exported program typed to index proto h =
+    let found : Behind {A = Interface} (λ i. slice_get i.exports index) (comp_at program.interfaces to) proto =
+    behind (λ i. slice_get i.exports index) (comp_at program.interfaces to) proto h in
+    let place = for_interface program.interfaces 0 program.interfaces.comps program.sections
+    (sections_so program typed) to found.item found.is in
+    let names = are_distinct (map (import_name program.interfaces) found.item.imports ++
+    map {A = TypedFunction} (λ f. f.name) place.section.functions) in
+    let own = are_distinct (map {A = Proto} (λ p. p.name) found.item.exports) in
+    let exports = list_all (export_fits place.section.functions) found.item.exports in
+    let rest = and_rest names _ place.placed.faces in
+    let fits = all_at (export_fits place.section.functions) found.item.exports
+    (and_first exports _ (and_rest own _ rest)) index proto found.gives in
+    record {
+      interface = found.item;
+      face = found.is;
+      at = found.gives;
+      section = place.section;
+      is = place.is;
+      fits = fits;
+      named = and_rest (not (bytes_eq proto.name main_name)) _ (and_rest (is_plain_name proto.name) _ fits);
+      exports_differ = and_first own _ rest;
+      functions_differ = own_names_differ (map (import_name program.interfaces) found.item.imports)
+          place.section.functions (and_first names _ place.placed.faces);
+    }
+
 module _ (arith : Arith) (program : ProgramTree) (typed : is_well_typed program ≡ true) (roles : Roles) where
   abbrev L : Library
   L = library_of arith program
 
   abbrev faces : Interfaces
   faces = program.interfaces
-
-  behind_names : (sections_fit faces 0 faces.comps program.sections &&
-      (main_fits (slice_get program.sections faces.main) && mains_in program.sections == 1)) ≡ true
-  behind_names = and_rest (are_distinct (codes "Env" ∷ map {A = Interface} (λ i. i.name) faces.comps)) _
-      (and_rest (nat_le (length program.sections) most_compartments) _ typed)
-
-  sections_so : sections_fit faces 0 faces.comps program.sections ≡ true
-  sections_so = and_first (sections_fit faces 0 faces.comps program.sections) _ behind_names
-
-  main_so : main_fits (slice_get program.sections faces.main) ≡ true
-  main_so = and_first (main_fits (slice_get program.sections faces.main)) _
-      (and_rest (sections_fit faces 0 faces.comps program.sections) _ behind_names)
 
   -- FUNCTIONS OF THE LIBRARY
   library_function : (comp : ℕ) (section : TypedSection) → slice_get program.sections comp ≡ Some section → (n : ℕ) →
@@ -215,42 +243,10 @@ module _ (arith : Arith) (program : ProgramTree) (typed : is_well_typed program 
       function_at program here.comp number ≡ Some f → (s : State) →
       Lasting (λ v. returns_kind f.result v ≡ true) (body number here s)
 
-  -- EXPORTS
-  -- an export with the function that it leads to
-  record Exported (to index : ℕ) (proto : Proto) : Type 0 where
-    pub interface : Interface
-    pub known : comp_at faces to ≡ Some interface
-    pub section : TypedSection
-    pub is : slice_get program.sections to ≡ Some section
-    pub named : list_any {X = TypedFunction} (λ f. bytes_eq f.name proto.name &&
-        same_signature (signature_of f) (proto_signature proto)) section.functions ≡ true
-    pub distinct : are_distinct (map {A = TypedFunction} (λ f. f.name) section.functions) ≡ true
-
-  exported : (to index : ℕ) (proto : Proto) → export_at faces to index ≡ Some proto → Exported to index proto
-  exported to index proto h =
-      let found : Behind {A = Interface} (λ i. slice_get i.exports index) (comp_at faces to) proto =
-      behind (λ i. slice_get i.exports index) (comp_at faces to) proto h in
-      let place = for_interface faces 0 faces.comps program.sections sections_so to found.item found.is in
-      let names = are_distinct (map (import_name faces) found.item.imports ++
-      map {A = TypedFunction} (λ f. f.name) place.section.functions) in
-      let own = are_distinct (map {A = Proto} (λ p. p.name) found.item.exports) in
-      let exports = list_all (export_fits place.section.functions) found.item.exports in
-      let each = and_first exports _ (and_rest own _ (and_rest names _ place.placed.faces)) in
-      let fits = all_at (export_fits place.section.functions) found.item.exports each index proto found.gives in
-      record {
-        interface = found.item;
-        known = found.is;
-        section = place.section;
-        is = place.is;
-        named = and_rest (not (bytes_eq proto.name main_name)) _ (and_rest (is_plain_name proto.name) _ fits);
-        distinct = own_names_differ (map (import_name faces) found.item.imports) place.section.functions
-            (and_first names _ place.placed.faces);
-      }
-
   leads_so : (to index : ℕ) (proto : Proto) → export_at faces to index ≡ Some proto →
       leads L to (entry_in program to (Export index)) ≡ true
   leads_so to index proto h =
-      let at = exported to index proto h in
+      let at = exported program typed to index proto h in
       let any = any_along {A = TypedFunction} (λ f. bytes_eq f.name proto.name &&
       same_signature (signature_of f) (proto_signature proto)) (λ f. bytes_eq f.name proto.name)
       (λ f k. and_first (bytes_eq f.name proto.name) _ k) at.section.functions at.named in
@@ -265,7 +261,7 @@ module _ (arith : Arith) (program : ProgramTree) (typed : is_well_typed program 
   module _ (body : Body) (good : BodyGood body) (comp : ℕ) (plain : roles.scripted comp ≡ false)
       (section : TypedSection) (is : slice_get program.sections comp ≡ Some section) where
     place : ForSection faces faces.comps comp section
-    place = for_section faces 0 faces.comps program.sections sections_so comp section is
+    place = for_section faces 0 faces.comps program.sections (sections_so program typed) comp section is
 
     abbrev callable : Callable
     callable = callable_in faces place.interface section
@@ -389,7 +385,7 @@ module _ (arith : Arith) (program : ProgramTree) (typed : is_well_typed program 
         let here : comp ≡ faces.main = eqb-true comp faces.main (and_first (comp == faces.main) _ h) in
         let own : slice_get program.sections faces.main ≡ Some section =
         subst (λ c. slice_get program.sections c ≡ Some section) here is in
-        let any : main_fits (Some section) ≡ true = subst (λ o. main_fits o ≡ true) own main_so in
+        let any : main_fits (Some section) ≡ true = subst (λ o. main_fits o ≡ true) own (main_so program typed) in
         let names = are_distinct (map (import_name faces) place.interface.imports ++
         map {A = TypedFunction} (λ f. f.name) section.functions) in
         let distinct = own_names_differ (map (import_name faces) place.interface.imports) section.functions
@@ -504,12 +500,12 @@ module _ (arith : Arith) (program : ProgramTree) (typed : is_well_typed program 
       (s t : State) (v : Option Value) → its_bodies n number here s ≡ Reached v t →
       option_value (crossing (Some proto) v) ≡ v
   crosses_itself n index number here proto plain h entry s t v is =
-      let at = exported here.comp index proto h in
+      let at = exported program typed here.comp index proto h in
       let placed : position (λ f. bytes_eq f.name proto.name) at.section.functions ≡ Some number =
       sym (λ i. place_of_export (h i) (at.is i)) ∙ entry in
       let passing = found_passes (λ f. bytes_eq f.name proto.name) at.section.functions number placed in
       let signature = named_so proto.name (λ f. same_signature (signature_of f)
-      (proto_signature proto)) at.section.functions at.distinct at.named number passing.item passing.is
+      (proto_signature proto)) at.section.functions at.functions_differ at.named number passing.item passing.is
       passing.passes in
       let own : function_at program here.comp number ≡ Some passing.item =
       ap (λ o. slice_get (section_functions o) number) at.is ∙ passing.is in

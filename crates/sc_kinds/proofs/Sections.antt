@@ -1,9 +1,10 @@
 -- What the sections of a well-typed program keep, by their numbers.
-use Rattle.sc_kinds.proofs.Common.{Bool, Interface, Interfaces, List, None, Option, Some, TypedFunction, TypedSection}
-use Rattle.sc_kinds.proofs.Common.{[], and_first, and_rest, ap, are_distinct, bytes_eq, cond, false, false≢true}
-use Rattle.sc_kinds.proofs.Common.{interface_fits, list_all, list_any, map, not, option_map, or_right, position, refl}
-use Rattle.sc_kinds.proofs.Common.{section_fits, sections_fit, slice_get, slice_index_or, subst, suc, sym, true, zero}
-use Rattle.sc_kinds.proofs.Common.{ℕ, ◌&&◌, ◌++◌, ◌||◌, ◌∙◌, ◌∷◌, ◌≡◌}
+use Rattle.sc_kinds.proofs.Common.{Bool, Interface, Interfaces, List, None, Option, ProgramTree, Some, TypedFunction}
+use Rattle.sc_kinds.proofs.Common.{TypedSection, [], and_first, and_rest, ap, are_distinct, bytes_eq, codes, cond}
+use Rattle.sc_kinds.proofs.Common.{false, false≢true, interface_fits, is_well_typed, length, list_all, list_any}
+use Rattle.sc_kinds.proofs.Common.{main_fits, mains_in, map, most_compartments, nat_le, not, option_map, or_right}
+use Rattle.sc_kinds.proofs.Common.{position, refl, section_fits, sections_fit, slice_get, slice_index_or, subst, suc}
+use Rattle.sc_kinds.proofs.Common.{sym, true, zero, ℕ, ◌&&◌, ◌++◌, ◌==◌, ◌||◌, ◌∙◌, ◌∷◌, ◌≡◌}
 use Rattle.sc_base.proofs.Lists.{position-cons}
 use Rattle.sc_base.proofs.Texts.{same_text, bytes_eq_self}
 use Rattle.sc_kinds.proofs.Values.{either}
@@ -204,3 +205,20 @@ named_so name p (g ∷ fs) distinct h (suc n) f is called =
 pub own_names_differ : (others : List (List ℕ)) (fs : List TypedFunction) →
     are_distinct (others ++ map name_of fs) ≡ true → are_distinct (map name_of fs) ≡ true
 own_names_differ others fs h = distinct_behind others (map name_of fs) h
+
+-- what a well-typed program keeps: its sections fit their interfaces, and one of them has `main`
+module _ (program : ProgramTree) (typed : is_well_typed program ≡ true) where
+  behind_names : (sections_fit program.interfaces 0 program.interfaces.comps program.sections &&
+      (main_fits (slice_get program.sections program.interfaces.main) && mains_in program.sections == 1)) ≡ true
+  behind_names = and_rest (are_distinct (codes "Env" ∷ map {A = Interface} (λ i. i.name) program.interfaces.comps)) _
+      (and_rest (nat_le (length program.sections) most_compartments) _ typed)
+
+  pub sections_so : sections_fit program.interfaces 0 program.interfaces.comps program.sections ≡ true
+  sections_so = and_first (sections_fit program.interfaces 0 program.interfaces.comps program.sections) _ behind_names
+
+  pub mains_so :
+      (main_fits (slice_get program.sections program.interfaces.main) && mains_in program.sections == 1) ≡ true
+  mains_so = and_rest (sections_fit program.interfaces 0 program.interfaces.comps program.sections) _ behind_names
+
+  pub main_so : main_fits (slice_get program.sections program.interfaces.main) ≡ true
+  main_so = and_first (main_fits (slice_get program.sections program.interfaces.main)) _ mains_so

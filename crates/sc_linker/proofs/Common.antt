@@ -31,7 +31,7 @@ pub use Rattle.sc_core.specs.Prelude.{callable_in, callable_names, cells_of, ent
 pub use Rattle.sc_core.specs.Prelude.{first_blocks, function_fits, global_block, global_fits, globals_of}
 pub use Rattle.sc_core.specs.Prelude.{has_distinct_names, has_few_compartments, has_fitting_sections, has_main}
 pub use Rattle.sc_core.specs.Prelude.{import_fits, import_name, interface_fits, is_main, is_plain_name, main_fits}
-pub use Rattle.sc_core.specs.Prelude.{main_name, mains_in, member_zeros, members_fit, most_compartments, most_exports}
+pub use Rattle.sc_core.specs.Prelude.{main_name, member_zeros, members_fit, most_compartments, most_exports}
 pub use Rattle.sc_core.specs.Prelude.{most_params, place_named, place_of_export, proto_signature, repeated}
 pub use Rattle.sc_core.specs.Prelude.{same_signature, same_types, scalar_ty, section_fits, sections_fit, signature_of}
 pub use Rattle.sc_core.specs.Prelude.{starred_cells, starred_within, starred_zeros, struct_cells, struct_fits}
@@ -40,7 +40,7 @@ pub use Rattle.sc_core.specs.Prelude.{words_fit, zeros_of}
 pub use Rattle.sc_core.specs.declared.section.TypedMember.{TypedMember}
 pub use Rattle.sc_core.specs.declared.ty.BaseTy.{BaseTy}
 pub use Rattle.sc_core.specs.declared.ty.Ty.{Ty}
-pub use Rattle.sc_kinds.proofs.Sections.{all_at, any_along, first_of, found_passes}
+pub use Rattle.sc_kinds.proofs.Sections.{all_at, any_along, first_of, found_passes, main_so, sections_so}
 pub use Rattle.rv_code.proofs.OneEach.{HasWord-own, decoded-word_of, word-below}
 pub use Rattle.rv_code.specs.Prelude.{IsImmediate, IsInstr, IsJumpOffset, IsUpper, word_of}
 pub use Rattle.sc_store.specs.Prelude.{byte_of, load_of}

@@ -3,10 +3,9 @@ use Rattle.sc_linker.proofs.Common.{CodeTree, CompPart, Interface, Interfaces, I
 use Rattle.sc_linker.proofs.Common.{ProgramTree, Proto, Some, TypedSection, [], and_first, and_rest, ap, are_distinct}
 use Rattle.sc_linker.proofs.Common.{arith, codes as text, comp_at, comp_part, comp_parts, export_at, exports_at}
 use Rattle.sc_linker.proofs.Common.{exports_in, false≢true, inl, inr, interface_fits, leb-true, length, linked_image}
-use Rattle.sc_linker.proofs.Common.{main_fits, mains_in, map, most_compartments, nat_le, option_and_then, option_map}
-use Rattle.sc_linker.proofs.Common.{refl, section_at, section_fits, section_or_none, sections_fit, slice_get}
-use Rattle.sc_linker.proofs.Common.{slice_get_within, subst, suc, sym, true, zero, ℕ, ◌&&◌, ◌+◌, ◌<◌, ◌==◌, ◌∙◌, ◌∷◌}
-use Rattle.sc_linker.proofs.Common.{◌≡◌, ◌⊎◌}
+use Rattle.sc_linker.proofs.Common.{map, most_compartments, nat_le, option_and_then, option_map, refl, section_at}
+use Rattle.sc_linker.proofs.Common.{section_fits, section_or_none, sections_fit, sections_so, slice_get}
+use Rattle.sc_linker.proofs.Common.{slice_get_within, subst, suc, sym, true, zero, ℕ, ◌+◌, ◌<◌, ◌∙◌, ◌∷◌, ◌≡◌, ◌⊎◌}
 
 -- PARTS
 -- a compartment of an image is the part of its interface
@@ -112,20 +111,6 @@ pub record Fits (program : ProgramTree) (c : ℕ) : Type 0 where
   pub faces : interface_fits program.interfaces c interface section ≡ true
 
 module _ (program : ProgramTree) (typed : IsWellTyped program) where
-  behind_names : (sections_fit program.interfaces 0 program.interfaces.comps program.sections && (main_fits (slice_get
-      program.sections program.interfaces.main) && mains_in program.sections == 1)) ≡ true
-  behind_names = and_rest (are_distinct (text "Env" ∷ map {A = Interface} (λ i. i.name) program.interfaces.comps))
-      _ (and_rest (nat_le (length program.sections) most_compartments) _ typed)
-
-  sections_so : sections_fit program.interfaces 0 program.interfaces.comps program.sections ≡ true
-  sections_so =
-      and_first (sections_fit program.interfaces 0 program.interfaces.comps program.sections) _ behind_names
-
-  pub main_so : main_fits (slice_get program.sections program.interfaces.main) ≡ true
-  main_so =
-      and_first (main_fits (slice_get program.sections program.interfaces.main)) _
-      (and_rest (sections_fit program.interfaces 0 program.interfaces.comps program.sections) _ behind_names)
-
   pub names_so : are_distinct (text "Env" ∷ map {A = Interface} (λ i. i.name) program.interfaces.comps) ≡ true
   names_so = and_first (are_distinct (text "Env" ∷ map {A = Interface} (λ i. i.name) program.interfaces.comps))
       _ (and_rest (nat_le (length program.sections) most_compartments) _ typed)
@@ -134,13 +119,14 @@ module _ (program : ProgramTree) (typed : IsWellTyped program) where
   few_so = and_first (nat_le (length program.sections) most_compartments) _ typed
 
   pub same_count : length program.interfaces.comps ≡ length program.sections
-  same_count = lengths_fit program.interfaces 0 program.interfaces.comps program.sections sections_so
+  same_count =
+      lengths_fit program.interfaces 0 program.interfaces.comps program.sections (sections_so program typed)
 
   -- a number is that of an interface and a section that fit, or of neither
   pub fits_or_none : (c : ℕ) → Fits program c
       ⊎ ((comp_at program.interfaces c ≡ None) × (slice_get program.sections c ≡ None))
-  fits_or_none c = by (paired program.interfaces 0 c program.interfaces.comps program.sections sections_so c
-      (omega arith)) where
+  fits_or_none c = by (paired program.interfaces 0 c program.interfaces.comps program.sections
+      (sections_so program typed) c (omega arith)) where
         by : Pair program.interfaces c program.interfaces.comps program.sections c
             ⊎ ((comp_at program.interfaces c ≡ None) × (slice_get program.sections c ≡ None)) → Fits program c
             ⊎ ((comp_at program.interfaces c ≡ None) × (slice_get program.sections c ≡ None))

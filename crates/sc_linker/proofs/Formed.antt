@@ -8,12 +8,12 @@ use Rattle.sc_linker.proofs.Common.{codes as text, codes_at, comp_at, comp_code,
 use Rattle.sc_linker.proofs.Common.{entry_in, export_parts, exports_at, false≢true, first_of, flat_map}
 use Rattle.sc_linker.proofs.Common.{function_address, global_words, inl, inr, instructions, is_main, is_name, is_some}
 use Rattle.sc_linker.proofs.Common.{leb-true, length, length-map, linked_image, list_any, little_bytes, main_fits}
-use Rattle.sc_linker.proofs.Common.{main_name, map, most_compartments, most_globals, not, option_map, place_named, refl}
-use Rattle.sc_linker.proofs.Common.{section_at, section_or_none, slice_get, slice_get-map, slice_get_within}
-use Rattle.sc_linker.proofs.Common.{struct_zeros, subst, suc, sym, true, word-below, word_of, zero, ℕ, ◌+◌, ◌<◌, ◌∙◌}
-use Rattle.sc_linker.proofs.Common.{◌∷◌, ◌≡◌, ◌≢◌, ◌≤◌, ◌⊎◌}
-use Rattle.sc_linker.proofs.Comps.{Fits, comps_length, exports_are, few_so, fits_or_none, main_so, names_so, of_section}
-use Rattle.sc_linker.proofs.Comps.{part_at, part_is, same_count, section_is}
+use Rattle.sc_linker.proofs.Common.{main_name, main_so, map, most_compartments, most_globals, not, option_map}
+use Rattle.sc_linker.proofs.Common.{place_named, refl, section_at, section_or_none, slice_get, slice_get-map}
+use Rattle.sc_linker.proofs.Common.{slice_get_within, struct_zeros, subst, suc, sym, true, word-below, word_of, zero, ℕ}
+use Rattle.sc_linker.proofs.Common.{◌+◌, ◌<◌, ◌∙◌, ◌∷◌, ◌≡◌, ◌≢◌, ◌≤◌, ◌⊎◌}
+use Rattle.sc_linker.proofs.Comps.{Fits, comps_length, exports_are, few_so, fits_or_none, names_so, of_section, part_at}
+use Rattle.sc_linker.proofs.Comps.{part_is, same_count, section_is}
 use Rattle.sc_linker.proofs.Exports.{callable_apart, few_exports, few_imports, few_params, globals_so, imports_so}
 use Rattle.sc_linker.proofs.Exports.{name_of, names_apart, part_of, parts_length, structs_so}
 use Rattle.sc_linker.proofs.Imported.{each_once, few_parts, of_others}

@@ -86,7 +86,8 @@ pub use Rattle.sc_kinds.proofs.Bodies.{Signed, signed}
 pub use Rattle.sc_kinds.proofs.Results.{Behind, behind, function_imported, input_imported, output_imported}
 pub use Rattle.sc_kinds.proofs.Results.{reached_good}
 pub use Rattle.sc_kinds.proofs.Sections.{ForSection, Placed, all_at, any_along, for_interface, for_section}
-pub use Rattle.sc_kinds.proofs.Sections.{found_passes, index_map, name_of, named_so, own_names_differ}
+pub use Rattle.sc_kinds.proofs.Sections.{found_passes, index_map, main_so, mains_so, name_of, named_so}
+pub use Rattle.sc_kinds.proofs.Sections.{own_names_differ, sections_so}
 pub use Rattle.sc_kinds.proofs.Values.{address_fits, either, int_fits, integer_kind, sound, types_length}
 pub use Rattle.sc_kinds.specs.Kinds.{is_of}
 pub use Rattle.sc_tac.proofs.Runs.{across_interfaces, fetched, give, int_op, output, word}

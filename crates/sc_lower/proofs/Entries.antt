@@ -2,14 +2,14 @@
 use Rattle.sc_lower.proofs.Common.{Bool, Entry, Export, ForSection, Interface, Interfaces, List, Main, None, Option}
 use Rattle.sc_lower.proofs.Common.{ProgramTree, Proto, Some, TacFnTree, TypedFunction, TypedSection, [], all_at}
 use Rattle.sc_lower.proofs.Common.{and_first, and_rest, any_along, ap, are_distinct, arith as numbers, bytes_eq}
-use Rattle.sc_lower.proofs.Common.{bytes_eq_self, codes, comp_at, cond, entry_in, entry_of, eq-eqb, eqb-true, export_at}
+use Rattle.sc_lower.proofs.Common.{bytes_eq_self, comp_at, cond, entry_in, entry_of, eq-eqb, eqb-true, export_at}
 use Rattle.sc_lower.proofs.Common.{export_called, export_fits, exports_of, false, false≢true, for_section}
 use Rattle.sc_lower.proofs.Common.{function_entered, if◌then◌else◌, import_name, is_main, is_plain_name, is_well_typed}
-use Rattle.sc_lower.proofs.Common.{length, list_all, list_any, lowered_function, lowered_section, lowered_sections}
-use Rattle.sc_lower.proofs.Common.{main_fits, main_name, mains_in, map, most_compartments, nat_le, not, not-true}
-use Rattle.sc_lower.proofs.Common.{option_and_then, option_map, place_named, place_of_export, position, refl}
-use Rattle.sc_lower.proofs.Common.{same_entry, same_text, sections_fit, slice_get, subst, suc, sym, true, truth, zero}
-use Rattle.sc_lower.proofs.Common.{ℕ, ◌&&◌, ◌++◌, ◌+◌, ◌==◌, ◌||◌, ◌∙◌, ◌∷◌, ◌≡◌, ◌≤◌}
+use Rattle.sc_lower.proofs.Common.{list_all, list_any, lowered_function, lowered_section, lowered_sections, main_fits}
+use Rattle.sc_lower.proofs.Common.{main_name, main_so, mains_in, mains_so, map, not, not-true, option_and_then}
+use Rattle.sc_lower.proofs.Common.{option_map, place_named, place_of_export, position, refl, same_entry, same_text}
+use Rattle.sc_lower.proofs.Common.{sections_so, slice_get, subst, suc, sym, true, truth, zero, ℕ, ◌&&◌, ◌++◌, ◌+◌, ◌==◌}
+use Rattle.sc_lower.proofs.Common.{◌||◌, ◌∙◌, ◌∷◌, ◌≡◌, ◌≤◌}
 use Rattle.std.proofs.Math.Dec.{eqb-suc-zero, eqb-zero-suc, eqb-suc-suc}
 use Rattle.sc_base.proofs.Lists.{position-cons, position_map}
 
@@ -198,25 +198,15 @@ module _ (program : ProgramTree) (typed : is_well_typed program ≡ true) where
   abbrev sections : List TypedSection
   sections = program.sections
 
-  behind_names : (sections_fit faces 0 faces.comps sections && (main_fits (slice_get sections faces.main) && mains_in
-      sections == 1)) ≡ true
-  behind_names = and_rest (are_distinct (codes "Env" ∷ map {A = Interface} (λ i. i.name) faces.comps))
-      _ (and_rest (nat_le (length sections) most_compartments) _ typed)
-
-  pub sections_so : sections_fit faces 0 faces.comps sections ≡ true
-  sections_so = and_first (sections_fit faces 0 faces.comps sections) _ behind_names
-
-  pub mains_so : (main_fits (slice_get sections faces.main) && mains_in sections == 1) ≡ true
-  mains_so = and_rest (sections_fit faces 0 faces.comps sections) _ behind_names
-
   one_main : mains_in sections ≡ 1
-  one_main = eqb-true (mains_in sections) 1 (and_rest (main_fits (slice_get sections faces.main)) _ mains_so)
+  one_main =
+      eqb-true (mains_in sections) 1 (and_rest (main_fits (slice_get sections faces.main)) _ (mains_so program typed))
 
   -- a section that defines `main` is the main one
   pub main_there : (comp : ℕ) (section : TypedSection) → slice_get sections comp ≡ Some section →
       list_any is_main section.functions ≡ true → comp ≡ faces.main
   main_there comp section is h =
-      by (slice_get sections faces.main) refl (and_first (main_fits (slice_get sections faces.main)) _ mains_so) where
+      by (slice_get sections faces.main) refl (main_so program typed) where
         by : (o : Option TypedSection) → slice_get sections faces.main ≡ o → main_fits o ≡ true → comp ≡ faces.main
         by None at fits = absurd (false≢true fits)
         by (Some own) at fits =
@@ -225,7 +215,7 @@ module _ (program : ProgramTree) (typed : is_well_typed program ≡ true) where
 
   module _ (comp : ℕ) (section : TypedSection) (is : slice_get sections comp ≡ Some section) where
     pub place : ForSection faces faces.comps comp section
-    place = for_section faces 0 faces.comps sections sections_so comp section is
+    place = for_section faces 0 faces.comps sections (sections_so program typed) comp section is
 
     abbrev exports : List Proto
     exports = place.interface.exports

@@ -7,13 +7,13 @@ use Rattle.sc_lower.proofs.Common.{eq-eqb, export_at, export_called, export_fits
 use Rattle.sc_lower.proofs.Common.{false≢true, found_passes, if◌then◌else◌, implies, interface_fits, is_entered}
 use Rattle.sc_lower.proofs.Common.{is_main, is_some, is_well_typed, length, length-map, list_all, list_any}
 use Rattle.sc_lower.proofs.Common.{lowered_function, lowered_program, lowered_section, lowered_sections, main_entered}
-use Rattle.sc_lower.proofs.Common.{main_fits, main_name, map, name_of, named_so, not, not-true, numbered}
+use Rattle.sc_lower.proofs.Common.{main_fits, main_name, mains_so, map, name_of, named_so, not, not-true, numbered}
 use Rattle.sc_lower.proofs.Common.{option_and_then, option_map, position, proto_signature, refl, result_ty}
 use Rattle.sc_lower.proofs.Common.{same_either_way, same_entry, same_results, same_signature, same_text, same_types}
-use Rattle.sc_lower.proofs.Common.{scalar_ty, section_fits, sections_fit, signature_of, slice_get, subst, suc, sym}
-use Rattle.sc_lower.proofs.Common.{true, truth, types_length, ℕ, ◌&&◌, ◌+◌, ◌==◌, ◌||◌, ◌∙◌, ◌∷◌, ◌≡◌}
+use Rattle.sc_lower.proofs.Common.{scalar_ty, section_fits, sections_fit, sections_so, signature_of, slice_get, subst}
+use Rattle.sc_lower.proofs.Common.{suc, sym, true, truth, types_length, ℕ, ◌&&◌, ◌+◌, ◌==◌, ◌||◌, ◌∙◌, ◌∷◌, ◌≡◌}
 use Rattle.sc_core.specs.declared.ty.Ty.TheVariants as ty
-use Rattle.sc_lower.proofs.Entries.{first_at, main_is, called_so, export_of, sections_so, mains_so}
+use Rattle.sc_lower.proofs.Entries.{first_at, main_is, called_so, export_of}
 use Rattle.sc_lower.proofs.Rules.{place as place_of, any_headed, exports_fit, distinct_names, beq_same, function_kept}
 use Rattle.sc_lower.proofs.Sections.{all_made, result_same, globals_named, own_called, exports_called, imports_called}
 

@@ -12,13 +12,13 @@ use Rattle.sc_lower.proofs.Common.{function_fits, global_fits, has_elements, has
 use Rattle.sc_lower.proofs.Common.{if◌then◌else◌, import_fits, import_name, in_turn, init_fits, inits_code, is_array}
 use Rattle.sc_lower.proofs.Common.{is_plain_name, is_some, is_type, is_well_typed, le-leb, leb-true, length}
 use Rattle.sc_lower.proofs.Common.{length-append, length-map, list_all, list_any, local_fits, lowered_function, lt-ltb}
-use Rattle.sc_lower.proofs.Common.{main_fits, main_name, map, most_cells, most_exports, most_nodes, most_params}
-use Rattle.sc_lower.proofs.Common.{named_so, names_own_object, names_own_temps, nat_le, nat_lt, nodes, not, one_or_none}
-use Rattle.sc_lower.proofs.Common.{option_and_then, option_map, option_signature, own_names_differ, passed_fits}
-use Rattle.sc_lower.proofs.Common.{passes_few, passes_words, position, proto_signature, refl, result_fits}
+use Rattle.sc_lower.proofs.Common.{main_fits, main_name, main_so, map, most_cells, most_exports, most_nodes}
+use Rattle.sc_lower.proofs.Common.{most_params, named_so, names_own_object, names_own_temps, nat_le, nat_lt, nodes, not}
+use Rattle.sc_lower.proofs.Common.{one_or_none, option_and_then, option_map, option_signature, own_names_differ}
+use Rattle.sc_lower.proofs.Common.{passed_fits, passes_few, passes_words, position, proto_signature, refl, result_fits}
 use Rattle.sc_lower.proofs.Common.{returns_result, same_base, same_import, same_signature, same_ty, same_types}
-use Rattle.sc_lower.proofs.Common.{scalar_ty, scope_of, signature_of, slice_get, slice_get-map, slice_index_or}
-use Rattle.sc_lower.proofs.Common.{stray_break, stray_continue, structs_fit, subst, suc, sym, takes_two}
+use Rattle.sc_lower.proofs.Common.{scalar_ty, scope_of, sections_so, signature_of, slice_get, slice_get-map}
+use Rattle.sc_lower.proofs.Common.{slice_index_or, stray_break, stray_continue, structs_fit, subst, suc, sym, takes_two}
 use Rattle.sc_lower.proofs.Common.{target_signature, total, true, type_within, types_length, variable_fits, variables}
 use Rattle.sc_lower.proofs.Common.{zero, ℕ, ◌&&◌, ◌++◌, ◌+◌, ◌<◌, ◌==◌, ◌∙◌, ◌∷◌, ◌≡◌, ◌≤◌}
 use Rattle.std.proofs.lemmas.List.Sums.{AllPass-from_list_all}
@@ -31,7 +31,6 @@ use Rattle.sc_core.specs.declared.ty.Ty.TheVariants as ty
 use Rattle.sc_kinds.proofs.Sections.{first_of}
 use Rattle.sc_lower.proofs.Beyond.{function_near, locals_few}
 use Rattle.sc_lower.proofs.Elements.{points_to_elements}
-use Rattle.sc_lower.proofs.Entries.{sections_so, mains_so}
 use Rattle.sc_lower.proofs.Flowing.{all_assigned}
 use Rattle.sc_lower.proofs.Passing.{InitsFit, PassedByAll, body_passes}
 use Rattle.sc_lower.proofs.Sizes.{few_temps, light}
@@ -590,8 +589,7 @@ module _ (program : ProgramTree) (typed : is_well_typed program ≡ true) where
           let there : slice_get program.sections faces.main ≡ Some section =
           subst (λ c. slice_get program.sections c ≡ Some section) own is in
           let any : main_fits (Some section) ≡ true =
-          subst (λ o. main_fits o ≡ true) there (and_first (main_fits (slice_get program.sections faces.main))
-          _ (mains_so program typed)) in
+          subst (λ o. main_fits o ≡ true) there (main_so program typed) in
           let same =
           named_so main_name (λ f. same_signature (signature_of f) (record { params = []; result = Some ty.Int }))
           section.functions distinct_names any n f item called in

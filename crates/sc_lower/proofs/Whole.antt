@@ -15,15 +15,15 @@ use Rattle.sc_lower.proofs.Common.{lowered_sections, main_name, map, may_call, m
 use Rattle.sc_lower.proofs.Common.{option_map, option_signature, option_value, passed_fits, performs, proto_signature}
 use Rattle.sc_lower.proofs.Common.{reached_good, refl, result_fits, result_ty, roles_in, rows_left, run_agree, run_by}
 use Rattle.sc_lower.proofs.Common.{run_of, run_step, same_import, scope_of, scripted_code_run, scripted_run_of}
-use Rattle.sc_lower.proofs.Common.{scripted_step, signature_of, slice_get, slice_get-map, slice_index_or, structs_fit}
-use Rattle.sc_lower.proofs.Common.{subst, suc, sym, target_signature, then_agree, true, turn, within, word_back, zero}
-use Rattle.sc_lower.proofs.Common.{ℕ, ◌&&◌, ◌==◌, ◌∙◌, ◌∷◌, ◌≡◌}
+use Rattle.sc_lower.proofs.Common.{scripted_step, sections_so, signature_of, slice_get, slice_get-map, slice_index_or}
+use Rattle.sc_lower.proofs.Common.{structs_fit, subst, suc, sym, target_signature, then_agree, true, turn, within}
+use Rattle.sc_lower.proofs.Common.{word_back, zero, ℕ, ◌&&◌, ◌==◌, ◌∙◌, ◌∷◌, ◌≡◌}
 use Rattle.sc_tac.specs.Prelude.{first_blocks as code_blocks}
 use Rattle.sc_event.specs.declared.event.Event.{Event}
 use Rattle.sc_event.specs.declared.interface.Import.TheVariants as import
 use Rattle.sc_core.specs.declared.ty.Ty.TheVariants as ty
 use Rattle.sc_kinds.proofs.Pieces.{Lasting}
-use Rattle.sc_lower.proofs.Entries.{first_at, main_is, sections_so, entered_same}
+use Rattle.sc_lower.proofs.Entries.{first_at, main_is, entered_same}
 use Rattle.sc_lower.proofs.Hollow.{shell, hollow, calls_alike, own_alike, performs_alike}
 use Rattle.sc_lower.proofs.Matching.{answers, some_answers, BackMatches, back_from, back_agrees, back_answers}
 use Rattle.sc_lower.proofs.Matching.{close_matches}

@@ -9,7 +9,7 @@ pub use Rattle.std.proofs.lemmas.List.Elements.{All-from_recursion, recursion_fr
 pub use Rattle.std.specs.List.{AllByRecursion, list_all, list_any}
 pub use Rattle.std.specs.Option.{option_map, option_map_or}
 pub use Rattle.sc_base.proofs.Bools.{and_first, and_rest}
-pub use Rattle.sc_event.specs.Prelude.{Activation, Standing, action_of, at_start, comp_at, count_of, export_at, imports}
+pub use Rattle.sc_event.specs.Prelude.{Activation, Standing, action_of, at_start, count_of, export_at, imports}
 pub use Rattle.sc_event.specs.Prelude.{is_allowed, is_function, is_input, is_legal_from, is_output, legal, may_perform}
 pub use Rattle.sc_event.specs.Prelude.{part, performer, resumed, rows_from, stands_after, takes}
 pub use Rattle.sc_event.specs.declared.event.Event.{Event}
@@ -28,15 +28,14 @@ pub use Rattle.sc_core.specs.Prelude.{Acts, Arith, Block, Blocks, Body, Calls, F
 pub use Rattle.sc_core.specs.Prelude.{IsWellTyped, Left, Library, Memory, Next, Piece, Reached, Return, Roles, State}
 pub use Rattle.sc_core.specs.Prelude.{Step, Stopped, Ways, acts, all_do, and_then, are_distinct, as_word, assign}
 pub use Rattle.sc_core.specs.Prelude.{back_cross, back_own, begun, block_does, blocks_for, c_arith, call_alone}
-pub use Rattle.sc_core.specs.Prelude.{call_cross, call_own, callable_names, called, calls, choose, closed, computed}
-pub use Rattle.sc_core.specs.Prelude.{crossed, crossing, done, ended, entry_in, evaluated, exit_word, export_fits}
-pub use Rattle.sc_core.specs.Prelude.{first_blocks, first_state, first_word, follow, found, function, function_of}
-pub use Rattle.sc_core.specs.Prelude.{functions_in, functions_of, global_block, globals_of, in_order, inits_do, is_main}
-pub use Rattle.sc_core.specs.Prelude.{is_number, is_plain_name, is_word, leads, leave, library_of, main_fits, main_name}
-pub use Rattle.sc_core.specs.Prelude.{main_signature, mains_in, may_call, meaning, most_compartments, next_input}
-pub use Rattle.sc_core.specs.Prelude.{of_bool, option_value, or_cause, performs, place_named, place_of_export}
-pub use Rattle.sc_core.specs.Prelude.{proto_signature, read_input, roles_in, rounds, rows_left, run_by, run_in}
-pub use Rattle.sc_core.specs.Prelude.{run_step, run_to, same_signature, scripted_meaning, scripted_step, sections_fit}
+pub use Rattle.sc_core.specs.Prelude.{call_cross, call_own, called, calls, choose, closed, computed, crossed, crossing}
+pub use Rattle.sc_core.specs.Prelude.{done, ended, entry_in, evaluated, exit_word, first_blocks, first_state}
+pub use Rattle.sc_core.specs.Prelude.{first_word, follow, found, function, function_of, functions_in, functions_of}
+pub use Rattle.sc_core.specs.Prelude.{global_block, globals_of, in_order, inits_do, is_main, is_number, is_plain_name}
+pub use Rattle.sc_core.specs.Prelude.{is_word, leads, leave, library_of, main_fits, main_name, main_signature, may_call}
+pub use Rattle.sc_core.specs.Prelude.{meaning, next_input, of_bool, option_value, or_cause, performs, place_named}
+pub use Rattle.sc_core.specs.Prelude.{place_of_export, proto_signature, read_input, roles_in, rounds, rows_left, run_by}
+pub use Rattle.sc_core.specs.Prelude.{run_in, run_step, run_to, same_signature, scripted_meaning, scripted_step}
 pub use Rattle.sc_core.specs.Prelude.{signature_of, stmt_does, stopped_at, store, struct_zeros, tell, test, turn}
 pub use Rattle.sc_core.specs.Prelude.{turn_of, values, variable_at, with_blocks, with_memory, within, word_in}
 pub use Rattle.sc_core.specs.declared.cause.Cause.{Cause}

@@ -1,19 +1,18 @@
 -- Entries of a well-typed program lead to functions, and different ones to different functions.
 use Rattle.sc_replay.proofs.Common.{Arith, Bool, Entry, Export, Interfaces, IsSome, IsWellTyped, List, Main, None}
 use Rattle.sc_replay.proofs.Common.{Option, ProgramTree, Proto, Some, TypedFunction, TypedSection, [], and_first}
-use Rattle.sc_replay.proofs.Common.{and_rest, ap, are_distinct, bytes_eq, callable_names, codes, comp_at, entry_in}
-use Rattle.sc_replay.proofs.Common.{eqb-true, export_at, export_fits, false, false≢true, function, function_of}
-use Rattle.sc_replay.proofs.Common.{functions_in, functions_of, if◌then◌else◌, is_main, is_number, is_plain_name}
-use Rattle.sc_replay.proofs.Common.{length, library_of, list_all, list_any, main_fits, main_name, main_proto}
-use Rattle.sc_replay.proofs.Common.{main_signature, mains_in, map, most_compartments, nat_le, ne_eqb, not, option_map}
-use Rattle.sc_replay.proofs.Common.{option_map_or, or_right, place_named, place_of_export, proto_of, proto_signature}
-use Rattle.sc_replay.proofs.Common.{refl, same_signature, sections_fit, signature_of, slice_get, slice_index_or, subst}
-use Rattle.sc_replay.proofs.Common.{suc, sym, true, zero, ℕ, ◌&&◌, ◌==◌, ◌||◌, ◌∙◌, ◌∷◌, ◌≡◌}
+use Rattle.sc_replay.proofs.Common.{and_rest, ap, are_distinct, bytes_eq, entry_in, eqb-true, export_at, false}
+use Rattle.sc_replay.proofs.Common.{false≢true, function, function_of, functions_in, functions_of, if◌then◌else◌}
+use Rattle.sc_replay.proofs.Common.{is_main, is_number, is_plain_name, library_of, list_any, main_fits, main_name}
+use Rattle.sc_replay.proofs.Common.{main_proto, main_signature, map, ne_eqb, not, option_map, option_map_or, or_right}
+use Rattle.sc_replay.proofs.Common.{place_named, place_of_export, proto_of, proto_signature, refl, same_signature}
+use Rattle.sc_replay.proofs.Common.{signature_of, slice_get, slice_index_or, subst, suc, sym, true, zero, ℕ, ◌&&◌, ◌==◌}
+use Rattle.sc_replay.proofs.Common.{◌||◌, ◌∙◌, ◌∷◌, ◌≡◌}
 use Rattle.std.proofs.lemmas.Option.{slice_get-map}
 use Rattle.sc_base.proofs.Texts.{bytes_eq_self, same_text}
 use Rattle.sc_event.specs.declared.interface.Interface.{Interface}
-use Rattle.sc_kinds.proofs.Results.{Behind, behind}
-use Rattle.sc_kinds.proofs.Sections.{First, all_at, any_along, first_of, for_interface, found_passes}
+use Rattle.sc_kinds.proofs.Sections.{First, any_along, first_of, found_passes, main_so}
+use Rattle.sc_kinds.proofs.Results.{exported}
 
 -- NAMES OF EXPORTS
 abbrev named : Proto → List ℕ
@@ -87,20 +86,6 @@ module _ (program : ProgramTree) (typed : IsWellTyped program) where
   abbrev faces : Interfaces
   faces = program.interfaces
 
-  behind_names : (sections_fit faces 0 faces.comps program.sections &&
-      (main_fits (slice_get program.sections faces.main) && mains_in program.sections == 1)) ≡ true
-  behind_names =
-      and_rest (are_distinct (codes "Env" ∷ map {A = Interface} (λ i. i.name) faces.comps)) _
-      (and_rest (nat_le (length program.sections) most_compartments) _ typed)
-
-  sections_so : sections_fit faces 0 faces.comps program.sections ≡ true
-  sections_so = and_first (sections_fit faces 0 faces.comps program.sections) _ behind_names
-
-  main_so : main_fits (slice_get program.sections faces.main) ≡ true
-  main_so =
-      and_first (main_fits (slice_get program.sections faces.main)) _
-      (and_rest (sections_fit faces 0 faces.comps program.sections) _ behind_names)
-
   -- the function that an entry leads to
   pub record Leads (c : ℕ) (entry : Entry) (proto : Proto) : Type 0 where
     pub section : TypedSection
@@ -125,36 +110,6 @@ module _ (program : ProgramTree) (typed : IsWellTyped program) where
         entered = entry_named program c entry proto known ∙ ap (place_named proto.name) is ∙ first.found;
       }
 
-  -- an export, with what its section and its interface keep
-  record Exported (c index : ℕ) (proto : Proto) : Type 0 where
-    pub interface : Interface
-    pub face : comp_at faces c ≡ Some interface
-    pub at : slice_get interface.exports index ≡ Some proto
-    pub section : TypedSection
-    pub is : slice_get program.sections c ≡ Some section
-    pub distinct : are_distinct (map named interface.exports) ≡ true
-    pub fits : export_fits section.functions proto ≡ true
-
-  exported : (c index : ℕ) (proto : Proto) → export_at faces c index ≡ Some proto → Exported c index proto
-  exported c index proto h =
-      let found : Behind {A = Interface} (λ i. slice_get i.exports index) (comp_at faces c) proto =
-      behind (λ i. slice_get i.exports index) (comp_at faces c) proto h in
-      let place = for_interface faces 0 faces.comps program.sections sections_so c found.item found.is in
-      let names = are_distinct (callable_names faces found.item place.section) in
-      let own = are_distinct (map named found.item.exports) in
-      let exports = list_all (export_fits place.section.functions) found.item.exports in
-      let rest = and_rest names _ place.placed.faces in
-      record {
-        interface = found.item;
-        face = found.is;
-        at = found.gives;
-        section = place.section;
-        is = place.is;
-        distinct = and_first own _ rest;
-        fits = all_at (export_fits place.section.functions) found.item.exports
-            (and_first exports _ (and_rest own _ rest)) index proto found.gives;
-      }
-
   -- a known entry leads to a function
   pub leads : (c : ℕ) (entry : Entry) (proto : Proto) → proto_of faces c entry ≡ Some proto → Leads c entry proto
   leads c Main proto known = by (c == faces.main) refl known where
@@ -172,16 +127,16 @@ module _ (program : ProgramTree) (typed : IsWellTyped program) where
     by true is h =
         let same : main_proto ≡ proto = cc in
         at_main (slice_get program.sections c) refl
-        (subst (λ n. main_fits (slice_get program.sections n) ≡ true) (sym (eqb-true c faces.main is)) main_so)
+        (subst (λ n. main_fits (slice_get program.sections n) ≡ true) (sym (eqb-true c faces.main is))
+        (main_so program typed))
         (ap named same)
     by false is h = absurd (cc)
   leads c (Export index) proto known =
-      let e = exported c index proto known in
+      let e = exported program typed c index proto known in
       leads_by c (Export index) proto known e.section e.is
       (any_along {A = TypedFunction}
       (λ f. bytes_eq f.name proto.name && same_signature (signature_of f) (proto_signature proto))
-      (λ f. bytes_eq f.name proto.name) (λ f k. and_first (bytes_eq f.name proto.name) _ k) e.section.functions
-      (and_rest (not (bytes_eq proto.name main_name)) _ (and_rest (is_plain_name proto.name) _ e.fits)))
+      (λ f. bytes_eq f.name proto.name) (λ f k. and_first (bytes_eq f.name proto.name) _ k) e.section.functions e.named)
 
   -- NAMES OF ENTRIES DIFFER
   main_is : (c : ℕ) (proto : Proto) → proto_of faces c Main ≡ Some proto → proto.name ≡ main_name
@@ -192,7 +147,7 @@ module _ (program : ProgramTree) (typed : IsWellTyped program) where
 
   no_main : (c index : ℕ) (proto : Proto) → export_at faces c index ≡ Some proto → proto.name ≡ main_name → ⊥
   no_main c index proto known same =
-      let e = exported c index proto known in
+      let e = exported program typed c index proto known in
       false≢true (sym (ap not (subst (λ name. bytes_eq proto.name name ≡ true) same (bytes_eq_self proto.name))) ∙
       and_first (not (bytes_eq proto.name main_name)) _ (and_rest (is_plain_name proto.name) _ e.fits))
 
@@ -202,10 +157,10 @@ module _ (program : ProgramTree) (typed : IsWellTyped program) where
   one_entry c Main (Export j) p q is js same = absurd (no_main c j q js (sym same ∙ main_is c p is))
   one_entry c (Export i) Main p q is js same = absurd (no_main c i p is (same ∙ main_is c q js))
   one_entry c (Export i) (Export j) p q is js same =
-      let e = exported c i p is in
-      let d = exported c j q js in
+      let e = exported program typed c i p is in
+      let d = exported program typed c j q js in
       let one : d.interface ≡ e.interface = cc (d.face, e.face) in
-      ap Export (sym (one_place e.interface.exports e.distinct i j p q e.at
+      ap Export (sym (one_place e.interface.exports e.exports_differ i j p q e.at
       (subst {A = Interface} (λ x. slice_get x.exports j ≡ Some q) one d.at) same))
 
   -- a function that an entry leads to has its name
