@@ -49,7 +49,7 @@ abbrev pub from_one : Lows → (ℕ → ℕ → TacStmt) → Lows
 from_one a make n = let x = a n in record { code = x.code ++ make x.at x.at ∷ []; at = x.at; next = x.next }
 
 -- two values, and then a statement that computes from them; the temporary of the last one takes the result, so that
--- neither is needed behind the statement
+-- this one is overwritten, and not live behind the statement
 abbrev pub from_two : Lows → Lows → (ℕ → ℕ → ℕ → TacStmt) → Lows
 from_two a b make n = let x = a n in let y = b x.next in
     record { code = x.code ++ (y.code ++ make y.at x.at y.at ∷ []); at = y.at; next = y.next }
