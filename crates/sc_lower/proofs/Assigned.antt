@@ -223,8 +223,8 @@ one_settled : (a : Lows) (make : ℕ → ℕ → TacStmt) → ((d x : ℕ) → R
     Settled (from_one a make)
 one_settled a make k ha = record {
   settles = λ n b t ahead behind h.
-      let last : List TacStmt = make (a n).next (a n).at ∷ [] in
-      ha.settles n b t (record ahead { behind = first t last ahead }) (k (a n).next (a n).at b t ahead behind)
+      let last : List TacStmt = make (a n).at (a n).at ∷ [] in
+      ha.settles n b t (record ahead { behind = first t last ahead }) (k (a n).at (a n).at b t ahead behind)
       (sym (first_append t (a n).code last ahead) ∙ h);
 }
 
@@ -233,10 +233,10 @@ two_settled : (a b : Lows) (make : ℕ → ℕ → ℕ → TacStmt) → ((d x y 
 two_settled a c make k ha hb = record {
   settles = λ n b t ahead behind h.
       let x : Low = a n in let y : Low = c x.next in
-      let last : List TacStmt = make y.next x.at y.at ∷ [] in
+      let last : List TacStmt = make y.at x.at y.at ∷ [] in
       ha.settles n b t (record ahead { behind = first t (y.code ++ last) ahead })
       (λ g. out_of (x.at) t b (hb.settles x.next (x.at == t || b) t (record ahead { behind = first t last ahead })
-      (λ f. further (k y.next x.at y.at b t ahead behind f) (into x.at t b)) (sym (first_append t y.code last ahead)
+      (λ f. further (k y.at x.at y.at b t ahead behind f) (into x.at t b)) (sym (first_append t y.code last ahead)
       ∙ g)))
       (sym (first_append t x.code (y.code ++ last) ahead) ∙ h);
 }

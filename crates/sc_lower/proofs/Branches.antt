@@ -85,14 +85,14 @@ place_has ty w l k h n = then_none (l n).code (loaded ty w (l n).at) k (h n) (lo
 
 one_has : (a : Lows) (make : ℕ → ℕ → TacStmt) (k : ℕ) → ((d x : ℕ) → Without (make d x)) → Has a k →
     Has (from_one a make) k
-one_has a make k none h n = then_none (a n).code (make (a n).next (a n).at ∷ []) k (h n) (none (a n).next (a n).at)
+one_has a make k none h n = then_none (a n).code (make (a n).at (a n).at ∷ []) k (h n) (none (a n).at (a n).at)
 
 two_has : (a b : Lows) (make : ℕ → ℕ → ℕ → TacStmt) (k j : ℕ) → ((d x y : ℕ) → Without (make d x y)) → Has a k →
     Has b j → Has (from_two a b make) (k + j)
 two_has a b make k j none ha hb n =
     let y : Low = b (a n).next in
-    then_ifs (a n).code (y.code ++ make y.next (a n).at y.at ∷ []) k j (ha n)
-    (then_none y.code (make y.next (a n).at y.at ∷ []) j (hb (a n).next) (none y.next (a n).at y.at))
+    then_ifs (a n).code (y.code ++ make y.at (a n).at y.at ∷ []) k j (ha n)
+    (then_none y.code (make y.at (a n).at y.at ∷ []) j (hb (a n).next) (none y.at (a n).at y.at))
 
 if_ifs : (c : ℕ) (x y : List TacStmt) → ifs (emit.If c x y ∷ []) ≡ suc (ifs x + ifs y)
 if_ifs c x y = ifs_one (tac.If c x y) (emit.If c x y) (emit.rolls-If c x y)

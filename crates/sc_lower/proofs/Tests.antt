@@ -272,25 +272,26 @@ module _ (temps : ℕ) (scope : Scope) (test : TacStmt-F Bool → Bool) (passed 
   from_one_clean : (a : Lows) (make : ℕ → ℕ → TacStmt) →
       ((d x : ℕ) → d < temps → x < temps → everywhere test (make d x ∷ []) ≡ true) → Clean a → Clean (from_one a make)
   from_one_clean a make h ha = record {
-    above = λ n. omega (numbers, ha.above n, ha.below n);
-    below = λ n. omega numbers;
-    passes = λ n le. all_append test (a n).code (make (a n).next (a n).at ∷ []) (ha.passes n (omega (numbers, le)))
-        (h (a n).next (a n).at (omega (numbers, le)) (omega (numbers, le, ha.below n)));
+    above = ha.above;
+    below = ha.below;
+    passes = λ n le.
+        let lt : (a n).at < temps = omega (numbers, le, ha.below n) in
+        all_append test (a n).code (make (a n).at (a n).at ∷ []) (ha.passes n le) (h (a n).at (a n).at lt lt);
   }
 
   from_two_clean : (a b : Lows) (make : ℕ → ℕ → ℕ → TacStmt) →
       ((d x y : ℕ) → d < temps → x < temps → y < temps → everywhere test (make d x y ∷ []) ≡ true) → Clean a → Clean b →
       Clean (from_two a b make)
   from_two_clean a b make h ha hb = record {
-    above = λ n. omega (numbers, ha.above n, ha.below n, hb.above (a n).next, hb.below (a n).next);
-    below = λ n. omega numbers;
+    above = λ n. omega (numbers, ha.above n, ha.below n, hb.above (a n).next);
+    below = λ n. hb.below (a n).next;
     passes = λ n le.
         let y : Low = b (a n).next in
         let far : (a n).next ≤ y.next = omega (numbers, hb.above (a n).next, hb.below (a n).next) in
-        all_append test (a n).code (y.code ++ make y.next (a n).at y.at ∷ []) (ha.passes n (omega (numbers, le, far)))
-        (all_append test y.code (make y.next (a n).at y.at ∷ []) (hb.passes (a n).next (omega (numbers, le)))
-        (h y.next (a n).at y.at (omega (numbers, le)) (omega (numbers, le, far, ha.below n))
-        (omega (numbers, le, hb.below (a n).next))));
+        let lt : y.at < temps = omega (numbers, le, hb.below (a n).next) in
+        all_append test (a n).code (y.code ++ make y.at (a n).at y.at ∷ []) (ha.passes n (omega (numbers, le, far)))
+        (all_append test y.code (make y.at (a n).at y.at ∷ []) (hb.passes (a n).next le)
+        (h y.at (a n).at y.at lt (omega (numbers, le, far, ha.below n)) lt));
   }
 
   from_first_clean : (a b : Lows) (last : ℕ → ℕ → List TacStmt) (make : ℕ → ℕ → List TacStmt → TacStmt) →

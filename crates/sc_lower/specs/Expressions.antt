@@ -44,16 +44,18 @@ lowered_step e = record { ty = e.ty; form = e.kind e.ty }
 abbrev pub alone : (ℕ → TacStmt) → Lows
 alone make n = record { code = make n ∷ []; at = n; next = suc n }
 
--- a value, and then a statement that assigns a temporary from it
+-- a value, and then a statement that computes from it; its temporary takes the result
 abbrev pub from_one : Lows → (ℕ → ℕ → TacStmt) → Lows
-from_one a make n = let x = a n in record { code = x.code ++ make x.next x.at ∷ []; at = x.next; next = suc x.next }
+from_one a make n = let x = a n in record { code = x.code ++ make x.at x.at ∷ []; at = x.at; next = x.next }
 
--- two values, and then a statement that assigns a temporary from them
+-- two values, and then a statement that computes from them; the temporary of the last one takes the result, so that
+-- this one is overwritten, and not live behind the statement
 abbrev pub from_two : Lows → Lows → (ℕ → ℕ → ℕ → TacStmt) → Lows
 from_two a b make n = let x = a n in let y = b x.next in
-    record { code = x.code ++ (y.code ++ make y.next x.at y.at ∷ []); at = y.next; next = suc y.next }
+    record { code = x.code ++ (y.code ++ make y.at x.at y.at ∷ []); at = y.at; next = y.next }
 
--- a value, and then a statement that runs the code of a second one where it needs it, and `last` behind that
+-- a value, and then a statement that runs the code of a second one where it needs it, and `last` behind that; a
+-- temporary of its own takes the result
 abbrev pub from_first : Lows → Lows → (ℕ → ℕ → List TacStmt) → (ℕ → ℕ → List TacStmt → TacStmt) → Lows
 from_first a b last make n = let x = a n in let y = b x.next in
     record { code = x.code ++ make y.next x.at (y.code ++ last y.next y.at) ∷ []; at = y.next; next = suc y.next }

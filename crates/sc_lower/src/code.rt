@@ -45,21 +45,20 @@ pub fn alone(alloc: Global, stmt: TacStmt, free: u32) -> Result<Code, OutOfMemor
     })
 }
 
-/// The code with a statement behind it that assigns the next free temporary.
+/// The code with a statement behind it that assigns the temporary in which the code left its value.
 pub fn with_last(code: Code, last: TacStmt) -> Result<Code, OutOfMemory>
-    requires { code.next < most_nodes }
     ensures { IfOk result (λ longer. longer ≡ record {
       stmts = code.stmts ++ last ∷ [];
-      at = code.next;
-      next = suc code.next;
+      at = code.at;
+      next = code.next;
     }) }
 {
     let mut stmts = code.stmts;
     stmts.push(last)?;
     Ok(Code {
         stmts,
-        at: code.next,
-        next: code.next + 1,
+        at: code.at,
+        next: code.next,
     })
 }
 

@@ -30,17 +30,16 @@ fn literal(alloc: Global, ty: Ty, word: u32, free: u32) -> Result<Code, OutOfMem
     alone(alloc, stmt, free)
 }
 
-// An operator that takes one value.
+// An operator that takes one value. The value's temporary takes the result.
 fn with_op(code: Code, op: TacOp) -> Result<Code, OutOfMemory>
-    requires { code.next < most_nodes }
     ensures { IfOk result (λ longer. longer ≡ record {
-      stmts = code.stmts ++ TacStmt.Op code.next op code.at None ∷ [];
-      at = code.next;
-      next = suc code.next;
+      stmts = code.stmts ++ TacStmt.Op code.at op code.at None ∷ [];
+      at = code.at;
+      next = code.next;
     }) }
 {
     let last = TacStmt::Op {
-        dest: code.next,
+        dest: code.at,
         op,
         left: code.at,
         right: None,
@@ -48,18 +47,17 @@ fn with_op(code: Code, op: TacOp) -> Result<Code, OutOfMemory>
     with_last(code, last)
 }
 
-// The place of an element.
+// The place of an element. The index's temporary takes it.
 fn element(scope: &Scope, types: (Ty, Ty), base: Code, index: Code) -> Result<Code, OutOfMemory>
-    requires { index.next < most_nodes }
     ensures { IfOk result (λ code. code ≡ record {
       stmts = base.stmts ++ (index.stmts
-          ++ TacStmt.Op index.next (move_op scope.now.structs.now op.Add types.0 types.1) base.at (Some index.at) ∷ []);
-      at = index.next;
-      next = suc index.next;
+          ++ TacStmt.Op index.at (move_op scope.now.structs.now op.Add types.0 types.1) base.at (Some index.at) ∷ []);
+      at = index.at;
+      next = index.next;
     }) }
 {
     let last = TacStmt::Op {
-        dest: index.next,
+        dest: index.at,
         op: move_op(scope.structs, BinaryOp::Add, types.0, types.1),
         left: base.at,
         right: Some(index.at),
@@ -126,7 +124,7 @@ fn or_else(alloc: Global, ty: Ty, left: Code, right: Code) -> Result<Code, OutOf
     })
 }
 
-// An operator for which both values count.
+// An operator for which both values count. The second one's temporary takes the result.
 fn plain(
     scope: &Scope,
     op: BinaryOp,
@@ -134,15 +132,14 @@ fn plain(
     left: Code,
     right: Code,
 ) -> Result<Code, OutOfMemory>
-    requires { right.next < most_nodes }
     ensures { IfOk result (λ code. code ≡ record {
       stmts = left.stmts ++ (right.stmts
-          ++ binary_code scope.now.structs.now op types.0 types.1 right.next left.at right.at ∷ []);
-      at = right.next;
-      next = suc right.next;
+          ++ binary_code scope.now.structs.now op types.0 types.1 right.at left.at right.at ∷ []);
+      at = right.at;
+      next = right.next;
     }) }
 {
-    let last = binary_code(scope.structs, op, types, right.next, left.at, right.at);
+    let last = binary_code(scope.structs, op, types, right.at, left.at, right.at);
     let code = with_last(right, last)?;
     behind(left.stmts, code)
 }
@@ -159,7 +156,7 @@ fn binary(
     requires { right.next < most_nodes }
     ensures made { (a b : Lowered) (free : ℕ) → IsOperands types a b left right free →
         IfOk result (λ code. code ≡ code_of (binary scope.now.structs.now op a b free)) }
-    ensures few { IfOk result (λ code. code.next ≡ suc right.next) }
+    ensures few { IfOk result (λ code. code.next ≤ suc right.next) }
 {
     match op {
         BinaryOp::AndAlso => and_also(alloc, types.1, left, right),
