@@ -1,13 +1,13 @@
 -- What the code of statements in order, of choices and of loops is made of, and that the jumps of their parts reach.
 use Rattle.sc_select.proofs.Common.{Bool, Fits, FitsBetween, FrameTree, Instr, Line, List, OnOk, Other, Piece, Place}
-use Rattle.sc_select.proofs.Common.{Role, TacStmt, [], and_first, and_rest, ap, append_assoc, ap₂, arith, between}
-use Rattle.sc_select.proofs.Common.{choice, choosing, cycle, drop, drop-cons, false, fold-TacStmt, fold-roll-TacStmt}
-use Rattle.sc_select.proofs.Common.{get_or, if◌then◌else◌, in_turn, joined, joins, jump_back, jump_over, length}
-use Rattle.sc_select.proofs.Common.{length-append, length-map, loop_begins, map, nothing, on_ok_weaker, passes_few}
-use Rattle.sc_select.proofs.Common.{past, plain, plainly, reading, refl, role_before, role_first, roll-TacStmt, select}
-use Rattle.sc_select.proofs.Common.{select_all, select_step, skipping, stmt_weight, subst, suc, sym, true, weight}
-use Rattle.sc_select.proofs.Common.{weight_step, with_parts, zero, ℕ, ◌&&◌, ◌++◌, ◌+◌, ◌-◌, ◌<◌, ◌==◌, ◌∙◌, ◌∷◌, ◌≡◌}
-use Rattle.sc_select.proofs.Common.{◌≤◌}
+use Rattle.sc_select.proofs.Common.{Role, TacStmt, [], and_first, and_rest, ap, append_assoc, ap₂, arith, as_one}
+use Rattle.sc_select.proofs.Common.{between, choice, choosing, cycle, drop, drop-cons, false, fold-TacStmt}
+use Rattle.sc_select.proofs.Common.{fold-roll-TacStmt, get_or, if◌then◌else◌, in_turn, joined, joins, jump_back}
+use Rattle.sc_select.proofs.Common.{jump_over, length, length-append, length-map, loop_begins, map, nothing}
+use Rattle.sc_select.proofs.Common.{on_ok_weaker, passes_few, past, plain, plainly, refl, role_before, role_first}
+use Rattle.sc_select.proofs.Common.{roll-TacStmt, select, select_all, select_step, skipping, stmt_weight, subst, suc}
+use Rattle.sc_select.proofs.Common.{sym, true, weight, weight_step, with_parts, zero, ℕ, ◌&&◌, ◌++◌, ◌+◌, ◌-◌, ◌<◌}
+use Rattle.sc_select.proofs.Common.{◌==◌, ◌∙◌, ◌∷◌, ◌≡◌, ◌≤◌}
 use Rattle.sc_tac.specs.Prelude.{everywhere}
 use Rattle.std.specs.declared.result.Result.{Result}
 use Rattle.sc_tac.specs.declared.stmt.TacStmt.TheOpen as tac
@@ -105,8 +105,9 @@ module _ (frame : FrameTree) (places : List Place) where
 
   -- a statement alone
   alone : (b c : ℕ) (stmt : TacStmt) → size (stmt ∷ []) ≡ (select frame places stmt).size + 0
-  alone b c stmt = ap (λ (behind : Bool). (if behind then reading frame places (select frame places stmt).role
-      else select frame places stmt).size + 0) (none_behind (select frame places stmt).role)
+  alone b c stmt =
+      ap (λ (behind : Bool). (if behind then nothing else select frame places stmt).size + 0)
+      (none_behind (select frame places stmt).role)
 
   -- how many lines statements have put in front
   counted : (stmts : List TacStmt) (b c : ℕ) (new old : List Line) (n m : ℕ) → n ≡ length new → m ≡ length old →
@@ -611,20 +612,20 @@ module _ (frame : FrameTree) (places : List Place) where
 
     by_tests : (one two : Bool) → joins before itself.role ≡ one → joins itself.role behind ≡ two →
         between frame places before itself behind ≡
-        (if one then nothing else if two then reading frame places itself.role else itself)
+        (if one then as_one frame places before itself.role else if two then nothing else itself)
     by_tests one two h k =
-        ap₂ (λ a b. if a then nothing else if b then reading frame places itself.role else itself) h k
+        ap₂ (λ a b. if a then as_one frame places before itself.role else if b then nothing else itself) h k
 
-    pub is_nothing : (found : Bool) → found ≡ joins before role → found ≡ true →
-        nothing ≡ between frame places before itself behind
-    is_nothing found h k = sym (by_tests true (joins itself.role behind) (first_test found true h k) refl)
+    pub is_both : (found : Bool) → found ≡ joins before role → found ≡ true →
+        as_one frame places before role ≡ between frame places before itself behind
+    is_both found h k =
+        ap (as_one frame places before) is ∙
+        sym (by_tests true (joins itself.role behind) (first_test found true h k) refl)
 
     module _ (found : Bool) (none : found ≡ joins before role) (none_is : found ≡ false) (other : Bool)
         (both : other ≡ joins role behind) where
-      pub is_reading : other ≡ true → reading frame places role ≡ between frame places before itself behind
-      is_reading k =
-          ap (reading frame places) is ∙
-          sym (by_tests false true (first_test found false none none_is) (second_test other true both k))
+      pub is_nothing : other ≡ true → nothing ≡ between frame places before itself behind
+      is_nothing k = sym (by_tests false true (first_test found false none none_is) (second_test other true both k))
 
       pub is_itself : other ≡ false → itself ≡ between frame places before itself behind
       is_itself k =

@@ -1,44 +1,103 @@
 -- Pieces between others: what holds of each piece of statements holds of all of them in order, and which statements are
 -- one piece.
-use Rattle.sc_select.proofs.Common.{Bool, Each, FrameTree, List, Loads, Other, Piece, Place, Places, Role, TacStmt}
-use Rattle.sc_select.proofs.Common.{TacStmt-F, [], and_first, ap, ap₂, arith, between, choice, choosing, drop}
-use Rattle.sc_select.proofs.Common.{ending_past, eqb-true, false, fold-roll-TacStmt, followed, fork, get_or}
-use Rattle.sc_select.proofs.Common.{if◌then◌else◌, in_order, in_turn, joined, joins, jump_over, length, map}
-use Rattle.sc_select.proofs.Common.{map-TacStmt, nothing, object_read, past, reading, refl, role_before, role_first}
-use Rattle.sc_select.proofs.Common.{roll-TacStmt, select, select_step, skipping, stmt_induction, straight, straightly}
-use Rattle.sc_select.proofs.Common.{suc, sym, true, zero, ℕ, ◌&&◌, ◌-◌, ◌<◌, ◌==◌, ◌∙◌, ◌∷◌, ◌≡◌, ◌≤◌}
+use Rattle.sc_select.proofs.Common.{Bool, Each, FrameTree, List, Loads, None, Operates, Option, Other, Piece, Place}
+use Rattle.sc_select.proofs.Common.{Places, Role, Sets, ShortForm, Some, TacOp, TacStmt, TacStmt-F, [], and_first}
+use Rattle.sc_select.proofs.Common.{and_rest, ap, ap₂, arith, as_one, between, choice, choosing, drop, ending_past}
+use Rattle.sc_select.proofs.Common.{eqb-true, false, fold-roll-TacStmt, followed, fork, get_or, if◌then◌else◌, in_order}
+use Rattle.sc_select.proofs.Common.{in_turn, inl, inr, is_some, joined, joins, jump_over, length, map, map-TacStmt}
+use Rattle.sc_select.proofs.Common.{nothing, object_read, past, refl, role_before, role_first, role_of_operation}
+use Rattle.sc_select.proofs.Common.{roll-TacStmt, select, select_step, short_form, short_operation, skipping}
+use Rattle.sc_select.proofs.Common.{stmt_induction, straight, straightly, suc, sym, true, word_of_constant, zero, ℕ}
+use Rattle.sc_select.proofs.Common.{⊎_elim, ◌&&◌, ◌-◌, ◌<◌, ◌==◌, ◌∙◌, ◌∷◌, ◌≡◌, ◌≤◌, ◌⊎◌}
+use Rattle.std.specs.Prelude.{not}
+use Rattle.sc_tac.specs.declared.stmt.Constant.{Constant}
 use Rattle.sc_tac.specs.declared.stmt.TacStmt.TheOpen as tac
 
 -- ROLES
 pub none_behind : (role : Role) → joins role Other ≡ false
 none_behind (Places temp object) = refl
 none_behind (Loads temp) = refl
+none_behind (Sets temp word) = refl
+none_behind (Operates temp left o) = refl
 none_behind Other = refl
 
 pub none_before : (role : Role) → joins Other role ≡ false
 none_before role = refl
 
-pub load_first : (temp : ℕ) (role : Role) → joins (Loads temp) role ≡ false
-load_first temp role = refl
+-- the second of two statements that are one piece is no first one
+pub last_of_two : (first second behind : Role) → joins first second ≡ true → joins second behind ≡ false
+last_of_two (Places temp object) (Loads other) behind h = refl
+last_of_two (Sets temp word) (Operates other left o) behind h = refl
+last_of_two (Places temp object) (Places other place) behind h = cc h
+last_of_two (Places temp object) (Sets other word) behind h = cc h
+last_of_two (Places temp object) (Operates other left o) behind h = cc h
+last_of_two (Places temp object) Other behind h = cc h
+last_of_two (Sets temp word) (Places other place) behind h = cc h
+last_of_two (Sets temp word) (Loads other) behind h = cc h
+last_of_two (Sets temp word) (Sets other value) behind h = cc h
+last_of_two (Sets temp word) Other behind h = cc h
+last_of_two (Loads temp) second behind h = cc h
+last_of_two (Operates temp left o) second behind h = cc h
+last_of_two Other second behind h = cc h
 
--- two statements that are one piece
+-- two statements that read a variable
 pub record IsRead (first second : Role) : Type 0 where
   pub temp : ℕ
   pub object : ℕ
   pub gives : first ≡ Places temp object
   pub loads : second ≡ Loads temp
 
-pub is_read : (first second : Role) → joins first second ≡ true → IsRead first second
-is_read (Places temp object) (Loads other) h = record {
+-- two that apply an operator to a temporary and a constant
+pub record IsShort (first second : Role) : Type 0 where
+  pub temp : ℕ
+  pub word : ℕ
+  pub left : ℕ
+  pub op : TacOp
+  pub form : ShortForm
+  pub sets : first ≡ Sets temp word
+  pub operates : second ≡ Operates temp left op
+  pub form_is : short_form op word ≡ Some form
+
+there : {A : Type 0} (o : Option A) → is_some o ≡ true → (x : A) × (o ≡ Some x)
+there None h = cc h
+there (Some x) h = (x, refl)
+
+short_by : (temp other word left : ℕ) (o : TacOp) → (temp == other && is_some (short_form o word)) ≡ true →
+    IsShort (Sets temp word) (Operates other left o)
+short_by temp other word left o h =
+    let found = there (short_form o word) (and_rest (temp == other) (is_some (short_form o word)) h) in
+    record {
+      temp = temp;
+      word = word;
+      left = left;
+      op = o;
+      form = found.0;
+      sets = refl;
+      operates = ap (λ t. Operates t left o)
+          (sym (eqb-true temp other (and_first (temp == other) (is_some (short_form o word)) h)));
+      form_is = found.1;
+    }
+
+-- two statements that are one piece are of either kind
+pub which_pair : (first second : Role) → joins first second ≡ true → IsRead first second ⊎ IsShort first second
+which_pair (Places temp object) (Loads other) h = inl (record {
   temp = temp;
   object = object;
   gives = refl;
   loads = ap Loads (sym (eqb-true temp other h));
-}
-is_read (Places temp object) (Places other place) h = cc h
-is_read (Places temp object) Other h = cc h
-is_read (Loads temp) second h = cc h
-is_read Other second h = cc h
+})
+which_pair (Sets temp word) (Operates other left o) h = inr (short_by temp other word left o h)
+which_pair (Places temp object) (Places other place) h = cc h
+which_pair (Places temp object) (Sets other word) h = cc h
+which_pair (Places temp object) (Operates other left o) h = cc h
+which_pair (Places temp object) Other h = cc h
+which_pair (Sets temp word) (Places other place) h = cc h
+which_pair (Sets temp word) (Loads other) h = cc h
+which_pair (Sets temp word) (Sets other value) h = cc h
+which_pair (Sets temp word) Other h = cc h
+which_pair (Loads temp) second h = cc h
+which_pair (Operates temp left o) second h = cc h
+which_pair Other second h = cc h
 
 -- A CHOICE
 pub is_empty : {A : Type 0} (xs : List A) → (length xs == 0) ≡ true → xs ≡ []
@@ -116,6 +175,23 @@ module _ (frame : FrameTree) (places : List Place) where
   of_load true dest temp object h = cc h
   of_load false dest temp object h = cc h
 
+  -- an operator does to a temporary what it does, or nothing that a neighbour would ask for
+  operation_role : (dest : ℕ) (o : TacOp) (left : ℕ) (right : Option ℕ) →
+      (role_of_operation dest o left right ≡ Other) ⊎
+      (role_of_operation dest o left right ≡ Operates dest left o)
+  operation_role dest o left None = inl refl
+  operation_role dest o left (Some right) = by (dest == right && not (left == dest))
+    where
+      by : (b : Bool) → ((if b then Operates dest left o else Other) ≡ Other) ⊎
+          ((if b then Operates dest left o else Other) ≡ Operates dest left o)
+      by true = inr refl
+      by false = inl refl
+
+  other_than : (role found : Role) (dest left : ℕ) (o : TacOp) → (role ≡ Other) ⊎ (role ≡ Operates dest left o) →
+      role ≡ found → (Other ≡ found → ⊥) → (Operates dest left o ≡ found → ⊥) → ⊥
+  other_than role found dest left o is h none some =
+      ⊎_elim (λ e. none (sym e ∙ h)) (λ e. some (sym e ∙ h)) is
+
   layer_gives : (layer : TacStmt-F TacStmt) (temp object : ℕ) → layer_role layer ≡ Places temp object →
       roll-TacStmt layer ≡ roll-TacStmt (tac.ObjectPlace temp object)
   layer_gives (tac.ObjectPlace dest place) temp object h =
@@ -124,6 +200,8 @@ module _ (frame : FrameTree) (places : List Place) where
       ap₂ (λ t o. roll-TacStmt (tac.ObjectPlace t o)) one two
   layer_gives (tac.Load dest place pointer) temp object h =
       absurd (of_load (dest == place) dest temp object h)
+  layer_gives (tac.Op dest o left right) temp object h =
+      absurd (other_than _ _ dest left o (operation_role dest o left right) h (λ e. cc e) (λ e. cc e))
   layer_gives (tac.If cond first second) temp object h =
       cc (sym (fork_role cond (map (select frame places) first) (map (select frame places) second)) ∙ h)
   layer_gives _ temp object h = cc h
@@ -148,6 +226,8 @@ module _ (frame : FrameTree) (places : List Place) where
           let two : place ≡ temp = sym (eqb-true dest place e) ∙ one in
           record { pointer = pointer; is = ap₂ (λ t u. roll-TacStmt (tac.Load t u pointer)) one two }
       by false e h = cc h
+  layer_loads (tac.Op dest o left right) temp h =
+      absurd (other_than _ _ dest left o (operation_role dest o left right) h (λ e. cc e) (λ e. cc e))
   layer_loads (tac.If cond first second) temp h =
       let other : Other ≡ Loads temp =
       sym (fork_role cond (map (select frame places) first) (map (select frame places) second)) ∙ h in cc other
@@ -156,6 +236,82 @@ module _ (frame : FrameTree) (places : List Place) where
   pub loads_it : (stmt : TacStmt) (temp : ℕ) → role_of stmt ≡ Loads temp → IsLoad stmt temp
   loads_it = stmt_induction (λ stmt. (temp : ℕ) → role_of stmt ≡ Loads temp → IsLoad stmt temp)
       (λ layer inside temp h. layer_loads layer temp (sym (role_is layer) ∙ h))
+
+  -- which sets a constant
+  pub record IsSet (stmt : TacStmt) (temp word : ℕ) : Type 0 where
+    pub value : Constant
+    pub is : stmt ≡ roll-TacStmt (tac.Const temp value)
+    pub word_is : word_of_constant value ≡ word
+
+  layer_sets : (layer : TacStmt-F TacStmt) (temp word : ℕ) → layer_role layer ≡ Sets temp word →
+      IsSet (roll-TacStmt layer) temp word
+  layer_sets (tac.Const dest value) temp word h =
+      let one : dest ≡ temp = cc h in
+      let two : word_of_constant value ≡ word = cc h in
+      record { value = value; is = ap (λ t. roll-TacStmt (tac.Const t value)) one; word_is = two }
+  layer_sets (tac.Op dest o left right) temp word h =
+      absurd (other_than _ _ dest left o (operation_role dest o left right) h (λ e. cc e) (λ e. cc e))
+  layer_sets (tac.Load dest place pointer) temp word h = absurd (by (dest == place) h)
+    where
+      by : (b : Bool) → (if b then Loads dest else Other) ≡ Sets temp word → ⊥
+      by true h = cc h
+      by false h = cc h
+  layer_sets (tac.If cond first second) temp word h =
+      let other : Other ≡ Sets temp word =
+      sym (fork_role cond (map (select frame places) first) (map (select frame places) second)) ∙ h in cc other
+  layer_sets _ temp word h = cc h
+
+  pub sets_it : (stmt : TacStmt) (temp word : ℕ) → role_of stmt ≡ Sets temp word → IsSet stmt temp word
+  sets_it = stmt_induction (λ stmt. (temp word : ℕ) → role_of stmt ≡ Sets temp word → IsSet stmt temp word)
+      (λ layer inside temp word h. layer_sets layer temp word (sym (role_is layer) ∙ h))
+
+  -- which is an operator whose result takes the temporary of the second operand
+  pub record IsOperation (stmt : TacStmt) (temp left : ℕ) (o : TacOp) : Type 0 where
+    pub is : stmt ≡ roll-TacStmt (tac.Op temp o left (Some temp))
+    pub apart : (left == temp) ≡ false
+
+  layer_operates : (layer : TacStmt-F TacStmt) (temp left : ℕ) (o : TacOp) → layer_role layer ≡ Operates temp left o →
+      IsOperation (roll-TacStmt layer) temp left o
+  layer_operates (tac.Op dest op first None) temp left o h = cc h
+  layer_operates (tac.Op dest op first (Some right)) temp left o h =
+      by (dest == right) (not (first == dest)) refl refl h
+    where
+      by : (a b : Bool) → (dest == right) ≡ a → not (first == dest) ≡ b →
+          (if a && b then Operates dest first op else Other) ≡ Operates temp left o →
+          IsOperation (roll-TacStmt (tac.Op dest op first (Some right))) temp left o
+      by true true d e h =
+          let one : dest ≡ temp = cc h in
+          let two : first ≡ left = cc h in
+          let three : op ≡ o = cc h in
+          let four : right ≡ temp = sym (eqb-true dest right d) ∙ one in
+          let other : (first == dest) ≡ false = not_true (first == dest) e in
+          record {
+            is = ap₂ (λ t l. roll-TacStmt (tac.Op t op l (Some right))) one two ∙
+                ap₂ (λ p r. roll-TacStmt (tac.Op temp p left (Some r))) three four;
+            apart = sym (ap₂ (λ l t. l == t) two one) ∙ other;
+          }
+        where
+          not_true : (b : Bool) → not b ≡ true → b ≡ false
+          not_true true h = cc h
+          not_true false h = refl
+      by true false d e h = cc h
+      by false b d e h = cc h
+  layer_operates (tac.Load dest place pointer) temp left o h = absurd (by (dest == place) h)
+    where
+      by : (b : Bool) → (if b then Loads dest else Other) ≡ Operates temp left o → ⊥
+      by true h = cc h
+      by false h = cc h
+  layer_operates (tac.If cond first second) temp left o h =
+      let other : Other ≡ Operates temp left o =
+      sym (fork_role cond (map (select frame places) first) (map (select frame places) second)) ∙ h in cc other
+  layer_operates _ temp left o h = cc h
+
+  pub operates_it : (stmt : TacStmt) (temp left : ℕ) (o : TacOp) → role_of stmt ≡ Operates temp left o →
+      IsOperation stmt temp left o
+  operates_it =
+      stmt_induction
+      (λ stmt. (temp left : ℕ) (o : TacOp) → role_of stmt ≡ Operates temp left o → IsOperation stmt temp left o)
+      (λ layer inside temp left o h. layer_operates layer temp left o (sym (role_is layer) ∙ h))
 
   -- the role of the first of those from a number on
   pub role_found : (stmts : List TacStmt) (i : ℕ) (stmt : TacStmt) → i < length stmts → stmt ≡ get_or stmts i stmt →
@@ -188,18 +344,26 @@ module _ (frame : FrameTree) (places : List Place) where
   -- PIECES
   -- what holds of a piece and of those that may stand for it and its neighbours
   module _ (P : Piece → Type 0) (none : P nothing)
-      (read : (temp object : ℕ) → P (straightly frame places (object_read frame places temp object))) where
-    reading_keeps : (role : Role) → P (reading frame places role)
-    reading_keeps (Places temp object) = read temp object
-    reading_keeps (Loads temp) = none
-    reading_keeps Other = none
+      (read : (temp object : ℕ) → P (straightly frame places (object_read frame places temp object)))
+      (short : (temp left : ℕ) (form : Option ShortForm) →
+      P (straightly frame places (short_operation frame places temp left form))) where
+    as_one_keeps : (first second : Role) → P (as_one frame places first second)
+    as_one_keeps (Places temp object) second = read temp object
+    as_one_keeps (Sets temp word) (Operates other left o) = short temp left (short_form o word)
+    as_one_keeps (Sets temp word) (Places other object) = none
+    as_one_keeps (Sets temp word) (Loads other) = none
+    as_one_keeps (Sets temp word) (Sets other value) = none
+    as_one_keeps (Sets temp word) Other = none
+    as_one_keeps (Loads temp) second = none
+    as_one_keeps (Operates temp left o) second = none
+    as_one_keeps Other second = none
 
     pub between_keeps : (before behind : Role) (piece : Piece) → P piece → P (between frame places before piece behind)
     between_keeps before behind piece h = by (joins before piece.role) (joins piece.role behind)
       where
-        by : (one two : Bool) → P (if one then nothing else if two then reading frame places piece.role else piece)
-        by true two = none
-        by false true = reading_keeps piece.role
+        by : (one two : Bool) → P (if one then as_one frame places before piece.role else if two then nothing else piece)
+        by true two = as_one_keeps before piece.role
+        by false true = none
         by false false = h
 
     joined_keeps : (before : Role) (pieces : List Piece) → Each P pieces → Each P (joined frame places before pieces)

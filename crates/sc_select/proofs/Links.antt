@@ -1,17 +1,17 @@
 -- Lines that refer to targets stand where the linker can complete them.
 use Rattle.sc_select.proofs.Common.{All, AllPairs, Bool, Each, Entry, FrameTree, Function, Global, Inside, Instr}
 use Rattle.sc_select.proofs.Common.{IsCode, IsTrue, Jal, Jalr, Line, List, Lui, None, Option, Piece, Place, Places}
-use Rattle.sc_select.proofs.Common.{Relocation, Role, Some, Store, Sw, TacFnTree, TacStmt, TacStmt-F, Target, Upper, []}
-use Rattle.sc_select.proofs.Common.{and_first, and_rest, ap, append-nil, arith, brought, call_cross, call_own, choice}
-use Rattle.sc_select.proofs.Common.{closing, code_of_lines, copied, cycle, entrance, environment_call, eq-eqb}
-use Rattle.sc_select.proofs.Common.{everywhere as each_holds, false, fold-roll-TacStmt, followed, frame_taken}
+use Rattle.sc_select.proofs.Common.{Relocation, Role, Sets, Some, Store, Sw, TacFnTree, TacStmt, TacStmt-F, Target}
+use Rattle.sc_select.proofs.Common.{Upper, [], and_first, and_rest, ap, append-nil, arith, brought, call_cross}
+use Rattle.sc_select.proofs.Common.{call_own, choice, closing, code_of_lines, copied, cycle, entrance, environment_call}
+use Rattle.sc_select.proofs.Common.{eq-eqb, everywhere as each_holds, false, fold-roll-TacStmt, followed, frame_taken}
 use Rattle.sc_select.proofs.Common.{function_lines, in_order, is_address, is_jal, is_linkable, jump_back, keep, length}
 use Rattle.sc_select.proofs.Common.{length-append, length-map, load_from, loading, map, map-TacStmt, moved_by}
 use Rattle.sc_select.proofs.Common.{object_offset, object_read, operation, pass, place_of_global, plain, plainly, pos}
 use Rattle.sc_select.proofs.Common.{receive, referring, refl, relocation_of, relocations_from, result_register, return}
-use Rattle.sc_select.proofs.Common.{role_of_load, select, select_all, select_step, slice_get, stmt_induction}
-use Rattle.sc_select.proofs.Common.{store_arguments, store_to, straightly, sub_word, subst, suc, sym, true}
-use Rattle.sc_select.proofs.Common.{word_of_constant, ℕ, ◌&&◌, ◌++◌, ◌+◌, ◌<◌, ◌∙◌, ◌∷◌, ◌≡◌, ◌≤◌}
+use Rattle.sc_select.proofs.Common.{role_of_load, role_of_operation, select, select_all, select_step, short_operation}
+use Rattle.sc_select.proofs.Common.{slice_get, stmt_induction, store_arguments, store_to, straightly, sub_word, subst}
+use Rattle.sc_select.proofs.Common.{suc, sym, true, word_of_constant, ℕ, ◌&&◌, ◌++◌, ◌+◌, ◌<◌, ◌∙◌, ◌∷◌, ◌≡◌, ◌≤◌}
 use Rattle.std.proofs.lemmas.List.Elements.{All-cons, All-nil, All-weaker}
 use Rattle.std.proofs.lemmas.List.Kept.{AllPairs-cons}
 use Rattle.sc_tac.specs.declared.stmt.TacStmt.TheOpen as tac
@@ -106,7 +106,8 @@ module _ (frame : FrameTree) (places : List Place) where
       IsComplete (in_order frame places (map (select frame places) stmts))
   row_complete stmts h =
       order_keeps frame places IsComplete (record { complete = λ b c. refl })
-      (λ t o. straightly_complete (object_read frame places t o)) followed_complete stmts h
+      (λ t o. straightly_complete (object_read frame places t o))
+      (λ t l form. straightly_complete (short_operation frame places t l form)) followed_complete stmts h
 
   with_role : (instrs : List Instr) (role : Role) → IsComplete (record (straightly frame places instrs) { role = role })
   with_role instrs role = record { complete = λ b c. plain_complete instrs }
@@ -114,12 +115,12 @@ module _ (frame : FrameTree) (places : List Place) where
   layer_complete : (layer : TacStmt-F TacStmt) → Inside Complete layer →
       IsComplete (select_step frame places (map-TacStmt _ _ (select frame places) layer))
   layer_complete (tac.Const dest value) h =
-      straightly_complete
-      (loading (result_register frame places dest) (word_of_constant value) ++ keep frame places dest)
+      with_role (loading (result_register frame places dest) (word_of_constant value) ++ keep frame places dest)
+      (Sets dest (word_of_constant value))
   layer_complete (tac.Copy dest from) h =
       straightly_complete (copied frame (slice_get places dest) (slice_get places from))
   layer_complete (tac.Op dest op left right) h =
-      straightly_complete (operation frame places dest op left right)
+      with_role (operation frame places dest op left right) (role_of_operation dest op left right)
   layer_complete (tac.ObjectPlace dest object) h =
       with_role
       (moved_by (result_register frame places dest) 2 (object_offset frame object) ++ keep frame places dest)

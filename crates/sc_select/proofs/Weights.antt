@@ -1,25 +1,27 @@
 -- Code has no more instructions than its function weighs.
 use Rattle.sc_select.proofs.Common.{Add, Bne, Bool, Branch, Div, Each, Entry as EntryOf, Fits, FrameTree, Function}
 use Rattle.sc_select.proofs.Common.{Inside, Instr, IsFunction, Jal, Jalr, Line, List, Load, Loads, Lui, Lw, Mul, None}
-use Rattle.sc_select.proofs.Common.{Op, Option, Other, Piece, Place, Places, Register, Role, Slot, Some, Store, Sw}
-use Rattle.sc_select.proofs.Common.{TacFnTree, TacOp, TacStmt, TacStmt-F, Upper, [], all_true, and_first, and_rest, ap}
-use Rattle.sc_select.proofs.Common.{arith, at_hand, between, binary_code, brought, bytes_of, call_cross, call_own}
-use Rattle.sc_select.proofs.Common.{choice, choosing, closing, code_of, copied, entrance, entry_weight}
-use Rattle.sc_select.proofs.Common.{environment_call, everywhere as each_holds, false, fold-TacStmt, fold-roll-TacStmt}
-use Rattle.sc_select.proofs.Common.{fork, frame_left, frame_taken, function_lines, has_operands, if◌then◌else◌}
-use Rattle.sc_select.proofs.Common.{in_order, in_turn, is_short, is_some, is_unsigned, joined, joins, keep, kept}
-use Rattle.sc_select.proofs.Common.{length, length-append, length-map, load_from, load_word, loading, map, map-TacStmt}
-use Rattle.sc_select.proofs.Common.{moved_by, nothing, object_offset, object_read, op_code, op_weight, operand}
-use Rattle.sc_select.proofs.Common.{operation, pass, place_of_global, plain, plainly, pointer_difference, pointer_move}
-use Rattle.sc_select.proofs.Common.{pos, put, reading, receive, referring, refl, register_of, result_register, return}
-use Rattle.sc_select.proofs.Common.{role_first, roll-TacStmt, second_operand, select, select_all, select_step, skipping}
+use Rattle.sc_select.proofs.Common.{Op, Operates, Option, Other, Piece, Place, Places, Register, Role, Sets, ShortForm}
+use Rattle.sc_select.proofs.Common.{Slot, Some, Store, Sw, TacFnTree, TacOp, TacStmt, TacStmt-F, Upper, [], all_true}
+use Rattle.sc_select.proofs.Common.{and_first, and_rest, ap, ap₂, arith, as_one, at_hand, between, binary_code, brought}
+use Rattle.sc_select.proofs.Common.{bytes_of, call_cross, call_own, choice, choosing, closing, code_of, copied}
+use Rattle.sc_select.proofs.Common.{entrance, entry_weight, environment_call, everywhere as each_holds, false}
+use Rattle.sc_select.proofs.Common.{fold-TacStmt, fold-roll-TacStmt, fork, frame_left, frame_taken, function_lines}
+use Rattle.sc_select.proofs.Common.{has_operands, if◌then◌else◌, in_order, in_turn, is_short, is_some, is_unsigned}
+use Rattle.sc_select.proofs.Common.{joined, joins, keep, kept, length, length-append, length-map, load_from, load_word}
+use Rattle.sc_select.proofs.Common.{loading, map, map-TacStmt, moved_by, nothing, object_offset, object_read, op_code}
+use Rattle.sc_select.proofs.Common.{op_weight, operand, operation, pass, place_of_global, plain, plainly}
+use Rattle.sc_select.proofs.Common.{pointer_difference, pointer_move, pos, put, receive, referring, refl, register_of}
+use Rattle.sc_select.proofs.Common.{result_register, return, role_first, roll-TacStmt, second_operand, select}
+use Rattle.sc_select.proofs.Common.{select_all, select_step, short_code, short_form, short_operation, skipping}
 use Rattle.sc_select.proofs.Common.{slice_get, slot_offset, stepped, stmt_induction, stmt_weight, store_arguments}
 use Rattle.sc_select.proofs.Common.{store_to, store_word, straightly, sub_word, subst, suc, sym, take, take_second}
 use Rattle.sc_select.proofs.Common.{taken, takes_two, true, unary_code, weight, weight_step, with_parts}
-use Rattle.sc_select.proofs.Common.{word_of_constant, zero, ℕ, ◌&&◌, ◌*◌, ◌++◌, ◌+◌, ◌<◌, ◌==◌, ◌^◌, ◌∙◌, ◌∷◌, ◌≡◌, ◌≤◌}
+use Rattle.sc_select.proofs.Common.{word_of_constant, zero, ℕ, ⊎_elim, ◌&&◌, ◌*◌, ◌++◌, ◌+◌, ◌<◌, ◌==◌, ◌^◌, ◌∙◌, ◌∷◌}
+use Rattle.sc_select.proofs.Common.{◌≡◌, ◌≤◌}
 use Rattle.sc_core.specs.Prelude.{total}
 use Rattle.sc_tac.specs.Prelude.{everywhere}
-use Rattle.sc_select.proofs.Joining.{past_few, gives_place}
+use Rattle.sc_select.proofs.Joining.{IsRead, IsShort, loads_it, operates_it, past_few, which_pair}
 use Rattle.std.specs.Bool.{beq}
 use Rattle.sc_base.specs.declared.op.BinaryOp.{BinaryOp}
 use Rattle.sc_base.specs.declared.op.BinaryOp.TheVariants as op
@@ -204,6 +206,26 @@ module _ (frame : FrameTree) (places : List Place) where
         kept_few frame (slice_get places dest),
       )
 
+  short_few : (dest left : ℕ) (form : Option ShortForm) → length (short_operation frame places dest left form) ≤ 7
+  short_few dest left form =
+      let rd : ℕ = result_register frame places dest in
+      let rs : ℕ = operand frame places 5 left in
+      let whole : length (short_operation frame places dest left form) ≡
+      length ((take frame places 5 left ++ short_code rd rs form) ++ keep frame places dest) = refl in
+      omega (
+        arith,
+        whole,
+        length-append (take frame places 5 left ++ short_code rd rs form) (keep frame places dest),
+        length-append (take frame places 5 left) (short_code rd rs form),
+        taken_few frame 5 (slice_get places left),
+        one_at_most rd rs form,
+        kept_few frame (slice_get places dest),
+      )
+    where
+      one_at_most : (rd rs : ℕ) (form : Option ShortForm) → length (short_code rd rs form) ≤ 1
+      one_at_most rd rs None = omega arith
+      one_at_most rd rs (Some form) = omega arith
+
   object_read_few : (dest object : ℕ) → length (object_read frame places dest object) ≤ 6
   object_read_few dest object =
       let rd : ℕ = result_register frame places dest in
@@ -343,34 +365,63 @@ module _ (frame : FrameTree) (places : List Place) where
   abbrev Small : TacStmt → Type 0
   Small stmt = has stmt ≡ true → (select frame places stmt).size ≤ stmt_weight stmt
 
-  -- what reads a variable is no larger than the statement that gives its place weighs
-  reading_few : (stmt : TacStmt) → (reading frame places (select frame places stmt).role).size ≤ stmt_weight stmt
-  reading_few stmt = by (select frame places stmt).role refl
+  -- an operator that has a short form weighs more than that
+  short_weighs : (o : TacOp) (word : ℕ) (form : ShortForm) → short_form o word ≡ Some form → 7 ≤ op_weight o
+  short_weighs (tacop.Binary o scalar) word form h = omega (arith, operator_light 0 0 0 (tacop.Binary o scalar))
+  short_weighs (tacop.PointerMove minus cells index) word form h =
+      omega (arith, operator_light 0 0 0 (tacop.PointerMove minus cells index))
+  short_weighs (tacop.Unary o scalar) word form h = cc h
+  short_weighs tacop.PointerNot word form h = cc h
+  short_weighs (tacop.PointerMember offset) word form h = cc h
+  short_weighs (tacop.PointerDifference cells) word form h = cc h
+  short_weighs (tacop.PointerCompare o) word form h = cc h
+
+  -- the code of two statements that are one piece is no larger than the second weighs
+  both_few : (before : Role) (stmt : TacStmt) → joins before (select frame places stmt).role ≡ true →
+      (as_one frame places before (select frame places stmt).role).size ≤ stmt_weight stmt
+  both_few before stmt h = ⊎_elim read short (which_pair before (select frame places stmt).role h)
     where
-      by : (role : Role) → (select frame places stmt).role ≡ role →
-          (reading frame places role).size ≤ stmt_weight stmt
-      by (Places temp object) is =
-          let heavy : stmt_weight stmt ≡ 6 =
-          ap stmt_weight (gives_place frame places stmt temp object is) ∙
-          fold-roll-TacStmt ℕ weight_step (tac.ObjectPlace temp object) in
-          let few : (straightly frame places (object_read frame places temp object)).size ≤ 6 =
-          straightly_few _ 6 (object_read_few temp object) in
-          omega (arith, heavy, few)
-      by (Loads temp) is = omega arith
-      by Other is = omega arith
+      read : IsRead before (select frame places stmt).role →
+          (as_one frame places before (select frame places stmt).role).size ≤ stmt_weight stmt
+      read pair =
+          let load = loads_it frame places stmt pair.temp pair.loads in
+          let heavy : stmt_weight stmt ≡ 7 =
+          ap stmt_weight load.is ∙
+          fold-roll-TacStmt ℕ weight_step (tac.Load pair.temp pair.temp load.pointer) in
+          let code : (as_one frame places before (select frame places stmt).role).size ≡
+          (straightly frame places (object_read frame places pair.temp pair.object)).size =
+          ap (λ r. (as_one frame places r (select frame places stmt).role).size) pair.gives in
+          let few : (straightly frame places (object_read frame places pair.temp pair.object)).size ≤ 6 =
+          straightly_few _ 6 (object_read_few pair.temp pair.object) in
+          omega (arith, heavy, code, few)
+
+      short : IsShort before (select frame places stmt).role →
+          (as_one frame places before (select frame places stmt).role).size ≤ stmt_weight stmt
+      short pair =
+          let form : Option ShortForm = short_form pair.op pair.word in
+          let operation = operates_it frame places stmt pair.temp pair.left pair.op pair.operates in
+          let heavy : stmt_weight stmt ≡ op_weight pair.op =
+          ap stmt_weight operation.is ∙
+          fold-roll-TacStmt ℕ weight_step (tac.Op pair.temp pair.op pair.left (Some pair.temp)) in
+          let code : (as_one frame places before (select frame places stmt).role).size ≡
+          (straightly frame places (short_operation frame places pair.temp pair.left form)).size =
+          ap₂ (λ r s. (as_one frame places r s).size) pair.sets pair.operates in
+          let few : (straightly frame places (short_operation frame places pair.temp pair.left form)).size ≤ 7 =
+          straightly_few _ 7 (short_few pair.temp pair.left form) in
+          omega (arith, heavy, code, few, short_weighs pair.op pair.word pair.form pair.form_is)
 
   between_few : (before : Role) (stmt : TacStmt) (behind : Role) →
       (select frame places stmt).size ≤ stmt_weight stmt →
       (between frame places before (select frame places stmt) behind).size ≤ stmt_weight stmt
   between_few before stmt behind h =
-      by (joins before (select frame places stmt).role) (joins (select frame places stmt).role behind)
+      by (joins before (select frame places stmt).role) (joins (select frame places stmt).role behind) refl
     where
-      by : (one two : Bool) →
-          (if one then nothing else if two then reading frame places (select frame places stmt).role
-          else select frame places stmt).size ≤ stmt_weight stmt
-      by true two = omega arith
-      by false true = reading_few stmt
-      by false false = h
+      by : (one two : Bool) → joins before (select frame places stmt).role ≡ one →
+          (if one then as_one frame places before (select frame places stmt).role
+          else if two then nothing else select frame places stmt).size ≤ stmt_weight stmt
+      by true two e = both_few before stmt e
+      by false true e = omega arith
+      by false false e = h
 
   turn_small : (before : Role) (stmts : List TacStmt) → Each Small stmts → all_true (map has stmts) ≡ true →
       (in_turn (joined frame places before (map (select frame places) stmts))).size ≤ total (map stmt_weight stmts)

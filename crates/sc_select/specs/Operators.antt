@@ -1,15 +1,19 @@
 -- The instructions of operators, by the registers of the result and of the operands. The result is written last, since it
 -- may lie where an operand lies.
-use Rattle.sc_select.specs.Common.{Add, And, Div, Divu, Instr, Mul, Op, OpImm, Or, Rem, Remu, Sll, Slt, Sltiu, Sltu}
-use Rattle.sc_select.specs.Common.{Sra, Srl, Sub, TacOp, Xor, Xori, is_unsigned}
-use Rattle.std.specs.Prelude.{ℕ, pos, negsuc, ◌*◌, ◌%◌, ◌^◌, Bool, true, false, List, [], ◌∷◌, ◌++◌}
+use Rattle.sc_select.specs.Common.{Add, Addi, And, Andi, Div, Divu, Instr, Mul, Op, OpImm, Or, Ori, Rem, Remu, Sll, Slt}
+use Rattle.sc_select.specs.Common.{Slti, Sltiu, Sltu, Sra, Srl, Sub, TacOp, Xor, Xori, is_unsigned, mul_word, signed_of}
+use Rattle.sc_select.specs.Common.{sub_word}
+use Rattle.std.specs.Prelude.{ℕ, pos, negsuc, ◌*◌, ◌%◌, ◌^◌, Bool, true, false, List, [], ◌∷◌, ◌++◌, Option, None, Some}
+use Rattle.std.specs.Prelude.{if◌then◌else◌}
+use Rattle.rv_code.specs.declared.instr.OpImmOp.{OpImmOp}
 use Rattle.rv_code.specs.declared.instr.OpOp.{OpOp}
 use Rattle.sc_base.specs.declared.op.BinaryOp.{BinaryOp}
 use Rattle.sc_base.specs.declared.op.BinaryOp.TheVariants as op
 use Rattle.sc_base.specs.declared.op.UnaryOp.{UnaryOp}
 use Rattle.sc_base.specs.declared.op.UnaryOp.TheVariants as unary
 use Rattle.sc_tac.specs.declared.stmt.TacOp.TheVariants as tacop
-use Rattle.sc_select.specs.Pieces.{first_scratch, second_scratch, address_scratch, move, loading, moved_by}
+use Rattle.sc_select.specs.declared.operators.ShortForm.{ShortForm}
+use Rattle.sc_select.specs.Pieces.{first_scratch, second_scratch, address_scratch, is_short, move, loading, moved_by}
 
 -- of the two, the one for unsigned words
 abbrev pub by_sign : Bool → (of_signed of_unsigned : OpOp) → OpOp
@@ -86,3 +90,37 @@ op_code rd left right (tacop.PointerMove minus cells index) = pointer_move rd le
 op_code rd left right (tacop.PointerMember offset) = moved_by rd left (bytes_of offset)
 op_code rd left right (tacop.PointerDifference cells) = pointer_difference rd left right cells
 op_code rd left right (tacop.PointerCompare o) = binary_code rd left right true o
+
+-- AN OPERATOR AND A CONSTANT
+-- an instruction on a register and an immediate, where the word can be one
+abbrev pub short : OpImmOp → ℕ → Option ShortForm
+short o word = if is_short word then Some (record { op = o; imm = signed_of word }) else None
+
+abbrev pub less_than : (unsigned : Bool) → OpImmOp
+less_than true = Sltiu
+less_than false = Slti
+
+-- to subtract a word is to add its negation
+abbrev pub added_by : (minus : Bool) → ℕ → ℕ
+added_by true word = sub_word 0 word
+added_by false word = word
+
+abbrev pub binary_short : (unsigned : Bool) → BinaryOp → ℕ → Option ShortForm
+binary_short unsigned op.BitOr word = short Ori word
+binary_short unsigned op.BitXor word = short Xori word
+binary_short unsigned op.BitAnd word = short Andi word
+binary_short unsigned op.Less word = short (less_than unsigned) word
+binary_short unsigned op.Add word = short Addi word
+binary_short unsigned op.Sub word = short Addi (added_by true word)
+binary_short unsigned _ word = None
+
+-- the instruction of an operator whose second operand is this word, if there is one
+abbrev pub short_form : TacOp → ℕ → Option ShortForm
+short_form (tacop.Binary o scalar) word = binary_short (is_unsigned scalar) o word
+short_form (tacop.PointerMove minus cells index) word =
+    short Addi (added_by minus (mul_word word (bytes_of cells)))
+short_form _ word = None
+
+abbrev pub short_code : (rd left : ℕ) → Option ShortForm → List Instr
+short_code rd left (Some form) = OpImm form.op rd left form.imm ∷ []
+short_code rd left None = []

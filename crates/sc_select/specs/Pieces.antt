@@ -1,7 +1,7 @@
 -- Pieces of machine code: a word loaded into a register, words of the frame near the stack pointer and far from it, the
 -- places of temporaries, the way into a function and out of it (RISC-V Unprivileged ISA, RV32I).
-use Rattle.sc_select.specs.Common.{Add, Addi, Instr, Jalr, Load, Lui, Lw, Op, OpImm, Store, Sw, Upper}
-use Rattle.sc_word.specs.Prelude.{signed_of, sub_word}
+use Rattle.sc_select.specs.Common.{Add, Addi, Instr, Jalr, Load, Lui, Lw, Op, OpImm, Store, Sw, Upper, signed_of}
+use Rattle.sc_select.specs.Common.{sub_word}
 use Rattle.rv_code.specs.Prelude.{signed}
 use Rattle.std.specs.Prelude.{ℕ, ℤ, pos, negsuc, ◌+◌, ◌*◌, ◌/◌, ◌%◌, ◌^◌, Bool, ◌&&◌, nat_lt, int_le, List, [], ◌∷◌}
 use Rattle.std.specs.Prelude.{◌++◌, if◌then◌else◌}

@@ -3,7 +3,7 @@ use Rattle.sc_select.specs.Common.{Addi, Branch, CodeTree, Ecall, Entry as Entry
 use Rattle.sc_select.specs.Common.{Jal, Jalr, Load, Lui, Lw, OpImm, Place, Store, Sw, TacOp, TacStmt, TacStmt-F, Upper}
 use Rattle.sc_select.specs.Common.{fold-TacStmt}
 use Rattle.std.specs.Prelude.{ℕ, zero, suc, pos, ◌+◌, ◌*◌, List, [], ◌∷◌, ◌++◌, map, length, Option, None, Some}
-use Rattle.std.specs.Prelude.{slice_get, neg_ℤ, ◌==◌, ◌&&◌, if◌then◌else◌, Bool, drop, false}
+use Rattle.std.specs.Prelude.{slice_get, neg_ℤ, ◌==◌, ◌&&◌, if◌then◌else◌, Bool, drop, false, is_some, not}
 use Rattle.std.specs.Option.{unwrap_or}
 use Rattle.sc_event.specs.declared.row.Entry.{Entry}
 use Rattle.sc_event.specs.declared.row.Entry.TheVariants.{Main}
@@ -14,11 +14,12 @@ use Rattle.sc_tac.specs.declared.stmt.Constant.{Constant}
 use Rattle.sc_tac.specs.declared.stmt.Constant.TheVariants as constant
 use Rattle.sc_tac.specs.declared.stmt.TacStmt.TheOpen as tac
 use Rattle.sc_select.specs.declared.roles.Role.{Role}
-use Rattle.sc_select.specs.declared.roles.Role.TheVariants.{Loads, Other, Places}
+use Rattle.sc_select.specs.declared.roles.Role.TheVariants.{Loads, Operates, Other, Places, Sets}
 use Rattle.sc_select.specs.Lines.{Line, plain, plainly, referring, code_of_lines}
 use Rattle.sc_select.specs.Pieces.{ra, sp, first_scratch, second_scratch, a0, a7, register_of, move, loading, moved_by}
 use Rattle.sc_select.specs.Pieces.{load_word, store_word, frame_taken, frame_left}
-use Rattle.sc_select.specs.Operators.{op_code}
+use Rattle.sc_select.specs.declared.operators.ShortForm.{ShortForm}
+use Rattle.sc_select.specs.Operators.{op_code, short_code, short_form}
 
 -- how many lines a piece of code has, and which, where so many lie between its end and where a break leads, and a
 -- continue; and whether one piece may stand for it and its neighbour
@@ -46,10 +47,18 @@ abbrev pub in_turn : List Piece → Piece
 in_turn [] = nothing
 in_turn (piece ∷ pieces) = followed piece (in_turn pieces)
 
--- the second loads what stands at the place that the first gives, in place of that
+-- two neighbours that are one piece: the second loads what stands at the place that the first gives, in place of that, or
+-- its result takes the place of the constant that the first sets and its operator reads
 abbrev pub joins : (first second : Role) → Bool
 joins (Places temp object) (Loads other) = temp == other
+joins (Sets temp word) (Operates other left o) = temp == other && is_some (short_form o word)
 joins _ _ = false
+
+-- what an operator does to the temporary of its second operand
+abbrev pub role_of_operation : (dest : ℕ) → TacOp → (left : ℕ) → (right : Option ℕ) → Role
+role_of_operation dest o left None = Other
+role_of_operation dest o left (Some right) =
+    if dest == right && not (left == dest) then Operates dest left o else Other
 
 abbrev pub role_first : List Piece → Role
 role_first [] = Other
@@ -235,15 +244,22 @@ module _ (frame : FrameTree) (places : List Place) where
   abbrev pub object_read : (dest object : ℕ) → List Instr
   object_read dest object = load_word (result_register dest) (object_offset frame object) ++ keep dest
 
-  abbrev pub reading : Role → Piece
-  reading (Places temp object) = straightly (object_read temp object)
-  reading _ = nothing
+  -- what an operator gives of a temporary and a constant
+  abbrev pub short_operation : (dest left : ℕ) → Option ShortForm → List Instr
+  short_operation dest left form =
+      take first_scratch left ++ short_code (result_register dest) (operand first_scratch left) form ++ keep dest
 
-  -- a piece between two others: one that gives the place of a variable reads the variable, where the next one would
+  -- the code of two neighbours that are one piece
+  abbrev pub as_one : (first second : Role) → Piece
+  as_one (Places temp object) second = straightly (object_read temp object)
+  as_one (Sets temp word) (Operates other left o) = straightly (short_operation temp left (short_form o word))
+  as_one _ _ = nothing
+
+  -- a piece between two others: the second of two that are one has the code of both
   abbrev pub between : (before : Role) → Piece → (behind : Role) → Piece
   between before piece behind =
-      if joins before piece.role then nothing
-      else if joins piece.role behind then reading piece.role
+      if joins before piece.role then as_one before piece.role
+      else if joins piece.role behind then nothing
       else piece
 
   abbrev pub joined : (before : Role) → List Piece → List Piece
@@ -264,9 +280,13 @@ module _ (frame : FrameTree) (places : List Place) where
   role_of_load dest place = if dest == place then Loads dest else Other
 
   abbrev pub select_step : TacStmt-F Piece → Piece
-  select_step (tac.Const dest value) = straightly (loading (result_register dest) (word_of_constant value) ++ keep dest)
+  select_step (tac.Const dest value) =
+      record (straightly (loading (result_register dest) (word_of_constant value) ++ keep dest)) {
+        role = Sets dest (word_of_constant value);
+      }
   select_step (tac.Copy dest from) = straightly (copied frame (place_of dest) (place_of from))
-  select_step (tac.Op dest o left right) = straightly (operation dest o left right)
+  select_step (tac.Op dest o left right) =
+      record (straightly (operation dest o left right)) { role = role_of_operation dest o left right }
   select_step (tac.ObjectPlace dest object) =
       record (straightly (moved_by (result_register dest) sp (object_offset frame object) ++ keep dest)) {
         role = Places dest object;

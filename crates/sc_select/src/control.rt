@@ -106,10 +106,10 @@ impl Backward {
     {
         let role = role_of(stmt);
         if joins(before, role) {
-            return Ok(());
+            return self.as_one(homes, before, role);
         }
         if joins(role, behind) {
-            return self.reading(homes, role);
+            return Ok(());
         }
         self.statement(homes, distances, stmt)
     }

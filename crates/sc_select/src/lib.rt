@@ -15,6 +15,6 @@ pub use backward::Backward;
 pub use control::Distances;
 pub use function::select;
 pub use homes::Homes;
-pub use operators::Operands;
+pub use operators::{Operands, ShortForm};
 pub use pieces::{lower_part, upper_part};
 pub use roles::Role;

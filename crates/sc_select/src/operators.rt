@@ -1,8 +1,9 @@
 //! The instructions of operators.
 
-ghost use Rattle.sc_select.specs.Prelude.{Op, OpImm, Slt, Sltiu, Sltu, Xori, binary_code, by_sign, bytes_of, inverted};
-ghost use Rattle.sc_select.specs.Prelude.{is_not_zero, is_unsigned, is_zero, op_code, plainly, pointer_difference};
-ghost use Rattle.sc_select.specs.Prelude.{pointer_move, stepped, unary_code};
+ghost use Rattle.sc_select.specs.Prelude.{Op, OpImm, Slt, Sltiu, Sltu, Xori, added_by, binary_code, binary_short};
+ghost use Rattle.sc_select.specs.Prelude.{by_sign, bytes_of, inverted, is_not_zero, is_unsigned, is_zero, less_than};
+ghost use Rattle.sc_select.specs.Prelude.{op_code, plainly, pointer_difference, pointer_move, short, short_code};
+ghost use Rattle.sc_select.specs.Prelude.{short_form, stepped, unary_code};
 ghost use Rattle.std.specs.Prelude.{◌≡◌, ◌++◌, ◌∷◌, [], false, OnOk};
 ghost use Rattle.sc_base.specs.declared.op.BinaryOp.TheVariants as op;
 
@@ -10,7 +11,7 @@ use crate::backward::Backward;
 use crate::pieces::{
     ADDRESS_SCRATCH, FIRST_SCRATCH, SECOND_SCRATCH, ZERO, immediate, move_to, register,
 };
-use rv_code::{Instr, OpImmOp, OpOp, Reg};
+use rv_code::{Immediate, Instr, OpImmOp, OpOp, Reg};
 use sc_base::{BinaryOp, OutOfMemory, UnaryOp};
 use sc_event::Scalar;
 use sc_tac::TacOp;
@@ -81,6 +82,81 @@ fn unary_code(op: UnaryOp, rd: Reg, rs: Reg) -> Instr
         UnaryOp::Plus => move_to(rd, rs),
         UnaryOp::Not => is_zero(rd, rs),
         UnaryOp::BitNot => exclusive_or(rd, rs, -1),
+    }
+}
+
+/// An instruction on a register and an immediate, without its registers.
+#[derive(Clone, Copy)]
+pub struct ShortForm {
+    pub op: OpImmOp,
+    pub imm: Immediate,
+}
+
+impl ShortForm {
+    /// The instruction on these registers.
+    fn on(self, rd: Reg, rs1: Reg) -> Instr
+        ensures { result ≡ OpImm self.op rd rs1 self.imm }
+    {
+        Instr::OpImm {
+            op: self.op,
+            rd,
+            rs1,
+            imm: self.imm,
+        }
+    }
+}
+
+// Where the word can be an immediate.
+fn short(op: OpImmOp, word: u32) -> Option<ShortForm>
+    ensures { result ≡ short op word }
+{
+    if let Some(imm) = Immediate::new(word.cast_signed()) {
+        return Some(ShortForm { op, imm });
+    }
+    None
+}
+
+fn less_than(unsigned: bool) -> OpImmOp
+    ensures { result ≡ less_than unsigned }
+{
+    if unsigned {
+        OpImmOp::Sltiu
+    } else {
+        OpImmOp::Slti
+    }
+}
+
+fn added_by(minus: bool, word: u32) -> u32
+    ensures { result ≡ added_by minus word }
+{
+    if minus { word.wrapping_neg() } else { word }
+}
+
+fn binary_short(unsigned: bool, op: BinaryOp, word: u32) -> Option<ShortForm>
+    ensures { result ≡ binary_short unsigned op word }
+{
+    match op {
+        BinaryOp::BitOr => short(OpImmOp::Ori, word),
+        BinaryOp::BitXor => short(OpImmOp::Xori, word),
+        BinaryOp::BitAnd => short(OpImmOp::Andi, word),
+        BinaryOp::Less => short(less_than(unsigned), word),
+        BinaryOp::Add => short(OpImmOp::Addi, word),
+        BinaryOp::Sub => short(OpImmOp::Addi, added_by(true, word)),
+        _ => None,
+    }
+}
+
+/// The instruction of an operator whose second operand is this word, if there is one.
+pub(crate) fn short_form(op: TacOp, word: u32) -> Option<ShortForm>
+    ensures { result ≡ short_form op word }
+{
+    match op {
+        TacOp::Binary { op, scalar } => binary_short(is_unsigned(scalar), op, word),
+        TacOp::PointerMove { minus, cells, .. } => short(
+            OpImmOp::Addi,
+            added_by(minus, word.wrapping_mul(bytes_of(cells))),
+        ),
+        _ => None,
     }
 }
 
@@ -190,6 +266,21 @@ impl Backward {
             TacOp::PointerMember { offset } => self.moved_by(on.rd, on.left, bytes_of(offset)),
             TacOp::PointerDifference { cells } => self.pointer_difference(cells, on),
             TacOp::PointerCompare { op } => self.binary_code(op, true, on),
+        }
+    }
+
+    /// An operator whose second operand is a constant.
+    pub fn short_code(
+        &mut self,
+        rd: Reg,
+        left: Reg,
+        form: Option<ShortForm>,
+    ) -> Result<(), OutOfMemory>
+        ensures { OnOk result (self.new ≡ plainly (short_code rd left form) ++ self.old) }
+    {
+        match form {
+            Some(form) => self.plain(form.on(rd, left)),
+            None => Ok(()),
         }
     }
 }

@@ -1,12 +1,14 @@
-//! Two statements that are one piece of code: the first gives the place of a variable, the second loads what stands
-//! there.
+//! Two statements that are one piece of code: the first gives the place of a variable and the second loads what stands
+//! there, or the first sets a constant and the second is an operator that reads it and takes its temporary.
 
-ghost use Rattle.sc_select.specs.Prelude.{joins, role_before, role_first, select};
+ghost use Rattle.sc_select.specs.Prelude.{joins, role_before, role_first, role_of_operation, select};
 ghost use Rattle.sc_tac.specs.declared.frame.FrameTree.{FrameTree};
 ghost use Rattle.sc_tac.specs.declared.place.Place.{Place};
 ghost use Rattle.std.specs.Prelude.{◌≡◌, ◌≤◌, List, drop, length, map};
 
-use sc_tac::TacStmt;
+use crate::operators::short_form;
+use crate::statements::word_of_constant;
+use sc_tac::{TacOp, TacStmt};
 
 /// What a statement is to its neighbours.
 #[derive(Clone, Copy)]
@@ -15,8 +17,25 @@ pub enum Role {
     Places { temp: u32, object: u32 },
     /// A temporary gets what stands at the place that it holds.
     Loads { temp: u32 },
+    /// A temporary gets a constant.
+    Sets { temp: u32, word: u32 },
+    /// A temporary, which holds the second operand, gets the result of an operator.
+    Operates { temp: u32, left: u32, op: TacOp },
     /// All else.
     Other,
+}
+
+fn role_of_operation(dest: u32, op: TacOp, left: u32, right: Option<u32>) -> Role
+    ensures { result ≡ role_of_operation dest op left right }
+{
+    match right {
+        Some(right) if dest == right && left != dest => Role::Operates {
+            temp: dest,
+            left,
+            op,
+        },
+        _ => Role::Other,
+    }
 }
 
 /// The role of a statement.
@@ -24,6 +43,16 @@ pub(crate) fn role_of(stmt: &TacStmt) -> Role
     ensures { (frame : FrameTree) (places : List Place) → result ≡ (select frame places stmt.now).role }
 {
     match stmt {
+        TacStmt::Const { dest, value } => Role::Sets {
+            temp: *dest,
+            word: word_of_constant(*value),
+        },
+        TacStmt::Op {
+            dest,
+            op,
+            left,
+            right,
+        } => role_of_operation(*dest, *op, *left, *right),
         TacStmt::ObjectPlace { dest, object } => Role::Places {
             temp: *dest,
             object: *object,
@@ -68,6 +97,14 @@ pub(crate) fn joins(first: Role, second: Role) -> bool
 {
     match (first, second) {
         (Role::Places { temp, .. }, Role::Loads { temp: other }) => temp == other,
+        (
+            Role::Sets { temp, word },
+            Role::Operates {
+                temp: other,
+                op,
+                ..
+            },
+        ) => temp == other && short_form(op, word).is_some(),
         _ => false,
     }
 }

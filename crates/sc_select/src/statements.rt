@@ -1,14 +1,14 @@
 //! Statements without others inside. Code is written from its end: what is done first is written last.
 
-ghost use Rattle.sc_select.specs.Prelude.{a0, brought, choice, copied, environment_call, keep, load_from, loading};
-ghost use Rattle.sc_select.specs.Prelude.{moved_by, object_offset, operation, place_of_global, plainly, put, reading};
-ghost use Rattle.sc_select.specs.Prelude.{receive, result_register, return, second_operand, store_to, take};
-ghost use Rattle.sc_select.specs.Prelude.{take_second, word_of_constant};
+ghost use Rattle.sc_select.specs.Prelude.{a0, as_one, brought, choice, copied, environment_call, keep, load_from};
+ghost use Rattle.sc_select.specs.Prelude.{loading, moved_by, object_offset, object_read, operation, place_of_global};
+ghost use Rattle.sc_select.specs.Prelude.{plainly, put, receive, result_register, return, second_operand};
+ghost use Rattle.sc_select.specs.Prelude.{short_operation, store_to, take, take_second, word_of_constant};
 ghost use Rattle.std.specs.Prelude.{◌≡◌, ◌++◌, ◌∷◌, [], ◌+◌, ◌<◌, ℕ, OnOk, Some, None, length, slice_get};
 
 use crate::backward::Backward;
 use crate::homes::{Homes, register_of};
-use crate::operators::Operands;
+use crate::operators::{Operands, ShortForm, short_form};
 use crate::pieces::{
     A0, A7, FIRST_SCRATCH, SECOND_SCRATCH, SP, ZERO, addi, immediate, load, move_to, register,
     store, upper,
@@ -18,7 +18,8 @@ use rv_code::{BranchOffset, BranchOp, Instr, Reg};
 use sc_base::OutOfMemory;
 use sc_tac::{Constant, Place, TacOp, Target};
 
-fn word_of_constant(value: Constant) -> u32
+/// The word of a constant: 0 for null.
+pub(crate) fn word_of_constant(value: Constant) -> u32
     ensures { result ≡ word_of_constant value }
 {
     match value {
@@ -153,16 +154,42 @@ impl Backward {
         self.moved_by(rd, register(SP), homes.object_offset(object))
     }
 
-    /// A temporary gets the word of a variable, where its role is to give the place of that.
-    pub fn reading(&mut self, homes: &Homes, role: Role) -> Result<(), OutOfMemory>
-        ensures { (to_break to_continue : ℕ) → OnOk result (self.new ≡
-            (reading homes.now.frame.now homes.now.places.now role).lines to_break to_continue ++ self.old) }
+    // A temporary gets the word of a variable.
+    fn object_read(&mut self, homes: &Homes, dest: u32, object: u32) -> Result<(), OutOfMemory>
+        ensures { OnOk result (self.new ≡
+            plainly (object_read homes.now.frame.now homes.now.places.now dest object) ++ self.old) }
     {
-        match role {
-            Role::Places { temp, object } => {
-                self.keep(homes, temp)?;
-                let rd = homes.operand(register(FIRST_SCRATCH), temp);
-                self.load_word(rd, homes.object_offset(object))
+        self.keep(homes, dest)?;
+        let rd = homes.operand(register(FIRST_SCRATCH), dest);
+        self.load_word(rd, homes.object_offset(object))
+    }
+
+    // A temporary gets what an operator gives of another and a constant.
+    fn short_operation(
+        &mut self,
+        homes: &Homes,
+        dest: u32,
+        left: u32,
+        form: Option<ShortForm>,
+    ) -> Result<(), OutOfMemory>
+        ensures { OnOk result (self.new ≡
+            plainly (short_operation homes.now.frame.now homes.now.places.now dest left form) ++ self.old) }
+    {
+        let first = register(FIRST_SCRATCH);
+        self.keep(homes, dest)?;
+        self.short_code(homes.operand(first, dest), homes.operand(first, left), form)?;
+        self.take(homes, first, left)
+    }
+
+    /// The code of two statements of these roles that are one piece.
+    pub fn as_one(&mut self, homes: &Homes, first: Role, second: Role) -> Result<(), OutOfMemory>
+        ensures { (to_break to_continue : ℕ) → OnOk result (self.new ≡
+            (as_one homes.now.frame.now homes.now.places.now first second).lines to_break to_continue ++ self.old) }
+    {
+        match (first, second) {
+            (Role::Places { temp, object }, _) => self.object_read(homes, temp, object),
+            (Role::Sets { temp, word }, Role::Operates { left, op, .. }) => {
+                self.short_operation(homes, temp, left, short_form(op, word))
             }
             _ => Ok(()),
         }

@@ -4,7 +4,7 @@ use Rattle.sc_select.proofs.Composition.{cycle_heavier, fork_heavier, back_reach
 use Rattle.sc_select.proofs.Composition.{first_reaches, choice_returns, skip_returns, as_is, cycle_fits, head_reaches}
 use Rattle.sc_select.proofs.Composition.{next_reaches, over_first, over_reaches, over_second, second_fits, step_fits}
 use Rattle.sc_select.proofs.Composition.{step_lighter, step_reaches, alone_fits, as_written, is_itself, is_nothing}
-use Rattle.sc_select.proofs.Composition.{is_reading, none_written, step_written}
+use Rattle.sc_select.proofs.Composition.{is_both, none_written, step_written}
 use Rattle.sc_select.proofs.backward.Backward.+control.Goals as goal
 
 -- A CHOICE
@@ -171,19 +171,19 @@ pub between-returns-then-joins : goal.between-returns-then-joins
 between-returns-then-joins t c =
     let frame = c.args.homes.now.frame.now in
     let places = c.args.homes.now.places.now in
-    ap (λ p. p.lines c.args.distances.to_break c.args.distances.to_continue ++ c.args.self.now)
-    (is_nothing frame places c.args.before c.args.stmt.now c.args.behind c.role_of-role.result
+    as_written c.as_one.result _ _ c.args.distances.to_break c.args.distances.to_continue _ c.args.self.now
+    (is_both frame places c.args.before c.args.stmt.now c.args.behind c.role_of-role.result
     (c.role_of-role.ensures frame places) c.joins.result c.joins.ensures c.if-joins.true)
+    (c.as_one.ensures c.args.distances.to_break c.args.distances.to_continue)
 
 pub between-returns-then-joins-2 : goal.between-returns-then-joins-2
 between-returns-then-joins-2 t c =
     let frame = c.args.homes.now.frame.now in
     let places = c.args.homes.now.places.now in
-    as_written c.reading.result _ _ c.args.distances.to_break c.args.distances.to_continue _ c.args.self.now
-    (is_reading frame places c.args.before c.args.stmt.now c.args.behind c.role_of-role.result
+    ap (λ p. p.lines c.args.distances.to_break c.args.distances.to_continue ++ c.args.self.now)
+    (is_nothing frame places c.args.before c.args.stmt.now c.args.behind c.role_of-role.result
     (c.role_of-role.ensures frame places) c.joins.result c.joins.ensures c.if-joins.false c.joins-2.result
     c.joins-2.ensures c.if-joins-2.true)
-    (c.reading.ensures c.args.distances.to_break c.args.distances.to_continue)
 
 pub between-returns : goal.between-returns
 between-returns t c =
