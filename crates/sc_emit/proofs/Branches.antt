@@ -1,5 +1,12 @@
 -- The code of a function has at most one branch for each `If` and no EBREAK,
 -- and each field of its instructions is in the range of its form.
+use Rattle.sc_select.specs.Prelude.{added_by, binary_short, less_than, role_of_operation, short}
+use Rattle.sc_select.specs.Prelude.{is_unsigned, short_code, short_form, short_operation}
+use Rattle.sc_select.specs.declared.operators.ShortForm.{ShortForm}
+use Rattle.sc_select.specs.declared.roles.Role.TheVariants.{Sets}
+use Rattle.rv_code.specs.declared.instr.OpImmOp.{OpImmOp}
+use Rattle.sc_word.specs.Prelude.{mul_word}
+use Rattle.rv_code.specs.declared.instr.OpImmOp.TheVariants.{Andi, Ori, Xori}
 use Rattle.sc_emit.proofs.Common.{Addi, All, All-cons, All-nil, ArePlaces, Bne, Bool, Branch, Each, Ebreak, Entry}
 use Rattle.sc_emit.proofs.Common.{Export, Fits, FrameTree, Inside, Instr, IsBranchOffset, IsImmediate, IsInstr}
 use Rattle.sc_emit.proofs.Common.{IsJumpOffset, IsReg, IsUpper, Jal, Jalr, Line, List, Load, Lw, Main, None, OpImm}
@@ -195,6 +202,19 @@ module _ (frame : FrameTree) (places : List Place) where
       (both front (op_code rd a b o)
       (both (take frame places first_scratch left) (take_second frame places right) (take_straight first_scratch left)
       (second_straight right)) (op_straight rd a b o)) (keep_straight dest)
+
+  pub short_straight : (dest left : ℕ) (form : Option ShortForm) →
+      Straight (short_operation frame places dest left form)
+  short_straight dest left form =
+      let code : List Instr =
+      short_code (result_register frame places dest) (operand frame places first_scratch left) form in
+      both (take frame places first_scratch left ++ code) (keep frame places dest)
+      (both (take frame places first_scratch left) code (take_straight first_scratch left) (code_straight _ _ form))
+      (keep_straight dest)
+    where
+      code_straight : (rd rs : ℕ) (form : Option ShortForm) → Straight (short_code rd rs form)
+      code_straight rd rs None = refl
+      code_straight rd rs (Some form) = refl
 
   pub load_from_straight : (dest place : ℕ) → Straight (load_from frame places dest place)
   load_from_straight dest place =
@@ -509,7 +529,11 @@ module _ (frame : FrameTree) (places : List Place) where
       (between_keeps frame places (IsShaped (stmt_branches stmt))
       (any_more (stmt_branches stmt) (straight []) (straight_shaped [] refl))
       (λ t o. any_more (stmt_branches stmt) (straightly frame places (object_read frame places t o))
-      (plainly_shaped (object_read frame places t o) (object_read_straight frame places t o))) before behind
+      (plainly_shaped (object_read frame places t o) (object_read_straight frame places t o)))
+      (λ t l o w. any_more (stmt_branches stmt)
+      (straightly frame places (short_operation frame places t l (short_form o w)))
+      (plainly_shaped (short_operation frame places t l (short_form o w))
+      (short_straight frame places t l (short_form o w)))) before behind
       (select frame places stmt) h.0) (turn_shaped (select frame places stmt).role rest h.1)
 
   row_shaped : (stmts : List TacStmt) → Each Shaped stmts →
@@ -519,10 +543,14 @@ module _ (frame : FrameTree) (places : List Place) where
   layer_shaped : (layer : TacStmt-F TacStmt) → Inside Shaped layer →
       IsShaped (branch_step (map-TacStmt _ _ stmt_branches layer))
       (select_step frame places (map-TacStmt _ _ (select frame places) layer))
-  layer_shaped (tac.Const dest value) h = plainly_shaped _ (loaded_straight frame places dest (word_of_constant value))
+  layer_shaped (tac.Const dest value) h =
+      in_role 0 (Sets dest (word_of_constant value)) _
+      (plainly_shaped _ (loaded_straight frame places dest (word_of_constant value)))
   layer_shaped (tac.Copy dest from) h =
       plainly_shaped _ (copied_straight frame (place_of frame places dest) (place_of frame places from))
-  layer_shaped (tac.Op dest o left right) h = plainly_shaped _ (operation_straight frame places dest o left right)
+  layer_shaped (tac.Op dest o left right) h =
+      in_role 0 (role_of_operation dest o left right) _
+      (plainly_shaped _ (operation_straight frame places dest o left right))
   layer_shaped (tac.ObjectPlace dest object) h =
       in_role 0 (Places dest object) _ (plainly_shaped _ (object_straight frame places dest object))
   layer_shaped (tac.GlobalPlace dest global) h =
@@ -699,6 +727,47 @@ loading_instrs : (rd word : ℕ) → IsReg rd → AreInstrs (loading rd word)
 loading_instrs rd word h =
     if_instrs (is_short word) (OpImm Addi rd 0 (signed_of word) ∷ []) _ (λ s. ((h, x0_there, short_fits word s), tt))
     ((h, upper_fits word), ((h, h, lower_fits word), tt))
+
+short_instrs : (rd rs : ℕ) (o : OpImmOp) (word : ℕ) → IsReg rd → IsReg rs → AreInstrs (short_code rd rs (short o word))
+short_instrs rd rs o word h k = by (is_short word) refl
+  where
+    by : (b : Bool) → is_short word ≡ b →
+        AreInstrs (short_code rd rs (if b then Some (record { op = o; imm = signed_of word }) else None))
+    by true s = ((h, k, short_fits word s), tt)
+    by false s = tt
+
+binary_short_instrs : (rd rs : ℕ) (unsigned : Bool) (o : BinaryOp) (word : ℕ) → IsReg rd → IsReg rs →
+    AreInstrs (short_code rd rs (binary_short unsigned o word))
+binary_short_instrs rd rs unsigned op.BitOr word h k = short_instrs rd rs Ori word h k
+binary_short_instrs rd rs unsigned op.BitXor word h k = short_instrs rd rs Xori word h k
+binary_short_instrs rd rs unsigned op.BitAnd word h k = short_instrs rd rs Andi word h k
+binary_short_instrs rd rs unsigned op.Less word h k = short_instrs rd rs (less_than unsigned) word h k
+binary_short_instrs rd rs unsigned op.Add word h k = short_instrs rd rs Addi word h k
+binary_short_instrs rd rs unsigned op.Sub word h k = short_instrs rd rs Addi (added_by true word) h k
+binary_short_instrs rd rs unsigned op.OrElse word h k = tt
+binary_short_instrs rd rs unsigned op.AndAlso word h k = tt
+binary_short_instrs rd rs unsigned op.Equal word h k = tt
+binary_short_instrs rd rs unsigned op.NotEqual word h k = tt
+binary_short_instrs rd rs unsigned op.Greater word h k = tt
+binary_short_instrs rd rs unsigned op.LessEqual word h k = tt
+binary_short_instrs rd rs unsigned op.GreaterEqual word h k = tt
+binary_short_instrs rd rs unsigned op.ShiftLeft word h k = tt
+binary_short_instrs rd rs unsigned op.ShiftRight word h k = tt
+binary_short_instrs rd rs unsigned op.Mul word h k = tt
+binary_short_instrs rd rs unsigned op.Div word h k = tt
+binary_short_instrs rd rs unsigned op.Rem word h k = tt
+
+short_form_instrs : (rd rs : ℕ) (o : TacOp) (word : ℕ) → IsReg rd → IsReg rs →
+    AreInstrs (short_code rd rs (short_form o word))
+short_form_instrs rd rs (tacop.Binary o scalar) word h k =
+    binary_short_instrs rd rs (is_unsigned scalar) o word h k
+short_form_instrs rd rs (tacop.PointerMove minus cells index) word h k =
+    short_instrs rd rs Addi (added_by minus (mul_word word (bytes_of cells))) h k
+short_form_instrs rd rs (tacop.Unary o scalar) word h k = tt
+short_form_instrs rd rs tacop.PointerNot word h k = tt
+short_form_instrs rd rs (tacop.PointerMember offset) word h k = tt
+short_form_instrs rd rs (tacop.PointerDifference cells) word h k = tt
+short_form_instrs rd rs (tacop.PointerCompare o) word h k = tt
 
 moved_instrs : (rd rs bytes : ℕ) → IsReg rd → IsReg rs → AreInstrs (moved_by rd rs bytes)
 moved_instrs rd rs bytes h k =
@@ -909,6 +978,16 @@ module _ (frame : FrameTree) (places : List Place) (there : (t : ℕ) → IsTher
       (second_taken right)) (op_instrs rd a b (first_at dest) (first_at left) (second_at right) o))
       (keep_instrs dest)
 
+  short_operation_instrs : (dest left : ℕ) (o : TacOp) (word : ℕ) →
+      AreInstrs (short_operation frame places dest left (short_form o word))
+  short_operation_instrs dest left o word =
+      let rd = result_register frame places dest in
+      let rs = operand frame places first_scratch left in
+      let code : List Instr = short_code rd rs (short_form o word) in
+      both_instrs (take frame places first_scratch left ++ code) (keep frame places dest)
+      (both_instrs (take frame places first_scratch left) code (first_taken left)
+      (short_form_instrs rd rs o word (first_at dest) (first_at left))) (keep_instrs dest)
+
   load_from_instrs : (dest place : ℕ) → AreInstrs (load_from frame places dest place)
   load_from_instrs dest place =
       both_instrs (take frame places first_scratch place) _ (first_taken place)
@@ -1082,7 +1161,9 @@ module _ (frame : FrameTree) (places : List Place) (there : (t : ℕ) → IsTher
       IsEncodable (in_order frame places (map (select frame places) stmts))
   row_encodable stmts h all =
       order_keeps frame places IsEncodable (straight_encodable [] tt)
-      (λ t o. plainly_encodable (object_read frame places t o) (object_read_instrs t o)) followed_encodable stmts
+      (λ t o. plainly_encodable (object_read frame places t o) (object_read_instrs t o))
+      (λ t l o w. plainly_encodable (short_operation frame places t l (short_form o w))
+      (short_operation_instrs t l o w)) followed_encodable stmts
       (each_encodable stmts h all)
     where
       each_encodable : (stmts : List TacStmt) → Each Encodable stmts → all_true (map few_inside stmts) ≡ true →
@@ -1099,11 +1180,14 @@ module _ (frame : FrameTree) (places : List Place) (there : (t : ℕ) → IsTher
   layer_encodable : (layer : TacStmt-F TacStmt) → Inside Encodable layer →
       with_parts passes_few (map-TacStmt _ _ few_inside layer) ≡ true →
       IsEncodable (select_step frame places (map-TacStmt _ _ (select frame places) layer))
-  layer_encodable (tac.Const dest value) h all = plainly_encodable _ (loaded_instrs dest (word_of_constant value))
+  layer_encodable (tac.Const dest value) h all =
+      of_role (Sets dest (word_of_constant value)) _
+      (plainly_encodable _ (loaded_instrs dest (word_of_constant value)))
   layer_encodable (tac.Copy dest from) h all =
       plainly_encodable _
       (copied_instrs frame (slice_get places dest) (slice_get places from) (there dest) (there from))
-  layer_encodable (tac.Op dest o left right) h all = plainly_encodable _ (operation_instrs dest o left right)
+  layer_encodable (tac.Op dest o left right) h all =
+      of_role (role_of_operation dest o left right) _ (plainly_encodable _ (operation_instrs dest o left right))
   layer_encodable (tac.ObjectPlace dest object) h all =
       of_role (Places dest object) _ (plainly_encodable _ (object_instrs dest object))
   layer_encodable (tac.GlobalPlace dest global) h all =

@@ -66,7 +66,7 @@ pub use Rattle.sc_tac.specs.declared.place.Place.TheVariants.{Register, Slot}
 pub use Rattle.sc_tac.specs.declared.stmt.Constant.{Constant}
 pub use Rattle.sc_tac.specs.declared.stmt.TacOp.{TacOp}
 pub use Rattle.sc_tac.specs.declared.stmt.TacStmt.{fold-roll-TacStmt, map-TacStmt, roll-TacStmt}
-pub use Rattle.sc_select.proofs.Joining.{between_keeps, fork_keeps, gives_place, is_empty, is_read, loads_it}
+pub use Rattle.sc_select.proofs.Joining.{between_keeps, fork_keeps, gives_place, is_empty, loads_it}
 pub use Rattle.sc_select.proofs.Joining.{none_behind, order_keeps, parts_least}
 pub use Rattle.sc_select.proofs.Sizes.{row_is_sized}
 pub use Rattle.sc_select.specs.Prelude.{Addresses, Fits, Line, a0, a7, address_scratch, at_hand, between, binary_code}
@@ -77,7 +77,7 @@ pub use Rattle.sc_select.specs.Prelude.{in_order, in_turn, is_named, is_short, j
 pub use Rattle.sc_select.specs.Prelude.{keep, kept, linked, load_from, load_word, loading, loop_begins, low_after}
 pub use Rattle.sc_select.specs.Prelude.{lower_part, most_lines, move, moved_by, nothing, object_offset, object_read}
 pub use Rattle.sc_select.specs.Prelude.{op_code, operand, operation, pass, past, place_of, place_of_global, plain}
-pub use Rattle.sc_select.specs.Prelude.{plainly, put, ra, reading, receive, referring, refers_only, register_of}
+pub use Rattle.sc_select.specs.Prelude.{plainly, put, ra, receive, referring, refers_only, register_of}
 pub use Rattle.sc_select.specs.Prelude.{relocation_of, relocations_from, result_register, return, role_first}
 pub use Rattle.sc_select.specs.Prelude.{role_of_load, second_operand, second_scratch, select, select_all, select_step}
 pub use Rattle.sc_select.specs.Prelude.{skipping, slot_offset, sp, store_arguments, store_to, store_word, straight}

@@ -4,6 +4,7 @@ pub mod AtStart
 pub mod Branches
 pub mod Calls
 pub mod Choices
+pub mod Constants
 pub mod Emission
 pub mod Entering
 pub mod Environment
@@ -11,6 +12,7 @@ pub mod Functions
 pub mod Gaps
 pub mod Operands
 pub mod Operations
+pub mod Pairs
 pub mod Passing
 pub mod Plain
 pub mod Reading

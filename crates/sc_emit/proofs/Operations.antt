@@ -14,6 +14,8 @@ use Rattle.sc_emit.proofs.Common.{store_to, stored, stores as stores_to, straigh
 use Rattle.sc_emit.proofs.Common.{trail_step, true, with_memory, with_temp, word, word_of, wrapping, ℕ, ⊎_elim, ◌*◌}
 use Rattle.sc_emit.proofs.Common.{◌++◌, ◌+◌, ◌==◌, ◌∙◌, ◌∷◌, ◌≡◌}
 use Rattle.sc_pieces.proofs.Rows.{loads as loads_from}
+use Rattle.sc_select.specs.Prelude.{role_of_operation}
+use Rattle.sc_select.specs.declared.roles.Role.TheVariants.{Other}
 use Rattle.sc_tac.specs.declared.stmt.TacStmt.TheOpen as tac
 use Rattle.sc_pieces.specs.Operators.{AreOperands, op_word}
 use Rattle.sc_pieces.proofs.Operators.{gives_word}
@@ -332,7 +334,7 @@ module _ (T : Setting) (R : Running) (formed : IsWellFormed T.image) (inputs : A
       one_operand : takes_two o ≡ false →
           IsSound o →
           Follows T R (code_step wrapping R.activation.here calls (tac.Op dest o left_one None))
-          (select_step frame R.places (tac.Op dest o left_one None)) (trail_step (tac.Op dest o left_one None))
+          (straightly frame R.places (Whole None)) (trail_step (tac.Op dest o left_one None))
       one_operand one for =
           straight_follows T R (code_step wrapping R.activation.here calls (tac.Op dest o left_one None)) (Whole None)
           (trail_step (tac.Op dest o left_one None))
@@ -377,7 +379,7 @@ module _ (T : Setting) (R : Running) (formed : IsWellFormed T.image) (inputs : A
       two_operands : (right_one : ℕ) →
           IsSound o →
           Follows T R (code_step wrapping R.activation.here calls (tac.Op dest o left_one (Some right_one)))
-          (select_step frame R.places (tac.Op dest o left_one (Some right_one)))
+          (straightly frame R.places (Whole (Some right_one)))
           (trail_step (tac.Op dest o left_one (Some right_one)))
       two_operands right_one for =
           straight_follows T R (code_step wrapping R.activation.here calls (tac.Op dest o left_one (Some right_one)))
@@ -417,5 +419,11 @@ module _ (T : Setting) (R : Running) (formed : IsWellFormed T.image) (inputs : A
           IsSound o →
           Follows T R (code_step wrapping R.activation.here calls (tac.Op dest o left_one right))
           (select_step frame R.places (tac.Op dest o left_one right)) (trail_step (tac.Op dest o left_one right))
-      op_follows None count for = one_operand (sym count) for
-      op_follows (Some right_one) count for = two_operands right_one for
+      op_follows None count for =
+          with_role T R (code_step wrapping R.activation.here calls (tac.Op dest o left_one None))
+          (straightly frame R.places (Whole None)) Other (trail_step (tac.Op dest o left_one None))
+          (one_operand (sym count) for)
+      op_follows (Some right_one) count for =
+          with_role T R (code_step wrapping R.activation.here calls (tac.Op dest o left_one (Some right_one)))
+          (straightly frame R.places (Whole (Some right_one))) (role_of_operation dest o left_one (Some right_one))
+          (trail_step (tac.Op dest o left_one (Some right_one))) (two_operands right_one for)

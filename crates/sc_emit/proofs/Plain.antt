@@ -12,6 +12,7 @@ use Rattle.sc_emit.proofs.Common.{plain_points, plainly, refl, register_of, regi
 use Rattle.sc_emit.proofs.Common.{select_step, slice_get, slot_offset, sp, start_of, stays, store_word, straightly}
 use Rattle.sc_emit.proofs.Common.{subst, sym, trail_step, true, unwrap_or, upper_part, with_temp, word}
 use Rattle.sc_emit.proofs.Common.{word_of_constant, wrapping, ℕ, ◌*◌, ◌++◌, ◌+◌, ◌<◌, ◌^◌, ◌∙◌, ◌∷◌, ◌≡◌, ◌≢◌, ◌≤◌}
+use Rattle.sc_select.specs.declared.roles.Role.TheVariants.{Sets}
 use Rattle.sc_tac.specs.declared.stmt.Constant.TheVariants as constant
 use Rattle.sc_tac.specs.declared.stmt.TacStmt.TheOpen as tac
 use Rattle.sc_emit.proofs.Operands.{IsPlace, ArePlaced, Gives, keeps, keeps_register, keeps_slot, slot_from_sp, world}
@@ -66,7 +67,7 @@ module _ (T : Setting) (R : Running) (formed : IsWellFormed T.image) (inputs : A
     abbrev pub IsWordConstant : Constant → Type 0
     IsWordConstant value = word_of_constant value < 2 ^ 32
 
-    constant_stands : (place : ℕ → Option ℕ) (value : Constant) → IsWordConstant value →
+    pub constant_stands : (place : ℕ → Option ℕ) (value : Constant) → IsWordConstant value →
         StandsFor place (word_of_constant value) (constant_value value)
     constant_stands place (constant.Word w) h = record { word = h; means = refl }
     constant_stands place constant.Null h = record { word = h; means = refl }
@@ -81,7 +82,10 @@ module _ (T : Setting) (R : Running) (formed : IsWellFormed T.image) (inputs : A
     const_follows dest value place its small =
         let rd : ℕ = result_register frame R.places dest in
         let code : List Instr = loading rd (word_of_constant value) in
-        straight_follows T R (code_step wrapping R.activation.here calls (tac.Const dest value))
+        with_role T R (code_step wrapping R.activation.here calls (tac.Const dest value))
+        (straightly frame R.places (code ++ keep frame R.places dest)) (Sets dest (word_of_constant value))
+        (trail_step (tac.Const dest value))
+        (straight_follows T R (code_step wrapping R.activation.here calls (tac.Const dest value))
         (code ++ keep frame R.places dest) (trail_step (tac.Const dest value))
         (λ temps. stays (record { exit = Next; carried = with_temp dest (constant_value value) temps }))
         (λ lives temps x left ready clear at.
@@ -92,7 +96,7 @@ module _ (T : Setting) (R : Running) (formed : IsWellFormed T.image) (inputs : A
         (gives_by x code rd (word_of_constant value) (constant_value value) (result_is R placed dest place its).not_sp
         (constant_stands (x.inj R.activation.here.comp) value small)
         (with_scratch x (loads_number T.image T.inputs (world T R x) x.bytes x.regs rd (word_of_constant value)
-        (result_is R placed dest place its).writable small))) at))
+        (result_is R placed dest place its).writable small))) at)))
       where
         with_scratch : (x : Joint) {code : List Instr} {rd w : ℕ} →
             Computes T.image T.inputs (world T R x) code [] x.regs x.bytes rd w →

@@ -10,17 +10,9 @@ use Rattle.sc_emit.proofs.Common.{stays, straightly, subst, sym, trail_step, tru
 use Rattle.sc_emit.proofs.Common.{ℕ, ◌&&◌, ◌*◌, ◌+◌, ◌==◌, ◌||◌, ◌∙◌, ◌∷◌, ◌≡◌, ◌≤◌}
 use Rattle.sc_tac.specs.declared.stmt.TacStmt.TheOpen as tac
 use Rattle.sc_emit.proofs.Operands.{ArePlaced, Gives, keeps, world}
+use Rattle.sc_emit.proofs.Pairs.{again, fewer_clear}
 use Rattle.sc_emit.proofs.Plain.{IsResult, gives_by, result_is, start_stands}
 use Rattle.sc_emit.proofs.Straight.{comes_behind, computed_goes, read_goes, straight_follows}
-
--- where less is live and nothing is assigned, a point is as clear
-fewer_clear : (places : List Place) (more fewer : Set) → ((t : ℕ) → fewer t ≡ true → more t ≡ true) →
-    IsClear places (point false more) → IsClear places (point false fewer)
-fewer_clear places more fewer h clear = record {
-  assigned = λ d t e. cc e;
-  live = λ t u on on' shared. clear.live t u (h t on) (h u on') shared;
-  over_calls = λ t calls. cc calls;
-}
 
 module _ (T : Setting) (R : Running) (formed : IsWellFormed T.image) (inputs : All IsWord T.inputs) (cells : List ℕ)
     (nodes : ℕ) (is : IsActivation T.performs cells R.places nodes R.activation) (placed : ArePlaced R) (calls : Calls)
@@ -66,32 +58,6 @@ module _ (T : Setting) (R : Running) (formed : IsWellFormed T.image) (inputs : A
       (all_at (IsClear R.places) (both_trails.points lives) 2 _ clear refl))
       (All-cons (IsClear R.places) last [] (all_at (IsClear R.places) (both_trails.points lives) 3 _ clear refl)
       (All-nil (IsClear R.places)))
-
-  -- the temporary holds what was assigned last
-  same_temps : (temps : Temps) (v : Value) (t : ℕ) →
-      with_temp dest v (with_temp dest start temps) t ≡ with_temp dest v temps t
-  same_temps temps v t = by (t == dest)
-    where
-      by : (b : Bool) →
-          (if b then Some v else (if b then Some start else temps t)) ≡ (if b then Some v else temps t)
-      by true = refl
-      by false = refl
-
-  again : (live : Set) (x : Joint) (budget left : ℕ) (temps : Temps) (v : Value) (s : Meant) (pc : ℕ) →
-      Arrives T R live x budget left (with_temp dest v temps) s pc →
-      Arrives T R live x budget left (with_temp dest v (with_temp dest start temps)) s pc
-  again live x budget left temps v s pc g = record {
-    y = g.y;
-    meant_is = g.meant_is;
-    pc_is = g.pc_is;
-    leads = g.leads;
-    ready = record {
-      settled = g.ready.settled;
-      frame = g.ready.frame;
-      held = λ t w on known. g.ready.held t w on (sym (same_temps temps v t) ∙ known);
-      sp = g.ready.sp;
-    };
-  }
 
   fewer_ready : (lives : Lives) (temps : Temps) (x : Joint) → Ready T R (live_at both_trails lives) temps x →
       Ready T R (live_plain [] (Some dest) lives) temps x
@@ -163,7 +129,7 @@ module _ (T : Setting) (R : Running) (formed : IsWellFormed T.image) (inputs : A
         gives lives temps x v ready
         (subst (λ q. load (x.meant.memory R.activation.here.comp) pointer q ≡ Ok v) (sym start_is) found) in
         comes_behind T R lives x code left (with_temp dest v (with_temp dest start temps)) x.meant
-        (again lives.behind x (length code + left) left temps v x.meant (x.pc + 4 * length code)
+        (again T R dest start lives.behind x (length code + left) left temps v x.meant (x.pc + 4 * length code)
         (keeps T R x cells nodes is placed ready.frame ready.sp formed inputs lives temps [] dest left
         (fewer_ready lives temps x ready) (clear_behind lives clear) v (load_word rd (object_offset frame object)) place
         its g at)) ends e f))))

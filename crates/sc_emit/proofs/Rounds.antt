@@ -1,14 +1,19 @@
 -- The code of loops: where it begins, and where it leads back.
+use Rattle.sc_select.proofs.Joining.{IsRead, IsShort, operates_it, sets_it, which_pair}
+use Rattle.sc_select.specs.Prelude.{as_one, role_of_operation, short_form, short_operation}
+use Rattle.sc_select.specs.declared.operators.ShortForm.{ShortForm}
+use Rattle.sc_select.specs.declared.roles.Role.TheVariants.{Sets}
+use Rattle.std.proofs.Common.{None, Option, Some, ⊎_elim}
 use Rattle.sc_emit.proofs.Common.{Bne, Bool, Branch, Each, Ebreak, FrameTree, Inside, Instr, Jal, Line, List, None}
 use Rattle.sc_emit.proofs.Common.{Other, Place, Places, Role, Some, TacFnTree, TacStmt, TacStmt-F, [], and_first}
 use Rattle.sc_emit.proofs.Common.{and_rest, ap, append_assoc, arith, between, call_cross, call_own, choice, choosing}
 use Rattle.sc_emit.proofs.Common.{closing, code_back_edges, code_of, cond, count_by, cycle, ending_past, entrance}
 use Rattle.sc_emit.proofs.Common.{environment_call, everywhere, false, first_scratch, fold-roll-TacStmt, fork}
 use Rattle.sc_emit.proofs.Common.{gives_place, if◌then◌else◌, in_turn, inl, inr, is_backward, is_empty, is_known_jump}
-use Rattle.sc_emit.proofs.Common.{is_read, joined, joins, jump_back, jump_over, leads_back, length, length-append}
+use Rattle.sc_emit.proofs.Common.{joined, joins, jump_back, jump_over, leads_back, length, length-append}
 use Rattle.sc_emit.proofs.Common.{length-map, list_all, list_all-map, list_all_along, loads_it, loop_begins, loop_step}
 use Rattle.sc_emit.proofs.Common.{loops, lt-leb, map, map-TacStmt, map-append, neg_ℤ, not, object_read, operand, past}
-use Rattle.sc_emit.proofs.Common.{place_of, place_of_global, plain, plainly, pos, reading, receive, refl, role_first}
+use Rattle.sc_emit.proofs.Common.{place_of, place_of_global, plain, plainly, pos, receive, refl, role_first}
 use Rattle.sc_emit.proofs.Common.{role_of_load, row_is_sized, select, select_all, select_step, skipping, stmt_induction}
 use Rattle.sc_emit.proofs.Common.{stmt_loops, straight as lines_of, straightly, subst, suc, sum_by-append, sym, take}
 use Rattle.sc_emit.proofs.Common.{true, word_of_constant, zero, ℕ, ⊎_elim, ◌&&◌, ◌*◌, ◌++◌, ◌+◌, ◌==◌, ◌∙◌, ◌∷◌, ◌≡◌}
@@ -21,7 +26,7 @@ use Rattle.sc_tac.specs.declared.stmt.TacStmt.TheOpen as tac
 use Rattle.sc_tac.specs.declared.stmt.TacStmt.TheVariants as emit
 use Rattle.sc_emit.proofs.Branches.{Straight, StraightLines, all_append, closing_straight, copied_straight}
 use Rattle.sc_emit.proofs.Branches.{cross_straight, entrance_straight, global_straight, is_straight, is_straight_line}
-use Rattle.sc_emit.proofs.Branches.{load_from_straight, loaded_straight, object_read_straight, object_straight}
+use Rattle.sc_emit.proofs.Branches.{load_from_straight, loaded_straight, object_read_straight, short_straight, object_straight}
 use Rattle.sc_emit.proofs.Branches.{operation_straight, output_straight, own_straight, plainly_straight}
 use Rattle.sc_emit.proofs.Branches.{receive_straight, return_straight, store_to_straight, take_straight}
 
@@ -107,24 +112,48 @@ module _ (frame : FrameTree) (places : List Place) where
   abbrev Lies : TacStmt → Type 0
   Lies stmt = IsCodeOf stmt (select frame places stmt)
 
-  -- a statement that loads what the one before it has read has no code, and that one has what reads it
-  reading_lies : (stmt : TacStmt) (role : Role) → (select frame places stmt).role ≡ role → (second : Role) →
-      joins role second ≡ true → IsCodeOf stmt (reading frame places role)
-  reading_lies stmt role is second h =
-      let pair = is_read role second h in
-      subst (λ role. IsCodeOf stmt (reading frame places role)) (sym pair.gives)
-      (subst (λ stmt. IsCodeOf stmt (straightly frame places (object_read frame places pair.temp pair.object)))
-      (sym (gives_place frame places stmt pair.temp pair.object (is ∙ pair.gives)))
-      (by_instrs (tac.ObjectPlace pair.temp pair.object) (object_read frame places pair.temp pair.object) refl
-      (object_read_straight frame places pair.temp pair.object)))
+  -- the second of two statements that are one piece has the code of both, and the first none
+  both_lie : (before : Role) (stmt : TacStmt) → joins before (select frame places stmt).role ≡ true →
+      IsCodeOf stmt (as_one frame places before (select frame places stmt).role)
+  both_lie before stmt h = ⊎_elim read short (which_pair before (select frame places stmt).role h)
+    where
+      read : IsRead before (select frame places stmt).role →
+          IsCodeOf stmt (as_one frame places before (select frame places stmt).role)
+      read pair =
+          let load = loads_it frame places stmt pair.temp pair.loads in
+          subst (λ r. IsCodeOf stmt (as_one frame places r (select frame places stmt).role)) (sym pair.gives)
+          (subst (λ s. IsCodeOf s (straightly frame places (object_read frame places pair.temp pair.object)))
+          (sym load.is)
+          (by_instrs (tac.Load pair.temp pair.temp load.pointer) (object_read frame places pair.temp pair.object) refl
+          (object_read_straight frame places pair.temp pair.object)))
 
-  read_lies : (stmt : TacStmt) (first : Role) → joins first (select frame places stmt).role ≡ true →
+      short : IsShort before (select frame places stmt).role →
+          IsCodeOf stmt (as_one frame places before (select frame places stmt).role)
+      short pair =
+          let form : Option ShortForm = short_form pair.op pair.word in
+          let operation = operates_it frame places stmt pair.temp pair.left pair.op pair.operates in
+          subst (λ r. IsCodeOf stmt (as_one frame places r (select frame places stmt).role)) (sym pair.sets)
+          (subst (λ r. IsCodeOf stmt (as_one frame places (Sets pair.temp pair.word) r)) (sym pair.operates)
+          (subst (λ s. IsCodeOf s (straightly frame places (short_operation frame places pair.temp pair.left form)))
+          (sym operation.is)
+          (by_instrs (tac.Op pair.temp pair.op pair.left (Some pair.temp))
+          (short_operation frame places pair.temp pair.left form) refl
+          (short_straight frame places pair.temp pair.left form))))
+
+  none_lie : (stmt : TacStmt) (behind : Role) → joins (select frame places stmt).role behind ≡ true →
       IsCodeOf stmt (lines_of [])
-  read_lies stmt first h =
-      let pair = is_read first (select frame places stmt).role h in
-      let load = loads_it frame places stmt pair.temp pair.loads in
-      subst (λ stmt. IsCodeOf stmt (lines_of [])) (sym load.is)
-      (by_lines (tac.Load pair.temp pair.temp load.pointer) [] refl refl)
+  none_lie stmt behind h = ⊎_elim read short (which_pair (select frame places stmt).role behind h)
+    where
+      read : IsRead (select frame places stmt).role behind → IsCodeOf stmt (lines_of [])
+      read pair =
+          subst (λ s. IsCodeOf s (lines_of [])) (sym (gives_place frame places stmt pair.temp pair.object pair.gives))
+          (by_lines (tac.ObjectPlace pair.temp pair.object) [] refl refl)
+
+      short : IsShort (select frame places stmt).role behind → IsCodeOf stmt (lines_of [])
+      short pair =
+          let set = sets_it frame places stmt pair.temp pair.word pair.sets in
+          subst (λ s. IsCodeOf s (lines_of [])) (sym set.is)
+          (by_lines (tac.Const pair.temp set.value) [] refl refl)
 
   between_lies : (before : Role) (stmt : TacStmt) (behind : Role) → Lies stmt →
       IsCodeOf stmt (between frame places before (select frame places stmt) behind)
@@ -133,10 +162,10 @@ module _ (frame : FrameTree) (places : List Place) where
     where
       by : (one two : Bool) → joins before (select frame places stmt).role ≡ one →
           joins (select frame places stmt).role behind ≡ two →
-          IsCodeOf stmt (if one then lines_of [] else if two then reading frame places (select frame places stmt).role
-          else select frame places stmt)
-      by true two e f = read_lies stmt before e
-      by false true e f = reading_lies stmt (select frame places stmt).role refl behind f
+          IsCodeOf stmt (if one then as_one frame places before (select frame places stmt).role
+          else if two then lines_of [] else select frame places stmt)
+      by true two e f = both_lie before stmt e
+      by false true e f = none_lie stmt behind f
       by false false e f = h
 
   turn_lies : (before : Role) (stmts : List TacStmt) → Each Lies stmts → (b c : ℕ) →
@@ -272,12 +301,14 @@ module _ (frame : FrameTree) (places : List Place) where
   layer_lies : (layer : TacStmt-F TacStmt) → Inside Lies layer →
       IsCodeOf (roll-TacStmt layer) (select_step frame places (map-TacStmt _ _ (select frame places) layer))
   layer_lies (tac.Const dest value) h =
-      by_instrs (tac.Const dest value) _ refl (loaded_straight frame places dest (word_of_constant value))
+      in_role (roll-TacStmt (tac.Const dest value)) (Sets dest (word_of_constant value)) _
+      (by_instrs (tac.Const dest value) _ refl (loaded_straight frame places dest (word_of_constant value)))
   layer_lies (tac.Copy dest from) h =
       by_instrs (tac.Copy dest from) _ refl
       (copied_straight frame (place_of frame places dest) (place_of frame places from))
   layer_lies (tac.Op dest o left right) h =
-      by_instrs (tac.Op dest o left right) _ refl (operation_straight frame places dest o left right)
+      in_role (roll-TacStmt (tac.Op dest o left right)) (role_of_operation dest o left right) _
+      (by_instrs (tac.Op dest o left right) _ refl (operation_straight frame places dest o left right))
   layer_lies (tac.ObjectPlace dest object) h =
       in_role (roll-TacStmt (tac.ObjectPlace dest object)) (Places dest object) _
       (by_instrs (tac.ObjectPlace dest object) _ refl (object_straight frame places dest object))

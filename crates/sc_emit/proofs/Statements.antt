@@ -1,4 +1,10 @@
 -- The code of statements follows what they do: by induction over their layers.
+use Rattle.sc_select.proofs.Joining.{IsRead, IsShort, last_of_two, operates_it, sets_it, which_pair}
+use Rattle.sc_select.specs.Prelude.{as_one, short_form, short_operation}
+use Rattle.sc_select.specs.declared.operators.ShortForm.{ShortForm}
+use Rattle.sc_core.specs.Prelude.{follow as then_follow, in_order as one_by_one}
+use Rattle.std.proofs.Common.{⊎_elim, ◌==◌}
+use Rattle.sc_emit.proofs.Constants.{applies, both_steps, short_follows}
 use Rattle.sc_emit.proofs.Common.{All, AreReached, Bool, CallTarget, Calls, CallsFollow, Codes, Constant, Cross, Each}
 use Rattle.sc_emit.proofs.Common.{Follows, FrameTree, GivesValue, HasNoGap, Here, Input, Inside, IsActivation, IsSound}
 use Rattle.sc_emit.proofs.Common.{IsWellFormed, IsWord, List, None, Option, Other, Output, Own, Piece, Reached}
@@ -6,11 +12,11 @@ use Rattle.sc_emit.proofs.Common.{Register, Role, Running, Setting, Some, State 
 use Rattle.sc_emit.proofs.Common.{TacStmt-F, Trail, Value, [], all_do, and_parts, ap, ap₂, arith, between}
 use Rattle.sc_emit.proofs.Common.{break_follows, calls_only, code_does, code_step, continue_follows, counts_elements}
 use Rattle.sc_emit.proofs.Common.{everywhere, false, fold-roll-TacStmt, followed, gives_place, has_elements}
-use Rattle.sc_emit.proofs.Common.{has_operands, has_words, if◌then◌else◌, in_order, in_turn, is_call, is_read, is_some}
+use Rattle.sc_emit.proofs.Common.{has_operands, has_words, if◌then◌else◌, in_order, in_turn, is_call, is_some}
 use Rattle.sc_emit.proofs.Common.{joined, joins, leb-true, length, list_all, loads_it, ltb-true, map, map-TacStmt}
 use Rattle.sc_emit.proofs.Common.{names_only, names_own_object, names_own_temps, nat_lt, none_behind, not}
 use Rattle.sc_emit.proofs.Common.{nothing as no_lines, object_inside, object_read, object_there, one_or_none}
-use Rattle.sc_emit.proofs.Common.{parts_least, passes_few, reading, refl, role_first, roll-TacStmt, row, select}
+use Rattle.sc_emit.proofs.Common.{parts_least, passes_few, refl, role_first, roll-TacStmt, row, select}
 use Rattle.sc_emit.proofs.Common.{select_all, select_step, slice_get-get_or, stmt_does, stmt_induction, straightly}
 use Rattle.sc_emit.proofs.Common.{subst, sym, takes_two, trail, trail_step, true, word_of_constant, wrapping, ℕ, ◌++◌}
 use Rattle.sc_emit.proofs.Common.{◌+◌, ◌<◌, ◌^◌, ◌||◌, ◌∙◌, ◌∷◌, ◌≡◌, ◌≤◌}
@@ -86,9 +92,9 @@ module _ (T : Setting) (R : Running) (formed : IsWellFormed T.image) (inputs : A
   piece_by : (before behind : Role) (stmt : TacStmt) (one two : Bool) → joins before (code stmt).role ≡ one →
       joins (code stmt).role behind ≡ two →
       between frame R.places before (code stmt) behind ≡
-      (if one then no_lines else if two then reading frame R.places (code stmt).role else code stmt)
+      (if one then as_one frame R.places before (code stmt).role else if two then no_lines else code stmt)
   piece_by before behind stmt one two h k =
-      ap₂ (λ a b. if a then no_lines else if b then reading frame R.places (code stmt).role else code stmt) h k
+      ap₂ (λ a b. if a then as_one frame R.places before (code stmt).role else if b then no_lines else code stmt) h k
 
   -- a statement that has code of its own, before others
   by_itself : (before : Role) (stmt : TacStmt) (rest : List TacStmt) → joins before (code stmt).role ≡ false →
@@ -121,79 +127,155 @@ module _ (T : Setting) (R : Running) (formed : IsWellFormed T.image) (inputs : A
       read_follows T R formed inputs cells nodes is placed calls dest object pointer there.0 place.0 place.1 there.1
       (omega (arith, object_inside cells R.places nodes frame is.room object there.0 _ there.1 its))
 
-  -- two statements that are one piece, before others
-  as_one : (before : Role) (stmt next : TacStmt) (rest : List TacStmt) → joins before (code stmt).role ≡ false →
-      joins (code stmt).role (code next).role ≡ true → PassesAll tests stmt →
-      (joins (code next).role (role_first (map code rest)) ≡ false → Row (code next).role rest) →
-      Row before (stmt ∷ next ∷ rest)
-  as_one before stmt next rest none both pass later few =
-      let pair = is_read (code stmt).role (code next).role both in
-      let dest : ℕ = pair.temp in
-      let object : ℕ = pair.object in
-      let first : stmt ≡ roll-TacStmt (tac.ObjectPlace dest object) =
-      gives_place frame R.places stmt dest object pair.gives in
-      let second = loads_it frame R.places next dest pair.loads in
+  -- a constant is a word
+  is_word : (dest : ℕ) (value : Constant) → has_words (tac.Const dest value) ≡ true → word_of_constant value < 2 ^ 32
+  is_word dest (constant.Word w) h = ltb-true w (2 ^ 32) h
+  is_word dest constant.Null h = omega arith
+
+  -- the operator counts elements of few cells, if it counts any
+  is_sound : (o : TacOp) → counts_elements o ≡ true → IsSound o
+  is_sound (tacop.Unary o scalar) h = tt
+  is_sound (tacop.Binary o scalar) h = tt
+  is_sound tacop.PointerNot h = tt
+  is_sound (tacop.PointerMove minus cells index) h = tt
+  is_sound (tacop.PointerMember offset) h = tt
+  is_sound (tacop.PointerDifference cells) h =
+      let both = and_parts (nat_lt 0 cells) (nat_lt cells (2 ^ 29)) h in
+      record { some = ltb-true 0 cells both.0; few = ltb-true cells (2 ^ 29) both.1 }
+  is_sound (tacop.PointerCompare o) h = tt
+
+  -- the operator of a temporary and a constant
+  short_follows_here : (dest left : ℕ) (value : Constant) (o : TacOp) (form : ShortForm) →
+      (apart : (left == dest) ≡ false) → short_form o (word_of_constant value) ≡ Some form →
+      PassesAll tests (roll-TacStmt (tac.Const dest value)) →
+      PassesAll tests (roll-TacStmt (tac.Op dest o left (Some dest))) →
+      Follows T R (applies T R formed inputs cells nodes is placed calls dest left value o apart)
+      (straightly frame R.places (short_operation frame R.places dest left (short_form o (word_of_constant value))))
+      (both_steps T R formed inputs cells nodes is placed calls dest left value o apart)
+  short_follows_here dest left value o form apart form_is pass pass' =
+      let h = passes_here tests (tac.Const dest value) pass in
+      let k = passes_here tests (tac.Op dest o left (Some dest)) pass' in
+      let place = place_there dest [] h.0 in
+      subst (λ form. Follows T R (applies T R formed inputs cells nodes is placed calls dest left value o apart)
+      (straightly frame R.places (short_operation frame R.places dest left form))
+      (both_steps T R formed inputs cells nodes is placed calls dest left value o apart)) (sym form_is)
+      (short_follows T R formed inputs cells nodes is placed calls dest left value o apart form form_is
+      (is_sound o k.1.1.1.1.1.0) (is_word dest value h.1.1.1.1.0) place.0 place.1)
+
+  abbrev layer_does : TacStmt-F TacStmt → Codes
+  layer_does layer = code_step wrapping here calls (map-TacStmt _ _ does layer)
+
+  abbrev layer_trail : TacStmt-F TacStmt → Trail
+  layer_trail layer = trail_step (map-TacStmt _ _ trail layer)
+
+  -- two statements of these layers that are one piece, before others: the first has no lines, the second those of both
+  two_follow : (before : Role) (stmt next : TacStmt) (rest : List TacStmt) (first second : TacStmt-F TacStmt)
+      (one : Code) (both : Codes) (both_trail : Trail) → stmt ≡ roll-TacStmt first → next ≡ roll-TacStmt second →
+      between frame R.places before (code stmt) (code next).role ≡ no_lines →
+      between frame R.places (code stmt).role (code next) (role_first (map code rest)) ≡ one →
+      Follows T R both one both_trail →
+      ((c : Code) →
+      Follows T R (λ temps s. then_follow one_by_one (both temps s) (all_do (map does rest))) c
+      (row (both_trail ∷ map trail rest)) →
+      Follows T R (all_do (layer_does first ∷ layer_does second ∷ map does rest)) c
+      (row (layer_trail first ∷ layer_trail second ∷ map trail rest))) →
+      Row (code next).role rest → Row before (stmt ∷ next ∷ rest)
+  two_follow before stmt next rest first second one both both_trail first_is second_is c1 c2 F same later few =
       let behind : Code = coded (code next).role rest in
-      let one : Code = straightly frame R.places (object_read frame R.places dest object) in
-      let c1 : between frame R.places before (code stmt) (code next).role ≡ one =
-      piece_by before (code next).role stmt false true none both ∙ ap (reading frame R.places) pair.gives in
-      let c2 : between frame R.places (code stmt).role (code next) (role_first (map code rest)) ≡ no_lines =
-      piece_by (code stmt).role (role_first (map code rest)) next true
-      (joins (code next).role (role_first (map code rest))) both refl in
-      let d1 : does stmt ≡ code_step wrapping here calls (tac.ObjectPlace dest object) =
-      ap does first ∙ fold-roll-TacStmt Codes (code_step wrapping here calls) (tac.ObjectPlace dest object) in
-      let d2 : does next ≡ code_step wrapping here calls (tac.Load dest dest second.pointer) =
-      ap does second.is ∙
-      fold-roll-TacStmt Codes (code_step wrapping here calls) (tac.Load dest dest second.pointer) in
-      let t1 : trail stmt ≡ trail_step (tac.ObjectPlace dest object) =
-      ap trail first ∙ fold-roll-TacStmt Trail trail_step (tac.ObjectPlace dest object) in
-      let t2 : trail next ≡ trail_step (tac.Load dest dest second.pointer) =
-      ap trail second.is ∙ fold-roll-TacStmt Trail trail_step (tac.Load dest dest second.pointer) in
-      let last : joins (code next).role (role_first (map code rest)) ≡ false =
-      ap (λ r. joins r (role_first (map code rest))) pair.loads in
-      let sizes : one.size + (no_lines.size + behind.size) ≤ T.turn_pays =
-      subst (λ p. p.size + (no_lines.size + behind.size) ≤ T.turn_pays) c1
+      let d1 : does stmt ≡ layer_does first =
+      ap does first_is ∙ fold-roll-TacStmt Codes (code_step wrapping here calls) first in
+      let d2 : does next ≡ layer_does second =
+      ap does second_is ∙ fold-roll-TacStmt Codes (code_step wrapping here calls) second in
+      let t1 : trail stmt ≡ layer_trail first = ap trail first_is ∙ fold-roll-TacStmt Trail trail_step first in
+      let t2 : trail next ≡ layer_trail second = ap trail second_is ∙ fold-roll-TacStmt Trail trail_step second in
+      let sizes : no_lines.size + (one.size + behind.size) ≤ T.turn_pays =
+      subst (λ p. p.size + (one.size + behind.size) ≤ T.turn_pays) c1
       (subst (λ p. (between frame R.places before (code stmt) (code next).role).size + (p.size + behind.size) ≤
       T.turn_pays) c2 few) in
-      let done : Follows T R
-      (all_do (code_step wrapping here calls (tac.ObjectPlace dest object) ∷
-      code_step wrapping here calls (tac.Load dest dest second.pointer) ∷ map does rest))
-      (followed one (followed no_lines behind))
-      (row (trail_step (tac.ObjectPlace dest object) ∷ trail_step (tac.Load dest dest second.pointer) ∷
-      map trail rest)) =
-      row_follows T R (reads T R formed inputs cells nodes is placed calls dest object second.pointer)
-      (all_do (map does rest)) one (followed no_lines behind)
-      (both_trails T R formed inputs cells nodes is placed calls dest object second.pointer) (map trail rest)
-      (read_follows_here dest object second.pointer (subst (PassesAll tests) first pass))
-      (behind_nothing T R (all_do (map does rest)) behind (row (map trail rest))
-      (later last (omega (arith, sizes)))) in
+      let done : Follows T R (all_do (layer_does first ∷ layer_does second ∷ map does rest))
+      (followed no_lines (followed one behind)) (row (layer_trail first ∷ layer_trail second ∷ map trail rest)) =
+      behind_nothing T R (all_do (layer_does first ∷ layer_does second ∷ map does rest)) (followed one behind)
+      (row (layer_trail first ∷ layer_trail second ∷ map trail rest))
+      (same (followed one behind)
+      (row_follows T R both (all_do (map does rest)) one behind both_trail (map trail rest) F
+      (later (omega (arith, sizes))))) in
       subst (λ p. Follows T R (all_do (map does (stmt ∷ next ∷ rest))) (followed p (followed
       (between frame R.places (code stmt).role (code next) (role_first (map code rest))) behind))
       (row (map trail (stmt ∷ next ∷ rest)))) (sym c1)
-      (subst (λ p. Follows T R (all_do (map does (stmt ∷ next ∷ rest))) (followed one (followed p behind))
+      (subst (λ p. Follows T R (all_do (map does (stmt ∷ next ∷ rest))) (followed no_lines (followed p behind))
       (row (map trail (stmt ∷ next ∷ rest)))) (sym c2)
-      (subst (λ d. Follows T R (all_do (d ∷ does next ∷ map does rest)) (followed one (followed no_lines behind))
+      (subst (λ d. Follows T R (all_do (d ∷ does next ∷ map does rest)) (followed no_lines (followed one behind))
       (row (map trail (stmt ∷ next ∷ rest)))) (sym d1)
-      (subst (λ d. Follows T R (all_do (code_step wrapping here calls (tac.ObjectPlace dest object) ∷ d ∷
-      map does rest)) (followed one (followed no_lines behind)) (row (map trail (stmt ∷ next ∷ rest)))) (sym d2)
-      (subst (λ t. Follows T R (all_do (code_step wrapping here calls (tac.ObjectPlace dest object) ∷
-      code_step wrapping here calls (tac.Load dest dest second.pointer) ∷ map does rest))
-      (followed one (followed no_lines behind)) (row (t ∷ trail next ∷ map trail rest))) (sym t1)
-      (subst (λ t. Follows T R (all_do (code_step wrapping here calls (tac.ObjectPlace dest object) ∷
-      code_step wrapping here calls (tac.Load dest dest second.pointer) ∷ map does rest))
-      (followed one (followed no_lines behind)) (row (trail_step (tac.ObjectPlace dest object) ∷ t ∷
-      map trail rest))) (sym t2) done)))))
+      (subst (λ d. Follows T R (all_do (layer_does first ∷ d ∷ map does rest))
+      (followed no_lines (followed one behind)) (row (map trail (stmt ∷ next ∷ rest)))) (sym d2)
+      (subst (λ t. Follows T R (all_do (layer_does first ∷ layer_does second ∷ map does rest))
+      (followed no_lines (followed one behind)) (row (t ∷ trail next ∷ map trail rest))) (sym t1)
+      (subst (λ t. Follows T R (all_do (layer_does first ∷ layer_does second ∷ map does rest))
+      (followed no_lines (followed one behind)) (row (layer_trail first ∷ t ∷ map trail rest))) (sym t2) done)))))
+
+  -- two statements that are one piece, before others
+  as_one_follows : (before : Role) (stmt next : TacStmt) (rest : List TacStmt) → joins before (code stmt).role ≡ false →
+      joins (code stmt).role (code next).role ≡ true → PassesAll tests stmt → PassesAll tests next →
+      (joins (code next).role (role_first (map code rest)) ≡ false → Row (code next).role rest) →
+      Row before (stmt ∷ next ∷ rest)
+  as_one_follows before stmt next rest none both pass pass' later =
+      ⊎_elim read short (which_pair (code stmt).role (code next).role both)
+    where
+      c1 : between frame R.places before (code stmt) (code next).role ≡ no_lines
+      c1 = piece_by before (code next).role stmt false true none both
+
+      c2 : between frame R.places (code stmt).role (code next) (role_first (map code rest)) ≡
+          as_one frame R.places (code stmt).role (code next).role
+      c2 =
+          piece_by (code stmt).role (role_first (map code rest)) next true
+          (joins (code next).role (role_first (map code rest))) both refl
+
+      behind : Row (code next).role rest
+      behind = later (last_of_two (code stmt).role (code next).role (role_first (map code rest)) both)
+
+      read : IsRead (code stmt).role (code next).role → Row before (stmt ∷ next ∷ rest)
+      read pair =
+          let first : stmt ≡ roll-TacStmt (tac.ObjectPlace pair.temp pair.object) =
+          gives_place frame R.places stmt pair.temp pair.object pair.gives in
+          let second = loads_it frame R.places next pair.temp pair.loads in
+          two_follow before stmt next rest (tac.ObjectPlace pair.temp pair.object)
+          (tac.Load pair.temp pair.temp second.pointer)
+          (straightly frame R.places (object_read frame R.places pair.temp pair.object))
+          (reads T R formed inputs cells nodes is placed calls pair.temp pair.object second.pointer)
+          (both_trails T R formed inputs cells nodes is placed calls pair.temp pair.object second.pointer) first
+          second.is c1 (c2 ∙ ap (λ r. as_one frame R.places r (code next).role) pair.gives)
+          (read_follows_here pair.temp pair.object second.pointer (subst (PassesAll tests) first pass)) (λ c F. F)
+          behind
+
+      short : IsShort (code stmt).role (code next).role → Row before (stmt ∷ next ∷ rest)
+      short pair =
+          let first = sets_it frame R.places stmt pair.temp pair.word pair.sets in
+          let second = operates_it frame R.places next pair.temp pair.left pair.op pair.operates in
+          let word_is : pair.word ≡ word_of_constant first.value = sym first.word_is in
+          two_follow before stmt next rest (tac.Const pair.temp first.value)
+          (tac.Op pair.temp pair.op pair.left (Some pair.temp))
+          (straightly frame R.places
+          (short_operation frame R.places pair.temp pair.left (short_form pair.op (word_of_constant first.value))))
+          (applies T R formed inputs cells nodes is placed calls pair.temp pair.left first.value pair.op second.apart)
+          (both_steps T R formed inputs cells nodes is placed calls pair.temp pair.left first.value pair.op second.apart)
+          first.is second.is c1
+          (c2 ∙ ap₂ (as_one frame R.places) pair.sets pair.operates ∙
+          ap (λ w. straightly frame R.places (short_operation frame R.places pair.temp pair.left (short_form pair.op w)))
+          word_is)
+          (short_follows_here pair.temp pair.left first.value pair.op pair.form second.apart
+          (ap (short_form pair.op) first.word_is ∙ pair.form_is) (subst (PassesAll tests) first.is pass)
+          (subst (PassesAll tests) second.is pass')) (λ c F. F) behind
 
   either_way : (before : Role) (stmt next : TacStmt) (rest : List TacStmt) → joins before (code stmt).role ≡ false →
       ((code stmt).size ≤ T.turn_pays → Follows T R (does stmt) (code stmt) (trail stmt)) → PassesAll tests stmt →
-      (joins (code stmt).role (code next).role ≡ false → Row (code stmt).role (next ∷ rest)) →
+      PassesAll tests next → (joins (code stmt).role (code next).role ≡ false → Row (code stmt).role (next ∷ rest)) →
       (joins (code next).role (role_first (map code rest)) ≡ false → Row (code next).role rest) →
       Row before (stmt ∷ next ∷ rest)
-  either_way before stmt next rest none first pass later behind =
+  either_way before stmt next rest none first pass pass' later behind =
       by (joins (code stmt).role (code next).role) refl
     where
       by : (b : Bool) → joins (code stmt).role (code next).role ≡ b → Row before (stmt ∷ next ∷ rest)
-      by true both few = as_one before stmt next rest none both pass behind few
+      by true both few = as_one_follows before stmt next rest none both pass pass' behind few
       by false alone few = by_itself before stmt (next ∷ rest) none alone first (later alone) few
 
   row_from : (before : Role) (stmts : List TacStmt) → Each Followed stmts → AllPass tests stmts →
@@ -205,7 +287,7 @@ module _ (T : Setting) (R : Running) (formed : IsWellFormed T.image) (inputs : A
   row_from before (stmt ∷ next ∷ rest) each pass none few =
       let behind = rest_pass tests stmt (next ∷ rest) pass in
       either_way before stmt next rest none (each.0 (first_passes tests stmt (next ∷ rest) pass))
-      (first_passes tests stmt (next ∷ rest) pass)
+      (first_passes tests stmt (next ∷ rest) pass) (first_passes tests next rest behind)
       (λ alone few. row_from (code stmt).role (next ∷ rest) each.1 behind alone few)
       (λ alone few. row_from (code next).role rest each.1.1 (rest_pass tests next rest behind) alone few) few
 
@@ -230,11 +312,6 @@ module _ (T : Setting) (R : Running) (formed : IsWellFormed T.image) (inputs : A
       list_all (λ t. nat_lt t (length R.places)) (one_or_none dest ++ rest) ≡ true → HasPlace R.places dest
   place_wanted None rest h = tt
   place_wanted (Some dest) rest h = place_there dest rest h
-
-  -- a constant is a word
-  is_word : (dest : ℕ) (value : Constant) → has_words (tac.Const dest value) ≡ true → word_of_constant value < 2 ^ 32
-  is_word dest (constant.Word w) h = ltb-true w (2 ^ 32) h
-  is_word dest constant.Null h = omega arith
 
   -- a call may be made, and gives a value where one is wanted
   made : (dest : Option ℕ) (target : CallTarget) (args : ℕ) →
@@ -328,18 +405,6 @@ module _ (T : Setting) (R : Running) (formed : IsWellFormed T.image) (inputs : A
       (in_order frame R.places (map code head)) (in_order frame R.places (map code body)) (in_order frame R.places (map code next)) (map trail head) (map trail body)
       (map trail next) (row_of head each pass.0 (omega (arith, few))) (row_of body each' pass.1 (omega (arith, few)))
       (row_of next each'' pass.2 (omega (arith, few))) gapless few
-
-  -- the operator counts elements of few cells, if it counts any
-  is_sound : (o : TacOp) → counts_elements o ≡ true → IsSound o
-  is_sound (tacop.Unary o scalar) h = tt
-  is_sound (tacop.Binary o scalar) h = tt
-  is_sound tacop.PointerNot h = tt
-  is_sound (tacop.PointerMove minus cells index) h = tt
-  is_sound (tacop.PointerMember offset) h = tt
-  is_sound (tacop.PointerDifference cells) h =
-      let both = and_parts (nat_lt 0 cells) (nat_lt cells (2 ^ 29)) h in
-      record { some = ltb-true 0 cells both.0; few = ltb-true cells (2 ^ 29) both.1 }
-  is_sound (tacop.PointerCompare o) h = tt
 
   op_level : (dest : ℕ) (o : TacOp) (left : ℕ) (right : Option ℕ) → Shape (tac.Op dest o left right)
   op_level dest o left right h all few =

@@ -1,4 +1,5 @@
 -- The relocations of a function's code name what its statements name.
+use Rattle.sc_select.specs.Prelude.{short_form, short_operation, operation, loading, word_of_constant}
 use Rattle.sc_emit.proofs.Common.{Bool, Each, FrameTree, Inside, Instr, Line, List, None, Option, Place, Some}
 use Rattle.sc_emit.proofs.Common.{TacFnTree, TacStmt, TacStmt-F, [], a0, all_true, and_first, and_from, and_rest}
 use Rattle.sc_emit.proofs.Common.{call_cross, call_own, code_of, environment_call, everywhere as each_of, fold-TacStmt}
@@ -65,6 +66,7 @@ module _ (function : ℕ → Bool) (entry : (comp index : ℕ) → Bool) (global
     row_named stmts h all =
         order_keeps frame places (PassesAll is_named_line) (record { passes = λ b c. refl })
         (λ t o. record { passes = λ b c. plainly_named (object_read frame places t o) })
+        (λ t l o w. record { passes = λ b c. plainly_named (short_operation frame places t l (short_form o w)) })
         (followed_passes is_named_line) stmts (each_named stmts h all)
       where
         each_named : (stmts : List TacStmt) → Each Named stmts → all_true (map named_inside stmts) ≡ true →
@@ -102,9 +104,14 @@ module _ (function : ℕ → Bool) (entry : (comp index : ℕ) → Bool) (global
     layer_named : (layer : TacStmt-F TacStmt) → Inside Named layer →
         with_parts own (map-TacStmt _ _ named_inside layer) ≡ true →
         PassesAll is_named_line (select_step frame places (map-TacStmt _ _ (select frame places) layer))
-    layer_named (tac.Const dest value) h all = unlinked _
+    layer_named (tac.Const dest value) h all = record {
+      passes = λ b c.
+          plainly_named
+          (loading (result_register frame places dest) (word_of_constant value) ++ keep frame places dest);
+    }
     layer_named (tac.Copy dest from) h all = unlinked _
-    layer_named (tac.Op dest o left right) h all = unlinked _
+    layer_named (tac.Op dest o left right) h all =
+        record { passes = λ b c. plainly_named (operation frame places dest o left right) }
     layer_named (tac.ObjectPlace dest object) h all = record {
       passes = λ b c.
           plainly_named

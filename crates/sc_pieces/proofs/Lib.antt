@@ -8,3 +8,4 @@ pub mod Tests
 pub mod Operators
 pub mod Below
 pub mod Addresses
+pub mod ShortForms

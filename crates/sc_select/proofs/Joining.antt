@@ -345,11 +345,11 @@ module _ (frame : FrameTree) (places : List Place) where
   -- what holds of a piece and of those that may stand for it and its neighbours
   module _ (P : Piece → Type 0) (none : P nothing)
       (read : (temp object : ℕ) → P (straightly frame places (object_read frame places temp object)))
-      (short : (temp left : ℕ) (form : Option ShortForm) →
-      P (straightly frame places (short_operation frame places temp left form))) where
+      (short : (temp left : ℕ) (o : TacOp) (word : ℕ) →
+      P (straightly frame places (short_operation frame places temp left (short_form o word)))) where
     as_one_keeps : (first second : Role) → P (as_one frame places first second)
     as_one_keeps (Places temp object) second = read temp object
-    as_one_keeps (Sets temp word) (Operates other left o) = short temp left (short_form o word)
+    as_one_keeps (Sets temp word) (Operates other left o) = short temp left o word
     as_one_keeps (Sets temp word) (Places other object) = none
     as_one_keeps (Sets temp word) (Loads other) = none
     as_one_keeps (Sets temp word) (Sets other value) = none

@@ -9,7 +9,7 @@ use Rattle.sc_select.proofs.Common.{function_lines, in_order, is_address, is_jal
 use Rattle.sc_select.proofs.Common.{length-append, length-map, load_from, loading, map, map-TacStmt, moved_by}
 use Rattle.sc_select.proofs.Common.{object_offset, object_read, operation, pass, place_of_global, plain, plainly, pos}
 use Rattle.sc_select.proofs.Common.{receive, referring, refl, relocation_of, relocations_from, result_register, return}
-use Rattle.sc_select.proofs.Common.{role_of_load, role_of_operation, select, select_all, select_step, short_operation}
+use Rattle.sc_select.proofs.Common.{role_of_load, role_of_operation, short_form, select, select_all, select_step, short_operation}
 use Rattle.sc_select.proofs.Common.{slice_get, stmt_induction, store_arguments, store_to, straightly, sub_word, subst}
 use Rattle.sc_select.proofs.Common.{suc, sym, true, word_of_constant, ℕ, ◌&&◌, ◌++◌, ◌+◌, ◌<◌, ◌∙◌, ◌∷◌, ◌≡◌, ◌≤◌}
 use Rattle.std.proofs.lemmas.List.Elements.{All-cons, All-nil, All-weaker}
@@ -107,7 +107,7 @@ module _ (frame : FrameTree) (places : List Place) where
   row_complete stmts h =
       order_keeps frame places IsComplete (record { complete = λ b c. refl })
       (λ t o. straightly_complete (object_read frame places t o))
-      (λ t l form. straightly_complete (short_operation frame places t l form)) followed_complete stmts h
+      (λ t l o w. straightly_complete (short_operation frame places t l (short_form o w))) followed_complete stmts h
 
   with_role : (instrs : List Instr) (role : Role) → IsComplete (record (straightly frame places instrs) { role = role })
   with_role instrs role = record { complete = λ b c. plain_complete instrs }

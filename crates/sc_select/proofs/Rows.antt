@@ -33,23 +33,23 @@ down = record {
   entry = Some (entry.Export 0);
   params = 1;
   result = true;
-  temps = 6;
+  temps = 5;
   objects = 1 ∷ [];
   nodes = 12;
   body = Cycle (fetched 0 0 (Fork 0 Done (Then tac.Break Done) Done))
-      (fetched 1 0 (word 2 1 (int_op op.Sub 3 1 2 (put_into 0 4 3 Done)))) Done (fetched 5 0 (give 5));
+      (fetched 1 0 (word 2 1 (int_op op.Sub 2 1 2 (put_into 0 3 2 Done)))) Done (fetched 4 0 (give 4));
 }
 
 abbrev pub down_places : List Place
 down_places =
-    Register 0 ∷ Register 0 ∷ Register 1 ∷ Register 0 ∷ Register 1 ∷ Register 0 ∷ []
+    Register 0 ∷ Register 0 ∷ Register 1 ∷ Register 0 ∷ Register 0 ∷ []
 
 pub down_code : code_of (function down) down_places (framed down down_places) ≡ record {
   instrs =
       OpImm Addi 2 2 (negsuc 7) ∷ Store Sw 2 1 (pos 0) ∷ Store Sw 2 10 (pos 4) ∷ OpImm Addi 0 0 (pos 0) ∷
-      Load Lw 3 2 (pos 4) ∷ Branch Bne 3 0 (pos 8) ∷ Jal 0 (pos 28) ∷
-      Load Lw 3 2 (pos 4) ∷ OpImm Addi 4 0 (pos 1) ∷ Op Sub 3 3 4 ∷ OpImm Addi 4 2 (pos 4) ∷ Store Sw 4 3 (pos 0) ∷
-      Jal 0 (negsuc 31) ∷ Load Lw 3 2 (pos 4) ∷ OpImm Addi 10 3 (pos 0) ∷ Load Lw 1 2 (pos 0) ∷
+      Load Lw 3 2 (pos 4) ∷ Branch Bne 3 0 (pos 8) ∷ Jal 0 (pos 24) ∷
+      Load Lw 3 2 (pos 4) ∷ OpImm Addi 4 3 (negsuc 0) ∷ OpImm Addi 3 2 (pos 4) ∷ Store Sw 3 4 (pos 0) ∷
+      Jal 0 (negsuc 27) ∷ Load Lw 3 2 (pos 4) ∷ OpImm Addi 10 3 (pos 0) ∷ Load Lw 1 2 (pos 0) ∷
       OpImm Addi 2 2 (pos 8) ∷ Jalr 0 1 (pos 0) ∷ Load Lw 1 2 (pos 0) ∷ OpImm Addi 2 2 (pos 8) ∷ Jalr 0 1 (pos 0) ∷ [];
   relocations = [];
 }

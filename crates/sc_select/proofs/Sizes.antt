@@ -50,7 +50,7 @@ module _ (frame : FrameTree) (places : List Place) where
       IsSized (in_turn (drop i (joined frame places Other (map (select frame places) stmts))))
   from_sized stmts h i =
       from_keeps frame places IsSized (record { sized = λ b c. refl }) (λ t o. record { sized = λ b c. refl })
-      (λ t l form. record { sized = λ b c. refl }) followed_sized stmts h i
+      (λ t l o w. record { sized = λ b c. refl }) followed_sized stmts h i
 
   row_sized : (stmts : List TacStmt) → Each Sized stmts →
       IsSized (in_order frame places (map (select frame places) stmts))

@@ -1,0 +1,195 @@
+-- An operator whose second operand is a constant: one instruction, where the result takes the constant's temporary.
+use Rattle.sc_emit.proofs.Common.{All, All-cons, All-nil, Bool, Calls, CodeAt, Codes, Computes, Constant, Follows}
+use Rattle.sc_emit.proofs.Common.{FrameTree, Goes, Gone, Instr, IsActivation, IsClear, IsSound, IsWellFormed, IsWord}
+use Rattle.sc_emit.proofs.Common.{Joint, List, Lives, Next, Ok, Err, Place, Point, Ready, Result, Cause, Running}
+use Rattle.sc_emit.proofs.Common.{Setting, Some, StandsFor, State as Meant, TacOp, Temps, Trail, Value, [], and_then, ap}
+use Rattle.sc_emit.proofs.Common.{arith, code_step, comes_computed, comes_read, constant_value}
+use Rattle.sc_emit.proofs.Common.{all_at, eq-eqb, eqb-true, false, first_scratch, gets, if◌then◌else◌, in_row, is_one}
+use Rattle.sc_emit.proofs.Common.{keep, leave, length, live_across, live_at, live_plain, not, operand, operated, or_left}
+use Rattle.sc_emit.proofs.Common.{plain_points, point, read, refl, result_register, row, same, same_Some, slice_get, sp}
+use Rattle.sc_emit.proofs.Common.{stays, straightly, subst, sym, take, trail_step, true, with_temp, word_of_constant}
+use Rattle.sc_emit.proofs.Common.{wrapping, Arrives, ℕ, ◌&&◌, ◌*◌, ◌++◌, ◌+◌, ◌==◌, ◌||◌, ◌∙◌, ◌∷◌, ◌≡◌, ◌≢◌}
+use Rattle.std.proofs.Common.{ne_eqb, true≢false}
+use Rattle.sc_tac.specs.declared.stmt.TacStmt.TheOpen as tac
+use Rattle.sc_select.specs.Prelude.{short_code, short_form, short_operation}
+use Rattle.sc_select.specs.declared.operators.ShortForm.{ShortForm}
+use Rattle.sc_pieces.specs.Operators.{op_word}
+use Rattle.sc_pieces.proofs.ShortForms.{gives_short}
+use Rattle.sc_relation.proofs.Operators.{operator_stands}
+use Rattle.sc_emit.proofs.Operands.{ArePlaced, AtHand, Gives, brings, first_is, keeps, world}
+use Rattle.sc_emit.proofs.Pairs.{again, fewer_clear}
+use Rattle.sc_emit.proofs.Plain.{IsResult, IsWordConstant, constant_stands, result_is}
+use Rattle.sc_emit.proofs.Straight.{comes_behind, read_goes, straight_follows}
+
+module _ (T : Setting) (R : Running) (formed : IsWellFormed T.image) (inputs : All IsWord T.inputs) (cells : List ℕ)
+    (nodes : ℕ) (is : IsActivation T.performs cells R.places nodes R.activation) (placed : ArePlaced R) (calls : Calls)
+    (dest left : ℕ) (value : Constant) (o : TacOp) (apart : (left == dest) ≡ false) where
+  abbrev frame : FrameTree
+  frame = R.activation.frame
+
+  abbrev comp : ℕ
+  comp = R.activation.here.comp
+
+  abbrev word : ℕ
+  word = word_of_constant value
+
+  abbrev start : Value
+  start = constant_value value
+
+  -- the temporaries where the constant is set
+  abbrev set : Temps → Temps
+  set temps = with_temp dest start temps
+
+  -- what the operator does behind the constant
+  abbrev pub applies : Codes
+  applies temps = code_step wrapping R.activation.here calls (tac.Op dest o left (Some dest)) (set temps)
+
+  abbrev pub both_steps : Trail
+  both_steps = row (trail_step (tac.Const dest value) ∷ trail_step (tac.Op dest o left (Some dest)) ∷ [])
+
+  other_way : (dest == left) ≡ false
+  other_way = ne_eqb dest left (λ e. true≢false (sym (eq-eqb left dest (sym e)) ∙ apart))
+
+  not_dest : (t : ℕ) → (left == t) ≡ true → is_one t (dest ∷ []) ≡ false
+  not_dest t h =
+      let none : is_one left (dest ∷ []) ≡ false = ap (λ b. b || false) other_way in
+      ap (λ u. is_one u (dest ∷ [])) (sym (eqb-true left t h)) ∙ none
+
+  -- what the operator reads, and what is live behind it, but for the temporary, is live before both
+  live_before : (lives : Lives) (t : ℕ) → live_plain (left ∷ []) (Some dest) lives t ≡ true →
+      live_at both_steps lives t ≡ true
+  live_before lives t h = by (left == t) (is_one t (dest ∷ [])) (lives.behind t) (not_dest t) h
+    where
+      by : (l a b : Bool) → (l ≡ true → a ≡ false) → ((l || false) || (not a && b)) ≡ true →
+          (false || (not a && ((l || a) || (not a && b)))) ≡ true
+      by true true b none h = cc (none refl)
+      by true false b none h = refl
+      by false true b none h = cc h
+      by false false b none h = h
+
+  live_between : (lives : Lives) (t : ℕ) →
+      (is_one t (left ∷ []) || live_across (left ∷ []) false (Some dest) lives t) ≡ true →
+      (is_one t (left ∷ dest ∷ []) || live_across (left ∷ dest ∷ []) false (Some dest) lives t) ≡ true
+  live_between lives t h = by (left == t) (is_one t (dest ∷ [])) (lives.behind t) h
+    where
+      by : (l a b : Bool) → ((l || false) || (not a && b)) ≡ true → ((l || a) || (not a && b)) ≡ true
+      by true a b h = refl
+      by false true b h = refl
+      by false false b h = h
+
+  clear_behind : (lives : Lives) → All (IsClear R.places) (both_steps.points lives) →
+      All (IsClear R.places) (plain_points (left ∷ []) false (Some dest) lives)
+  clear_behind lives clear =
+      let first : Point = point false (λ t. is_one t (left ∷ []) || live_across (left ∷ []) false (Some dest) lives t) in
+      let last : Point = record { assigned = Some dest; calls = false; live = lives.behind } in
+      All-cons (IsClear R.places) first (last ∷ [])
+      (fewer_clear R.places
+      (λ t. is_one t (left ∷ dest ∷ []) || live_across (left ∷ dest ∷ []) false (Some dest) lives t)
+      (λ t. is_one t (left ∷ []) || live_across (left ∷ []) false (Some dest) lives t) (live_between lives)
+      (all_at (IsClear R.places) (both_steps.points lives) 2 _ clear refl))
+      (All-cons (IsClear R.places) last [] (all_at (IsClear R.places) (both_steps.points lives) 3 _ clear refl)
+      (All-nil (IsClear R.places)))
+
+  fewer_ready : (lives : Lives) (temps : Temps) (x : Joint) → Ready T R (live_at both_steps lives) temps x →
+      Ready T R (live_plain (left ∷ []) (Some dest) lives) temps x
+  fewer_ready lives temps x ready = record {
+    settled = ready.settled;
+    frame = ready.frame;
+    held = λ t v on known. ready.held t v (live_before lives t on) known;
+    sp = ready.sp;
+  }
+
+  gets_goes : (result : Result Value Cause) (temps : Temps) (s : Meant) →
+      Gone s (gets R.activation.here dest result temps s)
+  gets_goes (Ok v) temps s = stays (record { exit = Next; carried = with_temp dest v temps }) s
+  gets_goes (Err cause) temps s = record { grown = same s; stop = tt }
+
+  applies_goes : (temps : Temps) → Goes (applies temps)
+  applies_goes temps =
+      read_goes R.activation.here left (set temps)
+      (λ v s. and_then (read R.activation.here dest (set temps) s)
+      (λ w s. gets R.activation.here dest (operated wrapping (s.memory comp) o v w) (set temps) s))
+      (λ v. read_goes R.activation.here dest (set temps)
+      (λ w s. gets R.activation.here dest (operated wrapping (s.memory comp) o v w) (set temps) s)
+      (λ w s. gets_goes (operated wrapping (s.memory comp) o v w) (set temps) s))
+
+  -- what the temporaries hold that the operator reads
+  left_is : (temps : Temps) (v : Value) → set temps left ≡ Some v → temps left ≡ Some v
+  left_is temps v h = sym (ap (λ b. if b then Some start else temps left) apart) ∙ h
+
+  right_is : (temps : Temps) (w : Value) → set temps dest ≡ Some w → start ≡ w
+  right_is temps w h =
+      let now : set temps dest ≡ Some start = rw (eq-eqb dest dest refl) refl in
+      same_Some start w (sym now ∙ h)
+
+  -- the code gives what the operator gives
+  module _ (form : ShortForm) (form_is : short_form o word ≡ Some form) (for : IsSound o)
+      (small : IsWordConstant T R formed inputs cells nodes is placed calls value) (place : Place)
+      (its : slice_get R.places dest ≡ Some place) where
+    abbrev rd : ℕ
+    rd = result_register frame R.places dest
+
+    abbrev rs : ℕ
+    rs = operand frame R.places first_scratch left
+
+    abbrev code : List Instr
+    code = take frame R.places first_scratch left ++ short_code rd rs (Some form)
+
+    abbrev whole : List Instr
+    whole = short_operation frame R.places dest left (Some form)
+
+    gives : (lives : Lives) (temps : Temps) (x : Joint) (v r : Value) → Ready T R (live_at both_steps lives) temps x →
+        temps left ≡ Some v → operated wrapping (x.meant.memory comp) o v start ≡ Ok r → Gives T R x code rd r
+    gives lives temps x v r ready known gave =
+        let only : is_one left (left ∷ []) ≡ true = rw (eq-eqb left left refl) refl in
+        let on : live_at both_steps lives left ≡ true =
+        live_before lives left (or_left (is_one left (left ∷ [])) _ only) in
+        let h : AtHand T R x x.regs first_scratch left v =
+        brings T R x cells nodes is placed ready.frame ready.sp x.regs first_scratch left v first_is
+        (ready.held left v on known) refl (λ q k. refl) in
+        let w : IsResult rd = result_is R placed dest place its in
+        let piece : Computes T.image T.inputs (world T R x) (short_code rd rs (Some form)) [] h.after x.bytes rd
+        (op_word o h.word word) =
+        gives_short T.image T.inputs (world T R x) x.bytes h.after rd rs h.word word w.writable h.below h.result
+        h.stands.word small o form form_is in
+        record {
+          word = op_word o h.word word;
+          stands = operator_stands T.image formed T.performs R.activation.floor x.inj x.meant.memory x.bytes
+              ready.settled.blocks comp is.honest is.known o v start r h.word word for gave small h.stands
+              (λ two. constant_stands T R formed inputs cells nodes is placed calls (x.inj comp) value small);
+          after = piece.after;
+          does = in_row T.image T.inputs (world T R x) h.does piece.does;
+          result = piece.result;
+          same = piece.others sp (w.not_sp, tt) ∙
+              h.others sp ((λ e. omega (arith, e)), ((λ e. omega (arith, e)), tt));
+          others = λ q k n. piece.others q (n, tt) ∙ h.others q (k.first, (k.address, tt));
+        }
+
+    in_parts : code ++ keep frame R.places dest ≡ whole
+    in_parts = refl
+
+    pub short_follows :
+        Follows T R applies (straightly frame R.places (short_operation frame R.places dest left (Some form))) both_steps
+    short_follows =
+        straight_follows T R applies whole both_steps applies_goes
+        (λ lives temps x n ready clear at ends e f.
+        comes_read T R lives x (length whole + n) ends R.activation.here left (set temps)
+        (λ v s. and_then (read R.activation.here dest (set temps) s)
+        (λ w s. gets R.activation.here dest (operated wrapping (s.memory comp) o v w) (set temps) s))
+        (λ v known.
+        comes_read T R lives x (length whole + n) ends R.activation.here dest (set temps)
+        (λ w s. gets R.activation.here dest (operated wrapping (s.memory comp) o v w) (set temps) s)
+        (λ w known'.
+        comes_computed T R lives x (length whole + n) ends R.activation.here 0
+        (operated wrapping (x.meant.memory comp) o v w) (λ r s. leave Next (with_temp dest r (set temps)) s)
+        (λ r gave.
+        (let g : Gives T R x code rd r =
+        gives lives temps x v r ready (left_is temps v known)
+        (ap (operated wrapping (x.meant.memory comp) o v) (right_is temps w known') ∙ gave) in
+        comes_behind T R lives x whole n (with_temp dest r (set temps)) x.meant
+        (again T R dest start lives.behind x (length whole + n) n temps r x.meant (x.pc + 4 * length whole)
+        (subst (λ code. Arrives T R lives.behind x (length code + n) n (with_temp dest r temps) x.meant
+        (x.pc + 4 * length code)) in_parts
+        (keeps T R x cells nodes is placed ready.frame ready.sp formed inputs lives temps (left ∷ []) dest n
+        (fewer_ready lives temps x ready) (clear_behind lives clear) r code place its g
+        (subst (CodeAt T.image comp x.pc) (sym in_parts) at)))) ends e f)))))
