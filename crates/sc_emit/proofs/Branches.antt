@@ -1,36 +1,32 @@
 -- The code of a function has at most one branch for each `If` and no EBREAK,
 -- and each field of its instructions is in the range of its form.
-use Rattle.sc_select.specs.Prelude.{added_by, binary_short, less_than, role_of_operation, short}
-use Rattle.sc_select.specs.Prelude.{is_unsigned, short_code, short_form, short_operation}
-use Rattle.sc_select.specs.declared.operators.ShortForm.{ShortForm}
-use Rattle.sc_select.specs.declared.roles.Role.TheVariants.{Sets}
-use Rattle.rv_code.specs.declared.instr.OpImmOp.{OpImmOp}
-use Rattle.sc_word.specs.Prelude.{mul_word}
-use Rattle.rv_code.specs.declared.instr.OpImmOp.TheVariants.{Andi, Ori, Xori}
-use Rattle.sc_emit.proofs.Common.{Addi, All, All-cons, All-nil, ArePlaces, Bne, Bool, Branch, Each, Ebreak, Entry}
+use Rattle.sc_emit.proofs.Common.{Addi, All, All-cons, All-nil, Andi, ArePlaces, Bne, Bool, Branch, Each, Ebreak, Entry}
 use Rattle.sc_emit.proofs.Common.{Export, Fits, FrameTree, Inside, Instr, IsBranchOffset, IsImmediate, IsInstr}
 use Rattle.sc_emit.proofs.Common.{IsJumpOffset, IsReg, IsUpper, Jal, Jalr, Line, List, Load, Lw, Main, None, OpImm}
-use Rattle.sc_emit.proofs.Common.{Option, Other, Place, Places, Register, Role, Slot, Some, Store, Sw, TacFnTree, TacOp}
-use Rattle.sc_emit.proofs.Common.{TacStmt, TacStmt-F, [], a0, a7, address_scratch, all_true, and_first, and_from}
-use Rattle.sc_emit.proofs.Common.{and_rest, arith, at_hand, between, between_keeps, binary_code, branch_step, branches}
-use Rattle.sc_emit.proofs.Common.{brought, bytes_of, call_cross, call_own, choice, choosing, closing, code_branches}
-use Rattle.sc_emit.proofs.Common.{code_of, cond, copied, count_by, cycle, ending_past, entrance, environment_call}
-use Rattle.sc_emit.proofs.Common.{everywhere, false, first_scratch, fold-TacStmt, fold-roll-TacStmt, followed, fork}
-use Rattle.sc_emit.proofs.Common.{fork_keeps, frame_left, frame_taken, function_lines, has_known_jumps, has_no_ebreak}
-use Rattle.sc_emit.proofs.Common.{if◌then◌else◌, in_order, in_turn, int_le, is_branch, is_ebreak, is_known_jump}
-use Rattle.sc_emit.proofs.Common.{is_place, is_short, joined, jump_back, jump_over, keep, kept, leb-true, length}
-use Rattle.sc_emit.proofs.Common.{list_all, list_all-append, list_all-map, list_all_along, load_from, load_word}
-use Rattle.sc_emit.proofs.Common.{loading, loop_begins, lower_part, ltb-true, map, map-TacStmt, most_lines, most_params}
-use Rattle.sc_emit.proofs.Common.{moved_by, nat_le, nat_lt, neg_ℤ, negsuc, not, object_offset, object_read, op_code}
-use Rattle.sc_emit.proofs.Common.{operand, operation, order_keeps, pass, passes_few, past, place_of, place_of_global}
-use Rattle.sc_emit.proofs.Common.{plain, plainly, pos, put, ra, receive, refl, register_count, register_of}
-use Rattle.sc_emit.proofs.Common.{register_there, result_register, return, role_first, role_of_load, rules}
-use Rattle.sc_emit.proofs.Common.{second_operand, second_scratch, select, select_all, select_step, signed_of, skipping}
+use Rattle.sc_emit.proofs.Common.{Option, Ori, Other, Place, Places, Register, Role, Sets, ShortForm, Slot, Some, Store}
+use Rattle.sc_emit.proofs.Common.{Sw, TacFnTree, TacOp, TacStmt, TacStmt-F, Xori, [], a0, a7, added_by, address_scratch}
+use Rattle.sc_emit.proofs.Common.{all_true, and_first, and_from, and_rest, arith, at_hand, between, between_keeps}
+use Rattle.sc_emit.proofs.Common.{binary_code, binary_short, branch_step, branches, brought, bytes_of, call_cross}
+use Rattle.sc_emit.proofs.Common.{call_own, choice, choosing, closing, code_branches, code_of, cond, copied, count_by}
+use Rattle.sc_emit.proofs.Common.{cycle, ending_past, entrance, environment_call, everywhere, false, first_scratch}
+use Rattle.sc_emit.proofs.Common.{fold-TacStmt, fold-roll-TacStmt, followed, fork, fork_keeps, frame_left, frame_taken}
+use Rattle.sc_emit.proofs.Common.{function_lines, has_known_jumps, has_no_ebreak, if◌then◌else◌, in_order, in_turn}
+use Rattle.sc_emit.proofs.Common.{int_le, is_branch, is_ebreak, is_known_jump, is_place, is_short, is_unsigned, joined}
+use Rattle.sc_emit.proofs.Common.{jump_back, jump_over, keep, kept, leb-true, length, less_than, list_all}
+use Rattle.sc_emit.proofs.Common.{list_all-append, list_all-map, list_all_along, load_from, load_word, loading}
+use Rattle.sc_emit.proofs.Common.{loop_begins, lower_part, ltb-true, map, map-TacStmt, most_lines, most_params}
+use Rattle.sc_emit.proofs.Common.{moved_by, mul_word, nat_le, nat_lt, neg_ℤ, negsuc, not, object_offset, object_read}
+use Rattle.sc_emit.proofs.Common.{op_code, operand, operation, order_keeps, pass, passes_few, past, place_of}
+use Rattle.sc_emit.proofs.Common.{place_of_global, plain, plainly, pos, put, ra, receive, refl, register_count}
+use Rattle.sc_emit.proofs.Common.{register_of, register_there, result_register, return, role_first, role_of_load}
+use Rattle.sc_emit.proofs.Common.{role_of_operation, rules, second_operand, second_scratch, select, select_all}
+use Rattle.sc_emit.proofs.Common.{select_step, short, short_code, short_form, short_operation, signed_of, skipping}
 use Rattle.sc_emit.proofs.Common.{slice_get, slot_offset, sp, stmt_branches, stmt_induction, store_arguments, store_to}
 use Rattle.sc_emit.proofs.Common.{store_word, straight, straightly, sub_word, subst, suc, sum_by-append, sym, take}
 use Rattle.sc_emit.proofs.Common.{take_second, taken, total, true, unary_code, upper_part, with_parts, word_of_constant}
 use Rattle.sc_emit.proofs.Common.{zero, ℕ, ℤ, ◌%◌, ◌&&◌, ◌*◌, ◌++◌, ◌+◌, ◌<◌, ◌==◌, ◌^◌, ◌∙◌, ◌∷◌, ◌≡◌, ◌≤ℤ◌, ◌≤◌}
 use Rattle.sc_select.specs.Prelude.{Piece}
+use Rattle.rv_code.specs.declared.instr.OpImmOp.{OpImmOp}
 use Rattle.std.proofs.lemmas.Int.{ints}
 use Rattle.rv_code.proofs.Numbers.{IsImmediate-signed}
 use Rattle.sc_base.specs.declared.op.BinaryOp.{BinaryOp}

@@ -3,8 +3,8 @@ pub use Rattle.std.proofs.Common.{All, Bool, Err, IfOk, IsSome, IsTrue, List, No
 pub use Rattle.std.proofs.Common.{append-nil, append_assoc, ap₂, arith, cond, eq-eqb, eqb-true, false, if◌then◌else◌}
 pub use Rattle.std.proofs.Common.{inl, inr, int_le, is_some, le-leb, le-ltb, leb-true, length, length-append, ltb-true}
 pub use Rattle.std.proofs.Common.{map, max, nat_eq, nat_le, nat_lt, ne_eqb, neg_ℤ, negsuc, not, pos, refl, rules}
-pub use Rattle.std.proofs.Common.{slice_get, subst, suc, sym, true, zero, ℕ, ℤ, ⊎_elim, ◌%◌, ◌&&◌, ◌*◌, ◌++◌, ◌+◌, ◌-ℤ◌}
-pub use Rattle.std.proofs.Common.{◌-◌, ◌/◌, ◌<◌, ◌==◌, ◌^◌, ◌||◌, ◌∙◌, ◌∷◌, ◌≡◌, ◌≢◌, ◌≤ℤ◌, ◌≤◌, ◌⊎◌}
+pub use Rattle.std.proofs.Common.{slice_get, subst, suc, sym, true, true≢false, zero, ℕ, ℤ, ⊎_elim, ◌%◌, ◌&&◌, ◌*◌}
+pub use Rattle.std.proofs.Common.{◌++◌, ◌+◌, ◌-ℤ◌, ◌-◌, ◌/◌, ◌<◌, ◌==◌, ◌^◌, ◌||◌, ◌∙◌, ◌∷◌, ◌≡◌, ◌≢◌, ◌≤ℤ◌, ◌≤◌, ◌⊎◌}
 pub use Rattle.std.proofs.lemmas.Bool.{and_from, and_parts, cases_eq, cases_lt, lt-leb, or_left, or_right}
 pub use Rattle.std.proofs.lemmas.List.{length-map, map-append}
 pub use Rattle.std.proofs.lemmas.List.Elements.{All-cons, All-nil, All-tail}
@@ -18,12 +18,12 @@ pub use Rattle.sc_base.proofs.Lists.{all_at, is_there, list_all_along}
 pub use Rattle.sc_event.specs.declared.row.Entry.{Entry}
 pub use Rattle.sc_event.specs.declared.row.Entry.TheVariants.{Export, Main}
 pub use Rattle.sc_word.proofs.Words.{word_of-lt, word_of-unsigned_sub}
-pub use Rattle.sc_word.specs.Prelude.{add_word, signed_of, sub_word, word_of}
+pub use Rattle.sc_word.specs.Prelude.{add_word, mul_word, signed_of, sub_word, word_of}
 pub use Rattle.sc_core.proofs.Induction.{Each, everywhere}
 pub use Rattle.sc_core.specs.Prelude.{Blocks, Break, Calls, Continue, Exit, Front, Function, Here, Left, Next, Piece}
 pub use Rattle.sc_core.specs.Prelude.{Reached, Return, State, Stopped, all_do, and_then, at_brace, begun, choose}
-pub use Rattle.sc_core.specs.Prelude.{closed, computed, done, is_true, leave, load, most_params, store, stored, total}
-pub use Rattle.sc_core.specs.Prelude.{with_memory, wrapping}
+pub use Rattle.sc_core.specs.Prelude.{closed, computed, done, follow, is_true, leave, load, most_params, store, stored}
+pub use Rattle.sc_core.specs.Prelude.{total, with_memory, wrapping}
 pub use Rattle.sc_core.specs.declared.cause.Cause.{Cause}
 pub use Rattle.sc_core.specs.declared.expr.CallTarget.{CallTarget}
 pub use Rattle.sc_core.specs.declared.expr.CallTarget.TheVariants.{Cross, Input, Output, Own}
@@ -37,7 +37,7 @@ pub use Rattle.rv_code.specs.declared.instr.BranchOp.TheVariants.{Bne}
 pub use Rattle.rv_code.specs.declared.instr.Instr.TheVariants.{Branch, Ebreak, Ecall, Jal, Jalr, Load, OpImm, Store}
 pub use Rattle.rv_code.specs.declared.instr.Instr.TheVariants.{Upper}
 pub use Rattle.rv_code.specs.declared.instr.LoadOp.TheVariants.{Lw}
-pub use Rattle.rv_code.specs.declared.instr.OpImmOp.TheVariants.{Addi}
+pub use Rattle.rv_code.specs.declared.instr.OpImmOp.TheVariants.{Addi, Andi, Ori, Xori}
 pub use Rattle.rv_code.specs.declared.instr.StoreOp.TheVariants.{Sw}
 pub use Rattle.rv_code.specs.declared.instr.UpperOp.TheVariants.{Lui}
 pub use Rattle.sc_store.specs.Prelude.{Memory}
@@ -53,12 +53,12 @@ pub use Rattle.sc_tac.specs.Prelude.{ArePlaces, Codes, HasRoom, IsAssignment, Is
 pub use Rattle.sc_tac.specs.Prelude.{Point, Set, Temps, Trail, all_true, branch_step, branches, call_does, code_does}
 pub use Rattle.sc_tac.specs.Prelude.{code_function, code_library, code_step, constant_value, counts_elements}
 pub use Rattle.sc_tac.specs.Prelude.{entry_weight, function_points, gets, has_elements, has_operands, has_words}
-pub use Rattle.sc_tac.specs.Prelude.{interval_of, intervals_of, is_one, is_place, known, live_across, live_before}
-pub use Rattle.sc_tac.specs.Prelude.{names_own_object, names_own_temps, no_temps, nothing_live, one_or_none, operated}
-pub use Rattle.sc_tac.specs.Prelude.{parts, passes_few, passes_words, plain_points, point, read, read_all, received}
-pub use Rattle.sc_tac.specs.Prelude.{register_count, return_does, row_points, same_entry, slots_of, slots_up_to}
-pub use Rattle.sc_tac.specs.Prelude.{start_of, stmt_branches, stmt_does, takes_two, trail, trail_step, weight}
-pub use Rattle.sc_tac.specs.Prelude.{with_parts, with_temp}
+pub use Rattle.sc_tac.specs.Prelude.{interval_of, intervals_of, is_one, is_place, is_unsigned, known, live_across}
+pub use Rattle.sc_tac.specs.Prelude.{live_before, names_own_object, names_own_temps, no_temps, nothing_live}
+pub use Rattle.sc_tac.specs.Prelude.{one_or_none, operated, parts, passes_few, passes_words, plain_points, point, read}
+pub use Rattle.sc_tac.specs.Prelude.{read_all, received, register_count, return_does, row_points, same_entry, slots_of}
+pub use Rattle.sc_tac.specs.Prelude.{slots_up_to, start_of, stmt_branches, stmt_does, takes_two, trail, trail_step}
+pub use Rattle.sc_tac.specs.Prelude.{weight, with_parts, with_temp}
 pub use Rattle.sc_tac.specs.declared.frame.FrameTree.{FrameTree}
 pub use Rattle.sc_tac.specs.declared.function.TacFnTree.{TacFnTree}
 pub use Rattle.sc_tac.specs.declared.place.Place.{Place}
@@ -66,29 +66,34 @@ pub use Rattle.sc_tac.specs.declared.place.Place.TheVariants.{Register, Slot}
 pub use Rattle.sc_tac.specs.declared.stmt.Constant.{Constant}
 pub use Rattle.sc_tac.specs.declared.stmt.TacOp.{TacOp}
 pub use Rattle.sc_tac.specs.declared.stmt.TacStmt.{fold-roll-TacStmt, map-TacStmt, roll-TacStmt}
-pub use Rattle.sc_select.proofs.Joining.{between_keeps, fork_keeps, gives_place, is_empty, loads_it}
-pub use Rattle.sc_select.proofs.Joining.{none_behind, order_keeps, parts_least}
+pub use Rattle.sc_select.proofs.Joining.{IsRead, IsShort, between_keeps, fork_keeps, gives_place, is_empty, last_of_two}
+pub use Rattle.sc_select.proofs.Joining.{loads_it, none_behind, operates_it, order_keeps, parts_least, sets_it}
+pub use Rattle.sc_select.proofs.Joining.{which_pair}
 pub use Rattle.sc_select.proofs.Sizes.{row_is_sized}
-pub use Rattle.sc_select.specs.Prelude.{Addresses, Fits, Line, a0, a7, address_scratch, at_hand, between, binary_code}
-pub use Rattle.sc_select.specs.Prelude.{brought, bytes_of, call_cross, call_own, choice, choosing, closing, code_of}
-pub use Rattle.sc_select.specs.Prelude.{completed, copied, cycle, ending_past, entrance, environment_call}
-pub use Rattle.sc_select.specs.Prelude.{first_scratch, followed, fork, frame_left, frame_taken, function_lines}
-pub use Rattle.sc_select.specs.Prelude.{in_order, in_turn, is_named, is_short, joined, joins, jump_back, jump_over}
-pub use Rattle.sc_select.specs.Prelude.{keep, kept, linked, load_from, load_word, loading, loop_begins, low_after}
-pub use Rattle.sc_select.specs.Prelude.{lower_part, most_lines, move, moved_by, nothing, object_offset, object_read}
-pub use Rattle.sc_select.specs.Prelude.{op_code, operand, operation, pass, past, place_of, place_of_global, plain}
-pub use Rattle.sc_select.specs.Prelude.{plainly, put, ra, receive, referring, refers_only, register_of}
-pub use Rattle.sc_select.specs.Prelude.{relocation_of, relocations_from, result_register, return, role_first}
-pub use Rattle.sc_select.specs.Prelude.{role_of_load, second_operand, second_scratch, select, select_all, select_step}
-pub use Rattle.sc_select.specs.Prelude.{skipping, slot_offset, sp, store_arguments, store_to, store_word, straight}
-pub use Rattle.sc_select.specs.Prelude.{straightly, take, take_second, taken, unary_code, upper_part, word_of_constant}
+pub use Rattle.sc_select.specs.Prelude.{Addresses, Fits, Line, a0, a7, added_by, address_scratch, as_one, at_hand}
+pub use Rattle.sc_select.specs.Prelude.{between, binary_code, binary_short, brought, bytes_of, call_cross, call_own}
+pub use Rattle.sc_select.specs.Prelude.{choice, choosing, closing, code_of, completed, copied, cycle, ending_past}
+pub use Rattle.sc_select.specs.Prelude.{entrance, environment_call, first_scratch, followed, fork, frame_left}
+pub use Rattle.sc_select.specs.Prelude.{frame_taken, function_lines, in_order, in_turn, is_named, is_short, joined}
+pub use Rattle.sc_select.specs.Prelude.{joins, jump_back, jump_over, keep, kept, less_than, linked, load_from}
+pub use Rattle.sc_select.specs.Prelude.{load_word, loading, loop_begins, low_after, lower_part, most_lines, move}
+pub use Rattle.sc_select.specs.Prelude.{moved_by, nothing, object_offset, object_read, op_code, operand, operation}
+pub use Rattle.sc_select.specs.Prelude.{pass, past, place_of, place_of_global, plain, plainly, put, ra, receive}
+pub use Rattle.sc_select.specs.Prelude.{referring, refers_only, register_of, relocation_of, relocations_from}
+pub use Rattle.sc_select.specs.Prelude.{result_register, return, role_first, role_of_load, role_of_operation}
+pub use Rattle.sc_select.specs.Prelude.{second_operand, second_scratch, select, select_all, select_step, short}
+pub use Rattle.sc_select.specs.Prelude.{short_code, short_form, short_operation, skipping, slot_offset, sp}
+pub use Rattle.sc_select.specs.Prelude.{store_arguments, store_to, store_word, straight, straightly, take, take_second}
+pub use Rattle.sc_select.specs.Prelude.{taken, unary_code, upper_part, word_of_constant}
+pub use Rattle.sc_select.specs.declared.operators.ShortForm.{ShortForm}
 pub use Rattle.sc_select.specs.declared.roles.Role.{Role}
-pub use Rattle.sc_select.specs.declared.roles.Role.TheVariants.{Other, Places}
+pub use Rattle.sc_select.specs.declared.roles.Role.TheVariants.{Other, Places, Sets}
 pub use Rattle.sc_pieces.proofs.Frames.{leaves_frame, overflows, takes_frame}
 pub use Rattle.sc_pieces.proofs.Loading.{loads_long, loads_number, moves, moves_on}
 pub use Rattle.sc_pieces.proofs.NearSp.{loads_word, stores_word}
 pub use Rattle.sc_pieces.proofs.Rows.{computes, in_row, look_at, looked, stores, upper, with_number}
 pub use Rattle.sc_pieces.specs.Frames.{FrameOverflows, LeavesFrame, TakesFrame, frame_raised}
+pub use Rattle.sc_pieces.specs.Operators.{AreOperands, op_word}
 pub use Rattle.sc_pieces.specs.Pieces.{Besides, Computes, Does, IsFromSp, IsWritable, Stores}
 pub use Rattle.sc_relation.proofs.Calling.{Enters, activated, entered, is_activation, ready_entered}
 pub use Rattle.sc_relation.proofs.Following.{IsBack, back_with, comes_computed, comes_read, is_back}
@@ -97,6 +102,7 @@ pub use Rattle.sc_relation.proofs.Functions.{function_follows, overflows_enterin
 pub use Rattle.sc_relation.proofs.Jumps.{HasNoGap, break_follows, continue_follows, over}
 pub use Rattle.sc_relation.proofs.Lines.{InParts, completed_length, completed_plainly, in_parts, low_append}
 pub use Rattle.sc_relation.proofs.Lines.{low_plainly, plainly_at}
+pub use Rattle.sc_relation.proofs.Operators.{operator_stands}
 pub use Rattle.sc_relation.proofs.Registers.{HasNoOtherUse, no_other_use, register_there}
 pub use Rattle.sc_relation.proofs.Settling.{leads_moved, moved, settled_moved}
 pub use Rattle.sc_relation.proofs.Straight.{IsLoaded, MovesOn, across_live, asked, assigned, assigned_at}

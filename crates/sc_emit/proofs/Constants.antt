@@ -1,21 +1,18 @@
 -- An operator whose second operand is a constant: one instruction, where the result takes the constant's temporary.
-use Rattle.sc_emit.proofs.Common.{All, All-cons, All-nil, Bool, Calls, CodeAt, Codes, Computes, Constant, Follows}
-use Rattle.sc_emit.proofs.Common.{FrameTree, Goes, Gone, Instr, IsActivation, IsClear, IsSound, IsWellFormed, IsWord}
-use Rattle.sc_emit.proofs.Common.{Joint, List, Lives, Next, Ok, Err, Place, Point, Ready, Result, Cause, Running}
-use Rattle.sc_emit.proofs.Common.{Setting, Some, StandsFor, State as Meant, TacOp, Temps, Trail, Value, [], and_then, ap}
-use Rattle.sc_emit.proofs.Common.{arith, code_step, comes_computed, comes_read, constant_value}
-use Rattle.sc_emit.proofs.Common.{all_at, eq-eqb, eqb-true, false, first_scratch, gets, if◌then◌else◌, in_row, is_one}
-use Rattle.sc_emit.proofs.Common.{keep, leave, length, live_across, live_at, live_plain, not, operand, operated, or_left}
-use Rattle.sc_emit.proofs.Common.{plain_points, point, read, refl, result_register, row, same, same_Some, slice_get, sp}
-use Rattle.sc_emit.proofs.Common.{stays, straightly, subst, sym, take, trail_step, true, with_temp, word_of_constant}
-use Rattle.sc_emit.proofs.Common.{wrapping, Arrives, ℕ, ◌&&◌, ◌*◌, ◌++◌, ◌+◌, ◌==◌, ◌||◌, ◌∙◌, ◌∷◌, ◌≡◌, ◌≢◌}
-use Rattle.std.proofs.Common.{ne_eqb, true≢false}
+use Rattle.sc_emit.proofs.Common.{All, All-cons, All-nil, Arrives, Bool, Calls, Cause, CodeAt, Codes, Computes}
+use Rattle.sc_emit.proofs.Common.{Constant, Err, Follows, FrameTree, Goes, Gone, Instr, IsActivation, IsClear, IsSound}
+use Rattle.sc_emit.proofs.Common.{IsWellFormed, IsWord, Joint, List, Lives, Next, Ok, Place, Point, Ready, Result}
+use Rattle.sc_emit.proofs.Common.{Running, Setting, ShortForm, Some, StandsFor, State as Meant, TacOp, Temps, Trail}
+use Rattle.sc_emit.proofs.Common.{Value, [], all_at, and_then, ap, arith, code_step, comes_computed, comes_read}
+use Rattle.sc_emit.proofs.Common.{constant_value, eq-eqb, eqb-true, false, first_scratch, gets, if◌then◌else◌, in_row}
+use Rattle.sc_emit.proofs.Common.{is_one, keep, leave, length, live_across, live_at, live_plain, ne_eqb, not, op_word}
+use Rattle.sc_emit.proofs.Common.{operand, operated, operator_stands, or_left, plain_points, point, read, refl}
+use Rattle.sc_emit.proofs.Common.{result_register, row, same, same_Some, short_code, short_form, short_operation}
+use Rattle.sc_emit.proofs.Common.{slice_get, sp, stays, straightly, subst, sym, take, trail_step, true, true≢false}
+use Rattle.sc_emit.proofs.Common.{with_temp, word_of_constant, wrapping, ℕ, ◌&&◌, ◌*◌, ◌++◌, ◌+◌, ◌==◌, ◌||◌, ◌∙◌, ◌∷◌}
+use Rattle.sc_emit.proofs.Common.{◌≡◌, ◌≢◌}
 use Rattle.sc_tac.specs.declared.stmt.TacStmt.TheOpen as tac
-use Rattle.sc_select.specs.Prelude.{short_code, short_form, short_operation}
-use Rattle.sc_select.specs.declared.operators.ShortForm.{ShortForm}
-use Rattle.sc_pieces.specs.Operators.{op_word}
 use Rattle.sc_pieces.proofs.ShortForms.{gives_short}
-use Rattle.sc_relation.proofs.Operators.{operator_stands}
 use Rattle.sc_emit.proofs.Operands.{ArePlaced, AtHand, Gives, brings, first_is, keeps, world}
 use Rattle.sc_emit.proofs.Pairs.{again, fewer_clear}
 use Rattle.sc_emit.proofs.Plain.{IsResult, IsWordConstant, constant_stands, result_is}

@@ -1,25 +1,22 @@
 -- Operators, loads and stores.
-use Rattle.sc_emit.proofs.Common.{All, Arrives, Blocks, Bool, Calls, Cause, CodeAt, Comes, Computes, Does, Ends, Err}
-use Rattle.sc_emit.proofs.Common.{Follows, FrameTree, Goes, Gone, HasNoOtherUse, Instr, IsActivation, IsClear, IsLoaded}
-use Rattle.sc_emit.proofs.Common.{IsSound, IsWellFormed, IsWord, Joint, List, Lives, Load, Lw, Next, None, Ok, Option}
-use Rattle.sc_emit.proofs.Common.{Place, Reached, Ready, Registers, Result, Running, Set, Setting, Settled, Some}
-use Rattle.sc_emit.proofs.Common.{StandsFor, State as Meant, Store, Stores, Sw, TacOp, Temps, Value, [], add_word}
-use Rattle.sc_emit.proofs.Common.{and_then, ap, append-nil, append_assoc, arith, code_step, comes_computed, comes_read}
-use Rattle.sc_emit.proofs.Common.{computed, eq-eqb, false, first_scratch, front_same, gets, in_row, inl, is_one}
-use Rattle.sc_emit.proofs.Common.{is_some, keep, leave, length, live_plain, load, load_from, loads, look, looked}
-use Rattle.sc_emit.proofs.Common.{may_store, one_or_none, op_code, operand, operated, operation, or_left, or_right}
-use Rattle.sc_emit.proofs.Common.{plain_points, pos, read, refl, result_register, role_of_load, same, second_operand}
-use Rattle.sc_emit.proofs.Common.{second_scratch, seen_from, select_step, shows_here, slice_get, sp, stays, store}
-use Rattle.sc_emit.proofs.Common.{store_to, stored, stores as stores_to, straightly, subst, sym, take, takes_two}
-use Rattle.sc_emit.proofs.Common.{trail_step, true, with_memory, with_temp, word, word_of, wrapping, ℕ, ⊎_elim, ◌*◌}
-use Rattle.sc_emit.proofs.Common.{◌++◌, ◌+◌, ◌==◌, ◌∙◌, ◌∷◌, ◌≡◌}
+use Rattle.sc_emit.proofs.Common.{All, AreOperands, Arrives, Blocks, Bool, Calls, Cause, CodeAt, Comes, Computes, Does}
+use Rattle.sc_emit.proofs.Common.{Ends, Err, Follows, FrameTree, Goes, Gone, HasNoOtherUse, Instr, IsActivation}
+use Rattle.sc_emit.proofs.Common.{IsClear, IsLoaded, IsSound, IsWellFormed, IsWord, Joint, List, Lives, Load, Lw, Next}
+use Rattle.sc_emit.proofs.Common.{None, Ok, Option, Other, Place, Reached, Ready, Registers, Result, Running, Set}
+use Rattle.sc_emit.proofs.Common.{Setting, Settled, Some, StandsFor, State as Meant, Store, Stores, Sw, TacOp, Temps}
+use Rattle.sc_emit.proofs.Common.{Value, [], add_word, and_then, ap, append-nil, append_assoc, arith, code_step}
+use Rattle.sc_emit.proofs.Common.{comes_computed, comes_read, computed, eq-eqb, false, first_scratch, front_same, gets}
+use Rattle.sc_emit.proofs.Common.{in_row, inl, is_one, is_some, keep, leave, length, live_plain, load, load_from, loads}
+use Rattle.sc_emit.proofs.Common.{look, looked, may_store, one_or_none, op_code, op_word, operand, operated, operation}
+use Rattle.sc_emit.proofs.Common.{operator_stands, or_left, or_right, plain_points, pos, read, refl, result_register}
+use Rattle.sc_emit.proofs.Common.{role_of_load, role_of_operation, same, second_operand, second_scratch, seen_from}
+use Rattle.sc_emit.proofs.Common.{select_step, shows_here, slice_get, sp, stays, store, store_to, stored}
+use Rattle.sc_emit.proofs.Common.{stores as stores_to, straightly, subst, sym, take, takes_two, trail_step, true}
+use Rattle.sc_emit.proofs.Common.{with_memory, with_temp, word, word_of, wrapping, ℕ, ⊎_elim, ◌*◌, ◌++◌, ◌+◌, ◌==◌, ◌∙◌}
+use Rattle.sc_emit.proofs.Common.{◌∷◌, ◌≡◌}
 use Rattle.sc_pieces.proofs.Rows.{loads as loads_from}
-use Rattle.sc_select.specs.Prelude.{role_of_operation}
-use Rattle.sc_select.specs.declared.roles.Role.TheVariants.{Other}
 use Rattle.sc_tac.specs.declared.stmt.TacStmt.TheOpen as tac
-use Rattle.sc_pieces.specs.Operators.{AreOperands, op_word}
 use Rattle.sc_pieces.proofs.Operators.{gives_word}
-use Rattle.sc_relation.proofs.Operators.{operator_stands}
 use Rattle.sc_relation.proofs.Straight.{stores}
 use Rattle.sc_emit.proofs.Operands.{ArePlaced, AtHand, Gives, first_is, second_is, brings, keeps, world}
 use Rattle.sc_emit.proofs.Plain.{IsResult, result_is}

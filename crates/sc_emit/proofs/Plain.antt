@@ -2,8 +2,8 @@
 use Rattle.sc_emit.proofs.Common.{Addi, All, Arrives, Calls, CodeAt, Comes, Computes, Constant, Follows, FrameTree}
 use Rattle.sc_emit.proofs.Common.{InPlace, Instr, IsActivation, IsAddress, IsClear, IsHeld, IsWellFormed, IsWord}
 use Rattle.sc_emit.proofs.Common.{IsWritable, Joint, Line, List, Lives, Lui, Next, OpImm, Option, Place, Places, Ready}
-use Rattle.sc_emit.proofs.Common.{Register, Running, Setting, Slot, Some, StandsFor, Temps, Upper, Value, Walks, []}
-use Rattle.sc_emit.proofs.Common.{add_word, ap, ap₂, arith, at, at_hand, brought, code_step, comes_read}
+use Rattle.sc_emit.proofs.Common.{Register, Running, Sets, Setting, Slot, Some, StandsFor, Temps, Upper, Value, Walks}
+use Rattle.sc_emit.proofs.Common.{[], add_word, ap, ap₂, arith, at, at_hand, brought, code_step, comes_read}
 use Rattle.sc_emit.proofs.Common.{completed_plainly, computes, constant_value, copied, eq-eqb, false, first_scratch}
 use Rattle.sc_emit.proofs.Common.{is_one, keep, leave, length, length-map, live_plain, load_word, loading, loads_long}
 use Rattle.sc_emit.proofs.Common.{loads_number, loads_word, look_at, low_plainly, lower_part, move, moved_by, moves}
@@ -12,7 +12,6 @@ use Rattle.sc_emit.proofs.Common.{plain_points, plainly, refl, register_of, regi
 use Rattle.sc_emit.proofs.Common.{select_step, slice_get, slot_offset, sp, start_of, stays, store_word, straightly}
 use Rattle.sc_emit.proofs.Common.{subst, sym, trail_step, true, unwrap_or, upper_part, with_temp, word}
 use Rattle.sc_emit.proofs.Common.{word_of_constant, wrapping, ℕ, ◌*◌, ◌++◌, ◌+◌, ◌<◌, ◌^◌, ◌∙◌, ◌∷◌, ◌≡◌, ◌≢◌, ◌≤◌}
-use Rattle.sc_select.specs.declared.roles.Role.TheVariants.{Sets}
 use Rattle.sc_tac.specs.declared.stmt.Constant.TheVariants as constant
 use Rattle.sc_tac.specs.declared.stmt.TacStmt.TheOpen as tac
 use Rattle.sc_emit.proofs.Operands.{IsPlace, ArePlaced, Gives, keeps, keeps_register, keeps_slot, slot_from_sp, world}

@@ -1,23 +1,19 @@
 -- The code of loops: where it begins, and where it leads back.
-use Rattle.sc_select.proofs.Joining.{IsRead, IsShort, operates_it, sets_it, which_pair}
-use Rattle.sc_select.specs.Prelude.{as_one, role_of_operation, short_form, short_operation}
-use Rattle.sc_select.specs.declared.operators.ShortForm.{ShortForm}
-use Rattle.sc_select.specs.declared.roles.Role.TheVariants.{Sets}
-use Rattle.std.proofs.Common.{None, Option, Some, ⊎_elim}
-use Rattle.sc_emit.proofs.Common.{Bne, Bool, Branch, Each, Ebreak, FrameTree, Inside, Instr, Jal, Line, List, None}
-use Rattle.sc_emit.proofs.Common.{Other, Place, Places, Role, Some, TacFnTree, TacStmt, TacStmt-F, [], and_first}
-use Rattle.sc_emit.proofs.Common.{and_rest, ap, append_assoc, arith, between, call_cross, call_own, choice, choosing}
-use Rattle.sc_emit.proofs.Common.{closing, code_back_edges, code_of, cond, count_by, cycle, ending_past, entrance}
-use Rattle.sc_emit.proofs.Common.{environment_call, everywhere, false, first_scratch, fold-roll-TacStmt, fork}
-use Rattle.sc_emit.proofs.Common.{gives_place, if◌then◌else◌, in_turn, inl, inr, is_backward, is_empty, is_known_jump}
-use Rattle.sc_emit.proofs.Common.{joined, joins, jump_back, jump_over, leads_back, length, length-append}
-use Rattle.sc_emit.proofs.Common.{length-map, list_all, list_all-map, list_all_along, loads_it, loop_begins, loop_step}
-use Rattle.sc_emit.proofs.Common.{loops, lt-leb, map, map-TacStmt, map-append, neg_ℤ, not, object_read, operand, past}
-use Rattle.sc_emit.proofs.Common.{place_of, place_of_global, plain, plainly, pos, receive, refl, role_first}
-use Rattle.sc_emit.proofs.Common.{role_of_load, row_is_sized, select, select_all, select_step, skipping, stmt_induction}
-use Rattle.sc_emit.proofs.Common.{stmt_loops, straight as lines_of, straightly, subst, suc, sum_by-append, sym, take}
-use Rattle.sc_emit.proofs.Common.{true, word_of_constant, zero, ℕ, ⊎_elim, ◌&&◌, ◌*◌, ◌++◌, ◌+◌, ◌==◌, ◌∙◌, ◌∷◌, ◌≡◌}
-use Rattle.sc_emit.proofs.Common.{◌≤◌}
+use Rattle.sc_emit.proofs.Common.{Bne, Bool, Branch, Each, Ebreak, FrameTree, Inside, Instr, IsRead, IsShort, Jal, Line}
+use Rattle.sc_emit.proofs.Common.{List, None, Option, Other, Place, Places, Role, Sets, ShortForm, Some, TacFnTree}
+use Rattle.sc_emit.proofs.Common.{TacStmt, TacStmt-F, [], and_first, and_rest, ap, append_assoc, arith, as_one, between}
+use Rattle.sc_emit.proofs.Common.{call_cross, call_own, choice, choosing, closing, code_back_edges, code_of, cond}
+use Rattle.sc_emit.proofs.Common.{count_by, cycle, ending_past, entrance, environment_call, everywhere, false}
+use Rattle.sc_emit.proofs.Common.{first_scratch, fold-roll-TacStmt, fork, gives_place, if◌then◌else◌, in_turn, inl, inr}
+use Rattle.sc_emit.proofs.Common.{is_backward, is_empty, is_known_jump, joined, joins, jump_back, jump_over, leads_back}
+use Rattle.sc_emit.proofs.Common.{length, length-append, length-map, list_all, list_all-map, list_all_along, loads_it}
+use Rattle.sc_emit.proofs.Common.{loop_begins, loop_step, loops, lt-leb, map, map-TacStmt, map-append, neg_ℤ, not}
+use Rattle.sc_emit.proofs.Common.{object_read, operand, operates_it, past, place_of, place_of_global, plain, plainly}
+use Rattle.sc_emit.proofs.Common.{pos, receive, refl, role_first, role_of_load, role_of_operation, row_is_sized, select}
+use Rattle.sc_emit.proofs.Common.{select_all, select_step, sets_it, short_form, short_operation, skipping}
+use Rattle.sc_emit.proofs.Common.{stmt_induction, stmt_loops, straight as lines_of, straightly, subst, suc}
+use Rattle.sc_emit.proofs.Common.{sum_by-append, sym, take, true, which_pair, word_of_constant, zero, ℕ, ⊎_elim, ◌&&◌}
+use Rattle.sc_emit.proofs.Common.{◌*◌, ◌++◌, ◌+◌, ◌==◌, ◌∙◌, ◌∷◌, ◌≡◌, ◌≤◌}
 use Rattle.sc_select.specs.Prelude.{Piece}
 use Rattle.sc_emit.specs.Layout.{GoesAround, HasRounds, HaveCode, LeadOn, branching, empty, leads_on, loopless}
 use Rattle.sc_emit.specs.Layout.{repeating}
@@ -26,9 +22,10 @@ use Rattle.sc_tac.specs.declared.stmt.TacStmt.TheOpen as tac
 use Rattle.sc_tac.specs.declared.stmt.TacStmt.TheVariants as emit
 use Rattle.sc_emit.proofs.Branches.{Straight, StraightLines, all_append, closing_straight, copied_straight}
 use Rattle.sc_emit.proofs.Branches.{cross_straight, entrance_straight, global_straight, is_straight, is_straight_line}
-use Rattle.sc_emit.proofs.Branches.{load_from_straight, loaded_straight, object_read_straight, short_straight, object_straight}
-use Rattle.sc_emit.proofs.Branches.{operation_straight, output_straight, own_straight, plainly_straight}
-use Rattle.sc_emit.proofs.Branches.{receive_straight, return_straight, store_to_straight, take_straight}
+use Rattle.sc_emit.proofs.Branches.{load_from_straight, loaded_straight, object_read_straight, short_straight}
+use Rattle.sc_emit.proofs.Branches.{object_straight, operation_straight, output_straight, own_straight}
+use Rattle.sc_emit.proofs.Branches.{plainly_straight, receive_straight, return_straight, store_to_straight}
+use Rattle.sc_emit.proofs.Branches.{take_straight}
 
 abbrev instrs_of : List Line → List Instr
 instrs_of lines = map (λ line. line.instr) lines

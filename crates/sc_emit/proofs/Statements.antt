@@ -1,26 +1,23 @@
 -- The code of statements follows what they do: by induction over their layers.
-use Rattle.sc_select.proofs.Joining.{IsRead, IsShort, last_of_two, operates_it, sets_it, which_pair}
-use Rattle.sc_select.specs.Prelude.{as_one, short_form, short_operation}
-use Rattle.sc_select.specs.declared.operators.ShortForm.{ShortForm}
-use Rattle.sc_core.specs.Prelude.{follow as then_follow, in_order as one_by_one}
-use Rattle.std.proofs.Common.{⊎_elim, ◌==◌}
-use Rattle.sc_emit.proofs.Constants.{applies, both_steps, short_follows}
 use Rattle.sc_emit.proofs.Common.{All, AreReached, Bool, CallTarget, Calls, CallsFollow, Codes, Constant, Cross, Each}
-use Rattle.sc_emit.proofs.Common.{Follows, FrameTree, GivesValue, HasNoGap, Here, Input, Inside, IsActivation, IsSound}
-use Rattle.sc_emit.proofs.Common.{IsWellFormed, IsWord, List, None, Option, Other, Output, Own, Piece, Reached}
-use Rattle.sc_emit.proofs.Common.{Register, Role, Running, Setting, Some, State as Meant, Stopped, TacOp, TacStmt}
-use Rattle.sc_emit.proofs.Common.{TacStmt-F, Trail, Value, [], all_do, and_parts, ap, ap₂, arith, between}
-use Rattle.sc_emit.proofs.Common.{break_follows, calls_only, code_does, code_step, continue_follows, counts_elements}
-use Rattle.sc_emit.proofs.Common.{everywhere, false, fold-roll-TacStmt, followed, gives_place, has_elements}
-use Rattle.sc_emit.proofs.Common.{has_operands, has_words, if◌then◌else◌, in_order, in_turn, is_call, is_some}
-use Rattle.sc_emit.proofs.Common.{joined, joins, leb-true, length, list_all, loads_it, ltb-true, map, map-TacStmt}
-use Rattle.sc_emit.proofs.Common.{names_only, names_own_object, names_own_temps, nat_lt, none_behind, not}
-use Rattle.sc_emit.proofs.Common.{nothing as no_lines, object_inside, object_read, object_there, one_or_none}
-use Rattle.sc_emit.proofs.Common.{parts_least, passes_few, refl, role_first, roll-TacStmt, row, select}
-use Rattle.sc_emit.proofs.Common.{select_all, select_step, slice_get-get_or, stmt_does, stmt_induction, straightly}
-use Rattle.sc_emit.proofs.Common.{subst, sym, takes_two, trail, trail_step, true, word_of_constant, wrapping, ℕ, ◌++◌}
-use Rattle.sc_emit.proofs.Common.{◌+◌, ◌<◌, ◌^◌, ◌||◌, ◌∙◌, ◌∷◌, ◌≡◌, ◌≤◌}
+use Rattle.sc_emit.proofs.Common.{Follows, FrameTree, GivesValue, HasNoGap, Here, Input, Inside, IsActivation, IsRead}
+use Rattle.sc_emit.proofs.Common.{IsShort, IsSound, IsWellFormed, IsWord, List, None, Option, Other, Output, Own, Piece}
+use Rattle.sc_emit.proofs.Common.{Reached, Register, Role, Running, Setting, ShortForm, Some, State as Meant, Stopped}
+use Rattle.sc_emit.proofs.Common.{TacOp, TacStmt, TacStmt-F, Trail, Value, [], all_do, and_parts, ap, ap₂, arith}
+use Rattle.sc_emit.proofs.Common.{as_one, between, break_follows, calls_only, code_does, code_step, continue_follows}
+use Rattle.sc_emit.proofs.Common.{counts_elements, everywhere, false, fold-roll-TacStmt, follow as then_follow}
+use Rattle.sc_emit.proofs.Common.{followed, gives_place, has_elements, has_operands, has_words, if◌then◌else◌, in_order}
+use Rattle.sc_emit.proofs.Common.{in_turn, is_call, is_some, joined, joins, last_of_two, leb-true, length, list_all}
+use Rattle.sc_emit.proofs.Common.{loads_it, ltb-true, map, map-TacStmt, names_only, names_own_object, names_own_temps}
+use Rattle.sc_emit.proofs.Common.{nat_lt, none_behind, not, nothing as no_lines, object_inside, object_read}
+use Rattle.sc_emit.proofs.Common.{object_there, one_or_none, operates_it, parts_least, passes_few, refl, role_first}
+use Rattle.sc_emit.proofs.Common.{roll-TacStmt, row, select, select_all, select_step, sets_it, short_form}
+use Rattle.sc_emit.proofs.Common.{short_operation, slice_get-get_or, stmt_does, stmt_induction, straightly, subst, sym}
+use Rattle.sc_emit.proofs.Common.{takes_two, trail, trail_step, true, which_pair, word_of_constant, wrapping, ℕ, ⊎_elim}
+use Rattle.sc_emit.proofs.Common.{◌++◌, ◌+◌, ◌<◌, ◌==◌, ◌^◌, ◌||◌, ◌∙◌, ◌∷◌, ◌≡◌, ◌≤◌}
+use Rattle.sc_core.specs.Prelude.{in_order as one_by_one}
 use Rattle.sc_select.specs.Prelude.{Piece as Code}
+use Rattle.sc_emit.proofs.Constants.{applies, both_steps, short_follows}
 use Rattle.std.specs.Bool.{beq}
 use Rattle.sc_tac.specs.declared.stmt.Constant.TheVariants as constant
 use Rattle.sc_tac.specs.declared.stmt.TacOp.TheVariants as tacop

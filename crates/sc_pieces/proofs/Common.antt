@@ -1,9 +1,9 @@
 -- The names that several proofs of this crate cite, passed on from one place. Declares nothing.
-pub use Rattle.std.proofs.Common.{Bool, List, [], ap, ap₂, arith, bit_and, bit_or, bit_xor, false, if◌then◌else◌, inl}
-pub use Rattle.std.proofs.Common.{inr, int_div, int_lt, length, length-append, ltb-false, ltb-true, mul-add, nat_eq}
-pub use Rattle.std.proofs.Common.{nat_lt, ne_eqb, neg_ℤ, negsuc, not, pos, refl, subst, suc, sym, true, zero, ℕ, ℤ}
-pub use Rattle.std.proofs.Common.{⊎_elim, ◌%◌, ◌&&◌, ◌*ℤ◌, ◌*◌, ◌++◌, ◌+ℤ◌, ◌+◌, ◌-ℤ◌, ◌-◌, ◌/◌, ◌<◌, ◌==◌, ◌^◌, ◌||◌}
-pub use Rattle.std.proofs.Common.{◌∙◌, ◌∷◌, ◌≡◌, ◌≢◌, ◌≤◌, ◌⊎◌}
+pub use Rattle.std.proofs.Common.{Bool, List, None, Option, Some, [], ap, ap₂, arith, bit_and, bit_or, bit_xor, false}
+pub use Rattle.std.proofs.Common.{if◌then◌else◌, inl, inr, int_div, int_lt, length, length-append, ltb-false, ltb-true}
+pub use Rattle.std.proofs.Common.{mul-add, nat_eq, nat_lt, ne_eqb, neg_ℤ, negsuc, not, pos, refl, subst, suc, sym, true}
+pub use Rattle.std.proofs.Common.{zero, ℕ, ℤ, ⊎_elim, ◌%◌, ◌&&◌, ◌*ℤ◌, ◌*◌, ◌++◌, ◌+ℤ◌, ◌+◌, ◌-ℤ◌, ◌-◌, ◌/◌, ◌<◌, ◌==◌}
+pub use Rattle.std.proofs.Common.{◌^◌, ◌||◌, ◌∙◌, ◌∷◌, ◌≡◌, ◌≢◌, ◌≤◌, ◌⊎◌}
 pub use Rattle.std.proofs.lemmas.Nat.{and_le_l, and_le_r, and_mask, le_or_l, le_or_r, mul-mod_second, or_of_32}
 pub use Rattle.std.proofs.lemmas.Nat.{xor_of_32}
 pub use Rattle.sc_base.specs.declared.op.BinaryOp.{BinaryOp}
@@ -15,7 +15,7 @@ pub use Rattle.sc_core.specs.Prelude.{negated_word, number_of, on_all_words, tru
 pub use Rattle.rv_code.specs.declared.instr.Instr.TheVariants.{Jalr, Load, Op, OpImm, Store, Upper}
 pub use Rattle.rv_code.specs.declared.instr.LoadOp.TheVariants.{Lw}
 pub use Rattle.rv_code.specs.declared.instr.OpImmOp.{OpImmOp}
-pub use Rattle.rv_code.specs.declared.instr.OpImmOp.TheVariants.{Addi, Sltiu, Xori}
+pub use Rattle.rv_code.specs.declared.instr.OpImmOp.TheVariants.{Addi, Andi, Ori, Slti, Sltiu, Xori}
 pub use Rattle.rv_code.specs.declared.instr.OpOp.{OpOp}
 pub use Rattle.rv_code.specs.declared.instr.OpOp.TheVariants.{Add, And, Div, Divu, Mul, Or, Rem, Remu, Sll, Slt, Sltu}
 pub use Rattle.rv_code.specs.declared.instr.OpOp.TheVariants.{Sra, Srl, Sub, Xor}
@@ -28,9 +28,10 @@ pub use Rattle.sc_hart.proofs.Steps.{lui, lw, op_imm, operate, sw, sw_traps, the
 pub use Rattle.sc_hart.specs.Prelude.{CodeAt, Fetches, Owned, Registers, World, at, look, put_word, set, word}
 pub use Rattle.sc_tac.specs.Prelude.{is_unsigned}
 pub use Rattle.sc_tac.specs.declared.stmt.TacOp.{TacOp}
-pub use Rattle.sc_select.specs.Prelude.{binary_code, bytes_of, far_from_sp, frame_left, frame_taken, is_short}
-pub use Rattle.sc_select.specs.Prelude.{load_word, loading, lower_part, move, moved_by, op_code, pointer_difference}
-pub use Rattle.sc_select.specs.Prelude.{pointer_move, store_word, unary_code, upper_part}
+pub use Rattle.sc_select.specs.Prelude.{binary_code, binary_short, bytes_of, far_from_sp, frame_left, frame_taken}
+pub use Rattle.sc_select.specs.Prelude.{is_short, load_word, loading, lower_part, move, moved_by, op_code}
+pub use Rattle.sc_select.specs.Prelude.{pointer_difference, pointer_move, short, short_code, short_form, store_word}
+pub use Rattle.sc_select.specs.Prelude.{unary_code, upper_part}
 pub use Rattle.sc_pieces.specs.Common.{ImageParts, Instr}
 pub use Rattle.sc_pieces.specs.Operators.{AreOperands, op_word, stepped_word, unary_word}
 pub use Rattle.sc_pieces.specs.Pieces.{Besides, Computes, Does, IsFromSp, IsWritable, Stores}

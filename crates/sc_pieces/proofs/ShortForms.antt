@@ -1,17 +1,12 @@
 -- An operator whose second operand is a constant is one instruction, which computes the operator's word.
-use Rattle.sc_pieces.proofs.Common.{BinaryOp, Bool, Computes, ImageParts, IsWritable, List, Memory, OpImmOp, Registers}
-use Rattle.sc_pieces.proofs.Common.{TacOp, World, [], add_word, arith, bytes_of, computed, false, is_unsigned, mul_word}
-use Rattle.sc_pieces.proofs.Common.{on_all_words, on_registers, op_word, refl, signed_wraps, sub_word, sym, true, ℕ}
-use Rattle.sc_pieces.proofs.Common.{◌<◌, ◌^◌, ◌∙◌, ◌≡◌}
-use Rattle.std.specs.Prelude.{None, Option, Some, if◌then◌else◌, pos, ◌%◌, ◌+◌, ◌-◌, ◌-ℤ◌}
-use Rattle.sc_word.proofs.Words.{word_of-lt, word_of-unsigned_sub}
-use Rattle.std.proofs.Common.{ap, subst}
-use Rattle.sc_word.specs.Prelude.{signed_of}
-use Rattle.rv_code.specs.declared.instr.OpImmOp.TheVariants.{Addi, Andi, Ori, Slti, Sltiu, Xori}
+use Rattle.sc_pieces.proofs.Common.{Addi, Andi, BinaryOp, Bool, Computes, ImageParts, IsWritable, List, Memory, None}
+use Rattle.sc_pieces.proofs.Common.{OpImmOp, Option, Ori, Registers, Slti, Sltiu, Some, TacOp, World, Xori, []}
+use Rattle.sc_pieces.proofs.Common.{add_word, ap, arith, binary_short, bytes_of, computed, false, if◌then◌else◌}
+use Rattle.sc_pieces.proofs.Common.{is_short, is_unsigned, look, mul_word, on_all_words, on_registers, op_word, pos}
+use Rattle.sc_pieces.proofs.Common.{refl, short, short_code, short_form, signed_of, signed_wraps, sub_word, subst, sym}
+use Rattle.sc_pieces.proofs.Common.{true, word_of-lt, word_of-unsigned_sub, ℕ, ◌%◌, ◌+◌, ◌-ℤ◌, ◌-◌, ◌<◌, ◌^◌, ◌∙◌, ◌≡◌}
 use Rattle.sc_base.specs.declared.op.BinaryOp.TheVariants as op
 use Rattle.sc_tac.specs.declared.stmt.TacOp.TheVariants as tacop
-use Rattle.sc_pieces.specs.Common.{look}
-use Rattle.sc_select.specs.Prelude.{binary_short, is_short, short, short_code, short_form}
 use Rattle.sc_select.specs.declared.operators.ShortForm.{ShortForm}
 use Rattle.sc_pieces.proofs.Numbers.{word_of-signed_of}
 use Rattle.sc_pieces.proofs.Rows.{with_number}

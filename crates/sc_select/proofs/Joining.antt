@@ -4,12 +4,11 @@ use Rattle.sc_select.proofs.Common.{Bool, Each, FrameTree, List, Loads, None, Op
 use Rattle.sc_select.proofs.Common.{Places, Role, Sets, ShortForm, Some, TacOp, TacStmt, TacStmt-F, [], and_first}
 use Rattle.sc_select.proofs.Common.{and_rest, ap, ap₂, arith, as_one, between, choice, choosing, drop, ending_past}
 use Rattle.sc_select.proofs.Common.{eqb-true, false, fold-roll-TacStmt, followed, fork, get_or, if◌then◌else◌, in_order}
-use Rattle.sc_select.proofs.Common.{in_turn, inl, inr, is_some, joined, joins, jump_over, length, map, map-TacStmt}
+use Rattle.sc_select.proofs.Common.{in_turn, inl, inr, is_some, joined, joins, jump_over, length, map, map-TacStmt, not}
 use Rattle.sc_select.proofs.Common.{nothing, object_read, past, refl, role_before, role_first, role_of_operation}
 use Rattle.sc_select.proofs.Common.{roll-TacStmt, select, select_step, short_form, short_operation, skipping}
 use Rattle.sc_select.proofs.Common.{stmt_induction, straight, straightly, suc, sym, true, word_of_constant, zero, ℕ}
 use Rattle.sc_select.proofs.Common.{⊎_elim, ◌&&◌, ◌-◌, ◌<◌, ◌==◌, ◌∙◌, ◌∷◌, ◌≡◌, ◌≤◌, ◌⊎◌}
-use Rattle.std.specs.Prelude.{not}
 use Rattle.sc_tac.specs.declared.stmt.Constant.{Constant}
 use Rattle.sc_tac.specs.declared.stmt.TacStmt.TheOpen as tac
 

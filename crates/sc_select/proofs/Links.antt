@@ -9,9 +9,10 @@ use Rattle.sc_select.proofs.Common.{function_lines, in_order, is_address, is_jal
 use Rattle.sc_select.proofs.Common.{length-append, length-map, load_from, loading, map, map-TacStmt, moved_by}
 use Rattle.sc_select.proofs.Common.{object_offset, object_read, operation, pass, place_of_global, plain, plainly, pos}
 use Rattle.sc_select.proofs.Common.{receive, referring, refl, relocation_of, relocations_from, result_register, return}
-use Rattle.sc_select.proofs.Common.{role_of_load, role_of_operation, short_form, select, select_all, select_step, short_operation}
-use Rattle.sc_select.proofs.Common.{slice_get, stmt_induction, store_arguments, store_to, straightly, sub_word, subst}
-use Rattle.sc_select.proofs.Common.{suc, sym, true, word_of_constant, ℕ, ◌&&◌, ◌++◌, ◌+◌, ◌<◌, ◌∙◌, ◌∷◌, ◌≡◌, ◌≤◌}
+use Rattle.sc_select.proofs.Common.{role_of_load, role_of_operation, select, select_all, select_step, short_form}
+use Rattle.sc_select.proofs.Common.{short_operation, slice_get, stmt_induction, store_arguments, store_to, straightly}
+use Rattle.sc_select.proofs.Common.{sub_word, subst, suc, sym, true, word_of_constant, ℕ, ◌&&◌, ◌++◌, ◌+◌, ◌<◌, ◌∙◌}
+use Rattle.sc_select.proofs.Common.{◌∷◌, ◌≡◌, ◌≤◌}
 use Rattle.std.proofs.lemmas.List.Elements.{All-cons, All-nil, All-weaker}
 use Rattle.std.proofs.lemmas.List.Kept.{AllPairs-cons}
 use Rattle.sc_tac.specs.declared.stmt.TacStmt.TheOpen as tac
