@@ -352,7 +352,7 @@ module _ (T : Setting) (R : Running) (formed : IsWellFormed T.image) (inputs : A
         T.makes A.here.comp (Own function) (length args) ≡ true →
         ((vs : List Value) (s : Meant) → Answers dest (calls A.here.comp (Own function) vs s)) →
         Follows T R (code_step wrapping A.here calls (tac.CallOwn dest function args))
-        (select_step frame R.places (tac.CallOwn dest function args)) (trail_step (tac.CallOwn dest function args))
+        (select_step frame R.places R.needed (tac.CallOwn dest function args)) (trail_step (tac.CallOwn dest function args))
     call_own_follows gapless function args few below made answers =
         let before : List Instr = pass frame R.places a0 args in
         linked_follows T R (code_step wrapping A.here calls (tac.CallOwn dest function args))
@@ -400,7 +400,7 @@ module _ (T : Setting) (R : Running) (formed : IsWellFormed T.image) (inputs : A
         T.makes A.here.comp (Cross comp index) (length args) ≡ true →
         ((vs : List Value) (s : Meant) → Answers dest (calls A.here.comp (Cross comp index) vs s)) →
         Follows T R (code_step wrapping A.here calls (tac.CallCross dest comp index args))
-        (select_step frame R.places (tac.CallCross dest comp index args))
+        (select_step frame R.places R.needed (tac.CallCross dest comp index args))
         (trail_step (tac.CallCross dest comp index args))
     call_cross_follows comp index args few below even made answers =
         let arguments : List Instr = pass frame R.places a0 args in

@@ -92,7 +92,7 @@ module _ (T : Setting) (R : Running) (formed : IsWellFormed T.image) (inputs : A
 
     pub input_follows : (dest : Option ℕ) → HasPlace R.places dest → T.makes A.here.comp Input 0 ≡ true →
         ((vs : List Value) (s : Meant) → Answers dest (calls A.here.comp Input vs s)) →
-        Follows T R (code_step wrapping A.here calls (tac.Input dest)) (select_step frame R.places (tac.Input dest))
+        Follows T R (code_step wrapping A.here calls (tac.Input dest)) (select_step frame R.places R.needed (tac.Input dest))
         (trail_step (tac.Input dest))
     input_follows dest there made answers =
         straight_follows T R (code_step wrapping A.here calls (tac.Input dest))
@@ -106,7 +106,7 @@ module _ (T : Setting) (R : Running) (formed : IsWellFormed T.image) (inputs : A
         (all_at (IsClear R.places) (plain_points [] false dest lives) 1 _ clear refl) code)
 
     pub output_follows : (value : ℕ) → T.makes A.here.comp Output 1 ≡ true →
-        Follows T R (code_step wrapping A.here calls (tac.Output value)) (select_step frame R.places (tac.Output value))
+        Follows T R (code_step wrapping A.here calls (tac.Output value)) (select_step frame R.places R.needed (tac.Output value))
         (trail_step (tac.Output value))
     output_follows value made =
         let first : List Instr = brought frame a0 (place_of frame R.places value) in

@@ -99,7 +99,7 @@ module _ (T : Setting) (R : Running) (formed : IsWellFormed T.image) (inputs : A
 
     pub load_follows : (dest place : ℕ) (pointer : Bool) (to : Place) → slice_get R.places dest ≡ Some to →
         Follows T R (code_step wrapping R.activation.here calls (tac.Load dest place pointer))
-        (select_step frame R.places (tac.Load dest place pointer)) (trail_step (tac.Load dest place pointer))
+        (select_step frame R.places R.needed (tac.Load dest place pointer)) (trail_step (tac.Load dest place pointer))
     load_follows dest place pointer to its =
         let rd : ℕ = result_register frame R.places dest in
         let rs : ℕ = operand frame R.places first_scratch place in
@@ -158,7 +158,7 @@ module _ (T : Setting) (R : Running) (formed : IsWellFormed T.image) (inputs : A
 
     pub store_follows : (place value : ℕ) →
         Follows T R (code_step wrapping R.activation.here calls (tac.Store place value))
-        (select_step frame R.places (tac.Store place value)) (trail_step (tac.Store place value))
+        (select_step frame R.places R.needed (tac.Store place value)) (trail_step (tac.Store place value))
     store_follows place value =
         let comp : ℕ = R.activation.here.comp in
         let base : ℕ = operand frame R.places first_scratch place in
@@ -415,7 +415,7 @@ module _ (T : Setting) (R : Running) (formed : IsWellFormed T.image) (inputs : A
       pub op_follows : (right : Option ℕ) → is_some right ≡ takes_two o →
           IsSound o →
           Follows T R (code_step wrapping R.activation.here calls (tac.Op dest o left_one right))
-          (select_step frame R.places (tac.Op dest o left_one right)) (trail_step (tac.Op dest o left_one right))
+          (select_step frame R.places R.needed (tac.Op dest o left_one right)) (trail_step (tac.Op dest o left_one right))
       op_follows None count for =
           with_role T R (code_step wrapping R.activation.here calls (tac.Op dest o left_one None))
           (straightly frame R.places (Whole None)) Other (trail_step (tac.Op dest o left_one None))

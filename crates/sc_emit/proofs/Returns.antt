@@ -173,7 +173,7 @@ module _ (T : Setting) (R : Running) (formed : IsWellFormed T.image) (inputs : A
         (puts t v live temps x ready (rw (eq-eqb t t refl) refl) known) (omega arith) code))
 
     pub return_follows : (value : Option ℕ) →
-        Follows T R (code_step wrapping A.here calls (tac.Return value)) (select_step frame R.places (tac.Return value))
+        Follows T R (code_step wrapping A.here calls (tac.Return value)) (select_step frame R.places R.needed (tac.Return value))
         (trail_step (tac.Return value))
     return_follows value =
         straight_follows T R (code_step wrapping A.here calls (tac.Return value)) (return frame R.places value)

@@ -105,31 +105,31 @@ rolled_loop : (head body next : List TacStmt) → emit.Loop head body next ≡ r
 unfolding roll-TacStmt denote.Hole.Carrier.roll
 rolled_loop head body next = refl
 
-module _ (frame : FrameTree) (places : List Place) where
+module _ (frame : FrameTree) (places : List Place) (needed : ℕ → Bool) where
   abbrev Lies : TacStmt → Type 0
-  Lies stmt = IsCodeOf stmt (select frame places stmt)
+  Lies stmt = IsCodeOf stmt (select frame places needed stmt)
 
   -- the second of two statements that are one piece has the code of both, and the first none
-  both_lie : (before : Role) (stmt : TacStmt) → joins before (select frame places stmt).role ≡ true →
-      IsCodeOf stmt (as_one frame places before (select frame places stmt).role)
-  both_lie before stmt h = ⊎_elim read short (which_pair before (select frame places stmt).role h)
+  both_lie : (before : Role) (stmt : TacStmt) → joins before (select frame places needed stmt).role ≡ true →
+      IsCodeOf stmt (as_one frame places before (select frame places needed stmt).role)
+  both_lie before stmt h = ⊎_elim read short (which_pair before (select frame places needed stmt).role h)
     where
-      read : IsRead before (select frame places stmt).role →
-          IsCodeOf stmt (as_one frame places before (select frame places stmt).role)
+      read : IsRead before (select frame places needed stmt).role →
+          IsCodeOf stmt (as_one frame places before (select frame places needed stmt).role)
       read pair =
-          let load = loads_it frame places stmt pair.temp pair.loads in
-          subst (λ r. IsCodeOf stmt (as_one frame places r (select frame places stmt).role)) (sym pair.gives)
+          let load = loads_it frame places needed stmt pair.temp pair.loads in
+          subst (λ r. IsCodeOf stmt (as_one frame places r (select frame places needed stmt).role)) (sym pair.gives)
           (subst (λ s. IsCodeOf s (straightly frame places (object_read frame places pair.temp pair.object)))
           (sym load.is)
           (by_instrs (tac.Load pair.temp pair.temp load.pointer) (object_read frame places pair.temp pair.object) refl
           (object_read_straight frame places pair.temp pair.object)))
 
-      short : IsShort before (select frame places stmt).role →
-          IsCodeOf stmt (as_one frame places before (select frame places stmt).role)
+      short : IsShort before (select frame places needed stmt).role →
+          IsCodeOf stmt (as_one frame places before (select frame places needed stmt).role)
       short pair =
           let form : Option ShortForm = short_form pair.op pair.word in
-          let operation = operates_it frame places stmt pair.temp pair.left pair.op pair.operates in
-          subst (λ r. IsCodeOf stmt (as_one frame places r (select frame places stmt).role)) (sym pair.sets)
+          let operation = operates_it frame places needed stmt pair.temp pair.left pair.op pair.operates in
+          subst (λ r. IsCodeOf stmt (as_one frame places r (select frame places needed stmt).role)) (sym pair.sets)
           (subst (λ r. IsCodeOf stmt (as_one frame places (Sets pair.temp pair.word) r)) (sym pair.operates)
           (subst (λ s. IsCodeOf s (straightly frame places (short_operation frame places pair.temp pair.left form)))
           (sym operation.is)
@@ -137,50 +137,50 @@ module _ (frame : FrameTree) (places : List Place) where
           (short_operation frame places pair.temp pair.left form) refl
           (short_straight frame places pair.temp pair.left form))))
 
-  none_lie : (stmt : TacStmt) (behind : Role) → joins (select frame places stmt).role behind ≡ true →
+  none_lie : (stmt : TacStmt) (behind : Role) → joins (select frame places needed stmt).role behind ≡ true →
       IsCodeOf stmt (lines_of [])
-  none_lie stmt behind h = ⊎_elim read short (which_pair (select frame places stmt).role behind h)
+  none_lie stmt behind h = ⊎_elim read short (which_pair (select frame places needed stmt).role behind h)
     where
-      read : IsRead (select frame places stmt).role behind → IsCodeOf stmt (lines_of [])
+      read : IsRead (select frame places needed stmt).role behind → IsCodeOf stmt (lines_of [])
       read pair =
-          subst (λ s. IsCodeOf s (lines_of [])) (sym (gives_place frame places stmt pair.temp pair.object pair.gives))
+          subst (λ s. IsCodeOf s (lines_of [])) (sym (gives_place frame places needed stmt pair.temp pair.object pair.gives))
           (by_lines (tac.ObjectPlace pair.temp pair.object) [] refl refl)
 
-      short : IsShort (select frame places stmt).role behind → IsCodeOf stmt (lines_of [])
+      short : IsShort (select frame places needed stmt).role behind → IsCodeOf stmt (lines_of [])
       short pair =
-          let set = sets_it frame places stmt pair.temp pair.word pair.sets in
+          let set = sets_it frame places needed stmt pair.temp pair.word pair.sets in
           subst (λ s. IsCodeOf s (lines_of [])) (sym set.is)
           (by_lines (tac.Const pair.temp set.value) [] refl refl)
 
   between_lies : (before : Role) (stmt : TacStmt) (behind : Role) → Lies stmt →
-      IsCodeOf stmt (between frame places before (select frame places stmt) behind)
+      IsCodeOf stmt (between frame places before (select frame places needed stmt) behind)
   between_lies before stmt behind h =
-      by (joins before (select frame places stmt).role) (joins (select frame places stmt).role behind) refl refl
+      by (joins before (select frame places needed stmt).role) (joins (select frame places needed stmt).role behind) refl refl
     where
-      by : (one two : Bool) → joins before (select frame places stmt).role ≡ one →
-          joins (select frame places stmt).role behind ≡ two →
-          IsCodeOf stmt (if one then as_one frame places before (select frame places stmt).role
-          else if two then lines_of [] else select frame places stmt)
+      by : (one two : Bool) → joins before (select frame places needed stmt).role ≡ one →
+          joins (select frame places needed stmt).role behind ≡ two →
+          IsCodeOf stmt (if one then as_one frame places before (select frame places needed stmt).role
+          else if two then lines_of [] else select frame places needed stmt)
       by true two e f = both_lie before stmt e
       by false true e f = none_lie stmt behind f
       by false false e f = h
 
   turn_lies : (before : Role) (stmts : List TacStmt) → Each Lies stmts → (b c : ℕ) →
-      HaveCode stmts (instrs_of ((in_turn (joined frame places before (map (select frame places) stmts))).lines b c))
+      HaveCode stmts (instrs_of ((in_turn (joined frame places before (map (select frame places needed) stmts))).lines b c))
   turn_lies before [] h b c = empty
   turn_lies before (stmt ∷ rest) h b c =
       let behind : Piece =
-      in_turn (joined frame places (select frame places stmt).role (map (select frame places) rest))
+      in_turn (joined frame places (select frame places needed stmt).role (map (select frame places needed) rest))
       in
-      let next : Role = role_first (map (select frame places) rest) in
+      let next : Role = role_first (map (select frame places needed) rest) in
       let own : List Line =
-      (between frame places before (select frame places stmt) next).lines (behind.size + b) (behind.size + c) in
+      (between frame places before (select frame places needed stmt) next).lines (behind.size + b) (behind.size + c) in
       subst (HaveCode (stmt ∷ rest)) (sym (map-append (λ line. line.instr) own (behind.lines b c)))
       ((between_lies before stmt next h.0).lies (behind.size + b) (behind.size + c) rest (instrs_of (behind.lines b c))
-      (turn_lies (select frame places stmt).role rest h.1 b c))
+      (turn_lies (select frame places needed stmt).role rest h.1 b c))
 
   row_lies : (stmts : List TacStmt) → Each Lies stmts → (b c : ℕ) →
-      HaveCode stmts (instrs_of ((select_all frame places stmts).lines b c))
+      HaveCode stmts (instrs_of ((select_all frame places needed stmts).lines b c))
   row_lies stmts h b c = turn_lies Other stmts h b c
 
   in_role : (stmt : TacStmt) (role : Role) (piece : Piece) → IsCodeOf stmt piece →
@@ -203,11 +203,11 @@ module _ (frame : FrameTree) (places : List Place) where
   -- an `If` has its own before each of its parts
   parts_lie : (cond : ℕ) (first second : List TacStmt) → Each Lies first → Each Lies second →
       IsCodeOf (emit.If cond first second)
-      (choosing frame places cond (select_all frame places first) (select_all frame places second))
+      (choosing frame places cond (select_all frame places needed first) (select_all frame places needed second))
   parts_lie cond first second hf hs = record {
     lies = λ b c rest more h.
-        let e : Piece = select_all frame places first in
-        let f : Piece = select_all frame places second in
+        let e : Piece = select_all frame places needed first in
+        let f : Piece = select_all frame places needed second in
         let test : List Line = plainly (choice frame places cond) in
         let over : List Line = past f.size in
         let n : ℕ = length over + (f.size + b) in
@@ -222,11 +222,11 @@ module _ (frame : FrameTree) (places : List Place) where
 
   -- or one without a first part has a branch before the second
   second_lies : (cond : ℕ) (second : List TacStmt) → Each Lies second →
-      IsCodeOf (emit.If cond [] second) (skipping frame places cond (select_all frame places second))
+      IsCodeOf (emit.If cond [] second) (skipping frame places cond (select_all frame places needed second))
   second_lies cond second hs = record {
     lies = λ b c rest more h.
         let test : List Line = plainly (choice frame places cond) in
-        let two : List Line = (select_all frame places second).lines b c in
+        let two : List Line = (select_all frame places needed second).lines b c in
         subst (HaveCode (emit.If cond [] second ∷ rest))
         (sym (ap (λ t. t ++ more) (map-append (λ line. line.instr) test two) ∙
         append_assoc (instrs_of test) (instrs_of two) more))
@@ -235,32 +235,32 @@ module _ (frame : FrameTree) (places : List Place) where
 
   if_lies : (cond : ℕ) (first second : List TacStmt) → Each Lies first → Each Lies second →
       IsCodeOf (roll-TacStmt (tac.If cond first second))
-      (fork frame places cond (map (select frame places) first) (map (select frame places) second))
+      (fork frame places cond (map (select frame places needed) first) (map (select frame places needed) second))
   if_lies cond first second hf hs =
-      subst (λ stmt. IsCodeOf stmt (fork frame places cond (map (select frame places) first) (map (select frame
-      places) second))) (rolled_if cond first second) (by (length (map (select frame places) first) == 0 &&
-      (select_all frame places second).size == 1) refl)
+      subst (λ stmt. IsCodeOf stmt (fork frame places cond (map (select frame places needed) first) (map (select frame
+      places needed) second))) (rolled_if cond first second) (by (length (map (select frame places needed) first) == 0 &&
+      (select_all frame places needed second).size == 1) refl)
     where
-      by : (found : Bool) → (length (map (select frame places) first) == 0 &&
-          (select_all frame places second).size == 1) ≡ found → IsCodeOf (emit.If cond first second) (if found
-          then skipping frame places cond (select_all frame places second)
-          else choosing frame places cond (select_all frame places first) (select_all frame places second))
+      by : (found : Bool) → (length (map (select frame places needed) first) == 0 &&
+          (select_all frame places needed second).size == 1) ≡ found → IsCodeOf (emit.If cond first second) (if found
+          then skipping frame places cond (select_all frame places needed second)
+          else choosing frame places cond (select_all frame places needed first) (select_all frame places needed second))
       by true is =
-          let none : first ≡ [] = is_empty first (sym (ap (λ n. n == 0) (length-map first (select frame places))) ∙
-          and_first (length (map (select frame places) first) == 0) _ is) in
+          let none : first ≡ [] = is_empty first (sym (ap (λ n. n == 0) (length-map first (select frame places needed))) ∙
+          and_first (length (map (select frame places needed) first) == 0) _ is) in
           subst (λ stmts. IsCodeOf (emit.If cond stmts second)
-          (skipping frame places cond (select_all frame places second))) (sym none) (second_lies cond second hs)
+          (skipping frame places cond (select_all frame places needed second))) (sym none) (second_lies cond second hs)
       by false is = parts_lie cond first second hf hs
 
   loop_lies : (head body next : List TacStmt) → Each Lies head → Each Lies body → Each Lies next →
       IsCodeOf (roll-TacStmt (tac.Loop head body next))
-      (cycle frame places (select_all frame places head) (select_all frame places body)
-      (select_all frame places next))
+      (cycle frame places (select_all frame places needed head) (select_all frame places needed body)
+      (select_all frame places needed next))
   loop_lies head body next hh hb hn = record {
     lies = λ b c rest more h.
-        let ph : Piece = select_all frame places head in
-        let pb : Piece = select_all frame places body in
-        let pn : Piece = select_all frame places next in
+        let ph : Piece = select_all frame places needed head in
+        let pb : Piece = select_all frame places needed body in
+        let pn : Piece = select_all frame places needed next in
         let lh : List Line = ph.lines (pb.size + suc pn.size) 0 in
         let lb : List Line = pb.lines (suc pn.size) 0 in
         let ln : List Line = pn.lines 1 0 in
@@ -279,9 +279,9 @@ module _ (frame : FrameTree) (places : List Place) where
           length-map lh (λ line. line.instr),
           length-map lb (λ line. line.instr),
           length-map ln (λ line. line.instr),
-          (row_is_sized frame places head).sized (pb.size + suc pn.size) 0,
-          (row_is_sized frame places body).sized (suc pn.size) 0,
-          (row_is_sized frame places next).sized 1 0,
+          (row_is_sized frame places needed head).sized (pb.size + suc pn.size) 0,
+          (row_is_sized frame places needed body).sized (suc pn.size) 0,
+          (row_is_sized frame places needed next).sized 1 0,
         ) in
         subst (λ s. HaveCode (s ∷ rest)
         ((loop_begins.instr ∷ instrs_of (lh ++ (lb ++ (ln ++ (last ∷ []))))) ++ more))
@@ -296,7 +296,7 @@ module _ (frame : FrameTree) (places : List Place) where
   }
 
   layer_lies : (layer : TacStmt-F TacStmt) → Inside Lies layer →
-      IsCodeOf (roll-TacStmt layer) (select_step frame places (map-TacStmt _ _ (select frame places) layer))
+      IsCodeOf (roll-TacStmt layer) (select_step frame places needed (map-TacStmt _ _ (select frame places needed) layer))
   layer_lies (tac.Const dest value) h =
       in_role (roll-TacStmt (tac.Const dest value)) (Sets dest (word_of_constant value)) _
       (by_instrs (tac.Const dest value) _ refl (loaded_straight frame places dest (word_of_constant value)))
@@ -335,14 +335,14 @@ module _ (frame : FrameTree) (places : List Place) where
 
   stmt_lies : (stmt : TacStmt) → Lies stmt
   stmt_lies = stmt_induction Lies (λ layer h.
-      subst (IsCodeOf (roll-TacStmt layer)) (sym (fold-roll-TacStmt Piece (select_step frame places) layer))
+      subst (IsCodeOf (roll-TacStmt layer)) (sym (fold-roll-TacStmt Piece (select_step frame places needed) layer))
       (layer_lies layer h))
 
 pub has_rounds : (f : TacFnTree) (places : List Place) (frame : FrameTree) →
     HasRounds f.body (code_of f places frame).instrs
 has_rounds f places frame =
     let in_lines : List Line = plainly (entrance frame places f.params) in
-    let body : List Line = (select_all frame places f.body).lines 0 0 in
+    let body : List Line = (select_all frame places needed f.body).lines 0 0 in
     let out_lines : List Line = plainly (closing frame places f.entry) in
     record {
       before = instrs_of in_lines;

@@ -63,7 +63,7 @@ module _ (T : Setting) (R : Running) (formed : IsWellFormed T.image) (inputs : A
   does = stmt_does wrapping here calls
 
   abbrev code : TacStmt → Code
-  code = select frame R.places
+  code = select frame R.places R.needed
 
   abbrev Followed : TacStmt → Type 0
   Followed stmt =
@@ -233,8 +233,8 @@ module _ (T : Setting) (R : Running) (formed : IsWellFormed T.image) (inputs : A
       read : IsRead (code stmt).role (code next).role → Row before (stmt ∷ next ∷ rest)
       read pair =
           let first : stmt ≡ roll-TacStmt (tac.ObjectPlace pair.temp pair.object) =
-          gives_place frame R.places stmt pair.temp pair.object pair.gives in
-          let second = loads_it frame R.places next pair.temp pair.loads in
+          gives_place frame R.places R.needed stmt pair.temp pair.object pair.gives in
+          let second = loads_it frame R.places R.needed next pair.temp pair.loads in
           two_follow before stmt next rest (tac.ObjectPlace pair.temp pair.object)
           (tac.Load pair.temp pair.temp second.pointer)
           (straightly frame R.places (object_read frame R.places pair.temp pair.object))
@@ -246,8 +246,8 @@ module _ (T : Setting) (R : Running) (formed : IsWellFormed T.image) (inputs : A
 
       short : IsShort (code stmt).role (code next).role → Row before (stmt ∷ next ∷ rest)
       short pair =
-          let first = sets_it frame R.places stmt pair.temp pair.word pair.sets in
-          let second = operates_it frame R.places next pair.temp pair.left pair.op pair.operates in
+          let first = sets_it frame R.places R.needed stmt pair.temp pair.word pair.sets in
+          let second = operates_it frame R.places R.needed next pair.temp pair.left pair.op pair.operates in
           let word_is : pair.word ≡ word_of_constant first.value = sym first.word_is in
           two_follow before stmt next rest (tac.Const pair.temp first.value)
           (tac.Op pair.temp pair.op pair.left (Some pair.temp))
@@ -297,9 +297,9 @@ module _ (T : Setting) (R : Running) (formed : IsWellFormed T.image) (inputs : A
   abbrev Shape : TacStmt-F TacStmt → Type 0
   Shape layer =
       PassesHere tests layer → PassesAll tests (roll-TacStmt layer) →
-      (select_step frame R.places (map-TacStmt _ _ code layer)).size ≤ T.turn_pays →
+      (select_step frame R.places R.needed (map-TacStmt _ _ code layer)).size ≤ T.turn_pays →
       Follows T R (code_step wrapping here calls (map-TacStmt _ _ does layer))
-      (select_step frame R.places (map-TacStmt _ _ code layer)) (trail_step (map-TacStmt _ _ trail layer))
+      (select_step frame R.places R.needed (map-TacStmt _ _ code layer)) (trail_step (map-TacStmt _ _ trail layer))
 
   -- shut in a record: the kernel compares clauses' types, and would open an abbreviation there
   record Level (layer : TacStmt-F TacStmt) : Type 0 where
@@ -389,7 +389,7 @@ module _ (T : Setting) (R : Running) (formed : IsWellFormed T.image) (inputs : A
       Shape (tac.If cond first second)
   if_level cond first second each each' h all few =
       let pass = choice_passes tests cond first second all in
-      let least = parts_least frame R.places cond (map code first) (map code second) in
+      let least = parts_least frame R.places R.needed cond (map code first) (map code second) in
       fork_follows T R formed inputs cells nodes is placed gapless cond (all_do (map does first)) (all_do (map does
       second)) (map code first) (map code second) (map trail first) (map trail second)
       (row_of first each pass.0 (omega (arith, few, least.0))) (row_of second each' pass.1 (omega (arith, few, least.1)))
@@ -435,8 +435,8 @@ module _ (T : Setting) (R : Running) (formed : IsWellFormed T.image) (inputs : A
 
   from_level : (layer : TacStmt-F TacStmt) → Level layer → Followed (roll-TacStmt layer)
   from_level layer l pass few =
-      let c : code (roll-TacStmt layer) ≡ select_step frame R.places (map-TacStmt _ _ code layer) =
-      fold-roll-TacStmt Code (select_step frame R.places) layer in
+      let c : code (roll-TacStmt layer) ≡ select_step frame R.places R.needed (map-TacStmt _ _ code layer) =
+      fold-roll-TacStmt Code (select_step frame R.places R.needed) layer in
       let d : does (roll-TacStmt layer) ≡ code_step wrapping here calls (map-TacStmt _ _ does layer) =
       fold-roll-TacStmt Codes (code_step wrapping here calls) layer in
       let t : trail (roll-TacStmt layer) ≡ trail_step (map-TacStmt _ _ trail layer) =
@@ -446,16 +446,16 @@ module _ (T : Setting) (R : Running) (formed : IsWellFormed T.image) (inputs : A
       layer)))
       (sym c)
       (subst (λ t. Follows T R (code_step wrapping here calls (map-TacStmt _ _ does layer))
-      (select_step frame R.places (map-TacStmt _ _ code layer)) t) (sym t)
+      (select_step frame R.places R.needed (map-TacStmt _ _ code layer)) t) (sym t)
       (l.holds (passes_here tests layer pass) pass (subst (λ c. c.size ≤ T.turn_pays) c few))))
 
   pub stmt_follows : (stmt : TacStmt) → Followed stmt
   stmt_follows = stmt_induction Followed (λ layer inner. from_level layer (level layer inner))
 
   -- statements in order
-  pub body_follows : (stmts : List TacStmt) → AllPass tests stmts → (select_all frame R.places
+  pub body_follows : (stmts : List TacStmt) → AllPass tests stmts → (select_all frame R.places R.needed
       stmts).size ≤ T.turn_pays →
-      Follows T R (code_does wrapping here calls stmts) (select_all frame R.places stmts) (row (map trail stmts))
+      Follows T R (code_does wrapping here calls stmts) (select_all frame R.places R.needed stmts) (row (map trail stmts))
   body_follows stmts pass few = row_of stmts (every stmts) pass few
     where
       every : (stmts : List TacStmt) → Each Followed stmts

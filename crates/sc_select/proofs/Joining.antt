@@ -1,5 +1,7 @@
 -- Pieces between others: what holds of each piece of statements holds of all of them in order, and which statements are
 -- one piece.
+use Rattle.sc_select.specs.Prelude.{object_store, role_of_store}
+use Rattle.sc_select.specs.declared.roles.Role.TheVariants.{Stores}
 use Rattle.sc_select.proofs.Common.{Bool, Each, FrameTree, List, Loads, None, Operates, Option, Other, Piece, Place}
 use Rattle.sc_select.proofs.Common.{Places, Role, Sets, ShortForm, Some, TacOp, TacStmt, TacStmt-F, [], and_first}
 use Rattle.sc_select.proofs.Common.{and_rest, ap, ap₂, arith, as_one, between, choice, choosing, drop, ending_past}
@@ -18,6 +20,7 @@ none_behind (Places temp object) = refl
 none_behind (Loads temp) = refl
 none_behind (Sets temp word) = refl
 none_behind (Operates temp left o) = refl
+none_behind (Stores temp value) = refl
 none_behind Other = refl
 
 pub none_before : (role : Role) → joins Other role ≡ false
@@ -26,6 +29,7 @@ none_before role = refl
 -- the second of two statements that are one piece is no first one
 pub last_of_two : (first second behind : Role) → joins first second ≡ true → joins second behind ≡ false
 last_of_two (Places temp object) (Loads other) behind h = refl
+last_of_two (Places temp object) (Stores other value) behind h = refl
 last_of_two (Sets temp word) (Operates other left o) behind h = refl
 last_of_two (Places temp object) (Places other place) behind h = cc h
 last_of_two (Places temp object) (Sets other word) behind h = cc h
@@ -34,8 +38,10 @@ last_of_two (Places temp object) Other behind h = cc h
 last_of_two (Sets temp word) (Places other place) behind h = cc h
 last_of_two (Sets temp word) (Loads other) behind h = cc h
 last_of_two (Sets temp word) (Sets other value) behind h = cc h
+last_of_two (Sets temp word) (Stores other value) behind h = cc h
 last_of_two (Sets temp word) Other behind h = cc h
 last_of_two (Loads temp) second behind h = cc h
+last_of_two (Stores temp value) second behind h = cc h
 last_of_two (Operates temp left o) second behind h = cc h
 last_of_two Other second behind h = cc h
 
@@ -45,6 +51,14 @@ pub record IsRead (first second : Role) : Type 0 where
   pub object : ℕ
   pub gives : first ≡ Places temp object
   pub loads : second ≡ Loads temp
+
+-- two that store in a variable
+pub record IsStored (first second : Role) : Type 0 where
+  pub temp : ℕ
+  pub object : ℕ
+  pub value : ℕ
+  pub gives : first ≡ Places temp object
+  pub stores : second ≡ Stores temp value
 
 -- two that apply an operator to a temporary and a constant
 pub record IsShort (first second : Role) : Type 0 where
@@ -77,15 +91,23 @@ short_by temp other word left o h =
       form_is = found.1;
     }
 
--- two statements that are one piece are of either kind
-pub which_pair : (first second : Role) → joins first second ≡ true → IsRead first second ⊎ IsShort first second
+-- two statements that are one piece are of one of these kinds
+pub which_pair : (first second : Role) → joins first second ≡ true →
+    IsRead first second ⊎ (IsStored first second ⊎ IsShort first second)
 which_pair (Places temp object) (Loads other) h = inl (record {
   temp = temp;
   object = object;
   gives = refl;
   loads = ap Loads (sym (eqb-true temp other h));
 })
-which_pair (Sets temp word) (Operates other left o) h = inr (short_by temp other word left o h)
+which_pair (Places temp object) (Stores other value) h = inr (inl (record {
+  temp = temp;
+  object = object;
+  value = value;
+  gives = refl;
+  stores = ap (λ t. Stores t value) (sym (eqb-true temp other h));
+}))
+which_pair (Sets temp word) (Operates other left o) h = inr (inr (short_by temp other word left o h))
 which_pair (Places temp object) (Places other place) h = cc h
 which_pair (Places temp object) (Sets other word) h = cc h
 which_pair (Places temp object) (Operates other left o) h = cc h
@@ -93,9 +115,11 @@ which_pair (Places temp object) Other h = cc h
 which_pair (Sets temp word) (Places other place) h = cc h
 which_pair (Sets temp word) (Loads other) h = cc h
 which_pair (Sets temp word) (Sets other value) h = cc h
+which_pair (Sets temp word) (Stores other value) h = cc h
 which_pair (Sets temp word) Other h = cc h
 which_pair (Loads temp) second h = cc h
 which_pair (Operates temp left o) second h = cc h
+which_pair (Stores temp value) second h = cc h
 which_pair Other second h = cc h
 
 -- A CHOICE
@@ -107,7 +131,7 @@ pub past_few : (n : ℕ) → length (past n) ≤ 1
 past_few zero = omega arith
 past_few (suc n) = omega arith
 
-module _ (frame : FrameTree) (places : List Place) where
+module _ (frame : FrameTree) (places : List Place) (needed : ℕ → Bool) where
   -- what holds of the branch, of a jump over lines, and of pieces one behind the other holds of a choice
   pub fork_keeps : (P : Piece → Type 0) → P nothing → ((lines : ℕ) → P (straight (jump_over lines ∷ []))) →
       ((e f : Piece) → P e → P f → P (followed e f)) → (cond : ℕ) (first second : List Piece) →
@@ -158,13 +182,13 @@ module _ (frame : FrameTree) (places : List Place) where
       by false = refl
 
   abbrev role_of : TacStmt → Role
-  role_of stmt = (select frame places stmt).role
+  role_of stmt = (select frame places needed stmt).role
 
   abbrev layer_role : TacStmt-F TacStmt → Role
-  layer_role layer = (select_step frame places (map-TacStmt _ _ (select frame places) layer)).role
+  layer_role layer = (select_step frame places needed (map-TacStmt _ _ (select frame places needed) layer)).role
 
   role_is : (layer : TacStmt-F TacStmt) → role_of (roll-TacStmt layer) ≡ layer_role layer
-  role_is layer = ap (λ p. p.role) (fold-roll-TacStmt Piece (select_step frame places) layer)
+  role_is layer = ap (λ p. p.role) (fold-roll-TacStmt Piece (select_step frame places needed) layer)
 
   -- which statement gives the place of a variable
   abbrev Gives : TacStmt → Type 0
@@ -186,9 +210,18 @@ module _ (frame : FrameTree) (places : List Place) where
       by true = inr refl
       by false = inl refl
 
-  other_than : (role found : Role) (dest left : ℕ) (o : TacOp) → (role ≡ Other) ⊎ (role ≡ Operates dest left o) →
-      role ≡ found → (Other ≡ found → ⊥) → (Operates dest left o ≡ found → ⊥) → ⊥
-  other_than role found dest left o is h none some =
+  store_role : (place value : ℕ) → (role_of_store needed place value ≡ Other) ⊎
+      (role_of_store needed place value ≡ Stores place value)
+  store_role place value = by (needed place)
+    where
+      by : (b : Bool) → ((if b then Other else Stores place value) ≡ Other) ⊎
+          ((if b then Other else Stores place value) ≡ Stores place value)
+      by true = inl refl
+      by false = inr refl
+
+  other_than : (role its found : Role) → (role ≡ Other) ⊎ (role ≡ its) → role ≡ found → (Other ≡ found → ⊥) →
+      (its ≡ found → ⊥) → ⊥
+  other_than role its found is h none some =
       ⊎_elim (λ e. none (sym e ∙ h)) (λ e. some (sym e ∙ h)) is
 
   layer_gives : (layer : TacStmt-F TacStmt) (temp object : ℕ) → layer_role layer ≡ Places temp object →
@@ -200,9 +233,11 @@ module _ (frame : FrameTree) (places : List Place) where
   layer_gives (tac.Load dest place pointer) temp object h =
       absurd (of_load (dest == place) dest temp object h)
   layer_gives (tac.Op dest o left right) temp object h =
-      absurd (other_than _ _ dest left o (operation_role dest o left right) h (λ e. cc e) (λ e. cc e))
+      absurd (other_than _ _ _ (operation_role dest o left right) h (λ e. cc e) (λ e. cc e))
+  layer_gives (tac.Store place value) temp object h =
+      absurd (other_than _ _ _ (store_role place value) h (λ e. cc e) (λ e. cc e))
   layer_gives (tac.If cond first second) temp object h =
-      cc (sym (fork_role cond (map (select frame places) first) (map (select frame places) second)) ∙ h)
+      cc (sym (fork_role cond (map (select frame places needed) first) (map (select frame places needed) second)) ∙ h)
   layer_gives _ temp object h = cc h
 
   pub gives_place : (stmt : TacStmt) → Gives stmt
@@ -226,10 +261,12 @@ module _ (frame : FrameTree) (places : List Place) where
           record { pointer = pointer; is = ap₂ (λ t u. roll-TacStmt (tac.Load t u pointer)) one two }
       by false e h = cc h
   layer_loads (tac.Op dest o left right) temp h =
-      absurd (other_than _ _ dest left o (operation_role dest o left right) h (λ e. cc e) (λ e. cc e))
+      absurd (other_than _ _ _ (operation_role dest o left right) h (λ e. cc e) (λ e. cc e))
+  layer_loads (tac.Store place value) temp h =
+      absurd (other_than _ _ _ (store_role place value) h (λ e. cc e) (λ e. cc e))
   layer_loads (tac.If cond first second) temp h =
       let other : Other ≡ Loads temp =
-      sym (fork_role cond (map (select frame places) first) (map (select frame places) second)) ∙ h in cc other
+      sym (fork_role cond (map (select frame places needed) first) (map (select frame places needed) second)) ∙ h in cc other
   layer_loads _ temp h = cc h
 
   pub loads_it : (stmt : TacStmt) (temp : ℕ) → role_of stmt ≡ Loads temp → IsLoad stmt temp
@@ -249,15 +286,17 @@ module _ (frame : FrameTree) (places : List Place) where
       let two : word_of_constant value ≡ word = cc h in
       record { value = value; is = ap (λ t. roll-TacStmt (tac.Const t value)) one; word_is = two }
   layer_sets (tac.Op dest o left right) temp word h =
-      absurd (other_than _ _ dest left o (operation_role dest o left right) h (λ e. cc e) (λ e. cc e))
+      absurd (other_than _ _ _ (operation_role dest o left right) h (λ e. cc e) (λ e. cc e))
   layer_sets (tac.Load dest place pointer) temp word h = absurd (by (dest == place) h)
     where
       by : (b : Bool) → (if b then Loads dest else Other) ≡ Sets temp word → ⊥
       by true h = cc h
       by false h = cc h
+  layer_sets (tac.Store place value) temp word h =
+      absurd (other_than _ _ _ (store_role place value) h (λ e. cc e) (λ e. cc e))
   layer_sets (tac.If cond first second) temp word h =
       let other : Other ≡ Sets temp word =
-      sym (fork_role cond (map (select frame places) first) (map (select frame places) second)) ∙ h in cc other
+      sym (fork_role cond (map (select frame places needed) first) (map (select frame places needed) second)) ∙ h in cc other
   layer_sets _ temp word h = cc h
 
   pub sets_it : (stmt : TacStmt) (temp word : ℕ) → role_of stmt ≡ Sets temp word → IsSet stmt temp word
@@ -300,9 +339,11 @@ module _ (frame : FrameTree) (places : List Place) where
       by : (b : Bool) → (if b then Loads dest else Other) ≡ Operates temp left o → ⊥
       by true h = cc h
       by false h = cc h
+  layer_operates (tac.Store place value) temp left o h =
+      absurd (other_than _ _ _ (store_role place value) h (λ e. cc e) (λ e. cc e))
   layer_operates (tac.If cond first second) temp left o h =
       let other : Other ≡ Operates temp left o =
-      sym (fork_role cond (map (select frame places) first) (map (select frame places) second)) ∙ h in cc other
+      sym (fork_role cond (map (select frame places needed) first) (map (select frame places needed) second)) ∙ h in cc other
   layer_operates _ temp left o h = cc h
 
   pub operates_it : (stmt : TacStmt) (temp left : ℕ) (o : TacOp) → role_of stmt ≡ Operates temp left o →
@@ -312,32 +353,66 @@ module _ (frame : FrameTree) (places : List Place) where
       (λ stmt. (temp left : ℕ) (o : TacOp) → role_of stmt ≡ Operates temp left o → IsOperation stmt temp left o)
       (λ layer inside temp left o h. layer_operates layer temp left o (sym (role_is layer) ∙ h))
 
+  -- which stores at a place that only such stores read
+  pub record IsStore (stmt : TacStmt) (place value : ℕ) : Type 0 where
+    pub is : stmt ≡ roll-TacStmt (tac.Store place value)
+    pub lone : needed place ≡ false
+
+  layer_stores : (layer : TacStmt-F TacStmt) (place value : ℕ) → layer_role layer ≡ Stores place value →
+      IsStore (roll-TacStmt layer) place value
+  layer_stores (tac.Store at from) place value h = by (needed at) refl h
+    where
+      by : (b : Bool) → needed at ≡ b → (if b then Other else Stores at from) ≡ Stores place value →
+          IsStore (roll-TacStmt (tac.Store at from)) place value
+      by true e h = cc h
+      by false e h =
+          let one : at ≡ place = cc h in
+          let two : from ≡ value = cc h in
+          record { is = ap₂ (λ p v. roll-TacStmt (tac.Store p v)) one two; lone = sym (ap needed one) ∙ e }
+  layer_stores (tac.Op dest o left right) place value h =
+      absurd (other_than _ _ _ (operation_role dest o left right) h (λ e. cc e) (λ e. cc e))
+  layer_stores (tac.Load dest from pointer) place value h = absurd (by (dest == from) h)
+    where
+      by : (b : Bool) → (if b then Loads dest else Other) ≡ Stores place value → ⊥
+      by true h = cc h
+      by false h = cc h
+  layer_stores (tac.If cond first second) place value h =
+      let other : Other ≡ Stores place value =
+      sym (fork_role cond (map (select frame places needed) first) (map (select frame places needed) second)) ∙ h in
+      cc other
+  layer_stores _ place value h = cc h
+
+  pub stores_it : (stmt : TacStmt) (place value : ℕ) → role_of stmt ≡ Stores place value → IsStore stmt place value
+  stores_it =
+      stmt_induction (λ stmt. (place value : ℕ) → role_of stmt ≡ Stores place value → IsStore stmt place value)
+      (λ layer inside place value h. layer_stores layer place value (sym (role_is layer) ∙ h))
+
   -- the role of the first of those from a number on
   pub role_found : (stmts : List TacStmt) (i : ℕ) (stmt : TacStmt) → i < length stmts → stmt ≡ get_or stmts i stmt →
-      (select frame places stmt).role ≡ role_first (map (select frame places) (drop i stmts))
+      (select frame places needed stmt).role ≡ role_first (map (select frame places needed) (drop i stmts))
   role_found [] i stmt h is = absurd (omega (arith, h))
   role_found (first ∷ rest) zero stmt h is = ap role_of is
   role_found (first ∷ rest) (suc i) stmt h is = role_found rest i stmt (omega (arith, h)) is
 
   pub role_missing : (stmts : List TacStmt) (i : ℕ) → length stmts ≤ i →
-      Other ≡ role_first (map (select frame places) (drop i stmts))
+      Other ≡ role_first (map (select frame places needed) (drop i stmts))
   role_missing [] zero h = refl
   role_missing [] (suc i) h = refl
   role_missing (first ∷ rest) zero h = absurd (omega (arith, h))
   role_missing (first ∷ rest) (suc i) h = role_missing rest i (omega (arith, h))
 
   pub drop_map : (stmts : List TacStmt) (i : ℕ) →
-      drop i (map (select frame places) stmts) ≡ map (select frame places) (drop i stmts)
+      drop i (map (select frame places needed) stmts) ≡ map (select frame places needed) (drop i stmts)
   drop_map stmts zero = refl
   drop_map [] (suc i) = refl
   drop_map (stmt ∷ rest) (suc i) = drop_map rest i
 
   pub before_found : (stmts : List TacStmt) (i : ℕ) → (i ≡ 0 → ⊥) →
-      role_first (map (select frame places) (drop (i - 1) stmts)) ≡ role_before (map (select frame places) stmts) i
+      role_first (map (select frame places needed) (drop (i - 1) stmts)) ≡ role_before (map (select frame places needed) stmts) i
   before_found stmts zero h = absurd (h refl)
   before_found stmts (suc i) h =
       let same : suc i - 1 ≡ i = omega arith in
-      ap (λ n. role_first (map (select frame places) (drop n stmts))) same ∙
+      ap (λ n. role_first (map (select frame places needed) (drop n stmts))) same ∙
       ap role_first (sym (drop_map stmts i))
 
   -- PIECES
@@ -345,16 +420,24 @@ module _ (frame : FrameTree) (places : List Place) where
   module _ (P : Piece → Type 0) (none : P nothing)
       (read : (temp object : ℕ) → P (straightly frame places (object_read frame places temp object)))
       (short : (temp left : ℕ) (o : TacOp) (word : ℕ) →
-      P (straightly frame places (short_operation frame places temp left (short_form o word)))) where
+      P (straightly frame places (short_operation frame places temp left (short_form o word))))
+      (store : (value object : ℕ) → P (straightly frame places (object_store frame places value object))) where
     as_one_keeps : (first second : Role) → P (as_one frame places first second)
-    as_one_keeps (Places temp object) second = read temp object
+    as_one_keeps (Places temp object) (Loads other) = read temp object
+    as_one_keeps (Places temp object) (Stores other value) = store value object
+    as_one_keeps (Places temp object) (Places other place) = none
+    as_one_keeps (Places temp object) (Sets other value) = none
+    as_one_keeps (Places temp object) (Operates other left o) = none
+    as_one_keeps (Places temp object) Other = none
     as_one_keeps (Sets temp word) (Operates other left o) = short temp left o word
     as_one_keeps (Sets temp word) (Places other object) = none
     as_one_keeps (Sets temp word) (Loads other) = none
     as_one_keeps (Sets temp word) (Sets other value) = none
+    as_one_keeps (Sets temp word) (Stores other value) = none
     as_one_keeps (Sets temp word) Other = none
     as_one_keeps (Loads temp) second = none
     as_one_keeps (Operates temp left o) second = none
+    as_one_keeps (Stores temp value) second = none
     as_one_keeps Other second = none
 
     pub between_keeps : (before behind : Role) (piece : Piece) → P piece → P (between frame places before piece behind)
@@ -377,21 +460,21 @@ module _ (frame : FrameTree) (places : List Place) where
       turn_keeps (piece ∷ pieces) zero h = both piece (in_turn pieces) h.0 (turn_keeps pieces 0 h.1)
       turn_keeps (piece ∷ pieces) (suc i) h = turn_keeps pieces i h.1
 
-      selected : (stmts : List TacStmt) → Each (λ stmt. P (select frame places stmt)) stmts →
-          Each P (map (select frame places) stmts)
+      selected : (stmts : List TacStmt) → Each (λ stmt. P (select frame places needed stmt)) stmts →
+          Each P (map (select frame places needed) stmts)
       selected [] h = tt
       selected (stmt ∷ rest) h = (h.0, selected rest h.1)
 
       -- of those from a number on
-      pub from_keeps : (stmts : List TacStmt) → Each (λ stmt. P (select frame places stmt)) stmts → (i : ℕ) →
-          P (in_turn (drop i (joined frame places Other (map (select frame places) stmts))))
+      pub from_keeps : (stmts : List TacStmt) → Each (λ stmt. P (select frame places needed stmt)) stmts → (i : ℕ) →
+          P (in_turn (drop i (joined frame places Other (map (select frame places needed) stmts))))
       from_keeps stmts h i =
-          turn_keeps (joined frame places Other (map (select frame places) stmts)) i
-          (joined_keeps Other (map (select frame places) stmts) (selected stmts h))
+          turn_keeps (joined frame places Other (map (select frame places needed) stmts)) i
+          (joined_keeps Other (map (select frame places needed) stmts) (selected stmts h))
 
       -- of all
-      pub order_keeps : (stmts : List TacStmt) → Each (λ stmt. P (select frame places stmt)) stmts →
-          P (in_order frame places (map (select frame places) stmts))
+      pub order_keeps : (stmts : List TacStmt) → Each (λ stmt. P (select frame places needed stmt)) stmts →
+          P (in_order frame places (map (select frame places needed) stmts))
       order_keeps stmts h = from_keeps stmts h 0
 
   -- NUMBERS

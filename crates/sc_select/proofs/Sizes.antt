@@ -21,7 +21,7 @@ followed_sized e f he hf = record {
       );
 }
 
-module _ (frame : FrameTree) (places : List Place) where
+module _ (frame : FrameTree) (places : List Place) (needed : ℕ → Bool) where
   straight_sized : (lines : List Line) → IsSized (straight lines)
   straight_sized lines = record { sized = λ b c. refl }
 
@@ -43,21 +43,21 @@ module _ (frame : FrameTree) (places : List Place) where
   }
 
   abbrev Sized : TacStmt → Type 0
-  Sized stmt = IsSized (select frame places stmt)
+  Sized stmt = IsSized (select frame places needed stmt)
 
   -- also of those from a number on
   pub from_sized : (stmts : List TacStmt) → Each Sized stmts → (i : ℕ) →
-      IsSized (in_turn (drop i (joined frame places Other (map (select frame places) stmts))))
+      IsSized (in_turn (drop i (joined frame places Other (map (select frame places needed) stmts))))
   from_sized stmts h i =
-      from_keeps frame places IsSized (record { sized = λ b c. refl }) (λ t o. record { sized = λ b c. refl })
-      (λ t l o w. record { sized = λ b c. refl }) followed_sized stmts h i
+      from_keeps frame places needed IsSized (record { sized = λ b c. refl }) (λ t o. record { sized = λ b c. refl })
+      (λ t l o w. record { sized = λ b c. refl }) (λ v o. record { sized = λ b c. refl }) followed_sized stmts h i
 
   row_sized : (stmts : List TacStmt) → Each Sized stmts →
-      IsSized (in_order frame places (map (select frame places) stmts))
+      IsSized (in_order frame places (map (select frame places needed) stmts))
   row_sized stmts h = from_sized stmts h 0
 
   layer_sized : (layer : TacStmt-F TacStmt) → Inside Sized layer →
-      IsSized (select_step frame places (map-TacStmt _ _ (select frame places) layer))
+      IsSized (select_step frame places needed (map-TacStmt _ _ (select frame places needed) layer))
   layer_sized (tac.Const dest value) h = record { sized = λ b c. refl }
   layer_sized (tac.Copy dest from) h = record { sized = λ b c. refl }
   layer_sized (tac.Op dest op left right) h = record { sized = λ b c. refl }
@@ -66,7 +66,7 @@ module _ (frame : FrameTree) (places : List Place) where
   layer_sized (tac.Load dest place pointer) h = record { sized = λ b c. refl }
   layer_sized (tac.Store place value) h = record { sized = λ b c. refl }
   layer_sized (tac.If cond first second) h =
-      fork_keeps frame places IsSized (straight_sized []) (λ lines. straight_sized (jump_over lines ∷ [])) followed_sized
+      fork_keeps frame places needed IsSized (straight_sized []) (λ lines. straight_sized (jump_over lines ∷ [])) followed_sized
       cond _ _ (straight_sized (plainly (choice frame places cond))) (row_sized first h.0) (row_sized second h.1)
   layer_sized (tac.Loop head body next) h =
       cycle_sized _ _ _ (row_sized head h.0) (row_sized body h.1) (row_sized next h.2)
@@ -78,13 +78,13 @@ module _ (frame : FrameTree) (places : List Place) where
   layer_sized (tac.Output value) h = record { sized = λ b c. refl }
   layer_sized (tac.Return value) h = record { sized = λ b c. refl }
 
-  pub stmt_sized : (stmt : TacStmt) → IsSized (select frame places stmt)
+  pub stmt_sized : (stmt : TacStmt) → IsSized (select frame places needed stmt)
   stmt_sized = stmt_induction Sized (λ layer h.
-      subst IsSized (sym (fold-roll-TacStmt Piece (select_step frame places) layer)) (layer_sized layer h))
+      subst IsSized (sym (fold-roll-TacStmt Piece (select_step frame places needed) layer)) (layer_sized layer h))
 
   pub row_from_sized : (stmts : List TacStmt) (i : ℕ) →
-      IsSized (in_turn (drop i (joined frame places Other (map (select frame places) stmts))))
+      IsSized (in_turn (drop i (joined frame places Other (map (select frame places needed) stmts))))
   row_from_sized stmts i = from_sized stmts (everywhere Sized stmt_sized stmts) i
 
-  pub row_is_sized : (stmts : List TacStmt) → IsSized (select_all frame places stmts)
+  pub row_is_sized : (stmts : List TacStmt) → IsSized (select_all frame places needed stmts)
   row_is_sized stmts = row_sized stmts (everywhere Sized stmt_sized stmts)

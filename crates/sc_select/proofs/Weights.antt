@@ -1,4 +1,6 @@
 -- Code has no more instructions than its function weighs.
+use Rattle.sc_select.specs.Needs.{needed_in}
+use Rattle.sc_select.specs.Prelude.{object_store}
 use Rattle.sc_select.proofs.Common.{Add, Bne, Bool, Branch, Div, Each, Entry as EntryOf, Fits, FrameTree, Function}
 use Rattle.sc_select.proofs.Common.{Inside, Instr, IsFunction, Jal, Jalr, Line, List, Load, Loads, Lui, Lw, Mul, None}
 use Rattle.sc_select.proofs.Common.{Op, Operates, Option, Other, Piece, Place, Places, Register, Role, Sets, ShortForm}
@@ -21,7 +23,7 @@ use Rattle.sc_select.proofs.Common.{word_of_constant, zero, ℕ, ⊎_elim, ◌&&
 use Rattle.sc_select.proofs.Common.{◌≡◌, ◌≤◌}
 use Rattle.sc_core.specs.Prelude.{total}
 use Rattle.sc_tac.specs.Prelude.{everywhere}
-use Rattle.sc_select.proofs.Joining.{IsRead, IsShort, loads_it, operates_it, past_few, which_pair}
+use Rattle.sc_select.proofs.Joining.{IsRead, IsShort, IsStored, stores_it, loads_it, operates_it, past_few, which_pair}
 use Rattle.std.specs.Bool.{beq}
 use Rattle.sc_base.specs.declared.op.BinaryOp.{BinaryOp}
 use Rattle.sc_base.specs.declared.op.BinaryOp.TheVariants as op
@@ -152,7 +154,7 @@ module _ (frame : FrameTree) where
       )
   copied_few None from = omega arith
 
-module _ (frame : FrameTree) (places : List Place) where
+module _ (frame : FrameTree) (places : List Place) (needed : ℕ → Bool) where
   second_few : (right : Option ℕ) (two : Bool) → beq (is_some right) two ≡ true →
       length (take_second frame places right) ≤ (if two then 3 else 0)
   second_few None true h = omega arith
@@ -234,6 +236,16 @@ module _ (frame : FrameTree) (places : List Place) where
         length-append (load_word rd (object_offset frame object)) (keep frame places dest),
         load_one rd (object_offset frame object),
         kept_few frame (slice_get places dest),
+      )
+
+  object_store_few : (value object : ℕ) → length (object_store frame places value object) ≤ 6
+  object_store_few value object =
+      let rs : ℕ = operand frame places 6 value in
+      omega (
+        arith,
+        length-append (take frame places 6 value) (store_word rs (object_offset frame object)),
+        taken_few frame 6 (slice_get places value),
+        store_one rs (object_offset frame object),
       )
 
   global_few : (dest global : ℕ) → length (place_of_global frame places dest global) ≤ 6
@@ -363,7 +375,7 @@ module _ (frame : FrameTree) (places : List Place) where
   has = fold-TacStmt Bool (with_parts has_operands)
 
   abbrev Small : TacStmt → Type 0
-  Small stmt = has stmt ≡ true → (select frame places stmt).size ≤ stmt_weight stmt
+  Small stmt = has stmt ≡ true → (select frame places needed stmt).size ≤ stmt_weight stmt
 
   -- an operator that has a short form weighs more than that
   short_weighs : (o : TacOp) (word : ℕ) (form : ShortForm) → short_form o word ≡ Some form → 7 ≤ op_weight o
@@ -377,33 +389,47 @@ module _ (frame : FrameTree) (places : List Place) where
   short_weighs (tacop.PointerCompare o) word form h = cc h
 
   -- the code of two statements that are one piece is no larger than the second weighs
-  both_few : (before : Role) (stmt : TacStmt) → joins before (select frame places stmt).role ≡ true →
-      (as_one frame places before (select frame places stmt).role).size ≤ stmt_weight stmt
-  both_few before stmt h = ⊎_elim read short (which_pair before (select frame places stmt).role h)
+  both_few : (before : Role) (stmt : TacStmt) → joins before (select frame places needed stmt).role ≡ true →
+      (as_one frame places before (select frame places needed stmt).role).size ≤ stmt_weight stmt
+  both_few before stmt h =
+      ⊎_elim read (⊎_elim stored short) (which_pair before (select frame places needed stmt).role h)
     where
-      read : IsRead before (select frame places stmt).role →
-          (as_one frame places before (select frame places stmt).role).size ≤ stmt_weight stmt
+      read : IsRead before (select frame places needed stmt).role →
+          (as_one frame places before (select frame places needed stmt).role).size ≤ stmt_weight stmt
       read pair =
-          let load = loads_it frame places stmt pair.temp pair.loads in
+          let load = loads_it frame places needed stmt pair.temp pair.loads in
           let heavy : stmt_weight stmt ≡ 7 =
           ap stmt_weight load.is ∙
           fold-roll-TacStmt ℕ weight_step (tac.Load pair.temp pair.temp load.pointer) in
-          let code : (as_one frame places before (select frame places stmt).role).size ≡
+          let code : (as_one frame places before (select frame places needed stmt).role).size ≡
           (straightly frame places (object_read frame places pair.temp pair.object)).size =
-          ap (λ r. (as_one frame places r (select frame places stmt).role).size) pair.gives in
+          ap₂ (λ r s. (as_one frame places r s).size) pair.gives pair.loads in
           let few : (straightly frame places (object_read frame places pair.temp pair.object)).size ≤ 6 =
           straightly_few _ 6 (object_read_few pair.temp pair.object) in
           omega (arith, heavy, code, few)
 
-      short : IsShort before (select frame places stmt).role →
-          (as_one frame places before (select frame places stmt).role).size ≤ stmt_weight stmt
+      stored : IsStored before (select frame places needed stmt).role →
+          (as_one frame places before (select frame places needed stmt).role).size ≤ stmt_weight stmt
+      stored pair =
+          let store = stores_it frame places needed stmt pair.temp pair.value pair.stores in
+          let heavy : stmt_weight stmt ≡ 7 =
+          ap stmt_weight store.is ∙ fold-roll-TacStmt ℕ weight_step (tac.Store pair.temp pair.value) in
+          let code : (as_one frame places before (select frame places needed stmt).role).size ≡
+          (straightly frame places (object_store frame places pair.value pair.object)).size =
+          ap₂ (λ r s. (as_one frame places r s).size) pair.gives pair.stores in
+          let few : (straightly frame places (object_store frame places pair.value pair.object)).size ≤ 6 =
+          straightly_few _ 6 (object_store_few pair.value pair.object) in
+          omega (arith, heavy, code, few)
+
+      short : IsShort before (select frame places needed stmt).role →
+          (as_one frame places before (select frame places needed stmt).role).size ≤ stmt_weight stmt
       short pair =
           let form : Option ShortForm = short_form pair.op pair.word in
-          let operation = operates_it frame places stmt pair.temp pair.left pair.op pair.operates in
+          let operation = operates_it frame places needed stmt pair.temp pair.left pair.op pair.operates in
           let heavy : stmt_weight stmt ≡ op_weight pair.op =
           ap stmt_weight operation.is ∙
           fold-roll-TacStmt ℕ weight_step (tac.Op pair.temp pair.op pair.left (Some pair.temp)) in
-          let code : (as_one frame places before (select frame places stmt).role).size ≡
+          let code : (as_one frame places before (select frame places needed stmt).role).size ≡
           (straightly frame places (short_operation frame places pair.temp pair.left form)).size =
           ap₂ (λ r s. (as_one frame places r s).size) pair.sets pair.operates in
           let few : (straightly frame places (short_operation frame places pair.temp pair.left form)).size ≤ 7 =
@@ -411,36 +437,36 @@ module _ (frame : FrameTree) (places : List Place) where
           omega (arith, heavy, code, few, short_weighs pair.op pair.word pair.form pair.form_is)
 
   between_few : (before : Role) (stmt : TacStmt) (behind : Role) →
-      (select frame places stmt).size ≤ stmt_weight stmt →
-      (between frame places before (select frame places stmt) behind).size ≤ stmt_weight stmt
+      (select frame places needed stmt).size ≤ stmt_weight stmt →
+      (between frame places before (select frame places needed stmt) behind).size ≤ stmt_weight stmt
   between_few before stmt behind h =
-      by (joins before (select frame places stmt).role) (joins (select frame places stmt).role behind) refl
+      by (joins before (select frame places needed stmt).role) (joins (select frame places needed stmt).role behind) refl
     where
-      by : (one two : Bool) → joins before (select frame places stmt).role ≡ one →
-          (if one then as_one frame places before (select frame places stmt).role
-          else if two then nothing else select frame places stmt).size ≤ stmt_weight stmt
+      by : (one two : Bool) → joins before (select frame places needed stmt).role ≡ one →
+          (if one then as_one frame places before (select frame places needed stmt).role
+          else if two then nothing else select frame places needed stmt).size ≤ stmt_weight stmt
       by true two e = both_few before stmt e
       by false true e = omega arith
       by false false e = h
 
   turn_small : (before : Role) (stmts : List TacStmt) → Each Small stmts → all_true (map has stmts) ≡ true →
-      (in_turn (joined frame places before (map (select frame places) stmts))).size ≤ total (map stmt_weight stmts)
+      (in_turn (joined frame places before (map (select frame places needed) stmts))).size ≤ total (map stmt_weight stmts)
   turn_small before [] h is = omega arith
   turn_small before (stmt ∷ rest) h is =
       omega (
         arith,
-        between_few before stmt (role_first (map (select frame places) rest))
+        between_few before stmt (role_first (map (select frame places needed) rest))
             (h.0 (and_first (has stmt) (all_true (map has rest)) is)),
-        turn_small (select frame places stmt).role rest h.1 (and_rest (has stmt) (all_true (map has rest)) is),
+        turn_small (select frame places needed stmt).role rest h.1 (and_rest (has stmt) (all_true (map has rest)) is),
       )
 
   row_small : (stmts : List TacStmt) → Each Small stmts → all_true (map has stmts) ≡ true →
-      (in_order frame places (map (select frame places) stmts)).size ≤ total (map stmt_weight stmts)
+      (in_order frame places (map (select frame places needed) stmts)).size ≤ total (map stmt_weight stmts)
   row_small stmts h is = turn_small Other stmts h is
 
   layer_small : (layer : TacStmt-F TacStmt) → Inside Small layer →
       with_parts has_operands (map-TacStmt _ _ has layer) ≡ true →
-      (select_step frame places (map-TacStmt _ _ (select frame places) layer)).size ≤
+      (select_step frame places needed (map-TacStmt _ _ (select frame places needed) layer)).size ≤
       weight_step (map-TacStmt _ _ stmt_weight layer)
   layer_small (tac.Const dest value) h is =
       straightly_few _ 5 (constant_few (result_register frame places dest) (word_of_constant value) dest)
@@ -455,7 +481,7 @@ module _ (frame : FrameTree) (places : List Place) where
   layer_small (tac.If cond first second) h is =
       omega (
         arith,
-        fork_few cond (map (select frame places) first) (map (select frame places) second),
+        fork_few cond (map (select frame places needed) first) (map (select frame places needed) second),
         row_small first h.0 (and_first (all_true (map has first)) (all_true (map has second) && true) is),
         row_small second h.1 (and_first (all_true (map has second)) true
             (and_rest (all_true (map has first)) (all_true (map has second) && true) is)),
@@ -482,13 +508,13 @@ module _ (frame : FrameTree) (places : List Place) where
   stmt_small : (stmt : TacStmt) → Small stmt
   stmt_small = stmt_induction Small (λ layer h is.
       subst (λ p. p.size ≤ stmt_weight (roll-TacStmt layer))
-      (sym (fold-roll-TacStmt Piece (select_step frame places) layer))
-      (subst (λ n. (select_step frame places (map-TacStmt _ _ (select frame places) layer)).size ≤ n)
+      (sym (fold-roll-TacStmt Piece (select_step frame places needed) layer))
+      (subst (λ n. (select_step frame places needed (map-TacStmt _ _ (select frame places needed) layer)).size ≤ n)
       (sym (fold-roll-TacStmt ℕ weight_step layer))
       (layer_small layer h (sym (fold-roll-TacStmt Bool (with_parts has_operands) layer) ∙ is))))
 
   pub row_is_small : (stmts : List TacStmt) → everywhere has_operands stmts ≡ true →
-      (select_all frame places stmts).size ≤ weight stmts
+      (select_all frame places needed stmts).size ≤ weight stmts
   row_is_small stmts is = row_small stmts (each_holds Small stmt_small stmts) is
 
   -- FUNCTIONS
@@ -518,10 +544,10 @@ module _ (frame : FrameTree) (places : List Place) where
   closing_few (Some (entry.Export index)) = omega (arith, leave_frame frame.bytes)
 
   pub function_small : (f : TacFnTree) → IsFunction f →
-      length (function_lines frame places f) ≤ entry_weight f.params + weight f.body
+      length (function_lines frame places needed f) ≤ entry_weight f.params + weight f.body
   function_small f h =
       let first : List Line = plainly (entrance frame places f.params) in
-      let middle : List Line = (select_all frame places f.body).lines 0 0 in
+      let middle : List Line = (select_all frame places needed f.body).lines 0 0 in
       let last : List Line = plainly (closing frame places f.entry) in
       omega (
         arith,
@@ -529,14 +555,14 @@ module _ (frame : FrameTree) (places : List Place) where
         length-append first middle,
         length-map (entrance frame places f.params) plain,
         length-map (closing frame places f.entry) plain,
-        (row_is_sized frame places f.body).sized 0 0,
+        (row_is_sized frame places needed f.body).sized 0 0,
         entrance_few f.params,
         row_is_small f.body h.operands,
         closing_few f.entry,
       )
 
   -- the jumps of a function that is small enough reach
-  pub function_fits : (f : TacFnTree) → IsFunction f → 96 * f.nodes ≤ 1048576 → Fits frame places f.body 0 0
+  pub function_fits : (f : TacFnTree) → IsFunction f → 96 * f.nodes ≤ 1048576 → Fits frame places needed f.body 0 0
   function_fits f h reached = record {
     few_arguments = h.few_arguments;
     breaks = omega (arith, row_is_small f.body h.operands, h.light, reached);
@@ -544,12 +570,13 @@ module _ (frame : FrameTree) (places : List Place) where
   }
 
   pub function_short : (f : TacFnTree) → IsFunction f → 96 * f.nodes ≤ 1048576 →
-      length (function_lines frame places f) < 2 ^ 32
+      length (function_lines frame places needed f) < 2 ^ 32
   function_short f h reached = omega (arith, function_small f h, h.light, reached)
 
-  pub function_light : (f : TacFnTree) → IsFunction f →
-      length (code_of f places frame).instrs ≤ entry_weight f.params + weight f.body
-  function_light f h =
-      let instrs : length (code_of f places frame).instrs ≡ length (function_lines frame places f) =
-      length-map (function_lines frame places f) (λ (line : Line). line.instr) in
-      omega (arith, instrs, function_small f h)
+pub function_light : (frame : FrameTree) (places : List Place) (f : TacFnTree) → IsFunction f →
+    length (code_of f places frame).instrs ≤ entry_weight f.params + weight f.body
+function_light frame places f h =
+    let lines : List Line = function_lines frame places (needed_in f.body) f in
+    let instrs : length (code_of f places frame).instrs ≡ length lines =
+    length-map lines (λ (line : Line). line.instr) in
+    omega (arith, instrs, function_small frame places (needed_in f.body) f h)

@@ -25,3 +25,5 @@ pub use Rattle.sc_select.specs.Selection.{role_first, role_of_load, role_of_oper
 pub use Rattle.sc_select.specs.Selection.{select_all, select_step, short_operation, skipping, slot_offset}
 pub use Rattle.sc_select.specs.Selection.{store_arguments, store_to, straight, straightly, take, take_second, taken}
 pub use Rattle.sc_select.specs.Selection.{word_of_constant}
+pub use Rattle.sc_select.specs.Needs.{has_mark, needed_in}
+pub use Rattle.sc_select.specs.Selection.{object_store, role_of_store}

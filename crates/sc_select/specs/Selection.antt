@@ -14,7 +14,8 @@ use Rattle.sc_tac.specs.declared.stmt.Constant.{Constant}
 use Rattle.sc_tac.specs.declared.stmt.Constant.TheVariants as constant
 use Rattle.sc_tac.specs.declared.stmt.TacStmt.TheOpen as tac
 use Rattle.sc_select.specs.declared.roles.Role.{Role}
-use Rattle.sc_select.specs.declared.roles.Role.TheVariants.{Loads, Operates, Other, Places, Sets}
+use Rattle.sc_select.specs.declared.roles.Role.TheVariants.{Loads, Operates, Other, Places, Sets, Stores}
+use Rattle.sc_select.specs.Needs.{needed_in}
 use Rattle.sc_select.specs.Lines.{Line, plain, plainly, referring, code_of_lines}
 use Rattle.sc_select.specs.Pieces.{ra, sp, first_scratch, second_scratch, a0, a7, register_of, move, loading, moved_by}
 use Rattle.sc_select.specs.Pieces.{load_word, store_word, frame_taken, frame_left}
@@ -48,9 +49,10 @@ in_turn [] = nothing
 in_turn (piece ∷ pieces) = followed piece (in_turn pieces)
 
 -- two neighbours that are one piece: the second loads what stands at the place that the first gives, in place of that, or
--- its result takes the place of the constant that the first sets and its operator reads
+-- stores there, or its result takes the place of the constant that the first sets and its operator reads
 abbrev pub joins : (first second : Role) → Bool
 joins (Places temp object) (Loads other) = temp == other
+joins (Places temp object) (Stores other value) = temp == other
 joins (Sets temp word) (Operates other left o) = temp == other && is_some (short_form o word)
 joins _ _ = false
 
@@ -59,6 +61,10 @@ abbrev pub role_of_operation : (dest : ℕ) → TacOp → (left : ℕ) → (righ
 role_of_operation dest o left None = Other
 role_of_operation dest o left (Some right) =
     if dest == right && not (left == dest) then Operates dest left o else Other
+
+-- a store whose place only such stores read
+abbrev pub role_of_store : (needed : ℕ → Bool) → (place value : ℕ) → Role
+role_of_store needed place value = if needed place then Other else Stores place value
 
 abbrev pub role_first : List Piece → Role
 role_first [] = Other
@@ -244,6 +250,11 @@ module _ (frame : FrameTree) (places : List Place) where
   abbrev pub object_read : (dest object : ℕ) → List Instr
   object_read dest object = load_word (result_register dest) (object_offset frame object) ++ keep dest
 
+  -- a temporary into a variable's word
+  abbrev pub object_store : (value object : ℕ) → List Instr
+  object_store value object =
+      take second_scratch value ++ store_word (operand second_scratch value) (object_offset frame object)
+
   -- what an operator gives of a temporary and a constant
   abbrev pub short_operation : (dest left : ℕ) → Option ShortForm → List Instr
   short_operation dest left form =
@@ -251,7 +262,8 @@ module _ (frame : FrameTree) (places : List Place) where
 
   -- the code of two neighbours that are one piece
   abbrev pub as_one : (first second : Role) → Piece
-  as_one (Places temp object) second = straightly (object_read temp object)
+  as_one (Places temp object) (Loads other) = straightly (object_read temp object)
+  as_one (Places temp object) (Stores other value) = straightly (object_store value object)
   as_one (Sets temp word) (Operates other left o) = straightly (short_operation temp left (short_form o word))
   as_one _ _ = nothing
 
@@ -279,38 +291,6 @@ module _ (frame : FrameTree) (places : List Place) where
   abbrev pub role_of_load : (dest place : ℕ) → Role
   role_of_load dest place = if dest == place then Loads dest else Other
 
-  abbrev pub select_step : TacStmt-F Piece → Piece
-  select_step (tac.Const dest value) =
-      record (straightly (loading (result_register dest) (word_of_constant value) ++ keep dest)) {
-        role = Sets dest (word_of_constant value);
-      }
-  select_step (tac.Copy dest from) = straightly (copied frame (place_of dest) (place_of from))
-  select_step (tac.Op dest o left right) =
-      record (straightly (operation dest o left right)) { role = role_of_operation dest o left right }
-  select_step (tac.ObjectPlace dest object) =
-      record (straightly (moved_by (result_register dest) sp (object_offset frame object) ++ keep dest)) {
-        role = Places dest object;
-      }
-  select_step (tac.GlobalPlace dest global) = straight (place_of_global dest global)
-  select_step (tac.Load dest place pointer) =
-      record (straightly (load_from dest place)) { role = role_of_load dest place }
-  select_step (tac.Store place value) = straightly (store_to place value)
-  select_step (tac.If cond first second) = fork cond first second
-  select_step (tac.Loop head body next) = cycle (in_order head) (in_order body) (in_order next)
-  select_step tac.Break = breaking
-  select_step tac.Continue = continuing
-  select_step (tac.CallOwn dest function args) = straight (call_own dest function args)
-  select_step (tac.CallCross dest comp index args) = straight (call_cross dest comp index args)
-  select_step (tac.Input dest) = straightly (environment_call 1 ++ receive dest)
-  select_step (tac.Output value) = straightly (brought frame a0 (place_of value) ++ environment_call 2)
-  select_step (tac.Return value) = straightly (return value)
-
-  abbrev pub select : TacStmt → Piece
-  select = fold-TacStmt Piece select_step
-
-  abbrev pub select_all : List TacStmt → Piece
-  select_all stmts = in_order (map select stmts)
-
   -- the arguments from this one on into their variables
   abbrev pub store_arguments : (params from : ℕ) → List Instr
   store_arguments zero from = []
@@ -326,10 +306,45 @@ module _ (frame : FrameTree) (places : List Place) where
   closing (Some Main) = OpImm Addi a0 0 (pos 0) ∷ frame_left frame.bytes
   closing _ = frame_left frame.bytes
 
-  abbrev pub function_lines : TacFnTree → List Line
-  function_lines f =
-      plainly (entrance f.params) ++ (select_all f.body).lines 0 0 ++ plainly (closing f.entry)
+  -- statements, where these temporaries are read in their places
+  module _ (needed : ℕ → Bool) where
+    abbrev pub select_step : TacStmt-F Piece → Piece
+    select_step (tac.Const dest value) =
+        record (straightly (loading (result_register dest) (word_of_constant value) ++ keep dest)) {
+          role = Sets dest (word_of_constant value);
+        }
+    select_step (tac.Copy dest from) = straightly (copied frame (place_of dest) (place_of from))
+    select_step (tac.Op dest o left right) =
+        record (straightly (operation dest o left right)) { role = role_of_operation dest o left right }
+    select_step (tac.ObjectPlace dest object) =
+        record (straightly (moved_by (result_register dest) sp (object_offset frame object) ++ keep dest)) {
+          role = Places dest object;
+        }
+    select_step (tac.GlobalPlace dest global) = straight (place_of_global dest global)
+    select_step (tac.Load dest place pointer) =
+        record (straightly (load_from dest place)) { role = role_of_load dest place }
+    select_step (tac.Store place value) =
+        record (straightly (store_to place value)) { role = role_of_store needed place value }
+    select_step (tac.If cond first second) = fork cond first second
+    select_step (tac.Loop head body next) = cycle (in_order head) (in_order body) (in_order next)
+    select_step tac.Break = breaking
+    select_step tac.Continue = continuing
+    select_step (tac.CallOwn dest function args) = straight (call_own dest function args)
+    select_step (tac.CallCross dest comp index args) = straight (call_cross dest comp index args)
+    select_step (tac.Input dest) = straightly (environment_call 1 ++ receive dest)
+    select_step (tac.Output value) = straightly (brought frame a0 (place_of value) ++ environment_call 2)
+    select_step (tac.Return value) = straightly (return value)
+
+    abbrev pub select : TacStmt → Piece
+    select = fold-TacStmt Piece select_step
+
+    abbrev pub select_all : List TacStmt → Piece
+    select_all stmts = in_order (map select stmts)
+
+    abbrev pub function_lines : TacFnTree → List Line
+    function_lines f =
+        plainly (entrance f.params) ++ (select_all f.body).lines 0 0 ++ plainly (closing f.entry)
 
 -- the code of a function
 abbrev pub code_of : TacFnTree → List Place → FrameTree → CodeTree
-code_of f places frame = code_of_lines (function_lines frame places f)
+code_of f places frame = code_of_lines (function_lines frame places (needed_in f.body) f)

@@ -1,12 +1,13 @@
 //! The code of a function.
 
 ghost use Rattle.sc_select.specs.Prelude.{IsCode, IsFunction, Line, closing, code_of, code_of_lines, entrance};
-ghost use Rattle.sc_select.specs.Prelude.{entry_weight, function_lines, plainly, store_arguments, weight};
+ghost use Rattle.sc_select.specs.Prelude.{entry_weight, function_lines, has_mark, plainly, store_arguments, weight};
 ghost use Rattle.std.specs.Prelude.{◌≡◌, ◌≤◌, ◌<◌, ◌^◌, ◌+◌, ◌*◌, ◌++◌, IfOk, OnOk, length};
 
 use crate::backward::Backward;
 use crate::control::Distances;
 use crate::homes::Homes;
+use crate::needs::needs_of;
 use crate::pieces::{A0, ZERO, addi, immediate, register};
 use sc_base::OutOfMemory;
 use sc_event::Entry;
@@ -53,7 +54,7 @@ impl Backward {
         requires function { IsFunction f.now }
         requires reached { 96 * f.now.nodes ≤ 1048576 }
         ensures { OnOk result (self.new ≡
-            function_lines homes.now.frame.now homes.now.places.now f.now ++ self.old) }
+            function_lines homes.now.frame.now homes.now.places.now (has_mark homes.now.needs.now) f.now ++ self.old) }
     {
         let at_end = Distances {
             to_break: 0,
@@ -95,7 +96,12 @@ pub fn select(alloc: Global, f: &TacFn, places: &Places, frame: &Frame) -> Resul
     ensures rules { IfOk result IsCode }
 {
     let mut lines = Backward::new(alloc);
-    let homes = Homes { frame, places };
+    let needs = needs_of(alloc, f)?;
+    let homes = Homes {
+        frame,
+        places,
+        needs: &needs,
+    };
     lines.function(&homes, f.tree())?;
     Ok(Code::new(read(alloc, lines)?))
 }

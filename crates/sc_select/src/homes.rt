@@ -2,14 +2,16 @@ ghost use Rattle.sc_select.specs.Prelude.{at_hand, is_place, object_offset, oper
 ghost use Rattle.sc_select.specs.Prelude.{slot_offset};
 ghost use Rattle.std.specs.Prelude.{◌≡◌, ◌<◌, IsTrue, IfSome, length, slice_get};
 
+use crate::needs::Needs;
 use rv_code::Reg;
 use sc_tac::{Frame, Place, Places};
 
-/// Where the values of a function lie.
+/// Where the values of a function lie, and which temporaries are read there.
 #[derive(Clone, Copy)]
 pub struct Homes<'a> {
     pub frame: &'a Frame,
     pub places: &'a Places,
+    pub needs: &'a Needs,
 }
 
 impl Homes<'_> {

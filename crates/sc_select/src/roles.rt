@@ -1,11 +1,13 @@
 //! Two statements that are one piece of code: the first gives the place of a variable and the second loads what stands
-//! there, or the first sets a constant and the second is an operator that reads it and takes its temporary.
+//! there or stores there, or the first sets a constant and the second is an operator that reads it and takes its
+//! temporary.
 
-ghost use Rattle.sc_select.specs.Prelude.{joins, role_before, role_first, role_of_operation, select};
+ghost use Rattle.sc_select.specs.Prelude.{has_mark, joins, role_before, role_first, role_of_operation, role_of_store};
 ghost use Rattle.sc_tac.specs.declared.frame.FrameTree.{FrameTree};
 ghost use Rattle.sc_tac.specs.declared.place.Place.{Place};
 ghost use Rattle.std.specs.Prelude.{◌≡◌, ◌≤◌, List, drop, length, map};
 
+use crate::needs::Needs;
 use crate::operators::short_form;
 use crate::statements::word_of_constant;
 use sc_tac::{TacOp, TacStmt};
@@ -21,6 +23,8 @@ pub enum Role {
     Sets { temp: u32, word: u32 },
     /// A temporary, which holds the second operand, gets the result of an operator.
     Operates { temp: u32, left: u32, op: TacOp },
+    /// A value is stored at the place that a temporary holds, which only such stores behind its statement read.
+    Stores { temp: u32, value: u32 },
     /// All else.
     Other,
 }
@@ -38,9 +42,19 @@ fn role_of_operation(dest: u32, op: TacOp, left: u32, right: Option<u32>) -> Rol
     }
 }
 
+fn role_of_store(needs: &Needs, place: u32, value: u32) -> Role
+    ensures { result ≡ role_of_store (has_mark needs.now) place value }
+{
+    if needs.has(place) {
+        return Role::Other;
+    }
+    Role::Stores { temp: place, value }
+}
+
 /// The role of a statement.
-pub(crate) fn role_of(stmt: &TacStmt) -> Role
-    ensures { (frame : FrameTree) (places : List Place) → result ≡ (select frame places stmt.now).role }
+pub(crate) fn role_of(needs: &Needs, stmt: &TacStmt) -> Role
+    ensures { (frame : FrameTree) (places : List Place) → result ≡
+        (select frame places (has_mark needs.now) stmt.now).role }
 {
     match stmt {
         TacStmt::Const { dest, value } => Role::Sets {
@@ -64,31 +78,32 @@ pub(crate) fn role_of(stmt: &TacStmt) -> Role
                 Role::Other
             }
         }
+        TacStmt::Store { place, value } => role_of_store(needs, *place, *value),
         _ => Role::Other,
     }
 }
 
 /// The role of the statement at a number, if there is one.
 #[tactic(auto, using(crate::proofs::Joining::role_found, crate::proofs::Joining::role_missing))]
-pub(crate) fn role_at(stmts: &[TacStmt], at: usize) -> Role
+pub(crate) fn role_at(needs: &Needs, stmts: &[TacStmt], at: usize) -> Role
     ensures { (frame : FrameTree) (places : List Place) → result ≡
-        role_first (map (select frame places) (drop at stmts.now)) }
+        role_first (map (select frame places (has_mark needs.now)) (drop at stmts.now)) }
 {
     if at < stmts.len() {
-        return role_of(&stmts[at]);
+        return role_of(needs, &stmts[at]);
     }
     Role::Other
 }
 
 /// The role of the statement before the one at a number, if there is one.
-pub(crate) fn role_before(stmts: &[TacStmt], at: usize) -> Role
+pub(crate) fn role_before(needs: &Needs, stmts: &[TacStmt], at: usize) -> Role
     ensures { (frame : FrameTree) (places : List Place) → result ≡
-        role_before (map (select frame places) stmts.now) at }
+        role_before (map (select frame places (has_mark needs.now)) stmts.now) at }
 {
     if at == 0 {
         return Role::Other;
     }
-    role_at(stmts, at - 1)
+    role_at(needs, stmts, at - 1)
 }
 
 /// Whether one piece is for two statements.
@@ -97,6 +112,7 @@ pub(crate) fn joins(first: Role, second: Role) -> bool
 {
     match (first, second) {
         (Role::Places { temp, .. }, Role::Loads { temp: other }) => temp == other,
+        (Role::Places { temp, .. }, Role::Stores { temp: other, .. }) => temp == other,
         (
             Role::Sets { temp, word },
             Role::Operates {

@@ -1,7 +1,7 @@
 //! Statements without others inside. Code is written from its end: what is done first is written last.
 
 ghost use Rattle.sc_select.specs.Prelude.{a0, as_one, brought, choice, copied, environment_call, keep, load_from};
-ghost use Rattle.sc_select.specs.Prelude.{loading, moved_by, object_offset, object_read, operation, place_of_global};
+ghost use Rattle.sc_select.specs.Prelude.{loading, moved_by, object_offset, object_read, object_store, operation, place_of_global};
 ghost use Rattle.sc_select.specs.Prelude.{plainly, put, receive, result_register, return, second_operand};
 ghost use Rattle.sc_select.specs.Prelude.{short_operation, store_to, take, take_second, word_of_constant};
 ghost use Rattle.std.specs.Prelude.{◌≡◌, ◌++◌, ◌∷◌, [], ◌+◌, ◌<◌, ℕ, OnOk, Some, None, length, slice_get};
@@ -164,6 +164,16 @@ impl Backward {
         self.load_word(rd, homes.object_offset(object))
     }
 
+    // A temporary into a variable's word.
+    fn object_store(&mut self, homes: &Homes, value: u32, object: u32) -> Result<(), OutOfMemory>
+        ensures { OnOk result (self.new ≡
+            plainly (object_store homes.now.frame.now homes.now.places.now value object) ++ self.old) }
+    {
+        let second = register(SECOND_SCRATCH);
+        self.store_word(homes.operand(second, value), homes.object_offset(object))?;
+        self.take(homes, second, value)
+    }
+
     // A temporary gets what an operator gives of another and a constant.
     fn short_operation(
         &mut self,
@@ -187,7 +197,10 @@ impl Backward {
             (as_one homes.now.frame.now homes.now.places.now first second).lines to_break to_continue ++ self.old) }
     {
         match (first, second) {
-            (Role::Places { temp, object }, _) => self.object_read(homes, temp, object),
+            (Role::Places { temp, object }, Role::Loads { .. }) => self.object_read(homes, temp, object),
+            (Role::Places { object, .. }, Role::Stores { value, .. }) => {
+                self.object_store(homes, value, object)
+            }
             (Role::Sets { temp, word }, Role::Operates { left, op, .. }) => {
                 self.short_operation(homes, temp, left, short_form(op, word))
             }
