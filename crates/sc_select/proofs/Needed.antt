@@ -1,12 +1,14 @@
--- What a function's code needs names temporaries of the function alone, so that marks of these tell it.
+-- What statements need, mark by mark; and that it names temporaries of their function alone.
 use Rattle.sc_select.proofs.Common.{Bool, Each, Inside, IsFunction, List, None, Option, Some, TacFnTree, TacStmt}
-use Rattle.sc_select.proofs.Common.{TacStmt-F, [], all_true, and_first, and_rest, ap, arith, false, fold-TacStmt}
-use Rattle.sc_select.proofs.Common.{fold-roll-TacStmt, if◌then◌else◌, map, map-TacStmt, refl, slice_get}
-use Rattle.sc_select.proofs.Common.{stmt_induction, subst, suc, sym, true, with_parts, zero, ℕ, ◌&&◌, ◌++◌, ◌<◌, ◌==◌}
-use Rattle.sc_select.proofs.Common.{◌∙◌, ◌∷◌, ◌≡◌, ◌≤◌}
+use Rattle.sc_select.proofs.Common.{TacStmt-F, [], all_true, and_first, and_rest, ap, arith, drop, drop-cons}
+use Rattle.sc_select.proofs.Common.{false, fold-TacStmt, fold-roll-TacStmt, get_or, if◌then◌else◌, length, map}
+use Rattle.sc_select.proofs.Common.{map-TacStmt, refl, slice_get, stmt_induction, subst, suc, sym, true, with_parts}
+use Rattle.sc_select.proofs.Common.{zero, ℕ, ◌&&◌, ◌++◌, ◌+◌, ◌<◌, ◌==◌, ◌∙◌, ◌∷◌, ◌≡◌, ◌≤◌}
 use Rattle.std.specs.Prelude.{nat_lt, replicate, ◌||◌}
+use Rattle.std.proofs.Common.{add-one}
 use Rattle.std.specs.List.{list_all}
 use Rattle.std.specs.Option.{option_map, unwrap_or}
+use Rattle.std.proofs.Math.Bool.{or_assoc}
 use Rattle.std.proofs.lemmas.Bool.{ltb-true, ne_eqb}
 use Rattle.std.proofs.lemmas.List.Folds.{list_all-append, list_any-append}
 use Rattle.sc_tac.specs.Flow.{is_one}
@@ -15,6 +17,39 @@ use Rattle.sc_tac.specs.Parts.{everywhere, one_or_none, parts}
 use Rattle.sc_tac.specs.declared.stmt.TacStmt.TheOpen as tac
 use Rattle.sc_select.specs.Marks.{Marked}
 use Rattle.sc_select.specs.Needs.{Need, has_mark, need, need_step, needed_in, needs_of, place_needed, row_needs}
+
+-- STATEMENTS IN ORDER
+marked_on : (xs ys : List ℕ) (a b c : List Bool) → Marked xs a b → Marked ys b c → Marked (xs ++ ys) a c
+marked_on xs ys a b c h k = record {
+  at = λ t. k.at t ∙ ap (option_map (λ mark. mark || is_one t ys)) (h.at t) ∙ both t (slice_get a t);
+}
+  where
+    both : (t : ℕ) (mark : Option Bool) →
+        option_map (λ b. b || is_one t ys) (option_map (λ b. b || is_one t xs) mark)
+        ≡ option_map (λ b. b || is_one t (xs ++ ys)) mark
+    both t None = refl
+    both t (Some b) =
+        ap Some (or_assoc b (is_one t xs) (is_one t ys)
+        ∙ ap (λ one. b || one) (sym (list_any-append (λ other. other == t) xs ys)))
+
+-- one of them, and what is left
+pub row_marked : (list : List TacStmt) (i : ℕ) (stmt : TacStmt) (before stores gives : Option ℕ) (a b c : List Bool) →
+    i < length list → stmt ≡ get_or list i stmt → stores ≡ (need stmt).stores → gives ≡ (need stmt).gives →
+    Marked (place_needed before stores) a b → Marked (need stmt).reads b c → (final : List Bool) →
+    Marked (row_needs gives (map need (drop (i + 1) list))) c final →
+    Marked (row_needs before (map need (drop i list))) a final
+row_marked list i stmt before stores gives a b c within is stores_is gives_is h k final l =
+    let rest : List ℕ = row_needs gives (map need (drop (i + 1) list)) in
+    let parted : drop i list ≡ stmt ∷ drop (i + 1) list =
+    drop-cons list i stmt within ∙ (λ j. sym is j ∷ drop (sym (add-one i) j) list) in
+    let whole : place_needed before stores ++ ((need stmt).reads ++ rest) ≡
+    row_needs before (map need (drop i list)) =
+    (λ j. place_needed before (stores_is j) ++
+    ((need stmt).reads ++ row_needs (gives_is j) (map need (drop (i + 1) list))))
+    ∙ ap (λ stmts. row_needs before (map need stmts)) (sym parted) in
+    subst (λ temps. Marked temps a final) whole
+    (marked_on (place_needed before stores) ((need stmt).reads ++ rest) a b final h
+    (marked_on (need stmt).reads rest b c final k l))
 
 -- NAMES BELOW A NUMBER
 module _ (temps t : ℕ) (beyond : temps ≤ t) where

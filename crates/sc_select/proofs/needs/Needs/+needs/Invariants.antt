@@ -3,7 +3,7 @@ use Rattle.sc_select.specs.Marks.{Marked}
 use Rattle.sc_select.specs.Needs.{need, needs_of, row_needs}
 use Rattle.sc_select.proofs.needs.Needs.+needs.Given as goal
 
--- what marks that are left to set is what marks all
+-- marks that come of the ones so far by what is left come of the first ones by all
 abbrev pub invariant-row-loop-stmt : goal.invariant-row-loop-stmt
 invariant-row-loop-stmt l = (final : List Bool) →
     Marked (row_needs l.before (map need (drop l.stmt-index l.stmt-items))) l.self final →
