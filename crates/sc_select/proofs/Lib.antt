@@ -3,6 +3,7 @@ pub mod Composition
 pub mod Joining
 pub mod Lines
 pub mod Links
+pub mod Needed
 pub mod Rows
 pub mod Sizes
 pub mod Weights

@@ -2,6 +2,7 @@ pub mod Common
 pub mod Prelude
 pub mod Bounds
 pub mod Lines
+pub mod Marks
 pub mod Needs
 pub mod Linking
 pub mod Operators

@@ -1,0 +1,6 @@
+use Rattle.sc_select.proofs.Common.{false, ◌≡◌}
+use Rattle.std.specs.Prelude.{replicate}
+use Rattle.sc_select.proofs.needs.Needs.none.Given as goal
+
+abbrev pub invariant-loop : goal.invariant-loop
+invariant-loop l = l.marks ≡ replicate l.counter false
