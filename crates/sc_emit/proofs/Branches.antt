@@ -1,5 +1,6 @@
 -- The code of a function has at most one branch for each `If` and no EBREAK,
 -- and each field of its instructions is in the range of its form.
+use Rattle.sc_select.specs.Prelude.{object_store, role_of_store}
 use Rattle.sc_emit.proofs.Common.{Addi, All, All-cons, All-nil, Andi, ArePlaces, Bne, Bool, Branch, Each, Ebreak, Entry}
 use Rattle.sc_emit.proofs.Common.{Export, Fits, FrameTree, Inside, Instr, IsBranchOffset, IsImmediate, IsInstr}
 use Rattle.sc_emit.proofs.Common.{IsJumpOffset, IsReg, IsUpper, Jal, Jalr, Line, List, Load, Lw, Main, None, OpImm}
@@ -215,6 +216,11 @@ module _ (frame : FrameTree) (places : List Place) where
   pub load_from_straight : (dest place : ℕ) → Straight (load_from frame places dest place)
   load_from_straight dest place =
       both (take frame places first_scratch place) _ (take_straight first_scratch place) (keep_straight dest)
+
+  pub object_store_straight : (value object : ℕ) → Straight (object_store frame places value object)
+  object_store_straight value object =
+      both (take frame places second_scratch value) _ (take_straight second_scratch value)
+      (store_straight (operand frame places second_scratch value) (object_offset frame object))
 
   pub store_to_straight : (place value : ℕ) → Straight (store_to frame places place value)
   store_to_straight place value =
@@ -529,7 +535,9 @@ module _ (frame : FrameTree) (places : List Place) (needed : ℕ → Bool) where
       (λ t l o w. any_more (stmt_branches stmt)
       (straightly frame places (short_operation frame places t l (short_form o w)))
       (plainly_shaped (short_operation frame places t l (short_form o w))
-      (short_straight frame places t l (short_form o w)))) before behind
+      (short_straight frame places t l (short_form o w))))
+      (λ v o. any_more (stmt_branches stmt) (straightly frame places (object_store frame places v o))
+      (plainly_shaped (object_store frame places v o) (object_store_straight frame places v o))) before behind
       (select frame places needed stmt) h.0) (turn_shaped (select frame places needed stmt).role rest h.1)
 
   row_shaped : (stmts : List TacStmt) → Each Shaped stmts →
@@ -554,7 +562,8 @@ module _ (frame : FrameTree) (places : List Place) (needed : ℕ → Bool) where
   layer_shaped (tac.Load dest place pointer) h =
       in_role 0 (role_of_load frame places dest place) _
       (plainly_shaped _ (load_from_straight frame places dest place))
-  layer_shaped (tac.Store place value) h = plainly_shaped _ (store_to_straight frame places place value)
+  layer_shaped (tac.Store place value) h =
+      in_role 0 (role_of_store needed place value) _ (plainly_shaped _ (store_to_straight frame places place value))
   layer_shaped (tac.If cond first second) h =
       fork_shaped cond _ _ _ _ (row_shaped first h.0) (row_shaped second h.1)
   layer_shaped (tac.Loop head body next) h =
@@ -984,6 +993,12 @@ module _ (frame : FrameTree) (places : List Place) (needed : ℕ → Bool) (ther
       (both_instrs (take frame places first_scratch left) code (first_taken left)
       (short_form_instrs rd rs o word (first_at dest) (first_at left))) (keep_instrs dest)
 
+  object_store_instrs : (value object : ℕ) → AreInstrs (object_store frame places value object)
+  object_store_instrs value object =
+      both_instrs (take frame places second_scratch value) _ (taken_instrs frame second_scratch (slice_get places value)
+      second_there) (store_instrs (operand frame places second_scratch value) (object_offset frame object)
+      (second_at value))
+
   load_from_instrs : (dest place : ℕ) → AreInstrs (load_from frame places dest place)
   load_from_instrs dest place =
       both_instrs (take frame places first_scratch place) _ (first_taken place)
@@ -1159,7 +1174,8 @@ module _ (frame : FrameTree) (places : List Place) (needed : ℕ → Bool) (ther
       order_keeps frame places needed IsEncodable (straight_encodable [] tt)
       (λ t o. plainly_encodable (object_read frame places t o) (object_read_instrs t o))
       (λ t l o w. plainly_encodable (short_operation frame places t l (short_form o w))
-      (short_operation_instrs t l o w)) followed_encodable stmts
+      (short_operation_instrs t l o w))
+      (λ v o. plainly_encodable (object_store frame places v o) (object_store_instrs v o)) followed_encodable stmts
       (each_encodable stmts h all)
     where
       each_encodable : (stmts : List TacStmt) → Each Encodable stmts → all_true (map few_inside stmts) ≡ true →
@@ -1190,7 +1206,8 @@ module _ (frame : FrameTree) (places : List Place) (needed : ℕ → Bool) (ther
       straight_encodable (place_of_global frame places dest global) (global_instrs dest global)
   layer_encodable (tac.Load dest place pointer) h all =
       of_role (role_of_load frame places dest place) _ (plainly_encodable _ (load_from_instrs dest place))
-  layer_encodable (tac.Store place value) h all = plainly_encodable _ (store_to_instrs place value)
+  layer_encodable (tac.Store place value) h all =
+      of_role (role_of_store needed place value) _ (plainly_encodable _ (store_to_instrs place value))
   layer_encodable (tac.If cond first second) h all =
       let a = all_true (map few_inside first) in
       let b = all_true (map few_inside second) in

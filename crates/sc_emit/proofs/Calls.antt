@@ -1,4 +1,8 @@
 -- Calls of functions, of the own compartment and of others.
+use Rattle.std.proofs.lemmas.Bool.{and_from}
+use Rattle.std.specs.List.{list_all}
+use Rattle.sc_relation.specs.Following.{wanted}
+use Rattle.sc_emit.proofs.Needed.{one_of_all}
 use Rattle.sc_emit.proofs.Common.{Activation, Addresses, All, ArePassed, Arrives, CallGives, CallStands, CallTarget}
 use Rattle.sc_emit.proofs.Common.{Calls, CallsFollow, CodeAt, Codes, Comes, ComesBack, Computes, Cross, Does, Ends}
 use Rattle.sc_emit.proofs.Common.{Follows, FrameMatches, FrameTree, GivenBack, Goes, HasNoGap, HasNoOtherUse, Instr}
@@ -289,11 +293,13 @@ module _ (T : Setting) (R : Running) (formed : IsWellFormed T.image) (inputs : A
   -- The arguments, and what else is prepared.
 
   pub passes_args : (args : List ℕ) (dest : Option ℕ) (lives : Lives) (temps : Temps) (x : Joint) (vs : List Value) →
-      length args ≤ 8 → (ready : Ready T R (live_plain args dest lives) temps x) → AreRead temps args vs →
-      Passes T R cells nodes is placed x ready.frame ready.sp x.regs a0 args vs
-  passes_args args dest lives temps x vs few ready read =
-      passes T R cells nodes is placed x ready.frame ready.sp (live_plain args dest lives) temps ready.held x.regs a0
-      args vs (omega arith) (omega (arith, few)) (λ t e. or_left (is_one t args) _ e) read refl (λ q h. refl)
+      length args ≤ 8 → list_all R.needed args ≡ true → (ready : Ready T R (live_plain args dest lives) temps x) →
+      AreRead temps args vs → Passes T R cells nodes is placed x ready.frame ready.sp x.regs a0 args vs
+  passes_args args dest lives temps x vs few needs ready read =
+      passes T R cells nodes is placed x ready.frame ready.sp (wanted R.needed (live_plain args dest lives)) temps
+      ready.held x.regs a0 args vs (omega arith) (omega (arith, few))
+      (λ t e. and_from (live_plain args dest lives t) (R.needed t) (or_left (is_one t args) _ e)
+      (one_of_all R.needed args t needs e)) read refl (λ q h. refl)
 
   -- the arguments, and then another register that no temporary has and no argument
   pub prepared : (args : List ℕ) (x : Joint) (vs : List Value)
@@ -348,12 +354,13 @@ module _ (T : Setting) (R : Running) (formed : IsWellFormed T.image) (inputs : A
         (omega (arith, inside, long)) (omega (arith, here.aligned))).1
 
     pub call_own_follows : HasNoGap T R → (function : ℕ) (args : List ℕ) → length args ≤ 8 →
+        list_all R.needed args ≡ true →
         addresses.function function < 2 ^ 32 →
         T.makes A.here.comp (Own function) (length args) ≡ true →
         ((vs : List Value) (s : Meant) → Answers dest (calls A.here.comp (Own function) vs s)) →
         Follows T R (code_step wrapping A.here calls (tac.CallOwn dest function args))
         (select_step frame R.places R.needed (tac.CallOwn dest function args)) (trail_step (tac.CallOwn dest function args))
-    call_own_follows gapless function args few below made answers =
+    call_own_follows gapless function args few needs below made answers =
         let before : List Instr = pass frame R.places a0 args in
         linked_follows T R (code_step wrapping A.here calls (tac.CallOwn dest function args))
         (call_own frame R.places dest function args)
@@ -375,7 +382,7 @@ module _ (T : Setting) (R : Running) (formed : IsWellFormed T.image) (inputs : A
         (own_call function args x.pc) left ends left_is behind_is code ready
         (λ vs read.
         (let p : Passes T R cells nodes is placed x ready.frame ready.sp x.regs a0 args vs =
-        passes_args args dest lives temps x vs few ready read in
+        passes_args args dest lives temps x vs few needs ready read in
         record {
           after = p.after;
           does = p.does;
@@ -395,14 +402,15 @@ module _ (T : Setting) (R : Running) (formed : IsWellFormed T.image) (inputs : A
     abbrev entry_call : (address : ℕ) → List Instr
     entry_call address = Jalr ra first_scratch (lower_part address) ∷ receive frame R.places dest
 
-    pub call_cross_follows : (comp index : ℕ) (args : List ℕ) → length args ≤ 8 → addresses.entry comp index < 2 ^ 32 →
+    pub call_cross_follows : (comp index : ℕ) (args : List ℕ) → length args ≤ 8 → list_all R.needed args ≡ true →
+        addresses.entry comp index < 2 ^ 32 →
         addresses.entry comp index % 2 ≡ 0 →
         T.makes A.here.comp (Cross comp index) (length args) ≡ true →
         ((vs : List Value) (s : Meant) → Answers dest (calls A.here.comp (Cross comp index) vs s)) →
         Follows T R (code_step wrapping A.here calls (tac.CallCross dest comp index args))
         (select_step frame R.places R.needed (tac.CallCross dest comp index args))
         (trail_step (tac.CallCross dest comp index args))
-    call_cross_follows comp index args few below even made answers =
+    call_cross_follows comp index args few needs below even made answers =
         let arguments : List Instr = pass frame R.places a0 args in
         let address : ℕ = addresses.entry comp index in
         let high : List Instr = Upper Lui first_scratch (upper_part address) ∷ [] in
@@ -427,7 +435,7 @@ module _ (T : Setting) (R : Running) (formed : IsWellFormed T.image) (inputs : A
         before (Jalr ra first_scratch (lower_part address)) left ends left_is behind_is code ready
         (λ vs read.
         (let p : Passes T R cells nodes is placed x ready.frame ready.sp x.regs a0 args vs =
-        passes_args args dest lives temps x vs few ready read in
+        passes_args args dest lives temps x vs few needs ready read in
         prepared args x vs ready.frame ready.sp p (Cross comp index) high first_scratch (upper_part address)
         (upper T.image T.inputs (world T R x) p.after x.bytes first_scratch (upper_part address)
         (record { above = omega arith; below = omega arith })) (λ e. omega (arith, e)) (λ q h. h.first)

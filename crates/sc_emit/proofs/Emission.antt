@@ -1,4 +1,6 @@
 -- The code that is selected keeps what code keeps.
+use Rattle.sc_select.specs.Needs.{needed_in, needs_of}
+use Rattle.sc_emit.proofs.Needed.{all_among}
 use Rattle.sc_emit.proofs.Common.{Activation, ArePlaces, AreReached, CodeAt, CodeTree, Err, Follows, FrameTree, Front}
 use Rattle.sc_emit.proofs.Common.{FunctionFollows, HasRoom, IfOk, Instr, IsAssignment, IsEmitted, IsFrame, IsFunction}
 use Rattle.sc_emit.proofs.Common.{IsPlaced, Line, List, Ok, Place, Register, Result, Running, Setting, Slot, Some}
@@ -46,18 +48,18 @@ module _ (f : TacFnTree) (places : List Place) (frame : FrameTree) (rules : IsFu
   code = code_of f places frame
 
   abbrev lines : List Line
-  lines = function_lines frame places needed f
+  lines = function_lines frame places (needed_in f.body) f
 
   all_instrs : length code.instrs ≡ length lines
   all_instrs = length-map lines (λ line. line.instr)
 
-  body_within : (select_all frame places needed f.body).size ≤ length lines
+  body_within : (select_all frame places (needed_in f.body) f.body).size ≤ length lines
   body_within = omega (
     arith,
-    length-append (plainly (entrance frame places f.params) ++ (select_all frame places needed f.body).lines 0 0)
+    length-append (plainly (entrance frame places f.params) ++ (select_all frame places (needed_in f.body) f.body).lines 0 0)
         (plainly (closing frame places f.entry)),
-    length-append (plainly (entrance frame places f.params)) ((select_all frame places needed f.body).lines 0 0),
-    (row_is_sized frame places needed f.body).sized 0 0,
+    length-append (plainly (entrance frame places f.params)) ((select_all frame places (needed_in f.body) f.body).lines 0 0),
+    (row_is_sized frame places (needed_in f.body) f.body).sized 0 0,
   )
 
   temps_are : f.temps ≡ length places
@@ -65,7 +67,7 @@ module _ (f : TacFnTree) (places : List Place) (frame : FrameTree) (rules : IsFu
       length-range_with_len 0 f.temps)
 
   all_placed : (A : Activation) (last : ℕ) → A.frame ≡ frame →
-      ArePlaced (record { activation = A; places = places; last = last })
+      ArePlaced (record { activation = A; places = places; needed = needed_in f.body; last = last })
   all_placed A last same t (Register r) e = register_below (length places) places t r kept.known e
   all_placed A last same t (Slot k) e =
       let below : k < length frame.slots = omega (arith, slot_below places t k e, room.slots) in
@@ -75,8 +77,8 @@ module _ (f : TacFnTree) (places : List Place) (frame : FrameTree) (rules : IsFu
     body : BodyFollows T f frame places comp
     body calls follow A last run gapless =
         let R : Running = in_call T f frame places A last in
-        let size : (select_all A.frame places f.body).size ≤ T.turn_pays =
-        subst (λ (frame : FrameTree). (select_all frame places needed f.body).size ≤ T.turn_pays) (sym run.frame_is)
+        let size : (select_all A.frame places (needed_in f.body) f.body).size ≤ T.turn_pays =
+        subst (λ (frame : FrameTree). (select_all frame places (needed_in f.body) f.body).size ≤ T.turn_pays) (sym run.frame_is)
         (omega (arith, body_within, all_instrs, is.paid)) in
         let reached : AreReached T A.here.comp is.function is.entry is.global =
         subst (λ c. AreReached T c is.function is.entry is.global) (sym run.comp_is) is.reached in
@@ -84,7 +86,7 @@ module _ (f : TacFnTree) (places : List Place) (frame : FrameTree) (rules : IsFu
         subst (λ c. everywhere (calls_only (T.makes c) (T.gives c)) f.body ≡ true) (sym run.comp_is) is.calls in
         let temps : everywhere (names_own_temps (length places)) f.body ≡ true =
         subst (λ n. everywhere (names_own_temps n) f.body ≡ true) temps_are rules.own_temps in
-        subst (λ frame. Follows T R (code_does wrapping A.here calls f.body) (select_all frame places needed f.body)
+        subst (λ frame. Follows T R (code_does wrapping A.here calls f.body) (select_all frame places (needed_in f.body) f.body)
         (row (map trail f.body))) run.frame_is
         (body_follows T R is.image is.inputs f.objects f.nodes run.is (all_placed A last run.frame_is) gapless calls
         follow
@@ -106,7 +108,7 @@ module _ (f : TacFnTree) (places : List Place) (frame : FrameTree) (rules : IsFu
               ),
             ),
           ),
-        ) size)
+        ) (all_among (needs_of f.body) (needs_of f.body) (λ t on. on)) size)
 
     follows : FunctionFollows T comp address (length code.instrs) f.params (code_function wrapping f)
     follows =
@@ -121,14 +123,14 @@ module _ (f : TacFnTree) (places : List Place) (frame : FrameTree) (rules : IsFu
   -- the way in stands in front
   enters : Front (frame_taken frame.bytes) code.instrs
   enters =
-      let later : List Line = (select_all frame places needed f.body).lines 0 0 ++ plainly (closing frame places f.entry) in
+      let later : List Line = (select_all frame places (needed_in f.body) f.body).lines 0 0 ++ plainly (closing frame places f.entry) in
       let stores : List Instr = store_arguments frame places f.params 0 in
       let instr : Line → Instr = λ line. line.instr in
       record {
         more = stores ++ map instr later;
         is =
             ap (map instr) (append_assoc (plainly (entrance frame places f.params))
-            ((select_all frame places needed f.body).lines 0 0) (plainly (closing frame places f.entry))) ∙
+            ((select_all frame places (needed_in f.body) f.body).lines 0 0) (plainly (closing frame places f.entry))) ∙
             map-append instr (plainly (entrance frame places f.params)) later ∙
             ap (λ is. is ++ map instr later) (plain_instrs (entrance frame places f.params)) ∙
             append_assoc (frame_taken frame.bytes) stores (map instr later);

@@ -1,4 +1,6 @@
 -- Calls of the environment.
+use Rattle.sc_relation.proofs.Wanted.{wanted_less}
+use Rattle.std.specs.List.{list_all}
 use Rattle.sc_emit.proofs.Common.{Activation, Addi, All, CallStands, CallTarget, Calls, CallsFollow, CodeAt, ComesBack}
 use Rattle.sc_emit.proofs.Common.{Computes, Ecall, Fetches, Follows, FrameTree, Input, Instr, IsActivation, IsBack}
 use Rattle.sc_emit.proofs.Common.{IsClear, IsWellFormed, IsWord, Joint, List, Lives, None, OpImm, Option, Output, Ready}
@@ -39,7 +41,9 @@ module _ (T : Setting) (R : Running) (formed : IsWellFormed T.image) (inputs : A
       (record {
         settled = r.settled;
         frame = r.frame;
-        held = λ t v on e. r.held t v (across_live reads dest lives t on) e;
+        held = λ t v on e.
+            r.held t v (wanted_less R.needed (live_across reads true dest lives) (live_plain reads dest lives)
+            (across_live reads dest lives) t on) e;
         sp = r.sp;
       })
 
@@ -58,14 +62,14 @@ module _ (T : Setting) (R : Running) (formed : IsWellFormed T.image) (inputs : A
         CallStands T (call_from T R) y target
 
     asks_prepared : (target : CallTarget) (number : ℕ) (dest : Option ℕ) (args : List ℕ) → length args ≤ 1 →
-        number < 2 ^ 32 → IsAsked target number → (lives : Lives) (temps : Temps) (x : Joint) →
+        list_all R.needed args ≡ true → number < 2 ^ 32 → IsAsked target number → (lives : Lives) (temps : Temps) (x : Joint) →
         Ready T R (live_plain args dest lives) temps x →
         CodeAt T.image A.here.comp x.pc (asking number dest args) → (vs : List Value) → AreRead temps args vs →
         Prepares T R formed inputs cells nodes is placed target x (pass frame R.places a0 args ++ ask number) vs
-    asks_prepared target number dest args few small stands lives temps x ready code vs read =
+    asks_prepared target number dest args few needs small stands lives temps x ready code vs read =
         let before : List Instr = pass frame R.places a0 args ++ ask number in
         let p : Passes T R cells nodes is placed x ready.frame ready.sp x.regs a0 args vs =
-        passes_args T R formed inputs cells nodes is placed args dest lives temps x vs (omega (arith, few)) ready
+        passes_args T R formed inputs cells nodes is placed args dest lives temps x vs (omega (arith, few)) needs ready
         read in
         let u : Computes T.image T.inputs (world T R x) (ask number) [] p.after x.bytes a7 number =
         with_number T.image T.inputs (world T R x) p.after x.bytes Addi a7 0 (pos number) 0 number
@@ -77,18 +81,18 @@ module _ (T : Setting) (R : Running) (formed : IsWellFormed T.image) (inputs : A
         (back_at T.image A.here.comp x.pc before (Ecall ∷ receive frame R.places dest) code).0 is_number)
 
     asks : (target : CallTarget) (number : ℕ) (dest : Option ℕ) (args : List ℕ) → of_environment target ≡ true →
-        length args ≤ 1 → number < 2 ^ 32 → IsAsked target number →
+        length args ≤ 1 → list_all R.needed args ≡ true → number < 2 ^ 32 → IsAsked target number →
         HasPlace R.places dest → T.makes A.here.comp target (length args) ≡ true →
         ((vs : List Value) (s : Meant) → Answers dest (calls A.here.comp target vs s)) →
         (lives : Lives) (temps : Temps) (x : Joint) (left : ℕ) → Ready T R (live_plain args dest lives) temps x →
         IsClear R.places (last_point dest lives) → CodeAt T.image A.here.comp x.pc (asking number dest args) →
         ComesStraight T R lives x (asking number dest args) left (call_does A.here calls dest target args temps x.meant)
-    asks target number dest args environment few small stands there made answers lives temps x left ready clear code
+    asks target number dest args environment few needs small stands there made answers lives temps x left ready clear code
         ends left_is behind_is =
         call_runs T R formed inputs cells nodes is placed calls follow target dest args there made answers lives temps
         clear (λ y left v s ready b. asked_back args dest lives temps y target left v s environment ready b) x
         (pass frame R.places a0 args ++ ask number) Ecall left ends left_is behind_is code ready
-        (asks_prepared target number dest args few small stands lives temps x ready code)
+        (asks_prepared target number dest args few needs small stands lives temps x ready code)
 
     pub input_follows : (dest : Option ℕ) → HasPlace R.places dest → T.makes A.here.comp Input 0 ≡ true →
         ((vs : List Value) (s : Meant) → Answers dest (calls A.here.comp Input vs s)) →
@@ -99,16 +103,16 @@ module _ (T : Setting) (R : Running) (formed : IsWellFormed T.image) (inputs : A
         (environment_call 1 ++ receive frame R.places dest) (trail_step (tac.Input dest))
         (goes T R formed inputs cells nodes is placed calls follow Input dest [])
         (λ lives temps x left ready clear code.
-        asks Input 1 dest [] refl (omega arith) (omega arith) (λ y f e. (
+        asks Input 1 dest [] refl (omega arith) refl (omega arith) (λ y f e. (
           f,
           e,
         )) there made answers lives temps x left ready
         (all_at (IsClear R.places) (plain_points [] false dest lives) 1 _ clear refl) code)
 
-    pub output_follows : (value : ℕ) → T.makes A.here.comp Output 1 ≡ true →
+    pub output_follows : (value : ℕ) → list_all R.needed (value ∷ []) ≡ true → T.makes A.here.comp Output 1 ≡ true →
         Follows T R (code_step wrapping A.here calls (tac.Output value)) (select_step frame R.places R.needed (tac.Output value))
         (trail_step (tac.Output value))
-    output_follows value made =
+    output_follows value needs made =
         let first : List Instr = brought frame a0 (place_of frame R.places value) in
         let whole : asking 2 None (value ∷ []) ≡ first ++ environment_call 2 =
         ap (λ code. (code ++ ask 2) ++ Ecall ∷ []) (append-nil first) ∙ append_assoc first (ask 2) (Ecall ∷ []) in
@@ -118,7 +122,7 @@ module _ (T : Setting) (R : Running) (formed : IsWellFormed T.image) (inputs : A
         (λ lives temps x left ready clear code.
         subst (λ code. ComesStraight T R lives x code left
         (call_does A.here calls None Output (value ∷ []) temps x.meant)) whole
-        (asks Output 2 None (value ∷ []) refl (omega arith) (omega arith) (λ y f e. (f, e)) tt made
+        (asks Output 2 None (value ∷ []) refl (omega arith) needs (omega arith) (λ y f e. (f, e)) tt made
         (λ vs s. none_wanted (calls A.here.comp Output vs s)) lives temps x left ready
         (all_at (IsClear R.places) (plain_points (value ∷ []) false None lives) 1 _ clear refl)
         (subst (CodeAt T.image A.here.comp x.pc) (sym whole) code)))

@@ -1,4 +1,5 @@
 -- The code of a function follows the function, where the code of its body follows what its statements do.
+use Rattle.sc_select.specs.Needs.{needed_in}
 use Rattle.sc_emit.proofs.Common.{Activation, All, Arrives, Begins, Bool, Break, Calls, CallsFollow, CodeAt, Comes}
 use Rattle.sc_emit.proofs.Common.{Continue, Ends, Entry, Exit, ExitGives, Export, Follows, FrameTree, Function}
 use Rattle.sc_emit.proofs.Common.{FunctionFollows, FunctionGives, FunctionGoes, Gives, Goes, Grown, HasNoGap, HasRoom}
@@ -145,7 +146,7 @@ function_goes f =
 
 module _ (T : Setting) (f : TacFnTree) (frame : FrameTree) (places : List Place) where
   abbrev pub in_call : Activation → (last : ℕ) → Running
-  in_call A last = record { activation = A; places = places; last = last }
+  in_call A last = record { activation = A; places = places; needed = needed_in f.body; last = last }
 
   -- a call of the function runs in a compartment
   pub record IsRun (comp : ℕ) (A : Activation) : Type 0 where
@@ -157,7 +158,7 @@ module _ (T : Setting) (f : TacFnTree) (frame : FrameTree) (places : List Place)
   abbrev pub BodyFollows : ℕ → Type 0
   BodyFollows comp =
       (calls : Calls) → CallsFollow T calls → (A : Activation) (last : ℕ) → IsRun comp A → HasNoGap T (in_call A last) →
-      Follows T (in_call A last) (code_does wrapping A.here calls f.body) (select_all frame places needed f.body)
+      Follows T (in_call A last) (code_does wrapping A.here calls f.body) (select_all frame places (needed_in f.body) f.body)
       (row (map trail f.body))
 
   -- the code of the closing brace comes to the jump back
@@ -180,7 +181,7 @@ module _ (T : Setting) (f : TacFnTree) (frame : FrameTree) (places : List Place)
     function = code_function wrapping f
 
     abbrev body : Code
-    body = select_all frame places needed f.body
+    body = select_all frame places (needed_in f.body) f.body
 
     abbrev way_in : List Instr
     way_in = entrance frame places f.params
@@ -189,7 +190,7 @@ module _ (T : Setting) (f : TacFnTree) (frame : FrameTree) (places : List Place)
     way_out = closing frame places f.entry
 
     abbrev lines : List Line
-    lines = function_lines frame places needed f
+    lines = function_lines frame places (needed_in f.body) f
 
     abbrev steps : ℕ
     steps = length way_in
@@ -319,7 +320,7 @@ module _ (T : Setting) (f : TacFnTree) (frame : FrameTree) (places : List Place)
         starts = record {
           ready = ready_entered T formed inputs P function args address ra_is x begins frame places f.nodes low whole
               room room.bounded bound_is start steps (x.pc + 4 * steps) entering.regs entering.bytes entering.enters
-              (λ o n less e. variables_some (length args) o n long less e) end
+              (λ o n less e. variables_some (length args) o n long less e) (needed_in f.body) end
               (live_at (row (map trail f.body)) nothing_live);
           clear = places_are_clear f places rules assigned;
           stands = in_back.front;
@@ -358,7 +359,7 @@ module _ (T : Setting) (f : TacFnTree) (frame : FrameTree) (places : List Place)
             subst (λ n. FunctionGives T P x n ra_is told ⊎ Overflows T P x n told) all
             (function_follows T formed inputs P function args address ra_is x begins frame places f.nodes low whole room
             room.bounded bound_is start steps (x.pc + 4 * steps) entering.regs entering.bytes entering.enters
-            (λ o n less e. variables_some (length args) o n long less e) end (body.size + left) value closes)
+            (λ o n less e. variables_some (length args) o n long less e) end (needed_in f.body) (body.size + left) value closes)
 
       call_follows : BodyFollows P.comp → BraceReturns P.comp → Goal
       call_follows runs way =

@@ -10,6 +10,7 @@ pub mod Entering
 pub mod Environment
 pub mod Functions
 pub mod Gaps
+pub mod Needed
 pub mod Operands
 pub mod Operations
 pub mod Pairs
@@ -19,5 +20,6 @@ pub mod Reading
 pub mod Returns
 pub mod Rounds
 pub mod Statements
+pub mod Stored
 pub mod Straight
 pub mod Targets

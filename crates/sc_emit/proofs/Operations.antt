@@ -1,4 +1,9 @@
 -- Operators, loads and stores.
+use Rattle.std.proofs.lemmas.Bool.{and_from}
+use Rattle.sc_base.proofs.Bools.{and_first, and_rest}
+use Rattle.std.specs.List.{list_all}
+use Rattle.sc_select.specs.Prelude.{role_of_store}
+use Rattle.std.specs.Prelude.{◌&&◌}
 use Rattle.sc_emit.proofs.Common.{All, AreOperands, Arrives, Blocks, Bool, Calls, Cause, CodeAt, Comes, Computes, Does}
 use Rattle.sc_emit.proofs.Common.{Ends, Err, Follows, FrameTree, Goes, Gone, HasNoOtherUse, Instr, IsActivation}
 use Rattle.sc_emit.proofs.Common.{IsClear, IsLoaded, IsSound, IsWellFormed, IsWord, Joint, List, Lives, Load, Lw, Next}
@@ -40,10 +45,11 @@ module _ (T : Setting) (R : Running) (formed : IsWellFormed T.image) (inputs : A
 
     module _ (live : Set) (temps : Temps) (x : Joint) (ready : Ready T R live temps x) where
       -- one operand at hand
-      first_at_hand : (t : ℕ) (v : Value) → live t ≡ true → temps t ≡ Some v → AtHand T R x x.regs first_scratch t v
-      first_at_hand t v on known =
-          brings T R x cells nodes is placed ready.frame ready.sp x.regs first_scratch t v first_is (ready.held t v on
-          known)
+      first_at_hand : (t : ℕ) (v : Value) → live t ≡ true → R.needed t ≡ true → temps t ≡ Some v →
+          AtHand T R x x.regs first_scratch t v
+      first_at_hand t v on need known =
+          brings T R x cells nodes is placed ready.frame ready.sp x.regs first_scratch t v first_is
+          (ready.held t v (and_from (live t) (R.needed t) on need) known)
           refl (λ q h. refl)
 
       -- two operands at hand
@@ -60,14 +66,14 @@ module _ (T : Setting) (R : Running) (formed : IsWellFormed T.image) (inputs : A
         same : after sp ≡ x.regs sp
         others : (q : ℕ) → HasNoOtherUse q → after q ≡ x.regs q
 
-      both_at_hand : (left right : ℕ) (v w : Value) → live left ≡ true → temps left ≡ Some v → live right ≡ true →
-          temps right ≡ Some w → Both left right v w
-      both_at_hand left right v w on known on' known' =
-          let g : AtHand T R x x.regs first_scratch left v = first_at_hand left v on known in
+      both_at_hand : (left right : ℕ) (v w : Value) → live left ≡ true → R.needed left ≡ true → temps left ≡ Some v →
+          live right ≡ true → R.needed right ≡ true → temps right ≡ Some w → Both left right v w
+      both_at_hand left right v w on need known on' need' known' =
+          let g : AtHand T R x x.regs first_scratch left v = first_at_hand left v on need known in
           let same : g.after sp ≡ x.regs sp = g.others sp ((λ e. omega (arith, e)), ((λ e. omega (arith, e)), tt)) in
           let h : AtHand T R x g.after second_scratch right w =
           brings T R x cells nodes is placed ready.frame ready.sp g.after second_scratch right w second_is
-          (ready.held right w on' known') same (λ q k. g.others q (k.first, (k.address, tt))) in
+          (ready.held right w (and_from (live right) (R.needed right) on' need') known') same (λ q k. g.others q (k.first, (k.address, tt))) in
           record {
             one = g.word;
             two = h.word;
@@ -98,9 +104,10 @@ module _ (T : Setting) (R : Running) (formed : IsWellFormed T.image) (inputs : A
     -- Loads.
 
     pub load_follows : (dest place : ℕ) (pointer : Bool) (to : Place) → slice_get R.places dest ≡ Some to →
+        R.needed place ≡ true →
         Follows T R (code_step wrapping R.activation.here calls (tac.Load dest place pointer))
         (select_step frame R.places R.needed (tac.Load dest place pointer)) (trail_step (tac.Load dest place pointer))
-    load_follows dest place pointer to its =
+    load_follows dest place pointer to its need =
         let rd : ℕ = result_register frame R.places dest in
         let rs : ℕ = operand frame R.places first_scratch place in
         let before : List Instr = take frame R.places first_scratch place in
@@ -127,7 +134,7 @@ module _ (T : Setting) (R : Running) (formed : IsWellFormed T.image) (inputs : A
         (let live : Set = live_plain (place ∷ []) (Some dest) lives in
         let h : AtHand T R x x.regs first_scratch place q =
         first_at_hand live temps x ready place q
-        (live_read (place ∷ []) (Some dest) lives place (only_one place [])) known in
+        (live_read (place ∷ []) (Some dest) lives place (only_one place [])) need known in
         let got : IsLoaded T R formed inputs cells nodes is x h.word v =
         loads T R formed inputs cells nodes is live temps x h.word pointer q v ready h.stands found in
         let w : IsResult rd = result_is R placed dest to its in
@@ -156,17 +163,53 @@ module _ (T : Setting) (R : Running) (formed : IsWellFormed T.image) (inputs : A
 
     -- Stores.
 
-    pub store_follows : (place value : ℕ) →
+    pub stored_goes : (q v : Value) (temps : Temps) → Goes (stored R.activation.here q v 0 temps)
+    stored_goes q v temps s = by (store (s.memory R.activation.here.comp) q v)
+      where
+        by : (result : Result Blocks Cause) →
+            Gone s (and_then (computed R.activation.here 0 result s)
+            (λ blocks s. leave Next temps (with_memory R.activation.here.comp blocks s)))
+        by (Ok blocks) = record {
+          grown = record {
+            events = front_same s.trace;
+            frames = front_same s.frames;
+            late = tt;
+            turns = omega arith;
+          };
+          stop = tt;
+        }
+        by (Err cause) = record { grown = same s; stop = tt }
+
+    pub comes_stored : (lives : Lives) (x : Joint) (budget : ℕ) (ends : Ends) (q v : Value) (temps : Temps) →
+        ((after : Blocks) → store (x.meant.memory R.activation.here.comp) q v ≡ Ok after →
+        Comes T R lives x budget ends
+        (Reached (record { exit = Next; carried = temps }) (with_memory R.activation.here.comp after x.meant))) →
+        Comes T R lives x budget ends (stored R.activation.here q v 0 temps x.meant)
+    comes_stored lives x budget ends q v temps h = by (store (x.meant.memory R.activation.here.comp) q v) h
+      where
+        by : (result : Result Blocks Cause) →
+            ((after : Blocks) → result ≡ Ok after → Comes T R lives x budget ends
+            (Reached (record { exit = Next; carried = temps }) (with_memory R.activation.here.comp after
+            x.meant))) →
+            Comes T R lives x budget ends (and_then (computed R.activation.here 0 result x.meant)
+            (λ blocks s. leave Next temps (with_memory R.activation.here.comp blocks s)))
+        by (Ok after) h = h after refl
+        by (Err cause) h = inl (shows_here T (seen_from R.activation) x budget)
+
+    pub store_follows : (place value : ℕ) → R.needed place ≡ true → R.needed value ≡ true →
         Follows T R (code_step wrapping R.activation.here calls (tac.Store place value))
         (select_step frame R.places R.needed (tac.Store place value)) (trail_step (tac.Store place value))
-    store_follows place value =
+    store_follows place value need need' =
         let comp : ℕ = R.activation.here.comp in
         let base : ℕ = operand frame R.places first_scratch place in
         let rs : ℕ = operand frame R.places second_scratch value in
         let before : List Instr = take frame R.places first_scratch place ++ take frame R.places second_scratch value in
         let last : List Instr = Store Sw base rs (pos 0) ∷ [] in
         let reads : List ℕ = place ∷ value ∷ [] in
-        straight_follows T R (code_step wrapping R.activation.here calls (tac.Store place value))
+        with_role T R (code_step wrapping R.activation.here calls (tac.Store place value))
+        (straightly frame R.places (store_to frame R.places place value)) (role_of_store R.needed place value)
+        (trail_step (tac.Store place value))
+        (straight_follows T R (code_step wrapping R.activation.here calls (tac.Store place value))
         (store_to frame R.places place value) (trail_step (tac.Store place value))
         (λ temps. read_goes R.activation.here place temps
         (λ q s. and_then (read R.activation.here value temps s) (λ v s. stored R.activation.here q v 0 temps s))
@@ -184,8 +227,8 @@ module _ (T : Setting) (R : Running) (formed : IsWellFormed T.image) (inputs : A
         (let live : Set = live_plain reads None lives in
         let h : Both live temps x ready place value q v =
         both_at_hand live temps x ready place value q v
-        (live_read reads None lives place (only_one place (value ∷ []))) known
-        (live_read reads None lives value (second_one place value)) known' in
+        (live_read reads None lives place (only_one place (value ∷ []))) need known
+        (live_read reads None lives value (second_one place value)) need' known' in
         let sum : add_word (look h.after base) (word_of (pos 0)) ≡ h.one =
         ap (λ a. add_word a (word_of (pos 0))) h.operands.left_is ∙ omega (arith, h.one_stands.word) in
         let piece : Stores T.image T.inputs (world T R x) last [] h.after x.bytes h.one h.two =
@@ -199,40 +242,7 @@ module _ (T : Setting) (R : Running) (formed : IsWellFormed T.image) (inputs : A
         h.two
         q v after piece.after ready h.one_stands found h.two_stands (piece.others sp tt ∙ h.same)
         (λ r k. piece.others r tt ∙ h.others r k)
-        (does.walks x.pc at)) ends e f)))))
-      where
-        stored_goes : (q v : Value) (temps : Temps) → Goes (stored R.activation.here q v 0 temps)
-        stored_goes q v temps s = by (store (s.memory R.activation.here.comp) q v)
-          where
-            by : (result : Result Blocks Cause) →
-                Gone s (and_then (computed R.activation.here 0 result s)
-                (λ blocks s. leave Next temps (with_memory R.activation.here.comp blocks s)))
-            by (Ok blocks) = record {
-              grown = record {
-                events = front_same s.trace;
-                frames = front_same s.frames;
-                late = tt;
-                turns = omega arith;
-              };
-              stop = tt;
-            }
-            by (Err cause) = record { grown = same s; stop = tt }
-
-        comes_stored : (lives : Lives) (x : Joint) (budget : ℕ) (ends : Ends) (q v : Value) (temps : Temps) →
-            ((after : Blocks) → store (x.meant.memory R.activation.here.comp) q v ≡ Ok after →
-            Comes T R lives x budget ends
-            (Reached (record { exit = Next; carried = temps }) (with_memory R.activation.here.comp after x.meant))) →
-            Comes T R lives x budget ends (stored R.activation.here q v 0 temps x.meant)
-        comes_stored lives x budget ends q v temps h = by (store (x.meant.memory R.activation.here.comp) q v) h
-          where
-            by : (result : Result Blocks Cause) →
-                ((after : Blocks) → result ≡ Ok after → Comes T R lives x budget ends
-                (Reached (record { exit = Next; carried = temps }) (with_memory R.activation.here.comp after
-                x.meant))) →
-                Comes T R lives x budget ends (and_then (computed R.activation.here 0 result x.meant)
-                (λ blocks s. leave Next temps (with_memory R.activation.here.comp blocks s)))
-            by (Ok after) h = h after refl
-            by (Err cause) h = inl (shows_here T (seen_from R.activation) x budget)
+        (does.walks x.pc at)) ends e f))))))
 
     -- Operators.
 
@@ -328,11 +338,10 @@ module _ (T : Setting) (R : Running) (formed : IsWellFormed T.image) (inputs : A
             clear r code to its g (subst (CodeAt T.image comp x.pc) whole at_pc))) ends e f))
 
       -- an operator that takes one value
-      one_operand : takes_two o ≡ false →
-          IsSound o →
+      one_operand : takes_two o ≡ false → IsSound o → R.needed left_one ≡ true →
           Follows T R (code_step wrapping R.activation.here calls (tac.Op dest o left_one None))
           (straightly frame R.places (Whole None)) (trail_step (tac.Op dest o left_one None))
-      one_operand one for =
+      one_operand one for need =
           straight_follows T R (code_step wrapping R.activation.here calls (tac.Op dest o left_one None)) (Whole None)
           (trail_step (tac.Op dest o left_one None))
           (λ temps. read_goes R.activation.here left_one temps
@@ -345,7 +354,7 @@ module _ (T : Setting) (R : Running) (formed : IsWellFormed T.image) (inputs : A
           (let live : Set = live_plain (left_one ∷ []) (Some dest) lives in
           let h : AtHand T R x x.regs first_scratch left_one v =
           first_at_hand live temps x ready left_one v
-          (live_read (left_one ∷ []) (Some dest) lives left_one (only_one left_one [])) known in
+          (live_read (left_one ∷ []) (Some dest) lives left_one (only_one left_one [])) need known in
           let none : take frame R.places first_scratch left_one ++ [] ≡ take frame R.places first_scratch left_one =
           append-nil (take frame R.places first_scratch left_one) in
           from_operands None for lives temps x left ready clear at ends e f (take frame R.places first_scratch left_one)
@@ -373,12 +382,11 @@ module _ (T : Setting) (R : Running) (formed : IsWellFormed T.image) (inputs : A
           gets_goes (Err cause) temps s = record { grown = same s; stop = tt }
 
       -- one that takes two
-      two_operands : (right_one : ℕ) →
-          IsSound o →
+      two_operands : (right_one : ℕ) → IsSound o → R.needed left_one ≡ true → R.needed right_one ≡ true →
           Follows T R (code_step wrapping R.activation.here calls (tac.Op dest o left_one (Some right_one)))
           (straightly frame R.places (Whole (Some right_one)))
           (trail_step (tac.Op dest o left_one (Some right_one)))
-      two_operands right_one for =
+      two_operands right_one for need need' =
           straight_follows T R (code_step wrapping R.activation.here calls (tac.Op dest o left_one (Some right_one)))
           (Whole (Some right_one)) (trail_step (tac.Op dest o left_one (Some right_one)))
           (λ temps. read_goes R.activation.here left_one temps
@@ -399,8 +407,8 @@ module _ (T : Setting) (R : Running) (formed : IsWellFormed T.image) (inputs : A
           let live : Set = live_plain pair (Some dest) lives in
           let h : Both live temps x ready left_one right_one v w =
           both_at_hand live temps x ready left_one right_one v w
-          (live_read pair (Some dest) lives left_one (only_one left_one (right_one ∷ []))) known
-          (live_read pair (Some dest) lives right_one (second_one left_one right_one)) known' in
+          (live_read pair (Some dest) lives left_one (only_one left_one (right_one ∷ []))) need known
+          (live_read pair (Some dest) lives right_one (second_one left_one right_one)) need' known' in
           from_operands (Some right_one) for lives temps x left ready clear at ends e f
           (take frame R.places first_scratch left_one ++ take frame R.places second_scratch
           right_one) refl h.after h.one
@@ -412,15 +420,17 @@ module _ (T : Setting) (R : Running) (formed : IsWellFormed T.image) (inputs : A
           gets_goes (Err cause) temps s = record { grown = same s; stop = tt }
 
       -- with as many operands as it takes
-      pub op_follows : (right : Option ℕ) → is_some right ≡ takes_two o →
-          IsSound o →
+      pub op_follows : (right : Option ℕ) → is_some right ≡ takes_two o → IsSound o →
+          list_all R.needed (left_one ∷ one_or_none right) ≡ true →
           Follows T R (code_step wrapping R.activation.here calls (tac.Op dest o left_one right))
           (select_step frame R.places R.needed (tac.Op dest o left_one right)) (trail_step (tac.Op dest o left_one right))
-      op_follows None count for =
+      op_follows None count for needs =
           with_role T R (code_step wrapping R.activation.here calls (tac.Op dest o left_one None))
           (straightly frame R.places (Whole None)) Other (trail_step (tac.Op dest o left_one None))
-          (one_operand (sym count) for)
-      op_follows (Some right_one) count for =
+          (one_operand (sym count) for (and_first (R.needed left_one) true needs))
+      op_follows (Some right_one) count for needs =
           with_role T R (code_step wrapping R.activation.here calls (tac.Op dest o left_one (Some right_one)))
           (straightly frame R.places (Whole (Some right_one))) (role_of_operation dest o left_one (Some right_one))
-          (trail_step (tac.Op dest o left_one (Some right_one))) (two_operands right_one for)
+          (trail_step (tac.Op dest o left_one (Some right_one))) (two_operands right_one for
+          (and_first (R.needed left_one) (R.needed right_one && true) needs)
+          (and_first (R.needed right_one) true (and_rest (R.needed left_one) (R.needed right_one && true) needs)))

@@ -1,4 +1,5 @@
 -- Statements that assign what no store decides: constants, copies, places.
+use Rattle.std.proofs.lemmas.Bool.{and_from}
 use Rattle.sc_emit.proofs.Common.{Addi, All, Arrives, Calls, CodeAt, Comes, Computes, Constant, Follows, FrameTree}
 use Rattle.sc_emit.proofs.Common.{InPlace, Instr, IsActivation, IsAddress, IsClear, IsHeld, IsWellFormed, IsWord}
 use Rattle.sc_emit.proofs.Common.{IsWritable, Joint, Line, List, Lives, Lui, Next, OpImm, Option, Place, Places, Ready}
@@ -196,10 +197,10 @@ module _ (T : Setting) (R : Running) (formed : IsWellFormed T.image) (inputs : A
     only_one : (t : ℕ) → is_one t (t ∷ []) ≡ true
     only_one t = rw (eq-eqb t t refl) refl
 
-    pub copy_follows : (dest from : ℕ) (place : Place) → slice_get R.places dest ≡ Some place →
+    pub copy_follows : (dest from : ℕ) (place : Place) → slice_get R.places dest ≡ Some place → R.needed from ≡ true →
         Follows T R (code_step wrapping R.activation.here calls (tac.Copy dest from))
         (select_step frame R.places R.needed (tac.Copy dest from)) (trail_step (tac.Copy dest from))
-    copy_follows dest from to its =
+    copy_follows dest from to its need =
         straight_follows T R (code_step wrapping R.activation.here calls (tac.Copy dest from))
         (copied frame (place_of frame R.places dest) (place_of frame R.places from)) (trail_step (tac.Copy dest from))
         (λ temps. read_goes R.activation.here from temps (λ v s. leave Next (with_temp dest v temps) s)
@@ -210,7 +211,8 @@ module _ (T : Setting) (R : Running) (formed : IsWellFormed T.image) (inputs : A
         ends R.activation.here from temps (λ v s. leave Next (with_temp dest v temps) s)
         (λ v known.
         (let held : IsHeld R.activation R.places x.inj x.regs x.bytes from v =
-        ready.held from v (live_read (from ∷ []) (Some dest) lives from (only_one from)) known in
+        ready.held from v (and_from (live_plain (from ∷ []) (Some dest) lives from) (R.needed from)
+        (live_read (from ∷ []) (Some dest) lives from (only_one from)) need) known in
         let code : copied frame (place_of frame R.places dest) (place_of frame R.places from) ≡
         copied frame (Some to) (Some held.place) = ap₂ (copied frame) its held.its in
         comes_behind T R lives x (copied frame (place_of frame R.places dest) (place_of frame R.places from)) left

@@ -1,4 +1,5 @@
 -- A variable that is read: one load, where its place is wanted for that load alone.
+use Rattle.sc_relation.proofs.Wanted.{wanted_less}
 use Rattle.sc_emit.proofs.Common.{All, All-cons, All-nil, Arrives, Bool, Calls, Codes, Follows, FrameTree, Goes, Instr}
 use Rattle.sc_emit.proofs.Common.{IsActivation, IsClear, IsFromSp, IsLoaded, IsWellFormed, IsWord, Joint, List, Lives}
 use Rattle.sc_emit.proofs.Common.{Next, Ok, Place, Point, Ready, Running, Set, Setting, Some, StandsFor, State as Meant}
@@ -64,7 +65,9 @@ module _ (T : Setting) (R : Running) (formed : IsWellFormed T.image) (inputs : A
   fewer_ready lives temps x ready = record {
     settled = ready.settled;
     frame = ready.frame;
-    held = λ t v on known. ready.held t v (live_before_both lives t on) known;
+    held = λ t v on known.
+        ready.held t v (wanted_less R.needed (live_plain [] (Some dest) lives) (live_at both_trails lives)
+        (live_before_both lives) t on) known;
     sp = ready.sp;
   }
 

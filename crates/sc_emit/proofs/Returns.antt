@@ -1,4 +1,7 @@
 -- The way out of a function: a return, and the closing brace.
+use Rattle.std.proofs.lemmas.Bool.{and_from}
+use Rattle.sc_base.proofs.Bools.{and_first}
+use Rattle.std.specs.List.{list_all}
 use Rattle.sc_emit.proofs.Common.{Activation, Addi, All, Calls, CodeAt, Computes, Does, Entry, Export, Follows}
 use Rattle.sc_emit.proofs.Common.{FrameTree, GivenBack, Goes, Instr, IsActivation, IsWellFormed, IsWord, Jalr, Joint}
 use Rattle.sc_emit.proofs.Common.{LeavesFrame, List, Lives, Main, None, OpImm, Option, Owned, Place, Ready, Registers}
@@ -137,13 +140,14 @@ module _ (T : Setting) (R : Running) (formed : IsWellFormed T.image) (inputs : A
 
   module _ (placed : ArePlaced R) (calls : Calls) where
     puts : (t : ℕ) (v : Value) (live : Set) (temps : Temps) (x : Joint) (ready : Ready T R live temps x) →
-        live t ≡ true → temps t ≡ Some v →
+        live t ≡ true → R.needed t ≡ true → temps t ≡ Some v →
         Puts live temps x ready (brought frame a0 (place_of frame R.places t)) (Some v)
-    puts t v live temps x ready on known =
+    puts t v live temps x ready on need known =
         let b : Brings T R cells nodes is placed x ready.frame ready.sp x.regs
         (brought frame a0 (place_of frame R.places t)) a0 v =
         brings T R cells nodes is placed x ready.frame ready.sp x.regs a0 t v
-        (record { above = omega arith; below = omega arith }) (ready.held t v on known) refl (λ q h. refl) in
+        (record { above = omega arith; below = omega arith }) (ready.held t v (and_from (live t) (R.needed t) on need) known) refl
+        (λ q h. refl) in
         record {
           after = b.piece.after;
           does = b.piece.does;
@@ -157,28 +161,28 @@ module _ (T : Setting) (R : Running) (formed : IsWellFormed T.image) (inputs : A
         read_goes A.here t temps (λ v s. leave (Return (Some v)) temps s)
         (λ v. stays (record { exit = Return (Some v); carried = temps }))
 
-    returns : (value : Option ℕ) (lives : Lives) (temps : Temps) (x : Joint) (left : ℕ) →
+    returns : (value : Option ℕ) → list_all R.needed (one_or_none value) ≡ true → (lives : Lives) (temps : Temps) (x : Joint) (left : ℕ) →
         Ready T R (λ t. is_one t (one_or_none value)) temps x →
         CodeAt T.image A.here.comp x.pc (return frame R.places value) →
         ComesStraight T R lives x (return frame R.places value) left (return_does A.here value temps x.meant)
-    returns None lives temps x left ready code ends e f =
+    returns None needs lives temps x left ready code ends e f =
         inl (leaves_alone (λ t. is_one t (one_or_none None)) temps x ready (length (frame_left frame.bytes) + left)
         (omega arith) code)
-    returns (Some t) lives temps x left ready code ends e f =
+    returns (Some t) needs lives temps x left ready code ends e f =
         let live : Set = λ u. is_one u (one_or_none (Some t)) in
         let before : List Instr = brought frame a0 (place_of frame R.places t) in
         let budget : ℕ = length (before ++ frame_left frame.bytes) + left in
         comes_read T R lives x budget ends A.here t temps (λ v s. leave (Return (Some v)) temps s)
         (λ v known. inl (leaves_with live temps x ready before (Some v) budget
-        (puts t v live temps x ready (rw (eq-eqb t t refl) refl) known) (omega arith) code))
+        (puts t v live temps x ready (rw (eq-eqb t t refl) refl) (and_first (R.needed t) true needs) known) (omega arith) code))
 
-    pub return_follows : (value : Option ℕ) →
+    pub return_follows : (value : Option ℕ) → list_all R.needed (one_or_none value) ≡ true →
         Follows T R (code_step wrapping A.here calls (tac.Return value)) (select_step frame R.places R.needed (tac.Return value))
         (trail_step (tac.Return value))
-    return_follows value =
+    return_follows value needs =
         straight_follows T R (code_step wrapping A.here calls (tac.Return value)) (return frame R.places value)
         (trail_step (tac.Return value)) (return_goes value)
-        (λ lives temps x left ready clear code. returns value lives temps x left ready code)
+        (λ lives temps x left ready clear code. returns value needs lives temps x left ready code)
 
 -- the code of a closing brace comes to the jump back, in each call of its function
 pub brace_returns : (T : Setting) (f : TacFnTree) (frame : FrameTree) (places : List Place) → IsWellFormed T.image →

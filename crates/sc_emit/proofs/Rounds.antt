@@ -1,4 +1,6 @@
 -- The code of loops: where it begins, and where it leads back.
+use Rattle.sc_select.specs.Prelude.{object_store, role_of_store}
+use Rattle.sc_select.proofs.Joining.{IsStored, stores_it}
 use Rattle.sc_emit.proofs.Common.{Bne, Bool, Branch, Each, Ebreak, FrameTree, Inside, Instr, IsRead, IsShort, Jal, Line}
 use Rattle.sc_emit.proofs.Common.{List, None, Option, Other, Place, Places, Role, Sets, ShortForm, Some, TacFnTree}
 use Rattle.sc_emit.proofs.Common.{TacStmt, TacStmt-F, [], and_first, and_rest, ap, append_assoc, arith, as_one, between}
@@ -20,7 +22,7 @@ use Rattle.sc_emit.specs.Layout.{repeating}
 unfoldable use Rattle.sc_tac.specs.declared.stmt.TacStmt.{roll-TacStmt}
 use Rattle.sc_tac.specs.declared.stmt.TacStmt.TheOpen as tac
 use Rattle.sc_tac.specs.declared.stmt.TacStmt.TheVariants as emit
-use Rattle.sc_emit.proofs.Branches.{Straight, StraightLines, all_append, closing_straight, copied_straight}
+use Rattle.sc_emit.proofs.Branches.{object_store_straight, Straight, StraightLines, all_append, closing_straight, copied_straight}
 use Rattle.sc_emit.proofs.Branches.{cross_straight, entrance_straight, global_straight, is_straight, is_straight_line}
 use Rattle.sc_emit.proofs.Branches.{load_from_straight, loaded_straight, object_read_straight, short_straight}
 use Rattle.sc_emit.proofs.Branches.{object_straight, operation_straight, output_straight, own_straight}
@@ -112,17 +114,30 @@ module _ (frame : FrameTree) (places : List Place) (needed : ℕ → Bool) where
   -- the second of two statements that are one piece has the code of both, and the first none
   both_lie : (before : Role) (stmt : TacStmt) → joins before (select frame places needed stmt).role ≡ true →
       IsCodeOf stmt (as_one frame places before (select frame places needed stmt).role)
-  both_lie before stmt h = ⊎_elim read short (which_pair before (select frame places needed stmt).role h)
+  both_lie before stmt h =
+      ⊎_elim read (⊎_elim store short) (which_pair before (select frame places needed stmt).role h)
     where
       read : IsRead before (select frame places needed stmt).role →
           IsCodeOf stmt (as_one frame places before (select frame places needed stmt).role)
       read pair =
           let load = loads_it frame places needed stmt pair.temp pair.loads in
           subst (λ r. IsCodeOf stmt (as_one frame places r (select frame places needed stmt).role)) (sym pair.gives)
+          (subst (λ r. IsCodeOf stmt (as_one frame places (Places pair.temp pair.object) r)) (sym pair.loads)
           (subst (λ s. IsCodeOf s (straightly frame places (object_read frame places pair.temp pair.object)))
           (sym load.is)
           (by_instrs (tac.Load pair.temp pair.temp load.pointer) (object_read frame places pair.temp pair.object) refl
-          (object_read_straight frame places pair.temp pair.object)))
+          (object_read_straight frame places pair.temp pair.object))))
+
+      store : IsStored before (select frame places needed stmt).role →
+          IsCodeOf stmt (as_one frame places before (select frame places needed stmt).role)
+      store pair =
+          let its = stores_it frame places needed stmt pair.temp pair.value pair.stores in
+          subst (λ r. IsCodeOf stmt (as_one frame places r (select frame places needed stmt).role)) (sym pair.gives)
+          (subst (λ r. IsCodeOf stmt (as_one frame places (Places pair.temp pair.object) r)) (sym pair.stores)
+          (subst (λ s. IsCodeOf s (straightly frame places (object_store frame places pair.value pair.object)))
+          (sym its.is)
+          (by_instrs (tac.Store pair.temp pair.value) (object_store frame places pair.value pair.object) refl
+          (object_store_straight frame places pair.value pair.object))))
 
       short : IsShort before (select frame places needed stmt).role →
           IsCodeOf stmt (as_one frame places before (select frame places needed stmt).role)
@@ -139,11 +154,18 @@ module _ (frame : FrameTree) (places : List Place) (needed : ℕ → Bool) where
 
   none_lie : (stmt : TacStmt) (behind : Role) → joins (select frame places needed stmt).role behind ≡ true →
       IsCodeOf stmt (lines_of [])
-  none_lie stmt behind h = ⊎_elim read short (which_pair (select frame places needed stmt).role behind h)
+  none_lie stmt behind h =
+      ⊎_elim read (⊎_elim store short) (which_pair (select frame places needed stmt).role behind h)
     where
       read : IsRead (select frame places needed stmt).role behind → IsCodeOf stmt (lines_of [])
       read pair =
           subst (λ s. IsCodeOf s (lines_of [])) (sym (gives_place frame places needed stmt pair.temp pair.object pair.gives))
+          (by_lines (tac.ObjectPlace pair.temp pair.object) [] refl refl)
+
+      store : IsStored (select frame places needed stmt).role behind → IsCodeOf stmt (lines_of [])
+      store pair =
+          subst (λ s. IsCodeOf s (lines_of []))
+          (sym (gives_place frame places needed stmt pair.temp pair.object pair.gives))
           (by_lines (tac.ObjectPlace pair.temp pair.object) [] refl refl)
 
       short : IsShort (select frame places needed stmt).role behind → IsCodeOf stmt (lines_of [])
@@ -316,7 +338,8 @@ module _ (frame : FrameTree) (places : List Place) (needed : ℕ → Bool) where
       in_role (roll-TacStmt (tac.Load dest place pointer)) (role_of_load frame places dest place) _
       (by_instrs (tac.Load dest place pointer) _ refl (load_from_straight frame places dest place))
   layer_lies (tac.Store place value) h =
-      by_instrs (tac.Store place value) _ refl (store_to_straight frame places place value)
+      in_role (roll-TacStmt (tac.Store place value)) (role_of_store needed place value) _
+      (by_instrs (tac.Store place value) _ refl (store_to_straight frame places place value))
   layer_lies (tac.If cond first second) h = if_lies cond first second h.0 h.1
   layer_lies (tac.Loop head body next) h = loop_lies head body next h.0 h.1 h.2
   layer_lies tac.Break h = alone tac.Break _ refl (λ b c. over_on b)

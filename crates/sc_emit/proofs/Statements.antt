@@ -1,4 +1,9 @@
 -- The code of statements follows what they do: by induction over their layers.
+use Rattle.sc_select.specs.Needs.{Need, need, need_step, needs_of, place_needed, row_needs}
+use Rattle.sc_select.specs.Prelude.{object_store}
+use Rattle.sc_select.proofs.Joining.{IsStored, stores_it}
+use Rattle.sc_emit.proofs.Needed.{all_append, gives_of, need_gives, store_alone}
+use Rattle.sc_emit.proofs.Stored.{assigns, assigns_follow, both_parts}
 use Rattle.sc_emit.proofs.Common.{All, AreReached, Bool, CallTarget, Calls, CallsFollow, Codes, Constant, Cross, Each}
 use Rattle.sc_emit.proofs.Common.{Follows, FrameTree, GivesValue, HasNoGap, Here, Input, Inside, IsActivation, IsRead}
 use Rattle.sc_emit.proofs.Common.{IsShort, IsSound, IsWellFormed, IsWord, List, None, Option, Other, Output, Own, Piece}
@@ -65,9 +70,17 @@ module _ (T : Setting) (R : Running) (formed : IsWellFormed T.image) (inputs : A
   abbrev code : TacStmt → Code
   code = select frame R.places R.needed
 
+  -- what is read in its place
+  abbrev AllNeeded : List ℕ → Type 0
+  AllNeeded temps = list_all R.needed temps ≡ true
+
+  abbrev StoresNeeded : Need → Type 0
+  StoresNeeded need = (place : ℕ) → need.stores ≡ Some place → R.needed place ≡ true
+
   abbrev Followed : TacStmt → Type 0
   Followed stmt =
-      PassesAll tests stmt → (code stmt).size ≤ T.turn_pays → Follows T R (does stmt) (code stmt) (trail stmt)
+      PassesAll tests stmt → AllNeeded (need stmt).reads → StoresNeeded (need stmt) → (code stmt).size ≤ T.turn_pays →
+      Follows T R (does stmt) (code stmt) (trail stmt)
 
   -- the place of a temporary that a statement names first
   place_there : (t : ℕ) (rest : List ℕ) → list_all (λ t. nat_lt t (length R.places)) (t ∷ rest) ≡ true →
@@ -124,6 +137,26 @@ module _ (T : Setting) (R : Running) (formed : IsWellFormed T.image) (inputs : A
       read_follows T R formed inputs cells nodes is placed calls dest object pointer there.0 place.0 place.1 there.1
       (omega (arith, object_inside cells R.places nodes frame is.room object there.0 _ there.1 its))
 
+  -- what a statement of a known layer reads
+  reads_of : (stmt : TacStmt) (layer : TacStmt-F TacStmt) → stmt ≡ roll-TacStmt layer → AllNeeded (need stmt).reads →
+      AllNeeded (need_step (map-TacStmt _ _ need layer)).reads
+  reads_of stmt layer same h =
+      subst (λ (n : Need). AllNeeded n.reads) (ap need same ∙ fold-roll-TacStmt Need need_step layer) h
+
+  -- a variable that is assigned, by two statements
+  assigns_follow_here : (temp object value : ℕ) (lone : R.needed temp ≡ false) (wants : R.needed value ≡ true) →
+      PassesAll tests (roll-TacStmt (tac.ObjectPlace temp object)) →
+      Follows T R (assigns T R formed inputs cells nodes is placed calls temp object value lone wants)
+      (straightly frame R.places (object_store frame R.places value object))
+      (both_parts T R formed inputs cells nodes is placed calls temp object value lone wants)
+  assigns_follow_here temp object value lone wants pass =
+      let h = passes_here tests (tac.ObjectPlace temp object) pass in
+      let below : object < length cells = ltb-true object (length cells) h.1.0 in
+      let its = slice_get-get_or cells object 0 below in
+      let there = object_there cells R.places nodes frame is.room object _ its in
+      assigns_follow T R formed inputs cells nodes is placed calls temp object value lone wants there.0 there.1
+      (omega (arith, object_inside cells R.places nodes frame is.room object there.0 _ there.1 its))
+
   -- a constant is a word
   is_word : (dest : ℕ) (value : Constant) → has_words (tac.Const dest value) ≡ true → word_of_constant value < 2 ^ 32
   is_word dest (constant.Word w) h = ltb-true w (2 ^ 32) h
@@ -143,20 +176,20 @@ module _ (T : Setting) (R : Running) (formed : IsWellFormed T.image) (inputs : A
 
   -- the operator of a temporary and a constant
   short_follows_here : (dest left : ℕ) (value : Constant) (o : TacOp) (form : ShortForm) →
-      (apart : (left == dest) ≡ false) → short_form o (word_of_constant value) ≡ Some form →
+      (apart : (left == dest) ≡ false) (read : R.needed left ≡ true) → short_form o (word_of_constant value) ≡ Some form →
       PassesAll tests (roll-TacStmt (tac.Const dest value)) →
       PassesAll tests (roll-TacStmt (tac.Op dest o left (Some dest))) →
-      Follows T R (applies T R formed inputs cells nodes is placed calls dest left value o apart)
+      Follows T R (applies T R formed inputs cells nodes is placed calls dest left value o apart read)
       (straightly frame R.places (short_operation frame R.places dest left (short_form o (word_of_constant value))))
-      (both_steps T R formed inputs cells nodes is placed calls dest left value o apart)
-  short_follows_here dest left value o form apart form_is pass pass' =
+      (both_steps T R formed inputs cells nodes is placed calls dest left value o apart read)
+  short_follows_here dest left value o form apart read form_is pass pass' =
       let h = passes_here tests (tac.Const dest value) pass in
       let k = passes_here tests (tac.Op dest o left (Some dest)) pass' in
       let place = place_there dest [] h.0 in
-      subst (λ form. Follows T R (applies T R formed inputs cells nodes is placed calls dest left value o apart)
+      subst (λ form. Follows T R (applies T R formed inputs cells nodes is placed calls dest left value o apart read)
       (straightly frame R.places (short_operation frame R.places dest left form))
-      (both_steps T R formed inputs cells nodes is placed calls dest left value o apart)) (sym form_is)
-      (short_follows T R formed inputs cells nodes is placed calls dest left value o apart form form_is
+      (both_steps T R formed inputs cells nodes is placed calls dest left value o apart read)) (sym form_is)
+      (short_follows T R formed inputs cells nodes is placed calls dest left value o apart read form form_is
       (is_sound o k.1.1.1.1.1.0) (is_word dest value h.1.1.1.1.0) place.0 place.1)
 
   abbrev layer_does : TacStmt-F TacStmt → Codes
@@ -213,10 +246,11 @@ module _ (T : Setting) (R : Running) (formed : IsWellFormed T.image) (inputs : A
   -- two statements that are one piece, before others
   as_one_follows : (before : Role) (stmt next : TacStmt) (rest : List TacStmt) → joins before (code stmt).role ≡ false →
       joins (code stmt).role (code next).role ≡ true → PassesAll tests stmt → PassesAll tests next →
+      AllNeeded (need next).reads →
       (joins (code next).role (role_first (map code rest)) ≡ false → Row (code next).role rest) →
       Row before (stmt ∷ next ∷ rest)
-  as_one_follows before stmt next rest none both pass pass' later =
-      ⊎_elim read short (which_pair (code stmt).role (code next).role both)
+  as_one_follows before stmt next rest none both pass pass' reads_next later =
+      ⊎_elim read (⊎_elim store short) (which_pair (code stmt).role (code next).role both)
     where
       c1 : between frame R.places before (code stmt) (code next).role ≡ no_lines
       c1 = piece_by before (code next).role stmt false true none both
@@ -240,63 +274,115 @@ module _ (T : Setting) (R : Running) (formed : IsWellFormed T.image) (inputs : A
           (straightly frame R.places (object_read frame R.places pair.temp pair.object))
           (reads T R formed inputs cells nodes is placed calls pair.temp pair.object second.pointer)
           (both_trails T R formed inputs cells nodes is placed calls pair.temp pair.object second.pointer) first
-          second.is c1 (c2 ∙ ap (λ r. as_one frame R.places r (code next).role) pair.gives)
+          second.is c1 (c2 ∙ ap₂ (as_one frame R.places) pair.gives pair.loads)
           (read_follows_here pair.temp pair.object second.pointer (subst (PassesAll tests) first pass)) (λ c F. F)
           behind
+
+      store : IsStored (code stmt).role (code next).role → Row before (stmt ∷ next ∷ rest)
+      store pair =
+          let first : stmt ≡ roll-TacStmt (tac.ObjectPlace pair.temp pair.object) =
+          gives_place frame R.places R.needed stmt pair.temp pair.object pair.gives in
+          let second = stores_it frame R.places R.needed next pair.temp pair.value pair.stores in
+          let reads_value : AllNeeded (pair.value ∷ []) = reads_of next (tac.Store pair.temp pair.value) second.is
+          reads_next in
+          let wants : R.needed pair.value ≡ true = and_first (R.needed pair.value) true reads_value in
+          two_follow before stmt next rest (tac.ObjectPlace pair.temp pair.object) (tac.Store pair.temp pair.value)
+          (straightly frame R.places (object_store frame R.places pair.value pair.object))
+          (assigns T R formed inputs cells nodes is placed calls pair.temp pair.object pair.value second.lone wants)
+          (both_parts T R formed inputs cells nodes is placed calls pair.temp pair.object pair.value second.lone wants)
+          first second.is c1 (c2 ∙ ap₂ (as_one frame R.places) pair.gives pair.stores)
+          (assigns_follow_here pair.temp pair.object pair.value second.lone wants
+          (subst (PassesAll tests) first pass)) (λ c F. F) behind
 
       short : IsShort (code stmt).role (code next).role → Row before (stmt ∷ next ∷ rest)
       short pair =
           let first = sets_it frame R.places R.needed stmt pair.temp pair.word pair.sets in
           let second = operates_it frame R.places R.needed next pair.temp pair.left pair.op pair.operates in
           let word_is : pair.word ≡ word_of_constant first.value = sym first.word_is in
+          let reads_left : AllNeeded (pair.left ∷ pair.temp ∷ []) = reads_of next
+          (tac.Op pair.temp pair.op pair.left (Some pair.temp)) second.is reads_next in
+          let wants : R.needed pair.left ≡ true =
+          and_first (R.needed pair.left) (R.needed pair.temp && true) reads_left in
           two_follow before stmt next rest (tac.Const pair.temp first.value)
           (tac.Op pair.temp pair.op pair.left (Some pair.temp))
           (straightly frame R.places
           (short_operation frame R.places pair.temp pair.left (short_form pair.op (word_of_constant first.value))))
-          (applies T R formed inputs cells nodes is placed calls pair.temp pair.left first.value pair.op second.apart)
-          (both_steps T R formed inputs cells nodes is placed calls pair.temp pair.left first.value pair.op second.apart)
+          (applies T R formed inputs cells nodes is placed calls pair.temp pair.left first.value pair.op second.apart wants)
+          (both_steps T R formed inputs cells nodes is placed calls pair.temp pair.left first.value pair.op second.apart wants)
           first.is second.is c1
           (c2 ∙ ap₂ (as_one frame R.places) pair.sets pair.operates ∙
           ap (λ w. straightly frame R.places (short_operation frame R.places pair.temp pair.left (short_form pair.op w)))
           word_is)
-          (short_follows_here pair.temp pair.left first.value pair.op pair.form second.apart
+          (short_follows_here pair.temp pair.left first.value pair.op pair.form second.apart wants
           (ap (short_form pair.op) first.word_is ∙ pair.form_is) (subst (PassesAll tests) first.is pass)
           (subst (PassesAll tests) second.is pass')) (λ c F. F) behind
 
   either_way : (before : Role) (stmt next : TacStmt) (rest : List TacStmt) → joins before (code stmt).role ≡ false →
       ((code stmt).size ≤ T.turn_pays → Follows T R (does stmt) (code stmt) (trail stmt)) → PassesAll tests stmt →
-      PassesAll tests next → (joins (code stmt).role (code next).role ≡ false → Row (code stmt).role (next ∷ rest)) →
+      PassesAll tests next → AllNeeded (need next).reads → (joins (code stmt).role (code next).role ≡ false → Row (code stmt).role (next ∷ rest)) →
       (joins (code next).role (role_first (map code rest)) ≡ false → Row (code next).role rest) →
       Row before (stmt ∷ next ∷ rest)
-  either_way before stmt next rest none first pass pass' later behind =
+  either_way before stmt next rest none first pass pass' reads_next later behind =
       by (joins (code stmt).role (code next).role) refl
     where
       by : (b : Bool) → joins (code stmt).role (code next).role ≡ b → Row before (stmt ∷ next ∷ rest)
-      by true both few = as_one_follows before stmt next rest none both pass pass' behind few
+      by true both few = as_one_follows before stmt next rest none both pass pass' reads_next behind few
       by false alone few = by_itself before stmt (next ∷ rest) none alone first (later alone) few
 
-  row_from : (before : Role) (stmts : List TacStmt) → Each Followed stmts → AllPass tests stmts →
-      joins before (role_first (map code stmts)) ≡ false → Row before stmts
-  row_from before [] each pass none few = nothing_follows T R
-  row_from before (stmt ∷ []) each pass none few =
-      by_itself before stmt [] none (none_behind (code stmt).role) (each.0 (first_passes tests stmt [] pass))
-      (λ few. nothing_follows T R) few
-  row_from before (stmt ∷ next ∷ rest) each pass none few =
-      let behind = rest_pass tests stmt (next ∷ rest) pass in
-      either_way before stmt next rest none (each.0 (first_passes tests stmt (next ∷ rest) pass))
-      (first_passes tests stmt (next ∷ rest) pass) (first_passes tests next rest behind)
-      (λ alone few. row_from (code stmt).role (next ∷ rest) each.1 behind alone few)
-      (λ alone few. row_from (code next).role rest each.1.1 (rest_pass tests next rest behind) alone few) few
+  -- what is read in a row
+  abbrev RowNeeds : Role → List TacStmt → Type 0
+  RowNeeds before stmts = AllNeeded (row_needs (gives_of before) (map need stmts))
 
-  row_of : (stmts : List TacStmt) → Each Followed stmts → AllPass tests stmts →
+  record RowParts (before : Role) (stmt : TacStmt) (rest : List TacStmt) : Type 0 where
+    place : AllNeeded (place_needed (gives_of before) (need stmt).stores)
+    reads : AllNeeded (need stmt).reads
+    behind : RowNeeds (code stmt).role rest
+
+  row_parts : (before : Role) (stmt : TacStmt) (rest : List TacStmt) → RowNeeds before (stmt ∷ rest) →
+      RowParts before stmt rest
+  row_parts before stmt rest h =
+      let first = all_append R.needed (place_needed (gives_of before) (need stmt).stores)
+      ((need stmt).reads ++ row_needs (need stmt).gives (map need rest)) h in
+      let second = all_append R.needed (need stmt).reads (row_needs (need stmt).gives (map need rest)) first.1 in
+      record {
+        place = first.0;
+        reads = second.0;
+        behind = subst (λ g. AllNeeded (row_needs g (map need rest)))
+            (sym (need_gives frame R.places R.needed stmt)) second.1;
+      }
+
+  row_from : (before : Role) (stmts : List TacStmt) → Each Followed stmts → AllPass tests stmts →
+      RowNeeds before stmts → joins before (role_first (map code stmts)) ≡ false → Row before stmts
+  row_from before [] each pass needs none few = nothing_follows T R
+  row_from before (stmt ∷ []) each pass needs none few =
+      let parts = row_parts before stmt [] needs in
+      by_itself before stmt [] none (none_behind (code stmt).role)
+      (each.0 (first_passes tests stmt [] pass) parts.reads
+      (store_alone frame R.places R.needed before stmt parts.place none)) (λ few. nothing_follows T R) few
+  row_from before (stmt ∷ next ∷ rest) each pass needs none few =
+      let behind = rest_pass tests stmt (next ∷ rest) pass in
+      let parts = row_parts before stmt (next ∷ rest) needs in
+      let later = row_parts (code stmt).role next rest parts.behind in
+      either_way before stmt next rest none
+      (each.0 (first_passes tests stmt (next ∷ rest) pass) parts.reads
+      (store_alone frame R.places R.needed before stmt parts.place none))
+      (first_passes tests stmt (next ∷ rest) pass) (first_passes tests next rest behind) later.reads
+      (λ alone few. row_from (code stmt).role (next ∷ rest) each.1 behind parts.behind alone few)
+      (λ alone few. row_from (code next).role rest each.1.1 (rest_pass tests next rest behind) later.behind alone few) few
+
+  row_of : (stmts : List TacStmt) → Each Followed stmts → AllPass tests stmts → AllNeeded (row_needs None (map need stmts)) →
       (in_order frame R.places (map code stmts)).size ≤ T.turn_pays →
       Follows T R (all_do (map does stmts)) (in_order frame R.places (map code stmts)) (row (map trail stmts))
-  row_of stmts each pass few = row_from Other stmts each pass refl few
+  row_of stmts each pass needs few = row_from Other stmts each pass needs refl few
 
   -- A statement by its outermost layer.
+  abbrev layer_need : TacStmt-F TacStmt → Need
+  layer_need layer = need_step (map-TacStmt _ _ need layer)
+
   abbrev Shape : TacStmt-F TacStmt → Type 0
   Shape layer =
-      PassesHere tests layer → PassesAll tests (roll-TacStmt layer) →
+      PassesHere tests layer → PassesAll tests (roll-TacStmt layer) → AllNeeded (layer_need layer).reads →
+      StoresNeeded (layer_need layer) →
       (select_step frame R.places R.needed (map-TacStmt _ _ code layer)).size ≤ T.turn_pays →
       Follows T R (code_step wrapping here calls (map-TacStmt _ _ does layer))
       (select_step frame R.places R.needed (map-TacStmt _ _ code layer)) (trail_step (map-TacStmt _ _ trail layer))
@@ -332,18 +418,19 @@ module _ (T : Setting) (R : Running) (formed : IsWellFormed T.image) (inputs : A
       (follow.answers here.comp target vs s)
 
   const_level : (dest : ℕ) (value : Constant) → Shape (tac.Const dest value)
-  const_level dest value h all few =
+  const_level dest value h all reads at few =
       let place = place_there dest [] h.0 in
       const_follows T R formed inputs cells nodes is placed calls dest value place.0 place.1
       (is_word dest value h.1.1.1.1.0)
 
   copy_level : (dest from : ℕ) → Shape (tac.Copy dest from)
-  copy_level dest from h all few =
+  copy_level dest from h all reads at few =
       let place = place_there dest (from ∷ []) h.0 in
       copy_follows T R formed inputs cells nodes is placed calls dest from place.0 place.1
+      (and_first (R.needed from) true reads)
 
   object_level : (dest object : ℕ) → Shape (tac.ObjectPlace dest object)
-  object_level dest object h all few =
+  object_level dest object h all reads at few =
       let place = place_there dest [] h.0 in
       let below : object < length cells = ltb-true object (length cells) h.1.0 in
       let its = slice_get-get_or cells object 0 below in
@@ -352,62 +439,71 @@ module _ (T : Setting) (R : Running) (formed : IsWellFormed T.image) (inputs : A
       (omega (arith, object_inside cells R.places nodes frame is.room object there.0 _ there.1 its))
 
   global_level : (dest number : ℕ) → Shape (tac.GlobalPlace dest number)
-  global_level dest number h all few =
+  global_level dest number h all reads at few =
       let place = place_there dest [] h.0 in
       global_follows T R formed inputs cells nodes is placed calls dest number place.0 place.1
       (reached.globals number h.1.1.1.1.1.1.0) (reached.places number h.1.1.1.1.1.1.0)
 
   load_level : (dest place : ℕ) (pointer : Bool) → Shape (tac.Load dest place pointer)
-  load_level dest place pointer h all few =
+  load_level dest place pointer h all reads at few =
       let to = place_there dest (place ∷ []) h.0 in
       load_follows T R formed inputs cells nodes is placed calls dest place pointer to.0 to.1
+      (and_first (R.needed place) true reads)
 
   own_level : (dest : Option ℕ) (number : ℕ) (args : List ℕ) → Shape (tac.CallOwn dest number args)
-  own_level dest number args h all few =
+  own_level dest number args h all reads at few =
       let address = reached.functions number h.1.1.1.1.1.1.0 in
       call_own_follows T R formed inputs cells nodes is placed calls follow dest (place_wanted dest args
       h.0) gapless number args
-      (leb-true (length args) 8 h.1.1.1.0) (omega (arith, address.low))
+      (leb-true (length args) 8 h.1.1.1.0) reads (omega (arith, address.low))
       (made dest (Own number) (length args) h.1.1.1.1.1.1.1.0)
       (answers dest (Own number) (length args) h.1.1.1.1.1.1.1.0)
 
   cross_level : (dest : Option ℕ) (comp index : ℕ) (args : List ℕ) → Shape (tac.CallCross dest comp index args)
-  cross_level dest comp index args h all few =
+  cross_level dest comp index args h all reads at few =
       let address = reached.entries comp index h.1.1.1.1.1.1.0 in
       call_cross_follows T R formed inputs cells nodes is placed calls follow dest (place_wanted dest args
       h.0) comp index
-      args (leb-true (length args) 8 h.1.1.1.0) (omega (arith, address.low)) (omega (arith, address.aligned))
+      args (leb-true (length args) 8 h.1.1.1.0) reads (omega (arith, address.low)) (omega (arith, address.aligned))
       (made dest (Cross comp index) (length args) h.1.1.1.1.1.1.1.0)
       (answers dest (Cross comp index) (length args) h.1.1.1.1.1.1.1.0)
 
   input_level : (dest : Option ℕ) → Shape (tac.Input dest)
-  input_level dest h all few =
+  input_level dest h all reads at few =
       input_follows T R formed inputs cells nodes is placed calls follow dest (place_wanted dest [] h.0)
       (made dest Input 0 h.1.1.1.1.1.1.1.0) (answers dest Input 0 h.1.1.1.1.1.1.1.0)
 
   if_level : (cond : ℕ) (first second : List TacStmt) → Each Followed first → Each Followed second →
       Shape (tac.If cond first second)
-  if_level cond first second each each' h all few =
+  if_level cond first second each each' h all reads at few =
       let pass = choice_passes tests cond first second all in
+      let cond_read = and_parts (R.needed cond) _ reads in
+      let inner = all_append R.needed (row_needs None (map need first)) (row_needs None (map need second))
+      cond_read.1 in
       let least = parts_least frame R.places R.needed cond (map code first) (map code second) in
       fork_follows T R formed inputs cells nodes is placed gapless cond (all_do (map does first)) (all_do (map does
       second)) (map code first) (map code second) (map trail first) (map trail second)
-      (row_of first each pass.0 (omega (arith, few, least.0))) (row_of second each' pass.1 (omega (arith, few, least.1)))
+      (row_of first each pass.0 inner.0 (omega (arith, few, least.0)))
+      (row_of second each' pass.1 inner.1 (omega (arith, few, least.1))) cond_read.0
 
   loop_level : (head body next : List TacStmt) → Each Followed head → Each Followed body → Each Followed next →
       Shape (tac.Loop head body next)
-  loop_level head body next each each' each'' h all few =
+  loop_level head body next each each' each'' h all reads at few =
       let pass = loop_passes tests head body next all in
+      let first = all_append R.needed (row_needs None (map need head))
+      (row_needs None (map need body) ++ row_needs None (map need next)) reads in
+      let second = all_append R.needed (row_needs None (map need body)) (row_needs None (map need next)) first.1 in
       loop_follows T R formed inputs (all_do (map does head)) (all_do (map does body)) (all_do (map does next))
       (in_order frame R.places (map code head)) (in_order frame R.places (map code body)) (in_order frame R.places (map code next)) (map trail head) (map trail body)
-      (map trail next) (row_of head each pass.0 (omega (arith, few))) (row_of body each' pass.1 (omega (arith, few)))
-      (row_of next each'' pass.2 (omega (arith, few))) gapless few
+      (map trail next) (row_of head each pass.0 first.0 (omega (arith, few)))
+      (row_of body each' pass.1 second.0 (omega (arith, few)))
+      (row_of next each'' pass.2 second.1 (omega (arith, few))) gapless few
 
   op_level : (dest : ℕ) (o : TacOp) (left : ℕ) (right : Option ℕ) → Shape (tac.Op dest o left right)
-  op_level dest o left right h all few =
+  op_level dest o left right h all reads at few =
       let place = place_there dest (left ∷ one_or_none right) h.0 in
       op_follows T R formed inputs cells nodes is placed calls dest o left place.0 place.1 right
-      (beq_same (is_some right) (takes_two o) h.1.1.0) (is_sound o h.1.1.1.1.1.0)
+      (beq_same (is_some right) (takes_two o) h.1.1.0) (is_sound o h.1.1.1.1.1.0) reads
 
   level : (layer : TacStmt-F TacStmt) → Inside Followed layer → Level layer
   level (tac.Const dest value) inner = record { holds = const_level dest value }
@@ -417,46 +513,51 @@ module _ (T : Setting) (R : Running) (formed : IsWellFormed T.image) (inputs : A
   level (tac.GlobalPlace dest number) inner = record { holds = global_level dest number }
   level (tac.Load dest place pointer) inner = record { holds = load_level dest place pointer }
   level (tac.Store place value) inner =
-      record { holds = λ h all few. store_follows T R formed inputs cells nodes is placed calls place value }
+      record {
+        holds = λ h all reads at few. store_follows T R formed inputs cells nodes is placed calls place value
+            (at place refl) (and_first (R.needed value) true reads);
+      }
   level (tac.If cond first second) inner = record { holds = if_level cond first second inner.0 inner.1 }
   level (tac.Loop head body next) inner = record { holds = loop_level head body next inner.0 inner.1 inner.2 }
-  level tac.Break inner = record { holds = λ h all few. break_follows T R formed inputs gapless }
-  level tac.Continue inner = record { holds = λ h all few. continue_follows T R formed inputs gapless }
+  level tac.Break inner = record { holds = λ h all reads at few. break_follows T R formed inputs gapless }
+  level tac.Continue inner = record { holds = λ h all reads at few. continue_follows T R formed inputs gapless }
   level (tac.CallOwn dest number args) inner = record { holds = own_level dest number args }
   level (tac.CallCross dest comp index args) inner = record { holds = cross_level dest comp index args }
   level (tac.Input dest) inner = record { holds = input_level dest }
   level (tac.Output value) inner =
       record {
-        holds = λ h all few. output_follows T R formed inputs cells nodes is placed calls follow value (made
+        holds = λ h all reads at few. output_follows T R formed inputs cells nodes is placed calls follow value reads (made
             None Output 1 h.1.1.1.1.1.1.1.0);
       }
   level (tac.Return value) inner =
-      record { holds = λ h all few. return_follows T R formed inputs cells nodes is placed calls value }
+      record { holds = λ h all reads at few. return_follows T R formed inputs cells nodes is placed calls value reads }
 
   from_level : (layer : TacStmt-F TacStmt) → Level layer → Followed (roll-TacStmt layer)
-  from_level layer l pass few =
+  from_level layer l pass reads at few =
       let c : code (roll-TacStmt layer) ≡ select_step frame R.places R.needed (map-TacStmt _ _ code layer) =
       fold-roll-TacStmt Code (select_step frame R.places R.needed) layer in
       let d : does (roll-TacStmt layer) ≡ code_step wrapping here calls (map-TacStmt _ _ does layer) =
       fold-roll-TacStmt Codes (code_step wrapping here calls) layer in
       let t : trail (roll-TacStmt layer) ≡ trail_step (map-TacStmt _ _ trail layer) =
       fold-roll-TacStmt Trail trail_step layer in
+      let n : need (roll-TacStmt layer) ≡ layer_need layer = fold-roll-TacStmt Need need_step layer in
       subst (λ d. Follows T R d (code (roll-TacStmt layer)) (trail (roll-TacStmt layer))) (sym d)
       (subst (λ c. Follows T R (code_step wrapping here calls (map-TacStmt _ _ does layer)) c (trail (roll-TacStmt
       layer)))
       (sym c)
       (subst (λ t. Follows T R (code_step wrapping here calls (map-TacStmt _ _ does layer))
       (select_step frame R.places R.needed (map-TacStmt _ _ code layer)) t) (sym t)
-      (l.holds (passes_here tests layer pass) pass (subst (λ c. c.size ≤ T.turn_pays) c few))))
+      (l.holds (passes_here tests layer pass) pass (subst (λ (n : Need). AllNeeded n.reads) n reads)
+      (subst StoresNeeded n at) (subst (λ c. c.size ≤ T.turn_pays) c few))))
 
   pub stmt_follows : (stmt : TacStmt) → Followed stmt
   stmt_follows = stmt_induction Followed (λ layer inner. from_level layer (level layer inner))
 
   -- statements in order
-  pub body_follows : (stmts : List TacStmt) → AllPass tests stmts → (select_all frame R.places R.needed
+  pub body_follows : (stmts : List TacStmt) → AllPass tests stmts → AllNeeded (needs_of stmts) → (select_all frame R.places R.needed
       stmts).size ≤ T.turn_pays →
       Follows T R (code_does wrapping here calls stmts) (select_all frame R.places R.needed stmts) (row (map trail stmts))
-  body_follows stmts pass few = row_of stmts (every stmts) pass few
+  body_follows stmts pass needs few = row_of stmts (every stmts) pass needs few
     where
       every : (stmts : List TacStmt) → Each Followed stmts
       every stmts = everywhere Followed stmt_follows stmts

@@ -1,4 +1,5 @@
 -- The relocations of a function's code name what its statements name.
+use Rattle.sc_select.specs.Prelude.{object_store, store_to}
 use Rattle.sc_emit.proofs.Common.{Bool, Each, FrameTree, Inside, Instr, Line, List, None, Option, Place, Some}
 use Rattle.sc_emit.proofs.Common.{TacFnTree, TacStmt, TacStmt-F, [], a0, all_true, and_first, and_from, and_rest}
 use Rattle.sc_emit.proofs.Common.{call_cross, call_own, code_of, environment_call, everywhere as each_of, fold-TacStmt}
@@ -67,6 +68,7 @@ module _ (function : ℕ → Bool) (entry : (comp index : ℕ) → Bool) (global
         order_keeps frame places needed (PassesAll is_named_line) (record { passes = λ b c. refl })
         (λ t o. record { passes = λ b c. plainly_named (object_read frame places t o) })
         (λ t l o w. record { passes = λ b c. plainly_named (short_operation frame places t l (short_form o w)) })
+        (λ v o. record { passes = λ b c. plainly_named (object_store frame places v o) })
         (followed_passes is_named_line) stmts (each_named stmts h all)
       where
         each_named : (stmts : List TacStmt) → Each Named stmts → all_true (map named_inside stmts) ≡ true →
@@ -120,7 +122,8 @@ module _ (function : ℕ → Bool) (entry : (comp index : ℕ) → Bool) (global
     layer_named (tac.GlobalPlace dest number) h all = global_named dest number (and_first (global number) true all)
     layer_named (tac.Load dest place pointer) h all =
         record { passes = λ b c. plainly_named (load_from frame places dest place) }
-    layer_named (tac.Store place value) h all = unlinked _
+    layer_named (tac.Store place value) h all =
+        record { passes = λ b c. plainly_named (store_to frame places place value) }
     layer_named (tac.If cond first second) h all =
         let a = all_true (map named_inside first) in
         let b = all_true (map named_inside second) in

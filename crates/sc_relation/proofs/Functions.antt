@@ -47,12 +47,12 @@ module _ (T : Setting) (formed : IsWellFormed T.image) (inputs : All IsWord T.in
       (bytes : Bytes)
       (enters : Enters T formed inputs P f args address ra_is x begins frame places nodes low whole room roomy bound_is
       start n pc regs bytes)
-      (params : (o n : ℕ) → o < length args → slice_get f.cells o ≡ Some n → 1 ≤ n) (to : ℕ) where
+      (params : (o n : ℕ) → o < length args → slice_get f.cells o ≡ Some n → 1 ≤ n) (to : ℕ) (needed : Set) where
     abbrev y : Joint
     y = entered P x f args frame low pc regs bytes
 
     abbrev R : Running
-    R = record { activation = activated P x frame low ra_is; places = places; last = to }
+    R = record { activation = activated P x frame low ra_is; places = places; needed = needed; last = to }
 
     abbrev Q : Standpoint
     Q = seen_from R.activation
@@ -75,7 +75,7 @@ module _ (T : Setting) (formed : IsWellFormed T.image) (inputs : All IsWord T.in
         FunctionGives T P x (n + budget) ra_is (with_end piece)
     gives_entered budget (Reached v s) g =
         is_left T formed inputs P f args address ra_is x begins frame places nodes low whole room roomy bound_is start n
-        pc regs bytes enters params to budget v s g
+        pc regs bytes enters params needed to budget v s g
     gives_entered budget (Stopped end s) g = shows_entered budget s g
 
     overflows_entered : (budget : ℕ) (piece : Piece (Option Value)) → Overflows T Q y budget piece →

@@ -21,3 +21,4 @@ pub mod Settling
 pub mod Storing
 pub mod Straight
 pub mod Stretches
+pub mod Wanted

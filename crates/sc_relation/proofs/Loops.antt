@@ -1,4 +1,5 @@
 -- Loops.
+use Rattle.sc_relation.proofs.Wanted.{wanted_less}
 use Rattle.sc_relation.proofs.Common.{All, All-tail, Arrives, Bool, Break, Came, Codes, Comes, Continue, Does, Ends}
 use Rattle.sc_relation.proofs.Common.{Exit, ExitGives, Fetches, Follows, Gives, Goes, IsClear, IsSteady, IsWellFormed}
 use Rattle.sc_relation.proofs.Common.{IsWord, Jal, Joint, Leads, Left, Line, List, Lives, Next, None, Overflows, Piece}
@@ -224,7 +225,7 @@ module _ (T : Setting) (R : Running) (formed : IsWellFormed T.image) (words : Al
           told = ready.settled.told;
         };
         frame = ready.frame;
-        held = λ t v on. ready.held t v (less t on);
+        held = λ t v on. ready.held t v (wanted_less R.needed live begin less t on);
         sp = ready.sp;
       }
 

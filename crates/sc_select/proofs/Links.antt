@@ -246,9 +246,9 @@ rising at [] = λ i j d below within. absurd (omega (arith, within))
 rising at (line ∷ lines) =
     one_rising at line.target (relocations_from (suc at) lines) (not_before (suc at) lines) (rising (suc at) lines)
 
-some_lines : (frame : FrameTree) (places : List Place) (f : TacFnTree) →
+some_lines : (frame : FrameTree) (places : List Place) (needed : ℕ → Bool) (f : TacFnTree) →
     0 < length (instrs_of (function_lines frame places needed f))
-some_lines frame places f =
+some_lines frame places needed f =
     let middle : List Line = (select_all frame places needed f.body).lines 0 0 in
     let last : List Line = plainly (closing frame places f.entry) in
     let taken : List Instr = moved_by 2 2 (sub_word 0 frame.bytes) in
@@ -270,16 +270,16 @@ some_lines frame places f =
       length-append taken (Store Sw 2 1 (pos 0) ∷ []),
     )
 
-pub function_code : (frame : FrameTree) (places : List Place) (f : TacFnTree) →
+pub function_code : (frame : FrameTree) (places : List Place) (needed : ℕ → Bool) (f : TacFnTree) →
     IsCode (code_of_lines (function_lines frame places needed f))
-function_code frame places f =
+function_code frame places needed f =
     let lines : List Line = function_lines frame places needed f in
     record {
-      some = some_lines frame places f;
+      some = some_lines frame places needed f;
       in_order = rising 0 lines;
       linkable = linkable_from (instrs_of lines) 0 lines
           (λ i. let e : 0 + i ≡ i = omega arith in ap (λ n. slice_get (instrs_of lines) n) e)
-          (function_complete frame places f);
+          (function_complete frame places needed f);
     }
 
 -- all that was written before nothing is a function's code

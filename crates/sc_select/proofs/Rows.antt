@@ -1,4 +1,6 @@
 -- Worked functions: the code of each.
+use Rattle.std.specs.Prelude.{ℕ, Bool}
+use Rattle.sc_select.specs.Needs.{needed_in}
 use Rattle.sc_select.proofs.Common.{Addi, Bne, Branch, CodeTree, FrameTree, Function, Jal, Jalr, List, Load, Lw, Op}
 use Rattle.sc_select.proofs.Common.{OpImm, Piece, Place, Register, Slot, Some, Store, Sub, Sw, [], ap, closing, code_of}
 use Rattle.sc_select.proofs.Common.{code_of_lines, entrance, frame_of, in_order, negsuc, plainly, pos, select_step}
@@ -18,13 +20,18 @@ planned frame places plan pieces = code_of_lines (plainly (entrance frame places
 abbrev pub framed : Plan → List Place → FrameTree
 framed plan places = frame_of plan.objects places
 
+-- which temporaries its code reads in their places
+abbrev pub needed_by : Plan → ℕ → Bool
+needed_by plan = needed_in (function plan).body
+
 abbrev pub pieces_of : Plan → List Place → List Piece
-pieces_of plan places = rows Piece (select_step (framed plan places) places) plan.body
+pieces_of plan places = rows Piece (select_step (framed plan places) places (needed_by plan)) plan.body
 
 pub code_is : (plan : Plan) (places : List Place) → code_of (function plan) places (framed plan places) ≡
     planned (framed plan places) places plan (pieces_of plan places)
 code_is plan places =
-    ap (planned (framed plan places) places plan) (rows_are Piece (select_step (framed plan places) places) plan.body)
+    ap (planned (framed plan places) places plan)
+    (rows_are Piece (select_step (framed plan places) places (needed_by plan)) plan.body)
 
 -- `int down(int n) { while (n) n = n - 1; return n; }`
 abbrev pub down : Plan
@@ -47,9 +54,9 @@ down_places =
 pub down_code : code_of (function down) down_places (framed down down_places) ≡ record {
   instrs =
       OpImm Addi 2 2 (negsuc 7) ∷ Store Sw 2 1 (pos 0) ∷ Store Sw 2 10 (pos 4) ∷ OpImm Addi 0 0 (pos 0) ∷
-      Load Lw 3 2 (pos 4) ∷ Branch Bne 3 0 (pos 8) ∷ Jal 0 (pos 24) ∷
-      Load Lw 3 2 (pos 4) ∷ OpImm Addi 4 3 (negsuc 0) ∷ OpImm Addi 3 2 (pos 4) ∷ Store Sw 3 4 (pos 0) ∷
-      Jal 0 (negsuc 27) ∷ Load Lw 3 2 (pos 4) ∷ OpImm Addi 10 3 (pos 0) ∷ Load Lw 1 2 (pos 0) ∷
+      Load Lw 3 2 (pos 4) ∷ Branch Bne 3 0 (pos 8) ∷ Jal 0 (pos 20) ∷
+      Load Lw 3 2 (pos 4) ∷ OpImm Addi 4 3 (negsuc 0) ∷ Store Sw 2 4 (pos 4) ∷
+      Jal 0 (negsuc 23) ∷ Load Lw 3 2 (pos 4) ∷ OpImm Addi 10 3 (pos 0) ∷ Load Lw 1 2 (pos 0) ∷
       OpImm Addi 2 2 (pos 8) ∷ Jalr 0 1 (pos 0) ∷ Load Lw 1 2 (pos 0) ∷ OpImm Addi 2 2 (pos 8) ∷ Jalr 0 1 (pos 0) ∷ [];
   relocations = [];
 }

@@ -1,5 +1,5 @@
 -- Pieces have as many lines as they say.
-use Rattle.sc_select.proofs.Common.{Each, FrameTree, Inside, Line, List, Other, Piece, Place, TacStmt, TacStmt-F, []}
+use Rattle.sc_select.proofs.Common.{Bool, Each, FrameTree, Inside, Line, List, Other, Piece, Place, TacStmt, TacStmt-F, []}
 use Rattle.sc_select.proofs.Common.{arith, choice, cycle, drop, everywhere, fold-roll-TacStmt, followed, in_order}
 use Rattle.sc_select.proofs.Common.{in_turn, joined, jump_back, jump_over, length, length-append, map, map-TacStmt}
 use Rattle.sc_select.proofs.Common.{plainly, refl, select, select_all, select_step, stmt_induction, straight, subst}

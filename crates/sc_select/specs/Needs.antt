@@ -21,7 +21,7 @@ reading_only reads = record { reads = reads; gives = None; stores = None }
 abbrev pub place_needed : (before stores : Option ℕ) → List ℕ
 place_needed before None = []
 place_needed None (Some place) = place ∷ []
-place_needed (Some given) (Some place) = if given == place then [] else place ∷ []
+place_needed (Some temp) (Some place) = if temp == place then [] else place ∷ []
 
 -- what statements in order read, behind one that gives a place
 abbrev pub row_needs : (before : Option ℕ) → List Need → List ℕ

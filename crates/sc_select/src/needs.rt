@@ -27,7 +27,7 @@ impl Model for Needs {
 }
 
 // The temporary that a statement gives the place of a variable.
-fn given(stmt: &TacStmt) -> Option<u32>
+fn gives(stmt: &TacStmt) -> Option<u32>
     ensures { result ≡ (need stmt.now).gives }
 {
     match stmt {
@@ -120,7 +120,7 @@ impl Needs {
         for stmt in stmts.as_slice() {
             self.place(before, stored(stmt));
             self.stmt(stmt);
-            before = given(stmt);
+            before = gives(stmt);
         }
     }
 

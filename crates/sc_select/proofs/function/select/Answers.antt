@@ -11,7 +11,7 @@ function-requires-clause-function c = subst IsFunction (sym c.tree.ensures.tree)
 pub read-requires : goal.read-requires
 read-requires c =
     let lines : c.function.new.self ≡ function_lines c.args.frame.now c.args.places.now (needed_in c.args.f.now.body) c.args.f.now =
-    whole_function c.args.frame.now c.args.places.now c.args.f.now _ _ _ _ c.in_ok-needs_of.ensures c.tree.ensures.tree
+    whole_function c.args.frame.now c.args.places.now c.args.f.now _ _ _ _ c.in_ok-needs.ensures c.tree.ensures.tree
     c.in_ok-function.ensures c.new-lines.ensures in
     subst (λ (l : List Line). length l < 2 ^ 32) (sym lines)
     (function_short c.args.frame.now c.args.places.now _ c.args.f.now c.tree.ensures.rules c.requires)
@@ -19,7 +19,7 @@ read-requires c =
 pub new-requires : goal.new-requires
 new-requires c =
     let lines : c.function.new.self ≡ function_lines c.args.frame.now c.args.places.now (needed_in c.args.f.now.body) c.args.f.now =
-    whole_function c.args.frame.now c.args.places.now c.args.f.now _ _ _ _ c.in_ok-needs_of.ensures c.tree.ensures.tree
+    whole_function c.args.frame.now c.args.places.now c.args.f.now _ _ _ _ c.in_ok-needs.ensures c.tree.ensures.tree
     c.in_ok-function.ensures c.new-lines.ensures in
     subst IsCode (sym (c.in_ok-read.ensures ∙ ap code_of_lines lines))
     (function_code c.args.frame.now c.args.places.now _ c.args.f.now)
@@ -27,7 +27,7 @@ new-requires c =
 pub returns : goal.returns
 returns c =
     let lines : c.function.new.self ≡ function_lines c.args.frame.now c.args.places.now (needed_in c.args.f.now.body) c.args.f.now =
-    whole_function c.args.frame.now c.args.places.now c.args.f.now _ _ _ _ c.in_ok-needs_of.ensures c.tree.ensures.tree
+    whole_function c.args.frame.now c.args.places.now c.args.f.now _ _ _ _ c.in_ok-needs.ensures c.tree.ensures.tree
     c.in_ok-function.ensures c.new-lines.ensures in
     let is : c.new.result ≡ code_of c.args.f.now c.args.places.now c.args.frame.now =
     c.new.ensures ∙ c.in_ok-read.ensures ∙ ap code_of_lines lines in

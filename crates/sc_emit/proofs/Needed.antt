@@ -1,0 +1,141 @@
+-- Temporaries that are read in their places: what rows of statements need, and where a store stands alone.
+use Rattle.sc_emit.proofs.Common.{Bool, FrameTree, Inside, List, None, Option, Other, Place, Role, Some, TacStmt}
+use Rattle.sc_emit.proofs.Common.{TacStmt-F, [], and_first, and_from, and_parts, ap, eqb-true, false, fold-roll-TacStmt}
+use Rattle.sc_emit.proofs.Common.{if◌then◌else◌, is_one, joins, list_all, map, map-TacStmt, or_left, or_right, refl}
+use Rattle.sc_emit.proofs.Common.{roll-TacStmt, select, select_step, stmt_induction, subst, sym, true, ℕ, ◌&&◌, ◌++◌}
+use Rattle.sc_emit.proofs.Common.{◌==◌, ◌||◌, ◌∙◌, ◌∷◌, ◌≡◌}
+use Rattle.std.proofs.Common.{eq-eqb, ⊎_elim, ◌⊎◌}
+use Rattle.sc_tac.specs.declared.stmt.TacStmt.TheOpen as tac
+use Rattle.sc_select.specs.Needs.{Need, need, need_step, place_needed, row_needs}
+use Rattle.sc_select.specs.Prelude.{role_of_store}
+use Rattle.sc_select.specs.declared.roles.Role.TheVariants.{Loads, Operates, Places, Sets, Stores}
+use Rattle.sc_select.proofs.Joining.{fork_role, operation_role, store_role}
+
+-- LISTS
+pub one_of_all : (p : ℕ → Bool) (xs : List ℕ) (t : ℕ) → list_all p xs ≡ true → is_one t xs ≡ true → p t ≡ true
+one_of_all p [] t h on = cc on
+one_of_all p (x ∷ xs) t h on = by (x == t) refl on
+  where
+    by : (b : Bool) → (x == t) ≡ b → (b || is_one t xs) ≡ true → p t ≡ true
+    by true e on = ap p (sym (eqb-true x t e)) ∙ and_first (p x) (list_all p xs) h
+    by false e on = one_of_all p xs t (and_parts (p x) (list_all p xs) h).1 on
+
+pub all_append : (p : ℕ → Bool) (xs ys : List ℕ) → list_all p (xs ++ ys) ≡ true →
+    (list_all p xs ≡ true) × (list_all p ys ≡ true)
+all_append p [] ys h = (refl, h)
+all_append p (x ∷ xs) ys h =
+    let parts = and_parts (p x) (list_all p (xs ++ ys)) h in
+    let rest = all_append p xs ys parts.1 in (and_from (p x) (list_all p xs) parts.0 rest.0, rest.1)
+
+-- each of these is one of those
+pub all_among : (xs ys : List ℕ) → ((t : ℕ) → is_one t xs ≡ true → is_one t ys ≡ true) →
+    list_all (λ t. is_one t ys) xs ≡ true
+all_among [] ys h = refl
+all_among (x ∷ xs) ys h =
+    and_from (is_one x ys) (list_all (λ t. is_one t ys) xs)
+    (h x (or_left (x == x) (is_one x xs) (eq-eqb x x refl)))
+    (all_among xs ys (λ t on. h t (or_right (x == t) (is_one t xs) on)))
+
+-- ROLES
+abbrev pub gives_of : Role → Option ℕ
+gives_of (Places temp object) = Some temp
+gives_of _ = None
+
+module _ (frame : FrameTree) (places : List Place) (needed : ℕ → Bool) where
+  abbrev role_of : TacStmt → Role
+  role_of stmt = (select frame places needed stmt).role
+
+  abbrev layer_need : TacStmt-F TacStmt → Need
+  layer_need layer = need_step (map-TacStmt _ _ need layer)
+
+  abbrev Gives : TacStmt → Type 0
+  Gives stmt = gives_of (role_of stmt) ≡ (need stmt).gives
+
+  nothing_given : (role its : Role) → (role ≡ Other) ⊎ (role ≡ its) → gives_of its ≡ None → gives_of role ≡ None
+  nothing_given role its h none = ⊎_elim (λ e. ap gives_of e) (λ e. ap gives_of e ∙ none) h
+
+  layer_gives : (layer : TacStmt-F TacStmt) →
+      gives_of (select_step frame places needed (map-TacStmt _ _ (select frame places needed) layer)).role ≡
+      (layer_need layer).gives
+  layer_gives (tac.Const dest value) = refl
+  layer_gives (tac.Copy dest from) = refl
+  layer_gives (tac.Op dest o left right) =
+      nothing_given _ (Operates dest left o) (operation_role frame places needed dest o left right) refl
+  layer_gives (tac.ObjectPlace dest object) = refl
+  layer_gives (tac.GlobalPlace dest global) = refl
+  layer_gives (tac.Load dest place pointer) = by (dest == place)
+    where
+      by : (b : Bool) → gives_of (if b then Loads dest else Other) ≡ None
+      by true = refl
+      by false = refl
+  layer_gives (tac.Store place value) =
+      nothing_given _ (Stores place value) (store_role frame places needed place value) refl
+  layer_gives (tac.If cond first second) =
+      ap gives_of (fork_role frame places needed cond (map (select frame places needed) first)
+      (map (select frame places needed) second))
+  layer_gives (tac.Loop head body next) = refl
+  layer_gives tac.Break = refl
+  layer_gives tac.Continue = refl
+  layer_gives (tac.CallOwn dest function args) = refl
+  layer_gives (tac.CallCross dest comp index args) = refl
+  layer_gives (tac.Input dest) = refl
+  layer_gives (tac.Output value) = refl
+  layer_gives (tac.Return value) = refl
+
+  -- what a statement gives to its neighbour, by its role and by its need
+  pub need_gives : (stmt : TacStmt) → Gives stmt
+  need_gives = stmt_induction Gives (λ layer inside.
+      ap (λ p. gives_of p.role) (fold-roll-TacStmt _ (select_step frame places needed) layer) ∙ layer_gives layer ∙
+      sym (ap (λ (n : Need). n.gives) (fold-roll-TacStmt Need need_step layer)))
+
+  -- a store, by its need
+  record IsStoreAt (stmt : TacStmt) (place : ℕ) : Type 0 where
+    value : ℕ
+    role_is : role_of stmt ≡ role_of_store needed place value
+
+  layer_stores : (layer : TacStmt-F TacStmt) (place : ℕ) → (layer_need layer).stores ≡ Some place →
+      IsStoreAt (roll-TacStmt layer) place
+  layer_stores (tac.Store at value) place h =
+      let same : at ≡ place = cc h in record {
+        value = value;
+        role_is =
+            ap (λ p. p.role) (fold-roll-TacStmt _ (select_step frame places needed) (tac.Store at value)) ∙
+            ap (λ p. role_of_store needed p value) same;
+      }
+  layer_stores _ place h = cc h
+
+  stores_at : (stmt : TacStmt) (place : ℕ) → (need stmt).stores ≡ Some place → IsStoreAt stmt place
+  stores_at =
+      stmt_induction (λ stmt. (place : ℕ) → (need stmt).stores ≡ Some place → IsStoreAt stmt place)
+      (λ layer inside place h.
+      layer_stores layer place (sym (ap (λ (n : Need). n.stores) (fold-roll-TacStmt Need need_step layer)) ∙ h))
+
+  -- the place of a store that isn't one with the statement before it is read
+  read_behind : (before : Role) (place value : ℕ) → list_all needed (place_needed (gives_of before) (Some place)) ≡ true →
+      joins before (Stores place value) ≡ false → needed place ≡ true
+  read_behind (Places temp object) place value h apart =
+      let all : list_all needed (place ∷ []) ≡ true =
+      sym (ap (λ b. list_all needed (if b then [] else place ∷ [])) apart) ∙ h in and_first (needed place) true all
+  read_behind (Loads temp) place value h apart = and_first (needed place) true h
+  read_behind (Sets temp word) place value h apart = and_first (needed place) true h
+  read_behind (Operates temp left o) place value h apart = and_first (needed place) true h
+  read_behind (Stores temp from) place value h apart = and_first (needed place) true h
+  read_behind Other place value h apart = and_first (needed place) true h
+
+  pub store_alone : (before : Role) (stmt : TacStmt) →
+      list_all needed (place_needed (gives_of before) (need stmt).stores) ≡ true →
+      joins before (role_of stmt) ≡ false → (place : ℕ) → (need stmt).stores ≡ Some place → needed place ≡ true
+  store_alone before stmt h apart place is = by (needed place) refl
+    where
+      store : IsStoreAt stmt place
+      store = stores_at stmt place is
+
+      by : (b : Bool) → needed place ≡ b → b ≡ true
+      by true e = refl
+      by false e =
+          let role : role_of stmt ≡ Stores place store.value =
+          store.role_is ∙ ap (λ b. if b then Other else Stores place store.value) e in
+          sym e ∙
+          read_behind before place store.value
+          (subst (λ o. list_all needed (place_needed (gives_of before) o) ≡ true) is h)
+          (sym (ap (joins before) role) ∙ apart)
