@@ -1,5 +1,6 @@
 -- The code of a function has at most one branch for each `If` and no EBREAK,
 -- and each field of its instructions is in the range of its form.
+use Rattle.sc_select.specs.Needs.{needed_in}
 use Rattle.sc_select.specs.Prelude.{object_store, role_of_store}
 use Rattle.sc_emit.proofs.Common.{Addi, All, All-cons, All-nil, Andi, ArePlaces, Bne, Bool, Branch, Each, Ebreak, Entry}
 use Rattle.sc_emit.proofs.Common.{Export, Fits, FrameTree, Inside, Instr, IsBranchOffset, IsImmediate, IsInstr}
@@ -368,7 +369,7 @@ followed_passes test e f he hf = record {
 pub record IsMild (test : Line → Bool) : Type 0 where
   pub mild : (instr : Instr) → is_sound instr ≡ true → test (plain instr) ≡ true
 
-module _ (test : Line → Bool) (mild : IsMild test) (frame : FrameTree) (places : List Place) (needed : ℕ → Bool) where
+module _ (test : Line → Bool) (mild : IsMild test) (frame : FrameTree) (places : List Place) where
   straight_mild : (instr : Instr) → is_straight instr ≡ true → test (plain instr) ≡ true
   straight_mild instr h = mild.mild instr (straight_sound instr h)
 
@@ -389,7 +390,7 @@ module _ (test : Line → Bool) (mild : IsMild test) (frame : FrameTree) (places
   pub fork_passes : (cond : ℕ) (first second : List Piece) → PassesAll test (in_order frame places first) →
       PassesAll test (in_order frame places second) → PassesAll test (fork frame places cond first second)
   fork_passes cond first second he hf =
-      fork_keeps frame places needed (PassesAll test) (record { passes = λ b c. refl })
+      fork_keeps frame places (PassesAll test) (record { passes = λ b c. refl })
       (λ lines. record { passes = λ b c. and_from (test (jump_over lines)) true (mild.mild _ refl) refl })
       (followed_passes test) cond first second (record { passes = λ b c. choice_passes cond }) he hf
 
@@ -620,13 +621,14 @@ module _ (frame : FrameTree) (places : List Place) (needed : ℕ → Bool) where
 pub few_branches : (f : TacFnTree) (places : List Place) (frame : FrameTree) →
     code_branches (code_of f places frame) ≤ branches f.body
 few_branches f places frame =
-    omega (arith, count_is (function_lines frame places needed f), function_count frame places f)
+    omega (arith, count_is (function_lines frame places (needed_in f.body) f), function_count frame places (needed_in f.body) f)
 
 all_sound : (f : TacFnTree) (places : List Place) (frame : FrameTree) →
     list_all {X = Instr} is_sound (code_of f places frame).instrs ≡ true
 all_sound f places frame =
-    list_all-map is_sound (λ line. line.instr) (function_lines frame places needed f) ∙
-    function_passes frame places is_sound_line sound_mild f (body_shaped frame places f.body).sound
+    list_all-map is_sound (λ line. line.instr) (function_lines frame places (needed_in f.body) f) ∙
+    function_passes frame places (needed_in f.body) is_sound_line sound_mild f
+    (body_shaped frame places (needed_in f.body) f.body).sound
 
 pub no_ebreak : (f : TacFnTree) (places : List Place) (frame : FrameTree) →
     has_no_ebreak (code_of f places frame) ≡ true
@@ -997,7 +999,7 @@ module _ (frame : FrameTree) (places : List Place) (needed : ℕ → Bool) (ther
   object_store_instrs value object =
       both_instrs (take frame places second_scratch value) _ (taken_instrs frame second_scratch (slice_get places value)
       second_there) (store_instrs (operand frame places second_scratch value) (object_offset frame object)
-      (second_at value))
+      (second_at (Some value)))
 
   load_from_instrs : (dest place : ℕ) → AreInstrs (load_from frame places dest place)
   load_from_instrs dest place =
@@ -1258,8 +1260,9 @@ module _ (frame : FrameTree) (places : List Place) (needed : ℕ → Bool) (ther
 
 -- each is an instruction, where temporaries lie in registers that there are, and jumps reach
 pub are_instrs : (f : TacFnTree) (places : List Place) (frame : FrameTree) → ArePlaces places → f.params ≤ most_params →
-    Fits frame places needed f.body 0 0 → All IsInstr (code_of f places frame).instrs
+    Fits frame places (needed_in f.body) f.body 0 0 → All IsInstr (code_of f places frame).instrs
 are_instrs f places frame known few fits =
     let there : (t : ℕ) → IsThere (slice_get places t) =
     λ t. place_there (length places) places t known.known in
-    all_instrs (function_lines frame places needed f) (function_instrs frame places there f few fits)
+    all_instrs (function_lines frame places (needed_in f.body) f)
+    (function_instrs frame places (needed_in f.body) there f few fits)

@@ -538,5 +538,5 @@ module _ (T : Setting) (R : Running) (formed : IsWellFormed T.image) (inputs : A
           let none : first ≡ [] = is_empty first (and_first (length first == 0) (f.size == 1) is) in
           let empty : e.size ≡ 0 = ap (λ pieces. (in_order frame R.places pieces).size) none in
           let single : f.size ≡ 1 = eqb-true f.size 1 (and_rest (length first == 0) (f.size == 1) is) in
-          skipping_follows cond one two e f fs ss F S empty single
-      by false is = choosing_follows cond one two e f fs ss F S
+          skipping_follows cond one two e f fs ss F S need empty single
+      by false is = choosing_follows cond one two e f fs ss F S need

@@ -1,4 +1,5 @@
 -- Calls of the environment.
+use Rattle.sc_emit.proofs.Common.{live_across}
 use Rattle.sc_relation.proofs.Wanted.{wanted_less}
 use Rattle.std.specs.List.{list_all}
 use Rattle.sc_emit.proofs.Common.{Activation, Addi, All, CallStands, CallTarget, Calls, CallsFollow, CodeAt, ComesBack}

@@ -14,11 +14,12 @@ use Rattle.sc_select.proofs.Joining.{fork_role, operation_role, store_role}
 -- LISTS
 pub one_of_all : (p : ℕ → Bool) (xs : List ℕ) (t : ℕ) → list_all p xs ≡ true → is_one t xs ≡ true → p t ≡ true
 one_of_all p [] t h on = cc on
-one_of_all p (x ∷ xs) t h on = by (x == t) refl on
+one_of_all p (x ∷ xs) t h on =
+    by (x == t) refl on (λ later. one_of_all p xs t (and_parts (p x) (list_all p xs) h).1 later)
   where
-    by : (b : Bool) → (x == t) ≡ b → (b || is_one t xs) ≡ true → p t ≡ true
-    by true e on = ap p (sym (eqb-true x t e)) ∙ and_first (p x) (list_all p xs) h
-    by false e on = one_of_all p xs t (and_parts (p x) (list_all p xs) h).1 on
+    by : (b : Bool) → (x == t) ≡ b → (b || is_one t xs) ≡ true → (is_one t xs ≡ true → p t ≡ true) → p t ≡ true
+    by true e on rest = ap p (sym (eqb-true x t e)) ∙ and_first (p x) (list_all p xs) h
+    by false e on rest = rest on
 
 pub all_append : (p : ℕ → Bool) (xs ys : List ℕ) → list_all p (xs ++ ys) ≡ true →
     (list_all p xs ≡ true) × (list_all p ys ≡ true)
@@ -71,7 +72,7 @@ module _ (frame : FrameTree) (places : List Place) (needed : ℕ → Bool) where
   layer_gives (tac.Store place value) =
       nothing_given _ (Stores place value) (store_role frame places needed place value) refl
   layer_gives (tac.If cond first second) =
-      ap gives_of (fork_role frame places needed cond (map (select frame places needed) first)
+      ap gives_of (fork_role frame places cond (map (select frame places needed) first)
       (map (select frame places needed) second))
   layer_gives (tac.Loop head body next) = refl
   layer_gives tac.Break = refl

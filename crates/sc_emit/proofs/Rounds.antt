@@ -1,4 +1,5 @@
 -- The code of loops: where it begins, and where it leads back.
+use Rattle.sc_select.specs.Needs.{needed_in}
 use Rattle.sc_select.specs.Prelude.{object_store, role_of_store}
 use Rattle.sc_select.proofs.Joining.{IsStored, stores_it}
 use Rattle.sc_emit.proofs.Common.{Bne, Bool, Branch, Each, Ebreak, FrameTree, Inside, Instr, IsRead, IsShort, Jal, Line}
@@ -365,6 +366,7 @@ pub has_rounds : (f : TacFnTree) (places : List Place) (frame : FrameTree) →
     HasRounds f.body (code_of f places frame).instrs
 has_rounds f places frame =
     let in_lines : List Line = plainly (entrance frame places f.params) in
+    let needed : ℕ → Bool = needed_in f.body in
     let body : List Line = (select_all frame places needed f.body).lines 0 0 in
     let out_lines : List Line = plainly (closing frame places f.entry) in
     record {
@@ -380,7 +382,7 @@ has_rounds f places frame =
           (plainly_straight (entrance frame places f.params) (entrance_straight frame places f.params));
       out_on =
           lines_on out_lines (plainly_straight (closing frame places f.entry) (closing_straight frame places f.entry));
-      statements = row_lies frame places f.body (everywhere (Lies frame places) (stmt_lies frame places) f.body) 0 0;
+      statements = row_lies frame places needed f.body (everywhere (Lies frame places needed) (stmt_lies frame places needed) f.body) 0 0;
     }
 
 -- COUNTS

@@ -1,4 +1,6 @@
 -- The code of statements follows what they do: by induction over their layers.
+use Rattle.sc_base.proofs.Bools.{and_first}
+use Rattle.std.specs.Prelude.{◌&&◌}
 use Rattle.sc_select.specs.Needs.{Need, need, need_step, needs_of, place_needed, row_needs}
 use Rattle.sc_select.specs.Prelude.{object_store}
 use Rattle.sc_select.proofs.Joining.{IsStored, stores_it}
@@ -418,19 +420,19 @@ module _ (T : Setting) (R : Running) (formed : IsWellFormed T.image) (inputs : A
       (follow.answers here.comp target vs s)
 
   const_level : (dest : ℕ) (value : Constant) → Shape (tac.Const dest value)
-  const_level dest value h all reads at few =
+  const_level dest value h all needs at few =
       let place = place_there dest [] h.0 in
       const_follows T R formed inputs cells nodes is placed calls dest value place.0 place.1
       (is_word dest value h.1.1.1.1.0)
 
   copy_level : (dest from : ℕ) → Shape (tac.Copy dest from)
-  copy_level dest from h all reads at few =
+  copy_level dest from h all needs at few =
       let place = place_there dest (from ∷ []) h.0 in
       copy_follows T R formed inputs cells nodes is placed calls dest from place.0 place.1
-      (and_first (R.needed from) true reads)
+      (and_first (R.needed from) true needs)
 
   object_level : (dest object : ℕ) → Shape (tac.ObjectPlace dest object)
-  object_level dest object h all reads at few =
+  object_level dest object h all needs at few =
       let place = place_there dest [] h.0 in
       let below : object < length cells = ltb-true object (length cells) h.1.0 in
       let its = slice_get-get_or cells object 0 below in
@@ -439,48 +441,48 @@ module _ (T : Setting) (R : Running) (formed : IsWellFormed T.image) (inputs : A
       (omega (arith, object_inside cells R.places nodes frame is.room object there.0 _ there.1 its))
 
   global_level : (dest number : ℕ) → Shape (tac.GlobalPlace dest number)
-  global_level dest number h all reads at few =
+  global_level dest number h all needs at few =
       let place = place_there dest [] h.0 in
       global_follows T R formed inputs cells nodes is placed calls dest number place.0 place.1
       (reached.globals number h.1.1.1.1.1.1.0) (reached.places number h.1.1.1.1.1.1.0)
 
   load_level : (dest place : ℕ) (pointer : Bool) → Shape (tac.Load dest place pointer)
-  load_level dest place pointer h all reads at few =
+  load_level dest place pointer h all needs at few =
       let to = place_there dest (place ∷ []) h.0 in
       load_follows T R formed inputs cells nodes is placed calls dest place pointer to.0 to.1
-      (and_first (R.needed place) true reads)
+      (and_first (R.needed place) true needs)
 
   own_level : (dest : Option ℕ) (number : ℕ) (args : List ℕ) → Shape (tac.CallOwn dest number args)
-  own_level dest number args h all reads at few =
+  own_level dest number args h all needs at few =
       let address = reached.functions number h.1.1.1.1.1.1.0 in
       call_own_follows T R formed inputs cells nodes is placed calls follow dest (place_wanted dest args
       h.0) gapless number args
-      (leb-true (length args) 8 h.1.1.1.0) reads (omega (arith, address.low))
+      (leb-true (length args) 8 h.1.1.1.0) needs (omega (arith, address.low))
       (made dest (Own number) (length args) h.1.1.1.1.1.1.1.0)
       (answers dest (Own number) (length args) h.1.1.1.1.1.1.1.0)
 
   cross_level : (dest : Option ℕ) (comp index : ℕ) (args : List ℕ) → Shape (tac.CallCross dest comp index args)
-  cross_level dest comp index args h all reads at few =
+  cross_level dest comp index args h all needs at few =
       let address = reached.entries comp index h.1.1.1.1.1.1.0 in
       call_cross_follows T R formed inputs cells nodes is placed calls follow dest (place_wanted dest args
       h.0) comp index
-      args (leb-true (length args) 8 h.1.1.1.0) reads (omega (arith, address.low)) (omega (arith, address.aligned))
+      args (leb-true (length args) 8 h.1.1.1.0) needs (omega (arith, address.low)) (omega (arith, address.aligned))
       (made dest (Cross comp index) (length args) h.1.1.1.1.1.1.1.0)
       (answers dest (Cross comp index) (length args) h.1.1.1.1.1.1.1.0)
 
   input_level : (dest : Option ℕ) → Shape (tac.Input dest)
-  input_level dest h all reads at few =
+  input_level dest h all needs at few =
       input_follows T R formed inputs cells nodes is placed calls follow dest (place_wanted dest [] h.0)
       (made dest Input 0 h.1.1.1.1.1.1.1.0) (answers dest Input 0 h.1.1.1.1.1.1.1.0)
 
   if_level : (cond : ℕ) (first second : List TacStmt) → Each Followed first → Each Followed second →
       Shape (tac.If cond first second)
-  if_level cond first second each each' h all reads at few =
+  if_level cond first second each each' h all needs at few =
       let pass = choice_passes tests cond first second all in
-      let cond_read = and_parts (R.needed cond) _ reads in
+      let cond_read = and_parts (R.needed cond) _ needs in
       let inner = all_append R.needed (row_needs None (map need first)) (row_needs None (map need second))
       cond_read.1 in
-      let least = parts_least frame R.places R.needed cond (map code first) (map code second) in
+      let least = parts_least frame R.places cond (map code first) (map code second) in
       fork_follows T R formed inputs cells nodes is placed gapless cond (all_do (map does first)) (all_do (map does
       second)) (map code first) (map code second) (map trail first) (map trail second)
       (row_of first each pass.0 inner.0 (omega (arith, few, least.0)))
@@ -488,10 +490,10 @@ module _ (T : Setting) (R : Running) (formed : IsWellFormed T.image) (inputs : A
 
   loop_level : (head body next : List TacStmt) → Each Followed head → Each Followed body → Each Followed next →
       Shape (tac.Loop head body next)
-  loop_level head body next each each' each'' h all reads at few =
+  loop_level head body next each each' each'' h all needs at few =
       let pass = loop_passes tests head body next all in
       let first = all_append R.needed (row_needs None (map need head))
-      (row_needs None (map need body) ++ row_needs None (map need next)) reads in
+      (row_needs None (map need body) ++ row_needs None (map need next)) needs in
       let second = all_append R.needed (row_needs None (map need body)) (row_needs None (map need next)) first.1 in
       loop_follows T R formed inputs (all_do (map does head)) (all_do (map does body)) (all_do (map does next))
       (in_order frame R.places (map code head)) (in_order frame R.places (map code body)) (in_order frame R.places (map code next)) (map trail head) (map trail body)
@@ -500,10 +502,10 @@ module _ (T : Setting) (R : Running) (formed : IsWellFormed T.image) (inputs : A
       (row_of next each'' pass.2 second.1 (omega (arith, few))) gapless few
 
   op_level : (dest : ℕ) (o : TacOp) (left : ℕ) (right : Option ℕ) → Shape (tac.Op dest o left right)
-  op_level dest o left right h all reads at few =
+  op_level dest o left right h all needs at few =
       let place = place_there dest (left ∷ one_or_none right) h.0 in
       op_follows T R formed inputs cells nodes is placed calls dest o left place.0 place.1 right
-      (beq_same (is_some right) (takes_two o) h.1.1.0) (is_sound o h.1.1.1.1.1.0) reads
+      (beq_same (is_some right) (takes_two o) h.1.1.0) (is_sound o h.1.1.1.1.1.0) needs
 
   level : (layer : TacStmt-F TacStmt) → Inside Followed layer → Level layer
   level (tac.Const dest value) inner = record { holds = const_level dest value }
@@ -514,23 +516,23 @@ module _ (T : Setting) (R : Running) (formed : IsWellFormed T.image) (inputs : A
   level (tac.Load dest place pointer) inner = record { holds = load_level dest place pointer }
   level (tac.Store place value) inner =
       record {
-        holds = λ h all reads at few. store_follows T R formed inputs cells nodes is placed calls place value
-            (at place refl) (and_first (R.needed value) true reads);
+        holds = λ h all needs at few. store_follows T R formed inputs cells nodes is placed calls place value
+            (at place refl) (and_first (R.needed value) true needs);
       }
   level (tac.If cond first second) inner = record { holds = if_level cond first second inner.0 inner.1 }
   level (tac.Loop head body next) inner = record { holds = loop_level head body next inner.0 inner.1 inner.2 }
-  level tac.Break inner = record { holds = λ h all reads at few. break_follows T R formed inputs gapless }
-  level tac.Continue inner = record { holds = λ h all reads at few. continue_follows T R formed inputs gapless }
+  level tac.Break inner = record { holds = λ h all needs at few. break_follows T R formed inputs gapless }
+  level tac.Continue inner = record { holds = λ h all needs at few. continue_follows T R formed inputs gapless }
   level (tac.CallOwn dest number args) inner = record { holds = own_level dest number args }
   level (tac.CallCross dest comp index args) inner = record { holds = cross_level dest comp index args }
   level (tac.Input dest) inner = record { holds = input_level dest }
   level (tac.Output value) inner =
       record {
-        holds = λ h all reads at few. output_follows T R formed inputs cells nodes is placed calls follow value reads (made
+        holds = λ h all needs at few. output_follows T R formed inputs cells nodes is placed calls follow value needs (made
             None Output 1 h.1.1.1.1.1.1.1.0);
       }
   level (tac.Return value) inner =
-      record { holds = λ h all reads at few. return_follows T R formed inputs cells nodes is placed calls value reads }
+      record { holds = λ h all needs at few. return_follows T R formed inputs cells nodes is placed calls value needs }
 
   from_level : (layer : TacStmt-F TacStmt) → Level layer → Followed (roll-TacStmt layer)
   from_level layer l pass reads at few =

@@ -1,4 +1,5 @@
 -- The relocations of a function's code name what its statements name.
+use Rattle.sc_select.specs.Needs.{needed_in}
 use Rattle.sc_select.specs.Prelude.{object_store, store_to}
 use Rattle.sc_emit.proofs.Common.{Bool, Each, FrameTree, Inside, Instr, Line, List, None, Option, Place, Some}
 use Rattle.sc_emit.proofs.Common.{TacFnTree, TacStmt, TacStmt-F, [], a0, all_true, and_first, and_from, and_rest}
@@ -156,6 +157,7 @@ module _ (function : ℕ → Bool) (entry : (comp index : ℕ) → Bool) (global
   pub targets_named : (f : TacFnTree) (places : List Place) (frame : FrameTree) → everywhere own f.body ≡ true →
       refers_only function entry global (code_of f places frame) ≡ true
   targets_named f places frame h =
-      relocations_named 0 (function_lines frame places needed f)
-      (function_passes frame places is_named_line named_mild f
-      (row_named frame places f.body (each_of (Named frame places) (stmt_named frame places) f.body) h))
+      relocations_named 0 (function_lines frame places (needed_in f.body) f)
+      (function_passes frame places (needed_in f.body) is_named_line named_mild f
+      (row_named frame places (needed_in f.body) f.body
+      (each_of (Named frame places (needed_in f.body)) (stmt_named frame places (needed_in f.body)) f.body) h))

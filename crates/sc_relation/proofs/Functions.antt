@@ -1,4 +1,5 @@
 -- What comes of a call of a function, from what comes of its body; and of one whose frame goes below the stack.
+use Rattle.sc_relation.proofs.Common.{Set}
 use Rattle.sc_relation.proofs.Common.{All, Begins, FrameTree, Function, FunctionGives, Grown, HasRoom, IsFrame}
 use Rattle.sc_relation.proofs.Common.{IsWellFormed, IsWord, Joint, List, Memory as Bytes, Option, Overflows, Piece}
 use Rattle.sc_relation.proofs.Common.{Place, Reached, Registers, Returns, Running, Setting, Shows, Some, Standpoint}

@@ -1,6 +1,7 @@
 -- What is live and read in its place: less than what is live.
-use Rattle.sc_relation.proofs.Common.{Bool, IsClear, List, Place, Point, Set, and_first, and_from, and_rest, true}
+use Rattle.sc_relation.proofs.Common.{Bool, IsClear, List, Place, Point, Set, and_from, true}
 use Rattle.sc_relation.proofs.Common.{ℕ, ◌≡◌}
+use Rattle.sc_base.proofs.Bools.{and_first, and_rest}
 use Rattle.sc_relation.specs.Following.{wanted}
 
 -- where less is live, less is wanted

@@ -131,7 +131,7 @@ pub past_few : (n : ℕ) → length (past n) ≤ 1
 past_few zero = omega arith
 past_few (suc n) = omega arith
 
-module _ (frame : FrameTree) (places : List Place) (needed : ℕ → Bool) where
+module _ (frame : FrameTree) (places : List Place) where
   -- what holds of the branch, of a jump over lines, and of pieces one behind the other holds of a choice
   pub fork_keeps : (P : Piece → Type 0) → P nothing → ((lines : ℕ) → P (straight (jump_over lines ∷ []))) →
       ((e f : Piece) → P e → P f → P (followed e f)) → (cond : ℕ) (first second : List Piece) →
@@ -173,7 +173,7 @@ module _ (frame : FrameTree) (places : List Place) (needed : ℕ → Bool) where
           (omega (arith, none), omega arith)
       by false is = (omega arith, omega arith)
 
-  fork_role : (cond : ℕ) (first second : List Piece) → (fork frame places cond first second).role ≡ Other
+  pub fork_role : (cond : ℕ) (first second : List Piece) → (fork frame places cond first second).role ≡ Other
   fork_role cond first second = by (length first == 0 && (in_order frame places second).size == 1)
     where
       by : (b : Bool) → (if b then skipping frame places cond (in_order frame places second)
@@ -181,6 +181,7 @@ module _ (frame : FrameTree) (places : List Place) (needed : ℕ → Bool) where
       by true = refl
       by false = refl
 
+module _ (frame : FrameTree) (places : List Place) (needed : ℕ → Bool) where
   abbrev role_of : TacStmt → Role
   role_of stmt = (select frame places needed stmt).role
 
@@ -199,7 +200,7 @@ module _ (frame : FrameTree) (places : List Place) (needed : ℕ → Bool) where
   of_load false dest temp object h = cc h
 
   -- an operator does to a temporary what it does, or nothing that a neighbour would ask for
-  operation_role : (dest : ℕ) (o : TacOp) (left : ℕ) (right : Option ℕ) →
+  pub operation_role : (dest : ℕ) (o : TacOp) (left : ℕ) (right : Option ℕ) →
       (role_of_operation dest o left right ≡ Other) ⊎
       (role_of_operation dest o left right ≡ Operates dest left o)
   operation_role dest o left None = inl refl
@@ -210,7 +211,7 @@ module _ (frame : FrameTree) (places : List Place) (needed : ℕ → Bool) where
       by true = inr refl
       by false = inl refl
 
-  store_role : (place value : ℕ) → (role_of_store needed place value ≡ Other) ⊎
+  pub store_role : (place value : ℕ) → (role_of_store needed place value ≡ Other) ⊎
       (role_of_store needed place value ≡ Stores place value)
   store_role place value = by (needed place)
     where
@@ -237,7 +238,7 @@ module _ (frame : FrameTree) (places : List Place) (needed : ℕ → Bool) where
   layer_gives (tac.Store place value) temp object h =
       absurd (other_than _ _ _ (store_role place value) h (λ e. cc e) (λ e. cc e))
   layer_gives (tac.If cond first second) temp object h =
-      cc (sym (fork_role cond (map (select frame places needed) first) (map (select frame places needed) second)) ∙ h)
+      cc (sym (fork_role frame places cond (map (select frame places needed) first) (map (select frame places needed) second)) ∙ h)
   layer_gives _ temp object h = cc h
 
   pub gives_place : (stmt : TacStmt) → Gives stmt
@@ -266,7 +267,7 @@ module _ (frame : FrameTree) (places : List Place) (needed : ℕ → Bool) where
       absurd (other_than _ _ _ (store_role place value) h (λ e. cc e) (λ e. cc e))
   layer_loads (tac.If cond first second) temp h =
       let other : Other ≡ Loads temp =
-      sym (fork_role cond (map (select frame places needed) first) (map (select frame places needed) second)) ∙ h in cc other
+      sym (fork_role frame places cond (map (select frame places needed) first) (map (select frame places needed) second)) ∙ h in cc other
   layer_loads _ temp h = cc h
 
   pub loads_it : (stmt : TacStmt) (temp : ℕ) → role_of stmt ≡ Loads temp → IsLoad stmt temp
@@ -296,7 +297,7 @@ module _ (frame : FrameTree) (places : List Place) (needed : ℕ → Bool) where
       absurd (other_than _ _ _ (store_role place value) h (λ e. cc e) (λ e. cc e))
   layer_sets (tac.If cond first second) temp word h =
       let other : Other ≡ Sets temp word =
-      sym (fork_role cond (map (select frame places needed) first) (map (select frame places needed) second)) ∙ h in cc other
+      sym (fork_role frame places cond (map (select frame places needed) first) (map (select frame places needed) second)) ∙ h in cc other
   layer_sets _ temp word h = cc h
 
   pub sets_it : (stmt : TacStmt) (temp word : ℕ) → role_of stmt ≡ Sets temp word → IsSet stmt temp word
@@ -343,7 +344,7 @@ module _ (frame : FrameTree) (places : List Place) (needed : ℕ → Bool) where
       absurd (other_than _ _ _ (store_role place value) h (λ e. cc e) (λ e. cc e))
   layer_operates (tac.If cond first second) temp left o h =
       let other : Other ≡ Operates temp left o =
-      sym (fork_role cond (map (select frame places needed) first) (map (select frame places needed) second)) ∙ h in cc other
+      sym (fork_role frame places cond (map (select frame places needed) first) (map (select frame places needed) second)) ∙ h in cc other
   layer_operates _ temp left o h = cc h
 
   pub operates_it : (stmt : TacStmt) (temp left : ℕ) (o : TacOp) → role_of stmt ≡ Operates temp left o →
@@ -378,7 +379,7 @@ module _ (frame : FrameTree) (places : List Place) (needed : ℕ → Bool) where
       by false h = cc h
   layer_stores (tac.If cond first second) place value h =
       let other : Other ≡ Stores place value =
-      sym (fork_role cond (map (select frame places needed) first) (map (select frame places needed) second)) ∙ h in
+      sym (fork_role frame places cond (map (select frame places needed) first) (map (select frame places needed) second)) ∙ h in
       cc other
   layer_stores _ place value h = cc h
 

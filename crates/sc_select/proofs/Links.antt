@@ -135,7 +135,7 @@ module _ (frame : FrameTree) (places : List Place) (needed : ℕ → Bool) where
   layer_complete (tac.Store place value) h =
       with_role (store_to frame places place value) (role_of_store needed place value)
   layer_complete (tac.If cond first second) h =
-      fork_keeps frame places needed IsComplete (record { complete = λ b c. refl }) (λ lines. record { complete = λ b c. refl })
+      fork_keeps frame places IsComplete (record { complete = λ b c. refl }) (λ lines. record { complete = λ b c. refl })
       followed_complete cond _ _ (straightly_complete (choice frame places cond)) (row_complete first h.0)
       (row_complete second h.1)
   layer_complete (tac.Loop head body next) h =
