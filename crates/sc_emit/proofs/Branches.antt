@@ -1,5 +1,9 @@
 -- The code of a function has at most one branch for each `If` and no EBREAK,
 -- and each field of its instructions is in the range of its form.
+use Rattle.rv_code.specs.declared.instr.Instr.TheVariants.{Op, Shift}
+use Rattle.rv_code.specs.declared.instr.ShiftOp.TheVariants.{Slli}
+use Rattle.rv_code.specs.declared.instr.OpOp.TheVariants.{Mul}
+use Rattle.sc_select.specs.Prelude.{bytes_ahead}
 use Rattle.sc_select.specs.Needs.{needed_in}
 use Rattle.sc_select.specs.Prelude.{object_store, role_of_store}
 use Rattle.sc_emit.proofs.Common.{Addi, All, All-cons, All-nil, Andi, ArePlaces, Bne, Bool, Branch, Each, Ebreak, Entry}
@@ -129,7 +133,9 @@ op_straight rd left right (tacop.Unary o scalar) = unary_straight rd left o
 op_straight rd left right (tacop.Binary o scalar) = binary_straight rd left right _ o
 op_straight rd left right tacop.PointerNot = refl
 op_straight rd left right (tacop.PointerMove minus cells index) =
-    both (loading address_scratch (bytes_of cells)) _ (loading_straight address_scratch (bytes_of cells)) refl
+    both (bytes_ahead right cells) _
+    (either (cells == 1) _ _ refl
+    (both (loading address_scratch (bytes_of cells)) _ (loading_straight address_scratch (bytes_of cells)) refl)) refl
 op_straight rd left right (tacop.PointerMember offset) = moved_straight rd left (bytes_of offset)
 op_straight rd left right (tacop.PointerDifference cells) =
     both (loading address_scratch (bytes_of cells)) _ (loading_straight address_scratch (bytes_of cells)) refl
@@ -854,8 +860,14 @@ module _ (rd left right : ℕ) (h : IsReg rd) (l : IsReg left) (r : IsReg right)
   op_instrs (tacop.Binary o scalar) = binary_instrs _ o
   op_instrs tacop.PointerNot = ((h, l, one_immediate), tt)
   op_instrs (tacop.PointerMove minus cells index) =
-      both_instrs (loading address_scratch (bytes_of cells)) _ (scaled cells)
-      ((second_there, r, address_there), ((h, l, second_there), tt))
+      both_instrs (bytes_ahead right cells) _ (ahead (cells == 1)) ((h, l, second_there), tt)
+    where
+      ahead : (b : Bool) → AreInstrs (if b then Shift Slli second_scratch right 2 ∷ []
+          else loading address_scratch (bytes_of cells) ++ Op Mul second_scratch right address_scratch ∷ [])
+      ahead true = ((second_there, r, (omega arith)), tt)
+      ahead false =
+          both_instrs (loading address_scratch (bytes_of cells)) _ (scaled cells)
+          ((second_there, r, address_there), tt)
   op_instrs (tacop.PointerMember offset) = moved_instrs rd left (bytes_of offset) h l
   op_instrs (tacop.PointerDifference cells) = (
     (first_there, l, r),

@@ -5,7 +5,9 @@ use Rattle.sc_hart.proofs.Common.{computed, data_start, eq-eqb, false, gives, ja
 use Rattle.sc_hart.proofs.Common.{on_registers, put_word, refl, set, step, steps_by_instruction, store, stored, subst}
 use Rattle.sc_hart.proofs.Common.{suc, true, unless, word, word_at, ℕ, ℤ, ◌%◌, ◌+◌, ◌<◌, ◌∙◌, ◌≡◌}
 use Rattle.sc_word.specs.Prelude.{add_word, word_of}
-use Rattle.rv_code.specs.declared.instr.Instr.TheVariants.{Upper, Jal, Jalr, Branch, Load, Store, OpImm, Op}
+use Rattle.rv_code.specs.declared.instr.Instr.TheVariants.{Upper, Jal, Jalr, Branch, Load, Store, OpImm, Op, Shift}
+use Rattle.rv_code.specs.declared.instr.ShiftOp.{ShiftOp}
+use Rattle.sc_image.specs.Prelude.{shift_on_registers}
 use Rattle.rv_code.specs.declared.instr.BranchOp.{BranchOp}
 use Rattle.rv_code.specs.declared.instr.UpperOp.TheVariants.{Lui}
 use Rattle.rv_code.specs.declared.instr.LoadOp.TheVariants.{Lw}
@@ -56,6 +58,15 @@ module _ (image : ImageParts) (inputs : List ℕ) where
     op_imm op rd rs imm x h k f e =
         one (steps_by_instruction.op_imm image inputs here op rd rs imm (is_at _ f) ∙
         ap (λ a. gives here rd (computed (on_registers op) a (word_of imm))) (read_listed regs rs k) ∙
+        ap (gives here rd) e ∙ gives_at rd x h)
+
+    pub shifts : (op : ShiftOp) (rd rs amount : ℕ) (x : ℕ) → rd < 32 → rs < 32 →
+        Fetches image world.active pc (Shift op rd rs amount) →
+        computed (shift_on_registers op) (look regs rs) amount ≡ x →
+        Walks image inputs 1 here (at (pc + 4) (set regs rd x) memory world)
+    shifts op rd rs amount x h k f e =
+        one (steps_by_instruction.shift image inputs here op rd rs amount (is_at _ f) ∙
+        ap (λ a. gives here rd (computed (shift_on_registers op) a amount)) (read_listed regs rs k) ∙
         ap (gives here rd) e ∙ gives_at rd x h)
 
     pub operate : (op : OpOp) (rd rs1 rs2 x : ℕ) → rd < 32 → rs1 < 32 → rs2 < 32 →

@@ -1,4 +1,10 @@
 -- The code of each operator computes its word.
+use Rattle.rv_code.specs.declared.instr.Instr.TheVariants.{Shift}
+use Rattle.rv_code.specs.declared.instr.ShiftOp.TheVariants.{Slli}
+use Rattle.sc_image.specs.Prelude.{shift_on_registers}
+use Rattle.sc_select.specs.Prelude.{address_scratch, bytes_ahead, second_scratch}
+use Rattle.sc_pieces.proofs.Rows.{with_amount}
+use Rattle.std.proofs.Common.{ap, eqb-true, if◌then◌else◌}
 use Rattle.sc_pieces.proofs.Common.{Add, And, AreOperands, BinaryOp, Bool, Computes, Div, Divu, ImageParts, Instr}
 use Rattle.sc_pieces.proofs.Common.{IsWritable, List, Memory, Mul, Op, OpImm, OpImmOp, OpOp, Or, Registers, Rem, Remu}
 use Rattle.sc_pieces.proofs.Common.{Sll, Slt, Sltiu, Sltu, Sra, Srl, Sub, TacOp, UnaryOp, World, Xor, Xori, []}
@@ -149,24 +155,44 @@ module _ (image : ImageParts) (inputs : List ℕ) (world : World) (memory : Memo
   gives_binary true op.Rem = single Remu _ refl
   gives_binary false op.Rem = single Rem _ refl
 
-  -- the last of three instructions, over the product
+  -- the bytes of so many elements, by a shift or by a product
+  times_four : mul_word b 4 ≡ computed (shift_on_registers Slli) b 2
+  times_four = omega (arith, operands.right_word)
+
+  counts_bytes : (cells : ℕ) →
+      Computes image inputs world (bytes_ahead right cells) (7 ∷ []) regs memory 6 (mul_word b (bytes_of cells))
+  counts_bytes cells = by (cells == 1) refl
+    where
+      by : (one : Bool) → (cells == 1) ≡ one →
+          Computes image inputs world (if one then Shift Slli second_scratch right 2 ∷ []
+          else loading address_scratch (bytes_of cells) ++ Op Mul second_scratch right address_scratch ∷ []) (7 ∷ []) regs
+          memory 6 (mul_word b (bytes_of cells))
+      by true e =
+          let four : bytes_of cells ≡ 4 = ap bytes_of (eqb-true cells 1 e) in
+          computes image inputs world (7 ∷ []) (mul_word b (bytes_of cells))
+          (with_amount image inputs world regs memory Slli 6 right 2 b (mul_word b 4) (omega arith) operands.right_below
+          operands.right_is (sym times_four)) (ap (mul_word b) (sym four)) (λ q k. (k.0, tt))
+      by false e =
+          let bytes : ℕ = bytes_of cells in
+          let one = loads_number image inputs world memory regs 7 bytes (omega arith) (bytes_below cells) in
+          let two = of_two image inputs world one.after memory Mul 6 right 7 b bytes (mul_word b bytes) (omega arith)
+          operands.right_below (omega arith)
+          (looked one.after regs right b (one.others right (operands.right_address, tt)) operands.right_is) one.result
+          refl in
+          computes image inputs world (7 ∷ []) (mul_word b bytes) (followed_by image inputs world one two) refl
+          (λ q k. (k.0, (k.1.0, tt)))
+
+  -- the last instruction, over those bytes
   moves_elements : (o : OpOp) (cells v : ℕ) → computed o a (mul_word b (bytes_of cells)) ≡ v →
-      Gives (loading 7 (bytes_of cells) ++ Op Mul 6 right 7 ∷ Op o rd left 6 ∷ []) v
+      Gives (bytes_ahead right cells ++ Op o rd left 6 ∷ []) v
   moves_elements o cells v e =
-      let bytes : ℕ = bytes_of cells in
-      let one = loads_number image inputs world memory regs 7 bytes (omega arith) (bytes_below cells) in
-      let two = of_two image inputs world one.after memory Mul 6 right 7 b bytes (mul_word b bytes) (omega arith)
-      operands.right_below (omega arith)
-      (looked one.after regs right b (one.others right (operands.right_address, tt)) operands.right_is) one.result
-      refl in
-      let three = of_two image inputs world two.after memory o rd left 6 a (mul_word b bytes) v writable
+      let one = counts_bytes cells in
+      let two = of_two image inputs world one.after memory o rd left 6 a (mul_word b (bytes_of cells)) v writable
       operands.left_below (omega arith)
-      (looked two.after regs left a
-      (two.others left (operands.left_second, tt) ∙ one.others left (operands.left_address, tt)) operands.left_is)
-      two.result e in
-      computes image inputs world (5 ∷ 6 ∷ 7 ∷ []) v
-      (followed_by image inputs world one (followed_by image inputs world two three)) refl
-      (λ q k. (k.0, (k.1.1.1.0, (k.1.1.0, tt))))
+      (looked one.after regs left a (one.others left (operands.left_second, (operands.left_address, tt)))
+      operands.left_is) one.result e in
+      computes image inputs world (5 ∷ 6 ∷ 7 ∷ []) v (followed_by image inputs world one two) refl
+      (λ q k. (k.0, (k.1.1.0, (k.1.1.1.0, tt))))
 
   gives_move : (minus : Bool) (cells : ℕ) →
       Gives (pointer_move rd left right minus cells) (stepped_word minus cells a b)

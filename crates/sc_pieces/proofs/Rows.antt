@@ -1,4 +1,8 @@
 -- Pieces of code in a row, and pieces of one instruction.
+use Rattle.rv_code.specs.declared.instr.Instr.TheVariants.{Shift}
+use Rattle.rv_code.specs.declared.instr.ShiftOp.{ShiftOp}
+use Rattle.sc_image.specs.Prelude.{shift_on_registers}
+use Rattle.sc_hart.proofs.Steps.{shifts}
 use Rattle.sc_pieces.proofs.Common.{Besides, Computes, Does, Fetches, ImageParts, Instr, IsWritable, List, Load, Lui}
 use Rattle.sc_pieces.proofs.Common.{Lw, Memory, Op, OpImm, OpImmOp, OpOp, Owned, Registers, Store, Stores, Sw, Upper}
 use Rattle.sc_pieces.proofs.Common.{Walks, World, [], add_word, ap, arith, at, back_at, computed, front_at}
@@ -111,6 +115,14 @@ module _ (image : ImageParts) (inputs : List ℕ) (world : World) where
         writes (OpImm op rd rs imm) rd v h (λ pc f.
         op_imm image inputs pc regs memory world op rd rs imm v h.below k f
         (ap (λ x. computed (on_registers op) x (word_of imm)) is ∙ e))
+
+    pub with_amount : (op : ShiftOp) (rd rs amount a v : ℕ) → IsWritable rd → rs < 32 → look regs rs ≡ a →
+        computed (shift_on_registers op) a amount ≡ v →
+        Computes image inputs world (Shift op rd rs amount ∷ []) [] regs memory rd v
+    with_amount op rd rs amount a v h k is e =
+        writes (Shift op rd rs amount) rd v h (λ pc f.
+        shifts image inputs pc regs memory world op rd rs amount v h.below k f
+        (ap (λ x. computed (shift_on_registers op) x amount) is ∙ e))
 
     pub of_two : (op : OpOp) (rd left right a b v : ℕ) → IsWritable rd → left < 32 → right < 32 → look regs left ≡ a →
         look regs right ≡ b → computed op a b ≡ v →

@@ -1,4 +1,7 @@
 -- Code has no more instructions than its function weighs.
+use Rattle.rv_code.specs.declared.instr.Instr.TheVariants.{Shift}
+use Rattle.rv_code.specs.declared.instr.ShiftOp.TheVariants.{Slli}
+use Rattle.sc_select.specs.Prelude.{bytes_ahead}
 use Rattle.sc_select.specs.Needs.{needed_in}
 use Rattle.sc_select.specs.Prelude.{object_store}
 use Rattle.sc_select.proofs.Common.{Add, Bne, Bool, Branch, Div, Each, Entry as EntryOf, Fits, FrameTree, Function}
@@ -94,8 +97,14 @@ move_pointer : (rd left right : ℕ) (minus : Bool) (cells : ℕ) → length (po
 move_pointer rd left right minus cells =
     omega (
       arith,
-      length-append (loading 7 (bytes_of cells)) (Op Mul 6 right 7 ∷ Op (stepped minus) rd left 6 ∷ []),
-      load_constant 7 (bytes_of cells),
+      length-append (bytes_ahead right cells) (Op (stepped minus) rd left 6 ∷ []),
+      either (cells == 1) (Shift Slli 6 right 2 ∷ []) (loading 7 (bytes_of cells) ++ Op Mul 6 right 7 ∷ []) 3
+          (omega arith)
+          (omega (
+            arith,
+            length-append (loading 7 (bytes_of cells)) (Op Mul 6 right 7 ∷ []),
+            load_constant 7 (bytes_of cells),
+          )),
     )
 
 differ : (rd left right cells : ℕ) → length (pointer_difference rd left right cells) ≤ 4

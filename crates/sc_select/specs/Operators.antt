@@ -1,5 +1,8 @@
 -- The instructions of operators, by the registers of the result and of the operands. The result is written last, since it
 -- may lie where an operand lies.
+use Rattle.rv_code.specs.declared.instr.Instr.TheVariants.{Shift}
+use Rattle.rv_code.specs.declared.instr.ShiftOp.TheVariants.{Slli}
+use Rattle.std.specs.Prelude.{◌==◌}
 use Rattle.sc_select.specs.Common.{Add, Addi, And, Andi, Div, Divu, Instr, Mul, Op, OpImm, Or, Ori, Rem, Remu, Sll, Slt}
 use Rattle.sc_select.specs.Common.{Slti, Sltiu, Sltu, Sra, Srl, Sub, TacOp, Xor, Xori, is_unsigned, mul_word, signed_of}
 use Rattle.sc_select.specs.Common.{sub_word}
@@ -71,10 +74,14 @@ abbrev pub stepped : Bool → OpOp
 stepped true = Sub
 stepped false = Add
 
+-- the bytes of so many elements: four for each, where an element is one cell
+abbrev pub bytes_ahead : (right cells : ℕ) → List Instr
+bytes_ahead right cells =
+    if cells == 1 then Shift Slli second_scratch right 2 ∷ []
+    else loading address_scratch (bytes_of cells) ++ Op Mul second_scratch right address_scratch ∷ []
+
 abbrev pub pointer_move : (rd left right : ℕ) → (minus : Bool) → (cells : ℕ) → List Instr
-pointer_move rd left right minus cells =
-    loading address_scratch (bytes_of cells) ++
-    Op Mul second_scratch right address_scratch ∷ Op (stepped minus) rd left second_scratch ∷ []
+pointer_move rd left right minus cells = bytes_ahead right cells ++ Op (stepped minus) rd left second_scratch ∷ []
 
 -- the bytes between two addresses, by those of an element
 abbrev pub pointer_difference : (rd left right : ℕ) → (cells : ℕ) → List Instr

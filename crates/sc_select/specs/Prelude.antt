@@ -9,7 +9,7 @@ pub use Rattle.sc_select.specs.Lines.{Line, code_of_lines, lines_of, plain, plai
 pub use Rattle.sc_select.specs.Lines.{relocations_from}
 pub use Rattle.sc_select.specs.Linking.{Addresses, completed, is_named, linked, linked_from, low_after, low_behind}
 pub use Rattle.sc_select.specs.Linking.{refers_only, relocations_behind, target_at, with_low, with_target}
-pub use Rattle.sc_select.specs.Operators.{added_by, binary_code, binary_short, by_sign, bytes_of, inverted, is_not_zero}
+pub use Rattle.sc_select.specs.Operators.{added_by, bytes_ahead, binary_code, binary_short, by_sign, bytes_of, inverted, is_not_zero}
 pub use Rattle.sc_select.specs.Operators.{is_zero, less_than, op_code, pointer_difference, pointer_move, short}
 pub use Rattle.sc_select.specs.Operators.{short_code, short_form, stepped, unary_code}
 pub use Rattle.sc_select.specs.Pieces.{a0, a7, address_scratch, far_from_sp, first_scratch, frame_left, frame_taken}

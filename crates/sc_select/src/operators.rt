@@ -1,7 +1,7 @@
 //! The instructions of operators.
 
 ghost use Rattle.sc_select.specs.Prelude.{Op, OpImm, Slt, Sltiu, Sltu, Xori, added_by, binary_code, binary_short};
-ghost use Rattle.sc_select.specs.Prelude.{by_sign, bytes_of, inverted, is_not_zero, is_unsigned, is_zero, less_than};
+ghost use Rattle.sc_select.specs.Prelude.{by_sign, bytes_ahead, bytes_of, inverted, is_not_zero, is_unsigned, is_zero, less_than};
 ghost use Rattle.sc_select.specs.Prelude.{op_code, plainly, pointer_difference, pointer_move, short, short_code};
 ghost use Rattle.sc_select.specs.Prelude.{short_form, stepped, unary_code};
 ghost use Rattle.std.specs.Prelude.{◌≡◌, ◌++◌, ◌∷◌, [], false, OnOk};
@@ -11,7 +11,7 @@ use crate::backward::Backward;
 use crate::pieces::{
     ADDRESS_SCRATCH, FIRST_SCRATCH, SECOND_SCRATCH, ZERO, immediate, move_to, register,
 };
-use rv_code::{Immediate, Instr, OpImmOp, OpOp, Reg};
+use rv_code::{Immediate, Instr, OpImmOp, OpOp, Reg, ShiftAmount, ShiftOp};
 use sc_base::{BinaryOp, OutOfMemory, UnaryOp};
 use sc_event::Scalar;
 use sc_tac::TacOp;
@@ -233,15 +233,30 @@ impl Backward {
         self.plain(on_registers(direct, rd, left, right))
     }
 
+    // The bytes of so many elements.
+    fn bytes_ahead(&mut self, right: Reg, cells: u32) -> Result<(), OutOfMemory>
+        ensures { OnOk result (self.new ≡ plainly (bytes_ahead right cells) ++ self.old) }
+    {
+        let distance = register(SECOND_SCRATCH);
+        if cells == 1 {
+            return self.plain(Instr::Shift {
+                op: ShiftOp::Slli,
+                rd: distance,
+                rs1: right,
+                amount: ShiftAmount::new(2).unwrap(),
+            });
+        }
+        let scratch = register(ADDRESS_SCRATCH);
+        self.plain(on_registers(OpOp::Mul, distance, right, scratch))?;
+        self.loading(scratch, bytes_of(cells))
+    }
+
     fn pointer_move(&mut self, minus: bool, cells: u32, on: Operands) -> Result<(), OutOfMemory>
         ensures { OnOk result (self.new ≡ plainly (pointer_move on.rd on.left on.right minus cells) ++ self.old) }
     {
-        let distance = register(SECOND_SCRATCH);
-        let scratch = register(ADDRESS_SCRATCH);
         let step = if minus { OpOp::Sub } else { OpOp::Add };
-        self.plain(on_registers(step, on.rd, on.left, distance))?;
-        self.plain(on_registers(OpOp::Mul, distance, on.right, scratch))?;
-        self.loading(scratch, bytes_of(cells))
+        self.plain(on_registers(step, on.rd, on.left, register(SECOND_SCRATCH)))?;
+        self.bytes_ahead(on.right, cells)
     }
 
     fn pointer_difference(&mut self, cells: u32, on: Operands) -> Result<(), OutOfMemory>
