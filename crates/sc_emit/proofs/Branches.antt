@@ -1,37 +1,34 @@
 -- The code of a function has at most one branch for each `If` and no EBREAK,
 -- and each field of its instructions is in the range of its form.
-use Rattle.rv_code.specs.declared.instr.Instr.TheVariants.{Op, Shift}
-use Rattle.rv_code.specs.declared.instr.ShiftOp.TheVariants.{Slli}
-use Rattle.rv_code.specs.declared.instr.OpOp.TheVariants.{Mul}
-use Rattle.sc_select.specs.Prelude.{bytes_ahead}
-use Rattle.sc_select.specs.Needs.{needed_in}
-use Rattle.sc_select.specs.Prelude.{object_store, role_of_store}
 use Rattle.sc_emit.proofs.Common.{Addi, All, All-cons, All-nil, Andi, ArePlaces, Bne, Bool, Branch, Each, Ebreak, Entry}
 use Rattle.sc_emit.proofs.Common.{Export, Fits, FrameTree, Inside, Instr, IsBranchOffset, IsImmediate, IsInstr}
-use Rattle.sc_emit.proofs.Common.{IsJumpOffset, IsReg, IsUpper, Jal, Jalr, Line, List, Load, Lw, Main, None, OpImm}
-use Rattle.sc_emit.proofs.Common.{Option, Ori, Other, Place, Places, Register, Role, Sets, ShortForm, Slot, Some, Store}
-use Rattle.sc_emit.proofs.Common.{Sw, TacFnTree, TacOp, TacStmt, TacStmt-F, Xori, [], a0, a7, added_by, address_scratch}
-use Rattle.sc_emit.proofs.Common.{all_true, and_first, and_from, and_rest, arith, at_hand, between, between_keeps}
-use Rattle.sc_emit.proofs.Common.{binary_code, binary_short, branch_step, branches, brought, bytes_of, call_cross}
-use Rattle.sc_emit.proofs.Common.{call_own, choice, choosing, closing, code_branches, code_of, cond, copied, count_by}
-use Rattle.sc_emit.proofs.Common.{cycle, ending_past, entrance, environment_call, everywhere, false, first_scratch}
-use Rattle.sc_emit.proofs.Common.{fold-TacStmt, fold-roll-TacStmt, followed, fork, fork_keeps, frame_left, frame_taken}
-use Rattle.sc_emit.proofs.Common.{function_lines, has_known_jumps, has_no_ebreak, if◌then◌else◌, in_order, in_turn}
-use Rattle.sc_emit.proofs.Common.{int_le, is_branch, is_ebreak, is_known_jump, is_place, is_short, is_unsigned, joined}
-use Rattle.sc_emit.proofs.Common.{jump_back, jump_over, keep, kept, leb-true, length, less_than, list_all}
-use Rattle.sc_emit.proofs.Common.{list_all-append, list_all-map, list_all_along, load_from, load_word, loading}
-use Rattle.sc_emit.proofs.Common.{loop_begins, lower_part, ltb-true, map, map-TacStmt, most_lines, most_params}
-use Rattle.sc_emit.proofs.Common.{moved_by, mul_word, nat_le, nat_lt, neg_ℤ, negsuc, not, object_offset, object_read}
-use Rattle.sc_emit.proofs.Common.{op_code, operand, operation, order_keeps, pass, passes_few, past, place_of}
-use Rattle.sc_emit.proofs.Common.{place_of_global, plain, plainly, pos, put, ra, receive, refl, register_count}
-use Rattle.sc_emit.proofs.Common.{register_of, register_there, result_register, return, role_first, role_of_load}
-use Rattle.sc_emit.proofs.Common.{role_of_operation, rules, second_operand, second_scratch, select, select_all}
-use Rattle.sc_emit.proofs.Common.{select_step, short, short_code, short_form, short_operation, signed_of, skipping}
-use Rattle.sc_emit.proofs.Common.{slice_get, slot_offset, sp, stmt_branches, stmt_induction, store_arguments, store_to}
-use Rattle.sc_emit.proofs.Common.{store_word, straight, straightly, sub_word, subst, suc, sum_by-append, sym, take}
-use Rattle.sc_emit.proofs.Common.{take_second, taken, total, true, unary_code, upper_part, with_parts, word_of_constant}
-use Rattle.sc_emit.proofs.Common.{zero, ℕ, ℤ, ◌%◌, ◌&&◌, ◌*◌, ◌++◌, ◌+◌, ◌<◌, ◌==◌, ◌^◌, ◌∙◌, ◌∷◌, ◌≡◌, ◌≤ℤ◌, ◌≤◌}
+use Rattle.sc_emit.proofs.Common.{IsJumpOffset, IsReg, IsUpper, Jal, Jalr, Line, List, Load, Lw, Main, None, Op, OpImm}
+use Rattle.sc_emit.proofs.Common.{Option, Ori, Other, Place, Places, Register, Role, Sets, Shift, ShortForm, Slot, Some}
+use Rattle.sc_emit.proofs.Common.{Store, Sw, TacFnTree, TacOp, TacStmt, TacStmt-F, Xori, [], a0, a7, added_by}
+use Rattle.sc_emit.proofs.Common.{address_scratch, all_true, and_first, and_from, and_rest, arith, at_hand, between}
+use Rattle.sc_emit.proofs.Common.{between_keeps, binary_code, binary_short, branch_step, branches, brought, bytes_ahead}
+use Rattle.sc_emit.proofs.Common.{bytes_of, call_cross, call_own, choice, choosing, closing, code_branches, code_of}
+use Rattle.sc_emit.proofs.Common.{cond, copied, count_by, cycle, ending_past, entrance, environment_call, everywhere}
+use Rattle.sc_emit.proofs.Common.{false, first_scratch, fold-TacStmt, fold-roll-TacStmt, followed, fork, fork_keeps}
+use Rattle.sc_emit.proofs.Common.{frame_left, frame_taken, function_lines, has_known_jumps, has_no_ebreak}
+use Rattle.sc_emit.proofs.Common.{if◌then◌else◌, in_order, in_turn, int_le, is_branch, is_ebreak, is_known_jump}
+use Rattle.sc_emit.proofs.Common.{is_place, is_short, is_unsigned, joined, jump_back, jump_over, keep, kept, leb-true}
+use Rattle.sc_emit.proofs.Common.{length, less_than, list_all, list_all-append, list_all-map, list_all_along, load_from}
+use Rattle.sc_emit.proofs.Common.{load_word, loading, loop_begins, lower_part, ltb-true, map, map-TacStmt, most_lines}
+use Rattle.sc_emit.proofs.Common.{most_params, moved_by, mul_word, nat_le, nat_lt, needed_in, neg_ℤ, negsuc, not}
+use Rattle.sc_emit.proofs.Common.{object_offset, object_read, object_store, op_code, operand, operation, order_keeps}
+use Rattle.sc_emit.proofs.Common.{pass, passes_few, past, place_of, place_of_global, plain, plainly, pos, put, ra}
+use Rattle.sc_emit.proofs.Common.{receive, refl, register_count, register_of, register_there, result_register, return}
+use Rattle.sc_emit.proofs.Common.{role_first, role_of_load, role_of_operation, role_of_store, rules, second_operand}
+use Rattle.sc_emit.proofs.Common.{second_scratch, select, select_all, select_step, short, short_code, short_form}
+use Rattle.sc_emit.proofs.Common.{short_operation, signed_of, skipping, slice_get, slot_offset, sp, stmt_branches}
+use Rattle.sc_emit.proofs.Common.{stmt_induction, store_arguments, store_to, store_word, straight, straightly, sub_word}
+use Rattle.sc_emit.proofs.Common.{subst, suc, sum_by-append, sym, take, take_second, taken, total, true, unary_code}
+use Rattle.sc_emit.proofs.Common.{upper_part, with_parts, word_of_constant, zero, ℕ, ℤ, ◌%◌, ◌&&◌, ◌*◌, ◌++◌, ◌+◌, ◌<◌}
+use Rattle.sc_emit.proofs.Common.{◌==◌, ◌^◌, ◌∙◌, ◌∷◌, ◌≡◌, ◌≤ℤ◌, ◌≤◌}
 use Rattle.sc_select.specs.Prelude.{Piece}
+use Rattle.rv_code.specs.declared.instr.ShiftOp.TheVariants.{Slli}
+use Rattle.rv_code.specs.declared.instr.OpOp.TheVariants.{Mul}
 use Rattle.rv_code.specs.declared.instr.OpImmOp.{OpImmOp}
 use Rattle.std.proofs.lemmas.Int.{ints}
 use Rattle.rv_code.proofs.Numbers.{IsImmediate-signed}
@@ -598,7 +595,8 @@ module _ (frame : FrameTree) (places : List Place) (needed : ℕ → Bool) where
 
   -- the lines of a function
   pub function_passes : (test : Line → Bool) → IsMild test → (f : TacFnTree) →
-      PassesAll test (select_all frame places needed f.body) → list_all test (function_lines frame places needed f) ≡ true
+      PassesAll test (select_all frame places needed f.body) → list_all test (function_lines frame places needed f) ≡
+          true
   function_passes test mild f h =
       let front : List Line = plainly (entrance frame places f.params) in
       let body : List Line = (select_all frame places needed f.body).lines 0 0 in
@@ -627,7 +625,8 @@ module _ (frame : FrameTree) (places : List Place) (needed : ℕ → Bool) where
 pub few_branches : (f : TacFnTree) (places : List Place) (frame : FrameTree) →
     code_branches (code_of f places frame) ≤ branches f.body
 few_branches f places frame =
-    omega (arith, count_is (function_lines frame places (needed_in f.body) f), function_count frame places (needed_in f.body) f)
+    omega (arith, count_is (function_lines frame places (needed_in f.body) f), function_count frame places (needed_in
+        f.body) f)
 
 all_sound : (f : TacFnTree) (places : List Place) (frame : FrameTree) →
     list_all {X = Instr} is_sound (code_of f places frame).instrs ≡ true
@@ -960,7 +959,8 @@ followed_encodable e f he hf = record {
       (hf.encodable b c (omega (arith, hb)) (omega (arith, hc)));
 }
 
-module _ (frame : FrameTree) (places : List Place) (needed : ℕ → Bool) (there : (t : ℕ) → IsThere (slice_get places t)) where
+module _ (frame : FrameTree) (places : List Place) (needed : ℕ → Bool) (there : (t : ℕ) →
+    IsThere (slice_get places t)) where
   operand_there : (scratch t : ℕ) → IsReg scratch → IsReg (operand frame places scratch t)
   operand_there scratch t h = at_hand_there scratch (slice_get places t) h (there t)
 
@@ -1233,7 +1233,8 @@ module _ (frame : FrameTree) (places : List Place) (needed : ℕ → Bool) (ther
       let b = all_true (map few_inside body) in
       let c = all_true (map few_inside next) in
       let rest = and_rest a (b && (c && true)) all in
-      cycle_encodable (select_all frame places needed head) (select_all frame places needed body) (select_all frame places needed next)
+      cycle_encodable (select_all frame places needed head) (select_all frame places needed body) (select_all frame
+          places needed next)
       (row_encodable head h.0 (and_first a (b && (c && true)) all))
       (row_encodable body h.1 (and_first b (c && true) rest))
       (row_encodable next h.2 (and_first c true (and_rest b (c && true) rest)))

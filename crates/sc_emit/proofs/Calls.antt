@@ -1,8 +1,4 @@
 -- Calls of functions, of the own compartment and of others.
-use Rattle.std.proofs.lemmas.Bool.{and_from}
-use Rattle.std.specs.List.{list_all}
-use Rattle.sc_relation.specs.Following.{wanted}
-use Rattle.sc_emit.proofs.Needed.{one_of_all}
 use Rattle.sc_emit.proofs.Common.{Activation, Addresses, All, ArePassed, Arrives, CallGives, CallStands, CallTarget}
 use Rattle.sc_emit.proofs.Common.{Calls, CallsFollow, CodeAt, Codes, Comes, ComesBack, Computes, Cross, Does, Ends}
 use Rattle.sc_emit.proofs.Common.{Follows, FrameMatches, FrameTree, GivenBack, Goes, HasNoGap, HasNoOtherUse, Instr}
@@ -10,19 +6,21 @@ use Rattle.sc_emit.proofs.Common.{IsActivation, IsBack, IsClear, IsInside, IsSom
 use Rattle.sc_emit.proofs.Common.{Joint, Left, Line, List, Lives, Lui, MovesOn, Next, None, Option, Overflows, Own}
 use Rattle.sc_emit.proofs.Common.{Piece, Place, Point, Reached, Ready, Register, Registers, Running, Setting, Slot}
 use Rattle.sc_emit.proofs.Common.{Some, Standpoint, StandsFor, State as Meant, Stopped, Stores, Temps, Trail, Upper}
-use Rattle.sc_emit.proofs.Common.{Value, [], a0, add_word, all_at, and_then, ap, append_assoc, arith, arrives_with}
-use Rattle.sc_emit.proofs.Common.{assigned_at, assigns_register, assigns_slot, back_at, call_cross, call_does}
-use Rattle.sc_emit.proofs.Common.{call_from, call_own, code_inside, code_step, comes_after, completed, completed_length}
-use Rattle.sc_emit.proofs.Common.{completed_plainly, false, first_scratch, front_at, in_row, inl, inr, is_back, is_one}
-use Rattle.sc_emit.proofs.Common.{is_some, jalr_target, leads_none, leave, length, length-append, live_across, live_at}
-use Rattle.sc_emit.proofs.Common.{live_plain, look_at, low_after, low_append, low_plainly, lower_part, move, moved}
-use Rattle.sc_emit.proofs.Common.{moves, ne_eqb, no_other_use, or_left, overflows_from, overflows_with, pass}
-use Rattle.sc_emit.proofs.Common.{plain_points, plainly, pos, put, put_word, ra, read_all, receive, received, referring}
-use Rattle.sc_emit.proofs.Common.{refl, register_of, register_there, seen_from, select_step, settled_to, shows_from}
-use Rattle.sc_emit.proofs.Common.{shows_less, slice_get, slice_get_within, sp, stays, store_word, stores_word, straight}
-use Rattle.sc_emit.proofs.Common.{subst, suc, sym, then_from, then_goes, trail_step, true, unwrap_or, upper, upper_part}
-use Rattle.sc_emit.proofs.Common.{with_temp, word_at, word_of, word_of-unsigned_sub, wrapping, ℕ, ⊎_elim, ◌%◌, ◌*◌}
-use Rattle.sc_emit.proofs.Common.{◌++◌, ◌+◌, ◌-ℤ◌, ◌/◌, ◌<◌, ◌^◌, ◌∙◌, ◌∷◌, ◌≡◌, ◌≢◌, ◌≤◌}
+use Rattle.sc_emit.proofs.Common.{Value, [], a0, add_word, all_at, and_from, and_then, ap, append_assoc, arith}
+use Rattle.sc_emit.proofs.Common.{arrives_with, assigned_at, assigns_register, assigns_slot, back_at, call_cross}
+use Rattle.sc_emit.proofs.Common.{call_does, call_from, call_own, code_inside, code_step, comes_after, completed}
+use Rattle.sc_emit.proofs.Common.{completed_length, completed_plainly, false, first_scratch, front_at, in_row, inl, inr}
+use Rattle.sc_emit.proofs.Common.{is_back, is_one, is_some, jalr_target, leads_none, leave, length, length-append}
+use Rattle.sc_emit.proofs.Common.{list_all, live_across, live_at, live_plain, look_at, low_after, low_append}
+use Rattle.sc_emit.proofs.Common.{low_plainly, lower_part, move, moved, moves, ne_eqb, no_other_use, or_left}
+use Rattle.sc_emit.proofs.Common.{overflows_from, overflows_with, pass, plain_points, plainly, pos, put, put_word, ra}
+use Rattle.sc_emit.proofs.Common.{read_all, receive, received, referring, refl, register_of, register_there, seen_from}
+use Rattle.sc_emit.proofs.Common.{select_step, settled_to, shows_from, shows_less, slice_get, slice_get_within, sp}
+use Rattle.sc_emit.proofs.Common.{stays, store_word, stores_word, straight, subst, suc, sym, then_from, then_goes}
+use Rattle.sc_emit.proofs.Common.{trail_step, true, unwrap_or, upper, upper_part, wanted, with_temp, word_at, word_of}
+use Rattle.sc_emit.proofs.Common.{word_of-unsigned_sub, wrapping, ℕ, ⊎_elim, ◌%◌, ◌*◌, ◌++◌, ◌+◌, ◌-ℤ◌, ◌/◌, ◌<◌, ◌^◌}
+use Rattle.sc_emit.proofs.Common.{◌∙◌, ◌∷◌, ◌≡◌, ◌≢◌, ◌≤◌}
+use Rattle.sc_emit.proofs.Needed.{one_of_all}
 use Rattle.sc_tac.specs.declared.machine_code.Target.TheVariants.{Function, Entry}
 use Rattle.sc_tac.specs.declared.stmt.TacStmt.TheOpen as tac
 use Rattle.sc_pieces.proofs.Numbers.{two_parts}
@@ -359,7 +357,8 @@ module _ (T : Setting) (R : Running) (formed : IsWellFormed T.image) (inputs : A
         T.makes A.here.comp (Own function) (length args) ≡ true →
         ((vs : List Value) (s : Meant) → Answers dest (calls A.here.comp (Own function) vs s)) →
         Follows T R (code_step wrapping A.here calls (tac.CallOwn dest function args))
-        (select_step frame R.places R.needed (tac.CallOwn dest function args)) (trail_step (tac.CallOwn dest function args))
+        (select_step frame R.places R.needed (tac.CallOwn dest function args)) (trail_step (tac.CallOwn dest function
+            args))
     call_own_follows gapless function args few needs below made answers =
         let before : List Instr = pass frame R.places a0 args in
         linked_follows T R (code_step wrapping A.here calls (tac.CallOwn dest function args))

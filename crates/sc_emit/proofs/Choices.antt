@@ -1,21 +1,19 @@
 -- Choices: one branch, over the jump to the second part, or over the second part.
-use Rattle.std.proofs.lemmas.Bool.{and_from}
-use Rattle.sc_relation.proofs.Wanted.{wanted_less}
 use Rattle.sc_emit.proofs.Common.{All, All-tail, Arrives, Bne, Bool, Branch, Break, CodeAt, Codes, Comes, Continue}
 use Rattle.sc_emit.proofs.Common.{Ends, Exit, ExitGives, Fetches, Follows, FrameTree, Goes, Gone, HasNoGap, InParts}
 use Rattle.sc_emit.proofs.Common.{Instr, IsActivation, IsClear, IsInside, IsWellFormed, IsWord, Jal, Joint, Left, Line}
 use Rattle.sc_emit.proofs.Common.{List, Lives, MovesOn, Next, None, Null, Option, Piece, Ptr, Reached, Ready, Return}
 use Rattle.sc_emit.proofs.Common.{Running, Set, Setting, Settled, Some, Standpoint, StandsAt, StandsFor, Starts}
 use Rattle.sc_emit.proofs.Common.{State as Meant, Stopped, Temps, Trail, Value, Walks, Word, [], add_word, and_first}
-use Rattle.sc_emit.proofs.Common.{and_rest, and_then, ap, arith, arrives_with, at, back_at, choice, choose, choosing}
-use Rattle.sc_emit.proofs.Common.{code_inside, comes_after, comes_read, completed, ends_of, eq-eqb, eqb-true, false}
-use Rattle.sc_emit.proofs.Common.{first_scratch, fork, front_at, if◌then◌else◌, in_order, in_parts, inl, inr, is_empty}
-use Rattle.sc_emit.proofs.Common.{is_some, is_true, jump_over, leads_less, leads_none, length, length-append}
+use Rattle.sc_emit.proofs.Common.{and_from, and_rest, and_then, ap, arith, arrives_with, at, back_at, choice, choose}
+use Rattle.sc_emit.proofs.Common.{choosing, code_inside, comes_after, comes_read, completed, ends_of, eq-eqb, eqb-true}
+use Rattle.sc_emit.proofs.Common.{false, first_scratch, fork, front_at, if◌then◌else◌, in_order, in_parts, inl, inr}
+use Rattle.sc_emit.proofs.Common.{is_empty, is_some, is_true, jump_over, leads_less, leads_none, length, length-append}
 use Rattle.sc_emit.proofs.Common.{length-map, live_at, live_before, look, low_after, low_append, low_plainly, moved}
 use Rattle.sc_emit.proofs.Common.{ne_eqb, not, operand, or_left, or_right, over, past, plain, plainly, plainly_at}
 use Rattle.sc_emit.proofs.Common.{point, pos, read, refl, row, row_points, seen_from, skipping, sp, subst, suc, sym}
-use Rattle.sc_emit.proofs.Common.{take, trail_step, true, word_of, zero, ℕ, ⊎_elim, ◌%◌, ◌&&◌, ◌*◌, ◌++◌, ◌+◌, ◌==◌}
-use Rattle.sc_emit.proofs.Common.{◌∙◌, ◌∷◌, ◌≡◌, ◌≤◌}
+use Rattle.sc_emit.proofs.Common.{take, trail_step, true, wanted_less, word_of, zero, ℕ, ⊎_elim, ◌%◌, ◌&&◌, ◌*◌, ◌++◌}
+use Rattle.sc_emit.proofs.Common.{◌+◌, ◌==◌, ◌∙◌, ◌∷◌, ◌≡◌, ◌≤◌}
 use Rattle.sc_select.specs.Prelude.{Piece as Code}
 use Rattle.sc_hart.proofs.Steps.{then_go, branch_taken, branch_not_taken}
 use Rattle.sc_tac.specs.declared.stmt.TacStmt.TheOpen as tac
@@ -371,7 +369,8 @@ module _ (T : Setting) (R : Running) (formed : IsWellFormed T.image) (inputs : A
           let begins : Starts T R first (row fs) lives temps y (farther to_break) (farther to_continue) = record {
             ready = ready;
             clear =
-                all_front (IsClear R.places) (row_points fs lives) (row_points ss lives) (clear_parts lives starts.clear);
+                all_front (IsClear R.places) (row_points fs lives) (row_points ss lives) (clear_parts lives
+                    starts.clear);
             stands =
                 subst (λ pc. StandsAt T R pc first (farther to_break) (farther to_continue)) (sym place) code.of_first;
             breaks = omega (arith, place, starts.breaks, test_is);
@@ -399,7 +398,8 @@ module _ (T : Setting) (R : Running) (formed : IsWellFormed T.image) (inputs : A
           let begins : Starts T R second (row ss) lives temps z to_break to_continue = record {
             ready = a.ready;
             clear =
-                all_back (IsClear R.places) (row_points fs lives) (row_points ss lives) (clear_parts lives starts.clear);
+                all_back (IsClear R.places) (row_points fs lives) (row_points ss lives) (clear_parts lives
+                    starts.clear);
             stands = subst (λ pc. StandsAt T R pc second to_break to_continue) (sym there) code.of_second;
             breaks = omega (arith, there, starts.breaks, test_is);
             continues = omega (arith, there, starts.continues, test_is);
@@ -467,7 +467,8 @@ module _ (T : Setting) (R : Running) (formed : IsWellFormed T.image) (inputs : A
             let begins : Starts T R first (row fs) lives temps y to_break to_continue = record {
               ready = ready;
               clear =
-                  all_front (IsClear R.places) (row_points fs lives) (row_points ss lives) (clear_parts lives starts.clear);
+                  all_front (IsClear R.places) (row_points fs lives) (row_points ss lives) (clear_parts lives
+                      starts.clear);
               stands = none_stand y.pc (first.lines to_break to_continue) (F.sized to_break to_continue ∙ empty);
               breaks = omega (arith, place, starts.breaks, test_is, empty, single);
               continues = omega (arith, place, starts.continues, test_is, empty, single);
@@ -487,7 +488,8 @@ module _ (T : Setting) (R : Running) (formed : IsWellFormed T.image) (inputs : A
             let begins : Starts T R second (row ss) lives temps y to_break to_continue = record {
               ready = ready;
               clear =
-                  all_back (IsClear R.places) (row_points fs lives) (row_points ss lives) (clear_parts lives starts.clear);
+                  all_back (IsClear R.places) (row_points fs lives) (row_points ss lives) (clear_parts lives
+                      starts.clear);
               stands = subst (λ pc. StandsAt T R pc second to_break to_continue) there in_two.back;
               breaks = omega (arith, place, starts.breaks, test_is);
               continues = omega (arith, place, starts.continues, test_is);
@@ -498,7 +500,8 @@ module _ (T : Setting) (R : Running) (formed : IsWellFormed T.image) (inputs : A
         short_comes : Comes T R lives x (short.size + left) short_ends (does temps x.meant)
         short_comes =
             does_comes lives temps x (short.size + left) short_ends starts.ready
-            (chooses_at x.pc (plainly_at (T.addresses comp) T.image comp x.pc (choice frame R.places cond) in_two.front))
+            (chooses_at x.pc (plainly_at (T.addresses comp) T.image comp x.pc (choice frame R.places cond)
+                in_two.front))
             (omega (arith, starts.breaks, test_is, single)) (first.size + left) (second.size + left)
             (omega (arith, test_is, count_is, empty)) (omega (arith, test_is, count_is)) on_first on_second
 

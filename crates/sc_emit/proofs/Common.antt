@@ -34,8 +34,8 @@ pub use Rattle.sc_laws.proofs.Growing.{then_goes, then_then}
 pub use Rattle.sc_laws.specs.Prelude.{Goes, Gone, Grown, last}
 pub use Rattle.rv_code.specs.Prelude.{IsBranchOffset, IsImmediate, IsInstr, IsJumpOffset, IsReg, IsUpper}
 pub use Rattle.rv_code.specs.declared.instr.BranchOp.TheVariants.{Bne}
-pub use Rattle.rv_code.specs.declared.instr.Instr.TheVariants.{Branch, Ebreak, Ecall, Jal, Jalr, Load, OpImm, Store}
-pub use Rattle.rv_code.specs.declared.instr.Instr.TheVariants.{Upper}
+pub use Rattle.rv_code.specs.declared.instr.Instr.TheVariants.{Branch, Ebreak, Ecall, Jal, Jalr, Load, Op, OpImm, Shift}
+pub use Rattle.rv_code.specs.declared.instr.Instr.TheVariants.{Store, Upper}
 pub use Rattle.rv_code.specs.declared.instr.LoadOp.TheVariants.{Lw}
 pub use Rattle.rv_code.specs.declared.instr.OpImmOp.TheVariants.{Addi, Andi, Ori, Xori}
 pub use Rattle.rv_code.specs.declared.instr.StoreOp.TheVariants.{Sw}
@@ -66,32 +66,33 @@ pub use Rattle.sc_tac.specs.declared.place.Place.TheVariants.{Register, Slot}
 pub use Rattle.sc_tac.specs.declared.stmt.Constant.{Constant}
 pub use Rattle.sc_tac.specs.declared.stmt.TacOp.{TacOp}
 pub use Rattle.sc_tac.specs.declared.stmt.TacStmt.{fold-roll-TacStmt, map-TacStmt, roll-TacStmt}
-pub use Rattle.sc_select.proofs.Joining.{IsRead, IsShort, between_keeps, fork_keeps, gives_place, is_empty, last_of_two}
-pub use Rattle.sc_select.proofs.Joining.{loads_it, none_behind, operates_it, order_keeps, parts_least, sets_it}
-pub use Rattle.sc_select.proofs.Joining.{which_pair}
+pub use Rattle.sc_select.proofs.Joining.{IsRead, IsShort, IsStored, between_keeps, fork_keeps, fork_role, gives_place}
+pub use Rattle.sc_select.proofs.Joining.{is_empty, last_of_two, loads_it, none_behind, operates_it, operation_role}
+pub use Rattle.sc_select.proofs.Joining.{order_keeps, parts_least, sets_it, store_role, stores_it, which_pair}
 pub use Rattle.sc_select.proofs.Sizes.{row_is_sized}
-pub use Rattle.sc_select.specs.Prelude.{Addresses, Fits, Line, a0, a7, added_by, address_scratch, as_one, at_hand}
-pub use Rattle.sc_select.specs.Prelude.{between, binary_code, binary_short, brought, bytes_of, call_cross, call_own}
-pub use Rattle.sc_select.specs.Prelude.{choice, choosing, closing, code_of, completed, copied, cycle, ending_past}
-pub use Rattle.sc_select.specs.Prelude.{entrance, environment_call, first_scratch, followed, fork, frame_left}
-pub use Rattle.sc_select.specs.Prelude.{frame_taken, function_lines, in_order, in_turn, is_named, is_short, joined}
-pub use Rattle.sc_select.specs.Prelude.{joins, jump_back, jump_over, keep, kept, less_than, linked, load_from}
+pub use Rattle.sc_select.specs.Prelude.{Addresses, Fits, Line, Need, a0, a7, added_by, address_scratch, as_one, at_hand}
+pub use Rattle.sc_select.specs.Prelude.{between, binary_code, binary_short, brought, bytes_ahead, bytes_of, call_cross}
+pub use Rattle.sc_select.specs.Prelude.{call_own, choice, choosing, closing, code_of, completed, copied, cycle}
+pub use Rattle.sc_select.specs.Prelude.{ending_past, entrance, environment_call, first_scratch, followed, fork}
+pub use Rattle.sc_select.specs.Prelude.{frame_left, frame_taken, function_lines, in_order, in_turn, is_named, is_short}
+pub use Rattle.sc_select.specs.Prelude.{joined, joins, jump_back, jump_over, keep, kept, less_than, linked, load_from}
 pub use Rattle.sc_select.specs.Prelude.{load_word, loading, loop_begins, low_after, lower_part, most_lines, move}
-pub use Rattle.sc_select.specs.Prelude.{moved_by, nothing, object_offset, object_read, op_code, operand, operation}
-pub use Rattle.sc_select.specs.Prelude.{pass, past, place_of, place_of_global, plain, plainly, put, ra, receive}
+pub use Rattle.sc_select.specs.Prelude.{moved_by, need, need_step, needed_in, needs_of, nothing, object_offset}
+pub use Rattle.sc_select.specs.Prelude.{object_read, object_store, op_code, operand, operation, pass, past}
+pub use Rattle.sc_select.specs.Prelude.{place_needed, place_of, place_of_global, plain, plainly, put, ra, receive}
 pub use Rattle.sc_select.specs.Prelude.{referring, refers_only, register_of, relocation_of, relocations_from}
 pub use Rattle.sc_select.specs.Prelude.{result_register, return, role_first, role_of_load, role_of_operation}
-pub use Rattle.sc_select.specs.Prelude.{second_operand, second_scratch, select, select_all, select_step, short}
-pub use Rattle.sc_select.specs.Prelude.{short_code, short_form, short_operation, skipping, slot_offset, sp}
-pub use Rattle.sc_select.specs.Prelude.{store_arguments, store_to, store_word, straight, straightly, take, take_second}
-pub use Rattle.sc_select.specs.Prelude.{taken, unary_code, upper_part, word_of_constant}
+pub use Rattle.sc_select.specs.Prelude.{role_of_store, row_needs, second_operand, second_scratch, select, select_all}
+pub use Rattle.sc_select.specs.Prelude.{select_step, short, short_code, short_form, short_operation, skipping}
+pub use Rattle.sc_select.specs.Prelude.{slot_offset, sp, store_arguments, store_to, store_word, straight, straightly}
+pub use Rattle.sc_select.specs.Prelude.{take, take_second, taken, unary_code, upper_part, word_of_constant}
 pub use Rattle.sc_select.specs.declared.operators.ShortForm.{ShortForm}
 pub use Rattle.sc_select.specs.declared.roles.Role.{Role}
-pub use Rattle.sc_select.specs.declared.roles.Role.TheVariants.{Other, Places, Sets}
+pub use Rattle.sc_select.specs.declared.roles.Role.TheVariants.{Loads, Operates, Other, Places, Sets}
 pub use Rattle.sc_pieces.proofs.Frames.{leaves_frame, overflows, takes_frame}
 pub use Rattle.sc_pieces.proofs.Loading.{loads_long, loads_number, moves, moves_on}
 pub use Rattle.sc_pieces.proofs.NearSp.{loads_word, stores_word}
-pub use Rattle.sc_pieces.proofs.Rows.{computes, in_row, look_at, looked, stores, upper, with_number}
+pub use Rattle.sc_pieces.proofs.Rows.{computes, in_row, look_at, looked, upper, with_number}
 pub use Rattle.sc_pieces.specs.Frames.{FrameOverflows, LeavesFrame, TakesFrame, frame_raised}
 pub use Rattle.sc_pieces.specs.Operators.{AreOperands, op_word}
 pub use Rattle.sc_pieces.specs.Pieces.{Besides, Computes, Does, IsFromSp, IsWritable, Stores}
@@ -107,16 +108,17 @@ pub use Rattle.sc_relation.proofs.Registers.{HasNoOtherUse, no_other_use, regist
 pub use Rattle.sc_relation.proofs.Settling.{leads_moved, moved, settled_moved}
 pub use Rattle.sc_relation.proofs.Straight.{IsLoaded, MovesOn, across_live, asked, assigned, assigned_at}
 pub use Rattle.sc_relation.proofs.Straight.{assigns_register, assigns_slot, call_from, live_plain, loads, may_store}
-pub use Rattle.sc_relation.proofs.Straight.{overflows_from, settled_to, shows_from}
+pub use Rattle.sc_relation.proofs.Straight.{overflows_from, settled_to, shows_from, stores}
 pub use Rattle.sc_relation.proofs.Stretches.{arrives_with, comes_after, leads_less, leads_none, leads_then}
 pub use Rattle.sc_relation.proofs.Stretches.{overflows_then, overflows_with, returns_with, shows_after, shows_here}
 pub use Rattle.sc_relation.proofs.Stretches.{shows_less}
+pub use Rattle.sc_relation.proofs.Wanted.{wanted_less}
 pub use Rattle.sc_relation.specs.Prelude.{Activation, AreHeld, ArePassed, Arrives, Begins, CallGives, CallStands}
 pub use Rattle.sc_relation.specs.Prelude.{CallsFollow, Comes, ComesBack, Ends, ExitGives, Follows, FrameMatches}
 pub use Rattle.sc_relation.specs.Prelude.{FunctionFollows, FunctionGives, GivenBack, Gives, GivesValue, InPlace}
 pub use Rattle.sc_relation.specs.Prelude.{IsActivation, IsAddress, IsHeld, IsSound, Joint, Overflows, Ready, Returns}
 pub use Rattle.sc_relation.specs.Prelude.{Running, Setting, Settled, Shows, Standpoint, StandsAt, StandsFor, Starts}
-pub use Rattle.sc_relation.specs.Prelude.{ends_of, live_at, machine, of_environment, row, runs_with, seen_from}
+pub use Rattle.sc_relation.specs.Prelude.{ends_of, live_at, machine, of_environment, row, runs_with, seen_from, wanted}
 pub use Rattle.sc_emit.specs.Common.{CodeTree, Instr, TacStmt, TacStmt-F, fold-TacStmt}
 pub use Rattle.sc_emit.specs.Prelude.{AreReached, CodeFollows, IsEmitted, IsPlaced, calls_only, code_back_edges}
 pub use Rattle.sc_emit.specs.Prelude.{code_branches, has_known_jumps, has_no_ebreak, is_backward, is_branch, is_call}

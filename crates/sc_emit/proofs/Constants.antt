@@ -1,18 +1,16 @@
 -- An operator whose second operand is a constant: one instruction, where the result takes the constant's temporary.
-use Rattle.std.proofs.lemmas.Bool.{and_from}
-use Rattle.sc_relation.proofs.Wanted.{wanted_less}
 use Rattle.sc_emit.proofs.Common.{All, All-cons, All-nil, Arrives, Bool, Calls, Cause, CodeAt, Codes, Computes}
 use Rattle.sc_emit.proofs.Common.{Constant, Err, Follows, FrameTree, Goes, Gone, Instr, IsActivation, IsClear, IsSound}
 use Rattle.sc_emit.proofs.Common.{IsWellFormed, IsWord, Joint, List, Lives, Next, Ok, Place, Point, Ready, Result}
-use Rattle.sc_emit.proofs.Common.{Running, Setting, ShortForm, Some, StandsFor, State as Meant, TacOp, Temps, Trail}
-use Rattle.sc_emit.proofs.Common.{Value, [], all_at, and_then, ap, arith, code_step, comes_computed, comes_read}
-use Rattle.sc_emit.proofs.Common.{constant_value, eq-eqb, eqb-true, false, first_scratch, gets, if◌then◌else◌, in_row}
-use Rattle.sc_emit.proofs.Common.{is_one, keep, leave, length, live_across, live_at, live_plain, ne_eqb, not, op_word}
-use Rattle.sc_emit.proofs.Common.{operand, operated, operator_stands, or_left, plain_points, point, read, refl}
-use Rattle.sc_emit.proofs.Common.{result_register, row, same, same_Some, short_code, short_form, short_operation}
-use Rattle.sc_emit.proofs.Common.{slice_get, sp, stays, straightly, subst, sym, take, trail_step, true, true≢false}
-use Rattle.sc_emit.proofs.Common.{with_temp, word_of_constant, wrapping, ℕ, ◌&&◌, ◌*◌, ◌++◌, ◌+◌, ◌==◌, ◌||◌, ◌∙◌, ◌∷◌}
-use Rattle.sc_emit.proofs.Common.{◌≡◌, ◌≢◌}
+use Rattle.sc_emit.proofs.Common.{Running, Setting, ShortForm, Some, State as Meant, TacOp, Temps, Trail}
+use Rattle.sc_emit.proofs.Common.{Value, [], all_at, and_from, and_then, ap, arith, code_step, comes_computed}
+use Rattle.sc_emit.proofs.Common.{comes_read, constant_value, eq-eqb, eqb-true, false, first_scratch, gets}
+use Rattle.sc_emit.proofs.Common.{if◌then◌else◌, in_row, is_one, keep, leave, length, live_across, live_at, live_plain}
+use Rattle.sc_emit.proofs.Common.{ne_eqb, not, op_word, operand, operated, operator_stands, or_left, plain_points}
+use Rattle.sc_emit.proofs.Common.{point, read, refl, result_register, row, same, same_Some, short_code, short_form}
+use Rattle.sc_emit.proofs.Common.{short_operation, slice_get, sp, stays, straightly, subst, sym, take, trail_step, true}
+use Rattle.sc_emit.proofs.Common.{true≢false, wanted_less, with_temp, word_of_constant, wrapping, ℕ, ◌&&◌, ◌*◌, ◌++◌}
+use Rattle.sc_emit.proofs.Common.{◌+◌, ◌==◌, ◌||◌, ◌∙◌, ◌∷◌, ◌≡◌}
 use Rattle.sc_tac.specs.declared.stmt.TacStmt.TheOpen as tac
 use Rattle.sc_pieces.proofs.ShortForms.{gives_short}
 use Rattle.sc_emit.proofs.Operands.{ArePlaced, AtHand, Gives, brings, first_is, keeps, world}
@@ -79,7 +77,8 @@ module _ (T : Setting) (R : Running) (formed : IsWellFormed T.image) (inputs : A
   clear_behind : (lives : Lives) → All (IsClear R.places) (both_steps.points lives) →
       All (IsClear R.places) (plain_points (left ∷ []) false (Some dest) lives)
   clear_behind lives clear =
-      let first : Point = point false (λ t. is_one t (left ∷ []) || live_across (left ∷ []) false (Some dest) lives t) in
+      let first : Point = point false (λ t. is_one t (left ∷ []) || live_across (left ∷ []) false (Some dest) lives t)
+          in
       let last : Point = record { assigned = Some dest; calls = false; live = lives.behind } in
       All-cons (IsClear R.places) first (last ∷ [])
       (fewer_clear R.places
@@ -147,7 +146,8 @@ module _ (T : Setting) (R : Running) (formed : IsWellFormed T.image) (inputs : A
         live_before lives left (or_left (is_one left (left ∷ [])) _ only) in
         let h : AtHand T R x x.regs first_scratch left v =
         brings T R x cells nodes is placed ready.frame ready.sp x.regs first_scratch left v first_is
-        (ready.held left v (and_from (live_at both_steps lives left) (R.needed left) on need) known) refl (λ q k. refl) in
+        (ready.held left v (and_from (live_at both_steps lives left) (R.needed left) on need) known) refl (λ q k. refl)
+            in
         let w : IsResult rd = result_is R placed dest place its in
         let piece : Computes T.image T.inputs (world T R x) (short_code rd rs (Some form)) [] h.after x.bytes rd
         (op_word o h.word word) =
@@ -170,7 +170,8 @@ module _ (T : Setting) (R : Running) (formed : IsWellFormed T.image) (inputs : A
     in_parts = refl
 
     pub short_follows :
-        Follows T R applies (straightly frame R.places (short_operation frame R.places dest left (Some form))) both_steps
+        Follows T R applies (straightly frame R.places (short_operation frame R.places dest left (Some form)))
+            both_steps
     short_follows =
         straight_follows T R applies whole both_steps applies_goes
         (λ lives temps x n ready clear at ends e f.

@@ -1,17 +1,17 @@
 -- The code that is selected keeps what code keeps.
-use Rattle.sc_select.specs.Needs.{needed_in, needs_of}
-use Rattle.sc_emit.proofs.Needed.{all_among}
 use Rattle.sc_emit.proofs.Common.{Activation, ArePlaces, AreReached, CodeAt, CodeTree, Err, Follows, FrameTree, Front}
 use Rattle.sc_emit.proofs.Common.{FunctionFollows, HasRoom, IfOk, Instr, IsAssignment, IsEmitted, IsFrame, IsFunction}
 use Rattle.sc_emit.proofs.Common.{IsPlaced, Line, List, Ok, Place, Register, Result, Running, Setting, Slot, Some}
 use Rattle.sc_emit.proofs.Common.{TacFnTree, [], and_parts, ap, append_assoc, arith, calls_only, closing, code_does}
 use Rattle.sc_emit.proofs.Common.{code_function, code_of, entrance, entry_weight, frame_taken, function_lines}
 use Rattle.sc_emit.proofs.Common.{function_points, interval_of, intervals_of, is_place, length, length-append}
-use Rattle.sc_emit.proofs.Common.{length-map, list_all, ltb-true, map, map-append, max, names_own_temps, plainly}
-use Rattle.sc_emit.proofs.Common.{range_with_len, refl, register_count, row, row_is_sized, same_Some, select_all}
-use Rattle.sc_emit.proofs.Common.{slice_get, slice_get-get_or, slots_of, slots_up_to, store_arguments, subst, suc, sym}
-use Rattle.sc_emit.proofs.Common.{trail, true, weight, wrapping, zero, ℕ, ◌++◌, ◌+◌, ◌<◌, ◌∙◌, ◌∷◌, ◌≡◌, ◌≤◌}
+use Rattle.sc_emit.proofs.Common.{length-map, list_all, ltb-true, map, map-append, max, names_own_temps, needed_in}
+use Rattle.sc_emit.proofs.Common.{needs_of, plainly, range_with_len, refl, register_count, row, row_is_sized, same_Some}
+use Rattle.sc_emit.proofs.Common.{select_all, slice_get, slice_get-get_or, slots_of, slots_up_to, store_arguments}
+use Rattle.sc_emit.proofs.Common.{subst, suc, sym, trail, true, weight, wrapping, zero, ℕ, ◌++◌, ◌+◌, ◌<◌, ◌∙◌, ◌∷◌}
+use Rattle.sc_emit.proofs.Common.{◌≡◌, ◌≤◌}
 use Rattle.sc_tac.specs.Prelude.{everywhere}
+use Rattle.sc_emit.proofs.Needed.{all_among}
 use Rattle.std.proofs.lemmas.List.FromFn.{length-range_with_len}
 use Rattle.sc_relation.proofs.Linking.{linked_is}
 use Rattle.sc_emit.proofs.Branches.{few_branches, known_jumps, no_ebreak}
@@ -56,9 +56,11 @@ module _ (f : TacFnTree) (places : List Place) (frame : FrameTree) (rules : IsFu
   body_within : (select_all frame places (needed_in f.body) f.body).size ≤ length lines
   body_within = omega (
     arith,
-    length-append (plainly (entrance frame places f.params) ++ (select_all frame places (needed_in f.body) f.body).lines 0 0)
+    length-append (plainly (entrance frame places f.params) ++ (select_all frame places (needed_in f.body) f.body).lines
+        0 0)
         (plainly (closing frame places f.entry)),
-    length-append (plainly (entrance frame places f.params)) ((select_all frame places (needed_in f.body) f.body).lines 0 0),
+    length-append (plainly (entrance frame places f.params)) ((select_all frame places (needed_in f.body) f.body).lines
+        0 0),
     (row_is_sized frame places (needed_in f.body) f.body).sized 0 0,
   )
 
@@ -78,7 +80,8 @@ module _ (f : TacFnTree) (places : List Place) (frame : FrameTree) (rules : IsFu
     body calls follow A last run gapless =
         let R : Running = in_call T f frame places A last in
         let size : (select_all A.frame places (needed_in f.body) f.body).size ≤ T.turn_pays =
-        subst (λ (frame : FrameTree). (select_all frame places (needed_in f.body) f.body).size ≤ T.turn_pays) (sym run.frame_is)
+        subst (λ (frame : FrameTree). (select_all frame places (needed_in f.body) f.body).size ≤ T.turn_pays) (sym
+            run.frame_is)
         (omega (arith, body_within, all_instrs, is.paid)) in
         let reached : AreReached T A.here.comp is.function is.entry is.global =
         subst (λ c. AreReached T c is.function is.entry is.global) (sym run.comp_is) is.reached in
@@ -86,7 +89,8 @@ module _ (f : TacFnTree) (places : List Place) (frame : FrameTree) (rules : IsFu
         subst (λ c. everywhere (calls_only (T.makes c) (T.gives c)) f.body ≡ true) (sym run.comp_is) is.calls in
         let temps : everywhere (names_own_temps (length places)) f.body ≡ true =
         subst (λ n. everywhere (names_own_temps n) f.body ≡ true) temps_are rules.own_temps in
-        subst (λ frame. Follows T R (code_does wrapping A.here calls f.body) (select_all frame places (needed_in f.body) f.body)
+        subst (λ frame. Follows T R (code_does wrapping A.here calls f.body) (select_all frame places (needed_in f.body)
+            f.body)
         (row (map trail f.body))) run.frame_is
         (body_follows T R is.image is.inputs f.objects f.nodes run.is (all_placed A last run.frame_is) gapless calls
         follow
@@ -123,7 +127,8 @@ module _ (f : TacFnTree) (places : List Place) (frame : FrameTree) (rules : IsFu
   -- the way in stands in front
   enters : Front (frame_taken frame.bytes) code.instrs
   enters =
-      let later : List Line = (select_all frame places (needed_in f.body) f.body).lines 0 0 ++ plainly (closing frame places f.entry) in
+      let later : List Line = (select_all frame places (needed_in f.body) f.body).lines 0 0 ++ plainly (closing frame
+          places f.entry) in
       let stores : List Instr = store_arguments frame places f.params 0 in
       let instr : Line → Instr = λ line. line.instr in
       record {

@@ -1,16 +1,13 @@
 -- Calls of the environment.
-use Rattle.sc_emit.proofs.Common.{live_across}
-use Rattle.sc_relation.proofs.Wanted.{wanted_less}
-use Rattle.std.specs.List.{list_all}
 use Rattle.sc_emit.proofs.Common.{Activation, Addi, All, CallStands, CallTarget, Calls, CallsFollow, CodeAt, ComesBack}
 use Rattle.sc_emit.proofs.Common.{Computes, Ecall, Fetches, Follows, FrameTree, Input, Instr, IsActivation, IsBack}
 use Rattle.sc_emit.proofs.Common.{IsClear, IsWellFormed, IsWord, Joint, List, Lives, None, OpImm, Option, Output, Ready}
 use Rattle.sc_emit.proofs.Common.{Running, Setting, Standpoint, State as Meant, Temps, Value, [], a0, a7, across_live}
 use Rattle.sc_emit.proofs.Common.{all_at, ap, append-nil, append_assoc, arith, asked, back_at, back_with, brought}
-use Rattle.sc_emit.proofs.Common.{call_does, call_from, code_step, environment_call, false, length, live_plain, moved}
-use Rattle.sc_emit.proofs.Common.{of_environment, pass, place_of, plain_points, pos, receive, refl, seen_from}
-use Rattle.sc_emit.proofs.Common.{select_step, subst, sym, trail_step, true, with_number, wrapping, ℕ, ◌*◌, ◌++◌, ◌+◌}
-use Rattle.sc_emit.proofs.Common.{◌<◌, ◌^◌, ◌∙◌, ◌∷◌, ◌≡◌, ◌≤◌}
+use Rattle.sc_emit.proofs.Common.{call_does, call_from, code_step, environment_call, false, length, list_all}
+use Rattle.sc_emit.proofs.Common.{live_across, live_plain, moved, of_environment, pass, place_of, plain_points, pos}
+use Rattle.sc_emit.proofs.Common.{receive, refl, seen_from, select_step, subst, sym, trail_step, true, wanted_less}
+use Rattle.sc_emit.proofs.Common.{with_number, wrapping, ℕ, ◌*◌, ◌++◌, ◌+◌, ◌<◌, ◌^◌, ◌∙◌, ◌∷◌, ◌≡◌, ◌≤◌}
 use Rattle.sc_tac.specs.declared.stmt.TacStmt.TheOpen as tac
 use Rattle.sc_emit.proofs.Arguments.{AreRead, read_length, Passes}
 use Rattle.sc_emit.proofs.Calls.{Answers, none_wanted, HasPlace, last_point, Prepares, goes, call_runs, passes_args}
@@ -63,7 +60,8 @@ module _ (T : Setting) (R : Running) (formed : IsWellFormed T.image) (inputs : A
         CallStands T (call_from T R) y target
 
     asks_prepared : (target : CallTarget) (number : ℕ) (dest : Option ℕ) (args : List ℕ) → length args ≤ 1 →
-        list_all R.needed args ≡ true → number < 2 ^ 32 → IsAsked target number → (lives : Lives) (temps : Temps) (x : Joint) →
+        list_all R.needed args ≡ true → number < 2 ^ 32 → IsAsked target number →
+            (lives : Lives) (temps : Temps) (x : Joint) →
         Ready T R (live_plain args dest lives) temps x →
         CodeAt T.image A.here.comp x.pc (asking number dest args) → (vs : List Value) → AreRead temps args vs →
         Prepares T R formed inputs cells nodes is placed target x (pass frame R.places a0 args ++ ask number) vs
@@ -88,7 +86,8 @@ module _ (T : Setting) (R : Running) (formed : IsWellFormed T.image) (inputs : A
         (lives : Lives) (temps : Temps) (x : Joint) (left : ℕ) → Ready T R (live_plain args dest lives) temps x →
         IsClear R.places (last_point dest lives) → CodeAt T.image A.here.comp x.pc (asking number dest args) →
         ComesStraight T R lives x (asking number dest args) left (call_does A.here calls dest target args temps x.meant)
-    asks target number dest args environment few needs small stands there made answers lives temps x left ready clear code
+    asks target number dest args environment few needs small stands there made answers lives temps x left ready clear
+        code
         ends left_is behind_is =
         call_runs T R formed inputs cells nodes is placed calls follow target dest args there made answers lives temps
         clear (λ y left v s ready b. asked_back args dest lives temps y target left v s environment ready b) x
@@ -97,7 +96,8 @@ module _ (T : Setting) (R : Running) (formed : IsWellFormed T.image) (inputs : A
 
     pub input_follows : (dest : Option ℕ) → HasPlace R.places dest → T.makes A.here.comp Input 0 ≡ true →
         ((vs : List Value) (s : Meant) → Answers dest (calls A.here.comp Input vs s)) →
-        Follows T R (code_step wrapping A.here calls (tac.Input dest)) (select_step frame R.places R.needed (tac.Input dest))
+        Follows T R (code_step wrapping A.here calls (tac.Input dest)) (select_step frame R.places R.needed (tac.Input
+            dest))
         (trail_step (tac.Input dest))
     input_follows dest there made answers =
         straight_follows T R (code_step wrapping A.here calls (tac.Input dest))
@@ -111,7 +111,8 @@ module _ (T : Setting) (R : Running) (formed : IsWellFormed T.image) (inputs : A
         (all_at (IsClear R.places) (plain_points [] false dest lives) 1 _ clear refl) code)
 
     pub output_follows : (value : ℕ) → list_all R.needed (value ∷ []) ≡ true → T.makes A.here.comp Output 1 ≡ true →
-        Follows T R (code_step wrapping A.here calls (tac.Output value)) (select_step frame R.places R.needed (tac.Output value))
+        Follows T R (code_step wrapping A.here calls (tac.Output value)) (select_step frame R.places R.needed
+            (tac.Output value))
         (trail_step (tac.Output value))
     output_follows value needs made =
         let first : List Instr = brought frame a0 (place_of frame R.places value) in

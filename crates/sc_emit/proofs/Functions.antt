@@ -1,5 +1,4 @@
 -- The code of a function follows the function, where the code of its body follows what its statements do.
-use Rattle.sc_select.specs.Needs.{needed_in}
 use Rattle.sc_emit.proofs.Common.{Activation, All, Arrives, Begins, Bool, Break, Calls, CallsFollow, CodeAt, Comes}
 use Rattle.sc_emit.proofs.Common.{Continue, Ends, Entry, Exit, ExitGives, Export, Follows, FrameTree, Function}
 use Rattle.sc_emit.proofs.Common.{FunctionFollows, FunctionGives, FunctionGoes, Gives, Goes, Grown, HasNoGap, HasRoom}
@@ -12,7 +11,7 @@ use Rattle.sc_emit.proofs.Common.{begun, cases_lt, closed, closing, code_does, c
 use Rattle.sc_emit.proofs.Common.{completed_length, data_start, done, done_goes, ends_of, entered, entrance, eqb-true}
 use Rattle.sc_emit.proofs.Common.{false, frame_taken, function_follows, function_lines, in_parts, inl, inr}
 use Rattle.sc_emit.proofs.Common.{intervals_of, is_activation, last as final, leads_then, length, length-append}
-use Rattle.sc_emit.proofs.Common.{length-map, list_all, live_at, low_plainly, map, no_temps, nothing_live}
+use Rattle.sc_emit.proofs.Common.{length-map, list_all, live_at, low_plainly, map, needed_in, no_temps, nothing_live}
 use Rattle.sc_emit.proofs.Common.{overflows_then, passes_words, plain, plainly, plainly_at, reached, ready_entered}
 use Rattle.sc_emit.proofs.Common.{refl, returns_with, row, runs_with, same, same_Some, same_entry, seen_from}
 use Rattle.sc_emit.proofs.Common.{select_all, shows_after, shows_here, slice_get, stays, store_arguments, subst, suc}
@@ -158,7 +157,8 @@ module _ (T : Setting) (f : TacFnTree) (frame : FrameTree) (places : List Place)
   abbrev pub BodyFollows : ℕ → Type 0
   BodyFollows comp =
       (calls : Calls) → CallsFollow T calls → (A : Activation) (last : ℕ) → IsRun comp A → HasNoGap T (in_call A last) →
-      Follows T (in_call A last) (code_does wrapping A.here calls f.body) (select_all frame places (needed_in f.body) f.body)
+      Follows T (in_call A last) (code_does wrapping A.here calls f.body) (select_all frame places (needed_in f.body)
+          f.body)
       (row (map trail f.body))
 
   -- the code of the closing brace comes to the jump back
@@ -359,7 +359,8 @@ module _ (T : Setting) (f : TacFnTree) (frame : FrameTree) (places : List Place)
             subst (λ n. FunctionGives T P x n ra_is told ⊎ Overflows T P x n told) all
             (function_follows T formed inputs P function args address ra_is x begins frame places f.nodes low whole room
             room.bounded bound_is start steps (x.pc + 4 * steps) entering.regs entering.bytes entering.enters
-            (λ o n less e. variables_some (length args) o n long less e) end (needed_in f.body) (body.size + left) value closes)
+            (λ o n less e. variables_some (length args) o n long less e) end (needed_in f.body) (body.size + left) value
+                closes)
 
       call_follows : BodyFollows P.comp → BraceReturns P.comp → Goal
       call_follows runs way =

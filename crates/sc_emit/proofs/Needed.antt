@@ -1,15 +1,13 @@
 -- Temporaries that are read in their places: what rows of statements need, and where a store stands alone.
-use Rattle.sc_emit.proofs.Common.{Bool, FrameTree, Inside, List, None, Option, Other, Place, Role, Some, TacStmt}
-use Rattle.sc_emit.proofs.Common.{TacStmt-F, [], and_first, and_from, and_parts, ap, eqb-true, false, fold-roll-TacStmt}
-use Rattle.sc_emit.proofs.Common.{if◌then◌else◌, is_one, joins, list_all, map, map-TacStmt, or_left, or_right, refl}
-use Rattle.sc_emit.proofs.Common.{roll-TacStmt, select, select_step, stmt_induction, subst, sym, true, ℕ, ◌&&◌, ◌++◌}
-use Rattle.sc_emit.proofs.Common.{◌==◌, ◌||◌, ◌∙◌, ◌∷◌, ◌≡◌}
-use Rattle.std.proofs.Common.{eq-eqb, ⊎_elim, ◌⊎◌}
+use Rattle.sc_emit.proofs.Common.{Bool, FrameTree, List, Loads, Need, None, Operates, Option, Other, Place}
+use Rattle.sc_emit.proofs.Common.{Places, Role, Sets, Some, TacStmt, TacStmt-F, [], and_first, and_from, and_parts, ap}
+use Rattle.sc_emit.proofs.Common.{eq-eqb, eqb-true, false, fold-roll-TacStmt, fork_role, if◌then◌else◌, is_one, joins}
+use Rattle.sc_emit.proofs.Common.{list_all, map, map-TacStmt, need, need_step, operation_role, or_left, or_right}
+use Rattle.sc_emit.proofs.Common.{place_needed, refl, role_of_store, roll-TacStmt, select, select_step}
+use Rattle.sc_emit.proofs.Common.{stmt_induction, store_role, subst, sym, true, ℕ, ⊎_elim, ◌++◌, ◌==◌, ◌||◌, ◌∙◌}
+use Rattle.sc_emit.proofs.Common.{◌∷◌, ◌≡◌, ◌⊎◌}
 use Rattle.sc_tac.specs.declared.stmt.TacStmt.TheOpen as tac
-use Rattle.sc_select.specs.Needs.{Need, need, need_step, place_needed, row_needs}
-use Rattle.sc_select.specs.Prelude.{role_of_store}
-use Rattle.sc_select.specs.declared.roles.Role.TheVariants.{Loads, Operates, Places, Sets, Stores}
-use Rattle.sc_select.proofs.Joining.{fork_role, operation_role, store_role}
+use Rattle.sc_select.specs.declared.roles.Role.TheVariants.{Stores}
 
 -- LISTS
 pub one_of_all : (p : ℕ → Bool) (xs : List ℕ) (t : ℕ) → list_all p xs ≡ true → is_one t xs ≡ true → p t ≡ true
@@ -112,7 +110,8 @@ module _ (frame : FrameTree) (places : List Place) (needed : ℕ → Bool) where
       layer_stores layer place (sym (ap (λ (n : Need). n.stores) (fold-roll-TacStmt Need need_step layer)) ∙ h))
 
   -- the place of a store that isn't one with the statement before it is read
-  read_behind : (before : Role) (place value : ℕ) → list_all needed (place_needed (gives_of before) (Some place)) ≡ true →
+  read_behind : (before : Role) (place value : ℕ) → list_all needed (place_needed (gives_of before) (Some place)) ≡ true
+      →
       joins before (Stores place value) ≡ false → needed place ≡ true
   read_behind (Places temp object) place value h apart =
       let all : list_all needed (place ∷ []) ≡ true =

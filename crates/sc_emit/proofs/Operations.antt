@@ -1,28 +1,22 @@
 -- Operators, loads and stores.
-use Rattle.std.proofs.lemmas.Bool.{and_from}
-use Rattle.sc_base.proofs.Bools.{and_first, and_rest}
-use Rattle.std.specs.List.{list_all}
-use Rattle.sc_select.specs.Prelude.{role_of_store}
-use Rattle.std.specs.Prelude.{◌&&◌}
 use Rattle.sc_emit.proofs.Common.{All, AreOperands, Arrives, Blocks, Bool, Calls, Cause, CodeAt, Comes, Computes, Does}
 use Rattle.sc_emit.proofs.Common.{Ends, Err, Follows, FrameTree, Goes, Gone, HasNoOtherUse, Instr, IsActivation}
 use Rattle.sc_emit.proofs.Common.{IsClear, IsLoaded, IsSound, IsWellFormed, IsWord, Joint, List, Lives, Load, Lw, Next}
 use Rattle.sc_emit.proofs.Common.{None, Ok, Option, Other, Place, Reached, Ready, Registers, Result, Running, Set}
 use Rattle.sc_emit.proofs.Common.{Setting, Settled, Some, StandsFor, State as Meant, Store, Stores, Sw, TacOp, Temps}
-use Rattle.sc_emit.proofs.Common.{Value, [], add_word, and_then, ap, append-nil, append_assoc, arith, code_step}
-use Rattle.sc_emit.proofs.Common.{comes_computed, comes_read, computed, eq-eqb, false, first_scratch, front_same, gets}
-use Rattle.sc_emit.proofs.Common.{in_row, inl, is_one, is_some, keep, leave, length, live_plain, load, load_from, loads}
-use Rattle.sc_emit.proofs.Common.{look, looked, may_store, one_or_none, op_code, op_word, operand, operated, operation}
-use Rattle.sc_emit.proofs.Common.{operator_stands, or_left, or_right, plain_points, pos, read, refl, result_register}
-use Rattle.sc_emit.proofs.Common.{role_of_load, role_of_operation, same, second_operand, second_scratch, seen_from}
-use Rattle.sc_emit.proofs.Common.{select_step, shows_here, slice_get, sp, stays, store, store_to, stored}
-use Rattle.sc_emit.proofs.Common.{stores as stores_to, straightly, subst, sym, take, takes_two, trail_step, true}
-use Rattle.sc_emit.proofs.Common.{with_memory, with_temp, word, word_of, wrapping, ℕ, ⊎_elim, ◌*◌, ◌++◌, ◌+◌, ◌==◌, ◌∙◌}
-use Rattle.sc_emit.proofs.Common.{◌∷◌, ◌≡◌}
-use Rattle.sc_pieces.proofs.Rows.{loads as loads_from}
+use Rattle.sc_emit.proofs.Common.{Value, [], add_word, and_first, and_from, and_rest, and_then, ap, append-nil}
+use Rattle.sc_emit.proofs.Common.{append_assoc, arith, code_step, comes_computed, comes_read, computed, eq-eqb, false}
+use Rattle.sc_emit.proofs.Common.{first_scratch, front_same, gets, in_row, inl, is_one, is_some, keep, leave, length}
+use Rattle.sc_emit.proofs.Common.{list_all, live_plain, load, load_from, loads, look, looked, may_store, one_or_none}
+use Rattle.sc_emit.proofs.Common.{op_code, op_word, operand, operated, operation, operator_stands, or_left, or_right}
+use Rattle.sc_emit.proofs.Common.{plain_points, pos, read, refl, result_register, role_of_load, role_of_operation}
+use Rattle.sc_emit.proofs.Common.{role_of_store, same, second_operand, second_scratch, seen_from, select_step}
+use Rattle.sc_emit.proofs.Common.{shows_here, slice_get, sp, stays, store, store_to, stored, stores, straightly, subst}
+use Rattle.sc_emit.proofs.Common.{sym, take, takes_two, trail_step, true, with_memory, with_temp, word, word_of}
+use Rattle.sc_emit.proofs.Common.{wrapping, ℕ, ⊎_elim, ◌&&◌, ◌*◌, ◌++◌, ◌+◌, ◌==◌, ◌∙◌, ◌∷◌, ◌≡◌}
+use Rattle.sc_pieces.proofs.Rows.{stores as stores_to, loads as loads_from}
 use Rattle.sc_tac.specs.declared.stmt.TacStmt.TheOpen as tac
 use Rattle.sc_pieces.proofs.Operators.{gives_word}
-use Rattle.sc_relation.proofs.Straight.{stores}
 use Rattle.sc_emit.proofs.Operands.{ArePlaced, AtHand, Gives, first_is, second_is, brings, keeps, world}
 use Rattle.sc_emit.proofs.Plain.{IsResult, result_is}
 use Rattle.sc_emit.proofs.Straight.{comes_behind, read_goes, computed_goes, straight_follows, with_role}
@@ -73,7 +67,8 @@ module _ (T : Setting) (R : Running) (formed : IsWellFormed T.image) (inputs : A
           let same : g.after sp ≡ x.regs sp = g.others sp ((λ e. omega (arith, e)), ((λ e. omega (arith, e)), tt)) in
           let h : AtHand T R x g.after second_scratch right w =
           brings T R x cells nodes is placed ready.frame ready.sp g.after second_scratch right w second_is
-          (ready.held right w (and_from (live right) (R.needed right) on' need') known') same (λ q k. g.others q (k.first, (k.address, tt))) in
+          (ready.held right w (and_from (live right) (R.needed right) on' need') known') same (λ q k. g.others q
+              (k.first, (k.address, tt))) in
           record {
             one = g.word;
             two = h.word;
@@ -423,7 +418,8 @@ module _ (T : Setting) (R : Running) (formed : IsWellFormed T.image) (inputs : A
       pub op_follows : (right : Option ℕ) → is_some right ≡ takes_two o → IsSound o →
           list_all R.needed (left_one ∷ one_or_none right) ≡ true →
           Follows T R (code_step wrapping R.activation.here calls (tac.Op dest o left_one right))
-          (select_step frame R.places R.needed (tac.Op dest o left_one right)) (trail_step (tac.Op dest o left_one right))
+          (select_step frame R.places R.needed (tac.Op dest o left_one right)) (trail_step (tac.Op dest o left_one
+              right))
       op_follows None count for needs =
           with_role T R (code_step wrapping R.activation.here calls (tac.Op dest o left_one None))
           (straightly frame R.places (Whole None)) Other (trail_step (tac.Op dest o left_one None))

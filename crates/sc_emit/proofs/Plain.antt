@@ -1,10 +1,9 @@
 -- Statements that assign what no store decides: constants, copies, places.
-use Rattle.std.proofs.lemmas.Bool.{and_from}
 use Rattle.sc_emit.proofs.Common.{Addi, All, Arrives, Calls, CodeAt, Comes, Computes, Constant, Follows, FrameTree}
 use Rattle.sc_emit.proofs.Common.{InPlace, Instr, IsActivation, IsAddress, IsClear, IsHeld, IsWellFormed, IsWord}
 use Rattle.sc_emit.proofs.Common.{IsWritable, Joint, Line, List, Lives, Lui, Next, OpImm, Option, Place, Places, Ready}
 use Rattle.sc_emit.proofs.Common.{Register, Running, Sets, Setting, Slot, Some, StandsFor, Temps, Upper, Value, Walks}
-use Rattle.sc_emit.proofs.Common.{[], add_word, ap, ap₂, arith, at, at_hand, brought, code_step, comes_read}
+use Rattle.sc_emit.proofs.Common.{[], add_word, and_from, ap, ap₂, arith, at, at_hand, brought, code_step, comes_read}
 use Rattle.sc_emit.proofs.Common.{completed_plainly, computes, constant_value, copied, eq-eqb, false, first_scratch}
 use Rattle.sc_emit.proofs.Common.{is_one, keep, leave, length, length-map, live_plain, load_word, loading, loads_long}
 use Rattle.sc_emit.proofs.Common.{loads_number, loads_word, look_at, low_plainly, lower_part, move, moved_by, moves}

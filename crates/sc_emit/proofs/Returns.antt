@@ -1,17 +1,14 @@
 -- The way out of a function: a return, and the closing brace.
-use Rattle.std.proofs.lemmas.Bool.{and_from}
-use Rattle.sc_base.proofs.Bools.{and_first}
-use Rattle.std.specs.List.{list_all}
 use Rattle.sc_emit.proofs.Common.{Activation, Addi, All, Calls, CodeAt, Computes, Does, Entry, Export, Follows}
 use Rattle.sc_emit.proofs.Common.{FrameTree, GivenBack, Goes, Instr, IsActivation, IsWellFormed, IsWord, Jalr, Joint}
 use Rattle.sc_emit.proofs.Common.{LeavesFrame, List, Lives, Main, None, OpImm, Option, Owned, Place, Ready, Registers}
 use Rattle.sc_emit.proofs.Common.{Return, Returns, Running, Set, Setting, Some, Standpoint, StandsFor, TacFnTree, Temps}
-use Rattle.sc_emit.proofs.Common.{Value, Walks, Word, [], a0, ap, append_assoc, arith, at, back_at, brought, closing}
-use Rattle.sc_emit.proofs.Common.{code_step, comes_read, eq-eqb, frame_left, frame_raised, front_at, in_row, inl}
-use Rattle.sc_emit.proofs.Common.{is_one, leads_less, leads_moved, leave, leaves_frame, length, length-append, machine}
-use Rattle.sc_emit.proofs.Common.{moved, one_or_none, place_of, pos, ra, refl, return, return_does, same_entry}
-use Rattle.sc_emit.proofs.Common.{seen_from, select_step, settled_moved, sp, stays, subst, sym, trail_step, true}
-use Rattle.sc_emit.proofs.Common.{with_number, word, wrapping, ℕ, ◌*◌, ◌++◌, ◌+◌, ◌∙◌, ◌∷◌, ◌≡◌, ◌≤◌}
+use Rattle.sc_emit.proofs.Common.{Value, Walks, Word, [], a0, and_first, and_from, ap, append_assoc, arith, at, back_at}
+use Rattle.sc_emit.proofs.Common.{brought, closing, code_step, comes_read, eq-eqb, frame_left, frame_raised, front_at}
+use Rattle.sc_emit.proofs.Common.{in_row, inl, is_one, leads_less, leads_moved, leave, leaves_frame, length}
+use Rattle.sc_emit.proofs.Common.{length-append, list_all, machine, moved, one_or_none, place_of, pos, ra, refl, return}
+use Rattle.sc_emit.proofs.Common.{return_does, same_entry, seen_from, select_step, settled_moved, sp, stays, subst, sym}
+use Rattle.sc_emit.proofs.Common.{trail_step, true, with_number, word, wrapping, ℕ, ◌*◌, ◌++◌, ◌+◌, ◌∙◌, ◌∷◌, ◌≡◌, ◌≤◌}
 use Rattle.sc_tac.specs.Prelude.{nothing}
 use Rattle.sc_tac.specs.declared.stmt.TacStmt.TheOpen as tac
 use Rattle.sc_emit.proofs.Arguments.{Brings, brings}
@@ -146,7 +143,8 @@ module _ (T : Setting) (R : Running) (formed : IsWellFormed T.image) (inputs : A
         let b : Brings T R cells nodes is placed x ready.frame ready.sp x.regs
         (brought frame a0 (place_of frame R.places t)) a0 v =
         brings T R cells nodes is placed x ready.frame ready.sp x.regs a0 t v
-        (record { above = omega arith; below = omega arith }) (ready.held t v (and_from (live t) (R.needed t) on need) known) refl
+        (record { above = omega arith; below = omega arith }) (ready.held t v (and_from (live t) (R.needed t) on need)
+            known) refl
         (λ q h. refl) in
         record {
           after = b.piece.after;
@@ -161,7 +159,8 @@ module _ (T : Setting) (R : Running) (formed : IsWellFormed T.image) (inputs : A
         read_goes A.here t temps (λ v s. leave (Return (Some v)) temps s)
         (λ v. stays (record { exit = Return (Some v); carried = temps }))
 
-    returns : (value : Option ℕ) → list_all R.needed (one_or_none value) ≡ true → (lives : Lives) (temps : Temps) (x : Joint) (left : ℕ) →
+    returns : (value : Option ℕ) → list_all R.needed (one_or_none value) ≡ true →
+        (lives : Lives) (temps : Temps) (x : Joint) (left : ℕ) →
         Ready T R (λ t. is_one t (one_or_none value)) temps x →
         CodeAt T.image A.here.comp x.pc (return frame R.places value) →
         ComesStraight T R lives x (return frame R.places value) left (return_does A.here value temps x.meant)
@@ -174,10 +173,12 @@ module _ (T : Setting) (R : Running) (formed : IsWellFormed T.image) (inputs : A
         let budget : ℕ = length (before ++ frame_left frame.bytes) + left in
         comes_read T R lives x budget ends A.here t temps (λ v s. leave (Return (Some v)) temps s)
         (λ v known. inl (leaves_with live temps x ready before (Some v) budget
-        (puts t v live temps x ready (rw (eq-eqb t t refl) refl) (and_first (R.needed t) true needs) known) (omega arith) code))
+        (puts t v live temps x ready (rw (eq-eqb t t refl) refl) (and_first (R.needed t) true needs) known) (omega
+            arith) code))
 
     pub return_follows : (value : Option ℕ) → list_all R.needed (one_or_none value) ≡ true →
-        Follows T R (code_step wrapping A.here calls (tac.Return value)) (select_step frame R.places R.needed (tac.Return value))
+        Follows T R (code_step wrapping A.here calls (tac.Return value)) (select_step frame R.places R.needed
+            (tac.Return value))
         (trail_step (tac.Return value))
     return_follows value needs =
         straight_follows T R (code_step wrapping A.here calls (tac.Return value)) (return frame R.places value)

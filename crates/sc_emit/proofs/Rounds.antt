@@ -1,32 +1,30 @@
 -- The code of loops: where it begins, and where it leads back.
-use Rattle.sc_select.specs.Needs.{needed_in}
-use Rattle.sc_select.specs.Prelude.{object_store, role_of_store}
-use Rattle.sc_select.proofs.Joining.{IsStored, stores_it}
-use Rattle.sc_emit.proofs.Common.{Bne, Bool, Branch, Each, Ebreak, FrameTree, Inside, Instr, IsRead, IsShort, Jal, Line}
-use Rattle.sc_emit.proofs.Common.{List, None, Option, Other, Place, Places, Role, Sets, ShortForm, Some, TacFnTree}
-use Rattle.sc_emit.proofs.Common.{TacStmt, TacStmt-F, [], and_first, and_rest, ap, append_assoc, arith, as_one, between}
-use Rattle.sc_emit.proofs.Common.{call_cross, call_own, choice, choosing, closing, code_back_edges, code_of, cond}
-use Rattle.sc_emit.proofs.Common.{count_by, cycle, ending_past, entrance, environment_call, everywhere, false}
-use Rattle.sc_emit.proofs.Common.{first_scratch, fold-roll-TacStmt, fork, gives_place, if◌then◌else◌, in_turn, inl, inr}
-use Rattle.sc_emit.proofs.Common.{is_backward, is_empty, is_known_jump, joined, joins, jump_back, jump_over, leads_back}
-use Rattle.sc_emit.proofs.Common.{length, length-append, length-map, list_all, list_all-map, list_all_along, loads_it}
-use Rattle.sc_emit.proofs.Common.{loop_begins, loop_step, loops, lt-leb, map, map-TacStmt, map-append, neg_ℤ, not}
-use Rattle.sc_emit.proofs.Common.{object_read, operand, operates_it, past, place_of, place_of_global, plain, plainly}
-use Rattle.sc_emit.proofs.Common.{pos, receive, refl, role_first, role_of_load, role_of_operation, row_is_sized, select}
-use Rattle.sc_emit.proofs.Common.{select_all, select_step, sets_it, short_form, short_operation, skipping}
-use Rattle.sc_emit.proofs.Common.{stmt_induction, stmt_loops, straight as lines_of, straightly, subst, suc}
-use Rattle.sc_emit.proofs.Common.{sum_by-append, sym, take, true, which_pair, word_of_constant, zero, ℕ, ⊎_elim, ◌&&◌}
-use Rattle.sc_emit.proofs.Common.{◌*◌, ◌++◌, ◌+◌, ◌==◌, ◌∙◌, ◌∷◌, ◌≡◌, ◌≤◌}
+use Rattle.sc_emit.proofs.Common.{Bne, Bool, Branch, Each, Ebreak, FrameTree, Inside, Instr, IsRead, IsShort, IsStored}
+use Rattle.sc_emit.proofs.Common.{Jal, Line, List, None, Option, Other, Place, Places, Role, Sets, ShortForm, Some}
+use Rattle.sc_emit.proofs.Common.{TacFnTree, TacStmt, TacStmt-F, [], and_first, and_rest, ap, append_assoc, arith}
+use Rattle.sc_emit.proofs.Common.{as_one, between, call_cross, call_own, choice, choosing, closing, code_back_edges}
+use Rattle.sc_emit.proofs.Common.{code_of, cond, count_by, cycle, ending_past, entrance, environment_call, everywhere}
+use Rattle.sc_emit.proofs.Common.{false, first_scratch, fold-roll-TacStmt, fork, gives_place, if◌then◌else◌, in_turn}
+use Rattle.sc_emit.proofs.Common.{inl, inr, is_backward, is_empty, is_known_jump, joined, joins, jump_back, jump_over}
+use Rattle.sc_emit.proofs.Common.{leads_back, length, length-append, length-map, list_all, list_all-map, list_all_along}
+use Rattle.sc_emit.proofs.Common.{loads_it, loop_begins, loop_step, loops, lt-leb, map, map-TacStmt, map-append}
+use Rattle.sc_emit.proofs.Common.{needed_in, neg_ℤ, not, object_read, object_store, operand, operates_it, past}
+use Rattle.sc_emit.proofs.Common.{place_of, place_of_global, plain, plainly, pos, receive, refl, role_first}
+use Rattle.sc_emit.proofs.Common.{role_of_load, role_of_operation, role_of_store, row_is_sized, select, select_all}
+use Rattle.sc_emit.proofs.Common.{select_step, sets_it, short_form, short_operation, skipping, stmt_induction}
+use Rattle.sc_emit.proofs.Common.{stmt_loops, stores_it, straight as lines_of, straightly, subst, suc, sum_by-append}
+use Rattle.sc_emit.proofs.Common.{sym, take, true, which_pair, word_of_constant, zero, ℕ, ⊎_elim, ◌&&◌, ◌*◌, ◌++◌, ◌+◌}
+use Rattle.sc_emit.proofs.Common.{◌==◌, ◌∙◌, ◌∷◌, ◌≡◌, ◌≤◌}
 use Rattle.sc_select.specs.Prelude.{Piece}
 use Rattle.sc_emit.specs.Layout.{GoesAround, HasRounds, HaveCode, LeadOn, branching, empty, leads_on, loopless}
 use Rattle.sc_emit.specs.Layout.{repeating}
 unfoldable use Rattle.sc_tac.specs.declared.stmt.TacStmt.{roll-TacStmt}
 use Rattle.sc_tac.specs.declared.stmt.TacStmt.TheOpen as tac
 use Rattle.sc_tac.specs.declared.stmt.TacStmt.TheVariants as emit
-use Rattle.sc_emit.proofs.Branches.{object_store_straight, Straight, StraightLines, all_append, closing_straight, copied_straight}
-use Rattle.sc_emit.proofs.Branches.{cross_straight, entrance_straight, global_straight, is_straight, is_straight_line}
-use Rattle.sc_emit.proofs.Branches.{load_from_straight, loaded_straight, object_read_straight, short_straight}
-use Rattle.sc_emit.proofs.Branches.{object_straight, operation_straight, output_straight, own_straight}
+use Rattle.sc_emit.proofs.Branches.{object_store_straight, Straight, StraightLines, all_append, closing_straight}
+use Rattle.sc_emit.proofs.Branches.{copied_straight, cross_straight, entrance_straight, global_straight, is_straight}
+use Rattle.sc_emit.proofs.Branches.{is_straight_line, load_from_straight, loaded_straight, object_read_straight}
+use Rattle.sc_emit.proofs.Branches.{short_straight, object_straight, operation_straight, output_straight, own_straight}
 use Rattle.sc_emit.proofs.Branches.{plainly_straight, receive_straight, return_straight, store_to_straight}
 use Rattle.sc_emit.proofs.Branches.{take_straight}
 
@@ -160,7 +158,8 @@ module _ (frame : FrameTree) (places : List Place) (needed : ℕ → Bool) where
     where
       read : IsRead (select frame places needed stmt).role behind → IsCodeOf stmt (lines_of [])
       read pair =
-          subst (λ s. IsCodeOf s (lines_of [])) (sym (gives_place frame places needed stmt pair.temp pair.object pair.gives))
+          subst (λ s. IsCodeOf s (lines_of [])) (sym (gives_place frame places needed stmt pair.temp pair.object
+              pair.gives))
           (by_lines (tac.ObjectPlace pair.temp pair.object) [] refl refl)
 
       store : IsStored (select frame places needed stmt).role behind → IsCodeOf stmt (lines_of [])
@@ -178,7 +177,8 @@ module _ (frame : FrameTree) (places : List Place) (needed : ℕ → Bool) where
   between_lies : (before : Role) (stmt : TacStmt) (behind : Role) → Lies stmt →
       IsCodeOf stmt (between frame places before (select frame places needed stmt) behind)
   between_lies before stmt behind h =
-      by (joins before (select frame places needed stmt).role) (joins (select frame places needed stmt).role behind) refl refl
+      by (joins before (select frame places needed stmt).role) (joins (select frame places needed stmt).role behind)
+          refl refl
     where
       by : (one two : Bool) → joins before (select frame places needed stmt).role ≡ one →
           joins (select frame places needed stmt).role behind ≡ two →
@@ -189,7 +189,8 @@ module _ (frame : FrameTree) (places : List Place) (needed : ℕ → Bool) where
       by false false e f = h
 
   turn_lies : (before : Role) (stmts : List TacStmt) → Each Lies stmts → (b c : ℕ) →
-      HaveCode stmts (instrs_of ((in_turn (joined frame places before (map (select frame places needed) stmts))).lines b c))
+      HaveCode stmts (instrs_of ((in_turn (joined frame places before (map (select frame places needed) stmts))).lines b
+          c))
   turn_lies before [] h b c = empty
   turn_lies before (stmt ∷ rest) h b c =
       let behind : Piece =
@@ -261,15 +262,18 @@ module _ (frame : FrameTree) (places : List Place) (needed : ℕ → Bool) where
       (fork frame places cond (map (select frame places needed) first) (map (select frame places needed) second))
   if_lies cond first second hf hs =
       subst (λ stmt. IsCodeOf stmt (fork frame places cond (map (select frame places needed) first) (map (select frame
-      places needed) second))) (rolled_if cond first second) (by (length (map (select frame places needed) first) == 0 &&
+      places needed) second))) (rolled_if cond first second) (by (length (map (select frame places needed) first) == 0
+          &&
       (select_all frame places needed second).size == 1) refl)
     where
       by : (found : Bool) → (length (map (select frame places needed) first) == 0 &&
           (select_all frame places needed second).size == 1) ≡ found → IsCodeOf (emit.If cond first second) (if found
           then skipping frame places cond (select_all frame places needed second)
-          else choosing frame places cond (select_all frame places needed first) (select_all frame places needed second))
+          else choosing frame places cond (select_all frame places needed first) (select_all frame places needed
+              second))
       by true is =
-          let none : first ≡ [] = is_empty first (sym (ap (λ n. n == 0) (length-map first (select frame places needed))) ∙
+          let none : first ≡ [] = is_empty first (sym (ap (λ n. n == 0) (length-map first (select frame places needed)))
+              ∙
           and_first (length (map (select frame places needed) first) == 0) _ is) in
           subst (λ stmts. IsCodeOf (emit.If cond stmts second)
           (skipping frame places cond (select_all frame places needed second))) (sym none) (second_lies cond second hs)
@@ -319,7 +323,8 @@ module _ (frame : FrameTree) (places : List Place) (needed : ℕ → Bool) where
   }
 
   layer_lies : (layer : TacStmt-F TacStmt) → Inside Lies layer →
-      IsCodeOf (roll-TacStmt layer) (select_step frame places needed (map-TacStmt _ _ (select frame places needed) layer))
+      IsCodeOf (roll-TacStmt layer) (select_step frame places needed (map-TacStmt _ _ (select frame places needed)
+          layer))
   layer_lies (tac.Const dest value) h =
       in_role (roll-TacStmt (tac.Const dest value)) (Sets dest (word_of_constant value)) _
       (by_instrs (tac.Const dest value) _ refl (loaded_straight frame places dest (word_of_constant value)))
@@ -382,7 +387,8 @@ has_rounds f places frame =
           (plainly_straight (entrance frame places f.params) (entrance_straight frame places f.params));
       out_on =
           lines_on out_lines (plainly_straight (closing frame places f.entry) (closing_straight frame places f.entry));
-      statements = row_lies frame places needed f.body (everywhere (Lies frame places needed) (stmt_lies frame places needed) f.body) 0 0;
+      statements = row_lies frame places needed f.body (everywhere (Lies frame places needed) (stmt_lies frame places
+          needed) f.body) 0 0;
     }
 
 -- COUNTS

@@ -1,29 +1,26 @@
 -- The code of statements follows what they do: by induction over their layers.
-use Rattle.sc_base.proofs.Bools.{and_first}
-use Rattle.std.specs.Prelude.{◌&&◌}
-use Rattle.sc_select.specs.Needs.{Need, need, need_step, needs_of, place_needed, row_needs}
-use Rattle.sc_select.specs.Prelude.{object_store}
-use Rattle.sc_select.proofs.Joining.{IsStored, stores_it}
-use Rattle.sc_emit.proofs.Needed.{all_append, gives_of, need_gives, store_alone}
-use Rattle.sc_emit.proofs.Stored.{assigns, assigns_follow, both_parts}
 use Rattle.sc_emit.proofs.Common.{All, AreReached, Bool, CallTarget, Calls, CallsFollow, Codes, Constant, Cross, Each}
 use Rattle.sc_emit.proofs.Common.{Follows, FrameTree, GivesValue, HasNoGap, Here, Input, Inside, IsActivation, IsRead}
-use Rattle.sc_emit.proofs.Common.{IsShort, IsSound, IsWellFormed, IsWord, List, None, Option, Other, Output, Own, Piece}
-use Rattle.sc_emit.proofs.Common.{Reached, Register, Role, Running, Setting, ShortForm, Some, State as Meant, Stopped}
-use Rattle.sc_emit.proofs.Common.{TacOp, TacStmt, TacStmt-F, Trail, Value, [], all_do, and_parts, ap, ap₂, arith}
-use Rattle.sc_emit.proofs.Common.{as_one, between, break_follows, calls_only, code_does, code_step, continue_follows}
-use Rattle.sc_emit.proofs.Common.{counts_elements, everywhere, false, fold-roll-TacStmt, follow as then_follow}
-use Rattle.sc_emit.proofs.Common.{followed, gives_place, has_elements, has_operands, has_words, if◌then◌else◌, in_order}
-use Rattle.sc_emit.proofs.Common.{in_turn, is_call, is_some, joined, joins, last_of_two, leb-true, length, list_all}
-use Rattle.sc_emit.proofs.Common.{loads_it, ltb-true, map, map-TacStmt, names_only, names_own_object, names_own_temps}
-use Rattle.sc_emit.proofs.Common.{nat_lt, none_behind, not, nothing as no_lines, object_inside, object_read}
-use Rattle.sc_emit.proofs.Common.{object_there, one_or_none, operates_it, parts_least, passes_few, refl, role_first}
-use Rattle.sc_emit.proofs.Common.{roll-TacStmt, row, select, select_all, select_step, sets_it, short_form}
-use Rattle.sc_emit.proofs.Common.{short_operation, slice_get-get_or, stmt_does, stmt_induction, straightly, subst, sym}
-use Rattle.sc_emit.proofs.Common.{takes_two, trail, trail_step, true, which_pair, word_of_constant, wrapping, ℕ, ⊎_elim}
-use Rattle.sc_emit.proofs.Common.{◌++◌, ◌+◌, ◌<◌, ◌==◌, ◌^◌, ◌||◌, ◌∙◌, ◌∷◌, ◌≡◌, ◌≤◌}
+use Rattle.sc_emit.proofs.Common.{IsShort, IsSound, IsStored, IsWellFormed, IsWord, List, Need, None, Option, Other}
+use Rattle.sc_emit.proofs.Common.{Output, Own, Piece, Reached, Register, Role, Running, Setting, ShortForm, Some}
+use Rattle.sc_emit.proofs.Common.{State as Meant, Stopped, TacOp, TacStmt, TacStmt-F, Trail, Value, [], all_do}
+use Rattle.sc_emit.proofs.Common.{and_first, and_parts, ap, ap₂, arith, as_one, between, break_follows, calls_only}
+use Rattle.sc_emit.proofs.Common.{code_does, code_step, continue_follows, counts_elements, everywhere, false}
+use Rattle.sc_emit.proofs.Common.{fold-roll-TacStmt, follow as then_follow, followed, gives_place, has_elements}
+use Rattle.sc_emit.proofs.Common.{has_operands, has_words, if◌then◌else◌, in_order, in_turn, is_call, is_some, joined}
+use Rattle.sc_emit.proofs.Common.{joins, last_of_two, leb-true, length, list_all, loads_it, ltb-true, map, map-TacStmt}
+use Rattle.sc_emit.proofs.Common.{names_only, names_own_object, names_own_temps, nat_lt, need, need_step, needs_of}
+use Rattle.sc_emit.proofs.Common.{none_behind, not, nothing as no_lines, object_inside, object_read, object_store}
+use Rattle.sc_emit.proofs.Common.{object_there, one_or_none, operates_it, parts_least, passes_few, place_needed, refl}
+use Rattle.sc_emit.proofs.Common.{role_first, roll-TacStmt, row, row_needs, select, select_all, select_step, sets_it}
+use Rattle.sc_emit.proofs.Common.{short_form, short_operation, slice_get-get_or, stmt_does, stmt_induction, stores_it}
+use Rattle.sc_emit.proofs.Common.{straightly, subst, sym, takes_two, trail, trail_step, true, which_pair}
+use Rattle.sc_emit.proofs.Common.{word_of_constant, wrapping, ℕ, ⊎_elim, ◌&&◌, ◌++◌, ◌+◌, ◌<◌, ◌==◌, ◌^◌, ◌||◌, ◌∙◌}
+use Rattle.sc_emit.proofs.Common.{◌∷◌, ◌≡◌, ◌≤◌}
 use Rattle.sc_core.specs.Prelude.{in_order as one_by_one}
 use Rattle.sc_select.specs.Prelude.{Piece as Code}
+use Rattle.sc_emit.proofs.Needed.{all_append, gives_of, need_gives, store_alone}
+use Rattle.sc_emit.proofs.Stored.{assigns, assigns_follow, both_parts}
 use Rattle.sc_emit.proofs.Constants.{applies, both_steps, short_follows}
 use Rattle.std.specs.Bool.{beq}
 use Rattle.sc_tac.specs.declared.stmt.Constant.TheVariants as constant
@@ -178,7 +175,8 @@ module _ (T : Setting) (R : Running) (formed : IsWellFormed T.image) (inputs : A
 
   -- the operator of a temporary and a constant
   short_follows_here : (dest left : ℕ) (value : Constant) (o : TacOp) (form : ShortForm) →
-      (apart : (left == dest) ≡ false) (read : R.needed left ≡ true) → short_form o (word_of_constant value) ≡ Some form →
+      (apart : (left == dest) ≡ false) (read : R.needed left ≡ true) → short_form o (word_of_constant value) ≡ Some form
+          →
       PassesAll tests (roll-TacStmt (tac.Const dest value)) →
       PassesAll tests (roll-TacStmt (tac.Op dest o left (Some dest))) →
       Follows T R (applies T R formed inputs cells nodes is placed calls dest left value o apart read)
@@ -309,11 +307,14 @@ module _ (T : Setting) (R : Running) (formed : IsWellFormed T.image) (inputs : A
           (tac.Op pair.temp pair.op pair.left (Some pair.temp))
           (straightly frame R.places
           (short_operation frame R.places pair.temp pair.left (short_form pair.op (word_of_constant first.value))))
-          (applies T R formed inputs cells nodes is placed calls pair.temp pair.left first.value pair.op second.apart wants)
-          (both_steps T R formed inputs cells nodes is placed calls pair.temp pair.left first.value pair.op second.apart wants)
+          (applies T R formed inputs cells nodes is placed calls pair.temp pair.left first.value pair.op second.apart
+              wants)
+          (both_steps T R formed inputs cells nodes is placed calls pair.temp pair.left first.value pair.op second.apart
+              wants)
           first.is second.is c1
           (c2 ∙ ap₂ (as_one frame R.places) pair.sets pair.operates ∙
-          ap (λ w. straightly frame R.places (short_operation frame R.places pair.temp pair.left (short_form pair.op w)))
+          ap (λ w. straightly frame R.places (short_operation frame R.places pair.temp pair.left (short_form pair.op
+              w)))
           word_is)
           (short_follows_here pair.temp pair.left first.value pair.op pair.form second.apart wants
           (ap (short_form pair.op) first.word_is ∙ pair.form_is) (subst (PassesAll tests) first.is pass)
@@ -321,7 +322,8 @@ module _ (T : Setting) (R : Running) (formed : IsWellFormed T.image) (inputs : A
 
   either_way : (before : Role) (stmt next : TacStmt) (rest : List TacStmt) → joins before (code stmt).role ≡ false →
       ((code stmt).size ≤ T.turn_pays → Follows T R (does stmt) (code stmt) (trail stmt)) → PassesAll tests stmt →
-      PassesAll tests next → AllNeeded (need next).reads → (joins (code stmt).role (code next).role ≡ false → Row (code stmt).role (next ∷ rest)) →
+      PassesAll tests next → AllNeeded (need next).reads → (joins (code stmt).role (code next).role ≡ false →
+          Row (code stmt).role (next ∷ rest)) →
       (joins (code next).role (role_first (map code rest)) ≡ false → Row (code next).role rest) →
       Row before (stmt ∷ next ∷ rest)
   either_way before stmt next rest none first pass pass' reads_next later behind =
@@ -370,9 +372,11 @@ module _ (T : Setting) (R : Running) (formed : IsWellFormed T.image) (inputs : A
       (store_alone frame R.places R.needed before stmt parts.place none))
       (first_passes tests stmt (next ∷ rest) pass) (first_passes tests next rest behind) later.reads
       (λ alone few. row_from (code stmt).role (next ∷ rest) each.1 behind parts.behind alone few)
-      (λ alone few. row_from (code next).role rest each.1.1 (rest_pass tests next rest behind) later.behind alone few) few
+      (λ alone few. row_from (code next).role rest each.1.1 (rest_pass tests next rest behind) later.behind alone few)
+          few
 
-  row_of : (stmts : List TacStmt) → Each Followed stmts → AllPass tests stmts → AllNeeded (row_needs None (map need stmts)) →
+  row_of : (stmts : List TacStmt) → Each Followed stmts → AllPass tests stmts →
+      AllNeeded (row_needs None (map need stmts)) →
       (in_order frame R.places (map code stmts)).size ≤ T.turn_pays →
       Follows T R (all_do (map does stmts)) (in_order frame R.places (map code stmts)) (row (map trail stmts))
   row_of stmts each pass needs few = row_from Other stmts each pass needs refl few
@@ -496,7 +500,8 @@ module _ (T : Setting) (R : Running) (formed : IsWellFormed T.image) (inputs : A
       (row_needs None (map need body) ++ row_needs None (map need next)) needs in
       let second = all_append R.needed (row_needs None (map need body)) (row_needs None (map need next)) first.1 in
       loop_follows T R formed inputs (all_do (map does head)) (all_do (map does body)) (all_do (map does next))
-      (in_order frame R.places (map code head)) (in_order frame R.places (map code body)) (in_order frame R.places (map code next)) (map trail head) (map trail body)
+      (in_order frame R.places (map code head)) (in_order frame R.places (map code body)) (in_order frame R.places (map
+          code next)) (map trail head) (map trail body)
       (map trail next) (row_of head each pass.0 first.0 (omega (arith, few)))
       (row_of body each' pass.1 second.0 (omega (arith, few)))
       (row_of next each'' pass.2 second.1 (omega (arith, few))) gapless few
@@ -528,7 +533,8 @@ module _ (T : Setting) (R : Running) (formed : IsWellFormed T.image) (inputs : A
   level (tac.Input dest) inner = record { holds = input_level dest }
   level (tac.Output value) inner =
       record {
-        holds = λ h all needs at few. output_follows T R formed inputs cells nodes is placed calls follow value needs (made
+        holds = λ h all needs at few. output_follows T R formed inputs cells nodes is placed calls follow value needs
+            (made
             None Output 1 h.1.1.1.1.1.1.1.0);
       }
   level (tac.Return value) inner =
@@ -556,9 +562,11 @@ module _ (T : Setting) (R : Running) (formed : IsWellFormed T.image) (inputs : A
   stmt_follows = stmt_induction Followed (λ layer inner. from_level layer (level layer inner))
 
   -- statements in order
-  pub body_follows : (stmts : List TacStmt) → AllPass tests stmts → AllNeeded (needs_of stmts) → (select_all frame R.places R.needed
+  pub body_follows : (stmts : List TacStmt) → AllPass tests stmts → AllNeeded (needs_of stmts) →
+      (select_all frame R.places R.needed
       stmts).size ≤ T.turn_pays →
-      Follows T R (code_does wrapping here calls stmts) (select_all frame R.places R.needed stmts) (row (map trail stmts))
+      Follows T R (code_does wrapping here calls stmts) (select_all frame R.places R.needed stmts) (row (map trail
+          stmts))
   body_follows stmts pass needs few = row_of stmts (every stmts) pass needs few
     where
       every : (stmts : List TacStmt) → Each Followed stmts

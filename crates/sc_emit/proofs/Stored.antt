@@ -1,18 +1,15 @@
 -- A variable that is assigned: one store, where only such stores read the temporary that gets its place.
 use Rattle.sc_emit.proofs.Common.{All, Arrives, Blocks, Bool, Calls, CodeAt, Codes, Follows, FrameTree, Goes, Instr}
 use Rattle.sc_emit.proofs.Common.{IsActivation, IsFromSp, IsWellFormed, IsWord, Joint, List, Lives, None, Ok, Ready}
-use Rattle.sc_emit.proofs.Common.{Running, Set, Setting, Some, StandsFor, State as Meant, Stores, Temps, Trail, Value, []}
-use Rattle.sc_emit.proofs.Common.{and_first, and_from, and_rest, and_then, ap, arith, code_step, comes_read, eq-eqb}
-use Rattle.sc_emit.proofs.Common.{eqb-true, false, if◌then◌else◌, in_row, is_one, length, live_at, live_plain, look}
-use Rattle.sc_emit.proofs.Common.{may_store, not, object_offset, operand, or_left, read, refl, row, same_Some}
-use Rattle.sc_emit.proofs.Common.{second_scratch, slice_get, sp, start_of, store, store_word, stored, stores_word}
-use Rattle.sc_emit.proofs.Common.{straightly, subst, sym, take, trail_step, true, unwrap_or, with_memory, with_temp}
-use Rattle.sc_emit.proofs.Common.{wrapping, ℕ, ◌&&◌, ◌*◌, ◌++◌, ◌+◌, ◌==◌, ◌||◌, ◌∙◌, ◌∷◌, ◌≡◌, ◌≢◌, ◌≤◌}
-use Rattle.std.proofs.Common.{ne_eqb, true≢false, ⊎_elim}
+use Rattle.sc_emit.proofs.Common.{Running, Set, Setting, Some, StandsFor, State as Meant, Stores, Temps, Trail, Value}
+use Rattle.sc_emit.proofs.Common.{[], and_first, and_from, and_rest, and_then, ap, arith, code_step, comes_read, eq-eqb}
+use Rattle.sc_emit.proofs.Common.{false, if◌then◌else◌, in_row, is_one, length, live_at, live_plain}
+use Rattle.sc_emit.proofs.Common.{may_store, ne_eqb, not, object_offset, object_store, operand, or_left, read, refl}
+use Rattle.sc_emit.proofs.Common.{row, same_Some, second_scratch, slice_get, sp, start_of, store, store_word, stored}
+use Rattle.sc_emit.proofs.Common.{stores, stores_word, straightly, subst, sym, take, trail_step, true, true≢false}
+use Rattle.sc_emit.proofs.Common.{unwrap_or, wanted, with_memory, with_temp, wrapping, ℕ, ⊎_elim, ◌&&◌, ◌*◌, ◌++◌, ◌+◌}
+use Rattle.sc_emit.proofs.Common.{◌==◌, ◌||◌, ◌∙◌, ◌∷◌, ◌≡◌, ◌≢◌, ◌≤◌}
 use Rattle.sc_tac.specs.declared.stmt.TacStmt.TheOpen as tac
-use Rattle.sc_select.specs.Prelude.{object_store}
-use Rattle.sc_relation.specs.Following.{wanted}
-use Rattle.sc_relation.proofs.Straight.{stores}
 use Rattle.sc_emit.proofs.Operands.{ArePlaced, AtHand, brings, second_is, world}
 use Rattle.sc_emit.proofs.Operations.{comes_stored, stored_goes}
 use Rattle.sc_emit.proofs.Plain.{start_stands}
@@ -136,7 +133,8 @@ module _ (T : Setting) (R : Running) (formed : IsWellFormed T.image) (inputs : A
           owned = may_store T R formed inputs cells nodes is live temps x address start v after ready stands found;
         } in
         let not_address : rs ≢ 7 = ⊎_elim (λ e. (λ f. omega (arith, e, f))) (λ k. k.address) h.its in
-        let piece : Stores T.image T.inputs (world T R x) (store_word rs offset) (7 ∷ []) h.after x.bytes address h.word =
+        let piece : Stores T.image T.inputs (world T R x) (store_word rs offset) (7 ∷ []) h.after x.bytes address h.word
+            =
         stores_word T.image T.inputs (world T R x) x.bytes h.after rs offset address h.word h.below not_address h.result
         from_sp in
         let its : take frame R.places second_scratch value ++ store_word rs offset ≡ code =
@@ -153,7 +151,8 @@ module _ (T : Setting) (R : Running) (formed : IsWellFormed T.image) (inputs : A
         (λ r k. piece.others r (k.address, tt) ∙ h.others r (k.second, (k.address, tt)))
         (does.walks x.pc (subst (CodeAt T.image comp x.pc) (sym its) at))))
 
-    pub assigns_follow : Follows T R assigns (straightly frame R.places (object_store frame R.places value object)) both_parts
+    pub assigns_follow : Follows T R assigns (straightly frame R.places (object_store frame R.places value object))
+        both_parts
     assigns_follow =
         straight_follows T R assigns code both_parts assigns_goes
         (λ lives temps x left ready clear at ends e f.

@@ -1,15 +1,14 @@
 -- The relocations of a function's code name what its statements name.
-use Rattle.sc_select.specs.Needs.{needed_in}
-use Rattle.sc_select.specs.Prelude.{object_store, store_to}
 use Rattle.sc_emit.proofs.Common.{Bool, Each, FrameTree, Inside, Instr, Line, List, None, Option, Place, Some}
 use Rattle.sc_emit.proofs.Common.{TacFnTree, TacStmt, TacStmt-F, [], a0, all_true, and_first, and_from, and_rest}
 use Rattle.sc_emit.proofs.Common.{call_cross, call_own, code_of, environment_call, everywhere as each_of, fold-TacStmt}
 use Rattle.sc_emit.proofs.Common.{fold-roll-TacStmt, function_lines, in_order, is_named, keep, list_all, load_from}
-use Rattle.sc_emit.proofs.Common.{loading, map, map-TacStmt, moved_by, names_only, object_offset, object_read}
-use Rattle.sc_emit.proofs.Common.{operation, order_keeps, pass, place_of_global, plainly, receive, refers_only, refl}
-use Rattle.sc_emit.proofs.Common.{relocation_of, relocations_from, result_register, select, select_all, select_step}
-use Rattle.sc_emit.proofs.Common.{short_form, short_operation, sp, stmt_induction, straight, subst, suc, sym, true}
-use Rattle.sc_emit.proofs.Common.{with_parts, word_of_constant, ℕ, ◌&&◌, ◌++◌, ◌∙◌, ◌∷◌, ◌≡◌}
+use Rattle.sc_emit.proofs.Common.{loading, map, map-TacStmt, moved_by, names_only, needed_in, object_offset}
+use Rattle.sc_emit.proofs.Common.{object_read, object_store, operation, order_keeps, pass, place_of_global, plainly}
+use Rattle.sc_emit.proofs.Common.{receive, refers_only, refl, relocation_of, relocations_from, result_register, select}
+use Rattle.sc_emit.proofs.Common.{select_all, select_step, short_form, short_operation, sp, stmt_induction, store_to}
+use Rattle.sc_emit.proofs.Common.{straight, subst, suc, sym, true, with_parts, word_of_constant, ℕ, ◌&&◌, ◌++◌, ◌∙◌}
+use Rattle.sc_emit.proofs.Common.{◌∷◌, ◌≡◌}
 use Rattle.sc_tac.specs.Prelude.{everywhere}
 use Rattle.sc_select.specs.Prelude.{Piece}
 use Rattle.sc_tac.specs.declared.machine_code.Relocation.{Relocation}

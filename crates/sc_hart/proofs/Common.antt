@@ -9,8 +9,8 @@ pub use Rattle.sc_store.specs.Prelude.{Memory, load_of, stored}
 pub use Rattle.sc_image.proofs.Walking.{image_in_memory, steps_by_instruction}
 pub use Rattle.sc_image.specs.Prelude.{Goes, IsAt, IsSteady, IsWellFormed, IsWord, Outcome, State, Traps, Walks}
 pub use Rattle.sc_image.specs.Prelude.{after_outcome, calls, code_of, code_start, compares, computed, data_start, gives}
-pub use Rattle.sc_image.specs.Prelude.{jalr_target, jump, leaves, on_registers, refused, stack_top, step, store}
-pub use Rattle.sc_image.specs.Prelude.{then_on, unless, walk, written}
+pub use Rattle.sc_image.specs.Prelude.{jalr_target, jump, leaves, on_registers, refused, shift_on_registers, stack_top}
+pub use Rattle.sc_image.specs.Prelude.{step, store, then_on, unless, walk, written}
 unfoldable pub use Rattle.sc_image.specs.Prelude.{are_data, word_at}
 pub use Rattle.sc_hart.specs.Common.{ImageParts, Instr}
 pub use Rattle.sc_hart.specs.Prelude.{Apart, CodeAt, CodeIsFetched, Fetches, Owned, Registers, WordsAreKept, World, at}

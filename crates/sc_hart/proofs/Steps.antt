@@ -2,12 +2,11 @@
 use Rattle.sc_hart.proofs.Common.{BadJump, Fetches, Goes, ImageParts, Instr, IsAt, List, Memory, Outcome, Owned, Owner}
 use Rattle.sc_hart.proofs.Common.{Registers, Some, State, Traps, Walks, World, ap, ap₂, arith, at, calls, compares}
 use Rattle.sc_hart.proofs.Common.{computed, data_start, eq-eqb, false, gives, jalr_target, jump, leaves, load_of, look}
-use Rattle.sc_hart.proofs.Common.{on_registers, put_word, refl, set, step, steps_by_instruction, store, stored, subst}
-use Rattle.sc_hart.proofs.Common.{suc, true, unless, word, word_at, ℕ, ℤ, ◌%◌, ◌+◌, ◌<◌, ◌∙◌, ◌≡◌}
+use Rattle.sc_hart.proofs.Common.{on_registers, put_word, refl, set, shift_on_registers, step, steps_by_instruction}
+use Rattle.sc_hart.proofs.Common.{store, stored, subst, suc, true, unless, word, word_at, ℕ, ℤ, ◌%◌, ◌+◌, ◌<◌, ◌∙◌, ◌≡◌}
 use Rattle.sc_word.specs.Prelude.{add_word, word_of}
 use Rattle.rv_code.specs.declared.instr.Instr.TheVariants.{Upper, Jal, Jalr, Branch, Load, Store, OpImm, Op, Shift}
 use Rattle.rv_code.specs.declared.instr.ShiftOp.{ShiftOp}
-use Rattle.sc_image.specs.Prelude.{shift_on_registers}
 use Rattle.rv_code.specs.declared.instr.BranchOp.{BranchOp}
 use Rattle.rv_code.specs.declared.instr.UpperOp.TheVariants.{Lui}
 use Rattle.rv_code.specs.declared.instr.LoadOp.TheVariants.{Lw}

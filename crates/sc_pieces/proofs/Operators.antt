@@ -1,22 +1,19 @@
 -- The code of each operator computes its word.
-use Rattle.rv_code.specs.declared.instr.Instr.TheVariants.{Shift}
-use Rattle.rv_code.specs.declared.instr.ShiftOp.TheVariants.{Slli}
-use Rattle.sc_image.specs.Prelude.{shift_on_registers}
-use Rattle.sc_select.specs.Prelude.{address_scratch, bytes_ahead, second_scratch}
-use Rattle.sc_pieces.proofs.Rows.{with_amount}
-use Rattle.std.proofs.Common.{ap, eqb-true, if◌then◌else◌}
 use Rattle.sc_pieces.proofs.Common.{Add, And, AreOperands, BinaryOp, Bool, Computes, Div, Divu, ImageParts, Instr}
 use Rattle.sc_pieces.proofs.Common.{IsWritable, List, Memory, Mul, Op, OpImm, OpImmOp, OpOp, Or, Registers, Rem, Remu}
-use Rattle.sc_pieces.proofs.Common.{Sll, Slt, Sltiu, Sltu, Sra, Srl, Sub, TacOp, UnaryOp, World, Xor, Xori, []}
-use Rattle.sc_pieces.proofs.Common.{add_word, arith, binary_code, bit_or, bit_xor, bytes_of, computed, div_word, false}
-use Rattle.sc_pieces.proofs.Common.{is_unsigned, loading, mul_word, negated_word, negsuc, on_all_words, on_registers}
-use Rattle.sc_pieces.proofs.Common.{op_code, op_word, pointer_difference, pointer_move, pos, refl, signed_wraps}
-use Rattle.sc_pieces.proofs.Common.{slt_word, sltu_word, stepped_word, sub_word, sym, tests_are_words, true, truth}
-use Rattle.sc_pieces.proofs.Common.{unary_code, unary_word, word_of, ℕ, ℤ, ◌++◌, ◌-◌, ◌<◌, ◌==◌, ◌^◌, ◌∙◌, ◌∷◌, ◌≡◌}
+use Rattle.sc_pieces.proofs.Common.{Shift, Sll, Slt, Sltiu, Sltu, Sra, Srl, Sub, TacOp, UnaryOp, World, Xor, Xori, []}
+use Rattle.sc_pieces.proofs.Common.{add_word, address_scratch, ap, arith, binary_code, bit_or, bit_xor, bytes_ahead}
+use Rattle.sc_pieces.proofs.Common.{bytes_of, computed, div_word, eqb-true, false, if◌then◌else◌, is_unsigned, loading}
+use Rattle.sc_pieces.proofs.Common.{mul_word, negated_word, negsuc, on_all_words, on_registers, op_code, op_word}
+use Rattle.sc_pieces.proofs.Common.{pointer_difference, pointer_move, pos, refl, second_scratch, shift_on_registers}
+use Rattle.sc_pieces.proofs.Common.{signed_wraps, slt_word, sltu_word, stepped_word, sub_word, sym, tests_are_words}
+use Rattle.sc_pieces.proofs.Common.{true, truth, unary_code, unary_word, word_of, ℕ, ℤ, ◌++◌, ◌-◌, ◌<◌, ◌==◌, ◌^◌, ◌∙◌}
+use Rattle.sc_pieces.proofs.Common.{◌∷◌, ◌≡◌}
+use Rattle.rv_code.specs.declared.instr.ShiftOp.TheVariants.{Slli}
+use Rattle.sc_pieces.proofs.Rows.{with_amount, followed_by, computes, looked, with_number, of_two}
 use Rattle.sc_base.specs.declared.op.UnaryOp.TheVariants as unary
 use Rattle.sc_base.specs.declared.op.BinaryOp.TheVariants as op
 use Rattle.sc_tac.specs.declared.stmt.TacOp.TheVariants as tacop
-use Rattle.sc_pieces.proofs.Rows.{followed_by, computes, looked, with_number, of_two}
 use Rattle.sc_pieces.proofs.Loading.{moves, loads_number, moves_on}
 use Rattle.sc_pieces.proofs.Tests.{zero_test, equal_test, unequal_test, either_test, both_test, complement}
 
@@ -165,7 +162,8 @@ module _ (image : ImageParts) (inputs : List ℕ) (world : World) (memory : Memo
     where
       by : (one : Bool) → (cells == 1) ≡ one →
           Computes image inputs world (if one then Shift Slli second_scratch right 2 ∷ []
-          else loading address_scratch (bytes_of cells) ++ Op Mul second_scratch right address_scratch ∷ []) (7 ∷ []) regs
+          else loading address_scratch (bytes_of cells) ++ Op Mul second_scratch right address_scratch ∷ []) (7 ∷ [])
+              regs
           memory 6 (mul_word b (bytes_of cells))
       by true e =
           let four : bytes_of cells ≡ 4 = ap bytes_of (eqb-true cells 1 e) in

@@ -1,14 +1,11 @@
 -- Pieces of code in a row, and pieces of one instruction.
-use Rattle.rv_code.specs.declared.instr.Instr.TheVariants.{Shift}
-use Rattle.rv_code.specs.declared.instr.ShiftOp.{ShiftOp}
-use Rattle.sc_image.specs.Prelude.{shift_on_registers}
-use Rattle.sc_hart.proofs.Steps.{shifts}
 use Rattle.sc_pieces.proofs.Common.{Besides, Computes, Does, Fetches, ImageParts, Instr, IsWritable, List, Load, Lui}
-use Rattle.sc_pieces.proofs.Common.{Lw, Memory, Op, OpImm, OpImmOp, OpOp, Owned, Registers, Store, Stores, Sw, Upper}
-use Rattle.sc_pieces.proofs.Common.{Walks, World, [], add_word, ap, arith, at, back_at, computed, front_at}
+use Rattle.sc_pieces.proofs.Common.{Lw, Memory, Op, OpImm, OpImmOp, OpOp, Owned, Registers, Shift, Store, Stores, Sw}
+use Rattle.sc_pieces.proofs.Common.{Upper, Walks, World, [], add_word, ap, arith, at, back_at, computed, front_at}
 use Rattle.sc_pieces.proofs.Common.{if◌then◌else◌, length, length-append, look, lui, lw, nat_eq, ne_eqb, on_registers}
-use Rattle.sc_pieces.proofs.Common.{op_imm, operate, put_word, refl, set, subst, sw, sym, then_go, word, word_of, ℕ, ℤ}
-use Rattle.sc_pieces.proofs.Common.{◌*◌, ◌++◌, ◌+◌, ◌<◌, ◌∙◌, ◌∷◌, ◌≡◌, ◌≢◌}
+use Rattle.sc_pieces.proofs.Common.{op_imm, operate, put_word, refl, set, shift_on_registers, shifts, subst, sw, sym}
+use Rattle.sc_pieces.proofs.Common.{then_go, word, word_of, ℕ, ℤ, ◌*◌, ◌++◌, ◌+◌, ◌<◌, ◌∙◌, ◌∷◌, ◌≡◌, ◌≢◌}
+use Rattle.rv_code.specs.declared.instr.ShiftOp.{ShiftOp}
 use Rattle.sc_hart.proofs.Registers.{put_here, put_there}
 
 pub besides_front : (rs ss : List ℕ) (q : ℕ) → Besides (rs ++ ss) q → Besides rs q

@@ -1,5 +1,4 @@
 -- A call of a function, from its first instruction to its jump back: what its code begins with, and what is left of it.
-use Rattle.sc_relation.specs.Following.{wanted}
 use Rattle.sc_relation.proofs.Common.{Activation, All, Begins, BlocksMatch, Cell, Effect, FrameMatches, FrameTree}
 use Rattle.sc_relation.proofs.Common.{Function, HasRoom, IsActivation, IsFrame, IsLeft, IsWellFormed, IsWord, Joint}
 use Rattle.sc_relation.proofs.Common.{Leads, List, LiveAt, Memory as Bytes, Option, Place, Placed, Protected, Ready}
@@ -7,8 +6,8 @@ use Rattle.sc_relation.proofs.Common.{Registers, Returns, Set, Setting, Settled,
 use Rattle.sc_relation.proofs.Common.{State as Meant, Value, Walks, a0, ap, arith, begun, cases_eq, data_start, done}
 use Rattle.sc_relation.proofs.Common.{eq-eqb, false, inr, length, machine, ne_eqb, no_temps, open_room, put, refl}
 use Rattle.sc_relation.proofs.Common.{same_Some, seen_from, slice_get, slice_get_within, sp, stack_size, stack_top}
-use Rattle.sc_relation.proofs.Common.{subst, sym, then_go, walks_steady, word, ℕ, ⊎_elim, ◌%◌, ◌+◌, ◌<◌, ◌∙◌, ◌≡◌, ◌≢◌}
-use Rattle.sc_relation.proofs.Common.{◌≤◌, ◌⊎◌}
+use Rattle.sc_relation.proofs.Common.{subst, sym, then_go, walks_steady, wanted, word, ℕ, ⊎_elim, ◌%◌, ◌+◌, ◌<◌, ◌∙◌}
+use Rattle.sc_relation.proofs.Common.{◌≡◌, ◌≢◌, ◌≤◌, ◌⊎◌}
 use Rattle.sc_relation.proofs.Ending.{lives_on, length_closed, LivesOn, room_begun, room_begun_else, room_done}
 use Rattle.sc_relation.proofs.Ending.{room_done_else, told_closed, told_opened}
 use Rattle.sc_relation.proofs.Held.{held_at_entry}

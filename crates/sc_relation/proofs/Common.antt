@@ -9,6 +9,7 @@ pub use Rattle.std.proofs.Common.{◌⊎◌}
 pub use Rattle.std.proofs.lemmas.Bool.{and_from, cases_eq, cases_lt, cases_order, lt-leb, or_left, or_right}
 pub use Rattle.std.proofs.lemmas.List.Elements.{All-cons, All-head, All-nil, All-tail}
 pub use Rattle.std.proofs.lemmas.Option.{get_or_from_slice_get, same_Some, slice_get-get_or, slice_get_within}
+pub use Rattle.sc_base.proofs.Bools.{and_first, and_rest}
 pub use Rattle.sc_base.proofs.Lists.{all_at, get_front, is_there}
 pub use Rattle.sc_word.specs.Prelude.{add_word, div_word, sub_word, word_of}
 pub use Rattle.sc_core.specs.Prelude.{Block, Blocks, Break, Closed, Continue, Does, Exit, FrameChange, Function, Here}
@@ -54,4 +55,4 @@ pub use Rattle.sc_relation.specs.Prelude.{FunctionGives, GivenBack, Gives, Guard
 pub use Rattle.sc_relation.specs.Prelude.{IsActivation, IsAddress, IsElement, IsHeld, IsLeft, IsSound, Joint, Leads}
 pub use Rattle.sc_relation.specs.Prelude.{LiveAt, Means, Overflows, Placed, Protected, Ready, Returns, Running, Setting}
 pub use Rattle.sc_relation.specs.Prelude.{Settled, Shows, Standpoint, StandsAt, StandsFor, Starts, ends_of, machine}
-pub use Rattle.sc_relation.specs.Prelude.{own_words, row, seen_from}
+pub use Rattle.sc_relation.specs.Prelude.{own_words, row, seen_from, wanted}

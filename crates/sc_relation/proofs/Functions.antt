@@ -1,12 +1,11 @@
 -- What comes of a call of a function, from what comes of its body; and of one whose frame goes below the stack.
-use Rattle.sc_relation.proofs.Common.{Set}
 use Rattle.sc_relation.proofs.Common.{All, Begins, FrameTree, Function, FunctionGives, Grown, HasRoom, IsFrame}
 use Rattle.sc_relation.proofs.Common.{IsWellFormed, IsWord, Joint, List, Memory as Bytes, Option, Overflows, Piece}
-use Rattle.sc_relation.proofs.Common.{Place, Reached, Registers, Returns, Running, Setting, Shows, Some, Standpoint}
-use Rattle.sc_relation.proofs.Common.{State as Meant, Stopped, Traps, Value, Walks, and_then, ap, arith, begun}
-use Rattle.sc_relation.proofs.Common.{data_start, done, done_goes, inl, inr, last, length, machine, more, open_room}
-use Rattle.sc_relation.proofs.Common.{reached, seen_from, slice_get, stack_size, step, subst, sym, then_from, then_go}
-use Rattle.sc_relation.proofs.Common.{ℕ, ⊎_elim, ◌+◌, ◌<◌, ◌∙◌, ◌≡◌, ◌≤◌, ◌⊎◌}
+use Rattle.sc_relation.proofs.Common.{Place, Reached, Registers, Returns, Running, Set, Setting, Shows, Some}
+use Rattle.sc_relation.proofs.Common.{Standpoint, State as Meant, Stopped, Traps, Value, Walks, and_then, ap, arith}
+use Rattle.sc_relation.proofs.Common.{begun, data_start, done, done_goes, inl, inr, last, length, machine, more}
+use Rattle.sc_relation.proofs.Common.{open_room, reached, seen_from, slice_get, stack_size, step, subst, sym, then_from}
+use Rattle.sc_relation.proofs.Common.{then_go, ℕ, ⊎_elim, ◌+◌, ◌<◌, ◌∙◌, ◌≡◌, ◌≤◌, ◌⊎◌}
 use Rattle.sc_image.specs.Prelude.{State}
 use Rattle.sc_base.specs.declared.stop.TrapReason.TheVariants.{Owner}
 use Rattle.sc_relation.proofs.Ending.{told_opened}

@@ -1,5 +1,4 @@
 -- Loops.
-use Rattle.sc_relation.proofs.Wanted.{wanted_less}
 use Rattle.sc_relation.proofs.Common.{All, All-tail, Arrives, Bool, Break, Came, Codes, Comes, Continue, Does, Ends}
 use Rattle.sc_relation.proofs.Common.{Exit, ExitGives, Fetches, Follows, Gives, Goes, IsClear, IsSteady, IsWellFormed}
 use Rattle.sc_relation.proofs.Common.{IsWord, Jal, Joint, Leads, Left, Line, List, Lives, Next, None, Overflows, Piece}
@@ -13,6 +12,7 @@ use Rattle.sc_relation.proofs.Common.{row_points, seen_from, stays, subst, suc, 
 use Rattle.sc_relation.proofs.Common.{trail_step, true, turn, turn_goes, turn_of, walks_steady, word_of, zero, ℕ}
 use Rattle.sc_relation.proofs.Common.{⊎_elim, ◌*◌, ◌++◌, ◌+◌, ◌∙◌, ◌∷◌, ◌≡◌, ◌≤◌}
 use Rattle.sc_select.specs.Prelude.{Piece as Code}
+use Rattle.sc_relation.proofs.Wanted.{wanted_less}
 use Rattle.rv_code.specs.declared.instr.Instr.TheVariants.{OpImm}
 use Rattle.rv_code.specs.declared.instr.OpImmOp.TheVariants.{Addi}
 use Rattle.sc_relation.proofs.Coming.{came_by}
@@ -196,7 +196,8 @@ module _ (T : Setting) (R : Running) (formed : IsWellFormed T.image) (words : Al
       abbrev inside : Joint → Joint
       inside x = record x { pc = L + 4 }
 
-      -- one more round, as it is known of fewer, where one step leads to the head: the first instruction of the loop, or
+      -- one more round, as it is known of fewer, where one step leads to the head: the first instruction of the loop,
+      -- or
       -- the jump back
       abbrev Rounds : ℕ → Type 0
       Rounds k = (temps : Temps) (x : Joint) (budget : ℕ) → Ready T R begin temps x →

@@ -1,17 +1,15 @@
 -- Straight code of the running call: it moves on, it assigns a temporary, it stores through a pointer, it has called.
-use Rattle.sc_relation.specs.Following.{wanted}
-use Rattle.sc_base.proofs.Bools.{and_first, and_rest}
-use Rattle.sc_relation.proofs.Wanted.{clear_wanted, wanted_less}
 use Rattle.sc_relation.proofs.Common.{Activation, All, Arrives, Blocks, Bool, Effect, FrameMatches, Guarded, InPlace}
 use Rattle.sc_relation.proofs.Common.{IsActivation, IsClear, IsWellFormed, IsWord, Joint, Leads, List, Lives}
 use Rattle.sc_relation.proofs.Common.{Memory as Bytes, None, Null, Ok, Option, Overflows, Owned, Piece, Place, Point}
 use Rattle.sc_relation.proofs.Common.{Pointer, Protected, Ptr, Ready, Register, Registers, Running, Set, Setting}
 use Rattle.sc_relation.proofs.Common.{Settled, Shows, Slot, Some, Standpoint, StandsFor, State as Meant, Temps, Value}
-use Rattle.sc_relation.proofs.Common.{Walks, Word, ahead_at, all_at, and_from, arith, false, is_one, live_across, load}
-use Rattle.sc_relation.proofs.Common.{machine, ne_eqb, not, one_or_none, or_left, or_right, own_words, plain}
-use Rattle.sc_relation.proofs.Common.{plain_points, put_word, refl, register_of, seen_from, slice_get, sp, store, subst}
-use Rattle.sc_relation.proofs.Common.{suc, sym, true, with_memory, with_temp, word, word_same, ℕ, ◌*◌, ◌+◌, ◌<◌, ◌^◌}
-use Rattle.sc_relation.proofs.Common.{◌∙◌, ◌≡◌, ◌≢◌, ◌≤◌}
+use Rattle.sc_relation.proofs.Common.{Walks, Word, ahead_at, all_at, and_first, and_from, and_rest, arith, false}
+use Rattle.sc_relation.proofs.Common.{is_one, live_across, load, machine, ne_eqb, not, one_or_none, or_left, or_right}
+use Rattle.sc_relation.proofs.Common.{own_words, plain, plain_points, put_word, refl, register_of, seen_from, slice_get}
+use Rattle.sc_relation.proofs.Common.{sp, store, subst, suc, sym, true, wanted, with_memory, with_temp, word, word_same}
+use Rattle.sc_relation.proofs.Common.{ℕ, ◌*◌, ◌+◌, ◌<◌, ◌^◌, ◌∙◌, ◌≡◌, ◌≢◌, ◌≤◌}
+use Rattle.sc_relation.proofs.Wanted.{clear_wanted, wanted_less}
 use Rattle.sc_relation.proofs.Frames.{own_inside}
 use Rattle.sc_relation.proofs.Held.{PlaceKept, frame_kept, kept_but_register, kept_but_slot, kept_all, ra_kept}
 use Rattle.sc_relation.proofs.Held.{held_kept, held_assigned, held_over_call}
@@ -390,7 +388,8 @@ module _ (T : Setting) (R : Running) where
       frame = frame_over_call (settled_to x ready.settled) ready.frame;
       held = held_over_call A R.places x.inj y.inj x.regs y.regs x.bytes y.bytes (effect.grows A.here.comp)
           (wanted R.needed live) (record point { live = wanted R.needed point.live }) temps
-          (clear_wanted R.places R.needed point clear) calls (wanted_less R.needed point.live live fewer) (λ k offset e. own_same (suc k) offset ready.frame e) ready.held;
+          (clear_wanted R.places R.needed point clear) calls (wanted_less R.needed point.live live fewer) (λ k offset e.
+              own_same (suc k) offset ready.frame e) ready.held;
       sp = same ∙ ready.sp;
     }
 

@@ -1,8 +1,6 @@
 -- What is live and read in its place: less than what is live.
-use Rattle.sc_relation.proofs.Common.{Bool, IsClear, List, Place, Point, Set, and_from, true}
-use Rattle.sc_relation.proofs.Common.{ℕ, ◌≡◌}
-use Rattle.sc_base.proofs.Bools.{and_first, and_rest}
-use Rattle.sc_relation.specs.Following.{wanted}
+use Rattle.sc_relation.proofs.Common.{Bool, IsClear, List, Place, Point, Set, and_first, and_from, and_rest, true}
+use Rattle.sc_relation.proofs.Common.{wanted, ℕ, ◌≡◌}
 
 -- where less is live, less is wanted
 pub wanted_less : (needed less more : Set) → ((t : ℕ) → less t ≡ true → more t ≡ true) → (t : ℕ) →
@@ -15,6 +13,7 @@ pub clear_wanted : (places : List Place) (needed : Set) (point : Point) → IsCl
     IsClear places (record point { live = wanted needed point.live })
 clear_wanted places needed point clear = record {
   assigned = λ d t e on. clear.assigned d t e (and_first (point.live t) (needed t) on);
-  live = λ t u on on'. clear.live t u (and_first (point.live t) (needed t) on) (and_first (point.live u) (needed u) on');
+  live = λ t u on on'. clear.live t u (and_first (point.live t) (needed t) on) (and_first (point.live u) (needed u)
+      on');
   over_calls = λ t calls on. clear.over_calls t calls (and_first (point.live t) (needed t) on);
 }

@@ -27,7 +27,8 @@ seen_from A = record { comp = A.here.comp; cross = A.cross; bound = A.sp + A.fra
 abbrev pub wanted : (needed live : Set) → Set
 wanted needed live t = live t && needed t
 
--- the code of a function, of which a piece is a part: the call that runs it, the places of its temporaries, those that are
+-- the code of a function, of which a piece is a part: the call that runs it, the places of its temporaries, those that
+-- are
 -- read there, and the address of its last word
 pub record Running : Type 0 where
   pub activation : Activation

@@ -5,7 +5,7 @@ pub use Rattle.sc_relation.specs.Calls.{ArePassed, Begins, CallGives, CallStands
 pub use Rattle.sc_relation.specs.Calls.{FunctionFollows, FunctionGives, GivesValue, IsBase, IsLeft, of_environment}
 pub use Rattle.sc_relation.specs.Calls.{runs_with}
 pub use Rattle.sc_relation.specs.Following.{Arrives, Comes, Ends, ExitGives, Follows, Gives, Ready, Returns, Running}
-pub use Rattle.sc_relation.specs.Following.{StandsAt, Starts, ends_of, live_at, row, seen_from}
+pub use Rattle.sc_relation.specs.Following.{StandsAt, Starts, ends_of, live_at, row, seen_from, wanted}
 pub use Rattle.sc_relation.specs.Frames.{Activation, AreFloors, AreHeld, FrameMatches, InPlace, IsActivation, IsHeld}
 pub use Rattle.sc_relation.specs.Frames.{own_words}
 pub use Rattle.sc_relation.specs.Operators.{IsElement, IsSound}

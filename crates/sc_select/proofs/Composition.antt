@@ -130,7 +130,8 @@ module _ (frame : FrameTree) (places : List Place) (needed : ℕ → Bool) where
   unfolding roll-TacStmt denote.Hole.Carrier.roll
   fork_is cond first second lines found is lines_is test found_is =
       fold-roll-TacStmt Piece (select_step frame places needed) (tac.If cond first second) ∙
-      ap (λ n. both_ways cond first second (n == 0 && size second == 1)) (length-map first (select frame places needed)) ∙
+      ap (λ n. both_ways cond first second (n == 0 && size second == 1)) (length-map first (select frame places needed))
+      ∙
       ap (λ n. both_ways cond first second (length first == 0 && n == 1)) (sym lines_is) ∙
       ap (both_ways cond first second) (sym test ∙ found_is)
 
@@ -170,7 +171,8 @@ module _ (frame : FrameTree) (places : List Place) (needed : ℕ → Bool) where
   -- the second part is written, and so many lines were there before
   module _ (cond : ℕ) (first second : List TacStmt) (b c : ℕ)
       (fits : Fits frame places needed (emit.If cond first second ∷ []) b c) (old l1 : List Line) (end n1 : ℕ)
-      (n1_is : n1 ≡ length l1) (end_is : end ≡ length old) (h1 : l1 ≡ (select_all frame places needed second).lines b c ++ old)
+      (n1_is : n1 ≡ length l1) (end_is : end ≡ length old) (h1 : l1 ≡ (select_all frame places needed second).lines b c
+      ++ old)
     where
       abbrev branch : List Line
       branch = plainly (choice frame places cond)
@@ -192,11 +194,13 @@ module _ (frame : FrameTree) (places : List Place) (needed : ℕ → Bool) where
           )
 
       module _ (found : Bool) (test : found ≡ (length first == 0 && n1 - end == 1)) where
-        pub skip_returns : {T E : Type 0} (r : Result T E) (new : List Line) → found ≡ true → OnOk r (new ≡ branch ++ l1) →
+        pub skip_returns : {T E : Type 0} (r : Result T E) (new : List Line) → found ≡ true →
+            OnOk r (new ≡ branch ++ l1) →
             OnOk r (new ≡ whole.lines b c ++ old)
         skip_returns r new is h =
             on_ok_weaker r (λ h.
-            h ∙ ap (λ t. branch ++ t) h1 ∙ sym (append_assoc branch ((select_all frame places needed second).lines b c) old) ∙
+            h ∙ ap (λ t. branch ++ t) h1 ∙ sym (append_assoc branch ((select_all frame places needed second).lines b c)
+            old) ∙
             ap (λ p. p.lines b c ++ old) (sym (fork_is cond first second (n1 - end) found true behind_is test is))) h
 
         -- the jump past the second part is written
@@ -271,7 +275,8 @@ module _ (frame : FrameTree) (places : List Place) (needed : ℕ → Bool) where
                 ap (λ p. p.lines b c ++ old) (sym whole_is)) h
 
   -- A LOOP
-  cycle_is : (head body next : List TacStmt) → select frame places needed (emit.Loop head body next) ≡ cycle frame places
+  cycle_is : (head body next : List TacStmt) → select frame places needed (emit.Loop head body next) ≡ cycle frame
+      places
       (select_all frame places needed head) (select_all frame places needed body) (select_all frame places needed next)
   unfolding roll-TacStmt denote.Hole.Carrier.roll
   cycle_is head body next = fold-roll-TacStmt Piece (select_step frame places needed) (tac.Loop head body next)
@@ -279,7 +284,8 @@ module _ (frame : FrameTree) (places : List Place) (needed : ℕ → Bool) where
   cycle_reaches : (head body next : List TacStmt) (b c : ℕ) →
       Fits frame places needed (emit.Loop head body next ∷ []) b c → 2 + (size head + (size body + size next)) < 262143
   cycle_reaches head body next b c h =
-      let parts : (select frame places needed (emit.Loop head body next)).size ≡ 2 + (size head + (size body + size next)) =
+      let parts : (select frame places needed (emit.Loop head body next)).size ≡ 2 + (size head + (size body + size
+      next)) =
       ap (λ p. p.size) (cycle_is head body next) in
       omega (arith, h.breaks, alone b c (emit.Loop head body next), parts)
 
@@ -332,7 +338,8 @@ module _ (frame : FrameTree) (places : List Place) (needed : ℕ → Bool) where
 
   whole_distance : (head body next : List TacStmt) (first : Instr) (old l1 l2 l3 l4 : List Line)
       (end d e g : ℕ) → l1 ≡ plain first ∷ old → l2 ≡ (select_all frame places needed next).lines d 0 ++ l1 →
-      l3 ≡ (select_all frame places needed body).lines e 0 ++ l2 → l4 ≡ (select_all frame places needed head).lines g 0 ++ l3 →
+      l3 ≡ (select_all frame places needed body).lines e 0 ++ l2 → l4 ≡ (select_all frame places needed head).lines g 0
+      ++ l3 →
       end ≡ length old → length l4 ≡ end + suc (size head + (size body + size next))
   whole_distance head body next first old l1 l2 l3 l4 end d e g h1 h2 h3 h4 end_is =
       let start : length l1 ≡ suc (length old) = ap length h1 in
@@ -367,7 +374,8 @@ module _ (frame : FrameTree) (places : List Place) (needed : ℕ → Bool) where
 
   pub head_reaches : (head body next : List TacStmt) (b c : ℕ) (first : Instr) (old l1 l2 l3 : List Line)
       (end d e : ℕ) → Fits frame places needed (emit.Loop head body next ∷ []) b c → l1 ≡ plain first ∷ old →
-      l2 ≡ (select_all frame places needed next).lines d 0 ++ l1 → l3 ≡ (select_all frame places needed body).lines e 0 ++ l2 →
+      l2 ≡ (select_all frame places needed next).lines d 0 ++ l1 → l3 ≡ (select_all frame places needed body).lines e 0
+      ++ l2 →
       end ≡ length old → (end ≤ length l3) × Fits frame places needed head (length l3 - end) 0
   head_reaches head body next b c first old l1 l2 l3 end d e fits h1 h2 h3 end_is =
       let distance : length l3 - end ≡ size body + suc (size next) =
@@ -380,8 +388,10 @@ module _ (frame : FrameTree) (places : List Place) (needed : ℕ → Bool) where
   pub back_reaches : (head body next : List TacStmt) (b c : ℕ) (first : Instr)
       (old l1 l2 l3 l4 : List Line) (n end d e g : ℕ) → Fits frame places needed (emit.Loop head body next ∷ []) b c →
       l1 ≡ plain first ∷ old →
-      l2 ≡ (select_all frame places needed next).lines d 0 ++ l1 → l3 ≡ (select_all frame places needed body).lines e 0 ++ l2 →
-      l4 ≡ (select_all frame places needed head).lines g 0 ++ l3 → n ≡ length l4 → end ≡ length old → n - end - 1 < 262143
+      l2 ≡ (select_all frame places needed next).lines d 0 ++ l1 → l3 ≡ (select_all frame places needed body).lines e 0
+      ++ l2 →
+      l4 ≡ (select_all frame places needed head).lines g 0 ++ l3 → n ≡ length l4 → end ≡ length old →
+      n - end - 1 < 262143
   back_reaches head body next b c first old l1 l2 l3 l4 n end d e g fits h1 h2 h3 h4 n_is end_is =
       let whole : length l4 ≡ end + suc (size head + (size body + size next)) =
       whole_distance head body next first old l1 l2 l3 l4 end d e g h1 h2 h3 h4 end_is in
@@ -473,7 +483,8 @@ module _ (frame : FrameTree) (places : List Place) (needed : ℕ → Bool) where
       (role_first (map (select frame places needed) (drop (suc i) stmts)))
 
   selected_at : (stmts : List TacStmt) (i : ℕ) (stmt : TacStmt) → stmt ≡ get_or stmts i stmt →
-      select frame places needed stmt ≡ get_or (map (select frame places needed) stmts) i (select frame places needed stmt)
+      select frame places needed stmt ≡ get_or (map (select frame places needed) stmts) i (select frame places needed
+      stmt)
   selected_at [] i stmt is = refl
   selected_at (first ∷ rest) zero stmt is = ap (select frame places needed) is
   selected_at (first ∷ rest) (suc i) stmt is = selected_at rest i stmt is
@@ -513,7 +524,8 @@ module _ (frame : FrameTree) (places : List Place) (needed : ℕ → Bool) where
       ap (λ parts. (in_turn parts).size) (parted_at stmts i stmt h is) in
       let same : between frame places before (select frame places needed stmt) behind ≡ one stmts i stmt =
       ap₂ (λ r s. between frame places r (select frame places needed stmt) s) before_is behind_is in
-      let size_is : (between frame places before (select frame places needed stmt) behind).size ≡ (one stmts i stmt).size =
+      let size_is : (between frame places before (select frame places needed stmt) behind).size ≡ (one stmts i
+      stmt).size =
       ap (λ p. p.size) same in
       record {
         few_arguments = ap (λ b. b && true) (and_first (fold-TacStmt Bool (with_parts passes_few) stmt) _
@@ -554,7 +566,8 @@ module _ (frame : FrameTree) (places : List Place) (needed : ℕ → Bool) where
 
   pub step_fits : (stmts list : List TacStmt) (at b c n m : ℕ) (stmt : TacStmt) (before behind : Role)
       (now old : List Line) → list ≡ stmts → 0 < at → at ≤ length list → stmt ≡ get_or list (at - 1) stmt →
-      ((frame : FrameTree) (places : List Place) → before ≡ role_before (map (select frame places needed) list) (at - 1)) →
+      ((frame : FrameTree) (places : List Place) → before ≡ role_before (map (select frame places needed) list) (at -
+      1)) →
       ((frame : FrameTree) (places : List Place) →
       behind ≡ role_first (map (select frame places needed) (drop (at - 1 + 1) list))) →
       Fits frame places needed stmts b c → n ≡ length now → m ≡ length old → now ≡ (from list at).lines b c ++ old →
@@ -568,11 +581,13 @@ module _ (frame : FrameTree) (places : List Place) (needed : ℕ → Bool) where
 
   pub step_written : (list : List TacStmt) (at b c n m : ℕ) (stmt : TacStmt) (before behind : Role)
       (now old new : List Line) → 0 < at → at ≤ length list → stmt ≡ get_or list (at - 1) stmt →
-      ((frame : FrameTree) (places : List Place) → before ≡ role_before (map (select frame places needed) list) (at - 1)) →
+      ((frame : FrameTree) (places : List Place) → before ≡ role_before (map (select frame places needed) list) (at -
+      1)) →
       ((frame : FrameTree) (places : List Place) →
       behind ≡ role_first (map (select frame places needed) (drop (at - 1 + 1) list))) →
       n ≡ length now → m ≡ length old → now ≡ (from list at).lines b c ++ old →
-      new ≡ (between frame places before (select frame places needed stmt) behind).lines (n - m + b) (n - m + c) ++ now →
+      new ≡ (between frame places before (select frame places needed stmt) behind).lines (n - m + b) (n - m + c) ++ now
+      →
       new ≡ (from list (at - 1)).lines b c ++ old
   step_written list at b c n m stmt before behind now old new some within is before_is behind_is hn hm h k =
       let next : at ≡ suc (at - 1) = omega (arith, some) in
@@ -581,7 +596,8 @@ module _ (frame : FrameTree) (places : List Place) (needed : ℕ → Bool) where
       ap (λ i. role_first (map (select frame places needed) (drop i list))) next' in
       one_written list (at - 1) stmt b c (n - m) old now new (omega (arith, some, within)) is
       (from_next list at n m b c now old some hn hm h) (h ∙ ap (λ i. (from list i).lines b c ++ old) next)
-      (k ∙ ap₂ (λ r s. (between frame places r (select frame places needed stmt) s).lines (n - m + b) (n - m + c) ++ now)
+      (k ∙ ap₂ (λ r s. (between frame places r (select frame places needed stmt) s).lines (n - m + b) (n - m + c) ++
+      now)
       (before_is frame places) behind_here)
 
   -- all are written, and none yet
@@ -589,7 +605,8 @@ module _ (frame : FrameTree) (places : List Place) (needed : ℕ → Bool) where
       old ≡ (from list (length list)).lines b c ++ old
   none_written list b c old =
       ap (λ parts. (in_turn parts).lines b c ++ old)
-      (sym (all_dropped (pieces list) (length list) (joined_length frame places needed Other (map (select frame places needed) list) ∙
+      (sym (all_dropped (pieces list) (length list) (joined_length frame places needed Other (map (select frame places
+      needed) list) ∙
       length-map list (select frame places needed))))
     where
       all_dropped : (parts : List Piece) (n : ℕ) → length parts ≡ n → drop n parts ≡ []
@@ -599,48 +616,49 @@ module _ (frame : FrameTree) (places : List Place) (needed : ℕ → Bool) where
       all_dropped (part ∷ parts) (suc n) h = all_dropped parts n (omega (arith, h))
 
   -- A STATEMENT BETWEEN TWO OTHERS
-  module _ (before : Role) (stmt : TacStmt) (behind role : Role) (is : role ≡ (select frame places needed stmt).role) where
-    abbrev itself : Piece
-    itself = select frame places needed stmt
+  module _ (before : Role) (stmt : TacStmt) (behind role : Role) (is : role ≡ (select frame places needed stmt).role)
+    where
+      abbrev itself : Piece
+      itself = select frame places needed stmt
 
-    -- what the tests found
-    first_test : (found b : Bool) → found ≡ joins before role → found ≡ b → joins before itself.role ≡ b
-    first_test found b h k = ap (joins before) (sym is) ∙ sym h ∙ k
+      -- what the tests found
+      first_test : (found b : Bool) → found ≡ joins before role → found ≡ b → joins before itself.role ≡ b
+      first_test found b h k = ap (joins before) (sym is) ∙ sym h ∙ k
 
-    second_test : (found b : Bool) → found ≡ joins role behind → found ≡ b → joins itself.role behind ≡ b
-    second_test found b h k = ap (λ r. joins r behind) (sym is) ∙ sym h ∙ k
+      second_test : (found b : Bool) → found ≡ joins role behind → found ≡ b → joins itself.role behind ≡ b
+      second_test found b h k = ap (λ r. joins r behind) (sym is) ∙ sym h ∙ k
 
-    by_tests : (one two : Bool) → joins before itself.role ≡ one → joins itself.role behind ≡ two →
-        between frame places before itself behind ≡
-        (if one then as_one frame places before itself.role else if two then nothing else itself)
-    by_tests one two h k =
-        ap₂ (λ a b. if a then as_one frame places before itself.role else if b then nothing else itself) h k
+      by_tests : (one two : Bool) → joins before itself.role ≡ one → joins itself.role behind ≡ two →
+          between frame places before itself behind ≡
+          (if one then as_one frame places before itself.role else if two then nothing else itself)
+      by_tests one two h k =
+          ap₂ (λ a b. if a then as_one frame places before itself.role else if b then nothing else itself) h k
 
-    pub is_both : (found : Bool) → found ≡ joins before role → found ≡ true →
-        as_one frame places before role ≡ between frame places before itself behind
-    is_both found h k =
-        ap (as_one frame places before) is ∙
-        sym (by_tests true (joins itself.role behind) (first_test found true h k) refl)
+      pub is_both : (found : Bool) → found ≡ joins before role → found ≡ true →
+          as_one frame places before role ≡ between frame places before itself behind
+      is_both found h k =
+          ap (as_one frame places before) is ∙
+          sym (by_tests true (joins itself.role behind) (first_test found true h k) refl)
 
-    module _ (found : Bool) (none : found ≡ joins before role) (none_is : found ≡ false) (other : Bool)
-        (both : other ≡ joins role behind) where
-      pub is_nothing : other ≡ true → nothing ≡ between frame places before itself behind
-      is_nothing k = sym (by_tests false true (first_test found false none none_is) (second_test other true both k))
+      module _ (found : Bool) (none : found ≡ joins before role) (none_is : found ≡ false) (other : Bool)
+          (both : other ≡ joins role behind) where
+        pub is_nothing : other ≡ true → nothing ≡ between frame places before itself behind
+        is_nothing k = sym (by_tests false true (first_test found false none none_is) (second_test other true both k))
 
-      pub is_itself : other ≡ false → itself ≡ between frame places before itself behind
-      is_itself k =
-          sym (by_tests false false (first_test found false none none_is) (second_test other false both k))
+        pub is_itself : other ≡ false → itself ≡ between frame places before itself behind
+        is_itself k =
+            sym (by_tests false false (first_test found false none none_is) (second_test other false both k))
 
-      pub alone_fits : (b c : ℕ) → other ≡ false → FitsBetween frame places needed before stmt behind b c →
-          Fits frame places needed (stmt ∷ []) b c
-      alone_fits b c k h =
-          let same : itself.size ≡ (between frame places before itself behind).size =
-          ap (λ p. p.size) (is_itself k) in
-          record {
-            few_arguments = h.few_arguments;
-            breaks = omega (arith, h.breaks, same, alone b c stmt);
-            continues = omega (arith, h.continues, same, alone b c stmt);
-          }
+        pub alone_fits : (b c : ℕ) → other ≡ false → FitsBetween frame places needed before stmt behind b c →
+            Fits frame places needed (stmt ∷ []) b c
+        alone_fits b c k h =
+            let same : itself.size ≡ (between frame places before itself behind).size =
+            ap (λ p. p.size) (is_itself k) in
+            record {
+              few_arguments = h.few_arguments;
+              breaks = omega (arith, h.breaks, same, alone b c stmt);
+              continues = omega (arith, h.continues, same, alone b c stmt);
+            }
 
 -- one piece is written, which is another
 pub as_written : {T E : Type 0} (r : Result T E) (p q : Piece) (b c : ℕ) (new old : List Line) → p ≡ q →

@@ -1,16 +1,15 @@
 -- Pieces between others: what holds of each piece of statements holds of all of them in order, and which statements are
 -- one piece.
-use Rattle.sc_select.specs.Prelude.{object_store, role_of_store}
-use Rattle.sc_select.specs.declared.roles.Role.TheVariants.{Stores}
 use Rattle.sc_select.proofs.Common.{Bool, Each, FrameTree, List, Loads, None, Operates, Option, Other, Piece, Place}
-use Rattle.sc_select.proofs.Common.{Places, Role, Sets, ShortForm, Some, TacOp, TacStmt, TacStmt-F, [], and_first}
-use Rattle.sc_select.proofs.Common.{and_rest, ap, ap₂, arith, as_one, between, choice, choosing, drop, ending_past}
-use Rattle.sc_select.proofs.Common.{eqb-true, false, fold-roll-TacStmt, followed, fork, get_or, if◌then◌else◌, in_order}
-use Rattle.sc_select.proofs.Common.{in_turn, inl, inr, is_some, joined, joins, jump_over, length, map, map-TacStmt, not}
-use Rattle.sc_select.proofs.Common.{nothing, object_read, past, refl, role_before, role_first, role_of_operation}
-use Rattle.sc_select.proofs.Common.{roll-TacStmt, select, select_step, short_form, short_operation, skipping}
-use Rattle.sc_select.proofs.Common.{stmt_induction, straight, straightly, suc, sym, true, word_of_constant, zero, ℕ}
-use Rattle.sc_select.proofs.Common.{⊎_elim, ◌&&◌, ◌-◌, ◌<◌, ◌==◌, ◌∙◌, ◌∷◌, ◌≡◌, ◌≤◌, ◌⊎◌}
+use Rattle.sc_select.proofs.Common.{Places, Role, Sets, ShortForm, Some, Stores, TacOp, TacStmt, TacStmt-F, []}
+use Rattle.sc_select.proofs.Common.{and_first, and_rest, ap, ap₂, arith, as_one, between, choice, choosing, drop}
+use Rattle.sc_select.proofs.Common.{ending_past, eqb-true, false, fold-roll-TacStmt, followed, fork, get_or}
+use Rattle.sc_select.proofs.Common.{if◌then◌else◌, in_order, in_turn, inl, inr, is_some, joined, joins, jump_over}
+use Rattle.sc_select.proofs.Common.{length, map, map-TacStmt, not, nothing, object_read, object_store, past, refl}
+use Rattle.sc_select.proofs.Common.{role_before, role_first, role_of_operation, role_of_store, roll-TacStmt, select}
+use Rattle.sc_select.proofs.Common.{select_step, short_form, short_operation, skipping, stmt_induction, straight}
+use Rattle.sc_select.proofs.Common.{straightly, suc, sym, true, word_of_constant, zero, ℕ, ⊎_elim, ◌&&◌, ◌-◌, ◌<◌, ◌==◌}
+use Rattle.sc_select.proofs.Common.{◌∙◌, ◌∷◌, ◌≡◌, ◌≤◌, ◌⊎◌}
 use Rattle.sc_tac.specs.declared.stmt.Constant.{Constant}
 use Rattle.sc_tac.specs.declared.stmt.TacStmt.TheOpen as tac
 
@@ -238,7 +237,8 @@ module _ (frame : FrameTree) (places : List Place) (needed : ℕ → Bool) where
   layer_gives (tac.Store place value) temp object h =
       absurd (other_than _ _ _ (store_role place value) h (λ e. cc e) (λ e. cc e))
   layer_gives (tac.If cond first second) temp object h =
-      cc (sym (fork_role frame places cond (map (select frame places needed) first) (map (select frame places needed) second)) ∙ h)
+      cc (sym (fork_role frame places cond (map (select frame places needed) first) (map (select frame places needed)
+      second)) ∙ h)
   layer_gives _ temp object h = cc h
 
   pub gives_place : (stmt : TacStmt) → Gives stmt
@@ -267,7 +267,8 @@ module _ (frame : FrameTree) (places : List Place) (needed : ℕ → Bool) where
       absurd (other_than _ _ _ (store_role place value) h (λ e. cc e) (λ e. cc e))
   layer_loads (tac.If cond first second) temp h =
       let other : Other ≡ Loads temp =
-      sym (fork_role frame places cond (map (select frame places needed) first) (map (select frame places needed) second)) ∙ h in cc other
+      sym (fork_role frame places cond (map (select frame places needed) first) (map (select frame places needed)
+      second)) ∙ h in cc other
   layer_loads _ temp h = cc h
 
   pub loads_it : (stmt : TacStmt) (temp : ℕ) → role_of stmt ≡ Loads temp → IsLoad stmt temp
@@ -297,7 +298,8 @@ module _ (frame : FrameTree) (places : List Place) (needed : ℕ → Bool) where
       absurd (other_than _ _ _ (store_role place value) h (λ e. cc e) (λ e. cc e))
   layer_sets (tac.If cond first second) temp word h =
       let other : Other ≡ Sets temp word =
-      sym (fork_role frame places cond (map (select frame places needed) first) (map (select frame places needed) second)) ∙ h in cc other
+      sym (fork_role frame places cond (map (select frame places needed) first) (map (select frame places needed)
+      second)) ∙ h in cc other
   layer_sets _ temp word h = cc h
 
   pub sets_it : (stmt : TacStmt) (temp word : ℕ) → role_of stmt ≡ Sets temp word → IsSet stmt temp word
@@ -344,7 +346,8 @@ module _ (frame : FrameTree) (places : List Place) (needed : ℕ → Bool) where
       absurd (other_than _ _ _ (store_role place value) h (λ e. cc e) (λ e. cc e))
   layer_operates (tac.If cond first second) temp left o h =
       let other : Other ≡ Operates temp left o =
-      sym (fork_role frame places cond (map (select frame places needed) first) (map (select frame places needed) second)) ∙ h in cc other
+      sym (fork_role frame places cond (map (select frame places needed) first) (map (select frame places needed)
+      second)) ∙ h in cc other
   layer_operates _ temp left o h = cc h
 
   pub operates_it : (stmt : TacStmt) (temp left : ℕ) (o : TacOp) → role_of stmt ≡ Operates temp left o →
@@ -379,7 +382,8 @@ module _ (frame : FrameTree) (places : List Place) (needed : ℕ → Bool) where
       by false h = cc h
   layer_stores (tac.If cond first second) place value h =
       let other : Other ≡ Stores place value =
-      sym (fork_role frame places cond (map (select frame places needed) first) (map (select frame places needed) second)) ∙ h in
+      sym (fork_role frame places cond (map (select frame places needed) first) (map (select frame places needed)
+      second)) ∙ h in
       cc other
   layer_stores _ place value h = cc h
 
@@ -409,7 +413,8 @@ module _ (frame : FrameTree) (places : List Place) (needed : ℕ → Bool) where
   drop_map (stmt ∷ rest) (suc i) = drop_map rest i
 
   pub before_found : (stmts : List TacStmt) (i : ℕ) → (i ≡ 0 → ⊥) →
-      role_first (map (select frame places needed) (drop (i - 1) stmts)) ≡ role_before (map (select frame places needed) stmts) i
+      role_first (map (select frame places needed) (drop (i - 1) stmts)) ≡ role_before (map (select frame places needed)
+      stmts) i
   before_found stmts zero h = absurd (h refl)
   before_found stmts (suc i) h =
       let same : suc i - 1 ≡ i = omega arith in
@@ -444,7 +449,8 @@ module _ (frame : FrameTree) (places : List Place) (needed : ℕ → Bool) where
     pub between_keeps : (before behind : Role) (piece : Piece) → P piece → P (between frame places before piece behind)
     between_keeps before behind piece h = by (joins before piece.role) (joins piece.role behind)
       where
-        by : (one two : Bool) → P (if one then as_one frame places before piece.role else if two then nothing else piece)
+        by : (one two : Bool) → P (if one then as_one frame places before piece.role else if two then nothing else
+            piece)
         by true two = as_one_keeps before piece.role
         by false true = none
         by false false = h

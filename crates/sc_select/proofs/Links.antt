@@ -1,20 +1,18 @@
 -- Lines that refer to targets stand where the linker can complete them.
-use Rattle.sc_select.specs.Needs.{has_mark, needed_in}
-use Rattle.sc_select.specs.Prelude.{object_store, role_of_store}
 use Rattle.sc_select.proofs.Common.{All, AllPairs, Bool, Each, Entry, FrameTree, Function, Global, Inside, Instr}
 use Rattle.sc_select.proofs.Common.{IsCode, IsTrue, Jal, Jalr, Line, List, Lui, None, Option, Piece, Place, Places}
 use Rattle.sc_select.proofs.Common.{Relocation, Role, Sets, Some, Store, Sw, TacFnTree, TacStmt, TacStmt-F, Target}
 use Rattle.sc_select.proofs.Common.{Upper, [], and_first, and_rest, ap, append-nil, arith, brought, call_cross}
 use Rattle.sc_select.proofs.Common.{call_own, choice, closing, code_of_lines, copied, cycle, entrance, environment_call}
 use Rattle.sc_select.proofs.Common.{eq-eqb, everywhere as each_holds, false, fold-roll-TacStmt, followed, frame_taken}
-use Rattle.sc_select.proofs.Common.{function_lines, in_order, is_address, is_jal, is_linkable, jump_back, keep, length}
-use Rattle.sc_select.proofs.Common.{length-append, length-map, load_from, loading, map, map-TacStmt, moved_by}
-use Rattle.sc_select.proofs.Common.{object_offset, object_read, operation, pass, place_of_global, plain, plainly, pos}
-use Rattle.sc_select.proofs.Common.{receive, referring, refl, relocation_of, relocations_from, result_register, return}
-use Rattle.sc_select.proofs.Common.{role_of_load, role_of_operation, select, select_all, select_step, short_form}
-use Rattle.sc_select.proofs.Common.{short_operation, slice_get, stmt_induction, store_arguments, store_to, straightly}
-use Rattle.sc_select.proofs.Common.{sub_word, subst, suc, sym, true, word_of_constant, ℕ, ◌&&◌, ◌++◌, ◌+◌, ◌<◌, ◌∙◌}
-use Rattle.sc_select.proofs.Common.{◌∷◌, ◌≡◌, ◌≤◌}
+use Rattle.sc_select.proofs.Common.{function_lines, has_mark, in_order, is_address, is_jal, is_linkable, jump_back}
+use Rattle.sc_select.proofs.Common.{keep, length, length-append, length-map, load_from, loading, map, map-TacStmt}
+use Rattle.sc_select.proofs.Common.{moved_by, needed_in, object_offset, object_read, object_store, operation, pass}
+use Rattle.sc_select.proofs.Common.{place_of_global, plain, plainly, pos, receive, referring, refl, relocation_of}
+use Rattle.sc_select.proofs.Common.{relocations_from, result_register, return, role_of_load, role_of_operation}
+use Rattle.sc_select.proofs.Common.{role_of_store, select, select_all, select_step, short_form, short_operation}
+use Rattle.sc_select.proofs.Common.{slice_get, stmt_induction, store_arguments, store_to, straightly, sub_word, subst}
+use Rattle.sc_select.proofs.Common.{suc, sym, true, word_of_constant, ℕ, ◌&&◌, ◌++◌, ◌+◌, ◌<◌, ◌∙◌, ◌∷◌, ◌≡◌, ◌≤◌}
 use Rattle.std.proofs.lemmas.List.Elements.{All-cons, All-nil, All-weaker}
 use Rattle.std.proofs.lemmas.List.Kept.{AllPairs-cons}
 use Rattle.sc_tac.specs.declared.stmt.TacStmt.TheOpen as tac
@@ -135,7 +133,9 @@ module _ (frame : FrameTree) (places : List Place) (needed : ℕ → Bool) where
   layer_complete (tac.Store place value) h =
       with_role (store_to frame places place value) (role_of_store needed place value)
   layer_complete (tac.If cond first second) h =
-      fork_keeps frame places IsComplete (record { complete = λ b c. refl }) (λ lines. record { complete = λ b c. refl })
+      fork_keeps frame places IsComplete (record { complete = λ b c. refl }) (λ lines. record {
+        complete = λ b c. refl;
+      })
       followed_complete cond _ _ (straightly_complete (choice frame places cond)) (row_complete first h.0)
       (row_complete second h.1)
   layer_complete (tac.Loop head body next) h =

@@ -1,22 +1,17 @@
 -- What statements need, mark by mark; and that it names temporaries of their function alone.
-use Rattle.sc_select.proofs.Common.{Bool, Each, Inside, IsFunction, List, None, Option, Some, TacFnTree, TacStmt}
-use Rattle.sc_select.proofs.Common.{TacStmt-F, [], all_true, and_first, and_rest, ap, arith, drop, drop-cons}
-use Rattle.sc_select.proofs.Common.{false, fold-TacStmt, fold-roll-TacStmt, get_or, if◌then◌else◌, length, map}
-use Rattle.sc_select.proofs.Common.{map-TacStmt, refl, slice_get, stmt_induction, subst, suc, sym, true, with_parts}
-use Rattle.sc_select.proofs.Common.{zero, ℕ, ◌&&◌, ◌++◌, ◌+◌, ◌<◌, ◌==◌, ◌∙◌, ◌∷◌, ◌≡◌, ◌≤◌}
-use Rattle.std.specs.Prelude.{nat_lt, replicate, ◌||◌}
-use Rattle.std.proofs.Common.{add-one}
+use Rattle.sc_select.proofs.Common.{Bool, Each, Inside, IsFunction, List, Marked, Need, None, Option, Some, TacFnTree}
+use Rattle.sc_select.proofs.Common.{TacStmt, TacStmt-F, [], add-one, all_true, and_first, and_rest, ap, arith, drop}
+use Rattle.sc_select.proofs.Common.{drop-cons, false, fold-TacStmt, fold-roll-TacStmt, get_or, has_mark, if◌then◌else◌}
+use Rattle.sc_select.proofs.Common.{is_one, length, ltb-true, map, map-TacStmt, names_own_temps, nat_lt, ne_eqb, need}
+use Rattle.sc_select.proofs.Common.{need_step, needed_in, needs_of, one_or_none, parts, place_needed, refl, replicate}
+use Rattle.sc_select.proofs.Common.{row_needs, slice_get, stmt_induction, subst, suc, sym, true, with_parts, zero, ℕ}
+use Rattle.sc_select.proofs.Common.{◌&&◌, ◌++◌, ◌+◌, ◌<◌, ◌==◌, ◌||◌, ◌∙◌, ◌∷◌, ◌≡◌, ◌≤◌}
+use Rattle.sc_tac.specs.Prelude.{everywhere}
 use Rattle.std.specs.List.{list_all}
 use Rattle.std.specs.Option.{option_map, unwrap_or}
 use Rattle.std.proofs.Math.Bool.{or_assoc}
-use Rattle.std.proofs.lemmas.Bool.{ltb-true, ne_eqb}
 use Rattle.std.proofs.lemmas.List.Folds.{list_all-append, list_any-append}
-use Rattle.sc_tac.specs.Flow.{is_one}
-use Rattle.sc_tac.specs.Functions.{names_own_temps}
-use Rattle.sc_tac.specs.Parts.{everywhere, one_or_none, parts}
 use Rattle.sc_tac.specs.declared.stmt.TacStmt.TheOpen as tac
-use Rattle.sc_select.specs.Marks.{Marked}
-use Rattle.sc_select.specs.Needs.{Need, has_mark, need, need_step, needed_in, needs_of, place_needed, row_needs}
 
 -- STATEMENTS IN ORDER
 marked_on : (xs ys : List ℕ) (a b c : List Bool) → Marked xs a b → Marked ys b c → Marked (xs ++ ys) a c

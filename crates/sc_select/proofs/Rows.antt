@@ -1,10 +1,8 @@
 -- Worked functions: the code of each.
-use Rattle.std.specs.Prelude.{ℕ, Bool}
-use Rattle.sc_select.specs.Needs.{needed_in}
-use Rattle.sc_select.proofs.Common.{Addi, Bne, Branch, CodeTree, FrameTree, Function, Jal, Jalr, List, Load, Lw, Op}
-use Rattle.sc_select.proofs.Common.{OpImm, Piece, Place, Register, Slot, Some, Store, Sub, Sw, [], ap, closing, code_of}
-use Rattle.sc_select.proofs.Common.{code_of_lines, entrance, frame_of, in_order, negsuc, plainly, pos, select_step}
-use Rattle.sc_select.proofs.Common.{true, ◌++◌, ◌∷◌, ◌≡◌}
+use Rattle.sc_select.proofs.Common.{Addi, Bne, Bool, Branch, CodeTree, FrameTree, Function, Jal, Jalr, List, Load, Lw}
+use Rattle.sc_select.proofs.Common.{Op, OpImm, Piece, Place, Register, Slot, Some, Store, Sub, Sw, [], ap, closing}
+use Rattle.sc_select.proofs.Common.{code_of, code_of_lines, entrance, frame_of, in_order, needed_in, negsuc, plainly}
+use Rattle.sc_select.proofs.Common.{pos, select_step, true, ℕ, ◌++◌, ◌∷◌, ◌≡◌}
 use Rattle.sc_base.specs.declared.op.BinaryOp.TheVariants as op
 use Rattle.sc_event.specs.declared.row.Entry.TheVariants as entry
 use Rattle.sc_tac.specs.declared.stmt.TacStmt.TheOpen as tac

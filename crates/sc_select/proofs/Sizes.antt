@@ -1,6 +1,6 @@
 -- Pieces have as many lines as they say.
-use Rattle.sc_select.proofs.Common.{Bool, Each, FrameTree, Inside, Line, List, Other, Piece, Place, TacStmt, TacStmt-F, []}
-use Rattle.sc_select.proofs.Common.{arith, choice, cycle, drop, everywhere, fold-roll-TacStmt, followed, in_order}
+use Rattle.sc_select.proofs.Common.{Bool, Each, FrameTree, Inside, Line, List, Other, Piece, Place, TacStmt, TacStmt-F}
+use Rattle.sc_select.proofs.Common.{[], arith, choice, cycle, drop, everywhere, fold-roll-TacStmt, followed, in_order}
 use Rattle.sc_select.proofs.Common.{in_turn, joined, jump_back, jump_over, length, length-append, map, map-TacStmt}
 use Rattle.sc_select.proofs.Common.{plainly, refl, select, select_all, select_step, stmt_induction, straight, subst}
 use Rattle.sc_select.proofs.Common.{suc, sym, ℕ, ◌++◌, ◌+◌, ◌∷◌, ◌≡◌}
@@ -66,7 +66,8 @@ module _ (frame : FrameTree) (places : List Place) (needed : ℕ → Bool) where
   layer_sized (tac.Load dest place pointer) h = record { sized = λ b c. refl }
   layer_sized (tac.Store place value) h = record { sized = λ b c. refl }
   layer_sized (tac.If cond first second) h =
-      fork_keeps frame places IsSized (straight_sized []) (λ lines. straight_sized (jump_over lines ∷ [])) followed_sized
+      fork_keeps frame places IsSized (straight_sized []) (λ lines. straight_sized (jump_over lines ∷ []))
+      followed_sized
       cond _ _ (straight_sized (plainly (choice frame places cond))) (row_sized first h.0) (row_sized second h.1)
   layer_sized (tac.Loop head body next) h =
       cycle_sized _ _ _ (row_sized head h.0) (row_sized body h.1) (row_sized next h.2)

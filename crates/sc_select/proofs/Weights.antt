@@ -1,31 +1,27 @@
 -- Code has no more instructions than its function weighs.
-use Rattle.rv_code.specs.declared.instr.Instr.TheVariants.{Shift}
-use Rattle.rv_code.specs.declared.instr.ShiftOp.TheVariants.{Slli}
-use Rattle.sc_select.specs.Prelude.{bytes_ahead}
-use Rattle.sc_select.specs.Needs.{needed_in}
-use Rattle.sc_select.specs.Prelude.{object_store}
 use Rattle.sc_select.proofs.Common.{Add, Bne, Bool, Branch, Div, Each, Entry as EntryOf, Fits, FrameTree, Function}
-use Rattle.sc_select.proofs.Common.{Inside, Instr, IsFunction, Jal, Jalr, Line, List, Load, Loads, Lui, Lw, Mul, None}
-use Rattle.sc_select.proofs.Common.{Op, Operates, Option, Other, Piece, Place, Places, Register, Role, Sets, ShortForm}
-use Rattle.sc_select.proofs.Common.{Slot, Some, Store, Sw, TacFnTree, TacOp, TacStmt, TacStmt-F, Upper, [], all_true}
-use Rattle.sc_select.proofs.Common.{and_first, and_rest, ap, ap₂, arith, as_one, at_hand, between, binary_code, brought}
-use Rattle.sc_select.proofs.Common.{bytes_of, call_cross, call_own, choice, choosing, closing, code_of, copied}
-use Rattle.sc_select.proofs.Common.{entrance, entry_weight, environment_call, everywhere as each_holds, false}
-use Rattle.sc_select.proofs.Common.{fold-TacStmt, fold-roll-TacStmt, fork, frame_left, frame_taken, function_lines}
-use Rattle.sc_select.proofs.Common.{has_operands, if◌then◌else◌, in_order, in_turn, is_short, is_some, is_unsigned}
-use Rattle.sc_select.proofs.Common.{joined, joins, keep, kept, length, length-append, length-map, load_from, load_word}
-use Rattle.sc_select.proofs.Common.{loading, map, map-TacStmt, moved_by, nothing, object_offset, object_read, op_code}
-use Rattle.sc_select.proofs.Common.{op_weight, operand, operation, pass, place_of_global, plain, plainly}
-use Rattle.sc_select.proofs.Common.{pointer_difference, pointer_move, pos, put, receive, referring, refl, register_of}
-use Rattle.sc_select.proofs.Common.{result_register, return, role_first, roll-TacStmt, second_operand, select}
-use Rattle.sc_select.proofs.Common.{select_all, select_step, short_code, short_form, short_operation, skipping}
-use Rattle.sc_select.proofs.Common.{slice_get, slot_offset, stepped, stmt_induction, stmt_weight, store_arguments}
-use Rattle.sc_select.proofs.Common.{store_to, store_word, straightly, sub_word, subst, suc, sym, take, take_second}
-use Rattle.sc_select.proofs.Common.{taken, takes_two, true, unary_code, weight, weight_step, with_parts}
-use Rattle.sc_select.proofs.Common.{word_of_constant, zero, ℕ, ⊎_elim, ◌&&◌, ◌*◌, ◌++◌, ◌+◌, ◌<◌, ◌==◌, ◌^◌, ◌∙◌, ◌∷◌}
-use Rattle.sc_select.proofs.Common.{◌≡◌, ◌≤◌}
+use Rattle.sc_select.proofs.Common.{Inside, Instr, IsFunction, Jal, Jalr, Line, List, Load, Lui, Lw, Mul, None}
+use Rattle.sc_select.proofs.Common.{Op, Option, Other, Piece, Place, Register, Role, Shift}
+use Rattle.sc_select.proofs.Common.{ShortForm, Slot, Some, Store, Sw, TacFnTree, TacOp, TacStmt, TacStmt-F, Upper, []}
+use Rattle.sc_select.proofs.Common.{all_true, and_first, and_rest, ap, ap₂, arith, as_one, at_hand, between}
+use Rattle.sc_select.proofs.Common.{binary_code, brought, bytes_ahead, bytes_of, call_cross, call_own, choice, choosing}
+use Rattle.sc_select.proofs.Common.{closing, code_of, copied, entrance, entry_weight, environment_call}
+use Rattle.sc_select.proofs.Common.{everywhere as each_holds, false, fold-TacStmt, fold-roll-TacStmt, fork, frame_left}
+use Rattle.sc_select.proofs.Common.{frame_taken, function_lines, has_operands, if◌then◌else◌, in_order, in_turn}
+use Rattle.sc_select.proofs.Common.{is_short, is_some, is_unsigned, joined, joins, keep, kept, length, length-append}
+use Rattle.sc_select.proofs.Common.{length-map, load_from, load_word, loading, map, map-TacStmt, moved_by, needed_in}
+use Rattle.sc_select.proofs.Common.{nothing, object_offset, object_read, object_store, op_code, op_weight, operand}
+use Rattle.sc_select.proofs.Common.{operation, pass, place_of_global, plain, plainly, pointer_difference, pointer_move}
+use Rattle.sc_select.proofs.Common.{pos, put, receive, referring, refl, register_of, result_register, return}
+use Rattle.sc_select.proofs.Common.{role_first, roll-TacStmt, second_operand, select, select_all, select_step}
+use Rattle.sc_select.proofs.Common.{short_code, short_form, short_operation, skipping, slice_get, slot_offset, stepped}
+use Rattle.sc_select.proofs.Common.{stmt_induction, stmt_weight, store_arguments, store_to, store_word, straightly}
+use Rattle.sc_select.proofs.Common.{sub_word, subst, suc, sym, take, take_second, taken, takes_two, true, unary_code}
+use Rattle.sc_select.proofs.Common.{weight, weight_step, with_parts, word_of_constant, zero, ℕ, ⊎_elim, ◌&&◌, ◌*◌, ◌++◌}
+use Rattle.sc_select.proofs.Common.{◌+◌, ◌<◌, ◌==◌, ◌^◌, ◌∙◌, ◌∷◌, ◌≡◌, ◌≤◌}
 use Rattle.sc_core.specs.Prelude.{total}
 use Rattle.sc_tac.specs.Prelude.{everywhere}
+use Rattle.rv_code.specs.declared.instr.ShiftOp.TheVariants.{Slli}
 use Rattle.sc_select.proofs.Joining.{IsRead, IsShort, IsStored, stores_it, loads_it, operates_it, past_few, which_pair}
 use Rattle.std.specs.Bool.{beq}
 use Rattle.sc_base.specs.declared.op.BinaryOp.{BinaryOp}
@@ -449,7 +445,8 @@ module _ (frame : FrameTree) (places : List Place) (needed : ℕ → Bool) where
       (select frame places needed stmt).size ≤ stmt_weight stmt →
       (between frame places before (select frame places needed stmt) behind).size ≤ stmt_weight stmt
   between_few before stmt behind h =
-      by (joins before (select frame places needed stmt).role) (joins (select frame places needed stmt).role behind) refl
+      by (joins before (select frame places needed stmt).role) (joins (select frame places needed stmt).role behind)
+      refl
     where
       by : (one two : Bool) → joins before (select frame places needed stmt).role ≡ one →
           (if one then as_one frame places before (select frame places needed stmt).role
@@ -459,7 +456,8 @@ module _ (frame : FrameTree) (places : List Place) (needed : ℕ → Bool) where
       by false false e = h
 
   turn_small : (before : Role) (stmts : List TacStmt) → Each Small stmts → all_true (map has stmts) ≡ true →
-      (in_turn (joined frame places before (map (select frame places needed) stmts))).size ≤ total (map stmt_weight stmts)
+      (in_turn (joined frame places before (map (select frame places needed) stmts))).size ≤ total (map stmt_weight
+      stmts)
   turn_small before [] h is = omega arith
   turn_small before (stmt ∷ rest) h is =
       omega (

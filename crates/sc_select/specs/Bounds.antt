@@ -9,14 +9,16 @@ abbrev pub most_lines : ℕ
 most_lines = 262143
 
 -- Helping: statements whose jumps lead no further than they may, and whose calls have registers for their arguments
-pub record Fits (frame : FrameTree) (places : List Place) (needed : ℕ → Bool) (stmts : List TacStmt) (to_break to_continue : ℕ) : Type 0 where
+pub record Fits (frame : FrameTree) (places : List Place) (needed : ℕ → Bool) (stmts : List TacStmt)
+    (to_break to_continue : ℕ) : Type 0 where
   pub few_arguments : IsTrue (everywhere passes_few stmts)
   pub breaks : (select_all frame places needed stmts).size + to_break < most_lines
   pub continues : (select_all frame places needed stmts).size + to_continue < most_lines
 
 -- Helping: the same of a statement between two others, of which it may be part
-pub record FitsBetween (frame : FrameTree) (places : List Place) (needed : ℕ → Bool) (before : Role) (stmt : TacStmt) (behind : Role)
-    (to_break to_continue : ℕ) : Type 0 where
+pub record FitsBetween (frame : FrameTree) (places : List Place) (needed : ℕ → Bool) (before : Role) (stmt : TacStmt)
+    (behind : Role) (to_break to_continue : ℕ) : Type 0 where
   pub few_arguments : IsTrue (everywhere passes_few (stmt ∷ []))
   pub breaks : (between frame places before (select frame places needed stmt) behind).size + to_break < most_lines
-  pub continues : (between frame places before (select frame places needed stmt) behind).size + to_continue < most_lines
+  pub continues :
+      (between frame places before (select frame places needed stmt) behind).size + to_continue < most_lines

@@ -1,5 +1,5 @@
 -- A mark for each temporary.
-use Rattle.sc_tac.specs.Flow.{is_one}
+use Rattle.sc_select.specs.Common.{is_one}
 use Rattle.std.specs.Prelude.{ℕ, Bool, ◌||◌, List, slice_get, ◌≡◌}
 use Rattle.std.specs.Option.{option_map}
 

@@ -1,11 +1,10 @@
--- Which temporaries are read in their places. A store behind the statement that gives the place of a variable is one with
--- it, so that place isn't read; nor has a temporary that only such stores read a word in its place.
-use Rattle.sc_select.specs.Common.{TacStmt, TacStmt-F, fold-TacStmt}
-use Rattle.std.specs.Prelude.{ℕ, Bool, false, ◌==◌, if◌then◌else◌, List, [], ◌∷◌, ◌++◌, map, Option, None, Some, slice_get}
+-- Which temporaries are read in their places. A store behind the statement that gives the place of a variable is one
+-- with it, so that place isn't read; and a temporary that only such stores read needs no word in its place.
+use Rattle.sc_select.specs.Common.{TacStmt, TacStmt-F, fold-TacStmt, is_one, temps_read}
+use Rattle.std.specs.Prelude.{ℕ, Bool, false, ◌==◌, if◌then◌else◌, List, [], ◌∷◌, ◌++◌, map, Option, None, Some}
+use Rattle.std.specs.Prelude.{slice_get}
 use Rattle.std.specs.Option.{unwrap_or}
 use Rattle.sc_tac.specs.declared.stmt.TacStmt.TheOpen as tac
-use Rattle.sc_tac.specs.Flow.{is_one}
-use Rattle.sc_tac.specs.Parts.{temps_read}
 
 -- of a statement: what it reads wherever it stands, the temporary that gets the place of a variable, and the one that
 -- holds the place of a store

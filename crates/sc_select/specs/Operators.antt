@@ -1,11 +1,10 @@
--- The instructions of operators, by the registers of the result and of the operands. The result is written last, since it
--- may lie where an operand lies.
-use Rattle.rv_code.specs.declared.instr.Instr.TheVariants.{Shift}
+-- The instructions of operators, by the registers of the result and of the operands. The result is written last, since
+-- it may lie where an operand lies.
+use Rattle.sc_select.specs.Common.{Add, Addi, And, Andi, Div, Divu, Instr, Mul, Op, OpImm, Or, Ori, Rem, Remu, Shift}
+use Rattle.sc_select.specs.Common.{Sll, Slt, Slti, Sltiu, Sltu, Sra, Srl, Sub, TacOp, Xor, Xori, is_unsigned, mul_word}
+use Rattle.sc_select.specs.Common.{signed_of, sub_word}
 use Rattle.rv_code.specs.declared.instr.ShiftOp.TheVariants.{Slli}
 use Rattle.std.specs.Prelude.{◌==◌}
-use Rattle.sc_select.specs.Common.{Add, Addi, And, Andi, Div, Divu, Instr, Mul, Op, OpImm, Or, Ori, Rem, Remu, Sll, Slt}
-use Rattle.sc_select.specs.Common.{Slti, Sltiu, Sltu, Sra, Srl, Sub, TacOp, Xor, Xori, is_unsigned, mul_word, signed_of}
-use Rattle.sc_select.specs.Common.{sub_word}
 use Rattle.std.specs.Prelude.{ℕ, pos, negsuc, ◌*◌, ◌%◌, ◌^◌, Bool, true, false, List, [], ◌∷◌, ◌++◌, Option, None, Some}
 use Rattle.std.specs.Prelude.{if◌then◌else◌}
 use Rattle.rv_code.specs.declared.instr.OpImmOp.{OpImmOp}

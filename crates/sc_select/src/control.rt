@@ -1,7 +1,8 @@
 //! Statements in order, choices and loops.
 
-ghost use Rattle.sc_select.specs.Prelude.{Addi, Fits, has_mark, FitsBetween, IsJumpOffset, Jal, Line, OpImm, between, jump_back};
-ghost use Rattle.sc_select.specs.Prelude.{jump_over, loop_begins, most_lines, past, plain, select, select_all};
+ghost use Rattle.sc_select.specs.Prelude.{Addi, Fits, FitsBetween, IsJumpOffset, Jal, Line, OpImm, between, has_mark};
+ghost use Rattle.sc_select.specs.Prelude.{jump_back, jump_over, loop_begins, most_lines, past, plain, select};
+ghost use Rattle.sc_select.specs.Prelude.{select_all};
 ghost use Rattle.sc_tac.specs.declared.stmt.TacStmt;
 ghost use Rattle.std.specs.Prelude.{◌≡◌, ◌≤◌, ◌<◌, ◌-◌, ◌++◌, ◌∷◌, [], ℕ, OnOk, length, ◌&&◌, ◌==◌};
 
@@ -69,9 +70,11 @@ impl Backward {
         distances: Distances,
         stmts: &TacStmts,
     ) -> Result<(), OutOfMemory>
-        requires fits { Fits homes.now.frame.now homes.now.places.now (has_mark homes.now.needs.now) stmts.now distances.to_break
+        requires fits { Fits homes.now.frame.now homes.now.places.now (has_mark homes.now.needs.now) stmts.now
+            distances.to_break
             distances.to_continue }
-        ensures { OnOk result (self.new ≡ (select_all homes.now.frame.now homes.now.places.now (has_mark homes.now.needs.now) stmts.now).lines
+        ensures { OnOk result (self.new ≡ (select_all homes.now.frame.now homes.now.places.now (has_mark
+            homes.now.needs.now) stmts.now).lines
             distances.to_break distances.to_continue ++ self.old) }
     {
         let end = self.len();
@@ -83,7 +86,13 @@ impl Backward {
                 to_continue: behind + distances.to_continue,
             };
             let before = role_before(homes.needs, list, at);
-            self.between(homes, from_here, before, &list[at], role_at(homes.needs, list, at + 1))?;
+            self.between(
+                homes,
+                from_here,
+                before,
+                &list[at],
+                role_at(homes.needs, list, at + 1),
+            )?;
         }
         Ok(())
     }
@@ -98,10 +107,12 @@ impl Backward {
         stmt: &TacStmt,
         behind: Role,
     ) -> Result<(), OutOfMemory>
-        requires fits { FitsBetween homes.now.frame.now homes.now.places.now (has_mark homes.now.needs.now) before stmt.now behind
+        requires fits { FitsBetween homes.now.frame.now homes.now.places.now (has_mark homes.now.needs.now) before
+            stmt.now behind
             distances.to_break distances.to_continue }
         ensures { OnOk result (self.new ≡ (between homes.now.frame.now homes.now.places.now before
-            (select homes.now.frame.now homes.now.places.now (has_mark homes.now.needs.now) stmt.now) behind).lines distances.to_break
+            (select homes.now.frame.now homes.now.places.now (has_mark homes.now.needs.now) stmt.now) behind).lines
+            distances.to_break
             distances.to_continue ++ self.old) }
     {
         let role = role_of(homes.needs, stmt);
@@ -118,8 +129,10 @@ impl Backward {
     #[cycle(control)]
     fn part(&mut self, homes: &Homes, end: usize, part: &TacStmts) -> Result<(), OutOfMemory>
         requires behind { end ≤ length self.now }
-        requires fits { Fits homes.now.frame.now homes.now.places.now (has_mark homes.now.needs.now) part.now (length self.now - end) 0 }
-        ensures { OnOk result (self.new ≡ (select_all homes.now.frame.now homes.now.places.now (has_mark homes.now.needs.now) part.now).lines
+        requires fits { Fits homes.now.frame.now homes.now.places.now (has_mark homes.now.needs.now) part.now (length
+            self.now - end) 0 }
+        ensures { OnOk result (self.new ≡ (select_all homes.now.frame.now homes.now.places.now (has_mark
+            homes.now.needs.now) part.now).lines
             (length self.old - end) 0 ++ self.old) }
     {
         let distances = Distances {
@@ -150,9 +163,11 @@ impl Backward {
         first: &TacStmts,
         second: &TacStmts,
     ) -> Result<(), OutOfMemory>
-        requires fits { Fits homes.now.frame.now homes.now.places.now (has_mark homes.now.needs.now) (TacStmt.If cond first.now second.now ∷ [])
+        requires fits { Fits homes.now.frame.now homes.now.places.now (has_mark homes.now.needs.now) (TacStmt.If cond
+            first.now second.now ∷ [])
             distances.to_break distances.to_continue }
-        ensures { OnOk result (self.new ≡ (select homes.now.frame.now homes.now.places.now (has_mark homes.now.needs.now)
+        ensures { OnOk result (self.new ≡ (select homes.now.frame.now homes.now.places.now (has_mark
+            homes.now.needs.now)
             (TacStmt.If cond first.now second.now)).lines distances.to_break distances.to_continue ++ self.old) }
     {
         let end = self.len();
@@ -182,10 +197,12 @@ impl Backward {
         body: &TacStmts,
         next: &TacStmts,
     ) -> Result<(), OutOfMemory>
-        requires fits { Fits homes.now.frame.now homes.now.places.now (has_mark homes.now.needs.now) (TacStmt.Loop head.now body.now next.now ∷ [])
+        requires fits { Fits homes.now.frame.now homes.now.places.now (has_mark homes.now.needs.now) (TacStmt.Loop
+            head.now body.now next.now ∷ [])
             0 0 }
         ensures { (to_break to_continue : ℕ) → OnOk result (self.new ≡ (select homes.now.frame.now
-            homes.now.places.now (has_mark homes.now.needs.now) (TacStmt.Loop head.now body.now next.now)).lines to_break to_continue ++ self.old) }
+            homes.now.places.now (has_mark homes.now.needs.now) (TacStmt.Loop head.now body.now next.now)).lines
+            to_break to_continue ++ self.old) }
     {
         let end = self.len();
         self.plain(loop_begins())?;
@@ -206,9 +223,11 @@ impl Backward {
         distances: Distances,
         stmt: &TacStmt,
     ) -> Result<(), OutOfMemory>
-        requires fits { Fits homes.now.frame.now homes.now.places.now (has_mark homes.now.needs.now) (stmt.now ∷ []) distances.to_break
+        requires fits { Fits homes.now.frame.now homes.now.places.now (has_mark homes.now.needs.now) (stmt.now ∷ [])
+            distances.to_break
             distances.to_continue }
-        ensures { OnOk result (self.new ≡ (select homes.now.frame.now homes.now.places.now (has_mark homes.now.needs.now) stmt.now).lines
+        ensures { OnOk result (self.new ≡ (select homes.now.frame.now homes.now.places.now (has_mark
+            homes.now.needs.now) stmt.now).lines
             distances.to_break distances.to_continue ++ self.old) }
     {
         match stmt {

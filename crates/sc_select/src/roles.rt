@@ -2,8 +2,8 @@
 //! there or stores there, or the first sets a constant and the second is an operator that reads it and takes its
 //! temporary.
 
-ghost use Rattle.sc_select.specs.Prelude.{has_mark, joins, role_before, role_first, role_of_operation};
-ghost use Rattle.sc_select.specs.Prelude.{role_of_store, select};
+ghost use Rattle.sc_select.specs.Prelude.{has_mark, joins, role_before, role_first, role_of_operation, role_of_store};
+ghost use Rattle.sc_select.specs.Prelude.{select};
 ghost use Rattle.sc_tac.specs.declared.frame.FrameTree.{FrameTree};
 ghost use Rattle.sc_tac.specs.declared.place.Place.{Place};
 ghost use Rattle.std.specs.Prelude.{◌≡◌, ◌≤◌, List, drop, length, map};

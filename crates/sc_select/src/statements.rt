@@ -1,9 +1,10 @@
 //! Statements without others inside. Code is written from its end: what is done first is written last.
 
 ghost use Rattle.sc_select.specs.Prelude.{a0, as_one, brought, choice, copied, environment_call, keep, load_from};
-ghost use Rattle.sc_select.specs.Prelude.{loading, moved_by, object_offset, object_read, object_store, operation, place_of_global};
-ghost use Rattle.sc_select.specs.Prelude.{plainly, put, receive, result_register, return, second_operand};
-ghost use Rattle.sc_select.specs.Prelude.{short_operation, store_to, take, take_second, word_of_constant};
+ghost use Rattle.sc_select.specs.Prelude.{loading, moved_by, object_offset, object_read, object_store, operation};
+ghost use Rattle.sc_select.specs.Prelude.{place_of_global, plainly, put, receive, result_register, return};
+ghost use Rattle.sc_select.specs.Prelude.{second_operand, short_operation, store_to, take, take_second};
+ghost use Rattle.sc_select.specs.Prelude.{word_of_constant};
 ghost use Rattle.std.specs.Prelude.{◌≡◌, ◌++◌, ◌∷◌, [], ◌+◌, ◌<◌, ℕ, OnOk, Some, None, length, slice_get};
 
 use crate::backward::Backward;
@@ -197,7 +198,9 @@ impl Backward {
             (as_one homes.now.frame.now homes.now.places.now first second).lines to_break to_continue ++ self.old) }
     {
         match (first, second) {
-            (Role::Places { temp, object }, Role::Loads { .. }) => self.object_read(homes, temp, object),
+            (Role::Places { temp, object }, Role::Loads { .. }) => self.object_read(
+                homes, temp, object,
+            ),
             (Role::Places { object, .. }, Role::Stores { value, .. }) => {
                 self.object_store(homes, value, object)
             }

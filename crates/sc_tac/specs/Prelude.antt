@@ -19,7 +19,7 @@ pub use Rattle.sc_tac.specs.Intervals.{AreIntervals, Span, Within, from_here, ha
 pub use Rattle.sc_tac.specs.Intervals.{is_used, or_first, span_from}
 pub use Rattle.sc_tac.specs.Laws.{CodeObeys, WrappedCodeAgrees}
 pub use Rattle.sc_tac.specs.MachineCode.{IsCode, is_address, is_jal, is_linkable}
-pub use Rattle.sc_tac.specs.Parts.{all_true, everywhere, one_or_none, parts, with_parts}
+pub use Rattle.sc_tac.specs.Parts.{all_true, everywhere, one_or_none, parts, temps_read, with_parts}
 pub use Rattle.sc_tac.specs.Places.{ArePlaces, InSlot, IsAssignment, IsClear, IsSparing, PlacesAreClear, Share}
 pub use Rattle.sc_tac.specs.Places.{is_place, register_count}
 pub use Rattle.sc_tac.specs.Points.{Lives, Point, Set, Trail, ahead_at, function_points, if_calls, in_body, in_head}

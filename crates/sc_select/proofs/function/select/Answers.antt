@@ -1,6 +1,5 @@
 use Rattle.sc_select.proofs.Common.{CodeTree, IsCode, IsFunction, Line, List, ap, code_of, code_of_lines, entry_weight}
-use Rattle.sc_select.proofs.Common.{function_lines, length, subst, sym, weight, ◌+◌, ◌<◌, ◌^◌, ◌∙◌, ◌≡◌, ◌≤◌}
-use Rattle.sc_select.specs.Needs.{needed_in}
+use Rattle.sc_select.proofs.Common.{function_lines, length, needed_in, subst, sym, weight, ◌+◌, ◌<◌, ◌^◌, ◌∙◌, ◌≡◌, ◌≤◌}
 use Rattle.sc_select.proofs.Links.{function_code, whole_function}
 use Rattle.sc_select.proofs.Weights.{function_light, function_short}
 use Rattle.sc_select.proofs.function.select.Goals as goal
@@ -10,7 +9,8 @@ function-requires-clause-function c = subst IsFunction (sym c.tree.ensures.tree)
 
 pub read-requires : goal.read-requires
 read-requires c =
-    let lines : c.function.new.self ≡ function_lines c.args.frame.now c.args.places.now (needed_in c.args.f.now.body) c.args.f.now =
+    let lines : c.function.new.self ≡ function_lines c.args.frame.now c.args.places.now (needed_in c.args.f.now.body)
+    c.args.f.now =
     whole_function c.args.frame.now c.args.places.now c.args.f.now _ _ _ _ c.in_ok-needs.ensures c.tree.ensures.tree
     c.in_ok-function.ensures c.new-lines.ensures in
     subst (λ (l : List Line). length l < 2 ^ 32) (sym lines)
@@ -18,7 +18,8 @@ read-requires c =
 
 pub new-requires : goal.new-requires
 new-requires c =
-    let lines : c.function.new.self ≡ function_lines c.args.frame.now c.args.places.now (needed_in c.args.f.now.body) c.args.f.now =
+    let lines : c.function.new.self ≡ function_lines c.args.frame.now c.args.places.now (needed_in c.args.f.now.body)
+    c.args.f.now =
     whole_function c.args.frame.now c.args.places.now c.args.f.now _ _ _ _ c.in_ok-needs.ensures c.tree.ensures.tree
     c.in_ok-function.ensures c.new-lines.ensures in
     subst IsCode (sym (c.in_ok-read.ensures ∙ ap code_of_lines lines))
@@ -26,7 +27,8 @@ new-requires c =
 
 pub returns : goal.returns
 returns c =
-    let lines : c.function.new.self ≡ function_lines c.args.frame.now c.args.places.now (needed_in c.args.f.now.body) c.args.f.now =
+    let lines : c.function.new.self ≡ function_lines c.args.frame.now c.args.places.now (needed_in c.args.f.now.body)
+    c.args.f.now =
     whole_function c.args.frame.now c.args.places.now c.args.f.now _ _ _ _ c.in_ok-needs.ensures c.tree.ensures.tree
     c.in_ok-function.ensures c.new-lines.ensures in
     let is : c.new.result ≡ code_of c.args.f.now c.args.places.now c.args.frame.now =

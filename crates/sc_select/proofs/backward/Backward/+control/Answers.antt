@@ -1,6 +1,5 @@
-use Rattle.sc_select.specs.Needs.{has_mark}
-use Rattle.sc_select.proofs.Common.{Fits, ap, arith, on_ok_weaker, select, stmt_weight, subst, sym, weight, ◌++◌, ◌+◌}
-use Rattle.sc_select.proofs.Common.{◌-◌, ◌<◌, ◌∙◌, ◌≡◌, ◌≤◌}
+use Rattle.sc_select.proofs.Common.{Fits, ap, arith, has_mark, on_ok_weaker, select, stmt_weight, subst, sym, weight}
+use Rattle.sc_select.proofs.Common.{◌++◌, ◌+◌, ◌-◌, ◌<◌, ◌∙◌, ◌≡◌, ◌≤◌}
 use Rattle.sc_select.proofs.Composition.{cycle_heavier, fork_heavier, back_reaches, body_reaches, cycle_written}
 use Rattle.sc_select.proofs.Composition.{first_reaches, choice_returns, skip_returns, as_is, cycle_fits, head_reaches}
 use Rattle.sc_select.proofs.Composition.{next_reaches, over_first, over_reaches, over_second, second_fits, step_fits}
@@ -26,14 +25,16 @@ fork-past-requires t c =
 
 pub fork-overflow_add-over_second : goal.fork-overflow_add-over_second
 fork-overflow_add-over_second t c =
-    let reaches = over_reaches c.args.homes.now.frame.now c.args.homes.now.places.now (has_mark c.args.homes.now.needs.now) c.args.cond c.args.first.now
+    let reaches = over_reaches c.args.homes.now.frame.now c.args.homes.now.places.now (has_mark
+    c.args.homes.now.needs.now) c.args.cond c.args.first.now
     c.args.second.now _ _ c.requires.fits _ _ _ _ c.len.ensures c.len-end.ensures c.in_ok-in_order.ensures _
     c.is_skip.ensures c.if-is_skip.false _ _ c.len-2.ensures c.in_ok-past.ensures in
     omega (arith, reaches.0)
 
 pub fork-overflow_add-over_second-2 : goal.fork-overflow_add-over_second-2
 fork-overflow_add-over_second-2 t c =
-    let reaches = over_reaches c.args.homes.now.frame.now c.args.homes.now.places.now (has_mark c.args.homes.now.needs.now) c.args.cond c.args.first.now
+    let reaches = over_reaches c.args.homes.now.frame.now c.args.homes.now.places.now (has_mark
+    c.args.homes.now.needs.now) c.args.cond c.args.first.now
     c.args.second.now _ _ c.requires.fits _ _ _ _ c.len.ensures c.len-end.ensures c.in_ok-in_order.ensures _
     c.is_skip.ensures c.if-is_skip.false _ _ c.len-2.ensures c.in_ok-past.ensures in
     omega (arith, reaches.1)
@@ -74,7 +75,8 @@ statement-cycle-requires t c =
 pub statement-returns-in-Loop : goal.statement-returns-in-Loop
 statement-returns-in-Loop t c =
     on_ok_weaker c.cycle.result (λ h.
-    h ∙ ap (λ s. (select c.args.homes.now.frame.now c.args.homes.now.places.now (has_mark c.args.homes.now.needs.now) s).lines c.args.distances.to_break
+    h ∙ ap (λ s. (select c.args.homes.now.frame.now c.args.homes.now.places.now (has_mark c.args.homes.now.needs.now)
+    s).lines c.args.distances.to_break
     c.args.distances.to_continue ++ c.args.self.now) (sym c.in-Loop.is))
     (c.cycle.ensures c.args.distances.to_break c.args.distances.to_continue)
 
@@ -101,13 +103,15 @@ cycle-part-requires-3 t c = (
 
 pub cycle-jump_back-requires : goal.cycle-jump_back-requires
 cycle-jump_back-requires t c =
-    back_reaches c.args.homes.now.frame.now c.args.homes.now.places.now (has_mark c.args.homes.now.needs.now) c.args.head.now c.args.body.now
+    back_reaches c.args.homes.now.frame.now c.args.homes.now.places.now (has_mark c.args.homes.now.needs.now)
+    c.args.head.now c.args.body.now
     c.args.next.now _ _ _ _ _ _ _ _ c.len.result c.len-end.result _ _ _ c.requires.fits c.in_ok-plain.ensures
     c.in_ok-part.ensures c.in_ok-part-2.ensures c.in_ok-part-3.ensures c.len.ensures c.len-end.ensures
 
 pub cycle-returns : goal.cycle-returns
 cycle-returns t c to_break to_continue =
-    cycle_written c.args.homes.now.frame.now c.args.homes.now.places.now (has_mark c.args.homes.now.needs.now) c.args.head.now c.args.body.now
+    cycle_written c.args.homes.now.frame.now c.args.homes.now.places.now (has_mark c.args.homes.now.needs.now)
+    c.args.head.now c.args.body.now
     c.args.next.now to_break to_continue c.len.result c.len-end.result _ _ _ _ _ _ _ _ _ _ c.len.ensures
     c.len-end.ensures c.loop_begins-2.ensures c.in_ok-plain.ensures c.in_ok-part.ensures c.in_ok-part-2.ensures
     c.in_ok-part-3.ensures c.in_ok-plain-2.ensures c.jump_back.ensures c.replace.ensures
@@ -115,7 +119,8 @@ cycle-returns t c to_break to_continue =
 pub part-in_order-requires : goal.part-in_order-requires
 part-in_order-requires t c = (
   omega (arith, c.decreases),
-  subst (λ n. Fits c.args.homes.now.frame.now c.args.homes.now.places.now (has_mark c.args.homes.now.needs.now) c.args.part.now
+  subst (λ n. Fits c.args.homes.now.frame.now c.args.homes.now.places.now (has_mark c.args.homes.now.needs.now)
+      c.args.part.now
       (n - c.args.end) 0) (sym c.len.ensures) c.requires.fits,
 )
 
@@ -134,7 +139,8 @@ pub in_order-overflow_add-from_here : goal.in_order-overflow_add-from_here
 in_order-overflow_add-from_here t c =
     let reaches : (c.len.result - c.len-end.result + c.args.distances.to_break < 262143) ×
     (c.len.result - c.len-end.result + c.args.distances.to_continue < 262143) =
-    step_reaches c.args.homes.now.frame.now c.args.homes.now.places.now (has_mark c.args.homes.now.needs.now) _ _ _ _ _ _ _ _ _ c.as_slice-list.ensures
+    step_reaches c.args.homes.now.frame.now c.args.homes.now.places.now (has_mark c.args.homes.now.needs.now) _ _ _ _ _
+    _ _ _ _ c.as_slice-list.ensures
     c.requires.fits c.len.ensures c.len-end.ensures c.loop-at.invariant in
     omega (arith, reaches.0)
 
@@ -142,18 +148,21 @@ pub in_order-overflow_add-from_here-in-loop-at : goal.in_order-overflow_add-from
 in_order-overflow_add-from_here-in-loop-at t c =
     let reaches : (c.len.result - c.len-end.result + c.args.distances.to_break < 262143) ×
     (c.len.result - c.len-end.result + c.args.distances.to_continue < 262143) =
-    step_reaches c.args.homes.now.frame.now c.args.homes.now.places.now (has_mark c.args.homes.now.needs.now) _ _ _ _ _ _ _ _ _ c.as_slice-list.ensures
+    step_reaches c.args.homes.now.frame.now c.args.homes.now.places.now (has_mark c.args.homes.now.needs.now) _ _ _ _ _
+    _ _ _ _ c.as_slice-list.ensures
     c.requires.fits c.len.ensures c.len-end.ensures c.loop-at.invariant in
     omega (arith, reaches.1)
 
 pub in_order-loop-at-init : goal.in_order-loop-at-init
 in_order-loop-at-init t c =
-    none_written c.args.homes.now.frame.now c.args.homes.now.places.now (has_mark c.args.homes.now.needs.now) c.as_slice-list.result.now
+    none_written c.args.homes.now.frame.now c.args.homes.now.places.now (has_mark c.args.homes.now.needs.now)
+    c.as_slice-list.result.now
     c.args.distances.to_break c.args.distances.to_continue c.args.self.now
 
 pub in_order-loop-at-preserved : goal.in_order-loop-at-preserved
 in_order-loop-at-preserved t c =
-    step_written c.args.homes.now.frame.now c.args.homes.now.places.now (has_mark c.args.homes.now.needs.now) _ _ _ _ c.len.result c.len-end.result _ _ _ _ _
+    step_written c.args.homes.now.frame.now c.args.homes.now.places.now (has_mark c.args.homes.now.needs.now) _ _ _ _
+    c.len.result c.len-end.result _ _ _ _ _
     _ c.loop-at-test.true c.loop-at.auto.at c.index-list-at.is c.role_before-before.ensures c.role_at.ensures
     c.len.ensures c.len-end.ensures c.loop-at.invariant c.in_ok-between.ensures
 

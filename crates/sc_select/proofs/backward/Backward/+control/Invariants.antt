@@ -1,5 +1,5 @@
-use Rattle.sc_select.proofs.Common.{Other, drop, in_turn, joined, map, select, stmt_weight, weight, ◌*◌, ◌++◌, ◌+◌, ◌≡◌}
-use Rattle.sc_select.specs.Needs.{has_mark}
+use Rattle.sc_select.proofs.Common.{Other, drop, has_mark, in_turn, joined, map, select, stmt_weight, weight, ◌*◌, ◌++◌}
+use Rattle.sc_select.proofs.Common.{◌+◌, ◌≡◌}
 use Rattle.sc_select.proofs.backward.Backward.+control.Given as goal
 
 -- the statements from this one on are written
@@ -7,7 +7,8 @@ abbrev pub invariant-in_order-loop-at : goal.invariant-in_order-loop-at
 invariant-in_order-loop-at l =
     l.self ≡
     (in_turn (drop l.at (joined l.homes.frame.now l.homes.places.now Other
-    (map (select l.homes.frame.now l.homes.places.now (has_mark l.homes.needs.now)) l.list)))).lines l.distances.to_break
+    (map (select l.homes.frame.now l.homes.places.now (has_mark l.homes.needs.now)) l.list)))).lines
+    l.distances.to_break
     l.distances.to_continue ++ l.initial.self
 
 -- statements weigh no less than each of them, and more than what stands in it

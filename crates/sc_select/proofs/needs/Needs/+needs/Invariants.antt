@@ -1,6 +1,4 @@
-use Rattle.sc_select.proofs.Common.{Bool, List, drop, map}
-use Rattle.sc_select.specs.Marks.{Marked}
-use Rattle.sc_select.specs.Needs.{need, needs_of, row_needs}
+use Rattle.sc_select.proofs.Common.{Bool, List, Marked, drop, map, need, needs_of, row_needs}
 use Rattle.sc_select.proofs.needs.Needs.+needs.Given as goal
 
 -- marks that come of the ones so far by what is left come of the first ones by all

@@ -1,5 +1,5 @@
+use Rattle.sc_select.proofs.Common.{Marked}
 use Rattle.std.proofs.Common.{take}
-use Rattle.sc_select.specs.Marks.{Marked}
 use Rattle.sc_select.proofs.needs.Needs.all.Given as goal
 
 abbrev pub invariant-loop-temp : goal.invariant-loop-temp

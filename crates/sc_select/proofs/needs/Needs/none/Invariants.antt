@@ -1,5 +1,4 @@
-use Rattle.sc_select.proofs.Common.{false, ◌≡◌}
-use Rattle.std.specs.Prelude.{replicate}
+use Rattle.sc_select.proofs.Common.{false, replicate, ◌≡◌}
 use Rattle.sc_select.proofs.needs.Needs.none.Given as goal
 
 abbrev pub invariant-loop : goal.invariant-loop
