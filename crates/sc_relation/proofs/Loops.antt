@@ -197,8 +197,7 @@ module _ (T : Setting) (R : Running) (formed : IsWellFormed T.image) (words : Al
       inside x = record x { pc = L + 4 }
 
       -- one more round, as it is known of fewer, where one step leads to the head: the first instruction of the loop,
-      -- or
-      -- the jump back
+      -- or the jump back
       abbrev Rounds : ℕ → Type 0
       Rounds k = (temps : Temps) (x : Joint) (budget : ℕ) → Ready T R begin temps x →
           (first : Leads T P x (inside x) budget (h.size + head_left)) → first.steps ≡ 1 →

@@ -28,8 +28,7 @@ abbrev pub wanted : (needed live : Set) → Set
 wanted needed live t = live t && needed t
 
 -- the code of a function, of which a piece is a part: the call that runs it, the places of its temporaries, those that
--- are
--- read there, and the address of its last word
+-- are read there, and the address of its last word
 pub record Running : Type 0 where
   pub activation : Activation
   pub places : List Place

@@ -49,8 +49,7 @@ in_turn [] = nothing
 in_turn (piece ∷ pieces) = followed piece (in_turn pieces)
 
 -- two neighbours that are one piece: the second loads what stands at the place that the first gives, in place of that,
--- or
--- stores there, or its result takes the place of the constant that the first sets and its operator reads
+-- or stores there, or its result takes the place of the constant that the first sets and its operator reads
 abbrev pub joins : (first second : Role) → Bool
 joins (Places temp object) (Loads other) = temp == other
 joins (Places temp object) (Stores other value) = temp == other
