@@ -1,4 +1,8 @@
 -- Worked functions: the code of each.
+use Rattle.std.specs.Prelude.{None}
+use Rattle.sc_tac.specs.Prelude.{is_one}
+use Rattle.sc_select.specs.Prelude.{Need, function_lines, need_step, row_needs}
+use Rattle.sc_select.proofs.Common.{◌∙◌}
 use Rattle.sc_select.proofs.Common.{Addi, Bne, Bool, Branch, CodeTree, FrameTree, Function, Jal, Jalr, List, Load, Lw}
 use Rattle.sc_select.proofs.Common.{Op, OpImm, Piece, Place, Register, Slot, Some, Store, Sub, Sw, [], ap, closing}
 use Rattle.sc_select.proofs.Common.{code_of, code_of_lines, entrance, frame_of, in_order, needed_in, negsuc, plainly}
@@ -20,7 +24,10 @@ framed plan places = frame_of plan.objects places
 
 -- which temporaries its code reads in their places
 abbrev pub needed_by : Plan → ℕ → Bool
-needed_by plan = needed_in (function plan).body
+needed_by plan t = is_one t (row_needs None (rows Need need_step plan.body))
+
+needs_are : (plan : Plan) → needed_in (function plan).body ≡ needed_by plan
+needs_are plan = λ i t. is_one t (row_needs None (rows_are Need need_step plan.body i))
 
 abbrev pub pieces_of : Plan → List Place → List Piece
 pieces_of plan places = rows Piece (select_step (framed plan places) places (needed_by plan)) plan.body
@@ -28,6 +35,7 @@ pieces_of plan places = rows Piece (select_step (framed plan places) places (nee
 pub code_is : (plan : Plan) (places : List Place) → code_of (function plan) places (framed plan places) ≡
     planned (framed plan places) places plan (pieces_of plan places)
 code_is plan places =
+    ap (λ needed. code_of_lines (function_lines (framed plan places) places needed (function plan))) (needs_are plan) ∙
     ap (planned (framed plan places) places plan)
     (rows_are Piece (select_step (framed plan places) places (needed_by plan)) plan.body)
 
