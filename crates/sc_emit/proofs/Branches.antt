@@ -596,7 +596,7 @@ module _ (frame : FrameTree) (places : List Place) (needed : ℕ → Bool) where
   -- the lines of a function
   pub function_passes : (test : Line → Bool) → IsMild test → (f : TacFnTree) →
       PassesAll test (select_all frame places needed f.body) → list_all test (function_lines frame places needed f) ≡
-          true
+      true
   function_passes test mild f h =
       let front : List Line = plainly (entrance frame places f.params) in
       let body : List Line = (select_all frame places needed f.body).lines 0 0 in
@@ -625,8 +625,12 @@ module _ (frame : FrameTree) (places : List Place) (needed : ℕ → Bool) where
 pub few_branches : (f : TacFnTree) (places : List Place) (frame : FrameTree) →
     code_branches (code_of f places frame) ≤ branches f.body
 few_branches f places frame =
-    omega (arith, count_is (function_lines frame places (needed_in f.body) f), function_count frame places (needed_in
-        f.body) f)
+    omega (
+      arith,
+      count_is (function_lines frame places (needed_in f.body) f),
+      function_count frame places (needed_in
+          f.body) f,
+    )
 
 all_sound : (f : TacFnTree) (places : List Place) (frame : FrameTree) →
     list_all {X = Instr} is_sound (code_of f places frame).instrs ≡ true
@@ -1234,7 +1238,7 @@ module _ (frame : FrameTree) (places : List Place) (needed : ℕ → Bool) (ther
       let c = all_true (map few_inside next) in
       let rest = and_rest a (b && (c && true)) all in
       cycle_encodable (select_all frame places needed head) (select_all frame places needed body) (select_all frame
-          places needed next)
+      places needed next)
       (row_encodable head h.0 (and_first a (b && (c && true)) all))
       (row_encodable body h.1 (and_first b (c && true) rest))
       (row_encodable next h.2 (and_first c true (and_rest b (c && true) rest)))

@@ -358,7 +358,7 @@ module _ (T : Setting) (R : Running) (formed : IsWellFormed T.image) (inputs : A
         ((vs : List Value) (s : Meant) → Answers dest (calls A.here.comp (Own function) vs s)) →
         Follows T R (code_step wrapping A.here calls (tac.CallOwn dest function args))
         (select_step frame R.places R.needed (tac.CallOwn dest function args)) (trail_step (tac.CallOwn dest function
-            args))
+        args))
     call_own_follows gapless function args few needs below made answers =
         let before : List Instr = pass frame R.places a0 args in
         linked_follows T R (code_step wrapping A.here calls (tac.CallOwn dest function args))

@@ -370,7 +370,7 @@ module _ (T : Setting) (R : Running) (formed : IsWellFormed T.image) (inputs : A
             ready = ready;
             clear =
                 all_front (IsClear R.places) (row_points fs lives) (row_points ss lives) (clear_parts lives
-                    starts.clear);
+                starts.clear);
             stands =
                 subst (λ pc. StandsAt T R pc first (farther to_break) (farther to_continue)) (sym place) code.of_first;
             breaks = omega (arith, place, starts.breaks, test_is);
@@ -399,7 +399,7 @@ module _ (T : Setting) (R : Running) (formed : IsWellFormed T.image) (inputs : A
             ready = a.ready;
             clear =
                 all_back (IsClear R.places) (row_points fs lives) (row_points ss lives) (clear_parts lives
-                    starts.clear);
+                starts.clear);
             stands = subst (λ pc. StandsAt T R pc second to_break to_continue) (sym there) code.of_second;
             breaks = omega (arith, there, starts.breaks, test_is);
             continues = omega (arith, there, starts.continues, test_is);
@@ -468,7 +468,7 @@ module _ (T : Setting) (R : Running) (formed : IsWellFormed T.image) (inputs : A
               ready = ready;
               clear =
                   all_front (IsClear R.places) (row_points fs lives) (row_points ss lives) (clear_parts lives
-                      starts.clear);
+                  starts.clear);
               stands = none_stand y.pc (first.lines to_break to_continue) (F.sized to_break to_continue ∙ empty);
               breaks = omega (arith, place, starts.breaks, test_is, empty, single);
               continues = omega (arith, place, starts.continues, test_is, empty, single);
@@ -489,7 +489,7 @@ module _ (T : Setting) (R : Running) (formed : IsWellFormed T.image) (inputs : A
               ready = ready;
               clear =
                   all_back (IsClear R.places) (row_points fs lives) (row_points ss lives) (clear_parts lives
-                      starts.clear);
+                  starts.clear);
               stands = subst (λ pc. StandsAt T R pc second to_break to_continue) there in_two.back;
               breaks = omega (arith, place, starts.breaks, test_is);
               continues = omega (arith, place, starts.continues, test_is);
@@ -501,7 +501,7 @@ module _ (T : Setting) (R : Running) (formed : IsWellFormed T.image) (inputs : A
         short_comes =
             does_comes lives temps x (short.size + left) short_ends starts.ready
             (chooses_at x.pc (plainly_at (T.addresses comp) T.image comp x.pc (choice frame R.places cond)
-                in_two.front))
+            in_two.front))
             (omega (arith, starts.breaks, test_is, single)) (first.size + left) (second.size + left)
             (omega (arith, test_is, count_is, empty)) (omega (arith, test_is, count_is)) on_first on_second
 

@@ -78,7 +78,7 @@ module _ (T : Setting) (R : Running) (formed : IsWellFormed T.image) (inputs : A
       All (IsClear R.places) (plain_points (left ∷ []) false (Some dest) lives)
   clear_behind lives clear =
       let first : Point = point false (λ t. is_one t (left ∷ []) || live_across (left ∷ []) false (Some dest) lives t)
-          in
+      in
       let last : Point = record { assigned = Some dest; calls = false; live = lives.behind } in
       All-cons (IsClear R.places) first (last ∷ [])
       (fewer_clear R.places
@@ -147,7 +147,7 @@ module _ (T : Setting) (R : Running) (formed : IsWellFormed T.image) (inputs : A
         let h : AtHand T R x x.regs first_scratch left v =
         brings T R x cells nodes is placed ready.frame ready.sp x.regs first_scratch left v first_is
         (ready.held left v (and_from (live_at both_steps lives left) (R.needed left) on need) known) refl (λ q k. refl)
-            in
+        in
         let w : IsResult rd = result_is R placed dest place its in
         let piece : Computes T.image T.inputs (world T R x) (short_code rd rs (Some form)) [] h.after x.bytes rd
         (op_word o h.word word) =
@@ -171,7 +171,7 @@ module _ (T : Setting) (R : Running) (formed : IsWellFormed T.image) (inputs : A
 
     pub short_follows :
         Follows T R applies (straightly frame R.places (short_operation frame R.places dest left (Some form)))
-            both_steps
+        both_steps
     short_follows =
         straight_follows T R applies whole both_steps applies_goes
         (λ lives temps x n ready clear at ends e f.

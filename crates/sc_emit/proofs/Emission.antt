@@ -81,7 +81,7 @@ module _ (f : TacFnTree) (places : List Place) (frame : FrameTree) (rules : IsFu
         let R : Running = in_call T f frame places A last in
         let size : (select_all A.frame places (needed_in f.body) f.body).size ≤ T.turn_pays =
         subst (λ (frame : FrameTree). (select_all frame places (needed_in f.body) f.body).size ≤ T.turn_pays) (sym
-            run.frame_is)
+        run.frame_is)
         (omega (arith, body_within, all_instrs, is.paid)) in
         let reached : AreReached T A.here.comp is.function is.entry is.global =
         subst (λ c. AreReached T c is.function is.entry is.global) (sym run.comp_is) is.reached in
@@ -90,7 +90,7 @@ module _ (f : TacFnTree) (places : List Place) (frame : FrameTree) (rules : IsFu
         let temps : everywhere (names_own_temps (length places)) f.body ≡ true =
         subst (λ n. everywhere (names_own_temps n) f.body ≡ true) temps_are rules.own_temps in
         subst (λ frame. Follows T R (code_does wrapping A.here calls f.body) (select_all frame places (needed_in f.body)
-            f.body)
+        f.body)
         (row (map trail f.body))) run.frame_is
         (body_follows T R is.image is.inputs f.objects f.nodes run.is (all_placed A last run.frame_is) gapless calls
         follow
@@ -128,7 +128,7 @@ module _ (f : TacFnTree) (places : List Place) (frame : FrameTree) (rules : IsFu
   enters : Front (frame_taken frame.bytes) code.instrs
   enters =
       let later : List Line = (select_all frame places (needed_in f.body) f.body).lines 0 0 ++ plainly (closing frame
-          places f.entry) in
+      places f.entry) in
       let stores : List Instr = store_arguments frame places f.params 0 in
       let instr : Line → Instr = λ line. line.instr in
       record {

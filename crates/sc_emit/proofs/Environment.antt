@@ -61,7 +61,7 @@ module _ (T : Setting) (R : Running) (formed : IsWellFormed T.image) (inputs : A
 
     asks_prepared : (target : CallTarget) (number : ℕ) (dest : Option ℕ) (args : List ℕ) → length args ≤ 1 →
         list_all R.needed args ≡ true → number < 2 ^ 32 → IsAsked target number →
-            (lives : Lives) (temps : Temps) (x : Joint) →
+        (lives : Lives) (temps : Temps) (x : Joint) →
         Ready T R (live_plain args dest lives) temps x →
         CodeAt T.image A.here.comp x.pc (asking number dest args) → (vs : List Value) → AreRead temps args vs →
         Prepares T R formed inputs cells nodes is placed target x (pass frame R.places a0 args ++ ask number) vs
@@ -97,7 +97,7 @@ module _ (T : Setting) (R : Running) (formed : IsWellFormed T.image) (inputs : A
     pub input_follows : (dest : Option ℕ) → HasPlace R.places dest → T.makes A.here.comp Input 0 ≡ true →
         ((vs : List Value) (s : Meant) → Answers dest (calls A.here.comp Input vs s)) →
         Follows T R (code_step wrapping A.here calls (tac.Input dest)) (select_step frame R.places R.needed (tac.Input
-            dest))
+        dest))
         (trail_step (tac.Input dest))
     input_follows dest there made answers =
         straight_follows T R (code_step wrapping A.here calls (tac.Input dest))
@@ -112,7 +112,7 @@ module _ (T : Setting) (R : Running) (formed : IsWellFormed T.image) (inputs : A
 
     pub output_follows : (value : ℕ) → list_all R.needed (value ∷ []) ≡ true → T.makes A.here.comp Output 1 ≡ true →
         Follows T R (code_step wrapping A.here calls (tac.Output value)) (select_step frame R.places R.needed
-            (tac.Output value))
+        (tac.Output value))
         (trail_step (tac.Output value))
     output_follows value needs made =
         let first : List Instr = brought frame a0 (place_of frame R.places value) in

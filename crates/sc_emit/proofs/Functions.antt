@@ -158,7 +158,7 @@ module _ (T : Setting) (f : TacFnTree) (frame : FrameTree) (places : List Place)
   BodyFollows comp =
       (calls : Calls) → CallsFollow T calls → (A : Activation) (last : ℕ) → IsRun comp A → HasNoGap T (in_call A last) →
       Follows T (in_call A last) (code_does wrapping A.here calls f.body) (select_all frame places (needed_in f.body)
-          f.body)
+      f.body)
       (row (map trail f.body))
 
   -- the code of the closing brace comes to the jump back
@@ -360,7 +360,7 @@ module _ (T : Setting) (f : TacFnTree) (frame : FrameTree) (places : List Place)
             (function_follows T formed inputs P function args address ra_is x begins frame places f.nodes low whole room
             room.bounded bound_is start steps (x.pc + 4 * steps) entering.regs entering.bytes entering.enters
             (λ o n less e. variables_some (length args) o n long less e) end (needed_in f.body) (body.size + left) value
-                closes)
+            closes)
 
       call_follows : BodyFollows P.comp → BraceReturns P.comp → Goal
       call_follows runs way =

@@ -68,7 +68,7 @@ module _ (T : Setting) (R : Running) (formed : IsWellFormed T.image) (inputs : A
           let h : AtHand T R x g.after second_scratch right w =
           brings T R x cells nodes is placed ready.frame ready.sp g.after second_scratch right w second_is
           (ready.held right w (and_from (live right) (R.needed right) on' need') known') same (λ q k. g.others q
-              (k.first, (k.address, tt))) in
+          (k.first, (k.address, tt))) in
           record {
             one = g.word;
             two = h.word;
@@ -419,7 +419,7 @@ module _ (T : Setting) (R : Running) (formed : IsWellFormed T.image) (inputs : A
           list_all R.needed (left_one ∷ one_or_none right) ≡ true →
           Follows T R (code_step wrapping R.activation.here calls (tac.Op dest o left_one right))
           (select_step frame R.places R.needed (tac.Op dest o left_one right)) (trail_step (tac.Op dest o left_one
-              right))
+          right))
       op_follows None count for needs =
           with_role T R (code_step wrapping R.activation.here calls (tac.Op dest o left_one None))
           (straightly frame R.places (Whole None)) Other (trail_step (tac.Op dest o left_one None))

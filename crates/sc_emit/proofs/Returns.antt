@@ -144,7 +144,7 @@ module _ (T : Setting) (R : Running) (formed : IsWellFormed T.image) (inputs : A
         (brought frame a0 (place_of frame R.places t)) a0 v =
         brings T R cells nodes is placed x ready.frame ready.sp x.regs a0 t v
         (record { above = omega arith; below = omega arith }) (ready.held t v (and_from (live t) (R.needed t) on need)
-            known) refl
+        known) refl
         (λ q h. refl) in
         record {
           after = b.piece.after;
@@ -174,11 +174,11 @@ module _ (T : Setting) (R : Running) (formed : IsWellFormed T.image) (inputs : A
         comes_read T R lives x budget ends A.here t temps (λ v s. leave (Return (Some v)) temps s)
         (λ v known. inl (leaves_with live temps x ready before (Some v) budget
         (puts t v live temps x ready (rw (eq-eqb t t refl) refl) (and_first (R.needed t) true needs) known) (omega
-            arith) code))
+        arith) code))
 
     pub return_follows : (value : Option ℕ) → list_all R.needed (one_or_none value) ≡ true →
         Follows T R (code_step wrapping A.here calls (tac.Return value)) (select_step frame R.places R.needed
-            (tac.Return value))
+        (tac.Return value))
         (trail_step (tac.Return value))
     return_follows value needs =
         straight_follows T R (code_step wrapping A.here calls (tac.Return value)) (return frame R.places value)

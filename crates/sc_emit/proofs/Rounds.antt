@@ -159,7 +159,7 @@ module _ (frame : FrameTree) (places : List Place) (needed : ℕ → Bool) where
       read : IsRead (select frame places needed stmt).role behind → IsCodeOf stmt (lines_of [])
       read pair =
           subst (λ s. IsCodeOf s (lines_of [])) (sym (gives_place frame places needed stmt pair.temp pair.object
-              pair.gives))
+          pair.gives))
           (by_lines (tac.ObjectPlace pair.temp pair.object) [] refl refl)
 
       store : IsStored (select frame places needed stmt).role behind → IsCodeOf stmt (lines_of [])
@@ -178,7 +178,7 @@ module _ (frame : FrameTree) (places : List Place) (needed : ℕ → Bool) where
       IsCodeOf stmt (between frame places before (select frame places needed stmt) behind)
   between_lies before stmt behind h =
       by (joins before (select frame places needed stmt).role) (joins (select frame places needed stmt).role behind)
-          refl refl
+      refl refl
     where
       by : (one two : Bool) → joins before (select frame places needed stmt).role ≡ one →
           joins (select frame places needed stmt).role behind ≡ two →
@@ -190,7 +190,7 @@ module _ (frame : FrameTree) (places : List Place) (needed : ℕ → Bool) where
 
   turn_lies : (before : Role) (stmts : List TacStmt) → Each Lies stmts → (b c : ℕ) →
       HaveCode stmts (instrs_of ((in_turn (joined frame places before (map (select frame places needed) stmts))).lines b
-          c))
+      c))
   turn_lies before [] h b c = empty
   turn_lies before (stmt ∷ rest) h b c =
       let behind : Piece =
@@ -263,17 +263,17 @@ module _ (frame : FrameTree) (places : List Place) (needed : ℕ → Bool) where
   if_lies cond first second hf hs =
       subst (λ stmt. IsCodeOf stmt (fork frame places cond (map (select frame places needed) first) (map (select frame
       places needed) second))) (rolled_if cond first second) (by (length (map (select frame places needed) first) == 0
-          &&
+      &&
       (select_all frame places needed second).size == 1) refl)
     where
       by : (found : Bool) → (length (map (select frame places needed) first) == 0 &&
           (select_all frame places needed second).size == 1) ≡ found → IsCodeOf (emit.If cond first second) (if found
           then skipping frame places cond (select_all frame places needed second)
           else choosing frame places cond (select_all frame places needed first) (select_all frame places needed
-              second))
+          second))
       by true is =
           let none : first ≡ [] = is_empty first (sym (ap (λ n. n == 0) (length-map first (select frame places needed)))
-              ∙
+          ∙
           and_first (length (map (select frame places needed) first) == 0) _ is) in
           subst (λ stmts. IsCodeOf (emit.If cond stmts second)
           (skipping frame places cond (select_all frame places needed second))) (sym none) (second_lies cond second hs)
@@ -324,7 +324,7 @@ module _ (frame : FrameTree) (places : List Place) (needed : ℕ → Bool) where
 
   layer_lies : (layer : TacStmt-F TacStmt) → Inside Lies layer →
       IsCodeOf (roll-TacStmt layer) (select_step frame places needed (map-TacStmt _ _ (select frame places needed)
-          layer))
+      layer))
   layer_lies (tac.Const dest value) h =
       in_role (roll-TacStmt (tac.Const dest value)) (Sets dest (word_of_constant value)) _
       (by_instrs (tac.Const dest value) _ refl (loaded_straight frame places dest (word_of_constant value)))

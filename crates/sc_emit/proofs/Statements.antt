@@ -176,7 +176,7 @@ module _ (T : Setting) (R : Running) (formed : IsWellFormed T.image) (inputs : A
   -- the operator of a temporary and a constant
   short_follows_here : (dest left : ℕ) (value : Constant) (o : TacOp) (form : ShortForm) →
       (apart : (left == dest) ≡ false) (read : R.needed left ≡ true) → short_form o (word_of_constant value) ≡ Some form
-          →
+      →
       PassesAll tests (roll-TacStmt (tac.Const dest value)) →
       PassesAll tests (roll-TacStmt (tac.Op dest o left (Some dest))) →
       Follows T R (applies T R formed inputs cells nodes is placed calls dest left value o apart read)
@@ -308,13 +308,13 @@ module _ (T : Setting) (R : Running) (formed : IsWellFormed T.image) (inputs : A
           (straightly frame R.places
           (short_operation frame R.places pair.temp pair.left (short_form pair.op (word_of_constant first.value))))
           (applies T R formed inputs cells nodes is placed calls pair.temp pair.left first.value pair.op second.apart
-              wants)
+          wants)
           (both_steps T R formed inputs cells nodes is placed calls pair.temp pair.left first.value pair.op second.apart
-              wants)
+          wants)
           first.is second.is c1
           (c2 ∙ ap₂ (as_one frame R.places) pair.sets pair.operates ∙
           ap (λ w. straightly frame R.places (short_operation frame R.places pair.temp pair.left (short_form pair.op
-              w)))
+          w)))
           word_is)
           (short_follows_here pair.temp pair.left first.value pair.op pair.form second.apart wants
           (ap (short_form pair.op) first.word_is ∙ pair.form_is) (subst (PassesAll tests) first.is pass)
@@ -323,7 +323,7 @@ module _ (T : Setting) (R : Running) (formed : IsWellFormed T.image) (inputs : A
   either_way : (before : Role) (stmt next : TacStmt) (rest : List TacStmt) → joins before (code stmt).role ≡ false →
       ((code stmt).size ≤ T.turn_pays → Follows T R (does stmt) (code stmt) (trail stmt)) → PassesAll tests stmt →
       PassesAll tests next → AllNeeded (need next).reads → (joins (code stmt).role (code next).role ≡ false →
-          Row (code stmt).role (next ∷ rest)) →
+      Row (code stmt).role (next ∷ rest)) →
       (joins (code next).role (role_first (map code rest)) ≡ false → Row (code next).role rest) →
       Row before (stmt ∷ next ∷ rest)
   either_way before stmt next rest none first pass pass' reads_next later behind =
@@ -373,7 +373,7 @@ module _ (T : Setting) (R : Running) (formed : IsWellFormed T.image) (inputs : A
       (first_passes tests stmt (next ∷ rest) pass) (first_passes tests next rest behind) later.reads
       (λ alone few. row_from (code stmt).role (next ∷ rest) each.1 behind parts.behind alone few)
       (λ alone few. row_from (code next).role rest each.1.1 (rest_pass tests next rest behind) later.behind alone few)
-          few
+      few
 
   row_of : (stmts : List TacStmt) → Each Followed stmts → AllPass tests stmts →
       AllNeeded (row_needs None (map need stmts)) →
@@ -501,7 +501,7 @@ module _ (T : Setting) (R : Running) (formed : IsWellFormed T.image) (inputs : A
       let second = all_append R.needed (row_needs None (map need body)) (row_needs None (map need next)) first.1 in
       loop_follows T R formed inputs (all_do (map does head)) (all_do (map does body)) (all_do (map does next))
       (in_order frame R.places (map code head)) (in_order frame R.places (map code body)) (in_order frame R.places (map
-          code next)) (map trail head) (map trail body)
+      code next)) (map trail head) (map trail body)
       (map trail next) (row_of head each pass.0 first.0 (omega (arith, few)))
       (row_of body each' pass.1 second.0 (omega (arith, few)))
       (row_of next each'' pass.2 second.1 (omega (arith, few))) gapless few
@@ -566,7 +566,7 @@ module _ (T : Setting) (R : Running) (formed : IsWellFormed T.image) (inputs : A
       (select_all frame R.places R.needed
       stmts).size ≤ T.turn_pays →
       Follows T R (code_does wrapping here calls stmts) (select_all frame R.places R.needed stmts) (row (map trail
-          stmts))
+      stmts))
   body_follows stmts pass needs few = row_of stmts (every stmts) pass needs few
     where
       every : (stmts : List TacStmt) → Each Followed stmts

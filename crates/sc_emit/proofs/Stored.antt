@@ -134,7 +134,7 @@ module _ (T : Setting) (R : Running) (formed : IsWellFormed T.image) (inputs : A
         } in
         let not_address : rs ≢ 7 = ⊎_elim (λ e. (λ f. omega (arith, e, f))) (λ k. k.address) h.its in
         let piece : Stores T.image T.inputs (world T R x) (store_word rs offset) (7 ∷ []) h.after x.bytes address h.word
-            =
+        =
         stores_word T.image T.inputs (world T R x) x.bytes h.after rs offset address h.word h.below not_address h.result
         from_sp in
         let its : take frame R.places second_scratch value ++ store_word rs offset ≡ code =

@@ -163,7 +163,7 @@ module _ (image : ImageParts) (inputs : List ℕ) (world : World) (memory : Memo
       by : (one : Bool) → (cells == 1) ≡ one →
           Computes image inputs world (if one then Shift Slli second_scratch right 2 ∷ []
           else loading address_scratch (bytes_of cells) ++ Op Mul second_scratch right address_scratch ∷ []) (7 ∷ [])
-              regs
+          regs
           memory 6 (mul_word b (bytes_of cells))
       by true e =
           let four : bytes_of cells ≡ 4 = ap bytes_of (eqb-true cells 1 e) in

@@ -389,7 +389,7 @@ module _ (T : Setting) (R : Running) where
       held = held_over_call A R.places x.inj y.inj x.regs y.regs x.bytes y.bytes (effect.grows A.here.comp)
           (wanted R.needed live) (record point { live = wanted R.needed point.live }) temps
           (clear_wanted R.places R.needed point clear) calls (wanted_less R.needed point.live live fewer) (λ k offset e.
-              own_same (suc k) offset ready.frame e) ready.held;
+          own_same (suc k) offset ready.frame e) ready.held;
       sp = same ∙ ready.sp;
     }
 
