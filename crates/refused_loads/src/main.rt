@@ -1,5 +1,5 @@
-//! Loads an image. The status is 0 where it is loaded, 9 where memory is wanting and the image comes back as it was, and
-//! 1 where another comes back. `tools/refuse_allocations.py` refuses each allocation of it in turn.
+//! Loads an image. The status is 0 where it is loaded, 9 where memory is wanting and the image comes back as it was,
+//! and 1 where another comes back. `tools/refuse_allocations.py` refuses each allocation of it in turn.
 #![tactic(auto)]
 
 use sc_image::{Image, ImageFault, read_image, write_image};

@@ -12,8 +12,8 @@ use crate::table::{
     AUIPC, BRANCH, EBREAK_WORD, ECALL_WORD, FENCE, JAL, JALR, LOAD, LUI, OP, OP_IMM, STORE,
 };
 
-/// The instruction of a word, if the word is one of RV32IM. It stands in the loop that decodes, so that no instruction is
-/// built there in memory.
+/// The instruction of a word, if the word is one of RV32IM. It stands in the loop that decodes, so that no instruction
+/// is built there in memory.
 #[inline(always)]
 pub fn decode(word: u32) -> Option<Instr>
     ensures same { result ≡ decoded word }

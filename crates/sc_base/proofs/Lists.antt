@@ -1,4 +1,5 @@
--- Lists: elements at their places, fronts and rests, one step of a loop, the first or the only one that passes, and maps.
+-- Lists: elements at their places, fronts and rests, one step of a loop, the first or the only one that passes, and
+-- maps.
 use Rattle.sc_base.proofs.Common.{All, Bool, List, None, Some, [], add-one, and_from, and_parts, ap, arith, cases_lt}
 use Rattle.sc_base.proofs.Common.{cond, drop, drop-cons, false, find, get_or, if◌then◌else◌, length, list_all, lt-ltb}
 use Rattle.sc_base.proofs.Common.{ltb, map, nat_lt, not, position, position_or_len, refl, slice_get, subst, suc, sym}

@@ -23,7 +23,8 @@ rising_at (s ∷ slots) from made (suc place) slot up h =
     (omega (arith, up.0, later.0), later.1)
 
 -- past a block of another number
-pub skipped : (s : Slot) (slots : List Slot) (n : ℕ) → (s.number ≡ n → ⊥) → cells_among (s ∷ slots) n ≡ cells_among slots n
+pub skipped : (s : Slot) (slots : List Slot) (n : ℕ) → (s.number ≡ n → ⊥) →
+    cells_among (s ∷ slots) n ≡ cells_among slots n
 skipped s slots n other = ap (λ b. if b then Some s.cells else cells_among slots n) (ne_eqb s.number n other)
 
 first_is : (s : Slot) (slots : List Slot) (b : Bool) → (s.number == s.number) ≡ b →
@@ -32,7 +33,8 @@ first_is s slots true is = refl
 first_is s slots false is = absurd (eqb-false s.number s.number is refl)
 
 met : (s : Slot) (slots : List Slot) (n : ℕ) → s.number ≡ n → cells_among (s ∷ slots) n ≡ Some s.cells
-met s slots n is = subst (λ m. cells_among (s ∷ slots) m ≡ Some s.cells) is (first_is s slots (s.number == s.number) refl)
+met s slots n is = subst (λ m. cells_among (s ∷ slots) m ≡ Some s.cells) is
+    (first_is s slots (s.number == s.number) refl)
 
 -- the block at a place is the one of its number
 pub found_at : (slots : List Slot) (from made place : ℕ) (slot : Slot) (n : ℕ) → IsRising from made slots →
@@ -62,7 +64,8 @@ rising_push (t ∷ slots) from made s up is = (up.0, rising_push slots (suc t.nu
 pub old_found : (slots : List Slot) (made : ℕ) (s : Slot) (n : ℕ) → s.number ≡ made → n < made →
     cells_among (slots ++ s ∷ []) n ≡ cells_among slots n
 old_found [] made s n is h = skipped s [] n (λ same. absurd (omega (arith, same, is, h)))
-old_found (t ∷ slots) made s n is h = ap (λ o. if t.number == n then Some t.cells else o) (old_found slots made s n is h)
+old_found (t ∷ slots) made s n is h = ap (λ o. if t.number == n then Some t.cells else o)
+    (old_found slots made s n is h)
 
 pub new_found : (slots : List Slot) (from made : ℕ) (s : Slot) → IsRising from made slots → s.number ≡ made →
     cells_among (slots ++ s ∷ []) made ≡ Some s.cells

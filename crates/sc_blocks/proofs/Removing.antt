@@ -46,7 +46,13 @@ at_least (s ∷ slots) from made number (suc place) d up h low =
 pub below_order : (slots : List Slot) (first end : ℕ) → first ≤ end → count_below first slots ≤ count_below end slots
 below_order [] first end h = omega arith
 below_order (s ∷ slots) first end h = elim (cases_lt s.number first) [
-  | inl low ↦ omega (arith, below first s slots low, below end s slots (omega (arith, low, h)), below_order slots first end h)
+  | inl low ↦ omega (
+    arith,
+    below first s slots low,
+    below end s slots (omega (arith, low, h)),
+    below_order slots
+        first end h,
+  )
   | inr high ↦ omega (arith, not_below first s slots high)
 ]
 
@@ -75,7 +81,8 @@ removed (s ∷ slots) from made first end order up =
     let later = removed slots (suc s.number) made first end order up.1 in
     let b = count_below end slots in
     elim (cases_lt s.number first) [
-      | inl low ↦ (λ i. remove_range (s ∷ slots) (below first s slots low i) (below end s slots (omega (arith, low, order)) i))
+      | inl low ↦ (λ i. remove_range (s ∷ slots) (below first s slots low i)
+          (below end s slots (omega (arith, low, order)) i))
           ∙ ap (λ ts. s ∷ ts) later ∙ sym (kept_low first end s slots low)
       | inr h ↦
           let none = none_below slots (suc s.number) made first up.1 (omega (arith, h)) in

@@ -36,9 +36,11 @@ between slots from made n place up parted =
     none_found slots n (λ k d h same. by_test k d h same (nat_lt k place) refl) where
       parts : IsPartitionPoint (λ (slot : Slot). nat_cmp slot.number n ≡ Less)
           (λ (slot : Slot). nat_cmp slot.number n ≡ Greater) slots place
-      parts = parted (searchable_from_sorted nat_cmp_total (λ (slot : Slot). slot.number) slots n (sorted slots from made up))
+      parts = parted (searchable_from_sorted nat_cmp_total (λ (slot : Slot). slot.number) slots n
+          (sorted slots from made up))
 
-      by_test : (k : ℕ) (d : Slot) → k < length slots → (get_or slots k d).number ≡ n → (b : Bool) → nat_lt k place ≡ b → ⊥
+      by_test : (k : ℕ) (d : Slot) → k < length slots → (get_or slots k d).number ≡ n → (b : Bool) →
+          nat_lt k place ≡ b → ⊥
       by_test k d h same true is =
           let less = ranked (get_or slots k d).number n Less (sym (parts.0 k d (omega arith) (ltb-true k place is))) in
           omega (arith, less, same)

@@ -14,8 +14,8 @@ use sc_core::{Cell, Pointer};
 use std::alloc::{AllocError, Global};
 use std::marker::Model;
 
-/// The blocks of one compartment, in the order in which they were made. Those alone that live take memory. Contracts see
-/// all of them.
+/// The blocks of one compartment, in the order in which they were made. Those alone that live take memory. Contracts
+/// see all of them.
 #[derive(Drop)]
 pub struct Row {
     slots: Vec<Slot>,

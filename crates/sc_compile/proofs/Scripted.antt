@@ -42,7 +42,8 @@ module _ (program : ProgramTree) (typed : IsWellTyped program) (set : Set) (inpu
   cut = scripted_by c_arith program set shown inputs turns (length shown)
 
   -- what the code keeps to its program keeps to
-  program_keeps : KeepsTo shown (scripted_code_run wrapping (lowered_program program) inputs turns set shown).behaviour →
+  program_keeps : KeepsTo shown (scripted_code_run wrapping (lowered_program program) inputs turns set
+      shown).behaviour →
       KeepsTo shown whole.behaviour
   program_keeps keeps =
       keeps_along shown whole (scripted_code_run c_arith (lowered_program program) inputs turns set shown)

@@ -41,8 +41,8 @@ ShowsNothingElse program image = (inputs : List ℕ) (steps events : ℕ) → Al
     let meant = meaning program inputs steps events in
     Front shown meant.trace ⊎ (IsBlamed meant.end × Front meant.trace shown)
 
--- A run in which a set performs its part of a trace tells the trace, or it is blamed before on a compartment of so many,
--- outside of the set.
+-- A run in which a set performs its part of a trace tells the trace, or it is blamed before on a compartment of so
+-- many, outside of the set.
 abbrev pub TellsOrBlames : (count : ℕ) → Set → List Event → SourceRun → Type 0
 TellsOrBlames count set trace run =
     (run.trace ≡ trace) ⊎ (IsBlamedOutside count set run trace × (length run.trace < length trace))

@@ -35,7 +35,8 @@ pub data Piece (V : Type 0) : Type 0 where
   Reached : V → State → Piece V
   Stopped : RunEnd → State → Piece V
 
--- an end that a piece of a run may come to: `Ended` is told of a whole run alone, and `EventsOut` of one that is stopped
+-- an end that a piece of a run may come to: `Ended` is told of a whole run alone, and `EventsOut` of one that is
+-- stopped
 abbrev pub IsStop : RunEnd → Type 0
 IsStop Ended = ⊥
 IsStop (Blamed comp cause line) = Unit {0}

@@ -109,7 +109,8 @@ module _ (scope : Scope) where
       place t (is_address j && (is_int k && is_type (target (decayed a.ty)) t)) ≡
       judged scope (record { ty = t; kind = TypedKind.Index a b })
   index_judged a b j k t first second =
-      (λ i. place t (is_address (first i) && (is_int (second i) && is_type (target (decayed (sym (judged_ty scope a) i))) t)))
+      (λ i. place t (is_address (first i) && (is_int (second i) && is_type
+      (target (decayed (sym (judged_ty scope a) i))) t)))
       ∙ sym (as_kind t _ (term.Index a b) (rolls-Index _ _))
 
   pub deref_judged : (a : TypedExpr) (j : Judged) (t : Ty) → j ≡ judged scope a →

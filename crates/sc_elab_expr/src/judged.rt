@@ -25,7 +25,8 @@ impl Model for Judged {
 
     ghost view = { λ judged. record { ty = judged.ty; fits = judged.fits; place = judged.place; null = judged.null } };
 
-    ghost inverse = { λ judged. record { ty = judged.ty; fits = judged.fits; place = judged.place; null = judged.null } };
+    ghost inverse = { λ judged.
+        record { ty = judged.ty; fits = judged.fits; place = judged.place; null = judged.null } };
 }
 
 impl Judged {

@@ -24,7 +24,8 @@ impl Place<'_> {
     #[tactic(auto, unfolding(crate::specs::Seen::value_in))]
     fn goes(&self, alloc: Global, ty: Ty, value: &ExprTree) -> Result<bool, OutOfMemory>
         ensures { (scope : Scope) → Suits (visible self.now.section.now self.now.function.now) scope →
-            IfOk result (λ goes. goes ≡ goes_in (visible self.now.section.now self.now.function.now) scope ty value.now) }
+            IfOk result (λ goes.
+            goes ≡ goes_in (visible self.now.section.now self.now.function.now) scope ty value.now) }
     {
         let value = build_value(alloc, self.section, self.function, ty, value)?;
         value.judged.goes_into(ty)

@@ -86,7 +86,8 @@ module _ (Fair : ℕ → Type 0) where
         Kept sparing (run_step library body number here s)
     run_step_spares obedient goes number here s fair =
         found_kept sparing (function library here.comp number) s (λ f s. f.does (calls library body) here s) tt (λ f is.
-        function_keeps library obedient here.comp number f is sparing here (is_kept here (fair f is)) (calls library body)
+        function_keeps library obedient here.comp number f is sparing here (is_kept here (fair f is))
+        (calls library body)
         (calls_go library body goes) (λ target args s h. calls_spare here.comp (fair f is) target args s) s tt)
 
     acts_spare : (action : Action) (next again : State → Piece (Option Value)) → ((s : State) → Kept sparing (next s)) →

@@ -183,7 +183,8 @@ module _ (library : Library) (leads_on : ExportsLead library) (trace : List Even
         Kept (Kind n st) (called library body from (Own number) args s)
     turned_own st from number args s here plain is at =
         after_turn main trace n s.turns st s (call_own library body from number args) refl at
-        (λ t at. own_along st from number args here is (λ performing. absurd (false≢true (sym plain ∙ performing))) t at)
+        (λ t at. own_along st from number args here is (λ performing. absurd
+        (false≢true (sym plain ∙ performing))) t at)
 
     turned_cross : (st : Standing) (from to index : ℕ) (args : List Value) (s : State) →
         leads library to (library.entered to (Export index)) ≡ true → At main trace (suc n) st s →

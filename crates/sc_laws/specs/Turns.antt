@@ -45,8 +45,8 @@ abbrev pub ExportsLead : Library → Type 0
 ExportsLead library = (to index count : ℕ) → takes library.interfaces to index count ≡ true →
     leads library to (library.entered to (Export index)) ≡ true
 
--- where sets perform their parts of a trace: a run that is out of turns, while it keeps to the trace and hasn't told all
--- of it, has no turn left
+-- where sets perform their parts of a trace: a run that is out of turns, while it keeps to the trace and hasn't told
+-- all of it, has no turn left
 abbrev pub SpendsAlong : Library → List Event → Type 0
 SpendsAlong library trace = (set : Set) (globals : Memory) (inputs : List ℕ) (turns : ℕ) (s : State) →
     scripted_call library (roles_in library.interfaces.main set trace) globals inputs turns ≡ Stopped TurnsOut s →

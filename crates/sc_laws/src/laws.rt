@@ -102,8 +102,8 @@ pub fn deepest_is_reached()
     ensures { DeepestIsReached }
 {}
 
-/// Each change of frames is of a moment within the trace, a call that returns leaves the open room as it was, and no call
-/// tells the end of the run.
+/// Each change of frames is of a moment within the trace, a call that returns leaves the open room as it was, and no
+/// call tells the end of the run.
 pub fn rooms_are_kept()
     ensures { RoomsAreKept }
 {}

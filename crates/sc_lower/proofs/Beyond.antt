@@ -189,7 +189,8 @@ module _ (scope : Scope) (few : length scope.locals ≤ most_nodes) where
         (inits_near (suc k) ls h.2)
 
     -- all of a function
-    pub function_near : (f : TypedFunction) → InitsFit scope 0 f.locals → body_fits scope callable result f.body ≡ true →
+    pub function_near : (f : TypedFunction) → InitsFit scope 0 f.locals →
+        body_fits scope callable result f.body ≡ true →
         beyond f ≡ 0
     function_near f inits fits =
         none_of_two (total (map local_beyond f.locals)) (total (map stmt_beyond f.body)) (inits_near 0 f.locals inits)

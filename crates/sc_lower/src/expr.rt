@@ -175,7 +175,8 @@ pub fn lower_expr(
 ) -> Result<Code, OutOfMemory>
     requires fits { free + expr_nodes expr.now ≤ most_nodes }
     requires near { expr_beyond expr.now ≡ 0 }
-    ensures made { IfOk result (λ code. code ≡ code_of (forms scope.now.structs.now scope.now.params expr.now want free)) }
+    ensures made { IfOk result (λ code.
+        code ≡ code_of (forms scope.now.structs.now scope.now.params expr.now want free)) }
     ensures few { IfOk result (λ code. code.next ≤ free + expr_nodes expr.now) }
 {
     match &expr.kind {

@@ -11,7 +11,8 @@ lines_append (i ∷ is) js [] us h = absurd (cc)
 lines_append (i ∷ is) js (t ∷ ts) us h = ap (λ rest. record { instr = i; target = t } ∷ rest)
     (lines_append is js ts us (ap pred h))
 
-lines_length : (is : List Instr) (ts : List (Option Target)) → length is ≡ length ts → length (lines_of is ts) ≡ length is
+lines_length : (is : List Instr) (ts : List (Option Target)) → length is ≡ length ts →
+    length (lines_of is ts) ≡ length is
 lines_length [] ts h = refl
 lines_length (i ∷ is) [] h = absurd (cc)
 lines_length (i ∷ is) (t ∷ ts) h = ap suc (lines_length is ts (ap pred h))
@@ -58,7 +59,8 @@ set_lines (i ∷ is) (t ∷ ts) (r ∷ R) F line x h =
     tail = cc
 
 -- one line instead of another
-pub replaced : (is : List Instr) (ts : List (Option Target)) (front rest : List Line) (line : Line) (x : Instr) (b : ℕ) →
+pub replaced : (is : List Instr) (ts : List (Option Target)) (front rest : List Line) (line : Line)
+    (x : Instr) (b : ℕ) →
     reverse (lines_of is ts) ≡ front ++ line ∷ rest → length rest ≡ b →
     reverse (lines_of (slice_set is b x) ts) ≡ front ++ record line { instr = x } ∷ rest
 replaced is ts front rest line x b h k =
@@ -66,7 +68,8 @@ replaced is ts front rest line x b h k =
     ap reverse (set_lines is ts (reverse rest) (reverse front) line x
     (sym (reverse-reverse (lines_of is ts)) ∙ ap reverse h ∙ seam front line rest)) ∙
     seam (reverse rest) (record line { instr = x }) (reverse front) ∙
-    ap₂ {A = List Line} {B = List Line} (λ f r. f ++ record line { instr = x } ∷ r) (reverse-reverse front) (reverse-reverse rest)
+    ap₂ {A = List Line} {B = List Line} (λ f r. f ++ record line { instr = x } ∷ r) (reverse-reverse front)
+        (reverse-reverse rest)
 
 left : (is js : List Instr) (ts us : List (Option Target)) (i : Instr) (t : Option Target) → length is ≡ length ts →
     is ≡ js ++ i ∷ [] → ts ≡ us ++ t ∷ [] → length js ≡ length us

@@ -6,8 +6,8 @@ use Rattle.rv_code.specs.Prelude.{signed}
 use Rattle.std.specs.Prelude.{ℕ, ℤ, pos, negsuc, ◌+◌, ◌*◌, ◌/◌, ◌%◌, ◌^◌, Bool, ◌&&◌, nat_lt, int_le, List, [], ◌∷◌}
 use Rattle.std.specs.Prelude.{◌++◌, if◌then◌else◌}
 
--- Registers by their numbers: the return address, the stack pointer, three that pieces compute in, and from a0 on those of
--- arguments. The rest are for temporaries.
+-- Registers by their numbers: the return address, the stack pointer, three that pieces compute in, and from a0 on those
+-- of arguments. The rest are for temporaries.
 
 abbrev pub ra : ℕ
 ra = 1

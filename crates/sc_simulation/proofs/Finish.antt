@@ -151,7 +151,8 @@ module _ (program : TacTree) (image : ImageParts) (turn_pays : ℕ) (built : IsB
         (begun image.main (code_function wrapping f) [] x.meant))
         (done image.main (code_function wrapping f) (length (x.meant.memory image.main))) v s
         (sym whole_ran ∙ is) in
-        (built.results nobody).ends (suc turns) number here (begun image.main (code_function wrapping f) [] x.meant) gave.0 v
+        (built.results nobody).ends (suc turns) number here (begun image.main (code_function wrapping f) []
+        x.meant) gave.0 v
         refl built.linked.main
         (ap (λ c. function_entered Main (slice_get program.sections c)) built.linked.main ∙ there.enters) gave.1
 

@@ -71,7 +71,8 @@ unstopped_by events run TurnsOut stop short = lt-leb events (length run.trace) s
 unstopped_by events run EventsOut stop short = absurd stop
 
 -- one that has fewer events than it may is stopped by nothing
-pub unstopped : (events : ℕ) (run : SourceRun) → IsStop run.end → length run.trace < events → stopped_at events run ≡ run
+pub unstopped : (events : ℕ) (run : SourceRun) → IsStop run.end → length run.trace < events →
+    stopped_at events run ≡ run
 unstopped events run stop short = rw (unstopped_by events run run.end stop short) refl
 
 module _ (image : ImageParts) (inputs : List ℕ) (formed : IsWellFormed image) where
@@ -91,7 +92,8 @@ module _ (image : ImageParts) (inputs : List ℕ) (formed : IsWellFormed image) 
     few steps le = way.fewer steps le
 
     -- more, and so many events are told on it
-    pub full : (steps : ℕ) → place.steps ≤ steps → events ≤ length reached.trace → shown steps ≡ take events reached.trace
+    pub full : (steps : ℕ) → place.steps ≤ steps → events ≤ length reached.trace →
+        shown steps ≡ take events reached.trace
     full steps le long = way.full steps le long
 
     -- more, and so many events aren't told on it

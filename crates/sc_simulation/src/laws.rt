@@ -14,8 +14,8 @@ pub fn outcomes_show()
     ensures { OutcomesShow }
 {}
 
-/// Where a set of compartments performs its part of what the machine shows, whatever its code does, the run of all other
-/// code shows the same, or is blamed before, with as many turns as the machine may take steps.
+/// Where a set of compartments performs its part of what the machine shows, whatever its code does, the run of all
+/// other code shows the same, or is blamed before, with as many turns as the machine may take steps.
 pub fn scripts_simulate()
     ensures { ScriptsSimulate }
 {}

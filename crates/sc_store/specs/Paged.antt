@@ -30,7 +30,8 @@ place_found rs a size = option_map (place_in a) (find (reaches a size) rs)
 
 -- every access that this area reaches is found in it
 abbrev pub IsFocus : Area → List Area → Type 0
-IsFocus focus rs = (a size : ℕ) → 0 < size → reaches a size focus ≡ true → place_found rs a size ≡ Some (place_in a focus)
+IsFocus focus rs = (a size : ℕ) → 0 < size → reaches a size focus ≡ true →
+    place_found rs a size ≡ Some (place_in a focus)
 
 -- no two addresses have one place
 abbrev pub AreSingle : List Area → Type 0

@@ -22,7 +22,8 @@ abbrev pub from_here : ℕ → Option Span → Span
 from_here at None = record { first = at; last = at }
 from_here at (Some later) = record later { first = at }
 
--- from the first of these points at which a temporary is used to the last, where the points are counted from a number on
+-- from the first of these points at which a temporary is used to the last, where the points are counted from a number
+-- on
 abbrev pub span_from : ℕ → ℕ → List Point → Option Span
 span_from t at [] = None
 span_from t at (x ∷ xs) =

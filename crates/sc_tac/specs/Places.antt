@@ -50,8 +50,8 @@ pub record IsSparing (intervals : List Interval) (places : List Place) : Type 0 
   pub full : (t : ℕ) (x : Interval) → slice_get intervals t ≡ Some x → x.spans_call ≡ false → InSlot places t →
       (r : ℕ) → r < register_count → IsTaken intervals places x r
 
--- places are clear at a point: what is assigned here lies apart from all else that is live, what is live from each other,
--- and what is live where a function is called in slots
+-- places are clear at a point: what is assigned here lies apart from all else that is live, what is live from each
+-- other, and what is live where a function is called in slots
 pub record IsClear (places : List Place) (x : Point) : Type 0 where
   pub assigned : (d t : ℕ) → x.assigned ≡ Some d → x.live t ≡ true → Share places d t → d ≡ t
   pub live : (t u : ℕ) → x.live t ≡ true → x.live u ≡ true → Share places t u → t ≡ u

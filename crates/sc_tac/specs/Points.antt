@@ -92,7 +92,8 @@ module _ (head body next : List Trail) (lives : Lives) where
   abbrev pub loop_points : List Point
   loop_points =
       point false live_at_start ∷
-      row_points head in_head ++ (row_points body in_body ++ (row_points next in_next ++ point false live_at_start ∷ []))
+      row_points head in_head ++ (row_points body in_body ++
+      (row_points next in_next ++ point false live_at_start ∷ []))
 
 -- a statement calls a function of its compartment or of another
 abbrev pub calls_function : {R : Type 0} → TacStmt-F R → Bool

@@ -37,8 +37,8 @@ pub struct CodeTree {
     pub relocations: Relocations,
 }
 
-/// The code of a function, whose relocations stand at instructions that the linker can complete: a JAL for a function, and
-/// a LUI with an instruction behind it that adds the low 12 bits for an entry or a global.
+/// The code of a function, whose relocations stand at instructions that the linker can complete: a JAL for a function,
+/// and a LUI with an instruction behind it that adds the low 12 bits for an entry or a global.
 #[derive(Drop)]
 pub struct Code {
     tree: CodeTree,

@@ -86,7 +86,8 @@ module _ (visible : Visible) where
       ∙ ap₂ (λ m n. suc (m + n)) (beside-nodes o (typed visible b).ty (typed visible a) ∙ h.0)
       (beside-nodes o (typed visible a).ty (typed visible b) ∙ h.1)
   step-nodes (tree.Index a b) h =
-      node-at _ _ (open_term.Index (typed visible a) (typed visible b)) (rolls-Index _ _) ∙ ap₂ (λ m n. suc (m + n)) h.0 h.1
+      node-at _ _ (open_term.Index (typed visible a) (typed visible b)) (rolls-Index _ _) ∙ ap₂
+          (λ m n. suc (m + n)) h.0 h.1
   step-nodes (tree.Member a name) h = node-at _ _ (open_term.Member (typed visible a) _) (rolls-Member _ _) ∙ ap suc h
   step-nodes (tree.Arrow a name) h = node-at _ _ (open_term.Arrow (typed visible a) _) (rolls-Arrow _ _) ∙ ap suc h
   step-nodes (tree.Deref a) h = node-at _ _ (open_term.Deref (typed visible a)) (rolls-Deref _) ∙ ap suc h
@@ -150,7 +151,8 @@ module _ (visible : Visible) (callees : Callees) (result : Option Ty) where
       core.stmt_nodes (record { line = line; kind = typed_layer k }) ≡ layers.layer_of ℕ ℕ kind_step stmt_step k
   layer-nodes line layer.Empty h = stmt-node-at line _ open_kind.Empty rolls-Empty
   layer-nodes line (layer.Assign place value) h =
-      stmt-node-at line _ (open_kind.Assign _ _) (rolls-Assign _ _) ∙ ap₂ (λ a b. suc (a + b)) (typed-nodes visible place)
+      stmt-node-at line _ (open_kind.Assign _ _) (rolls-Assign _ _) ∙ ap₂ (λ a b. suc (a + b))
+          (typed-nodes visible place)
       (value-nodes visible callees place value)
   layer-nodes line (layer.AssignCall place call) h =
       stmt-node-at line _ (open_kind.AssignCall _ _) (rolls-AssignCall _ _) ∙

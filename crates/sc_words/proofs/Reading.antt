@@ -67,10 +67,12 @@ values_same = by_command Same commands (
           (λ settings rows summary tells. ap (option_map Exec) (runs_same _ settings rows tells refl refl refl refl)),
           (
             (λ settings rows summary tells i. option_and_then (λ options. option_map (λ show. Explain options show)
-                (text_to_show (tells.values (codes "show") refl refl i))) (runs_same _ settings rows tells refl refl refl refl i)),
+                (text_to_show (tells.values (codes "show") refl refl i)))
+                (runs_same _ settings rows tells refl refl refl refl i)),
             (
               (λ settings rows summary tells. ap (option_map Make)
-                  (make_same (λ n. first_of n rows) (λ n. value_of n settings) summary (tells.values (codes "size") refl refl)
+                  (make_same (λ n. first_of n rows) (λ n. value_of n settings) summary
+                  (tells.values (codes "size") refl refl)
                   (tells.values (codes "seed") refl refl))),
               tt,
             ),

@@ -25,7 +25,8 @@ remove-requires-clause-order c =
     omega (
       arith,
       below_order slots c.args.first end order,
-      counted slots made c.self.invariant c.as_slice.result.now c.args.first c.lower-from.result c.as_slice.ensures.value
+      counted slots made c.self.invariant c.as_slice.result.now c.args.first c.lower-from.result
+          c.as_slice.ensures.value
           c.lower-from.ensures.count,
       counted slots made c.self.invariant c.as_slice-2.result.now end c.lower-to.result c.as_slice-2.ensures.value
           c.lower-to.ensures.count,

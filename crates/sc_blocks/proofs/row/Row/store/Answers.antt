@@ -10,7 +10,8 @@ returns-in-None-clause-value c =
     let p = c.args.place in
     let over = lost_over c.self.inside.slots.items c.as_slice.result.now c.self.inside.made p.block c.self.invariant
     c.as_slice.ensures.value c.in-None.ensures.found in
-    ap (λ q. bind q (λ cells. bind (put_in cells p.index c.args.cell) (λ cells. Ok (slice_set bs p.block (living cells)))))
+    ap (λ q. bind q (λ cells. bind (put_in cells p.index c.args.cell)
+    (λ cells. Ok (slice_set bs p.block (living cells)))))
     (over_dangles (slice_get bs p.block) (subst (λ bs. IsOver (slice_get bs p.block)) c.self.view_is over))
 
 pub invariant_of-self : goal.invariant_of-self
