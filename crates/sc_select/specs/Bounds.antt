@@ -1,24 +1,24 @@
 -- What the jumps of code need: distances that a JAL can hold.
 use Rattle.sc_select.specs.Common.{FrameTree, Place, TacStmt, everywhere, passes_few}
-use Rattle.std.specs.Prelude.{◌<◌, ℕ, ◌+◌, Bool, List, IsTrue, [], ◌∷◌}
+use Rattle.std.specs.Prelude.{◌<◌, ℕ, ◌+◌, List, IsTrue, [], ◌∷◌}
 use Rattle.sc_select.specs.declared.roles.Role.{Role}
-use Rattle.sc_select.specs.Selection.{between, select, select_all}
+use Rattle.sc_select.specs.Selection.{Plan, between, select, select_all}
 
 -- fewer lines than a jump can lead over: 2 ^ 20 bytes, less its own line
 abbrev pub most_lines : ℕ
 most_lines = 262143
 
 -- Helping: statements whose jumps lead no further than they may, and whose calls have registers for their arguments
-pub record Fits (frame : FrameTree) (places : List Place) (needed : ℕ → Bool) (stmts : List TacStmt)
+pub record Fits (frame : FrameTree) (places : List Place) (plan : Plan) (stmts : List TacStmt)
     (to_break to_continue : ℕ) : Type 0 where
   pub few_arguments : IsTrue (everywhere passes_few stmts)
-  pub breaks : (select_all frame places needed stmts).size + to_break < most_lines
-  pub continues : (select_all frame places needed stmts).size + to_continue < most_lines
+  pub breaks : (select_all frame places plan stmts).size + to_break < most_lines
+  pub continues : (select_all frame places plan stmts).size + to_continue < most_lines
 
 -- Helping: the same of a statement between two others, of which it may be part
-pub record FitsBetween (frame : FrameTree) (places : List Place) (needed : ℕ → Bool) (before : Role) (stmt : TacStmt)
+pub record FitsBetween (frame : FrameTree) (places : List Place) (plan : Plan) (before : Role) (stmt : TacStmt)
     (behind : Role) (to_break to_continue : ℕ) : Type 0 where
   pub few_arguments : IsTrue (everywhere passes_few (stmt ∷ []))
-  pub breaks : (between frame places before (select frame places needed stmt) behind).size + to_break < most_lines
+  pub breaks : (between frame places before (select frame places plan stmt) behind).size + to_break < most_lines
   pub continues :
-      (between frame places before (select frame places needed stmt) behind).size + to_continue < most_lines
+      (between frame places before (select frame places plan stmt) behind).size + to_continue < most_lines

@@ -3,7 +3,8 @@ use Rattle.sc_select.specs.Common.{Addi, Branch, CodeTree, Ecall, Entry as Entry
 use Rattle.sc_select.specs.Common.{Jal, Jalr, Load, Lui, Lw, OpImm, Place, Store, Sw, TacOp, TacStmt, TacStmt-F, Upper}
 use Rattle.sc_select.specs.Common.{fold-TacStmt}
 use Rattle.std.specs.Prelude.{ℕ, zero, suc, pos, ◌+◌, ◌*◌, List, [], ◌∷◌, ◌++◌, map, length, Option, None, Some}
-use Rattle.std.specs.Prelude.{slice_get, neg_ℤ, ◌==◌, ◌&&◌, if◌then◌else◌, Bool, drop, false, is_some, not}
+use Rattle.std.specs.Prelude.{slice_get, neg_ℤ, ◌==◌, ◌&&◌, ◌-◌, if◌then◌else◌, Bool, drop, false, is_some, not, true}
+use Rattle.std.specs.Prelude.{nat_lt, take as take_front}
 use Rattle.std.specs.Option.{unwrap_or}
 use Rattle.sc_event.specs.declared.row.Entry.{Entry}
 use Rattle.sc_event.specs.declared.row.Entry.TheVariants.{Main}
@@ -14,23 +15,43 @@ use Rattle.sc_tac.specs.declared.stmt.Constant.{Constant}
 use Rattle.sc_tac.specs.declared.stmt.Constant.TheVariants as constant
 use Rattle.sc_tac.specs.declared.stmt.TacStmt.TheOpen as tac
 use Rattle.sc_select.specs.declared.roles.Role.{Role}
-use Rattle.sc_select.specs.declared.roles.Role.TheVariants.{Loads, Operates, Other, Places, Sets, Stores}
-use Rattle.sc_select.specs.Needs.{needed_in}
+use Rattle.sc_select.specs.declared.roles.Role.TheVariants.{Applies, Loads, Operates, Other, Places, Returns, Sets, Stores}
+use Rattle.sc_select.specs.Needs.{has_mark, needed_in}
 use Rattle.sc_select.specs.Lines.{Line, plain, plainly, referring, code_of_lines}
 use Rattle.sc_select.specs.Pieces.{ra, sp, first_scratch, second_scratch, a0, a7, register_of, move, loading, moved_by}
 use Rattle.sc_select.specs.Pieces.{load_word, store_word, frame_taken, frame_left}
 use Rattle.sc_select.specs.declared.operators.ShortForm.{ShortForm}
 use Rattle.sc_select.specs.Operators.{op_code, short_code, short_form}
 
+-- how the code of a function is chosen: which temporaries are read in their places, and whether a branch reaches all
+-- over it
+pub record Plan : Type 0 where
+  pub needed : ℕ → Bool
+  pub near : Bool
+
+-- Helping: the same by a mark for each temporary
+abbrev pub plan_by : List Bool → Bool → Plan
+plan_by marks near = record { needed = has_mark marks; near = near }
+
+-- what a statement is to the loop in whose head it stands: behind it the next one is done, if the call goes on; or it is
+-- a break; or it breaks where a value is false; or anything else
+pub data Kind : Type 0 where
+  Plain : Kind
+  Breaks : Kind
+  Tests : (cond : ℕ) → Kind
+  Controls : Kind
+
 -- how many lines a piece of code has, and which, where so many lie between its end and where a break leads, and a
--- continue; and whether one piece may stand for it and its neighbour
+-- continue; whether one piece may stand for it and its neighbour; and what it is to a loop
 pub record Piece : Type 0 where
   pub size : ℕ
   pub lines : (to_break to_continue : ℕ) → List Line
   pub role : Role
+  pub kind : Kind
 
 abbrev pub straight : List Line → Piece
-straight lines = record { size = length lines; lines = λ to_break to_continue. lines; role = Other }
+straight lines =
+    record { size = length lines; lines = λ to_break to_continue. lines; role = Other; kind = Plain }
 
 abbrev pub nothing : Piece
 nothing = straight []
@@ -41,6 +62,7 @@ followed first second = record {
   lines = λ to_break to_continue.
       first.lines (second.size + to_break) (second.size + to_continue) ++ second.lines to_break to_continue;
   role = Other;
+  kind = Controls;
 }
 
 -- one piece behind the other
@@ -49,12 +71,25 @@ in_turn [] = nothing
 in_turn (piece ∷ pieces) = followed piece (in_turn pieces)
 
 -- two neighbours that are one piece: the second loads what stands at the place that the first gives, in place of that,
--- or stores there, or its result takes the place of the constant that the first sets and its operator reads
+-- or stores there; or its result takes the place of the constant that the first sets and its operator reads; or it gives
+-- back what the first computes
 abbrev pub joins : (first second : Role) → Bool
 joins (Places temp object) (Loads other) = temp == other
 joins (Places temp object) (Stores other value) = temp == other
 joins (Sets temp word) (Operates other left o) = temp == other && is_some (short_form o word)
+joins (Applies temp left form) (Returns other) = temp == other
 joins _ _ = false
+
+-- what an operator and the constant that it reads are to a neighbour
+abbrev pub applied : (temp left : ℕ) → TacOp → Option ShortForm → Role
+applied temp left o None = Operates temp left o
+applied temp left o (Some form) = Applies temp left form
+
+-- what a statement is to its neighbour behind, with the one before it
+abbrev pub role_behind : (before own : Role) → Role
+role_behind (Sets temp word) (Operates other left o) =
+    if temp == other then applied other left o (short_form o word) else Operates other left o
+role_behind before own = own
 
 -- what an operator does to the temporary of its second operand
 abbrev pub role_of_operation : (dest : ℕ) → TacOp → (left : ℕ) → (right : Option ℕ) → Role
@@ -70,10 +105,47 @@ abbrev pub role_first : List Piece → Role
 role_first [] = Other
 role_first (piece ∷ pieces) = piece.role
 
--- Helping: the role of the piece before the one at a number
+-- Helping: what the pieces before the one at a number are to it, the last two of them
 abbrev pub role_before : List Piece → (at : ℕ) → Role
 role_before pieces zero = Other
-role_before pieces (suc at) = role_first (drop at pieces)
+role_before pieces (suc zero) = role_first pieces
+role_before pieces (suc (suc at)) = role_behind (role_first (drop at pieces)) (role_first (drop (suc at) pieces))
+
+-- what a value that is given back is to the statement before it
+abbrev pub role_of_return : Option ℕ → Role
+role_of_return None = Other
+role_of_return (Some temp) = Returns temp
+
+-- an `If` that does nothing where a value is true, and else breaks
+abbrev pub kind_by : (cond : ℕ) → Kind → Kind
+kind_by cond Breaks = Tests cond
+kind_by cond kind = Controls
+
+abbrev pub kind_of_fork : (cond : ℕ) → (first second : List Piece) → Kind
+kind_of_fork cond [] (piece ∷ []) = kind_by cond piece.kind
+kind_of_fork cond first second = Controls
+
+abbrev pub is_plain : Kind → Bool
+is_plain Plain = true
+is_plain kind = false
+
+abbrev pub test_of : Kind → Option ℕ
+test_of (Tests cond) = Some cond
+test_of kind = None
+
+-- the test that statements end with, which are plain before it
+abbrev pub ending_test : List Piece → Option ℕ
+ending_test [] = None
+ending_test (piece ∷ []) = test_of piece.kind
+ending_test (piece ∷ next ∷ rest) = if is_plain piece.kind then ending_test (next ∷ rest) else None
+
+-- those before it
+abbrev pub before_test : List Piece → List Piece
+before_test pieces = take_front (length pieces - 1) pieces
+
+-- fewer lines than a branch can lead back over: 2 ^ 12 bytes
+abbrev pub branch_reach : ℕ
+branch_reach = 1024
 
 -- a jump over so many lines
 abbrev pub jump_over : ℕ → Line
@@ -85,10 +157,11 @@ past zero = []
 past (suc lines) = jump_over (suc lines) ∷ []
 
 abbrev pub breaking : Piece
-breaking = record { size = 1; lines = λ to_break to_continue. jump_over to_break ∷ []; role = Other }
+breaking = record { size = 1; lines = λ to_break to_continue. jump_over to_break ∷ []; role = Other; kind = Breaks }
 
 abbrev pub continuing : Piece
-continuing = record { size = 1; lines = λ to_break to_continue. jump_over to_continue ∷ []; role = Other }
+continuing =
+    record { size = 1; lines = λ to_break to_continue. jump_over to_continue ∷ []; role = Other; kind = Controls }
 
 -- a jump back to where so many lines begin, behind which it stands
 abbrev pub jump_back : ℕ → Line
@@ -244,7 +317,35 @@ module _ (frame : FrameTree) (places : List Place) where
         loop_begins ∷ (head.lines (body.size + suc next.size) 0 ++ (body.lines (suc next.size) 0 ++
         (next.lines 1 0 ++ (jump_back (head.size + (body.size + next.size)) ∷ []))));
     role = Other;
+    kind = Controls;
   }
+
+  -- a branch back to where so many lines begin, behind which it stands, where a value is true. Where it doesn't reach, a
+  -- jump stands for it, in code that isn't taken
+  abbrev pub branch_back : (cond lines : ℕ) → Line
+  branch_back cond lines =
+      if nat_lt lines branch_reach
+      then plain (Branch Bne (operand first_scratch cond) 0 (neg_ℤ (pos (4 * lines)))) else jump_back lines
+
+  -- the test at the end of a loop, with so many lines before it, all of which a further round repeats
+  abbrev pub testing : (cond lines : ℕ) → List Line
+  testing cond lines =
+      plainly (take first_scratch cond) ++ branch_back cond (lines + length (take first_scratch cond)) ∷ []
+
+  -- a loop that ends with its head, and that with its test, from which a branch leads back to the body. It begins with a
+  -- jump to the head
+  abbrev pub rotated : (cond : ℕ) → (head body next : Piece) → Piece
+  rotated cond head body next =
+      let test : ℕ = suc (length (take first_scratch cond)) in
+      record {
+        size = 1 + (body.size + (next.size + (head.size + test)));
+        lines = λ to_break to_continue.
+            jump_over (body.size + next.size) ∷ (body.lines (next.size + (head.size + test)) 0 ++
+            (next.lines (head.size + test) 0 ++ (head.lines test 0 ++
+            testing cond (body.size + (next.size + head.size)))));
+        role = Other;
+        kind = Controls;
+      }
 
   -- a variable's word into a temporary
   abbrev pub object_read : (dest object : ℕ) → List Instr
@@ -260,23 +361,30 @@ module _ (frame : FrameTree) (places : List Place) where
   short_operation dest left form =
       take first_scratch left ++ short_code (result_register dest) (operand first_scratch left) form ++ keep dest
 
+  -- it gives back what an operator gives of a temporary and a constant
+  abbrev pub short_return : (left : ℕ) → ShortForm → List Instr
+  short_return left form =
+      take first_scratch left ++ short_code a0 (operand first_scratch left) (Some form) ++ frame_left frame.bytes
+
   -- the code of two neighbours that are one piece
   abbrev pub as_one : (first second : Role) → Piece
   as_one (Places temp object) (Loads other) = straightly (object_read temp object)
   as_one (Places temp object) (Stores other value) = straightly (object_store value object)
   as_one (Sets temp word) (Operates other left o) = straightly (short_operation temp left (short_form o word))
+  as_one (Applies temp left form) (Returns other) = straightly (short_return left form)
   as_one _ _ = nothing
 
-  -- a piece between two others: the second of two that are one has the code of both
+  -- a piece between two others: the last of those that are one has the code of all
   abbrev pub between : (before : Role) → Piece → (behind : Role) → Piece
   between before piece behind =
-      if joins before piece.role then as_one before piece.role
-      else if joins piece.role behind then nothing
+      if joins (role_behind before piece.role) behind then nothing
+      else if joins before piece.role then as_one before piece.role
       else piece
 
   abbrev pub joined : (before : Role) → List Piece → List Piece
   joined before [] = []
-  joined before (piece ∷ pieces) = between before piece (role_first pieces) ∷ joined piece.role pieces
+  joined before (piece ∷ pieces) =
+      between before piece (role_first pieces) ∷ joined (role_behind before piece.role) pieces
 
   abbrev pub in_order : List Piece → Piece
   in_order pieces = in_turn (joined Other pieces)
@@ -284,8 +392,13 @@ module _ (frame : FrameTree) (places : List Place) where
   -- the first part where the value is true, else the second. One line as the second, without a first, needs no jump
   abbrev pub fork : ℕ → (first second : List Piece) → Piece
   fork cond first second =
-      if length first == 0 && (in_order second).size == 1 then skipping cond (in_order second)
-      else choosing cond (in_order first) (in_order second)
+      record (if length first == 0 && (in_order second).size == 1 then skipping cond (in_order second)
+      else choosing cond (in_order first) (in_order second)) { kind = kind_of_fork cond first second }
+
+  -- a loop, which ends with its test where its head does
+  abbrev pub turning : Option ℕ → (head : List Piece) → (body next : Piece) → Piece
+  turning None head body next = cycle (in_order head) body next
+  turning (Some cond) head body next = rotated cond (in_order (before_test head)) body next
 
   -- what a load of what stands at a place does to the temporary of the place
   abbrev pub role_of_load : (dest place : ℕ) → Role
@@ -306,8 +419,8 @@ module _ (frame : FrameTree) (places : List Place) where
   closing (Some Main) = OpImm Addi a0 0 (pos 0) ∷ frame_left frame.bytes
   closing _ = frame_left frame.bytes
 
-  -- statements, where these temporaries are read in their places
-  module _ (needed : ℕ → Bool) where
+  -- statements by a plan
+  module _ (plan : Plan) where
     abbrev pub select_step : TacStmt-F Piece → Piece
     select_step (tac.Const dest value) =
         record (straightly (loading (result_register dest) (word_of_constant value) ++ keep dest)) {
@@ -324,16 +437,17 @@ module _ (frame : FrameTree) (places : List Place) where
     select_step (tac.Load dest place pointer) =
         record (straightly (load_from dest place)) { role = role_of_load dest place }
     select_step (tac.Store place value) =
-        record (straightly (store_to place value)) { role = role_of_store needed place value }
+        record (straightly (store_to place value)) { role = role_of_store plan.needed place value }
     select_step (tac.If cond first second) = fork cond first second
-    select_step (tac.Loop head body next) = cycle (in_order head) (in_order body) (in_order next)
+    select_step (tac.Loop head body next) =
+        turning (if plan.near then ending_test head else None) head (in_order body) (in_order next)
     select_step tac.Break = breaking
     select_step tac.Continue = continuing
     select_step (tac.CallOwn dest function args) = straight (call_own dest function args)
     select_step (tac.CallCross dest comp index args) = straight (call_cross dest comp index args)
     select_step (tac.Input dest) = straightly (environment_call 1 ++ receive dest)
     select_step (tac.Output value) = straightly (brought frame a0 (place_of value) ++ environment_call 2)
-    select_step (tac.Return value) = straightly (return value)
+    select_step (tac.Return value) = record (straightly (return value)) { role = role_of_return value }
 
     abbrev pub select : TacStmt → Piece
     select = fold-TacStmt Piece select_step
@@ -345,6 +459,13 @@ module _ (frame : FrameTree) (places : List Place) where
     function_lines f =
         plainly (entrance f.params) ++ (select_all f.body).lines 0 0 ++ plainly (closing f.entry)
 
+abbrev pub plan_of : TacFnTree → (near : Bool) → Plan
+plan_of f near = record { needed = needed_in f.body; near = near }
+
+-- whether a branch reaches all over a function whose loops end with their tests
+abbrev pub is_near : TacFnTree → List Place → FrameTree → Bool
+is_near f places frame = nat_lt (length (function_lines frame places (plan_of f true) f)) branch_reach
+
 -- the code of a function
 abbrev pub code_of : TacFnTree → List Place → FrameTree → CodeTree
-code_of f places frame = code_of_lines (function_lines frame places (needed_in f.body) f)
+code_of f places frame = code_of_lines (function_lines frame places (plan_of f (is_near f places frame)) f)

@@ -1,18 +1,18 @@
 //! Statements in order, choices and loops.
 
-ghost use Rattle.sc_select.specs.Prelude.{Addi, Fits, FitsBetween, IsJumpOffset, Jal, Line, OpImm, between, has_mark};
-ghost use Rattle.sc_select.specs.Prelude.{jump_back, jump_over, loop_begins, most_lines, past, plain, select};
-ghost use Rattle.sc_select.specs.Prelude.{select_all};
+ghost use Rattle.sc_select.specs.Prelude.{Fits, FitsBetween, Line, between, ending_test, most_lines, past, plain};
+ghost use Rattle.sc_select.specs.Prelude.{plan_by, select, select_all};
 ghost use Rattle.sc_tac.specs.declared.stmt.TacStmt;
-ghost use Rattle.std.specs.Prelude.{◌≡◌, ◌≤◌, ◌<◌, ◌-◌, ◌++◌, ◌∷◌, [], ℕ, OnOk, length, ◌&&◌, ◌==◌};
+ghost use Rattle.std.specs.Prelude.{◌≡◌, ◌≤◌, ◌<◌, ◌-◌, ◌++◌, ◌∷◌, [], ℕ, OnOk, Some, length, map, true};
 
 use crate::backward::Backward;
 use crate::homes::Homes;
-use crate::pieces::{ZERO, addi, immediate, register};
-use crate::roles::{Role, joins, role_at, role_before, role_of};
-use rv_code::{Instr, JumpOffset};
+use crate::jumps::{branch_back, is_skip, jump_back, jump_over, loop_begins};
+use crate::kinds::ending_test;
+use crate::pieces::{FIRST_SCRATCH, register};
+use crate::roles::{Role, joins, role_at, role_before, role_behind, role_of};
 use sc_base::OutOfMemory;
-use sc_tac::{TacStmt, TacStmts};
+use sc_tac::TacStmt;
 
 /// How many lines lie between the end of a piece of code and where a break leads, and a continue.
 #[derive(Clone, Copy)]
@@ -21,44 +21,15 @@ pub struct Distances {
     pub to_continue: usize,
 }
 
-// A jump by so many bytes from its own address.
-fn jump(bytes: i32) -> Instr
-    requires { IsJumpOffset bytes }
-    ensures { result ≡ Jal 0 bytes }
+// The test that a loop ends with, if it does.
+fn test_at_end(homes: &Homes, head: &[TacStmt]) -> Option<u32>
+    ensures { (frame : FrameTree) (places : List Place) → result ≡ (if homes.now.near
+        then ending_test (map (select frame places (plan_by homes.now.needs.now homes.now.near)) head.now) else None) }
 {
-    Instr::Jal {
-        rd: register(ZERO),
-        imm: JumpOffset::new(bytes).unwrap(),
+    if homes.near {
+        return ending_test(head);
     }
-}
-
-fn jump_over(lines: usize) -> Instr
-    requires { lines < most_lines }
-    ensures { plain result ≡ jump_over lines }
-{
-    jump(4 * (lines as i32 + 1))
-}
-
-fn jump_back(lines: usize) -> Instr
-    requires { lines < most_lines }
-    ensures { plain result ≡ jump_back lines }
-{
-    jump(-4 * lines as i32)
-}
-
-// Whether a branch leads over the second part of a choice alone: one line, where there is no first part.
-fn is_skip(first: &TacStmts, lines: usize) -> bool
-    ensures { result ≡ (length first.now == 0 && lines == 1) }
-{
-    first.as_slice().is_empty() && lines == 1
-}
-
-// What a loop begins with.
-fn loop_begins() -> Instr
-    ensures { plain result ≡ loop_begins }
-{
-    let zero = register(ZERO);
-    addi(zero, zero, immediate(0))
+    None
 }
 
 impl Backward {
@@ -68,30 +39,28 @@ impl Backward {
         &mut self,
         homes: &Homes,
         distances: Distances,
-        stmts: &TacStmts,
+        stmts: &[TacStmt],
     ) -> Result<(), OutOfMemory>
-        requires fits { Fits homes.now.frame.now homes.now.places.now (has_mark homes.now.needs.now) stmts.now
+        requires fits { Fits homes.now.frame.now homes.now.places.now (plan_by homes.now.needs.now homes.now.near) stmts.now
             distances.to_break
             distances.to_continue }
-        ensures { OnOk result (self.new ≡ (select_all homes.now.frame.now homes.now.places.now (has_mark
-            homes.now.needs.now) stmts.now).lines
+        ensures { OnOk result (self.new ≡ (select_all homes.now.frame.now homes.now.places.now (plan_by homes.now.needs.now homes.now.near) stmts.now).lines
             distances.to_break distances.to_continue ++ self.old) }
     {
         let end = self.len();
-        let list = stmts.as_slice();
-        for at in (0..list.len()).rev() {
+        for at in (0..stmts.len()).rev() {
             let behind = self.len() - end;
             let from_here = Distances {
                 to_break: behind + distances.to_break,
                 to_continue: behind + distances.to_continue,
             };
-            let before = role_before(homes.needs, list, at);
+            let before = role_before(homes.needs, stmts, at);
             self.between(
                 homes,
                 from_here,
                 before,
-                &list[at],
-                role_at(homes.needs, list, at + 1),
+                &stmts[at],
+                role_at(homes.needs, stmts, at + 1),
             )?;
         }
         Ok(())
@@ -107,32 +76,31 @@ impl Backward {
         stmt: &TacStmt,
         behind: Role,
     ) -> Result<(), OutOfMemory>
-        requires fits { FitsBetween homes.now.frame.now homes.now.places.now (has_mark homes.now.needs.now) before
+        requires fits { FitsBetween homes.now.frame.now homes.now.places.now (plan_by homes.now.needs.now homes.now.near) before
             stmt.now behind
             distances.to_break distances.to_continue }
         ensures { OnOk result (self.new ≡ (between homes.now.frame.now homes.now.places.now before
-            (select homes.now.frame.now homes.now.places.now (has_mark homes.now.needs.now) stmt.now) behind).lines
+            (select homes.now.frame.now homes.now.places.now (plan_by homes.now.needs.now homes.now.near) stmt.now) behind).lines
             distances.to_break
             distances.to_continue ++ self.old) }
     {
         let role = role_of(homes.needs, stmt);
+        if joins(role_behind(before, role), behind) {
+            return Ok(());
+        }
         if joins(before, role) {
             return self.as_one(homes, before, role);
-        }
-        if joins(role, behind) {
-            return Ok(());
         }
         self.statement(homes, distances, stmt)
     }
 
     // A part of a loop: a break leads to where the loop ends, which has so many lines behind it.
     #[cycle(control)]
-    fn part(&mut self, homes: &Homes, end: usize, part: &TacStmts) -> Result<(), OutOfMemory>
+    fn part(&mut self, homes: &Homes, end: usize, part: &[TacStmt]) -> Result<(), OutOfMemory>
         requires behind { end ≤ length self.now }
-        requires fits { Fits homes.now.frame.now homes.now.places.now (has_mark homes.now.needs.now) part.now (length
+        requires fits { Fits homes.now.frame.now homes.now.places.now (plan_by homes.now.needs.now homes.now.near) part.now (length
             self.now - end) 0 }
-        ensures { OnOk result (self.new ≡ (select_all homes.now.frame.now homes.now.places.now (has_mark
-            homes.now.needs.now) part.now).lines
+        ensures { OnOk result (self.new ≡ (select_all homes.now.frame.now homes.now.places.now (plan_by homes.now.needs.now homes.now.near) part.now).lines
             (length self.old - end) 0 ++ self.old) }
     {
         let distances = Distances {
@@ -160,14 +128,13 @@ impl Backward {
         homes: &Homes,
         distances: Distances,
         cond: u32,
-        first: &TacStmts,
-        second: &TacStmts,
+        first: &[TacStmt],
+        second: &[TacStmt],
     ) -> Result<(), OutOfMemory>
-        requires fits { Fits homes.now.frame.now homes.now.places.now (has_mark homes.now.needs.now) (TacStmt.If cond
+        requires fits { Fits homes.now.frame.now homes.now.places.now (plan_by homes.now.needs.now homes.now.near) (TacStmt.If cond
             first.now second.now ∷ [])
             distances.to_break distances.to_continue }
-        ensures { OnOk result (self.new ≡ (select homes.now.frame.now homes.now.places.now (has_mark
-            homes.now.needs.now)
+        ensures { OnOk result (self.new ≡ (select homes.now.frame.now homes.now.places.now (plan_by homes.now.needs.now homes.now.near)
             (TacStmt.If cond first.now second.now)).lines distances.to_break distances.to_continue ++ self.old) }
     {
         let end = self.len();
@@ -193,17 +160,20 @@ impl Backward {
     fn cycle(
         &mut self,
         homes: &Homes,
-        head: &TacStmts,
-        body: &TacStmts,
-        next: &TacStmts,
+        head: &[TacStmt],
+        body: &[TacStmt],
+        next: &[TacStmt],
     ) -> Result<(), OutOfMemory>
-        requires fits { Fits homes.now.frame.now homes.now.places.now (has_mark homes.now.needs.now) (TacStmt.Loop
+        requires fits { Fits homes.now.frame.now homes.now.places.now (plan_by homes.now.needs.now homes.now.near) (TacStmt.Loop
             head.now body.now next.now ∷ [])
             0 0 }
         ensures { (to_break to_continue : ℕ) → OnOk result (self.new ≡ (select homes.now.frame.now
-            homes.now.places.now (has_mark homes.now.needs.now) (TacStmt.Loop head.now body.now next.now)).lines
+            homes.now.places.now (plan_by homes.now.needs.now homes.now.near) (TacStmt.Loop head.now body.now next.now)).lines
             to_break to_continue ++ self.old) }
     {
+        if let Some(cond) = test_at_end(homes, head) {
+            return self.rotated(homes, cond, head, body, next);
+        }
         let end = self.len();
         self.plain(loop_begins())?;
         self.part(homes, end, next)?;
@@ -215,6 +185,41 @@ impl Backward {
         Ok(())
     }
 
+    // A loop that ends with its head, and that with its test. A line stands in the place of the branch back until it is
+    // known how far that leads.
+    #[cycle(control)]
+    fn rotated(
+        &mut self,
+        homes: &Homes,
+        cond: u32,
+        head: &[TacStmt],
+        body: &[TacStmt],
+        next: &[TacStmt],
+    ) -> Result<(), OutOfMemory>
+        requires test { ending_test (map (select homes.now.frame.now homes.now.places.now (plan_by homes.now.needs.now
+            homes.now.near)) head.now) ≡ Some cond }
+        requires near { homes.now.near ≡ true }
+        requires fits { Fits homes.now.frame.now homes.now.places.now (plan_by homes.now.needs.now homes.now.near)
+            (TacStmt.Loop head.now body.now next.now ∷ [])
+            0 0 }
+        ensures { (to_break to_continue : ℕ) → OnOk result (self.new ≡ (select homes.now.frame.now
+            homes.now.places.now (plan_by homes.now.needs.now homes.now.near) (TacStmt.Loop head.now body.now
+            next.now)).lines
+            to_break to_continue ++ self.old) }
+    {
+        let end = self.len();
+        self.plain(loop_begins())?;
+        self.take(homes, register(FIRST_SCRATCH), cond)?;
+        self.part(homes, end, &head[..head.len() - 1])?;
+        let behind = self.len();
+        self.part(homes, end, next)?;
+        self.part(homes, end, body)?;
+        let lines = self.len() - end - 1;
+        self.plain(jump_over(self.len() - behind))?;
+        self.replace(end, branch_back(homes, cond, lines));
+        Ok(())
+    }
+
     // A statement.
     #[cycle(control)]
     fn statement(
@@ -223,11 +228,10 @@ impl Backward {
         distances: Distances,
         stmt: &TacStmt,
     ) -> Result<(), OutOfMemory>
-        requires fits { Fits homes.now.frame.now homes.now.places.now (has_mark homes.now.needs.now) (stmt.now ∷ [])
+        requires fits { Fits homes.now.frame.now homes.now.places.now (plan_by homes.now.needs.now homes.now.near) (stmt.now ∷ [])
             distances.to_break
             distances.to_continue }
-        ensures { OnOk result (self.new ≡ (select homes.now.frame.now homes.now.places.now (has_mark
-            homes.now.needs.now) stmt.now).lines
+        ensures { OnOk result (self.new ≡ (select homes.now.frame.now homes.now.places.now (plan_by homes.now.needs.now homes.now.near) stmt.now).lines
             distances.to_break distances.to_continue ++ self.old) }
     {
         match stmt {
@@ -247,8 +251,16 @@ impl Backward {
                 cond,
                 then_part,
                 else_part,
-            } => self.fork(homes, distances, *cond, then_part, else_part),
-            TacStmt::Loop { head, body, next } => self.cycle(homes, head, body, next),
+            } => self.fork(
+                homes,
+                distances,
+                *cond,
+                then_part.as_slice(),
+                else_part.as_slice(),
+            ),
+            TacStmt::Loop { head, body, next } => {
+                self.cycle(homes, head.as_slice(), body.as_slice(), next.as_slice())
+            }
             TacStmt::Break => self.plain(jump_over(distances.to_break)),
             TacStmt::Continue => self.plain(jump_over(distances.to_continue)),
             TacStmt::CallOwn {

@@ -1,12 +1,14 @@
 //! The code of a function.
 
 ghost use Rattle.sc_select.specs.Prelude.{IsCode, IsFunction, Line, closing, code_of, code_of_lines, entrance};
-ghost use Rattle.sc_select.specs.Prelude.{entry_weight, function_lines, has_mark, plainly, store_arguments, weight};
-ghost use Rattle.std.specs.Prelude.{◌≡◌, ◌≤◌, ◌<◌, ◌^◌, ◌+◌, ◌*◌, ◌++◌, IfOk, OnOk, length};
+ghost use Rattle.sc_select.specs.Prelude.{entry_weight, function_lines, has_mark, needed_in, plainly, plan_by, plan_of};
+ghost use Rattle.sc_select.specs.Prelude.{store_arguments, weight};
+ghost use Rattle.std.specs.Prelude.{◌≡◌, ◌≤◌, ◌<◌, ◌^◌, ◌+◌, ◌*◌, ◌++◌, ℕ, IfOk, OnOk, length};
 
 use crate::backward::Backward;
 use crate::control::Distances;
 use crate::homes::Homes;
+use crate::jumps::BRANCH_REACH;
 use crate::needs::needs_of;
 use crate::pieces::{A0, ZERO, addi, immediate, register};
 use sc_base::OutOfMemory;
@@ -54,14 +56,14 @@ impl Backward {
         requires function { IsFunction f.now }
         requires reached { 96 * f.now.nodes ≤ 1048576 }
         ensures { OnOk result (self.new ≡
-            function_lines homes.now.frame.now homes.now.places.now (has_mark homes.now.needs.now) f.now ++ self.old) }
+            function_lines homes.now.frame.now homes.now.places.now (plan_by homes.now.needs.now homes.now.near) f.now ++ self.old) }
     {
         let at_end = Distances {
             to_break: 0,
             to_continue: 0,
         };
         self.closing(homes, f.entry)?;
-        self.in_order(homes, at_end, &f.body)?;
+        self.in_order(homes, at_end, f.body.as_slice())?;
         self.entrance(homes, f.params)
     }
 }
@@ -88,20 +90,38 @@ fn read(alloc: Global, lines: Backward) -> Result<CodeTree, OutOfMemory>
     })
 }
 
-/// The code of a function whose temporaries lie in these places, with this frame. A jump reaches over all of it.
+// The lines of a function by one of the two plans.
+fn planned(alloc: Global, f: &TacFn, homes: &Homes) -> Result<Backward, OutOfMemory>
+    requires reached { 96 * f.now.nodes ≤ 1048576 }
+    requires needs { (t : ℕ) → has_mark homes.now.needs.now t ≡ needed_in f.now.body t }
+    ensures { IfOk result (λ lines. lines ≡
+        function_lines homes.now.frame.now homes.now.places.now (plan_of f.now homes.now.near) f.now) }
+{
+    let mut lines = Backward::new(alloc);
+    lines.function(homes, f.tree())?;
+    Ok(lines)
+}
+
+/// The code of a function whose temporaries lie in these places, with this frame. A jump reaches over all of it, and a
+/// branch, where its loops end with their tests.
 pub fn select(alloc: Global, f: &TacFn, places: &Places, frame: &Frame) -> Result<Code, OutOfMemory>
     requires { 96 * f.now.nodes ≤ 1048576 }
     ensures code { IfOk result (λ code. code ≡ code_of f.now places.now frame.now) }
     ensures light { IfOk result (λ code. length code.instrs ≤ entry_weight f.now.params + weight f.now.body) }
     ensures rules { IfOk result IsCode }
 {
-    let mut lines = Backward::new(alloc);
     let needs = needs_of(alloc, f)?;
-    let homes = Homes {
+    let mut homes = Homes {
         frame,
         places,
         needs: &needs,
+        near: true,
     };
-    lines.function(&homes, f.tree())?;
+    let lines = planned(alloc, f, &homes)?;
+    if lines.len() < BRANCH_REACH {
+        return Ok(Code::new(read(alloc, lines)?));
+    }
+    homes.near = false;
+    let lines = planned(alloc, f, &homes)?;
     Ok(Code::new(read(alloc, lines)?))
 }

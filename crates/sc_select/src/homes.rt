@@ -6,12 +6,13 @@ use crate::needs::Needs;
 use rv_code::Reg;
 use sc_tac::{Frame, Place, Places};
 
-/// Where the values of a function lie, and which temporaries are read there.
+/// Where the values of a function lie, which temporaries are read there, and whether its loops end with their tests.
 #[derive(Clone, Copy)]
 pub struct Homes<'a> {
     pub frame: &'a Frame,
     pub places: &'a Places,
     pub needs: &'a Needs,
+    pub near: bool,
 }
 
 impl Homes<'_> {

@@ -6,6 +6,8 @@ mod calls;
 mod control;
 mod function;
 mod homes;
+mod jumps;
+mod kinds;
 mod needs;
 mod operators;
 mod pieces;

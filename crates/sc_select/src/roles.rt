@@ -1,15 +1,15 @@
-//! Two statements that are one piece of code: the first gives the place of a variable and the second loads what stands
+//! Statements that are one piece of code: the first gives the place of a variable and the second loads what stands
 //! there or stores there, or the first sets a constant and the second is an operator that reads it and takes its
-//! temporary.
+//! temporary, which a third may give back.
 
-ghost use Rattle.sc_select.specs.Prelude.{has_mark, joins, role_before, role_first, role_of_operation, role_of_store};
-ghost use Rattle.sc_select.specs.Prelude.{select};
+ghost use Rattle.sc_select.specs.Prelude.{applied, has_mark, joins, plan_by, role_before, role_behind, role_first};
+ghost use Rattle.sc_select.specs.Prelude.{role_of_operation, role_of_return, role_of_store, select};
 ghost use Rattle.sc_tac.specs.declared.frame.FrameTree.{FrameTree};
 ghost use Rattle.sc_tac.specs.declared.place.Place.{Place};
-ghost use Rattle.std.specs.Prelude.{◌≡◌, ◌≤◌, List, drop, length, map};
+ghost use Rattle.std.specs.Prelude.{◌≡◌, ◌≤◌, Bool, List, drop, length, map};
 
 use crate::needs::Needs;
-use crate::operators::short_form;
+use crate::operators::{ShortForm, short_form};
 use crate::statements::word_of_constant;
 use sc_tac::{TacOp, TacStmt};
 
@@ -17,15 +17,40 @@ use sc_tac::{TacOp, TacStmt};
 #[derive(Clone, Copy)]
 pub enum Role {
     /// A temporary gets the place of a variable.
-    Places { temp: u32, object: u32 },
+    Places {
+        temp: u32,
+        object: u32,
+    },
     /// A temporary gets what stands at the place that it holds.
-    Loads { temp: u32 },
+    Loads {
+        temp: u32,
+    },
     /// A temporary gets a constant.
-    Sets { temp: u32, word: u32 },
+    Sets {
+        temp: u32,
+        word: u32,
+    },
     /// A temporary, which holds the second operand, gets the result of an operator.
-    Operates { temp: u32, left: u32, op: TacOp },
+    Operates {
+        temp: u32,
+        left: u32,
+        op: TacOp,
+    },
     /// A value is stored at the place that a temporary holds, which only such stores behind its statement read.
-    Stores { temp: u32, value: u32 },
+    Stores {
+        temp: u32,
+        value: u32,
+    },
+    /// A temporary gets the result of an operator and a constant.
+    Applies {
+        temp: u32,
+        left: u32,
+        form: ShortForm,
+    },
+    /// A temporary is given back.
+    Returns {
+        temp: u32,
+    },
     /// All else.
     Other,
 }
@@ -52,10 +77,19 @@ fn role_of_store(needs: &Needs, place: u32, value: u32) -> Role
     Role::Stores { temp: place, value }
 }
 
+fn role_of_return(value: Option<u32>) -> Role
+    ensures { result ≡ role_of_return value }
+{
+    match value {
+        Some(temp) => Role::Returns { temp },
+        None => Role::Other,
+    }
+}
+
 /// The role of a statement.
 pub(crate) fn role_of(needs: &Needs, stmt: &TacStmt) -> Role
-    ensures { (frame : FrameTree) (places : List Place) → result ≡
-        (select frame places (has_mark needs.now) stmt.now).role }
+    ensures { (frame : FrameTree) (places : List Place) (near : Bool) → result ≡
+        (select frame places (plan_by needs.now near) stmt.now).role }
 {
     match stmt {
         TacStmt::Const { dest, value } => Role::Sets {
@@ -80,6 +114,7 @@ pub(crate) fn role_of(needs: &Needs, stmt: &TacStmt) -> Role
             }
         }
         TacStmt::Store { place, value } => role_of_store(needs, *place, *value),
+        TacStmt::Return { value } => role_of_return(*value),
         _ => Role::Other,
     }
 }
@@ -87,8 +122,8 @@ pub(crate) fn role_of(needs: &Needs, stmt: &TacStmt) -> Role
 /// The role of the statement at a number, if there is one.
 #[tactic(auto, using(crate::proofs::Joining::role_found, crate::proofs::Joining::role_missing))]
 pub(crate) fn role_at(needs: &Needs, stmts: &[TacStmt], at: usize) -> Role
-    ensures { (frame : FrameTree) (places : List Place) → result ≡
-        role_first (map (select frame places (has_mark needs.now)) (drop at stmts.now)) }
+    ensures { (frame : FrameTree) (places : List Place) (near : Bool) → result ≡
+        role_first (map (select frame places (plan_by needs.now near)) (drop at stmts.now)) }
 {
     if at < stmts.len() {
         return role_of(needs, &stmts[at]);
@@ -96,15 +131,45 @@ pub(crate) fn role_at(needs: &Needs, stmts: &[TacStmt], at: usize) -> Role
     Role::Other
 }
 
-/// The role of the statement before the one at a number, if there is one.
+fn applied(temp: u32, left: u32, op: TacOp, form: Option<ShortForm>) -> Role
+    ensures { result ≡ applied temp left op form }
+{
+    match form {
+        Some(form) => Role::Applies { temp, left, form },
+        None => Role::Operates { temp, left, op },
+    }
+}
+
+/// What a statement is to its neighbour behind, with the one before it.
+pub(crate) fn role_behind(before: Role, own: Role) -> Role
+    ensures { result ≡ role_behind before own }
+{
+    match (before, own) {
+        (
+            Role::Sets { temp, word },
+            Role::Operates {
+                temp: other,
+                left,
+                op,
+            },
+        ) if temp == other => applied(other, left, op, short_form(op, word)),
+        _ => own,
+    }
+}
+
+/// What the statements before the one at a number are to it, the last two of them.
 pub(crate) fn role_before(needs: &Needs, stmts: &[TacStmt], at: usize) -> Role
-    ensures { (frame : FrameTree) (places : List Place) → result ≡
-        role_before (map (select frame places (has_mark needs.now)) stmts.now) at }
+    ensures { (frame : FrameTree) (places : List Place) (near : Bool) → result ≡
+        role_before (map (select frame places (plan_by needs.now near)) stmts.now) at }
 {
     if at == 0 {
         return Role::Other;
     }
-    role_at(needs, stmts, at - 1)
+    let own = role_at(needs, stmts, at - 1);
+    if at == 1 {
+        return own;
+    }
+    role_behind(role_at(needs, stmts, at - 2), own)
 }
 
 /// Whether one piece is for two statements.
@@ -122,6 +187,7 @@ pub(crate) fn joins(first: Role, second: Role) -> bool
                 ..
             },
         ) => temp == other && short_form(op, word).is_some(),
+        (Role::Applies { temp, .. }, Role::Returns { temp: other }) => temp == other,
         _ => false,
     }
 }

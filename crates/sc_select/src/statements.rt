@@ -30,8 +30,8 @@ pub(crate) fn word_of_constant(value: Constant) -> u32
 }
 
 impl Backward {
-    // The value of a temporary is at hand.
-    fn take(&mut self, homes: &Homes, scratch: Reg, temp: u32) -> Result<(), OutOfMemory>
+    /// The value of a temporary is at hand.
+    pub fn take(&mut self, homes: &Homes, scratch: Reg, temp: u32) -> Result<(), OutOfMemory>
         ensures { OnOk result (self.new ≡
             plainly (take homes.now.frame.now homes.now.places.now scratch temp) ++ self.old) }
     {
@@ -192,6 +192,17 @@ impl Backward {
         self.take(homes, first, left)
     }
 
+    // The end of a call that gives back what an operator gives of a temporary and a constant.
+    fn short_return(&mut self, homes: &Homes, left: u32, form: ShortForm) -> Result<(), OutOfMemory>
+        ensures { OnOk result (self.new ≡
+            plainly (short_return homes.now.frame.now homes.now.places.now left form) ++ self.old) }
+    {
+        let first = register(FIRST_SCRATCH);
+        self.frame_left(homes.frame.tree().bytes)?;
+        self.short_code(register(A0), homes.operand(first, left), Some(form))?;
+        self.take(homes, first, left)
+    }
+
     /// The code of two statements of these roles that are one piece.
     pub fn as_one(&mut self, homes: &Homes, first: Role, second: Role) -> Result<(), OutOfMemory>
         ensures { (to_break to_continue : ℕ) → OnOk result (self.new ≡
@@ -206,6 +217,9 @@ impl Backward {
             }
             (Role::Sets { temp, word }, Role::Operates { left, op, .. }) => {
                 self.short_operation(homes, temp, left, short_form(op, word))
+            }
+            (Role::Applies { left, form, .. }, Role::Returns { .. }) => {
+                self.short_return(homes, left, form)
             }
             _ => Ok(()),
         }
