@@ -1,5 +1,6 @@
 -- The code of a function has at most one branch for each `If` and no EBREAK,
 -- and each field of its instructions is in the range of its form.
+use Rattle.sc_select.specs.Selection.{Plan}
 use Rattle.sc_emit.proofs.Common.{Addi, All, All-cons, All-nil, Andi, ArePlaces, Bne, Bool, Branch, Each, Ebreak, Entry}
 use Rattle.sc_emit.proofs.Common.{Export, Fits, FrameTree, Inside, Instr, IsBranchOffset, IsImmediate, IsInstr}
 use Rattle.sc_emit.proofs.Common.{IsJumpOffset, IsReg, IsUpper, Jal, Jalr, Line, List, Load, Lw, Main, None, Op, OpImm}
@@ -444,7 +445,7 @@ followed_shaped n m e f he hf = record {
   sound = followed_passes is_sound_line e f he.sound hf.sound;
 }
 
-module _ (frame : FrameTree) (places : List Place) (needed : ℕ → Bool) where
+module _ (frame : FrameTree) (places : List Place) (plan : Plan) where
   past_counts : (lines : ℕ) → count (past lines) ≤ 0
   past_counts zero = omega arith
   past_counts (suc lines) = omega arith
@@ -509,7 +510,7 @@ module _ (frame : FrameTree) (places : List Place) (needed : ℕ → Bool) where
   }
 
   abbrev Shaped : TacStmt → Type 0
-  Shaped stmt = IsShaped (stmt_branches stmt) (select frame places needed stmt)
+  Shaped stmt = IsShaped (stmt_branches stmt) (select frame places plan stmt)
 
   -- those without statements inside
   plainly_shaped : (instrs : List Instr) → Straight instrs → IsShaped 0 (straight (plainly instrs))
@@ -525,14 +526,14 @@ module _ (frame : FrameTree) (places : List Place) (needed : ℕ → Bool) where
 
   turn_shaped : (before : Role) (stmts : List TacStmt) → Each Shaped stmts →
       IsShaped (total (map stmt_branches stmts))
-      (in_turn (joined frame places before (map (select frame places needed) stmts)))
+      (in_turn (joined frame places before (map (select frame places plan) stmts)))
   turn_shaped before [] h = straight_shaped [] refl
   turn_shaped before (stmt ∷ rest) h =
-      let behind : Role = role_first (map (select frame places needed) rest) in
+      let behind : Role = role_first (map (select frame places plan) rest) in
       followed_shaped (stmt_branches stmt) (total (map stmt_branches rest))
-      (between frame places before (select frame places needed stmt) behind)
-      (in_turn (joined frame places (select frame places needed stmt).role (map (select frame places needed) rest)))
-      (between_keeps frame places needed (IsShaped (stmt_branches stmt))
+      (between frame places before (select frame places plan stmt) behind)
+      (in_turn (joined frame places (select frame places plan stmt).role (map (select frame places plan) rest)))
+      (between_keeps frame places plan (IsShaped (stmt_branches stmt))
       (any_more (stmt_branches stmt) (straight []) (straight_shaped [] refl))
       (λ t o. any_more (stmt_branches stmt) (straightly frame places (object_read frame places t o))
       (plainly_shaped (object_read frame places t o) (object_read_straight frame places t o)))
@@ -542,15 +543,15 @@ module _ (frame : FrameTree) (places : List Place) (needed : ℕ → Bool) where
       (short_straight frame places t l (short_form o w))))
       (λ v o. any_more (stmt_branches stmt) (straightly frame places (object_store frame places v o))
       (plainly_shaped (object_store frame places v o) (object_store_straight frame places v o))) before behind
-      (select frame places needed stmt) h.0) (turn_shaped (select frame places needed stmt).role rest h.1)
+      (select frame places plan stmt) h.0) (turn_shaped (select frame places plan stmt).role rest h.1)
 
   row_shaped : (stmts : List TacStmt) → Each Shaped stmts →
-      IsShaped (total (map stmt_branches stmts)) (in_order frame places (map (select frame places needed) stmts))
+      IsShaped (total (map stmt_branches stmts)) (in_order frame places (map (select frame places plan) stmts))
   row_shaped stmts h = turn_shaped Other stmts h
 
   layer_shaped : (layer : TacStmt-F TacStmt) → Inside Shaped layer →
       IsShaped (branch_step (map-TacStmt _ _ stmt_branches layer))
-      (select_step frame places needed (map-TacStmt _ _ (select frame places needed) layer))
+      (select_step frame places plan (map-TacStmt _ _ (select frame places plan) layer))
   layer_shaped (tac.Const dest value) h =
       in_role 0 (Sets dest (word_of_constant value)) _
       (plainly_shaped _ (loaded_straight frame places dest (word_of_constant value)))
@@ -567,7 +568,7 @@ module _ (frame : FrameTree) (places : List Place) (needed : ℕ → Bool) where
       in_role 0 (role_of_load frame places dest place) _
       (plainly_shaped _ (load_from_straight frame places dest place))
   layer_shaped (tac.Store place value) h =
-      in_role 0 (role_of_store needed place value) _ (plainly_shaped _ (store_to_straight frame places place value))
+      in_role 0 (role_of_store plan.needed place value) _ (plainly_shaped _ (store_to_straight frame places place value))
   layer_shaped (tac.If cond first second) h =
       fork_shaped cond _ _ _ _ (row_shaped first h.0) (row_shaped second h.1)
   layer_shaped (tac.Loop head body next) h =
@@ -585,33 +586,33 @@ module _ (frame : FrameTree) (places : List Place) (needed : ℕ → Bool) where
 
   stmt_shaped : (stmt : TacStmt) → Shaped stmt
   stmt_shaped = stmt_induction Shaped (λ layer h.
-      subst (λ n. IsShaped n (select frame places needed (roll-TacStmt layer)))
+      subst (λ n. IsShaped n (select frame places plan (roll-TacStmt layer)))
       (sym (fold-roll-TacStmt ℕ branch_step layer))
       (subst (IsShaped (branch_step (map-TacStmt _ _ stmt_branches layer)))
-      (sym (fold-roll-TacStmt Piece (select_step frame places needed) layer)) (layer_shaped layer h)))
+      (sym (fold-roll-TacStmt Piece (select_step frame places plan) layer)) (layer_shaped layer h)))
 
-  body_shaped : (stmts : List TacStmt) → IsShaped (branches stmts) (select_all frame places needed stmts)
+  body_shaped : (stmts : List TacStmt) → IsShaped (branches stmts) (select_all frame places plan stmts)
   body_shaped stmts = row_shaped stmts (everywhere Shaped stmt_shaped stmts)
 
   -- the lines of a function
   pub function_passes : (test : Line → Bool) → IsMild test → (f : TacFnTree) →
-      PassesAll test (select_all frame places needed f.body) → list_all test (function_lines frame places needed f) ≡
+      PassesAll test (select_all frame places plan f.body) → list_all test (function_lines frame places plan f) ≡
       true
   function_passes test mild f h =
       let front : List Line = plainly (entrance frame places f.params) in
-      let body : List Line = (select_all frame places needed f.body).lines 0 0 in
+      let body : List Line = (select_all frame places plan f.body).lines 0 0 in
       all_append test (front ++ body) (plainly (closing frame places f.entry))
       (all_append test front body
       (plainly_passes test mild frame places (entrance frame places f.params) (entrance_straight frame places f.params))
       (h.passes 0 0))
       (plainly_passes test mild frame places (closing frame places f.entry) (closing_straight frame places f.entry))
 
-  function_count : (f : TacFnTree) → count (function_lines frame places needed f) ≤ branches f.body
+  function_count : (f : TacFnTree) → count (function_lines frame places plan f) ≤ branches f.body
   function_count f =
       let entered : List Instr = entrance frame places f.params in
       let left : List Instr = closing frame places f.entry in
       let front : List Line = plainly entered in
-      let body : List Line = (select_all frame places needed f.body).lines 0 0 in
+      let body : List Line = (select_all frame places plan f.body).lines 0 0 in
       let back : List Line = plainly left in
       omega (
         arith,
@@ -627,7 +628,7 @@ pub few_branches : (f : TacFnTree) (places : List Place) (frame : FrameTree) →
 few_branches f places frame =
     omega (
       arith,
-      count_is (function_lines frame places (needed_in f.body) f),
+      count_is (function_lines frame places (plan_of f near) f),
       function_count frame places (needed_in
           f.body) f,
     )
@@ -635,9 +636,9 @@ few_branches f places frame =
 all_sound : (f : TacFnTree) (places : List Place) (frame : FrameTree) →
     list_all {X = Instr} is_sound (code_of f places frame).instrs ≡ true
 all_sound f places frame =
-    list_all-map is_sound (λ line. line.instr) (function_lines frame places (needed_in f.body) f) ∙
-    function_passes frame places (needed_in f.body) is_sound_line sound_mild f
-    (body_shaped frame places (needed_in f.body) f.body).sound
+    list_all-map is_sound (λ line. line.instr) (function_lines frame places (plan_of f near) f) ∙
+    function_passes frame places (plan_of f near) is_sound_line sound_mild f
+    (body_shaped frame places (plan_of f near) f.body).sound
 
 pub no_ebreak : (f : TacFnTree) (places : List Place) (frame : FrameTree) →
     has_no_ebreak (code_of f places frame) ≡ true
@@ -963,7 +964,7 @@ followed_encodable e f he hf = record {
       (hf.encodable b c (omega (arith, hb)) (omega (arith, hc)));
 }
 
-module _ (frame : FrameTree) (places : List Place) (needed : ℕ → Bool) (there : (t : ℕ) →
+module _ (frame : FrameTree) (places : List Place) (plan : Plan) (there : (t : ℕ) →
     IsThere (slice_get places t)) where
   operand_there : (scratch t : ℕ) → IsReg scratch → IsReg (operand frame places scratch t)
   operand_there scratch t h = at_hand_there scratch (slice_get places t) h (there t)
@@ -1184,12 +1185,12 @@ module _ (frame : FrameTree) (places : List Place) (needed : ℕ → Bool) (ther
   few_inside = fold-TacStmt Bool (with_parts passes_few)
 
   abbrev Encodable : TacStmt → Type 0
-  Encodable stmt = few_inside stmt ≡ true → IsEncodable (select frame places needed stmt)
+  Encodable stmt = few_inside stmt ≡ true → IsEncodable (select frame places plan stmt)
 
   row_encodable : (stmts : List TacStmt) → Each Encodable stmts → all_true (map few_inside stmts) ≡ true →
-      IsEncodable (in_order frame places (map (select frame places needed) stmts))
+      IsEncodable (in_order frame places (map (select frame places plan) stmts))
   row_encodable stmts h all =
-      order_keeps frame places needed IsEncodable (straight_encodable [] tt)
+      order_keeps frame places plan IsEncodable (straight_encodable [] tt)
       (λ t o. plainly_encodable (object_read frame places t o) (object_read_instrs t o))
       (λ t l o w. plainly_encodable (short_operation frame places t l (short_form o w))
       (short_operation_instrs t l o w))
@@ -1197,7 +1198,7 @@ module _ (frame : FrameTree) (places : List Place) (needed : ℕ → Bool) (ther
       (each_encodable stmts h all)
     where
       each_encodable : (stmts : List TacStmt) → Each Encodable stmts → all_true (map few_inside stmts) ≡ true →
-          Each (λ stmt. IsEncodable (select frame places needed stmt)) stmts
+          Each (λ stmt. IsEncodable (select frame places plan stmt)) stmts
       each_encodable [] h all = tt
       each_encodable (stmt ∷ rest) h all = (
         h.0 (and_first (few_inside stmt) (all_true (map few_inside rest)) all),
@@ -1209,7 +1210,7 @@ module _ (frame : FrameTree) (places : List Place) (needed : ℕ → Bool) (ther
 
   layer_encodable : (layer : TacStmt-F TacStmt) → Inside Encodable layer →
       with_parts passes_few (map-TacStmt _ _ few_inside layer) ≡ true →
-      IsEncodable (select_step frame places needed (map-TacStmt _ _ (select frame places needed) layer))
+      IsEncodable (select_step frame places plan (map-TacStmt _ _ (select frame places plan) layer))
   layer_encodable (tac.Const dest value) h all =
       of_role (Sets dest (word_of_constant value)) _
       (plainly_encodable _ (loaded_instrs dest (word_of_constant value)))
@@ -1225,11 +1226,11 @@ module _ (frame : FrameTree) (places : List Place) (needed : ℕ → Bool) (ther
   layer_encodable (tac.Load dest place pointer) h all =
       of_role (role_of_load frame places dest place) _ (plainly_encodable _ (load_from_instrs dest place))
   layer_encodable (tac.Store place value) h all =
-      of_role (role_of_store needed place value) _ (plainly_encodable _ (store_to_instrs place value))
+      of_role (role_of_store plan.needed place value) _ (plainly_encodable _ (store_to_instrs place value))
   layer_encodable (tac.If cond first second) h all =
       let a = all_true (map few_inside first) in
       let b = all_true (map few_inside second) in
-      fork_encodable cond (map (select frame places needed) first) (map (select frame places needed) second)
+      fork_encodable cond (map (select frame places plan) first) (map (select frame places plan) second)
       (row_encodable first h.0 (and_first a (b && true) all))
       (row_encodable second h.1 (and_first b true (and_rest a (b && true) all)))
   layer_encodable (tac.Loop head body next) h all =
@@ -1237,8 +1238,8 @@ module _ (frame : FrameTree) (places : List Place) (needed : ℕ → Bool) (ther
       let b = all_true (map few_inside body) in
       let c = all_true (map few_inside next) in
       let rest = and_rest a (b && (c && true)) all in
-      cycle_encodable (select_all frame places needed head) (select_all frame places needed body) (select_all frame
-      places needed next)
+      cycle_encodable (select_all frame places plan head) (select_all frame places plan body) (select_all frame
+      places plan next)
       (row_encodable head h.0 (and_first a (b && (c && true)) all))
       (row_encodable body h.1 (and_first b (c && true) rest))
       (row_encodable next h.2 (and_first c true (and_rest b (c && true) rest)))
@@ -1261,15 +1262,15 @@ module _ (frame : FrameTree) (places : List Place) (needed : ℕ → Bool) (ther
 
   stmt_encodable : (stmt : TacStmt) → Encodable stmt
   stmt_encodable = stmt_induction Encodable (λ layer h all.
-      subst IsEncodable (sym (fold-roll-TacStmt Piece (select_step frame places needed) layer))
+      subst IsEncodable (sym (fold-roll-TacStmt Piece (select_step frame places plan) layer))
       (layer_encodable layer h (sym (fold-roll-TacStmt Bool (with_parts passes_few) layer) ∙ all)))
 
-  function_instrs : (f : TacFnTree) → f.params ≤ 8 → Fits frame places needed f.body 0 0 →
-      AreInstrLines (function_lines frame places needed f)
+  function_instrs : (f : TacFnTree) → f.params ≤ 8 → Fits frame places plan f.body 0 0 →
+      AreInstrLines (function_lines frame places plan f)
   function_instrs f few fits =
       let entered : List Instr = entrance frame places f.params in
       let left : List Instr = closing frame places f.entry in
-      let body : List Line = (select_all frame places needed f.body).lines 0 0 in
+      let body : List Line = (select_all frame places plan f.body).lines 0 0 in
       let whole = row_encodable f.body (everywhere Encodable stmt_encodable f.body) fits.few_arguments in
       both_instr_lines (plainly entered ++ body) (plainly left)
       (both_instr_lines (plainly entered) body (plainly_instrs entered (entrance_instrs f.params few))
@@ -1277,9 +1278,9 @@ module _ (frame : FrameTree) (places : List Place) (needed : ℕ → Bool) (ther
 
 -- each is an instruction, where temporaries lie in registers that there are, and jumps reach
 pub are_instrs : (f : TacFnTree) (places : List Place) (frame : FrameTree) → ArePlaces places → f.params ≤ most_params →
-    Fits frame places (needed_in f.body) f.body 0 0 → All IsInstr (code_of f places frame).instrs
+    Fits frame places (plan_of f near) f.body 0 0 → All IsInstr (code_of f places frame).instrs
 are_instrs f places frame known few fits =
     let there : (t : ℕ) → IsThere (slice_get places t) =
     λ t. place_there (length places) places t known.known in
-    all_instrs (function_lines frame places (needed_in f.body) f)
-    (function_instrs frame places (needed_in f.body) there f few fits)
+    all_instrs (function_lines frame places (plan_of f near) f)
+    (function_instrs frame places (plan_of f near) there f few fits)

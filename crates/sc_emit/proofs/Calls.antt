@@ -291,13 +291,13 @@ module _ (T : Setting) (R : Running) (formed : IsWellFormed T.image) (inputs : A
   -- The arguments, and what else is prepared.
 
   pub passes_args : (args : List ℕ) (dest : Option ℕ) (lives : Lives) (temps : Temps) (x : Joint) (vs : List Value) →
-      length args ≤ 8 → list_all R.needed args ≡ true → (ready : Ready T R (live_plain args dest lives) temps x) →
+      length args ≤ 8 → list_all R.plan.needed args ≡ true → (ready : Ready T R (live_plain args dest lives) temps x) →
       AreRead temps args vs → Passes T R cells nodes is placed x ready.frame ready.sp x.regs a0 args vs
   passes_args args dest lives temps x vs few needs ready read =
-      passes T R cells nodes is placed x ready.frame ready.sp (wanted R.needed (live_plain args dest lives)) temps
+      passes T R cells nodes is placed x ready.frame ready.sp (wanted R.plan.needed (live_plain args dest lives)) temps
       ready.held x.regs a0 args vs (omega arith) (omega (arith, few))
-      (λ t e. and_from (live_plain args dest lives t) (R.needed t) (or_left (is_one t args) _ e)
-      (one_of_all R.needed args t needs e)) read refl (λ q h. refl)
+      (λ t e. and_from (live_plain args dest lives t) (R.plan.needed t) (or_left (is_one t args) _ e)
+      (one_of_all R.plan.needed args t needs e)) read refl (λ q h. refl)
 
   -- the arguments, and then another register that no temporary has and no argument
   pub prepared : (args : List ℕ) (x : Joint) (vs : List Value)
@@ -352,12 +352,12 @@ module _ (T : Setting) (R : Running) (formed : IsWellFormed T.image) (inputs : A
         (omega (arith, inside, long)) (omega (arith, here.aligned))).1
 
     pub call_own_follows : HasNoGap T R → (function : ℕ) (args : List ℕ) → length args ≤ 8 →
-        list_all R.needed args ≡ true →
+        list_all R.plan.needed args ≡ true →
         addresses.function function < 2 ^ 32 →
         T.makes A.here.comp (Own function) (length args) ≡ true →
         ((vs : List Value) (s : Meant) → Answers dest (calls A.here.comp (Own function) vs s)) →
         Follows T R (code_step wrapping A.here calls (tac.CallOwn dest function args))
-        (select_step frame R.places R.needed (tac.CallOwn dest function args)) (trail_step (tac.CallOwn dest function
+        (select_step frame R.places R.plan (tac.CallOwn dest function args)) (trail_step (tac.CallOwn dest function
         args))
     call_own_follows gapless function args few needs below made answers =
         let before : List Instr = pass frame R.places a0 args in
@@ -401,13 +401,13 @@ module _ (T : Setting) (R : Running) (formed : IsWellFormed T.image) (inputs : A
     abbrev entry_call : (address : ℕ) → List Instr
     entry_call address = Jalr ra first_scratch (lower_part address) ∷ receive frame R.places dest
 
-    pub call_cross_follows : (comp index : ℕ) (args : List ℕ) → length args ≤ 8 → list_all R.needed args ≡ true →
+    pub call_cross_follows : (comp index : ℕ) (args : List ℕ) → length args ≤ 8 → list_all R.plan.needed args ≡ true →
         addresses.entry comp index < 2 ^ 32 →
         addresses.entry comp index % 2 ≡ 0 →
         T.makes A.here.comp (Cross comp index) (length args) ≡ true →
         ((vs : List Value) (s : Meant) → Answers dest (calls A.here.comp (Cross comp index) vs s)) →
         Follows T R (code_step wrapping A.here calls (tac.CallCross dest comp index args))
-        (select_step frame R.places R.needed (tac.CallCross dest comp index args))
+        (select_step frame R.places R.plan (tac.CallCross dest comp index args))
         (trail_step (tac.CallCross dest comp index args))
     call_cross_follows comp index args few needs below even made answers =
         let arguments : List Instr = pass frame R.places a0 args in

@@ -46,7 +46,7 @@ module _ (T : Setting) (R : Running) (formed : IsWellFormed T.image) (inputs : A
   ready_less live less temps x fewer ready = record {
     settled = ready.settled;
     frame = ready.frame;
-    held = λ t v on. ready.held t v (wanted_less R.needed less live fewer t on);
+    held = λ t v on. ready.held t v (wanted_less R.plan.needed less live fewer t on);
     sp = ready.sp;
   }
 
@@ -78,7 +78,7 @@ module _ (T : Setting) (R : Running) (formed : IsWellFormed T.image) (inputs : A
   none_stand pc (line ∷ lines) h = absurd (omega (arith, h))
 
   module _ (cond : ℕ) (one two : Codes) (first second : Code) (fs ss : List Trail) (F : Follows T R one first (row fs))
-      (S : Follows T R two second (row ss)) (need : R.needed cond ≡ true) where
+      (S : Follows T R two second (row ss)) (need : R.plan.needed cond ≡ true) where
     abbrev trail : Trail
     trail = trail_step (tac.If cond fs ss)
 
@@ -163,7 +163,7 @@ module _ (T : Setting) (R : Running) (formed : IsWellFormed T.image) (inputs : A
           held : AtHand T R x x.regs first_scratch cond v
           held =
               brings T R x cells nodes is placed ready.frame ready.sp x.regs first_scratch cond v first_is
-              (ready.held cond v (and_from (live cond) (R.needed cond) cond_live need) known) refl (λ q h. refl)
+              (ready.held cond v (and_from (live cond) (R.plan.needed cond) cond_live need) known) refl (λ q h. refl)
 
           -- control moves on by the operand's code and the branch
           moved_to : (pc : ℕ) → Walks T.image T.inputs 1 (at (L + 4 * length before) held.after x.bytes (world T R x))
@@ -519,7 +519,7 @@ module _ (T : Setting) (R : Running) (formed : IsWellFormed T.image) (inputs : A
 
   pub fork_follows : (cond : ℕ) (one two : Codes) (first second : List Code) (fs ss : List Trail) →
       Follows T R one (in_order frame R.places first) (row fs) →
-      Follows T R two (in_order frame R.places second) (row ss) → R.needed cond ≡ true →
+      Follows T R two (in_order frame R.places second) (row ss) → R.plan.needed cond ≡ true →
       Follows T R
       (λ temps s. and_then (read R.activation.here cond temps s) (λ v s. choose v (one temps s) (two temps s)))
       (fork frame R.places cond first second) (trail_step (tac.If cond fs ss))

@@ -20,7 +20,7 @@ use Rattle.sc_emit.proofs.Straight.{comes_behind, read_goes, straight_follows}
 
 module _ (T : Setting) (R : Running) (formed : IsWellFormed T.image) (inputs : All IsWord T.inputs) (cells : List ℕ)
     (nodes : ℕ) (is : IsActivation T.performs cells R.places nodes R.activation) (placed : ArePlaced R) (calls : Calls)
-    (dest left : ℕ) (value : Constant) (o : TacOp) (apart : (left == dest) ≡ false) (need : R.needed left ≡ true) where
+    (dest left : ℕ) (value : Constant) (o : TacOp) (apart : (left == dest) ≡ false) (need : R.plan.needed left ≡ true) where
   abbrev frame : FrameTree
   frame = R.activation.frame
 
@@ -94,7 +94,7 @@ module _ (T : Setting) (R : Running) (formed : IsWellFormed T.image) (inputs : A
     settled = ready.settled;
     frame = ready.frame;
     held = λ t v on known.
-        ready.held t v (wanted_less R.needed (live_plain (left ∷ []) (Some dest) lives) (live_at both_steps lives)
+        ready.held t v (wanted_less R.plan.needed (live_plain (left ∷ []) (Some dest) lives) (live_at both_steps lives)
         (live_before lives) t on) known;
     sp = ready.sp;
   }
@@ -146,7 +146,7 @@ module _ (T : Setting) (R : Running) (formed : IsWellFormed T.image) (inputs : A
         live_before lives left (or_left (is_one left (left ∷ [])) _ only) in
         let h : AtHand T R x x.regs first_scratch left v =
         brings T R x cells nodes is placed ready.frame ready.sp x.regs first_scratch left v first_is
-        (ready.held left v (and_from (live_at both_steps lives left) (R.needed left) on need) known) refl (λ q k. refl)
+        (ready.held left v (and_from (live_at both_steps lives left) (R.plan.needed left) on need) known) refl (λ q k. refl)
         in
         let w : IsResult rd = result_is R placed dest place its in
         let piece : Computes T.image T.inputs (world T R x) (short_code rd rs (Some form)) [] h.after x.bytes rd

@@ -48,20 +48,20 @@ module _ (f : TacFnTree) (places : List Place) (frame : FrameTree) (rules : IsFu
   code = code_of f places frame
 
   abbrev lines : List Line
-  lines = function_lines frame places (needed_in f.body) f
+  lines = function_lines frame places (plan_of f near) f
 
   all_instrs : length code.instrs ≡ length lines
   all_instrs = length-map lines (λ line. line.instr)
 
-  body_within : (select_all frame places (needed_in f.body) f.body).size ≤ length lines
+  body_within : (select_all frame places (plan_of f near) f.body).size ≤ length lines
   body_within = omega (
     arith,
-    length-append (plainly (entrance frame places f.params) ++ (select_all frame places (needed_in f.body) f.body).lines
+    length-append (plainly (entrance frame places f.params) ++ (select_all frame places (plan_of f near) f.body).lines
         0 0)
         (plainly (closing frame places f.entry)),
-    length-append (plainly (entrance frame places f.params)) ((select_all frame places (needed_in f.body) f.body).lines
+    length-append (plainly (entrance frame places f.params)) ((select_all frame places (plan_of f near) f.body).lines
         0 0),
-    (row_is_sized frame places (needed_in f.body) f.body).sized 0 0,
+    (row_is_sized frame places (plan_of f near) f.body).sized 0 0,
   )
 
   temps_are : f.temps ≡ length places
@@ -79,8 +79,8 @@ module _ (f : TacFnTree) (places : List Place) (frame : FrameTree) (rules : IsFu
     body : BodyFollows T f frame places comp
     body calls follow A last run gapless =
         let R : Running = in_call T f frame places A last in
-        let size : (select_all A.frame places (needed_in f.body) f.body).size ≤ T.turn_pays =
-        subst (λ (frame : FrameTree). (select_all frame places (needed_in f.body) f.body).size ≤ T.turn_pays) (sym
+        let size : (select_all A.frame places (plan_of f near) f.body).size ≤ T.turn_pays =
+        subst (λ (frame : FrameTree). (select_all frame places (plan_of f near) f.body).size ≤ T.turn_pays) (sym
         run.frame_is)
         (omega (arith, body_within, all_instrs, is.paid)) in
         let reached : AreReached T A.here.comp is.function is.entry is.global =
@@ -89,7 +89,7 @@ module _ (f : TacFnTree) (places : List Place) (frame : FrameTree) (rules : IsFu
         subst (λ c. everywhere (calls_only (T.makes c) (T.gives c)) f.body ≡ true) (sym run.comp_is) is.calls in
         let temps : everywhere (names_own_temps (length places)) f.body ≡ true =
         subst (λ n. everywhere (names_own_temps n) f.body ≡ true) temps_are rules.own_temps in
-        subst (λ frame. Follows T R (code_does wrapping A.here calls f.body) (select_all frame places (needed_in f.body)
+        subst (λ frame. Follows T R (code_does wrapping A.here calls f.body) (select_all frame places (plan_of f near)
         f.body)
         (row (map trail f.body))) run.frame_is
         (body_follows T R is.image is.inputs f.objects f.nodes run.is (all_placed A last run.frame_is) gapless calls
@@ -127,7 +127,7 @@ module _ (f : TacFnTree) (places : List Place) (frame : FrameTree) (rules : IsFu
   -- the way in stands in front
   enters : Front (frame_taken frame.bytes) code.instrs
   enters =
-      let later : List Line = (select_all frame places (needed_in f.body) f.body).lines 0 0 ++ plainly (closing frame
+      let later : List Line = (select_all frame places (plan_of f near) f.body).lines 0 0 ++ plainly (closing frame
       places f.entry) in
       let stores : List Instr = store_arguments frame places f.params 0 in
       let instr : Line → Instr = λ line. line.instr in
@@ -135,7 +135,7 @@ module _ (f : TacFnTree) (places : List Place) (frame : FrameTree) (rules : IsFu
         more = stores ++ map instr later;
         is =
             ap (map instr) (append_assoc (plainly (entrance frame places f.params))
-            ((select_all frame places (needed_in f.body) f.body).lines 0 0) (plainly (closing frame places f.entry))) ∙
+            ((select_all frame places (plan_of f near) f.body).lines 0 0) (plainly (closing frame places f.entry))) ∙
             map-append instr (plainly (entrance frame places f.params)) later ∙
             ap (λ is. is ++ map instr later) (plain_instrs (entrance frame places f.params)) ∙
             append_assoc (frame_taken frame.bytes) stores (map instr later);

@@ -40,7 +40,7 @@ module _ (T : Setting) (R : Running) (formed : IsWellFormed T.image) (inputs : A
         settled = r.settled;
         frame = r.frame;
         held = λ t v on e.
-            r.held t v (wanted_less R.needed (live_across reads true dest lives) (live_plain reads dest lives)
+            r.held t v (wanted_less R.plan.needed (live_across reads true dest lives) (live_plain reads dest lives)
             (across_live reads dest lives) t on) e;
         sp = r.sp;
       })
@@ -60,7 +60,7 @@ module _ (T : Setting) (R : Running) (formed : IsWellFormed T.image) (inputs : A
         CallStands T (call_from T R) y target
 
     asks_prepared : (target : CallTarget) (number : ℕ) (dest : Option ℕ) (args : List ℕ) → length args ≤ 1 →
-        list_all R.needed args ≡ true → number < 2 ^ 32 → IsAsked target number →
+        list_all R.plan.needed args ≡ true → number < 2 ^ 32 → IsAsked target number →
         (lives : Lives) (temps : Temps) (x : Joint) →
         Ready T R (live_plain args dest lives) temps x →
         CodeAt T.image A.here.comp x.pc (asking number dest args) → (vs : List Value) → AreRead temps args vs →
@@ -80,7 +80,7 @@ module _ (T : Setting) (R : Running) (formed : IsWellFormed T.image) (inputs : A
         (back_at T.image A.here.comp x.pc before (Ecall ∷ receive frame R.places dest) code).0 is_number)
 
     asks : (target : CallTarget) (number : ℕ) (dest : Option ℕ) (args : List ℕ) → of_environment target ≡ true →
-        length args ≤ 1 → list_all R.needed args ≡ true → number < 2 ^ 32 → IsAsked target number →
+        length args ≤ 1 → list_all R.plan.needed args ≡ true → number < 2 ^ 32 → IsAsked target number →
         HasPlace R.places dest → T.makes A.here.comp target (length args) ≡ true →
         ((vs : List Value) (s : Meant) → Answers dest (calls A.here.comp target vs s)) →
         (lives : Lives) (temps : Temps) (x : Joint) (left : ℕ) → Ready T R (live_plain args dest lives) temps x →
@@ -96,7 +96,7 @@ module _ (T : Setting) (R : Running) (formed : IsWellFormed T.image) (inputs : A
 
     pub input_follows : (dest : Option ℕ) → HasPlace R.places dest → T.makes A.here.comp Input 0 ≡ true →
         ((vs : List Value) (s : Meant) → Answers dest (calls A.here.comp Input vs s)) →
-        Follows T R (code_step wrapping A.here calls (tac.Input dest)) (select_step frame R.places R.needed (tac.Input
+        Follows T R (code_step wrapping A.here calls (tac.Input dest)) (select_step frame R.places R.plan (tac.Input
         dest))
         (trail_step (tac.Input dest))
     input_follows dest there made answers =
@@ -110,8 +110,8 @@ module _ (T : Setting) (R : Running) (formed : IsWellFormed T.image) (inputs : A
         )) there made answers lives temps x left ready
         (all_at (IsClear R.places) (plain_points [] false dest lives) 1 _ clear refl) code)
 
-    pub output_follows : (value : ℕ) → list_all R.needed (value ∷ []) ≡ true → T.makes A.here.comp Output 1 ≡ true →
-        Follows T R (code_step wrapping A.here calls (tac.Output value)) (select_step frame R.places R.needed
+    pub output_follows : (value : ℕ) → list_all R.plan.needed (value ∷ []) ≡ true → T.makes A.here.comp Output 1 ≡ true →
+        Follows T R (code_step wrapping A.here calls (tac.Output value)) (select_step frame R.places R.plan
         (tac.Output value))
         (trail_step (tac.Output value))
     output_follows value needs made =

@@ -157,7 +157,7 @@ module _ (T : Setting) (f : TacFnTree) (frame : FrameTree) (places : List Place)
   abbrev pub BodyFollows : ℕ → Type 0
   BodyFollows comp =
       (calls : Calls) → CallsFollow T calls → (A : Activation) (last : ℕ) → IsRun comp A → HasNoGap T (in_call A last) →
-      Follows T (in_call A last) (code_does wrapping A.here calls f.body) (select_all frame places (needed_in f.body)
+      Follows T (in_call A last) (code_does wrapping A.here calls f.body) (select_all frame places (plan_of f near)
       f.body)
       (row (map trail f.body))
 
@@ -181,7 +181,7 @@ module _ (T : Setting) (f : TacFnTree) (frame : FrameTree) (places : List Place)
     function = code_function wrapping f
 
     abbrev body : Code
-    body = select_all frame places (needed_in f.body) f.body
+    body = select_all frame places (plan_of f near) f.body
 
     abbrev way_in : List Instr
     way_in = entrance frame places f.params
@@ -190,7 +190,7 @@ module _ (T : Setting) (f : TacFnTree) (frame : FrameTree) (places : List Place)
     way_out = closing frame places f.entry
 
     abbrev lines : List Line
-    lines = function_lines frame places (needed_in f.body) f
+    lines = function_lines frame places (plan_of f near) f
 
     abbrev steps : ℕ
     steps = length way_in

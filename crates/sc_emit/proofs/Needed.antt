@@ -1,4 +1,5 @@
 -- Temporaries that are read in their places: what rows of statements need, and where a store stands alone.
+use Rattle.sc_select.specs.Selection.{Plan}
 use Rattle.sc_emit.proofs.Common.{Bool, FrameTree, List, Loads, Need, None, Operates, Option, Other, Place}
 use Rattle.sc_emit.proofs.Common.{Places, Role, Sets, Some, TacStmt, TacStmt-F, [], and_first, and_from, and_parts, ap}
 use Rattle.sc_emit.proofs.Common.{eq-eqb, eqb-true, false, fold-roll-TacStmt, fork_role, if◌then◌else◌, is_one, joins}
@@ -40,9 +41,9 @@ abbrev pub gives_of : Role → Option ℕ
 gives_of (Places temp object) = Some temp
 gives_of _ = None
 
-module _ (frame : FrameTree) (places : List Place) (needed : ℕ → Bool) where
+module _ (frame : FrameTree) (places : List Place) (plan : Plan) where
   abbrev role_of : TacStmt → Role
-  role_of stmt = (select frame places needed stmt).role
+  role_of stmt = (select frame places plan stmt).role
 
   abbrev layer_need : TacStmt-F TacStmt → Need
   layer_need layer = need_step (map-TacStmt _ _ need layer)
@@ -54,12 +55,12 @@ module _ (frame : FrameTree) (places : List Place) (needed : ℕ → Bool) where
   nothing_given role its h none = ⊎_elim (λ e. ap gives_of e) (λ e. ap gives_of e ∙ none) h
 
   layer_gives : (layer : TacStmt-F TacStmt) →
-      gives_of (select_step frame places needed (map-TacStmt _ _ (select frame places needed) layer)).role ≡
+      gives_of (select_step frame places plan (map-TacStmt _ _ (select frame places plan) layer)).role ≡
       (layer_need layer).gives
   layer_gives (tac.Const dest value) = refl
   layer_gives (tac.Copy dest from) = refl
   layer_gives (tac.Op dest o left right) =
-      nothing_given _ (Operates dest left o) (operation_role frame places needed dest o left right) refl
+      nothing_given _ (Operates dest left o) (operation_role frame places plan dest o left right) refl
   layer_gives (tac.ObjectPlace dest object) = refl
   layer_gives (tac.GlobalPlace dest global) = refl
   layer_gives (tac.Load dest place pointer) = by (dest == place)
@@ -68,10 +69,10 @@ module _ (frame : FrameTree) (places : List Place) (needed : ℕ → Bool) where
       by true = refl
       by false = refl
   layer_gives (tac.Store place value) =
-      nothing_given _ (Stores place value) (store_role frame places needed place value) refl
+      nothing_given _ (Stores place value) (store_role frame places plan place value) refl
   layer_gives (tac.If cond first second) =
-      ap gives_of (fork_role frame places cond (map (select frame places needed) first)
-      (map (select frame places needed) second))
+      ap gives_of (fork_role frame places cond (map (select frame places plan) first)
+      (map (select frame places plan) second))
   layer_gives (tac.Loop head body next) = refl
   layer_gives tac.Break = refl
   layer_gives tac.Continue = refl
@@ -84,13 +85,13 @@ module _ (frame : FrameTree) (places : List Place) (needed : ℕ → Bool) where
   -- what a statement gives to its neighbour, by its role and by its need
   pub need_gives : (stmt : TacStmt) → Gives stmt
   need_gives = stmt_induction Gives (λ layer inside.
-      ap (λ p. gives_of p.role) (fold-roll-TacStmt _ (select_step frame places needed) layer) ∙ layer_gives layer ∙
+      ap (λ p. gives_of p.role) (fold-roll-TacStmt _ (select_step frame places plan) layer) ∙ layer_gives layer ∙
       sym (ap (λ (n : Need). n.gives) (fold-roll-TacStmt Need need_step layer)))
 
   -- a store, by its need
   record IsStoreAt (stmt : TacStmt) (place : ℕ) : Type 0 where
     value : ℕ
-    role_is : role_of stmt ≡ role_of_store needed place value
+    role_is : role_of stmt ≡ role_of_store plan.plan.needed place value
 
   layer_stores : (layer : TacStmt-F TacStmt) (place : ℕ) → (layer_need layer).stores ≡ Some place →
       IsStoreAt (roll-TacStmt layer) place
@@ -98,8 +99,8 @@ module _ (frame : FrameTree) (places : List Place) (needed : ℕ → Bool) where
       let same : at ≡ place = cc h in record {
         value = value;
         role_is =
-            ap (λ p. p.role) (fold-roll-TacStmt _ (select_step frame places needed) (tac.Store at value)) ∙
-            ap (λ p. role_of_store needed p value) same;
+            ap (λ p. p.role) (fold-roll-TacStmt _ (select_step frame places plan) (tac.Store at value)) ∙
+            ap (λ p. role_of_store plan.needed p value) same;
       }
   layer_stores _ place h = cc h
 
@@ -110,32 +111,32 @@ module _ (frame : FrameTree) (places : List Place) (needed : ℕ → Bool) where
       layer_stores layer place (sym (ap (λ (n : Need). n.stores) (fold-roll-TacStmt Need need_step layer)) ∙ h))
 
   -- the place of a store that isn't one with the statement before it is read
-  read_behind : (before : Role) (place value : ℕ) → list_all needed (place_needed (gives_of before) (Some place)) ≡ true
+  read_behind : (before : Role) (place value : ℕ) → list_all plan.needed (place_needed (gives_of before) (Some place)) ≡ true
       →
-      joins before (Stores place value) ≡ false → needed place ≡ true
+      joins before (Stores place value) ≡ false → plan.needed place ≡ true
   read_behind (Places temp object) place value h apart =
-      let all : list_all needed (place ∷ []) ≡ true =
-      sym (ap (λ b. list_all needed (if b then [] else place ∷ [])) apart) ∙ h in and_first (needed place) true all
-  read_behind (Loads temp) place value h apart = and_first (needed place) true h
-  read_behind (Sets temp word) place value h apart = and_first (needed place) true h
-  read_behind (Operates temp left o) place value h apart = and_first (needed place) true h
-  read_behind (Stores temp from) place value h apart = and_first (needed place) true h
-  read_behind Other place value h apart = and_first (needed place) true h
+      let all : list_all plan.needed (place ∷ []) ≡ true =
+      sym (ap (λ b. list_all plan.needed (if b then [] else place ∷ [])) apart) ∙ h in and_first (plan.needed place) true all
+  read_behind (Loads temp) place value h apart = and_first (plan.needed place) true h
+  read_behind (Sets temp word) place value h apart = and_first (plan.needed place) true h
+  read_behind (Operates temp left o) place value h apart = and_first (plan.needed place) true h
+  read_behind (Stores temp from) place value h apart = and_first (plan.needed place) true h
+  read_behind Other place value h apart = and_first (plan.needed place) true h
 
   pub store_alone : (before : Role) (stmt : TacStmt) →
-      list_all needed (place_needed (gives_of before) (need stmt).stores) ≡ true →
-      joins before (role_of stmt) ≡ false → (place : ℕ) → (need stmt).stores ≡ Some place → needed place ≡ true
-  store_alone before stmt h apart place is = by (needed place) refl
+      list_all plan.needed (place_needed (gives_of before) (need stmt).stores) ≡ true →
+      joins before (role_of stmt) ≡ false → (place : ℕ) → (need stmt).stores ≡ Some place → plan.needed place ≡ true
+  store_alone before stmt h apart place is = by (plan.needed place) refl
     where
       store : IsStoreAt stmt place
       store = stores_at stmt place is
 
-      by : (b : Bool) → needed place ≡ b → b ≡ true
+      by : (b : Bool) → plan.needed place ≡ b → b ≡ true
       by true e = refl
       by false e =
           let role : role_of stmt ≡ Stores place store.value =
           store.role_is ∙ ap (λ b. if b then Other else Stores place store.value) e in
           sym e ∙
           read_behind before place store.value
-          (subst (λ o. list_all needed (place_needed (gives_of before) o) ≡ true) is h)
+          (subst (λ o. list_all plan.needed (place_needed (gives_of before) o) ≡ true) is h)
           (sym (ap (joins before) role) ∙ apart)

@@ -39,11 +39,11 @@ module _ (T : Setting) (R : Running) (formed : IsWellFormed T.image) (inputs : A
 
     module _ (live : Set) (temps : Temps) (x : Joint) (ready : Ready T R live temps x) where
       -- one operand at hand
-      first_at_hand : (t : ℕ) (v : Value) → live t ≡ true → R.needed t ≡ true → temps t ≡ Some v →
+      first_at_hand : (t : ℕ) (v : Value) → live t ≡ true → R.plan.needed t ≡ true → temps t ≡ Some v →
           AtHand T R x x.regs first_scratch t v
       first_at_hand t v on need known =
           brings T R x cells nodes is placed ready.frame ready.sp x.regs first_scratch t v first_is
-          (ready.held t v (and_from (live t) (R.needed t) on need) known)
+          (ready.held t v (and_from (live t) (R.plan.needed t) on need) known)
           refl (λ q h. refl)
 
       -- two operands at hand
@@ -60,14 +60,14 @@ module _ (T : Setting) (R : Running) (formed : IsWellFormed T.image) (inputs : A
         same : after sp ≡ x.regs sp
         others : (q : ℕ) → HasNoOtherUse q → after q ≡ x.regs q
 
-      both_at_hand : (left right : ℕ) (v w : Value) → live left ≡ true → R.needed left ≡ true → temps left ≡ Some v →
-          live right ≡ true → R.needed right ≡ true → temps right ≡ Some w → Both left right v w
+      both_at_hand : (left right : ℕ) (v w : Value) → live left ≡ true → R.plan.needed left ≡ true → temps left ≡ Some v →
+          live right ≡ true → R.plan.needed right ≡ true → temps right ≡ Some w → Both left right v w
       both_at_hand left right v w on need known on' need' known' =
           let g : AtHand T R x x.regs first_scratch left v = first_at_hand left v on need known in
           let same : g.after sp ≡ x.regs sp = g.others sp ((λ e. omega (arith, e)), ((λ e. omega (arith, e)), tt)) in
           let h : AtHand T R x g.after second_scratch right w =
           brings T R x cells nodes is placed ready.frame ready.sp g.after second_scratch right w second_is
-          (ready.held right w (and_from (live right) (R.needed right) on' need') known') same (λ q k. g.others q
+          (ready.held right w (and_from (live right) (R.plan.needed right) on' need') known') same (λ q k. g.others q
           (k.first, (k.address, tt))) in
           record {
             one = g.word;
@@ -99,9 +99,9 @@ module _ (T : Setting) (R : Running) (formed : IsWellFormed T.image) (inputs : A
     -- Loads.
 
     pub load_follows : (dest place : ℕ) (pointer : Bool) (to : Place) → slice_get R.places dest ≡ Some to →
-        R.needed place ≡ true →
+        R.plan.needed place ≡ true →
         Follows T R (code_step wrapping R.activation.here calls (tac.Load dest place pointer))
-        (select_step frame R.places R.needed (tac.Load dest place pointer)) (trail_step (tac.Load dest place pointer))
+        (select_step frame R.places R.plan (tac.Load dest place pointer)) (trail_step (tac.Load dest place pointer))
     load_follows dest place pointer to its need =
         let rd : ℕ = result_register frame R.places dest in
         let rs : ℕ = operand frame R.places first_scratch place in
@@ -191,9 +191,9 @@ module _ (T : Setting) (R : Running) (formed : IsWellFormed T.image) (inputs : A
         by (Ok after) h = h after refl
         by (Err cause) h = inl (shows_here T (seen_from R.activation) x budget)
 
-    pub store_follows : (place value : ℕ) → R.needed place ≡ true → R.needed value ≡ true →
+    pub store_follows : (place value : ℕ) → R.plan.needed place ≡ true → R.plan.needed value ≡ true →
         Follows T R (code_step wrapping R.activation.here calls (tac.Store place value))
-        (select_step frame R.places R.needed (tac.Store place value)) (trail_step (tac.Store place value))
+        (select_step frame R.places R.plan (tac.Store place value)) (trail_step (tac.Store place value))
     store_follows place value need need' =
         let comp : ℕ = R.activation.here.comp in
         let base : ℕ = operand frame R.places first_scratch place in
@@ -202,7 +202,7 @@ module _ (T : Setting) (R : Running) (formed : IsWellFormed T.image) (inputs : A
         let last : List Instr = Store Sw base rs (pos 0) ∷ [] in
         let reads : List ℕ = place ∷ value ∷ [] in
         with_role T R (code_step wrapping R.activation.here calls (tac.Store place value))
-        (straightly frame R.places (store_to frame R.places place value)) (role_of_store R.needed place value)
+        (straightly frame R.places (store_to frame R.places place value)) (role_of_store R.plan.needed place value)
         (trail_step (tac.Store place value))
         (straight_follows T R (code_step wrapping R.activation.here calls (tac.Store place value))
         (store_to frame R.places place value) (trail_step (tac.Store place value))
@@ -333,7 +333,7 @@ module _ (T : Setting) (R : Running) (formed : IsWellFormed T.image) (inputs : A
             clear r code to its g (subst (CodeAt T.image comp x.pc) whole at_pc))) ends e f))
 
       -- an operator that takes one value
-      one_operand : takes_two o ≡ false → IsSound o → R.needed left_one ≡ true →
+      one_operand : takes_two o ≡ false → IsSound o → R.plan.needed left_one ≡ true →
           Follows T R (code_step wrapping R.activation.here calls (tac.Op dest o left_one None))
           (straightly frame R.places (Whole None)) (trail_step (tac.Op dest o left_one None))
       one_operand one for need =
@@ -377,7 +377,7 @@ module _ (T : Setting) (R : Running) (formed : IsWellFormed T.image) (inputs : A
           gets_goes (Err cause) temps s = record { grown = same s; stop = tt }
 
       -- one that takes two
-      two_operands : (right_one : ℕ) → IsSound o → R.needed left_one ≡ true → R.needed right_one ≡ true →
+      two_operands : (right_one : ℕ) → IsSound o → R.plan.needed left_one ≡ true → R.plan.needed right_one ≡ true →
           Follows T R (code_step wrapping R.activation.here calls (tac.Op dest o left_one (Some right_one)))
           (straightly frame R.places (Whole (Some right_one)))
           (trail_step (tac.Op dest o left_one (Some right_one)))
@@ -416,17 +416,17 @@ module _ (T : Setting) (R : Running) (formed : IsWellFormed T.image) (inputs : A
 
       -- with as many operands as it takes
       pub op_follows : (right : Option ℕ) → is_some right ≡ takes_two o → IsSound o →
-          list_all R.needed (left_one ∷ one_or_none right) ≡ true →
+          list_all R.plan.needed (left_one ∷ one_or_none right) ≡ true →
           Follows T R (code_step wrapping R.activation.here calls (tac.Op dest o left_one right))
-          (select_step frame R.places R.needed (tac.Op dest o left_one right)) (trail_step (tac.Op dest o left_one
+          (select_step frame R.places R.plan (tac.Op dest o left_one right)) (trail_step (tac.Op dest o left_one
           right))
       op_follows None count for needs =
           with_role T R (code_step wrapping R.activation.here calls (tac.Op dest o left_one None))
           (straightly frame R.places (Whole None)) Other (trail_step (tac.Op dest o left_one None))
-          (one_operand (sym count) for (and_first (R.needed left_one) true needs))
+          (one_operand (sym count) for (and_first (R.plan.needed left_one) true needs))
       op_follows (Some right_one) count for needs =
           with_role T R (code_step wrapping R.activation.here calls (tac.Op dest o left_one (Some right_one)))
           (straightly frame R.places (Whole (Some right_one))) (role_of_operation dest o left_one (Some right_one))
           (trail_step (tac.Op dest o left_one (Some right_one))) (two_operands right_one for
-          (and_first (R.needed left_one) (R.needed right_one && true) needs)
-          (and_first (R.needed right_one) true (and_rest (R.needed left_one) (R.needed right_one && true) needs)))
+          (and_first (R.plan.needed left_one) (R.plan.needed right_one && true) needs)
+          (and_first (R.plan.needed right_one) true (and_rest (R.plan.needed left_one) (R.plan.needed right_one && true) needs)))

@@ -77,7 +77,7 @@ module _ (T : Setting) (R : Running) (formed : IsWellFormed T.image) (inputs : A
     pub const_follows : (dest : ℕ) (value : Constant) (place : Place) → slice_get R.places dest ≡ Some place →
         IsWordConstant value →
         Follows T R (code_step wrapping R.activation.here calls (tac.Const dest value))
-        (select_step frame R.places R.needed (tac.Const dest value)) (trail_step (tac.Const dest value))
+        (select_step frame R.places R.plan (tac.Const dest value)) (trail_step (tac.Const dest value))
     const_follows dest value place its small =
         let rd : ℕ = result_register frame R.places dest in
         let code : List Instr = loading rd (word_of_constant value) in
@@ -196,9 +196,9 @@ module _ (T : Setting) (R : Running) (formed : IsWellFormed T.image) (inputs : A
     only_one : (t : ℕ) → is_one t (t ∷ []) ≡ true
     only_one t = rw (eq-eqb t t refl) refl
 
-    pub copy_follows : (dest from : ℕ) (place : Place) → slice_get R.places dest ≡ Some place → R.needed from ≡ true →
+    pub copy_follows : (dest from : ℕ) (place : Place) → slice_get R.places dest ≡ Some place → R.plan.needed from ≡ true →
         Follows T R (code_step wrapping R.activation.here calls (tac.Copy dest from))
-        (select_step frame R.places R.needed (tac.Copy dest from)) (trail_step (tac.Copy dest from))
+        (select_step frame R.places R.plan (tac.Copy dest from)) (trail_step (tac.Copy dest from))
     copy_follows dest from to its need =
         straight_follows T R (code_step wrapping R.activation.here calls (tac.Copy dest from))
         (copied frame (place_of frame R.places dest) (place_of frame R.places from)) (trail_step (tac.Copy dest from))
@@ -210,7 +210,7 @@ module _ (T : Setting) (R : Running) (formed : IsWellFormed T.image) (inputs : A
         ends R.activation.here from temps (λ v s. leave Next (with_temp dest v temps) s)
         (λ v known.
         (let held : IsHeld R.activation R.places x.inj x.regs x.bytes from v =
-        ready.held from v (and_from (live_plain (from ∷ []) (Some dest) lives from) (R.needed from)
+        ready.held from v (and_from (live_plain (from ∷ []) (Some dest) lives from) (R.plan.needed from)
         (live_read (from ∷ []) (Some dest) lives from (only_one from)) need) known in
         let code : copied frame (place_of frame R.places dest) (place_of frame R.places from) ≡
         copied frame (Some to) (Some held.place) = ap₂ (copied frame) its held.its in
@@ -233,7 +233,7 @@ module _ (T : Setting) (R : Running) (formed : IsWellFormed T.image) (inputs : A
     pub object_follows : (dest object offset : ℕ) (place : Place) → slice_get R.places dest ≡ Some place →
         slice_get frame.objects object ≡ Some offset → offset ≤ frame.bytes →
         Follows T R (code_step wrapping R.activation.here calls (tac.ObjectPlace dest object))
-        (select_step frame R.places R.needed (tac.ObjectPlace dest object)) (trail_step (tac.ObjectPlace dest object))
+        (select_step frame R.places R.plan (tac.ObjectPlace dest object)) (trail_step (tac.ObjectPlace dest object))
     object_follows dest object offset place its there inside =
         let block : ℕ = R.activation.here.first + object in
         let rd : ℕ = result_register frame R.places dest in
@@ -264,7 +264,7 @@ module _ (T : Setting) (R : Running) (formed : IsWellFormed T.image) (inputs : A
     pub global_follows : (dest global : ℕ) (place : Place) → slice_get R.places dest ≡ Some place →
         global < T.globals R.activation.here.comp → IsAddress ((T.addresses R.activation.here.comp).global global) →
         Follows T R (code_step wrapping R.activation.here calls (tac.GlobalPlace dest global))
-        (select_step frame R.places R.needed (tac.GlobalPlace dest global)) (trail_step (tac.GlobalPlace dest global))
+        (select_step frame R.places R.plan (tac.GlobalPlace dest global)) (trail_step (tac.GlobalPlace dest global))
     global_follows dest global place its there address =
         let comp : ℕ = R.activation.here.comp in
         let w : ℕ = (T.addresses comp).global global in

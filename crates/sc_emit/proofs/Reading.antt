@@ -65,7 +65,7 @@ module _ (T : Setting) (R : Running) (formed : IsWellFormed T.image) (inputs : A
     settled = ready.settled;
     frame = ready.frame;
     held = λ t v on known.
-        ready.held t v (wanted_less R.needed (live_plain [] (Some dest) lives) (live_at both_trails lives)
+        ready.held t v (wanted_less R.plan.needed (live_plain [] (Some dest) lives) (live_at both_trails lives)
         (live_before_both lives) t on) known;
     sp = ready.sp;
   }

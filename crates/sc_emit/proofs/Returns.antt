@@ -137,13 +137,13 @@ module _ (T : Setting) (R : Running) (formed : IsWellFormed T.image) (inputs : A
 
   module _ (placed : ArePlaced R) (calls : Calls) where
     puts : (t : ℕ) (v : Value) (live : Set) (temps : Temps) (x : Joint) (ready : Ready T R live temps x) →
-        live t ≡ true → R.needed t ≡ true → temps t ≡ Some v →
+        live t ≡ true → R.plan.needed t ≡ true → temps t ≡ Some v →
         Puts live temps x ready (brought frame a0 (place_of frame R.places t)) (Some v)
     puts t v live temps x ready on need known =
         let b : Brings T R cells nodes is placed x ready.frame ready.sp x.regs
         (brought frame a0 (place_of frame R.places t)) a0 v =
         brings T R cells nodes is placed x ready.frame ready.sp x.regs a0 t v
-        (record { above = omega arith; below = omega arith }) (ready.held t v (and_from (live t) (R.needed t) on need)
+        (record { above = omega arith; below = omega arith }) (ready.held t v (and_from (live t) (R.plan.needed t) on need)
         known) refl
         (λ q h. refl) in
         record {
@@ -159,7 +159,7 @@ module _ (T : Setting) (R : Running) (formed : IsWellFormed T.image) (inputs : A
         read_goes A.here t temps (λ v s. leave (Return (Some v)) temps s)
         (λ v. stays (record { exit = Return (Some v); carried = temps }))
 
-    returns : (value : Option ℕ) → list_all R.needed (one_or_none value) ≡ true →
+    returns : (value : Option ℕ) → list_all R.plan.needed (one_or_none value) ≡ true →
         (lives : Lives) (temps : Temps) (x : Joint) (left : ℕ) →
         Ready T R (λ t. is_one t (one_or_none value)) temps x →
         CodeAt T.image A.here.comp x.pc (return frame R.places value) →
@@ -173,11 +173,11 @@ module _ (T : Setting) (R : Running) (formed : IsWellFormed T.image) (inputs : A
         let budget : ℕ = length (before ++ frame_left frame.bytes) + left in
         comes_read T R lives x budget ends A.here t temps (λ v s. leave (Return (Some v)) temps s)
         (λ v known. inl (leaves_with live temps x ready before (Some v) budget
-        (puts t v live temps x ready (rw (eq-eqb t t refl) refl) (and_first (R.needed t) true needs) known) (omega
+        (puts t v live temps x ready (rw (eq-eqb t t refl) refl) (and_first (R.plan.needed t) true needs) known) (omega
         arith) code))
 
-    pub return_follows : (value : Option ℕ) → list_all R.needed (one_or_none value) ≡ true →
-        Follows T R (code_step wrapping A.here calls (tac.Return value)) (select_step frame R.places R.needed
+    pub return_follows : (value : Option ℕ) → list_all R.plan.needed (one_or_none value) ≡ true →
+        Follows T R (code_step wrapping A.here calls (tac.Return value)) (select_step frame R.places R.plan
         (tac.Return value))
         (trail_step (tac.Return value))
     return_follows value needs =

@@ -1,4 +1,5 @@
 -- The code of loops: where it begins, and where it leads back.
+use Rattle.sc_select.specs.Selection.{Plan}
 use Rattle.sc_emit.proofs.Common.{Bne, Bool, Branch, Each, Ebreak, FrameTree, Inside, Instr, IsRead, IsShort, IsStored}
 use Rattle.sc_emit.proofs.Common.{Jal, Line, List, None, Option, Other, Place, Places, Role, Sets, ShortForm, Some}
 use Rattle.sc_emit.proofs.Common.{TacFnTree, TacStmt, TacStmt-F, [], and_first, and_rest, ap, append_assoc, arith}
@@ -106,44 +107,44 @@ rolled_loop : (head body next : List TacStmt) → emit.Loop head body next ≡ r
 unfolding roll-TacStmt denote.Hole.Carrier.roll
 rolled_loop head body next = refl
 
-module _ (frame : FrameTree) (places : List Place) (needed : ℕ → Bool) where
+module _ (frame : FrameTree) (places : List Place) (plan : Plan) where
   abbrev Lies : TacStmt → Type 0
-  Lies stmt = IsCodeOf stmt (select frame places needed stmt)
+  Lies stmt = IsCodeOf stmt (select frame places plan stmt)
 
   -- the second of two statements that are one piece has the code of both, and the first none
-  both_lie : (before : Role) (stmt : TacStmt) → joins before (select frame places needed stmt).role ≡ true →
-      IsCodeOf stmt (as_one frame places before (select frame places needed stmt).role)
+  both_lie : (before : Role) (stmt : TacStmt) → joins before (select frame places plan stmt).role ≡ true →
+      IsCodeOf stmt (as_one frame places before (select frame places plan stmt).role)
   both_lie before stmt h =
-      ⊎_elim read (⊎_elim store short) (which_pair before (select frame places needed stmt).role h)
+      ⊎_elim read (⊎_elim store short) (which_pair before (select frame places plan stmt).role h)
     where
-      read : IsRead before (select frame places needed stmt).role →
-          IsCodeOf stmt (as_one frame places before (select frame places needed stmt).role)
+      read : IsRead before (select frame places plan stmt).role →
+          IsCodeOf stmt (as_one frame places before (select frame places plan stmt).role)
       read pair =
-          let load = loads_it frame places needed stmt pair.temp pair.loads in
-          subst (λ r. IsCodeOf stmt (as_one frame places r (select frame places needed stmt).role)) (sym pair.gives)
+          let load = loads_it frame places plan stmt pair.temp pair.loads in
+          subst (λ r. IsCodeOf stmt (as_one frame places r (select frame places plan stmt).role)) (sym pair.gives)
           (subst (λ r. IsCodeOf stmt (as_one frame places (Places pair.temp pair.object) r)) (sym pair.loads)
           (subst (λ s. IsCodeOf s (straightly frame places (object_read frame places pair.temp pair.object)))
           (sym load.is)
           (by_instrs (tac.Load pair.temp pair.temp load.pointer) (object_read frame places pair.temp pair.object) refl
           (object_read_straight frame places pair.temp pair.object))))
 
-      store : IsStored before (select frame places needed stmt).role →
-          IsCodeOf stmt (as_one frame places before (select frame places needed stmt).role)
+      store : IsStored before (select frame places plan stmt).role →
+          IsCodeOf stmt (as_one frame places before (select frame places plan stmt).role)
       store pair =
-          let its = stores_it frame places needed stmt pair.temp pair.value pair.stores in
-          subst (λ r. IsCodeOf stmt (as_one frame places r (select frame places needed stmt).role)) (sym pair.gives)
+          let its = stores_it frame places plan stmt pair.temp pair.value pair.stores in
+          subst (λ r. IsCodeOf stmt (as_one frame places r (select frame places plan stmt).role)) (sym pair.gives)
           (subst (λ r. IsCodeOf stmt (as_one frame places (Places pair.temp pair.object) r)) (sym pair.stores)
           (subst (λ s. IsCodeOf s (straightly frame places (object_store frame places pair.value pair.object)))
           (sym its.is)
           (by_instrs (tac.Store pair.temp pair.value) (object_store frame places pair.value pair.object) refl
           (object_store_straight frame places pair.value pair.object))))
 
-      short : IsShort before (select frame places needed stmt).role →
-          IsCodeOf stmt (as_one frame places before (select frame places needed stmt).role)
+      short : IsShort before (select frame places plan stmt).role →
+          IsCodeOf stmt (as_one frame places before (select frame places plan stmt).role)
       short pair =
           let form : Option ShortForm = short_form pair.op pair.word in
-          let operation = operates_it frame places needed stmt pair.temp pair.left pair.op pair.operates in
-          subst (λ r. IsCodeOf stmt (as_one frame places r (select frame places needed stmt).role)) (sym pair.sets)
+          let operation = operates_it frame places plan stmt pair.temp pair.left pair.op pair.operates in
+          subst (λ r. IsCodeOf stmt (as_one frame places r (select frame places plan stmt).role)) (sym pair.sets)
           (subst (λ r. IsCodeOf stmt (as_one frame places (Sets pair.temp pair.word) r)) (sym pair.operates)
           (subst (λ s. IsCodeOf s (straightly frame places (short_operation frame places pair.temp pair.left form)))
           (sym operation.is)
@@ -151,60 +152,60 @@ module _ (frame : FrameTree) (places : List Place) (needed : ℕ → Bool) where
           (short_operation frame places pair.temp pair.left form) refl
           (short_straight frame places pair.temp pair.left form))))
 
-  none_lie : (stmt : TacStmt) (behind : Role) → joins (select frame places needed stmt).role behind ≡ true →
+  none_lie : (stmt : TacStmt) (behind : Role) → joins (select frame places plan stmt).role behind ≡ true →
       IsCodeOf stmt (lines_of [])
   none_lie stmt behind h =
-      ⊎_elim read (⊎_elim store short) (which_pair (select frame places needed stmt).role behind h)
+      ⊎_elim read (⊎_elim store short) (which_pair (select frame places plan stmt).role behind h)
     where
-      read : IsRead (select frame places needed stmt).role behind → IsCodeOf stmt (lines_of [])
+      read : IsRead (select frame places plan stmt).role behind → IsCodeOf stmt (lines_of [])
       read pair =
-          subst (λ s. IsCodeOf s (lines_of [])) (sym (gives_place frame places needed stmt pair.temp pair.object
+          subst (λ s. IsCodeOf s (lines_of [])) (sym (gives_place frame places plan stmt pair.temp pair.object
           pair.gives))
           (by_lines (tac.ObjectPlace pair.temp pair.object) [] refl refl)
 
-      store : IsStored (select frame places needed stmt).role behind → IsCodeOf stmt (lines_of [])
+      store : IsStored (select frame places plan stmt).role behind → IsCodeOf stmt (lines_of [])
       store pair =
           subst (λ s. IsCodeOf s (lines_of []))
-          (sym (gives_place frame places needed stmt pair.temp pair.object pair.gives))
+          (sym (gives_place frame places plan stmt pair.temp pair.object pair.gives))
           (by_lines (tac.ObjectPlace pair.temp pair.object) [] refl refl)
 
-      short : IsShort (select frame places needed stmt).role behind → IsCodeOf stmt (lines_of [])
+      short : IsShort (select frame places plan stmt).role behind → IsCodeOf stmt (lines_of [])
       short pair =
-          let set = sets_it frame places needed stmt pair.temp pair.word pair.sets in
+          let set = sets_it frame places plan stmt pair.temp pair.word pair.sets in
           subst (λ s. IsCodeOf s (lines_of [])) (sym set.is)
           (by_lines (tac.Const pair.temp set.value) [] refl refl)
 
   between_lies : (before : Role) (stmt : TacStmt) (behind : Role) → Lies stmt →
-      IsCodeOf stmt (between frame places before (select frame places needed stmt) behind)
+      IsCodeOf stmt (between frame places before (select frame places plan stmt) behind)
   between_lies before stmt behind h =
-      by (joins before (select frame places needed stmt).role) (joins (select frame places needed stmt).role behind)
+      by (joins before (select frame places plan stmt).role) (joins (select frame places plan stmt).role behind)
       refl refl
     where
-      by : (one two : Bool) → joins before (select frame places needed stmt).role ≡ one →
-          joins (select frame places needed stmt).role behind ≡ two →
-          IsCodeOf stmt (if one then as_one frame places before (select frame places needed stmt).role
-          else if two then lines_of [] else select frame places needed stmt)
+      by : (one two : Bool) → joins before (select frame places plan stmt).role ≡ one →
+          joins (select frame places plan stmt).role behind ≡ two →
+          IsCodeOf stmt (if one then as_one frame places before (select frame places plan stmt).role
+          else if two then lines_of [] else select frame places plan stmt)
       by true two e f = both_lie before stmt e
       by false true e f = none_lie stmt behind f
       by false false e f = h
 
   turn_lies : (before : Role) (stmts : List TacStmt) → Each Lies stmts → (b c : ℕ) →
-      HaveCode stmts (instrs_of ((in_turn (joined frame places before (map (select frame places needed) stmts))).lines b
+      HaveCode stmts (instrs_of ((in_turn (joined frame places before (map (select frame places plan) stmts))).lines b
       c))
   turn_lies before [] h b c = empty
   turn_lies before (stmt ∷ rest) h b c =
       let behind : Piece =
-      in_turn (joined frame places (select frame places needed stmt).role (map (select frame places needed) rest))
+      in_turn (joined frame places (select frame places plan stmt).role (map (select frame places plan) rest))
       in
-      let next : Role = role_first (map (select frame places needed) rest) in
+      let next : Role = role_first (map (select frame places plan) rest) in
       let own : List Line =
-      (between frame places before (select frame places needed stmt) next).lines (behind.size + b) (behind.size + c) in
+      (between frame places before (select frame places plan stmt) next).lines (behind.size + b) (behind.size + c) in
       subst (HaveCode (stmt ∷ rest)) (sym (map-append (λ line. line.instr) own (behind.lines b c)))
       ((between_lies before stmt next h.0).lies (behind.size + b) (behind.size + c) rest (instrs_of (behind.lines b c))
-      (turn_lies (select frame places needed stmt).role rest h.1 b c))
+      (turn_lies (select frame places plan stmt).role rest h.1 b c))
 
   row_lies : (stmts : List TacStmt) → Each Lies stmts → (b c : ℕ) →
-      HaveCode stmts (instrs_of ((select_all frame places needed stmts).lines b c))
+      HaveCode stmts (instrs_of ((select_all frame places plan stmts).lines b c))
   row_lies stmts h b c = turn_lies Other stmts h b c
 
   in_role : (stmt : TacStmt) (role : Role) (piece : Piece) → IsCodeOf stmt piece →
@@ -227,11 +228,11 @@ module _ (frame : FrameTree) (places : List Place) (needed : ℕ → Bool) where
   -- an `If` has its own before each of its parts
   parts_lie : (cond : ℕ) (first second : List TacStmt) → Each Lies first → Each Lies second →
       IsCodeOf (emit.If cond first second)
-      (choosing frame places cond (select_all frame places needed first) (select_all frame places needed second))
+      (choosing frame places cond (select_all frame places plan first) (select_all frame places plan second))
   parts_lie cond first second hf hs = record {
     lies = λ b c rest more h.
-        let e : Piece = select_all frame places needed first in
-        let f : Piece = select_all frame places needed second in
+        let e : Piece = select_all frame places plan first in
+        let f : Piece = select_all frame places plan second in
         let test : List Line = plainly (choice frame places cond) in
         let over : List Line = past f.size in
         let n : ℕ = length over + (f.size + b) in
@@ -246,11 +247,11 @@ module _ (frame : FrameTree) (places : List Place) (needed : ℕ → Bool) where
 
   -- or one without a first part has a branch before the second
   second_lies : (cond : ℕ) (second : List TacStmt) → Each Lies second →
-      IsCodeOf (emit.If cond [] second) (skipping frame places cond (select_all frame places needed second))
+      IsCodeOf (emit.If cond [] second) (skipping frame places cond (select_all frame places plan second))
   second_lies cond second hs = record {
     lies = λ b c rest more h.
         let test : List Line = plainly (choice frame places cond) in
-        let two : List Line = (select_all frame places needed second).lines b c in
+        let two : List Line = (select_all frame places plan second).lines b c in
         subst (HaveCode (emit.If cond [] second ∷ rest))
         (sym (ap (λ t. t ++ more) (map-append (λ line. line.instr) test two) ∙
         append_assoc (instrs_of test) (instrs_of two) more))
@@ -259,35 +260,35 @@ module _ (frame : FrameTree) (places : List Place) (needed : ℕ → Bool) where
 
   if_lies : (cond : ℕ) (first second : List TacStmt) → Each Lies first → Each Lies second →
       IsCodeOf (roll-TacStmt (tac.If cond first second))
-      (fork frame places cond (map (select frame places needed) first) (map (select frame places needed) second))
+      (fork frame places cond (map (select frame places plan) first) (map (select frame places plan) second))
   if_lies cond first second hf hs =
-      subst (λ stmt. IsCodeOf stmt (fork frame places cond (map (select frame places needed) first) (map (select frame
-      places needed) second))) (rolled_if cond first second) (by (length (map (select frame places needed) first) == 0
+      subst (λ stmt. IsCodeOf stmt (fork frame places cond (map (select frame places plan) first) (map (select frame
+      places plan) second))) (rolled_if cond first second) (by (length (map (select frame places plan) first) == 0
       &&
-      (select_all frame places needed second).size == 1) refl)
+      (select_all frame places plan second).size == 1) refl)
     where
-      by : (found : Bool) → (length (map (select frame places needed) first) == 0 &&
-          (select_all frame places needed second).size == 1) ≡ found → IsCodeOf (emit.If cond first second) (if found
-          then skipping frame places cond (select_all frame places needed second)
-          else choosing frame places cond (select_all frame places needed first) (select_all frame places needed
+      by : (found : Bool) → (length (map (select frame places plan) first) == 0 &&
+          (select_all frame places plan second).size == 1) ≡ found → IsCodeOf (emit.If cond first second) (if found
+          then skipping frame places cond (select_all frame places plan second)
+          else choosing frame places cond (select_all frame places plan first) (select_all frame places plan
           second))
       by true is =
-          let none : first ≡ [] = is_empty first (sym (ap (λ n. n == 0) (length-map first (select frame places needed)))
+          let none : first ≡ [] = is_empty first (sym (ap (λ n. n == 0) (length-map first (select frame places plan)))
           ∙
-          and_first (length (map (select frame places needed) first) == 0) _ is) in
+          and_first (length (map (select frame places plan) first) == 0) _ is) in
           subst (λ stmts. IsCodeOf (emit.If cond stmts second)
-          (skipping frame places cond (select_all frame places needed second))) (sym none) (second_lies cond second hs)
+          (skipping frame places cond (select_all frame places plan second))) (sym none) (second_lies cond second hs)
       by false is = parts_lie cond first second hf hs
 
   loop_lies : (head body next : List TacStmt) → Each Lies head → Each Lies body → Each Lies next →
       IsCodeOf (roll-TacStmt (tac.Loop head body next))
-      (cycle frame places (select_all frame places needed head) (select_all frame places needed body)
-      (select_all frame places needed next))
+      (cycle frame places (select_all frame places plan head) (select_all frame places plan body)
+      (select_all frame places plan next))
   loop_lies head body next hh hb hn = record {
     lies = λ b c rest more h.
-        let ph : Piece = select_all frame places needed head in
-        let pb : Piece = select_all frame places needed body in
-        let pn : Piece = select_all frame places needed next in
+        let ph : Piece = select_all frame places plan head in
+        let pb : Piece = select_all frame places plan body in
+        let pn : Piece = select_all frame places plan next in
         let lh : List Line = ph.lines (pb.size + suc pn.size) 0 in
         let lb : List Line = pb.lines (suc pn.size) 0 in
         let ln : List Line = pn.lines 1 0 in
@@ -306,9 +307,9 @@ module _ (frame : FrameTree) (places : List Place) (needed : ℕ → Bool) where
           length-map lh (λ line. line.instr),
           length-map lb (λ line. line.instr),
           length-map ln (λ line. line.instr),
-          (row_is_sized frame places needed head).sized (pb.size + suc pn.size) 0,
-          (row_is_sized frame places needed body).sized (suc pn.size) 0,
-          (row_is_sized frame places needed next).sized 1 0,
+          (row_is_sized frame places plan head).sized (pb.size + suc pn.size) 0,
+          (row_is_sized frame places plan body).sized (suc pn.size) 0,
+          (row_is_sized frame places plan next).sized 1 0,
         ) in
         subst (λ s. HaveCode (s ∷ rest)
         ((loop_begins.instr ∷ instrs_of (lh ++ (lb ++ (ln ++ (last ∷ []))))) ++ more))
@@ -323,7 +324,7 @@ module _ (frame : FrameTree) (places : List Place) (needed : ℕ → Bool) where
   }
 
   layer_lies : (layer : TacStmt-F TacStmt) → Inside Lies layer →
-      IsCodeOf (roll-TacStmt layer) (select_step frame places needed (map-TacStmt _ _ (select frame places needed)
+      IsCodeOf (roll-TacStmt layer) (select_step frame places plan (map-TacStmt _ _ (select frame places plan)
       layer))
   layer_lies (tac.Const dest value) h =
       in_role (roll-TacStmt (tac.Const dest value)) (Sets dest (word_of_constant value)) _
@@ -344,7 +345,7 @@ module _ (frame : FrameTree) (places : List Place) (needed : ℕ → Bool) where
       in_role (roll-TacStmt (tac.Load dest place pointer)) (role_of_load frame places dest place) _
       (by_instrs (tac.Load dest place pointer) _ refl (load_from_straight frame places dest place))
   layer_lies (tac.Store place value) h =
-      in_role (roll-TacStmt (tac.Store place value)) (role_of_store needed place value) _
+      in_role (roll-TacStmt (tac.Store place value)) (role_of_store plan.needed place value) _
       (by_instrs (tac.Store place value) _ refl (store_to_straight frame places place value))
   layer_lies (tac.If cond first second) h = if_lies cond first second h.0 h.1
   layer_lies (tac.Loop head body next) h = loop_lies head body next h.0 h.1 h.2
@@ -364,7 +365,7 @@ module _ (frame : FrameTree) (places : List Place) (needed : ℕ → Bool) where
 
   stmt_lies : (stmt : TacStmt) → Lies stmt
   stmt_lies = stmt_induction Lies (λ layer h.
-      subst (IsCodeOf (roll-TacStmt layer)) (sym (fold-roll-TacStmt Piece (select_step frame places needed) layer))
+      subst (IsCodeOf (roll-TacStmt layer)) (sym (fold-roll-TacStmt Piece (select_step frame places plan) layer))
       (layer_lies layer h))
 
 pub has_rounds : (f : TacFnTree) (places : List Place) (frame : FrameTree) →
@@ -372,7 +373,7 @@ pub has_rounds : (f : TacFnTree) (places : List Place) (frame : FrameTree) →
 has_rounds f places frame =
     let in_lines : List Line = plainly (entrance frame places f.params) in
     let needed : ℕ → Bool = needed_in f.body in
-    let body : List Line = (select_all frame places needed f.body).lines 0 0 in
+    let body : List Line = (select_all frame places plan f.body).lines 0 0 in
     let out_lines : List Line = plainly (closing frame places f.entry) in
     record {
       before = instrs_of in_lines;
@@ -387,8 +388,8 @@ has_rounds f places frame =
           (plainly_straight (entrance frame places f.params) (entrance_straight frame places f.params));
       out_on =
           lines_on out_lines (plainly_straight (closing frame places f.entry) (closing_straight frame places f.entry));
-      statements = row_lies frame places needed f.body (everywhere (Lies frame places needed) (stmt_lies frame places
-          needed) f.body) 0 0;
+      statements = row_lies frame places plan f.body (everywhere (Lies frame places plan) (stmt_lies frame places
+          plan) f.body) 0 0;
     }
 
 -- COUNTS

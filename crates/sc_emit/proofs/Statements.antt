@@ -67,14 +67,14 @@ module _ (T : Setting) (R : Running) (formed : IsWellFormed T.image) (inputs : A
   does = stmt_does wrapping here calls
 
   abbrev code : TacStmt → Code
-  code = select frame R.places R.needed
+  code = select frame R.places R.plan
 
   -- what is read in its place
   abbrev AllNeeded : List ℕ → Type 0
-  AllNeeded temps = list_all R.needed temps ≡ true
+  AllNeeded temps = list_all R.plan.needed temps ≡ true
 
   abbrev StoresNeeded : Need → Type 0
-  StoresNeeded need = (place : ℕ) → need.stores ≡ Some place → R.needed place ≡ true
+  StoresNeeded need = (place : ℕ) → need.stores ≡ Some place → R.plan.needed place ≡ true
 
   abbrev Followed : TacStmt → Type 0
   Followed stmt =
@@ -143,7 +143,7 @@ module _ (T : Setting) (R : Running) (formed : IsWellFormed T.image) (inputs : A
       subst (λ (n : Need). AllNeeded n.reads) (ap need same ∙ fold-roll-TacStmt Need need_step layer) h
 
   -- a variable that is assigned, by two statements
-  assigns_follow_here : (temp object value : ℕ) (lone : R.needed temp ≡ false) (wants : R.needed value ≡ true) →
+  assigns_follow_here : (temp object value : ℕ) (lone : R.plan.needed temp ≡ false) (wants : R.plan.needed value ≡ true) →
       PassesAll tests (roll-TacStmt (tac.ObjectPlace temp object)) →
       Follows T R (assigns T R formed inputs cells nodes is placed calls temp object value lone wants)
       (straightly frame R.places (object_store frame R.places value object))
@@ -175,7 +175,7 @@ module _ (T : Setting) (R : Running) (formed : IsWellFormed T.image) (inputs : A
 
   -- the operator of a temporary and a constant
   short_follows_here : (dest left : ℕ) (value : Constant) (o : TacOp) (form : ShortForm) →
-      (apart : (left == dest) ≡ false) (read : R.needed left ≡ true) → short_form o (word_of_constant value) ≡ Some form
+      (apart : (left == dest) ≡ false) (read : R.plan.needed left ≡ true) → short_form o (word_of_constant value) ≡ Some form
       →
       PassesAll tests (roll-TacStmt (tac.Const dest value)) →
       PassesAll tests (roll-TacStmt (tac.Op dest o left (Some dest))) →
@@ -267,8 +267,8 @@ module _ (T : Setting) (R : Running) (formed : IsWellFormed T.image) (inputs : A
       read : IsRead (code stmt).role (code next).role → Row before (stmt ∷ next ∷ rest)
       read pair =
           let first : stmt ≡ roll-TacStmt (tac.ObjectPlace pair.temp pair.object) =
-          gives_place frame R.places R.needed stmt pair.temp pair.object pair.gives in
-          let second = loads_it frame R.places R.needed next pair.temp pair.loads in
+          gives_place frame R.places R.plan stmt pair.temp pair.object pair.gives in
+          let second = loads_it frame R.places R.plan next pair.temp pair.loads in
           two_follow before stmt next rest (tac.ObjectPlace pair.temp pair.object)
           (tac.Load pair.temp pair.temp second.pointer)
           (straightly frame R.places (object_read frame R.places pair.temp pair.object))
@@ -281,11 +281,11 @@ module _ (T : Setting) (R : Running) (formed : IsWellFormed T.image) (inputs : A
       store : IsStored (code stmt).role (code next).role → Row before (stmt ∷ next ∷ rest)
       store pair =
           let first : stmt ≡ roll-TacStmt (tac.ObjectPlace pair.temp pair.object) =
-          gives_place frame R.places R.needed stmt pair.temp pair.object pair.gives in
-          let second = stores_it frame R.places R.needed next pair.temp pair.value pair.stores in
+          gives_place frame R.places R.plan stmt pair.temp pair.object pair.gives in
+          let second = stores_it frame R.places R.plan next pair.temp pair.value pair.stores in
           let reads_value : AllNeeded (pair.value ∷ []) = reads_of next (tac.Store pair.temp pair.value) second.is
           reads_next in
-          let wants : R.needed pair.value ≡ true = and_first (R.needed pair.value) true reads_value in
+          let wants : R.plan.needed pair.value ≡ true = and_first (R.plan.needed pair.value) true reads_value in
           two_follow before stmt next rest (tac.ObjectPlace pair.temp pair.object) (tac.Store pair.temp pair.value)
           (straightly frame R.places (object_store frame R.places pair.value pair.object))
           (assigns T R formed inputs cells nodes is placed calls pair.temp pair.object pair.value second.lone wants)
@@ -296,13 +296,13 @@ module _ (T : Setting) (R : Running) (formed : IsWellFormed T.image) (inputs : A
 
       short : IsShort (code stmt).role (code next).role → Row before (stmt ∷ next ∷ rest)
       short pair =
-          let first = sets_it frame R.places R.needed stmt pair.temp pair.word pair.sets in
-          let second = operates_it frame R.places R.needed next pair.temp pair.left pair.op pair.operates in
+          let first = sets_it frame R.places R.plan stmt pair.temp pair.word pair.sets in
+          let second = operates_it frame R.places R.plan next pair.temp pair.left pair.op pair.operates in
           let word_is : pair.word ≡ word_of_constant first.value = sym first.word_is in
           let reads_left : AllNeeded (pair.left ∷ pair.temp ∷ []) = reads_of next
           (tac.Op pair.temp pair.op pair.left (Some pair.temp)) second.is reads_next in
-          let wants : R.needed pair.left ≡ true =
-          and_first (R.needed pair.left) (R.needed pair.temp && true) reads_left in
+          let wants : R.plan.needed pair.left ≡ true =
+          and_first (R.plan.needed pair.left) (R.plan.needed pair.temp && true) reads_left in
           two_follow before stmt next rest (tac.Const pair.temp first.value)
           (tac.Op pair.temp pair.op pair.left (Some pair.temp))
           (straightly frame R.places
@@ -345,14 +345,14 @@ module _ (T : Setting) (R : Running) (formed : IsWellFormed T.image) (inputs : A
   row_parts : (before : Role) (stmt : TacStmt) (rest : List TacStmt) → RowNeeds before (stmt ∷ rest) →
       RowParts before stmt rest
   row_parts before stmt rest h =
-      let first = all_append R.needed (place_needed (gives_of before) (need stmt).stores)
+      let first = all_append R.plan.needed (place_needed (gives_of before) (need stmt).stores)
       ((need stmt).reads ++ row_needs (need stmt).gives (map need rest)) h in
-      let second = all_append R.needed (need stmt).reads (row_needs (need stmt).gives (map need rest)) first.1 in
+      let second = all_append R.plan.needed (need stmt).reads (row_needs (need stmt).gives (map need rest)) first.1 in
       record {
         place = first.0;
         reads = second.0;
         behind = subst (λ g. AllNeeded (row_needs g (map need rest)))
-            (sym (need_gives frame R.places R.needed stmt)) second.1;
+            (sym (need_gives frame R.places R.plan stmt)) second.1;
       }
 
   row_from : (before : Role) (stmts : List TacStmt) → Each Followed stmts → AllPass tests stmts →
@@ -362,14 +362,14 @@ module _ (T : Setting) (R : Running) (formed : IsWellFormed T.image) (inputs : A
       let parts = row_parts before stmt [] needs in
       by_itself before stmt [] none (none_behind (code stmt).role)
       (each.0 (first_passes tests stmt [] pass) parts.reads
-      (store_alone frame R.places R.needed before stmt parts.place none)) (λ few. nothing_follows T R) few
+      (store_alone frame R.places R.plan before stmt parts.place none)) (λ few. nothing_follows T R) few
   row_from before (stmt ∷ next ∷ rest) each pass needs none few =
       let behind = rest_pass tests stmt (next ∷ rest) pass in
       let parts = row_parts before stmt (next ∷ rest) needs in
       let later = row_parts (code stmt).role next rest parts.behind in
       either_way before stmt next rest none
       (each.0 (first_passes tests stmt (next ∷ rest) pass) parts.reads
-      (store_alone frame R.places R.needed before stmt parts.place none))
+      (store_alone frame R.places R.plan before stmt parts.place none))
       (first_passes tests stmt (next ∷ rest) pass) (first_passes tests next rest behind) later.reads
       (λ alone few. row_from (code stmt).role (next ∷ rest) each.1 behind parts.behind alone few)
       (λ alone few. row_from (code next).role rest each.1.1 (rest_pass tests next rest behind) later.behind alone few)
@@ -389,9 +389,9 @@ module _ (T : Setting) (R : Running) (formed : IsWellFormed T.image) (inputs : A
   Shape layer =
       PassesHere tests layer → PassesAll tests (roll-TacStmt layer) → AllNeeded (layer_need layer).reads →
       StoresNeeded (layer_need layer) →
-      (select_step frame R.places R.needed (map-TacStmt _ _ code layer)).size ≤ T.turn_pays →
+      (select_step frame R.places R.plan (map-TacStmt _ _ code layer)).size ≤ T.turn_pays →
       Follows T R (code_step wrapping here calls (map-TacStmt _ _ does layer))
-      (select_step frame R.places R.needed (map-TacStmt _ _ code layer)) (trail_step (map-TacStmt _ _ trail layer))
+      (select_step frame R.places R.plan (map-TacStmt _ _ code layer)) (trail_step (map-TacStmt _ _ trail layer))
 
   -- shut in a record: the kernel compares clauses' types, and would open an abbreviation there
   record Level (layer : TacStmt-F TacStmt) : Type 0 where
@@ -433,7 +433,7 @@ module _ (T : Setting) (R : Running) (formed : IsWellFormed T.image) (inputs : A
   copy_level dest from h all needs at few =
       let place = place_there dest (from ∷ []) h.0 in
       copy_follows T R formed inputs cells nodes is placed calls dest from place.0 place.1
-      (and_first (R.needed from) true needs)
+      (and_first (R.plan.needed from) true needs)
 
   object_level : (dest object : ℕ) → Shape (tac.ObjectPlace dest object)
   object_level dest object h all needs at few =
@@ -454,7 +454,7 @@ module _ (T : Setting) (R : Running) (formed : IsWellFormed T.image) (inputs : A
   load_level dest place pointer h all needs at few =
       let to = place_there dest (place ∷ []) h.0 in
       load_follows T R formed inputs cells nodes is placed calls dest place pointer to.0 to.1
-      (and_first (R.needed place) true needs)
+      (and_first (R.plan.needed place) true needs)
 
   own_level : (dest : Option ℕ) (number : ℕ) (args : List ℕ) → Shape (tac.CallOwn dest number args)
   own_level dest number args h all needs at few =
@@ -483,8 +483,8 @@ module _ (T : Setting) (R : Running) (formed : IsWellFormed T.image) (inputs : A
       Shape (tac.If cond first second)
   if_level cond first second each each' h all needs at few =
       let pass = choice_passes tests cond first second all in
-      let cond_read = and_parts (R.needed cond) _ needs in
-      let inner = all_append R.needed (row_needs None (map need first)) (row_needs None (map need second))
+      let cond_read = and_parts (R.plan.needed cond) _ needs in
+      let inner = all_append R.plan.needed (row_needs None (map need first)) (row_needs None (map need second))
       cond_read.1 in
       let least = parts_least frame R.places cond (map code first) (map code second) in
       fork_follows T R formed inputs cells nodes is placed gapless cond (all_do (map does first)) (all_do (map does
@@ -496,9 +496,9 @@ module _ (T : Setting) (R : Running) (formed : IsWellFormed T.image) (inputs : A
       Shape (tac.Loop head body next)
   loop_level head body next each each' each'' h all needs at few =
       let pass = loop_passes tests head body next all in
-      let first = all_append R.needed (row_needs None (map need head))
+      let first = all_append R.plan.needed (row_needs None (map need head))
       (row_needs None (map need body) ++ row_needs None (map need next)) needs in
-      let second = all_append R.needed (row_needs None (map need body)) (row_needs None (map need next)) first.1 in
+      let second = all_append R.plan.needed (row_needs None (map need body)) (row_needs None (map need next)) first.1 in
       loop_follows T R formed inputs (all_do (map does head)) (all_do (map does body)) (all_do (map does next))
       (in_order frame R.places (map code head)) (in_order frame R.places (map code body)) (in_order frame R.places (map
       code next)) (map trail head) (map trail body)
@@ -522,7 +522,7 @@ module _ (T : Setting) (R : Running) (formed : IsWellFormed T.image) (inputs : A
   level (tac.Store place value) inner =
       record {
         holds = λ h all needs at few. store_follows T R formed inputs cells nodes is placed calls place value
-            (at place refl) (and_first (R.needed value) true needs);
+            (at place refl) (and_first (R.plan.needed value) true needs);
       }
   level (tac.If cond first second) inner = record { holds = if_level cond first second inner.0 inner.1 }
   level (tac.Loop head body next) inner = record { holds = loop_level head body next inner.0 inner.1 inner.2 }
@@ -542,8 +542,8 @@ module _ (T : Setting) (R : Running) (formed : IsWellFormed T.image) (inputs : A
 
   from_level : (layer : TacStmt-F TacStmt) → Level layer → Followed (roll-TacStmt layer)
   from_level layer l pass reads at few =
-      let c : code (roll-TacStmt layer) ≡ select_step frame R.places R.needed (map-TacStmt _ _ code layer) =
-      fold-roll-TacStmt Code (select_step frame R.places R.needed) layer in
+      let c : code (roll-TacStmt layer) ≡ select_step frame R.places R.plan (map-TacStmt _ _ code layer) =
+      fold-roll-TacStmt Code (select_step frame R.places R.plan) layer in
       let d : does (roll-TacStmt layer) ≡ code_step wrapping here calls (map-TacStmt _ _ does layer) =
       fold-roll-TacStmt Codes (code_step wrapping here calls) layer in
       let t : trail (roll-TacStmt layer) ≡ trail_step (map-TacStmt _ _ trail layer) =
@@ -554,7 +554,7 @@ module _ (T : Setting) (R : Running) (formed : IsWellFormed T.image) (inputs : A
       layer)))
       (sym c)
       (subst (λ t. Follows T R (code_step wrapping here calls (map-TacStmt _ _ does layer))
-      (select_step frame R.places R.needed (map-TacStmt _ _ code layer)) t) (sym t)
+      (select_step frame R.places R.plan (map-TacStmt _ _ code layer)) t) (sym t)
       (l.holds (passes_here tests layer pass) pass (subst (λ (n : Need). AllNeeded n.reads) n reads)
       (subst StoresNeeded n at) (subst (λ c. c.size ≤ T.turn_pays) c few))))
 
@@ -563,9 +563,9 @@ module _ (T : Setting) (R : Running) (formed : IsWellFormed T.image) (inputs : A
 
   -- statements in order
   pub body_follows : (stmts : List TacStmt) → AllPass tests stmts → AllNeeded (needs_of stmts) →
-      (select_all frame R.places R.needed
+      (select_all frame R.places R.plan
       stmts).size ≤ T.turn_pays →
-      Follows T R (code_does wrapping here calls stmts) (select_all frame R.places R.needed stmts) (row (map trail
+      Follows T R (code_does wrapping here calls stmts) (select_all frame R.places R.plan stmts) (row (map trail
       stmts))
   body_follows stmts pass needs few = row_of stmts (every stmts) pass needs few
     where

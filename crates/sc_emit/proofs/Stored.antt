@@ -17,7 +17,7 @@ use Rattle.sc_emit.proofs.Straight.{comes_behind, read_goes, straight_follows}
 
 module _ (T : Setting) (R : Running) (formed : IsWellFormed T.image) (inputs : All IsWord T.inputs) (cells : List ℕ)
     (nodes : ℕ) (is : IsActivation T.performs cells R.places nodes R.activation) (placed : ArePlaced R) (calls : Calls)
-    (temp object value : ℕ) (lone : R.needed temp ≡ false) (need : R.needed value ≡ true) where
+    (temp object value : ℕ) (lone : R.plan.needed temp ≡ false) (need : R.plan.needed value ≡ true) where
   abbrev frame : FrameTree
   frame = R.activation.frame
 
@@ -39,18 +39,18 @@ module _ (T : Setting) (R : Running) (formed : IsWellFormed T.image) (inputs : A
   both_parts = row (trail_step (tac.ObjectPlace temp object) ∷ trail_step (tac.Store temp value) ∷ [])
 
   -- what is read in its place is another temporary
-  other : (t : ℕ) → R.needed t ≡ true → t ≢ temp
-  other t h e = true≢false (sym h ∙ ap R.needed e ∙ lone)
+  other : (t : ℕ) → R.plan.needed t ≡ true → t ≢ temp
+  other t h e = true≢false (sym h ∙ ap R.plan.needed e ∙ lone)
 
-  temps_are : (temps : Temps) (t : ℕ) → R.needed t ≡ true → set temps t ≡ temps t
+  temps_are : (temps : Temps) (t : ℕ) → R.plan.needed t ≡ true → set temps t ≡ temps t
   temps_are temps t h = ap (λ b. if b then Some start else temps t) (ne_eqb t temp (other t h))
 
-  live_before : (lives : Lives) (t : ℕ) → wanted R.needed (live_plain (value ∷ []) None lives) t ≡ true →
-      wanted R.needed (live_at both_parts lives) t ≡ true
+  live_before : (lives : Lives) (t : ℕ) → wanted R.plan.needed (live_plain (value ∷ []) None lives) t ≡ true →
+      wanted R.plan.needed (live_at both_parts lives) t ≡ true
   live_before lives t h =
-      let on = and_first (live_plain (value ∷ []) None lives t) (R.needed t) h in
-      let wants = and_rest (live_plain (value ∷ []) None lives t) (R.needed t) h in
-      and_from (live_at both_parts lives t) (R.needed t)
+      let on = and_first (live_plain (value ∷ []) None lives t) (R.plan.needed t) h in
+      let wants = and_rest (live_plain (value ∷ []) None lives t) (R.plan.needed t) h in
+      and_from (live_at both_parts lives t) (R.plan.needed t)
       (by (temp == t) (value == t) (lives.behind t) (ne_eqb temp t (λ e. other t wants (sym e))) on) wants
     where
       by : (a l b : Bool) → a ≡ false → ((l || false) || (true && b)) ≡ true →
@@ -79,7 +79,7 @@ module _ (T : Setting) (R : Running) (formed : IsWellFormed T.image) (inputs : A
       settled = g.ready.settled;
       frame = g.ready.frame;
       held = λ t w on known.
-          g.ready.held t w on (sym (temps_are temps t (and_rest (live t) (R.needed t) on)) ∙ known);
+          g.ready.held t w on (sym (temps_are temps t (and_rest (live t) (R.plan.needed t) on)) ∙ known);
       sp = g.ready.sp;
     };
   }
@@ -121,7 +121,7 @@ module _ (T : Setting) (R : Running) (formed : IsWellFormed T.image) (inputs : A
         let on : live value ≡ true = or_left (is_one value (value ∷ [])) _ only in
         let h : AtHand T R x x.regs second_scratch value v =
         brings T R x cells nodes is placed ready.frame ready.sp x.regs second_scratch value v second_is
-        (ready.held value v (and_from (live value) (R.needed value) on need) known) refl (λ q k. refl) in
+        (ready.held value v (and_from (live value) (R.plan.needed value) on need) known) refl (λ q k. refl) in
         let same : h.after sp ≡ x.regs sp = h.others sp ((λ e. omega (arith, e)), ((λ e. omega (arith, e)), tt)) in
         let stands : StandsFor (x.inj comp) address start =
         start_stands T R formed inputs cells nodes is placed calls (R.activation.here.first + object) address x

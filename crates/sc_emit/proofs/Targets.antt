@@ -1,4 +1,5 @@
 -- The relocations of a function's code name what its statements name.
+use Rattle.sc_select.specs.Selection.{Plan}
 use Rattle.sc_emit.proofs.Common.{Bool, Each, FrameTree, Inside, Instr, Line, List, None, Option, Place, Some}
 use Rattle.sc_emit.proofs.Common.{TacFnTree, TacStmt, TacStmt-F, [], a0, all_true, and_first, and_from, and_rest}
 use Rattle.sc_emit.proofs.Common.{call_cross, call_own, code_of, environment_call, everywhere as each_of, fold-TacStmt}
@@ -55,24 +56,24 @@ module _ (function : ℕ → Bool) (entry : (comp index : ℕ) → Bool) (global
       (relocations_named (suc at) lines (and_rest (is_named_line line) (list_all is_named_line lines) h))
 
   -- STATEMENTS
-  module _ (frame : FrameTree) (places : List Place) (needed : ℕ → Bool) where
+  module _ (frame : FrameTree) (places : List Place) (plan : Plan) where
     abbrev named_inside : TacStmt → Bool
     named_inside = fold-TacStmt Bool (with_parts own)
 
     abbrev Named : TacStmt → Type 0
-    Named stmt = named_inside stmt ≡ true → PassesAll is_named_line (select frame places needed stmt)
+    Named stmt = named_inside stmt ≡ true → PassesAll is_named_line (select frame places plan stmt)
 
     row_named : (stmts : List TacStmt) → Each Named stmts → all_true (map named_inside stmts) ≡ true →
-        PassesAll is_named_line (in_order frame places (map (select frame places needed) stmts))
+        PassesAll is_named_line (in_order frame places (map (select frame places plan) stmts))
     row_named stmts h all =
-        order_keeps frame places needed (PassesAll is_named_line) (record { passes = λ b c. refl })
+        order_keeps frame places plan (PassesAll is_named_line) (record { passes = λ b c. refl })
         (λ t o. record { passes = λ b c. plainly_named (object_read frame places t o) })
         (λ t l o w. record { passes = λ b c. plainly_named (short_operation frame places t l (short_form o w)) })
         (λ v o. record { passes = λ b c. plainly_named (object_store frame places v o) })
         (followed_passes is_named_line) stmts (each_named stmts h all)
       where
         each_named : (stmts : List TacStmt) → Each Named stmts → all_true (map named_inside stmts) ≡ true →
-            Each (λ stmt. PassesAll is_named_line (select frame places needed stmt)) stmts
+            Each (λ stmt. PassesAll is_named_line (select frame places plan stmt)) stmts
         each_named [] h all = tt
         each_named (stmt ∷ rest) h all = (
           h.0 (and_first (named_inside stmt) (all_true (map named_inside rest)) all),
@@ -105,7 +106,7 @@ module _ (function : ℕ → Bool) (entry : (comp index : ℕ) → Bool) (global
 
     layer_named : (layer : TacStmt-F TacStmt) → Inside Named layer →
         with_parts own (map-TacStmt _ _ named_inside layer) ≡ true →
-        PassesAll is_named_line (select_step frame places needed (map-TacStmt _ _ (select frame places needed) layer))
+        PassesAll is_named_line (select_step frame places plan (map-TacStmt _ _ (select frame places plan) layer))
     layer_named (tac.Const dest value) h all = record {
       passes = λ b c.
           plainly_named
@@ -127,15 +128,15 @@ module _ (function : ℕ → Bool) (entry : (comp index : ℕ) → Bool) (global
     layer_named (tac.If cond first second) h all =
         let a = all_true (map named_inside first) in
         let b = all_true (map named_inside second) in
-        fork_passes is_named_line named_mild frame places cond (map (select frame places needed) first)
-        (map (select frame places needed) second) (row_named first h.0 (and_first a (b && true) all))
+        fork_passes is_named_line named_mild frame places cond (map (select frame places plan) first)
+        (map (select frame places plan) second) (row_named first h.0 (and_first a (b && true) all))
         (row_named second h.1 (and_first b true (and_rest a (b && true) all)))
     layer_named (tac.Loop head body next) h all =
         let a = all_true (map named_inside head) in
         let b = all_true (map named_inside body) in
         let c = all_true (map named_inside next) in
-        cycle_passes is_named_line named_mild frame places (select_all frame places needed head)
-        (select_all frame places needed body) (select_all frame places needed next)
+        cycle_passes is_named_line named_mild frame places (select_all frame places plan head)
+        (select_all frame places plan body) (select_all frame places plan next)
         (row_named head h.0 (and_first a (b && (c && true)) all))
         (row_named body h.1 (and_first b (c && true) (and_rest a (b && (c && true)) all)))
         (row_named next h.2 (and_first c true (and_rest b (c && true) (and_rest a (b && (c && true)) all))))
@@ -150,13 +151,13 @@ module _ (function : ℕ → Bool) (entry : (comp index : ℕ) → Bool) (global
 
     stmt_named : (stmt : TacStmt) → Named stmt
     stmt_named = stmt_induction Named (λ layer h all.
-        subst (PassesAll is_named_line) (sym (fold-roll-TacStmt Piece (select_step frame places needed) layer))
+        subst (PassesAll is_named_line) (sym (fold-roll-TacStmt Piece (select_step frame places plan) layer))
         (layer_named layer h (sym (fold-roll-TacStmt Bool (with_parts own) layer) ∙ all)))
 
   pub targets_named : (f : TacFnTree) (places : List Place) (frame : FrameTree) → everywhere own f.body ≡ true →
       refers_only function entry global (code_of f places frame) ≡ true
   targets_named f places frame h =
-      relocations_named 0 (function_lines frame places (needed_in f.body) f)
-      (function_passes frame places (needed_in f.body) is_named_line named_mild f
-      (row_named frame places (needed_in f.body) f.body
-      (each_of (Named frame places (needed_in f.body)) (stmt_named frame places (needed_in f.body)) f.body) h))
+      relocations_named 0 (function_lines frame places (plan_of f near) f)
+      (function_passes frame places (plan_of f near) is_named_line named_mild f
+      (row_named frame places (plan_of f near) f.body
+      (each_of (Named frame places (plan_of f near)) (stmt_named frame places (plan_of f near)) f.body) h))

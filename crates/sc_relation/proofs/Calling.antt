@@ -1,4 +1,5 @@
 -- A call of a function, from its first instruction to its jump back: what its code begins with, and what is left of it.
+use Rattle.sc_select.specs.Selection.{Plan}
 use Rattle.sc_relation.proofs.Common.{Activation, All, Begins, BlocksMatch, Cell, Effect, FrameMatches, FrameTree}
 use Rattle.sc_relation.proofs.Common.{Function, HasRoom, IsActivation, IsFrame, IsLeft, IsWellFormed, IsWord, Joint}
 use Rattle.sc_relation.proofs.Common.{Leads, List, LiveAt, Memory as Bytes, Option, Place, Placed, Protected, Ready}
@@ -164,12 +165,12 @@ module _ (T : Setting) (formed : IsWellFormed T.image) (inputs : All IsWord T.in
       }
 
       -- the code of the body begins with all that it takes
-      pub ready_entered : (needed : Set) (last : ℕ) (live : Set) →
-          Ready T (record { activation = A; places = places; needed = needed; last = last }) live no_temps y
-      ready_entered needed last live = record {
+      pub ready_entered : (plan : Plan) (last : ℕ) (live : Set) →
+          Ready T (record { activation = A; places = places; plan = plan; last = last }) live no_temps y
+      ready_entered plan last live = record {
         settled = settled_entered;
         frame = frame_entered;
-        held = held_at_entry A places y.inj y.regs y.bytes (wanted needed live);
+        held = held_at_entry A places y.inj y.regs y.bytes (wanted plan.needed live);
         sp = enters.sp;
       }
 
@@ -299,10 +300,10 @@ module _ (T : Setting) (formed : IsWellFormed T.image) (inputs : All IsWord T.in
         }
 
       -- at the jump back the call is left
-      pub is_left : (needed : Set) (last budget : ℕ) (v : Option Value) (s : Meant) →
-          Returns T (record { activation = A; places = places; needed = needed; last = last }) y budget v s →
+      pub is_left : (plan : Plan) (last budget : ℕ) (v : Option Value) (s : Meant) →
+          Returns T (record { activation = A; places = places; plan = plan; last = last }) y budget v s →
           IsLeft T P x (n + budget) ra_is v (done P.comp f (length (x.meant.memory P.comp)) s)
-      is_left needed last budget v s r = record {
+      is_left plan last budget v s r = record {
         y = end r.y budget 1 r.leads r.settled;
         meant_is = ap (done P.comp f (length (x.meant.memory P.comp))) r.meant_is;
         jump = r.jump;

@@ -1,4 +1,5 @@
 -- What comes of a call of a function, from what comes of its body; and of one whose frame goes below the stack.
+use Rattle.sc_select.specs.Selection.{Plan}
 use Rattle.sc_relation.proofs.Common.{All, Begins, FrameTree, Function, FunctionGives, Grown, HasRoom, IsFrame}
 use Rattle.sc_relation.proofs.Common.{IsWellFormed, IsWord, Joint, List, Memory as Bytes, Option, Overflows, Piece}
 use Rattle.sc_relation.proofs.Common.{Place, Reached, Registers, Returns, Running, Set, Setting, Shows, Some}
@@ -47,12 +48,12 @@ module _ (T : Setting) (formed : IsWellFormed T.image) (inputs : All IsWord T.in
       (bytes : Bytes)
       (enters : Enters T formed inputs P f args address ra_is x begins frame places nodes low whole room roomy bound_is
       start n pc regs bytes)
-      (params : (o n : ℕ) → o < length args → slice_get f.cells o ≡ Some n → 1 ≤ n) (to : ℕ) (needed : Set) where
+      (params : (o n : ℕ) → o < length args → slice_get f.cells o ≡ Some n → 1 ≤ n) (to : ℕ) (plan : Plan) where
     abbrev y : Joint
     y = entered P x f args frame low pc regs bytes
 
     abbrev R : Running
-    R = record { activation = activated P x frame low ra_is; places = places; needed = needed; last = to }
+    R = record { activation = activated P x frame low ra_is; places = places; plan = plan; last = to }
 
     abbrev Q : Standpoint
     Q = seen_from R.activation
@@ -75,7 +76,7 @@ module _ (T : Setting) (formed : IsWellFormed T.image) (inputs : All IsWord T.in
         FunctionGives T P x (n + budget) ra_is (with_end piece)
     gives_entered budget (Reached v s) g =
         is_left T formed inputs P f args address ra_is x begins frame places nodes low whole room roomy bound_is start n
-        pc regs bytes enters params needed to budget v s g
+        pc regs bytes enters params plan to budget v s g
     gives_entered budget (Stopped end s) g = shows_entered budget s g
 
     overflows_entered : (budget : ℕ) (piece : Piece (Option Value)) → Overflows T Q y budget piece →

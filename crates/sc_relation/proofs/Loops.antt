@@ -225,7 +225,7 @@ module _ (T : Setting) (R : Running) (formed : IsWellFormed T.image) (words : Al
           told = ready.settled.told;
         };
         frame = ready.frame;
-        held = λ t v on. ready.held t v (wanted_less R.needed live begin less t on);
+        held = λ t v on. ready.held t v (wanted_less R.plan.needed live begin less t on);
         sp = ready.sp;
       }
 

@@ -129,8 +129,8 @@ module _ (T : Setting) (R : Running) where
         settled = settled_moved T formed inputs P x n pc regs x.bytes ready.settled
             (λ k b a i cells h on e l. refl) walks;
         frame = ready.frame;
-        held = held_kept A R.places x.inj x.inj x.regs regs x.bytes x.bytes (λ b a e. e) (wanted R.needed live)
-            (wanted R.needed live) temps (λ t on. on)
+        held = held_kept A R.places x.inj x.inj x.regs regs x.bytes x.bytes (λ b a e. e) (wanted R.plan.needed live)
+            (wanted R.plan.needed live) temps (λ t on. on)
             (λ t place on e. kept_all A x.regs regs x.bytes x.bytes others (λ k o f. refl) place) ready.held;
         sp = same ∙ ready.sp;
       };
@@ -153,11 +153,11 @@ module _ (T : Setting) (R : Running) where
         frame = frame_kept A T.image x.inj x.inj x.meant.memory x.meant.memory x.bytes later (λ b a e. e) (λ q g. g)
             h.ra
             ready.frame;
-        held = held_assigned A R.places x.inj x.inj x.regs regs x.bytes later (λ b a e. e) (wanted R.needed live)
-            (record point { live = wanted R.needed point.live }) d place v temps
-            (clear_wanted R.places R.needed point clear) assigned its
-            (λ t on e. and_from (live t) (R.needed t) (fewer t (and_first (point.live t) (R.needed t) on) e)
-            (and_rest (point.live t) (R.needed t) on)) h.others h.value ready.held;
+        held = held_assigned A R.places x.inj x.inj x.regs regs x.bytes later (λ b a e. e) (wanted R.plan.needed live)
+            (record point { live = wanted R.plan.needed point.live }) d place v temps
+            (clear_wanted R.places R.plan point clear) assigned its
+            (λ t on e. and_from (live t) (R.plan.needed t) (fewer t (and_first (point.live t) (R.plan.needed t) on) e)
+            (and_rest (point.live t) (R.plan.needed t) on)) h.others h.value ready.held;
         sp = h.sp ∙ ready.sp;
       };
     }
@@ -220,8 +220,8 @@ module _ (T : Setting) (R : Running) where
                 v after is.honest stores is_at A.here.comp)
                 (subst (λ q. word later q ≡ word x.bytes q) here (own 0 0 refl)) ready.frame;
             held = held_kept A R.places x.inj x.inj x.regs regs x.bytes later (λ b a e. e)
-                (wanted R.needed (live_plain reads None lives)) (wanted R.needed lives.behind) temps
-                (wanted_less R.needed lives.behind (live_plain reads None lives) (behind_unassigned reads lives))
+                (wanted R.plan.needed (live_plain reads None lives)) (wanted R.plan.needed lives.behind) temps
+                (wanted_less R.plan.needed lives.behind (live_plain reads None lives) (behind_unassigned reads lives))
                 (λ t place on e. kept_all A x.regs regs x.bytes later others (λ k o f. own (suc k) o f) place)
                 ready.held;
             sp = same ∙ ready.sp;
@@ -387,8 +387,8 @@ module _ (T : Setting) (R : Running) where
       settled = settled_from y settled;
       frame = frame_over_call (settled_to x ready.settled) ready.frame;
       held = held_over_call A R.places x.inj y.inj x.regs y.regs x.bytes y.bytes (effect.grows A.here.comp)
-          (wanted R.needed live) (record point { live = wanted R.needed point.live }) temps
-          (clear_wanted R.places R.needed point clear) calls (wanted_less R.needed point.live live fewer) (λ k offset e.
+          (wanted R.plan.needed live) (record point { live = wanted R.plan.needed point.live }) temps
+          (clear_wanted R.places R.plan point clear) calls (wanted_less R.plan.needed point.live live fewer) (λ k offset e.
           own_same (suc k) offset ready.frame e) ready.held;
       sp = same ∙ ready.sp;
     }
@@ -411,7 +411,7 @@ module _ (T : Setting) (R : Running) where
       settled = settled_from y settled;
       frame = frame_over_call (settled_to x ready.settled) ready.frame;
       held = held_kept A R.places x.inj y.inj x.regs y.regs x.bytes y.bytes (effect.grows A.here.comp)
-          (wanted R.needed live) (wanted R.needed live) temps (λ t on. on)
+          (wanted R.plan.needed live) (wanted R.plan.needed live) temps (λ t on. on)
           (λ t place on e. kept_all A x.regs y.regs x.bytes y.bytes others
           (λ k offset f. own_same (suc k) offset ready.frame f) place) ready.held;
       sp = same ∙ ready.sp;

@@ -3,7 +3,7 @@ use Rattle.sc_relation.specs.Common.{Break, CodeAt, Codes, Continue, Exit, Fetch
 use Rattle.sc_relation.specs.Common.{Next, Piece, Place, Reached, Return, Set, State as Meant, Stopped, Temps, Trail}
 use Rattle.sc_relation.specs.Common.{Value, a0, ahead_at, completed, low_after, ra, readings, row_first, row_fresh}
 use Rattle.sc_relation.specs.Common.{row_points, sp}
-use Rattle.sc_select.specs.Prelude.{Piece as Code}
+use Rattle.sc_select.specs.Prelude.{Piece as Code, Plan}
 use Rattle.std.specs.Prelude.{◌≡◌, ◌&&◌, ℕ, ◌+◌, ◌*◌, ◌≤◌, ◌⊎◌, pos, List, length, All, Option, None}
 use Rattle.sc_relation.specs.Frames.{Activation, FrameMatches, AreHeld}
 use Rattle.sc_relation.specs.Stretches.{Setting, Joint, Standpoint, Settled, Leads, Shows, Overflows, GivenBack}
@@ -27,12 +27,12 @@ seen_from A = record { comp = A.here.comp; cross = A.cross; bound = A.sp + A.fra
 abbrev pub wanted : (needed live : Set) → Set
 wanted needed live t = live t && needed t
 
--- the code of a function, of which a piece is a part: the call that runs it, the places of its temporaries, those that
--- are read there, and the address of its last word
+-- the code of a function, of which a piece is a part: the call that runs it, the places of its temporaries, by which
+-- plan it was chosen, and the address of its last word
 pub record Running : Type 0 where
   pub activation : Activation
   pub places : List Place
-  pub needed : Set
+  pub plan : Plan
   pub last : ℕ
 
 -- where control may go on, and the budget that is left there
@@ -56,7 +56,7 @@ module _ (T : Setting) (R : Running) where
   pub record Ready (live : Set) (temps : Temps) (x : Joint) : Type 0 where
     pub settled : Settled T (seen_from R.activation) x
     pub frame : FrameMatches T.image R.activation x.inj x.meant.memory x.bytes
-    pub held : AreHeld R.activation R.places x.inj x.regs x.bytes (wanted R.needed live) temps
+    pub held : AreHeld R.activation R.places x.inj x.regs x.bytes (wanted R.plan.needed live) temps
     pub sp : x.regs sp ≡ R.activation.sp
 
   -- the code comes to this place, with these temporaries and this state of the meaning

@@ -1,4 +1,5 @@
 -- What the code of statements in order, of choices and of loops is made of, and that the jumps of their parts reach.
+use Rattle.sc_select.specs.Selection.{Plan}
 use Rattle.sc_select.proofs.Common.{Bool, Fits, FitsBetween, FrameTree, Instr, Line, List, OnOk, Other, Piece, Place}
 use Rattle.sc_select.proofs.Common.{Role, TacStmt, [], and_first, and_rest, ap, append_assoc, ap₂, arith, as_one}
 use Rattle.sc_select.proofs.Common.{between, choice, choosing, cycle, drop, drop-cons, false, fold-TacStmt}
@@ -99,57 +100,57 @@ step_lighter stmts list at stmt same some within is =
 three_parts : (xs ys zs rest : List Line) → (xs ++ (ys ++ zs)) ++ rest ≡ xs ++ (ys ++ (zs ++ rest))
 three_parts xs ys zs rest = append_assoc xs (ys ++ zs) rest ∙ ap (λ t. xs ++ t) (append_assoc ys zs rest)
 
-module _ (frame : FrameTree) (places : List Place) (needed : ℕ → Bool) where
+module _ (frame : FrameTree) (places : List Place) (plan : Plan) where
   abbrev size : List TacStmt → ℕ
-  size stmts = (select_all frame places needed stmts).size
+  size stmts = (select_all frame places plan stmts).size
 
   -- a statement alone
-  alone : (b c : ℕ) (stmt : TacStmt) → size (stmt ∷ []) ≡ (select frame places needed stmt).size + 0
+  alone : (b c : ℕ) (stmt : TacStmt) → size (stmt ∷ []) ≡ (select frame places plan stmt).size + 0
   alone b c stmt =
-      ap (λ (behind : Bool). (if behind then nothing else select frame places needed stmt).size + 0)
-      (none_behind (select frame places needed stmt).role)
+      ap (λ (behind : Bool). (if behind then nothing else select frame places plan stmt).size + 0)
+      (none_behind (select frame places plan stmt).role)
 
   -- how many lines statements have put in front
   counted : (stmts : List TacStmt) (b c : ℕ) (new old : List Line) (n m : ℕ) → n ≡ length new → m ≡ length old →
-      new ≡ (select_all frame places needed stmts).lines b c ++ old → n ≡ size stmts + m
+      new ≡ (select_all frame places plan stmts).lines b c ++ old → n ≡ size stmts + m
   counted stmts b c new old n m hn hm h =
-      let lines : List Line = (select_all frame places needed stmts).lines b c in
+      let lines : List Line = (select_all frame places plan stmts).lines b c in
       let whole : length new ≡ length (lines ++ old) = ap length h in
-      omega (arith, hn, hm, whole, length-append lines old, (row_is_sized frame places needed stmts).sized b c)
+      omega (arith, hn, hm, whole, length-append lines old, (row_is_sized frame places plan stmts).sized b c)
 
   -- A CHOICE
   abbrev both_ways : ℕ → (first second : List TacStmt) → Bool → Piece
   both_ways cond first second found =
-      if found then skipping frame places cond (select_all frame places needed second)
-      else choosing frame places cond (select_all frame places needed first) (select_all frame places needed second)
+      if found then skipping frame places cond (select_all frame places plan second)
+      else choosing frame places cond (select_all frame places plan first) (select_all frame places plan second)
 
   -- which code a choice has, by what the test found
   fork_is : (cond : ℕ) (first second : List TacStmt) (lines : ℕ) (found is : Bool) → lines ≡ size second →
       found ≡ (length first == 0 && lines == 1) → found ≡ is →
-      select frame places needed (emit.If cond first second) ≡ both_ways cond first second is
+      select frame places plan (emit.If cond first second) ≡ both_ways cond first second is
   unfolding roll-TacStmt denote.Hole.Carrier.roll
   fork_is cond first second lines found is lines_is test found_is =
-      fold-roll-TacStmt Piece (select_step frame places needed) (tac.If cond first second) ∙
-      ap (λ n. both_ways cond first second (n == 0 && size second == 1)) (length-map first (select frame places needed))
+      fold-roll-TacStmt Piece (select_step frame places plan) (tac.If cond first second) ∙
+      ap (λ n. both_ways cond first second (n == 0 && size second == 1)) (length-map first (select frame places plan))
       ∙
       ap (λ n. both_ways cond first second (length first == 0 && n == 1)) (sym lines_is) ∙
       ap (both_ways cond first second) (sym test ∙ found_is)
 
   -- the second part has no more lines than the whole
   second_least : (cond : ℕ) (first second : List TacStmt) →
-      size second ≤ (select frame places needed (emit.If cond first second)).size
+      size second ≤ (select frame places plan (emit.If cond first second)).size
   second_least cond first second =
       by (length first == 0 && size second == 1) (fork_is cond first second (size second) _ _ refl refl refl)
     where
-      by : (found : Bool) → select frame places needed (emit.If cond first second) ≡ both_ways cond first second found →
-          size second ≤ (select frame places needed (emit.If cond first second)).size
+      by : (found : Bool) → select frame places plan (emit.If cond first second) ≡ both_ways cond first second found →
+          size second ≤ (select frame places plan (emit.If cond first second)).size
       by true is = let whole = ap (λ p. p.size) is in omega (arith, whole)
       by false is = let whole = ap (λ p. p.size) is in omega (arith, whole)
 
   pub second_fits : (cond : ℕ) (first second : List TacStmt) (b c : ℕ) →
-      Fits frame places needed (emit.If cond first second ∷ []) b c → Fits frame places needed second b c
+      Fits frame places plan (emit.If cond first second ∷ []) b c → Fits frame places plan second b c
   second_fits cond first second b c h =
-      let least : size second ≤ (select frame places needed (emit.If cond first second)).size =
+      let least : size second ≤ (select frame places plan (emit.If cond first second)).size =
       second_least cond first second in
       record {
         few_arguments = (few_in_fork cond first second h.few_arguments).1;
@@ -158,27 +159,27 @@ module _ (frame : FrameTree) (places : List Place) (needed : ℕ → Bool) where
       }
 
   -- a statement of a known kind
-  pub as_is : (stmt other : TacStmt) (b c : ℕ) → stmt ≡ other → Fits frame places needed (stmt ∷ []) b c →
-      Fits frame places needed (other ∷ []) b c
-  as_is stmt other b c is h = subst (λ s. Fits frame places needed (s ∷ []) b c) is h
+  pub as_is : (stmt other : TacStmt) (b c : ℕ) → stmt ≡ other → Fits frame places plan (stmt ∷ []) b c →
+      Fits frame places plan (other ∷ []) b c
+  as_is stmt other b c is h = subst (λ s. Fits frame places plan (s ∷ []) b c) is h
 
   written : (stmts : List TacStmt) (b c n m : ℕ) (new old : List Line) → n ≡ length new → m ≡ length old →
-      new ≡ (select_all frame places needed stmts).lines b c ++ old → n - m ≡ size stmts
+      new ≡ (select_all frame places plan stmts).lines b c ++ old → n - m ≡ size stmts
   written stmts b c n m new old hn hm h =
       let whole : n ≡ size stmts + m = counted stmts b c new old n m hn hm h in
       omega (arith, whole)
 
   -- the second part is written, and so many lines were there before
   module _ (cond : ℕ) (first second : List TacStmt) (b c : ℕ)
-      (fits : Fits frame places needed (emit.If cond first second ∷ []) b c) (old l1 : List Line) (end n1 : ℕ)
-      (n1_is : n1 ≡ length l1) (end_is : end ≡ length old) (h1 : l1 ≡ (select_all frame places needed second).lines b c
+      (fits : Fits frame places plan (emit.If cond first second ∷ []) b c) (old l1 : List Line) (end n1 : ℕ)
+      (n1_is : n1 ≡ length l1) (end_is : end ≡ length old) (h1 : l1 ≡ (select_all frame places plan second).lines b c
       ++ old)
     where
       abbrev branch : List Line
       branch = plainly (choice frame places cond)
 
       abbrev whole : Piece
-      whole = select frame places needed (emit.If cond first second)
+      whole = select frame places plan (emit.If cond first second)
 
       behind_is : n1 - end ≡ size second
       behind_is = written second b c n1 end l1 old n1_is end_is h1
@@ -199,7 +200,7 @@ module _ (frame : FrameTree) (places : List Place) (needed : ℕ → Bool) where
             OnOk r (new ≡ whole.lines b c ++ old)
         skip_returns r new is h =
             on_ok_weaker r (λ h.
-            h ∙ ap (λ t. branch ++ t) h1 ∙ sym (append_assoc branch ((select_all frame places needed second).lines b c)
+            h ∙ ap (λ t. branch ++ t) h1 ∙ sym (append_assoc branch ((select_all frame places plan second).lines b c)
             old) ∙
             ap (λ p. p.lines b c ++ old) (sym (fork_is cond first second (n1 - end) found true behind_is test is))) h
 
@@ -230,7 +231,7 @@ module _ (frame : FrameTree) (places : List Place) (needed : ℕ → Bool) where
             omega (arith, over_is, size_is, fits.continues, alone b c (emit.If cond first second)),
           )
 
-          pub first_reaches : Fits frame places needed first (n2 - end + b) (n2 - end + c)
+          pub first_reaches : Fits frame places plan first (n2 - end + b) (n2 - end + c)
           first_reaches = record {
             few_arguments = (few_in_fork cond first second fits.few_arguments).0;
             breaks = omega (arith, over_is, size_is, fits.breaks, alone b c (emit.If cond first second));
@@ -239,7 +240,7 @@ module _ (frame : FrameTree) (places : List Place) (needed : ℕ → Bool) where
 
           -- the first part is written
           module _ (l3 : List Line) (n3 : ℕ) (n3_is : n3 ≡ length l3)
-              (h3 : l3 ≡ (select_all frame places needed first).lines (n2 - end + b) (n2 - end + c) ++ l2) where
+              (h3 : l3 ≡ (select_all frame places plan first).lines (n2 - end + b) (n2 - end + c) ++ l2) where
             ahead_is : n3 - end - (n1 - end) ≡ size first + length (past k)
             ahead_is =
                 let two : length l2 ≡ length (past k ++ l1) = ap length l2_is in
@@ -255,14 +256,14 @@ module _ (frame : FrameTree) (places : List Place) (needed : ℕ → Bool) where
                 l4 ≡ plain over ∷ l3 → plain over ≡ jump_over (n3 - end - (n1 - end)) →
                 OnOk r (new ≡ branch ++ l4) → OnOk r (new ≡ whole.lines b c ++ old)
             choice_returns r over l4 new h4 over_is' h =
-                let one : List Line = (select_all frame places needed first).lines (length (past k) + (k + b))
+                let one : List Line = (select_all frame places plan first).lines (length (past k) + (k + b))
                 (length (past k) + (k + c)) in
-                let two : List Line = (select_all frame places needed second).lines b c in
+                let two : List Line = (select_all frame places plan second).lines b c in
                 let to_break : n2 - end + b ≡ length (past k) + (k + b) = omega (arith, over_is) in
                 let to_continue : n2 - end + c ≡ length (past k) + (k + c) = omega (arith, over_is) in
                 let e3 : l3 ≡ one ++ (past k ++ (two ++ old)) =
-                h3 ∙ ap (λ i. (select_all frame places needed first).lines i (n2 - end + c) ++ l2) to_break ∙
-                ap (λ i. (select_all frame places needed first).lines (length (past k) + (k + b)) i ++ l2) to_continue ∙
+                h3 ∙ ap (λ i. (select_all frame places plan first).lines i (n2 - end + c) ++ l2) to_break ∙
+                ap (λ i. (select_all frame places plan first).lines (length (past k) + (k + b)) i ++ l2) to_continue ∙
                 ap (λ t. one ++ t) (l2_is ∙ ap (λ t. past k ++ t) h1) in
                 let jump : Line = jump_over (size first + length (past k)) in
                 let e4 : l4 ≡ jump ∷ (one ++ (past k ++ (two ++ old))) =
@@ -275,22 +276,22 @@ module _ (frame : FrameTree) (places : List Place) (needed : ℕ → Bool) where
                 ap (λ p. p.lines b c ++ old) (sym whole_is)) h
 
   -- A LOOP
-  cycle_is : (head body next : List TacStmt) → select frame places needed (emit.Loop head body next) ≡ cycle frame
+  cycle_is : (head body next : List TacStmt) → select frame places plan (emit.Loop head body next) ≡ cycle frame
       places
-      (select_all frame places needed head) (select_all frame places needed body) (select_all frame places needed next)
+      (select_all frame places plan head) (select_all frame places plan body) (select_all frame places plan next)
   unfolding roll-TacStmt denote.Hole.Carrier.roll
-  cycle_is head body next = fold-roll-TacStmt Piece (select_step frame places needed) (tac.Loop head body next)
+  cycle_is head body next = fold-roll-TacStmt Piece (select_step frame places plan) (tac.Loop head body next)
 
   cycle_reaches : (head body next : List TacStmt) (b c : ℕ) →
-      Fits frame places needed (emit.Loop head body next ∷ []) b c → 2 + (size head + (size body + size next)) < 262143
+      Fits frame places plan (emit.Loop head body next ∷ []) b c → 2 + (size head + (size body + size next)) < 262143
   cycle_reaches head body next b c h =
-      let parts : (select frame places needed (emit.Loop head body next)).size ≡ 2 + (size head + (size body + size
+      let parts : (select frame places plan (emit.Loop head body next)).size ≡ 2 + (size head + (size body + size
       next)) =
       ap (λ p. p.size) (cycle_is head body next) in
       omega (arith, h.breaks, alone b c (emit.Loop head body next), parts)
 
   next_fits : (head body next : List TacStmt) (b c n : ℕ) → n ≡ 1 →
-      Fits frame places needed (emit.Loop head body next ∷ []) b c → Fits frame places needed next n 0
+      Fits frame places plan (emit.Loop head body next ∷ []) b c → Fits frame places plan next n 0
   next_fits head body next b c n is h = record {
     few_arguments = (few_in_cycle head body next h.few_arguments).2;
     breaks = omega (arith, is, cycle_reaches head body next b c h);
@@ -298,7 +299,7 @@ module _ (frame : FrameTree) (places : List Place) (needed : ℕ → Bool) where
   }
 
   body_fits : (head body next : List TacStmt) (b c n : ℕ) → n ≡ suc (size next) →
-      Fits frame places needed (emit.Loop head body next ∷ []) b c → Fits frame places needed body n 0
+      Fits frame places plan (emit.Loop head body next ∷ []) b c → Fits frame places plan body n 0
   body_fits head body next b c n is h = record {
     few_arguments = (few_in_cycle head body next h.few_arguments).1;
     breaks = omega (arith, is, cycle_reaches head body next b c h);
@@ -306,7 +307,7 @@ module _ (frame : FrameTree) (places : List Place) (needed : ℕ → Bool) where
   }
 
   head_fits : (head body next : List TacStmt) (b c n : ℕ) → n ≡ size body + suc (size next) →
-      Fits frame places needed (emit.Loop head body next ∷ []) b c → Fits frame places needed head n 0
+      Fits frame places plan (emit.Loop head body next ∷ []) b c → Fits frame places plan head n 0
   head_fits head body next b c n is h = record {
     few_arguments = (few_in_cycle head body next h.few_arguments).0;
     breaks = omega (arith, is, cycle_reaches head body next b c h);
@@ -321,15 +322,15 @@ module _ (frame : FrameTree) (places : List Place) (needed : ℕ → Bool) where
       omega (arith, start, end_is)
 
   body_distance : (next : List TacStmt) (first : Instr) (old l1 l2 : List Line) (end d : ℕ) →
-      l1 ≡ plain first ∷ old → l2 ≡ (select_all frame places needed next).lines d 0 ++ l1 → end ≡ length old →
+      l1 ≡ plain first ∷ old → l2 ≡ (select_all frame places plan next).lines d 0 ++ l1 → end ≡ length old →
       length l2 - end ≡ suc (size next)
   body_distance next first old l1 l2 end d h1 h2 end_is =
       let start : length l1 ≡ suc (length old) = ap length h1 in
       omega (arith, start, counted next d 0 l2 l1 (length l2) (length l1) refl refl h2, end_is)
 
   head_distance : (body next : List TacStmt) (first : Instr) (old l1 l2 l3 : List Line) (end d e : ℕ) →
-      l1 ≡ plain first ∷ old → l2 ≡ (select_all frame places needed next).lines d 0 ++ l1 →
-      l3 ≡ (select_all frame places needed body).lines e 0 ++ l2 → end ≡ length old →
+      l1 ≡ plain first ∷ old → l2 ≡ (select_all frame places plan next).lines d 0 ++ l1 →
+      l3 ≡ (select_all frame places plan body).lines e 0 ++ l2 → end ≡ length old →
       length l3 - end ≡ size body + suc (size next)
   head_distance body next first old l1 l2 l3 end d e h1 h2 h3 end_is =
       let start : length l1 ≡ suc (length old) = ap length h1 in
@@ -337,8 +338,8 @@ module _ (frame : FrameTree) (places : List Place) (needed : ℕ → Bool) where
       omega (arith, start, after, counted body e 0 l3 l2 (length l3) (length l2) refl refl h3, end_is)
 
   whole_distance : (head body next : List TacStmt) (first : Instr) (old l1 l2 l3 l4 : List Line)
-      (end d e g : ℕ) → l1 ≡ plain first ∷ old → l2 ≡ (select_all frame places needed next).lines d 0 ++ l1 →
-      l3 ≡ (select_all frame places needed body).lines e 0 ++ l2 → l4 ≡ (select_all frame places needed head).lines g 0
+      (end d e g : ℕ) → l1 ≡ plain first ∷ old → l2 ≡ (select_all frame places plan next).lines d 0 ++ l1 →
+      l3 ≡ (select_all frame places plan body).lines e 0 ++ l2 → l4 ≡ (select_all frame places plan head).lines g 0
       ++ l3 →
       end ≡ length old → length l4 ≡ end + suc (size head + (size body + size next))
   whole_distance head body next first old l1 l2 l3 l4 end d e g h1 h2 h3 h4 end_is =
@@ -352,8 +353,8 @@ module _ (frame : FrameTree) (places : List Place) (needed : ℕ → Bool) where
 
   -- what writing the parts needs: that some lines lie between, and that jumps reach over them
   pub next_reaches : (head body next : List TacStmt) (b c : ℕ) (first : Instr) (old l1 : List Line) (end : ℕ) →
-      Fits frame places needed (emit.Loop head body next ∷ []) b c → l1 ≡ plain first ∷ old → end ≡ length old →
-      (end ≤ length l1) × Fits frame places needed next (length l1 - end) 0
+      Fits frame places plan (emit.Loop head body next ∷ []) b c → l1 ≡ plain first ∷ old → end ≡ length old →
+      (end ≤ length l1) × Fits frame places plan next (length l1 - end) 0
   next_reaches head body next b c first old l1 end fits h1 end_is =
       let distance : length l1 - end ≡ 1 = next_distance first old l1 end h1 end_is in (
         omega (arith, distance),
@@ -362,9 +363,9 @@ module _ (frame : FrameTree) (places : List Place) (needed : ℕ → Bool) where
       )
 
   pub body_reaches : (head body next : List TacStmt) (b c : ℕ) (first : Instr) (old l1 l2 : List Line) (end d : ℕ) →
-      Fits frame places needed (emit.Loop head body next ∷ []) b c → l1 ≡ plain first ∷ old →
-      l2 ≡ (select_all frame places needed next).lines d 0 ++ l1 → end ≡ length old →
-      (end ≤ length l2) × Fits frame places needed body (length l2 - end) 0
+      Fits frame places plan (emit.Loop head body next ∷ []) b c → l1 ≡ plain first ∷ old →
+      l2 ≡ (select_all frame places plan next).lines d 0 ++ l1 → end ≡ length old →
+      (end ≤ length l2) × Fits frame places plan body (length l2 - end) 0
   body_reaches head body next b c first old l1 l2 end d fits h1 h2 end_is =
       let distance : length l2 - end ≡ suc (size next) = body_distance next first old l1 l2 end d h1 h2 end_is in (
         omega (arith, distance),
@@ -373,10 +374,10 @@ module _ (frame : FrameTree) (places : List Place) (needed : ℕ → Bool) where
       )
 
   pub head_reaches : (head body next : List TacStmt) (b c : ℕ) (first : Instr) (old l1 l2 l3 : List Line)
-      (end d e : ℕ) → Fits frame places needed (emit.Loop head body next ∷ []) b c → l1 ≡ plain first ∷ old →
-      l2 ≡ (select_all frame places needed next).lines d 0 ++ l1 → l3 ≡ (select_all frame places needed body).lines e 0
+      (end d e : ℕ) → Fits frame places plan (emit.Loop head body next ∷ []) b c → l1 ≡ plain first ∷ old →
+      l2 ≡ (select_all frame places plan next).lines d 0 ++ l1 → l3 ≡ (select_all frame places plan body).lines e 0
       ++ l2 →
-      end ≡ length old → (end ≤ length l3) × Fits frame places needed head (length l3 - end) 0
+      end ≡ length old → (end ≤ length l3) × Fits frame places plan head (length l3 - end) 0
   head_reaches head body next b c first old l1 l2 l3 end d e fits h1 h2 h3 end_is =
       let distance : length l3 - end ≡ size body + suc (size next) =
       head_distance body next first old l1 l2 l3 end d e h1 h2 h3 end_is in (
@@ -386,11 +387,11 @@ module _ (frame : FrameTree) (places : List Place) (needed : ℕ → Bool) where
       )
 
   pub back_reaches : (head body next : List TacStmt) (b c : ℕ) (first : Instr)
-      (old l1 l2 l3 l4 : List Line) (n end d e g : ℕ) → Fits frame places needed (emit.Loop head body next ∷ []) b c →
+      (old l1 l2 l3 l4 : List Line) (n end d e g : ℕ) → Fits frame places plan (emit.Loop head body next ∷ []) b c →
       l1 ≡ plain first ∷ old →
-      l2 ≡ (select_all frame places needed next).lines d 0 ++ l1 → l3 ≡ (select_all frame places needed body).lines e 0
+      l2 ≡ (select_all frame places plan next).lines d 0 ++ l1 → l3 ≡ (select_all frame places plan body).lines e 0
       ++ l2 →
-      l4 ≡ (select_all frame places needed head).lines g 0 ++ l3 → n ≡ length l4 → end ≡ length old →
+      l4 ≡ (select_all frame places plan head).lines g 0 ++ l3 → n ≡ length l4 → end ≡ length old →
       n - end - 1 < 262143
   back_reaches head body next b c first old l1 l2 l3 l4 n end d e g fits h1 h2 h3 h4 n_is end_is =
       let whole : length l4 ≡ end + suc (size head + (size body + size next)) =
@@ -402,27 +403,27 @@ module _ (frame : FrameTree) (places : List Place) (needed : ℕ → Bool) where
   pub cycle_written : (head body next : List TacStmt) (b c n end : ℕ)
       (first begin jump : Instr) (old l1 l2 l3 l4 l5 new : List Line) → n ≡ length l4 → end ≡ length old →
       plain begin ≡ loop_begins →
-      l1 ≡ plain first ∷ old → l2 ≡ (select_all frame places needed next).lines (length l1 - end) 0 ++ l1 →
-      l3 ≡ (select_all frame places needed body).lines (length l2 - end) 0 ++ l2 →
-      l4 ≡ (select_all frame places needed head).lines (length l3 - end) 0 ++ l3 → l5 ≡ plain begin ∷ l4 →
+      l1 ≡ plain first ∷ old → l2 ≡ (select_all frame places plan next).lines (length l1 - end) 0 ++ l1 →
+      l3 ≡ (select_all frame places plan body).lines (length l2 - end) 0 ++ l2 →
+      l4 ≡ (select_all frame places plan head).lines (length l3 - end) 0 ++ l3 → l5 ≡ plain begin ∷ l4 →
       plain jump ≡ jump_back (n - end - 1) →
       ((front rest : List Line) (line : Line) → l5 ≡ front ++ line ∷ rest → length rest ≡ end →
       new ≡ front ++ record line { instr = jump } ∷ rest) →
-      new ≡ (select frame places needed (emit.Loop head body next)).lines b c ++ old
+      new ≡ (select frame places plan (emit.Loop head body next)).lines b c ++ old
   cycle_written head body next b c n end first begin jump old l1 l2 l3 l4 l5 new n_is end_is opens h1 h2 h3 h4 h5 back
       replaced =
-      let xs : List Line = (select_all frame places needed head).lines (size body + suc (size next)) 0 in
-      let ys : List Line = (select_all frame places needed body).lines (suc (size next)) 0 in
-      let zs : List Line = (select_all frame places needed next).lines 1 0 in
+      let xs : List Line = (select_all frame places plan head).lines (size body + suc (size next)) 0 in
+      let ys : List Line = (select_all frame places plan body).lines (suc (size next)) 0 in
+      let zs : List Line = (select_all frame places plan next).lines 1 0 in
       let last : Line = jump_back (size head + (size body + size next)) in
       let e2 : l2 ≡ zs ++ (plain first ∷ old) =
-      h2 ∙ ap (λ n. (select_all frame places needed next).lines n 0 ++ l1) (next_distance first old l1 end h1 end_is) ∙
+      h2 ∙ ap (λ n. (select_all frame places plan next).lines n 0 ++ l1) (next_distance first old l1 end h1 end_is) ∙
       ap (λ t. zs ++ t) h1 in
       let e3 : l3 ≡ ys ++ (zs ++ (plain first ∷ old)) =
-      h3 ∙ ap (λ n. (select_all frame places needed body).lines n 0 ++ l2)
+      h3 ∙ ap (λ n. (select_all frame places plan body).lines n 0 ++ l2)
       (body_distance next first old l1 l2 end (length l1 - end) h1 h2 end_is) ∙ ap (λ t. ys ++ t) e2 in
       let e4 : l4 ≡ xs ++ (ys ++ (zs ++ (plain first ∷ old))) =
-      h4 ∙ ap (λ n. (select_all frame places needed head).lines n 0 ++ l3)
+      h4 ∙ ap (λ n. (select_all frame places plan head).lines n 0 ++ l3)
       (head_distance body next first old l1 l2 l3 end (length l1 - end) (length l2 - end) h1 h2 h3 end_is) ∙
       ap (λ t. xs ++ t) e3 in
       let e5 : l5 ≡ loop_begins ∷ (xs ++ (ys ++ (zs ++ (plain first ∷ old)))) =
@@ -445,9 +446,9 @@ module _ (frame : FrameTree) (places : List Place) (needed : ℕ → Bool) where
 
   -- a loop needs as much wherever it stands
   pub cycle_fits : (stmt : TacStmt) (head body next : List TacStmt) (b c : ℕ) → stmt ≡ emit.Loop head body next →
-      Fits frame places needed (stmt ∷ []) b c → Fits frame places needed (emit.Loop head body next ∷ []) 0 0
+      Fits frame places plan (stmt ∷ []) b c → Fits frame places plan (emit.Loop head body next ∷ []) 0 0
   cycle_fits stmt head body next b c is h =
-      let fits : Fits frame places needed (emit.Loop head body next ∷ []) b c =
+      let fits : Fits frame places plan (emit.Loop head body next ∷ []) b c =
       as_is stmt (emit.Loop head body next) b c is h in
       record {
         few_arguments = fits.few_arguments;
@@ -457,7 +458,7 @@ module _ (frame : FrameTree) (places : List Place) (needed : ℕ → Bool) where
 
   -- STATEMENTS IN ORDER
   abbrev pieces : List TacStmt → List Piece
-  pieces stmts = joined frame places Other (map (select frame places needed) stmts)
+  pieces stmts = joined frame places Other (map (select frame places plan) stmts)
 
   -- the statements from one on
   abbrev from : List TacStmt → ℕ → Piece
@@ -474,57 +475,57 @@ module _ (frame : FrameTree) (places : List Place) (needed : ℕ → Bool) where
   written_from stmts i b c n m new old hn hm h =
       let lines : List Line = (from stmts i).lines b c in
       let whole : length new ≡ length (lines ++ old) = ap length h in
-      omega (arith, hn, hm, whole, length-append lines old, (row_from_sized frame places needed stmts i).sized b c)
+      omega (arith, hn, hm, whole, length-append lines old, (row_from_sized frame places plan stmts i).sized b c)
 
   -- one of them, and those behind it
   abbrev one : List TacStmt → ℕ → TacStmt → Piece
   one stmts i stmt =
-      between frame places (role_before (map (select frame places needed) stmts) i) (select frame places needed stmt)
-      (role_first (map (select frame places needed) (drop (suc i) stmts)))
+      between frame places (role_before (map (select frame places plan) stmts) i) (select frame places plan stmt)
+      (role_first (map (select frame places plan) (drop (suc i) stmts)))
 
   selected_at : (stmts : List TacStmt) (i : ℕ) (stmt : TacStmt) → stmt ≡ get_or stmts i stmt →
-      select frame places needed stmt ≡ get_or (map (select frame places needed) stmts) i (select frame places needed
+      select frame places plan stmt ≡ get_or (map (select frame places plan) stmts) i (select frame places plan
       stmt)
   selected_at [] i stmt is = refl
-  selected_at (first ∷ rest) zero stmt is = ap (select frame places needed) is
+  selected_at (first ∷ rest) zero stmt is = ap (select frame places plan) is
   selected_at (first ∷ rest) (suc i) stmt is = selected_at rest i stmt is
 
-  before_is : (parts : List Piece) (i : ℕ) → role_in frame places needed Other parts i ≡ role_before parts i
+  before_is : (parts : List Piece) (i : ℕ) → role_in frame places plan Other parts i ≡ role_before parts i
   before_is parts zero = refl
   before_is parts (suc i) = refl
 
   parted_at : (stmts : List TacStmt) (i : ℕ) (stmt : TacStmt) → i < length stmts → stmt ≡ get_or stmts i stmt →
       drop i (pieces stmts) ≡ one stmts i stmt ∷ drop (suc i) (pieces stmts)
   parted_at stmts i stmt h is =
-      let parts : List Piece = map (select frame places needed) stmts in
-      joined_at frame places needed Other parts i (select frame places needed stmt) (omega (
+      let parts : List Piece = map (select frame places plan) stmts in
+      joined_at frame places plan Other parts i (select frame places plan stmt) (omega (
         arith,
         h,
         length-map stmts (select frame
-            places needed),
+            places plan),
       )) (selected_at stmts i stmt is) ∙
-      ap (λ role. between frame places role (select frame places needed stmt) (role_first (drop (suc i) parts)) ∷
+      ap (λ role. between frame places role (select frame places plan stmt) (role_first (drop (suc i) parts)) ∷
       drop (suc i) (pieces stmts)) (before_is parts i) ∙
-      ap (λ behind. between frame places (role_before parts i) (select frame places needed stmt) (role_first behind) ∷
-      drop (suc i) (pieces stmts)) (drop_map frame places needed stmts (suc i))
+      ap (λ behind. between frame places (role_before parts i) (select frame places plan stmt) (role_first behind) ∷
+      drop (suc i) (pieces stmts)) (drop_map frame places plan stmts (suc i))
 
   -- what the statements from one on need is no more than what all need
-  rest_reaches : (stmts : List TacStmt) (i b c : ℕ) → Fits frame places needed stmts b c →
+  rest_reaches : (stmts : List TacStmt) (i b c : ℕ) → Fits frame places plan stmts b c →
       ((from stmts i).size + b < 262143) × ((from stmts i).size + c < 262143)
   rest_reaches stmts i b c h =
       (omega (arith, turn_from (pieces stmts) i, h.breaks), omega (arith, turn_from (pieces stmts) i, h.continues))
 
   one_fits : (stmts : List TacStmt) (i : ℕ) (stmt : TacStmt) (before behind : Role) (b c n : ℕ) → i < length stmts →
       stmt ≡ get_or stmts i stmt → n ≡ (from stmts (suc i)).size →
-      before ≡ role_before (map (select frame places needed) stmts) i →
-      behind ≡ role_first (map (select frame places needed) (drop (suc i) stmts)) → Fits frame places needed stmts b c →
-      FitsBetween frame places needed before stmt behind (n + b) (n + c)
+      before ≡ role_before (map (select frame places plan) stmts) i →
+      behind ≡ role_first (map (select frame places plan) (drop (suc i) stmts)) → Fits frame places plan stmts b c →
+      FitsBetween frame places plan before stmt behind (n + b) (n + c)
   one_fits stmts i stmt before behind b c n h is n_is before_is behind_is fits =
       let parts : (from stmts i).size ≡ (one stmts i stmt).size + (from stmts (suc i)).size =
       ap (λ parts. (in_turn parts).size) (parted_at stmts i stmt h is) in
-      let same : between frame places before (select frame places needed stmt) behind ≡ one stmts i stmt =
-      ap₂ (λ r s. between frame places r (select frame places needed stmt) s) before_is behind_is in
-      let size_is : (between frame places before (select frame places needed stmt) behind).size ≡ (one stmts i
+      let same : between frame places before (select frame places plan stmt) behind ≡ one stmts i stmt =
+      ap₂ (λ r s. between frame places r (select frame places plan stmt) s) before_is behind_is in
+      let size_is : (between frame places before (select frame places plan stmt) behind).size ≡ (one stmts i
       stmt).size =
       ap (λ p. p.size) same in
       record {
@@ -549,11 +550,11 @@ module _ (frame : FrameTree) (places : List Place) (needed : ℕ → Bool) where
 
   -- the same where the statements from a number on are written, and the one before them is next
   pub step_reaches : (stmts list : List TacStmt) (at b c n m : ℕ) (now old : List Line) → list ≡ stmts →
-      Fits frame places needed stmts b c → n ≡ length now → m ≡ length old → now ≡ (from list at).lines b c ++ old →
+      Fits frame places plan stmts b c → n ≡ length now → m ≡ length old → now ≡ (from list at).lines b c ++ old →
       (n - m + b < 262143) × (n - m + c < 262143)
   step_reaches stmts list at b c n m now old same fits hn hm h =
       let size_is : n - m ≡ (from list at).size = written_from list at b c n m now old hn hm h in
-      let within : Fits frame places needed list b c = subst (λ l. Fits frame places needed l b c) (sym same) fits in
+      let within : Fits frame places plan list b c = subst (λ l. Fits frame places plan l b c) (sym same) fits in
       let reaches : ((from list at).size + b < 262143) × ((from list at).size + c < 262143) =
       rest_reaches list at b c within in
       (omega (arith, size_is, reaches.0), omega (arith, size_is, reaches.1))
@@ -566,37 +567,37 @@ module _ (frame : FrameTree) (places : List Place) (needed : ℕ → Bool) where
 
   pub step_fits : (stmts list : List TacStmt) (at b c n m : ℕ) (stmt : TacStmt) (before behind : Role)
       (now old : List Line) → list ≡ stmts → 0 < at → at ≤ length list → stmt ≡ get_or list (at - 1) stmt →
-      ((frame : FrameTree) (places : List Place) → before ≡ role_before (map (select frame places needed) list) (at -
+      ((frame : FrameTree) (places : List Place) → before ≡ role_before (map (select frame places plan) list) (at -
       1)) →
       ((frame : FrameTree) (places : List Place) →
-      behind ≡ role_first (map (select frame places needed) (drop (at - 1 + 1) list))) →
-      Fits frame places needed stmts b c → n ≡ length now → m ≡ length old → now ≡ (from list at).lines b c ++ old →
-      FitsBetween frame places needed before stmt behind (n - m + b) (n - m + c)
+      behind ≡ role_first (map (select frame places plan) (drop (at - 1 + 1) list))) →
+      Fits frame places plan stmts b c → n ≡ length now → m ≡ length old → now ≡ (from list at).lines b c ++ old →
+      FitsBetween frame places plan before stmt behind (n - m + b) (n - m + c)
   step_fits stmts list at b c n m stmt before behind now old same some within is before_is behind_is fits hn hm h =
       let next : at - 1 + 1 ≡ suc (at - 1) = omega arith in
       one_fits list (at - 1) stmt before behind b c (n - m) (omega (arith, some, within)) is
       (from_next list at n m b c now old some hn hm h) (before_is frame places)
-      (behind_is frame places ∙ ap (λ i. role_first (map (select frame places needed) (drop i list))) next)
-      (subst (λ l. Fits frame places needed l b c) (sym same) fits)
+      (behind_is frame places ∙ ap (λ i. role_first (map (select frame places plan) (drop i list))) next)
+      (subst (λ l. Fits frame places plan l b c) (sym same) fits)
 
   pub step_written : (list : List TacStmt) (at b c n m : ℕ) (stmt : TacStmt) (before behind : Role)
       (now old new : List Line) → 0 < at → at ≤ length list → stmt ≡ get_or list (at - 1) stmt →
-      ((frame : FrameTree) (places : List Place) → before ≡ role_before (map (select frame places needed) list) (at -
+      ((frame : FrameTree) (places : List Place) → before ≡ role_before (map (select frame places plan) list) (at -
       1)) →
       ((frame : FrameTree) (places : List Place) →
-      behind ≡ role_first (map (select frame places needed) (drop (at - 1 + 1) list))) →
+      behind ≡ role_first (map (select frame places plan) (drop (at - 1 + 1) list))) →
       n ≡ length now → m ≡ length old → now ≡ (from list at).lines b c ++ old →
-      new ≡ (between frame places before (select frame places needed stmt) behind).lines (n - m + b) (n - m + c) ++ now
+      new ≡ (between frame places before (select frame places plan stmt) behind).lines (n - m + b) (n - m + c) ++ now
       →
       new ≡ (from list (at - 1)).lines b c ++ old
   step_written list at b c n m stmt before behind now old new some within is before_is behind_is hn hm h k =
       let next : at ≡ suc (at - 1) = omega (arith, some) in
       let next' : at - 1 + 1 ≡ suc (at - 1) = omega arith in
       let behind_here = behind_is frame places ∙
-      ap (λ i. role_first (map (select frame places needed) (drop i list))) next' in
+      ap (λ i. role_first (map (select frame places plan) (drop i list))) next' in
       one_written list (at - 1) stmt b c (n - m) old now new (omega (arith, some, within)) is
       (from_next list at n m b c now old some hn hm h) (h ∙ ap (λ i. (from list i).lines b c ++ old) next)
-      (k ∙ ap₂ (λ r s. (between frame places r (select frame places needed stmt) s).lines (n - m + b) (n - m + c) ++
+      (k ∙ ap₂ (λ r s. (between frame places r (select frame places plan stmt) s).lines (n - m + b) (n - m + c) ++
       now)
       (before_is frame places) behind_here)
 
@@ -605,9 +606,9 @@ module _ (frame : FrameTree) (places : List Place) (needed : ℕ → Bool) where
       old ≡ (from list (length list)).lines b c ++ old
   none_written list b c old =
       ap (λ parts. (in_turn parts).lines b c ++ old)
-      (sym (all_dropped (pieces list) (length list) (joined_length frame places needed Other (map (select frame places
-      needed) list) ∙
-      length-map list (select frame places needed))))
+      (sym (all_dropped (pieces list) (length list) (joined_length frame places plan Other (map (select frame places
+      plan) list) ∙
+      length-map list (select frame places plan))))
     where
       all_dropped : (parts : List Piece) (n : ℕ) → length parts ≡ n → drop n parts ≡ []
       all_dropped [] zero h = refl
@@ -616,10 +617,10 @@ module _ (frame : FrameTree) (places : List Place) (needed : ℕ → Bool) where
       all_dropped (part ∷ parts) (suc n) h = all_dropped parts n (omega (arith, h))
 
   -- A STATEMENT BETWEEN TWO OTHERS
-  module _ (before : Role) (stmt : TacStmt) (behind role : Role) (is : role ≡ (select frame places needed stmt).role)
+  module _ (before : Role) (stmt : TacStmt) (behind role : Role) (is : role ≡ (select frame places plan stmt).role)
     where
       abbrev itself : Piece
-      itself = select frame places needed stmt
+      itself = select frame places plan stmt
 
       -- what the tests found
       first_test : (found b : Bool) → found ≡ joins before role → found ≡ b → joins before itself.role ≡ b
@@ -649,8 +650,8 @@ module _ (frame : FrameTree) (places : List Place) (needed : ℕ → Bool) where
         is_itself k =
             sym (by_tests false false (first_test found false none none_is) (second_test other false both k))
 
-        pub alone_fits : (b c : ℕ) → other ≡ false → FitsBetween frame places needed before stmt behind b c →
-            Fits frame places needed (stmt ∷ []) b c
+        pub alone_fits : (b c : ℕ) → other ≡ false → FitsBetween frame places plan before stmt behind b c →
+            Fits frame places plan (stmt ∷ []) b c
         alone_fits b c k h =
             let same : itself.size ≡ (between frame places before itself behind).size =
             ap (λ p. p.size) (is_itself k) in

@@ -1,5 +1,6 @@
 -- Pieces between others: what holds of each piece of statements holds of all of them in order, and which statements are
 -- one piece.
+use Rattle.sc_select.specs.Selection.{Plan}
 use Rattle.sc_select.proofs.Common.{Bool, Each, FrameTree, List, Loads, None, Operates, Option, Other, Piece, Place}
 use Rattle.sc_select.proofs.Common.{Places, Role, Sets, ShortForm, Some, Stores, TacOp, TacStmt, TacStmt-F, []}
 use Rattle.sc_select.proofs.Common.{and_first, and_rest, ap, ap₂, arith, as_one, between, choice, choosing, drop}
@@ -180,15 +181,15 @@ module _ (frame : FrameTree) (places : List Place) where
       by true = refl
       by false = refl
 
-module _ (frame : FrameTree) (places : List Place) (needed : ℕ → Bool) where
+module _ (frame : FrameTree) (places : List Place) (plan : Plan) where
   abbrev role_of : TacStmt → Role
-  role_of stmt = (select frame places needed stmt).role
+  role_of stmt = (select frame places plan stmt).role
 
   abbrev layer_role : TacStmt-F TacStmt → Role
-  layer_role layer = (select_step frame places needed (map-TacStmt _ _ (select frame places needed) layer)).role
+  layer_role layer = (select_step frame places plan (map-TacStmt _ _ (select frame places plan) layer)).role
 
   role_is : (layer : TacStmt-F TacStmt) → role_of (roll-TacStmt layer) ≡ layer_role layer
-  role_is layer = ap (λ p. p.role) (fold-roll-TacStmt Piece (select_step frame places needed) layer)
+  role_is layer = ap (λ p. p.role) (fold-roll-TacStmt Piece (select_step frame places plan) layer)
 
   -- which statement gives the place of a variable
   abbrev Gives : TacStmt → Type 0
@@ -210,9 +211,9 @@ module _ (frame : FrameTree) (places : List Place) (needed : ℕ → Bool) where
       by true = inr refl
       by false = inl refl
 
-  pub store_role : (place value : ℕ) → (role_of_store needed place value ≡ Other) ⊎
-      (role_of_store needed place value ≡ Stores place value)
-  store_role place value = by (needed place)
+  pub store_role : (place value : ℕ) → (role_of_store plan.needed place value ≡ Other) ⊎
+      (role_of_store plan.needed place value ≡ Stores place value)
+  store_role place value = by (plan.needed place)
     where
       by : (b : Bool) → ((if b then Other else Stores place value) ≡ Other) ⊎
           ((if b then Other else Stores place value) ≡ Stores place value)
@@ -237,7 +238,7 @@ module _ (frame : FrameTree) (places : List Place) (needed : ℕ → Bool) where
   layer_gives (tac.Store place value) temp object h =
       absurd (other_than _ _ _ (store_role place value) h (λ e. cc e) (λ e. cc e))
   layer_gives (tac.If cond first second) temp object h =
-      cc (sym (fork_role frame places cond (map (select frame places needed) first) (map (select frame places needed)
+      cc (sym (fork_role frame places cond (map (select frame places plan) first) (map (select frame places plan)
       second)) ∙ h)
   layer_gives _ temp object h = cc h
 
@@ -267,7 +268,7 @@ module _ (frame : FrameTree) (places : List Place) (needed : ℕ → Bool) where
       absurd (other_than _ _ _ (store_role place value) h (λ e. cc e) (λ e. cc e))
   layer_loads (tac.If cond first second) temp h =
       let other : Other ≡ Loads temp =
-      sym (fork_role frame places cond (map (select frame places needed) first) (map (select frame places needed)
+      sym (fork_role frame places cond (map (select frame places plan) first) (map (select frame places plan)
       second)) ∙ h in cc other
   layer_loads _ temp h = cc h
 
@@ -298,7 +299,7 @@ module _ (frame : FrameTree) (places : List Place) (needed : ℕ → Bool) where
       absurd (other_than _ _ _ (store_role place value) h (λ e. cc e) (λ e. cc e))
   layer_sets (tac.If cond first second) temp word h =
       let other : Other ≡ Sets temp word =
-      sym (fork_role frame places cond (map (select frame places needed) first) (map (select frame places needed)
+      sym (fork_role frame places cond (map (select frame places plan) first) (map (select frame places plan)
       second)) ∙ h in cc other
   layer_sets _ temp word h = cc h
 
@@ -346,7 +347,7 @@ module _ (frame : FrameTree) (places : List Place) (needed : ℕ → Bool) where
       absurd (other_than _ _ _ (store_role place value) h (λ e. cc e) (λ e. cc e))
   layer_operates (tac.If cond first second) temp left o h =
       let other : Other ≡ Operates temp left o =
-      sym (fork_role frame places cond (map (select frame places needed) first) (map (select frame places needed)
+      sym (fork_role frame places cond (map (select frame places plan) first) (map (select frame places plan)
       second)) ∙ h in cc other
   layer_operates _ temp left o h = cc h
 
@@ -360,19 +361,19 @@ module _ (frame : FrameTree) (places : List Place) (needed : ℕ → Bool) where
   -- which stores at a place that only such stores read
   pub record IsStore (stmt : TacStmt) (place value : ℕ) : Type 0 where
     pub is : stmt ≡ roll-TacStmt (tac.Store place value)
-    pub lone : needed place ≡ false
+    pub lone : plan.needed place ≡ false
 
   layer_stores : (layer : TacStmt-F TacStmt) (place value : ℕ) → layer_role layer ≡ Stores place value →
       IsStore (roll-TacStmt layer) place value
-  layer_stores (tac.Store at from) place value h = by (needed at) refl h
+  layer_stores (tac.Store at from) place value h = by (plan.needed at) refl h
     where
-      by : (b : Bool) → needed at ≡ b → (if b then Other else Stores at from) ≡ Stores place value →
+      by : (b : Bool) → plan.needed at ≡ b → (if b then Other else Stores at from) ≡ Stores place value →
           IsStore (roll-TacStmt (tac.Store at from)) place value
       by true e h = cc h
       by false e h =
           let one : at ≡ place = cc h in
           let two : from ≡ value = cc h in
-          record { is = ap₂ (λ p v. roll-TacStmt (tac.Store p v)) one two; lone = sym (ap needed one) ∙ e }
+          record { is = ap₂ (λ p v. roll-TacStmt (tac.Store p v)) one two; lone = sym (ap plan.needed one) ∙ e }
   layer_stores (tac.Op dest o left right) place value h =
       absurd (other_than _ _ _ (operation_role dest o left right) h (λ e. cc e) (λ e. cc e))
   layer_stores (tac.Load dest from pointer) place value h = absurd (by (dest == from) h)
@@ -382,7 +383,7 @@ module _ (frame : FrameTree) (places : List Place) (needed : ℕ → Bool) where
       by false h = cc h
   layer_stores (tac.If cond first second) place value h =
       let other : Other ≡ Stores place value =
-      sym (fork_role frame places cond (map (select frame places needed) first) (map (select frame places needed)
+      sym (fork_role frame places cond (map (select frame places plan) first) (map (select frame places plan)
       second)) ∙ h in
       cc other
   layer_stores _ place value h = cc h
@@ -394,31 +395,31 @@ module _ (frame : FrameTree) (places : List Place) (needed : ℕ → Bool) where
 
   -- the role of the first of those from a number on
   pub role_found : (stmts : List TacStmt) (i : ℕ) (stmt : TacStmt) → i < length stmts → stmt ≡ get_or stmts i stmt →
-      (select frame places needed stmt).role ≡ role_first (map (select frame places needed) (drop i stmts))
+      (select frame places plan stmt).role ≡ role_first (map (select frame places plan) (drop i stmts))
   role_found [] i stmt h is = absurd (omega (arith, h))
   role_found (first ∷ rest) zero stmt h is = ap role_of is
   role_found (first ∷ rest) (suc i) stmt h is = role_found rest i stmt (omega (arith, h)) is
 
   pub role_missing : (stmts : List TacStmt) (i : ℕ) → length stmts ≤ i →
-      Other ≡ role_first (map (select frame places needed) (drop i stmts))
+      Other ≡ role_first (map (select frame places plan) (drop i stmts))
   role_missing [] zero h = refl
   role_missing [] (suc i) h = refl
   role_missing (first ∷ rest) zero h = absurd (omega (arith, h))
   role_missing (first ∷ rest) (suc i) h = role_missing rest i (omega (arith, h))
 
   pub drop_map : (stmts : List TacStmt) (i : ℕ) →
-      drop i (map (select frame places needed) stmts) ≡ map (select frame places needed) (drop i stmts)
+      drop i (map (select frame places plan) stmts) ≡ map (select frame places plan) (drop i stmts)
   drop_map stmts zero = refl
   drop_map [] (suc i) = refl
   drop_map (stmt ∷ rest) (suc i) = drop_map rest i
 
   pub before_found : (stmts : List TacStmt) (i : ℕ) → (i ≡ 0 → ⊥) →
-      role_first (map (select frame places needed) (drop (i - 1) stmts)) ≡ role_before (map (select frame places needed)
+      role_first (map (select frame places plan) (drop (i - 1) stmts)) ≡ role_before (map (select frame places plan)
       stmts) i
   before_found stmts zero h = absurd (h refl)
   before_found stmts (suc i) h =
       let same : suc i - 1 ≡ i = omega arith in
-      ap (λ n. role_first (map (select frame places needed) (drop n stmts))) same ∙
+      ap (λ n. role_first (map (select frame places plan) (drop n stmts))) same ∙
       ap role_first (sym (drop_map stmts i))
 
   -- PIECES
@@ -467,21 +468,21 @@ module _ (frame : FrameTree) (places : List Place) (needed : ℕ → Bool) where
       turn_keeps (piece ∷ pieces) zero h = both piece (in_turn pieces) h.0 (turn_keeps pieces 0 h.1)
       turn_keeps (piece ∷ pieces) (suc i) h = turn_keeps pieces i h.1
 
-      selected : (stmts : List TacStmt) → Each (λ stmt. P (select frame places needed stmt)) stmts →
-          Each P (map (select frame places needed) stmts)
+      selected : (stmts : List TacStmt) → Each (λ stmt. P (select frame places plan stmt)) stmts →
+          Each P (map (select frame places plan) stmts)
       selected [] h = tt
       selected (stmt ∷ rest) h = (h.0, selected rest h.1)
 
       -- of those from a number on
-      pub from_keeps : (stmts : List TacStmt) → Each (λ stmt. P (select frame places needed stmt)) stmts → (i : ℕ) →
-          P (in_turn (drop i (joined frame places Other (map (select frame places needed) stmts))))
+      pub from_keeps : (stmts : List TacStmt) → Each (λ stmt. P (select frame places plan stmt)) stmts → (i : ℕ) →
+          P (in_turn (drop i (joined frame places Other (map (select frame places plan) stmts))))
       from_keeps stmts h i =
-          turn_keeps (joined frame places Other (map (select frame places needed) stmts)) i
-          (joined_keeps Other (map (select frame places needed) stmts) (selected stmts h))
+          turn_keeps (joined frame places Other (map (select frame places plan) stmts)) i
+          (joined_keeps Other (map (select frame places plan) stmts) (selected stmts h))
 
       -- of all
-      pub order_keeps : (stmts : List TacStmt) → Each (λ stmt. P (select frame places needed stmt)) stmts →
-          P (in_order frame places (map (select frame places needed) stmts))
+      pub order_keeps : (stmts : List TacStmt) → Each (λ stmt. P (select frame places plan stmt)) stmts →
+          P (in_order frame places (map (select frame places plan) stmts))
       order_keeps stmts h = from_keeps stmts h 0
 
   -- NUMBERS

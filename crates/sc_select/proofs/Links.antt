@@ -1,4 +1,5 @@
 -- Lines that refer to targets stand where the linker can complete them.
+use Rattle.sc_select.specs.Selection.{Plan}
 use Rattle.sc_select.proofs.Common.{All, AllPairs, Bool, Each, Entry, FrameTree, Function, Global, Inside, Instr}
 use Rattle.sc_select.proofs.Common.{IsCode, IsTrue, Jal, Jalr, Line, List, Lui, None, Option, Piece, Place, Places}
 use Rattle.sc_select.proofs.Common.{Relocation, Role, Sets, Some, Store, Sw, TacFnTree, TacStmt, TacStmt-F, Target}
@@ -67,7 +68,7 @@ followed_complete e f he hf = record {
       (hf.complete b c);
 }
 
-module _ (frame : FrameTree) (places : List Place) (needed : ℕ → Bool) where
+module _ (frame : FrameTree) (places : List Place) (plan : Plan) where
   cycle_complete : (h b n : Piece) → IsComplete h → IsComplete b → IsComplete n → IsComplete (cycle frame places h b n)
   cycle_complete h b n hh hb hn = record {
     complete = λ to_break to_continue.
@@ -101,12 +102,12 @@ module _ (frame : FrameTree) (places : List Place) (needed : ℕ → Bool) where
   straightly_complete instrs = record { complete = λ b c. plain_complete instrs }
 
   abbrev Complete : TacStmt → Type 0
-  Complete stmt = IsComplete (select frame places needed stmt)
+  Complete stmt = IsComplete (select frame places plan stmt)
 
   row_complete : (stmts : List TacStmt) → Each Complete stmts →
-      IsComplete (in_order frame places (map (select frame places needed) stmts))
+      IsComplete (in_order frame places (map (select frame places plan) stmts))
   row_complete stmts h =
-      order_keeps frame places needed IsComplete (record { complete = λ b c. refl })
+      order_keeps frame places plan IsComplete (record { complete = λ b c. refl })
       (λ t o. straightly_complete (object_read frame places t o))
       (λ t l o w. straightly_complete (short_operation frame places t l (short_form o w)))
       (λ v o. straightly_complete (object_store frame places v o)) followed_complete stmts h
@@ -115,7 +116,7 @@ module _ (frame : FrameTree) (places : List Place) (needed : ℕ → Bool) where
   with_role instrs role = record { complete = λ b c. plain_complete instrs }
 
   layer_complete : (layer : TacStmt-F TacStmt) → Inside Complete layer →
-      IsComplete (select_step frame places needed (map-TacStmt _ _ (select frame places needed) layer))
+      IsComplete (select_step frame places plan (map-TacStmt _ _ (select frame places plan) layer))
   layer_complete (tac.Const dest value) h =
       with_role (loading (result_register frame places dest) (word_of_constant value) ++ keep frame places dest)
       (Sets dest (word_of_constant value))
@@ -131,7 +132,7 @@ module _ (frame : FrameTree) (places : List Place) (needed : ℕ → Bool) where
   layer_complete (tac.Load dest place pointer) h =
       with_role (load_from frame places dest place) (role_of_load frame places dest place)
   layer_complete (tac.Store place value) h =
-      with_role (store_to frame places place value) (role_of_store needed place value)
+      with_role (store_to frame places place value) (role_of_store plan.needed place value)
   layer_complete (tac.If cond first second) h =
       fork_keeps frame places IsComplete (record { complete = λ b c. refl }) (λ lines. record {
         complete = λ b c. refl;
@@ -152,13 +153,13 @@ module _ (frame : FrameTree) (places : List Place) (needed : ℕ → Bool) where
   layer_complete (tac.Return value) h =
       straightly_complete (return frame places value)
 
-  stmt_complete : (stmt : TacStmt) → IsComplete (select frame places needed stmt)
+  stmt_complete : (stmt : TacStmt) → IsComplete (select frame places plan stmt)
   stmt_complete = stmt_induction Complete (λ layer h.
-      subst IsComplete (sym (fold-roll-TacStmt Piece (select_step frame places needed) layer)) (layer_complete layer h))
+      subst IsComplete (sym (fold-roll-TacStmt Piece (select_step frame places plan) layer)) (layer_complete layer h))
 
-  function_complete : (f : TacFnTree) → all_complete (function_lines frame places needed f) ≡ true
+  function_complete : (f : TacFnTree) → all_complete (function_lines frame places plan f) ≡ true
   function_complete f =
-      let middle : List Line = (select_all frame places needed f.body).lines 0 0 in
+      let middle : List Line = (select_all frame places plan f.body).lines 0 0 in
       joined (plainly (entrance frame places f.params) ++ middle) (plainly (closing frame places f.entry))
       (joined (plainly (entrance frame places f.params)) middle (plain_complete (entrance frame places f.params))
       ((row_complete f.body (each_holds Complete stmt_complete f.body)).complete 0 0))
@@ -246,13 +247,13 @@ rising at [] = λ i j d below within. absurd (omega (arith, within))
 rising at (line ∷ lines) =
     one_rising at line.target (relocations_from (suc at) lines) (not_before (suc at) lines) (rising (suc at) lines)
 
-some_lines : (frame : FrameTree) (places : List Place) (needed : ℕ → Bool) (f : TacFnTree) →
-    0 < length (instrs_of (function_lines frame places needed f))
-some_lines frame places needed f =
-    let middle : List Line = (select_all frame places needed f.body).lines 0 0 in
+some_lines : (frame : FrameTree) (places : List Place) (plan : Plan) (f : TacFnTree) →
+    0 < length (instrs_of (function_lines frame places plan f))
+some_lines frame places plan f =
+    let middle : List Line = (select_all frame places plan f.body).lines 0 0 in
     let last : List Line = plainly (closing frame places f.entry) in
     let taken : List Instr = moved_by 2 2 (sub_word 0 frame.bytes) in
-    let parts : length (function_lines frame places needed f) ≡
+    let parts : length (function_lines frame places plan f) ≡
     length (plainly (entrance frame places f.params) ++ middle ++ last) = refl in
     let entering : length (entrance frame places f.params) ≡
     length (frame_taken frame.bytes ++ store_arguments frame places f.params 0) = refl in
@@ -262,7 +263,7 @@ some_lines frame places needed f =
       parts,
       entering,
       taking,
-      length-map (function_lines frame places needed f) (λ (line : Line). line.instr),
+      length-map (function_lines frame places plan f) (λ (line : Line). line.instr),
       length-append (plainly (entrance frame places f.params) ++ middle) last,
       length-append (plainly (entrance frame places f.params)) middle,
       length-map (entrance frame places f.params) plain,
@@ -270,25 +271,25 @@ some_lines frame places needed f =
       length-append taken (Store Sw 2 1 (pos 0) ∷ []),
     )
 
-pub function_code : (frame : FrameTree) (places : List Place) (needed : ℕ → Bool) (f : TacFnTree) →
-    IsCode (code_of_lines (function_lines frame places needed f))
-function_code frame places needed f =
-    let lines : List Line = function_lines frame places needed f in
+pub function_code : (frame : FrameTree) (places : List Place) (plan : Plan) (f : TacFnTree) →
+    IsCode (code_of_lines (function_lines frame places plan f))
+function_code frame places plan f =
+    let lines : List Line = function_lines frame places plan f in
     record {
-      some = some_lines frame places needed f;
+      some = some_lines frame places plan f;
       in_order = rising 0 lines;
       linkable = linkable_from (instrs_of lines) 0 lines
           (λ i. let e : 0 + i ≡ i = omega arith in ap (λ n. slice_get (instrs_of lines) n) e)
-          (function_complete frame places needed f);
+          (function_complete frame places plan f);
     }
 
 -- all that was written before nothing is a function's code
 pub whole_function : (frame : FrameTree) (places : List Place) (f tree : TacFnTree) (marks : List Bool)
     (lines old : List Line) → ((t : ℕ) → has_mark marks t ≡ needed_in f.body t) → tree ≡ f →
-    lines ≡ function_lines frame places (has_mark marks) tree ++ old → old ≡ [] →
-    lines ≡ function_lines frame places (needed_in f.body) f
+    lines ≡ function_lines frame places (plan_by marks near) tree ++ old → old ≡ [] →
+    lines ≡ function_lines frame places (plan_of f near) f
 whole_function frame places f tree marks lines old marked same h none =
-    h ∙ ap (λ o. function_lines frame places (has_mark marks) tree ++ o) none ∙
-    append-nil (function_lines frame places (has_mark marks) tree) ∙
-    ap (λ t. function_lines frame places (has_mark marks) t) same ∙
+    h ∙ ap (λ o. function_lines frame places (plan_by marks near) tree ++ o) none ∙
+    append-nil (function_lines frame places (plan_by marks near) tree) ∙
+    ap (λ t. function_lines frame places (plan_by marks near) t) same ∙
     (λ i. function_lines frame places (λ t. marked t i) f)

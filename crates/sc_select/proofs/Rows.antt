@@ -1,4 +1,5 @@
 -- Worked functions: the code of each.
+use Rattle.sc_select.specs.Selection.{Plan}
 use Rattle.std.specs.Prelude.{None}
 use Rattle.sc_tac.specs.Prelude.{is_one}
 use Rattle.sc_select.specs.Prelude.{Need, function_lines, need_step, row_needs}
@@ -35,7 +36,7 @@ pieces_of plan places = rows Piece (select_step (framed plan places) places (nee
 pub code_is : (plan : Plan) (places : List Place) → code_of (function plan) places (framed plan places) ≡
     planned (framed plan places) places plan (pieces_of plan places)
 code_is plan places =
-    ap (λ needed. code_of_lines (function_lines (framed plan places) places needed (function plan))) (needs_are plan) ∙
+    ap (λ needed. code_of_lines (function_lines (framed plan places) places plan (function plan))) (needs_are plan) ∙
     ap (planned (framed plan places) places plan)
     (rows_are Piece (select_step (framed plan places) places (needed_by plan)) plan.body)
 

@@ -1,4 +1,5 @@
 -- Pieces have as many lines as they say.
+use Rattle.sc_select.specs.Selection.{Plan}
 use Rattle.sc_select.proofs.Common.{Bool, Each, FrameTree, Inside, Line, List, Other, Piece, Place, TacStmt, TacStmt-F}
 use Rattle.sc_select.proofs.Common.{[], arith, choice, cycle, drop, everywhere, fold-roll-TacStmt, followed, in_order}
 use Rattle.sc_select.proofs.Common.{in_turn, joined, jump_back, jump_over, length, length-append, map, map-TacStmt}
@@ -21,7 +22,7 @@ followed_sized e f he hf = record {
       );
 }
 
-module _ (frame : FrameTree) (places : List Place) (needed : ℕ → Bool) where
+module _ (frame : FrameTree) (places : List Place) (plan : Plan) where
   straight_sized : (lines : List Line) → IsSized (straight lines)
   straight_sized lines = record { sized = λ b c. refl }
 
@@ -43,21 +44,21 @@ module _ (frame : FrameTree) (places : List Place) (needed : ℕ → Bool) where
   }
 
   abbrev Sized : TacStmt → Type 0
-  Sized stmt = IsSized (select frame places needed stmt)
+  Sized stmt = IsSized (select frame places plan stmt)
 
   -- also of those from a number on
   pub from_sized : (stmts : List TacStmt) → Each Sized stmts → (i : ℕ) →
-      IsSized (in_turn (drop i (joined frame places Other (map (select frame places needed) stmts))))
+      IsSized (in_turn (drop i (joined frame places Other (map (select frame places plan) stmts))))
   from_sized stmts h i =
-      from_keeps frame places needed IsSized (record { sized = λ b c. refl }) (λ t o. record { sized = λ b c. refl })
+      from_keeps frame places plan IsSized (record { sized = λ b c. refl }) (λ t o. record { sized = λ b c. refl })
       (λ t l o w. record { sized = λ b c. refl }) (λ v o. record { sized = λ b c. refl }) followed_sized stmts h i
 
   row_sized : (stmts : List TacStmt) → Each Sized stmts →
-      IsSized (in_order frame places (map (select frame places needed) stmts))
+      IsSized (in_order frame places (map (select frame places plan) stmts))
   row_sized stmts h = from_sized stmts h 0
 
   layer_sized : (layer : TacStmt-F TacStmt) → Inside Sized layer →
-      IsSized (select_step frame places needed (map-TacStmt _ _ (select frame places needed) layer))
+      IsSized (select_step frame places plan (map-TacStmt _ _ (select frame places plan) layer))
   layer_sized (tac.Const dest value) h = record { sized = λ b c. refl }
   layer_sized (tac.Copy dest from) h = record { sized = λ b c. refl }
   layer_sized (tac.Op dest op left right) h = record { sized = λ b c. refl }
@@ -79,13 +80,13 @@ module _ (frame : FrameTree) (places : List Place) (needed : ℕ → Bool) where
   layer_sized (tac.Output value) h = record { sized = λ b c. refl }
   layer_sized (tac.Return value) h = record { sized = λ b c. refl }
 
-  pub stmt_sized : (stmt : TacStmt) → IsSized (select frame places needed stmt)
+  pub stmt_sized : (stmt : TacStmt) → IsSized (select frame places plan stmt)
   stmt_sized = stmt_induction Sized (λ layer h.
-      subst IsSized (sym (fold-roll-TacStmt Piece (select_step frame places needed) layer)) (layer_sized layer h))
+      subst IsSized (sym (fold-roll-TacStmt Piece (select_step frame places plan) layer)) (layer_sized layer h))
 
   pub row_from_sized : (stmts : List TacStmt) (i : ℕ) →
-      IsSized (in_turn (drop i (joined frame places Other (map (select frame places needed) stmts))))
+      IsSized (in_turn (drop i (joined frame places Other (map (select frame places plan) stmts))))
   row_from_sized stmts i = from_sized stmts (everywhere Sized stmt_sized stmts) i
 
-  pub row_is_sized : (stmts : List TacStmt) → IsSized (select_all frame places needed stmts)
+  pub row_is_sized : (stmts : List TacStmt) → IsSized (select_all frame places plan stmts)
   row_is_sized stmts = row_sized stmts (everywhere Sized stmt_sized stmts)

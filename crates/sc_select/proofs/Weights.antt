@@ -1,4 +1,5 @@
 -- Code has no more instructions than its function weighs.
+use Rattle.sc_select.specs.Selection.{Plan}
 use Rattle.sc_select.proofs.Common.{Add, Bne, Bool, Branch, Div, Each, Entry as EntryOf, Fits, FrameTree, Function}
 use Rattle.sc_select.proofs.Common.{Inside, Instr, IsFunction, Jal, Jalr, Line, List, Load, Lui, Lw, Mul, None}
 use Rattle.sc_select.proofs.Common.{Op, Option, Other, Piece, Place, Register, Role, Shift}
@@ -159,7 +160,7 @@ module _ (frame : FrameTree) where
       )
   copied_few None from = omega arith
 
-module _ (frame : FrameTree) (places : List Place) (needed : ℕ → Bool) where
+module _ (frame : FrameTree) (places : List Place) (plan : Plan) where
   second_few : (right : Option ℕ) (two : Bool) → beq (is_some right) two ≡ true →
       length (take_second frame places right) ≤ (if two then 3 else 0)
   second_few None true h = omega arith
@@ -380,7 +381,7 @@ module _ (frame : FrameTree) (places : List Place) (needed : ℕ → Bool) where
   has = fold-TacStmt Bool (with_parts has_operands)
 
   abbrev Small : TacStmt → Type 0
-  Small stmt = has stmt ≡ true → (select frame places needed stmt).size ≤ stmt_weight stmt
+  Small stmt = has stmt ≡ true → (select frame places plan stmt).size ≤ stmt_weight stmt
 
   -- an operator that has a short form weighs more than that
   short_weighs : (o : TacOp) (word : ℕ) (form : ShortForm) → short_form o word ≡ Some form → 7 ≤ op_weight o
@@ -394,47 +395,47 @@ module _ (frame : FrameTree) (places : List Place) (needed : ℕ → Bool) where
   short_weighs (tacop.PointerCompare o) word form h = cc h
 
   -- the code of two statements that are one piece is no larger than the second weighs
-  both_few : (before : Role) (stmt : TacStmt) → joins before (select frame places needed stmt).role ≡ true →
-      (as_one frame places before (select frame places needed stmt).role).size ≤ stmt_weight stmt
+  both_few : (before : Role) (stmt : TacStmt) → joins before (select frame places plan stmt).role ≡ true →
+      (as_one frame places before (select frame places plan stmt).role).size ≤ stmt_weight stmt
   both_few before stmt h =
-      ⊎_elim read (⊎_elim stored short) (which_pair before (select frame places needed stmt).role h)
+      ⊎_elim read (⊎_elim stored short) (which_pair before (select frame places plan stmt).role h)
     where
-      read : IsRead before (select frame places needed stmt).role →
-          (as_one frame places before (select frame places needed stmt).role).size ≤ stmt_weight stmt
+      read : IsRead before (select frame places plan stmt).role →
+          (as_one frame places before (select frame places plan stmt).role).size ≤ stmt_weight stmt
       read pair =
-          let load = loads_it frame places needed stmt pair.temp pair.loads in
+          let load = loads_it frame places plan stmt pair.temp pair.loads in
           let heavy : stmt_weight stmt ≡ 7 =
           ap stmt_weight load.is ∙
           fold-roll-TacStmt ℕ weight_step (tac.Load pair.temp pair.temp load.pointer) in
-          let code : (as_one frame places before (select frame places needed stmt).role).size ≡
+          let code : (as_one frame places before (select frame places plan stmt).role).size ≡
           (straightly frame places (object_read frame places pair.temp pair.object)).size =
           ap₂ (λ r s. (as_one frame places r s).size) pair.gives pair.loads in
           let few : (straightly frame places (object_read frame places pair.temp pair.object)).size ≤ 6 =
           straightly_few _ 6 (object_read_few pair.temp pair.object) in
           omega (arith, heavy, code, few)
 
-      stored : IsStored before (select frame places needed stmt).role →
-          (as_one frame places before (select frame places needed stmt).role).size ≤ stmt_weight stmt
+      stored : IsStored before (select frame places plan stmt).role →
+          (as_one frame places before (select frame places plan stmt).role).size ≤ stmt_weight stmt
       stored pair =
-          let store = stores_it frame places needed stmt pair.temp pair.value pair.stores in
+          let store = stores_it frame places plan stmt pair.temp pair.value pair.stores in
           let heavy : stmt_weight stmt ≡ 7 =
           ap stmt_weight store.is ∙ fold-roll-TacStmt ℕ weight_step (tac.Store pair.temp pair.value) in
-          let code : (as_one frame places before (select frame places needed stmt).role).size ≡
+          let code : (as_one frame places before (select frame places plan stmt).role).size ≡
           (straightly frame places (object_store frame places pair.value pair.object)).size =
           ap₂ (λ r s. (as_one frame places r s).size) pair.gives pair.stores in
           let few : (straightly frame places (object_store frame places pair.value pair.object)).size ≤ 6 =
           straightly_few _ 6 (object_store_few pair.value pair.object) in
           omega (arith, heavy, code, few)
 
-      short : IsShort before (select frame places needed stmt).role →
-          (as_one frame places before (select frame places needed stmt).role).size ≤ stmt_weight stmt
+      short : IsShort before (select frame places plan stmt).role →
+          (as_one frame places before (select frame places plan stmt).role).size ≤ stmt_weight stmt
       short pair =
           let form : Option ShortForm = short_form pair.op pair.word in
-          let operation = operates_it frame places needed stmt pair.temp pair.left pair.op pair.operates in
+          let operation = operates_it frame places plan stmt pair.temp pair.left pair.op pair.operates in
           let heavy : stmt_weight stmt ≡ op_weight pair.op =
           ap stmt_weight operation.is ∙
           fold-roll-TacStmt ℕ weight_step (tac.Op pair.temp pair.op pair.left (Some pair.temp)) in
-          let code : (as_one frame places before (select frame places needed stmt).role).size ≡
+          let code : (as_one frame places before (select frame places plan stmt).role).size ≡
           (straightly frame places (short_operation frame places pair.temp pair.left form)).size =
           ap₂ (λ r s. (as_one frame places r s).size) pair.sets pair.operates in
           let few : (straightly frame places (short_operation frame places pair.temp pair.left form)).size ≤ 7 =
@@ -442,38 +443,38 @@ module _ (frame : FrameTree) (places : List Place) (needed : ℕ → Bool) where
           omega (arith, heavy, code, few, short_weighs pair.op pair.word pair.form pair.form_is)
 
   between_few : (before : Role) (stmt : TacStmt) (behind : Role) →
-      (select frame places needed stmt).size ≤ stmt_weight stmt →
-      (between frame places before (select frame places needed stmt) behind).size ≤ stmt_weight stmt
+      (select frame places plan stmt).size ≤ stmt_weight stmt →
+      (between frame places before (select frame places plan stmt) behind).size ≤ stmt_weight stmt
   between_few before stmt behind h =
-      by (joins before (select frame places needed stmt).role) (joins (select frame places needed stmt).role behind)
+      by (joins before (select frame places plan stmt).role) (joins (select frame places plan stmt).role behind)
       refl
     where
-      by : (one two : Bool) → joins before (select frame places needed stmt).role ≡ one →
-          (if one then as_one frame places before (select frame places needed stmt).role
-          else if two then nothing else select frame places needed stmt).size ≤ stmt_weight stmt
+      by : (one two : Bool) → joins before (select frame places plan stmt).role ≡ one →
+          (if one then as_one frame places before (select frame places plan stmt).role
+          else if two then nothing else select frame places plan stmt).size ≤ stmt_weight stmt
       by true two e = both_few before stmt e
       by false true e = omega arith
       by false false e = h
 
   turn_small : (before : Role) (stmts : List TacStmt) → Each Small stmts → all_true (map has stmts) ≡ true →
-      (in_turn (joined frame places before (map (select frame places needed) stmts))).size ≤ total (map stmt_weight
+      (in_turn (joined frame places before (map (select frame places plan) stmts))).size ≤ total (map stmt_weight
       stmts)
   turn_small before [] h is = omega arith
   turn_small before (stmt ∷ rest) h is =
       omega (
         arith,
-        between_few before stmt (role_first (map (select frame places needed) rest))
+        between_few before stmt (role_first (map (select frame places plan) rest))
             (h.0 (and_first (has stmt) (all_true (map has rest)) is)),
-        turn_small (select frame places needed stmt).role rest h.1 (and_rest (has stmt) (all_true (map has rest)) is),
+        turn_small (select frame places plan stmt).role rest h.1 (and_rest (has stmt) (all_true (map has rest)) is),
       )
 
   row_small : (stmts : List TacStmt) → Each Small stmts → all_true (map has stmts) ≡ true →
-      (in_order frame places (map (select frame places needed) stmts)).size ≤ total (map stmt_weight stmts)
+      (in_order frame places (map (select frame places plan) stmts)).size ≤ total (map stmt_weight stmts)
   row_small stmts h is = turn_small Other stmts h is
 
   layer_small : (layer : TacStmt-F TacStmt) → Inside Small layer →
       with_parts has_operands (map-TacStmt _ _ has layer) ≡ true →
-      (select_step frame places needed (map-TacStmt _ _ (select frame places needed) layer)).size ≤
+      (select_step frame places plan (map-TacStmt _ _ (select frame places plan) layer)).size ≤
       weight_step (map-TacStmt _ _ stmt_weight layer)
   layer_small (tac.Const dest value) h is =
       straightly_few _ 5 (constant_few (result_register frame places dest) (word_of_constant value) dest)
@@ -488,7 +489,7 @@ module _ (frame : FrameTree) (places : List Place) (needed : ℕ → Bool) where
   layer_small (tac.If cond first second) h is =
       omega (
         arith,
-        fork_few cond (map (select frame places needed) first) (map (select frame places needed) second),
+        fork_few cond (map (select frame places plan) first) (map (select frame places plan) second),
         row_small first h.0 (and_first (all_true (map has first)) (all_true (map has second) && true) is),
         row_small second h.1 (and_first (all_true (map has second)) true
             (and_rest (all_true (map has first)) (all_true (map has second) && true) is)),
@@ -515,13 +516,13 @@ module _ (frame : FrameTree) (places : List Place) (needed : ℕ → Bool) where
   stmt_small : (stmt : TacStmt) → Small stmt
   stmt_small = stmt_induction Small (λ layer h is.
       subst (λ p. p.size ≤ stmt_weight (roll-TacStmt layer))
-      (sym (fold-roll-TacStmt Piece (select_step frame places needed) layer))
-      (subst (λ n. (select_step frame places needed (map-TacStmt _ _ (select frame places needed) layer)).size ≤ n)
+      (sym (fold-roll-TacStmt Piece (select_step frame places plan) layer))
+      (subst (λ n. (select_step frame places plan (map-TacStmt _ _ (select frame places plan) layer)).size ≤ n)
       (sym (fold-roll-TacStmt ℕ weight_step layer))
       (layer_small layer h (sym (fold-roll-TacStmt Bool (with_parts has_operands) layer) ∙ is))))
 
   pub row_is_small : (stmts : List TacStmt) → everywhere has_operands stmts ≡ true →
-      (select_all frame places needed stmts).size ≤ weight stmts
+      (select_all frame places plan stmts).size ≤ weight stmts
   row_is_small stmts is = row_small stmts (each_holds Small stmt_small stmts) is
 
   -- FUNCTIONS
@@ -551,10 +552,10 @@ module _ (frame : FrameTree) (places : List Place) (needed : ℕ → Bool) where
   closing_few (Some (entry.Export index)) = omega (arith, leave_frame frame.bytes)
 
   pub function_small : (f : TacFnTree) → IsFunction f →
-      length (function_lines frame places needed f) ≤ entry_weight f.params + weight f.body
+      length (function_lines frame places plan f) ≤ entry_weight f.params + weight f.body
   function_small f h =
       let first : List Line = plainly (entrance frame places f.params) in
-      let middle : List Line = (select_all frame places needed f.body).lines 0 0 in
+      let middle : List Line = (select_all frame places plan f.body).lines 0 0 in
       let last : List Line = plainly (closing frame places f.entry) in
       omega (
         arith,
@@ -562,14 +563,14 @@ module _ (frame : FrameTree) (places : List Place) (needed : ℕ → Bool) where
         length-append first middle,
         length-map (entrance frame places f.params) plain,
         length-map (closing frame places f.entry) plain,
-        (row_is_sized frame places needed f.body).sized 0 0,
+        (row_is_sized frame places plan f.body).sized 0 0,
         entrance_few f.params,
         row_is_small f.body h.operands,
         closing_few f.entry,
       )
 
   -- the jumps of a function that is small enough reach
-  pub function_fits : (f : TacFnTree) → IsFunction f → 96 * f.nodes ≤ 1048576 → Fits frame places needed f.body 0 0
+  pub function_fits : (f : TacFnTree) → IsFunction f → 96 * f.nodes ≤ 1048576 → Fits frame places plan f.body 0 0
   function_fits f h reached = record {
     few_arguments = h.few_arguments;
     breaks = omega (arith, row_is_small f.body h.operands, h.light, reached);
@@ -577,13 +578,13 @@ module _ (frame : FrameTree) (places : List Place) (needed : ℕ → Bool) where
   }
 
   pub function_short : (f : TacFnTree) → IsFunction f → 96 * f.nodes ≤ 1048576 →
-      length (function_lines frame places needed f) < 2 ^ 32
+      length (function_lines frame places plan f) < 2 ^ 32
   function_short f h reached = omega (arith, function_small f h, h.light, reached)
 
 pub function_light : (frame : FrameTree) (places : List Place) (f : TacFnTree) → IsFunction f →
     length (code_of f places frame).instrs ≤ entry_weight f.params + weight f.body
 function_light frame places f h =
-    let lines : List Line = function_lines frame places (needed_in f.body) f in
+    let lines : List Line = function_lines frame places (plan_of f near) f in
     let instrs : length (code_of f places frame).instrs ≡ length lines =
     length-map lines (λ (line : Line). line.instr) in
-    omega (arith, instrs, function_small frame places (needed_in f.body) f h)
+    omega (arith, instrs, function_small frame places (plan_of f near) f h)

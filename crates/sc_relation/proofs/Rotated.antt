@@ -1,0 +1,29 @@
+-- Loops that end with their head, and that with its test.
+use Rattle.sc_relation.proofs.Common.{All, Arrives, Break, CodeAt, Codes, Continue, Ends, Exit, Follows, IsClear}
+use Rattle.sc_relation.proofs.Common.{Joint, Left, List, Lives, Next, Overflows, Piece, Reached, Ready, Return, Returns}
+use Rattle.sc_relation.proofs.Common.{Running, Setting, Shows, Stopped, Temps, Trail, ahead_at, completed, live_before}
+use Rattle.sc_relation.proofs.Common.{None, row_points, seen_from, suc, ℕ, ◌*◌, ◌++◌, ◌+◌, ◌≡◌, ◌≤◌, ◌⊎◌, State as Meant}
+use Rattle.sc_select.specs.Prelude.{Piece as Code}
+use Rattle.sc_select.specs.Selection.{rotated, testing}
+
+module _ (T : Setting) (R : Running) where
+  -- the code comes to this place, and a step of it isn't paid for by turns that are over
+  pub record ArrivesLate (live : ℕ → Bool) (x : Joint) (budget left : ℕ) (temps : Temps) (meant : Meant) (pc : ℕ) :
+      Type 0 where
+    pub arrives : Arrives T R live x budget left temps meant pc
+    pub spare : suc x.meant.turns ≤ arrives.y.meant.turns + arrives.leads.steps
+
+  -- what comes of a head that ends with its test: the body, with a step to spare for its turn, or the end of the loop
+  abbrev pub TestGives : Lives → Joint → (budget : ℕ) → Ends → Exit → Temps → Meant → Type 0
+  TestGives lives x budget ends Next temps s = ArrivesLate lives.behind x budget ends.left temps s ends.behind
+  TestGives lives x budget ends Break temps s = Arrives T R lives.broken x budget ends.left temps s ends.broken
+  TestGives lives x budget ends Continue temps s = ArrivesLate lives.continued x budget ends.left temps s ends.continued
+  TestGives lives x budget ends (Return v) temps s = Returns T R x budget v s
+
+  abbrev pub HeadGives : Lives → Joint → (budget : ℕ) → Ends → Piece (Left Temps) → Type 0
+  HeadGives lives x budget ends (Reached l s) = TestGives lives x budget ends l.exit l.carried s
+  HeadGives lives x budget ends (Stopped end s) = Shows T (seen_from R.activation) x budget s
+
+  abbrev pub HeadComes : Lives → Joint → (budget : ℕ) → Ends → Piece (Left Temps) → Type 0
+  HeadComes lives x budget ends piece =
+      HeadGives lives x budget ends piece ⊎ Overflows T (seen_from R.activation) x budget piece
