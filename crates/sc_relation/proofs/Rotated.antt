@@ -3,7 +3,8 @@ use Rattle.sc_relation.proofs.Common.{All, Arrives, Break, CodeAt, Codes, Contin
 use Rattle.sc_relation.proofs.Common.{Joint, Left, List, Lives, Next, Overflows, Piece, Reached, Ready, Return, Returns}
 use Rattle.sc_relation.proofs.Common.{Running, Setting, Shows, Stopped, Temps, Trail, ahead_at, completed, live_before}
 use Rattle.sc_relation.proofs.Common.{None, row_points, seen_from, suc, ℕ, ◌*◌, ◌++◌, ◌+◌, ◌≡◌, ◌≤◌, ◌⊎◌, State as Meant}
-use Rattle.sc_select.specs.Prelude.{Piece as Code}
+use Rattle.sc_relation.proofs.Common.{Goes, Line, Some, length, low_after, word_at}
+use Rattle.sc_select.specs.Prelude.{Piece as Code, first_scratch, take}
 use Rattle.sc_select.specs.Selection.{rotated, testing}
 
 module _ (T : Setting) (R : Running) where
@@ -27,3 +28,32 @@ module _ (T : Setting) (R : Running) where
   abbrev pub HeadComes : Lives → Joint → (budget : ℕ) → Ends → Piece (Left Temps) → Type 0
   HeadComes lives x budget ends piece =
       HeadGives lives x budget ends piece ⊎ Overflows T (seen_from R.activation) x budget piece
+
+  -- A head that ends with its test: the code of what stands before it, then the test, which leads back to the body over so
+  -- many lines of the body and of what follows it.
+  module _ (cond : ℕ) (head : Codes) (i : Code) (hs : List Trail) (body_lines : ℕ) where
+    abbrev test_size : ℕ
+    test_size = suc (length (take R.activation.frame R.places first_scratch cond))
+
+    abbrev head_lines : List Line
+    head_lines =
+        i.lines test_size 0 ++ testing R.activation.frame R.places cond (body_lines + i.size)
+
+    pub record HeadFollows : Type 0 where
+      pub sized : length (i.lines test_size 0) ≡ i.size
+      pub closed : low_after (T.addresses R.activation.here.comp) None (i.lines test_size 0) ≡ None
+      pub goes : (temps : Temps) → Goes (head temps)
+      pub runs : (lives : Lives) (temps : Temps) (x : Joint) (left body_pc : ℕ) →
+          Ready T R (live_before hs lives) temps x → All (IsClear R.places) (row_points hs lives) →
+          CodeAt T.image R.activation.here.comp x.pc
+          (completed (T.addresses R.activation.here.comp) x.pc None head_lines) →
+          x.pc ≡ body_pc + 4 * body_lines →
+          -- an instruction stands where the body begins
+          (w : ℕ) → word_at T.image R.activation.here.comp body_pc ≡ Some w →
+          x.pc + 4 * (i.size + test_size) ≤ R.last →
+          HeadComes lives x (i.size + (test_size + left)) (record {
+            left = left;
+            behind = body_pc;
+            broken = x.pc + 4 * (i.size + test_size);
+            continued = body_pc;
+          }) (head temps x.meant)
