@@ -1,6 +1,7 @@
 -- Pieces between others: what holds of each piece of statements holds of all of them in order, and which statements are
 -- one piece.
-use Rattle.sc_select.specs.Selection.{Plan}
+use Rattle.sc_select.specs.Selection.{Kind, Plan, applied, kind_of_fork, role_behind, short_return, turning}
+use Rattle.sc_select.specs.declared.roles.Role.TheVariants.{Applies, Returns}
 use Rattle.sc_select.proofs.Common.{Bool, Each, FrameTree, List, Loads, None, Operates, Option, Other, Piece, Place}
 use Rattle.sc_select.proofs.Common.{Places, Role, Sets, ShortForm, Some, Stores, TacOp, TacStmt, TacStmt-F, []}
 use Rattle.sc_select.proofs.Common.{and_first, and_rest, ap, ap₂, arith, as_one, between, choice, choosing, drop}
@@ -21,29 +22,62 @@ none_behind (Loads temp) = refl
 none_behind (Sets temp word) = refl
 none_behind (Operates temp left o) = refl
 none_behind (Stores temp value) = refl
+none_behind (Applies temp left form) = refl
+none_behind (Returns temp) = refl
 none_behind Other = refl
 
 pub none_before : (role : Role) → joins Other role ≡ false
 none_before role = refl
 
--- the second of two statements that are one piece is no first one
-pub last_of_two : (first second behind : Role) → joins first second ≡ true → joins second behind ≡ false
-last_of_two (Places temp object) (Loads other) behind h = refl
-last_of_two (Places temp object) (Stores other value) behind h = refl
-last_of_two (Sets temp word) (Operates other left o) behind h = refl
-last_of_two (Places temp object) (Places other place) behind h = cc h
-last_of_two (Places temp object) (Sets other word) behind h = cc h
-last_of_two (Places temp object) (Operates other left o) behind h = cc h
-last_of_two (Places temp object) Other behind h = cc h
-last_of_two (Sets temp word) (Places other place) behind h = cc h
-last_of_two (Sets temp word) (Loads other) behind h = cc h
-last_of_two (Sets temp word) (Sets other value) behind h = cc h
-last_of_two (Sets temp word) (Stores other value) behind h = cc h
-last_of_two (Sets temp word) Other behind h = cc h
-last_of_two (Loads temp) second behind h = cc h
-last_of_two (Stores temp value) second behind h = cc h
-last_of_two (Operates temp left o) second behind h = cc h
-last_of_two Other second behind h = cc h
+-- a statement that isn't one with the one before it is to its neighbour what it is by itself
+pub role_alone : (before own : Role) → joins before own ≡ false → role_behind before own ≡ own
+role_alone (Sets temp word) (Operates other left o) h = by (temp == other) (short_form o word) h
+  where
+    by : (b : Bool) (form : Option ShortForm) → (b && is_some form) ≡ false →
+        (if b then applied other left o form else Operates other left o) ≡ Operates other left o
+    by true None h = refl
+    by true (Some form) h = cc h
+    by false form h = refl
+role_alone (Sets temp word) (Places other object) h = refl
+role_alone (Sets temp word) (Loads other) h = refl
+role_alone (Sets temp word) (Sets other value) h = refl
+role_alone (Sets temp word) (Stores other value) h = refl
+role_alone (Sets temp word) (Applies other left form) h = refl
+role_alone (Sets temp word) (Returns other) h = refl
+role_alone (Sets temp word) Other h = refl
+role_alone (Places temp object) own h = refl
+role_alone (Loads temp) own h = refl
+role_alone (Operates temp left o) own h = refl
+role_alone (Stores temp value) own h = refl
+role_alone (Applies temp left form) own h = refl
+role_alone (Returns temp) own h = refl
+role_alone Other own h = refl
+
+-- what it is depends on the one before it alone
+role_twice : (first second third : Role) →
+    role_behind (role_behind first second) third ≡ role_behind second third
+role_twice (Sets temp word) (Operates other left o) third = by (temp == other) (short_form o word)
+  where
+    by : (b : Bool) (form : Option ShortForm) →
+        role_behind (if b then applied other left o form else Operates other left o) third ≡
+        role_behind (Operates other left o) third
+    by true None = refl
+    by true (Some form) = refl
+    by false form = refl
+role_twice (Sets temp word) (Places other object) third = refl
+role_twice (Sets temp word) (Loads other) third = refl
+role_twice (Sets temp word) (Sets other value) third = refl
+role_twice (Sets temp word) (Stores other value) third = refl
+role_twice (Sets temp word) (Applies other left form) third = refl
+role_twice (Sets temp word) (Returns other) third = refl
+role_twice (Sets temp word) Other third = refl
+role_twice (Places temp object) second third = refl
+role_twice (Loads temp) second third = refl
+role_twice (Operates temp left o) second third = refl
+role_twice (Stores temp value) second third = refl
+role_twice (Applies temp left form) second third = refl
+role_twice (Returns temp) second third = refl
+role_twice Other second third = refl
 
 -- two statements that read a variable
 pub record IsRead (first second : Role) : Type 0 where
@@ -70,6 +104,15 @@ pub record IsShort (first second : Role) : Type 0 where
   pub sets : first ≡ Sets temp word
   pub operates : second ≡ Operates temp left op
   pub form_is : short_form op word ≡ Some form
+  pub behind : role_behind first second ≡ Applies temp left form
+
+-- two that give back what the first computes
+pub record IsReturned (first second : Role) : Type 0 where
+  pub temp : ℕ
+  pub left : ℕ
+  pub form : ShortForm
+  pub applies : first ≡ Applies temp left form
+  pub returns : second ≡ Returns temp
 
 there : {A : Type 0} (o : Option A) → is_some o ≡ true → (x : A) × (o ≡ Some x)
 there None h = cc h
@@ -79,6 +122,7 @@ short_by : (temp other word left : ℕ) (o : TacOp) → (temp == other && is_som
     IsShort (Sets temp word) (Operates other left o)
 short_by temp other word left o h =
     let found = there (short_form o word) (and_rest (temp == other) (is_some (short_form o word)) h) in
+    let same : (temp == other) ≡ true = and_first (temp == other) (is_some (short_form o word)) h in
     record {
       temp = temp;
       word = word;
@@ -89,11 +133,14 @@ short_by temp other word left o h =
       operates = ap (λ t. Operates t left o)
           (sym (eqb-true temp other (and_first (temp == other) (is_some (short_form o word)) h)));
       form_is = found.1;
+      behind =
+          ap (λ b. if b then applied other left o (short_form o word) else Operates other left o) same ∙
+          ap (applied other left o) found.1 ∙ ap (λ t. Applies t left found.0) (sym (eqb-true temp other same));
     }
 
 -- two statements that are one piece are of one of these kinds
 pub which_pair : (first second : Role) → joins first second ≡ true →
-    IsRead first second ⊎ (IsStored first second ⊎ IsShort first second)
+    IsRead first second ⊎ (IsStored first second ⊎ (IsShort first second ⊎ IsReturned first second))
 which_pair (Places temp object) (Loads other) h = inl (record {
   temp = temp;
   object = object;
@@ -107,20 +154,55 @@ which_pair (Places temp object) (Stores other value) h = inr (inl (record {
   gives = refl;
   stores = ap (λ t. Stores t value) (sym (eqb-true temp other h));
 }))
-which_pair (Sets temp word) (Operates other left o) h = inr (inr (short_by temp other word left o h))
+which_pair (Sets temp word) (Operates other left o) h = inr (inr (inl (short_by temp other word left o h)))
+which_pair (Applies temp left form) (Returns other) h = inr (inr (inr (record {
+  temp = temp;
+  left = left;
+  form = form;
+  applies = refl;
+  returns = ap Returns (sym (eqb-true temp other h));
+})))
 which_pair (Places temp object) (Places other place) h = cc h
 which_pair (Places temp object) (Sets other word) h = cc h
 which_pair (Places temp object) (Operates other left o) h = cc h
+which_pair (Places temp object) (Applies other left form) h = cc h
+which_pair (Places temp object) (Returns other) h = cc h
 which_pair (Places temp object) Other h = cc h
 which_pair (Sets temp word) (Places other place) h = cc h
 which_pair (Sets temp word) (Loads other) h = cc h
 which_pair (Sets temp word) (Sets other value) h = cc h
 which_pair (Sets temp word) (Stores other value) h = cc h
+which_pair (Sets temp word) (Applies other left form) h = cc h
+which_pair (Sets temp word) (Returns other) h = cc h
 which_pair (Sets temp word) Other h = cc h
+which_pair (Applies temp left form) (Places other place) h = cc h
+which_pair (Applies temp left form) (Loads other) h = cc h
+which_pair (Applies temp left form) (Sets other value) h = cc h
+which_pair (Applies temp left form) (Operates other from o) h = cc h
+which_pair (Applies temp left form) (Stores other value) h = cc h
+which_pair (Applies temp left form) (Applies other from same) h = cc h
+which_pair (Applies temp left form) Other h = cc h
 which_pair (Loads temp) second h = cc h
 which_pair (Operates temp left o) second h = cc h
 which_pair (Stores temp value) second h = cc h
+which_pair (Returns temp) second h = cc h
 which_pair Other second h = cc h
+
+-- nothing more is one with two that read a variable or store in one, nor with a return
+pub read_is_last : (first second behind : Role) → IsRead first second →
+    joins (role_behind first second) behind ≡ false
+read_is_last first second behind pair =
+    ap₂ (λ r s. joins (role_behind r s) behind) pair.gives pair.loads
+
+pub store_is_last : (first second behind : Role) → IsStored first second →
+    joins (role_behind first second) behind ≡ false
+store_is_last first second behind pair =
+    ap₂ (λ r s. joins (role_behind r s) behind) pair.gives pair.stores
+
+pub return_is_last : (first second behind : Role) → IsReturned first second →
+    joins (role_behind first second) behind ≡ false
+return_is_last first second behind pair =
+    ap₂ (λ r s. joins (role_behind r s) behind) pair.applies pair.returns
 
 -- A CHOICE
 pub is_empty : {A : Type 0} (xs : List A) → (length xs == 0) ≡ true → xs ≡ []
@@ -134,11 +216,16 @@ past_few (suc n) = omega arith
 module _ (frame : FrameTree) (places : List Place) where
   -- what holds of the branch, of a jump over lines, and of pieces one behind the other holds of a choice
   pub fork_keeps : (P : Piece → Type 0) → P nothing → ((lines : ℕ) → P (straight (jump_over lines ∷ []))) →
-      ((e f : Piece) → P e → P f → P (followed e f)) → (cond : ℕ) (first second : List Piece) →
+      ((e f : Piece) → P e → P f → P (followed e f)) →
+      ((piece : Piece) (kind : Kind) → P piece → P (record piece { kind = kind })) →
+      (cond : ℕ) (first second : List Piece) →
       P (straightly frame places (choice frame places cond)) → P (in_order frame places first) →
       P (in_order frame places second) → P (fork frame places cond first second)
-  fork_keeps P none over follows cond first second branch he hf =
-      by (length first == 0 && (in_order frame places second).size == 1)
+  fork_keeps P none over follows kinds cond first second branch he hf =
+      kinds (if length first == 0 && (in_order frame places second).size == 1
+      then skipping frame places cond (in_order frame places second)
+      else choosing frame places cond (in_order frame places first) (in_order frame places second))
+      (kind_of_fork cond first second) (by (length first == 0 && (in_order frame places second).size == 1))
     where
       over_all : (lines : ℕ) → P (straight (past lines))
       over_all zero = none
@@ -180,6 +267,11 @@ module _ (frame : FrameTree) (places : List Place) where
           else choosing frame places cond (in_order frame places first) (in_order frame places second)).role ≡ Other
       by true = refl
       by false = refl
+
+  pub turning_role : (test : Option ℕ) (head : List Piece) (body next : Piece) →
+      (turning frame places test head body next).role ≡ Other
+  turning_role None head body next = refl
+  turning_role (Some cond) head body next = refl
 
 module _ (frame : FrameTree) (places : List Place) (plan : Plan) where
   abbrev role_of : TacStmt → Role
@@ -240,6 +332,12 @@ module _ (frame : FrameTree) (places : List Place) (plan : Plan) where
   layer_gives (tac.If cond first second) temp object h =
       cc (sym (fork_role frame places cond (map (select frame places plan) first) (map (select frame places plan)
       second)) ∙ h)
+  layer_gives (tac.Loop head body next) temp object h =
+      let other : Other ≡ Places temp object =
+      sym (turning_role frame places _ (map (select frame places plan) head) (in_order frame places (map (select frame
+      places plan) body)) (in_order frame places (map (select frame places plan) next))) ∙ h in cc other
+  layer_gives (tac.Return None) temp object h = cc h
+  layer_gives (tac.Return (Some given)) temp object h = cc h
   layer_gives _ temp object h = cc h
 
   pub gives_place : (stmt : TacStmt) → Gives stmt
@@ -270,6 +368,12 @@ module _ (frame : FrameTree) (places : List Place) (plan : Plan) where
       let other : Other ≡ Loads temp =
       sym (fork_role frame places cond (map (select frame places plan) first) (map (select frame places plan)
       second)) ∙ h in cc other
+  layer_loads (tac.Loop head body next) temp h =
+      let other : Other ≡ Loads temp =
+      sym (turning_role frame places _ (map (select frame places plan) head) (in_order frame places (map (select frame
+      places plan) body)) (in_order frame places (map (select frame places plan) next))) ∙ h in cc other
+  layer_loads (tac.Return None) temp h = cc h
+  layer_loads (tac.Return (Some given)) temp h = cc h
   layer_loads _ temp h = cc h
 
   pub loads_it : (stmt : TacStmt) (temp : ℕ) → role_of stmt ≡ Loads temp → IsLoad stmt temp
@@ -301,6 +405,12 @@ module _ (frame : FrameTree) (places : List Place) (plan : Plan) where
       let other : Other ≡ Sets temp word =
       sym (fork_role frame places cond (map (select frame places plan) first) (map (select frame places plan)
       second)) ∙ h in cc other
+  layer_sets (tac.Loop head body next) temp word h =
+      let other : Other ≡ Sets temp word =
+      sym (turning_role frame places _ (map (select frame places plan) head) (in_order frame places (map (select frame
+      places plan) body)) (in_order frame places (map (select frame places plan) next))) ∙ h in cc other
+  layer_sets (tac.Return None) temp word h = cc h
+  layer_sets (tac.Return (Some given)) temp word h = cc h
   layer_sets _ temp word h = cc h
 
   pub sets_it : (stmt : TacStmt) (temp word : ℕ) → role_of stmt ≡ Sets temp word → IsSet stmt temp word
@@ -349,6 +459,12 @@ module _ (frame : FrameTree) (places : List Place) (plan : Plan) where
       let other : Other ≡ Operates temp left o =
       sym (fork_role frame places cond (map (select frame places plan) first) (map (select frame places plan)
       second)) ∙ h in cc other
+  layer_operates (tac.Loop head body next) temp left o h =
+      let other : Other ≡ Operates temp left o =
+      sym (turning_role frame places _ (map (select frame places plan) head) (in_order frame places (map (select frame
+      places plan) body)) (in_order frame places (map (select frame places plan) next))) ∙ h in cc other
+  layer_operates (tac.Return None) temp left o h = cc h
+  layer_operates (tac.Return (Some given)) temp left o h = cc h
   layer_operates _ temp left o h = cc h
 
   pub operates_it : (stmt : TacStmt) (temp left : ℕ) (o : TacOp) → role_of stmt ≡ Operates temp left o →
@@ -386,12 +502,51 @@ module _ (frame : FrameTree) (places : List Place) (plan : Plan) where
       sym (fork_role frame places cond (map (select frame places plan) first) (map (select frame places plan)
       second)) ∙ h in
       cc other
+  layer_stores (tac.Loop head body next) place value h =
+      let other : Other ≡ Stores place value =
+      sym (turning_role frame places _ (map (select frame places plan) head) (in_order frame places (map (select frame
+      places plan) body)) (in_order frame places (map (select frame places plan) next))) ∙ h in cc other
+  layer_stores (tac.Return None) place value h = cc h
+  layer_stores (tac.Return (Some given)) place value h = cc h
   layer_stores _ place value h = cc h
 
   pub stores_it : (stmt : TacStmt) (place value : ℕ) → role_of stmt ≡ Stores place value → IsStore stmt place value
   stores_it =
       stmt_induction (λ stmt. (place value : ℕ) → role_of stmt ≡ Stores place value → IsStore stmt place value)
       (λ layer inside place value h. layer_stores layer place value (sym (role_is layer) ∙ h))
+
+  -- which gives a temporary back
+  abbrev pub IsReturn : TacStmt → ℕ → Type 0
+  IsReturn stmt temp = stmt ≡ roll-TacStmt (tac.Return (Some temp))
+
+  layer_returns : (layer : TacStmt-F TacStmt) (temp : ℕ) → layer_role layer ≡ Returns temp →
+      IsReturn (roll-TacStmt layer) temp
+  layer_returns (tac.Return None) temp h = cc h
+  layer_returns (tac.Return (Some given)) temp h =
+      let one : given ≡ temp = cc h in ap (λ t. roll-TacStmt (tac.Return (Some t))) one
+  layer_returns (tac.Op dest o left right) temp h =
+      absurd (other_than _ _ _ (operation_role dest o left right) h (λ e. cc e) (λ e. cc e))
+  layer_returns (tac.Load dest from pointer) temp h = absurd (by (dest == from) h)
+    where
+      by : (b : Bool) → (if b then Loads dest else Other) ≡ Returns temp → ⊥
+      by true h = cc h
+      by false h = cc h
+  layer_returns (tac.Store place value) temp h =
+      absurd (other_than _ _ _ (store_role place value) h (λ e. cc e) (λ e. cc e))
+  layer_returns (tac.If cond first second) temp h =
+      let other : Other ≡ Returns temp =
+      sym (fork_role frame places cond (map (select frame places plan) first) (map (select frame places plan)
+      second)) ∙ h in
+      cc other
+  layer_returns (tac.Loop head body next) temp h =
+      let other : Other ≡ Returns temp =
+      sym (turning_role frame places _ (map (select frame places plan) head) (in_order frame places (map (select frame
+      places plan) body)) (in_order frame places (map (select frame places plan) next))) ∙ h in cc other
+  layer_returns _ temp h = cc h
+
+  pub returns_it : (stmt : TacStmt) (temp : ℕ) → role_of stmt ≡ Returns temp → IsReturn stmt temp
+  returns_it = stmt_induction (λ stmt. (temp : ℕ) → role_of stmt ≡ Returns temp → IsReturn stmt temp)
+      (λ layer inside temp h. layer_returns layer temp (sym (role_is layer) ∙ h))
 
   -- the role of the first of those from a number on
   pub role_found : (stmts : List TacStmt) (i : ℕ) (stmt : TacStmt) → i < length stmts → stmt ≡ get_or stmts i stmt →
@@ -413,14 +568,25 @@ module _ (frame : FrameTree) (places : List Place) (plan : Plan) where
   drop_map [] (suc i) = refl
   drop_map (stmt ∷ rest) (suc i) = drop_map rest i
 
-  pub before_found : (stmts : List TacStmt) (i : ℕ) → (i ≡ 0 → ⊥) →
-      role_first (map (select frame places plan) (drop (i - 1) stmts)) ≡ role_before (map (select frame places plan)
-      stmts) i
-  before_found stmts zero h = absurd (h refl)
-  before_found stmts (suc i) h =
-      let same : suc i - 1 ≡ i = omega arith in
-      ap (λ n. role_first (map (select frame places plan) (drop n stmts))) same ∙
-      ap role_first (sym (drop_map stmts i))
+  abbrev role_at : List TacStmt → ℕ → Role
+  role_at stmts i = role_first (map (select frame places plan) (drop i stmts))
+
+  -- what is before a statement, by the roles of the one before it and of the one before that
+  pub one_before : (stmts : List TacStmt) (i : ℕ) → i ≡ 1 →
+      role_at stmts (i - 1) ≡ role_before (map (select frame places plan) stmts) i
+  one_before stmts i one = ap (λ n. role_at stmts (n - 1)) one ∙ sym (ap (role_before (map (select frame places plan)
+      stmts)) one)
+
+  pub two_before : (stmts : List TacStmt) (i : ℕ) → (i ≡ 0 → ⊥) → (i ≡ 1 → ⊥) →
+      role_behind (role_at stmts (i - 2)) (role_at stmts (i - 1)) ≡
+      role_before (map (select frame places plan) stmts) i
+  two_before stmts zero none one = absurd (none refl)
+  two_before stmts (suc zero) none one = absurd (one refl)
+  two_before stmts (suc (suc i)) none one =
+      let first : suc (suc i) - 2 ≡ i = omega arith in
+      let second : suc (suc i) - 1 ≡ suc i = omega arith in
+      ap₂ (λ n m. role_behind (role_at stmts n) (role_at stmts m)) first second ∙
+      ap₂ (λ ps qs. role_behind (role_first ps) (role_first qs)) (sym (drop_map stmts i)) (sym (drop_map stmts (suc i)))
 
   -- PIECES
   -- what holds of a piece and of those that may stand for it and its neighbours
@@ -428,38 +594,52 @@ module _ (frame : FrameTree) (places : List Place) (plan : Plan) where
       (read : (temp object : ℕ) → P (straightly frame places (object_read frame places temp object)))
       (short : (temp left : ℕ) (o : TacOp) (word : ℕ) →
       P (straightly frame places (short_operation frame places temp left (short_form o word))))
-      (store : (value object : ℕ) → P (straightly frame places (object_store frame places value object))) where
+      (store : (value object : ℕ) → P (straightly frame places (object_store frame places value object)))
+      (back : (left : ℕ) (form : ShortForm) → P (straightly frame places (short_return frame places left form))) where
     as_one_keeps : (first second : Role) → P (as_one frame places first second)
     as_one_keeps (Places temp object) (Loads other) = read temp object
     as_one_keeps (Places temp object) (Stores other value) = store value object
     as_one_keeps (Places temp object) (Places other place) = none
     as_one_keeps (Places temp object) (Sets other value) = none
     as_one_keeps (Places temp object) (Operates other left o) = none
+    as_one_keeps (Places temp object) (Applies other left form) = none
+    as_one_keeps (Places temp object) (Returns other) = none
     as_one_keeps (Places temp object) Other = none
     as_one_keeps (Sets temp word) (Operates other left o) = short temp left o word
     as_one_keeps (Sets temp word) (Places other object) = none
     as_one_keeps (Sets temp word) (Loads other) = none
     as_one_keeps (Sets temp word) (Sets other value) = none
     as_one_keeps (Sets temp word) (Stores other value) = none
+    as_one_keeps (Sets temp word) (Applies other left form) = none
+    as_one_keeps (Sets temp word) (Returns other) = none
     as_one_keeps (Sets temp word) Other = none
+    as_one_keeps (Applies temp left form) (Returns other) = back left form
+    as_one_keeps (Applies temp left form) (Places other object) = none
+    as_one_keeps (Applies temp left form) (Loads other) = none
+    as_one_keeps (Applies temp left form) (Sets other value) = none
+    as_one_keeps (Applies temp left form) (Operates other from o) = none
+    as_one_keeps (Applies temp left form) (Stores other value) = none
+    as_one_keeps (Applies temp left form) (Applies other from same) = none
+    as_one_keeps (Applies temp left form) Other = none
     as_one_keeps (Loads temp) second = none
     as_one_keeps (Operates temp left o) second = none
     as_one_keeps (Stores temp value) second = none
+    as_one_keeps (Returns temp) second = none
     as_one_keeps Other second = none
 
     pub between_keeps : (before behind : Role) (piece : Piece) → P piece → P (between frame places before piece behind)
-    between_keeps before behind piece h = by (joins before piece.role) (joins piece.role behind)
+    between_keeps before behind piece h = by (joins (role_behind before piece.role) behind) (joins before piece.role)
       where
-        by : (one two : Bool) → P (if one then as_one frame places before piece.role else if two then nothing else
+        by : (one two : Bool) → P (if one then nothing else if two then as_one frame places before piece.role else
             piece)
-        by true two = as_one_keeps before piece.role
-        by false true = none
+        by true two = none
+        by false true = as_one_keeps before piece.role
         by false false = h
 
     joined_keeps : (before : Role) (pieces : List Piece) → Each P pieces → Each P (joined frame places before pieces)
     joined_keeps before [] h = tt
     joined_keeps before (piece ∷ pieces) h =
-        (between_keeps before (role_first pieces) piece h.0, joined_keeps piece.role pieces h.1)
+        (between_keeps before (role_first pieces) piece h.0, joined_keeps (role_behind before piece.role) pieces h.1)
 
     module _ (both : (e f : Piece) → P e → P f → P (followed e f)) where
       turn_keeps : (pieces : List Piece) (i : ℕ) → Each P pieces → P (in_turn (drop i pieces))
@@ -489,17 +669,13 @@ module _ (frame : FrameTree) (places : List Place) (plan : Plan) where
   pub joined_length : (before : Role) (pieces : List Piece) →
       length (joined frame places before pieces) ≡ length pieces
   joined_length before [] = refl
-  joined_length before (piece ∷ pieces) = ap suc (joined_length piece.role pieces)
+  joined_length before (piece ∷ pieces) = ap suc (joined_length (role_behind before piece.role) pieces)
 
-  -- the role of the piece before the one at a number, where this one stands before them all
+  -- what the pieces before the one at a number are to it, where this one stands before them all
   abbrev pub role_in : Role → List Piece → ℕ → Role
   role_in before pieces zero = before
-  role_in before pieces (suc at) = role_first (drop at pieces)
-
-  within : (piece : Piece) (pieces : List Piece) (i : ℕ) →
-      role_in piece.role pieces i ≡ role_first (drop i (piece ∷ pieces))
-  within piece pieces zero = refl
-  within piece pieces (suc i) = refl
+  role_in before [] (suc at) = Other
+  role_in before (piece ∷ pieces) (suc at) = role_in (role_behind before piece.role) pieces at
 
   pub joined_at : (before : Role) (pieces : List Piece) (i : ℕ) (piece : Piece) → i < length pieces →
       piece ≡ get_or pieces i piece →
@@ -508,8 +684,24 @@ module _ (frame : FrameTree) (places : List Place) (plan : Plan) where
       drop (suc i) (joined frame places before pieces)
   joined_at before [] i piece h is = absurd (omega (arith, h))
   joined_at before (first ∷ pieces) zero piece h is =
-      ap (λ p. between frame places before p (role_first pieces) ∷ joined frame places first.role pieces) (sym is)
+      ap (λ p. between frame places before p (role_first pieces) ∷
+      joined frame places (role_behind before first.role) pieces) (sym is)
   joined_at before (first ∷ pieces) (suc i) piece h is =
-      joined_at first.role pieces i piece (omega (arith, h)) is ∙
-      ap (λ r. between frame places r piece (role_first (drop (suc i) pieces)) ∷
-      drop (suc i) (joined frame places first.role pieces)) (within first pieces i)
+      joined_at (role_behind before first.role) pieces i piece (omega (arith, h)) is
+
+  -- the last two pieces alone decide
+  role_of_two : (before : Role) (pieces : List Piece) (at : ℕ) → suc at < length pieces →
+      role_in before pieces (suc (suc at)) ≡
+      role_behind (role_first (drop at pieces)) (role_first (drop (suc at) pieces))
+  role_of_two before [] at h = absurd (omega (arith, h))
+  role_of_two before (first ∷ []) at h = absurd (omega (arith, h))
+  role_of_two before (first ∷ second ∷ pieces) zero h = role_twice before first.role second.role
+  role_of_two before (first ∷ second ∷ pieces) (suc at) h =
+      role_of_two (role_behind before first.role) (second ∷ pieces) at (omega (arith, h))
+
+  pub role_in_is : (pieces : List Piece) (at : ℕ) → at ≤ length pieces →
+      role_in Other pieces at ≡ role_before pieces at
+  role_in_is pieces zero h = refl
+  role_in_is [] (suc at) h = absurd (omega (arith, h))
+  role_in_is (first ∷ pieces) (suc zero) h = refl
+  role_in_is (first ∷ pieces) (suc (suc at)) h = role_of_two Other (first ∷ pieces) at (omega (arith, h))

@@ -6,4 +6,5 @@ pub mod Links
 pub mod Needed
 pub mod Rows
 pub mod Sizes
+pub mod Turning
 pub mod Weights

@@ -1,8 +1,16 @@
-use Rattle.sc_select.proofs.Common.{has_mark, ◌∙◌}
-use Rattle.sc_select.proofs.Joining.{before_found}
+use Rattle.sc_select.specs.Selection.{plan_by, role_behind}
+use Rattle.sc_select.proofs.Common.{ap₂, ◌∙◌}
+use Rattle.sc_select.proofs.Joining.{one_before, two_before}
 use Rattle.sc_select.proofs.roles.role_before.Goals as goal
 
+pub returns-then-at-eq1 : goal.returns-then-at-eq1
+returns-then-at-eq1 c frame places near =
+    c.role_at-own.ensures frame places near ∙
+    one_before frame places (plan_by c.args.needs.now near) c.args.stmts.now c.args.at c.if-at-eq1.true
+
 pub returns : goal.returns
-returns c frame places =
-    c.role_at.ensures frame places ∙ before_found frame places (has_mark c.args.needs.now) c.args.stmts.now c.args.at
-    c.if-at-eq0.false
+returns c frame places near =
+    c.role_behind.ensures ∙
+    ap₂ role_behind (c.role_at.ensures frame places near) (c.role_at-own.ensures frame places near) ∙
+    two_before frame places (plan_by c.args.needs.now near) c.args.stmts.now c.args.at c.if-at-eq0.false
+    c.if-at-eq1.false

@@ -1,0 +1,160 @@
+-- Loops that end with their test: which they are.
+use Rattle.sc_select.specs.Selection.{Breaks, Controls, Kind, Plain, Plan, Tests, before_test, ending_test, is_plain}
+use Rattle.sc_select.specs.Selection.{kind_by, kind_of_fork, rotated, test_of, turning}
+use Rattle.sc_select.proofs.Common.{Bool, Each, FrameTree, List, None, Option, Piece, Place, Some, TacStmt, TacStmt-F}
+use Rattle.sc_select.proofs.Common.{[], ap, ap₂, arith, cycle, false, fold-roll-TacStmt, if◌then◌else◌, in_order, length}
+use Rattle.sc_select.proofs.Common.{map, map-TacStmt, refl, roll-TacStmt, select, select_step, stmt_induction, suc, sym}
+use Rattle.sc_select.proofs.Common.{true, ℕ, ◌++◌, ◌-◌, ◌∙◌, ◌∷◌, ◌≡◌, subst}
+use Rattle.std.proofs.Common.{take as take_front}
+use Rattle.sc_tac.specs.declared.stmt.TacStmt.TheOpen as tac
+
+abbrev break_stmt : TacStmt
+break_stmt = roll-TacStmt tac.Break
+
+-- an `If` that breaks where a value is false
+abbrev pub test_stmt : ℕ → TacStmt
+test_stmt cond = roll-TacStmt (tac.If cond [] (break_stmt ∷ []))
+
+module _ (frame : FrameTree) (places : List Place) (plan : Plan) where
+  abbrev code : TacStmt → Piece
+  code = select frame places plan
+
+  abbrev pub kind_of : TacStmt → Kind
+  kind_of stmt = (code stmt).kind
+
+  abbrev layer_kind : TacStmt-F TacStmt → Kind
+  layer_kind layer = (select_step frame places plan (map-TacStmt _ _ code layer)).kind
+
+  pub kind_is : (layer : TacStmt-F TacStmt) → kind_of (roll-TacStmt layer) ≡ layer_kind layer
+  kind_is layer = ap (λ p. p.kind) (fold-roll-TacStmt Piece (select_step frame places plan) layer)
+
+  turning_kind : (test : Option ℕ) (head : List Piece) (body next : Piece) →
+      (turning frame places test head body next).kind ≡ Controls
+  turning_kind None head body next = refl
+  turning_kind (Some cond) head body next = refl
+
+  loop_kind : (head body next : List TacStmt) → layer_kind (tac.Loop head body next) ≡ Controls
+  loop_kind head body next =
+      turning_kind (if plan.near then ending_test (map code head) else None) (map code head)
+      (in_order frame places (map code body)) (in_order frame places (map code next))
+
+  -- an `If` is a test, or neither plain nor a break
+  kind_by_not : (P : Kind → Type 0) → P Controls → ((cond : ℕ) → P (Tests cond)) → (cond : ℕ) (kind : Kind) →
+      P (kind_by cond kind)
+  kind_by_not P none test cond Plain = none
+  kind_by_not P none test cond Breaks = test cond
+  kind_by_not P none test cond (Tests other) = none
+  kind_by_not P none test cond Controls = none
+
+  fork_kind : (P : Kind → Type 0) → P Controls → ((cond : ℕ) → P (Tests cond)) → (cond : ℕ)
+      (first second : List Piece) → P (kind_of_fork cond first second)
+  fork_kind P none test cond [] [] = none
+  fork_kind P none test cond [] (piece ∷ []) = kind_by_not P none test cond piece.kind
+  fork_kind P none test cond [] (piece ∷ more ∷ rest) = none
+  fork_kind P none test cond (piece ∷ rest) second = none
+
+  -- a break
+  layer_breaks : (layer : TacStmt-F TacStmt) → layer_kind layer ≡ Breaks → roll-TacStmt layer ≡ break_stmt
+  layer_breaks tac.Break h = refl
+  layer_breaks (tac.If cond first second) h =
+      absurd (fork_kind (λ kind. kind ≡ Breaks → ⊥) (λ e. cc e) (λ cond e. cc e) cond (map code first)
+      (map code second) h)
+  layer_breaks (tac.Loop head body next) h =
+      let other : Controls ≡ Breaks = sym (loop_kind head body next) ∙ h in cc other
+  layer_breaks _ h = cc h
+
+  breaks_is : (stmt : TacStmt) → kind_of stmt ≡ Breaks → stmt ≡ break_stmt
+  breaks_is = stmt_induction (λ stmt. kind_of stmt ≡ Breaks → stmt ≡ break_stmt)
+      (λ layer inside h. layer_breaks layer (sym (kind_is layer) ∙ h))
+
+  -- a test
+  kind_by_test : (cond other : ℕ) (kind : Kind) → test_of (kind_by cond kind) ≡ Some other →
+      (kind ≡ Breaks) × (cond ≡ other)
+  kind_by_test cond other Breaks h = (refl, cc h)
+  kind_by_test cond other Plain h = cc h
+  kind_by_test cond other (Tests c) h = cc h
+  kind_by_test cond other Controls h = cc h
+
+  layer_tests : (layer : TacStmt-F TacStmt) (cond : ℕ) → test_of (layer_kind layer) ≡ Some cond →
+      roll-TacStmt layer ≡ test_stmt cond
+  layer_tests (tac.If other [] (stmt ∷ [])) cond h =
+      let its = kind_by_test other cond (kind_of stmt) h in
+      ap₂ (λ c s. roll-TacStmt (tac.If c [] (s ∷ []))) its.1 (breaks_is stmt its.0)
+  layer_tests (tac.If other [] []) cond h = cc h
+  layer_tests (tac.If other [] (stmt ∷ more ∷ rest)) cond h = cc h
+  layer_tests (tac.If other (stmt ∷ rest) second) cond h = cc h
+  layer_tests (tac.Loop head body next) cond h =
+      let other : None ≡ Some cond = sym (ap test_of (loop_kind head body next)) ∙ h in cc other
+  layer_tests _ cond h = cc h
+
+  pub tests_it : (stmt : TacStmt) (cond : ℕ) → test_of (kind_of stmt) ≡ Some cond → stmt ≡ test_stmt cond
+  tests_it = stmt_induction (λ stmt. (cond : ℕ) → test_of (kind_of stmt) ≡ Some cond → stmt ≡ test_stmt cond)
+      (λ layer inside cond h. layer_tests layer cond (sym (ap test_of (kind_is layer)) ∙ h))
+
+  -- statements that end with a test, and are plain before it
+  pub record IsTested (head : List TacStmt) (cond : ℕ) : Type 0 where
+    pub init : List TacStmt
+    pub is : head ≡ init ++ (test_stmt cond ∷ [])
+    pub plain : Each (λ stmt. is_plain (kind_of stmt) ≡ true) init
+    pub before : before_test (map code head) ≡ map code init
+
+  pub tested : (head : List TacStmt) (cond : ℕ) → ending_test (map code head) ≡ Some cond → IsTested head cond
+  tested [] cond h = cc h
+  tested (stmt ∷ []) cond h = record {
+    init = [];
+    is = ap (λ s. s ∷ []) (tests_it stmt cond h);
+    plain = tt;
+    before = refl;
+  }
+  tested (stmt ∷ next ∷ rest) cond h =
+      by (is_plain (kind_of stmt)) refl h (λ behind. tested (next ∷ rest) cond behind)
+    where
+      by : (b : Bool) → is_plain (kind_of stmt) ≡ b →
+          (if b then ending_test (map code (next ∷ rest)) else None) ≡ Some cond →
+          (ending_test (map code (next ∷ rest)) ≡ Some cond → IsTested (next ∷ rest) cond) →
+          IsTested (stmt ∷ next ∷ rest) cond
+      by true plain h later =
+          let more : IsTested (next ∷ rest) cond = later h in
+          let n : ℕ = length (map code rest) in
+          let one : suc (suc n) - 1 ≡ suc n = omega arith in
+          let two : suc n - 1 ≡ n = omega arith in
+          record {
+            init = stmt ∷ more.init;
+            is = ap (λ l. stmt ∷ l) more.is;
+            plain = (plain, more.plain);
+            before =
+                ap (λ k. take_front k (map code (stmt ∷ next ∷ rest))) one ∙
+                ap (λ l. code stmt ∷ l)
+                (sym (ap (λ k. take_front k (map code (next ∷ rest))) two) ∙ more.before);
+          }
+      by false plain h later = cc h
+
+  -- what holds of a loop of either form holds of a loop
+  pub turning_by : (P : Piece → Type 0) (head : List TacStmt) (body next : Piece) →
+      P (cycle frame places (in_order frame places (map code head)) body next) →
+      ((cond : ℕ) → plan.near ≡ true → (t : IsTested head cond) →
+      P (rotated frame places cond (in_order frame places (map code t.init)) body next)) →
+      P (turning frame places (if plan.near then ending_test (map code head) else None) (map code head) body next)
+  turning_by P head body next first second = by plan.near refl
+    where
+      by_test : plan.near ≡ true → (test : Option ℕ) → ending_test (map code head) ≡ test →
+          P (turning frame places test (map code head) body next)
+      by_test near None h = first
+      by_test near (Some cond) h =
+          let t : IsTested head cond = tested head cond h in
+          subst (λ pieces. P (rotated frame places cond (in_order frame places pieces) body next)) (sym t.before)
+          (second cond near t)
+
+      by : (b : Bool) → plan.near ≡ b →
+          P (turning frame places (if b then ending_test (map code head) else None) (map code head) body next)
+      by true near = by_test near (ending_test (map code head)) refl
+      by false near = first
+
+  -- those before the test are fewer statements of the same
+  pub each_before : (Q : TacStmt → Type 0) (head init : List TacStmt) (cond : ℕ) →
+      head ≡ init ++ (test_stmt cond ∷ []) → Each Q head → Each Q init
+  each_before Q head init cond is h = front init (subst (Each Q) is h)
+    where
+      front : (xs : List TacStmt) → Each Q (xs ++ (test_stmt cond ∷ [])) → Each Q xs
+      front [] h = tt
+      front (x ∷ xs) h = (h.0, front xs h.1)
