@@ -1,5 +1,6 @@
 -- What the code of statements in order, of choices and of loops is made of, and that the jumps of their parts reach.
-use Rattle.sc_select.specs.Selection.{Plan}
+use Rattle.sc_select.specs.Bounds.{FitsLoop}
+use Rattle.sc_select.specs.Selection.{Plan, kind_of_fork, role_behind}
 use Rattle.sc_select.proofs.Common.{Bool, Fits, FitsBetween, FrameTree, Instr, Line, List, OnOk, Other, Piece, Place}
 use Rattle.sc_select.proofs.Common.{Role, TacStmt, [], and_first, and_rest, ap, append_assoc, ap₂, arith, as_one}
 use Rattle.sc_select.proofs.Common.{between, choice, choosing, cycle, drop, drop-cons, false, fold-TacStmt}
@@ -13,7 +14,7 @@ use Rattle.sc_tac.specs.Prelude.{everywhere}
 use Rattle.std.specs.declared.result.Result.{Result}
 use Rattle.sc_tac.specs.declared.stmt.TacStmt.TheOpen as tac
 use Rattle.sc_tac.specs.declared.stmt.TacStmt.TheVariants as emit
-use Rattle.sc_select.proofs.Joining.{drop_map, joined_at, joined_length, none_behind, role_in}
+use Rattle.sc_select.proofs.Joining.{drop_map, joined_at, joined_length, none_behind, role_in_is}
 use Rattle.sc_select.proofs.Sizes.{row_is_sized, row_from_sized}
 
 -- FEW ARGUMENTS
@@ -28,7 +29,7 @@ few_in_fork cond first second h =
       and_first (everywhere passes_few second) _ (and_rest (everywhere passes_few first) _ k),
     )
 
-few_in_cycle : (head body next : List TacStmt) → everywhere passes_few (emit.Loop head body next ∷ []) ≡ true →
+pub few_in_cycle : (head body next : List TacStmt) → everywhere passes_few (emit.Loop head body next ∷ []) ≡ true →
     (everywhere passes_few head ≡ true) × (everywhere passes_few body ≡ true) × (everywhere passes_few next ≡ true)
 unfolding roll-TacStmt denote.Hole.Carrier.roll
 few_in_cycle head body next h =
@@ -97,7 +98,7 @@ step_lighter stmts list at stmt same some within is =
     (no_heavier list (at - 1) stmt (omega (arith, some, within)) is)
 
 -- LINES
-three_parts : (xs ys zs rest : List Line) → (xs ++ (ys ++ zs)) ++ rest ≡ xs ++ (ys ++ (zs ++ rest))
+pub three_parts : (xs ys zs rest : List Line) → (xs ++ (ys ++ zs)) ++ rest ≡ xs ++ (ys ++ (zs ++ rest))
 three_parts xs ys zs rest = append_assoc xs (ys ++ zs) rest ∙ ap (λ t. xs ++ t) (append_assoc ys zs rest)
 
 module _ (frame : FrameTree) (places : List Place) (plan : Plan) where
@@ -105,13 +106,13 @@ module _ (frame : FrameTree) (places : List Place) (plan : Plan) where
   size stmts = (select_all frame places plan stmts).size
 
   -- a statement alone
-  alone : (b c : ℕ) (stmt : TacStmt) → size (stmt ∷ []) ≡ (select frame places plan stmt).size + 0
+  pub alone : (b c : ℕ) (stmt : TacStmt) → size (stmt ∷ []) ≡ (select frame places plan stmt).size + 0
   alone b c stmt =
       ap (λ (behind : Bool). (if behind then nothing else select frame places plan stmt).size + 0)
       (none_behind (select frame places plan stmt).role)
 
   -- how many lines statements have put in front
-  counted : (stmts : List TacStmt) (b c : ℕ) (new old : List Line) (n m : ℕ) → n ≡ length new → m ≡ length old →
+  pub counted : (stmts : List TacStmt) (b c : ℕ) (new old : List Line) (n m : ℕ) → n ≡ length new → m ≡ length old →
       new ≡ (select_all frame places plan stmts).lines b c ++ old → n ≡ size stmts + m
   counted stmts b c new old n m hn hm h =
       let lines : List Line = (select_all frame places plan stmts).lines b c in
@@ -124,17 +125,24 @@ module _ (frame : FrameTree) (places : List Place) (plan : Plan) where
       if found then skipping frame places cond (select_all frame places plan second)
       else choosing frame places cond (select_all frame places plan first) (select_all frame places plan second)
 
+  abbrev as_fork : ℕ → (first second : List TacStmt) → Piece → Piece
+  as_fork cond first second piece =
+      record piece {
+        kind = kind_of_fork cond (map (select frame places plan) first) (map (select frame places plan) second);
+      }
+
   -- which code a choice has, by what the test found
   fork_is : (cond : ℕ) (first second : List TacStmt) (lines : ℕ) (found is : Bool) → lines ≡ size second →
       found ≡ (length first == 0 && lines == 1) → found ≡ is →
-      select frame places plan (emit.If cond first second) ≡ both_ways cond first second is
+      select frame places plan (emit.If cond first second) ≡ as_fork cond first second (both_ways cond first second is)
   unfolding roll-TacStmt denote.Hole.Carrier.roll
   fork_is cond first second lines found is lines_is test found_is =
       fold-roll-TacStmt Piece (select_step frame places plan) (tac.If cond first second) ∙
-      ap (λ n. both_ways cond first second (n == 0 && size second == 1)) (length-map first (select frame places plan))
+      ap (λ n. as_fork cond first second (both_ways cond first second (n == 0 && size second == 1)))
+      (length-map first (select frame places plan))
       ∙
-      ap (λ n. both_ways cond first second (length first == 0 && n == 1)) (sym lines_is) ∙
-      ap (both_ways cond first second) (sym test ∙ found_is)
+      ap (λ n. as_fork cond first second (both_ways cond first second (length first == 0 && n == 1))) (sym lines_is) ∙
+      ap (λ b. as_fork cond first second (both_ways cond first second b)) (sym test ∙ found_is)
 
   -- the second part has no more lines than the whole
   second_least : (cond : ℕ) (first second : List TacStmt) →
@@ -142,7 +150,9 @@ module _ (frame : FrameTree) (places : List Place) (plan : Plan) where
   second_least cond first second =
       by (length first == 0 && size second == 1) (fork_is cond first second (size second) _ _ refl refl refl)
     where
-      by : (found : Bool) → select frame places plan (emit.If cond first second) ≡ both_ways cond first second found →
+      by : (found : Bool) →
+          select frame places plan (emit.If cond first second) ≡
+          as_fork cond first second (both_ways cond first second found) →
           size second ≤ (select frame places plan (emit.If cond first second)).size
       by true is = let whole = ap (λ p. p.size) is in omega (arith, whole)
       by false is = let whole = ap (λ p. p.size) is in omega (arith, whole)
@@ -210,7 +220,7 @@ module _ (frame : FrameTree) (places : List Place) (plan : Plan) where
           abbrev k : ℕ
           k = size second
 
-          whole_is : whole ≡ both_ways cond first second false
+          whole_is : whole ≡ as_fork cond first second (both_ways cond first second false)
           whole_is = fork_is cond first second (n1 - end) found false behind_is test none
 
           size_is : whole.size ≡ length branch + (1 + (size first + length (past k) + k))
@@ -276,43 +286,27 @@ module _ (frame : FrameTree) (places : List Place) (plan : Plan) where
                 ap (λ p. p.lines b c ++ old) (sym whole_is)) h
 
   -- A LOOP
-  cycle_is : (head body next : List TacStmt) → select frame places plan (emit.Loop head body next) ≡ cycle frame
-      places
-      (select_all frame places plan head) (select_all frame places plan body) (select_all frame places plan next)
-  unfolding roll-TacStmt denote.Hole.Carrier.roll
-  cycle_is head body next = fold-roll-TacStmt Piece (select_step frame places plan) (tac.Loop head body next)
+  module _ (head body next : List TacStmt) (fits : FitsLoop frame places plan head body next 2) where
+    next_fits : (n : ℕ) → n ≡ 1 → Fits frame places plan next n 0
+    next_fits n is = record {
+      few_arguments = fits.few_in_next;
+      breaks = omega (arith, is, fits.reaches);
+      continues = omega (arith, fits.reaches);
+    }
 
-  cycle_reaches : (head body next : List TacStmt) (b c : ℕ) →
-      Fits frame places plan (emit.Loop head body next ∷ []) b c → 2 + (size head + (size body + size next)) < 262143
-  cycle_reaches head body next b c h =
-      let parts : (select frame places plan (emit.Loop head body next)).size ≡ 2 + (size head + (size body + size
-      next)) =
-      ap (λ p. p.size) (cycle_is head body next) in
-      omega (arith, h.breaks, alone b c (emit.Loop head body next), parts)
+    body_fits : (n : ℕ) → n ≡ suc (size next) → Fits frame places plan body n 0
+    body_fits n is = record {
+      few_arguments = fits.few_in_body;
+      breaks = omega (arith, is, fits.reaches);
+      continues = omega (arith, fits.reaches);
+    }
 
-  next_fits : (head body next : List TacStmt) (b c n : ℕ) → n ≡ 1 →
-      Fits frame places plan (emit.Loop head body next ∷ []) b c → Fits frame places plan next n 0
-  next_fits head body next b c n is h = record {
-    few_arguments = (few_in_cycle head body next h.few_arguments).2;
-    breaks = omega (arith, is, cycle_reaches head body next b c h);
-    continues = omega (arith, cycle_reaches head body next b c h);
-  }
-
-  body_fits : (head body next : List TacStmt) (b c n : ℕ) → n ≡ suc (size next) →
-      Fits frame places plan (emit.Loop head body next ∷ []) b c → Fits frame places plan body n 0
-  body_fits head body next b c n is h = record {
-    few_arguments = (few_in_cycle head body next h.few_arguments).1;
-    breaks = omega (arith, is, cycle_reaches head body next b c h);
-    continues = omega (arith, cycle_reaches head body next b c h);
-  }
-
-  head_fits : (head body next : List TacStmt) (b c n : ℕ) → n ≡ size body + suc (size next) →
-      Fits frame places plan (emit.Loop head body next ∷ []) b c → Fits frame places plan head n 0
-  head_fits head body next b c n is h = record {
-    few_arguments = (few_in_cycle head body next h.few_arguments).0;
-    breaks = omega (arith, is, cycle_reaches head body next b c h);
-    continues = omega (arith, cycle_reaches head body next b c h);
-  }
+    head_fits : (n : ℕ) → n ≡ size body + suc (size next) → Fits frame places plan head n 0
+    head_fits n is = record {
+      few_arguments = fits.few_in_head;
+      breaks = omega (arith, is, fits.reaches);
+      continues = omega (arith, fits.reaches);
+    }
 
   -- how far it is to the end of the loop, before each of its parts is written and behind the last
   next_distance : (first : Instr) (old l1 : List Line) (end : ℕ) → l1 ≡ plain first ∷ old → end ≡ length old →
@@ -352,53 +346,48 @@ module _ (frame : FrameTree) (places : List Place) (plan : Plan) where
       omega (arith, start, after, between, before, end_is)
 
   -- what writing the parts needs: that some lines lie between, and that jumps reach over them
-  pub next_reaches : (head body next : List TacStmt) (b c : ℕ) (first : Instr) (old l1 : List Line) (end : ℕ) →
-      Fits frame places plan (emit.Loop head body next ∷ []) b c → l1 ≡ plain first ∷ old → end ≡ length old →
+  pub next_reaches : (head body next : List TacStmt) (first : Instr) (old l1 : List Line) (end : ℕ) →
+      FitsLoop frame places plan head body next 2 → l1 ≡ plain first ∷ old → end ≡ length old →
       (end ≤ length l1) × Fits frame places plan next (length l1 - end) 0
-  next_reaches head body next b c first old l1 end fits h1 end_is =
+  next_reaches head body next first old l1 end fits h1 end_is =
       let distance : length l1 - end ≡ 1 = next_distance first old l1 end h1 end_is in (
         omega (arith, distance),
-        next_fits head body next b c (length l1 - end) distance
-            fits,
+        next_fits head body next fits (length l1 - end) distance,
       )
 
-  pub body_reaches : (head body next : List TacStmt) (b c : ℕ) (first : Instr) (old l1 l2 : List Line) (end d : ℕ) →
-      Fits frame places plan (emit.Loop head body next ∷ []) b c → l1 ≡ plain first ∷ old →
+  pub body_reaches : (head body next : List TacStmt) (first : Instr) (old l1 l2 : List Line) (end d : ℕ) →
+      FitsLoop frame places plan head body next 2 → l1 ≡ plain first ∷ old →
       l2 ≡ (select_all frame places plan next).lines d 0 ++ l1 → end ≡ length old →
       (end ≤ length l2) × Fits frame places plan body (length l2 - end) 0
-  body_reaches head body next b c first old l1 l2 end d fits h1 h2 end_is =
+  body_reaches head body next first old l1 l2 end d fits h1 h2 end_is =
       let distance : length l2 - end ≡ suc (size next) = body_distance next first old l1 l2 end d h1 h2 end_is in (
         omega (arith, distance),
-        body_fits head body next b c (length l2 - end) distance
-            fits,
+        body_fits head body next fits (length l2 - end) distance,
       )
 
-  pub head_reaches : (head body next : List TacStmt) (b c : ℕ) (first : Instr) (old l1 l2 l3 : List Line)
-      (end d e : ℕ) → Fits frame places plan (emit.Loop head body next ∷ []) b c → l1 ≡ plain first ∷ old →
+  pub head_reaches : (head body next : List TacStmt) (first : Instr) (old l1 l2 l3 : List Line)
+      (end d e : ℕ) → FitsLoop frame places plan head body next 2 → l1 ≡ plain first ∷ old →
       l2 ≡ (select_all frame places plan next).lines d 0 ++ l1 → l3 ≡ (select_all frame places plan body).lines e 0
       ++ l2 →
       end ≡ length old → (end ≤ length l3) × Fits frame places plan head (length l3 - end) 0
-  head_reaches head body next b c first old l1 l2 l3 end d e fits h1 h2 h3 end_is =
+  head_reaches head body next first old l1 l2 l3 end d e fits h1 h2 h3 end_is =
       let distance : length l3 - end ≡ size body + suc (size next) =
       head_distance body next first old l1 l2 l3 end d e h1 h2 h3 end_is in (
         omega (arith, distance),
-        head_fits head body next b c (length l3 - end) distance
-            fits,
+        head_fits head body next fits (length l3 - end) distance,
       )
 
-  pub back_reaches : (head body next : List TacStmt) (b c : ℕ) (first : Instr)
-      (old l1 l2 l3 l4 : List Line) (n end d e g : ℕ) → Fits frame places plan (emit.Loop head body next ∷ []) b c →
+  pub back_reaches : (head body next : List TacStmt) (first : Instr)
+      (old l1 l2 l3 l4 : List Line) (n end d e g : ℕ) → FitsLoop frame places plan head body next 2 →
       l1 ≡ plain first ∷ old →
       l2 ≡ (select_all frame places plan next).lines d 0 ++ l1 → l3 ≡ (select_all frame places plan body).lines e 0
       ++ l2 →
       l4 ≡ (select_all frame places plan head).lines g 0 ++ l3 → n ≡ length l4 → end ≡ length old →
       n - end - 1 < 262143
-  back_reaches head body next b c first old l1 l2 l3 l4 n end d e g fits h1 h2 h3 h4 n_is end_is =
+  back_reaches head body next first old l1 l2 l3 l4 n end d e g fits h1 h2 h3 h4 n_is end_is =
       let whole : length l4 ≡ end + suc (size head + (size body + size next)) =
       whole_distance head body next first old l1 l2 l3 l4 end d e g h1 h2 h3 h4 end_is in
-      let reaches : 2 + (size head + (size body + size next)) < 262143 =
-      cycle_reaches head body next b c fits in
-      omega (arith, whole, n_is, reaches)
+      omega (arith, whole, n_is, fits.reaches)
 
   pub cycle_written : (head body next : List TacStmt) (b c n end : ℕ)
       (first begin jump : Instr) (old l1 l2 l3 l4 l5 new : List Line) → n ≡ length l4 → end ≡ length old →
@@ -409,7 +398,8 @@ module _ (frame : FrameTree) (places : List Place) (plan : Plan) where
       plain jump ≡ jump_back (n - end - 1) →
       ((front rest : List Line) (line : Line) → l5 ≡ front ++ line ∷ rest → length rest ≡ end →
       new ≡ front ++ record line { instr = jump } ∷ rest) →
-      new ≡ (select frame places plan (emit.Loop head body next)).lines b c ++ old
+      new ≡ (cycle frame places (select_all frame places plan head) (select_all frame places plan body) (select_all
+      frame places plan next)).lines b c ++ old
   cycle_written head body next b c n end first begin jump old l1 l2 l3 l4 l5 new n_is end_is opens h1 h2 h3 h4 h5 back
       replaced =
       let xs : List Line = (select_all frame places plan head).lines (size body + suc (size next)) 0 in
@@ -441,20 +431,7 @@ module _ (frame : FrameTree) (places : List Place) (plan : Plan) where
       sym (append_assoc (xs ++ (ys ++ zs)) (last ∷ []) old) ∙
       ap (λ t. t ++ old) (three_parts xs ys zs (last ∷ [])) in
       put ∙ ap (λ l. (loop_begins ∷ (xs ++ (ys ++ zs))) ++ (l ∷ old)) same ∙
-      ap (λ t. loop_begins ∷ t) joined ∙
-      ap (λ p. p.lines b c ++ old) (sym (cycle_is head body next))
-
-  -- a loop needs as much wherever it stands
-  pub cycle_fits : (stmt : TacStmt) (head body next : List TacStmt) (b c : ℕ) → stmt ≡ emit.Loop head body next →
-      Fits frame places plan (stmt ∷ []) b c → Fits frame places plan (emit.Loop head body next ∷ []) 0 0
-  cycle_fits stmt head body next b c is h =
-      let fits : Fits frame places plan (emit.Loop head body next ∷ []) b c =
-      as_is stmt (emit.Loop head body next) b c is h in
-      record {
-        few_arguments = fits.few_arguments;
-        breaks = omega (arith, fits.breaks);
-        continues = omega (arith, fits.continues);
-      }
+      ap (λ t. loop_begins ∷ t) joined
 
   -- STATEMENTS IN ORDER
   abbrev pieces : List TacStmt → List Piece
@@ -490,10 +467,6 @@ module _ (frame : FrameTree) (places : List Place) (plan : Plan) where
   selected_at (first ∷ rest) zero stmt is = ap (select frame places plan) is
   selected_at (first ∷ rest) (suc i) stmt is = selected_at rest i stmt is
 
-  before_is : (parts : List Piece) (i : ℕ) → role_in frame places plan Other parts i ≡ role_before parts i
-  before_is parts zero = refl
-  before_is parts (suc i) = refl
-
   parted_at : (stmts : List TacStmt) (i : ℕ) (stmt : TacStmt) → i < length stmts → stmt ≡ get_or stmts i stmt →
       drop i (pieces stmts) ≡ one stmts i stmt ∷ drop (suc i) (pieces stmts)
   parted_at stmts i stmt h is =
@@ -505,7 +478,7 @@ module _ (frame : FrameTree) (places : List Place) (plan : Plan) where
             places plan),
       )) (selected_at stmts i stmt is) ∙
       ap (λ role. between frame places role (select frame places plan stmt) (role_first (drop (suc i) parts)) ∷
-      drop (suc i) (pieces stmts)) (before_is parts i) ∙
+      drop (suc i) (pieces stmts)) (role_in_is frame places plan parts i (omega (arith, h, length-map stmts (select frame places plan)))) ∙
       ap (λ behind. between frame places (role_before parts i) (select frame places plan stmt) (role_first behind) ∷
       drop (suc i) (pieces stmts)) (drop_map frame places plan stmts (suc i))
 
@@ -623,43 +596,35 @@ module _ (frame : FrameTree) (places : List Place) (plan : Plan) where
       itself = select frame places plan stmt
 
       -- what the tests found
-      first_test : (found b : Bool) → found ≡ joins before role → found ≡ b → joins before itself.role ≡ b
-      first_test found b h k = ap (joins before) (sym is) ∙ sym h ∙ k
-
-      second_test : (found b : Bool) → found ≡ joins role behind → found ≡ b → joins itself.role behind ≡ b
-      second_test found b h k = ap (λ r. joins r behind) (sym is) ∙ sym h ∙ k
-
-      by_tests : (one two : Bool) → joins before itself.role ≡ one → joins itself.role behind ≡ two →
+      by_tests : (one two : Bool) → joins (role_behind before role) behind ≡ one → joins before role ≡ two →
           between frame places before itself behind ≡
-          (if one then as_one frame places before itself.role else if two then nothing else itself)
+          (if one then nothing else if two then as_one frame places before itself.role else itself)
       by_tests one two h k =
-          ap₂ (λ a b. if a then as_one frame places before itself.role else if b then nothing else itself) h k
+          ap₂ (λ a b. if a then nothing else if b then as_one frame places before itself.role else itself)
+          (ap (λ r. joins (role_behind before r) behind) (sym is) ∙ h) (ap (joins before) (sym is) ∙ k)
 
-      pub is_both : (found : Bool) → found ≡ joins before role → found ≡ true →
-          as_one frame places before role ≡ between frame places before itself behind
-      is_both found h k =
-          ap (as_one frame places before) is ∙
-          sym (by_tests true (joins itself.role behind) (first_test found true h k) refl)
+      module _ (found : Bool) (both : found ≡ joins (role_behind before role) behind) where
+        pub is_nothing : found ≡ true → nothing ≡ between frame places before itself behind
+        is_nothing k = sym (by_tests true (joins before role) (sym both ∙ k) refl)
 
-      module _ (found : Bool) (none : found ≡ joins before role) (none_is : found ≡ false) (other : Bool)
-          (both : other ≡ joins role behind) where
-        pub is_nothing : other ≡ true → nothing ≡ between frame places before itself behind
-        is_nothing k = sym (by_tests false true (first_test found false none none_is) (second_test other true both k))
+        module _ (none : found ≡ false) (other : Bool) (one : other ≡ joins before role) where
+          pub is_both : other ≡ true → as_one frame places before role ≡ between frame places before itself behind
+          is_both k =
+              ap (as_one frame places before) is ∙ sym (by_tests false true (sym both ∙ none) (sym one ∙ k))
 
-        pub is_itself : other ≡ false → itself ≡ between frame places before itself behind
-        is_itself k =
-            sym (by_tests false false (first_test found false none none_is) (second_test other false both k))
+          pub is_itself : other ≡ false → itself ≡ between frame places before itself behind
+          is_itself k = sym (by_tests false false (sym both ∙ none) (sym one ∙ k))
 
-        pub alone_fits : (b c : ℕ) → other ≡ false → FitsBetween frame places plan before stmt behind b c →
-            Fits frame places plan (stmt ∷ []) b c
-        alone_fits b c k h =
-            let same : itself.size ≡ (between frame places before itself behind).size =
-            ap (λ p. p.size) (is_itself k) in
-            record {
-              few_arguments = h.few_arguments;
-              breaks = omega (arith, h.breaks, same, alone b c stmt);
-              continues = omega (arith, h.continues, same, alone b c stmt);
-            }
+          pub alone_fits : (b c : ℕ) → other ≡ false → FitsBetween frame places plan before stmt behind b c →
+              Fits frame places plan (stmt ∷ []) b c
+          alone_fits b c k h =
+              let same : itself.size ≡ (between frame places before itself behind).size =
+              ap (λ p. p.size) (is_itself k) in
+              record {
+                few_arguments = h.few_arguments;
+                breaks = omega (arith, h.breaks, same, alone b c stmt);
+                continues = omega (arith, h.continues, same, alone b c stmt);
+              }
 
 -- one piece is written, which is another
 pub as_written : {T E : Type 0} (r : Result T E) (p q : Piece) (b c : ℕ) (new old : List Line) → p ≡ q →

@@ -4,6 +4,7 @@ pub mod Joining
 pub mod Lines
 pub mod Links
 pub mod Needed
+pub mod Rotating
 pub mod Rows
 pub mod Sizes
 pub mod Turning

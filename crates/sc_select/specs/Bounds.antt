@@ -22,3 +22,13 @@ pub record FitsBetween (frame : FrameTree) (places : List Place) (plan : Plan) (
   pub breaks : (between frame places before (select frame places plan stmt) behind).size + to_break < most_lines
   pub continues :
       (between frame places before (select frame places plan stmt) behind).size + to_continue < most_lines
+
+-- Helping: the parts of a loop, which has so many lines besides
+pub record FitsLoop (frame : FrameTree) (places : List Place) (plan : Plan) (head body next : List TacStmt) (more : ℕ)
+    : Type 0 where
+  pub few_in_head : IsTrue (everywhere passes_few head)
+  pub few_in_body : IsTrue (everywhere passes_few body)
+  pub few_in_next : IsTrue (everywhere passes_few next)
+  pub reaches :
+      more + ((select_all frame places plan head).size + ((select_all frame places plan body).size +
+      (select_all frame places plan next).size)) < most_lines

@@ -5,7 +5,7 @@ pub use Rattle.rv_code.specs.declared.instr.OpImmOp.TheVariants.{Addi, Sltiu, Xo
 pub use Rattle.rv_code.specs.declared.instr.OpOp.TheVariants.{Add, Slt, Sltu}
 pub use Rattle.sc_tac.specs.Prelude.{IsCode, IsFunction, entry_weight, is_place, is_unsigned, one_or_none}
 pub use Rattle.sc_tac.specs.Prelude.{register_count, weight}
-pub use Rattle.sc_select.specs.Bounds.{Fits, FitsBetween, most_lines}
+pub use Rattle.sc_select.specs.Bounds.{Fits, FitsBetween, FitsLoop, most_lines}
 pub use Rattle.sc_select.specs.Lines.{Line, code_of_lines, lines_of, plain, plainly, referring, relocation_of}
 pub use Rattle.sc_select.specs.Lines.{relocations_from}
 pub use Rattle.sc_select.specs.Linking.{Addresses, completed, is_named, linked, linked_from, low_after, low_behind}

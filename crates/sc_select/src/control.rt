@@ -1,9 +1,12 @@
 //! Statements in order, choices and loops.
 
-ghost use Rattle.sc_select.specs.Prelude.{Fits, FitsBetween, Line, between, ending_test, most_lines, past, plain};
-ghost use Rattle.sc_select.specs.Prelude.{plan_by, select, select_all};
+ghost use Rattle.sc_select.specs.Prelude.{Fits, FitsBetween, FitsLoop, Line, between, cycle, ending_test};
+ghost use Rattle.sc_select.specs.Prelude.{first_scratch, most_lines, past, plain, plan_by, rotated, select, select_all};
+ghost use Rattle.sc_select.specs.Prelude.{take};
+ghost use Rattle.sc_tac.specs.declared.frame.FrameTree.{FrameTree};
+ghost use Rattle.sc_tac.specs.declared.place.Place.{Place};
 ghost use Rattle.sc_tac.specs.declared.stmt.TacStmt;
-ghost use Rattle.std.specs.Prelude.{◌≡◌, ◌≤◌, ◌<◌, ◌-◌, ◌++◌, ◌∷◌, [], ℕ, OnOk, Some, length, map, true};
+ghost use Rattle.std.specs.Prelude.{◌≡◌, ◌≤◌, ◌<◌, ◌+◌, ◌-◌, ◌++◌, ◌∷◌, [], ℕ, List, None, OnOk, length, map, if◌then◌else◌};
 
 use crate::backward::Backward;
 use crate::homes::Homes;
@@ -155,7 +158,7 @@ impl Backward {
         self.choice(homes, cond)
     }
 
-    // A loop. A line stands in the place of the jump back until it is known how far that leads.
+    // A loop that begins with its head. A line stands in the place of the jump back until it is known how far that leads.
     #[cycle(control)]
     fn cycle(
         &mut self,
@@ -164,16 +167,15 @@ impl Backward {
         body: &[TacStmt],
         next: &[TacStmt],
     ) -> Result<(), OutOfMemory>
-        requires fits { Fits homes.now.frame.now homes.now.places.now (plan_by homes.now.needs.now homes.now.near) (TacStmt.Loop
-            head.now body.now next.now ∷ [])
-            0 0 }
-        ensures { (to_break to_continue : ℕ) → OnOk result (self.new ≡ (select homes.now.frame.now
-            homes.now.places.now (plan_by homes.now.needs.now homes.now.near) (TacStmt.Loop head.now body.now next.now)).lines
+        requires fits { FitsLoop homes.now.frame.now homes.now.places.now (plan_by homes.now.needs.now homes.now.near)
+            head.now body.now next.now 2 }
+        ensures { (to_break to_continue : ℕ) → OnOk result (self.new ≡
+            (cycle homes.now.frame.now homes.now.places.now
+            (select_all homes.now.frame.now homes.now.places.now (plan_by homes.now.needs.now homes.now.near) head.now)
+            (select_all homes.now.frame.now homes.now.places.now (plan_by homes.now.needs.now homes.now.near) body.now)
+            (select_all homes.now.frame.now homes.now.places.now (plan_by homes.now.needs.now homes.now.near) next.now)).lines
             to_break to_continue ++ self.old) }
     {
-        if let Some(cond) = test_at_end(homes, head) {
-            return self.rotated(homes, cond, head, body, next);
-        }
         let end = self.len();
         self.plain(loop_begins())?;
         self.part(homes, end, next)?;
@@ -196,28 +198,50 @@ impl Backward {
         body: &[TacStmt],
         next: &[TacStmt],
     ) -> Result<(), OutOfMemory>
-        requires test { ending_test (map (select homes.now.frame.now homes.now.places.now (plan_by homes.now.needs.now
-            homes.now.near)) head.now) ≡ Some cond }
-        requires near { homes.now.near ≡ true }
-        requires fits { Fits homes.now.frame.now homes.now.places.now (plan_by homes.now.needs.now homes.now.near)
-            (TacStmt.Loop head.now body.now next.now ∷ [])
-            0 0 }
-        ensures { (to_break to_continue : ℕ) → OnOk result (self.new ≡ (select homes.now.frame.now
-            homes.now.places.now (plan_by homes.now.needs.now homes.now.near) (TacStmt.Loop head.now body.now
-            next.now)).lines
+        requires fits { FitsLoop homes.now.frame.now homes.now.places.now (plan_by homes.now.needs.now homes.now.near)
+            head.now body.now next.now
+            (2 + length (take homes.now.frame.now homes.now.places.now first_scratch cond)) }
+        ensures { (to_break to_continue : ℕ) → OnOk result (self.new ≡
+            (rotated homes.now.frame.now homes.now.places.now cond
+            (select_all homes.now.frame.now homes.now.places.now (plan_by homes.now.needs.now homes.now.near) head.now)
+            (select_all homes.now.frame.now homes.now.places.now (plan_by homes.now.needs.now homes.now.near) body.now)
+            (select_all homes.now.frame.now homes.now.places.now (plan_by homes.now.needs.now homes.now.near) next.now)).lines
             to_break to_continue ++ self.old) }
     {
         let end = self.len();
         self.plain(loop_begins())?;
         self.take(homes, register(FIRST_SCRATCH), cond)?;
-        self.part(homes, end, &head[..head.len() - 1])?;
+        self.part(homes, end, head)?;
         let behind = self.len();
         self.part(homes, end, next)?;
         self.part(homes, end, body)?;
+        let over = self.len() - behind;
         let lines = self.len() - end - 1;
-        self.plain(jump_over(self.len() - behind))?;
+        self.plain(jump_over(over))?;
         self.replace(end, branch_back(homes, cond, lines));
         Ok(())
+    }
+
+    // A loop.
+    #[cycle(control)]
+    fn turning(
+        &mut self,
+        homes: &Homes,
+        head: &[TacStmt],
+        body: &[TacStmt],
+        next: &[TacStmt],
+    ) -> Result<(), OutOfMemory>
+        requires fits { Fits homes.now.frame.now homes.now.places.now (plan_by homes.now.needs.now homes.now.near)
+            (TacStmt.Loop head.now body.now next.now ∷ []) 0 0 }
+        ensures { (to_break to_continue : ℕ) → OnOk result (self.new ≡
+            (select homes.now.frame.now homes.now.places.now (plan_by homes.now.needs.now homes.now.near)
+            (TacStmt.Loop head.now body.now next.now)).lines
+            to_break to_continue ++ self.old) }
+    {
+        match test_at_end(homes, head) {
+            Some(cond) => self.rotated(homes, cond, &head[..head.len() - 1], body, next),
+            None => self.cycle(homes, head, body, next),
+        }
     }
 
     // A statement.
@@ -259,7 +283,7 @@ impl Backward {
                 else_part.as_slice(),
             ),
             TacStmt::Loop { head, body, next } => {
-                self.cycle(homes, head.as_slice(), body.as_slice(), next.as_slice())
+                self.turning(homes, head.as_slice(), body.as_slice(), next.as_slice())
             }
             TacStmt::Break => self.plain(jump_over(distances.to_break)),
             TacStmt::Continue => self.plain(jump_over(distances.to_continue)),

@@ -191,3 +191,6 @@ pub(crate) fn joins(first: Role, second: Role) -> bool
         _ => false,
     }
 }
+
+#[tactic(auto, using(crate::proofs::Composition::step_written, crate::proofs::Rotating::all_written))]
+pub fn probe(a: u32) ensures { a ≡ a } {}
