@@ -16,6 +16,8 @@ pub mod Opening
 pub mod Operators
 pub mod Pointers
 pub mod Registers
+pub mod Rotated
+pub mod Rounds
 pub mod Rows
 pub mod Settling
 pub mod Storing
