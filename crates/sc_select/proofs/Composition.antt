@@ -76,6 +76,16 @@ cycle_weight : (head body next : List TacStmt) →
 unfolding roll-TacStmt denote.Hole.Carrier.roll
 cycle_weight head body next = fold-roll-TacStmt ℕ weight_step (tac.Loop head body next)
 
+-- a choice and a loop by equal parts
+pub as_if : (stmt : TacStmt) (cond : ℕ) (first second one two : List TacStmt) → stmt ≡ emit.If cond first second →
+    one ≡ first → two ≡ second → stmt ≡ emit.If cond one two
+as_if stmt cond first second one two is h k = is ∙ ap₂ (emit.If cond) (sym h) (sym k)
+
+pub as_loop : (stmt : TacStmt) (head body next one two three : List TacStmt) → stmt ≡ emit.Loop head body next →
+    one ≡ head → two ≡ body → three ≡ next → stmt ≡ emit.Loop one two three
+as_loop stmt head body next one two three is h k l =
+    is ∙ ap₂ (λ a b. emit.Loop a b next) (sym h) (sym k) ∙ ap (emit.Loop one two) (sym l)
+
 -- a choice is heavier than its parts, and so is a loop
 pub fork_heavier : (stmt : TacStmt) (cond : ℕ) (first second : List TacStmt) → stmt ≡ emit.If cond first second →
     weight first + weight second + 6 ≡ stmt_weight stmt
@@ -630,3 +640,8 @@ module _ (frame : FrameTree) (places : List Place) (plan : Plan) where
 pub as_written : {T E : Type 0} (r : Result T E) (p q : Piece) (b c : ℕ) (new old : List Line) → p ≡ q →
     OnOk r (new ≡ p.lines b c ++ old) → OnOk r (new ≡ q.lines b c ++ old)
 as_written r p q b c new old is h = on_ok_weaker r (λ k. k ∙ ap (λ p. p.lines b c ++ old) is) h
+
+-- whether a statement is one with its neighbour, by its role
+pub joined_by : (role same behind : Role) (found : Bool) → role ≡ same → found ≡ joins role behind →
+    found ≡ joins same behind
+joined_by role same behind found is h = h ∙ ap (λ r. joins r behind) is

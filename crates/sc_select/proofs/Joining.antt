@@ -1,6 +1,6 @@
 -- Pieces between others: what holds of each piece of statements holds of all of them in order, and which statements are
 -- one piece.
-use Rattle.sc_select.specs.Selection.{Kind, Plan, applied, kind_of_fork, role_behind, short_return, turning}
+use Rattle.sc_select.specs.Selection.{Kind, Plan, kind_of_fork, role_behind, short_return, turning}
 use Rattle.sc_select.specs.declared.roles.Role.TheVariants.{Applies, Returns}
 use Rattle.sc_select.proofs.Common.{Bool, Each, FrameTree, List, Loads, None, Operates, Option, Other, Piece, Place}
 use Rattle.sc_select.proofs.Common.{Places, Role, Sets, ShortForm, Some, Stores, TacOp, TacStmt, TacStmt-F, []}
@@ -22,7 +22,7 @@ none_behind (Loads temp) = refl
 none_behind (Sets temp word) = refl
 none_behind (Operates temp left o) = refl
 none_behind (Stores temp value) = refl
-none_behind (Applies temp left form) = refl
+none_behind (Applies temp left o word) = refl
 none_behind (Returns temp) = refl
 none_behind Other = refl
 
@@ -31,51 +31,45 @@ none_before role = refl
 
 -- a statement that isn't one with the one before it is to its neighbour what it is by itself
 pub role_alone : (before own : Role) → joins before own ≡ false → role_behind before own ≡ own
-role_alone (Sets temp word) (Operates other left o) h = by (temp == other) (short_form o word) h
-  where
-    by : (b : Bool) (form : Option ShortForm) → (b && is_some form) ≡ false →
-        (if b then applied other left o form else Operates other left o) ≡ Operates other left o
-    by true None h = refl
-    by true (Some form) h = cc h
-    by false form h = refl
+role_alone (Sets temp word) (Operates other left o) h =
+    ap (λ b. if b then Applies other left o word else Operates other left o) h
 role_alone (Sets temp word) (Places other object) h = refl
 role_alone (Sets temp word) (Loads other) h = refl
 role_alone (Sets temp word) (Sets other value) h = refl
 role_alone (Sets temp word) (Stores other value) h = refl
-role_alone (Sets temp word) (Applies other left form) h = refl
+role_alone (Sets temp word) (Applies other from same value) h = refl
 role_alone (Sets temp word) (Returns other) h = refl
 role_alone (Sets temp word) Other h = refl
 role_alone (Places temp object) own h = refl
 role_alone (Loads temp) own h = refl
 role_alone (Operates temp left o) own h = refl
 role_alone (Stores temp value) own h = refl
-role_alone (Applies temp left form) own h = refl
+role_alone (Applies temp left o word) own h = refl
 role_alone (Returns temp) own h = refl
 role_alone Other own h = refl
 
 -- what it is depends on the one before it alone
 role_twice : (first second third : Role) →
     role_behind (role_behind first second) third ≡ role_behind second third
-role_twice (Sets temp word) (Operates other left o) third = by (temp == other) (short_form o word)
+role_twice (Sets temp word) (Operates other left o) third = by (temp == other && is_some (short_form o word))
   where
-    by : (b : Bool) (form : Option ShortForm) →
-        role_behind (if b then applied other left o form else Operates other left o) third ≡
+    by : (b : Bool) →
+        role_behind (if b then Applies other left o word else Operates other left o) third ≡
         role_behind (Operates other left o) third
-    by true None = refl
-    by true (Some form) = refl
-    by false form = refl
+    by true = refl
+    by false = refl
 role_twice (Sets temp word) (Places other object) third = refl
 role_twice (Sets temp word) (Loads other) third = refl
 role_twice (Sets temp word) (Sets other value) third = refl
 role_twice (Sets temp word) (Stores other value) third = refl
-role_twice (Sets temp word) (Applies other left form) third = refl
+role_twice (Sets temp word) (Applies other from same value) third = refl
 role_twice (Sets temp word) (Returns other) third = refl
 role_twice (Sets temp word) Other third = refl
 role_twice (Places temp object) second third = refl
 role_twice (Loads temp) second third = refl
 role_twice (Operates temp left o) second third = refl
 role_twice (Stores temp value) second third = refl
-role_twice (Applies temp left form) second third = refl
+role_twice (Applies temp left o word) second third = refl
 role_twice (Returns temp) second third = refl
 role_twice Other second third = refl
 
@@ -104,14 +98,15 @@ pub record IsShort (first second : Role) : Type 0 where
   pub sets : first ≡ Sets temp word
   pub operates : second ≡ Operates temp left op
   pub form_is : short_form op word ≡ Some form
-  pub behind : role_behind first second ≡ Applies temp left form
+  pub behind : role_behind first second ≡ Applies temp left op word
 
 -- two that give back what the first computes
 pub record IsReturned (first second : Role) : Type 0 where
   pub temp : ℕ
   pub left : ℕ
-  pub form : ShortForm
-  pub applies : first ≡ Applies temp left form
+  pub op : TacOp
+  pub word : ℕ
+  pub applies : first ≡ Applies temp left op word
   pub returns : second ≡ Returns temp
 
 there : {A : Type 0} (o : Option A) → is_some o ≡ true → (x : A) × (o ≡ Some x)
@@ -134,8 +129,8 @@ short_by temp other word left o h =
           (sym (eqb-true temp other (and_first (temp == other) (is_some (short_form o word)) h)));
       form_is = found.1;
       behind =
-          ap (λ b. if b then applied other left o (short_form o word) else Operates other left o) same ∙
-          ap (applied other left o) found.1 ∙ ap (λ t. Applies t left found.0) (sym (eqb-true temp other same));
+          ap (λ b. if b then Applies other left o word else Operates other left o) h ∙
+          ap (λ t. Applies t left o word) (sym (eqb-true temp other same));
     }
 
 -- two statements that are one piece are of one of these kinds
@@ -155,33 +150,34 @@ which_pair (Places temp object) (Stores other value) h = inr (inl (record {
   stores = ap (λ t. Stores t value) (sym (eqb-true temp other h));
 }))
 which_pair (Sets temp word) (Operates other left o) h = inr (inr (inl (short_by temp other word left o h)))
-which_pair (Applies temp left form) (Returns other) h = inr (inr (inr (record {
+which_pair (Applies temp left o word) (Returns other) h = inr (inr (inr (record {
   temp = temp;
   left = left;
-  form = form;
+  op = o;
+  word = word;
   applies = refl;
   returns = ap Returns (sym (eqb-true temp other h));
 })))
 which_pair (Places temp object) (Places other place) h = cc h
 which_pair (Places temp object) (Sets other word) h = cc h
 which_pair (Places temp object) (Operates other left o) h = cc h
-which_pair (Places temp object) (Applies other left form) h = cc h
+which_pair (Places temp object) (Applies other from same value) h = cc h
 which_pair (Places temp object) (Returns other) h = cc h
 which_pair (Places temp object) Other h = cc h
 which_pair (Sets temp word) (Places other place) h = cc h
 which_pair (Sets temp word) (Loads other) h = cc h
 which_pair (Sets temp word) (Sets other value) h = cc h
 which_pair (Sets temp word) (Stores other value) h = cc h
-which_pair (Sets temp word) (Applies other left form) h = cc h
+which_pair (Sets temp word) (Applies other from same value) h = cc h
 which_pair (Sets temp word) (Returns other) h = cc h
 which_pair (Sets temp word) Other h = cc h
-which_pair (Applies temp left form) (Places other place) h = cc h
-which_pair (Applies temp left form) (Loads other) h = cc h
-which_pair (Applies temp left form) (Sets other value) h = cc h
-which_pair (Applies temp left form) (Operates other from o) h = cc h
-which_pair (Applies temp left form) (Stores other value) h = cc h
-which_pair (Applies temp left form) (Applies other from same) h = cc h
-which_pair (Applies temp left form) Other h = cc h
+which_pair (Applies temp left o word) (Places other place) h = cc h
+which_pair (Applies temp left o word) (Loads other) h = cc h
+which_pair (Applies temp left o word) (Sets other value) h = cc h
+which_pair (Applies temp left o word) (Operates other from same) h = cc h
+which_pair (Applies temp left o word) (Stores other value) h = cc h
+which_pair (Applies temp left o word) (Applies other from same value) h = cc h
+which_pair (Applies temp left o word) Other h = cc h
 which_pair (Loads temp) second h = cc h
 which_pair (Operates temp left o) second h = cc h
 which_pair (Stores temp value) second h = cc h
@@ -595,14 +591,15 @@ module _ (frame : FrameTree) (places : List Place) (plan : Plan) where
       (short : (temp left : ℕ) (o : TacOp) (word : ℕ) →
       P (straightly frame places (short_operation frame places temp left (short_form o word))))
       (store : (value object : ℕ) → P (straightly frame places (object_store frame places value object)))
-      (back : (left : ℕ) (form : ShortForm) → P (straightly frame places (short_return frame places left form))) where
+      (back : (left : ℕ) (o : TacOp) (word : ℕ) →
+      P (straightly frame places (short_return frame places left (short_form o word)))) where
     as_one_keeps : (first second : Role) → P (as_one frame places first second)
     as_one_keeps (Places temp object) (Loads other) = read temp object
     as_one_keeps (Places temp object) (Stores other value) = store value object
     as_one_keeps (Places temp object) (Places other place) = none
     as_one_keeps (Places temp object) (Sets other value) = none
     as_one_keeps (Places temp object) (Operates other left o) = none
-    as_one_keeps (Places temp object) (Applies other left form) = none
+    as_one_keeps (Places temp object) (Applies other from same value) = none
     as_one_keeps (Places temp object) (Returns other) = none
     as_one_keeps (Places temp object) Other = none
     as_one_keeps (Sets temp word) (Operates other left o) = short temp left o word
@@ -610,17 +607,17 @@ module _ (frame : FrameTree) (places : List Place) (plan : Plan) where
     as_one_keeps (Sets temp word) (Loads other) = none
     as_one_keeps (Sets temp word) (Sets other value) = none
     as_one_keeps (Sets temp word) (Stores other value) = none
-    as_one_keeps (Sets temp word) (Applies other left form) = none
+    as_one_keeps (Sets temp word) (Applies other from same value) = none
     as_one_keeps (Sets temp word) (Returns other) = none
     as_one_keeps (Sets temp word) Other = none
-    as_one_keeps (Applies temp left form) (Returns other) = back left form
-    as_one_keeps (Applies temp left form) (Places other object) = none
-    as_one_keeps (Applies temp left form) (Loads other) = none
-    as_one_keeps (Applies temp left form) (Sets other value) = none
-    as_one_keeps (Applies temp left form) (Operates other from o) = none
-    as_one_keeps (Applies temp left form) (Stores other value) = none
-    as_one_keeps (Applies temp left form) (Applies other from same) = none
-    as_one_keeps (Applies temp left form) Other = none
+    as_one_keeps (Applies temp left o word) (Returns other) = back left o word
+    as_one_keeps (Applies temp left o word) (Places other object) = none
+    as_one_keeps (Applies temp left o word) (Loads other) = none
+    as_one_keeps (Applies temp left o word) (Sets other value) = none
+    as_one_keeps (Applies temp left o word) (Operates other from same) = none
+    as_one_keeps (Applies temp left o word) (Stores other value) = none
+    as_one_keeps (Applies temp left o word) (Applies other from same value) = none
+    as_one_keeps (Applies temp left o word) Other = none
     as_one_keeps (Loads temp) second = none
     as_one_keeps (Operates temp left o) second = none
     as_one_keeps (Stores temp value) second = none

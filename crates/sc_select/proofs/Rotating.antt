@@ -6,7 +6,7 @@ use Rattle.sc_select.proofs.Common.{Bool, Fits, FrameTree, Instr, Line, List, No
 use Rattle.sc_select.proofs.Common.{TacStmt, TacStmt-F, [], and_first, and_rest, ap, false, ap₂, append_assoc, arith}
 use Rattle.sc_select.proofs.Common.{cycle, fold-TacStmt, fold-roll-TacStmt, if◌then◌else◌, in_order, jump_over, length}
 use Rattle.sc_select.proofs.Common.{length-append, length-map, map, on_ok_weaker, passes_few, plain, plainly, refl}
-use Rattle.sc_select.proofs.Common.{roll-TacStmt, select, select_all, select_step, suc, sym, true, with_parts, zero, ℕ}
+use Rattle.sc_select.proofs.Common.{roll-TacStmt, select, select_all, select_step, suc, sym, true, weight, with_parts, zero, ℕ}
 use Rattle.sc_select.proofs.Common.{◌+◌, ◌++◌, ◌-◌, ◌<◌, ◌∙◌, ◌∷◌, ◌≡◌, ◌≤◌}
 use Rattle.std.proofs.Common.{take as take_front}
 use Rattle.std.proofs.lemmas.Bool.{and_from}
@@ -30,6 +30,11 @@ few_in_front [] (suc n) h = refl
 few_in_front (stmt ∷ rest) (suc n) h =
     let own : Bool = fold-TacStmt Bool (with_parts passes_few) stmt in
     and_from own _ (and_first own _ h) (few_in_front rest n (and_rest own _ h))
+
+pub front_lighter : (stmts : List TacStmt) (n : ℕ) → weight (take_front n stmts) ≤ weight stmts
+front_lighter stmts zero = omega arith
+front_lighter [] (suc n) = omega arith
+front_lighter (stmt ∷ rest) (suc n) = omega (arith, front_lighter rest n)
 
 map_front : {A B : Type 0} (f : A → B) (xs : List A) (n : ℕ) → map f (take_front n xs) ≡ take_front n (map f xs)
 map_front f xs zero = refl
@@ -137,6 +142,11 @@ module _ (frame : FrameTree) (places : List Place) (plan : Plan) where
       OnOk r (new ≡ p.lines b c ++ old) → OnOk r (new ≡ q.lines b c ++ old)
   written_as r p q b c new old is h = on_ok_weaker r (λ k. k ∙ ap (λ p. p.lines b c ++ old) (sym is)) h
 
+  -- the operand of a test, by the register that it comes to
+  pub taken_by : (cond scratch same : ℕ) (new old : List Line) → scratch ≡ same →
+      new ≡ plainly (take frame places scratch cond) ++ old → new ≡ plainly (take frame places same cond) ++ old
+  taken_by cond scratch same new old is h = h ∙ ap (λ r. plainly (take frame places r cond) ++ old) is
+
   -- WRITING
   module _ (cond : ℕ) (head body next : List TacStmt)
       (fits : FitsLoop frame places plan head body next (2 + length (take frame places first_scratch cond)))
@@ -198,8 +208,8 @@ module _ (frame : FrameTree) (places : List Place) (plan : Plan) where
           },
         )
 
-        module _ (l4 : List Line) (h4 : l4 ≡ (all body).lines (length l3 - end) 0 ++ l3) (n behind : ℕ)
-            (n_is : n ≡ length l4) (behind_is : behind ≡ length l2) where
+        module _ (l4 : List Line) (h4 : l4 ≡ (all body).lines (length l3 - end) 0 ++ l3) (n m behind : ℕ)
+            (n_is : n ≡ length l4) (m_is : m ≡ length l4) (behind_is : behind ≡ length l2) where
           body_written : length l4 ≡ end + ((all body).size + ((all next).size + ((all head).size + test)))
           body_written =
               let more : length l4 ≡ (all body).size + length l3 =
@@ -209,17 +219,17 @@ module _ (frame : FrameTree) (places : List Place) (plan : Plan) where
           over_is : n - behind ≡ (all body).size + (all next).size
           over_is = omega (arith, n_is, behind_is, body_written, head_written)
 
-          lines_is : n - end - 1 ≡ ((all body).size + ((all next).size + (all head).size)) + length before
-          lines_is = omega (arith, n_is, body_written)
+          lines_is : m - end - 1 ≡ ((all body).size + ((all next).size + (all head).size)) + length before
+          lines_is = omega (arith, m_is, body_written)
 
           pub over_reaches : n - behind < 262143
           over_reaches = omega (arith, over_is, fits.reaches)
 
-          pub lines_reach : n - end - 1 < 262143
+          pub lines_reach : m - end - 1 < 262143
           lines_reach = omega (arith, lines_is, fits.reaches)
 
           pub all_written : (jump back : Instr) (l5 new : List Line) (b c : ℕ) → l5 ≡ plain jump ∷ l4 →
-              plain jump ≡ jump_over (n - behind) → plain back ≡ branch_back frame places cond (n - end - 1) →
+              plain jump ≡ jump_over (n - behind) → plain back ≡ branch_back frame places cond (m - end - 1) →
               ((front rest : List Line) (line : Line) → l5 ≡ front ++ line ∷ rest → length rest ≡ end →
               new ≡ front ++ record line { instr = back } ∷ rest) →
               new ≡ (rotated frame places cond (all head) (all body) (all next)).lines b c ++ old

@@ -1,14 +1,15 @@
 -- Loops that end with their test: which they are.
-use Rattle.sc_select.specs.Selection.{Breaks, Controls, Kind, Plain, Plan, Tests, before_test, ending_test, is_plain}
+use Rattle.sc_select.specs.Selection.{Breaks, Controls, Kind, Plain, Plan, Tests, before_test, breaks, ending_test}
+use Rattle.sc_select.specs.Selection.{is_break, is_plain}
 use Rattle.sc_select.specs.Selection.{kind_by, kind_of_fork, rotated, test_of, turning}
 use Rattle.sc_select.proofs.Common.{Bool, Each, FrameTree, List, None, Option, Piece, Place, Some, TacStmt, TacStmt-F}
 use Rattle.sc_select.proofs.Common.{[], ap, ap₂, arith, cycle, false, fold-roll-TacStmt, if◌then◌else◌, in_order, length}
 use Rattle.sc_select.proofs.Common.{map, map-TacStmt, refl, roll-TacStmt, select, select_step, stmt_induction, suc, sym}
-use Rattle.sc_select.proofs.Common.{true, ℕ, ◌++◌, ◌-◌, ◌∙◌, ◌∷◌, ◌≡◌, subst}
+use Rattle.sc_select.proofs.Common.{drop, get_or, zero, ◌&&◌, ◌+◌, ◌<◌, ◌==◌, true, ℕ, ◌++◌, ◌-◌, ◌∙◌, ◌∷◌, ◌≡◌, subst}
 use Rattle.std.proofs.Common.{take as take_front}
 use Rattle.sc_tac.specs.declared.stmt.TacStmt.TheOpen as tac
 
-abbrev break_stmt : TacStmt
+abbrev pub break_stmt : TacStmt
 break_stmt = roll-TacStmt tac.Break
 
 -- an `If` that breaks where a value is false
@@ -90,6 +91,63 @@ module _ (frame : FrameTree) (places : List Place) (plan : Plan) where
   pub tests_it : (stmt : TacStmt) (cond : ℕ) → test_of (kind_of stmt) ≡ Some cond → stmt ≡ test_stmt cond
   tests_it = stmt_induction (λ stmt. (cond : ℕ) → test_of (kind_of stmt) ≡ Some cond → stmt ≡ test_stmt cond)
       (λ layer inside cond h. layer_tests layer cond (sym (ap test_of (kind_is layer)) ∙ h))
+
+  -- the same by a test of each part
+  test_by_kind : (cond : ℕ) (kind : Kind) → (if breaks kind then Some cond else None) ≡ test_of (kind_by cond kind)
+  test_by_kind cond Plain = refl
+  test_by_kind cond Breaks = refl
+  test_by_kind cond (Tests other) = refl
+  test_by_kind cond Controls = refl
+
+  pub fork_test : (cond : ℕ) (first second : List TacStmt) →
+      (if (length first == 0) && is_break (map code second) then Some cond else None) ≡
+      test_of (kind_of_fork cond (map code first) (map code second))
+  fork_test cond [] (stmt ∷ []) = test_by_kind cond (kind_of stmt)
+  fork_test cond [] [] = refl
+  fork_test cond [] (stmt ∷ more ∷ rest) = refl
+  fork_test cond (stmt ∷ rest) second = refl
+
+  pub no_break : (stmts : List TacStmt) → (length stmts ≡ 1 → ⊥) → false ≡ is_break (map code stmts)
+  no_break [] h = refl
+  no_break (stmt ∷ []) h = absurd (h refl)
+  no_break (stmt ∷ more ∷ rest) h = refl
+
+  pub break_alone : (stmts : List TacStmt) (stmt : TacStmt) → length stmts ≡ 1 → stmt ≡ get_or stmts 0 stmt →
+      breaks (kind_of stmt) ≡ is_break (map code stmts)
+  break_alone [] stmt h is = absurd (omega (arith, h))
+  break_alone (first ∷ []) stmt h is = ap (λ s. breaks (kind_of s)) is
+  break_alone (first ∷ more ∷ rest) stmt h is = absurd (omega (arith, h))
+
+  -- the statements before a place are plain, and the rest decides
+  pub test_behind : (stmts : List TacStmt) (at : ℕ) (stmt : TacStmt) → suc at < length stmts →
+      stmt ≡ get_or stmts at stmt → is_plain (kind_of stmt) ≡ true →
+      ending_test (map code (drop at stmts)) ≡ ending_test (map code (drop (suc at) stmts))
+  test_behind [] at stmt h is plain = absurd (omega (arith, h))
+  test_behind (first ∷ []) at stmt h is plain = absurd (omega (arith, h))
+  test_behind (first ∷ next ∷ rest) zero stmt h is plain =
+      ap (λ b. if b then ending_test (map code (next ∷ rest)) else None)
+      (sym (ap (λ s. is_plain (kind_of s)) is) ∙ plain)
+  test_behind (first ∷ next ∷ rest) (suc at) stmt h is plain =
+      test_behind (next ∷ rest) at stmt (omega (arith, h)) is plain
+
+  pub test_refused : (stmts : List TacStmt) (at : ℕ) (stmt : TacStmt) → suc at < length stmts →
+      stmt ≡ get_or stmts at stmt → is_plain (kind_of stmt) ≡ false →
+      ending_test (map code (drop at stmts)) ≡ None
+  test_refused [] at stmt h is plain = absurd (omega (arith, h))
+  test_refused (first ∷ []) at stmt h is plain = absurd (omega (arith, h))
+  test_refused (first ∷ next ∷ rest) zero stmt h is plain =
+      ap (λ b. if b then ending_test (map code (next ∷ rest)) else None)
+      (sym (ap (λ s. is_plain (kind_of s)) is) ∙ plain)
+  test_refused (first ∷ next ∷ rest) (suc at) stmt h is plain =
+      test_refused (next ∷ rest) at stmt (omega (arith, h)) is plain
+
+  pub test_at_last : (stmts : List TacStmt) (at : ℕ) (stmt : TacStmt) → suc at ≡ length stmts →
+      stmt ≡ get_or stmts at stmt → ending_test (map code (drop at stmts)) ≡ test_of (kind_of stmt)
+  test_at_last [] at stmt h is = absurd (omega (arith, h))
+  test_at_last (first ∷ []) zero stmt h is = ap (λ s. test_of (kind_of s)) (sym is)
+  test_at_last (first ∷ []) (suc at) stmt h is = absurd (omega (arith, h))
+  test_at_last (first ∷ next ∷ rest) zero stmt h is = absurd (omega (arith, h))
+  test_at_last (first ∷ next ∷ rest) (suc at) stmt h is = test_at_last (next ∷ rest) at stmt (omega (arith, h)) is
 
   -- statements that end with a test, and are plain before it
   pub record IsTested (head : List TacStmt) (cond : ℕ) : Type 0 where

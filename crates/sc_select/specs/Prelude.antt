@@ -18,10 +18,10 @@ pub use Rattle.sc_select.specs.Operators.{short, short_code, short_form, stepped
 pub use Rattle.sc_select.specs.Pieces.{a0, a7, address_scratch, far_from_sp, first_scratch, frame_left, frame_taken}
 pub use Rattle.sc_select.specs.Pieces.{is_short, load_word, loading, lower_part, move, moved_by, ra, register_of}
 pub use Rattle.sc_select.specs.Pieces.{second_scratch, sp, store_word, upper_part}
-pub use Rattle.sc_select.specs.Selection.{Breaks, Controls, Kind, Plain, Plan, Tests, before_test, branch_back}
+pub use Rattle.sc_select.specs.Selection.{Breaks, Controls, Kind, Plain, Plan, Tests, before_test, branch_back, breaks, is_break}
 pub use Rattle.sc_select.specs.Selection.{branch_reach, ending_test, is_near, is_plain, kind_by, kind_of_fork}
 pub use Rattle.sc_select.specs.Selection.{plan_by, plan_of, role_behind, role_of_return, rotated, short_return}
-pub use Rattle.sc_select.specs.Selection.{applied, test_of, testing, turning}
+pub use Rattle.sc_select.specs.Selection.{test_of, testing, turning}
 pub use Rattle.sc_select.specs.Selection.{Piece, as_one, at_hand, between, breaking, brought, call_cross, call_own}
 pub use Rattle.sc_select.specs.Selection.{choice, choosing, closing, code_of, continuing, copied, cycle, ending_past}
 pub use Rattle.sc_select.specs.Selection.{entrance, environment_call, followed, fork, function_lines, in_order, in_turn}

@@ -77,18 +77,13 @@ abbrev pub joins : (first second : Role) → Bool
 joins (Places temp object) (Loads other) = temp == other
 joins (Places temp object) (Stores other value) = temp == other
 joins (Sets temp word) (Operates other left o) = temp == other && is_some (short_form o word)
-joins (Applies temp left form) (Returns other) = temp == other
+joins (Applies temp left o word) (Returns other) = temp == other
 joins _ _ = false
-
--- what an operator and the constant that it reads are to a neighbour
-abbrev pub applied : (temp left : ℕ) → TacOp → Option ShortForm → Role
-applied temp left o None = Operates temp left o
-applied temp left o (Some form) = Applies temp left form
 
 -- what a statement is to its neighbour behind, with the one before it
 abbrev pub role_behind : (before own : Role) → Role
 role_behind (Sets temp word) (Operates other left o) =
-    if temp == other then applied other left o (short_form o word) else Operates other left o
+    if temp == other && is_some (short_form o word) then Applies other left o word else Operates other left o
 role_behind before own = own
 
 -- what an operator does to the temporary of its second operand
@@ -124,6 +119,15 @@ kind_by cond kind = Controls
 abbrev pub kind_of_fork : (cond : ℕ) → (first second : List Piece) → Kind
 kind_of_fork cond [] (piece ∷ []) = kind_by cond piece.kind
 kind_of_fork cond first second = Controls
+
+-- Helping: the same by a test of each part
+abbrev pub breaks : Kind → Bool
+breaks Breaks = true
+breaks kind = false
+
+abbrev pub is_break : List Piece → Bool
+is_break (piece ∷ []) = breaks piece.kind
+is_break pieces = false
 
 abbrev pub is_plain : Kind → Bool
 is_plain Plain = true
@@ -362,16 +366,16 @@ module _ (frame : FrameTree) (places : List Place) where
       take first_scratch left ++ short_code (result_register dest) (operand first_scratch left) form ++ keep dest
 
   -- it gives back what an operator gives of a temporary and a constant
-  abbrev pub short_return : (left : ℕ) → ShortForm → List Instr
+  abbrev pub short_return : (left : ℕ) → Option ShortForm → List Instr
   short_return left form =
-      take first_scratch left ++ short_code a0 (operand first_scratch left) (Some form) ++ frame_left frame.bytes
+      take first_scratch left ++ short_code a0 (operand first_scratch left) form ++ frame_left frame.bytes
 
   -- the code of two neighbours that are one piece
   abbrev pub as_one : (first second : Role) → Piece
   as_one (Places temp object) (Loads other) = straightly (object_read temp object)
   as_one (Places temp object) (Stores other value) = straightly (object_store value object)
   as_one (Sets temp word) (Operates other left o) = straightly (short_operation temp left (short_form o word))
-  as_one (Applies temp left form) (Returns other) = straightly (short_return left form)
+  as_one (Applies temp left o word) (Returns other) = straightly (short_return left (short_form o word))
   as_one _ _ = nothing
 
   -- a piece between two others: the last of those that are one has the code of all

@@ -1,6 +1,7 @@
 //! What statements are to the loop in whose head they stand.
 
-ghost use Rattle.sc_select.specs.Prelude.{Breaks, Plan, ending_test, is_plain, select, test_of};
+ghost use Rattle.sc_select.specs.Prelude.{Plan, breaks, ending_test, is_break, is_plain, kind_of_fork, select};
+ghost use Rattle.sc_select.specs.Prelude.{test_of};
 ghost use Rattle.sc_tac.specs.declared.frame.FrameTree.{FrameTree};
 ghost use Rattle.sc_tac.specs.declared.place.Place.{Place};
 ghost use Rattle.std.specs.Prelude.{◌≡◌, List, map};
@@ -18,12 +19,37 @@ fn is_plain(stmt: &TacStmt) -> bool
     )
 }
 
-// Whether the one statement is a break.
-fn breaks(stmts: &[TacStmt]) -> bool {
-    stmts.len() == 1 && matches!(stmts[0], TacStmt::Break)
+fn breaks(stmt: &TacStmt) -> bool
+    ensures { (frame : FrameTree) (places : List Place) (plan : Plan) → result ≡
+        breaks (select frame places plan stmt.now).kind }
+{
+    matches!(stmt, TacStmt::Break)
+}
+
+// Whether these are one break.
+#[tactic(auto, using(crate::proofs::Turning::break_alone, crate::proofs::Turning::no_break))]
+fn is_break(stmts: &[TacStmt]) -> bool
+    ensures { (frame : FrameTree) (places : List Place) (plan : Plan) → result ≡
+        is_break (map (select frame places plan) stmts.now) }
+{
+    if stmts.len() != 1 {
+        return false;
+    }
+    breaks(&stmts[0])
 }
 
 // The value of an `If` that does nothing where it is true, and else breaks.
+#[tactic(auto, using(crate::proofs::Turning::fork_test))]
+fn test_of_fork(cond: u32, first: &[TacStmt], second: &[TacStmt]) -> Option<u32>
+    ensures { (frame : FrameTree) (places : List Place) (plan : Plan) → result ≡
+        test_of (kind_of_fork cond (map (select frame places plan) first.now)
+        (map (select frame places plan) second.now)) }
+{
+    let none = first.is_empty();
+    let broken = is_break(second);
+    if none && broken { Some(cond) } else { None }
+}
+
 fn test_of(stmt: &TacStmt) -> Option<u32>
     ensures { (frame : FrameTree) (places : List Place) (plan : Plan) → result ≡
         test_of (select frame places plan stmt.now).kind }
@@ -33,7 +59,7 @@ fn test_of(stmt: &TacStmt) -> Option<u32>
             cond,
             then_part,
             else_part,
-        } if then_part.as_slice().is_empty() && breaks(else_part.as_slice()) => Some(*cond),
+        } => test_of_fork(*cond, then_part.as_slice(), else_part.as_slice()),
         _ => None,
     }
 }
@@ -43,11 +69,14 @@ pub(crate) fn ending_test(stmts: &[TacStmt]) -> Option<u32>
     ensures { (frame : FrameTree) (places : List Place) (plan : Plan) → result ≡
         ending_test (map (select frame places plan) stmts.now) }
 {
-    let (last, before) = stmts.split_last()?;
-    for stmt in before {
-        if !is_plain(stmt) {
+    if stmts.is_empty() {
+        return None;
+    }
+    let last = stmts.len() - 1;
+    for at in 0..last {
+        if !is_plain(&stmts[at]) {
             return None;
         }
     }
-    test_of(last)
+    test_of(&stmts[last])
 }

@@ -2,14 +2,14 @@
 //! there or stores there, or the first sets a constant and the second is an operator that reads it and takes its
 //! temporary, which a third may give back.
 
-ghost use Rattle.sc_select.specs.Prelude.{applied, has_mark, joins, plan_by, role_before, role_behind, role_first};
+ghost use Rattle.sc_select.specs.Prelude.{has_mark, joins, plan_by, role_before, role_behind, role_first};
 ghost use Rattle.sc_select.specs.Prelude.{role_of_operation, role_of_return, role_of_store, select};
 ghost use Rattle.sc_tac.specs.declared.frame.FrameTree.{FrameTree};
 ghost use Rattle.sc_tac.specs.declared.place.Place.{Place};
 ghost use Rattle.std.specs.Prelude.{◌≡◌, ◌≤◌, Bool, List, drop, length, map};
 
 use crate::needs::Needs;
-use crate::operators::{ShortForm, short_form};
+use crate::operators::short_form;
 use crate::statements::word_of_constant;
 use sc_tac::{TacOp, TacStmt};
 
@@ -45,7 +45,8 @@ pub enum Role {
     Applies {
         temp: u32,
         left: u32,
-        form: ShortForm,
+        op: TacOp,
+        word: u32,
     },
     /// A temporary is given back.
     Returns {
@@ -131,15 +132,6 @@ pub(crate) fn role_at(needs: &Needs, stmts: &[TacStmt], at: usize) -> Role
     Role::Other
 }
 
-fn applied(temp: u32, left: u32, op: TacOp, form: Option<ShortForm>) -> Role
-    ensures { result ≡ applied temp left op form }
-{
-    match form {
-        Some(form) => Role::Applies { temp, left, form },
-        None => Role::Operates { temp, left, op },
-    }
-}
-
 /// What a statement is to its neighbour behind, with the one before it.
 pub(crate) fn role_behind(before: Role, own: Role) -> Role
     ensures { result ≡ role_behind before own }
@@ -152,7 +144,12 @@ pub(crate) fn role_behind(before: Role, own: Role) -> Role
                 left,
                 op,
             },
-        ) if temp == other => applied(other, left, op, short_form(op, word)),
+        ) if temp == other && short_form(op, word).is_some() => Role::Applies {
+            temp: other,
+            left,
+            op,
+            word,
+        },
         _ => own,
     }
 }
@@ -191,6 +188,3 @@ pub(crate) fn joins(first: Role, second: Role) -> bool
         _ => false,
     }
 }
-
-#[tactic(auto, using(crate::proofs::Composition::step_written, crate::proofs::Rotating::all_written))]
-pub fn probe(a: u32) ensures { a ≡ a } {}

@@ -3,7 +3,8 @@
 ghost use Rattle.sc_select.specs.Prelude.{a0, as_one, brought, choice, copied, environment_call, keep, load_from};
 ghost use Rattle.sc_select.specs.Prelude.{loading, moved_by, object_offset, object_read, object_store, operation};
 ghost use Rattle.sc_select.specs.Prelude.{place_of_global, plainly, put, receive, result_register, return};
-ghost use Rattle.sc_select.specs.Prelude.{second_operand, short_operation, store_to, take, take_second};
+ghost use Rattle.sc_select.specs.Prelude.{second_operand, short_operation, short_return, store_to, take};
+ghost use Rattle.sc_select.specs.Prelude.{take_second};
 ghost use Rattle.sc_select.specs.Prelude.{word_of_constant};
 ghost use Rattle.std.specs.Prelude.{◌≡◌, ◌++◌, ◌∷◌, [], ◌+◌, ◌<◌, ℕ, OnOk, Some, None, length, slice_get};
 
@@ -193,13 +194,18 @@ impl Backward {
     }
 
     // The end of a call that gives back what an operator gives of a temporary and a constant.
-    fn short_return(&mut self, homes: &Homes, left: u32, form: ShortForm) -> Result<(), OutOfMemory>
+    fn short_return(
+        &mut self,
+        homes: &Homes,
+        left: u32,
+        form: Option<ShortForm>,
+    ) -> Result<(), OutOfMemory>
         ensures { OnOk result (self.new ≡
             plainly (short_return homes.now.frame.now homes.now.places.now left form) ++ self.old) }
     {
         let first = register(FIRST_SCRATCH);
         self.frame_left(homes.frame.tree().bytes)?;
-        self.short_code(register(A0), homes.operand(first, left), Some(form))?;
+        self.short_code(register(A0), homes.operand(first, left), form)?;
         self.take(homes, first, left)
     }
 
@@ -218,9 +224,11 @@ impl Backward {
             (Role::Sets { temp, word }, Role::Operates { left, op, .. }) => {
                 self.short_operation(homes, temp, left, short_form(op, word))
             }
-            (Role::Applies { left, form, .. }, Role::Returns { .. }) => {
-                self.short_return(homes, left, form)
-            }
+            (Role::Applies { left, op, word, .. }, Role::Returns { .. }) => self.short_return(
+                homes,
+                left,
+                short_form(op, word),
+            ),
             _ => Ok(()),
         }
     }

@@ -1,5 +1,6 @@
-use Rattle.sc_select.proofs.Common.{Other, drop, has_mark, in_turn, joined, map, select, stmt_weight, weight, ◌*◌, ◌++◌}
+use Rattle.sc_select.proofs.Common.{Other, drop, in_turn, joined, map, select, stmt_weight, weight, ◌*◌, ◌++◌}
 use Rattle.sc_select.proofs.Common.{◌+◌, ◌≡◌}
+use Rattle.sc_select.specs.Selection.{plan_by}
 use Rattle.sc_select.proofs.backward.Backward.+control.Given as goal
 
 -- the statements from this one on are written
@@ -7,7 +8,7 @@ abbrev pub invariant-in_order-loop-at : goal.invariant-in_order-loop-at
 invariant-in_order-loop-at l =
     l.self ≡
     (in_turn (drop l.at (joined l.homes.frame.now l.homes.places.now Other
-    (map (select l.homes.frame.now l.homes.places.now (has_mark l.homes.needs.now)) l.list)))).lines
+    (map (select l.homes.frame.now l.homes.places.now (plan_by l.homes.needs.now l.homes.near)) l.stmts)))).lines
     l.distances.to_break
     l.distances.to_continue ++ l.initial.self
 
@@ -29,3 +30,9 @@ decreases-fork l = 3 * (weight l.first.now + weight l.second.now) + 3
 
 abbrev pub decreases-cycle : goal.decreases-cycle
 decreases-cycle l = 3 * (weight l.head.now + weight l.body.now + weight l.next.now) + 4
+
+abbrev pub decreases-rotated : goal.decreases-rotated
+decreases-rotated l = 3 * (weight l.head.now + weight l.body.now + weight l.next.now) + 4
+
+abbrev pub decreases-turning : goal.decreases-turning
+decreases-turning l = 3 * (weight l.head.now + weight l.body.now + weight l.next.now) + 5
