@@ -2,22 +2,22 @@
 use Rattle.sc_select.specs.Selection.{Kind, Plan, branch_back, branch_reach, plan_by, plan_of, role_of_return, rotated}
 use Rattle.sc_select.specs.Selection.{short_return, testing}
 use Rattle.sc_select.specs.Pieces.{first_scratch}
-use Rattle.sc_select.proofs.Common.{Bne, Branch, if◌then◌else◌, nat_lt, operand, take, ◌*◌}
-use Rattle.std.specs.Prelude.{neg_ℤ}
-use Rattle.sc_select.proofs.Common.{All, AllPairs, Bool, Each, Entry, FrameTree, Function, Global, Inside, Instr}
-use Rattle.sc_select.proofs.Common.{IsCode, IsTrue, Jal, Jalr, Line, List, Lui, None, Option, Piece, Place, Places}
-use Rattle.sc_select.proofs.Common.{Relocation, Role, Sets, Some, Store, Sw, TacFnTree, TacStmt, TacStmt-F, Target}
-use Rattle.sc_select.proofs.Common.{Upper, [], and_first, and_rest, ap, append-nil, arith, brought, call_cross}
+use Rattle.sc_select.proofs.Common.{All, AllPairs, Bne, Bool, Branch, Each, Entry, FrameTree, Function, Global, Inside}
+use Rattle.sc_select.proofs.Common.{Instr, IsCode, IsTrue, Jal, Jalr, Line, List, Lui, None, Option, Piece, Place}
+use Rattle.sc_select.proofs.Common.{Places, Relocation, Role, Sets, Some, Store, Sw, TacFnTree, TacStmt, TacStmt-F}
+use Rattle.sc_select.proofs.Common.{Target, Upper, [], and_first, and_rest, ap, append-nil, arith, brought, call_cross}
 use Rattle.sc_select.proofs.Common.{call_own, choice, closing, code_of_lines, copied, cycle, entrance, environment_call}
 use Rattle.sc_select.proofs.Common.{eq-eqb, everywhere as each_holds, false, fold-roll-TacStmt, followed, frame_taken}
-use Rattle.sc_select.proofs.Common.{function_lines, has_mark, in_order, is_address, is_jal, is_linkable, jump_back}
-use Rattle.sc_select.proofs.Common.{keep, length, length-append, length-map, load_from, loading, map, map-TacStmt}
-use Rattle.sc_select.proofs.Common.{moved_by, needed_in, object_offset, object_read, object_store, operation, pass}
-use Rattle.sc_select.proofs.Common.{place_of_global, plain, plainly, pos, receive, referring, refl, relocation_of}
-use Rattle.sc_select.proofs.Common.{relocations_from, result_register, return, role_of_load, role_of_operation}
-use Rattle.sc_select.proofs.Common.{role_of_store, select, select_all, select_step, short_form, short_operation}
-use Rattle.sc_select.proofs.Common.{slice_get, stmt_induction, store_arguments, store_to, straightly, sub_word, subst}
-use Rattle.sc_select.proofs.Common.{suc, sym, true, word_of_constant, ℕ, ◌&&◌, ◌++◌, ◌+◌, ◌<◌, ◌∙◌, ◌∷◌, ◌≡◌, ◌≤◌}
+use Rattle.sc_select.proofs.Common.{function_lines, has_mark, if◌then◌else◌, in_order, is_address, is_jal, is_linkable}
+use Rattle.sc_select.proofs.Common.{jump_back, keep, length, length-append, length-map, load_from, loading, map}
+use Rattle.sc_select.proofs.Common.{map-TacStmt, moved_by, nat_lt, needed_in, object_offset, object_read, object_store}
+use Rattle.sc_select.proofs.Common.{operand, operation, pass, place_of_global, plain, plainly, pos, receive, referring}
+use Rattle.sc_select.proofs.Common.{refl, relocation_of, relocations_from, result_register, return, role_of_load}
+use Rattle.sc_select.proofs.Common.{role_of_operation, role_of_store, select, select_all, select_step, short_form}
+use Rattle.sc_select.proofs.Common.{short_operation, slice_get, stmt_induction, store_arguments, store_to, straightly}
+use Rattle.sc_select.proofs.Common.{sub_word, subst, suc, sym, take, true, word_of_constant, ℕ, ◌&&◌, ◌*◌, ◌++◌, ◌+◌}
+use Rattle.sc_select.proofs.Common.{◌<◌, ◌∙◌, ◌∷◌, ◌≡◌, ◌≤◌}
+use Rattle.std.specs.Prelude.{neg_ℤ}
 use Rattle.std.proofs.lemmas.List.Elements.{All-cons, All-nil, All-weaker}
 use Rattle.std.proofs.lemmas.List.Kept.{AllPairs-cons}
 use Rattle.sc_tac.specs.declared.stmt.TacStmt.TheOpen as tac
