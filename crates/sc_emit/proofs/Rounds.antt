@@ -1,24 +1,28 @@
 -- The code of loops: where it begins, and where it leads back.
-use Rattle.sc_select.specs.Selection.{Plan}
+use Rattle.sc_select.specs.Selection.{Kind, Plan, branch_back, branch_reach, is_near, kind_of_fork, plan_of}
+use Rattle.sc_select.specs.Selection.{role_behind, role_of_return, rotated, short_return}
+use Rattle.sc_select.specs.declared.roles.Role.TheVariants.{Applies}
 use Rattle.sc_emit.proofs.Common.{Bne, Bool, Branch, Each, Ebreak, FrameTree, Inside, Instr, IsRead, IsShort, IsStored}
 use Rattle.sc_emit.proofs.Common.{Jal, Line, List, None, Option, Other, Place, Places, Role, Sets, ShortForm, Some}
-use Rattle.sc_emit.proofs.Common.{TacFnTree, TacStmt, TacStmt-F, [], and_first, and_rest, ap, append_assoc, arith}
-use Rattle.sc_emit.proofs.Common.{as_one, between, call_cross, call_own, choice, choosing, closing, code_back_edges}
-use Rattle.sc_emit.proofs.Common.{code_of, cond, count_by, cycle, ending_past, entrance, environment_call, everywhere}
-use Rattle.sc_emit.proofs.Common.{false, first_scratch, fold-roll-TacStmt, fork, gives_place, if◌then◌else◌, in_turn}
-use Rattle.sc_emit.proofs.Common.{inl, inr, is_backward, is_empty, is_known_jump, joined, joins, jump_back, jump_over}
-use Rattle.sc_emit.proofs.Common.{leads_back, length, length-append, length-map, list_all, list_all-map, list_all_along}
-use Rattle.sc_emit.proofs.Common.{loads_it, loop_begins, loop_step, loops, lt-leb, map, map-TacStmt, map-append}
-use Rattle.sc_emit.proofs.Common.{needed_in, neg_ℤ, not, object_read, object_store, operand, operates_it, past}
-use Rattle.sc_emit.proofs.Common.{place_of, place_of_global, plain, plainly, pos, receive, refl, role_first}
-use Rattle.sc_emit.proofs.Common.{role_of_load, role_of_operation, role_of_store, row_is_sized, select, select_all}
-use Rattle.sc_emit.proofs.Common.{select_step, sets_it, short_form, short_operation, skipping, stmt_induction}
-use Rattle.sc_emit.proofs.Common.{stmt_loops, stores_it, straight as lines_of, straightly, subst, suc, sum_by-append}
-use Rattle.sc_emit.proofs.Common.{sym, take, true, which_pair, word_of_constant, zero, ℕ, ⊎_elim, ◌&&◌, ◌*◌, ◌++◌, ◌+◌}
-use Rattle.sc_emit.proofs.Common.{◌==◌, ◌∙◌, ◌∷◌, ◌≡◌, ◌≤◌}
+use Rattle.sc_emit.proofs.Common.{TacFnTree, TacStmt, TacStmt-F, [], a0, and_first, and_rest, ap, append-nil}
+use Rattle.sc_emit.proofs.Common.{append_assoc, arith, as_one, between, call_cross, call_own, choice, choosing, closing}
+use Rattle.sc_emit.proofs.Common.{code_back_edges, code_of, cond, count_by, cycle, ending_past, entrance}
+use Rattle.sc_emit.proofs.Common.{environment_call, everywhere, false, first_scratch, fold-roll-TacStmt, fork}
+use Rattle.sc_emit.proofs.Common.{frame_left, if◌then◌else◌, in_turn, inl, inr, is_backward, is_empty, is_known_jump}
+use Rattle.sc_emit.proofs.Common.{joined, joins, jump_back, jump_over, leads_back, length, length-append, length-map}
+use Rattle.sc_emit.proofs.Common.{list_all, list_all-map, list_all_along, loads_it, loop_begins, loop_step, loops}
+use Rattle.sc_emit.proofs.Common.{lt-leb, map, map-TacStmt, map-append, nat_lt, neg_ℤ, not, object_read, object_store}
+use Rattle.sc_emit.proofs.Common.{operand, operates_it, past, place_of, place_of_global, plain, plainly, pos, receive}
+use Rattle.sc_emit.proofs.Common.{refl, role_first, role_of_load, role_of_operation, role_of_store, row_is_sized}
+use Rattle.sc_emit.proofs.Common.{select, select_all, select_step, short_code, short_form, short_operation, skipping}
+use Rattle.sc_emit.proofs.Common.{stmt_induction, stmt_loops, stores_it, straight as lines_of, straightly, subst, suc}
+use Rattle.sc_emit.proofs.Common.{sum_by-append, sym, take, true, which_pair, word_of_constant, zero, ℕ, ⊎_elim, ◌&&◌}
+use Rattle.sc_emit.proofs.Common.{◌*◌, ◌++◌, ◌+◌, ◌==◌, ◌∙◌, ◌∷◌, ◌≡◌, ◌≤◌}
+use Rattle.sc_select.proofs.Joining.{IsReturned, fork_role, returns_it, turning_role}
+use Rattle.sc_select.proofs.Turning.{IsTested, each_before, test_stmt, turning_by}
 use Rattle.sc_select.specs.Prelude.{Piece}
-use Rattle.sc_emit.specs.Layout.{GoesAround, HasRounds, HaveCode, LeadOn, branching, empty, leads_on, loopless}
-use Rattle.sc_emit.specs.Layout.{repeating}
+use Rattle.sc_emit.specs.Layout.{GoesAround, HasRounds, HaveCode, LeadOn, LeadsOver, branching, empty, leads_on}
+use Rattle.sc_emit.specs.Layout.{loopless, repeating}
 unfoldable use Rattle.sc_tac.specs.declared.stmt.TacStmt.{roll-TacStmt}
 use Rattle.sc_tac.specs.declared.stmt.TacStmt.TheOpen as tac
 use Rattle.sc_tac.specs.declared.stmt.TacStmt.TheVariants as emit
@@ -49,8 +53,11 @@ lines_on lines h = list_all-map leads_on (λ line. line.instr) lines ∙
 both_on : (xs ys : List Instr) → LeadOn xs → LeadOn ys → LeadOn (xs ++ ys)
 both_on xs ys hx hy = all_append leads_on xs ys hx hy
 
+jump_on : (lines : ℕ) → leads_on (jump_over lines).instr ≡ true
+jump_on lines = ap not (lt-leb (4 * suc lines) 0 (omega arith))
+
 over_on : (lines : ℕ) → LeadOn ((jump_over lines).instr ∷ [])
-over_on lines = ap (λ b. not b && true) (lt-leb (4 * suc lines) 0 (omega arith))
+over_on lines = ap (λ b. b && true) (jump_on lines)
 
 -- LISTS
 choice_parts : (test one over two : List Line) (more : List Instr) (jump : Line) →
@@ -111,11 +118,19 @@ module _ (frame : FrameTree) (places : List Place) (plan : Plan) where
   abbrev Lies : TacStmt → Type 0
   Lies stmt = IsCodeOf stmt (select frame places plan stmt)
 
+  short_return_straight : (left : ℕ) (form : ShortForm) → Straight (short_return frame places left form)
+  short_return_straight left form =
+      let taking : List Instr = take frame places first_scratch left in
+      let code : List Instr = short_code a0 (operand frame places first_scratch left) (Some form) in
+      all_append is_straight (taking ++ code) (frame_left frame.bytes)
+      (all_append is_straight taking code (take_straight frame places first_scratch left) refl)
+      (return_straight frame places None)
+
   -- the second of two statements that are one piece has the code of both, and the first none
   both_lie : (before : Role) (stmt : TacStmt) → joins before (select frame places plan stmt).role ≡ true →
       IsCodeOf stmt (as_one frame places before (select frame places plan stmt).role)
   both_lie before stmt h =
-      ⊎_elim read (⊎_elim store short) (which_pair before (select frame places plan stmt).role h)
+      ⊎_elim read (⊎_elim store (⊎_elim short back)) (which_pair before (select frame places plan stmt).role h)
     where
       read : IsRead before (select frame places plan stmt).role →
           IsCodeOf stmt (as_one frame places before (select frame places plan stmt).role)
@@ -152,65 +167,89 @@ module _ (frame : FrameTree) (places : List Place) (plan : Plan) where
           (short_operation frame places pair.temp pair.left form) refl
           (short_straight frame places pair.temp pair.left form))))
 
-  none_lie : (stmt : TacStmt) (behind : Role) → joins (select frame places plan stmt).role behind ≡ true →
-      IsCodeOf stmt (lines_of [])
-  none_lie stmt behind h =
-      ⊎_elim read (⊎_elim store short) (which_pair (select frame places plan stmt).role behind h)
+      back : IsReturned before (select frame places plan stmt).role →
+          IsCodeOf stmt (as_one frame places before (select frame places plan stmt).role)
+      back pair =
+          subst (λ r. IsCodeOf stmt (as_one frame places r (select frame places plan stmt).role)) (sym pair.applies)
+          (subst (λ r. IsCodeOf stmt (as_one frame places (Applies pair.temp pair.left pair.form) r)) (sym pair.returns)
+          (subst (λ s. IsCodeOf s (straightly frame places (short_return frame places pair.left pair.form)))
+          (sym (returns_it frame places plan stmt pair.temp pair.returns))
+          (by_instrs (tac.Return (Some pair.temp)) (short_return frame places pair.left pair.form) refl
+          (short_return_straight pair.left pair.form))))
+
+  -- a choice and a loop are nothing to the one behind
+  other_joins : (before own behind : Role) → own ≡ Other → joins (role_behind before own) behind ≡ true → ⊥
+  other_joins before own behind is h = by before (sym (ap (λ r. joins (role_behind before r) behind) is) ∙ h)
     where
-      read : IsRead (select frame places plan stmt).role behind → IsCodeOf stmt (lines_of [])
-      read pair =
-          subst (λ s. IsCodeOf s (lines_of [])) (sym (gives_place frame places plan stmt pair.temp pair.object
-          pair.gives))
-          (by_lines (tac.ObjectPlace pair.temp pair.object) [] refl refl)
+      by : (before : Role) → joins (role_behind before Other) behind ≡ true → ⊥
+      by (Sets temp word) h = cc h
+      by _ h = cc h
 
-      store : IsStored (select frame places plan stmt).role behind → IsCodeOf stmt (lines_of [])
-      store pair =
-          subst (λ s. IsCodeOf s (lines_of []))
-          (sym (gives_place frame places plan stmt pair.temp pair.object pair.gives))
-          (by_lines (tac.ObjectPlace pair.temp pair.object) [] refl refl)
+  none_layer : (layer : TacStmt-F TacStmt) (before behind : Role) →
+      joins (role_behind before
+      (select_step frame places plan (map-TacStmt _ _ (select frame places plan) layer)).role) behind ≡ true →
+      IsCodeOf (roll-TacStmt layer) (lines_of [])
+  none_layer (tac.If cond first second) before behind h =
+      absurd (other_joins before _ behind (fork_role frame places cond (map (select frame places plan) first)
+      (map (select frame places plan) second)) h)
+  none_layer (tac.Loop head body next) before behind h =
+      absurd (other_joins before _ behind (turning_role frame places _ (map (select frame places plan) head)
+      (select_all frame places plan body) (select_all frame places plan next)) h)
+  none_layer layer before behind h = by_lines layer [] refl refl
 
-      short : IsShort (select frame places plan stmt).role behind → IsCodeOf stmt (lines_of [])
-      short pair =
-          let set = sets_it frame places plan stmt pair.temp pair.word pair.sets in
-          subst (λ s. IsCodeOf s (lines_of [])) (sym set.is)
-          (by_lines (tac.Const pair.temp set.value) [] refl refl)
+  none_lie : (stmt : TacStmt) (before behind : Role) →
+      joins (role_behind before (select frame places plan stmt).role) behind ≡ true → IsCodeOf stmt (lines_of [])
+  none_lie = stmt_induction (λ stmt. (before behind : Role) →
+      joins (role_behind before (select frame places plan stmt).role) behind ≡ true → IsCodeOf stmt (lines_of []))
+      (λ layer inside before behind h. none_layer layer before behind
+      (sym (ap (λ p. joins (role_behind before p.role) behind)
+      (fold-roll-TacStmt Piece (select_step frame places plan) layer)) ∙ h))
 
   between_lies : (before : Role) (stmt : TacStmt) (behind : Role) → Lies stmt →
       IsCodeOf stmt (between frame places before (select frame places plan stmt) behind)
   between_lies before stmt behind h =
-      by (joins before (select frame places plan stmt).role) (joins (select frame places plan stmt).role behind)
-      refl refl
+      by (joins (role_behind before (select frame places plan stmt).role) behind)
+      (joins before (select frame places plan stmt).role) refl refl
     where
-      by : (one two : Bool) → joins before (select frame places plan stmt).role ≡ one →
-          joins (select frame places plan stmt).role behind ≡ two →
-          IsCodeOf stmt (if one then as_one frame places before (select frame places plan stmt).role
-          else if two then lines_of [] else select frame places plan stmt)
-      by true two e f = both_lie before stmt e
-      by false true e f = none_lie stmt behind f
+      by : (one two : Bool) → joins (role_behind before (select frame places plan stmt).role) behind ≡ one →
+          joins before (select frame places plan stmt).role ≡ two →
+          IsCodeOf stmt (if one then lines_of [] else if two then as_one frame places before (select frame places plan
+          stmt).role else select frame places plan stmt)
+      by true two e f = none_lie stmt before behind e
+      by false true e f = both_lie before stmt f
       by false false e f = h
 
-  turn_lies : (before : Role) (stmts : List TacStmt) → Each Lies stmts → (b c : ℕ) →
-      HaveCode stmts (instrs_of ((in_turn (joined frame places before (map (select frame places plan) stmts))).lines b
-      c))
-  turn_lies before [] h b c = empty
-  turn_lies before (stmt ∷ rest) h b c =
-      let behind : Piece =
-      in_turn (joined frame places (select frame places plan stmt).role (map (select frame places plan) rest))
-      in
-      let next : Role = role_first (map (select frame places plan) rest) in
+  -- statements in order, before others
+  turn_lies : (before : Role) (stmts : List TacStmt) → Each Lies stmts → (b c : ℕ) (rest : List TacStmt)
+      (more : List Instr) → HaveCode rest more → HaveCode (stmts ++ rest)
+      (instrs_of ((in_turn (joined frame places before (map (select frame places plan) stmts))).lines b c) ++ more)
+  turn_lies before [] h b c rest more k = k
+  turn_lies before (stmt ∷ stmts) h b c rest more k =
+      let role : Role = role_behind before (select frame places plan stmt).role in
+      let behind : Piece = in_turn (joined frame places role (map (select frame places plan) stmts)) in
+      let next : Role = role_first (map (select frame places plan) stmts) in
       let own : List Line =
       (between frame places before (select frame places plan stmt) next).lines (behind.size + b) (behind.size + c) in
-      subst (HaveCode (stmt ∷ rest)) (sym (map-append (λ line. line.instr) own (behind.lines b c)))
-      ((between_lies before stmt next h.0).lies (behind.size + b) (behind.size + c) rest (instrs_of (behind.lines b c))
-      (turn_lies (select frame places plan stmt).role rest h.1 b c))
+      subst (HaveCode (stmt ∷ (stmts ++ rest)))
+      (sym (ap (λ t. t ++ more) (map-append (λ line. line.instr) own (behind.lines b c)) ∙
+      append_assoc (instrs_of own) (instrs_of (behind.lines b c)) more))
+      ((between_lies before stmt next h.0).lies (behind.size + b) (behind.size + c) (stmts ++ rest)
+      (instrs_of (behind.lines b c) ++ more) (turn_lies role stmts h.1 b c rest more k))
 
   row_lies : (stmts : List TacStmt) → Each Lies stmts → (b c : ℕ) →
       HaveCode stmts (instrs_of ((select_all frame places plan stmts).lines b c))
-  row_lies stmts h b c = turn_lies Other stmts h b c
+  row_lies stmts h b c =
+      let instrs : List Instr = instrs_of ((select_all frame places plan stmts).lines b c) in
+      subst (λ s. HaveCode s instrs) (append-nil stmts)
+      (subst (HaveCode (stmts ++ [])) (append-nil instrs) (turn_lies Other stmts h b c [] [] empty))
 
   in_role : (stmt : TacStmt) (role : Role) (piece : Piece) → IsCodeOf stmt piece →
       IsCodeOf stmt (record piece { role = role })
   in_role stmt role piece h = record { lies = h.lies }
+
+  in_kind : (stmt : TacStmt) (kind : Kind) (piece : Piece) → IsCodeOf stmt piece →
+      IsCodeOf stmt (record piece { kind = kind })
+  in_kind stmt kind piece h = record { lies = h.lies }
 
   choice_on : (cond : ℕ) → LeadOn (instrs_of (plainly (choice frame places cond)))
   choice_on cond =
@@ -262,10 +301,11 @@ module _ (frame : FrameTree) (places : List Place) (plan : Plan) where
       IsCodeOf (roll-TacStmt (tac.If cond first second))
       (fork frame places cond (map (select frame places plan) first) (map (select frame places plan) second))
   if_lies cond first second hf hs =
-      subst (λ stmt. IsCodeOf stmt (fork frame places cond (map (select frame places plan) first) (map (select frame
-      places plan) second))) (rolled_if cond first second) (by (length (map (select frame places plan) first) == 0
-      &&
-      (select_all frame places plan second).size == 1) refl)
+      let e : List Piece = map (select frame places plan) first in
+      let f : List Piece = map (select frame places plan) second in
+      subst (λ stmt. IsCodeOf stmt (fork frame places cond e f)) (rolled_if cond first second)
+      (in_kind (emit.If cond first second) (kind_of_fork cond e f) _
+      (by (length e == 0 && (select_all frame places plan second).size == 1) refl))
     where
       by : (found : Bool) → (length (map (select frame places plan) first) == 0 &&
           (select_all frame places plan second).size == 1) ≡ found → IsCodeOf (emit.If cond first second) (if found
@@ -280,11 +320,12 @@ module _ (frame : FrameTree) (places : List Place) (plan : Plan) where
           (skipping frame places cond (select_all frame places plan second))) (sym none) (second_lies cond second hs)
       by false is = parts_lie cond first second hf hs
 
-  loop_lies : (head body next : List TacStmt) → Each Lies head → Each Lies body → Each Lies next →
+  -- a loop that begins with its head
+  cycle_lies : (head body next : List TacStmt) → Each Lies head → Each Lies body → Each Lies next →
       IsCodeOf (roll-TacStmt (tac.Loop head body next))
       (cycle frame places (select_all frame places plan head) (select_all frame places plan body)
       (select_all frame places plan next))
-  loop_lies head body next hh hb hn = record {
+  cycle_lies head body next hh hb hn = record {
     lies = λ b c rest more h.
         let ph : Piece = select_all frame places plan head in
         let pb : Piece = select_all frame places plan body in
@@ -323,6 +364,92 @@ module _ (frame : FrameTree) (places : List Place) (plan : Plan) where
         }) (row_lies head hh (pb.size + suc pn.size) 0) (row_lies body hb (suc pn.size) 0) (row_lies next hn 1 0) h));
   }
 
+  back_leads : (cond lines : ℕ) → LeadsOver lines (branch_back frame places cond lines).instr
+  back_leads cond lines = by (nat_lt lines branch_reach)
+    where
+      by : (b : Bool) → LeadsOver lines (if b
+          then plain (Branch Bne (operand frame places first_scratch cond) 0 (neg_ℤ (pos (4 * lines))))
+          else jump_back lines).instr
+      by true = refl
+      by false = refl
+
+  -- a test has no loops
+  test_none : (cond : ℕ) → stmt_loops (test_stmt cond) ≡ 0
+  test_none cond =
+      let test : stmt_loops (test_stmt cond) ≡
+      loop_step (map-TacStmt _ _ stmt_loops (tac.If cond [] (roll-TacStmt tac.Break ∷ []))) =
+      fold-roll-TacStmt ℕ loop_step (tac.If cond [] (roll-TacStmt tac.Break ∷ [])) in
+      let broken : stmt_loops (roll-TacStmt tac.Break) ≡ 0 = fold-roll-TacStmt ℕ loop_step tac.Break in
+      omega (arith, test, broken)
+
+  -- statements and a test, without the branch that the test ends with
+  tested_lies : (init : List TacStmt) (cond : ℕ) → Each Lies init → (b c : ℕ) →
+      HaveCode (init ++ (test_stmt cond ∷ [])) (instrs_of ((select_all frame places plan init).lines b c) ++
+      instrs_of (plainly (take frame places first_scratch cond)))
+  tested_lies init cond h b c =
+      let taking : List Instr = take frame places first_scratch cond in
+      let own : List Instr = instrs_of (plainly taking) in
+      turn_lies Other init h b c (test_stmt cond ∷ []) own
+      (subst (HaveCode (test_stmt cond ∷ [])) (append-nil own)
+      (loopless (test_stmt cond) own (test_none cond)
+      (lines_on (plainly taking) (plainly_straight taking (take_straight frame places first_scratch cond))) empty))
+
+  -- a loop that ends with its head, and that with its test
+  rotated_lies : (head body next : List TacStmt) (cond : ℕ) (t : IsTested frame places plan head cond) →
+      Each Lies t.init → Each Lies body → Each Lies next → IsCodeOf (roll-TacStmt (tac.Loop head body next))
+      (rotated frame places cond (select_all frame places plan t.init) (select_all frame places plan body)
+      (select_all frame places plan next))
+  rotated_lies head body next cond t hi hb hn = record {
+    lies = λ b c rest more h.
+        let taking : List Instr = take frame places first_scratch cond in
+        let test : ℕ = suc (length taking) in
+        let pi : Piece = select_all frame places plan t.init in
+        let pb : Piece = select_all frame places plan body in
+        let pn : Piece = select_all frame places plan next in
+        let li : List Line = pi.lines test 0 in
+        let lb : List Line = pb.lines (pn.size + (pi.size + test)) 0 in
+        let ln : List Line = pn.lines (pi.size + test) 0 in
+        let lt : List Line = plainly taking in
+        let over : ℕ = pb.size + (pn.size + pi.size) + length taking in
+        let first : Line = jump_over (pb.size + pn.size) in
+        let last : Line = branch_back frame places cond over in
+        let at_head : List Instr = instrs_of li ++ instrs_of lt in
+        let inside : List Instr = instrs_of lb ++ (instrs_of ln ++ at_head) in
+        let is : instrs_of (lb ++ (ln ++ (li ++ (lt ++ (last ∷ []))))) ≡
+        instrs_of lb ++ (instrs_of ln ++ (at_head ++ (last.instr ∷ []))) =
+        map-append (λ line. line.instr) lb (ln ++ (li ++ (lt ++ (last ∷ [])))) ∙
+        ap (λ t. instrs_of lb ++ t) (map-append (λ line. line.instr) ln (li ++ (lt ++ (last ∷ []))) ∙
+        ap (λ t. instrs_of ln ++ t) (map-append (λ line. line.instr) li (lt ++ (last ∷ [])) ∙
+        ap (λ t. instrs_of li ++ t) (map-append (λ line. line.instr) lt (last ∷ [])) ∙
+        sym (append_assoc (instrs_of li) (instrs_of lt) (last.instr ∷ [])))) in
+        let long : length inside ≡ over =
+        omega (
+          arith,
+          length-append (instrs_of lb) (instrs_of ln ++ at_head),
+          length-append (instrs_of ln) at_head,
+          length-append (instrs_of li) (instrs_of lt),
+          length-map li (λ line. line.instr),
+          length-map lb (λ line. line.instr),
+          length-map ln (λ line. line.instr),
+          length-map lt (λ line. line.instr),
+          length-map taking plain,
+          (row_is_sized frame places plan t.init).sized test 0,
+          (row_is_sized frame places plan body).sized (pn.size + (pi.size + test)) 0,
+          (row_is_sized frame places plan next).sized (pi.size + test) 0,
+        ) in
+        subst (λ s. HaveCode (s ∷ rest)
+        ((first.instr ∷ instrs_of (lb ++ (ln ++ (li ++ (lt ++ (last ∷ [])))))) ++ more))
+        (rolled_loop head body next)
+        (subst (λ t. HaveCode (emit.Loop head body next ∷ rest) (first.instr ∷ t))
+        (sym (ap (λ t. t ++ more) is ∙ loop_parts (instrs_of lb) (instrs_of ln) at_head more last.instr))
+        (repeating inside first.instr last.instr (record {
+          order = inr refl;
+          on = jump_on (pb.size + pn.size);
+          back = inr (back_leads cond over ∙ ap (λ n. Some (neg_ℤ (pos (4 * n)))) (sym long));
+        }) (subst (λ stmts. HaveCode stmts at_head) (sym t.is) (tested_lies t.init cond hi test 0))
+        (row_lies body hb (pn.size + (pi.size + test)) 0) (row_lies next hn (pi.size + test) 0) h));
+  }
+
   layer_lies : (layer : TacStmt-F TacStmt) → Inside Lies layer →
       IsCodeOf (roll-TacStmt layer) (select_step frame places plan (map-TacStmt _ _ (select frame places plan)
       layer))
@@ -348,7 +475,11 @@ module _ (frame : FrameTree) (places : List Place) (plan : Plan) where
       in_role (roll-TacStmt (tac.Store place value)) (role_of_store plan.needed place value) _
       (by_instrs (tac.Store place value) _ refl (store_to_straight frame places place value))
   layer_lies (tac.If cond first second) h = if_lies cond first second h.0 h.1
-  layer_lies (tac.Loop head body next) h = loop_lies head body next h.0 h.1 h.2
+  layer_lies (tac.Loop head body next) h =
+      turning_by frame places plan (IsCodeOf (roll-TacStmt (tac.Loop head body next))) head _ _
+      (cycle_lies head body next h.0 h.1 h.2)
+      (λ cond near t. rotated_lies head body next cond t
+      (each_before frame places plan Lies head t.init cond t.is h.0) h.1 h.2)
   layer_lies tac.Break h = alone tac.Break _ refl (λ b c. over_on b)
   layer_lies tac.Continue h = alone tac.Continue _ refl (λ b c. over_on c)
   layer_lies (tac.CallOwn dest function args) h =
@@ -361,7 +492,9 @@ module _ (frame : FrameTree) (places : List Place) (plan : Plan) where
       by_instrs (tac.Input dest) (environment_call 1 ++ receive frame places dest) refl
       (receive_straight frame places dest)
   layer_lies (tac.Output value) h = by_instrs (tac.Output value) _ refl (output_straight frame places value)
-  layer_lies (tac.Return value) h = by_instrs (tac.Return value) _ refl (return_straight frame places value)
+  layer_lies (tac.Return value) h =
+      in_role (roll-TacStmt (tac.Return value)) (role_of_return value) _
+      (by_instrs (tac.Return value) _ refl (return_straight frame places value))
 
   stmt_lies : (stmt : TacStmt) → Lies stmt
   stmt_lies = stmt_induction Lies (λ layer h.
@@ -372,7 +505,7 @@ pub has_rounds : (f : TacFnTree) (places : List Place) (frame : FrameTree) →
     HasRounds f.body (code_of f places frame).instrs
 has_rounds f places frame =
     let in_lines : List Line = plainly (entrance frame places f.params) in
-    let needed : ℕ → Bool = needed_in f.body in
+    let plan : Plan = plan_of f (is_near f places frame) in
     let body : List Line = (select_all frame places plan f.body).lines 0 0 in
     let out_lines : List Line = plainly (closing frame places f.entry) in
     record {

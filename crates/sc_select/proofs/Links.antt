@@ -1,23 +1,28 @@
 -- Lines that refer to targets stand where the linker can complete them.
-use Rattle.sc_select.specs.Selection.{Plan}
-use Rattle.sc_select.proofs.Common.{All, AllPairs, Bool, Each, Entry, FrameTree, Function, Global, Inside, Instr}
-use Rattle.sc_select.proofs.Common.{IsCode, IsTrue, Jal, Jalr, Line, List, Lui, None, Option, Piece, Place, Places}
-use Rattle.sc_select.proofs.Common.{Relocation, Role, Sets, Some, Store, Sw, TacFnTree, TacStmt, TacStmt-F, Target}
-use Rattle.sc_select.proofs.Common.{Upper, [], and_first, and_rest, ap, append-nil, arith, brought, call_cross}
+use Rattle.sc_select.specs.Selection.{Kind, Plan, branch_back, branch_reach, plan_by, plan_of, role_of_return, rotated}
+use Rattle.sc_select.specs.Selection.{short_return, testing}
+use Rattle.sc_select.specs.Pieces.{first_scratch}
+use Rattle.sc_select.proofs.Common.{All, AllPairs, Bne, Bool, Branch, Each, Entry, FrameTree, Function, Global, Inside}
+use Rattle.sc_select.proofs.Common.{Instr, IsCode, IsTrue, Jal, Jalr, Line, List, Lui, None, Option, Piece, Place}
+use Rattle.sc_select.proofs.Common.{Places, Relocation, Role, Sets, Some, Store, Sw, TacFnTree, TacStmt, TacStmt-F}
+use Rattle.sc_select.proofs.Common.{Target, Upper, [], and_first, and_rest, ap, append-nil, arith, brought, call_cross}
 use Rattle.sc_select.proofs.Common.{call_own, choice, closing, code_of_lines, copied, cycle, entrance, environment_call}
 use Rattle.sc_select.proofs.Common.{eq-eqb, everywhere as each_holds, false, fold-roll-TacStmt, followed, frame_taken}
-use Rattle.sc_select.proofs.Common.{function_lines, has_mark, in_order, is_address, is_jal, is_linkable, jump_back}
-use Rattle.sc_select.proofs.Common.{keep, length, length-append, length-map, load_from, loading, map, map-TacStmt}
-use Rattle.sc_select.proofs.Common.{moved_by, needed_in, object_offset, object_read, object_store, operation, pass}
-use Rattle.sc_select.proofs.Common.{place_of_global, plain, plainly, pos, receive, referring, refl, relocation_of}
-use Rattle.sc_select.proofs.Common.{relocations_from, result_register, return, role_of_load, role_of_operation}
-use Rattle.sc_select.proofs.Common.{role_of_store, select, select_all, select_step, short_form, short_operation}
-use Rattle.sc_select.proofs.Common.{slice_get, stmt_induction, store_arguments, store_to, straightly, sub_word, subst}
-use Rattle.sc_select.proofs.Common.{suc, sym, true, word_of_constant, ℕ, ◌&&◌, ◌++◌, ◌+◌, ◌<◌, ◌∙◌, ◌∷◌, ◌≡◌, ◌≤◌}
+use Rattle.sc_select.proofs.Common.{function_lines, has_mark, if◌then◌else◌, in_order, is_address, is_jal, is_linkable}
+use Rattle.sc_select.proofs.Common.{jump_back, keep, length, length-append, length-map, load_from, loading, map}
+use Rattle.sc_select.proofs.Common.{map-TacStmt, moved_by, nat_lt, needed_in, object_offset, object_read, object_store}
+use Rattle.sc_select.proofs.Common.{operand, operation, pass, place_of_global, plain, plainly, pos, receive, referring}
+use Rattle.sc_select.proofs.Common.{refl, relocation_of, relocations_from, result_register, return, role_of_load}
+use Rattle.sc_select.proofs.Common.{role_of_operation, role_of_store, select, select_all, select_step, short_form}
+use Rattle.sc_select.proofs.Common.{short_operation, slice_get, stmt_induction, store_arguments, store_to, straightly}
+use Rattle.sc_select.proofs.Common.{sub_word, subst, suc, sym, take, true, word_of_constant, ℕ, ◌&&◌, ◌*◌, ◌++◌, ◌+◌}
+use Rattle.sc_select.proofs.Common.{◌<◌, ◌∙◌, ◌∷◌, ◌≡◌, ◌≤◌}
+use Rattle.std.specs.Prelude.{neg_ℤ}
 use Rattle.std.proofs.lemmas.List.Elements.{All-cons, All-nil, All-weaker}
 use Rattle.std.proofs.lemmas.List.Kept.{AllPairs-cons}
 use Rattle.sc_tac.specs.declared.stmt.TacStmt.TheOpen as tac
 use Rattle.sc_select.proofs.Joining.{fork_keeps, order_keeps}
+use Rattle.sc_select.proofs.Turning.{each_before, turning_by}
 use Rattle.std.proofs.lemmas.Bool.{and_from}
 
 -- the instruction of the first line
@@ -79,6 +84,37 @@ module _ (frame : FrameTree) (places : List Place) (plan : Plan) where
         (joined (n.lines 1 0) back (hn.complete 1 0) refl));
   }
 
+  back_complete : (cond lines : ℕ) → all_complete (branch_back frame places cond lines ∷ []) ≡ true
+  back_complete cond lines = by (nat_lt lines branch_reach)
+    where
+      by : (b : Bool) → all_complete ((if b
+          then plain (Branch Bne (operand frame places first_scratch cond) 0 (neg_ℤ (pos (4 * lines))))
+          else jump_back lines) ∷ []) ≡ true
+      by true = refl
+      by false = refl
+
+  testing_complete : (cond lines : ℕ) → all_complete (testing frame places cond lines) ≡ true
+  testing_complete cond lines =
+      let taking : List Instr = take frame places first_scratch cond in
+      joined (plainly taking) (branch_back frame places cond (lines + length taking) ∷ []) (plain_complete taking)
+      (back_complete cond (lines + length taking))
+
+  rotated_complete : (cond : ℕ) (h b n : Piece) → IsComplete h → IsComplete b → IsComplete n →
+      IsComplete (rotated frame places cond h b n)
+  rotated_complete cond h b n hh hb hn = record {
+    complete = λ to_break to_continue.
+        let test : ℕ = suc (length (take frame places first_scratch cond)) in
+        let tested : List Line = testing frame places cond (b.size + (n.size + h.size)) in
+        joined (b.lines (n.size + (h.size + test)) 0) (n.lines (h.size + test) 0 ++ (h.lines test 0 ++ tested))
+        (hb.complete (n.size + (h.size + test)) 0)
+        (joined (n.lines (h.size + test) 0) (h.lines test 0 ++ tested) (hn.complete (h.size + test) 0)
+        (joined (h.lines test 0) tested (hh.complete test 0)
+        (testing_complete cond (b.size + (n.size + h.size)))));
+  }
+
+  any_kind : (piece : Piece) (kind : Kind) → IsComplete piece → IsComplete (record piece { kind = kind })
+  any_kind piece kind h = record { complete = h.complete }
+
   global_complete : (dest global : ℕ) → all_complete (place_of_global frame places dest global) ≡ true
   global_complete dest global =
       let rd : ℕ = result_register frame places dest in
@@ -110,7 +146,8 @@ module _ (frame : FrameTree) (places : List Place) (plan : Plan) where
       order_keeps frame places plan IsComplete (record { complete = λ b c. refl })
       (λ t o. straightly_complete (object_read frame places t o))
       (λ t l o w. straightly_complete (short_operation frame places t l (short_form o w)))
-      (λ v o. straightly_complete (object_store frame places v o)) followed_complete stmts h
+      (λ v o. straightly_complete (object_store frame places v o))
+      (λ l f. straightly_complete (short_return frame places l f)) followed_complete stmts h
 
   with_role : (instrs : List Instr) (role : Role) → IsComplete (record (straightly frame places instrs) { role = role })
   with_role instrs role = record { complete = λ b c. plain_complete instrs }
@@ -137,10 +174,14 @@ module _ (frame : FrameTree) (places : List Place) (plan : Plan) where
       fork_keeps frame places IsComplete (record { complete = λ b c. refl }) (λ lines. record {
         complete = λ b c. refl;
       })
-      followed_complete cond _ _ (straightly_complete (choice frame places cond)) (row_complete first h.0)
+      followed_complete any_kind cond _ _ (straightly_complete (choice frame places cond)) (row_complete first h.0)
       (row_complete second h.1)
   layer_complete (tac.Loop head body next) h =
-      cycle_complete _ _ _ (row_complete head h.0) (row_complete body h.1) (row_complete next h.2)
+      let body_is = row_complete body h.1 in
+      let next_is = row_complete next h.2 in
+      turning_by frame places plan IsComplete head _ _ (cycle_complete _ _ _ (row_complete head h.0) body_is next_is)
+      (λ cond near t. rotated_complete cond _ _ _
+      (row_complete t.init (each_before frame places plan Complete head t.init cond t.is h.0)) body_is next_is)
   layer_complete tac.Break h = record { complete = λ b c. refl }
   layer_complete tac.Continue h = record { complete = λ b c. refl }
   layer_complete (tac.CallOwn dest function args) h = record { complete = λ b c. own_complete dest function args }
@@ -150,8 +191,7 @@ module _ (frame : FrameTree) (places : List Place) (plan : Plan) where
       straightly_complete (environment_call 1 ++ receive frame places dest)
   layer_complete (tac.Output value) h =
       straightly_complete (brought frame 10 (slice_get places value) ++ environment_call 2)
-  layer_complete (tac.Return value) h =
-      straightly_complete (return frame places value)
+  layer_complete (tac.Return value) h = with_role (return frame places value) (role_of_return value)
 
   stmt_complete : (stmt : TacStmt) → IsComplete (select frame places plan stmt)
   stmt_complete = stmt_induction Complete (λ layer h.
@@ -284,12 +324,12 @@ function_code frame places plan f =
     }
 
 -- all that was written before nothing is a function's code
-pub whole_function : (frame : FrameTree) (places : List Place) (f tree : TacFnTree) (marks : List Bool)
+pub whole_function : (frame : FrameTree) (places : List Place) (near : Bool) (f tree : TacFnTree) (marks : List Bool)
     (lines old : List Line) → ((t : ℕ) → has_mark marks t ≡ needed_in f.body t) → tree ≡ f →
     lines ≡ function_lines frame places (plan_by marks near) tree ++ old → old ≡ [] →
     lines ≡ function_lines frame places (plan_of f near) f
-whole_function frame places f tree marks lines old marked same h none =
+whole_function frame places near f tree marks lines old marked same h none =
     h ∙ ap (λ o. function_lines frame places (plan_by marks near) tree ++ o) none ∙
     append-nil (function_lines frame places (plan_by marks near) tree) ∙
     ap (λ t. function_lines frame places (plan_by marks near) t) same ∙
-    (λ i. function_lines frame places (λ t. marked t i) f)
+    (λ i. function_lines frame places (record { needed = λ t. marked t i; near = near }) f)

@@ -1,15 +1,14 @@
 -- Pieces have as many lines as they say.
-use Rattle.sc_select.specs.Selection.{Kind, Plan, branch_back, rotated}
-use Rattle.sc_select.proofs.Common.{Bool, Each, FrameTree, Inside, Line, List, Other, Piece, Place, TacStmt, TacStmt-F}
-use Rattle.sc_select.proofs.Common.{[], arith, choice, cycle, drop, everywhere, fold-roll-TacStmt, followed, in_order}
-use Rattle.sc_select.proofs.Common.{in_turn, joined, jump_back, jump_over, length, length-append, map, map-TacStmt}
-use Rattle.sc_select.proofs.Common.{plainly, refl, select, select_all, select_step, stmt_induction, straight, subst}
-use Rattle.sc_select.proofs.Common.{suc, sym, ℕ, ◌++◌, ◌+◌, ◌∷◌, ◌≡◌}
+use Rattle.sc_select.specs.Selection.{Kind, Plan, branch_back, rotated, testing}
+use Rattle.sc_select.specs.Pieces.{first_scratch}
+use Rattle.sc_select.proofs.Common.{Each, FrameTree, Inside, Instr, Line, List, Other, Piece, Place, TacStmt}
+use Rattle.sc_select.proofs.Common.{TacStmt-F, [], arith, choice, cycle, drop, everywhere, fold-roll-TacStmt, followed}
+use Rattle.sc_select.proofs.Common.{in_order, in_turn, joined, jump_back, jump_over, length, length-append, length-map}
+use Rattle.sc_select.proofs.Common.{map, map-TacStmt, plain, plainly, refl, select, select_all, select_step}
+use Rattle.sc_select.proofs.Common.{stmt_induction, straight, subst, suc, sym, take, ℕ, ◌++◌, ◌+◌, ◌∷◌, ◌≡◌}
 use Rattle.sc_tac.specs.declared.stmt.TacStmt.TheOpen as tac
 use Rattle.sc_select.proofs.Joining.{fork_keeps, from_keeps}
 use Rattle.sc_select.proofs.Turning.{each_before, turning_by}
-use Rattle.sc_select.proofs.Common.{Instr, length-map, plain}
-use Rattle.sc_select.specs.Prelude.{first_scratch, take}
 
 pub record IsSized (piece : Piece) : Type 0 where
   pub sized : (to_break to_continue : ℕ) → length (piece.lines to_break to_continue) ≡ piece.size
@@ -46,31 +45,38 @@ module _ (frame : FrameTree) (places : List Place) (plan : Plan) where
         );
   }
 
+  testing_sized : (cond lines : ℕ) →
+      length (testing frame places cond lines) ≡ suc (length (take frame places first_scratch cond))
+  testing_sized cond lines =
+      let taking : List Instr = take frame places first_scratch cond in
+      omega (
+        arith,
+        length-append (plainly taking) (branch_back frame places cond (lines + length taking) ∷ []),
+        length-map taking plain,
+      )
+
   rotated_sized : (cond : ℕ) (h b n : Piece) → IsSized h → IsSized b → IsSized n →
       IsSized (rotated frame places cond h b n)
   rotated_sized cond h b n hh hb hn = record {
     sized = λ to_break to_continue.
-        let before : List Instr = take frame places first_scratch cond in
-        let test : ℕ = suc (length before) in
-        let whole : ℕ = b.size + (n.size + h.size) in
-        let back : List Line = branch_back frame places cond (whole + length before) ∷ [] in
-        let last : List Line = h.lines test 0 ++ (plainly before ++ back) in
+        let test : ℕ = suc (length (take frame places first_scratch cond)) in
+        let tested : List Line = testing frame places cond (b.size + (n.size + h.size)) in
+        let last : List Line = h.lines test 0 ++ tested in
         let middle : List Line = n.lines (h.size + test) 0 ++ last in
         omega (
           arith,
           length-append (b.lines (n.size + (h.size + test)) 0) middle,
           length-append (n.lines (h.size + test) 0) last,
-          length-append (h.lines test 0) (plainly before ++ back),
-          length-append (plainly before) back,
-          length-map before plain,
+          length-append (h.lines test 0) tested,
+          testing_sized cond (b.size + (n.size + h.size)),
+          hh.sized test 0,
           hb.sized (n.size + (h.size + test)) 0,
           hn.sized (h.size + test) 0,
-          hh.sized test 0,
         );
   }
 
-  of_kind : (piece : Piece) (kind : Kind) → IsSized piece → IsSized (record piece { kind = kind })
-  of_kind piece kind h = record { sized = h.sized }
+  any_kind : (piece : Piece) (kind : Kind) → IsSized piece → IsSized (record piece { kind = kind })
+  any_kind piece kind h = record { sized = h.sized }
 
   abbrev Sized : TacStmt → Type 0
   Sized stmt = IsSized (select frame places plan stmt)
@@ -81,7 +87,7 @@ module _ (frame : FrameTree) (places : List Place) (plan : Plan) where
   from_sized stmts h i =
       from_keeps frame places plan IsSized (record { sized = λ b c. refl }) (λ t o. record { sized = λ b c. refl })
       (λ t l o w. record { sized = λ b c. refl }) (λ v o. record { sized = λ b c. refl })
-      (λ l o w. record { sized = λ b c. refl }) followed_sized stmts h i
+      (λ l f. record { sized = λ b c. refl }) followed_sized stmts h i
 
   row_sized : (stmts : List TacStmt) → Each Sized stmts →
       IsSized (in_order frame places (map (select frame places plan) stmts))
@@ -98,13 +104,14 @@ module _ (frame : FrameTree) (places : List Place) (plan : Plan) where
   layer_sized (tac.Store place value) h = record { sized = λ b c. refl }
   layer_sized (tac.If cond first second) h =
       fork_keeps frame places IsSized (straight_sized []) (λ lines. straight_sized (jump_over lines ∷ []))
-      followed_sized of_kind cond _ _ (straight_sized (plainly (choice frame places cond))) (row_sized first h.0) (row_sized second h.1)
+      followed_sized any_kind cond _ _ (straight_sized (plainly (choice frame places cond))) (row_sized first h.0)
+      (row_sized second h.1)
   layer_sized (tac.Loop head body next) h =
-      turning_by frame places plan IsSized head _ _
-      (cycle_sized _ _ _ (row_sized head h.0) (row_sized body h.1) (row_sized next h.2))
-      (λ cond near t.
-      rotated_sized cond _ _ _ (row_sized t.init (each_before frame places plan Sized head t.init cond t.is h.0)) (row_sized body h.1)
-      (row_sized next h.2))
+      let body_is = row_sized body h.1 in
+      let next_is = row_sized next h.2 in
+      turning_by frame places plan IsSized head _ _ (cycle_sized _ _ _ (row_sized head h.0) body_is next_is)
+      (λ cond near t. rotated_sized cond _ _ _
+      (row_sized t.init (each_before frame places plan Sized head t.init cond t.is h.0)) body_is next_is)
   layer_sized tac.Break h = record { sized = λ b c. refl }
   layer_sized tac.Continue h = record { sized = λ b c. refl }
   layer_sized (tac.CallOwn dest function args) h = record { sized = λ b c. refl }

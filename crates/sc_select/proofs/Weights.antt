@@ -1,5 +1,5 @@
 -- Code has no more instructions than its function weighs.
-use Rattle.sc_select.specs.Selection.{Plan}
+use Rattle.sc_select.specs.Selection.{Plan, is_near, plan_of, role_behind, short_return}
 use Rattle.sc_select.proofs.Common.{Add, Bne, Bool, Branch, Div, Each, Entry as EntryOf, Fits, FrameTree, Function}
 use Rattle.sc_select.proofs.Common.{Inside, Instr, IsFunction, Jal, Jalr, Line, List, Load, Lui, Lw, Mul, None}
 use Rattle.sc_select.proofs.Common.{Op, Option, Other, Piece, Place, Register, Role, Shift}
@@ -10,7 +10,7 @@ use Rattle.sc_select.proofs.Common.{closing, code_of, copied, entrance, entry_we
 use Rattle.sc_select.proofs.Common.{everywhere as each_holds, false, fold-TacStmt, fold-roll-TacStmt, fork, frame_left}
 use Rattle.sc_select.proofs.Common.{frame_taken, function_lines, has_operands, if◌then◌else◌, in_order, in_turn}
 use Rattle.sc_select.proofs.Common.{is_short, is_some, is_unsigned, joined, joins, keep, kept, length, length-append}
-use Rattle.sc_select.proofs.Common.{length-map, load_from, load_word, loading, map, map-TacStmt, moved_by, needed_in}
+use Rattle.sc_select.proofs.Common.{length-map, load_from, load_word, loading, map, map-TacStmt, moved_by}
 use Rattle.sc_select.proofs.Common.{nothing, object_offset, object_read, object_store, op_code, op_weight, operand}
 use Rattle.sc_select.proofs.Common.{operation, pass, place_of_global, plain, plainly, pointer_difference, pointer_move}
 use Rattle.sc_select.proofs.Common.{pos, put, receive, referring, refl, register_of, result_register, return}
@@ -23,8 +23,11 @@ use Rattle.sc_select.proofs.Common.{◌+◌, ◌<◌, ◌==◌, ◌^◌, ◌∙�
 use Rattle.sc_core.specs.Prelude.{total}
 use Rattle.sc_tac.specs.Prelude.{everywhere}
 use Rattle.rv_code.specs.declared.instr.ShiftOp.TheVariants.{Slli}
-use Rattle.sc_select.proofs.Joining.{IsRead, IsShort, IsStored, stores_it, loads_it, operates_it, past_few, which_pair}
+use Rattle.sc_select.proofs.Joining.{IsRead, IsReturned, IsShort, IsStored, loads_it, operates_it, past_few, returns_it}
+use Rattle.sc_select.proofs.Joining.{stores_it, which_pair}
+use Rattle.sc_select.proofs.Turning.{each_before, test_stmt, turning_by}
 use Rattle.std.specs.Bool.{beq}
+use Rattle.std.proofs.lemmas.Bool.{and_from}
 use Rattle.sc_base.specs.declared.op.BinaryOp.{BinaryOp}
 use Rattle.sc_base.specs.declared.op.BinaryOp.TheVariants as op
 use Rattle.sc_base.specs.declared.op.UnaryOp.{UnaryOp}
@@ -234,6 +237,20 @@ module _ (frame : FrameTree) (places : List Place) (plan : Plan) where
       one_at_most rd rs None = omega arith
       one_at_most rd rs (Some form) = omega arith
 
+  short_return_few : (left : ℕ) (form : ShortForm) → length (short_return frame places left form) ≤ 9
+  short_return_few left form =
+      let code : List Instr = short_code 10 (operand frame places 5 left) (Some form) in
+      let whole : length (short_return frame places left form) ≡
+      length ((take frame places 5 left ++ code) ++ frame_left frame.bytes) = refl in
+      omega (
+        arith,
+        whole,
+        length-append (take frame places 5 left ++ code) (frame_left frame.bytes),
+        length-append (take frame places 5 left) code,
+        taken_few frame 5 (slice_get places left),
+        leave_frame frame.bytes,
+      )
+
   object_read_few : (dest object : ℕ) → length (object_read frame places dest object) ≤ 6
   object_read_few dest object =
       let rd : ℕ = result_register frame places dest in
@@ -394,14 +411,36 @@ module _ (frame : FrameTree) (places : List Place) (plan : Plan) where
   short_weighs (tacop.PointerDifference cells) word form h = cc h
   short_weighs (tacop.PointerCompare o) word form h = cc h
 
-  -- the code of two statements that are one piece is no larger than the second weighs
+  -- any statement weighs something
+  op_weighs : (o : TacOp) → 1 ≤ op_weight o
+  op_weighs (tacop.Unary o scalar) = omega arith
+  op_weighs (tacop.Binary o scalar) = omega arith
+  op_weighs tacop.PointerNot = omega arith
+  op_weighs (tacop.PointerMove minus cells index) = omega arith
+  op_weighs (tacop.PointerMember offset) = omega arith
+  op_weighs (tacop.PointerDifference cells) = omega arith
+  op_weighs (tacop.PointerCompare o) = omega arith
+
+  layer_weighs : (layer : TacStmt-F TacStmt) → 1 ≤ weight_step (map-TacStmt _ _ stmt_weight layer)
+  layer_weighs (tac.Op dest o left right) = op_weighs o
+  layer_weighs _ = omega arith
+
+  stmt_weighs : (stmt : TacStmt) → 1 ≤ stmt_weight stmt
+  stmt_weighs = stmt_induction (λ stmt. 1 ≤ stmt_weight stmt) (λ layer h.
+      subst (λ n. 1 ≤ n) (sym (fold-roll-TacStmt ℕ weight_step layer)) (layer_weighs layer))
+
+  -- what a statement that is one with the one before it may take of its weight
+  abbrev taken_before : Bool → ℕ
+  taken_before joined_before = if joined_before then 1 else 0
+
+  -- the code of statements that are one piece is no larger than the last weighs, and what it takes of the one before it
   both_few : (before : Role) (stmt : TacStmt) → joins before (select frame places plan stmt).role ≡ true →
-      (as_one frame places before (select frame places plan stmt).role).size ≤ stmt_weight stmt
+      (as_one frame places before (select frame places plan stmt).role).size ≤ stmt_weight stmt + 1
   both_few before stmt h =
-      ⊎_elim read (⊎_elim stored short) (which_pair before (select frame places plan stmt).role h)
+      ⊎_elim read (⊎_elim stored (⊎_elim short back)) (which_pair before (select frame places plan stmt).role h)
     where
       read : IsRead before (select frame places plan stmt).role →
-          (as_one frame places before (select frame places plan stmt).role).size ≤ stmt_weight stmt
+          (as_one frame places before (select frame places plan stmt).role).size ≤ stmt_weight stmt + 1
       read pair =
           let load = loads_it frame places plan stmt pair.temp pair.loads in
           let heavy : stmt_weight stmt ≡ 7 =
@@ -415,7 +454,7 @@ module _ (frame : FrameTree) (places : List Place) (plan : Plan) where
           omega (arith, heavy, code, few)
 
       stored : IsStored before (select frame places plan stmt).role →
-          (as_one frame places before (select frame places plan stmt).role).size ≤ stmt_weight stmt
+          (as_one frame places before (select frame places plan stmt).role).size ≤ stmt_weight stmt + 1
       stored pair =
           let store = stores_it frame places plan stmt pair.temp pair.value pair.stores in
           let heavy : stmt_weight stmt ≡ 7 =
@@ -428,7 +467,7 @@ module _ (frame : FrameTree) (places : List Place) (plan : Plan) where
           omega (arith, heavy, code, few)
 
       short : IsShort before (select frame places plan stmt).role →
-          (as_one frame places before (select frame places plan stmt).role).size ≤ stmt_weight stmt
+          (as_one frame places before (select frame places plan stmt).role).size ≤ stmt_weight stmt + 1
       short pair =
           let form : Option ShortForm = short_form pair.op pair.word in
           let operation = operates_it frame places plan stmt pair.temp pair.left pair.op pair.operates in
@@ -442,35 +481,95 @@ module _ (frame : FrameTree) (places : List Place) (plan : Plan) where
           straightly_few _ 7 (short_few pair.temp pair.left form) in
           omega (arith, heavy, code, few, short_weighs pair.op pair.word pair.form pair.form_is)
 
+      back : IsReturned before (select frame places plan stmt).role →
+          (as_one frame places before (select frame places plan stmt).role).size ≤ stmt_weight stmt + 1
+      back pair =
+          let heavy : stmt_weight stmt ≡ 8 =
+          ap stmt_weight (returns_it frame places plan stmt pair.temp pair.returns) ∙
+          fold-roll-TacStmt ℕ weight_step (tac.Return (Some pair.temp)) in
+          let code : (as_one frame places before (select frame places plan stmt).role).size ≡
+          (straightly frame places (short_return frame places pair.left pair.form)).size =
+          ap₂ (λ r s. (as_one frame places r s).size) pair.applies pair.returns in
+          let few : (straightly frame places (short_return frame places pair.left pair.form)).size ≤ 9 =
+          straightly_few _ 9 (short_return_few pair.left pair.form) in
+          omega (arith, heavy, code, few)
+
+  -- a statement that is one with the one behind it has no code, so that what that one takes of its weight is left
   between_few : (before : Role) (stmt : TacStmt) (behind : Role) →
       (select frame places plan stmt).size ≤ stmt_weight stmt →
-      (between frame places before (select frame places plan stmt) behind).size ≤ stmt_weight stmt
+      (between frame places before (select frame places plan stmt) behind).size +
+      taken_before (joins (role_behind before (select frame places plan stmt).role) behind) ≤
+      stmt_weight stmt + taken_before (joins before (select frame places plan stmt).role)
   between_few before stmt behind h =
-      by (joins before (select frame places plan stmt).role) (joins (select frame places plan stmt).role behind)
-      refl
+      by (joins (role_behind before (select frame places plan stmt).role) behind)
+      (joins before (select frame places plan stmt).role) refl
     where
-      by : (one two : Bool) → joins before (select frame places plan stmt).role ≡ one →
-          (if one then as_one frame places before (select frame places plan stmt).role
-          else if two then nothing else select frame places plan stmt).size ≤ stmt_weight stmt
-      by true two e = both_few before stmt e
-      by false true e = omega arith
-      by false false e = h
+      by : (one two : Bool) → joins before (select frame places plan stmt).role ≡ two →
+          (if one then nothing else if two then as_one frame places before (select frame places plan stmt).role
+          else select frame places plan stmt).size + taken_before one ≤ stmt_weight stmt + taken_before two
+      by true true e = omega (arith, stmt_weighs stmt)
+      by true false e = omega (arith, stmt_weighs stmt)
+      by false true e = omega (arith, both_few before stmt e)
+      by false false e = omega (arith, h)
 
   turn_small : (before : Role) (stmts : List TacStmt) → Each Small stmts → all_true (map has stmts) ≡ true →
-      (in_turn (joined frame places before (map (select frame places plan) stmts))).size ≤ total (map stmt_weight
-      stmts)
+      (in_turn (joined frame places before (map (select frame places plan) stmts))).size ≤
+      total (map stmt_weight stmts) +
+      taken_before (joins before (role_first (map (select frame places plan) stmts)))
   turn_small before [] h is = omega arith
   turn_small before (stmt ∷ rest) h is =
       omega (
         arith,
         between_few before stmt (role_first (map (select frame places plan) rest))
             (h.0 (and_first (has stmt) (all_true (map has rest)) is)),
-        turn_small (select frame places plan stmt).role rest h.1 (and_rest (has stmt) (all_true (map has rest)) is),
+        turn_small (role_behind before (select frame places plan stmt).role) rest h.1
+            (and_rest (has stmt) (all_true (map has rest)) is),
       )
 
   row_small : (stmts : List TacStmt) → Each Small stmts → all_true (map has stmts) ≡ true →
       (in_order frame places (map (select frame places plan) stmts)).size ≤ total (map stmt_weight stmts)
-  row_small stmts h is = turn_small Other stmts h is
+  row_small stmts h is = omega (arith, turn_small Other stmts h is)
+
+  -- those before a test weigh less than they with it
+  weigh_before : (init : List TacStmt) (cond : ℕ) →
+      total (map stmt_weight init) + 6 ≤ total (map stmt_weight (init ++ (test_stmt cond ∷ [])))
+  weigh_before [] cond =
+      let test : stmt_weight (test_stmt cond) ≡ weight_step (map-TacStmt _ _ stmt_weight (tac.If cond [] (roll-TacStmt
+      tac.Break ∷ []))) = fold-roll-TacStmt ℕ weight_step (tac.If cond [] (roll-TacStmt tac.Break ∷ [])) in
+      omega (arith, test)
+  weigh_before (stmt ∷ rest) cond = omega (arith, weigh_before rest cond)
+
+  has_before : (init rest : List TacStmt) → all_true (map has (init ++ rest)) ≡ true →
+      all_true (map has init) ≡ true
+  has_before [] rest is = refl
+  has_before (stmt ∷ init) rest is =
+      and_from _ _ (and_first (has stmt) (all_true (map has (init ++ rest))) is)
+      (has_before init rest (and_rest (has stmt) (all_true (map has (init ++ rest))) is))
+
+  loop_small : (head body next : List TacStmt) → Each Small head → Each Small body → Each Small next →
+      all_true (map has head) ≡ true → all_true (map has body) ≡ true → all_true (map has next) ≡ true →
+      (select_step frame places plan (map-TacStmt _ _ (select frame places plan) (tac.Loop head body next))).size ≤
+      2 + total (map stmt_weight head) + total (map stmt_weight body) + total (map stmt_weight next)
+  loop_small head body next hh hb hn h b n =
+      turning_by frame places plan (λ piece. piece.size ≤
+      2 + total (map stmt_weight head) + total (map stmt_weight body) + total (map stmt_weight next)) head
+      (select_all frame places plan body) (select_all frame places plan next)
+      (omega (arith, row_small head hh h, row_small body hb b, row_small next hn n))
+      (λ cond near t.
+      let its : all_true (map has (t.init ++ (test_stmt cond ∷ []))) ≡ true =
+      subst (λ stmts. all_true (map has stmts) ≡ true) t.is h in
+      let heavy : total (map stmt_weight head) ≡ total (map stmt_weight (t.init ++ (test_stmt cond ∷ []))) =
+      ap (λ stmts. total (map stmt_weight stmts)) t.is in
+      omega (
+        arith,
+        heavy,
+        weigh_before t.init cond,
+        taken_few frame 5 (slice_get places cond),
+        row_small t.init (each_before frame places plan Small head t.init cond t.is hh)
+            (has_before t.init (test_stmt cond ∷ []) its),
+        row_small body hb b,
+        row_small next hn n,
+      ))
 
   layer_small : (layer : TacStmt-F TacStmt) → Inside Small layer →
       with_parts has_operands (map-TacStmt _ _ has layer) ≡ true →
@@ -498,12 +597,8 @@ module _ (frame : FrameTree) (places : List Place) (plan : Plan) where
       let b : Bool = all_true (map has body) in
       let n : Bool = all_true (map has next) in
       let rest : (b && (n && true)) ≡ true = and_rest (all_true (map has head)) (b && (n && true)) is in
-      omega (
-        arith,
-        row_small head h.0 (and_first (all_true (map has head)) (b && (n && true)) is),
-        row_small body h.1 (and_first b (n && true) rest),
-        row_small next h.2 (and_first n true (and_rest b (n && true) rest)),
-      )
+      loop_small head body next h.0 h.1 h.2 (and_first (all_true (map has head)) (b && (n && true)) is)
+      (and_first b (n && true) rest) (and_first n true (and_rest b (n && true) rest))
   layer_small tac.Break h is = omega arith
   layer_small tac.Continue h is = omega arith
   layer_small (tac.CallOwn dest function args) h is = own_few dest function args
@@ -584,7 +679,8 @@ module _ (frame : FrameTree) (places : List Place) (plan : Plan) where
 pub function_light : (frame : FrameTree) (places : List Place) (f : TacFnTree) → IsFunction f →
     length (code_of f places frame).instrs ≤ entry_weight f.params + weight f.body
 function_light frame places f h =
-    let lines : List Line = function_lines frame places (plan_of f near) f in
+    let plan : Plan = plan_of f (is_near f places frame) in
+    let lines : List Line = function_lines frame places plan f in
     let instrs : length (code_of f places frame).instrs ≡ length lines =
     length-map lines (λ (line : Line). line.instr) in
-    omega (arith, instrs, function_small frame places (plan_of f near) f h)
+    omega (arith, instrs, function_small frame places plan f h)
