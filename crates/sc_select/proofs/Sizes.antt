@@ -1,12 +1,15 @@
 -- Pieces have as many lines as they say.
-use Rattle.sc_select.specs.Selection.{Plan}
+use Rattle.sc_select.specs.Selection.{Plan, branch_back, rotated, testing}
 use Rattle.sc_select.proofs.Common.{Bool, Each, FrameTree, Inside, Line, List, Other, Piece, Place, TacStmt, TacStmt-F}
 use Rattle.sc_select.proofs.Common.{[], arith, choice, cycle, drop, everywhere, fold-roll-TacStmt, followed, in_order}
 use Rattle.sc_select.proofs.Common.{in_turn, joined, jump_back, jump_over, length, length-append, map, map-TacStmt}
 use Rattle.sc_select.proofs.Common.{plainly, refl, select, select_all, select_step, stmt_induction, straight, subst}
 use Rattle.sc_select.proofs.Common.{suc, sym, ℕ, ◌++◌, ◌+◌, ◌∷◌, ◌≡◌}
 use Rattle.sc_tac.specs.declared.stmt.TacStmt.TheOpen as tac
+use Rattle.sc_select.proofs.Common.{length-map, plain, take}
+use Rattle.sc_select.specs.Prelude.{first_scratch}
 use Rattle.sc_select.proofs.Joining.{fork_keeps, from_keeps}
+use Rattle.sc_select.proofs.Turning.{each_before, turning_by}
 
 pub record IsSized (piece : Piece) : Type 0 where
   pub sized : (to_break to_continue : ℕ) → length (piece.lines to_break to_continue) ≡ piece.size
@@ -43,6 +46,36 @@ module _ (frame : FrameTree) (places : List Place) (plan : Plan) where
         );
   }
 
+  testing_length : (cond lines : ℕ) →
+      length (testing frame places cond lines) ≡ suc (length (take frame places first_scratch cond))
+  testing_length cond lines =
+      let back : Line = branch_back frame places cond (lines + length (take frame places first_scratch cond)) in
+      omega (
+        arith,
+        length-append (plainly (take frame places first_scratch cond)) (back ∷ []),
+        length-map (take frame places first_scratch cond) plain,
+      )
+
+  rotated_sized : (cond : ℕ) (h b n : Piece) → IsSized h → IsSized b → IsSized n →
+      IsSized (rotated frame places cond h b n)
+  rotated_sized cond h b n hh hb hn = record {
+    sized = λ to_break to_continue.
+        let test : ℕ = suc (length (take frame places first_scratch cond)) in
+        let back : List Line = testing frame places cond (b.size + (n.size + h.size)) in
+        let last : List Line = h.lines test 0 ++ back in
+        let middle : List Line = n.lines (h.size + test) 0 ++ last in
+        omega (
+          arith,
+          length-append (b.lines (n.size + (h.size + test)) 0) middle,
+          length-append (n.lines (h.size + test) 0) last,
+          length-append (h.lines test 0) back,
+          testing_length cond (b.size + (n.size + h.size)),
+          hh.sized test 0,
+          hb.sized (n.size + (h.size + test)) 0,
+          hn.sized (h.size + test) 0,
+        );
+  }
+
   abbrev Sized : TacStmt → Type 0
   Sized stmt = IsSized (select frame places plan stmt)
 
@@ -51,7 +84,8 @@ module _ (frame : FrameTree) (places : List Place) (plan : Plan) where
       IsSized (in_turn (drop i (joined frame places Other (map (select frame places plan) stmts))))
   from_sized stmts h i =
       from_keeps frame places plan IsSized (record { sized = λ b c. refl }) (λ t o. record { sized = λ b c. refl })
-      (λ t l o w. record { sized = λ b c. refl }) (λ v o. record { sized = λ b c. refl }) followed_sized stmts h i
+      (λ t l o w. record { sized = λ b c. refl }) (λ v o. record { sized = λ b c. refl })
+      (λ l form. record { sized = λ b c. refl }) followed_sized stmts h i
 
   row_sized : (stmts : List TacStmt) → Each Sized stmts →
       IsSized (in_order frame places (map (select frame places plan) stmts))
@@ -68,10 +102,15 @@ module _ (frame : FrameTree) (places : List Place) (plan : Plan) where
   layer_sized (tac.Store place value) h = record { sized = λ b c. refl }
   layer_sized (tac.If cond first second) h =
       fork_keeps frame places IsSized (straight_sized []) (λ lines. straight_sized (jump_over lines ∷ []))
-      followed_sized
+      followed_sized (λ piece kind h. record { sized = h.sized })
       cond _ _ (straight_sized (plainly (choice frame places cond))) (row_sized first h.0) (row_sized second h.1)
   layer_sized (tac.Loop head body next) h =
-      cycle_sized _ _ _ (row_sized head h.0) (row_sized body h.1) (row_sized next h.2)
+      turning_by frame places plan IsSized head (in_order frame places (map (select frame places plan) body))
+      (in_order frame places (map (select frame places plan) next))
+      (cycle_sized _ _ _ (row_sized head h.0) (row_sized body h.1) (row_sized next h.2))
+      (λ cond near t.
+      rotated_sized cond _ _ _ (row_sized t.init (each_before frame places plan Sized head t.init cond t.is h.0))
+      (row_sized body h.1) (row_sized next h.2))
   layer_sized tac.Break h = record { sized = λ b c. refl }
   layer_sized tac.Continue h = record { sized = λ b c. refl }
   layer_sized (tac.CallOwn dest function args) h = record { sized = λ b c. refl }
