@@ -1,33 +1,36 @@
 -- The code of a function has at most one branch for each `If` and no EBREAK,
 -- and each field of its instructions is in the range of its form.
-use Rattle.sc_select.specs.Selection.{Plan}
+use Rattle.sc_select.specs.Prelude.{Kind, Piece, Plan, applied, branch_back, branch_reach, is_near, kind_of_fork}
+use Rattle.sc_select.specs.Prelude.{plan_of, role_behind, role_of_return, rotated, short_return, testing}
+use Rattle.sc_select.specs.declared.roles.Role.TheVariants.{Applies, Loads, Operates, Returns, Stores}
+use Rattle.sc_select.proofs.Joining.{turning_role}
+use Rattle.sc_select.proofs.Turning.{each_before, test_stmt, turning_by}
 use Rattle.sc_emit.proofs.Common.{Addi, All, All-cons, All-nil, Andi, ArePlaces, Bne, Bool, Branch, Each, Ebreak, Entry}
 use Rattle.sc_emit.proofs.Common.{Export, Fits, FrameTree, Inside, Instr, IsBranchOffset, IsImmediate, IsInstr}
 use Rattle.sc_emit.proofs.Common.{IsJumpOffset, IsReg, IsUpper, Jal, Jalr, Line, List, Load, Lw, Main, None, Op, OpImm}
 use Rattle.sc_emit.proofs.Common.{Option, Ori, Other, Place, Places, Register, Role, Sets, Shift, ShortForm, Slot, Some}
 use Rattle.sc_emit.proofs.Common.{Store, Sw, TacFnTree, TacOp, TacStmt, TacStmt-F, Xori, [], a0, a7, added_by}
-use Rattle.sc_emit.proofs.Common.{address_scratch, all_true, and_first, and_from, and_rest, arith, at_hand, between}
-use Rattle.sc_emit.proofs.Common.{between_keeps, binary_code, binary_short, branch_step, branches, brought, bytes_ahead}
-use Rattle.sc_emit.proofs.Common.{bytes_of, call_cross, call_own, choice, choosing, closing, code_branches, code_of}
-use Rattle.sc_emit.proofs.Common.{cond, copied, count_by, cycle, ending_past, entrance, environment_call, everywhere}
-use Rattle.sc_emit.proofs.Common.{false, first_scratch, fold-TacStmt, fold-roll-TacStmt, followed, fork, fork_keeps}
-use Rattle.sc_emit.proofs.Common.{frame_left, frame_taken, function_lines, has_known_jumps, has_no_ebreak}
-use Rattle.sc_emit.proofs.Common.{if◌then◌else◌, in_order, in_turn, int_le, is_branch, is_ebreak, is_known_jump}
-use Rattle.sc_emit.proofs.Common.{is_place, is_short, is_unsigned, joined, jump_back, jump_over, keep, kept, leb-true}
-use Rattle.sc_emit.proofs.Common.{length, less_than, list_all, list_all-append, list_all-map, list_all_along, load_from}
-use Rattle.sc_emit.proofs.Common.{load_word, loading, loop_begins, lower_part, ltb-true, map, map-TacStmt, most_lines}
-use Rattle.sc_emit.proofs.Common.{most_params, moved_by, mul_word, nat_le, nat_lt, needed_in, neg_ℤ, negsuc, not}
-use Rattle.sc_emit.proofs.Common.{object_offset, object_read, object_store, op_code, operand, operation, order_keeps}
-use Rattle.sc_emit.proofs.Common.{pass, passes_few, past, place_of, place_of_global, plain, plainly, pos, put, ra}
-use Rattle.sc_emit.proofs.Common.{receive, refl, register_count, register_of, register_there, result_register, return}
-use Rattle.sc_emit.proofs.Common.{role_first, role_of_load, role_of_operation, role_of_store, rules, second_operand}
-use Rattle.sc_emit.proofs.Common.{second_scratch, select, select_all, select_step, short, short_code, short_form}
-use Rattle.sc_emit.proofs.Common.{short_operation, signed_of, skipping, slice_get, slot_offset, sp, stmt_branches}
-use Rattle.sc_emit.proofs.Common.{stmt_induction, store_arguments, store_to, store_word, straight, straightly, sub_word}
-use Rattle.sc_emit.proofs.Common.{subst, suc, sum_by-append, sym, take, take_second, taken, total, true, unary_code}
-use Rattle.sc_emit.proofs.Common.{upper_part, with_parts, word_of_constant, zero, ℕ, ℤ, ◌%◌, ◌&&◌, ◌*◌, ◌++◌, ◌+◌, ◌<◌}
-use Rattle.sc_emit.proofs.Common.{◌==◌, ◌^◌, ◌∙◌, ◌∷◌, ◌≡◌, ◌≤ℤ◌, ◌≤◌}
-use Rattle.sc_select.specs.Prelude.{Piece}
+use Rattle.sc_emit.proofs.Common.{address_scratch, all_true, and_first, and_from, and_rest, arith, as_one, at_hand}
+use Rattle.sc_emit.proofs.Common.{between, between_keeps, binary_code, binary_short, branch_step, branches, brought}
+use Rattle.sc_emit.proofs.Common.{bytes_ahead, bytes_of, call_cross, call_own, choice, choosing, closing, code_branches}
+use Rattle.sc_emit.proofs.Common.{code_of, cond, copied, count_by, cycle, ending_past, entrance, environment_call}
+use Rattle.sc_emit.proofs.Common.{everywhere, false, first_scratch, fold-TacStmt, fold-roll-TacStmt, followed, fork}
+use Rattle.sc_emit.proofs.Common.{fork_keeps, fork_role, frame_left, frame_taken, function_lines, has_known_jumps}
+use Rattle.sc_emit.proofs.Common.{has_no_ebreak, if◌then◌else◌, in_order, in_turn, int_le, is_branch, is_ebreak}
+use Rattle.sc_emit.proofs.Common.{is_known_jump, is_place, is_short, is_unsigned, joined, joins, jump_back, jump_over}
+use Rattle.sc_emit.proofs.Common.{keep, kept, leb-true, length, less_than, list_all, list_all-append, list_all-map}
+use Rattle.sc_emit.proofs.Common.{list_all_along, load_from, load_word, loading, loop_begins, lower_part, ltb-true, map}
+use Rattle.sc_emit.proofs.Common.{map-TacStmt, most_lines, most_params, moved_by, mul_word, nat_le, nat_lt, neg_ℤ}
+use Rattle.sc_emit.proofs.Common.{negsuc, not, nothing, object_offset, object_read, object_store, op_code, operand}
+use Rattle.sc_emit.proofs.Common.{operation, pass, passes_few, past, place_of, place_of_global, plain, plainly, pos}
+use Rattle.sc_emit.proofs.Common.{put, ra, receive, refl, register_count, register_of, register_there, result_register}
+use Rattle.sc_emit.proofs.Common.{return, role_first, role_of_load, role_of_operation, role_of_store, rules}
+use Rattle.sc_emit.proofs.Common.{second_operand, second_scratch, select, select_all, select_step, short, short_code}
+use Rattle.sc_emit.proofs.Common.{short_form, short_operation, signed_of, skipping, slice_get, slot_offset, sp}
+use Rattle.sc_emit.proofs.Common.{stmt_branches, stmt_induction, store_arguments, store_to, store_word, straight}
+use Rattle.sc_emit.proofs.Common.{straightly, sub_word, subst, suc, sum_by-append, sym, take, take_second, taken, total}
+use Rattle.sc_emit.proofs.Common.{true, unary_code, upper_part, with_parts, word_of_constant, zero, ℕ, ℤ, ◌%◌, ◌&&◌}
+use Rattle.sc_emit.proofs.Common.{◌*◌, ◌++◌, ◌+◌, ◌<◌, ◌==◌, ◌^◌, ◌∙◌, ◌∷◌, ◌≡◌, ◌≤ℤ◌, ◌≤◌}
 use Rattle.rv_code.specs.declared.instr.ShiftOp.TheVariants.{Slli}
 use Rattle.rv_code.specs.declared.instr.OpOp.TheVariants.{Mul}
 use Rattle.rv_code.specs.declared.instr.OpImmOp.{OpImmOp}
@@ -139,6 +142,10 @@ op_straight rd left right (tacop.PointerDifference cells) =
     both (loading address_scratch (bytes_of cells)) _ (loading_straight address_scratch (bytes_of cells)) refl
 op_straight rd left right (tacop.PointerCompare o) = binary_straight rd left right true o
 
+short_code_straight : (rd rs : ℕ) (form : Option ShortForm) → Straight (short_code rd rs form)
+short_code_straight rd rs None = refl
+short_code_straight rd rs (Some form) = refl
+
 -- PLACES
 module _ (frame : FrameTree) where
   pub taken_straight : (scratch : ℕ) (place : Option Place) → Straight (taken frame scratch place)
@@ -211,12 +218,8 @@ module _ (frame : FrameTree) (places : List Place) where
       let code : List Instr =
       short_code (result_register frame places dest) (operand frame places first_scratch left) form in
       both (take frame places first_scratch left ++ code) (keep frame places dest)
-      (both (take frame places first_scratch left) code (take_straight first_scratch left) (code_straight _ _ form))
-      (keep_straight dest)
-    where
-      code_straight : (rd rs : ℕ) (form : Option ShortForm) → Straight (short_code rd rs form)
-      code_straight rd rs None = refl
-      code_straight rd rs (Some form) = refl
+      (both (take frame places first_scratch left) code (take_straight first_scratch left)
+      (short_code_straight _ _ form)) (keep_straight dest)
 
   pub load_from_straight : (dest place : ℕ) → Straight (load_from frame places dest place)
   load_from_straight dest place =
@@ -261,6 +264,13 @@ module _ (frame : FrameTree) (places : List Place) where
   return_straight None = left_frame_straight frame.bytes
   return_straight (Some t) =
       both (brought frame a0 (place_of frame places t)) _ (brought_straight frame a0 (place_of frame places t))
+      (left_frame_straight frame.bytes)
+
+  pub short_return_straight : (left : ℕ) (form : ShortForm) → Straight (short_return frame places left form)
+  short_return_straight left form =
+      let code : List Instr = short_code a0 (operand frame places first_scratch left) (Some form) in
+      both (take frame places first_scratch left ++ code) (frame_left frame.bytes)
+      (both (take frame places first_scratch left) code (take_straight first_scratch left) refl)
       (left_frame_straight frame.bytes)
 
   pub loaded_straight : (dest word : ℕ) →
@@ -344,6 +354,13 @@ one_branch (i ∷ is) rs h =
     by : (a b : ℕ) → a ≡ 0 → b ≤ 1 → a + b ≤ 1
     by a b h k = omega (arith, h, k)
 
+at_most_one : (i : Instr) → one_if_branch i ≤ 1
+at_most_one i = by (is_branch i)
+  where
+    by : (b : Bool) → cond b 1 0 ≤ 1
+    by true = omega arith
+    by false = omega arith
+
 -- as many as the instructions have
 count_is : (lines : List Line) → count_by {X = Instr} is_branch (map (λ line. line.instr) lines) ≡ count lines
 count_is [] = refl
@@ -396,7 +413,8 @@ module _ (test : Line → Bool) (mild : IsMild test) (frame : FrameTree) (places
   fork_passes cond first second he hf =
       fork_keeps frame places (PassesAll test) (record { passes = λ b c. refl })
       (λ lines. record { passes = λ b c. and_from (test (jump_over lines)) true (mild.mild _ refl) refl })
-      (followed_passes test) cond first second (record { passes = λ b c. choice_passes cond }) he hf
+      (followed_passes test) (λ piece kind h. record { passes = h.passes }) cond first second
+      (record { passes = λ b c. choice_passes cond }) he hf
 
   pub cycle_passes : (h b n : Piece) → PassesAll test h → PassesAll test b → PassesAll test n →
       PassesAll test (cycle frame places h b n)
@@ -411,6 +429,39 @@ module _ (test : Line → Bool) (mild : IsMild test) (frame : FrameTree) (places
         (all_append test (b.lines (suc n.size) 0) last (hb.passes (suc n.size) 0)
         (all_append test (n.lines 1 0) back (hn.passes 1 0)
         (and_from (test (jump_back (h.size + (b.size + n.size)))) true (mild.mild _ refl) refl))));
+  }
+
+  back_passes : (cond lines : ℕ) → test (branch_back frame places cond lines) ≡ true
+  back_passes cond lines = by (nat_lt lines branch_reach)
+    where
+      by : (b : Bool) → test
+          (if b then plain (Branch Bne (operand frame places first_scratch cond) 0 (neg_ℤ (pos (4 * lines))))
+          else jump_back lines) ≡ true
+      by true = mild.mild _ refl
+      by false = mild.mild _ refl
+
+  testing_passes : (cond lines : ℕ) → list_all test (testing frame places cond lines) ≡ true
+  testing_passes cond lines =
+      let taking : List Instr = take frame places first_scratch cond in
+      let back : Line = branch_back frame places cond (lines + length taking) in
+      all_append test (plainly taking) (back ∷ [])
+      (plainly_passes taking (take_straight frame places first_scratch cond))
+      (and_from (test back) true (back_passes cond (lines + length taking)) refl)
+
+  pub rotated_passes : (cond : ℕ) (h b n : Piece) → PassesAll test h → PassesAll test b → PassesAll test n →
+      PassesAll test (rotated frame places cond h b n)
+  rotated_passes cond h b n hh hb hn = record {
+    passes = λ to_break to_continue.
+        let size : ℕ = suc (length (take frame places first_scratch cond)) in
+        let back : List Line = testing frame places cond (b.size + (n.size + h.size)) in
+        let last : List Line = h.lines size 0 ++ back in
+        let middle : List Line = n.lines (h.size + size) 0 ++ last in
+        let body : List Line = b.lines (n.size + (h.size + size)) 0 in
+        and_from (test (jump_over (b.size + n.size))) (list_all test (body ++ middle)) (mild.mild _ refl)
+        (all_append test body middle (hb.passes (n.size + (h.size + size)) 0)
+        (all_append test (n.lines (h.size + size) 0) last (hn.passes (h.size + size) 0)
+        (all_append test (h.lines size 0) back (hh.passes size 0)
+        (testing_passes cond (b.size + (n.size + h.size))))));
   }
 
 -- BRANCHES AND EBREAKS
@@ -432,6 +483,10 @@ straight_shaped lines h = record {
     passes = λ b c. list_all_along is_straight_line is_sound_line (λ line h. straight_sound line.instr h) lines h;
   };
 }
+
+-- at most so many are at most more
+weaker : (few most : ℕ) (piece : Piece) → few ≤ most → IsShaped few piece → IsShaped most piece
+weaker few most piece l h = record { few = λ b c. omega (arith, l, h.few b c); sound = h.sound }
 
 followed_shaped : (n m : ℕ) (e f : Piece) → IsShaped n e → IsShaped m f → IsShaped (n + m) (followed e f)
 followed_shaped n m e f he hf = record {
@@ -509,6 +564,56 @@ module _ (frame : FrameTree) (places : List Place) (plan : Plan) where
     sound = cycle_passes is_sound_line sound_mild frame places h b e hh.sound hb.sound he.sound;
   }
 
+  testing_counts : (cond lines : ℕ) → count (testing frame places cond lines) ≤ 1
+  testing_counts cond lines =
+      let taking : List Instr = take frame places first_scratch cond in
+      let back : Line = branch_back frame places cond (lines + length taking) in
+      omega (
+        arith,
+        count_append (plainly taking) (back ∷ []),
+        straight_count (plainly taking) (plainly_straight taking (take_straight frame places first_scratch cond)),
+        at_most_one back.instr,
+      )
+
+  rotated_shaped : (cond k n m : ℕ) (h b e : Piece) → IsShaped k h → IsShaped n b → IsShaped m e →
+      IsShaped (suc k + (n + (m + 0))) (rotated frame places cond h b e)
+  rotated_shaped cond k n m h b e hh hb he = record {
+    few = λ to_break to_continue.
+        let size : ℕ = suc (length (take frame places first_scratch cond)) in
+        let back : List Line = testing frame places cond (b.size + (e.size + h.size)) in
+        let last : List Line = h.lines size 0 ++ back in
+        let middle : List Line = e.lines (h.size + size) 0 ++ last in
+        omega (
+          arith,
+          count_append (b.lines (e.size + (h.size + size)) 0) middle,
+          count_append (e.lines (h.size + size) 0) last,
+          count_append (h.lines size 0) back,
+          testing_counts cond (b.size + (e.size + h.size)),
+          hh.few size 0,
+          hb.few (e.size + (h.size + size)) 0,
+          he.few (h.size + size) 0,
+        );
+    sound = rotated_passes is_sound_line sound_mild frame places cond h b e hh.sound hb.sound he.sound;
+  }
+
+  -- a test has a branch
+  test_branches : (cond : ℕ) → 1 ≤ stmt_branches (test_stmt cond)
+  test_branches cond =
+      let layer : TacStmt-F TacStmt = tac.If cond [] (roll-TacStmt tac.Break ∷ []) in
+      subst (λ n. 1 ≤ n) (sym (fold-roll-TacStmt ℕ branch_step layer)) (omega arith)
+
+  -- so statements that end with one have more than those before it
+  more_branches : (cond : ℕ) (init : List TacStmt) →
+      suc (total (map stmt_branches init)) ≤ total (map stmt_branches (init ++ (test_stmt cond ∷ [])))
+  more_branches cond [] = omega (arith, test_branches cond)
+  more_branches cond (stmt ∷ rest) = omega (arith, more_branches cond rest)
+
+  tested_branches : (cond : ℕ) (head init : List TacStmt) → head ≡ init ++ (test_stmt cond ∷ []) →
+      suc (total (map stmt_branches init)) ≤ total (map stmt_branches head)
+  tested_branches cond head init is =
+      subst (λ stmts. suc (total (map stmt_branches init)) ≤ total (map stmt_branches stmts)) (sym is)
+      (more_branches cond init)
+
   abbrev Shaped : TacStmt → Type 0
   Shaped stmt = IsShaped (stmt_branches stmt) (select frame places plan stmt)
 
@@ -522,7 +627,7 @@ module _ (frame : FrameTree) (places : List Place) (plan : Plan) where
   in_role most role piece h = record { few = h.few; sound = record { passes = h.sound.passes } }
 
   any_more : (most : ℕ) (piece : Piece) → IsShaped 0 piece → IsShaped most piece
-  any_more most piece h = record { few = λ b c. omega (arith, h.few b c); sound = h.sound }
+  any_more most piece h = weaker 0 most piece (omega arith) h
 
   turn_shaped : (before : Role) (stmts : List TacStmt) → Each Shaped stmts →
       IsShaped (total (map stmt_branches stmts))
@@ -532,7 +637,8 @@ module _ (frame : FrameTree) (places : List Place) (plan : Plan) where
       let behind : Role = role_first (map (select frame places plan) rest) in
       followed_shaped (stmt_branches stmt) (total (map stmt_branches rest))
       (between frame places before (select frame places plan stmt) behind)
-      (in_turn (joined frame places (select frame places plan stmt).role (map (select frame places plan) rest)))
+      (in_turn (joined frame places (role_behind before (select frame places plan stmt).role) (map (select frame places
+      plan) rest)))
       (between_keeps frame places plan (IsShaped (stmt_branches stmt))
       (any_more (stmt_branches stmt) (straight []) (straight_shaped [] refl))
       (λ t o. any_more (stmt_branches stmt) (straightly frame places (object_read frame places t o))
@@ -542,12 +648,35 @@ module _ (frame : FrameTree) (places : List Place) (plan : Plan) where
       (plainly_shaped (short_operation frame places t l (short_form o w))
       (short_straight frame places t l (short_form o w))))
       (λ v o. any_more (stmt_branches stmt) (straightly frame places (object_store frame places v o))
-      (plainly_shaped (object_store frame places v o) (object_store_straight frame places v o))) before behind
-      (select frame places plan stmt) h.0) (turn_shaped (select frame places plan stmt).role rest h.1)
+      (plainly_shaped (object_store frame places v o) (object_store_straight frame places v o)))
+      (λ l form. any_more (stmt_branches stmt) (straightly frame places (short_return frame places l form))
+      (plainly_shaped (short_return frame places l form) (short_return_straight frame places l form))) before behind
+      (select frame places plan stmt) h.0) (turn_shaped (role_behind before (select frame places plan stmt).role) rest
+      h.1)
 
   row_shaped : (stmts : List TacStmt) → Each Shaped stmts →
       IsShaped (total (map stmt_branches stmts)) (in_order frame places (map (select frame places plan) stmts))
   row_shaped stmts h = turn_shaped Other stmts h
+
+  loop_shaped : (head body next : List TacStmt) → Each Shaped head → Each Shaped body → Each Shaped next →
+      IsShaped (branch_step (map-TacStmt _ _ stmt_branches (tac.Loop head body next)))
+      (select_step frame places plan (map-TacStmt _ _ (select frame places plan) (tac.Loop head body next)))
+  loop_shaped head body next hh hb hn =
+      let in_head : ℕ = total (map stmt_branches head) in
+      let in_body : ℕ = total (map stmt_branches body) in
+      let in_next : ℕ = total (map stmt_branches next) in
+      let second : Piece = select_all frame places plan body in
+      let third : Piece = select_all frame places plan next in
+      turning_by frame places plan (IsShaped (in_head + (in_body + (in_next + 0)))) head second third
+      (cycle_shaped in_head in_body in_next (select_all frame places plan head) second third (row_shaped head hh)
+      (row_shaped body hb) (row_shaped next hn)) (λ cond near t.
+      let in_init : ℕ = total (map stmt_branches t.init) in
+      let first : Piece = select_all frame places plan t.init in
+      weaker (suc in_init + (in_body + (in_next + 0))) (in_head + (in_body + (in_next + 0)))
+      (rotated frame places cond first second third) (omega (arith, tested_branches cond head t.init t.is))
+      (rotated_shaped cond in_init in_body in_next first second third
+      (row_shaped t.init (each_before frame places plan Shaped head t.init cond t.is hh)) (row_shaped body hb)
+      (row_shaped next hn)))
 
   layer_shaped : (layer : TacStmt-F TacStmt) → Inside Shaped layer →
       IsShaped (branch_step (map-TacStmt _ _ stmt_branches layer))
@@ -568,11 +697,11 @@ module _ (frame : FrameTree) (places : List Place) (plan : Plan) where
       in_role 0 (role_of_load frame places dest place) _
       (plainly_shaped _ (load_from_straight frame places dest place))
   layer_shaped (tac.Store place value) h =
-      in_role 0 (role_of_store plan.needed place value) _ (plainly_shaped _ (store_to_straight frame places place value))
+      in_role 0 (role_of_store plan.needed place value) _
+      (plainly_shaped _ (store_to_straight frame places place value))
   layer_shaped (tac.If cond first second) h =
       fork_shaped cond _ _ _ _ (row_shaped first h.0) (row_shaped second h.1)
-  layer_shaped (tac.Loop head body next) h =
-      cycle_shaped _ _ _ _ _ _ (row_shaped head h.0) (row_shaped body h.1) (row_shaped next h.2)
+  layer_shaped (tac.Loop head body next) h = loop_shaped head body next h.0 h.1 h.2
   layer_shaped tac.Break h = record { few = λ b c. omega arith; sound = record { passes = λ b c. refl } }
   layer_shaped tac.Continue h = record { few = λ b c. omega arith; sound = record { passes = λ b c. refl } }
   layer_shaped (tac.CallOwn dest function args) h =
@@ -582,7 +711,8 @@ module _ (frame : FrameTree) (places : List Place) (plan : Plan) where
   layer_shaped (tac.Input dest) h =
       plainly_shaped (environment_call 1 ++ receive frame places dest) (receive_straight frame places dest)
   layer_shaped (tac.Output value) h = plainly_shaped _ (output_straight frame places value)
-  layer_shaped (tac.Return value) h = plainly_shaped _ (return_straight frame places value)
+  layer_shaped (tac.Return value) h =
+      in_role 0 (role_of_return value) _ (plainly_shaped _ (return_straight frame places value))
 
   stmt_shaped : (stmt : TacStmt) → Shaped stmt
   stmt_shaped = stmt_induction Shaped (λ layer h.
@@ -626,19 +756,15 @@ module _ (frame : FrameTree) (places : List Place) (plan : Plan) where
 pub few_branches : (f : TacFnTree) (places : List Place) (frame : FrameTree) →
     code_branches (code_of f places frame) ≤ branches f.body
 few_branches f places frame =
-    omega (
-      arith,
-      count_is (function_lines frame places (plan_of f near) f),
-      function_count frame places (needed_in
-          f.body) f,
-    )
+    let plan : Plan = plan_of f (is_near f places frame) in
+    omega (arith, count_is (function_lines frame places plan f), function_count frame places plan f)
 
 all_sound : (f : TacFnTree) (places : List Place) (frame : FrameTree) →
     list_all {X = Instr} is_sound (code_of f places frame).instrs ≡ true
 all_sound f places frame =
-    list_all-map is_sound (λ line. line.instr) (function_lines frame places (plan_of f near) f) ∙
-    function_passes frame places (plan_of f near) is_sound_line sound_mild f
-    (body_shaped frame places (plan_of f near) f.body).sound
+    let plan : Plan = plan_of f (is_near f places frame) in
+    list_all-map is_sound (λ line. line.instr) (function_lines frame places plan f) ∙
+    function_passes frame places plan is_sound_line sound_mild f (body_shaped frame places plan f.body).sound
 
 pub no_ebreak : (f : TacFnTree) (places : List Place) (frame : FrameTree) →
     has_no_ebreak (code_of f places frame) ≡ true
@@ -730,6 +856,13 @@ back_by (suc bytes) h e = record { least = omega (arith, ints); greatest = searc
 back_fits : (lines : ℕ) → lines ≤ 262144 → IsJumpOffset (neg_ℤ (pos (4 * lines)))
 back_fits lines h = back_by (4 * lines) (omega arith) (omega arith)
 
+branch_by : (bytes : ℕ) → bytes ≤ 4096 → bytes % 2 ≡ 0 → IsBranchOffset (neg_ℤ (pos bytes))
+branch_by zero h e = record { least = search rules; greatest = search rules; even = refl }
+branch_by (suc bytes) h e = record { least = omega (arith, ints); greatest = search rules; even = omega arith }
+
+branch_back_fits : (lines : ℕ) → lines < branch_reach → IsBranchOffset (neg_ℤ (pos (4 * lines)))
+branch_back_fits lines h = branch_by (4 * lines) (omega (arith, h)) (omega arith)
+
 branch_fits : IsBranchOffset (pos 8)
 branch_fits = record { least = search rules; greatest = omega (arith, ints); even = refl }
 
@@ -785,6 +918,11 @@ short_form_instrs rd rs tacop.PointerNot word h k = tt
 short_form_instrs rd rs (tacop.PointerMember offset) word h k = tt
 short_form_instrs rd rs (tacop.PointerDifference cells) word h k = tt
 short_form_instrs rd rs (tacop.PointerCompare o) word h k = tt
+
+form_fits : (o : TacOp) (word : ℕ) (form : ShortForm) → short_form o word ≡ Some form → IsImmediate form.imm
+form_fits o word form is =
+    let codes : AreInstrs (short_code 0 0 (Some form)) =
+    subst (λ form. AreInstrs (short_code 0 0 form)) is (short_form_instrs 0 0 o word x0_there x0_there) in codes.0.2
 
 moved_instrs : (rd rs bytes : ℕ) → IsReg rd → IsReg rs → AreInstrs (moved_by rd rs bytes)
 moved_instrs rd rs bytes h k =
@@ -964,6 +1102,26 @@ followed_encodable e f he hf = record {
       (hf.encodable b c (omega (arith, hb)) (omega (arith, hc)));
 }
 
+-- a form that a role names is in range
+abbrev FitsForm : Role → Type 0
+FitsForm (Applies temp left form) = IsImmediate form.imm
+FitsForm _ = Unit {0}
+
+applied_fits : (temp left word : ℕ) (o : TacOp) → FitsForm (applied temp left o (short_form o word))
+applied_fits temp left word o = by (short_form o word) refl
+  where
+    by : (form : Option ShortForm) → short_form o word ≡ form → FitsForm (applied temp left o form)
+    by None is = tt
+    by (Some form) is = form_fits o word form is
+
+behind_fits : (before own : Role) → FitsForm before → FitsForm own → FitsForm (role_behind before own)
+behind_fits (Sets temp word) (Operates other left o) h k = by (temp == other)
+  where
+    by : (b : Bool) → FitsForm (if b then applied other left o (short_form o word) else Operates other left o)
+    by true = applied_fits other left word o
+    by false = tt
+behind_fits before own h k = k
+
 module _ (frame : FrameTree) (places : List Place) (plan : Plan) (there : (t : ℕ) →
     IsThere (slice_get places t)) where
   operand_there : (scratch t : ℕ) → IsReg scratch → IsReg (operand frame places scratch t)
@@ -1011,6 +1169,14 @@ module _ (frame : FrameTree) (places : List Place) (plan : Plan) (there : (t : �
       both_instrs (take frame places first_scratch left ++ code) (keep frame places dest)
       (both_instrs (take frame places first_scratch left) code (first_taken left)
       (short_form_instrs rd rs o word (first_at dest) (first_at left))) (keep_instrs dest)
+
+  short_return_instrs : (left : ℕ) (form : ShortForm) → IsImmediate form.imm →
+      AreInstrs (short_return frame places left form)
+  short_return_instrs left form fits =
+      let code : List Instr = short_code a0 (operand frame places first_scratch left) (Some form) in
+      both_instrs (take frame places first_scratch left ++ code) (frame_left frame.bytes)
+      (both_instrs (take frame places first_scratch left) code (first_taken left)
+      ((a0_there, first_at left, fits), tt)) (left_frame_instrs frame.bytes)
 
   object_store_instrs : (value object : ℕ) → AreInstrs (object_store frame places value object)
   object_store_instrs value object =
@@ -1154,9 +1320,17 @@ module _ (frame : FrameTree) (places : List Place) (plan : Plan) (there : (t : �
         );
   }
 
+  -- what a piece is to its neighbours changes nothing
+  of_role : (role : Role) (piece : Piece) → IsEncodable piece → IsEncodable (record piece { role = role })
+  of_role role piece h = record { encodable = h.encodable }
+
+  of_kind : (kind : Kind) (piece : Piece) → IsEncodable piece → IsEncodable (record piece { kind = kind })
+  of_kind kind piece h = record { encodable = h.encodable }
+
   fork_encodable : (cond : ℕ) (first second : List Piece) → IsEncodable (in_order frame places first) →
       IsEncodable (in_order frame places second) → IsEncodable (fork frame places cond first second)
-  fork_encodable cond first second he hf = by (length first == 0 && (in_order frame places second).size == 1)
+  fork_encodable cond first second he hf =
+      of_kind (kind_of_fork cond first second) _ (by (length first == 0 && (in_order frame places second).size == 1))
     where
       by : (found : Bool) → IsEncodable (if found then skipping frame places cond (in_order frame places second)
           else choosing frame places cond (in_order frame places first) (in_order frame places second))
@@ -1181,32 +1355,142 @@ module _ (frame : FrameTree) (places : List Place) (plan : Plan) (there : (t : �
         );
   }
 
+  back_instr : (cond lines : ℕ) → lines ≤ 262144 → IsInstr (branch_back frame places cond lines).instr
+  back_instr cond lines h = by (nat_lt lines branch_reach) refl
+    where
+      by : (b : Bool) → nat_lt lines branch_reach ≡ b → IsInstr
+          (if b then plain (Branch Bne (operand frame places first_scratch cond) 0 (neg_ℤ (pos (4 * lines))))
+          else jump_back lines).instr
+      by true near = (first_at cond, x0_there, branch_back_fits lines (ltb-true lines branch_reach near))
+      by false near = (x0_there, back_fits lines h)
+
+  testing_instrs : (cond lines : ℕ) → lines + length (take frame places first_scratch cond) ≤ 262144 →
+      AreInstrLines (testing frame places cond lines)
+  testing_instrs cond lines h =
+      let taking : List Instr = take frame places first_scratch cond in
+      both_instr_lines (plainly taking) _ (plainly_instrs taking (first_taken cond))
+      (back_instr cond (lines + length taking) h, tt)
+
+  rotated_encodable : (cond : ℕ) (h b n : Piece) → IsEncodable h → IsEncodable b → IsEncodable n →
+      IsEncodable (rotated frame places cond h b n)
+  rotated_encodable cond h b n eh eb en = record {
+    encodable = λ to_break to_continue hb hc.
+        let size : ℕ = suc (length (take frame places first_scratch cond)) in
+        let back : List Line = testing frame places cond (b.size + (n.size + h.size)) in
+        let last : List Line = h.lines size 0 ++ back in
+        let middle : List Line = n.lines (h.size + size) 0 ++ last in (
+          (x0_there, over_fits (b.size + n.size) (omega (arith, hb))),
+          both_instr_lines (b.lines (n.size + (h.size + size)) 0) middle
+              (eb.encodable (n.size + (h.size + size)) 0 (omega (arith, hb)) (omega (arith, hb)))
+              (both_instr_lines (n.lines (h.size + size) 0) last
+              (en.encodable (h.size + size) 0 (omega (arith, hb)) (omega (arith, hb)))
+              (both_instr_lines (h.lines size 0) back (eh.encodable size 0 (omega (arith, hb)) (omega (arith, hb)))
+              (testing_instrs cond (b.size + (n.size + h.size)) (omega (arith, hb))))),
+        );
+  }
+
   abbrev few_inside : TacStmt → Bool
   few_inside = fold-TacStmt Bool (with_parts passes_few)
 
   abbrev Encodable : TacStmt → Type 0
   Encodable stmt = few_inside stmt ≡ true → IsEncodable (select frame places plan stmt)
 
-  row_encodable : (stmts : List TacStmt) → Each Encodable stmts → all_true (map few_inside stmts) ≡ true →
-      IsEncodable (in_order frame places (map (select frame places plan) stmts))
-  row_encodable stmts h all =
-      order_keeps frame places plan IsEncodable (straight_encodable [] tt)
-      (λ t o. plainly_encodable (object_read frame places t o) (object_read_instrs t o))
-      (λ t l o w. plainly_encodable (short_operation frame places t l (short_form o w))
-      (short_operation_instrs t l o w))
-      (λ v o. plainly_encodable (object_store frame places v o) (object_store_instrs v o)) followed_encodable stmts
-      (each_encodable stmts h all)
+  -- the role of a statement by itself names none
+  layer_fits : (layer : TacStmt-F TacStmt) →
+      FitsForm (select_step frame places plan (map-TacStmt _ _ (select frame places plan) layer)).role
+  layer_fits (tac.Op dest o left None) = tt
+  layer_fits (tac.Op dest o left (Some right)) = by (dest == right && not (left == dest))
     where
-      each_encodable : (stmts : List TacStmt) → Each Encodable stmts → all_true (map few_inside stmts) ≡ true →
-          Each (λ stmt. IsEncodable (select frame places plan stmt)) stmts
-      each_encodable [] h all = tt
-      each_encodable (stmt ∷ rest) h all = (
-        h.0 (and_first (few_inside stmt) (all_true (map few_inside rest)) all),
-        each_encodable rest h.1 (and_rest (few_inside stmt) (all_true (map few_inside rest)) all),
-      )
+      by : (b : Bool) → FitsForm (if b then Operates dest left o else Other)
+      by true = tt
+      by false = tt
+  layer_fits (tac.Load dest place pointer) = by (dest == place)
+    where
+      by : (b : Bool) → FitsForm (if b then Loads dest else Other)
+      by true = tt
+      by false = tt
+  layer_fits (tac.Store place value) = by (plan.needed place)
+    where
+      by : (b : Bool) → FitsForm (if b then Other else Stores place value)
+      by true = tt
+      by false = tt
+  layer_fits (tac.If cond first second) =
+      subst FitsForm
+      (sym (fork_role frame places cond (map (select frame places plan) first) (map (select frame places plan) second)))
+      tt
+  layer_fits (tac.Loop head body next) =
+      subst FitsForm
+      (sym (turning_role frame places _ (map (select frame places plan) head) (select_all frame places plan body)
+      (select_all frame places plan next))) tt
+  layer_fits (tac.Return None) = tt
+  layer_fits (tac.Return (Some temp)) = tt
+  layer_fits _ = tt
 
-  of_role : (role : Role) (piece : Piece) → IsEncodable piece → IsEncodable (record piece { role = role })
-  of_role role piece h = record { encodable = h.encodable }
+  stmt_fits : (stmt : TacStmt) → FitsForm (select frame places plan stmt).role
+  stmt_fits = stmt_induction (λ stmt. FitsForm (select frame places plan stmt).role) (λ layer inside.
+      subst (λ piece. FitsForm piece.role) (sym (fold-roll-TacStmt Piece (select_step frame places plan) layer))
+      (layer_fits layer))
+
+  as_one_encodable : (first second : Role) → FitsForm first → IsEncodable (as_one frame places first second)
+  as_one_encodable (Places temp object) (Loads other) fits =
+      plainly_encodable (object_read frame places temp object) (object_read_instrs temp object)
+  as_one_encodable (Places temp object) (Stores other value) fits =
+      plainly_encodable (object_store frame places value object) (object_store_instrs value object)
+  as_one_encodable (Sets temp word) (Operates other left o) fits =
+      plainly_encodable (short_operation frame places temp left (short_form o word))
+      (short_operation_instrs temp left o word)
+  as_one_encodable (Applies temp left form) (Returns other) fits =
+      plainly_encodable (short_return frame places left form) (short_return_instrs left form fits)
+  as_one_encodable first second fits = straight_encodable [] tt
+
+  between_encodable : (before behind : Role) (piece : Piece) → FitsForm before → IsEncodable piece →
+      IsEncodable (between frame places before piece behind)
+  between_encodable before behind piece fits h =
+      by (joins (role_behind before piece.role) behind) (joins before piece.role)
+    where
+      by : (one two : Bool) → IsEncodable (if one then nothing else if two then as_one frame places before piece.role
+          else piece)
+      by true two = straight_encodable [] tt
+      by false true = as_one_encodable before piece.role fits
+      by false false = h
+
+  abbrev Chosen : TacStmt → Type 0
+  Chosen stmt = IsEncodable (select frame places plan stmt)
+
+  turn_encodable : (before : Role) (stmts : List TacStmt) → FitsForm before → Each Chosen stmts →
+      IsEncodable (in_turn (joined frame places before (map (select frame places plan) stmts)))
+  turn_encodable before [] fits h = straight_encodable [] tt
+  turn_encodable before (stmt ∷ rest) fits h =
+      let own : Role = (select frame places plan stmt).role in
+      let behind : Role = role_first (map (select frame places plan) rest) in
+      followed_encodable (between frame places before (select frame places plan stmt) behind)
+      (in_turn (joined frame places (role_behind before own) (map (select frame places plan) rest)))
+      (between_encodable before behind (select frame places plan stmt) fits h.0)
+      (turn_encodable (role_behind before own) rest (behind_fits before own fits (stmt_fits stmt)) h.1)
+
+  row_encodable : (stmts : List TacStmt) → Each Chosen stmts → IsEncodable (select_all frame places plan stmts)
+  row_encodable stmts h = turn_encodable Other stmts tt h
+
+  each_encodable : (stmts : List TacStmt) → Each Encodable stmts → all_true (map few_inside stmts) ≡ true →
+      Each Chosen stmts
+  each_encodable [] h all = tt
+  each_encodable (stmt ∷ rest) h all = (
+    h.0 (and_first (few_inside stmt) (all_true (map few_inside rest)) all),
+    each_encodable rest h.1 (and_rest (few_inside stmt) (all_true (map few_inside rest)) all),
+  )
+
+  loop_encodable : (head body next : List TacStmt) → Each Chosen head → Each Chosen body → Each Chosen next →
+      IsEncodable (select_step frame places plan (map-TacStmt _ _ (select frame places plan) (tac.Loop head body
+      next)))
+  loop_encodable head body next hh hb hn =
+      let second : Piece = select_all frame places plan body in
+      let third : Piece = select_all frame places plan next in
+      turning_by frame places plan IsEncodable head second third
+      (cycle_encodable (select_all frame places plan head) second third (row_encodable head hh)
+      (row_encodable body hb) (row_encodable next hn)) (λ cond near t.
+      rotated_encodable cond (select_all frame places plan t.init) second third
+      (row_encodable t.init (each_before frame places plan Chosen head t.init cond t.is hh)) (row_encodable body hb)
+      (row_encodable next hn))
 
   layer_encodable : (layer : TacStmt-F TacStmt) → Inside Encodable layer →
       with_parts passes_few (map-TacStmt _ _ few_inside layer) ≡ true →
@@ -1231,18 +1515,16 @@ module _ (frame : FrameTree) (places : List Place) (plan : Plan) (there : (t : �
       let a = all_true (map few_inside first) in
       let b = all_true (map few_inside second) in
       fork_encodable cond (map (select frame places plan) first) (map (select frame places plan) second)
-      (row_encodable first h.0 (and_first a (b && true) all))
-      (row_encodable second h.1 (and_first b true (and_rest a (b && true) all)))
+      (row_encodable first (each_encodable first h.0 (and_first a (b && true) all)))
+      (row_encodable second (each_encodable second h.1 (and_first b true (and_rest a (b && true) all))))
   layer_encodable (tac.Loop head body next) h all =
       let a = all_true (map few_inside head) in
       let b = all_true (map few_inside body) in
       let c = all_true (map few_inside next) in
       let rest = and_rest a (b && (c && true)) all in
-      cycle_encodable (select_all frame places plan head) (select_all frame places plan body) (select_all frame
-      places plan next)
-      (row_encodable head h.0 (and_first a (b && (c && true)) all))
-      (row_encodable body h.1 (and_first b (c && true) rest))
-      (row_encodable next h.2 (and_first c true (and_rest b (c && true) rest)))
+      loop_encodable head body next (each_encodable head h.0 (and_first a (b && (c && true)) all))
+      (each_encodable body h.1 (and_first b (c && true) rest))
+      (each_encodable next h.2 (and_first c true (and_rest b (c && true) rest)))
   layer_encodable tac.Break h all = record {
     encodable = λ b c hb hc. ((x0_there, over_fits b (omega (arith, hb))), tt);
   }
@@ -1258,7 +1540,8 @@ module _ (frame : FrameTree) (places : List Place) (plan : Plan) (there : (t : �
   layer_encodable (tac.Input dest) h all =
       plainly_encodable (environment_call 1 ++ receive frame places dest) (input_instrs dest)
   layer_encodable (tac.Output value) h all = plainly_encodable _ (output_instrs value)
-  layer_encodable (tac.Return value) h all = plainly_encodable _ (return_instrs value)
+  layer_encodable (tac.Return value) h all =
+      of_role (role_of_return value) _ (plainly_encodable _ (return_instrs value))
 
   stmt_encodable : (stmt : TacStmt) → Encodable stmt
   stmt_encodable = stmt_induction Encodable (λ layer h all.
@@ -1271,16 +1554,17 @@ module _ (frame : FrameTree) (places : List Place) (plan : Plan) (there : (t : �
       let entered : List Instr = entrance frame places f.params in
       let left : List Instr = closing frame places f.entry in
       let body : List Line = (select_all frame places plan f.body).lines 0 0 in
-      let whole = row_encodable f.body (everywhere Encodable stmt_encodable f.body) fits.few_arguments in
+      let whole = row_encodable f.body
+      (each_encodable f.body (everywhere Encodable stmt_encodable f.body) fits.few_arguments) in
       both_instr_lines (plainly entered ++ body) (plainly left)
       (both_instr_lines (plainly entered) body (plainly_instrs entered (entrance_instrs f.params few))
       (whole.encodable 0 0 fits.breaks fits.continues)) (plainly_instrs left (closing_instrs f.entry))
 
 -- each is an instruction, where temporaries lie in registers that there are, and jumps reach
 pub are_instrs : (f : TacFnTree) (places : List Place) (frame : FrameTree) → ArePlaces places → f.params ≤ most_params →
-    Fits frame places (plan_of f near) f.body 0 0 → All IsInstr (code_of f places frame).instrs
+    Fits frame places (plan_of f (is_near f places frame)) f.body 0 0 → All IsInstr (code_of f places frame).instrs
 are_instrs f places frame known few fits =
     let there : (t : ℕ) → IsThere (slice_get places t) =
     λ t. place_there (length places) places t known.known in
-    all_instrs (function_lines frame places (plan_of f near) f)
-    (function_instrs frame places (plan_of f near) there f few fits)
+    let plan : Plan = plan_of f (is_near f places frame) in
+    all_instrs (function_lines frame places plan f) (function_instrs frame places plan there f few fits)

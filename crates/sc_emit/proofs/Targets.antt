@@ -1,23 +1,22 @@
 -- The relocations of a function's code name what its statements name.
-use Rattle.sc_select.specs.Selection.{Plan}
+use Rattle.sc_select.specs.Prelude.{Piece, Plan, is_near, plan_of, short_return}
+use Rattle.sc_select.proofs.Turning.{each_before, turning_by}
 use Rattle.sc_emit.proofs.Common.{Bool, Each, FrameTree, Inside, Instr, Line, List, None, Option, Place, Some}
 use Rattle.sc_emit.proofs.Common.{TacFnTree, TacStmt, TacStmt-F, [], a0, all_true, and_first, and_from, and_rest}
 use Rattle.sc_emit.proofs.Common.{call_cross, call_own, code_of, environment_call, everywhere as each_of, fold-TacStmt}
-use Rattle.sc_emit.proofs.Common.{fold-roll-TacStmt, function_lines, in_order, is_named, keep, list_all, load_from}
-use Rattle.sc_emit.proofs.Common.{loading, map, map-TacStmt, moved_by, names_only, needed_in, object_offset}
-use Rattle.sc_emit.proofs.Common.{object_read, object_store, operation, order_keeps, pass, place_of_global, plainly}
-use Rattle.sc_emit.proofs.Common.{receive, refers_only, refl, relocation_of, relocations_from, result_register, select}
-use Rattle.sc_emit.proofs.Common.{select_all, select_step, short_form, short_operation, sp, stmt_induction, store_to}
-use Rattle.sc_emit.proofs.Common.{straight, subst, suc, sym, true, with_parts, word_of_constant, ℕ, ◌&&◌, ◌++◌, ◌∙◌}
-use Rattle.sc_emit.proofs.Common.{◌∷◌, ◌≡◌}
+use Rattle.sc_emit.proofs.Common.{fold-roll-TacStmt, function_lines, is_named, keep, list_all, load_from, loading, map}
+use Rattle.sc_emit.proofs.Common.{map-TacStmt, moved_by, names_only, object_offset, object_read, object_store}
+use Rattle.sc_emit.proofs.Common.{operation, order_keeps, pass, place_of_global, plainly, receive, refers_only, refl}
+use Rattle.sc_emit.proofs.Common.{relocation_of, relocations_from, result_register, return, select, select_all}
+use Rattle.sc_emit.proofs.Common.{select_step, short_form, short_operation, sp, stmt_induction, store_to, straight}
+use Rattle.sc_emit.proofs.Common.{subst, suc, sym, true, with_parts, word_of_constant, ℕ, ◌&&◌, ◌++◌, ◌∙◌, ◌∷◌, ◌≡◌}
 use Rattle.sc_tac.specs.Prelude.{everywhere}
-use Rattle.sc_select.specs.Prelude.{Piece}
 use Rattle.sc_tac.specs.declared.machine_code.Relocation.{Relocation}
 use Rattle.sc_tac.specs.declared.machine_code.Target.{Target}
 unfoldable use Rattle.sc_tac.specs.declared.stmt.TacStmt.{roll-TacStmt}
 use Rattle.sc_tac.specs.declared.stmt.TacStmt.TheOpen as tac
 use Rattle.sc_emit.proofs.Branches.{all_append, PassesAll, IsMild, followed_passes, fork_passes, cycle_passes}
-use Rattle.sc_emit.proofs.Branches.{function_passes}
+use Rattle.sc_emit.proofs.Branches.{function_passes, rotated_passes}
 
 module _ (function : ℕ → Bool) (entry : (comp index : ℕ) → Bool) (global : ℕ → Bool) where
   abbrev own : TacStmt-F Bool → Bool
@@ -63,22 +62,43 @@ module _ (function : ℕ → Bool) (entry : (comp index : ℕ) → Bool) (global
     abbrev Named : TacStmt → Type 0
     Named stmt = named_inside stmt ≡ true → PassesAll is_named_line (select frame places plan stmt)
 
-    row_named : (stmts : List TacStmt) → Each Named stmts → all_true (map named_inside stmts) ≡ true →
-        PassesAll is_named_line (in_order frame places (map (select frame places plan) stmts))
-    row_named stmts h all =
+    abbrev Passes : TacStmt → Type 0
+    Passes stmt = PassesAll is_named_line (select frame places plan stmt)
+
+    row_passes : (stmts : List TacStmt) → Each Passes stmts →
+        PassesAll is_named_line (select_all frame places plan stmts)
+    row_passes stmts h =
         order_keeps frame places plan (PassesAll is_named_line) (record { passes = λ b c. refl })
         (λ t o. record { passes = λ b c. plainly_named (object_read frame places t o) })
         (λ t l o w. record { passes = λ b c. plainly_named (short_operation frame places t l (short_form o w)) })
         (λ v o. record { passes = λ b c. plainly_named (object_store frame places v o) })
-        (followed_passes is_named_line) stmts (each_named stmts h all)
-      where
-        each_named : (stmts : List TacStmt) → Each Named stmts → all_true (map named_inside stmts) ≡ true →
-            Each (λ stmt. PassesAll is_named_line (select frame places plan stmt)) stmts
-        each_named [] h all = tt
-        each_named (stmt ∷ rest) h all = (
-          h.0 (and_first (named_inside stmt) (all_true (map named_inside rest)) all),
-          each_named rest h.1 (and_rest (named_inside stmt) (all_true (map named_inside rest)) all),
-        )
+        (λ l form. record { passes = λ b c. plainly_named (short_return frame places l form) })
+        (followed_passes is_named_line) stmts h
+
+    each_named : (stmts : List TacStmt) → Each Named stmts → all_true (map named_inside stmts) ≡ true →
+        Each Passes stmts
+    each_named [] h all = tt
+    each_named (stmt ∷ rest) h all = (
+      h.0 (and_first (named_inside stmt) (all_true (map named_inside rest)) all),
+      each_named rest h.1 (and_rest (named_inside stmt) (all_true (map named_inside rest)) all),
+    )
+
+    row_named : (stmts : List TacStmt) → Each Named stmts → all_true (map named_inside stmts) ≡ true →
+        PassesAll is_named_line (select_all frame places plan stmts)
+    row_named stmts h all = row_passes stmts (each_named stmts h all)
+
+    loop_named : (head body next : List TacStmt) → Each Passes head → Each Passes body → Each Passes next →
+        PassesAll is_named_line
+        (select_step frame places plan (map-TacStmt _ _ (select frame places plan) (tac.Loop head body next)))
+    loop_named head body next hh hb hn =
+        let second : Piece = select_all frame places plan body in
+        let third : Piece = select_all frame places plan next in
+        turning_by frame places plan (PassesAll is_named_line) head second third
+        (cycle_passes is_named_line named_mild frame places (select_all frame places plan head) second third
+        (row_passes head hh) (row_passes body hb) (row_passes next hn)) (λ cond near t.
+        rotated_passes is_named_line named_mild frame places cond (select_all frame places plan t.init) second third
+        (row_passes t.init (each_before frame places plan Passes head t.init cond t.is hh)) (row_passes body hb)
+        (row_passes next hn))
 
     straight_named : (lines : List Line) → list_all is_named_line lines ≡ true →
         PassesAll is_named_line (straight lines)
@@ -135,11 +155,10 @@ module _ (function : ℕ → Bool) (entry : (comp index : ℕ) → Bool) (global
         let a = all_true (map named_inside head) in
         let b = all_true (map named_inside body) in
         let c = all_true (map named_inside next) in
-        cycle_passes is_named_line named_mild frame places (select_all frame places plan head)
-        (select_all frame places plan body) (select_all frame places plan next)
-        (row_named head h.0 (and_first a (b && (c && true)) all))
-        (row_named body h.1 (and_first b (c && true) (and_rest a (b && (c && true)) all)))
-        (row_named next h.2 (and_first c true (and_rest b (c && true) (and_rest a (b && (c && true)) all))))
+        let rest = and_rest a (b && (c && true)) all in
+        loop_named head body next (each_named head h.0 (and_first a (b && (c && true)) all))
+        (each_named body h.1 (and_first b (c && true) rest))
+        (each_named next h.2 (and_first c true (and_rest b (c && true) rest)))
     layer_named tac.Break h all = record { passes = λ b c. refl }
     layer_named tac.Continue h all = record { passes = λ b c. refl }
     layer_named (tac.CallOwn dest number args) h all = own_named dest number args (and_first (function number) true all)
@@ -147,7 +166,7 @@ module _ (function : ℕ → Bool) (entry : (comp index : ℕ) → Bool) (global
         cross_named dest comp index args (and_first (entry comp index) true all)
     layer_named (tac.Input dest) h all = unlinked (environment_call 1 ++ receive frame places dest)
     layer_named (tac.Output value) h all = unlinked _
-    layer_named (tac.Return value) h all = unlinked _
+    layer_named (tac.Return value) h all = record { passes = λ b c. plainly_named (return frame places value) }
 
     stmt_named : (stmt : TacStmt) → Named stmt
     stmt_named = stmt_induction Named (λ layer h all.
@@ -157,7 +176,8 @@ module _ (function : ℕ → Bool) (entry : (comp index : ℕ) → Bool) (global
   pub targets_named : (f : TacFnTree) (places : List Place) (frame : FrameTree) → everywhere own f.body ≡ true →
       refers_only function entry global (code_of f places frame) ≡ true
   targets_named f places frame h =
-      relocations_named 0 (function_lines frame places (plan_of f near) f)
-      (function_passes frame places (plan_of f near) is_named_line named_mild f
-      (row_named frame places (plan_of f near) f.body
-      (each_of (Named frame places (plan_of f near)) (stmt_named frame places (plan_of f near)) f.body) h))
+      let plan : Plan = plan_of f (is_near f places frame) in
+      relocations_named 0 (function_lines frame places plan f)
+      (function_passes frame places plan is_named_line named_mild f
+      (row_named frame places plan f.body
+      (each_of (Named frame places plan) (stmt_named frame places plan) f.body) h))
