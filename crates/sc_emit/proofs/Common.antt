@@ -67,7 +67,7 @@ pub use Rattle.sc_tac.specs.declared.stmt.Constant.{Constant}
 pub use Rattle.sc_tac.specs.declared.stmt.TacOp.{TacOp}
 pub use Rattle.sc_tac.specs.declared.stmt.TacStmt.{fold-roll-TacStmt, map-TacStmt, roll-TacStmt}
 pub use Rattle.sc_select.proofs.Joining.{IsRead, IsShort, IsStored, between_keeps, fork_keeps, fork_role, gives_place}
-pub use Rattle.sc_select.proofs.Joining.{is_empty, last_of_two, loads_it, none_behind, operates_it, operation_role}
+pub use Rattle.sc_select.proofs.Joining.{is_empty, loads_it, none_behind, operates_it, operation_role}
 pub use Rattle.sc_select.proofs.Joining.{order_keeps, parts_least, sets_it, store_role, stores_it, which_pair}
 pub use Rattle.sc_select.proofs.Sizes.{row_is_sized}
 pub use Rattle.sc_select.specs.Prelude.{Addresses, Fits, Line, Need, a0, a7, added_by, address_scratch, as_one, at_hand}

@@ -16,6 +16,7 @@ pub mod Opening
 pub mod Operators
 pub mod Pointers
 pub mod Registers
+pub mod Rotated
 pub mod Rows
 pub mod Settling
 pub mod Storing

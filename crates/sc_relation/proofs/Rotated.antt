@@ -1,5 +1,5 @@
 -- Loops that end with their head, and that with its test.
-use Rattle.sc_relation.proofs.Common.{All, Arrives, Break, CodeAt, Codes, Continue, Ends, Exit, Follows, IsClear}
+use Rattle.sc_relation.proofs.Common.{All, Arrives, Bool, Break, CodeAt, Codes, Continue, Ends, Exit, Follows, IsClear}
 use Rattle.sc_relation.proofs.Common.{Joint, Left, List, Lives, Next, Overflows, Piece, Reached, Ready, Return, Returns}
 use Rattle.sc_relation.proofs.Common.{Running, Setting, Shows, Stopped, Temps, Trail, ahead_at, completed, live_before}
 use Rattle.sc_relation.proofs.Common.{None, row_points, seen_from, suc, ℕ, ◌*◌, ◌++◌, ◌+◌, ◌≡◌, ◌≤◌, ◌⊎◌, State as Meant}
