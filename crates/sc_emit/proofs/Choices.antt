@@ -2,25 +2,26 @@
 use Rattle.sc_emit.proofs.Common.{All, All-tail, Arrives, Bne, Bool, Branch, Break, CodeAt, Codes, Comes, Continue}
 use Rattle.sc_emit.proofs.Common.{Ends, Exit, ExitGives, Fetches, Follows, FrameTree, Goes, Gone, HasNoGap, InParts}
 use Rattle.sc_emit.proofs.Common.{Instr, IsActivation, IsClear, IsInside, IsWellFormed, IsWord, Jal, Joint, Left, Line}
-use Rattle.sc_emit.proofs.Common.{List, Lives, MovesOn, Next, None, Null, Option, Piece, Ptr, Reached, Ready, Return}
-use Rattle.sc_emit.proofs.Common.{Running, Set, Setting, Settled, Some, Standpoint, StandsAt, StandsFor, Starts}
+use Rattle.sc_emit.proofs.Common.{List, Lives, MovesOn, Next, None, Null, Option, Piece, Ptr, Reached, Ready, Registers}
+use Rattle.sc_emit.proofs.Common.{Return, Running, Set, Setting, Settled, Some, Standpoint, StandsAt, StandsFor, Starts}
 use Rattle.sc_emit.proofs.Common.{State as Meant, Stopped, Temps, Trail, Value, Walks, Word, [], add_word, and_first}
 use Rattle.sc_emit.proofs.Common.{and_from, and_rest, and_then, ap, arith, arrives_with, at, back_at, choice, choose}
 use Rattle.sc_emit.proofs.Common.{choosing, code_inside, comes_after, comes_read, completed, ends_of, eq-eqb, eqb-true}
 use Rattle.sc_emit.proofs.Common.{false, first_scratch, fork, front_at, if◌then◌else◌, in_order, in_parts, inl, inr}
 use Rattle.sc_emit.proofs.Common.{is_empty, is_some, is_true, jump_over, leads_less, leads_none, length, length-append}
-use Rattle.sc_emit.proofs.Common.{length-map, live_at, live_before, look, low_after, low_append, low_plainly, moved}
-use Rattle.sc_emit.proofs.Common.{ne_eqb, not, operand, or_left, or_right, over, past, plain, plainly, plainly_at}
-use Rattle.sc_emit.proofs.Common.{point, pos, read, refl, row, row_points, seen_from, skipping, sp, subst, suc, sym}
-use Rattle.sc_emit.proofs.Common.{take, trail_step, true, wanted_less, word_of, zero, ℕ, ⊎_elim, ◌%◌, ◌&&◌, ◌*◌, ◌++◌}
-use Rattle.sc_emit.proofs.Common.{◌+◌, ◌==◌, ◌∙◌, ◌∷◌, ◌≡◌, ◌≤◌}
+use Rattle.sc_emit.proofs.Common.{length-map, live_at, live_before, look, low_after, low_append, low_plainly, machine}
+use Rattle.sc_emit.proofs.Common.{moved, ne_eqb, not, operand, or_left, or_right, over, past, plain, plainly}
+use Rattle.sc_emit.proofs.Common.{plainly_at, point, pos, read, refl, row, row_points, seen_from, skipping, sp, subst}
+use Rattle.sc_emit.proofs.Common.{suc, sym, take, trail_step, true, wanted_less, word_at, word_of, zero, ℕ, ℤ, ⊎_elim}
+use Rattle.sc_emit.proofs.Common.{◌%◌, ◌&&◌, ◌*◌, ◌++◌, ◌+◌, ◌==◌, ◌∙◌, ◌∷◌, ◌≡◌, ◌≤◌}
 use Rattle.sc_select.specs.Prelude.{Piece as Code}
+use Rattle.sc_select.specs.Selection.{kind_of_fork}
 use Rattle.sc_hart.proofs.Steps.{then_go, branch_taken, branch_not_taken}
 use Rattle.sc_tac.specs.declared.stmt.TacStmt.TheOpen as tac
 use Rattle.sc_relation.proofs.Clear.{all_front, all_back}
 use Rattle.sc_relation.proofs.Straight.{moves_on}
 use Rattle.sc_emit.proofs.Operands.{ArePlaced, AtHand, first_is, brings, world}
-use Rattle.sc_emit.proofs.Straight.{read_goes}
+use Rattle.sc_emit.proofs.Straight.{read_goes, with_kind}
 
 -- a value is true where its word isn't 0
 truth_is : (place : ℕ → Option ℕ) (v : Value) (w : ℕ) → StandsFor place w v → is_true v ≡ not (w == 0)
@@ -41,7 +42,7 @@ module _ (T : Setting) (R : Running) (formed : IsWellFormed T.image) (inputs : A
   comp = R.activation.here.comp
 
   -- less is live
-  ready_less : (live less : Set) (temps : Temps) (x : Joint) → ((t : ℕ) → less t ≡ true → live t ≡ true) →
+  pub ready_less : (live less : Set) (temps : Temps) (x : Joint) → ((t : ℕ) → less t ≡ true → live t ≡ true) →
       Ready T R live temps x → Ready T R less temps x
   ready_less live less temps x fewer ready = record {
     settled = ready.settled;
@@ -77,6 +78,74 @@ module _ (T : Setting) (R : Running) (formed : IsWellFormed T.image) (inputs : A
   none_stand pc [] h = tt
   none_stand pc (line ∷ lines) h = absurd (omega (arith, h))
 
+  -- A BRANCH WHERE A VALUE IS TRUE
+  -- wherever it leads, behind the code of its operand
+  module _ (cond : ℕ) (imm : ℤ) where
+    abbrev its_take : List Instr
+    its_take = take frame R.places first_scratch cond
+
+    abbrev its_branch : Instr
+    its_branch = Branch Bne (operand frame R.places first_scratch cond) 0 imm
+
+    abbrev branch_pc : ℕ → ℕ
+    branch_pc L = L + 4 * length its_take
+
+    pub record Branches (L : ℕ) : Type 0 where
+      pub takes : CodeAt T.image comp L its_take
+      pub branches : Fetches T.image comp (branch_pc L) its_branch
+
+    pub branches_at : (L : ℕ) → CodeAt T.image comp L (its_take ++ its_branch ∷ []) → Branches L
+    branches_at L code = record {
+      takes = front_at T.image comp L its_take (its_branch ∷ []) code;
+      branches = (back_at T.image comp L its_take (its_branch ∷ []) code).0;
+    }
+
+    module _ (live : Set) (temps : Temps) (x : Joint) (ready : Ready T R live temps x) (code : Branches x.pc)
+        (on : live cond ≡ true) (need : R.plan.needed cond ≡ true) (v : Value) (known : temps cond ≡ Some v) where
+      pub held : AtHand T R x x.regs first_scratch cond v
+      held =
+          brings T R x cells nodes is placed ready.frame ready.sp x.regs first_scratch cond v first_is
+          (ready.held cond v (and_from (live cond) (R.plan.needed cond) on need) known) refl (λ q h. refl)
+
+      -- the steps of the operand's code and of the branch
+      abbrev pub Branched : (pc : ℕ) → Type 0
+      Branched pc =
+          Walks T.image T.inputs (length its_take + 1) (machine P x) (machine P (moved x pc held.after x.bytes))
+
+      behind_take : (pc : ℕ) → Walks T.image T.inputs 1 (at (branch_pc x.pc) held.after x.bytes (world T R x))
+          (at pc held.after x.bytes (world T R x)) → Branched pc
+      behind_take pc walk = then_go T.image T.inputs (held.does.walks x.pc code.takes) walk
+
+      compared : not (look held.after (operand frame R.places first_scratch cond) == look held.after 0) ≡ is_true v
+      compared =
+          ap (λ a. not (a == 0)) held.result ∙ sym (truth_is (x.inj comp) v held.word held.stands)
+
+      -- the value is true
+      pub branch_goes : (target word : ℕ) → is_true v ≡ true → add_word (branch_pc x.pc) (word_of imm) ≡ target →
+          target % 4 ≡ 0 → word_at T.image comp target ≡ Some word → Branched target
+      branch_goes target word true_is to aligned there =
+          behind_take target
+          (branch_taken T.image T.inputs (branch_pc x.pc) held.after x.bytes (world T R x) Bne
+          (operand frame R.places first_scratch cond) 0 imm target word held.below (omega arith) code.branches
+          (compared ∙ true_is) to aligned there)
+
+      -- it is false
+      pub branch_passes : is_true v ≡ false → Branched (branch_pc x.pc + 4)
+      branch_passes false_is =
+          behind_take (branch_pc x.pc + 4)
+          (branch_not_taken T.image T.inputs (branch_pc x.pc) held.after x.bytes (world T R x) Bne
+          (operand frame R.places first_scratch cond) 0 imm held.below (omega arith) code.branches
+          (compared ∙ false_is))
+
+      -- control moves on
+      pub branch_moves : (pc rest : ℕ) → Branched pc →
+          MovesOn T R formed inputs cells nodes is live temps x (length its_take + 1) rest pc held.after
+      branch_moves pc rest walks =
+          moves_on T R formed inputs cells nodes is live temps x (length its_take + 1) rest pc held.after ready
+          (held.others sp ((λ e. omega (arith, e)), ((λ e. omega (arith, e)), tt)))
+          (λ q h. held.others q (h.first, (h.address, tt))) walks
+
+  -- A CHOICE
   module _ (cond : ℕ) (one two : Codes) (first second : Code) (fs ss : List Trail) (F : Follows T R one first (row fs))
       (S : Follows T R two second (row ss)) (need : R.plan.needed cond ≡ true) where
     abbrev trail : Trail
@@ -121,15 +190,8 @@ module _ (T : Setting) (R : Running) (formed : IsWellFormed T.image) (inputs : A
     taken L = L + 4 * count + 4
 
     -- the operand and the branch
-    record Chooses (L : ℕ) : Type 0 where
-      takes : CodeAt T.image comp L before
-      chooses : Fetches T.image comp (L + 4 * length before) branch
-
-    chooses_at : (L : ℕ) → CodeAt T.image comp L (choice frame R.places cond) → Chooses L
-    chooses_at L code = record {
-      takes = front_at T.image comp L before (branch ∷ []) code;
-      chooses = (back_at T.image comp L before (branch ∷ []) code).0;
-    }
+    abbrev Chooses : ℕ → Type 0
+    Chooses = Branches cond (pos 8)
 
     -- what is live in the parts is live before
     module _ (lives : Lives) where
@@ -157,29 +219,16 @@ module _ (T : Setting) (R : Running) (formed : IsWellFormed T.image) (inputs : A
         L = x.pc
 
         here : IsInside (L + 4 * length before)
-        here = code_inside T.image formed comp (L + 4 * length before) code.chooses.word code.chooses.fetched
+        here = code_inside T.image formed comp (L + 4 * length before) code.branches.word code.branches.fetched
 
         module _ (v : Value) (known : temps cond ≡ Some v) where
-          held : AtHand T R x x.regs first_scratch cond v
-          held =
-              brings T R x cells nodes is placed ready.frame ready.sp x.regs first_scratch cond v first_is
-              (ready.held cond v (and_from (live cond) (R.plan.needed cond) cond_live need) known) refl (λ q h. refl)
+          abbrev after : Registers
+          after = (held cond (pos 8) live temps x ready code cond_live need v known).after
 
           -- control moves on by the operand's code and the branch
-          moved_to : (pc : ℕ) → Walks T.image T.inputs 1 (at (L + 4 * length before) held.after x.bytes (world T R x))
-              (at pc held.after x.bytes (world T R x)) → (rest : ℕ) →
-              MovesOn T R formed inputs cells nodes is live temps x (length before + 1) rest pc held.after
-          moved_to pc walk rest =
-              moves_on T R formed inputs cells nodes is live temps x (length before + 1) rest pc held.after ready
-              (held.others sp ((λ e. omega (arith, e)), ((λ e. omega (arith, e)), tt)))
-              (λ q h. held.others q (h.first, (h.address, tt)))
-              (then_go T.image T.inputs (held.does.walks L code.takes) walk)
-
-          truth : is_true v ≡ not (held.word == 0)
-          truth = truth_is (x.inj comp) v held.word held.stands
-
-          compared : not (look held.after (operand frame R.places first_scratch cond) == look held.after 0) ≡ is_true v
-          compared = ap (λ a. not (a == 0)) held.result ∙ sym truth
+          moved_to : (pc rest : ℕ) → Branched cond (pos 8) live temps x ready code cond_live need v known pc →
+              MovesOn T R formed inputs cells nodes is live temps x (length before + 1) rest pc after
+          moved_to = branch_moves cond (pos 8) live temps x ready code cond_live need v known
 
           -- the value is true: what comes of the first part, behind the line that the branch leads over
           first_comes : (rest : ℕ) → length before + 1 + rest ≤ budget → is_true v ≡ true →
@@ -188,16 +237,14 @@ module _ (T : Setting) (R : Running) (formed : IsWellFormed T.image) (inputs : A
               Comes T R lives x budget ends (one temps x.meant)
           first_comes rest few true_is on =
               let aligned : taken L % 4 ≡ 0 = omega (arith, here.aligned, count_is) in
-              let there = gapless (L + 4 * length before) (taken L) (ap is_some code.chooses.fetched)
+              let there = gapless (L + 4 * length before) (taken L) (ap is_some code.branches.fetched)
               (omega (arith, count_is)) last aligned in
               let low : IsInside (taken L) = code_inside T.image formed comp (taken L) there.0 there.1 in
               let target : add_word (L + 4 * length before) (word_of (pos 8)) ≡ taken L =
               omega (arith, low.low, count_is) in
-              let m = moved_to (taken L)
-              (branch_taken T.image T.inputs (L + 4 * length before) held.after x.bytes (world T R x) Bne
-              (operand frame R.places first_scratch cond) 0 (pos 8) (taken L) there.0 held.below (omega arith)
-              code.chooses (compared ∙ true_is) target aligned there.1) rest in
-              let y : Joint = moved x (taken L) held.after x.bytes in
+              let m = moved_to (taken L) rest (branch_goes cond (pos 8) live temps x ready code cond_live need v known
+              (taken L) there.0 true_is target aligned there.1) in
+              let y : Joint = moved x (taken L) after x.bytes in
               comes_after T R lives x y budget rest ends (one temps x.meant) ready.settled
               (leads_less T P x y (length before + 1 + rest) rest budget rest few (omega arith) m.leads)
               (on y refl refl (ready_less live (live_before fs lives) temps y first_live m.ready))
@@ -208,17 +255,12 @@ module _ (T : Setting) (R : Running) (formed : IsWellFormed T.image) (inputs : A
               Comes T R lives y rest ends (two temps y.meant)) →
               Comes T R lives x budget ends (two temps x.meant)
           second_comes rest few false_is on =
-              let behind : L + 4 * length before + 4 ≡ not_taken L = omega (arith, count_is) in
-              let m = moved_to (not_taken L)
-              (subst (λ pc. Walks T.image T.inputs 1 (at (L + 4 * length before) held.after x.bytes (world T R x))
-              (at pc held.after x.bytes (world T R x))) behind
-              (branch_not_taken T.image T.inputs (L + 4 * length before) held.after x.bytes (world T R x) Bne
-              (operand frame R.places first_scratch cond) 0 (pos 8) held.below (omega arith) code.chooses
-              (compared ∙ false_is))) rest in
-              let y : Joint = moved x (not_taken L) held.after x.bytes in
+              let m = moved_to (L + 4 * length before + 4) rest (branch_passes cond (pos 8) live temps x ready code
+              cond_live need v known false_is) in
+              let y : Joint = moved x (L + 4 * length before + 4) after x.bytes in
               comes_after T R lives x y budget rest ends (two temps x.meant) ready.settled
               (leads_less T P x y (length before + 1 + rest) rest budget rest few (omega arith) m.leads)
-              (on y refl refl (ready_less live (live_before ss lives) temps y second_live m.ready))
+              (on y (omega (arith, count_is)) refl (ready_less live (live_before ss lives) temps y second_live m.ready))
 
         -- by what the value is
         does_comes : (rest more : ℕ) → length before + 1 + rest ≤ budget → length before + 1 + more ≤ budget →
@@ -293,7 +335,8 @@ module _ (T : Setting) (R : Running) (formed : IsWellFormed T.image) (inputs : A
         in_parts addresses T.image comp (taken L) fl skip (F.closed (farther b) (farther c)) later.front in
         let place : taken L + 4 * length al ≡ second_pc L = omega (arith, ahead_sized b c) in
         record {
-          chooses = chooses_at L (plainly_at addresses T.image comp L (choice frame R.places cond) one.front);
+          chooses = branches_at cond (pos 8) L
+              (plainly_at addresses T.image comp L (choice frame R.places cond) one.front);
           to_second = behind.0;
           of_first = inner.front;
           over_second =
@@ -500,7 +543,7 @@ module _ (T : Setting) (R : Running) (formed : IsWellFormed T.image) (inputs : A
         short_comes : Comes T R lives x (short.size + left) short_ends (does temps x.meant)
         short_comes =
             does_comes lives temps x (short.size + left) short_ends starts.ready
-            (chooses_at x.pc (plainly_at (T.addresses comp) T.image comp x.pc (choice frame R.places cond)
+            (branches_at cond (pos 8) x.pc (plainly_at (T.addresses comp) T.image comp x.pc (choice frame R.places cond)
             in_two.front))
             (omega (arith, starts.breaks, test_is, single)) (first.size + left) (second.size + left)
             (omega (arith, test_is, count_is, empty)) (omega (arith, test_is, count_is)) on_first on_second
@@ -525,7 +568,9 @@ module _ (T : Setting) (R : Running) (formed : IsWellFormed T.image) (inputs : A
       (fork frame R.places cond first second) (trail_step (tac.If cond fs ss))
   unfolding does
   fork_follows cond one two first second fs ss F S need =
-      by (length first == 0 && (in_order frame R.places second).size == 1) refl
+      with_kind T R (does cond one two e f fs ss F S need)
+      (if length first == 0 && f.size == 1 then skipping frame R.places cond f else choosing frame R.places cond e f)
+      (kind_of_fork cond first second) (trail_step (tac.If cond fs ss)) (by (length first == 0 && f.size == 1) refl)
     where
       e : Code
       e = in_order frame R.places first

@@ -10,6 +10,7 @@ pub mod Entering
 pub mod Environment
 pub mod Functions
 pub mod Gaps
+pub mod Heads
 pub mod Needed
 pub mod Operands
 pub mod Operations

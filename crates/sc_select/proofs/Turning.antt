@@ -23,7 +23,7 @@ module _ (frame : FrameTree) (places : List Place) (plan : Plan) where
   abbrev pub kind_of : TacStmt → Kind
   kind_of stmt = (code stmt).kind
 
-  abbrev layer_kind : TacStmt-F TacStmt → Kind
+  abbrev pub layer_kind : TacStmt-F TacStmt → Kind
   layer_kind layer = (select_step frame places plan (map-TacStmt _ _ code layer)).kind
 
   pub kind_is : (layer : TacStmt-F TacStmt) → kind_of (roll-TacStmt layer) ≡ layer_kind layer
@@ -34,7 +34,7 @@ module _ (frame : FrameTree) (places : List Place) (plan : Plan) where
   turning_kind None head body next = refl
   turning_kind (Some cond) head body next = refl
 
-  loop_kind : (head body next : List TacStmt) → layer_kind (tac.Loop head body next) ≡ Controls
+  pub loop_kind : (head body next : List TacStmt) → layer_kind (tac.Loop head body next) ≡ Controls
   loop_kind head body next =
       turning_kind (if plan.near then ending_test (map code head) else None) (map code head)
       (in_order frame places (map code body)) (in_order frame places (map code next))
@@ -47,7 +47,7 @@ module _ (frame : FrameTree) (places : List Place) (plan : Plan) where
   kind_by_not P none test cond (Tests other) = none
   kind_by_not P none test cond Controls = none
 
-  fork_kind : (P : Kind → Type 0) → P Controls → ((cond : ℕ) → P (Tests cond)) → (cond : ℕ)
+  pub fork_kind : (P : Kind → Type 0) → P Controls → ((cond : ℕ) → P (Tests cond)) → (cond : ℕ)
       (first second : List Piece) → P (kind_of_fork cond first second)
   fork_kind P none test cond [] [] = none
   fork_kind P none test cond [] (piece ∷ []) = kind_by_not P none test cond piece.kind
