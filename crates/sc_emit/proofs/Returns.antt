@@ -153,7 +153,7 @@ module _ (T : Setting) (R : Running) (formed : IsWellFormed T.image) (inputs : A
           value = subst (λ w. StandsFor (x.inj A.here.comp) w v) (sym b.piece.result) b.stands;
         }
 
-    return_goes : (value : Option ℕ) (temps : Temps) → Goes (return_does A.here value temps)
+    pub return_goes : (value : Option ℕ) (temps : Temps) → Goes (return_does A.here value temps)
     return_goes None temps = stays (record { exit = Return None; carried = temps })
     return_goes (Some t) temps =
         read_goes A.here t temps (λ v s. leave (Return (Some v)) temps s)
