@@ -5,7 +5,7 @@ use Rattle.sc_emit.proofs.Common.{Result, Role, Running, Setting, State as Meant
 use Rattle.sc_emit.proofs.Common.{arith, completed, computed, ends_of, followed, inl, known, length, length-map}
 use Rattle.sc_emit.proofs.Common.{live_at, low_after, low_plainly, nothing as no_lines, plain, plainly, plainly_at}
 use Rattle.sc_emit.proofs.Common.{read, refl, same, straight, straightly, subst, sym, ℕ, ◌*◌, ◌+◌, ◌≡◌, ◌≤◌}
-use Rattle.sc_select.specs.Prelude.{Piece as Code}
+use Rattle.sc_select.specs.Prelude.{Controls, Kind, Piece as Code}
 
 -- what is computed only goes on
 pub computed_goes : {V W : Type 0} (here : Here) (result : Result V Cause) (go : V → Meant → Piece W) →
@@ -87,10 +87,27 @@ module _ (T : Setting) (R : Running) where
         });
   }
 
+  -- nor does what it is to a loop
+  pub with_kind : (does : Codes) (code : Code) (kind : Kind) (trail : Trail) → Follows T R does code trail →
+      Follows T R does (record code { kind = kind }) trail
+  with_kind does code kind trail F = record {
+    sized = F.sized;
+    closed = F.closed;
+    goes = F.goes;
+    runs = λ lives temps x left to_break to_continue starts.
+        F.runs lives temps x left to_break to_continue (record {
+          ready = starts.ready;
+          clear = starts.clear;
+          stands = starts.stands;
+          breaks = starts.breaks;
+          continues = starts.continues;
+        });
+  }
+
   -- no lines, and those of a piece
   pub behind_nothing : (does : Codes) (code : Code) (trail : Trail) → Follows T R does code trail →
       Follows T R does (followed no_lines code) trail
   behind_nothing does code trail F =
       let same : code.size ≡ 0 + code.size = omega arith in
-      subst (λ size. Follows T R does (record { size = size; lines = code.lines; role = Other }) trail) same
-      (with_role does code Other trail F)
+      subst (λ size. Follows T R does (record { size = size; lines = code.lines; role = Other; kind = Controls }) trail)
+      same (with_kind does (record code { role = Other }) Controls trail (with_role does code Other trail F))

@@ -155,7 +155,7 @@ module _ (T : Setting) (R : Running) where
             ready.frame;
         held = held_assigned A R.places x.inj x.inj x.regs regs x.bytes later (λ b a e. e) (wanted R.plan.needed live)
             (record point { live = wanted R.plan.needed point.live }) d place v temps
-            (clear_wanted R.places R.plan point clear) assigned its
+            (clear_wanted R.places R.plan.needed point clear) assigned its
             (λ t on e. and_from (live t) (R.plan.needed t) (fewer t (and_first (point.live t) (R.plan.needed t) on) e)
             (and_rest (point.live t) (R.plan.needed t) on)) h.others h.value ready.held;
         sp = h.sp ∙ ready.sp;
@@ -388,8 +388,8 @@ module _ (T : Setting) (R : Running) where
       frame = frame_over_call (settled_to x ready.settled) ready.frame;
       held = held_over_call A R.places x.inj y.inj x.regs y.regs x.bytes y.bytes (effect.grows A.here.comp)
           (wanted R.plan.needed live) (record point { live = wanted R.plan.needed point.live }) temps
-          (clear_wanted R.places R.plan point clear) calls (wanted_less R.plan.needed point.live live fewer) (λ k offset e.
-          own_same (suc k) offset ready.frame e) ready.held;
+          (clear_wanted R.places R.plan.needed point clear) calls (wanted_less R.plan.needed point.live live fewer)
+          (λ k offset e. own_same (suc k) offset ready.frame e) ready.held;
       sp = same ∙ ready.sp;
     }
 
