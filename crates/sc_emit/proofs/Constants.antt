@@ -2,7 +2,7 @@
 use Rattle.sc_emit.proofs.Common.{All, All-cons, All-nil, Arrives, Bool, Calls, Cause, CodeAt, Codes, Computes}
 use Rattle.sc_emit.proofs.Common.{Constant, Err, Follows, FrameTree, Goes, Gone, Instr, IsActivation, IsClear, IsSound}
 use Rattle.sc_emit.proofs.Common.{IsWellFormed, IsWord, Joint, List, Lives, Next, Ok, Place, Point, Ready, Result}
-use Rattle.sc_emit.proofs.Common.{Running, Setting, ShortForm, Some, State as Meant, TacOp, Temps, Trail}
+use Rattle.sc_emit.proofs.Common.{Running, Set, Setting, ShortForm, Some, State as Meant, TacOp, Temps, Trail}
 use Rattle.sc_emit.proofs.Common.{Value, [], all_at, and_from, and_then, ap, arith, code_step, comes_computed}
 use Rattle.sc_emit.proofs.Common.{comes_read, constant_value, eq-eqb, eqb-true, false, first_scratch, gets}
 use Rattle.sc_emit.proofs.Common.{if◌then◌else◌, in_row, is_one, keep, leave, length, live_across, live_at, live_plain}
@@ -20,7 +20,8 @@ use Rattle.sc_emit.proofs.Straight.{comes_behind, read_goes, straight_follows}
 
 module _ (T : Setting) (R : Running) (formed : IsWellFormed T.image) (inputs : All IsWord T.inputs) (cells : List ℕ)
     (nodes : ℕ) (is : IsActivation T.performs cells R.places nodes R.activation) (placed : ArePlaced R) (calls : Calls)
-    (dest left : ℕ) (value : Constant) (o : TacOp) (apart : (left == dest) ≡ false) (need : R.plan.needed left ≡ true) where
+    (dest left : ℕ) (value : Constant) (o : TacOp) (apart : (left == dest) ≡ false)
+    (need : R.plan.needed left ≡ true) where
   abbrev frame : FrameTree
   frame = R.activation.frame
 
@@ -34,7 +35,7 @@ module _ (T : Setting) (R : Running) (formed : IsWellFormed T.image) (inputs : A
   start = constant_value value
 
   -- the temporaries where the constant is set
-  abbrev set : Temps → Temps
+  abbrev pub set : Temps → Temps
   set temps = with_temp dest start temps
 
   -- what the operator does behind the constant
@@ -63,6 +64,11 @@ module _ (T : Setting) (R : Running) (formed : IsWellFormed T.image) (inputs : A
       by true false b none h = refl
       by false true b none h = cc h
       by false false b none h = h
+
+  pub left_live : (lives : Lives) → live_at both_steps lives left ≡ true
+  left_live lives =
+      let only : is_one left (left ∷ []) ≡ true = rw (eq-eqb left left refl) refl in
+      live_before lives left (or_left (is_one left (left ∷ [])) _ only)
 
   live_between : (lives : Lives) (t : ℕ) →
       (is_one t (left ∷ []) || live_across (left ∷ []) false (Some dest) lives t) ≡ true →
@@ -104,7 +110,7 @@ module _ (T : Setting) (R : Running) (formed : IsWellFormed T.image) (inputs : A
   gets_goes (Ok v) temps s = stays (record { exit = Next; carried = with_temp dest v temps }) s
   gets_goes (Err cause) temps s = record { grown = same s; stop = tt }
 
-  applies_goes : (temps : Temps) → Goes (applies temps)
+  pub applies_goes : (temps : Temps) → Goes (applies temps)
   applies_goes temps =
       read_goes R.activation.here left (set temps)
       (λ v s. and_then (read R.activation.here dest (set temps) s)
@@ -114,41 +120,30 @@ module _ (T : Setting) (R : Running) (formed : IsWellFormed T.image) (inputs : A
       (λ w s. gets_goes (operated wrapping (s.memory comp) o v w) (set temps) s))
 
   -- what the temporaries hold that the operator reads
-  left_is : (temps : Temps) (v : Value) → set temps left ≡ Some v → temps left ≡ Some v
+  pub left_is : (temps : Temps) (v : Value) → set temps left ≡ Some v → temps left ≡ Some v
   left_is temps v h = sym (ap (λ b. if b then Some start else temps left) apart) ∙ h
 
-  right_is : (temps : Temps) (w : Value) → set temps dest ≡ Some w → start ≡ w
+  pub right_is : (temps : Temps) (w : Value) → set temps dest ≡ Some w → start ≡ w
   right_is temps w h =
       let now : set temps dest ≡ Some start = rw (eq-eqb dest dest refl) refl in
       same_Some start w (sym now ∙ h)
 
-  -- the code gives what the operator gives
+  -- the operator's word, into a register
+  abbrev pub short_into : ShortForm → (rd : ℕ) → List Instr
+  short_into form rd =
+      take frame R.places first_scratch left ++ short_code rd (operand frame R.places first_scratch left) (Some form)
+
+  -- the code gives what the operator gives, where what it reads is live
   module _ (form : ShortForm) (form_is : short_form o word ≡ Some form) (for : IsSound o)
-      (small : IsWordConstant T R formed inputs cells nodes is placed calls value) (place : Place)
-      (its : slice_get R.places dest ≡ Some place) where
-    abbrev rd : ℕ
-    rd = result_register frame R.places dest
-
-    abbrev rs : ℕ
-    rs = operand frame R.places first_scratch left
-
-    abbrev code : List Instr
-    code = take frame R.places first_scratch left ++ short_code rd rs (Some form)
-
-    abbrev whole : List Instr
-    whole = short_operation frame R.places dest left (Some form)
-
-    gives : (lives : Lives) (temps : Temps) (x : Joint) (v r : Value) → Ready T R (live_at both_steps lives) temps x →
-        temps left ≡ Some v → operated wrapping (x.meant.memory comp) o v start ≡ Ok r → Gives T R x code rd r
-    gives lives temps x v r ready known gave =
-        let only : is_one left (left ∷ []) ≡ true = rw (eq-eqb left left refl) refl in
-        let on : live_at both_steps lives left ≡ true =
-        live_before lives left (or_left (is_one left (left ∷ [])) _ only) in
+      (small : IsWordConstant T R formed inputs cells nodes is placed calls value) where
+    pub gives : (rd : ℕ) → IsResult rd → (live : Set) (temps : Temps) (x : Joint) (v r : Value) →
+        Ready T R live temps x → live left ≡ true → temps left ≡ Some v →
+        operated wrapping (x.meant.memory comp) o v start ≡ Ok r → Gives T R x (short_into form rd) rd r
+    gives rd w live temps x v r ready on known gave =
+        let rs : ℕ = operand frame R.places first_scratch left in
         let h : AtHand T R x x.regs first_scratch left v =
         brings T R x cells nodes is placed ready.frame ready.sp x.regs first_scratch left v first_is
-        (ready.held left v (and_from (live_at both_steps lives left) (R.plan.needed left) on need) known) refl (λ q k. refl)
-        in
-        let w : IsResult rd = result_is R placed dest place its in
+        (ready.held left v (and_from (live left) (R.plan.needed left) on need) known) refl (λ q k. refl) in
         let piece : Computes T.image T.inputs (world T R x) (short_code rd rs (Some form)) [] h.after x.bytes rd
         (op_word o h.word word) =
         gives_short T.image T.inputs (world T R x) x.bytes h.after rd rs h.word word w.writable h.below h.result
@@ -165,6 +160,19 @@ module _ (T : Setting) (R : Running) (formed : IsWellFormed T.image) (inputs : A
               h.others sp ((λ e. omega (arith, e)), ((λ e. omega (arith, e)), tt));
           others = λ q k n. piece.others q (n, tt) ∙ h.others q (k.first, (k.address, tt));
         }
+
+  -- it is kept in the place of the temporary
+  module _ (form : ShortForm) (form_is : short_form o word ≡ Some form) (for : IsSound o)
+      (small : IsWordConstant T R formed inputs cells nodes is placed calls value) (place : Place)
+      (its : slice_get R.places dest ≡ Some place) where
+    abbrev rd : ℕ
+    rd = result_register frame R.places dest
+
+    abbrev code : List Instr
+    code = short_into form rd
+
+    abbrev whole : List Instr
+    whole = short_operation frame R.places dest left (Some form)
 
     in_parts : code ++ keep frame R.places dest ≡ whole
     in_parts = refl
@@ -186,7 +194,8 @@ module _ (T : Setting) (R : Running) (formed : IsWellFormed T.image) (inputs : A
         (operated wrapping (x.meant.memory comp) o v w) (λ r s. leave Next (with_temp dest r (set temps)) s)
         (λ r gave.
         (let g : Gives T R x code rd r =
-        gives lives temps x v r ready (left_is temps v known)
+        gives form form_is for small rd (result_is R placed dest place its) (live_at both_steps lives) temps x v r ready
+        (left_live lives) (left_is temps v known)
         (ap (operated wrapping (x.meant.memory comp) o v) (right_is temps w known') ∙ gave) in
         comes_behind T R lives x whole n (with_temp dest r (set temps)) x.meant
         (again T R dest start lives.behind x (length whole + n) n temps r x.meant (x.pc + 4 * length whole)

@@ -18,6 +18,7 @@ pub mod Pairs
 pub mod Passing
 pub mod Plain
 pub mod Reading
+pub mod Returned
 pub mod Returns
 pub mod Rounds
 pub mod Statements

@@ -7,14 +7,16 @@ use Rattle.sc_emit.proofs.Common.{Value, Walks, Word, [], a0, and_first, and_fro
 use Rattle.sc_emit.proofs.Common.{brought, closing, code_step, comes_read, eq-eqb, frame_left, frame_raised, front_at}
 use Rattle.sc_emit.proofs.Common.{in_row, inl, is_one, leads_less, leads_moved, leave, leaves_frame, length}
 use Rattle.sc_emit.proofs.Common.{length-append, list_all, machine, moved, one_or_none, place_of, pos, ra, refl, return}
-use Rattle.sc_emit.proofs.Common.{return_does, same_entry, seen_from, select_step, settled_moved, sp, stays, subst, sym}
-use Rattle.sc_emit.proofs.Common.{trail_step, true, with_number, word, wrapping, ℕ, ◌*◌, ◌++◌, ◌+◌, ◌∙◌, ◌∷◌, ◌≡◌, ◌≤◌}
+use Rattle.sc_emit.proofs.Common.{return_does, same_entry, seen_from, select_step, settled_moved, sp, stays}
+use Rattle.sc_emit.proofs.Common.{straightly, subst, sym, trail_step, true, with_number, word, wrapping, ℕ, ◌*◌, ◌++◌}
+use Rattle.sc_emit.proofs.Common.{◌+◌, ◌∙◌, ◌∷◌, ◌≡◌, ◌≤◌}
+use Rattle.sc_select.specs.Prelude.{role_of_return}
 use Rattle.sc_tac.specs.Prelude.{nothing}
 use Rattle.sc_tac.specs.declared.stmt.TacStmt.TheOpen as tac
 use Rattle.sc_emit.proofs.Arguments.{Brings, brings}
 use Rattle.sc_emit.proofs.Functions.{given_at_brace, in_call, BraceReturns}
 use Rattle.sc_emit.proofs.Operands.{ArePlaced, world, walks_to}
-use Rattle.sc_emit.proofs.Straight.{ComesStraight, read_goes, straight_follows}
+use Rattle.sc_emit.proofs.Straight.{ComesStraight, read_goes, straight_follows, with_role}
 
 module _ (T : Setting) (R : Running) (formed : IsWellFormed T.image) (inputs : All IsWord T.inputs) (cells : List ℕ)
     (nodes : ℕ) (is : IsActivation T.performs cells R.places nodes R.activation) where
@@ -153,7 +155,7 @@ module _ (T : Setting) (R : Running) (formed : IsWellFormed T.image) (inputs : A
           value = subst (λ w. StandsFor (x.inj A.here.comp) w v) (sym b.piece.result) b.stands;
         }
 
-    return_goes : (value : Option ℕ) (temps : Temps) → Goes (return_does A.here value temps)
+    pub return_goes : (value : Option ℕ) (temps : Temps) → Goes (return_does A.here value temps)
     return_goes None temps = stays (record { exit = Return None; carried = temps })
     return_goes (Some t) temps =
         read_goes A.here t temps (λ v s. leave (Return (Some v)) temps s)
@@ -181,9 +183,11 @@ module _ (T : Setting) (R : Running) (formed : IsWellFormed T.image) (inputs : A
         (tac.Return value))
         (trail_step (tac.Return value))
     return_follows value needs =
-        straight_follows T R (code_step wrapping A.here calls (tac.Return value)) (return frame R.places value)
+        with_role T R (code_step wrapping A.here calls (tac.Return value))
+        (straightly frame R.places (return frame R.places value)) (role_of_return value) (trail_step (tac.Return value))
+        (straight_follows T R (code_step wrapping A.here calls (tac.Return value)) (return frame R.places value)
         (trail_step (tac.Return value)) (return_goes value)
-        (λ lives temps x left ready clear code. returns value needs lives temps x left ready code)
+        (λ lives temps x left ready clear code. returns value needs lives temps x left ready code))
 
 -- the code of a closing brace comes to the jump back, in each call of its function
 pub brace_returns : (T : Setting) (f : TacFnTree) (frame : FrameTree) (places : List Place) → IsWellFormed T.image →
