@@ -5,12 +5,8 @@ use Rattle.sc_emit.proofs.Common.{Result, Role, Running, Setting, State as Meant
 use Rattle.sc_emit.proofs.Common.{arith, completed, computed, ends_of, followed, inl, known, length, length-map}
 use Rattle.sc_emit.proofs.Common.{live_at, low_after, low_plainly, nothing as no_lines, plain, plainly, plainly_at}
 use Rattle.sc_emit.proofs.Common.{read, refl, same, straight, straightly, subst, sym, ℕ, ◌*◌, ◌+◌, ◌≡◌, ◌≤◌}
-<<<<<<< HEAD
 use Rattle.sc_select.specs.Prelude.{Piece as Code}
 use Rattle.sc_select.specs.Selection.{Controls, Kind}
-=======
-use Rattle.sc_select.specs.Prelude.{Controls, Kind, Piece as Code}
->>>>>>> c7cfb90376871aed5a5a3f7744eb7228a33aec62
 
 -- what is computed only goes on
 pub computed_goes : {V W : Type 0} (here : Here) (result : Result V Cause) (go : V → Meant → Piece W) →
@@ -92,11 +88,7 @@ module _ (T : Setting) (R : Running) where
         });
   }
 
-<<<<<<< HEAD
   -- nor what it is to a loop
-=======
-  -- nor does what it is to a loop
->>>>>>> c7cfb90376871aed5a5a3f7744eb7228a33aec62
   pub with_kind : (does : Codes) (code : Code) (kind : Kind) (trail : Trail) → Follows T R does code trail →
       Follows T R does (record code { kind = kind }) trail
   with_kind does code kind trail F = record {

@@ -17,10 +17,7 @@ pub mod Operators
 pub mod Pointers
 pub mod Registers
 pub mod Rotated
-<<<<<<< HEAD
 pub mod Rounds
-=======
->>>>>>> 398976c6e1ec4a03589455115cd9958b0f59a81c
 pub mod Rows
 pub mod Settling
 pub mod Storing

@@ -1,5 +1,4 @@
 -- Loops that end with their head, and that with its test.
-<<<<<<< HEAD
 use Rattle.sc_relation.proofs.Common.{All, Arrives, Bool, Break, CodeAt, Codes, Comes, Continue, Ends, Exit, Fetches}
 use Rattle.sc_relation.proofs.Common.{Follows, Goes, Instr, IsClear, IsWellFormed, IsWord, Jal, Joint, Left, Line, List}
 use Rattle.sc_relation.proofs.Common.{Lives, Next, None, Overflows, Piece, Reached, Ready, Return, Returns, Running}
@@ -19,15 +18,6 @@ use Rattle.sc_relation.proofs.Lines.{InParts, in_parts, low_append, low_plainly}
 use Rattle.sc_relation.proofs.Rounds.{Round, behind_head, clear_head, head_live, head_overflows, ready_less}
 use Rattle.sc_relation.proofs.Rounds.{rounds_goes, turned}
 use Rattle.sc_relation.proofs.Stretches.{arrives_with, comes_after, shows_here}
-=======
-use Rattle.sc_relation.proofs.Common.{All, Arrives, Bool, Break, CodeAt, Codes, Continue, Ends, Exit, Follows, IsClear}
-use Rattle.sc_relation.proofs.Common.{Joint, Left, List, Lives, Next, Overflows, Piece, Reached, Ready, Return, Returns}
-use Rattle.sc_relation.proofs.Common.{Running, Setting, Shows, Stopped, Temps, Trail, ahead_at, completed, live_before}
-use Rattle.sc_relation.proofs.Common.{None, row_points, seen_from, suc, ℕ, ◌*◌, ◌++◌, ◌+◌, ◌≡◌, ◌≤◌, ◌⊎◌, State as Meant}
-use Rattle.sc_relation.proofs.Common.{Goes, Line, Some, length, low_after, word_at}
-use Rattle.sc_select.specs.Prelude.{Piece as Code, first_scratch, take}
-use Rattle.sc_select.specs.Selection.{rotated, testing}
->>>>>>> 398976c6e1ec4a03589455115cd9958b0f59a81c
 
 module _ (T : Setting) (R : Running) where
   -- the code comes to this place, and a step of it isn't paid for by turns that are over

@@ -87,7 +87,7 @@ module _ (frame : FrameTree) (places : List Place) (plan : Plan) where
   from_sized stmts h i =
       from_keeps frame places plan IsSized (record { sized = λ b c. refl }) (λ t o. record { sized = λ b c. refl })
       (λ t l o w. record { sized = λ b c. refl }) (λ v o. record { sized = λ b c. refl })
-      (λ l f. record { sized = λ b c. refl }) followed_sized stmts h i
+      (λ l o w. record { sized = λ b c. refl }) followed_sized stmts h i
 
   row_sized : (stmts : List TacStmt) → Each Sized stmts →
       IsSized (in_order frame places (map (select frame places plan) stmts))

@@ -4,13 +4,19 @@ use Rattle.sc_select.specs.Selection.{is_break, is_plain}
 use Rattle.sc_select.specs.Selection.{kind_by, kind_of_fork, rotated, test_of, turning}
 use Rattle.sc_select.proofs.Common.{Bool, Each, FrameTree, List, None, Option, Piece, Place, Some, TacStmt, TacStmt-F}
 use Rattle.sc_select.proofs.Common.{[], ap, ap₂, arith, cycle, false, fold-roll-TacStmt, if◌then◌else◌, in_order, length}
-use Rattle.sc_select.proofs.Common.{map, map-TacStmt, refl, roll-TacStmt, select, select_step, stmt_induction, suc, sym}
-use Rattle.sc_select.proofs.Common.{drop, get_or, zero, ◌&&◌, ◌+◌, ◌<◌, ◌==◌, true, ℕ, ◌++◌, ◌-◌, ◌∙◌, ◌∷◌, ◌≡◌, subst}
+use Rattle.sc_select.proofs.Common.{map, map-TacStmt, refl, select, select_step, stmt_induction, suc, sym}
+use Rattle.sc_select.proofs.Common.{drop, eqb-true, get_or, zero, ◌&&◌, ◌+◌, ◌<◌, ◌==◌, true, ℕ, ◌++◌, ◌-◌, ◌∙◌, ◌∷◌, ◌≡◌, subst}
 use Rattle.std.proofs.Common.{take as take_front}
+unfoldable use Rattle.sc_tac.specs.declared.stmt.TacStmt.{roll-TacStmt}
 use Rattle.sc_tac.specs.declared.stmt.TacStmt.TheOpen as tac
+use Rattle.sc_tac.specs.declared.stmt.TacStmt.TheVariants as emit
 
 abbrev pub break_stmt : TacStmt
 break_stmt = roll-TacStmt tac.Break
+
+pub some_last : (stmts : List TacStmt) → (length stmts == 0) ≡ false → suc (length stmts - 1) ≡ length stmts
+some_last [] h = cc h
+some_last (stmt ∷ rest) h = omega arith
 
 -- an `If` that breaks where a value is false
 abbrev pub test_stmt : ℕ → TacStmt
@@ -105,7 +111,27 @@ module _ (frame : FrameTree) (places : List Place) (plan : Plan) where
   fork_test cond [] (stmt ∷ []) = test_by_kind cond (kind_of stmt)
   fork_test cond [] [] = refl
   fork_test cond [] (stmt ∷ more ∷ rest) = refl
-  fork_test cond (stmt ∷ rest) second = refl
+  fork_test cond (stmt ∷ rest) second =
+      ap (λ b. if b && is_break (map code second) then Some cond else None) (by (length (stmt ∷ rest) == 0) refl)
+    where
+      by : (b : Bool) → (length (stmt ∷ rest) == 0) ≡ b → (length (stmt ∷ rest) == 0) ≡ false
+      by true h = absurd (omega (arith, eqb-true (length (stmt ∷ rest)) 0 h))
+      by false h = h
+
+  pub forked : (cond : ℕ) (first second : List TacStmt) (none broken : Bool) → none ≡ (length first == 0) →
+      broken ≡ is_break (map code second) →
+      (if none && broken then Some cond else None) ≡
+      test_of (kind_of_fork cond (map code first) (map code second))
+  forked cond first second none broken h k =
+      ap₂ (λ a b. if a && b then Some cond else None) h k ∙ fork_test cond first second
+
+  pub test_of_if : (stmt : TacStmt) (cond : ℕ) (first second one two : List TacStmt) → stmt ≡ emit.If cond first second →
+      one ≡ first → two ≡ second →
+      test_of (kind_of_fork cond (map code one) (map code two)) ≡ test_of (kind_of stmt)
+  unfolding roll-TacStmt denote.Hole.Carrier.roll
+  test_of_if stmt cond first second one two is h k =
+      ap₂ (λ a b. test_of (kind_of_fork cond (map code a) (map code b))) h k ∙
+      sym (ap test_of (kind_is (tac.If cond first second))) ∙ ap (λ s. test_of (kind_of s)) (sym is)
 
   pub no_break : (stmts : List TacStmt) → (length stmts ≡ 1 → ⊥) → false ≡ is_break (map code stmts)
   no_break [] h = refl

@@ -27,7 +27,7 @@ fn breaks(stmt: &TacStmt) -> bool
 }
 
 // Whether these are one break.
-#[tactic(auto, using(crate::proofs::Turning::break_alone, crate::proofs::Turning::no_break))]
+#[tactic(auto, using(crate::proofs::Turning::no_break))]
 fn is_break(stmts: &[TacStmt]) -> bool
     ensures { (frame : FrameTree) (places : List Place) (plan : Plan) → result ≡
         is_break (map (select frame places plan) stmts.now) }
@@ -39,15 +39,18 @@ fn is_break(stmts: &[TacStmt]) -> bool
 }
 
 // The value of an `If` that does nothing where it is true, and else breaks.
-#[tactic(auto, using(crate::proofs::Turning::fork_test))]
 fn test_of_fork(cond: u32, first: &[TacStmt], second: &[TacStmt]) -> Option<u32>
     ensures { (frame : FrameTree) (places : List Place) (plan : Plan) → result ≡
         test_of (kind_of_fork cond (map (select frame places plan) first.now)
         (map (select frame places plan) second.now)) }
 {
-    let none = first.is_empty();
-    let broken = is_break(second);
-    if none && broken { Some(cond) } else { None }
+    if !first.is_empty() {
+        return None;
+    }
+    if !is_break(second) {
+        return None;
+    }
+    Some(cond)
 }
 
 fn test_of(stmt: &TacStmt) -> Option<u32>

@@ -138,7 +138,8 @@ rotated-part-requires t c = (
   reaches_head c.args.homes.now.frame.now c.args.homes.now.places.now (plan_by c.args.homes.now.needs.now
     c.args.homes.now.near) c.args.cond c.args.head.now c.args.body.now c.args.next.now
     c.requires.fits _ c.args.self.now _ _ c.len-end.result c.in_ok-plain.ensures
-    (taken_by _ _ _ c.args.cond _ _ _ _ c.register.ensures c.in_ok-take.ensures) c.len-end.ensures,
+    (taken_by c.args.homes.now.frame.now c.args.homes.now.places.now (plan_by c.args.homes.now.needs.now
+    c.args.homes.now.near) c.args.cond c.register.result 5 _ _ c.register.ensures c.in_ok-take.ensures) c.len-end.ensures,
 )
 
 pub rotated-part-requires-2 : goal.rotated-part-requires-2
@@ -147,7 +148,8 @@ rotated-part-requires-2 t c = (
   reaches_next c.args.homes.now.frame.now c.args.homes.now.places.now (plan_by c.args.homes.now.needs.now
     c.args.homes.now.near) c.args.cond c.args.head.now c.args.body.now c.args.next.now
     c.requires.fits _ c.args.self.now _ _ c.len-end.result c.in_ok-plain.ensures
-    (taken_by _ _ _ c.args.cond _ _ _ _ c.register.ensures c.in_ok-take.ensures) c.len-end.ensures
+    (taken_by c.args.homes.now.frame.now c.args.homes.now.places.now (plan_by c.args.homes.now.needs.now
+    c.args.homes.now.near) c.args.cond c.register.result 5 _ _ c.register.ensures c.in_ok-take.ensures) c.len-end.ensures
     _ c.in_ok-part.ensures,
 )
 
@@ -157,7 +159,8 @@ rotated-part-requires-3 t c = (
   reaches_body c.args.homes.now.frame.now c.args.homes.now.places.now (plan_by c.args.homes.now.needs.now
     c.args.homes.now.near) c.args.cond c.args.head.now c.args.body.now c.args.next.now
     c.requires.fits _ c.args.self.now _ _ c.len-end.result c.in_ok-plain.ensures
-    (taken_by _ _ _ c.args.cond _ _ _ _ c.register.ensures c.in_ok-take.ensures) c.len-end.ensures
+    (taken_by c.args.homes.now.frame.now c.args.homes.now.places.now (plan_by c.args.homes.now.needs.now
+    c.args.homes.now.near) c.args.cond c.register.result 5 _ _ c.register.ensures c.in_ok-take.ensures) c.len-end.ensures
     _ c.in_ok-part.ensures _ c.in_ok-part-2.ensures,
 )
 
@@ -166,7 +169,8 @@ rotated-jump_over-requires t c =
     body_over c.args.homes.now.frame.now c.args.homes.now.places.now (plan_by c.args.homes.now.needs.now
     c.args.homes.now.near) c.args.cond c.args.head.now c.args.body.now c.args.next.now
     c.requires.fits _ c.args.self.now _ _ c.len-end.result c.in_ok-plain.ensures
-    (taken_by _ _ _ c.args.cond _ _ _ _ c.register.ensures c.in_ok-take.ensures) c.len-end.ensures
+    (taken_by c.args.homes.now.frame.now c.args.homes.now.places.now (plan_by c.args.homes.now.needs.now
+    c.args.homes.now.near) c.args.cond c.register.result 5 _ _ c.register.ensures c.in_ok-take.ensures) c.len-end.ensures
     _ c.in_ok-part.ensures _ c.in_ok-part-2.ensures _ c.in_ok-part-3.ensures c.len.result c.len-2.result
     c.len-behind.result c.len.ensures c.len-2.ensures c.len-behind.ensures
 
@@ -175,7 +179,8 @@ rotated-branch_back-requires t c =
     lines_reach c.args.homes.now.frame.now c.args.homes.now.places.now (plan_by c.args.homes.now.needs.now
     c.args.homes.now.near) c.args.cond c.args.head.now c.args.body.now c.args.next.now
     c.requires.fits _ c.args.self.now _ _ c.len-end.result c.in_ok-plain.ensures
-    (taken_by _ _ _ c.args.cond _ _ _ _ c.register.ensures c.in_ok-take.ensures) c.len-end.ensures
+    (taken_by c.args.homes.now.frame.now c.args.homes.now.places.now (plan_by c.args.homes.now.needs.now
+    c.args.homes.now.near) c.args.cond c.register.result 5 _ _ c.register.ensures c.in_ok-take.ensures) c.len-end.ensures
     _ c.in_ok-part.ensures _ c.in_ok-part-2.ensures _ c.in_ok-part-3.ensures c.len.result c.len-2.result
     c.len-behind.result c.len.ensures c.len-2.ensures c.len-behind.ensures
 
@@ -184,7 +189,8 @@ rotated-returns t c to_break to_continue =
     all_written c.args.homes.now.frame.now c.args.homes.now.places.now (plan_by c.args.homes.now.needs.now
     c.args.homes.now.near) c.args.cond c.args.head.now c.args.body.now c.args.next.now
     c.requires.fits _ c.args.self.now _ _ c.len-end.result c.in_ok-plain.ensures
-    (taken_by _ _ _ c.args.cond _ _ _ _ c.register.ensures c.in_ok-take.ensures) c.len-end.ensures
+    (taken_by c.args.homes.now.frame.now c.args.homes.now.places.now (plan_by c.args.homes.now.needs.now
+    c.args.homes.now.near) c.args.cond c.register.result 5 _ _ c.register.ensures c.in_ok-take.ensures) c.len-end.ensures
     _ c.in_ok-part.ensures _ c.in_ok-part-2.ensures _ c.in_ok-part-3.ensures c.len.result c.len-2.result
     c.len-behind.result c.len.ensures c.len-2.ensures c.len-behind.ensures
     c.jump_over.result c.branch_back.result _ _ to_break to_continue c.in_ok-plain-2.ensures c.jump_over.ensures
