@@ -1,5 +1,7 @@
 -- What the code of statements in order, of choices and of loops is made of, and that the jumps of their parts reach.
 use Rattle.sc_select.specs.Bounds.{FitsLoop}
+use Rattle.sc_select.specs.Selection.{closing, entrance, function_lines}
+use Rattle.sc_tac.specs.declared.function.TacFnTree.{TacFnTree}
 use Rattle.sc_select.specs.Selection.{Plan, kind_of_fork, role_behind}
 use Rattle.sc_select.proofs.Common.{Bool, Fits, FitsBetween, FrameTree, Instr, Line, List, OnOk, Other, Piece, Place}
 use Rattle.sc_select.proofs.Common.{Role, TacStmt, [], and_first, and_rest, ap, append_assoc, ap₂, arith, as_one}
@@ -11,6 +13,7 @@ use Rattle.sc_select.proofs.Common.{roll-TacStmt, select, select_all, select_ste
 use Rattle.sc_select.proofs.Common.{sym, true, weight, weight_step, with_parts, zero, ℕ, ◌&&◌, ◌++◌, ◌+◌, ◌-◌, ◌<◌}
 use Rattle.sc_select.proofs.Common.{◌==◌, ◌∙◌, ◌∷◌, ◌≡◌, ◌≤◌}
 use Rattle.sc_tac.specs.Prelude.{everywhere}
+use Rattle.std.specs.Prelude.{Err, IfOk, Ok}
 use Rattle.std.specs.declared.result.Result.{Result}
 use Rattle.sc_tac.specs.declared.stmt.TacStmt.TheOpen as tac
 use Rattle.sc_tac.specs.declared.stmt.TacStmt.TheVariants as emit
@@ -443,6 +446,18 @@ module _ (frame : FrameTree) (places : List Place) (plan : Plan) where
       put ∙ ap (λ l. (loop_begins ∷ (xs ++ (ys ++ zs))) ++ (l ∷ old)) same ∙
       ap (λ t. loop_begins ∷ t) joined
 
+  -- A FUNCTION
+  pub function_written : (f : TacFnTree) (stmts : List TacStmt) (old l1 l2 new : List Line) → stmts ≡ f.body →
+      l1 ≡ plainly (closing frame places f.entry) ++ old → l2 ≡ (select_all frame places plan stmts).lines 0 0 ++ l1 →
+      new ≡ plainly (entrance frame places f.params) ++ l2 → new ≡ function_lines frame places plan f ++ old
+  function_written f stmts old l1 l2 new is h1 h2 h3 =
+      let first : List Line = plainly (entrance frame places f.params) in
+      let middle : List Line = (select_all frame places plan f.body).lines 0 0 in
+      let last : List Line = plainly (closing frame places f.entry) in
+      h3 ∙ ap (λ t. first ++ t) (h2 ∙ ap (λ s. (select_all frame places plan s).lines 0 0 ++ l1) is ∙
+      ap (λ t. middle ++ t) h1) ∙
+      sym (append_assoc (first ++ middle) last old ∙ append_assoc first middle (last ++ old))
+
   -- STATEMENTS IN ORDER
   abbrev pieces : List TacStmt → List Piece
   pieces stmts = joined frame places Other (map (select frame places plan) stmts)
@@ -645,3 +660,8 @@ as_written r p q b c new old is h = on_ok_weaker r (λ k. k ∙ ap (λ p. p.line
 pub joined_by : (role same behind : Role) (found : Bool) → role ≡ same → found ≡ joins role behind →
     found ≡ joins same behind
 joined_by role same behind found is h = h ∙ ap (λ r. joins r behind) is
+
+-- what is known of a result, by less that is known
+pub if_ok_weaker : {T E : Type 0} (r : Result T E) (P Q : T → Type 0) → ((x : T) → P x → Q x) → IfOk r P → IfOk r Q
+if_ok_weaker (Ok x) P Q f h = f x h
+if_ok_weaker (Err e) P Q f h = tt

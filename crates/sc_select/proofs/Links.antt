@@ -18,6 +18,8 @@ use Rattle.sc_select.proofs.Common.{short_operation, slice_get, stmt_induction, 
 use Rattle.sc_select.proofs.Common.{sub_word, subst, suc, sym, take, true, word_of_constant, ℕ, ◌&&◌, ◌*◌, ◌++◌, ◌+◌}
 use Rattle.sc_select.proofs.Common.{◌<◌, ◌∙◌, ◌∷◌, ◌≡◌, ◌≤◌}
 use Rattle.std.specs.Prelude.{neg_ℤ}
+use Rattle.std.proofs.Common.{le-ltb, lt-ltb, nat_lt}
+use Rattle.sc_select.specs.Selection.{code_of, is_near, plan_of}
 use Rattle.std.proofs.lemmas.List.Elements.{All-cons, All-nil, All-weaker}
 use Rattle.std.proofs.lemmas.List.Kept.{AllPairs-cons}
 use Rattle.sc_tac.specs.declared.stmt.TacStmt.TheOpen as tac
@@ -147,7 +149,7 @@ module _ (frame : FrameTree) (places : List Place) (plan : Plan) where
       (λ t o. straightly_complete (object_read frame places t o))
       (λ t l o w. straightly_complete (short_operation frame places t l (short_form o w)))
       (λ v o. straightly_complete (object_store frame places v o))
-      (λ l f. straightly_complete (short_return frame places l f)) followed_complete stmts h
+      (λ l o w. straightly_complete (short_return frame places l (short_form o w))) followed_complete stmts h
 
   with_role : (instrs : List Instr) (role : Role) → IsComplete (record (straightly frame places instrs) { role = role })
   with_role instrs role = record { complete = λ b c. plain_complete instrs }
@@ -333,3 +335,22 @@ whole_function frame places near f tree marks lines old marked same h none =
     append-nil (function_lines frame places (plan_by marks near) tree) ∙
     ap (λ t. function_lines frame places (plan_by marks near) t) same ∙
     (λ i. function_lines frame places (record { needed = λ t. marked t i; near = near }) f)
+
+-- which of the two codes is a function's
+pub near_code : (f : TacFnTree) (places : List Place) (frame : FrameTree) (lines : List Line) →
+    lines ≡ function_lines frame places (plan_of f true) f → length lines < 1024 →
+    code_of_lines lines ≡ code_of f places frame
+near_code f places frame lines is short =
+    let near : is_near f places frame ≡ true =
+    ap (λ l. nat_lt (length l) 1024) (sym is) ∙ lt-ltb (length lines) 1024 short in
+    ap code_of_lines is ∙
+    ap (λ b. code_of_lines (function_lines frame places (plan_of f b) f)) (sym near)
+
+pub far_code : (f : TacFnTree) (places : List Place) (frame : FrameTree) (near far : List Line) →
+    near ≡ function_lines frame places (plan_of f true) f → far ≡ function_lines frame places (plan_of f false) f →
+    1024 ≤ length near → code_of_lines far ≡ code_of f places frame
+far_code f places frame near far is other long =
+    let not_near : is_near f places frame ≡ false =
+    ap (λ l. nat_lt (length l) 1024) (sym is) ∙ le-ltb (length near) 1024 long in
+    ap code_of_lines other ∙
+    ap (λ b. code_of_lines (function_lines frame places (plan_of f b) f)) (sym not_near)

@@ -217,6 +217,10 @@ module _ (frame : FrameTree) (places : List Place) (plan : Plan) where
         kept_few frame (slice_get places dest),
       )
 
+  one_at_most : (rd rs : ℕ) (form : Option ShortForm) → length (short_code rd rs form) ≤ 1
+  one_at_most rd rs None = omega arith
+  one_at_most rd rs (Some form) = omega arith
+
   short_few : (dest left : ℕ) (form : Option ShortForm) → length (short_operation frame places dest left form) ≤ 7
   short_few dest left form =
       let rd : ℕ = result_register frame places dest in
@@ -232,14 +236,10 @@ module _ (frame : FrameTree) (places : List Place) (plan : Plan) where
         one_at_most rd rs form,
         kept_few frame (slice_get places dest),
       )
-    where
-      one_at_most : (rd rs : ℕ) (form : Option ShortForm) → length (short_code rd rs form) ≤ 1
-      one_at_most rd rs None = omega arith
-      one_at_most rd rs (Some form) = omega arith
 
-  short_return_few : (left : ℕ) (form : ShortForm) → length (short_return frame places left form) ≤ 9
+  short_return_few : (left : ℕ) (form : Option ShortForm) → length (short_return frame places left form) ≤ 9
   short_return_few left form =
-      let code : List Instr = short_code 10 (operand frame places 5 left) (Some form) in
+      let code : List Instr = short_code 10 (operand frame places 5 left) form in
       let whole : length (short_return frame places left form) ≡
       length ((take frame places 5 left ++ code) ++ frame_left frame.bytes) = refl in
       omega (
@@ -249,6 +249,7 @@ module _ (frame : FrameTree) (places : List Place) (plan : Plan) where
         length-append (take frame places 5 left) code,
         taken_few frame 5 (slice_get places left),
         leave_frame frame.bytes,
+        one_at_most 10 (operand frame places 5 left) form,
       )
 
   object_read_few : (dest object : ℕ) → length (object_read frame places dest object) ≤ 6
@@ -487,11 +488,12 @@ module _ (frame : FrameTree) (places : List Place) (plan : Plan) where
           let heavy : stmt_weight stmt ≡ 8 =
           ap stmt_weight (returns_it frame places plan stmt pair.temp pair.returns) ∙
           fold-roll-TacStmt ℕ weight_step (tac.Return (Some pair.temp)) in
+          let form : Option ShortForm = short_form pair.op pair.word in
           let code : (as_one frame places before (select frame places plan stmt).role).size ≡
-          (straightly frame places (short_return frame places pair.left pair.form)).size =
+          (straightly frame places (short_return frame places pair.left form)).size =
           ap₂ (λ r s. (as_one frame places r s).size) pair.applies pair.returns in
-          let few : (straightly frame places (short_return frame places pair.left pair.form)).size ≤ 9 =
-          straightly_few _ 9 (short_return_few pair.left pair.form) in
+          let few : (straightly frame places (short_return frame places pair.left form)).size ≤ 9 =
+          straightly_few _ 9 (short_return_few pair.left form) in
           omega (arith, heavy, code, few)
 
   -- a statement that is one with the one behind it has no code, so that what that one takes of its weight is left

@@ -94,34 +94,54 @@ fn read(alloc: Global, lines: Backward) -> Result<CodeTree, OutOfMemory>
 fn planned(alloc: Global, f: &TacFn, homes: &Homes) -> Result<Backward, OutOfMemory>
     requires reached { 96 * f.now.nodes ≤ 1048576 }
     requires needs { (t : ℕ) → has_mark homes.now.needs.now t ≡ needed_in f.now.body t }
-    ensures { IfOk result (λ lines. lines ≡
+    ensures lines { IfOk result (λ lines. lines ≡
         function_lines homes.now.frame.now homes.now.places.now (plan_of f.now homes.now.near) f.now) }
+    ensures few { IfOk result (λ lines. length lines < 2 ^ 32) }
 {
     let mut lines = Backward::new(alloc);
     lines.function(homes, f.tree())?;
     Ok(lines)
 }
 
-/// The code of a function whose temporaries lie in these places, with this frame. A jump reaches over all of it, and a
-/// branch, where its loops end with their tests.
+// The lines of a function: its loops end with their tests where a branch reaches all over it.
+fn chosen(
+    alloc: Global,
+    f: &TacFn,
+    places: &Places,
+    frame: &Frame,
+) -> Result<Backward, OutOfMemory>
+    requires { 96 * f.now.nodes ≤ 1048576 }
+    ensures lines { IfOk result (λ lines. code_of_lines lines ≡ code_of f.now places.now frame.now) }
+    ensures few { IfOk result (λ lines. length lines < 2 ^ 32) }
+{
+    let needs = needs_of(alloc, f)?;
+    let near = Homes {
+        frame,
+        places,
+        needs: &needs,
+        near: true,
+    };
+    let lines = planned(alloc, f, &near)?;
+    if lines.len() < BRANCH_REACH {
+        return Ok(lines);
+    }
+    let far = Homes {
+        frame,
+        places,
+        needs: &needs,
+        near: false,
+    };
+    planned(alloc, f, &far)
+}
+
+/// The code of a function whose temporaries lie in these places, with this frame. A jump reaches over all of it.
 pub fn select(alloc: Global, f: &TacFn, places: &Places, frame: &Frame) -> Result<Code, OutOfMemory>
     requires { 96 * f.now.nodes ≤ 1048576 }
     ensures code { IfOk result (λ code. code ≡ code_of f.now places.now frame.now) }
     ensures light { IfOk result (λ code. length code.instrs ≤ entry_weight f.now.params + weight f.now.body) }
     ensures rules { IfOk result IsCode }
 {
-    let needs = needs_of(alloc, f)?;
-    let mut homes = Homes {
-        frame,
-        places,
-        needs: &needs,
-        near: true,
-    };
-    let lines = planned(alloc, f, &homes)?;
-    if lines.len() < BRANCH_REACH {
-        return Ok(Code::new(read(alloc, lines)?));
-    }
-    homes.near = false;
-    let lines = planned(alloc, f, &homes)?;
+    let lines = chosen(alloc, f, places, frame)?;
+    let _tree = f.tree();
     Ok(Code::new(read(alloc, lines)?))
 }
