@@ -8,7 +8,11 @@ use Rattle.sc_emit.proofs.Common.{place_needed, refl, role_of_store, roll-TacStm
 use Rattle.sc_emit.proofs.Common.{stmt_induction, store_role, subst, sym, true, ℕ, ⊎_elim, ◌++◌, ◌==◌, ◌||◌, ◌∙◌}
 use Rattle.sc_emit.proofs.Common.{◌∷◌, ◌≡◌, ◌⊎◌}
 use Rattle.sc_tac.specs.declared.stmt.TacStmt.TheOpen as tac
-use Rattle.sc_select.specs.declared.roles.Role.TheVariants.{Stores}
+use Rattle.sc_select.specs.declared.roles.Role.TheVariants.{Applies, Returns, Stores}
+use Rattle.sc_select.specs.Selection.{ending_test, role_behind}
+use Rattle.sc_select.specs.Prelude.{in_order, short_form}
+use Rattle.sc_select.proofs.Joining.{turning_role}
+use Rattle.std.specs.Prelude.{is_some, ◌&&◌}
 
 -- LISTS
 pub one_of_all : (p : ℕ → Bool) (xs : List ℕ) (t : ℕ) → list_all p xs ≡ true → is_one t xs ≡ true → p t ≡ true
@@ -40,6 +44,28 @@ all_among (x ∷ xs) ys h =
 abbrev pub gives_of : Role → Option ℕ
 gives_of (Places temp object) = Some temp
 gives_of _ = None
+
+-- what a statement gives to its neighbour doesn't depend on the one before it
+pub gives_behind : (before own : Role) → gives_of (role_behind before own) ≡ gives_of own
+gives_behind (Sets temp word) (Operates other left o) = by (temp == other && is_some (short_form o word))
+  where
+    by : (b : Bool) → gives_of (if b then Applies other left o word else Operates other left o) ≡ None
+    by true = refl
+    by false = refl
+gives_behind (Sets temp word) (Places other object) = refl
+gives_behind (Sets temp word) (Loads other) = refl
+gives_behind (Sets temp word) (Sets other value) = refl
+gives_behind (Sets temp word) (Stores other value) = refl
+gives_behind (Sets temp word) (Applies other left o value) = refl
+gives_behind (Sets temp word) (Returns other) = refl
+gives_behind (Sets temp word) Other = refl
+gives_behind (Places temp object) own = refl
+gives_behind (Loads temp) own = refl
+gives_behind (Operates temp left o) own = refl
+gives_behind (Stores temp value) own = refl
+gives_behind (Applies temp left o word) own = refl
+gives_behind (Returns temp) own = refl
+gives_behind Other own = refl
 
 module _ (frame : FrameTree) (places : List Place) (plan : Plan) where
   abbrev role_of : TacStmt → Role
@@ -73,14 +99,18 @@ module _ (frame : FrameTree) (places : List Place) (plan : Plan) where
   layer_gives (tac.If cond first second) =
       ap gives_of (fork_role frame places cond (map (select frame places plan) first)
       (map (select frame places plan) second))
-  layer_gives (tac.Loop head body next) = refl
+  layer_gives (tac.Loop head body next) =
+      ap gives_of (turning_role frame places (if plan.near then ending_test (map (select frame places plan) head)
+      else None) (map (select frame places plan) head) (in_order frame places (map (select frame places plan) body))
+      (in_order frame places (map (select frame places plan) next)))
   layer_gives tac.Break = refl
   layer_gives tac.Continue = refl
   layer_gives (tac.CallOwn dest function args) = refl
   layer_gives (tac.CallCross dest comp index args) = refl
   layer_gives (tac.Input dest) = refl
   layer_gives (tac.Output value) = refl
-  layer_gives (tac.Return value) = refl
+  layer_gives (tac.Return None) = refl
+  layer_gives (tac.Return (Some value)) = refl
 
   -- what a statement gives to its neighbour, by its role and by its need
   pub need_gives : (stmt : TacStmt) → Gives stmt
@@ -91,7 +121,7 @@ module _ (frame : FrameTree) (places : List Place) (plan : Plan) where
   -- a store, by its need
   record IsStoreAt (stmt : TacStmt) (place : ℕ) : Type 0 where
     value : ℕ
-    role_is : role_of stmt ≡ role_of_store plan.plan.needed place value
+    role_is : role_of stmt ≡ role_of_store plan.needed place value
 
   layer_stores : (layer : TacStmt-F TacStmt) (place : ℕ) → (layer_need layer).stores ≡ Some place →
       IsStoreAt (roll-TacStmt layer) place
@@ -121,6 +151,8 @@ module _ (frame : FrameTree) (places : List Place) (plan : Plan) where
   read_behind (Sets temp word) place value h apart = and_first (plan.needed place) true h
   read_behind (Operates temp left o) place value h apart = and_first (plan.needed place) true h
   read_behind (Stores temp from) place value h apart = and_first (plan.needed place) true h
+  read_behind (Applies temp left o word) place value h apart = and_first (plan.needed place) true h
+  read_behind (Returns temp) place value h apart = and_first (plan.needed place) true h
   read_behind Other place value h apart = and_first (plan.needed place) true h
 
   pub store_alone : (before : Role) (stmt : TacStmt) →

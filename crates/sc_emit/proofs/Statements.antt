@@ -50,7 +50,8 @@ module _ (T : Setting) (R : Running) (formed : IsWellFormed T.image) (inputs : A
     (nodes : ℕ) (is : IsActivation T.performs cells R.places nodes R.activation) (placed : ArePlaced R)
     (gapless : HasNoGap T R) (calls : Calls) (follow : CallsFollow T calls) (function : ℕ → Bool)
     (entry : (comp index : ℕ) → Bool) (global : ℕ → Bool)
-    (reached : AreReached T R.activation.here.comp function entry global) where
+    (reached : AreReached T R.activation.here.comp function entry global) (limit : ℕ) (pays : limit ≤ T.turn_pays)
+    (reach : R.plan.near ≡ true → limit < branch_reach) where
   abbrev here : Here
   here = R.activation.here
 
@@ -78,7 +79,7 @@ module _ (T : Setting) (R : Running) (formed : IsWellFormed T.image) (inputs : A
 
   abbrev Followed : TacStmt → Type 0
   Followed stmt =
-      PassesAll tests stmt → AllNeeded (need stmt).reads → StoresNeeded (need stmt) → (code stmt).size ≤ T.turn_pays →
+      PassesAll tests stmt → AllNeeded (need stmt).reads → StoresNeeded (need stmt) → (code stmt).size ≤ limit →
       Follows T R (does stmt) (code stmt) (trail stmt)
 
   -- the place of a temporary that a statement names first
@@ -95,31 +96,34 @@ module _ (T : Setting) (R : Running) (formed : IsWellFormed T.image) (inputs : A
 
   abbrev Row : Role → List TacStmt → Type 0
   Row before stmts =
-      (coded before stmts).size ≤ T.turn_pays →
+      (coded before stmts).size ≤ limit →
       Follows T R (all_do (map does stmts)) (coded before stmts) (row (map trail stmts))
 
-  piece_by : (before behind : Role) (stmt : TacStmt) (one two : Bool) → joins before (code stmt).role ≡ one →
-      joins (code stmt).role behind ≡ two →
+  piece_by : (before behind : Role) (stmt : TacStmt) (one two : Bool) →
+      joins (role_behind before (code stmt).role) behind ≡ one → joins before (code stmt).role ≡ two →
       between frame R.places before (code stmt) behind ≡
-      (if one then as_one frame R.places before (code stmt).role else if two then no_lines else code stmt)
+      (if one then no_lines else if two then as_one frame R.places before (code stmt).role else code stmt)
   piece_by before behind stmt one two h k =
-      ap₂ (λ a b. if a then as_one frame R.places before (code stmt).role else if b then no_lines else code stmt) h k
+      ap₂ (λ a b. if a then no_lines else if b then as_one frame R.places before (code stmt).role else code stmt) h k
 
   -- a statement that has code of its own, before others
   by_itself : (before : Role) (stmt : TacStmt) (rest : List TacStmt) → joins before (code stmt).role ≡ false →
       joins (code stmt).role (role_first (map code rest)) ≡ false →
-      ((code stmt).size ≤ T.turn_pays → Follows T R (does stmt) (code stmt) (trail stmt)) →
+      ((code stmt).size ≤ limit → Follows T R (does stmt) (code stmt) (trail stmt)) →
       Row (code stmt).role rest → Row before (stmt ∷ rest)
   by_itself before stmt rest none alone first later few =
-      let behind : Code = coded (code stmt).role rest in
+      let own : Role = role_behind before (code stmt).role in
+      let own_is : own ≡ (code stmt).role = role_alone before (code stmt).role none in
+      let behind : Code = coded own rest in
       let same : between frame R.places before (code stmt) (role_first (map code rest)) ≡ code stmt =
-      piece_by before (role_first (map code rest)) stmt false false none alone in
-      let all : (code stmt).size + behind.size ≤ T.turn_pays =
-      subst (λ p. p.size + behind.size ≤ T.turn_pays) same few in
+      piece_by before (role_first (map code rest)) stmt false false
+      (ap (λ r. joins r (role_first (map code rest))) own_is ∙ alone) none in
+      let all : (code stmt).size + behind.size ≤ limit =
+      subst (λ p. p.size + behind.size ≤ limit) same few in
       subst (λ p. Follows T R (all_do (map does (stmt ∷ rest))) (followed p behind) (row (map trail (stmt ∷ rest))))
       (sym same)
       (row_follows T R (does stmt) (all_do (map does rest)) (code stmt) behind (trail stmt) (map trail rest)
-      (first (omega (arith, all))) (later (omega (arith, all))))
+      (first (omega (arith, all))) (subst (λ r. Row r rest) (sym own_is) later (omega (arith, all))))
 
   -- the word of a variable, which two statements read
   read_follows_here : (dest object : ℕ) (pointer : Bool) →
@@ -192,36 +196,74 @@ module _ (T : Setting) (R : Running) (formed : IsWellFormed T.image) (inputs : A
       (short_follows T R formed inputs cells nodes is placed calls dest left value o apart read form form_is
       (is_sound o k.1.1.1.1.1.0) (is_word dest value h.1.1.1.1.0) place.0 place.1)
 
+  -- the same, given back
+  back_follows_here : (dest left : ℕ) (value : Constant) (o : TacOp) (form : ShortForm) →
+      (apart : (left == dest) ≡ false) (read : R.plan.needed left ≡ true) →
+      short_form o (word_of_constant value) ≡ Some form →
+      PassesAll tests (roll-TacStmt (tac.Const dest value)) →
+      PassesAll tests (roll-TacStmt (tac.Op dest o left (Some dest))) →
+      Follows T R (gives_back T R formed inputs cells nodes is placed calls dest left value o apart read)
+      (straightly frame R.places (short_return frame R.places left (short_form o (word_of_constant value))))
+      (all_three T R formed inputs cells nodes is placed calls dest left value o apart read)
+  back_follows_here dest left value o form apart read form_is pass pass' =
+      let h = passes_here tests (tac.Const dest value) pass in
+      let k = passes_here tests (tac.Op dest o left (Some dest)) pass' in
+      subst (λ form. Follows T R (gives_back T R formed inputs cells nodes is placed calls dest left value o apart read)
+      (straightly frame R.places (short_return frame R.places left form))
+      (all_three T R formed inputs cells nodes is placed calls dest left value o apart read)) (sym form_is)
+      (gives_back_follows T R formed inputs cells nodes is placed calls dest left value o apart read form form_is
+      (is_sound o k.1.1.1.1.1.0) (is_word dest value h.1.1.1.1.0))
+
+  -- the first operand of an operator is read in its place
+  left_wanted : (stmt : TacStmt) (temp left : ℕ) (o : TacOp) → stmt ≡ roll-TacStmt (tac.Op temp o left (Some temp)) →
+      AllNeeded (need stmt).reads → R.plan.needed left ≡ true
+  left_wanted stmt temp left o is h =
+      let reads_left : AllNeeded (left ∷ temp ∷ []) = reads_of stmt (tac.Op temp o left (Some temp)) is h in
+      and_first (R.plan.needed left) (R.plan.needed temp && true) reads_left
+
+  by_test : {C : Type 0} (found : Bool) → (found ≡ false → C) → (found ≡ true → C) → C
+  by_test true off on = on refl
+  by_test false off on = off refl
+
   abbrev layer_does : TacStmt-F TacStmt → Codes
   layer_does layer = code_step wrapping here calls (map-TacStmt _ _ does layer)
 
   abbrev layer_trail : TacStmt-F TacStmt → Trail
   layer_trail layer = trail_step (map-TacStmt _ _ trail layer)
 
+  does_layer : (stmt : TacStmt) (layer : TacStmt-F TacStmt) → stmt ≡ roll-TacStmt layer → does stmt ≡ layer_does layer
+  does_layer stmt layer is = ap does is ∙ fold-roll-TacStmt Codes (code_step wrapping here calls) layer
+
+  trail_layer : (stmt : TacStmt) (layer : TacStmt-F TacStmt) → stmt ≡ roll-TacStmt layer →
+      trail stmt ≡ layer_trail layer
+  trail_layer stmt layer is = ap trail is ∙ fold-roll-TacStmt Trail trail_step layer
+
+  -- the layers of statements in their place
+  as_layers : (does_them their : List Codes) (trails layers : List Trail) (c : Code) → does_them ≡ their →
+      trails ≡ layers → Follows T R (all_do their) c (row layers) → Follows T R (all_do does_them) c (row trails)
+  as_layers does_them their trails layers c h k F =
+      subst (λ d. Follows T R (all_do d) c (row trails)) (sym h)
+      (subst (λ t. Follows T R (all_do their) c (row t)) (sym k) F)
+
   -- two statements of these layers that are one piece, before others: the first has no lines, the second those of both
   two_follow : (before : Role) (stmt next : TacStmt) (rest : List TacStmt) (first second : TacStmt-F TacStmt)
       (one : Code) (both : Codes) (both_trail : Trail) → stmt ≡ roll-TacStmt first → next ≡ roll-TacStmt second →
       between frame R.places before (code stmt) (code next).role ≡ no_lines →
-      between frame R.places (code stmt).role (code next) (role_first (map code rest)) ≡ one →
+      between frame R.places (role_behind before (code stmt).role) (code next) (role_first (map code rest)) ≡ one →
       Follows T R both one both_trail →
       ((c : Code) →
       Follows T R (λ temps s. then_follow one_by_one (both temps s) (all_do (map does rest))) c
       (row (both_trail ∷ map trail rest)) →
       Follows T R (all_do (layer_does first ∷ layer_does second ∷ map does rest)) c
       (row (layer_trail first ∷ layer_trail second ∷ map trail rest))) →
-      Row (code next).role rest → Row before (stmt ∷ next ∷ rest)
+      Row (role_behind (role_behind before (code stmt).role) (code next).role) rest → Row before (stmt ∷ next ∷ rest)
   two_follow before stmt next rest first second one both both_trail first_is second_is c1 c2 F same later few =
-      let behind : Code = coded (code next).role rest in
-      let d1 : does stmt ≡ layer_does first =
-      ap does first_is ∙ fold-roll-TacStmt Codes (code_step wrapping here calls) first in
-      let d2 : does next ≡ layer_does second =
-      ap does second_is ∙ fold-roll-TacStmt Codes (code_step wrapping here calls) second in
-      let t1 : trail stmt ≡ layer_trail first = ap trail first_is ∙ fold-roll-TacStmt Trail trail_step first in
-      let t2 : trail next ≡ layer_trail second = ap trail second_is ∙ fold-roll-TacStmt Trail trail_step second in
-      let sizes : no_lines.size + (one.size + behind.size) ≤ T.turn_pays =
-      subst (λ p. p.size + (one.size + behind.size) ≤ T.turn_pays) c1
-      (subst (λ p. (between frame R.places before (code stmt) (code next).role).size + (p.size + behind.size) ≤
-      T.turn_pays) c2 few) in
+      let own : Role = role_behind before (code stmt).role in
+      let behind : Code = coded (role_behind own (code next).role) rest in
+      let sizes : no_lines.size + (one.size + behind.size) ≤ limit =
+      subst (λ p. p.size + (one.size + behind.size) ≤ limit) c1
+      (subst (λ p. (between frame R.places before (code stmt) (code next).role).size + (p.size + behind.size) ≤ limit)
+      c2 few) in
       let done : Follows T R (all_do (layer_does first ∷ layer_does second ∷ map does rest))
       (followed no_lines (followed one behind)) (row (layer_trail first ∷ layer_trail second ∷ map trail rest)) =
       behind_nothing T R (all_do (layer_does first ∷ layer_does second ∷ map does rest)) (followed one behind)
@@ -230,39 +272,92 @@ module _ (T : Setting) (R : Running) (formed : IsWellFormed T.image) (inputs : A
       (row_follows T R both (all_do (map does rest)) one behind both_trail (map trail rest) F
       (later (omega (arith, sizes))))) in
       subst (λ p. Follows T R (all_do (map does (stmt ∷ next ∷ rest))) (followed p (followed
-      (between frame R.places (code stmt).role (code next) (role_first (map code rest))) behind))
+      (between frame R.places own (code next) (role_first (map code rest))) behind))
       (row (map trail (stmt ∷ next ∷ rest)))) (sym c1)
       (subst (λ p. Follows T R (all_do (map does (stmt ∷ next ∷ rest))) (followed no_lines (followed p behind))
       (row (map trail (stmt ∷ next ∷ rest)))) (sym c2)
-      (subst (λ d. Follows T R (all_do (d ∷ does next ∷ map does rest)) (followed no_lines (followed one behind))
-      (row (map trail (stmt ∷ next ∷ rest)))) (sym d1)
-      (subst (λ d. Follows T R (all_do (layer_does first ∷ d ∷ map does rest))
-      (followed no_lines (followed one behind)) (row (map trail (stmt ∷ next ∷ rest)))) (sym d2)
-      (subst (λ t. Follows T R (all_do (layer_does first ∷ layer_does second ∷ map does rest))
-      (followed no_lines (followed one behind)) (row (t ∷ trail next ∷ map trail rest))) (sym t1)
-      (subst (λ t. Follows T R (all_do (layer_does first ∷ layer_does second ∷ map does rest))
-      (followed no_lines (followed one behind)) (row (layer_trail first ∷ t ∷ map trail rest))) (sym t2) done)))))
+      (as_layers (map does (stmt ∷ next ∷ rest)) (layer_does first ∷ layer_does second ∷ map does rest)
+      (map trail (stmt ∷ next ∷ rest)) (layer_trail first ∷ layer_trail second ∷ map trail rest)
+      (followed no_lines (followed one behind))
+      (ap₂ (λ a b. a ∷ b ∷ map does rest) (does_layer stmt first first_is) (does_layer next second second_is))
+      (ap₂ (λ a b. a ∷ b ∷ map trail rest) (trail_layer stmt first first_is) (trail_layer next second second_is))
+      done))
 
-  -- two statements that are one piece, before others
-  as_one_follows : (before : Role) (stmt next : TacStmt) (rest : List TacStmt) → joins before (code stmt).role ≡ false →
-      joins (code stmt).role (code next).role ≡ true → PassesAll tests stmt → PassesAll tests next →
-      AllNeeded (need next).reads →
-      (joins (code next).role (role_first (map code rest)) ≡ false → Row (code next).role rest) →
-      Row before (stmt ∷ next ∷ rest)
-  as_one_follows before stmt next rest none both pass pass' reads_next later =
-      ⊎_elim read (⊎_elim store short) (which_pair (code stmt).role (code next).role both)
+  -- three statements that are one piece: the last has the lines of all
+  three_follow : (before : Role) (stmt next last : TacStmt) (rest : List TacStmt)
+      (first second third : TacStmt-F TacStmt) (one : Code) (all : Codes) (all_trail : Trail) →
+      stmt ≡ roll-TacStmt first → next ≡ roll-TacStmt second → last ≡ roll-TacStmt third →
+      between frame R.places before (code stmt) (code next).role ≡ no_lines →
+      between frame R.places (role_behind before (code stmt).role) (code next) (code last).role ≡ no_lines →
+      between frame R.places (role_behind (role_behind before (code stmt).role) (code next).role) (code last)
+      (role_first (map code rest)) ≡ one → Follows T R all one all_trail →
+      ((c : Code) →
+      Follows T R (λ temps s. then_follow one_by_one (all temps s) (all_do (map does rest))) c
+      (row (all_trail ∷ map trail rest)) →
+      Follows T R (all_do (layer_does first ∷ layer_does second ∷ layer_does third ∷ map does rest)) c
+      (row (layer_trail first ∷ layer_trail second ∷ layer_trail third ∷ map trail rest))) →
+      Row (role_behind (role_behind (role_behind before (code stmt).role) (code next).role) (code last).role) rest →
+      Row before (stmt ∷ next ∷ last ∷ rest)
+  three_follow before stmt next last rest first second third one all all_trail first_is second_is third_is c1 c2 c3 F
+      same later few =
+      let own : Role = role_behind before (code stmt).role in
+      let own' : Role = role_behind own (code next).role in
+      let behind : Code = coded (role_behind own' (code last).role) rest in
+      let stmts : List TacStmt = stmt ∷ next ∷ last ∷ rest in
+      let p1 : Code = between frame R.places before (code stmt) (code next).role in
+      let p2 : Code = between frame R.places own (code next) (code last).role in
+      let p3 : Code = between frame R.places own' (code last) (role_first (map code rest)) in
+      let sizes : no_lines.size + (no_lines.size + (one.size + behind.size)) ≤ limit =
+      subst (λ p. p.size + (no_lines.size + (one.size + behind.size)) ≤ limit) c1
+      (subst (λ p. p1.size + (p.size + (one.size + behind.size)) ≤ limit) c2
+      (subst (λ p. p1.size + (p2.size + (p.size + behind.size)) ≤ limit) c3 few)) in
+      let layers : List Codes = layer_does first ∷ layer_does second ∷ layer_does third ∷ map does rest in
+      let trails : List Trail = layer_trail first ∷ layer_trail second ∷ layer_trail third ∷ map trail rest in
+      let done : Follows T R (all_do layers) (followed no_lines (followed no_lines (followed one behind))) (row trails) =
+      behind_nothing T R (all_do layers) (followed no_lines (followed one behind)) (row trails)
+      (behind_nothing T R (all_do layers) (followed one behind) (row trails)
+      (same (followed one behind)
+      (row_follows T R all (all_do (map does rest)) one behind all_trail (map trail rest) F
+      (later (omega (arith, sizes)))))) in
+      subst (λ p. Follows T R (all_do (map does stmts)) (followed p (followed p2 (followed p3 behind)))
+      (row (map trail stmts))) (sym c1)
+      (subst (λ p. Follows T R (all_do (map does stmts)) (followed no_lines (followed p (followed p3 behind)))
+      (row (map trail stmts))) (sym c2)
+      (subst (λ p. Follows T R (all_do (map does stmts)) (followed no_lines (followed no_lines (followed p behind)))
+      (row (map trail stmts))) (sym c3)
+      (as_layers (map does stmts) layers (map trail stmts) trails
+      (followed no_lines (followed no_lines (followed one behind)))
+      (ap₂ (λ a b. a ∷ b ∷ does last ∷ map does rest) (does_layer stmt first first_is)
+      (does_layer next second second_is) ∙
+      ap (λ c. layer_does first ∷ layer_does second ∷ c ∷ map does rest) (does_layer last third third_is))
+      (ap₂ (λ a b. a ∷ b ∷ trail last ∷ map trail rest) (trail_layer stmt first first_is)
+      (trail_layer next second second_is) ∙
+      ap (λ c. layer_trail first ∷ layer_trail second ∷ c ∷ map trail rest) (trail_layer last third third_is))
+      done)))
+
+  -- two statements that are one piece, before others with which they aren't
+  pair_follows : (before : Role) (stmt next : TacStmt) (rest : List TacStmt) → joins before (code stmt).role ≡ false →
+      joins (code stmt).role (code next).role ≡ true →
+      joins (role_behind (code stmt).role (code next).role) (role_first (map code rest)) ≡ false →
+      PassesAll tests stmt → PassesAll tests next → AllNeeded (need next).reads →
+      Row (role_behind (code stmt).role (code next).role) rest → Row before (stmt ∷ next ∷ rest)
+  pair_follows before stmt next rest none both alone pass pass' reads_next later =
+      ⊎_elim read (⊎_elim store (⊎_elim short back)) (which_pair (code stmt).role (code next).role both)
     where
-      c1 : between frame R.places before (code stmt) (code next).role ≡ no_lines
-      c1 = piece_by before (code next).role stmt false true none both
+      own_is : role_behind before (code stmt).role ≡ (code stmt).role
+      own_is = role_alone before (code stmt).role none
 
-      c2 : between frame R.places (code stmt).role (code next) (role_first (map code rest)) ≡
+      c1 : between frame R.places before (code stmt) (code next).role ≡ no_lines
+      c1 = piece_by before (code next).role stmt true false (ap (λ r. joins r (code next).role) own_is ∙ both) none
+
+      c2 : between frame R.places (role_behind before (code stmt).role) (code next) (role_first (map code rest)) ≡
           as_one frame R.places (code stmt).role (code next).role
       c2 =
-          piece_by (code stmt).role (role_first (map code rest)) next true
-          (joins (code next).role (role_first (map code rest))) both refl
+          ap (λ r. between frame R.places r (code next) (role_first (map code rest))) own_is ∙
+          piece_by (code stmt).role (role_first (map code rest)) next false true alone both
 
-      behind : Row (code next).role rest
-      behind = later (last_of_two (code stmt).role (code next).role (role_first (map code rest)) both)
+      behind : Row (role_behind (role_behind before (code stmt).role) (code next).role) rest
+      behind = subst (λ r. Row (role_behind r (code next).role) rest) (sym own_is) later
 
       read : IsRead (code stmt).role (code next).role → Row before (stmt ∷ next ∷ rest)
       read pair =
@@ -299,10 +394,7 @@ module _ (T : Setting) (R : Running) (formed : IsWellFormed T.image) (inputs : A
           let first = sets_it frame R.places R.plan stmt pair.temp pair.word pair.sets in
           let second = operates_it frame R.places R.plan next pair.temp pair.left pair.op pair.operates in
           let word_is : pair.word ≡ word_of_constant first.value = sym first.word_is in
-          let reads_left : AllNeeded (pair.left ∷ pair.temp ∷ []) = reads_of next
-          (tac.Op pair.temp pair.op pair.left (Some pair.temp)) second.is reads_next in
-          let wants : R.plan.needed pair.left ≡ true =
-          and_first (R.plan.needed pair.left) (R.plan.needed pair.temp && true) reads_left in
+          let wants = left_wanted next pair.temp pair.left pair.op second.is reads_next in
           two_follow before stmt next rest (tac.Const pair.temp first.value)
           (tac.Op pair.temp pair.op pair.left (Some pair.temp))
           (straightly frame R.places
@@ -320,18 +412,84 @@ module _ (T : Setting) (R : Running) (formed : IsWellFormed T.image) (inputs : A
           (ap (short_form pair.op) first.word_is ∙ pair.form_is) (subst (PassesAll tests) first.is pass)
           (subst (PassesAll tests) second.is pass')) (λ c F. F) behind
 
-  either_way : (before : Role) (stmt next : TacStmt) (rest : List TacStmt) → joins before (code stmt).role ≡ false →
-      ((code stmt).size ≤ T.turn_pays → Follows T R (does stmt) (code stmt) (trail stmt)) → PassesAll tests stmt →
-      PassesAll tests next → AllNeeded (need next).reads → (joins (code stmt).role (code next).role ≡ false →
-      Row (code stmt).role (next ∷ rest)) →
-      (joins (code next).role (role_first (map code rest)) ≡ false → Row (code next).role rest) →
-      Row before (stmt ∷ next ∷ rest)
-  either_way before stmt next rest none first pass pass' reads_next later behind =
-      by (joins (code stmt).role (code next).role) refl
+      back : IsReturned (code stmt).role (code next).role → Row before (stmt ∷ next ∷ rest)
+      back pair = absurd (never_applies frame R.places R.plan stmt pair.temp pair.left pair.op pair.word pair.applies)
+
+  -- three statements that are one piece, before others: the third gives back what the two before it compute
+  three_are_one : (before : Role) (stmt next last : TacStmt) (rest : List TacStmt) →
+      joins before (code stmt).role ≡ false → joins (code stmt).role (code next).role ≡ true →
+      joins (role_behind (code stmt).role (code next).role) (code last).role ≡ true →
+      PassesAll tests stmt → PassesAll tests next → AllNeeded (need next).reads →
+      Row (code last).role rest → Row before (stmt ∷ next ∷ last ∷ rest)
+  three_are_one before stmt next last rest none both third pass pass' reads_next later =
+      ⊎_elim read (⊎_elim store (⊎_elim short back)) (which_pair (code stmt).role (code next).role both)
     where
-      by : (b : Bool) → joins (code stmt).role (code next).role ≡ b → Row before (stmt ∷ next ∷ rest)
-      by true both few = as_one_follows before stmt next rest none both pass pass' reads_next behind few
-      by false alone few = by_itself before stmt (next ∷ rest) none alone first (later alone) few
+      own_is : role_behind before (code stmt).role ≡ (code stmt).role
+      own_is = role_alone before (code stmt).role none
+
+      never : joins (role_behind (code stmt).role (code next).role) (code last).role ≡ false →
+          Row before (stmt ∷ next ∷ last ∷ rest)
+      never h = let false_is : true ≡ false = sym third ∙ h in cc false_is
+
+      read : IsRead (code stmt).role (code next).role → Row before (stmt ∷ next ∷ last ∷ rest)
+      read pair = never (read_is_last (code stmt).role (code next).role (code last).role pair)
+
+      store : IsStored (code stmt).role (code next).role → Row before (stmt ∷ next ∷ last ∷ rest)
+      store pair = never (store_is_last (code stmt).role (code next).role (code last).role pair)
+
+      back : IsReturned (code stmt).role (code next).role → Row before (stmt ∷ next ∷ last ∷ rest)
+      back pair = never (return_is_last (code stmt).role (code next).role (code last).role pair)
+
+      short : IsShort (code stmt).role (code next).role → Row before (stmt ∷ next ∷ last ∷ rest)
+      short pair = given pair (return_of (code last).role pair.temp pair.left pair.op pair.word
+          (sym (ap (λ r. joins r (code last).role) pair.behind) ∙ third))
+        where
+          given : (pair : IsShort (code stmt).role (code next).role) → (code last).role ≡ Returns pair.temp →
+              Row before (stmt ∷ next ∷ last ∷ rest)
+          given pair gives =
+              let first = sets_it frame R.places R.plan stmt pair.temp pair.word pair.sets in
+              let second = operates_it frame R.places R.plan next pair.temp pair.left pair.op pair.operates in
+              let third_is : last ≡ roll-TacStmt (tac.Return (Some pair.temp)) =
+              returns_it frame R.places R.plan last pair.temp gives in
+              let word_is : pair.word ≡ word_of_constant first.value = sym first.word_is in
+              let wants = left_wanted next pair.temp pair.left pair.op second.is reads_next in
+              let own' : Role = role_behind (role_behind before (code stmt).role) (code next).role in
+              let own'_is : own' ≡ Applies pair.temp pair.left pair.op pair.word =
+              ap (λ r. role_behind r (code next).role) own_is ∙ pair.behind in
+              let behind_last : role_behind own' (code last).role ≡ (code last).role =
+              ap (λ r. role_behind r (code last).role) own'_is in
+              let c1 : between frame R.places before (code stmt) (code next).role ≡ no_lines =
+              piece_by before (code next).role stmt true false (ap (λ r. joins r (code next).role) own_is ∙ both)
+              none in
+              let c2 : between frame R.places (role_behind before (code stmt).role) (code next) (code last).role ≡
+              no_lines =
+              piece_by (role_behind before (code stmt).role) (code last).role next true true
+              (ap (λ r. joins (role_behind r (code next).role) (code last).role) own_is ∙ third)
+              (ap (λ r. joins r (code next).role) own_is ∙ both) in
+              let c3 : between frame R.places own' (code last) (role_first (map code rest)) ≡
+              straightly frame R.places
+              (short_return frame R.places pair.left (short_form pair.op (word_of_constant first.value))) =
+              piece_by own' (role_first (map code rest)) last false true
+              (ap₂ (λ r q. joins (role_behind r q) (role_first (map code rest))) own'_is gives)
+              (ap₂ joins own'_is gives ∙ eq-eqb pair.temp pair.temp refl) ∙
+              ap₂ (as_one frame R.places) own'_is gives ∙
+              ap (λ w. straightly frame R.places (short_return frame R.places pair.left (short_form pair.op w))) word_is
+              in
+              three_follow before stmt next last rest (tac.Const pair.temp first.value)
+              (tac.Op pair.temp pair.op pair.left (Some pair.temp)) (tac.Return (Some pair.temp))
+              (straightly frame R.places
+              (short_return frame R.places pair.left (short_form pair.op (word_of_constant first.value))))
+              (gives_back T R formed inputs cells nodes is placed calls pair.temp pair.left first.value pair.op
+              second.apart wants)
+              (all_three T R formed inputs cells nodes is placed calls pair.temp pair.left first.value pair.op
+              second.apart wants)
+              first.is second.is third_is c1 c2 c3
+              (back_follows_here pair.temp pair.left first.value pair.op pair.form second.apart wants
+              (ap (short_form pair.op) first.word_is ∙ pair.form_is) (subst (PassesAll tests) first.is pass)
+              (subst (PassesAll tests) second.is pass'))
+              (three_as_one T R formed inputs cells nodes is placed calls pair.temp pair.left first.value pair.op
+              second.apart wants (all_do (map does rest)) (map trail rest))
+              (subst (λ r. Row r rest) (sym behind_last) later)
 
   -- what is read in a row
   abbrev RowNeeds : Role → List TacStmt → Type 0
@@ -355,29 +513,55 @@ module _ (T : Setting) (R : Running) (formed : IsWellFormed T.image) (inputs : A
             (sym (need_gives frame R.places R.plan stmt)) second.1;
       }
 
+  -- what is read behind two that are one
+  needs_behind : (before own : Role) (rest : List TacStmt) → RowNeeds own rest →
+      RowNeeds (role_behind before own) rest
+  needs_behind before own rest h =
+      subst (λ g. AllNeeded (row_needs g (map need rest))) (sym (gives_behind before own)) h
+
   row_from : (before : Role) (stmts : List TacStmt) → Each Followed stmts → AllPass tests stmts →
       RowNeeds before stmts → joins before (role_first (map code stmts)) ≡ false → Row before stmts
-  row_from before [] each pass needs none few = nothing_follows T R
-  row_from before (stmt ∷ []) each pass needs none few =
+  row_from before [] each pass needs none = λ few. nothing_follows T R
+  row_from before (stmt ∷ []) each pass needs none =
       let parts = row_parts before stmt [] needs in
       by_itself before stmt [] none (none_behind (code stmt).role)
       (each.0 (first_passes tests stmt [] pass) parts.reads
-      (store_alone frame R.places R.plan before stmt parts.place none)) (λ few. nothing_follows T R) few
-  row_from before (stmt ∷ next ∷ rest) each pass needs none few =
-      let behind = rest_pass tests stmt (next ∷ rest) pass in
-      let parts = row_parts before stmt (next ∷ rest) needs in
-      let later = row_parts (code stmt).role next rest parts.behind in
-      either_way before stmt next rest none
-      (each.0 (first_passes tests stmt (next ∷ rest) pass) parts.reads
+      (store_alone frame R.places R.plan before stmt parts.place none)) (λ few. nothing_follows T R)
+  row_from before (stmt ∷ next ∷ []) each pass needs none =
+      let behind = rest_pass tests stmt (next ∷ []) pass in
+      let parts = row_parts before stmt (next ∷ []) needs in
+      let later = row_parts (code stmt).role next [] parts.behind in
+      by_test (joins (code stmt).role (code next).role)
+      (λ alone. by_itself before stmt (next ∷ []) none alone
+      (each.0 (first_passes tests stmt (next ∷ []) pass) parts.reads
       (store_alone frame R.places R.plan before stmt parts.place none))
-      (first_passes tests stmt (next ∷ rest) pass) (first_passes tests next rest behind) later.reads
-      (λ alone few. row_from (code stmt).role (next ∷ rest) each.1 behind parts.behind alone few)
-      (λ alone few. row_from (code next).role rest each.1.1 (rest_pass tests next rest behind) later.behind alone few)
-      few
+      (row_from (code stmt).role (next ∷ []) each.1 behind parts.behind alone))
+      (λ both. pair_follows before stmt next [] none both
+      (none_behind (role_behind (code stmt).role (code next).role)) (first_passes tests stmt (next ∷ []) pass)
+      (first_passes tests next [] behind) later.reads (λ few. nothing_follows T R))
+  row_from before (stmt ∷ next ∷ last ∷ rest) each pass needs none =
+      let behind = rest_pass tests stmt (next ∷ last ∷ rest) pass in
+      let further = rest_pass tests next (last ∷ rest) behind in
+      let parts = row_parts before stmt (next ∷ last ∷ rest) needs in
+      let later = row_parts (code stmt).role next (last ∷ rest) parts.behind in
+      let at_last = row_parts (code next).role last rest later.behind in
+      let both_pass = first_passes tests stmt (next ∷ last ∷ rest) pass in
+      let next_passes = first_passes tests next (last ∷ rest) behind in
+      by_test (joins (code stmt).role (code next).role)
+      (λ alone. by_itself before stmt (next ∷ last ∷ rest) none alone
+      (each.0 both_pass parts.reads (store_alone frame R.places R.plan before stmt parts.place none))
+      (row_from (code stmt).role (next ∷ last ∷ rest) each.1 behind parts.behind alone))
+      (λ both. by_test (joins (role_behind (code stmt).role (code next).role) (code last).role)
+      (λ alone. pair_follows before stmt next (last ∷ rest) none both alone both_pass next_passes later.reads
+      (row_from (role_behind (code stmt).role (code next).role) (last ∷ rest) each.1.1 further
+      (needs_behind (code stmt).role (code next).role (last ∷ rest) later.behind) alone))
+      (λ third. three_are_one before stmt next last rest none both third both_pass next_passes later.reads
+      (row_from (code last).role rest each.1.1.1 (rest_pass tests last rest further) at_last.behind
+      (third_is_last (code stmt).role (code next).role (code last).role (role_first (map code rest)) both third))))
 
   row_of : (stmts : List TacStmt) → Each Followed stmts → AllPass tests stmts →
       AllNeeded (row_needs None (map need stmts)) →
-      (in_order frame R.places (map code stmts)).size ≤ T.turn_pays →
+      (in_order frame R.places (map code stmts)).size ≤ limit →
       Follows T R (all_do (map does stmts)) (in_order frame R.places (map code stmts)) (row (map trail stmts))
   row_of stmts each pass needs few = row_from Other stmts each pass needs refl few
 
@@ -389,7 +573,7 @@ module _ (T : Setting) (R : Running) (formed : IsWellFormed T.image) (inputs : A
   Shape layer =
       PassesHere tests layer → PassesAll tests (roll-TacStmt layer) → AllNeeded (layer_need layer).reads →
       StoresNeeded (layer_need layer) →
-      (select_step frame R.places R.plan (map-TacStmt _ _ code layer)).size ≤ T.turn_pays →
+      (select_step frame R.places R.plan (map-TacStmt _ _ code layer)).size ≤ limit →
       Follows T R (code_step wrapping here calls (map-TacStmt _ _ does layer))
       (select_step frame R.places R.plan (map-TacStmt _ _ code layer)) (trail_step (map-TacStmt _ _ trail layer))
 
@@ -494,17 +678,32 @@ module _ (T : Setting) (R : Running) (formed : IsWellFormed T.image) (inputs : A
 
   loop_level : (head body next : List TacStmt) → Each Followed head → Each Followed body → Each Followed next →
       Shape (tac.Loop head body next)
-  loop_level head body next each each' each'' h all needs at few =
+  loop_level head body next each each' each'' h all needs at =
       let pass = loop_passes tests head body next all in
       let first = all_append R.plan.needed (row_needs None (map need head))
       (row_needs None (map need body) ++ row_needs None (map need next)) needs in
       let second = all_append R.plan.needed (row_needs None (map need body)) (row_needs None (map need next)) first.1 in
-      loop_follows T R formed inputs (all_do (map does head)) (all_do (map does body)) (all_do (map does next))
-      (in_order frame R.places (map code head)) (in_order frame R.places (map code body)) (in_order frame R.places (map
-      code next)) (map trail head) (map trail body)
-      (map trail next) (row_of head each pass.0 first.0 (omega (arith, few)))
+      let b : Code = in_order frame R.places (map code body) in
+      let n : Code = in_order frame R.places (map code next) in
+      turning_by frame R.places R.plan (λ piece. piece.size ≤ limit → Follows T R
+      (layer_does (tac.Loop head body next)) piece (layer_trail (tac.Loop head body next))) head b n
+      (λ few. loop_follows T R formed inputs (all_do (map does head)) (all_do (map does body)) (all_do (map does next))
+      (in_order frame R.places (map code head)) b n (map trail head) (map trail body) (map trail next)
+      (row_of head each pass.0 first.0 (omega (arith, few)))
       (row_of body each' pass.1 second.0 (omega (arith, few)))
-      (row_of next each'' pass.2 second.1 (omega (arith, few))) gapless few
+      (row_of next each'' pass.2 second.1 (omega (arith, few))) gapless (omega (arith, few, pays)))
+      (λ cond near t few.
+      let i : Code = in_order frame R.places (map code t.init) in
+      let init_passes = front_passes tests t.init (test_stmt cond ∷ []) (subst (AllPass tests) t.is pass.0) in
+      let reads = head_needs head t.init cond t.is first.0 in
+      let least : limit < branch_reach = reach near in
+      rotated_follows T R formed inputs cond (all_do (map does head)) (all_do (map does body))
+      (all_do (map does next)) i b n (map trail head) (map trail body) (map trail next)
+      (head_of_stmts T R formed inputs cells nodes is placed gapless calls cond reads.1 head t i
+      (row_of t.init (each_before frame R.places R.plan Followed head t.init cond t.is each) init_passes reads.0
+      (omega (arith, few))) (b.size + n.size) (omega (arith, few, least)))
+      (row_of body each' pass.1 second.0 (omega (arith, few)))
+      (row_of next each'' pass.2 second.1 (omega (arith, few))) gapless (omega (arith, few, pays)))
 
   op_level : (dest : ℕ) (o : TacOp) (left : ℕ) (right : Option ℕ) → Shape (tac.Op dest o left right)
   op_level dest o left right h all needs at few =
@@ -556,7 +755,7 @@ module _ (T : Setting) (R : Running) (formed : IsWellFormed T.image) (inputs : A
       (subst (λ t. Follows T R (code_step wrapping here calls (map-TacStmt _ _ does layer))
       (select_step frame R.places R.plan (map-TacStmt _ _ code layer)) t) (sym t)
       (l.holds (passes_here tests layer pass) pass (subst (λ (n : Need). AllNeeded n.reads) n reads)
-      (subst StoresNeeded n at) (subst (λ c. c.size ≤ T.turn_pays) c few))))
+      (subst StoresNeeded n at) (subst (λ c. c.size ≤ limit) c few))))
 
   pub stmt_follows : (stmt : TacStmt) → Followed stmt
   stmt_follows = stmt_induction Followed (λ layer inner. from_level layer (level layer inner))
@@ -564,7 +763,7 @@ module _ (T : Setting) (R : Running) (formed : IsWellFormed T.image) (inputs : A
   -- statements in order
   pub body_follows : (stmts : List TacStmt) → AllPass tests stmts → AllNeeded (needs_of stmts) →
       (select_all frame R.places R.plan
-      stmts).size ≤ T.turn_pays →
+      stmts).size ≤ limit →
       Follows T R (code_does wrapping here calls stmts) (select_all frame R.places R.plan stmts) (row (map trail
       stmts))
   body_follows stmts pass needs few = row_of stmts (every stmts) pass needs few

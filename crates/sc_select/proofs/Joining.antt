@@ -200,6 +200,34 @@ pub return_is_last : (first second behind : Role) → IsReturned first second �
 return_is_last first second behind pair =
     ap₂ (λ r s. joins (role_behind r s) behind) pair.applies pair.returns
 
+-- what is one with an operator and its constant gives their result back
+pub return_of : (role : Role) (temp left : ℕ) (o : TacOp) (word : ℕ) → joins (Applies temp left o word) role ≡ true →
+    role ≡ Returns temp
+return_of (Returns other) temp left o word h = ap Returns (sym (eqb-true temp other h))
+return_of (Places other object) temp left o word h = cc h
+return_of (Loads other) temp left o word h = cc h
+return_of (Sets other value) temp left o word h = cc h
+return_of (Operates other from same) temp left o word h = cc h
+return_of (Stores other value) temp left o word h = cc h
+return_of (Applies other from same value) temp left o word h = cc h
+return_of Other temp left o word h = cc h
+
+-- the third of three that are one is no first one
+pub third_is_last : (first second third behind : Role) → joins first second ≡ true →
+    joins (role_behind first second) third ≡ true → joins third behind ≡ false
+third_is_last first second third behind both all =
+    ⊎_elim (λ pair. never (read_is_last first second third pair))
+    (⊎_elim (λ pair. never (store_is_last first second third pair))
+    (⊎_elim short (λ pair. never (return_is_last first second third pair)))) (which_pair first second both)
+  where
+    never : joins (role_behind first second) third ≡ false → joins third behind ≡ false
+    never h = let same : true ≡ false = sym all ∙ h in cc same
+
+    short : IsShort first second → joins third behind ≡ false
+    short pair =
+        ap (λ r. joins r behind)
+        (return_of third pair.temp pair.left pair.op pair.word (sym (ap (λ r. joins r third) pair.behind) ∙ all))
+
 -- A CHOICE
 pub is_empty : {A : Type 0} (xs : List A) → (length xs == 0) ≡ true → xs ≡ []
 is_empty [] h = refl
@@ -543,6 +571,38 @@ module _ (frame : FrameTree) (places : List Place) (plan : Plan) where
   pub returns_it : (stmt : TacStmt) (temp : ℕ) → role_of stmt ≡ Returns temp → IsReturn stmt temp
   returns_it = stmt_induction (λ stmt. (temp : ℕ) → role_of stmt ≡ Returns temp → IsReturn stmt temp)
       (λ layer inside temp h. layer_returns layer temp (sym (role_is layer) ∙ h))
+
+  -- no statement by itself is an operator with its constant
+  layer_never_applies : (layer : TacStmt-F TacStmt) (temp left : ℕ) (o : TacOp) (word : ℕ) →
+      layer_role layer ≡ Applies temp left o word → ⊥
+  layer_never_applies (tac.Op dest op from right) temp left o word h =
+      other_than _ _ _ (operation_role dest op from right) h (λ e. cc e) (λ e. cc e)
+  layer_never_applies (tac.Load dest from pointer) temp left o word h = by (dest == from) h
+    where
+      by : (b : Bool) → (if b then Loads dest else Other) ≡ Applies temp left o word → ⊥
+      by true h = cc h
+      by false h = cc h
+  layer_never_applies (tac.Store place value) temp left o word h =
+      other_than _ _ _ (store_role place value) h (λ e. cc e) (λ e. cc e)
+  layer_never_applies (tac.If cond first second) temp left o word h =
+      let other : Other ≡ Applies temp left o word =
+      sym (fork_role frame places cond (map (select frame places plan) first) (map (select frame places plan)
+      second)) ∙ h in
+      cc other
+  layer_never_applies (tac.Loop head body next) temp left o word h =
+      let other : Other ≡ Applies temp left o word =
+      sym (turning_role frame places _ (map (select frame places plan) head) (in_order frame places (map (select frame
+      places plan) body)) (in_order frame places (map (select frame places plan) next))) ∙ h in cc other
+  layer_never_applies (tac.Return None) temp left o word h = cc h
+  layer_never_applies (tac.Return (Some given)) temp left o word h = cc h
+  layer_never_applies _ temp left o word h = cc h
+
+  pub never_applies : (stmt : TacStmt) (temp left : ℕ) (o : TacOp) (word : ℕ) →
+      role_of stmt ≡ Applies temp left o word → ⊥
+  never_applies =
+      stmt_induction
+      (λ stmt. (temp left : ℕ) (o : TacOp) (word : ℕ) → role_of stmt ≡ Applies temp left o word → ⊥)
+      (λ layer inside temp left o word h. layer_never_applies layer temp left o word (sym (role_is layer) ∙ h))
 
   -- the role of the first of those from a number on
   pub role_found : (stmts : List TacStmt) (i : ℕ) (stmt : TacStmt) → i < length stmts → stmt ≡ get_or stmts i stmt →
