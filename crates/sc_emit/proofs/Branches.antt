@@ -1,36 +1,34 @@
 -- The code of a function has at most one branch for each `If` and no EBREAK,
 -- and each field of its instructions is in the range of its form.
-use Rattle.sc_select.specs.Prelude.{Kind, Piece, Plan, applied, branch_back, branch_reach, is_near, kind_of_fork}
+use Rattle.sc_select.specs.Prelude.{Kind, Piece, Plan, branch_back, branch_reach, is_near, kind_of_fork}
 use Rattle.sc_select.specs.Prelude.{plan_of, role_behind, role_of_return, rotated, short_return, testing}
-use Rattle.sc_select.specs.declared.roles.Role.TheVariants.{Applies, Loads, Operates, Returns, Stores}
-use Rattle.sc_select.proofs.Joining.{turning_role}
 use Rattle.sc_select.proofs.Turning.{each_before, test_stmt, turning_by}
 use Rattle.sc_emit.proofs.Common.{Addi, All, All-cons, All-nil, Andi, ArePlaces, Bne, Bool, Branch, Each, Ebreak, Entry}
 use Rattle.sc_emit.proofs.Common.{Export, Fits, FrameTree, Inside, Instr, IsBranchOffset, IsImmediate, IsInstr}
 use Rattle.sc_emit.proofs.Common.{IsJumpOffset, IsReg, IsUpper, Jal, Jalr, Line, List, Load, Lw, Main, None, Op, OpImm}
 use Rattle.sc_emit.proofs.Common.{Option, Ori, Other, Place, Places, Register, Role, Sets, Shift, ShortForm, Slot, Some}
 use Rattle.sc_emit.proofs.Common.{Store, Sw, TacFnTree, TacOp, TacStmt, TacStmt-F, Xori, [], a0, a7, added_by}
-use Rattle.sc_emit.proofs.Common.{address_scratch, all_true, and_first, and_from, and_rest, arith, as_one, at_hand}
-use Rattle.sc_emit.proofs.Common.{between, between_keeps, binary_code, binary_short, branch_step, branches, brought}
-use Rattle.sc_emit.proofs.Common.{bytes_ahead, bytes_of, call_cross, call_own, choice, choosing, closing, code_branches}
-use Rattle.sc_emit.proofs.Common.{code_of, cond, copied, count_by, cycle, ending_past, entrance, environment_call}
-use Rattle.sc_emit.proofs.Common.{everywhere, false, first_scratch, fold-TacStmt, fold-roll-TacStmt, followed, fork}
-use Rattle.sc_emit.proofs.Common.{fork_keeps, fork_role, frame_left, frame_taken, function_lines, has_known_jumps}
-use Rattle.sc_emit.proofs.Common.{has_no_ebreak, if◌then◌else◌, in_order, in_turn, int_le, is_branch, is_ebreak}
-use Rattle.sc_emit.proofs.Common.{is_known_jump, is_place, is_short, is_unsigned, joined, joins, jump_back, jump_over}
-use Rattle.sc_emit.proofs.Common.{keep, kept, leb-true, length, less_than, list_all, list_all-append, list_all-map}
-use Rattle.sc_emit.proofs.Common.{list_all_along, load_from, load_word, loading, loop_begins, lower_part, ltb-true, map}
-use Rattle.sc_emit.proofs.Common.{map-TacStmt, most_lines, most_params, moved_by, mul_word, nat_le, nat_lt, neg_ℤ}
-use Rattle.sc_emit.proofs.Common.{negsuc, not, nothing, object_offset, object_read, object_store, op_code, operand}
-use Rattle.sc_emit.proofs.Common.{operation, pass, passes_few, past, place_of, place_of_global, plain, plainly, pos}
-use Rattle.sc_emit.proofs.Common.{put, ra, receive, refl, register_count, register_of, register_there, result_register}
-use Rattle.sc_emit.proofs.Common.{return, role_first, role_of_load, role_of_operation, role_of_store, rules}
-use Rattle.sc_emit.proofs.Common.{second_operand, second_scratch, select, select_all, select_step, short, short_code}
-use Rattle.sc_emit.proofs.Common.{short_form, short_operation, signed_of, skipping, slice_get, slot_offset, sp}
-use Rattle.sc_emit.proofs.Common.{stmt_branches, stmt_induction, store_arguments, store_to, store_word, straight}
-use Rattle.sc_emit.proofs.Common.{straightly, sub_word, subst, suc, sum_by-append, sym, take, take_second, taken, total}
-use Rattle.sc_emit.proofs.Common.{true, unary_code, upper_part, with_parts, word_of_constant, zero, ℕ, ℤ, ◌%◌, ◌&&◌}
-use Rattle.sc_emit.proofs.Common.{◌*◌, ◌++◌, ◌+◌, ◌<◌, ◌==◌, ◌^◌, ◌∙◌, ◌∷◌, ◌≡◌, ◌≤ℤ◌, ◌≤◌}
+use Rattle.sc_emit.proofs.Common.{address_scratch, all_true, and_first, and_from, and_rest, arith, at_hand, between}
+use Rattle.sc_emit.proofs.Common.{between_keeps, binary_code, binary_short, branch_step, branches, brought, bytes_ahead}
+use Rattle.sc_emit.proofs.Common.{bytes_of, call_cross, call_own, choice, choosing, closing, code_branches, code_of}
+use Rattle.sc_emit.proofs.Common.{cond, copied, count_by, cycle, ending_past, entrance, environment_call, everywhere}
+use Rattle.sc_emit.proofs.Common.{false, first_scratch, fold-TacStmt, fold-roll-TacStmt, followed, fork, fork_keeps}
+use Rattle.sc_emit.proofs.Common.{frame_left, frame_taken, function_lines, has_known_jumps, has_no_ebreak}
+use Rattle.sc_emit.proofs.Common.{if◌then◌else◌, in_order, in_turn, int_le, is_branch, is_ebreak, is_known_jump}
+use Rattle.sc_emit.proofs.Common.{is_place, is_short, is_unsigned, joined, jump_back, jump_over, keep, kept, leb-true}
+use Rattle.sc_emit.proofs.Common.{length, less_than, list_all, list_all-append, list_all-map, list_all_along, load_from}
+use Rattle.sc_emit.proofs.Common.{load_word, loading, loop_begins, lower_part, ltb-true, map, map-TacStmt, most_lines}
+use Rattle.sc_emit.proofs.Common.{most_params, moved_by, mul_word, nat_le, nat_lt, neg_ℤ, negsuc, not, nothing}
+use Rattle.sc_emit.proofs.Common.{object_offset, object_read, object_store, op_code, operand, operation, order_keeps}
+use Rattle.sc_emit.proofs.Common.{pass, passes_few, past, place_of, place_of_global, plain, plainly, pos, put, ra}
+use Rattle.sc_emit.proofs.Common.{receive, refl, register_count, register_of, register_there, result_register, return}
+use Rattle.sc_emit.proofs.Common.{role_first, role_of_load, role_of_operation, role_of_store, rules, second_operand}
+use Rattle.sc_emit.proofs.Common.{second_scratch, select, select_all, select_step, short, short_code, short_form}
+use Rattle.sc_emit.proofs.Common.{short_operation, signed_of, skipping, slice_get, slot_offset, sp, stmt_branches}
+use Rattle.sc_emit.proofs.Common.{stmt_induction, store_arguments, store_to, store_word, straight, straightly, sub_word}
+use Rattle.sc_emit.proofs.Common.{subst, suc, sum_by-append, sym, take, take_second, taken, total, true, unary_code}
+use Rattle.sc_emit.proofs.Common.{upper_part, with_parts, word_of_constant, zero, ℕ, ℤ, ◌%◌, ◌&&◌, ◌*◌, ◌++◌, ◌+◌, ◌<◌}
+use Rattle.sc_emit.proofs.Common.{◌==◌, ◌^◌, ◌∙◌, ◌∷◌, ◌≡◌, ◌≤ℤ◌, ◌≤◌}
 use Rattle.rv_code.specs.declared.instr.ShiftOp.TheVariants.{Slli}
 use Rattle.rv_code.specs.declared.instr.OpOp.TheVariants.{Mul}
 use Rattle.rv_code.specs.declared.instr.OpImmOp.{OpImmOp}
@@ -266,12 +264,12 @@ module _ (frame : FrameTree) (places : List Place) where
       both (brought frame a0 (place_of frame places t)) _ (brought_straight frame a0 (place_of frame places t))
       (left_frame_straight frame.bytes)
 
-  pub short_return_straight : (left : ℕ) (form : ShortForm) → Straight (short_return frame places left form)
+  pub short_return_straight : (left : ℕ) (form : Option ShortForm) → Straight (short_return frame places left form)
   short_return_straight left form =
-      let code : List Instr = short_code a0 (operand frame places first_scratch left) (Some form) in
+      let code : List Instr = short_code a0 (operand frame places first_scratch left) form in
       both (take frame places first_scratch left ++ code) (frame_left frame.bytes)
-      (both (take frame places first_scratch left) code (take_straight first_scratch left) refl)
-      (left_frame_straight frame.bytes)
+      (both (take frame places first_scratch left) code (take_straight first_scratch left)
+      (short_code_straight _ _ form)) (left_frame_straight frame.bytes)
 
   pub loaded_straight : (dest word : ℕ) →
       Straight (loading (result_register frame places dest) word ++ keep frame places dest)
@@ -649,8 +647,9 @@ module _ (frame : FrameTree) (places : List Place) (plan : Plan) where
       (short_straight frame places t l (short_form o w))))
       (λ v o. any_more (stmt_branches stmt) (straightly frame places (object_store frame places v o))
       (plainly_shaped (object_store frame places v o) (object_store_straight frame places v o)))
-      (λ l form. any_more (stmt_branches stmt) (straightly frame places (short_return frame places l form))
-      (plainly_shaped (short_return frame places l form) (short_return_straight frame places l form))) before behind
+      (λ l o w. any_more (stmt_branches stmt) (straightly frame places (short_return frame places l (short_form o w)))
+      (plainly_shaped (short_return frame places l (short_form o w))
+      (short_return_straight frame places l (short_form o w)))) before behind
       (select frame places plan stmt) h.0) (turn_shaped (role_behind before (select frame places plan stmt).role) rest
       h.1)
 
@@ -919,11 +918,6 @@ short_form_instrs rd rs (tacop.PointerMember offset) word h k = tt
 short_form_instrs rd rs (tacop.PointerDifference cells) word h k = tt
 short_form_instrs rd rs (tacop.PointerCompare o) word h k = tt
 
-form_fits : (o : TacOp) (word : ℕ) (form : ShortForm) → short_form o word ≡ Some form → IsImmediate form.imm
-form_fits o word form is =
-    let codes : AreInstrs (short_code 0 0 (Some form)) =
-    subst (λ form. AreInstrs (short_code 0 0 form)) is (short_form_instrs 0 0 o word x0_there x0_there) in codes.0.2
-
 moved_instrs : (rd rs bytes : ℕ) → IsReg rd → IsReg rs → AreInstrs (moved_by rd rs bytes)
 moved_instrs rd rs bytes h k =
     if_instrs (is_short bytes) (OpImm Addi rd rs (signed_of bytes) ∷ []) _ (λ s. ((h, k, short_fits bytes s), tt))
@@ -1102,26 +1096,6 @@ followed_encodable e f he hf = record {
       (hf.encodable b c (omega (arith, hb)) (omega (arith, hc)));
 }
 
--- a form that a role names is in range
-abbrev FitsForm : Role → Type 0
-FitsForm (Applies temp left form) = IsImmediate form.imm
-FitsForm _ = Unit {0}
-
-applied_fits : (temp left word : ℕ) (o : TacOp) → FitsForm (applied temp left o (short_form o word))
-applied_fits temp left word o = by (short_form o word) refl
-  where
-    by : (form : Option ShortForm) → short_form o word ≡ form → FitsForm (applied temp left o form)
-    by None is = tt
-    by (Some form) is = form_fits o word form is
-
-behind_fits : (before own : Role) → FitsForm before → FitsForm own → FitsForm (role_behind before own)
-behind_fits (Sets temp word) (Operates other left o) h k = by (temp == other)
-  where
-    by : (b : Bool) → FitsForm (if b then applied other left o (short_form o word) else Operates other left o)
-    by true = applied_fits other left word o
-    by false = tt
-behind_fits before own h k = k
-
 module _ (frame : FrameTree) (places : List Place) (plan : Plan) (there : (t : ℕ) →
     IsThere (slice_get places t)) where
   operand_there : (scratch t : ℕ) → IsReg scratch → IsReg (operand frame places scratch t)
@@ -1170,13 +1144,14 @@ module _ (frame : FrameTree) (places : List Place) (plan : Plan) (there : (t : �
       (both_instrs (take frame places first_scratch left) code (first_taken left)
       (short_form_instrs rd rs o word (first_at dest) (first_at left))) (keep_instrs dest)
 
-  short_return_instrs : (left : ℕ) (form : ShortForm) → IsImmediate form.imm →
-      AreInstrs (short_return frame places left form)
-  short_return_instrs left form fits =
-      let code : List Instr = short_code a0 (operand frame places first_scratch left) (Some form) in
+  short_return_instrs : (left : ℕ) (o : TacOp) (word : ℕ) →
+      AreInstrs (short_return frame places left (short_form o word))
+  short_return_instrs left o word =
+      let rs = operand frame places first_scratch left in
+      let code : List Instr = short_code a0 rs (short_form o word) in
       both_instrs (take frame places first_scratch left ++ code) (frame_left frame.bytes)
       (both_instrs (take frame places first_scratch left) code (first_taken left)
-      ((a0_there, first_at left, fits), tt)) (left_frame_instrs frame.bytes)
+      (short_form_instrs a0 rs o word a0_there (first_at left))) (left_frame_instrs frame.bytes)
 
   object_store_instrs : (value object : ℕ) → AreInstrs (object_store frame places value object)
   object_store_instrs value object =
@@ -1395,81 +1370,18 @@ module _ (frame : FrameTree) (places : List Place) (plan : Plan) (there : (t : �
   abbrev Encodable : TacStmt → Type 0
   Encodable stmt = few_inside stmt ≡ true → IsEncodable (select frame places plan stmt)
 
-  -- the role of a statement by itself names none
-  layer_fits : (layer : TacStmt-F TacStmt) →
-      FitsForm (select_step frame places plan (map-TacStmt _ _ (select frame places plan) layer)).role
-  layer_fits (tac.Op dest o left None) = tt
-  layer_fits (tac.Op dest o left (Some right)) = by (dest == right && not (left == dest))
-    where
-      by : (b : Bool) → FitsForm (if b then Operates dest left o else Other)
-      by true = tt
-      by false = tt
-  layer_fits (tac.Load dest place pointer) = by (dest == place)
-    where
-      by : (b : Bool) → FitsForm (if b then Loads dest else Other)
-      by true = tt
-      by false = tt
-  layer_fits (tac.Store place value) = by (plan.needed place)
-    where
-      by : (b : Bool) → FitsForm (if b then Other else Stores place value)
-      by true = tt
-      by false = tt
-  layer_fits (tac.If cond first second) =
-      subst FitsForm
-      (sym (fork_role frame places cond (map (select frame places plan) first) (map (select frame places plan) second)))
-      tt
-  layer_fits (tac.Loop head body next) =
-      subst FitsForm
-      (sym (turning_role frame places _ (map (select frame places plan) head) (select_all frame places plan body)
-      (select_all frame places plan next))) tt
-  layer_fits (tac.Return None) = tt
-  layer_fits (tac.Return (Some temp)) = tt
-  layer_fits _ = tt
-
-  stmt_fits : (stmt : TacStmt) → FitsForm (select frame places plan stmt).role
-  stmt_fits = stmt_induction (λ stmt. FitsForm (select frame places plan stmt).role) (λ layer inside.
-      subst (λ piece. FitsForm piece.role) (sym (fold-roll-TacStmt Piece (select_step frame places plan) layer))
-      (layer_fits layer))
-
-  as_one_encodable : (first second : Role) → FitsForm first → IsEncodable (as_one frame places first second)
-  as_one_encodable (Places temp object) (Loads other) fits =
-      plainly_encodable (object_read frame places temp object) (object_read_instrs temp object)
-  as_one_encodable (Places temp object) (Stores other value) fits =
-      plainly_encodable (object_store frame places value object) (object_store_instrs value object)
-  as_one_encodable (Sets temp word) (Operates other left o) fits =
-      plainly_encodable (short_operation frame places temp left (short_form o word))
-      (short_operation_instrs temp left o word)
-  as_one_encodable (Applies temp left form) (Returns other) fits =
-      plainly_encodable (short_return frame places left form) (short_return_instrs left form fits)
-  as_one_encodable first second fits = straight_encodable [] tt
-
-  between_encodable : (before behind : Role) (piece : Piece) → FitsForm before → IsEncodable piece →
-      IsEncodable (between frame places before piece behind)
-  between_encodable before behind piece fits h =
-      by (joins (role_behind before piece.role) behind) (joins before piece.role)
-    where
-      by : (one two : Bool) → IsEncodable (if one then nothing else if two then as_one frame places before piece.role
-          else piece)
-      by true two = straight_encodable [] tt
-      by false true = as_one_encodable before piece.role fits
-      by false false = h
-
   abbrev Chosen : TacStmt → Type 0
   Chosen stmt = IsEncodable (select frame places plan stmt)
 
-  turn_encodable : (before : Role) (stmts : List TacStmt) → FitsForm before → Each Chosen stmts →
-      IsEncodable (in_turn (joined frame places before (map (select frame places plan) stmts)))
-  turn_encodable before [] fits h = straight_encodable [] tt
-  turn_encodable before (stmt ∷ rest) fits h =
-      let own : Role = (select frame places plan stmt).role in
-      let behind : Role = role_first (map (select frame places plan) rest) in
-      followed_encodable (between frame places before (select frame places plan stmt) behind)
-      (in_turn (joined frame places (role_behind before own) (map (select frame places plan) rest)))
-      (between_encodable before behind (select frame places plan stmt) fits h.0)
-      (turn_encodable (role_behind before own) rest (behind_fits before own fits (stmt_fits stmt)) h.1)
-
   row_encodable : (stmts : List TacStmt) → Each Chosen stmts → IsEncodable (select_all frame places plan stmts)
-  row_encodable stmts h = turn_encodable Other stmts tt h
+  row_encodable stmts h =
+      order_keeps frame places plan IsEncodable (straight_encodable [] tt)
+      (λ t o. plainly_encodable (object_read frame places t o) (object_read_instrs t o))
+      (λ t l o w. plainly_encodable (short_operation frame places t l (short_form o w))
+      (short_operation_instrs t l o w))
+      (λ v o. plainly_encodable (object_store frame places v o) (object_store_instrs v o))
+      (λ l o w. plainly_encodable (short_return frame places l (short_form o w)) (short_return_instrs l o w))
+      followed_encodable stmts h
 
   each_encodable : (stmts : List TacStmt) → Each Encodable stmts → all_true (map few_inside stmts) ≡ true →
       Each Chosen stmts

@@ -136,7 +136,7 @@ module _ (T : Setting) (R : Running) (formed : IsWellFormed T.image) (inputs : A
     code = short_into T R formed inputs cells nodes is placed calls dest left value o apart need form a0
 
     abbrev whole : List Instr
-    whole = short_return frame R.places left form
+    whole = short_return frame R.places left (Some form)
 
     puts : (lives : Lives) (temps : Temps) (x : Joint) (v r : Value)
         (ready : Ready T R (live_at all_three lives) temps x) → temps left ≡ Some v →
@@ -168,8 +168,8 @@ module _ (T : Setting) (R : Running) (formed : IsWellFormed T.image) (inputs : A
         (leaves_with T R formed inputs cells nodes is (live_at all_three lives) temps x ready code (Some r)
         (length whole + n) (puts lives temps x v r ready known gave) (omega arith) at)
 
-    pub gives_back_follows : Follows T R gives_back (straightly frame R.places (short_return frame R.places left form))
-        all_three
+    pub gives_back_follows : Follows T R gives_back
+        (straightly frame R.places (short_return frame R.places left (Some form))) all_three
     gives_back_follows =
         straight_follows T R gives_back whole all_three gives_back_goes
         (λ lives temps x n ready clear at ends e f.

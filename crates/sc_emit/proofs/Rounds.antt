@@ -4,20 +4,20 @@ use Rattle.sc_select.specs.Selection.{role_behind, role_of_return, rotated, shor
 use Rattle.sc_select.specs.declared.roles.Role.TheVariants.{Applies}
 use Rattle.sc_emit.proofs.Common.{Bne, Bool, Branch, Each, Ebreak, FrameTree, Inside, Instr, IsRead, IsShort, IsStored}
 use Rattle.sc_emit.proofs.Common.{Jal, Line, List, None, Option, Other, Place, Places, Role, Sets, ShortForm, Some}
-use Rattle.sc_emit.proofs.Common.{TacFnTree, TacStmt, TacStmt-F, [], a0, and_first, and_rest, ap, append-nil}
-use Rattle.sc_emit.proofs.Common.{append_assoc, arith, as_one, between, call_cross, call_own, choice, choosing, closing}
+use Rattle.sc_emit.proofs.Common.{TacFnTree, TacStmt, TacStmt-F, [], and_first, and_rest, ap, append-nil, append_assoc}
+use Rattle.sc_emit.proofs.Common.{arith, as_one, between, call_cross, call_own, choice, choosing, closing}
 use Rattle.sc_emit.proofs.Common.{code_back_edges, code_of, cond, count_by, cycle, ending_past, entrance}
 use Rattle.sc_emit.proofs.Common.{environment_call, everywhere, false, first_scratch, fold-roll-TacStmt, fork}
-use Rattle.sc_emit.proofs.Common.{frame_left, if◌then◌else◌, in_turn, inl, inr, is_backward, is_empty, is_known_jump}
-use Rattle.sc_emit.proofs.Common.{joined, joins, jump_back, jump_over, leads_back, length, length-append, length-map}
-use Rattle.sc_emit.proofs.Common.{list_all, list_all-map, list_all_along, loads_it, loop_begins, loop_step, loops}
-use Rattle.sc_emit.proofs.Common.{lt-leb, map, map-TacStmt, map-append, nat_lt, neg_ℤ, not, object_read, object_store}
-use Rattle.sc_emit.proofs.Common.{operand, operates_it, past, place_of, place_of_global, plain, plainly, pos, receive}
-use Rattle.sc_emit.proofs.Common.{refl, role_first, role_of_load, role_of_operation, role_of_store, row_is_sized}
-use Rattle.sc_emit.proofs.Common.{select, select_all, select_step, short_code, short_form, short_operation, skipping}
-use Rattle.sc_emit.proofs.Common.{stmt_induction, stmt_loops, stores_it, straight as lines_of, straightly, subst, suc}
-use Rattle.sc_emit.proofs.Common.{sum_by-append, sym, take, true, which_pair, word_of_constant, zero, ℕ, ⊎_elim, ◌&&◌}
-use Rattle.sc_emit.proofs.Common.{◌*◌, ◌++◌, ◌+◌, ◌==◌, ◌∙◌, ◌∷◌, ◌≡◌, ◌≤◌}
+use Rattle.sc_emit.proofs.Common.{if◌then◌else◌, in_turn, inl, inr, is_backward, is_empty, is_known_jump, joined, joins}
+use Rattle.sc_emit.proofs.Common.{jump_back, jump_over, leads_back, length, length-append, length-map, list_all}
+use Rattle.sc_emit.proofs.Common.{list_all-map, list_all_along, loads_it, loop_begins, loop_step, loops, lt-leb, map}
+use Rattle.sc_emit.proofs.Common.{map-TacStmt, map-append, nat_lt, neg_ℤ, not, object_read, object_store, operand}
+use Rattle.sc_emit.proofs.Common.{operates_it, past, place_of, place_of_global, plain, plainly, pos, receive, refl}
+use Rattle.sc_emit.proofs.Common.{role_first, role_of_load, role_of_operation, role_of_store, row_is_sized, select}
+use Rattle.sc_emit.proofs.Common.{select_all, select_step, short_form, short_operation, skipping, stmt_induction}
+use Rattle.sc_emit.proofs.Common.{stmt_loops, stores_it, straight as lines_of, straightly, subst, suc, sum_by-append}
+use Rattle.sc_emit.proofs.Common.{sym, take, true, which_pair, word_of_constant, zero, ℕ, ⊎_elim, ◌&&◌, ◌*◌, ◌++◌, ◌+◌}
+use Rattle.sc_emit.proofs.Common.{◌==◌, ◌∙◌, ◌∷◌, ◌≡◌, ◌≤◌}
 use Rattle.sc_select.proofs.Joining.{IsReturned, fork_role, returns_it, turning_role}
 use Rattle.sc_select.proofs.Turning.{IsTested, each_before, test_stmt, turning_by}
 use Rattle.sc_select.specs.Prelude.{Piece}
@@ -31,7 +31,7 @@ use Rattle.sc_emit.proofs.Branches.{copied_straight, cross_straight, entrance_st
 use Rattle.sc_emit.proofs.Branches.{is_straight_line, load_from_straight, loaded_straight, object_read_straight}
 use Rattle.sc_emit.proofs.Branches.{short_straight, object_straight, operation_straight, output_straight, own_straight}
 use Rattle.sc_emit.proofs.Branches.{plainly_straight, receive_straight, return_straight, store_to_straight}
-use Rattle.sc_emit.proofs.Branches.{take_straight}
+use Rattle.sc_emit.proofs.Branches.{short_return_straight, take_straight}
 
 abbrev instrs_of : List Line → List Instr
 instrs_of lines = map (λ line. line.instr) lines
@@ -118,14 +118,6 @@ module _ (frame : FrameTree) (places : List Place) (plan : Plan) where
   abbrev Lies : TacStmt → Type 0
   Lies stmt = IsCodeOf stmt (select frame places plan stmt)
 
-  short_return_straight : (left : ℕ) (form : ShortForm) → Straight (short_return frame places left form)
-  short_return_straight left form =
-      let taking : List Instr = take frame places first_scratch left in
-      let code : List Instr = short_code a0 (operand frame places first_scratch left) (Some form) in
-      all_append is_straight (taking ++ code) (frame_left frame.bytes)
-      (all_append is_straight taking code (take_straight frame places first_scratch left) refl)
-      (return_straight frame places None)
-
   -- the second of two statements that are one piece has the code of both, and the first none
   both_lie : (before : Role) (stmt : TacStmt) → joins before (select frame places plan stmt).role ≡ true →
       IsCodeOf stmt (as_one frame places before (select frame places plan stmt).role)
@@ -170,12 +162,14 @@ module _ (frame : FrameTree) (places : List Place) (plan : Plan) where
       back : IsReturned before (select frame places plan stmt).role →
           IsCodeOf stmt (as_one frame places before (select frame places plan stmt).role)
       back pair =
+          let form : Option ShortForm = short_form pair.op pair.word in
           subst (λ r. IsCodeOf stmt (as_one frame places r (select frame places plan stmt).role)) (sym pair.applies)
-          (subst (λ r. IsCodeOf stmt (as_one frame places (Applies pair.temp pair.left pair.form) r)) (sym pair.returns)
-          (subst (λ s. IsCodeOf s (straightly frame places (short_return frame places pair.left pair.form)))
+          (subst (λ r. IsCodeOf stmt (as_one frame places (Applies pair.temp pair.left pair.op pair.word) r))
+          (sym pair.returns)
+          (subst (λ s. IsCodeOf s (straightly frame places (short_return frame places pair.left form)))
           (sym (returns_it frame places plan stmt pair.temp pair.returns))
-          (by_instrs (tac.Return (Some pair.temp)) (short_return frame places pair.left pair.form) refl
-          (short_return_straight pair.left pair.form))))
+          (by_instrs (tac.Return (Some pair.temp)) (short_return frame places pair.left form) refl
+          (short_return_straight frame places pair.left form))))
 
   -- a choice and a loop are nothing to the one behind
   other_joins : (before own behind : Role) → own ≡ Other → joins (role_behind before own) behind ≡ true → ⊥

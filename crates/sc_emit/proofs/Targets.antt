@@ -72,7 +72,7 @@ module _ (function : ℕ → Bool) (entry : (comp index : ℕ) → Bool) (global
         (λ t o. record { passes = λ b c. plainly_named (object_read frame places t o) })
         (λ t l o w. record { passes = λ b c. plainly_named (short_operation frame places t l (short_form o w)) })
         (λ v o. record { passes = λ b c. plainly_named (object_store frame places v o) })
-        (λ l form. record { passes = λ b c. plainly_named (short_return frame places l form) })
+        (λ l o w. record { passes = λ b c. plainly_named (short_return frame places l (short_form o w)) })
         (followed_passes is_named_line) stmts h
 
     each_named : (stmts : List TacStmt) → Each Named stmts → all_true (map named_inside stmts) ≡ true →
