@@ -10,6 +10,8 @@ use Rattle.sc_emit.proofs.Common.{needs_of, plainly, range_with_len, refl, regis
 use Rattle.sc_emit.proofs.Common.{select_all, slice_get, slice_get-get_or, slots_of, slots_up_to, store_arguments}
 use Rattle.sc_emit.proofs.Common.{subst, suc, sym, trail, true, weight, wrapping, zero, ℕ, ◌++◌, ◌+◌, ◌<◌, ◌∙◌, ◌∷◌}
 use Rattle.sc_emit.proofs.Common.{◌≡◌, ◌≤◌}
+use Rattle.sc_select.specs.Selection.{branch_reach, is_near, plan_of}
+use Rattle.sc_emit.proofs.Common.{Bool, nat_lt}
 use Rattle.sc_tac.specs.Prelude.{everywhere}
 use Rattle.sc_emit.proofs.Needed.{all_among}
 use Rattle.std.proofs.lemmas.List.FromFn.{length-range_with_len}
@@ -47,6 +49,9 @@ module _ (f : TacFnTree) (places : List Place) (frame : FrameTree) (rules : IsFu
   abbrev code : CodeTree
   code = code_of f places frame
 
+  abbrev near : Bool
+  near = is_near f places frame
+
   abbrev lines : List Line
   lines = function_lines frame places (plan_of f near) f
 
@@ -64,25 +69,31 @@ module _ (f : TacFnTree) (places : List Place) (frame : FrameTree) (rules : IsFu
     (row_is_sized frame places (plan_of f near) f.body).sized 0 0,
   )
 
+  -- a branch reaches all over code whose loops end with their tests
+  reaches : near ≡ true → length lines < branch_reach
+  reaches h =
+      let same : lines ≡ function_lines frame places (plan_of f true) f =
+      ap (λ b. function_lines frame places (plan_of f b) f) h in
+      ltb-true (length lines) branch_reach (ap (λ l. nat_lt (length l) branch_reach) same ∙ h)
+
   temps_are : f.temps ≡ length places
   temps_are = sym (assigned.each ∙ length-map (range_with_len 0 f.temps) (interval_of (function_points f)) ∙
       length-range_with_len 0 f.temps)
 
   all_placed : (A : Activation) (last : ℕ) → A.frame ≡ frame →
-      ArePlaced (record { activation = A; places = places; needed = needed_in f.body; last = last })
+      ArePlaced (record { activation = A; places = places; plan = plan_of f near; last = last })
   all_placed A last same t (Register r) e = register_below (length places) places t r kept.known e
   all_placed A last same t (Slot k) e =
       let below : k < length frame.slots = omega (arith, slot_below places t k e, room.slots) in
       (_, ap (λ (frame : FrameTree). slice_get frame.slots k) same ∙ slice_get-get_or frame.slots k 0 below)
 
   module _ (T : Setting) (comp address : ℕ) (is : IsPlaced T comp address f code) where
-    body : BodyFollows T f frame places comp
+    body : BodyFollows T f frame places near comp
     body calls follow A last run gapless =
-        let R : Running = in_call T f frame places A last in
-        let size : (select_all A.frame places (plan_of f near) f.body).size ≤ T.turn_pays =
-        subst (λ (frame : FrameTree). (select_all frame places (plan_of f near) f.body).size ≤ T.turn_pays) (sym
-        run.frame_is)
-        (omega (arith, body_within, all_instrs, is.paid)) in
+        let R : Running = in_call T f frame places near A last in
+        let size : (select_all A.frame places (plan_of f near) f.body).size ≤ length lines =
+        subst (λ (frame : FrameTree). (select_all frame places (plan_of f near) f.body).size ≤ length lines) (sym
+        run.frame_is) body_within in
         let reached : AreReached T A.here.comp is.function is.entry is.global =
         subst (λ c. AreReached T c is.function is.entry is.global) (sym run.comp_is) is.reached in
         let made : everywhere (calls_only (T.makes A.here.comp) (T.gives A.here.comp)) f.body ≡ true =
@@ -94,7 +105,7 @@ module _ (f : TacFnTree) (places : List Place) (frame : FrameTree) (rules : IsFu
         (row (map trail f.body))) run.frame_is
         (body_follows T R is.image is.inputs f.objects f.nodes run.is (all_placed A last run.frame_is) gapless calls
         follow
-        is.function is.entry is.global reached f.body (
+        is.function is.entry is.global reached (length lines) (omega (arith, all_instrs, is.paid)) reaches f.body (
           temps,
           (
             rules.own_objects,
@@ -116,13 +127,13 @@ module _ (f : TacFnTree) (places : List Place) (frame : FrameTree) (rules : IsFu
 
     follows : FunctionFollows T comp address (length code.instrs) f.params (code_function wrapping f)
     follows =
-        code_follows T f frame places is.image is.inputs rules whole room small assigned is.words comp address
+        code_follows T f frame places near is.image is.inputs rules whole room small assigned is.words comp address
         (length code.instrs)
         (subst (CodeAt T.image comp address) (linked_is (T.addresses comp) address lines) is.stands) (omega (
           arith,
           all_instrs,
         ))
-        body (brace_returns T f frame places is.image is.inputs comp)
+        body (brace_returns T f frame places near is.image is.inputs comp)
 
   -- the way in stands in front
   enters : Front (frame_taken frame.bytes) code.instrs

@@ -11,14 +11,14 @@ use Rattle.sc_emit.proofs.Common.{begun, cases_lt, closed, closing, code_does, c
 use Rattle.sc_emit.proofs.Common.{completed_length, data_start, done, done_goes, ends_of, entered, entrance, eqb-true}
 use Rattle.sc_emit.proofs.Common.{false, frame_taken, function_follows, function_lines, in_parts, inl, inr}
 use Rattle.sc_emit.proofs.Common.{intervals_of, is_activation, last as final, leads_then, length, length-append}
-use Rattle.sc_emit.proofs.Common.{length-map, list_all, live_at, low_plainly, map, needed_in, no_temps, nothing_live}
+use Rattle.sc_emit.proofs.Common.{length-map, list_all, live_at, low_plainly, map, no_temps, nothing_live}
 use Rattle.sc_emit.proofs.Common.{overflows_then, passes_words, plain, plainly, plainly_at, reached, ready_entered}
 use Rattle.sc_emit.proofs.Common.{refl, returns_with, row, runs_with, same, same_Some, same_entry, seen_from}
 use Rattle.sc_emit.proofs.Common.{select_all, shows_after, shows_here, slice_get, stays, store_arguments, subst, suc}
 use Rattle.sc_emit.proofs.Common.{sym, then_goes, trail, true, word_at, wrapping, zero, ℕ, ⊎_elim, ◌*◌, ◌++◌, ◌+◌, ◌-◌}
 use Rattle.sc_emit.proofs.Common.{◌<◌, ◌==◌, ◌∙◌, ◌∷◌, ◌≡◌, ◌≤◌, ◌⊎◌}
 use Rattle.sc_tac.specs.Prelude.{nothing}
-use Rattle.sc_select.specs.Prelude.{Piece as Code}
+use Rattle.sc_select.specs.Prelude.{Piece as Code, plan_of}
 use Rattle.std.proofs.Common.{take}
 use Rattle.sc_laws.proofs.Matching.{library_goes}
 use Rattle.sc_tac.specs.declared.program.TacTree.{TacTree}
@@ -143,9 +143,9 @@ function_goes f =
     } in
     library_goes (code_library wrapping alone) (code_obeys.itself wrapping alone) 0 0 (code_function wrapping f) refl
 
-module _ (T : Setting) (f : TacFnTree) (frame : FrameTree) (places : List Place) where
+module _ (T : Setting) (f : TacFnTree) (frame : FrameTree) (places : List Place) (near : Bool) where
   abbrev pub in_call : Activation → (last : ℕ) → Running
-  in_call A last = record { activation = A; places = places; needed = needed_in f.body; last = last }
+  in_call A last = record { activation = A; places = places; plan = plan_of f near; last = last }
 
   -- a call of the function runs in a compartment
   pub record IsRun (comp : ℕ) (A : Activation) : Type 0 where
@@ -320,7 +320,7 @@ module _ (T : Setting) (f : TacFnTree) (frame : FrameTree) (places : List Place)
         starts = record {
           ready = ready_entered T formed inputs P function args address ra_is x begins frame places f.nodes low whole
               room room.bounded bound_is start steps (x.pc + 4 * steps) entering.regs entering.bytes entering.enters
-              (λ o n less e. variables_some (length args) o n long less e) (needed_in f.body) end
+              (λ o n less e. variables_some (length args) o n long less e) (plan_of f near) end
               (live_at (row (map trail f.body)) nothing_live);
           clear = places_are_clear f places rules assigned;
           stands = in_back.front;
@@ -359,7 +359,7 @@ module _ (T : Setting) (f : TacFnTree) (frame : FrameTree) (places : List Place)
             subst (λ n. FunctionGives T P x n ra_is told ⊎ Overflows T P x n told) all
             (function_follows T formed inputs P function args address ra_is x begins frame places f.nodes low whole room
             room.bounded bound_is start steps (x.pc + 4 * steps) entering.regs entering.bytes entering.enters
-            (λ o n less e. variables_some (length args) o n long less e) end (needed_in f.body) (body.size + left) value
+            (λ o n less e. variables_some (length args) o n long less e) end (plan_of f near) (body.size + left) value
             closes)
 
       call_follows : BodyFollows P.comp → BraceReturns P.comp → Goal

@@ -12,6 +12,8 @@ use Rattle.sc_select.specs.declared.roles.Role.TheVariants.{Applies, Returns, St
 use Rattle.sc_select.specs.Selection.{ending_test, role_behind}
 use Rattle.sc_select.specs.Prelude.{in_order, short_form}
 use Rattle.sc_select.proofs.Joining.{turning_role}
+use Rattle.sc_select.proofs.Turning.{break_stmt, test_stmt}
+use Rattle.sc_select.specs.Prelude.{row_needs}
 use Rattle.std.specs.Prelude.{is_some, ◌&&◌}
 
 -- LISTS
@@ -39,6 +41,46 @@ all_among (x ∷ xs) ys h =
     and_from (is_one x ys) (list_all (λ t. is_one t ys) xs)
     (h x (or_left (x == x) (is_one x xs) (eq-eqb x x refl)))
     (all_among xs ys (λ t on. h t (or_right (x == t) (is_one t xs) on)))
+
+-- A HEAD WITH ITS TEST
+-- what the statements before a test read, and the test
+module _ (needed : ℕ → Bool) (cond : ℕ) where
+  test_reads : (before : Option ℕ) → list_all needed (row_needs before (map need (test_stmt cond ∷ []))) ≡ true →
+      needed cond ≡ true
+  test_reads before h =
+      let parts = all_append needed (place_needed before (need (test_stmt cond)).stores) ((need (test_stmt cond)).reads ++
+      []) h in
+      let reads = (all_append needed (need (test_stmt cond)).reads [] parts.1).0 in
+      let layer = tac.If cond [] (break_stmt ∷ []) in
+      and_first (needed cond) _ (subst (λ (n : Need). list_all needed n.reads ≡ true)
+      (fold-roll-TacStmt Need need_step layer) reads)
+
+  init_reads : (before : Option ℕ) (init : List TacStmt) →
+      list_all needed (row_needs before (map need (init ++ (test_stmt cond ∷ [])))) ≡ true →
+      (list_all needed (row_needs before (map need init)) ≡ true) × (needed cond ≡ true)
+  init_reads before [] h = (refl, test_reads before h)
+  init_reads before (stmt ∷ init) h =
+      let own : List ℕ = (need stmt).reads in
+      let place : List ℕ = place_needed before (need stmt).stores in
+      let one = all_append needed place (own ++ row_needs (need stmt).gives (map need (init ++ (test_stmt cond ∷ []))))
+      h in
+      let two = all_append needed own (row_needs (need stmt).gives (map need (init ++ (test_stmt cond ∷ [])))) one.1 in
+      let rest = init_reads (need stmt).gives init two.1 in
+      (joined place (own ++ row_needs (need stmt).gives (map need init)) one.0
+      (joined own (row_needs (need stmt).gives (map need init)) two.0 rest.0), rest.1)
+    where
+      joined : (xs ys : List ℕ) → list_all needed xs ≡ true → list_all needed ys ≡ true →
+          list_all needed (xs ++ ys) ≡ true
+      joined [] ys h k = k
+      joined (x ∷ xs) ys h k =
+          let parts = and_parts (needed x) (list_all needed xs) h in
+          and_from (needed x) (list_all needed (xs ++ ys)) parts.0 (joined xs ys parts.1 k)
+
+  pub head_needs : (head init : List TacStmt) → head ≡ init ++ (test_stmt cond ∷ []) →
+      list_all needed (row_needs None (map need head)) ≡ true →
+      (list_all needed (row_needs None (map need init)) ≡ true) × (needed cond ≡ true)
+  head_needs head init is h =
+      init_reads None init (subst (λ l. list_all needed (row_needs None (map need l)) ≡ true) is h)
 
 -- ROLES
 abbrev pub gives_of : Role → Option ℕ

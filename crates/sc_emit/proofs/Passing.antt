@@ -1,4 +1,5 @@
 -- Statements that pass several tests, and so do those inside.
+use Rattle.sc_emit.proofs.Common.{and_from, refl, ◌++◌}
 use Rattle.sc_emit.proofs.Common.{Bool, List, TacStmt, TacStmt-F, [], all_true, and_parts, fold-TacStmt}
 use Rattle.sc_emit.proofs.Common.{fold-roll-TacStmt, list_all, map, map-TacStmt, parts, roll-TacStmt, sym, true}
 use Rattle.sc_emit.proofs.Common.{with_parts, ℕ, ◌∙◌, ◌∷◌, ◌≡◌}
@@ -80,3 +81,16 @@ loop_passes (test ∷ tests) head body next h =
     let three = and_parts (all_true (map (passes test) next)) _ two.1 in
     let more = loop_passes tests head body next h.1 in
     ((one.0, more.0), (two.0, more.1), (three.0, more.2))
+
+-- those before others pass as all do
+pub front_passes : (tests : List Test) (front rest : List TacStmt) → AllPass tests (front ++ rest) →
+    AllPass tests front
+front_passes [] front rest h = tt
+front_passes (test ∷ tests) front rest h = (by front h.0, front_passes tests front rest h.1)
+  where
+    by : (xs : List TacStmt) → all_true (map (passes test) (xs ++ rest)) ≡ true →
+        all_true (map (passes test) xs) ≡ true
+    by [] k = refl
+    by (x ∷ xs) k =
+        let parts = and_parts (passes test x) (all_true (map (passes test) (xs ++ rest))) k in
+        and_from (passes test x) (all_true (map (passes test) xs)) parts.0 (by xs parts.1)

@@ -1,5 +1,5 @@
 -- The way out of a function: a return, and the closing brace.
-use Rattle.sc_emit.proofs.Common.{Activation, Addi, All, Calls, CodeAt, Computes, Does, Entry, Export, Follows}
+use Rattle.sc_emit.proofs.Common.{Activation, Addi, All, Bool, Calls, CodeAt, Computes, Does, Entry, Export, Follows}
 use Rattle.sc_emit.proofs.Common.{FrameTree, GivenBack, Goes, Instr, IsActivation, IsWellFormed, IsWord, Jalr, Joint}
 use Rattle.sc_emit.proofs.Common.{LeavesFrame, List, Lives, Main, None, OpImm, Option, Owned, Place, Ready, Registers}
 use Rattle.sc_emit.proofs.Common.{Return, Returns, Running, Set, Setting, Some, Standpoint, StandsFor, TacFnTree, Temps}
@@ -190,10 +190,10 @@ module _ (T : Setting) (R : Running) (formed : IsWellFormed T.image) (inputs : A
         (λ lives temps x left ready clear code. returns value needs lives temps x left ready code))
 
 -- the code of a closing brace comes to the jump back, in each call of its function
-pub brace_returns : (T : Setting) (f : TacFnTree) (frame : FrameTree) (places : List Place) → IsWellFormed T.image →
-    All IsWord T.inputs → (comp : ℕ) → BraceReturns T f frame places comp
-brace_returns T f frame places formed inputs comp A last run x temps ready code =
-    let R : Running = in_call T f frame places A last in
+pub brace_returns : (T : Setting) (f : TacFnTree) (frame : FrameTree) (places : List Place) (near : Bool) → IsWellFormed T.image →
+    All IsWord T.inputs → (comp : ℕ) → BraceReturns T f frame places near comp
+brace_returns T f frame places near formed inputs comp A last run x temps ready code =
+    let R : Running = in_call T f frame places near A last in
     let same : closing A.frame places f.entry ≡ closing frame places f.entry =
     ap (λ frame. closing frame places f.entry) run.frame_is in
     leaves_at_brace T R formed inputs f.objects f.nodes run.is nothing temps x ready f.entry

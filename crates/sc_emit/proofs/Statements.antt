@@ -8,7 +8,7 @@ use Rattle.sc_emit.proofs.Common.{and_first, and_parts, ap, ap₂, arith, as_one
 use Rattle.sc_emit.proofs.Common.{code_does, code_step, continue_follows, counts_elements, everywhere, false}
 use Rattle.sc_emit.proofs.Common.{fold-roll-TacStmt, follow as then_follow, followed, gives_place, has_elements}
 use Rattle.sc_emit.proofs.Common.{has_operands, has_words, if◌then◌else◌, in_order, in_turn, is_call, is_some, joined}
-use Rattle.sc_emit.proofs.Common.{joins, last_of_two, leb-true, length, list_all, loads_it, ltb-true, map, map-TacStmt}
+use Rattle.sc_emit.proofs.Common.{joins, leb-true, length, list_all, loads_it, ltb-true, map, map-TacStmt}
 use Rattle.sc_emit.proofs.Common.{names_only, names_own_object, names_own_temps, nat_lt, need, need_step, needs_of}
 use Rattle.sc_emit.proofs.Common.{none_behind, not, nothing as no_lines, object_inside, object_read, object_store}
 use Rattle.sc_emit.proofs.Common.{object_there, one_or_none, operates_it, parts_least, passes_few, place_needed, refl}
@@ -16,27 +16,35 @@ use Rattle.sc_emit.proofs.Common.{role_first, roll-TacStmt, row, row_needs, sele
 use Rattle.sc_emit.proofs.Common.{short_form, short_operation, slice_get-get_or, stmt_does, stmt_induction, stores_it}
 use Rattle.sc_emit.proofs.Common.{straightly, subst, sym, takes_two, trail, trail_step, true, which_pair}
 use Rattle.sc_emit.proofs.Common.{word_of_constant, wrapping, ℕ, ⊎_elim, ◌&&◌, ◌++◌, ◌+◌, ◌<◌, ◌==◌, ◌^◌, ◌||◌, ◌∙◌}
-use Rattle.sc_emit.proofs.Common.{◌∷◌, ◌≡◌, ◌≤◌}
+use Rattle.sc_emit.proofs.Common.{eq-eqb, ◌∷◌, ◌≡◌, ◌≤◌}
 use Rattle.sc_core.specs.Prelude.{in_order as one_by_one}
 use Rattle.sc_select.specs.Prelude.{Piece as Code}
-use Rattle.sc_emit.proofs.Needed.{all_append, gives_of, need_gives, store_alone}
+use Rattle.sc_emit.proofs.Needed.{all_append, gives_behind, gives_of, head_needs, need_gives, store_alone}
 use Rattle.sc_emit.proofs.Stored.{assigns, assigns_follow, both_parts}
 use Rattle.sc_emit.proofs.Constants.{applies, both_steps, short_follows}
 use Rattle.std.specs.Bool.{beq}
 use Rattle.sc_tac.specs.declared.stmt.Constant.TheVariants as constant
 use Rattle.sc_tac.specs.declared.stmt.TacOp.TheVariants as tacop
 use Rattle.sc_tac.specs.declared.stmt.TacStmt.TheOpen as tac
+use Rattle.sc_select.proofs.Joining.{IsReturned, never_applies, read_is_last, return_is_last, return_of, returns_it}
+use Rattle.sc_select.proofs.Joining.{role_alone, store_is_last, third_is_last}
+use Rattle.sc_select.proofs.Turning.{each_before, test_stmt, turning_by}
+use Rattle.sc_select.specs.Selection.{branch_reach, role_behind, short_return}
+use Rattle.sc_select.specs.declared.roles.Role.TheVariants.{Applies, Returns}
 use Rattle.sc_relation.proofs.Loops.{loop_follows}
+use Rattle.sc_relation.proofs.Rotated.{rotated_follows}
 use Rattle.sc_relation.proofs.Rows.{nothing_follows, row_follows}
 use Rattle.sc_emit.proofs.Calls.{Answers, HasPlace, call_own_follows, call_cross_follows}
 use Rattle.sc_emit.proofs.Choices.{fork_follows}
 use Rattle.sc_emit.proofs.Environment.{input_follows, output_follows}
 use Rattle.sc_emit.proofs.Operands.{ArePlaced}
 use Rattle.sc_emit.proofs.Operations.{op_follows, load_follows, store_follows}
-use Rattle.sc_emit.proofs.Passing.{Test, PassesAll, AllPass, PassesHere, first_passes, rest_pass, passes_here}
+use Rattle.sc_emit.proofs.Passing.{Test, PassesAll, AllPass, PassesHere, first_passes, front_passes, rest_pass, passes_here}
 use Rattle.sc_emit.proofs.Passing.{choice_passes, loop_passes}
 use Rattle.sc_emit.proofs.Plain.{const_follows, copy_follows, object_follows, global_follows}
 use Rattle.sc_emit.proofs.Reading.{both_trails, read_follows, reads}
+use Rattle.sc_emit.proofs.Heads.{head_of_stmts}
+use Rattle.sc_emit.proofs.Returned.{all_three, gives_back, gives_back_follows, three_as_one}
 use Rattle.sc_emit.proofs.Returns.{return_follows}
 use Rattle.sc_emit.proofs.Straight.{behind_nothing}
 
@@ -695,7 +703,7 @@ module _ (T : Setting) (R : Running) (formed : IsWellFormed T.image) (inputs : A
       (λ cond near t few.
       let i : Code = in_order frame R.places (map code t.init) in
       let init_passes = front_passes tests t.init (test_stmt cond ∷ []) (subst (AllPass tests) t.is pass.0) in
-      let reads = head_needs head t.init cond t.is first.0 in
+      let reads = head_needs R.plan.needed cond head t.init t.is first.0 in
       let least : limit < branch_reach = reach near in
       rotated_follows T R formed inputs cond (all_do (map does head)) (all_do (map does body))
       (all_do (map does next)) i b n (map trail head) (map trail body) (map trail next)
