@@ -65,9 +65,11 @@ module _ (needed : ℕ → Bool) (cond : ℕ) where
       let one = all_append needed place (own ++ row_needs (need stmt).gives (map need (init ++ (test_stmt cond ∷ []))))
       h in
       let two = all_append needed own (row_needs (need stmt).gives (map need (init ++ (test_stmt cond ∷ [])))) one.1 in
-      let rest = init_reads (need stmt).gives init two.1 in
-      (joined place (own ++ row_needs (need stmt).gives (map need init)) one.0
-      (joined own (row_needs (need stmt).gives (map need init)) two.0 rest.0), rest.1)
+      let rest = init_reads (need stmt).gives init two.1 in (
+        joined place (own ++ row_needs (need stmt).gives (map need init)) one.0
+            (joined own (row_needs (need stmt).gives (map need init)) two.0 rest.0),
+        rest.1,
+      )
     where
       joined : (xs ys : List ℕ) → list_all needed xs ≡ true → list_all needed ys ≡ true →
           list_all needed (xs ++ ys) ≡ true

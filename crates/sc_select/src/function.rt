@@ -104,12 +104,7 @@ fn planned(alloc: Global, f: &TacFn, homes: &Homes) -> Result<Backward, OutOfMem
 }
 
 // The lines of a function: its loops end with their tests where a branch reaches all over it.
-fn chosen(
-    alloc: Global,
-    f: &TacFn,
-    places: &Places,
-    frame: &Frame,
-) -> Result<Backward, OutOfMemory>
+fn chosen(alloc: Global, f: &TacFn, places: &Places, frame: &Frame) -> Result<Backward, OutOfMemory>
     requires { 96 * f.now.nodes ≤ 1048576 }
     ensures lines { IfOk result (λ lines. code_of_lines lines ≡ code_of f.now places.now frame.now) }
     ensures few { IfOk result (λ lines. length lines < 2 ^ 32) }

@@ -103,7 +103,7 @@ pub turning-rotated-requires : goal.turning-rotated-requires
 turning-rotated-requires t c = (
   omega (arith, c.decreases, front_lighter c.args.head.now (length c.args.head.now - 1)),
   rotated_fits c.args.homes.now.frame.now c.args.homes.now.places.now (plan_by c.args.homes.now.needs.now
-    c.args.homes.now.near) c.args.head.now c.args.body.now c.args.next.now _ c.in-Some.cond
+      c.args.homes.now.near) c.args.head.now c.args.body.now c.args.next.now _ c.in-Some.cond
       (c.test_at_end.ensures c.args.homes.now.frame.now c.args.homes.now.places.now) c.in-Some.is c.requires.fits,
 )
 
@@ -116,7 +116,7 @@ turning-cycle-requires t c = (
 )
 
 pub turning-returns-in-Some : goal.turning-returns-in-Some
-turning-returns-in-Some t c to_break to_continue = 
+turning-returns-in-Some t c to_break to_continue =
     written_as c.args.homes.now.frame.now c.args.homes.now.places.now (plan_by c.args.homes.now.needs.now
     c.args.homes.now.near) c.rotated.result _ _ to_break to_continue _ c.args.self.now
     (rotated_is c.args.homes.now.frame.now c.args.homes.now.places.now (plan_by c.args.homes.now.needs.now
@@ -136,36 +136,36 @@ pub rotated-part-requires : goal.rotated-part-requires
 rotated-part-requires t c = (
   omega (arith, c.decreases),
   reaches_head c.args.homes.now.frame.now c.args.homes.now.places.now (plan_by c.args.homes.now.needs.now
-    c.args.homes.now.near) c.args.cond c.args.head.now c.args.body.now c.args.next.now
-    c.requires.fits _ c.args.self.now _ _ c.len-end.result c.in_ok-plain.ensures
-    (taken_by c.args.homes.now.frame.now c.args.homes.now.places.now (plan_by c.args.homes.now.needs.now
-    c.args.homes.now.near) c.args.cond c.register.result 5 _ _ c.register.ensures c.in_ok-take.ensures) c.len-end.ensures,
+      c.args.homes.now.near) c.args.cond c.args.head.now c.args.body.now c.args.next.now
+      c.requires.fits _ c.args.self.now _ _ c.len-end.result c.in_ok-plain.ensures
+      (taken_by c.args.homes.now.frame.now c.args.homes.now.places.now (plan_by c.args.homes.now.needs.now
+      c.args.homes.now.near) c.args.cond c.register.result 5 _ _ c.register.ensures c.in_ok-take.ensures) c.len-end.ensures,
 )
 
 pub rotated-part-requires-2 : goal.rotated-part-requires-2
 rotated-part-requires-2 t c = (
   omega (arith, c.decreases),
   reaches_next c.args.homes.now.frame.now c.args.homes.now.places.now (plan_by c.args.homes.now.needs.now
-    c.args.homes.now.near) c.args.cond c.args.head.now c.args.body.now c.args.next.now
-    c.requires.fits _ c.args.self.now _ _ c.len-end.result c.in_ok-plain.ensures
-    (taken_by c.args.homes.now.frame.now c.args.homes.now.places.now (plan_by c.args.homes.now.needs.now
-    c.args.homes.now.near) c.args.cond c.register.result 5 _ _ c.register.ensures c.in_ok-take.ensures) c.len-end.ensures
-    _ c.in_ok-part.ensures,
+      c.args.homes.now.near) c.args.cond c.args.head.now c.args.body.now c.args.next.now
+      c.requires.fits _ c.args.self.now _ _ c.len-end.result c.in_ok-plain.ensures
+      (taken_by c.args.homes.now.frame.now c.args.homes.now.places.now (plan_by c.args.homes.now.needs.now
+      c.args.homes.now.near) c.args.cond c.register.result 5 _ _ c.register.ensures c.in_ok-take.ensures) c.len-end.ensures
+      _ c.in_ok-part.ensures,
 )
 
 pub rotated-part-requires-3 : goal.rotated-part-requires-3
 rotated-part-requires-3 t c = (
   omega (arith, c.decreases),
   reaches_body c.args.homes.now.frame.now c.args.homes.now.places.now (plan_by c.args.homes.now.needs.now
-    c.args.homes.now.near) c.args.cond c.args.head.now c.args.body.now c.args.next.now
-    c.requires.fits _ c.args.self.now _ _ c.len-end.result c.in_ok-plain.ensures
-    (taken_by c.args.homes.now.frame.now c.args.homes.now.places.now (plan_by c.args.homes.now.needs.now
-    c.args.homes.now.near) c.args.cond c.register.result 5 _ _ c.register.ensures c.in_ok-take.ensures) c.len-end.ensures
-    _ c.in_ok-part.ensures _ c.in_ok-part-2.ensures,
+      c.args.homes.now.near) c.args.cond c.args.head.now c.args.body.now c.args.next.now
+      c.requires.fits _ c.args.self.now _ _ c.len-end.result c.in_ok-plain.ensures
+      (taken_by c.args.homes.now.frame.now c.args.homes.now.places.now (plan_by c.args.homes.now.needs.now
+      c.args.homes.now.near) c.args.cond c.register.result 5 _ _ c.register.ensures c.in_ok-take.ensures) c.len-end.ensures
+      _ c.in_ok-part.ensures _ c.in_ok-part-2.ensures,
 )
 
 pub rotated-jump_over-requires : goal.rotated-jump_over-requires
-rotated-jump_over-requires t c = 
+rotated-jump_over-requires t c =
     body_over c.args.homes.now.frame.now c.args.homes.now.places.now (plan_by c.args.homes.now.needs.now
     c.args.homes.now.near) c.args.cond c.args.head.now c.args.body.now c.args.next.now
     c.requires.fits _ c.args.self.now _ _ c.len-end.result c.in_ok-plain.ensures
@@ -175,7 +175,7 @@ rotated-jump_over-requires t c =
     c.len-behind.result c.len.ensures c.len-2.ensures c.len-behind.ensures
 
 pub rotated-branch_back-requires : goal.rotated-branch_back-requires
-rotated-branch_back-requires t c = 
+rotated-branch_back-requires t c =
     lines_reach c.args.homes.now.frame.now c.args.homes.now.places.now (plan_by c.args.homes.now.needs.now
     c.args.homes.now.near) c.args.cond c.args.head.now c.args.body.now c.args.next.now
     c.requires.fits _ c.args.self.now _ _ c.len-end.result c.in_ok-plain.ensures
@@ -185,7 +185,7 @@ rotated-branch_back-requires t c =
     c.len-behind.result c.len.ensures c.len-2.ensures c.len-behind.ensures
 
 pub rotated-returns : goal.rotated-returns
-rotated-returns t c to_break to_continue = 
+rotated-returns t c to_break to_continue =
     all_written c.args.homes.now.frame.now c.args.homes.now.places.now (plan_by c.args.homes.now.needs.now
     c.args.homes.now.near) c.args.cond c.args.head.now c.args.body.now c.args.next.now
     c.requires.fits _ c.args.self.now _ _ c.len-end.result c.in_ok-plain.ensures
@@ -281,7 +281,7 @@ in_order-loop-at-preserved t c =
     step_written c.args.homes.now.frame.now c.args.homes.now.places.now (plan_by c.args.homes.now.needs.now c.args.homes.now.near) _ _ _ _
     c.len.result c.len-end.result _ _ _ _ _
     _ c.loop-at-test.true c.loop-at.auto.at c.index-stmts-at.is (λ frame places. c.role_before-before.ensures frame places c.args.homes.now.near)
-          (λ frame places. c.role_at.ensures frame places c.args.homes.now.near)
+    (λ frame places. c.role_at.ensures frame places c.args.homes.now.near)
     c.len.ensures c.len-end.ensures c.loop-at.invariant c.in_ok-between.ensures
 
 -- A STATEMENT BETWEEN TWO OTHERS
