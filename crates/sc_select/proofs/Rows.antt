@@ -1,5 +1,7 @@
 -- Worked functions: the code of each.
-use Rattle.sc_select.specs.Selection.{Plan}
+use Rattle.sc_select.specs.Selection.{Plan as Way, branch_reach, plan_of}
+use Rattle.sc_select.proofs.Common.{Line, length}
+use Rattle.std.proofs.Common.{nat_lt}
 use Rattle.std.specs.Prelude.{None}
 use Rattle.sc_tac.specs.Prelude.{is_one}
 use Rattle.sc_select.specs.Prelude.{Need, function_lines, need_step, row_needs}
@@ -15,10 +17,10 @@ use Rattle.sc_tac.proofs.Plans.{Plan, function}
 use Rattle.sc_tac.proofs.Runs.{fetched, give, int_op, put_into, word}
 use Rattle.sc_tac.proofs.Shapes.{Cycle, Done, Fork, Line as Then, rows, rows_are}
 
--- the code of a function by its plan, on which it computes
-abbrev pub planned : FrameTree → List Place → Plan → List Piece → CodeTree
-planned frame places plan pieces = code_of_lines (plainly (entrance frame places plan.params) ++
-    (in_order frame places pieces).lines 0 0 ++ plainly (closing frame places plan.entry))
+-- the lines of a function by its outline, on which they compute
+abbrev pub outlined : FrameTree → List Place → Plan → List Piece → List Line
+outlined frame places plan pieces = plainly (entrance frame places plan.params) ++
+    (in_order frame places pieces).lines 0 0 ++ plainly (closing frame places plan.entry)
 
 abbrev pub framed : Plan → List Place → FrameTree
 framed plan places = frame_of plan.objects places
@@ -30,15 +32,28 @@ needed_by plan t = is_one t (row_needs None (rows Need need_step plan.body))
 needs_are : (plan : Plan) → needed_in (function plan).body ≡ needed_by plan
 needs_are plan = λ i t. is_one t (row_needs None (rows_are Need need_step plan.body i))
 
-abbrev pub pieces_of : Plan → List Place → List Piece
-pieces_of plan places = rows Piece (select_step (framed plan places) places (needed_by plan)) plan.body
+abbrev way : Plan → Bool → Way
+way plan near = record { needed = needed_by plan; near = near }
+
+abbrev pub lines_by : Plan → List Place → Bool → List Line
+lines_by plan places near = outlined (framed plan places) places plan
+    (rows Piece (select_step (framed plan places) places (way plan near)) plan.body)
+
+lines_are : (plan : Plan) (places : List Place) (near : Bool) →
+    function_lines (framed plan places) places (plan_of (function plan) near) (function plan) ≡
+    lines_by plan places near
+lines_are plan places near =
+    ap (λ needed. function_lines (framed plan places) places (record { needed = needed; near = near }) (function plan))
+    (needs_are plan) ∙
+    ap (outlined (framed plan places) places plan)
+    (rows_are Piece (select_step (framed plan places) places (way plan near)) plan.body)
 
 pub code_is : (plan : Plan) (places : List Place) → code_of (function plan) places (framed plan places) ≡
-    planned (framed plan places) places plan (pieces_of plan places)
+    code_of_lines (lines_by plan places (nat_lt (length (lines_by plan places true)) branch_reach))
 code_is plan places =
-    ap (λ needed. code_of_lines (function_lines (framed plan places) places plan (function plan))) (needs_are plan) ∙
-    ap (planned (framed plan places) places plan)
-    (rows_are Piece (select_step (framed plan places) places (needed_by plan)) plan.body)
+    ap (λ lines. code_of_lines (function_lines (framed plan places) places (plan_of (function plan)
+    (nat_lt (length lines) branch_reach)) (function plan))) (lines_are plan places true) ∙
+    ap code_of_lines (lines_are plan places (nat_lt (length (lines_by plan places true)) branch_reach))
 
 -- `int down(int n) { while (n) n = n - 1; return n; }`
 abbrev pub down : Plan
@@ -60,10 +75,10 @@ down_places =
 
 pub down_code : code_of (function down) down_places (framed down down_places) ≡ record {
   instrs =
-      OpImm Addi 2 2 (negsuc 7) ∷ Store Sw 2 1 (pos 0) ∷ Store Sw 2 10 (pos 4) ∷ OpImm Addi 0 0 (pos 0) ∷
-      Load Lw 3 2 (pos 4) ∷ Branch Bne 3 0 (pos 8) ∷ Jal 0 (pos 20) ∷
+      OpImm Addi 2 2 (negsuc 7) ∷ Store Sw 2 1 (pos 0) ∷ Store Sw 2 10 (pos 4) ∷ Jal 0 (pos 16) ∷
       Load Lw 3 2 (pos 4) ∷ OpImm Addi 4 3 (negsuc 0) ∷ Store Sw 2 4 (pos 4) ∷
-      Jal 0 (negsuc 23) ∷ Load Lw 3 2 (pos 4) ∷ OpImm Addi 10 3 (pos 0) ∷ Load Lw 1 2 (pos 0) ∷
+      Load Lw 3 2 (pos 4) ∷ Branch Bne 3 0 (negsuc 15) ∷
+      Load Lw 3 2 (pos 4) ∷ OpImm Addi 10 3 (pos 0) ∷ Load Lw 1 2 (pos 0) ∷
       OpImm Addi 2 2 (pos 8) ∷ Jalr 0 1 (pos 0) ∷ Load Lw 1 2 (pos 0) ∷ OpImm Addi 2 2 (pos 8) ∷ Jalr 0 1 (pos 0) ∷ [];
   relocations = [];
 }
