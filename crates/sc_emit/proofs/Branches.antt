@@ -1,34 +1,34 @@
 -- The code of a function has at most one branch for each `If` and no EBREAK,
 -- and each field of its instructions is in the range of its form.
-use Rattle.sc_select.specs.Prelude.{Kind, Piece, Plan, branch_back, branch_reach, is_near, kind_of_fork}
-use Rattle.sc_select.specs.Prelude.{plan_of, role_behind, role_of_return, rotated, short_return, testing}
-use Rattle.sc_select.proofs.Turning.{each_before, test_stmt, turning_by}
 use Rattle.sc_emit.proofs.Common.{Addi, All, All-cons, All-nil, Andi, ArePlaces, Bne, Bool, Branch, Each, Ebreak, Entry}
 use Rattle.sc_emit.proofs.Common.{Export, Fits, FrameTree, Inside, Instr, IsBranchOffset, IsImmediate, IsInstr}
-use Rattle.sc_emit.proofs.Common.{IsJumpOffset, IsReg, IsUpper, Jal, Jalr, Line, List, Load, Lw, Main, None, Op, OpImm}
-use Rattle.sc_emit.proofs.Common.{Option, Ori, Other, Place, Places, Register, Role, Sets, Shift, ShortForm, Slot, Some}
-use Rattle.sc_emit.proofs.Common.{Store, Sw, TacFnTree, TacOp, TacStmt, TacStmt-F, Xori, [], a0, a7, added_by}
-use Rattle.sc_emit.proofs.Common.{address_scratch, all_true, and_first, and_from, and_rest, arith, at_hand, between}
-use Rattle.sc_emit.proofs.Common.{between_keeps, binary_code, binary_short, branch_step, branches, brought, bytes_ahead}
-use Rattle.sc_emit.proofs.Common.{bytes_of, call_cross, call_own, choice, choosing, closing, code_branches, code_of}
-use Rattle.sc_emit.proofs.Common.{cond, copied, count_by, cycle, ending_past, entrance, environment_call, everywhere}
-use Rattle.sc_emit.proofs.Common.{false, first_scratch, fold-TacStmt, fold-roll-TacStmt, followed, fork, fork_keeps}
-use Rattle.sc_emit.proofs.Common.{frame_left, frame_taken, function_lines, has_known_jumps, has_no_ebreak}
-use Rattle.sc_emit.proofs.Common.{if◌then◌else◌, in_order, in_turn, int_le, is_branch, is_ebreak, is_known_jump}
-use Rattle.sc_emit.proofs.Common.{is_place, is_short, is_unsigned, joined, jump_back, jump_over, keep, kept, leb-true}
-use Rattle.sc_emit.proofs.Common.{length, less_than, list_all, list_all-append, list_all-map, list_all_along, load_from}
-use Rattle.sc_emit.proofs.Common.{load_word, loading, loop_begins, lower_part, ltb-true, map, map-TacStmt, most_lines}
-use Rattle.sc_emit.proofs.Common.{most_params, moved_by, mul_word, nat_le, nat_lt, neg_ℤ, negsuc, not, nothing}
-use Rattle.sc_emit.proofs.Common.{object_offset, object_read, object_store, op_code, operand, operation, order_keeps}
-use Rattle.sc_emit.proofs.Common.{pass, passes_few, past, place_of, place_of_global, plain, plainly, pos, put, ra}
-use Rattle.sc_emit.proofs.Common.{receive, refl, register_count, register_of, register_there, result_register, return}
-use Rattle.sc_emit.proofs.Common.{role_first, role_of_load, role_of_operation, role_of_store, rules, second_operand}
-use Rattle.sc_emit.proofs.Common.{second_scratch, select, select_all, select_step, short, short_code, short_form}
-use Rattle.sc_emit.proofs.Common.{short_operation, signed_of, skipping, slice_get, slot_offset, sp, stmt_branches}
-use Rattle.sc_emit.proofs.Common.{stmt_induction, store_arguments, store_to, store_word, straight, straightly, sub_word}
-use Rattle.sc_emit.proofs.Common.{subst, suc, sum_by-append, sym, take, take_second, taken, total, true, unary_code}
-use Rattle.sc_emit.proofs.Common.{upper_part, with_parts, word_of_constant, zero, ℕ, ℤ, ◌%◌, ◌&&◌, ◌*◌, ◌++◌, ◌+◌, ◌<◌}
-use Rattle.sc_emit.proofs.Common.{◌==◌, ◌^◌, ◌∙◌, ◌∷◌, ◌≡◌, ◌≤ℤ◌, ◌≤◌}
+use Rattle.sc_emit.proofs.Common.{IsJumpOffset, IsReg, IsUpper, Jal, Jalr, Kind, Line, List, Load, Lw, Main, None, Op}
+use Rattle.sc_emit.proofs.Common.{OpImm, Option, Ori, Other, Place, Places, Plan, Register, Role, Sets, Shift}
+use Rattle.sc_emit.proofs.Common.{ShortForm, Slot, Some, Store, Sw, TacFnTree, TacOp, TacStmt, TacStmt-F, Xori, [], a0}
+use Rattle.sc_emit.proofs.Common.{a7, added_by, address_scratch, all_true, and_first, and_from, and_rest, arith}
+use Rattle.sc_emit.proofs.Common.{at_hand, between, between_keeps, binary_code, binary_short, branch_back, branch_reach}
+use Rattle.sc_emit.proofs.Common.{branch_step, branches, brought, bytes_ahead, bytes_of, call_cross, call_own, choice}
+use Rattle.sc_emit.proofs.Common.{choosing, closing, code_branches, code_of, cond, copied, count_by, cycle, each_before}
+use Rattle.sc_emit.proofs.Common.{ending_past, entrance, environment_call, everywhere, false, first_scratch}
+use Rattle.sc_emit.proofs.Common.{fold-TacStmt, fold-roll-TacStmt, followed, fork, fork_keeps, frame_left, frame_taken}
+use Rattle.sc_emit.proofs.Common.{function_lines, has_known_jumps, has_no_ebreak, if◌then◌else◌, in_order, in_turn}
+use Rattle.sc_emit.proofs.Common.{int_le, is_branch, is_ebreak, is_known_jump, is_near, is_place, is_short, is_unsigned}
+use Rattle.sc_emit.proofs.Common.{joined, jump_back, jump_over, keep, kept, kind_of_fork, leb-true, length, less_than}
+use Rattle.sc_emit.proofs.Common.{list_all, list_all-append, list_all-map, list_all_along, load_from, load_word}
+use Rattle.sc_emit.proofs.Common.{loading, loop_begins, lower_part, ltb-true, map, map-TacStmt, most_lines, most_params}
+use Rattle.sc_emit.proofs.Common.{moved_by, mul_word, nat_le, nat_lt, neg_ℤ, negsuc, not, nothing, object_offset}
+use Rattle.sc_emit.proofs.Common.{object_read, object_store, op_code, operand, operation, order_keeps, pass, passes_few}
+use Rattle.sc_emit.proofs.Common.{past, place_of, place_of_global, plain, plainly, plan_of, pos, put, ra, receive, refl}
+use Rattle.sc_emit.proofs.Common.{register_count, register_of, register_there, result_register, return, role_behind}
+use Rattle.sc_emit.proofs.Common.{role_first, role_of_load, role_of_operation, role_of_return, role_of_store, rotated}
+use Rattle.sc_emit.proofs.Common.{rules, second_operand, second_scratch, select, select_all, select_step, short}
+use Rattle.sc_emit.proofs.Common.{short_code, short_form, short_operation, short_return, signed_of, skipping, slice_get}
+use Rattle.sc_emit.proofs.Common.{slot_offset, sp, stmt_branches, stmt_induction, store_arguments, store_to, store_word}
+use Rattle.sc_emit.proofs.Common.{straight, straightly, sub_word, subst, suc, sum_by-append, sym, take, take_second}
+use Rattle.sc_emit.proofs.Common.{taken, test_stmt, testing, total, true, turning_by, unary_code, upper_part}
+use Rattle.sc_emit.proofs.Common.{with_parts, word_of_constant, zero, ℕ, ℤ, ◌%◌, ◌&&◌, ◌*◌, ◌++◌, ◌+◌, ◌<◌, ◌==◌, ◌^◌}
+use Rattle.sc_emit.proofs.Common.{◌∙◌, ◌∷◌, ◌≡◌, ◌≤ℤ◌, ◌≤◌}
+use Rattle.sc_select.specs.Prelude.{Piece}
 use Rattle.rv_code.specs.declared.instr.ShiftOp.TheVariants.{Slli}
 use Rattle.rv_code.specs.declared.instr.OpOp.TheVariants.{Mul}
 use Rattle.rv_code.specs.declared.instr.OpImmOp.{OpImmOp}

@@ -4,21 +4,20 @@ use Rattle.sc_emit.proofs.Common.{Ends, Exit, ExitGives, Fetches, Follows, Frame
 use Rattle.sc_emit.proofs.Common.{Instr, IsActivation, IsClear, IsInside, IsWellFormed, IsWord, Jal, Joint, Left, Line}
 use Rattle.sc_emit.proofs.Common.{List, Lives, MovesOn, Next, None, Null, Option, Piece, Ptr, Reached, Ready, Registers}
 use Rattle.sc_emit.proofs.Common.{Return, Running, Set, Setting, Settled, Some, Standpoint, StandsAt, StandsFor, Starts}
-use Rattle.sc_emit.proofs.Common.{State as Meant, Stopped, Temps, Trail, Value, Walks, Word, [], add_word, and_first}
-use Rattle.sc_emit.proofs.Common.{and_from, and_rest, and_then, ap, arith, arrives_with, at, back_at, choice, choose}
-use Rattle.sc_emit.proofs.Common.{choosing, code_inside, comes_after, comes_read, completed, ends_of, eq-eqb, eqb-true}
-use Rattle.sc_emit.proofs.Common.{false, first_scratch, fork, front_at, if◌then◌else◌, in_order, in_parts, inl, inr}
-use Rattle.sc_emit.proofs.Common.{is_empty, is_some, is_true, jump_over, leads_less, leads_none, length, length-append}
-use Rattle.sc_emit.proofs.Common.{length-map, live_at, live_before, look, low_after, low_append, low_plainly, machine}
-use Rattle.sc_emit.proofs.Common.{moved, ne_eqb, not, operand, or_left, or_right, over, past, plain, plainly}
-use Rattle.sc_emit.proofs.Common.{plainly_at, point, pos, read, refl, row, row_points, seen_from, skipping, sp, subst}
-use Rattle.sc_emit.proofs.Common.{suc, sym, take, trail_step, true, wanted_less, word_at, word_of, zero, ℕ, ℤ, ⊎_elim}
-use Rattle.sc_emit.proofs.Common.{◌%◌, ◌&&◌, ◌*◌, ◌++◌, ◌+◌, ◌==◌, ◌∙◌, ◌∷◌, ◌≡◌, ◌≤◌}
+use Rattle.sc_emit.proofs.Common.{State as Meant, Stopped, Temps, Trail, Value, Walks, Word, [], add_word, all_back}
+use Rattle.sc_emit.proofs.Common.{all_front, and_first, and_from, and_rest, and_then, ap, arith, arrives_with, at}
+use Rattle.sc_emit.proofs.Common.{back_at, choice, choose, choosing, code_inside, comes_after, comes_read, completed}
+use Rattle.sc_emit.proofs.Common.{ends_of, eq-eqb, eqb-true, false, first_scratch, fork, front_at, if◌then◌else◌}
+use Rattle.sc_emit.proofs.Common.{in_order, in_parts, inl, inr, is_empty, is_some, is_true, jump_over, kind_of_fork}
+use Rattle.sc_emit.proofs.Common.{leads_less, leads_none, length, length-append, length-map, live_at, live_before, look}
+use Rattle.sc_emit.proofs.Common.{low_after, low_append, low_plainly, machine, moved, ne_eqb, not, operand, or_left}
+use Rattle.sc_emit.proofs.Common.{or_right, over, past, plain, plainly, plainly_at, point, pos, read, refl, row}
+use Rattle.sc_emit.proofs.Common.{row_points, seen_from, skipping, sp, subst, suc, sym, take, trail_step, true}
+use Rattle.sc_emit.proofs.Common.{wanted_less, word_at, word_of, zero, ℕ, ℤ, ⊎_elim, ◌%◌, ◌&&◌, ◌*◌, ◌++◌, ◌+◌, ◌==◌}
+use Rattle.sc_emit.proofs.Common.{◌∙◌, ◌∷◌, ◌≡◌, ◌≤◌}
 use Rattle.sc_select.specs.Prelude.{Piece as Code}
-use Rattle.sc_select.specs.Selection.{kind_of_fork}
 use Rattle.sc_hart.proofs.Steps.{then_go, branch_taken, branch_not_taken}
 use Rattle.sc_tac.specs.declared.stmt.TacStmt.TheOpen as tac
-use Rattle.sc_relation.proofs.Clear.{all_front, all_back}
 use Rattle.sc_relation.proofs.Straight.{moves_on}
 use Rattle.sc_emit.proofs.Operands.{ArePlaced, AtHand, first_is, brings, world}
 use Rattle.sc_emit.proofs.Straight.{read_goes, with_kind}

@@ -1,10 +1,11 @@
 -- The names that several proofs of this crate cite, passed on from one place. Declares nothing.
 pub use Rattle.std.proofs.Common.{All, Bool, Err, IfOk, IsSome, IsTrue, List, None, Ok, Option, Result, Some, [], ap}
 pub use Rattle.std.proofs.Common.{append-nil, append_assoc, ap₂, arith, cond, eq-eqb, eqb-true, false, if◌then◌else◌}
-pub use Rattle.std.proofs.Common.{inl, inr, int_le, is_some, le-leb, le-ltb, leb-true, length, length-append, ltb-true}
-pub use Rattle.std.proofs.Common.{map, max, nat_eq, nat_le, nat_lt, ne_eqb, neg_ℤ, negsuc, not, pos, refl, rules}
-pub use Rattle.std.proofs.Common.{slice_get, subst, suc, sym, true, true≢false, zero, ℕ, ℤ, ⊎_elim, ◌%◌, ◌&&◌, ◌*◌}
-pub use Rattle.std.proofs.Common.{◌++◌, ◌+◌, ◌-ℤ◌, ◌-◌, ◌/◌, ◌<◌, ◌==◌, ◌^◌, ◌||◌, ◌∙◌, ◌∷◌, ◌≡◌, ◌≢◌, ◌≤ℤ◌, ◌≤◌, ◌⊎◌}
+pub use Rattle.std.proofs.Common.{inl, inr, int_le, is_some, le-leb, le-ltb, leb-true, length, length-append, lt-ltb}
+pub use Rattle.std.proofs.Common.{ltb-true, map, max, nat_eq, nat_le, nat_lt, ne_eqb, neg_ℤ, negsuc, not, pos, refl}
+pub use Rattle.std.proofs.Common.{rules, slice_get, subst, suc, sym, true, true≢false, zero, ℕ, ℤ, ⊎_elim, ◌%◌, ◌&&◌}
+pub use Rattle.std.proofs.Common.{◌*◌, ◌++◌, ◌+◌, ◌-ℤ◌, ◌-◌, ◌/◌, ◌<◌, ◌==◌, ◌^◌, ◌||◌, ◌∙◌, ◌∷◌, ◌≡◌, ◌≢◌, ◌≤ℤ◌, ◌≤◌}
+pub use Rattle.std.proofs.Common.{◌⊎◌}
 pub use Rattle.std.proofs.lemmas.Bool.{and_from, and_parts, cases_eq, cases_lt, lt-leb, or_left, or_right}
 pub use Rattle.std.proofs.lemmas.List.{length-map, map-append}
 pub use Rattle.std.proofs.lemmas.List.Elements.{All-cons, All-nil, All-tail}
@@ -29,8 +30,8 @@ pub use Rattle.sc_core.specs.declared.expr.CallTarget.{CallTarget}
 pub use Rattle.sc_core.specs.declared.expr.CallTarget.TheVariants.{Cross, Input, Output, Own}
 pub use Rattle.sc_core.specs.declared.value.Value.{Value}
 pub use Rattle.sc_core.specs.declared.value.Value.TheVariants.{Null, Ptr, Word}
-pub use Rattle.sc_laws.proofs.Growing.{FunctionGoes, done_goes, front_same, no_turn, reached, same, stays, then_from}
-pub use Rattle.sc_laws.proofs.Growing.{then_goes, then_then}
+pub use Rattle.sc_laws.proofs.Growing.{FunctionGoes, done_goes, follow_goes, front_same, no_turn, reached, same, stays}
+pub use Rattle.sc_laws.proofs.Growing.{then_from, then_goes, then_then}
 pub use Rattle.sc_laws.specs.Prelude.{Goes, Gone, Grown, last}
 pub use Rattle.rv_code.specs.Prelude.{IsBranchOffset, IsImmediate, IsInstr, IsJumpOffset, IsReg, IsUpper}
 pub use Rattle.rv_code.specs.declared.instr.BranchOp.TheVariants.{Bne}
@@ -49,16 +50,16 @@ pub use Rattle.sc_hart.proofs.Fetching.{back_at, code_is_fetched, front_at}
 pub use Rattle.sc_hart.proofs.Inside.{IsInside, code_inside}
 pub use Rattle.sc_hart.specs.Prelude.{Apart, CodeAt, Fetches, Owned, Registers, World, at, look, put_word, word}
 pub use Rattle.sc_tac.proofs.Induction.{Inside, stmt_induction}
-pub use Rattle.sc_tac.specs.Prelude.{ArePlaces, Codes, HasRoom, IsAssignment, IsClear, IsFrame, IsFunction, Lives}
-pub use Rattle.sc_tac.specs.Prelude.{Point, Set, Temps, Trail, all_true, branch_step, branches, call_does, code_does}
-pub use Rattle.sc_tac.specs.Prelude.{code_function, code_library, code_step, constant_value, counts_elements}
-pub use Rattle.sc_tac.specs.Prelude.{entry_weight, function_points, gets, has_elements, has_operands, has_words}
-pub use Rattle.sc_tac.specs.Prelude.{interval_of, intervals_of, is_one, is_place, is_unsigned, known, live_across}
-pub use Rattle.sc_tac.specs.Prelude.{live_before, names_own_object, names_own_temps, no_temps, nothing_live}
-pub use Rattle.sc_tac.specs.Prelude.{one_or_none, operated, parts, passes_few, passes_words, plain_points, point, read}
-pub use Rattle.sc_tac.specs.Prelude.{read_all, received, register_count, return_does, row_points, same_entry, slots_of}
-pub use Rattle.sc_tac.specs.Prelude.{slots_up_to, start_of, stmt_branches, stmt_does, takes_two, trail, trail_step}
-pub use Rattle.sc_tac.specs.Prelude.{weight, with_parts, with_temp}
+pub use Rattle.sc_tac.specs.Prelude.{Ahead, ArePlaces, Codes, HasRoom, IsAssignment, IsClear, IsFrame, IsFunction}
+pub use Rattle.sc_tac.specs.Prelude.{Lives, Point, Set, Temps, Trail, ahead_at, all_true, branch_step, branches}
+pub use Rattle.sc_tac.specs.Prelude.{call_does, code_does, code_function, code_library, code_step, constant_value}
+pub use Rattle.sc_tac.specs.Prelude.{counts_elements, entry_weight, function_points, gets, has_elements, has_operands}
+pub use Rattle.sc_tac.specs.Prelude.{has_words, interval_of, intervals_of, is_one, is_place, is_unsigned, known}
+pub use Rattle.sc_tac.specs.Prelude.{live_across, live_before, names_own_object, names_own_temps, no_temps}
+pub use Rattle.sc_tac.specs.Prelude.{nothing_live, one_or_none, operated, parts, passes_few, passes_words, plain_points}
+pub use Rattle.sc_tac.specs.Prelude.{point, read, read_all, readings, received, register_count, return_does, row_first}
+pub use Rattle.sc_tac.specs.Prelude.{row_points, same_entry, second, slots_of, slots_up_to, start_of, stmt_branches}
+pub use Rattle.sc_tac.specs.Prelude.{stmt_does, takes_two, trail, trail_step, weight, with_parts, with_temp}
 pub use Rattle.sc_tac.specs.declared.frame.FrameTree.{FrameTree}
 pub use Rattle.sc_tac.specs.declared.function.TacFnTree.{TacFnTree}
 pub use Rattle.sc_tac.specs.declared.place.Place.{Place}
@@ -66,29 +67,35 @@ pub use Rattle.sc_tac.specs.declared.place.Place.TheVariants.{Register, Slot}
 pub use Rattle.sc_tac.specs.declared.stmt.Constant.{Constant}
 pub use Rattle.sc_tac.specs.declared.stmt.TacOp.{TacOp}
 pub use Rattle.sc_tac.specs.declared.stmt.TacStmt.{fold-roll-TacStmt, map-TacStmt, roll-TacStmt}
-pub use Rattle.sc_select.proofs.Joining.{IsRead, IsShort, IsStored, between_keeps, fork_keeps, fork_role, gives_place}
-pub use Rattle.sc_select.proofs.Joining.{is_empty, loads_it, none_behind, operates_it, operation_role}
-pub use Rattle.sc_select.proofs.Joining.{order_keeps, parts_least, sets_it, store_role, stores_it, which_pair}
+pub use Rattle.sc_select.proofs.Joining.{IsRead, IsReturned, IsShort, IsStored, between_keeps, fork_keeps, fork_role}
+pub use Rattle.sc_select.proofs.Joining.{gives_place, is_empty, loads_it, never_applies, none_behind, operates_it}
+pub use Rattle.sc_select.proofs.Joining.{operation_role, order_keeps, parts_least, read_is_last, return_is_last}
+pub use Rattle.sc_select.proofs.Joining.{return_of, returns_it, role_alone, sets_it, store_is_last, store_role}
+pub use Rattle.sc_select.proofs.Joining.{stores_it, third_is_last, turning_role, which_pair}
 pub use Rattle.sc_select.proofs.Sizes.{row_is_sized}
-pub use Rattle.sc_select.specs.Prelude.{Addresses, Fits, Line, Need, a0, a7, added_by, address_scratch, as_one, at_hand}
-pub use Rattle.sc_select.specs.Prelude.{between, binary_code, binary_short, brought, bytes_ahead, bytes_of, call_cross}
-pub use Rattle.sc_select.specs.Prelude.{call_own, choice, choosing, closing, code_of, completed, copied, cycle}
-pub use Rattle.sc_select.specs.Prelude.{ending_past, entrance, environment_call, first_scratch, followed, fork}
-pub use Rattle.sc_select.specs.Prelude.{frame_left, frame_taken, function_lines, in_order, in_turn, is_named, is_short}
-pub use Rattle.sc_select.specs.Prelude.{joined, joins, jump_back, jump_over, keep, kept, less_than, linked, load_from}
-pub use Rattle.sc_select.specs.Prelude.{load_word, loading, loop_begins, low_after, lower_part, most_lines, move}
-pub use Rattle.sc_select.specs.Prelude.{moved_by, need, need_step, needed_in, needs_of, nothing, object_offset}
-pub use Rattle.sc_select.specs.Prelude.{object_read, object_store, op_code, operand, operation, pass, past}
-pub use Rattle.sc_select.specs.Prelude.{place_needed, place_of, place_of_global, plain, plainly, put, ra, receive}
-pub use Rattle.sc_select.specs.Prelude.{referring, refers_only, register_of, relocation_of, relocations_from}
-pub use Rattle.sc_select.specs.Prelude.{result_register, return, role_first, role_of_load, role_of_operation}
-pub use Rattle.sc_select.specs.Prelude.{role_of_store, row_needs, second_operand, second_scratch, select, select_all}
-pub use Rattle.sc_select.specs.Prelude.{select_step, short, short_code, short_form, short_operation, skipping}
+pub use Rattle.sc_select.proofs.Turning.{IsTested, break_stmt, each_before, fork_kind, kind_is, kind_of, layer_kind}
+pub use Rattle.sc_select.proofs.Turning.{loop_kind, test_stmt, turning_by}
+pub use Rattle.sc_select.specs.Prelude.{Addresses, Controls, Fits, Kind, Line, Need, Plan, a0, a7, added_by}
+pub use Rattle.sc_select.specs.Prelude.{address_scratch, as_one, at_hand, between, binary_code, binary_short}
+pub use Rattle.sc_select.specs.Prelude.{branch_back, branch_reach, brought, bytes_ahead, bytes_of, call_cross, call_own}
+pub use Rattle.sc_select.specs.Prelude.{choice, choosing, closing, code_of, completed, copied, cycle, ending_past}
+pub use Rattle.sc_select.specs.Prelude.{ending_test, entrance, environment_call, first_scratch, followed, fork}
+pub use Rattle.sc_select.specs.Prelude.{frame_left, frame_taken, function_lines, in_order, in_turn, is_named, is_near}
+pub use Rattle.sc_select.specs.Prelude.{is_plain, is_short, joined, joins, jump_back, jump_over, keep, kept}
+pub use Rattle.sc_select.specs.Prelude.{kind_of_fork, less_than, linked, load_from, load_word, loading, loop_begins}
+pub use Rattle.sc_select.specs.Prelude.{low_after, lower_part, most_lines, move, moved_by, need, need_step, needed_in}
+pub use Rattle.sc_select.specs.Prelude.{needs_of, nothing, object_offset, object_read, object_store, op_code, operand}
+pub use Rattle.sc_select.specs.Prelude.{operation, pass, past, place_needed, place_of, place_of_global, plain, plainly}
+pub use Rattle.sc_select.specs.Prelude.{plan_of, put, ra, receive, referring, refers_only, register_of, relocation_of}
+pub use Rattle.sc_select.specs.Prelude.{relocations_from, result_register, return, role_behind, role_first}
+pub use Rattle.sc_select.specs.Prelude.{role_of_load, role_of_operation, role_of_return, role_of_store, rotated}
+pub use Rattle.sc_select.specs.Prelude.{row_needs, second_operand, second_scratch, select, select_all, select_step}
+pub use Rattle.sc_select.specs.Prelude.{short, short_code, short_form, short_operation, short_return, skipping}
 pub use Rattle.sc_select.specs.Prelude.{slot_offset, sp, store_arguments, store_to, store_word, straight, straightly}
-pub use Rattle.sc_select.specs.Prelude.{take, take_second, taken, unary_code, upper_part, word_of_constant}
+pub use Rattle.sc_select.specs.Prelude.{take, take_second, taken, testing, unary_code, upper_part, word_of_constant}
 pub use Rattle.sc_select.specs.declared.operators.ShortForm.{ShortForm}
 pub use Rattle.sc_select.specs.declared.roles.Role.{Role}
-pub use Rattle.sc_select.specs.declared.roles.Role.TheVariants.{Loads, Operates, Other, Places, Sets}
+pub use Rattle.sc_select.specs.declared.roles.Role.TheVariants.{Applies, Loads, Operates, Other, Places, Sets}
 pub use Rattle.sc_pieces.proofs.Frames.{leaves_frame, overflows, takes_frame}
 pub use Rattle.sc_pieces.proofs.Loading.{loads_long, loads_number, moves, moves_on}
 pub use Rattle.sc_pieces.proofs.NearSp.{loads_word, stores_word}
@@ -97,28 +104,31 @@ pub use Rattle.sc_pieces.specs.Frames.{FrameOverflows, LeavesFrame, TakesFrame, 
 pub use Rattle.sc_pieces.specs.Operators.{AreOperands, op_word}
 pub use Rattle.sc_pieces.specs.Pieces.{Besides, Computes, Does, IsFromSp, IsWritable, Stores}
 pub use Rattle.sc_relation.proofs.Calling.{Enters, activated, entered, is_activation, ready_entered}
+pub use Rattle.sc_relation.proofs.Clear.{all_back, all_front}
 pub use Rattle.sc_relation.proofs.Following.{IsBack, back_with, comes_computed, comes_read, is_back}
 pub use Rattle.sc_relation.proofs.Frames.{object_inside, object_there, objects_apart, own_beside, own_inside}
 pub use Rattle.sc_relation.proofs.Functions.{function_follows, overflows_entering}
-pub use Rattle.sc_relation.proofs.Jumps.{HasNoGap, break_follows, continue_follows, over}
+pub use Rattle.sc_relation.proofs.Jumps.{HasNoGap, back_to, break_follows, continue_follows, over}
 pub use Rattle.sc_relation.proofs.Lines.{InParts, completed_length, completed_plainly, in_parts, low_append}
 pub use Rattle.sc_relation.proofs.Lines.{low_plainly, plainly_at}
 pub use Rattle.sc_relation.proofs.Operators.{operator_stands}
 pub use Rattle.sc_relation.proofs.Registers.{HasNoOtherUse, no_other_use, register_there}
+pub use Rattle.sc_relation.proofs.Rotated.{ArrivesLate, HeadComes, HeadFollows, rotated_follows}
 pub use Rattle.sc_relation.proofs.Settling.{leads_moved, moved, settled_moved}
 pub use Rattle.sc_relation.proofs.Straight.{IsLoaded, MovesOn, across_live, asked, assigned, assigned_at}
 pub use Rattle.sc_relation.proofs.Straight.{assigns_register, assigns_slot, call_from, live_plain, loads, may_store}
 pub use Rattle.sc_relation.proofs.Straight.{overflows_from, settled_to, shows_from, stores}
-pub use Rattle.sc_relation.proofs.Stretches.{arrives_with, comes_after, leads_less, leads_none, leads_then}
-pub use Rattle.sc_relation.proofs.Stretches.{overflows_then, overflows_with, returns_with, shows_after, shows_here}
-pub use Rattle.sc_relation.proofs.Stretches.{shows_less}
+pub use Rattle.sc_relation.proofs.Stretches.{arrives_with, comes_after, effect_still, leads_less, leads_none}
+pub use Rattle.sc_relation.proofs.Stretches.{leads_then, leads_then_steps, overflows_then, overflows_with, returns_with}
+pub use Rattle.sc_relation.proofs.Stretches.{shows_after, shows_here, shows_less}
 pub use Rattle.sc_relation.proofs.Wanted.{wanted_less}
 pub use Rattle.sc_relation.specs.Prelude.{Activation, AreHeld, ArePassed, Arrives, Begins, CallGives, CallStands}
 pub use Rattle.sc_relation.specs.Prelude.{CallsFollow, Comes, ComesBack, Ends, ExitGives, Follows, FrameMatches}
 pub use Rattle.sc_relation.specs.Prelude.{FunctionFollows, FunctionGives, GivenBack, Gives, GivesValue, InPlace}
-pub use Rattle.sc_relation.specs.Prelude.{IsActivation, IsAddress, IsHeld, IsSound, Joint, Overflows, Ready, Returns}
-pub use Rattle.sc_relation.specs.Prelude.{Running, Setting, Settled, Shows, Standpoint, StandsAt, StandsFor, Starts}
-pub use Rattle.sc_relation.specs.Prelude.{ends_of, live_at, machine, of_environment, row, runs_with, seen_from, wanted}
+pub use Rattle.sc_relation.specs.Prelude.{IsActivation, IsAddress, IsHeld, IsSound, Joint, Leads, Overflows, Ready}
+pub use Rattle.sc_relation.specs.Prelude.{Returns, Running, Setting, Settled, Shows, Standpoint, StandsAt, StandsFor}
+pub use Rattle.sc_relation.specs.Prelude.{Starts, ends_of, live_at, machine, of_environment, row, runs_with, seen_from}
+pub use Rattle.sc_relation.specs.Prelude.{wanted}
 pub use Rattle.sc_emit.specs.Common.{CodeTree, Instr, TacStmt, TacStmt-F, fold-TacStmt}
 pub use Rattle.sc_emit.specs.Prelude.{AreReached, CodeFollows, IsEmitted, IsPlaced, calls_only, code_back_edges}
 pub use Rattle.sc_emit.specs.Prelude.{code_branches, has_known_jumps, has_no_ebreak, is_backward, is_branch, is_call}

@@ -2,15 +2,15 @@
 use Rattle.sc_emit.proofs.Common.{All, All-cons, All-nil, Arrives, Bool, Calls, Cause, CodeAt, Codes, Computes}
 use Rattle.sc_emit.proofs.Common.{Constant, Err, Follows, FrameTree, Goes, Gone, Instr, IsActivation, IsClear, IsSound}
 use Rattle.sc_emit.proofs.Common.{IsWellFormed, IsWord, Joint, List, Lives, Next, Ok, Place, Point, Ready, Result}
-use Rattle.sc_emit.proofs.Common.{Running, Set, Setting, ShortForm, Some, State as Meant, TacOp, Temps, Trail}
-use Rattle.sc_emit.proofs.Common.{Value, [], all_at, and_from, and_then, ap, arith, code_step, comes_computed}
-use Rattle.sc_emit.proofs.Common.{comes_read, constant_value, eq-eqb, eqb-true, false, first_scratch, gets}
-use Rattle.sc_emit.proofs.Common.{if◌then◌else◌, in_row, is_one, keep, leave, length, live_across, live_at, live_plain}
-use Rattle.sc_emit.proofs.Common.{ne_eqb, not, op_word, operand, operated, operator_stands, or_left, plain_points}
-use Rattle.sc_emit.proofs.Common.{point, read, refl, result_register, row, same, same_Some, short_code, short_form}
-use Rattle.sc_emit.proofs.Common.{short_operation, slice_get, sp, stays, straightly, subst, sym, take, trail_step, true}
-use Rattle.sc_emit.proofs.Common.{true≢false, wanted_less, with_temp, word_of_constant, wrapping, ℕ, ◌&&◌, ◌*◌, ◌++◌}
-use Rattle.sc_emit.proofs.Common.{◌+◌, ◌==◌, ◌||◌, ◌∙◌, ◌∷◌, ◌≡◌}
+use Rattle.sc_emit.proofs.Common.{Running, Set, Setting, ShortForm, Some, State as Meant, TacOp, Temps, Trail, Value}
+use Rattle.sc_emit.proofs.Common.{[], all_at, and_from, and_then, ap, arith, code_step, comes_computed, comes_read}
+use Rattle.sc_emit.proofs.Common.{constant_value, eq-eqb, eqb-true, false, first_scratch, gets, if◌then◌else◌, in_row}
+use Rattle.sc_emit.proofs.Common.{is_one, keep, leave, length, live_across, live_at, live_plain, ne_eqb, not, op_word}
+use Rattle.sc_emit.proofs.Common.{operand, operated, operator_stands, or_left, plain_points, point, read, refl}
+use Rattle.sc_emit.proofs.Common.{result_register, row, same, same_Some, short_code, short_form, short_operation}
+use Rattle.sc_emit.proofs.Common.{slice_get, sp, stays, straightly, subst, sym, take, trail_step, true, true≢false}
+use Rattle.sc_emit.proofs.Common.{wanted_less, with_temp, word_of_constant, wrapping, ℕ, ◌&&◌, ◌*◌, ◌++◌, ◌+◌, ◌==◌}
+use Rattle.sc_emit.proofs.Common.{◌||◌, ◌∙◌, ◌∷◌, ◌≡◌}
 use Rattle.sc_tac.specs.declared.stmt.TacStmt.TheOpen as tac
 use Rattle.sc_pieces.proofs.ShortForms.{gives_short}
 use Rattle.sc_emit.proofs.Operands.{ArePlaced, AtHand, Gives, brings, first_is, keeps, world}

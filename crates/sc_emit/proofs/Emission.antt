@@ -1,17 +1,15 @@
 -- The code that is selected keeps what code keeps.
-use Rattle.sc_emit.proofs.Common.{Activation, ArePlaces, AreReached, CodeAt, CodeTree, Err, Follows, FrameTree, Front}
-use Rattle.sc_emit.proofs.Common.{FunctionFollows, HasRoom, IfOk, Instr, IsAssignment, IsEmitted, IsFrame, IsFunction}
-use Rattle.sc_emit.proofs.Common.{IsPlaced, Line, List, Ok, Place, Register, Result, Running, Setting, Slot, Some}
-use Rattle.sc_emit.proofs.Common.{TacFnTree, [], and_parts, ap, append_assoc, arith, calls_only, closing, code_does}
-use Rattle.sc_emit.proofs.Common.{code_function, code_of, entrance, entry_weight, frame_taken, function_lines}
-use Rattle.sc_emit.proofs.Common.{function_points, interval_of, intervals_of, is_place, length, length-append}
-use Rattle.sc_emit.proofs.Common.{length-map, list_all, ltb-true, map, map-append, max, names_own_temps, needed_in}
-use Rattle.sc_emit.proofs.Common.{needs_of, plainly, range_with_len, refl, register_count, row, row_is_sized, same_Some}
-use Rattle.sc_emit.proofs.Common.{select_all, slice_get, slice_get-get_or, slots_of, slots_up_to, store_arguments}
-use Rattle.sc_emit.proofs.Common.{subst, suc, sym, trail, true, weight, wrapping, zero, ℕ, ◌++◌, ◌+◌, ◌<◌, ◌∙◌, ◌∷◌}
-use Rattle.sc_emit.proofs.Common.{◌≡◌, ◌≤◌}
-use Rattle.sc_select.specs.Selection.{branch_reach, is_near, plan_of}
-use Rattle.sc_emit.proofs.Common.{Bool, nat_lt}
+use Rattle.sc_emit.proofs.Common.{Activation, ArePlaces, AreReached, Bool, CodeAt, CodeTree, Err, Follows, FrameTree}
+use Rattle.sc_emit.proofs.Common.{Front, FunctionFollows, HasRoom, IfOk, Instr, IsAssignment, IsEmitted, IsFrame}
+use Rattle.sc_emit.proofs.Common.{IsFunction, IsPlaced, Line, List, Ok, Place, Register, Result, Running, Setting, Slot}
+use Rattle.sc_emit.proofs.Common.{Some, TacFnTree, [], and_parts, ap, append_assoc, arith, branch_reach, calls_only}
+use Rattle.sc_emit.proofs.Common.{closing, code_does, code_function, code_of, entrance, entry_weight, frame_taken}
+use Rattle.sc_emit.proofs.Common.{function_lines, function_points, interval_of, intervals_of, is_near, is_place, length}
+use Rattle.sc_emit.proofs.Common.{length-append, length-map, list_all, ltb-true, map, map-append, max, names_own_temps}
+use Rattle.sc_emit.proofs.Common.{nat_lt, needed_in, needs_of, plainly, plan_of, range_with_len, refl, register_count}
+use Rattle.sc_emit.proofs.Common.{row, row_is_sized, same_Some, select_all, slice_get, slice_get-get_or, slots_of}
+use Rattle.sc_emit.proofs.Common.{slots_up_to, store_arguments, subst, suc, sym, trail, true, weight, wrapping, zero, ℕ}
+use Rattle.sc_emit.proofs.Common.{◌++◌, ◌+◌, ◌<◌, ◌∙◌, ◌∷◌, ◌≡◌, ◌≤◌}
 use Rattle.sc_tac.specs.Prelude.{everywhere}
 use Rattle.sc_emit.proofs.Needed.{all_among}
 use Rattle.std.proofs.lemmas.List.FromFn.{length-range_with_len}

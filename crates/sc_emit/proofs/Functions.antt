@@ -12,13 +12,13 @@ use Rattle.sc_emit.proofs.Common.{completed_length, data_start, done, done_goes,
 use Rattle.sc_emit.proofs.Common.{false, frame_taken, function_follows, function_lines, in_parts, inl, inr}
 use Rattle.sc_emit.proofs.Common.{intervals_of, is_activation, last as final, leads_then, length, length-append}
 use Rattle.sc_emit.proofs.Common.{length-map, list_all, live_at, low_plainly, map, no_temps, nothing_live}
-use Rattle.sc_emit.proofs.Common.{overflows_then, passes_words, plain, plainly, plainly_at, reached, ready_entered}
-use Rattle.sc_emit.proofs.Common.{refl, returns_with, row, runs_with, same, same_Some, same_entry, seen_from}
-use Rattle.sc_emit.proofs.Common.{select_all, shows_after, shows_here, slice_get, stays, store_arguments, subst, suc}
-use Rattle.sc_emit.proofs.Common.{sym, then_goes, trail, true, word_at, wrapping, zero, ℕ, ⊎_elim, ◌*◌, ◌++◌, ◌+◌, ◌-◌}
-use Rattle.sc_emit.proofs.Common.{◌<◌, ◌==◌, ◌∙◌, ◌∷◌, ◌≡◌, ◌≤◌, ◌⊎◌}
+use Rattle.sc_emit.proofs.Common.{overflows_then, passes_words, plain, plainly, plainly_at, plan_of, reached}
+use Rattle.sc_emit.proofs.Common.{ready_entered, refl, returns_with, row, runs_with, same, same_Some, same_entry}
+use Rattle.sc_emit.proofs.Common.{seen_from, select_all, shows_after, shows_here, slice_get, stays, store_arguments}
+use Rattle.sc_emit.proofs.Common.{subst, suc, sym, then_goes, trail, true, word_at, wrapping, zero, ℕ, ⊎_elim, ◌*◌}
+use Rattle.sc_emit.proofs.Common.{◌++◌, ◌+◌, ◌-◌, ◌<◌, ◌==◌, ◌∙◌, ◌∷◌, ◌≡◌, ◌≤◌, ◌⊎◌}
 use Rattle.sc_tac.specs.Prelude.{nothing}
-use Rattle.sc_select.specs.Prelude.{Piece as Code, plan_of}
+use Rattle.sc_select.specs.Prelude.{Piece as Code}
 use Rattle.std.proofs.Common.{take}
 use Rattle.sc_laws.proofs.Matching.{library_goes}
 use Rattle.sc_tac.specs.declared.program.TacTree.{TacTree}

@@ -1,37 +1,29 @@
 -- Heads that end with the test of their loop: behind each statement before it the next one is done, and the test leads
 -- back to the body.
-use Rattle.sc_emit.proofs.Common.{All, Arrives, Bne, Bool, Branch, Break, CallTarget, Calls, Cause, CodeAt, Codes}
-use Rattle.sc_emit.proofs.Common.{Continue, Cross, Each, Ends, Err, Exit, ExitGives, Fetches, Follows, FrameTree, Gives}
-use Rattle.sc_emit.proofs.Common.{Goes, Gone, HasNoGap, Here, InParts, Input, Instr, IsActivation, IsClear, IsInside}
-use Rattle.sc_emit.proofs.Common.{IsWellFormed, IsWord, Joint, Left, Line, List, Lives, Next, None, Ok, Option, Output}
-use Rattle.sc_emit.proofs.Common.{Overflows, Own, Piece, Place, Reached, Ready, Registers, Result, Return, Running, Set}
-use Rattle.sc_emit.proofs.Common.{Setting, Some, Standpoint, Starts, State as Meant, Stopped, TacStmt, TacStmt-F, Temps}
-use Rattle.sc_emit.proofs.Common.{Trail, Value, Walks, [], add_word, all_do, and_then, ap, append_assoc, ap₂, arith}
-use Rattle.sc_emit.proofs.Common.{choose, code_inside, code_step, completed, computed, ends_of, eq-eqb, false}
-use Rattle.sc_emit.proofs.Common.{first_scratch, fold-roll-TacStmt, follow as then_follow, if◌then◌else◌, in_parts, inl}
-use Rattle.sc_emit.proofs.Common.{inr, is_true, known as is_known, leads_then, leave, length, length-map, live_before}
-use Rattle.sc_emit.proofs.Common.{load, low_plainly, machine, map, map-TacStmt, map-append, moved, neg_ℤ, operand}
-use Rattle.sc_emit.proofs.Common.{or_left, or_right, overflows_with, plain, plainly, plainly_at, pos, read, refl}
-use Rattle.sc_emit.proofs.Common.{roll-TacStmt, row, row_points, seen_from, shows_after, shows_here, stays, stmt_does}
-use Rattle.sc_emit.proofs.Common.{stmt_induction, store, stored, subst, suc, sym, take, then_from, trail, trail_step}
-use Rattle.sc_emit.proofs.Common.{true, with_memory, with_temp, word_at, word_of, wrapping, ℕ, ℤ, ⊎_elim, ◌*◌, ◌++◌}
-use Rattle.sc_emit.proofs.Common.{◌+◌, ◌-◌, ◌<◌, ◌==◌, ◌∙◌, ◌∷◌, ◌≡◌, ◌≤◌}
+use Rattle.sc_emit.proofs.Common.{Ahead, All, Arrives, ArrivesLate, Bne, Bool, Branch, Break, CallTarget, Calls, Cause}
+use Rattle.sc_emit.proofs.Common.{CodeAt, Codes, Continue, Cross, Each, Ends, Err, Exit, ExitGives, Fetches, Follows}
+use Rattle.sc_emit.proofs.Common.{FrameTree, Gives, Goes, Gone, HasNoGap, HeadComes, HeadFollows, Here, InParts, Input}
+use Rattle.sc_emit.proofs.Common.{Instr, IsActivation, IsClear, IsInside, IsTested, IsWellFormed, IsWord, Joint, Leads}
+use Rattle.sc_emit.proofs.Common.{Left, Line, List, Lives, Next, None, Ok, Option, Output, Overflows, Own, Piece, Place}
+use Rattle.sc_emit.proofs.Common.{Plan, Reached, Ready, Registers, Result, Return, Running, Set, Setting, Some}
+use Rattle.sc_emit.proofs.Common.{Standpoint, Starts, State as Meant, Stopped, TacStmt, TacStmt-F, Temps, Trail, Value}
+use Rattle.sc_emit.proofs.Common.{Walks, [], add_word, ahead_at, all_do, all_front, and_then, ap, append_assoc, ap₂}
+use Rattle.sc_emit.proofs.Common.{arith, back_to, branch_back, branch_reach, call_does, choose, code_inside, code_step}
+use Rattle.sc_emit.proofs.Common.{completed, computed, effect_still, ends_of, eq-eqb, false, first_scratch}
+use Rattle.sc_emit.proofs.Common.{fold-roll-TacStmt, follow as then_follow, follow_goes, fork_kind, gets, if◌then◌else◌}
+use Rattle.sc_emit.proofs.Common.{in_parts, inl, inr, is_plain, is_true, jump_back, kind_is, kind_of, known as is_known}
+use Rattle.sc_emit.proofs.Common.{layer_kind, leads_then, leads_then_steps, leave, length, length-map, live_before}
+use Rattle.sc_emit.proofs.Common.{load, loop_kind, low_plainly, lt-ltb, machine, map, map-TacStmt, map-append, moved}
+use Rattle.sc_emit.proofs.Common.{neg_ℤ, operand, operated, or_left, or_right, overflows_with, plain, plainly}
+use Rattle.sc_emit.proofs.Common.{plainly_at, pos, read, read_all, readings, received, refl, roll-TacStmt, row}
+use Rattle.sc_emit.proofs.Common.{row_first, row_points, second, seen_from, select, shows_after, shows_here, stays}
+use Rattle.sc_emit.proofs.Common.{stmt_does, stmt_induction, store, stored, subst, suc, sym, take, test_stmt, testing}
+use Rattle.sc_emit.proofs.Common.{then_from, trail, trail_step, true, with_memory, with_temp, word_at, word_of}
+use Rattle.sc_emit.proofs.Common.{wrapping, ℕ, ℤ, ⊎_elim, ◌*◌, ◌++◌, ◌+◌, ◌-◌, ◌<◌, ◌==◌, ◌∙◌, ◌∷◌, ◌≡◌, ◌≤◌}
 use Rattle.sc_core.specs.Prelude.{in_order as one_by_one, take as take_route}
-use Rattle.sc_laws.proofs.Growing.{follow_goes}
-use Rattle.sc_relation.specs.Prelude.{Leads}
-use Rattle.sc_relation.proofs.Clear.{all_front}
-use Rattle.sc_relation.proofs.Jumps.{back_to}
-use Rattle.sc_relation.proofs.Rotated.{ArrivesLate, HeadComes, HeadFollows}
-use Rattle.sc_relation.proofs.Stretches.{effect_still, leads_then_steps}
-use Rattle.sc_select.proofs.Turning.{IsTested, fork_kind, kind_is, kind_of, layer_kind, loop_kind, test_stmt}
-use Rattle.sc_select.specs.Prelude.{Piece as Code, select}
-use Rattle.sc_select.specs.Selection.{Plan, branch_back, branch_reach, is_plain, jump_back, testing}
-use Rattle.sc_tac.specs.Prelude.{ahead_at, gets, read_all, readings, received, row_first}
-use Rattle.sc_tac.specs.Code.{call_does, operated, second}
-use Rattle.sc_tac.specs.Flow.{Ahead}
+use Rattle.sc_select.specs.Prelude.{Piece as Code}
 use Rattle.sc_tac.specs.declared.stmt.TacStmt.TheOpen as tac
 use Rattle.std.proofs.Math.Path.{fun_ext}
-use Rattle.std.proofs.lemmas.Bool.{lt-ltb}
 use Rattle.sc_emit.proofs.Choices.{Branches, branch_goes, branch_moves, branch_passes, held, ready_less}
 use Rattle.sc_emit.proofs.Operands.{ArePlaced}
 use Rattle.sc_emit.proofs.Straight.{read_goes}

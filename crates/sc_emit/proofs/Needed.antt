@@ -1,20 +1,14 @@
 -- Temporaries that are read in their places: what rows of statements need, and where a store stands alone.
-use Rattle.sc_select.specs.Selection.{Plan}
-use Rattle.sc_emit.proofs.Common.{Bool, FrameTree, List, Loads, Need, None, Operates, Option, Other, Place}
-use Rattle.sc_emit.proofs.Common.{Places, Role, Sets, Some, TacStmt, TacStmt-F, [], and_first, and_from, and_parts, ap}
-use Rattle.sc_emit.proofs.Common.{eq-eqb, eqb-true, false, fold-roll-TacStmt, fork_role, if◌then◌else◌, is_one, joins}
-use Rattle.sc_emit.proofs.Common.{list_all, map, map-TacStmt, need, need_step, operation_role, or_left, or_right}
-use Rattle.sc_emit.proofs.Common.{place_needed, refl, role_of_store, roll-TacStmt, select, select_step}
-use Rattle.sc_emit.proofs.Common.{stmt_induction, store_role, subst, sym, true, ℕ, ⊎_elim, ◌++◌, ◌==◌, ◌||◌, ◌∙◌}
-use Rattle.sc_emit.proofs.Common.{◌∷◌, ◌≡◌, ◌⊎◌}
+use Rattle.sc_emit.proofs.Common.{Applies, Bool, FrameTree, List, Loads, Need, None, Operates, Option, Other, Place}
+use Rattle.sc_emit.proofs.Common.{Places, Plan, Role, Sets, Some, TacStmt, TacStmt-F, [], and_first, and_from}
+use Rattle.sc_emit.proofs.Common.{and_parts, ap, break_stmt, ending_test, eq-eqb, eqb-true, false, fold-roll-TacStmt}
+use Rattle.sc_emit.proofs.Common.{fork_role, if◌then◌else◌, in_order, is_one, is_some, joins, list_all, map}
+use Rattle.sc_emit.proofs.Common.{map-TacStmt, need, need_step, operation_role, or_left, or_right, place_needed, refl}
+use Rattle.sc_emit.proofs.Common.{role_behind, role_of_store, roll-TacStmt, row_needs, select, select_step, short_form}
+use Rattle.sc_emit.proofs.Common.{stmt_induction, store_role, subst, sym, test_stmt, true, turning_role, ℕ, ⊎_elim}
+use Rattle.sc_emit.proofs.Common.{◌&&◌, ◌++◌, ◌==◌, ◌||◌, ◌∙◌, ◌∷◌, ◌≡◌, ◌⊎◌}
 use Rattle.sc_tac.specs.declared.stmt.TacStmt.TheOpen as tac
-use Rattle.sc_select.specs.declared.roles.Role.TheVariants.{Applies, Returns, Stores}
-use Rattle.sc_select.specs.Selection.{ending_test, role_behind}
-use Rattle.sc_select.specs.Prelude.{in_order, short_form}
-use Rattle.sc_select.proofs.Joining.{turning_role}
-use Rattle.sc_select.proofs.Turning.{break_stmt, test_stmt}
-use Rattle.sc_select.specs.Prelude.{row_needs}
-use Rattle.std.specs.Prelude.{is_some, ◌&&◌}
+use Rattle.sc_select.specs.declared.roles.Role.TheVariants.{Returns, Stores}
 
 -- LISTS
 pub one_of_all : (p : ℕ → Bool) (xs : List ℕ) (t : ℕ) → list_all p xs ≡ true → is_one t xs ≡ true → p t ≡ true

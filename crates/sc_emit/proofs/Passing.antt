@@ -1,8 +1,7 @@
 -- Statements that pass several tests, and so do those inside.
-use Rattle.sc_emit.proofs.Common.{and_from, refl, ◌++◌}
-use Rattle.sc_emit.proofs.Common.{Bool, List, TacStmt, TacStmt-F, [], all_true, and_parts, fold-TacStmt}
-use Rattle.sc_emit.proofs.Common.{fold-roll-TacStmt, list_all, map, map-TacStmt, parts, roll-TacStmt, sym, true}
-use Rattle.sc_emit.proofs.Common.{with_parts, ℕ, ◌∙◌, ◌∷◌, ◌≡◌}
+use Rattle.sc_emit.proofs.Common.{Bool, List, TacStmt, TacStmt-F, [], all_true, and_from, and_parts, fold-TacStmt}
+use Rattle.sc_emit.proofs.Common.{fold-roll-TacStmt, list_all, map, map-TacStmt, parts, refl, roll-TacStmt, sym, true}
+use Rattle.sc_emit.proofs.Common.{with_parts, ℕ, ◌++◌, ◌∙◌, ◌∷◌, ◌≡◌}
 use Rattle.sc_tac.specs.declared.stmt.TacStmt.TheOpen as tac
 
 -- a test of a statement by itself

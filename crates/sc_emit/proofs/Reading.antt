@@ -1,13 +1,13 @@
 -- A variable that is read: one load, where its place is wanted for that load alone.
 use Rattle.sc_emit.proofs.Common.{All, All-cons, All-nil, Bool, Calls, Codes, Follows, FrameTree, Goes, Instr}
 use Rattle.sc_emit.proofs.Common.{IsActivation, IsClear, IsFromSp, IsLoaded, IsWellFormed, IsWord, Joint, List, Lives}
-use Rattle.sc_emit.proofs.Common.{Next, Ok, Place, Point, Ready, Running, Setting, Some, StandsFor}
-use Rattle.sc_emit.proofs.Common.{Temps, Trail, Value, [], all_at, ap, arith, code_step, comes_computed, comes_read}
-use Rattle.sc_emit.proofs.Common.{eq-eqb, false, gets, is_one, leave, length, live_across, live_at}
-use Rattle.sc_emit.proofs.Common.{live_plain, load, load_word, loads, loads_word, not, object_offset, object_read}
-use Rattle.sc_emit.proofs.Common.{plain_points, point, refl, result_register, row, same_Some, slice_get, start_of}
-use Rattle.sc_emit.proofs.Common.{stays, straightly, subst, sym, trail_step, true, unwrap_or, wanted_less, with_temp}
-use Rattle.sc_emit.proofs.Common.{word, wrapping, ℕ, ◌&&◌, ◌*◌, ◌+◌, ◌||◌, ◌∙◌, ◌∷◌, ◌≡◌, ◌≤◌}
+use Rattle.sc_emit.proofs.Common.{Next, Ok, Place, Point, Ready, Running, Setting, Some, StandsFor, Temps, Trail, Value}
+use Rattle.sc_emit.proofs.Common.{[], all_at, ap, arith, code_step, comes_computed, comes_read, eq-eqb, false, gets}
+use Rattle.sc_emit.proofs.Common.{is_one, leave, length, live_across, live_at, live_plain, load, load_word, loads}
+use Rattle.sc_emit.proofs.Common.{loads_word, not, object_offset, object_read, plain_points, point, refl}
+use Rattle.sc_emit.proofs.Common.{result_register, row, same_Some, slice_get, start_of, stays, straightly, subst, sym}
+use Rattle.sc_emit.proofs.Common.{trail_step, true, unwrap_or, wanted_less, with_temp, word, wrapping, ℕ, ◌&&◌, ◌*◌}
+use Rattle.sc_emit.proofs.Common.{◌+◌, ◌||◌, ◌∙◌, ◌∷◌, ◌≡◌, ◌≤◌}
 use Rattle.sc_tac.specs.declared.stmt.TacStmt.TheOpen as tac
 use Rattle.sc_emit.proofs.Operands.{ArePlaced, Gives, keeps, world}
 use Rattle.sc_emit.proofs.Pairs.{again, fewer_clear}

@@ -5,12 +5,11 @@ use Rattle.sc_emit.proofs.Common.{IsWord, Joint, Left, List, Lives, Next, Ok, Pi
 use Rattle.sc_emit.proofs.Common.{Returns, Running, Setting, ShortForm, Some, StandsFor, State as Meant, Stopped, TacOp}
 use Rattle.sc_emit.proofs.Common.{Temps, Trail, Value, [], a0, and_then, ap, arith, code_step, comes_computed}
 use Rattle.sc_emit.proofs.Common.{comes_read, computed, constant_value, ends_of, eq-eqb, false, follow as then_follow}
-use Rattle.sc_emit.proofs.Common.{gets, inl, is_one, leave, length, live_at, operated, read, refl, row, same_Some}
-use Rattle.sc_emit.proofs.Common.{short_form, straightly, subst, sym, then_then, trail_step, true, with_temp}
-use Rattle.sc_emit.proofs.Common.{word_of_constant, wrapping, ℕ, ◌+◌, ◌==◌, ◌∙◌, ◌∷◌, ◌≡◌}
+use Rattle.sc_emit.proofs.Common.{follow_goes, gets, inl, is_one, leave, length, live_at, operated, read, refl, row}
+use Rattle.sc_emit.proofs.Common.{same_Some, short_form, short_return, straightly, subst, sym, then_then, trail_step}
+use Rattle.sc_emit.proofs.Common.{true, with_temp, word_of_constant, wrapping, ℕ, ◌+◌, ◌==◌, ◌∙◌, ◌∷◌, ◌≡◌}
 use Rattle.sc_core.specs.Prelude.{Does, in_order as one_by_one, take as taken_by}
-use Rattle.sc_laws.proofs.Growing.{follow_goes}
-use Rattle.sc_select.specs.Prelude.{Piece as Code, short_return}
+use Rattle.sc_select.specs.Prelude.{Piece as Code}
 use Rattle.sc_tac.specs.declared.stmt.TacStmt.TheOpen as tac
 use Rattle.sc_emit.proofs.Constants.{applies, applies_goes, gives, left_is, left_live, right_is, set, short_into}
 use Rattle.sc_emit.proofs.Operands.{ArePlaced, Gives}

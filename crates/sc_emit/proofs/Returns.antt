@@ -7,10 +7,9 @@ use Rattle.sc_emit.proofs.Common.{Value, Walks, Word, [], a0, and_first, and_fro
 use Rattle.sc_emit.proofs.Common.{brought, closing, code_step, comes_read, eq-eqb, frame_left, frame_raised, front_at}
 use Rattle.sc_emit.proofs.Common.{in_row, inl, is_one, leads_less, leads_moved, leave, leaves_frame, length}
 use Rattle.sc_emit.proofs.Common.{length-append, list_all, machine, moved, one_or_none, place_of, pos, ra, refl, return}
-use Rattle.sc_emit.proofs.Common.{return_does, same_entry, seen_from, select_step, settled_moved, sp, stays}
-use Rattle.sc_emit.proofs.Common.{straightly, subst, sym, trail_step, true, with_number, word, wrapping, ℕ, ◌*◌, ◌++◌}
-use Rattle.sc_emit.proofs.Common.{◌+◌, ◌∙◌, ◌∷◌, ◌≡◌, ◌≤◌}
-use Rattle.sc_select.specs.Prelude.{role_of_return}
+use Rattle.sc_emit.proofs.Common.{return_does, role_of_return, same_entry, seen_from, select_step, settled_moved, sp}
+use Rattle.sc_emit.proofs.Common.{stays, straightly, subst, sym, trail_step, true, with_number, word, wrapping, ℕ, ◌*◌}
+use Rattle.sc_emit.proofs.Common.{◌++◌, ◌+◌, ◌∙◌, ◌∷◌, ◌≡◌, ◌≤◌}
 use Rattle.sc_tac.specs.Prelude.{nothing}
 use Rattle.sc_tac.specs.declared.stmt.TacStmt.TheOpen as tac
 use Rattle.sc_emit.proofs.Arguments.{Brings, brings}

@@ -1,25 +1,22 @@
 -- The code of loops: where it begins, and where it leads back.
-use Rattle.sc_select.specs.Selection.{Kind, Plan, branch_back, branch_reach, is_near, kind_of_fork, plan_of}
-use Rattle.sc_select.specs.Selection.{role_behind, role_of_return, rotated, short_return}
-use Rattle.sc_select.specs.declared.roles.Role.TheVariants.{Applies}
-use Rattle.sc_emit.proofs.Common.{Bne, Bool, Branch, Each, Ebreak, FrameTree, Inside, Instr, IsRead, IsShort, IsStored}
-use Rattle.sc_emit.proofs.Common.{Jal, Line, List, None, Option, Other, Place, Places, Role, Sets, ShortForm, Some}
-use Rattle.sc_emit.proofs.Common.{TacFnTree, TacStmt, TacStmt-F, [], and_first, and_rest, ap, append-nil, append_assoc}
-use Rattle.sc_emit.proofs.Common.{arith, as_one, between, call_cross, call_own, choice, choosing, closing}
-use Rattle.sc_emit.proofs.Common.{code_back_edges, code_of, cond, count_by, cycle, ending_past, entrance}
+use Rattle.sc_emit.proofs.Common.{Applies, Bne, Bool, Branch, Each, Ebreak, FrameTree, Inside, Instr, IsRead}
+use Rattle.sc_emit.proofs.Common.{IsReturned, IsShort, IsStored, IsTested, Jal, Kind, Line, List, None, Option, Other}
+use Rattle.sc_emit.proofs.Common.{Place, Places, Plan, Role, Sets, ShortForm, Some, TacFnTree, TacStmt, TacStmt-F, []}
+use Rattle.sc_emit.proofs.Common.{and_first, and_rest, ap, append-nil, append_assoc, arith, as_one, between}
+use Rattle.sc_emit.proofs.Common.{branch_back, branch_reach, call_cross, call_own, choice, choosing, closing}
+use Rattle.sc_emit.proofs.Common.{code_back_edges, code_of, cond, count_by, cycle, each_before, ending_past, entrance}
 use Rattle.sc_emit.proofs.Common.{environment_call, everywhere, false, first_scratch, fold-roll-TacStmt, fork}
-use Rattle.sc_emit.proofs.Common.{if◌then◌else◌, in_turn, inl, inr, is_backward, is_empty, is_known_jump, joined, joins}
-use Rattle.sc_emit.proofs.Common.{jump_back, jump_over, leads_back, length, length-append, length-map, list_all}
-use Rattle.sc_emit.proofs.Common.{list_all-map, list_all_along, loads_it, loop_begins, loop_step, loops, lt-leb, map}
-use Rattle.sc_emit.proofs.Common.{map-TacStmt, map-append, nat_lt, neg_ℤ, not, object_read, object_store, operand}
-use Rattle.sc_emit.proofs.Common.{operates_it, past, place_of, place_of_global, plain, plainly, pos, receive, refl}
-use Rattle.sc_emit.proofs.Common.{role_first, role_of_load, role_of_operation, role_of_store, row_is_sized, select}
-use Rattle.sc_emit.proofs.Common.{select_all, select_step, short_form, short_operation, skipping, stmt_induction}
-use Rattle.sc_emit.proofs.Common.{stmt_loops, stores_it, straight as lines_of, straightly, subst, suc, sum_by-append}
-use Rattle.sc_emit.proofs.Common.{sym, take, true, which_pair, word_of_constant, zero, ℕ, ⊎_elim, ◌&&◌, ◌*◌, ◌++◌, ◌+◌}
-use Rattle.sc_emit.proofs.Common.{◌==◌, ◌∙◌, ◌∷◌, ◌≡◌, ◌≤◌}
-use Rattle.sc_select.proofs.Joining.{IsReturned, fork_role, returns_it, turning_role}
-use Rattle.sc_select.proofs.Turning.{IsTested, each_before, test_stmt, turning_by}
+use Rattle.sc_emit.proofs.Common.{fork_role, if◌then◌else◌, in_turn, inl, inr, is_backward, is_empty, is_known_jump}
+use Rattle.sc_emit.proofs.Common.{is_near, joined, joins, jump_back, jump_over, kind_of_fork, leads_back, length}
+use Rattle.sc_emit.proofs.Common.{length-append, length-map, list_all, list_all-map, list_all_along, loads_it}
+use Rattle.sc_emit.proofs.Common.{loop_begins, loop_step, loops, lt-leb, map, map-TacStmt, map-append, nat_lt, neg_ℤ}
+use Rattle.sc_emit.proofs.Common.{not, object_read, object_store, operand, operates_it, past, place_of, place_of_global}
+use Rattle.sc_emit.proofs.Common.{plain, plainly, plan_of, pos, receive, refl, returns_it, role_behind, role_first}
+use Rattle.sc_emit.proofs.Common.{role_of_load, role_of_operation, role_of_return, role_of_store, rotated, row_is_sized}
+use Rattle.sc_emit.proofs.Common.{select, select_all, select_step, short_form, short_operation, short_return, skipping}
+use Rattle.sc_emit.proofs.Common.{stmt_induction, stmt_loops, stores_it, straight as lines_of, straightly, subst, suc}
+use Rattle.sc_emit.proofs.Common.{sum_by-append, sym, take, test_stmt, true, turning_by, turning_role, which_pair}
+use Rattle.sc_emit.proofs.Common.{word_of_constant, zero, ℕ, ⊎_elim, ◌&&◌, ◌*◌, ◌++◌, ◌+◌, ◌==◌, ◌∙◌, ◌∷◌, ◌≡◌, ◌≤◌}
 use Rattle.sc_select.specs.Prelude.{Piece}
 use Rattle.sc_emit.specs.Layout.{GoesAround, HasRounds, HaveCode, LeadOn, LeadsOver, branching, empty, leads_on}
 use Rattle.sc_emit.specs.Layout.{loopless, repeating}

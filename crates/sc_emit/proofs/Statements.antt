@@ -1,22 +1,25 @@
 -- The code of statements follows what they do: by induction over their layers.
-use Rattle.sc_emit.proofs.Common.{All, AreReached, Bool, CallTarget, Calls, CallsFollow, Codes, Constant, Cross, Each}
-use Rattle.sc_emit.proofs.Common.{Follows, FrameTree, GivesValue, HasNoGap, Here, Input, Inside, IsActivation, IsRead}
-use Rattle.sc_emit.proofs.Common.{IsShort, IsSound, IsStored, IsWellFormed, IsWord, List, Need, None, Option, Other}
-use Rattle.sc_emit.proofs.Common.{Output, Own, Piece, Reached, Register, Role, Running, Setting, ShortForm, Some}
-use Rattle.sc_emit.proofs.Common.{State as Meant, Stopped, TacOp, TacStmt, TacStmt-F, Trail, Value, [], all_do}
-use Rattle.sc_emit.proofs.Common.{and_first, and_parts, ap, ap₂, arith, as_one, between, break_follows, calls_only}
-use Rattle.sc_emit.proofs.Common.{code_does, code_step, continue_follows, counts_elements, everywhere, false}
-use Rattle.sc_emit.proofs.Common.{fold-roll-TacStmt, follow as then_follow, followed, gives_place, has_elements}
-use Rattle.sc_emit.proofs.Common.{has_operands, has_words, if◌then◌else◌, in_order, in_turn, is_call, is_some, joined}
-use Rattle.sc_emit.proofs.Common.{joins, leb-true, length, list_all, loads_it, ltb-true, map, map-TacStmt}
-use Rattle.sc_emit.proofs.Common.{names_only, names_own_object, names_own_temps, nat_lt, need, need_step, needs_of}
-use Rattle.sc_emit.proofs.Common.{none_behind, not, nothing as no_lines, object_inside, object_read, object_store}
-use Rattle.sc_emit.proofs.Common.{object_there, one_or_none, operates_it, parts_least, passes_few, place_needed, refl}
-use Rattle.sc_emit.proofs.Common.{role_first, roll-TacStmt, row, row_needs, select, select_all, select_step, sets_it}
-use Rattle.sc_emit.proofs.Common.{short_form, short_operation, slice_get-get_or, stmt_does, stmt_induction, stores_it}
-use Rattle.sc_emit.proofs.Common.{straightly, subst, sym, takes_two, trail, trail_step, true, which_pair}
+use Rattle.sc_emit.proofs.Common.{All, Applies, AreReached, Bool, CallTarget, Calls, CallsFollow, Codes, Constant}
+use Rattle.sc_emit.proofs.Common.{Cross, Each, Follows, FrameTree, GivesValue, HasNoGap, Here, Input, Inside}
+use Rattle.sc_emit.proofs.Common.{IsActivation, IsRead, IsReturned, IsShort, IsSound, IsStored, IsWellFormed, IsWord}
+use Rattle.sc_emit.proofs.Common.{List, Need, None, Option, Other, Output, Own, Piece, Reached, Register, Role, Running}
+use Rattle.sc_emit.proofs.Common.{Setting, ShortForm, Some, State as Meant, Stopped, TacOp, TacStmt, TacStmt-F, Trail}
+use Rattle.sc_emit.proofs.Common.{Value, [], all_do, and_first, and_parts, ap, ap₂, arith, as_one, between}
+use Rattle.sc_emit.proofs.Common.{branch_reach, break_follows, calls_only, code_does, code_step, continue_follows}
+use Rattle.sc_emit.proofs.Common.{counts_elements, each_before, eq-eqb, everywhere, false, fold-roll-TacStmt}
+use Rattle.sc_emit.proofs.Common.{follow as then_follow, followed, gives_place, has_elements, has_operands, has_words}
+use Rattle.sc_emit.proofs.Common.{if◌then◌else◌, in_order, in_turn, is_call, is_some, joined, joins, leb-true, length}
+use Rattle.sc_emit.proofs.Common.{list_all, loads_it, ltb-true, map, map-TacStmt, names_only, names_own_object}
+use Rattle.sc_emit.proofs.Common.{names_own_temps, nat_lt, need, need_step, needs_of, never_applies, none_behind, not}
+use Rattle.sc_emit.proofs.Common.{nothing as no_lines, object_inside, object_read, object_store, object_there}
+use Rattle.sc_emit.proofs.Common.{one_or_none, operates_it, parts_least, passes_few, place_needed, read_is_last, refl}
+use Rattle.sc_emit.proofs.Common.{return_is_last, return_of, returns_it, role_alone, role_behind, role_first}
+use Rattle.sc_emit.proofs.Common.{roll-TacStmt, rotated_follows, row, row_needs, select, select_all, select_step}
+use Rattle.sc_emit.proofs.Common.{sets_it, short_form, short_operation, short_return, slice_get-get_or, stmt_does}
+use Rattle.sc_emit.proofs.Common.{stmt_induction, store_is_last, stores_it, straightly, subst, sym, takes_two}
+use Rattle.sc_emit.proofs.Common.{test_stmt, third_is_last, trail, trail_step, true, turning_by, which_pair}
 use Rattle.sc_emit.proofs.Common.{word_of_constant, wrapping, ℕ, ⊎_elim, ◌&&◌, ◌++◌, ◌+◌, ◌<◌, ◌==◌, ◌^◌, ◌||◌, ◌∙◌}
-use Rattle.sc_emit.proofs.Common.{eq-eqb, ◌∷◌, ◌≡◌, ◌≤◌}
+use Rattle.sc_emit.proofs.Common.{◌∷◌, ◌≡◌, ◌≤◌}
 use Rattle.sc_core.specs.Prelude.{in_order as one_by_one}
 use Rattle.sc_select.specs.Prelude.{Piece as Code}
 use Rattle.sc_emit.proofs.Needed.{all_append, gives_behind, gives_of, head_needs, need_gives, store_alone}
@@ -26,21 +29,16 @@ use Rattle.std.specs.Bool.{beq}
 use Rattle.sc_tac.specs.declared.stmt.Constant.TheVariants as constant
 use Rattle.sc_tac.specs.declared.stmt.TacOp.TheVariants as tacop
 use Rattle.sc_tac.specs.declared.stmt.TacStmt.TheOpen as tac
-use Rattle.sc_select.proofs.Joining.{IsReturned, never_applies, read_is_last, return_is_last, return_of, returns_it}
-use Rattle.sc_select.proofs.Joining.{role_alone, store_is_last, third_is_last}
-use Rattle.sc_select.proofs.Turning.{each_before, test_stmt, turning_by}
-use Rattle.sc_select.specs.Selection.{branch_reach, role_behind, short_return}
-use Rattle.sc_select.specs.declared.roles.Role.TheVariants.{Applies, Returns}
+use Rattle.sc_select.specs.declared.roles.Role.TheVariants.{Returns}
 use Rattle.sc_relation.proofs.Loops.{loop_follows}
-use Rattle.sc_relation.proofs.Rotated.{rotated_follows}
 use Rattle.sc_relation.proofs.Rows.{nothing_follows, row_follows}
 use Rattle.sc_emit.proofs.Calls.{Answers, HasPlace, call_own_follows, call_cross_follows}
 use Rattle.sc_emit.proofs.Choices.{fork_follows}
 use Rattle.sc_emit.proofs.Environment.{input_follows, output_follows}
 use Rattle.sc_emit.proofs.Operands.{ArePlaced}
 use Rattle.sc_emit.proofs.Operations.{op_follows, load_follows, store_follows}
-use Rattle.sc_emit.proofs.Passing.{Test, PassesAll, AllPass, PassesHere, first_passes, front_passes, rest_pass, passes_here}
-use Rattle.sc_emit.proofs.Passing.{choice_passes, loop_passes}
+use Rattle.sc_emit.proofs.Passing.{Test, PassesAll, AllPass, PassesHere, first_passes, front_passes, rest_pass}
+use Rattle.sc_emit.proofs.Passing.{passes_here, choice_passes, loop_passes}
 use Rattle.sc_emit.proofs.Plain.{const_follows, copy_follows, object_follows, global_follows}
 use Rattle.sc_emit.proofs.Reading.{both_trails, read_follows, reads}
 use Rattle.sc_emit.proofs.Heads.{head_of_stmts}

@@ -3,12 +3,12 @@ use Rattle.sc_emit.proofs.Common.{All, Arrives, Blocks, Bool, Calls, CodeAt, Cod
 use Rattle.sc_emit.proofs.Common.{IsActivation, IsFromSp, IsWellFormed, IsWord, Joint, List, Lives, None, Ok, Ready}
 use Rattle.sc_emit.proofs.Common.{Running, Set, Setting, Some, StandsFor, State as Meant, Stores, Temps, Trail, Value}
 use Rattle.sc_emit.proofs.Common.{[], and_first, and_from, and_rest, and_then, ap, arith, code_step, comes_read, eq-eqb}
-use Rattle.sc_emit.proofs.Common.{false, if◌then◌else◌, in_row, is_one, length, live_at, live_plain}
-use Rattle.sc_emit.proofs.Common.{may_store, ne_eqb, not, object_offset, object_store, operand, or_left, read, refl}
-use Rattle.sc_emit.proofs.Common.{row, same_Some, second_scratch, slice_get, sp, start_of, store, store_word, stored}
-use Rattle.sc_emit.proofs.Common.{stores, stores_word, straightly, subst, sym, take, trail_step, true, true≢false}
-use Rattle.sc_emit.proofs.Common.{unwrap_or, wanted, with_memory, with_temp, wrapping, ℕ, ⊎_elim, ◌&&◌, ◌*◌, ◌++◌, ◌+◌}
-use Rattle.sc_emit.proofs.Common.{◌==◌, ◌||◌, ◌∙◌, ◌∷◌, ◌≡◌, ◌≢◌, ◌≤◌}
+use Rattle.sc_emit.proofs.Common.{false, if◌then◌else◌, in_row, is_one, length, live_at, live_plain, may_store, ne_eqb}
+use Rattle.sc_emit.proofs.Common.{not, object_offset, object_store, operand, or_left, read, refl, row, same_Some}
+use Rattle.sc_emit.proofs.Common.{second_scratch, slice_get, sp, start_of, store, store_word, stored, stores}
+use Rattle.sc_emit.proofs.Common.{stores_word, straightly, subst, sym, take, trail_step, true, true≢false, unwrap_or}
+use Rattle.sc_emit.proofs.Common.{wanted, with_memory, with_temp, wrapping, ℕ, ⊎_elim, ◌&&◌, ◌*◌, ◌++◌, ◌+◌, ◌==◌, ◌||◌}
+use Rattle.sc_emit.proofs.Common.{◌∙◌, ◌∷◌, ◌≡◌, ◌≢◌, ◌≤◌}
 use Rattle.sc_tac.specs.declared.stmt.TacStmt.TheOpen as tac
 use Rattle.sc_emit.proofs.Operands.{ArePlaced, AtHand, brings, second_is, world}
 use Rattle.sc_emit.proofs.Operations.{comes_stored, stored_goes}

@@ -1,12 +1,11 @@
 -- Statements without others inside, as straight code.
-use Rattle.sc_emit.proofs.Common.{All, Arrives, Cause, CodeAt, Codes, Comes, Ends, Err, Follows, Goes, Here, Instr}
-use Rattle.sc_emit.proofs.Common.{IsClear, Joint, Left, Line, List, Lives, Next, None, Ok, Other, Piece, Reached, Ready}
-use Rattle.sc_emit.proofs.Common.{Result, Role, Running, Setting, State as Meant, Temps, Trail, Value, and_then, ap}
-use Rattle.sc_emit.proofs.Common.{arith, completed, computed, ends_of, followed, inl, known, length, length-map}
-use Rattle.sc_emit.proofs.Common.{live_at, low_after, low_plainly, nothing as no_lines, plain, plainly, plainly_at}
-use Rattle.sc_emit.proofs.Common.{read, refl, same, straight, straightly, subst, sym, ℕ, ◌*◌, ◌+◌, ◌≡◌, ◌≤◌}
+use Rattle.sc_emit.proofs.Common.{All, Arrives, Cause, CodeAt, Codes, Comes, Controls, Ends, Err, Follows, Goes, Here}
+use Rattle.sc_emit.proofs.Common.{Instr, IsClear, Joint, Kind, Left, Line, List, Lives, Next, None, Ok, Other, Piece}
+use Rattle.sc_emit.proofs.Common.{Reached, Ready, Result, Role, Running, Setting, State as Meant, Temps, Trail, Value}
+use Rattle.sc_emit.proofs.Common.{and_then, ap, arith, completed, computed, ends_of, followed, inl, known, length}
+use Rattle.sc_emit.proofs.Common.{length-map, live_at, low_after, low_plainly, nothing as no_lines, plain, plainly}
+use Rattle.sc_emit.proofs.Common.{plainly_at, read, refl, same, straight, straightly, subst, sym, ℕ, ◌*◌, ◌+◌, ◌≡◌, ◌≤◌}
 use Rattle.sc_select.specs.Prelude.{Piece as Code}
-use Rattle.sc_select.specs.Selection.{Controls, Kind}
 
 -- what is computed only goes on
 pub computed_goes : {V W : Type 0} (here : Here) (result : Result V Cause) (go : V → Meant → Piece W) →

@@ -1,16 +1,16 @@
 -- The relocations of a function's code name what its statements name.
-use Rattle.sc_select.specs.Prelude.{Piece, Plan, is_near, plan_of, short_return}
-use Rattle.sc_select.proofs.Turning.{each_before, turning_by}
-use Rattle.sc_emit.proofs.Common.{Bool, Each, FrameTree, Inside, Instr, Line, List, None, Option, Place, Some}
+use Rattle.sc_emit.proofs.Common.{Bool, Each, FrameTree, Inside, Instr, Line, List, None, Option, Place, Plan, Some}
 use Rattle.sc_emit.proofs.Common.{TacFnTree, TacStmt, TacStmt-F, [], a0, all_true, and_first, and_from, and_rest}
-use Rattle.sc_emit.proofs.Common.{call_cross, call_own, code_of, environment_call, everywhere as each_of, fold-TacStmt}
-use Rattle.sc_emit.proofs.Common.{fold-roll-TacStmt, function_lines, is_named, keep, list_all, load_from, loading, map}
-use Rattle.sc_emit.proofs.Common.{map-TacStmt, moved_by, names_only, object_offset, object_read, object_store}
-use Rattle.sc_emit.proofs.Common.{operation, order_keeps, pass, place_of_global, plainly, receive, refers_only, refl}
-use Rattle.sc_emit.proofs.Common.{relocation_of, relocations_from, result_register, return, select, select_all}
-use Rattle.sc_emit.proofs.Common.{select_step, short_form, short_operation, sp, stmt_induction, store_to, straight}
-use Rattle.sc_emit.proofs.Common.{subst, suc, sym, true, with_parts, word_of_constant, ℕ, ◌&&◌, ◌++◌, ◌∙◌, ◌∷◌, ◌≡◌}
+use Rattle.sc_emit.proofs.Common.{call_cross, call_own, code_of, each_before, environment_call, everywhere as each_of}
+use Rattle.sc_emit.proofs.Common.{fold-TacStmt, fold-roll-TacStmt, function_lines, is_named, is_near, keep, list_all}
+use Rattle.sc_emit.proofs.Common.{load_from, loading, map, map-TacStmt, moved_by, names_only, object_offset}
+use Rattle.sc_emit.proofs.Common.{object_read, object_store, operation, order_keeps, pass, place_of_global, plainly}
+use Rattle.sc_emit.proofs.Common.{plan_of, receive, refers_only, refl, relocation_of, relocations_from, result_register}
+use Rattle.sc_emit.proofs.Common.{return, select, select_all, select_step, short_form, short_operation, short_return}
+use Rattle.sc_emit.proofs.Common.{sp, stmt_induction, store_to, straight, subst, suc, sym, true, turning_by, with_parts}
+use Rattle.sc_emit.proofs.Common.{word_of_constant, ℕ, ◌&&◌, ◌++◌, ◌∙◌, ◌∷◌, ◌≡◌}
 use Rattle.sc_tac.specs.Prelude.{everywhere}
+use Rattle.sc_select.specs.Prelude.{Piece}
 use Rattle.sc_tac.specs.declared.machine_code.Relocation.{Relocation}
 use Rattle.sc_tac.specs.declared.machine_code.Target.{Target}
 unfoldable use Rattle.sc_tac.specs.declared.stmt.TacStmt.{roll-TacStmt}

@@ -1,9 +1,8 @@
 -- A call of a function, from its first instruction to its jump back: what its code begins with, and what is left of it.
-use Rattle.sc_select.specs.Selection.{Plan}
 use Rattle.sc_relation.proofs.Common.{Activation, All, Begins, BlocksMatch, Cell, Effect, FrameMatches, FrameTree}
 use Rattle.sc_relation.proofs.Common.{Function, HasRoom, IsActivation, IsFrame, IsLeft, IsWellFormed, IsWord, Joint}
-use Rattle.sc_relation.proofs.Common.{Leads, List, LiveAt, Memory as Bytes, Option, Place, Placed, Protected, Ready}
-use Rattle.sc_relation.proofs.Common.{Registers, Returns, Set, Setting, Settled, Some, Standpoint, StandsFor}
+use Rattle.sc_relation.proofs.Common.{Leads, List, LiveAt, Memory as Bytes, Option, Place, Placed, Plan, Protected}
+use Rattle.sc_relation.proofs.Common.{Ready, Registers, Returns, Set, Setting, Settled, Some, Standpoint, StandsFor}
 use Rattle.sc_relation.proofs.Common.{State as Meant, Value, Walks, a0, ap, arith, begun, cases_eq, data_start, done}
 use Rattle.sc_relation.proofs.Common.{eq-eqb, false, inr, length, machine, ne_eqb, no_temps, open_room, put, refl}
 use Rattle.sc_relation.proofs.Common.{same_Some, seen_from, slice_get, slice_get_within, sp, stack_size, stack_top}

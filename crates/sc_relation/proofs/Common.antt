@@ -7,6 +7,7 @@ pub use Rattle.std.proofs.Common.{slice_set, subst, subst₂, suc, sym, true, tr
 pub use Rattle.std.proofs.Common.{◌&&◌, ◌*ℤ◌, ◌*◌, ◌++◌, ◌+ℤ◌, ◌+◌, ◌-ℤ◌, ◌-◌, ◌<◌, ◌==◌, ◌^◌, ◌∙◌, ◌∷◌, ◌≡◌, ◌≢◌, ◌≤◌}
 pub use Rattle.std.proofs.Common.{◌⊎◌}
 pub use Rattle.std.proofs.lemmas.Bool.{and_from, cases_eq, cases_lt, cases_order, lt-leb, or_left, or_right}
+pub use Rattle.std.proofs.lemmas.List.{length-map}
 pub use Rattle.std.proofs.lemmas.List.Elements.{All-cons, All-head, All-nil, All-tail}
 pub use Rattle.std.proofs.lemmas.Option.{get_or_from_slice_get, same_Some, slice_get-get_or, slice_get_within}
 pub use Rattle.sc_base.proofs.Bools.{and_first, and_rest}
@@ -29,8 +30,8 @@ pub use Rattle.sc_laws.specs.Prelude.{AllBefore, Goes, Grown, last, open_room, r
 pub use Rattle.rv_code.specs.declared.instr.Instr.{Instr}
 pub use Rattle.sc_store.specs.Prelude.{Memory}
 pub use Rattle.sc_image.proofs.Bytes.{few_globals}
-pub use Rattle.sc_image.specs.Prelude.{IsSteady, IsWellFormed, IsWord, Traps, Walks, data_start, stack_size, stack_top}
-pub use Rattle.sc_image.specs.Prelude.{step, word_at}
+pub use Rattle.sc_image.specs.Prelude.{IsWellFormed, IsWord, Traps, Walks, data_start, stack_size, stack_top, step}
+pub use Rattle.sc_image.specs.Prelude.{word_at}
 pub use Rattle.sc_hart.proofs.Inside.{IsInside, code_inside}
 pub use Rattle.sc_hart.proofs.Steady.{walks_steady}
 pub use Rattle.sc_hart.proofs.Steps.{jal, op_imm, stay, then_go}
@@ -39,15 +40,15 @@ pub use Rattle.sc_hart.specs.Prelude.{Apart, CodeAt, Fetches, Owned, Registers, 
 pub use Rattle.sc_tac.specs.Prelude.{Codes, HasRoom, InSlot, IsClear, IsFrame, Lives, Point, Range, Set, Temps, Trail}
 pub use Rattle.sc_tac.specs.Prelude.{ahead_at, end_of, in_body, in_head, in_next, is_comparison, is_one, is_pointer}
 pub use Rattle.sc_tac.specs.Prelude.{is_unsigned, known, live_across, live_at_start, live_before, loop_points, no_temps}
-pub use Rattle.sc_tac.specs.Prelude.{object_range, one_or_none, operated, part_ahead, plain, plain_points, point}
-pub use Rattle.sc_tac.specs.Prelude.{ranges_of, read, readings, row_first, row_points, takes_two, trail_step, with_temp}
+pub use Rattle.sc_tac.specs.Prelude.{object_range, one_or_none, operated, part_ahead, plain_points, point, ranges_of}
+pub use Rattle.sc_tac.specs.Prelude.{read, readings, row_first, row_points, takes_two, trail_step, with_temp}
 pub use Rattle.sc_tac.specs.declared.frame.FrameTree.{FrameTree}
 pub use Rattle.sc_tac.specs.declared.place.Place.TheVariants.{Register, Slot}
-pub use Rattle.sc_select.specs.Prelude.{Addresses, Line, a0, a7, address_scratch, breaking, bytes_of, code_of_lines}
-pub use Rattle.sc_select.specs.Prelude.{completed, continuing, cycle, first_scratch, followed, jump_back, linked}
-pub use Rattle.sc_select.specs.Prelude.{linked_from, low_after, low_behind, nothing, plainly, ra, register_of}
-pub use Rattle.sc_select.specs.Prelude.{relocation_of, relocations_behind, relocations_from, second_scratch, sp}
-pub use Rattle.sc_select.specs.Prelude.{target_at, with_low, with_target}
+pub use Rattle.sc_select.specs.Prelude.{Addresses, Line, Plan, a0, a7, address_scratch, branch_back, branch_reach}
+pub use Rattle.sc_select.specs.Prelude.{breaking, bytes_of, code_of_lines, completed, continuing, cycle, first_scratch}
+pub use Rattle.sc_select.specs.Prelude.{followed, jump_back, linked, linked_from, low_after, low_behind, nothing, plain}
+pub use Rattle.sc_select.specs.Prelude.{plainly, ra, register_of, relocation_of, relocations_behind, relocations_from}
+pub use Rattle.sc_select.specs.Prelude.{rotated, second_scratch, sp, target_at, testing, with_low, with_target}
 pub use Rattle.sc_relation.specs.Common.{CallTarget, Cell, ImageParts, Jal, Place, Value}
 pub use Rattle.sc_relation.specs.Prelude.{Activation, AreHeld, Arrives, Begins, Beside, BlocksMatch, Came, Comes}
 pub use Rattle.sc_relation.specs.Prelude.{ComesBack, Costs, Effect, Ends, ExitGives, Follows, FrameMatches}

@@ -1,11 +1,10 @@
 -- The words that a frame keeps for itself, and its objects: they lie inside it, and no two meet.
 use Rattle.sc_relation.proofs.Common.{AllPairs, Apart, FrameTree, HasRoom, List, Place, Range, Some, [], all_at, ap}
 use Rattle.sc_relation.proofs.Common.{ap₂, arith, cases_order, end_of, get_or_from_slice_get, inl, inr, is_there}
-use Rattle.sc_relation.proofs.Common.{length, map, object_range, own_words, ranges_of, same_Some, slice_get}
+use Rattle.sc_relation.proofs.Common.{length, length-map, map, object_range, own_words, ranges_of, same_Some, slice_get}
 use Rattle.sc_relation.proofs.Common.{slice_get_within, subst₂, suc, zero, zip, ℕ, ⊎_elim, ◌*◌, ◌++◌, ◌+◌, ◌<◌, ◌∙◌}
 use Rattle.sc_relation.proofs.Common.{◌∷◌, ◌≡◌, ◌≢◌, ◌≤◌, ◌⊎◌}
 use Rattle.sc_tac.specs.Prelude.{Apart as RangesApart, word_at}
-use Rattle.std.proofs.lemmas.List.{length-map}
 
 pair_at : {X : Type 0} (R : X → X → Type 0) (xs : List X) (i j : ℕ) (x y : X) → AllPairs R xs → i < j →
     slice_get xs i ≡ Some x → slice_get xs j ≡ Some y → R x y

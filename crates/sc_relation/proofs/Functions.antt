@@ -1,8 +1,7 @@
 -- What comes of a call of a function, from what comes of its body; and of one whose frame goes below the stack.
-use Rattle.sc_select.specs.Selection.{Plan}
 use Rattle.sc_relation.proofs.Common.{All, Begins, FrameTree, Function, FunctionGives, Grown, HasRoom, IsFrame}
 use Rattle.sc_relation.proofs.Common.{IsWellFormed, IsWord, Joint, List, Memory as Bytes, Option, Overflows, Piece}
-use Rattle.sc_relation.proofs.Common.{Place, Reached, Registers, Returns, Running, Set, Setting, Shows, Some}
+use Rattle.sc_relation.proofs.Common.{Place, Plan, Reached, Registers, Returns, Running, Set, Setting, Shows, Some}
 use Rattle.sc_relation.proofs.Common.{Standpoint, State as Meant, Stopped, Traps, Value, Walks, and_then, ap, arith}
 use Rattle.sc_relation.proofs.Common.{begun, data_start, done, done_goes, inl, inr, last, length, machine, more}
 use Rattle.sc_relation.proofs.Common.{open_room, reached, seen_from, slice_get, stack_size, step, subst, sym, then_from}

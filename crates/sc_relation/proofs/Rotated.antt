@@ -3,16 +3,14 @@ use Rattle.sc_relation.proofs.Common.{All, Arrives, Bool, Break, CodeAt, Codes, 
 use Rattle.sc_relation.proofs.Common.{Follows, Goes, Instr, IsClear, IsWellFormed, IsWord, Jal, Joint, Left, Line, List}
 use Rattle.sc_relation.proofs.Common.{Lives, Next, None, Overflows, Piece, Reached, Ready, Return, Returns, Running}
 use Rattle.sc_relation.proofs.Common.{Set, Setting, Settled, Shows, Some, Standpoint, StandsAt, State as Meant, Stopped}
-use Rattle.sc_relation.proofs.Common.{Temps, Trail, [], ap, arith, code_inside, completed, ends_of, false, follow}
-use Rattle.sc_relation.proofs.Common.{in_body, in_head, in_loop, inl, is_some, length, length-append, live_at_start}
-use Rattle.sc_relation.proofs.Common.{live_before, loop, loop_points, low_after, plainly, pos, refl, rounds, row}
-use Rattle.sc_relation.proofs.Common.{row_points, seen_from, subst, suc, sym, take as onward, trail_step, true, word_at}
+use Rattle.sc_relation.proofs.Common.{Temps, Trail, [], ap, arith, branch_back, branch_reach, code_inside, completed}
+use Rattle.sc_relation.proofs.Common.{ends_of, false, first_scratch, follow, in_body, in_head, in_loop, inl, is_some}
+use Rattle.sc_relation.proofs.Common.{length, length-append, length-map, live_at_start, live_before, loop, loop_points}
+use Rattle.sc_relation.proofs.Common.{low_after, nat_lt, plain, plainly, pos, refl, rotated, rounds, row, row_points}
+use Rattle.sc_relation.proofs.Common.{seen_from, subst, suc, sym, take as onward, testing, trail_step, true, word_at}
 use Rattle.sc_relation.proofs.Common.{zero, ℕ, ⊎_elim, ◌*◌, ◌++◌, ◌+◌, ◌∙◌, ◌∷◌, ◌≡◌, ◌≤◌, ◌⊎◌}
-use Rattle.sc_select.specs.Prelude.{Piece as Code, first_scratch, plain, take}
-use Rattle.sc_select.specs.Selection.{branch_back, branch_reach, rotated, testing}
+use Rattle.sc_select.specs.Prelude.{Piece as Code, take}
 use Rattle.sc_tac.specs.declared.stmt.TacStmt.TheOpen as tac
-use Rattle.std.specs.Prelude.{nat_lt}
-use Rattle.std.proofs.lemmas.List.{length-map}
 use Rattle.sc_relation.proofs.Jumps.{HasNoGap, over}
 use Rattle.sc_relation.proofs.Lines.{InParts, in_parts, low_append, low_plainly}
 use Rattle.sc_relation.proofs.Rounds.{Round, behind_head, clear_head, head_live, head_overflows, ready_less}

@@ -6,9 +6,10 @@ use Rattle.sc_relation.proofs.Common.{Pointer, Protected, Ptr, Ready, Register, 
 use Rattle.sc_relation.proofs.Common.{Settled, Shows, Slot, Some, Standpoint, StandsFor, State as Meant, Temps, Value}
 use Rattle.sc_relation.proofs.Common.{Walks, Word, ahead_at, all_at, and_first, and_from, and_rest, arith, false}
 use Rattle.sc_relation.proofs.Common.{is_one, live_across, load, machine, ne_eqb, not, one_or_none, or_left, or_right}
-use Rattle.sc_relation.proofs.Common.{own_words, plain, plain_points, put_word, refl, register_of, seen_from, slice_get}
-use Rattle.sc_relation.proofs.Common.{sp, store, subst, suc, sym, true, wanted, with_memory, with_temp, word, word_same}
-use Rattle.sc_relation.proofs.Common.{ℕ, ◌*◌, ◌+◌, ◌<◌, ◌^◌, ◌∙◌, ◌≡◌, ◌≢◌, ◌≤◌}
+use Rattle.sc_relation.proofs.Common.{own_words, plain_points, put_word, refl, register_of, seen_from, slice_get, sp}
+use Rattle.sc_relation.proofs.Common.{store, subst, suc, sym, true, wanted, with_memory, with_temp, word, word_same, ℕ}
+use Rattle.sc_relation.proofs.Common.{◌*◌, ◌+◌, ◌<◌, ◌^◌, ◌∙◌, ◌≡◌, ◌≢◌, ◌≤◌}
+use Rattle.sc_tac.specs.Prelude.{plain}
 use Rattle.sc_relation.proofs.Wanted.{clear_wanted, wanted_less}
 use Rattle.sc_relation.proofs.Frames.{own_inside}
 use Rattle.sc_relation.proofs.Held.{PlaceKept, frame_kept, kept_but_register, kept_but_slot, kept_all, ra_kept}

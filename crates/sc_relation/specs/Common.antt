@@ -13,4 +13,4 @@ pub use Rattle.sc_hart.specs.Prelude.{CodeAt, Fetches, Owned, Registers, at, dat
 pub use Rattle.sc_tac.specs.Prelude.{Codes, HasRoom, IsClear, IsFrame, Lives, Set, Temps, Trail, ahead_at, readings}
 pub use Rattle.sc_tac.specs.Prelude.{row_first, row_fresh, row_points}
 pub use Rattle.sc_tac.specs.declared.place.Place.{Place}
-pub use Rattle.sc_select.specs.Prelude.{Addresses, a0, a7, completed, low_after, ra, register_of, sp}
+pub use Rattle.sc_select.specs.Prelude.{Addresses, Plan, a0, a7, completed, low_after, ra, register_of, sp}

@@ -1,20 +1,14 @@
 -- What the code of statements in order, of choices and of loops is made of, and that the jumps of their parts reach.
-use Rattle.sc_select.specs.Bounds.{FitsLoop}
-use Rattle.sc_select.specs.Selection.{closing, entrance, function_lines}
-use Rattle.sc_tac.specs.declared.function.TacFnTree.{TacFnTree}
-use Rattle.sc_select.specs.Selection.{Plan, kind_of_fork, role_behind}
-use Rattle.sc_select.proofs.Common.{Bool, Fits, FitsBetween, FrameTree, Instr, Line, List, OnOk, Other, Piece, Place}
-use Rattle.sc_select.proofs.Common.{Role, TacStmt, [], and_first, and_rest, ap, append_assoc, ap₂, arith, as_one}
-use Rattle.sc_select.proofs.Common.{between, choice, choosing, cycle, drop, drop-cons, false, fold-TacStmt}
-use Rattle.sc_select.proofs.Common.{fold-roll-TacStmt, get_or, if◌then◌else◌, in_turn, joined, joins, jump_back}
-use Rattle.sc_select.proofs.Common.{jump_over, length, length-append, length-map, loop_begins, map, nothing}
-use Rattle.sc_select.proofs.Common.{on_ok_weaker, passes_few, past, plain, plainly, refl, role_before, role_first}
-use Rattle.sc_select.proofs.Common.{roll-TacStmt, select, select_all, select_step, skipping, stmt_weight, subst, suc}
-use Rattle.sc_select.proofs.Common.{sym, true, weight, weight_step, with_parts, zero, ℕ, ◌&&◌, ◌++◌, ◌+◌, ◌-◌, ◌<◌}
-use Rattle.sc_select.proofs.Common.{◌==◌, ◌∙◌, ◌∷◌, ◌≡◌, ◌≤◌}
-use Rattle.sc_tac.specs.Prelude.{everywhere}
-use Rattle.std.specs.Prelude.{Err, IfOk, Ok}
-use Rattle.std.specs.declared.result.Result.{Result}
+use Rattle.sc_select.proofs.Common.{Bool, Err, Fits, FitsBetween, FitsLoop, FrameTree, IfOk, Instr, Line, List, Ok}
+use Rattle.sc_select.proofs.Common.{OnOk, Other, Piece, Place, Plan, Result, Role, TacFnTree, TacStmt, [], and_first}
+use Rattle.sc_select.proofs.Common.{and_rest, ap, append_assoc, ap₂, arith, as_one, between, choice, choosing, closing}
+use Rattle.sc_select.proofs.Common.{cycle, drop, drop-cons, entrance, everywhere, false, fold-TacStmt}
+use Rattle.sc_select.proofs.Common.{fold-roll-TacStmt, function_lines, get_or, if◌then◌else◌, in_turn, joined, joins}
+use Rattle.sc_select.proofs.Common.{jump_back, jump_over, kind_of_fork, length, length-append, length-map, loop_begins}
+use Rattle.sc_select.proofs.Common.{map, nothing, on_ok_weaker, passes_few, past, plain, plainly, refl, role_before}
+use Rattle.sc_select.proofs.Common.{role_behind, role_first, roll-TacStmt, select, select_all, select_step, skipping}
+use Rattle.sc_select.proofs.Common.{stmt_weight, subst, suc, sym, true, weight, weight_step, with_parts, zero, ℕ, ◌&&◌}
+use Rattle.sc_select.proofs.Common.{◌++◌, ◌+◌, ◌-◌, ◌<◌, ◌==◌, ◌∙◌, ◌∷◌, ◌≡◌, ◌≤◌}
 use Rattle.sc_tac.specs.declared.stmt.TacStmt.TheOpen as tac
 use Rattle.sc_tac.specs.declared.stmt.TacStmt.TheVariants as emit
 use Rattle.sc_select.proofs.Joining.{drop_map, joined_at, joined_length, none_behind, role_in_is}

@@ -1,17 +1,16 @@
 -- Pieces between others: what holds of each piece of statements holds of all of them in order, and which statements are
 -- one piece.
-use Rattle.sc_select.specs.Selection.{Kind, Plan, kind_of_fork, role_behind, short_return, turning}
-use Rattle.sc_select.specs.declared.roles.Role.TheVariants.{Applies, Returns}
-use Rattle.sc_select.proofs.Common.{Bool, Each, FrameTree, List, Loads, None, Operates, Option, Other, Piece, Place}
-use Rattle.sc_select.proofs.Common.{Places, Role, Sets, ShortForm, Some, Stores, TacOp, TacStmt, TacStmt-F, []}
-use Rattle.sc_select.proofs.Common.{and_first, and_rest, ap, ap₂, arith, as_one, between, choice, choosing, drop}
-use Rattle.sc_select.proofs.Common.{ending_past, eqb-true, false, fold-roll-TacStmt, followed, fork, get_or}
-use Rattle.sc_select.proofs.Common.{if◌then◌else◌, in_order, in_turn, inl, inr, is_some, joined, joins, jump_over}
-use Rattle.sc_select.proofs.Common.{length, map, map-TacStmt, not, nothing, object_read, object_store, past, refl}
-use Rattle.sc_select.proofs.Common.{role_before, role_first, role_of_operation, role_of_store, roll-TacStmt, select}
-use Rattle.sc_select.proofs.Common.{select_step, short_form, short_operation, skipping, stmt_induction, straight}
-use Rattle.sc_select.proofs.Common.{straightly, suc, sym, true, word_of_constant, zero, ℕ, ⊎_elim, ◌&&◌, ◌-◌, ◌<◌, ◌==◌}
-use Rattle.sc_select.proofs.Common.{◌∙◌, ◌∷◌, ◌≡◌, ◌≤◌, ◌⊎◌}
+use Rattle.sc_select.proofs.Common.{Applies, Bool, Each, FrameTree, Kind, List, Loads, None, Operates, Option, Other}
+use Rattle.sc_select.proofs.Common.{Piece, Place, Places, Plan, Returns, Role, Sets, ShortForm, Some, Stores, TacOp}
+use Rattle.sc_select.proofs.Common.{TacStmt, TacStmt-F, [], and_first, and_rest, ap, ap₂, arith, as_one, between}
+use Rattle.sc_select.proofs.Common.{choice, choosing, drop, ending_past, eqb-true, false, fold-roll-TacStmt, followed}
+use Rattle.sc_select.proofs.Common.{fork, get_or, if◌then◌else◌, in_order, in_turn, inl, inr, is_some, joined, joins}
+use Rattle.sc_select.proofs.Common.{jump_over, kind_of_fork, length, map, map-TacStmt, not, nothing, object_read}
+use Rattle.sc_select.proofs.Common.{object_store, past, refl, role_before, role_behind, role_first, role_of_operation}
+use Rattle.sc_select.proofs.Common.{role_of_store, roll-TacStmt, select, select_step, short_form, short_operation}
+use Rattle.sc_select.proofs.Common.{short_return, skipping, stmt_induction, straight, straightly, suc, sym, true}
+use Rattle.sc_select.proofs.Common.{turning, word_of_constant, zero, ℕ, ⊎_elim, ◌&&◌, ◌-◌, ◌<◌, ◌==◌, ◌∙◌, ◌∷◌, ◌≡◌}
+use Rattle.sc_select.proofs.Common.{◌≤◌, ◌⊎◌}
 use Rattle.sc_tac.specs.declared.stmt.Constant.{Constant}
 use Rattle.sc_tac.specs.declared.stmt.TacStmt.TheOpen as tac
 

@@ -1,31 +1,27 @@
 -- Lines that refer to targets stand where the linker can complete them.
-use Rattle.sc_select.specs.Selection.{Kind, Plan, branch_back, branch_reach, plan_by, plan_of, role_of_return, rotated}
-use Rattle.sc_select.specs.Selection.{short_return, testing}
-use Rattle.sc_select.specs.Pieces.{first_scratch}
 use Rattle.sc_select.proofs.Common.{All, AllPairs, Bne, Bool, Branch, Each, Entry, FrameTree, Function, Global, Inside}
-use Rattle.sc_select.proofs.Common.{Instr, IsCode, IsTrue, Jal, Jalr, Line, List, Lui, None, Option, Piece, Place}
-use Rattle.sc_select.proofs.Common.{Places, Relocation, Role, Sets, Some, Store, Sw, TacFnTree, TacStmt, TacStmt-F}
-use Rattle.sc_select.proofs.Common.{Target, Upper, [], and_first, and_rest, ap, append-nil, arith, brought, call_cross}
-use Rattle.sc_select.proofs.Common.{call_own, choice, closing, code_of_lines, copied, cycle, entrance, environment_call}
-use Rattle.sc_select.proofs.Common.{eq-eqb, everywhere as each_holds, false, fold-roll-TacStmt, followed, frame_taken}
-use Rattle.sc_select.proofs.Common.{function_lines, has_mark, if◌then◌else◌, in_order, is_address, is_jal, is_linkable}
-use Rattle.sc_select.proofs.Common.{jump_back, keep, length, length-append, length-map, load_from, loading, map}
-use Rattle.sc_select.proofs.Common.{map-TacStmt, moved_by, nat_lt, needed_in, object_offset, object_read, object_store}
-use Rattle.sc_select.proofs.Common.{operand, operation, pass, place_of_global, plain, plainly, pos, receive, referring}
-use Rattle.sc_select.proofs.Common.{refl, relocation_of, relocations_from, result_register, return, role_of_load}
-use Rattle.sc_select.proofs.Common.{role_of_operation, role_of_store, select, select_all, select_step, short_form}
-use Rattle.sc_select.proofs.Common.{short_operation, slice_get, stmt_induction, store_arguments, store_to, straightly}
-use Rattle.sc_select.proofs.Common.{sub_word, subst, suc, sym, take, true, word_of_constant, ℕ, ◌&&◌, ◌*◌, ◌++◌, ◌+◌}
-use Rattle.sc_select.proofs.Common.{◌<◌, ◌∙◌, ◌∷◌, ◌≡◌, ◌≤◌}
-use Rattle.std.specs.Prelude.{neg_ℤ}
-use Rattle.std.proofs.Common.{le-ltb, lt-ltb, nat_lt}
-use Rattle.sc_select.specs.Selection.{code_of, is_near, plan_of}
+use Rattle.sc_select.proofs.Common.{Instr, IsCode, IsTrue, Jal, Jalr, Kind, Line, List, Lui, None, Option, Piece, Place}
+use Rattle.sc_select.proofs.Common.{Places, Plan, Relocation, Role, Sets, Some, Store, Sw, TacFnTree, TacStmt}
+use Rattle.sc_select.proofs.Common.{TacStmt-F, Target, Upper, [], and_first, and_from, and_rest, ap, append-nil, arith}
+use Rattle.sc_select.proofs.Common.{branch_back, branch_reach, brought, call_cross, call_own, choice, closing, code_of}
+use Rattle.sc_select.proofs.Common.{code_of_lines, copied, cycle, entrance, environment_call, eq-eqb, false}
+use Rattle.sc_select.proofs.Common.{first_scratch, fold-roll-TacStmt, followed, frame_taken, function_lines, has_mark}
+use Rattle.sc_select.proofs.Common.{if◌then◌else◌, in_order, is_address, is_jal, is_linkable, is_near, jump_back, keep}
+use Rattle.sc_select.proofs.Common.{le-ltb, length, length-append, length-map, load_from, loading, lt-ltb, map}
+use Rattle.sc_select.proofs.Common.{map-TacStmt, moved_by, nat_lt, needed_in, neg_ℤ, object_offset, object_read}
+use Rattle.sc_select.proofs.Common.{object_store, operand, operation, pass, place_of_global, plain, plainly, plan_by}
+use Rattle.sc_select.proofs.Common.{plan_of, pos, receive, referring, refl, relocation_of, relocations_from}
+use Rattle.sc_select.proofs.Common.{result_register, return, role_of_load, role_of_operation, role_of_return}
+use Rattle.sc_select.proofs.Common.{role_of_store, rotated, select, select_all, select_step, short_form}
+use Rattle.sc_select.proofs.Common.{short_operation, short_return, slice_get, stmt_induction, store_arguments, store_to}
+use Rattle.sc_select.proofs.Common.{straightly, sub_word, subst, suc, sym, take, testing, true, word_of_constant, ℕ}
+use Rattle.sc_select.proofs.Common.{◌&&◌, ◌*◌, ◌++◌, ◌+◌, ◌<◌, ◌∙◌, ◌∷◌, ◌≡◌, ◌≤◌}
+use Rattle.sc_core.proofs.Induction.{everywhere as each_holds}
 use Rattle.std.proofs.lemmas.List.Elements.{All-cons, All-nil, All-weaker}
 use Rattle.std.proofs.lemmas.List.Kept.{AllPairs-cons}
 use Rattle.sc_tac.specs.declared.stmt.TacStmt.TheOpen as tac
 use Rattle.sc_select.proofs.Joining.{fork_keeps, order_keeps}
 use Rattle.sc_select.proofs.Turning.{each_before, turning_by}
-use Rattle.std.proofs.lemmas.Bool.{and_from}
 
 -- the instruction of the first line
 abbrev first_of : List Line → Option Instr

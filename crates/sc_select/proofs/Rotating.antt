@@ -1,17 +1,13 @@
 -- What the code of a loop that ends with its test is made of, and that the jumps of its parts reach.
-use Rattle.sc_select.specs.Bounds.{FitsLoop}
-use Rattle.sc_select.specs.Selection.{Plan, before_test, branch_back, ending_test, rotated, testing, turning}
-use Rattle.sc_select.specs.Prelude.{first_scratch, take}
-use Rattle.sc_select.proofs.Common.{Bool, Fits, FrameTree, Instr, Line, List, None, OnOk, Option, Piece, Place, Some}
-use Rattle.sc_select.proofs.Common.{TacStmt, TacStmt-F, [], and_first, and_rest, ap, false, ap₂, append_assoc, arith}
-use Rattle.sc_select.proofs.Common.{cycle, fold-TacStmt, fold-roll-TacStmt, if◌then◌else◌, in_order, jump_over, length}
-use Rattle.sc_select.proofs.Common.{length-append, length-map, map, on_ok_weaker, passes_few, plain, plainly, refl}
-use Rattle.sc_select.proofs.Common.{roll-TacStmt, select, select_all, select_step, suc, sym, true, weight, with_parts, zero, ℕ}
-use Rattle.sc_select.proofs.Common.{◌+◌, ◌++◌, ◌-◌, ◌<◌, ◌∙◌, ◌∷◌, ◌≡◌, ◌≤◌}
+use Rattle.sc_select.proofs.Common.{Bool, Fits, FitsLoop, FrameTree, Instr, Line, List, None, OnOk, Option, Piece}
+use Rattle.sc_select.proofs.Common.{Place, Plan, Result, Some, TacStmt, TacStmt-F, [], and_first, and_from, and_rest}
+use Rattle.sc_select.proofs.Common.{ap, append_assoc, ap₂, arith, before_test, branch_back, cycle, ending_test}
+use Rattle.sc_select.proofs.Common.{everywhere, false, first_scratch, fold-TacStmt, fold-roll-TacStmt, if◌then◌else◌}
+use Rattle.sc_select.proofs.Common.{in_order, jump_over, length, length-append, length-map, map, on_ok_weaker}
+use Rattle.sc_select.proofs.Common.{passes_few, plain, plainly, refl, roll-TacStmt, rotated, select, select_all}
+use Rattle.sc_select.proofs.Common.{select_step, suc, sym, take, testing, true, turning, weight, with_parts, zero, ℕ}
+use Rattle.sc_select.proofs.Common.{◌++◌, ◌+◌, ◌-◌, ◌<◌, ◌∙◌, ◌∷◌, ◌≡◌, ◌≤◌}
 use Rattle.std.proofs.Common.{take as take_front}
-use Rattle.std.proofs.lemmas.Bool.{and_from}
-use Rattle.sc_tac.specs.Prelude.{everywhere}
-use Rattle.std.specs.declared.result.Result.{Result}
 use Rattle.sc_tac.specs.declared.stmt.TacStmt.TheOpen as tac
 use Rattle.sc_tac.specs.declared.stmt.TacStmt.TheVariants as emit
 use Rattle.sc_select.proofs.Composition.{alone, as_is, counted, few_in_cycle}

@@ -1,15 +1,9 @@
 -- Worked functions: the code of each.
-use Rattle.sc_select.specs.Selection.{Plan as Way, branch_reach, plan_of}
-use Rattle.sc_select.proofs.Common.{Line, length}
-use Rattle.std.proofs.Common.{nat_lt}
-use Rattle.std.specs.Prelude.{None}
-use Rattle.sc_tac.specs.Prelude.{is_one}
-use Rattle.sc_select.specs.Prelude.{Need, function_lines, need_step, row_needs}
-use Rattle.sc_select.proofs.Common.{◌∙◌}
-use Rattle.sc_select.proofs.Common.{Addi, Bne, Bool, Branch, CodeTree, FrameTree, Function, Jal, Jalr, List, Load, Lw}
-use Rattle.sc_select.proofs.Common.{Op, OpImm, Piece, Place, Register, Slot, Some, Store, Sub, Sw, [], ap, closing}
-use Rattle.sc_select.proofs.Common.{code_of, code_of_lines, entrance, frame_of, in_order, needed_in, negsuc, plainly}
-use Rattle.sc_select.proofs.Common.{pos, select_step, true, ℕ, ◌++◌, ◌∷◌, ◌≡◌}
+use Rattle.sc_select.proofs.Common.{Addi, Bne, Bool, Branch, CodeTree, FrameTree, Function, Jal, Jalr, Line, List, Load}
+use Rattle.sc_select.proofs.Common.{Lw, Need, None, Op, OpImm, Piece, Place, Plan as Way, Register, Slot, Some, Store}
+use Rattle.sc_select.proofs.Common.{Sub, Sw, [], ap, branch_reach, closing, code_of, code_of_lines, entrance, frame_of}
+use Rattle.sc_select.proofs.Common.{function_lines, in_order, is_one, length, nat_lt, need_step, needed_in, negsuc}
+use Rattle.sc_select.proofs.Common.{plainly, plan_of, pos, row_needs, select_step, true, ℕ, ◌++◌, ◌∙◌, ◌∷◌, ◌≡◌}
 use Rattle.sc_base.specs.declared.op.BinaryOp.TheVariants as op
 use Rattle.sc_event.specs.declared.row.Entry.TheVariants as entry
 use Rattle.sc_tac.specs.declared.stmt.TacStmt.TheOpen as tac

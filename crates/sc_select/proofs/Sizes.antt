@@ -1,11 +1,11 @@
 -- Pieces have as many lines as they say.
-use Rattle.sc_select.specs.Selection.{Kind, Plan, branch_back, rotated, testing}
-use Rattle.sc_select.specs.Pieces.{first_scratch}
-use Rattle.sc_select.proofs.Common.{Each, FrameTree, Inside, Instr, Line, List, Other, Piece, Place, TacStmt}
-use Rattle.sc_select.proofs.Common.{TacStmt-F, [], arith, choice, cycle, drop, everywhere, fold-roll-TacStmt, followed}
-use Rattle.sc_select.proofs.Common.{in_order, in_turn, joined, jump_back, jump_over, length, length-append, length-map}
-use Rattle.sc_select.proofs.Common.{map, map-TacStmt, plain, plainly, refl, select, select_all, select_step}
-use Rattle.sc_select.proofs.Common.{stmt_induction, straight, subst, suc, sym, take, ℕ, ◌++◌, ◌+◌, ◌∷◌, ◌≡◌}
+use Rattle.sc_select.proofs.Common.{Each, FrameTree, Inside, Instr, Kind, Line, List, Other, Piece, Place, Plan}
+use Rattle.sc_select.proofs.Common.{TacStmt, TacStmt-F, [], arith, branch_back, choice, cycle, drop, first_scratch}
+use Rattle.sc_select.proofs.Common.{fold-roll-TacStmt, followed, in_order, in_turn, joined, jump_back, jump_over}
+use Rattle.sc_select.proofs.Common.{length, length-append, length-map, map, map-TacStmt, plain, plainly, refl, rotated}
+use Rattle.sc_select.proofs.Common.{select, select_all, select_step, stmt_induction, straight, subst, suc, sym, take}
+use Rattle.sc_select.proofs.Common.{testing, ℕ, ◌++◌, ◌+◌, ◌∷◌, ◌≡◌}
+use Rattle.sc_core.proofs.Induction.{everywhere}
 use Rattle.sc_tac.specs.declared.stmt.TacStmt.TheOpen as tac
 use Rattle.sc_select.proofs.Joining.{fork_keeps, from_keeps}
 use Rattle.sc_select.proofs.Turning.{each_before, turning_by}

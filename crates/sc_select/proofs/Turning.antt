@@ -1,11 +1,10 @@
 -- Loops that end with their test: which they are.
-use Rattle.sc_select.specs.Selection.{Breaks, Controls, Kind, Plain, Plan, Tests, before_test, breaks, ending_test}
-use Rattle.sc_select.specs.Selection.{is_break, is_plain}
-use Rattle.sc_select.specs.Selection.{kind_by, kind_of_fork, rotated, test_of, turning}
-use Rattle.sc_select.proofs.Common.{Bool, Each, FrameTree, List, None, Option, Piece, Place, Some, TacStmt, TacStmt-F}
-use Rattle.sc_select.proofs.Common.{[], ap, ap₂, arith, cycle, false, fold-roll-TacStmt, if◌then◌else◌, in_order, length}
-use Rattle.sc_select.proofs.Common.{map, map-TacStmt, refl, select, select_step, stmt_induction, suc, sym}
-use Rattle.sc_select.proofs.Common.{drop, eqb-true, get_or, zero, ◌&&◌, ◌+◌, ◌<◌, ◌==◌, true, ℕ, ◌++◌, ◌-◌, ◌∙◌, ◌∷◌, ◌≡◌, subst}
+use Rattle.sc_select.proofs.Common.{Bool, Breaks, Controls, Each, FrameTree, Kind, List, None, Option, Piece, Place}
+use Rattle.sc_select.proofs.Common.{Plain, Plan, Some, TacStmt, TacStmt-F, Tests, [], ap, ap₂, arith, before_test}
+use Rattle.sc_select.proofs.Common.{breaks, cycle, drop, ending_test, eqb-true, false, fold-roll-TacStmt, get_or}
+use Rattle.sc_select.proofs.Common.{if◌then◌else◌, in_order, is_break, is_plain, kind_by, kind_of_fork, length, map}
+use Rattle.sc_select.proofs.Common.{map-TacStmt, refl, rotated, select, select_step, stmt_induction, subst, suc, sym}
+use Rattle.sc_select.proofs.Common.{test_of, true, turning, zero, ℕ, ◌&&◌, ◌++◌, ◌+◌, ◌-◌, ◌<◌, ◌==◌, ◌∙◌, ◌∷◌, ◌≡◌}
 use Rattle.std.proofs.Common.{take as take_front}
 unfoldable use Rattle.sc_tac.specs.declared.stmt.TacStmt.{roll-TacStmt}
 use Rattle.sc_tac.specs.declared.stmt.TacStmt.TheOpen as tac

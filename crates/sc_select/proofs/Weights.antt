@@ -1,33 +1,31 @@
 -- Code has no more instructions than its function weighs.
-use Rattle.sc_select.specs.Selection.{Plan, is_near, plan_of, role_behind, short_return}
 use Rattle.sc_select.proofs.Common.{Add, Bne, Bool, Branch, Div, Each, Entry as EntryOf, Fits, FrameTree, Function}
-use Rattle.sc_select.proofs.Common.{Inside, Instr, IsFunction, Jal, Jalr, Line, List, Load, Lui, Lw, Mul, None}
-use Rattle.sc_select.proofs.Common.{Op, Option, Other, Piece, Place, Register, Role, Shift}
-use Rattle.sc_select.proofs.Common.{ShortForm, Slot, Some, Store, Sw, TacFnTree, TacOp, TacStmt, TacStmt-F, Upper, []}
-use Rattle.sc_select.proofs.Common.{all_true, and_first, and_rest, ap, ap₂, arith, as_one, at_hand, between}
-use Rattle.sc_select.proofs.Common.{binary_code, brought, bytes_ahead, bytes_of, call_cross, call_own, choice, choosing}
-use Rattle.sc_select.proofs.Common.{closing, code_of, copied, entrance, entry_weight, environment_call}
-use Rattle.sc_select.proofs.Common.{everywhere as each_holds, false, fold-TacStmt, fold-roll-TacStmt, fork, frame_left}
-use Rattle.sc_select.proofs.Common.{frame_taken, function_lines, has_operands, if◌then◌else◌, in_order, in_turn}
-use Rattle.sc_select.proofs.Common.{is_short, is_some, is_unsigned, joined, joins, keep, kept, length, length-append}
-use Rattle.sc_select.proofs.Common.{length-map, load_from, load_word, loading, map, map-TacStmt, moved_by}
-use Rattle.sc_select.proofs.Common.{nothing, object_offset, object_read, object_store, op_code, op_weight, operand}
-use Rattle.sc_select.proofs.Common.{operation, pass, place_of_global, plain, plainly, pointer_difference, pointer_move}
-use Rattle.sc_select.proofs.Common.{pos, put, receive, referring, refl, register_of, result_register, return}
-use Rattle.sc_select.proofs.Common.{role_first, roll-TacStmt, second_operand, select, select_all, select_step}
-use Rattle.sc_select.proofs.Common.{short_code, short_form, short_operation, skipping, slice_get, slot_offset, stepped}
+use Rattle.sc_select.proofs.Common.{Inside, Instr, IsFunction, Jal, Jalr, Line, List, Load, Lui, Lw, Mul, None, Op}
+use Rattle.sc_select.proofs.Common.{Option, Other, Piece, Place, Plan, Register, Role, Shift, ShortForm, Slot, Some}
+use Rattle.sc_select.proofs.Common.{Store, Sw, TacFnTree, TacOp, TacStmt, TacStmt-F, Upper, [], all_true, and_first}
+use Rattle.sc_select.proofs.Common.{and_from, and_rest, ap, ap₂, arith, as_one, at_hand, between, binary_code, brought}
+use Rattle.sc_select.proofs.Common.{bytes_ahead, bytes_of, call_cross, call_own, choice, choosing, closing, code_of}
+use Rattle.sc_select.proofs.Common.{copied, entrance, entry_weight, environment_call, everywhere, false, fold-TacStmt}
+use Rattle.sc_select.proofs.Common.{fold-roll-TacStmt, fork, frame_left, frame_taken, function_lines, has_operands}
+use Rattle.sc_select.proofs.Common.{if◌then◌else◌, in_order, in_turn, is_near, is_short, is_some, is_unsigned, joined}
+use Rattle.sc_select.proofs.Common.{joins, keep, kept, length, length-append, length-map, load_from, load_word, loading}
+use Rattle.sc_select.proofs.Common.{map, map-TacStmt, moved_by, nothing, object_offset, object_read, object_store}
+use Rattle.sc_select.proofs.Common.{op_code, op_weight, operand, operation, pass, place_of_global, plain, plainly}
+use Rattle.sc_select.proofs.Common.{plan_of, pointer_difference, pointer_move, pos, put, receive, referring, refl}
+use Rattle.sc_select.proofs.Common.{register_of, result_register, return, role_behind, role_first, roll-TacStmt}
+use Rattle.sc_select.proofs.Common.{second_operand, select, select_all, select_step, short_code, short_form}
+use Rattle.sc_select.proofs.Common.{short_operation, short_return, skipping, slice_get, slot_offset, stepped}
 use Rattle.sc_select.proofs.Common.{stmt_induction, stmt_weight, store_arguments, store_to, store_word, straightly}
 use Rattle.sc_select.proofs.Common.{sub_word, subst, suc, sym, take, take_second, taken, takes_two, true, unary_code}
 use Rattle.sc_select.proofs.Common.{weight, weight_step, with_parts, word_of_constant, zero, ℕ, ⊎_elim, ◌&&◌, ◌*◌, ◌++◌}
 use Rattle.sc_select.proofs.Common.{◌+◌, ◌<◌, ◌==◌, ◌^◌, ◌∙◌, ◌∷◌, ◌≡◌, ◌≤◌}
 use Rattle.sc_core.specs.Prelude.{total}
-use Rattle.sc_tac.specs.Prelude.{everywhere}
+use Rattle.sc_core.proofs.Induction.{everywhere as each_holds}
 use Rattle.rv_code.specs.declared.instr.ShiftOp.TheVariants.{Slli}
 use Rattle.sc_select.proofs.Joining.{IsRead, IsReturned, IsShort, IsStored, loads_it, operates_it, past_few, returns_it}
 use Rattle.sc_select.proofs.Joining.{stores_it, which_pair}
 use Rattle.sc_select.proofs.Turning.{each_before, test_stmt, turning_by}
 use Rattle.std.specs.Bool.{beq}
-use Rattle.std.proofs.lemmas.Bool.{and_from}
 use Rattle.sc_base.specs.declared.op.BinaryOp.{BinaryOp}
 use Rattle.sc_base.specs.declared.op.BinaryOp.TheVariants as op
 use Rattle.sc_base.specs.declared.op.UnaryOp.{UnaryOp}

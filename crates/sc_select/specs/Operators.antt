@@ -4,9 +4,8 @@ use Rattle.sc_select.specs.Common.{Add, Addi, And, Andi, Div, Divu, Instr, Mul, 
 use Rattle.sc_select.specs.Common.{Sll, Slt, Slti, Sltiu, Sltu, Sra, Srl, Sub, TacOp, Xor, Xori, is_unsigned, mul_word}
 use Rattle.sc_select.specs.Common.{signed_of, sub_word}
 use Rattle.rv_code.specs.declared.instr.ShiftOp.TheVariants.{Slli}
-use Rattle.std.specs.Prelude.{◌==◌}
-use Rattle.std.specs.Prelude.{ℕ, pos, negsuc, ◌*◌, ◌%◌, ◌^◌, Bool, true, false, List, [], ◌∷◌, ◌++◌, Option, None, Some}
-use Rattle.std.specs.Prelude.{if◌then◌else◌}
+use Rattle.std.specs.Prelude.{◌==◌, ℕ, pos, negsuc, ◌*◌, ◌%◌, ◌^◌, Bool, true, false, List, [], ◌∷◌, ◌++◌, Option, None}
+use Rattle.std.specs.Prelude.{Some, if◌then◌else◌}
 use Rattle.rv_code.specs.declared.instr.OpImmOp.{OpImmOp}
 use Rattle.rv_code.specs.declared.instr.OpOp.{OpOp}
 use Rattle.sc_base.specs.declared.op.BinaryOp.{BinaryOp}

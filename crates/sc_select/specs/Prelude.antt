@@ -5,6 +5,8 @@ pub use Rattle.rv_code.specs.declared.instr.OpImmOp.TheVariants.{Addi, Sltiu, Xo
 pub use Rattle.rv_code.specs.declared.instr.OpOp.TheVariants.{Add, Slt, Sltu}
 pub use Rattle.sc_tac.specs.Prelude.{IsCode, IsFunction, entry_weight, is_place, is_unsigned, one_or_none}
 pub use Rattle.sc_tac.specs.Prelude.{register_count, weight}
+pub use Rattle.sc_tac.specs.declared.frame.FrameTree.{FrameTree}
+pub use Rattle.sc_tac.specs.declared.place.Place.{Place}
 pub use Rattle.sc_select.specs.Bounds.{Fits, FitsBetween, FitsLoop, most_lines}
 pub use Rattle.sc_select.specs.Lines.{Line, code_of_lines, lines_of, plain, plainly, referring, relocation_of}
 pub use Rattle.sc_select.specs.Lines.{relocations_from}
@@ -18,17 +20,17 @@ pub use Rattle.sc_select.specs.Operators.{short, short_code, short_form, stepped
 pub use Rattle.sc_select.specs.Pieces.{a0, a7, address_scratch, far_from_sp, first_scratch, frame_left, frame_taken}
 pub use Rattle.sc_select.specs.Pieces.{is_short, load_word, loading, lower_part, move, moved_by, ra, register_of}
 pub use Rattle.sc_select.specs.Pieces.{second_scratch, sp, store_word, upper_part}
-pub use Rattle.sc_select.specs.Selection.{Breaks, Controls, Kind, Plain, Plan, Tests, before_test, branch_back, breaks, is_break}
-pub use Rattle.sc_select.specs.Selection.{branch_reach, ending_test, is_near, is_plain, kind_by, kind_of_fork}
-pub use Rattle.sc_select.specs.Selection.{plan_by, plan_of, role_behind, role_of_return, rotated, short_return}
-pub use Rattle.sc_select.specs.Selection.{test_of, testing, turning}
-pub use Rattle.sc_select.specs.Selection.{Piece, as_one, at_hand, between, breaking, brought, call_cross, call_own}
-pub use Rattle.sc_select.specs.Selection.{choice, choosing, closing, code_of, continuing, copied, cycle, ending_past}
-pub use Rattle.sc_select.specs.Selection.{entrance, environment_call, followed, fork, function_lines, in_order, in_turn}
-pub use Rattle.sc_select.specs.Selection.{joined, joins, jump_back, jump_over, keep, kept, load_from, loop_begins}
-pub use Rattle.sc_select.specs.Selection.{nothing, object_offset, object_read, object_store, operand, operation, pass}
-pub use Rattle.sc_select.specs.Selection.{past, place_of, place_of_global, put, receive, result_register, return}
-pub use Rattle.sc_select.specs.Selection.{role_before, role_first, role_of_load, role_of_operation, role_of_store}
-pub use Rattle.sc_select.specs.Selection.{second_operand, select, select_all, select_step, short_operation, skipping}
-pub use Rattle.sc_select.specs.Selection.{slot_offset, store_arguments, store_to, straight, straightly, take}
-pub use Rattle.sc_select.specs.Selection.{take_second, taken, word_of_constant}
+pub use Rattle.sc_select.specs.Selection.{Breaks, Controls, Kind, Piece, Plain, Plan, Tests, as_one, at_hand}
+pub use Rattle.sc_select.specs.Selection.{before_test, between, branch_back, branch_reach, breaking, breaks, brought}
+pub use Rattle.sc_select.specs.Selection.{call_cross, call_own, choice, choosing, closing, code_of, continuing, copied}
+pub use Rattle.sc_select.specs.Selection.{cycle, ending_past, ending_test, entrance, environment_call, followed, fork}
+pub use Rattle.sc_select.specs.Selection.{function_lines, in_order, in_turn, is_break, is_near, is_plain, joined, joins}
+pub use Rattle.sc_select.specs.Selection.{jump_back, jump_over, keep, kept, kind_by, kind_of_fork, load_from}
+pub use Rattle.sc_select.specs.Selection.{loop_begins, nothing, object_offset, object_read, object_store, operand}
+pub use Rattle.sc_select.specs.Selection.{operation, pass, past, place_of, place_of_global, plan_by, plan_of, put}
+pub use Rattle.sc_select.specs.Selection.{receive, result_register, return, role_before, role_behind, role_first}
+pub use Rattle.sc_select.specs.Selection.{role_of_load, role_of_operation, role_of_return, role_of_store, rotated}
+pub use Rattle.sc_select.specs.Selection.{second_operand, select, select_all, select_step, short_operation}
+pub use Rattle.sc_select.specs.Selection.{short_return, skipping, slot_offset, store_arguments, store_to, straight}
+pub use Rattle.sc_select.specs.Selection.{straightly, take, take_second, taken, test_of, testing, turning}
+pub use Rattle.sc_select.specs.Selection.{word_of_constant}

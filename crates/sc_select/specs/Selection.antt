@@ -15,7 +15,8 @@ use Rattle.sc_tac.specs.declared.stmt.Constant.{Constant}
 use Rattle.sc_tac.specs.declared.stmt.Constant.TheVariants as constant
 use Rattle.sc_tac.specs.declared.stmt.TacStmt.TheOpen as tac
 use Rattle.sc_select.specs.declared.roles.Role.{Role}
-use Rattle.sc_select.specs.declared.roles.Role.TheVariants.{Applies, Loads, Operates, Other, Places, Returns, Sets, Stores}
+use Rattle.sc_select.specs.declared.roles.Role.TheVariants.{Applies, Loads, Operates, Other, Places, Returns, Sets}
+use Rattle.sc_select.specs.declared.roles.Role.TheVariants.{Stores}
 use Rattle.sc_select.specs.Needs.{has_mark, needed_in}
 use Rattle.sc_select.specs.Lines.{Line, plain, plainly, referring, code_of_lines}
 use Rattle.sc_select.specs.Pieces.{ra, sp, first_scratch, second_scratch, a0, a7, register_of, move, loading, moved_by}

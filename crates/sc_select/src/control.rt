@@ -1,12 +1,11 @@
 //! Statements in order, choices and loops.
 
-ghost use Rattle.sc_select.specs.Prelude.{Fits, FitsBetween, FitsLoop, Line, between, cycle, ending_test};
-ghost use Rattle.sc_select.specs.Prelude.{first_scratch, most_lines, past, plain, plan_by, rotated, select, select_all};
-ghost use Rattle.sc_select.specs.Prelude.{take};
-ghost use Rattle.sc_tac.specs.declared.frame.FrameTree.{FrameTree};
-ghost use Rattle.sc_tac.specs.declared.place.Place.{Place};
+ghost use Rattle.sc_select.specs.Prelude.{Fits, FitsBetween, FitsLoop, FrameTree, Line, Place, between, cycle};
+ghost use Rattle.sc_select.specs.Prelude.{ending_test, first_scratch, most_lines, past, plain, plan_by, rotated};
+ghost use Rattle.sc_select.specs.Prelude.{select, select_all, take};
 ghost use Rattle.sc_tac.specs.declared.stmt.TacStmt;
-ghost use Rattle.std.specs.Prelude.{◌≡◌, ◌≤◌, ◌<◌, ◌+◌, ◌-◌, ◌++◌, ◌∷◌, [], ℕ, List, None, OnOk, length, map, if◌then◌else◌};
+ghost use Rattle.std.specs.Prelude.{◌≡◌, ◌≤◌, ◌<◌, ◌+◌, ◌-◌, ◌++◌, ◌∷◌, [], ℕ, List, None, OnOk, length, map};
+ghost use Rattle.std.specs.Prelude.{if◌then◌else◌};
 
 use crate::backward::Backward;
 use crate::homes::Homes;

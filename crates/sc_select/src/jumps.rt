@@ -1,7 +1,7 @@
 //! Jumps and branches by the lines that they lead over.
 
-ghost use Rattle.sc_select.specs.Prelude.{Addi, IsJumpOffset, Jal, OpImm, branch_back, jump_back, jump_over, loop_begins};
-ghost use Rattle.sc_select.specs.Prelude.{most_lines, plain};
+ghost use Rattle.sc_select.specs.Prelude.{Addi, IsJumpOffset, Jal, OpImm, branch_back, jump_back, jump_over};
+ghost use Rattle.sc_select.specs.Prelude.{loop_begins, most_lines, plain};
 ghost use Rattle.std.specs.Prelude.{◌≡◌, ◌<◌, length, ◌&&◌, ◌==◌};
 
 use crate::homes::Homes;

@@ -1,9 +1,7 @@
 //! What statements are to the loop in whose head they stand.
 
-ghost use Rattle.sc_select.specs.Prelude.{Plan, breaks, ending_test, is_break, is_plain, kind_of_fork, select};
-ghost use Rattle.sc_select.specs.Prelude.{test_of};
-ghost use Rattle.sc_tac.specs.declared.frame.FrameTree.{FrameTree};
-ghost use Rattle.sc_tac.specs.declared.place.Place.{Place};
+ghost use Rattle.sc_select.specs.Prelude.{FrameTree, Place, Plan, breaks, ending_test, is_break, is_plain};
+ghost use Rattle.sc_select.specs.Prelude.{kind_of_fork, select, test_of};
 ghost use Rattle.std.specs.Prelude.{◌≡◌, List, map};
 
 use sc_tac::TacStmt;

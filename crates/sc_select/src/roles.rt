@@ -2,10 +2,8 @@
 //! there or stores there, or the first sets a constant and the second is an operator that reads it and takes its
 //! temporary, which a third may give back.
 
-ghost use Rattle.sc_select.specs.Prelude.{has_mark, joins, plan_by, role_before, role_behind, role_first};
-ghost use Rattle.sc_select.specs.Prelude.{role_of_operation, role_of_return, role_of_store, select};
-ghost use Rattle.sc_tac.specs.declared.frame.FrameTree.{FrameTree};
-ghost use Rattle.sc_tac.specs.declared.place.Place.{Place};
+ghost use Rattle.sc_select.specs.Prelude.{FrameTree, Place, has_mark, joins, plan_by, role_before, role_behind};
+ghost use Rattle.sc_select.specs.Prelude.{role_first, role_of_operation, role_of_return, role_of_store, select};
 ghost use Rattle.std.specs.Prelude.{◌≡◌, ◌≤◌, Bool, List, drop, length, map};
 
 use crate::needs::Needs;

@@ -1,5 +1,4 @@
-use Rattle.sc_select.specs.Selection.{ending_test, plan_by}
-use Rattle.sc_select.proofs.Common.{None, ap, if◌then◌else◌, map, select, sym, ◌∙◌}
+use Rattle.sc_select.proofs.Common.{None, ap, ending_test, if◌then◌else◌, map, plan_by, select, sym, ◌∙◌}
 use Rattle.sc_select.proofs.control.test_at_end.Goals as goal
 
 pub returns-then-homes : goal.returns-then-homes

@@ -1,5 +1,4 @@
-use Rattle.sc_select.specs.Selection.{code_of, function_lines, plan_of}
-use Rattle.sc_select.proofs.Common.{arith, code_of_lines, false, ◌≡◌}
+use Rattle.sc_select.proofs.Common.{arith, code_of, code_of_lines, false, function_lines, plan_of, ◌≡◌}
 use Rattle.sc_select.proofs.Composition.{if_ok_weaker}
 use Rattle.sc_select.proofs.Links.{far_code, near_code}
 use Rattle.sc_select.proofs.function.chosen.Goals as goal

@@ -1,5 +1,4 @@
-use Rattle.sc_select.specs.Selection.{Plan, ending_test}
-use Rattle.sc_select.proofs.Common.{FrameTree, List, Place, drop, map, select, ◌≡◌}
+use Rattle.sc_select.proofs.Common.{FrameTree, List, Place, Plan, drop, ending_test, map, select, ◌≡◌}
 use Rattle.sc_select.proofs.kinds.ending_test.Given as goal
 
 -- what stands before this one is plain

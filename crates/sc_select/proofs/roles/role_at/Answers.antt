@@ -1,5 +1,4 @@
-use Rattle.sc_select.specs.Selection.{plan_by}
-use Rattle.sc_select.proofs.Common.{◌∙◌}
+use Rattle.sc_select.proofs.Common.{plan_by, ◌∙◌}
 use Rattle.sc_select.proofs.Joining.{role_found}
 use Rattle.sc_select.proofs.roles.role_at.Goals as goal
 

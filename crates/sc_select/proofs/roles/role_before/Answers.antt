@@ -1,5 +1,4 @@
-use Rattle.sc_select.specs.Selection.{plan_by, role_behind}
-use Rattle.sc_select.proofs.Common.{ap₂, ◌∙◌}
+use Rattle.sc_select.proofs.Common.{ap₂, plan_by, role_behind, ◌∙◌}
 use Rattle.sc_select.proofs.Joining.{one_before, two_before}
 use Rattle.sc_select.proofs.roles.role_before.Goals as goal
 

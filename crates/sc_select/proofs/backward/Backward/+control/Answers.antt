@@ -1,14 +1,14 @@
-use Rattle.sc_select.proofs.Common.{Fits, ap, arith, length, on_ok_weaker, refl, select, stmt_weight, subst, sym, weight}
-use Rattle.sc_select.proofs.Common.{◌++◌, ◌+◌, ◌-◌, ◌<◌, ◌∙◌, ◌≡◌, ◌≤◌}
-use Rattle.sc_select.proofs.Composition.{as_if, as_loop, joined_by, cycle_heavier, fork_heavier, back_reaches, body_reaches, cycle_written}
-use Rattle.sc_select.proofs.Composition.{first_reaches, choice_returns, skip_returns, as_is, head_reaches}
-use Rattle.sc_select.proofs.Composition.{next_reaches, over_first, over_reaches, over_second, second_fits, step_fits}
-use Rattle.sc_select.proofs.Composition.{step_lighter, step_reaches, alone_fits, as_written, is_itself, is_nothing}
-use Rattle.sc_select.proofs.Composition.{is_both, none_written, step_written}
-use Rattle.sc_select.proofs.Rotating.{all_written, taken_by, front_lighter, cycle_fits, cycle_is, lines_reach, loop_fits, over_reaches as body_over}
-use Rattle.sc_select.proofs.Rotating.{body_reaches as reaches_body, head_reaches as reaches_head}
-use Rattle.sc_select.proofs.Rotating.{next_reaches as reaches_next, rotated_fits, rotated_is, some_in_head, written_as}
-use Rattle.sc_select.specs.Selection.{plan_by}
+use Rattle.sc_select.proofs.Common.{Fits, ap, arith, length, on_ok_weaker, plan_by, refl, select, stmt_weight, subst}
+use Rattle.sc_select.proofs.Common.{sym, weight, ◌++◌, ◌+◌, ◌-◌, ◌<◌, ◌∙◌, ◌≡◌, ◌≤◌}
+use Rattle.sc_select.proofs.Composition.{as_if, as_loop, joined_by, cycle_heavier, fork_heavier, back_reaches}
+use Rattle.sc_select.proofs.Composition.{body_reaches, cycle_written, first_reaches, choice_returns, skip_returns}
+use Rattle.sc_select.proofs.Composition.{as_is, head_reaches, next_reaches, over_first, over_reaches, over_second}
+use Rattle.sc_select.proofs.Composition.{second_fits, step_fits, step_lighter, step_reaches, alone_fits, as_written}
+use Rattle.sc_select.proofs.Composition.{is_itself, is_nothing, is_both, none_written, step_written}
+use Rattle.sc_select.proofs.Rotating.{all_written, taken_by, front_lighter, cycle_fits, cycle_is, lines_reach}
+use Rattle.sc_select.proofs.Rotating.{loop_fits, over_reaches as body_over, body_reaches as reaches_body}
+use Rattle.sc_select.proofs.Rotating.{head_reaches as reaches_head, next_reaches as reaches_next, rotated_fits}
+use Rattle.sc_select.proofs.Rotating.{rotated_is, some_in_head, written_as}
 use Rattle.sc_select.proofs.backward.Backward.+control.Goals as goal
 
 -- A CHOICE

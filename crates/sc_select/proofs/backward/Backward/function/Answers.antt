@@ -1,5 +1,4 @@
-use Rattle.sc_select.specs.Prelude.{Fits, plan_by}
-use Rattle.sc_select.proofs.Common.{on_ok_weaker, subst, sym}
+use Rattle.sc_select.proofs.Common.{Fits, on_ok_weaker, plan_by, subst, sym}
 use Rattle.sc_select.proofs.Composition.{function_written}
 use Rattle.sc_select.proofs.Weights.{function_fits}
 use Rattle.sc_select.proofs.backward.Backward.function.Goals as goal
