@@ -110,7 +110,8 @@ module _ (T : Setting) (R : Running) (formed : IsWellFormed T.image) (inputs : A
         )) there made answers lives temps x left ready
         (all_at (IsClear R.places) (plain_points [] false dest lives) 1 _ clear refl) code)
 
-    pub output_follows : (value : ℕ) → list_all R.plan.needed (value ∷ []) ≡ true → T.makes A.here.comp Output 1 ≡ true →
+    pub output_follows : (value : ℕ) → list_all R.plan.needed (value ∷ []) ≡ true →
+        T.makes A.here.comp Output 1 ≡ true →
         Follows T R (code_step wrapping A.here calls (tac.Output value)) (select_step frame R.places R.plan
         (tac.Output value))
         (trail_step (tac.Output value))

@@ -19,7 +19,7 @@ use Rattle.sc_emit.proofs.Common.{plainly_at, pos, read, read_all, readings, rec
 use Rattle.sc_emit.proofs.Common.{row_first, row_points, second, seen_from, select, shows_after, shows_here, stays}
 use Rattle.sc_emit.proofs.Common.{stmt_does, stmt_induction, store, stored, subst, suc, sym, take, test_stmt, testing}
 use Rattle.sc_emit.proofs.Common.{then_from, trail, trail_step, true, with_memory, with_temp, word_at, word_of}
-use Rattle.sc_emit.proofs.Common.{wrapping, ℕ, ℤ, ⊎_elim, ◌*◌, ◌++◌, ◌+◌, ◌-◌, ◌<◌, ◌==◌, ◌∙◌, ◌∷◌, ◌≡◌, ◌≤◌}
+use Rattle.sc_emit.proofs.Common.{wrapping, ℕ, ℤ, ⊎_elim, ◌*◌, ◌++◌, ◌+◌, ◌<◌, ◌==◌, ◌∙◌, ◌∷◌, ◌≡◌, ◌≤◌}
 use Rattle.sc_core.specs.Prelude.{in_order as one_by_one, take as take_route}
 use Rattle.sc_select.specs.Prelude.{Piece as Code}
 use Rattle.sc_tac.specs.declared.stmt.TacStmt.TheOpen as tac

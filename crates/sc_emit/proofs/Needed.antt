@@ -42,7 +42,8 @@ module _ (needed : ℕ → Bool) (cond : ℕ) where
   test_reads : (before : Option ℕ) → list_all needed (row_needs before (map need (test_stmt cond ∷ []))) ≡ true →
       needed cond ≡ true
   test_reads before h =
-      let parts = all_append needed (place_needed before (need (test_stmt cond)).stores) ((need (test_stmt cond)).reads ++
+      let parts = all_append needed (place_needed before (need (test_stmt cond)).stores)
+      ((need (test_stmt cond)).reads ++
       []) h in
       let reads = (all_append needed (need (test_stmt cond)).reads [] parts.1).0 in
       let layer = tac.If cond [] (break_stmt ∷ []) in
@@ -179,12 +180,14 @@ module _ (frame : FrameTree) (places : List Place) (plan : Plan) where
       layer_stores layer place (sym (ap (λ (n : Need). n.stores) (fold-roll-TacStmt Need need_step layer)) ∙ h))
 
   -- the place of a store that isn't one with the statement before it is read
-  read_behind : (before : Role) (place value : ℕ) → list_all plan.needed (place_needed (gives_of before) (Some place)) ≡ true
+  read_behind : (before : Role) (place value : ℕ) → list_all plan.needed
+      (place_needed (gives_of before) (Some place)) ≡ true
       →
       joins before (Stores place value) ≡ false → plan.needed place ≡ true
   read_behind (Places temp object) place value h apart =
       let all : list_all plan.needed (place ∷ []) ≡ true =
-      sym (ap (λ b. list_all plan.needed (if b then [] else place ∷ [])) apart) ∙ h in and_first (plan.needed place) true all
+      sym (ap (λ b. list_all plan.needed (if b then [] else place ∷ [])) apart) ∙ h in and_first
+      (plan.needed place) true all
   read_behind (Loads temp) place value h apart = and_first (plan.needed place) true h
   read_behind (Sets temp word) place value h apart = and_first (plan.needed place) true h
   read_behind (Operates temp left o) place value h apart = and_first (plan.needed place) true h

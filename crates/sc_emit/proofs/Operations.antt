@@ -60,7 +60,8 @@ module _ (T : Setting) (R : Running) (formed : IsWellFormed T.image) (inputs : A
         same : after sp ≡ x.regs sp
         others : (q : ℕ) → HasNoOtherUse q → after q ≡ x.regs q
 
-      both_at_hand : (left right : ℕ) (v w : Value) → live left ≡ true → R.plan.needed left ≡ true → temps left ≡ Some v →
+      both_at_hand : (left right : ℕ) (v w : Value) → live left ≡ true → R.plan.needed left ≡ true →
+          temps left ≡ Some v →
           live right ≡ true → R.plan.needed right ≡ true → temps right ≡ Some w → Both left right v w
       both_at_hand left right v w on need known on' need' known' =
           let g : AtHand T R x x.regs first_scratch left v = first_at_hand left v on need known in
@@ -429,4 +430,5 @@ module _ (T : Setting) (R : Running) (formed : IsWellFormed T.image) (inputs : A
           (straightly frame R.places (Whole (Some right_one))) (role_of_operation dest o left_one (Some right_one))
           (trail_step (tac.Op dest o left_one (Some right_one))) (two_operands right_one for
           (and_first (R.plan.needed left_one) (R.plan.needed right_one && true) needs)
-          (and_first (R.plan.needed right_one) true (and_rest (R.plan.needed left_one) (R.plan.needed right_one && true) needs)))
+          (and_first (R.plan.needed right_one) true (and_rest (R.plan.needed left_one)
+          (R.plan.needed right_one && true) needs)))

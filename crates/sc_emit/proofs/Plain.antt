@@ -196,7 +196,8 @@ module _ (T : Setting) (R : Running) (formed : IsWellFormed T.image) (inputs : A
     only_one : (t : ℕ) → is_one t (t ∷ []) ≡ true
     only_one t = rw (eq-eqb t t refl) refl
 
-    pub copy_follows : (dest from : ℕ) (place : Place) → slice_get R.places dest ≡ Some place → R.plan.needed from ≡ true →
+    pub copy_follows : (dest from : ℕ) (place : Place) → slice_get R.places dest ≡ Some place →
+        R.plan.needed from ≡ true →
         Follows T R (code_step wrapping R.activation.here calls (tac.Copy dest from))
         (select_step frame R.places R.plan (tac.Copy dest from)) (trail_step (tac.Copy dest from))
     copy_follows dest from to its need =

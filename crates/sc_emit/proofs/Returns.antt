@@ -144,7 +144,8 @@ module _ (T : Setting) (R : Running) (formed : IsWellFormed T.image) (inputs : A
         let b : Brings T R cells nodes is placed x ready.frame ready.sp x.regs
         (brought frame a0 (place_of frame R.places t)) a0 v =
         brings T R cells nodes is placed x ready.frame ready.sp x.regs a0 t v
-        (record { above = omega arith; below = omega arith }) (ready.held t v (and_from (live t) (R.plan.needed t) on need)
+        (record { above = omega arith; below = omega arith })
+        (ready.held t v (and_from (live t) (R.plan.needed t) on need)
         known) refl
         (λ q h. refl) in
         record {
@@ -189,7 +190,8 @@ module _ (T : Setting) (R : Running) (formed : IsWellFormed T.image) (inputs : A
         (λ lives temps x left ready clear code. returns value needs lives temps x left ready code))
 
 -- the code of a closing brace comes to the jump back, in each call of its function
-pub brace_returns : (T : Setting) (f : TacFnTree) (frame : FrameTree) (places : List Place) (near : Bool) → IsWellFormed T.image →
+pub brace_returns : (T : Setting) (f : TacFnTree) (frame : FrameTree) (places : List Place) (near : Bool) →
+    IsWellFormed T.image →
     All IsWord T.inputs → (comp : ℕ) → BraceReturns T f frame places near comp
 brace_returns T f frame places near formed inputs comp A last run x temps ready code =
     let R : Running = in_call T f frame places near A last in

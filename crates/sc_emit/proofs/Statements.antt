@@ -153,7 +153,8 @@ module _ (T : Setting) (R : Running) (formed : IsWellFormed T.image) (inputs : A
       subst (λ (n : Need). AllNeeded n.reads) (ap need same ∙ fold-roll-TacStmt Need need_step layer) h
 
   -- a variable that is assigned, by two statements
-  assigns_follow_here : (temp object value : ℕ) (lone : R.plan.needed temp ≡ false) (wants : R.plan.needed value ≡ true) →
+  assigns_follow_here : (temp object value : ℕ) (lone : R.plan.needed temp ≡ false)
+      (wants : R.plan.needed value ≡ true) →
       PassesAll tests (roll-TacStmt (tac.ObjectPlace temp object)) →
       Follows T R (assigns T R formed inputs cells nodes is placed calls temp object value lone wants)
       (straightly frame R.places (object_store frame R.places value object))
@@ -185,7 +186,8 @@ module _ (T : Setting) (R : Running) (formed : IsWellFormed T.image) (inputs : A
 
   -- the operator of a temporary and a constant
   short_follows_here : (dest left : ℕ) (value : Constant) (o : TacOp) (form : ShortForm) →
-      (apart : (left == dest) ≡ false) (read : R.plan.needed left ≡ true) → short_form o (word_of_constant value) ≡ Some form
+      (apart : (left == dest) ≡ false) (read : R.plan.needed left ≡ true) →
+      short_form o (word_of_constant value) ≡ Some form
       →
       PassesAll tests (roll-TacStmt (tac.Const dest value)) →
       PassesAll tests (roll-TacStmt (tac.Op dest o left (Some dest))) →
@@ -319,7 +321,8 @@ module _ (T : Setting) (R : Running) (formed : IsWellFormed T.image) (inputs : A
       (subst (λ p. p1.size + (p2.size + (p.size + behind.size)) ≤ limit) c3 few)) in
       let layers : List Codes = layer_does first ∷ layer_does second ∷ layer_does third ∷ map does rest in
       let trails : List Trail = layer_trail first ∷ layer_trail second ∷ layer_trail third ∷ map trail rest in
-      let done : Follows T R (all_do layers) (followed no_lines (followed no_lines (followed one behind))) (row trails) =
+      let done : Follows T R (all_do layers) (followed no_lines (followed no_lines (followed one behind)))
+      (row trails) =
       behind_nothing T R (all_do layers) (followed no_lines (followed one behind)) (row trails)
       (behind_nothing T R (all_do layers) (followed one behind) (row trails)
       (same (followed one behind)

@@ -69,8 +69,8 @@ module _ (T : Setting) (R : Running) where
   }
 
   -- the code of a round behind its head, in a loop with these ends: the body, and behind it what comes next, from each
-  -- of which a break leads over so many lines; and the budget that is left where the turn is taken, and behind what comes
-  -- next
+  -- of which a break leads over so many lines; and the budget that is left where the turn is taken, and behind what
+  -- comes next
   pub record Round (b n : Code) (ends : Ends) : Type 0 where
     pub body_pc : ℕ
     pub body_break : ℕ

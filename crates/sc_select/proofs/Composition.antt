@@ -497,7 +497,8 @@ module _ (frame : FrameTree) (places : List Place) (plan : Plan) where
             places plan),
       )) (selected_at stmts i stmt is) ∙
       ap (λ role. between frame places role (select frame places plan stmt) (role_first (drop (suc i) parts)) ∷
-      drop (suc i) (pieces stmts)) (role_in_is frame places plan parts i (omega (arith, h, length-map stmts (select frame places plan)))) ∙
+      drop (suc i) (pieces stmts)) (role_in_is frame places plan parts i
+      (omega (arith, h, length-map stmts (select frame places plan)))) ∙
       ap (λ behind. between frame places (role_before parts i) (select frame places plan stmt) (role_first behind) ∷
       drop (suc i) (pieces stmts)) (drop_map frame places plan stmts (suc i))
 

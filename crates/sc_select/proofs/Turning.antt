@@ -4,7 +4,7 @@ use Rattle.sc_select.proofs.Common.{Plain, Plan, Some, TacStmt, TacStmt-F, Tests
 use Rattle.sc_select.proofs.Common.{breaks, cycle, drop, ending_test, eqb-true, false, fold-roll-TacStmt, get_or}
 use Rattle.sc_select.proofs.Common.{if◌then◌else◌, in_order, is_break, is_plain, kind_by, kind_of_fork, length, map}
 use Rattle.sc_select.proofs.Common.{map-TacStmt, refl, rotated, select, select_step, stmt_induction, subst, suc, sym}
-use Rattle.sc_select.proofs.Common.{test_of, true, turning, zero, ℕ, ◌&&◌, ◌++◌, ◌+◌, ◌-◌, ◌<◌, ◌==◌, ◌∙◌, ◌∷◌, ◌≡◌}
+use Rattle.sc_select.proofs.Common.{test_of, true, turning, zero, ℕ, ◌&&◌, ◌++◌, ◌-◌, ◌<◌, ◌==◌, ◌∙◌, ◌∷◌, ◌≡◌}
 use Rattle.std.proofs.Common.{take as take_front}
 unfoldable use Rattle.sc_tac.specs.declared.stmt.TacStmt.{roll-TacStmt}
 use Rattle.sc_tac.specs.declared.stmt.TacStmt.TheOpen as tac
@@ -124,7 +124,8 @@ module _ (frame : FrameTree) (places : List Place) (plan : Plan) where
   forked cond first second none broken h k =
       ap₂ (λ a b. if a && b then Some cond else None) h k ∙ fork_test cond first second
 
-  pub test_of_if : (stmt : TacStmt) (cond : ℕ) (first second one two : List TacStmt) → stmt ≡ emit.If cond first second →
+  pub test_of_if : (stmt : TacStmt) (cond : ℕ) (first second one two : List TacStmt) →
+      stmt ≡ emit.If cond first second →
       one ≡ first → two ≡ second →
       test_of (kind_of_fork cond (map code one) (map code two)) ≡ test_of (kind_of stmt)
   unfolding roll-TacStmt denote.Hole.Carrier.roll

@@ -34,8 +34,8 @@ pub record Plan : Type 0 where
 abbrev pub plan_by : List Bool → Bool → Plan
 plan_by marks near = record { needed = has_mark marks; near = near }
 
--- what a statement is to the loop in whose head it stands: behind it the next one is done, if the call goes on; or it is
--- a break; or it breaks where a value is false; or anything else
+-- what a statement is to the loop in whose head it stands: behind it the next one is done, if the call goes on; or it
+-- is a break; or it breaks where a value is false; or anything else
 pub data Kind : Type 0 where
   Plain : Kind
   Breaks : Kind
@@ -72,8 +72,8 @@ in_turn [] = nothing
 in_turn (piece ∷ pieces) = followed piece (in_turn pieces)
 
 -- two neighbours that are one piece: the second loads what stands at the place that the first gives, in place of that,
--- or stores there; or its result takes the place of the constant that the first sets and its operator reads; or it gives
--- back what the first computes
+-- or stores there; or its result takes the place of the constant that the first sets and its operator reads; or it
+-- gives back what the first computes
 abbrev pub joins : (first second : Role) → Bool
 joins (Places temp object) (Loads other) = temp == other
 joins (Places temp object) (Stores other value) = temp == other
@@ -325,8 +325,8 @@ module _ (frame : FrameTree) (places : List Place) where
     kind = Controls;
   }
 
-  -- a branch back to where so many lines begin, behind which it stands, where a value is true. Where it doesn't reach, a
-  -- jump stands for it, in code that isn't taken
+  -- a branch back to where so many lines begin, behind which it stands, where a value is true. Where it doesn't reach,
+  -- a jump stands for it, in code that isn't taken
   abbrev pub branch_back : (cond lines : ℕ) → Line
   branch_back cond lines =
       if nat_lt lines branch_reach
@@ -337,8 +337,8 @@ module _ (frame : FrameTree) (places : List Place) where
   testing cond lines =
       plainly (take first_scratch cond) ++ branch_back cond (lines + length (take first_scratch cond)) ∷ []
 
-  -- a loop that ends with its head, and that with its test, from which a branch leads back to the body. It begins with a
-  -- jump to the head
+  -- a loop that ends with its head, and that with its test, from which a branch leads back to the body. It begins with
+  -- a jump to the head
   abbrev pub rotated : (cond : ℕ) → (head body next : Piece) → Piece
   rotated cond head body next =
       let test : ℕ = suc (length (take first_scratch cond)) in

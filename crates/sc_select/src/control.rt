@@ -43,10 +43,12 @@ impl Backward {
         distances: Distances,
         stmts: &[TacStmt],
     ) -> Result<(), OutOfMemory>
-        requires fits { Fits homes.now.frame.now homes.now.places.now (plan_by homes.now.needs.now homes.now.near) stmts.now
+        requires fits { Fits homes.now.frame.now homes.now.places.now (plan_by homes.now.needs.now homes.now.near)
+            stmts.now
             distances.to_break
             distances.to_continue }
-        ensures { OnOk result (self.new ≡ (select_all homes.now.frame.now homes.now.places.now (plan_by homes.now.needs.now homes.now.near) stmts.now).lines
+        ensures { OnOk result (self.new ≡ (select_all homes.now.frame.now homes.now.places.now
+            (plan_by homes.now.needs.now homes.now.near) stmts.now).lines
             distances.to_break distances.to_continue ++ self.old) }
     {
         let end = self.len();
@@ -78,11 +80,13 @@ impl Backward {
         stmt: &TacStmt,
         behind: Role,
     ) -> Result<(), OutOfMemory>
-        requires fits { FitsBetween homes.now.frame.now homes.now.places.now (plan_by homes.now.needs.now homes.now.near) before
+        requires fits { FitsBetween homes.now.frame.now homes.now.places.now
+            (plan_by homes.now.needs.now homes.now.near) before
             stmt.now behind
             distances.to_break distances.to_continue }
         ensures { OnOk result (self.new ≡ (between homes.now.frame.now homes.now.places.now before
-            (select homes.now.frame.now homes.now.places.now (plan_by homes.now.needs.now homes.now.near) stmt.now) behind).lines
+            (select homes.now.frame.now homes.now.places.now (plan_by homes.now.needs.now homes.now.near) stmt.now)
+            behind).lines
             distances.to_break
             distances.to_continue ++ self.old) }
     {
@@ -100,9 +104,11 @@ impl Backward {
     #[cycle(control)]
     fn part(&mut self, homes: &Homes, end: usize, part: &[TacStmt]) -> Result<(), OutOfMemory>
         requires behind { end ≤ length self.now }
-        requires fits { Fits homes.now.frame.now homes.now.places.now (plan_by homes.now.needs.now homes.now.near) part.now (length
+        requires fits { Fits homes.now.frame.now homes.now.places.now (plan_by homes.now.needs.now homes.now.near)
+            part.now (length
             self.now - end) 0 }
-        ensures { OnOk result (self.new ≡ (select_all homes.now.frame.now homes.now.places.now (plan_by homes.now.needs.now homes.now.near) part.now).lines
+        ensures { OnOk result (self.new ≡ (select_all homes.now.frame.now homes.now.places.now
+            (plan_by homes.now.needs.now homes.now.near) part.now).lines
             (length self.old - end) 0 ++ self.old) }
     {
         let distances = Distances {
@@ -133,10 +139,12 @@ impl Backward {
         first: &[TacStmt],
         second: &[TacStmt],
     ) -> Result<(), OutOfMemory>
-        requires fits { Fits homes.now.frame.now homes.now.places.now (plan_by homes.now.needs.now homes.now.near) (TacStmt.If cond
+        requires fits { Fits homes.now.frame.now homes.now.places.now (plan_by homes.now.needs.now homes.now.near)
+            (TacStmt.If cond
             first.now second.now ∷ [])
             distances.to_break distances.to_continue }
-        ensures { OnOk result (self.new ≡ (select homes.now.frame.now homes.now.places.now (plan_by homes.now.needs.now homes.now.near)
+        ensures { OnOk result (self.new ≡ (select homes.now.frame.now homes.now.places.now
+            (plan_by homes.now.needs.now homes.now.near)
             (TacStmt.If cond first.now second.now)).lines distances.to_break distances.to_continue ++ self.old) }
     {
         let end = self.len();
@@ -157,7 +165,8 @@ impl Backward {
         self.choice(homes, cond)
     }
 
-    // A loop that begins with its head. A line stands in the place of the jump back until it is known how far that leads.
+    // A loop that begins with its head. A line stands in the place of the jump back until it is known how far that
+    // leads.
     #[cycle(control)]
     fn cycle(
         &mut self,
@@ -172,7 +181,8 @@ impl Backward {
             (cycle homes.now.frame.now homes.now.places.now
             (select_all homes.now.frame.now homes.now.places.now (plan_by homes.now.needs.now homes.now.near) head.now)
             (select_all homes.now.frame.now homes.now.places.now (plan_by homes.now.needs.now homes.now.near) body.now)
-            (select_all homes.now.frame.now homes.now.places.now (plan_by homes.now.needs.now homes.now.near) next.now)).lines
+            (select_all homes.now.frame.now homes.now.places.now (plan_by homes.now.needs.now homes.now.near)
+            next.now)).lines
             to_break to_continue ++ self.old) }
     {
         let end = self.len();
@@ -204,7 +214,8 @@ impl Backward {
             (rotated homes.now.frame.now homes.now.places.now cond
             (select_all homes.now.frame.now homes.now.places.now (plan_by homes.now.needs.now homes.now.near) head.now)
             (select_all homes.now.frame.now homes.now.places.now (plan_by homes.now.needs.now homes.now.near) body.now)
-            (select_all homes.now.frame.now homes.now.places.now (plan_by homes.now.needs.now homes.now.near) next.now)).lines
+            (select_all homes.now.frame.now homes.now.places.now (plan_by homes.now.needs.now homes.now.near)
+            next.now)).lines
             to_break to_continue ++ self.old) }
     {
         let end = self.len();
@@ -251,10 +262,12 @@ impl Backward {
         distances: Distances,
         stmt: &TacStmt,
     ) -> Result<(), OutOfMemory>
-        requires fits { Fits homes.now.frame.now homes.now.places.now (plan_by homes.now.needs.now homes.now.near) (stmt.now ∷ [])
+        requires fits { Fits homes.now.frame.now homes.now.places.now (plan_by homes.now.needs.now homes.now.near)
+            (stmt.now ∷ [])
             distances.to_break
             distances.to_continue }
-        ensures { OnOk result (self.new ≡ (select homes.now.frame.now homes.now.places.now (plan_by homes.now.needs.now homes.now.near) stmt.now).lines
+        ensures { OnOk result (self.new ≡ (select homes.now.frame.now homes.now.places.now
+            (plan_by homes.now.needs.now homes.now.near) stmt.now).lines
             distances.to_break distances.to_continue ++ self.old) }
     {
         match stmt {

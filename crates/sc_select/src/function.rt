@@ -56,7 +56,8 @@ impl Backward {
         requires function { IsFunction f.now }
         requires reached { 96 * f.now.nodes ≤ 1048576 }
         ensures { OnOk result (self.new ≡
-            function_lines homes.now.frame.now homes.now.places.now (plan_by homes.now.needs.now homes.now.near) f.now ++ self.old) }
+            function_lines homes.now.frame.now homes.now.places.now (plan_by homes.now.needs.now homes.now.near) f.now
+            ++ self.old) }
     {
         let at_end = Distances {
             to_break: 0,

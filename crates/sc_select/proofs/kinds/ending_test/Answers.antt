@@ -1,4 +1,4 @@
-use Rattle.sc_select.proofs.Common.{ap, arith, drop, ending_test, length, map, refl, select, subst, suc, sym, ◌+◌, ◌-◌}
+use Rattle.sc_select.proofs.Common.{ap, arith, drop, ending_test, length, map, refl, select, suc, sym, ◌+◌, ◌-◌}
 use Rattle.sc_select.proofs.Common.{◌∙◌, ◌≡◌}
 use Rattle.sc_select.proofs.Turning.{some_last, test_at_last, test_behind, test_refused}
 use Rattle.sc_select.proofs.kinds.ending_test.Goals as goal
@@ -22,7 +22,8 @@ loop-at-preserved c frame places plan =
 
 pub returns : goal.returns
 returns c frame places plan =
-    let last : c.loop-at.at ≡ length c.args.stmts.now - 1 = omega (arith, c.loop-at-test.false, c.loop-at.auto.at-end) in
+    let last : c.loop-at.at ≡ length c.args.stmts.now - 1 = omega
+    (arith, c.loop-at-test.false, c.loop-at.auto.at-end) in
     c.test_of.ensures frame places plan ∙
     sym (c.loop-at.invariant frame places plan ∙
     ap (λ n. ending_test (map (select frame places plan) (drop n c.args.stmts.now))) last ∙

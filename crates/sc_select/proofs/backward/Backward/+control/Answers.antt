@@ -37,14 +37,16 @@ fork-past-requires t c =
 
 pub fork-overflow_add-over_second : goal.fork-overflow_add-over_second
 fork-overflow_add-over_second t c =
-    let reaches = over_reaches c.args.homes.now.frame.now c.args.homes.now.places.now (plan_by c.args.homes.now.needs.now c.args.homes.now.near) c.args.cond c.args.first.now
+    let reaches = over_reaches c.args.homes.now.frame.now c.args.homes.now.places.now
+    (plan_by c.args.homes.now.needs.now c.args.homes.now.near) c.args.cond c.args.first.now
     c.args.second.now _ _ c.requires.fits _ _ _ _ c.len.ensures c.len-end.ensures c.in_ok-in_order.ensures _
     c.is_skip.ensures c.if-is_skip.false _ _ c.len-2.ensures c.in_ok-past.ensures in
     omega (arith, reaches.0)
 
 pub fork-overflow_add-over_second-2 : goal.fork-overflow_add-over_second-2
 fork-overflow_add-over_second-2 t c =
-    let reaches = over_reaches c.args.homes.now.frame.now c.args.homes.now.places.now (plan_by c.args.homes.now.needs.now c.args.homes.now.near) c.args.cond c.args.first.now
+    let reaches = over_reaches c.args.homes.now.frame.now c.args.homes.now.places.now
+    (plan_by c.args.homes.now.needs.now c.args.homes.now.near) c.args.cond c.args.first.now
     c.args.second.now _ _ c.requires.fits _ _ _ _ c.len.ensures c.len-end.ensures c.in_ok-in_order.ensures _
     c.is_skip.ensures c.if-is_skip.false _ _ c.len-2.ensures c.in_ok-past.ensures in
     omega (arith, reaches.1)
@@ -121,7 +123,8 @@ turning-returns-in-Some t c to_break to_continue =
     c.args.homes.now.near) c.rotated.result _ _ to_break to_continue _ c.args.self.now
     (rotated_is c.args.homes.now.frame.now c.args.homes.now.places.now (plan_by c.args.homes.now.needs.now
     c.args.homes.now.near) c.args.head.now c.args.body.now c.args.next.now _ c.in-Some.cond
-    (c.test_at_end.ensures c.args.homes.now.frame.now c.args.homes.now.places.now) c.in-Some.is) (c.rotated.ensures to_break to_continue)
+    (c.test_at_end.ensures c.args.homes.now.frame.now c.args.homes.now.places.now) c.in-Some.is)
+    (c.rotated.ensures to_break to_continue)
 
 pub turning-returns-in-None : goal.turning-returns-in-None
 turning-returns-in-None t c to_break to_continue =
@@ -139,7 +142,8 @@ rotated-part-requires t c = (
       c.args.homes.now.near) c.args.cond c.args.head.now c.args.body.now c.args.next.now
       c.requires.fits _ c.args.self.now _ _ c.len-end.result c.in_ok-plain.ensures
       (taken_by c.args.homes.now.frame.now c.args.homes.now.places.now (plan_by c.args.homes.now.needs.now
-      c.args.homes.now.near) c.args.cond c.register.result 5 _ _ c.register.ensures c.in_ok-take.ensures) c.len-end.ensures,
+      c.args.homes.now.near) c.args.cond c.register.result 5 _ _ c.register.ensures c.in_ok-take.ensures)
+      c.len-end.ensures,
 )
 
 pub rotated-part-requires-2 : goal.rotated-part-requires-2
@@ -149,7 +153,8 @@ rotated-part-requires-2 t c = (
       c.args.homes.now.near) c.args.cond c.args.head.now c.args.body.now c.args.next.now
       c.requires.fits _ c.args.self.now _ _ c.len-end.result c.in_ok-plain.ensures
       (taken_by c.args.homes.now.frame.now c.args.homes.now.places.now (plan_by c.args.homes.now.needs.now
-      c.args.homes.now.near) c.args.cond c.register.result 5 _ _ c.register.ensures c.in_ok-take.ensures) c.len-end.ensures
+      c.args.homes.now.near) c.args.cond c.register.result 5 _ _ c.register.ensures c.in_ok-take.ensures)
+      c.len-end.ensures
       _ c.in_ok-part.ensures,
 )
 
@@ -160,7 +165,8 @@ rotated-part-requires-3 t c = (
       c.args.homes.now.near) c.args.cond c.args.head.now c.args.body.now c.args.next.now
       c.requires.fits _ c.args.self.now _ _ c.len-end.result c.in_ok-plain.ensures
       (taken_by c.args.homes.now.frame.now c.args.homes.now.places.now (plan_by c.args.homes.now.needs.now
-      c.args.homes.now.near) c.args.cond c.register.result 5 _ _ c.register.ensures c.in_ok-take.ensures) c.len-end.ensures
+      c.args.homes.now.near) c.args.cond c.register.result 5 _ _ c.register.ensures c.in_ok-take.ensures)
+      c.len-end.ensures
       _ c.in_ok-part.ensures _ c.in_ok-part-2.ensures,
 )
 
@@ -170,7 +176,8 @@ rotated-jump_over-requires t c =
     c.args.homes.now.near) c.args.cond c.args.head.now c.args.body.now c.args.next.now
     c.requires.fits _ c.args.self.now _ _ c.len-end.result c.in_ok-plain.ensures
     (taken_by c.args.homes.now.frame.now c.args.homes.now.places.now (plan_by c.args.homes.now.needs.now
-    c.args.homes.now.near) c.args.cond c.register.result 5 _ _ c.register.ensures c.in_ok-take.ensures) c.len-end.ensures
+    c.args.homes.now.near) c.args.cond c.register.result 5 _ _ c.register.ensures c.in_ok-take.ensures)
+    c.len-end.ensures
     _ c.in_ok-part.ensures _ c.in_ok-part-2.ensures _ c.in_ok-part-3.ensures c.len.result c.len-2.result
     c.len-behind.result c.len.ensures c.len-2.ensures c.len-behind.ensures
 
@@ -180,7 +187,8 @@ rotated-branch_back-requires t c =
     c.args.homes.now.near) c.args.cond c.args.head.now c.args.body.now c.args.next.now
     c.requires.fits _ c.args.self.now _ _ c.len-end.result c.in_ok-plain.ensures
     (taken_by c.args.homes.now.frame.now c.args.homes.now.places.now (plan_by c.args.homes.now.needs.now
-    c.args.homes.now.near) c.args.cond c.register.result 5 _ _ c.register.ensures c.in_ok-take.ensures) c.len-end.ensures
+    c.args.homes.now.near) c.args.cond c.register.result 5 _ _ c.register.ensures c.in_ok-take.ensures)
+    c.len-end.ensures
     _ c.in_ok-part.ensures _ c.in_ok-part-2.ensures _ c.in_ok-part-3.ensures c.len.result c.len-2.result
     c.len-behind.result c.len.ensures c.len-2.ensures c.len-behind.ensures
 
@@ -190,7 +198,8 @@ rotated-returns t c to_break to_continue =
     c.args.homes.now.near) c.args.cond c.args.head.now c.args.body.now c.args.next.now
     c.requires.fits _ c.args.self.now _ _ c.len-end.result c.in_ok-plain.ensures
     (taken_by c.args.homes.now.frame.now c.args.homes.now.places.now (plan_by c.args.homes.now.needs.now
-    c.args.homes.now.near) c.args.cond c.register.result 5 _ _ c.register.ensures c.in_ok-take.ensures) c.len-end.ensures
+    c.args.homes.now.near) c.args.cond c.register.result 5 _ _ c.register.ensures c.in_ok-take.ensures)
+    c.len-end.ensures
     _ c.in_ok-part.ensures _ c.in_ok-part-2.ensures _ c.in_ok-part-3.ensures c.len.result c.len-2.result
     c.len-behind.result c.len.ensures c.len-2.ensures c.len-behind.ensures
     c.jump_over.result c.branch_back.result _ _ to_break to_continue c.in_ok-plain-2.ensures c.jump_over.ensures
@@ -219,14 +228,16 @@ cycle-part-requires-3 t c = (
 
 pub cycle-jump_back-requires : goal.cycle-jump_back-requires
 cycle-jump_back-requires t c =
-    back_reaches c.args.homes.now.frame.now c.args.homes.now.places.now (plan_by c.args.homes.now.needs.now c.args.homes.now.near)
+    back_reaches c.args.homes.now.frame.now c.args.homes.now.places.now
+    (plan_by c.args.homes.now.needs.now c.args.homes.now.near)
     c.args.head.now c.args.body.now
     c.args.next.now _ _ _ _ _ _ c.len.result c.len-end.result _ _ _ c.requires.fits c.in_ok-plain.ensures
     c.in_ok-part.ensures c.in_ok-part-2.ensures c.in_ok-part-3.ensures c.len.ensures c.len-end.ensures
 
 pub cycle-returns : goal.cycle-returns
 cycle-returns t c to_break to_continue =
-    cycle_written c.args.homes.now.frame.now c.args.homes.now.places.now (plan_by c.args.homes.now.needs.now c.args.homes.now.near)
+    cycle_written c.args.homes.now.frame.now c.args.homes.now.places.now
+    (plan_by c.args.homes.now.needs.now c.args.homes.now.near)
     c.args.head.now c.args.body.now
     c.args.next.now to_break to_continue c.len.result c.len-end.result _ _ _ _ _ _ _ _ _ _ c.len.ensures
     c.len-end.ensures c.loop_begins-2.ensures c.in_ok-plain.ensures c.in_ok-part.ensures c.in_ok-part-2.ensures
@@ -235,7 +246,8 @@ cycle-returns t c to_break to_continue =
 pub part-in_order-requires : goal.part-in_order-requires
 part-in_order-requires t c = (
   omega (arith, c.decreases),
-  subst (λ n. Fits c.args.homes.now.frame.now c.args.homes.now.places.now (plan_by c.args.homes.now.needs.now c.args.homes.now.near)
+  subst (λ n. Fits c.args.homes.now.frame.now c.args.homes.now.places.now
+      (plan_by c.args.homes.now.needs.now c.args.homes.now.near)
       c.args.part.now
       (n - c.args.end) 0) (sym c.len.ensures) c.requires.fits,
 )
@@ -256,7 +268,8 @@ pub in_order-overflow_add-from_here : goal.in_order-overflow_add-from_here
 in_order-overflow_add-from_here t c =
     let reaches : (c.len.result - c.len-end.result + c.args.distances.to_break < 262143) ×
     (c.len.result - c.len-end.result + c.args.distances.to_continue < 262143) =
-    step_reaches c.args.homes.now.frame.now c.args.homes.now.places.now (plan_by c.args.homes.now.needs.now c.args.homes.now.near) _ _ _ _ _
+    step_reaches c.args.homes.now.frame.now c.args.homes.now.places.now
+    (plan_by c.args.homes.now.needs.now c.args.homes.now.near) _ _ _ _ _
     _ _ _ _ refl
     c.requires.fits c.len.ensures c.len-end.ensures c.loop-at.invariant in
     omega (arith, reaches.0)
@@ -265,22 +278,26 @@ pub in_order-overflow_add-from_here-in-loop-at : goal.in_order-overflow_add-from
 in_order-overflow_add-from_here-in-loop-at t c =
     let reaches : (c.len.result - c.len-end.result + c.args.distances.to_break < 262143) ×
     (c.len.result - c.len-end.result + c.args.distances.to_continue < 262143) =
-    step_reaches c.args.homes.now.frame.now c.args.homes.now.places.now (plan_by c.args.homes.now.needs.now c.args.homes.now.near) _ _ _ _ _
+    step_reaches c.args.homes.now.frame.now c.args.homes.now.places.now
+    (plan_by c.args.homes.now.needs.now c.args.homes.now.near) _ _ _ _ _
     _ _ _ _ refl
     c.requires.fits c.len.ensures c.len-end.ensures c.loop-at.invariant in
     omega (arith, reaches.1)
 
 pub in_order-loop-at-init : goal.in_order-loop-at-init
 in_order-loop-at-init t c =
-    none_written c.args.homes.now.frame.now c.args.homes.now.places.now (plan_by c.args.homes.now.needs.now c.args.homes.now.near)
+    none_written c.args.homes.now.frame.now c.args.homes.now.places.now
+    (plan_by c.args.homes.now.needs.now c.args.homes.now.near)
     c.args.stmts.now
     c.args.distances.to_break c.args.distances.to_continue c.args.self.now
 
 pub in_order-loop-at-preserved : goal.in_order-loop-at-preserved
 in_order-loop-at-preserved t c =
-    step_written c.args.homes.now.frame.now c.args.homes.now.places.now (plan_by c.args.homes.now.needs.now c.args.homes.now.near) _ _ _ _
+    step_written c.args.homes.now.frame.now c.args.homes.now.places.now
+    (plan_by c.args.homes.now.needs.now c.args.homes.now.near) _ _ _ _
     c.len.result c.len-end.result _ _ _ _ _
-    _ c.loop-at-test.true c.loop-at.auto.at c.index-stmts-at.is (λ frame places. c.role_before-before.ensures frame places c.args.homes.now.near)
+    _ c.loop-at-test.true c.loop-at.auto.at c.index-stmts-at.is
+    (λ frame places. c.role_before-before.ensures frame places c.args.homes.now.near)
     (λ frame places. c.role_at.ensures frame places c.args.homes.now.near)
     c.len.ensures c.len-end.ensures c.loop-at.invariant c.in_ok-between.ensures
 
@@ -293,7 +310,8 @@ between-statement-requires t c =
       omega (arith, c.decreases),
       alone_fits frame places plan c.args.before c.args.stmt.now c.args.behind c.role_of-role.result
           (c.role_of-role.ensures frame places c.args.homes.now.near) c.joins.result
-          (joined_by _ _ c.args.behind _ c.role_behind.ensures c.joins.ensures) c.if-joins.false c.joins-2.result c.joins-2.ensures
+          (joined_by _ _ c.args.behind _ c.role_behind.ensures c.joins.ensures) c.if-joins.false c.joins-2.result
+          c.joins-2.ensures
           c.args.distances.to_break c.args.distances.to_continue c.if-joins-2.false c.requires.fits,
     )
 
@@ -315,7 +333,8 @@ between-returns-then-joins-2 t c =
     as_written c.as_one.result _ _ c.args.distances.to_break c.args.distances.to_continue _ c.args.self.now
     (is_both frame places plan c.args.before c.args.stmt.now c.args.behind c.role_of-role.result
     (c.role_of-role.ensures frame places c.args.homes.now.near) c.joins.result
-    (joined_by _ _ c.args.behind _ c.role_behind.ensures c.joins.ensures) c.if-joins.false c.joins-2.result c.joins-2.ensures
+    (joined_by _ _ c.args.behind _ c.role_behind.ensures c.joins.ensures) c.if-joins.false c.joins-2.result
+    c.joins-2.ensures
     c.if-joins-2.true) (c.as_one.ensures c.args.distances.to_break c.args.distances.to_continue)
 
 pub between-returns : goal.between-returns
@@ -326,5 +345,6 @@ between-returns t c =
     as_written c.statement.result _ _ c.args.distances.to_break c.args.distances.to_continue _ c.args.self.now
     (is_itself frame places plan c.args.before c.args.stmt.now c.args.behind c.role_of-role.result
     (c.role_of-role.ensures frame places c.args.homes.now.near) c.joins.result
-    (joined_by _ _ c.args.behind _ c.role_behind.ensures c.joins.ensures) c.if-joins.false c.joins-2.result c.joins-2.ensures
+    (joined_by _ _ c.args.behind _ c.role_behind.ensures c.joins.ensures) c.if-joins.false c.joins-2.result
+    c.joins-2.ensures
     c.if-joins-2.false) c.statement.ensures
