@@ -69,7 +69,7 @@ replaced is ts front rest line x b h k =
     (sym (reverse-reverse (lines_of is ts)) ∙ ap reverse h ∙ seam front line rest)) ∙
     seam (reverse rest) (record line { instr = x }) (reverse front) ∙
     ap₂ {A = List Line} {B = List Line} (λ f r. f ++ record line { instr = x } ∷ r) (reverse-reverse front)
-        (reverse-reverse rest)
+    (reverse-reverse rest)
 
 left : (is js : List Instr) (ts us : List (Option Target)) (i : Instr) (t : Option Target) → length is ≡ length ts →
     is ≡ js ++ i ∷ [] → ts ≡ us ++ t ∷ [] → length js ≡ length us
