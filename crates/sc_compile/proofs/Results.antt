@@ -111,7 +111,7 @@ module _ (program : ProgramTree) (typed : IsWellTyped program) where
   module _ (roles : Roles) where
     given : (open_calls number : ℕ) (here : Here) (f : TacFnTree) (s t : State) (v : Option Value) →
         roles.scripted here.comp ≡ false → slice_get (functions_in (lowered_program program) here.comp)
-            number ≡ Some f →
+        number ≡ Some f →
         f.result ≡ true → bodies (lowered_program program) roles open_calls number here s ≡ Reached v t → IsSome v
     given open_calls number here f s t v plain there result is =
         let from = source_of here.comp number f there in

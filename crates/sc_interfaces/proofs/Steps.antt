@@ -46,7 +46,7 @@ exports_turn functions before after xs i x holds lines now total within is fits 
 pub imports_turn : (tables : List SectionTable) (importer : ℕ) (functions protos before after : List Text)
     (xs : List ImportLine) (i : ℕ) (x : ImportLine) (holds : Bool) (lines now total : BrokenLines) →
     i < length xs → x ≡ get_or xs i x → holds ≡ import_fits (is_offered_by tables importer x) functions
-        protos before x →
+    protos before x →
     now ≡ with_lines lines (unless holds x.line) → after ≡ numbered before x.name →
     with_lines lines (imports_told tables importer functions protos before (drop i xs)) ≡ total →
     with_lines now (imports_told tables importer functions protos after (drop (i + 1) xs)) ≡ total

@@ -46,7 +46,7 @@ in_text {text} {at} (section {next = next} first g others) =
     let within = g.within in
     let fits : next - at ≤ length (drop at text) = omega arith in
     let wide : length (take (next - at) (drop at text)) ≡ next - at = length-take-le (next - at)
-        (drop at text) fits in (
+    (drop at text) fits in (
       record {
         line = g.line ∙ ap (λ k. line_at text k) (sym g.start);
         first = ap (λ bytes. slice_index bytes 0) g.bytes ∙ get_or-take (next - at) (drop at text) 0 0 (omega arith) ∙
@@ -220,7 +220,7 @@ as_many R (x ∷ xs) (y ∷ ys) h = omega (arith, as_many R xs ys h.1)
 
 pub zip_at : {A B : Type 0} (R : A → B → Type 0) (xs : List A) (ys : List B) (at : ℕ) (x : A) (y : B) →
     AllZip R (drop at xs) (drop at ys) → at < length xs → at < length ys → x ≡ get_or xs at x →
-        y ≡ get_or ys at y → R x y
+    y ≡ get_or ys at y → R x y
 zip_at R [] ys at x y h low few p q = absurd (omega arith)
 zip_at R (a ∷ xs) [] at x y h low few p q = absurd (omega arith)
 zip_at R (a ∷ xs) (b ∷ ys) zero x y h low few p q =

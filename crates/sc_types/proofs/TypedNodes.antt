@@ -87,7 +87,7 @@ module _ (visible : Visible) where
       (beside-nodes o (typed visible a).ty (typed visible b) ∙ h.1)
   step-nodes (tree.Index a b) h =
       node-at _ _ (open_term.Index (typed visible a) (typed visible b)) (rolls-Index _ _) ∙ ap₂
-          (λ m n. suc (m + n)) h.0 h.1
+      (λ m n. suc (m + n)) h.0 h.1
   step-nodes (tree.Member a name) h = node-at _ _ (open_term.Member (typed visible a) _) (rolls-Member _ _) ∙ ap suc h
   step-nodes (tree.Arrow a name) h = node-at _ _ (open_term.Arrow (typed visible a) _) (rolls-Arrow _ _) ∙ ap suc h
   step-nodes (tree.Deref a) h = node-at _ _ (open_term.Deref (typed visible a)) (rolls-Deref _) ∙ ap suc h
@@ -152,7 +152,7 @@ module _ (visible : Visible) (callees : Callees) (result : Option Ty) where
   layer-nodes line layer.Empty h = stmt-node-at line _ open_kind.Empty rolls-Empty
   layer-nodes line (layer.Assign place value) h =
       stmt-node-at line _ (open_kind.Assign _ _) (rolls-Assign _ _) ∙ ap₂ (λ a b. suc (a + b))
-          (typed-nodes visible place)
+      (typed-nodes visible place)
       (value-nodes visible callees place value)
   layer-nodes line (layer.AssignCall place call) h =
       stmt-node-at line _ (open_kind.AssignCall _ _) (rolls-AssignCall _ _) ∙

@@ -38,8 +38,11 @@ pub returns-in-Ok-clause-outcome : goal.returns-in-Ok-clause-outcome
 returns-in-Ok-clause-outcome g c =
     let inputs = map word_of c.args.inputs.now in
     let state = state_in (g.S.Store.bytes c.args.memory.now) c.args.hart.now in
-    (rw (c.execute_quick.ensures.stays c.if-execute_quick.false, c.execute_quick.ensures.memory
-        c.if-execute_quick.false)
+    (rw (
+      c.execute_quick.ensures.stays c.if-execute_quick.false,
+      c.execute_quick.ensures.memory
+          c.if-execute_quick.false,
+    )
     at c.in-Ok.ensures.outcome) ∙
     sym (step_executes c.args.here.now.image inputs state c.in-Some.word c.in-Some-decode.instr
     (rw c.requires.ready.here at (sym c.in-Some.ensures.word)) (sym c.in-Some-decode.ensures.same))
@@ -53,8 +56,11 @@ pub returns-in-Err-clause-outcome : goal.returns-in-Err-clause-outcome
 returns-in-Err-clause-outcome g c =
     let inputs = map word_of c.args.inputs.now in
     let state = state_in (g.S.Store.bytes c.args.memory.now) c.args.hart.now in
-    (rw (c.execute_quick.ensures.stays c.if-execute_quick.false, c.execute_quick.ensures.memory
-        c.if-execute_quick.false)
+    (rw (
+      c.execute_quick.ensures.stays c.if-execute_quick.false,
+      c.execute_quick.ensures.memory
+          c.if-execute_quick.false,
+    )
     at c.in-Err.ensures.outcome) ∙
     sym (step_executes c.args.here.now.image inputs state c.in-Some.word c.in-Some-decode.instr
     (rw c.requires.ready.here at (sym c.in-Some.ensures.word)) (sym c.in-Some-decode.ensures.same))
