@@ -16,9 +16,9 @@ use Rattle.sc_emit.proofs.Common.{int_le, is_branch, is_ebreak, is_known_jump, i
 use Rattle.sc_emit.proofs.Common.{joined, jump_back, jump_over, keep, kept, kind_of_fork, leb-true, length, less_than}
 use Rattle.sc_emit.proofs.Common.{list_all, list_all-append, list_all-map, list_all_along, load_from, load_word}
 use Rattle.sc_emit.proofs.Common.{loading, loop_begins, lower_part, ltb-true, map, map-TacStmt, most_lines, most_params}
-use Rattle.sc_emit.proofs.Common.{moved_by, mul_word, nat_le, nat_lt, neg_ℤ, negsuc, not, object_offset}
-use Rattle.sc_emit.proofs.Common.{object_read, object_store, op_code, operand, operation, order_keeps, pass, passes_few}
-use Rattle.sc_emit.proofs.Common.{past, place_of, place_of_global, plain, plainly, plan_of, pos, put, ra, receive, refl}
+use Rattle.sc_emit.proofs.Common.{moved_by, mul_word, nat_le, nat_lt, neg_ℤ, negsuc, not, object_offset, object_read}
+use Rattle.sc_emit.proofs.Common.{object_store, op_code, operand, operation, order_keeps, pass, passes_few, past}
+use Rattle.sc_emit.proofs.Common.{place_of, place_of_global, plain, plainly, plan_of, pos, put, ra, receive, refl}
 use Rattle.sc_emit.proofs.Common.{register_count, register_of, register_there, result_register, return, role_behind}
 use Rattle.sc_emit.proofs.Common.{role_first, role_of_load, role_of_operation, role_of_return, role_of_store, rotated}
 use Rattle.sc_emit.proofs.Common.{rules, second_operand, second_scratch, select, select_all, select_step, short}

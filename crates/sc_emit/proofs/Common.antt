@@ -23,8 +23,8 @@ pub use Rattle.sc_word.specs.Prelude.{add_word, mul_word, signed_of, sub_word, w
 pub use Rattle.sc_core.proofs.Induction.{Each, everywhere}
 pub use Rattle.sc_core.specs.Prelude.{Blocks, Break, Calls, Continue, Exit, Front, Function, Here, Left, Next, Piece}
 pub use Rattle.sc_core.specs.Prelude.{Reached, Return, State, Stopped, all_do, and_then, at_brace, begun, choose}
-pub use Rattle.sc_core.specs.Prelude.{closed, computed, done, follow, is_true, leave, load, most_params, store, stored}
-pub use Rattle.sc_core.specs.Prelude.{total, with_memory, wrapping}
+pub use Rattle.sc_core.specs.Prelude.{closed, computed, done, follow, in_loop, is_true, leave, load, most_params}
+pub use Rattle.sc_core.specs.Prelude.{rounds, store, stored, total, turn, with_memory, wrapping}
 pub use Rattle.sc_core.specs.declared.cause.Cause.{Cause}
 pub use Rattle.sc_core.specs.declared.expr.CallTarget.{CallTarget}
 pub use Rattle.sc_core.specs.declared.expr.CallTarget.TheVariants.{Cross, Input, Output, Own}
@@ -73,20 +73,20 @@ pub use Rattle.sc_select.proofs.Joining.{operation_role, order_keeps, parts_leas
 pub use Rattle.sc_select.proofs.Joining.{return_of, returns_it, role_alone, sets_it, store_is_last, store_role}
 pub use Rattle.sc_select.proofs.Joining.{stores_it, third_is_last, turning_role, which_pair}
 pub use Rattle.sc_select.proofs.Sizes.{row_is_sized}
-pub use Rattle.sc_select.proofs.Turning.{IsTested, break_stmt, each_before, fork_kind, kind_is, kind_of, layer_kind}
-pub use Rattle.sc_select.proofs.Turning.{loop_kind, test_stmt, turning_by}
-pub use Rattle.sc_select.specs.Prelude.{Addresses, Controls, Fits, Kind, Line, Need, Plan, a0, a7, added_by}
-pub use Rattle.sc_select.specs.Prelude.{address_scratch, as_one, at_hand, between, binary_code, binary_short}
+pub use Rattle.sc_select.proofs.Turning.{IsTested, break_stmt, each_before, each_plain, fork_kind, kind_is, kind_of}
+pub use Rattle.sc_select.proofs.Turning.{layer_kind, loop_kind, plain_fork, test_stmt, turning_by}
+pub use Rattle.sc_select.specs.Prelude.{Addresses, Fits, Kind, Line, Need, Plan, Strays, a0, a7, added_by}
+pub use Rattle.sc_select.specs.Prelude.{address_scratch, all_plain, as_one, at_hand, between, binary_code, binary_short}
 pub use Rattle.sc_select.specs.Prelude.{branch_back, branch_reach, brought, bytes_ahead, bytes_of, call_cross, call_own}
 pub use Rattle.sc_select.specs.Prelude.{choice, choosing, closing, code_of, completed, copied, cycle, ending_past}
 pub use Rattle.sc_select.specs.Prelude.{ending_test, entrance, environment_call, first_scratch, followed, fork}
 pub use Rattle.sc_select.specs.Prelude.{frame_left, frame_taken, function_lines, in_order, in_turn, is_named, is_near}
 pub use Rattle.sc_select.specs.Prelude.{is_plain, is_short, joined, joins, jump_back, jump_over, keep, kept}
 pub use Rattle.sc_select.specs.Prelude.{kind_of_fork, less_than, linked, load_from, load_word, loading, loop_begins}
-pub use Rattle.sc_select.specs.Prelude.{low_after, lower_part, most_lines, move, moved_by, need, need_step, needed_in}
-pub use Rattle.sc_select.specs.Prelude.{needs_of, nothing, object_offset, object_read, object_store, op_code, operand}
-pub use Rattle.sc_select.specs.Prelude.{operation, pass, past, place_needed, place_of, place_of_global, plain, plainly}
-pub use Rattle.sc_select.specs.Prelude.{plan_of, put, ra, receive, referring, refers_only, register_of, relocation_of}
+pub use Rattle.sc_select.specs.Prelude.{low_after, lower_part, most_lines, move, moved_by, need, need_step, needs_of}
+pub use Rattle.sc_select.specs.Prelude.{nothing, object_offset, object_read, object_store, op_code, operand, operation}
+pub use Rattle.sc_select.specs.Prelude.{pass, past, place_needed, place_of, place_of_global, plain, plainly, plan_of}
+pub use Rattle.sc_select.specs.Prelude.{put, ra, receive, referring, refers_only, register_of, relocation_of}
 pub use Rattle.sc_select.specs.Prelude.{relocations_from, result_register, return, role_behind, role_first}
 pub use Rattle.sc_select.specs.Prelude.{role_of_load, role_of_operation, role_of_return, role_of_store, rotated}
 pub use Rattle.sc_select.specs.Prelude.{row_needs, second_operand, second_scratch, select, select_all, select_step}

@@ -6,8 +6,8 @@ use Rattle.sc_emit.proofs.Common.{Some, TacFnTree, [], and_parts, ap, append_ass
 use Rattle.sc_emit.proofs.Common.{closing, code_does, code_function, code_of, entrance, entry_weight, frame_taken}
 use Rattle.sc_emit.proofs.Common.{function_lines, function_points, interval_of, intervals_of, is_near, is_place, length}
 use Rattle.sc_emit.proofs.Common.{length-append, length-map, list_all, ltb-true, map, map-append, max, names_own_temps}
-use Rattle.sc_emit.proofs.Common.{nat_lt, needs_of, plainly, plan_of, range_with_len, refl, register_count}
-use Rattle.sc_emit.proofs.Common.{row, row_is_sized, same_Some, select_all, slice_get, slice_get-get_or, slots_of}
+use Rattle.sc_emit.proofs.Common.{nat_lt, needs_of, plainly, plan_of, range_with_len, refl, register_count, row}
+use Rattle.sc_emit.proofs.Common.{row_is_sized, same_Some, select_all, slice_get, slice_get-get_or, slots_of}
 use Rattle.sc_emit.proofs.Common.{slots_up_to, store_arguments, subst, suc, sym, trail, true, weight, wrapping, zero, ℕ}
 use Rattle.sc_emit.proofs.Common.{◌++◌, ◌+◌, ◌<◌, ◌∙◌, ◌∷◌, ◌≡◌, ◌≤◌}
 use Rattle.sc_tac.specs.Prelude.{everywhere}

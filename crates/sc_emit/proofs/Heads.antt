@@ -3,23 +3,24 @@
 use Rattle.sc_emit.proofs.Common.{Ahead, All, Arrives, ArrivesLate, Bne, Bool, Branch, Break, CallTarget, Calls, Cause}
 use Rattle.sc_emit.proofs.Common.{CodeAt, Codes, Continue, Cross, Each, Ends, Err, Exit, ExitGives, Fetches, Follows}
 use Rattle.sc_emit.proofs.Common.{FrameTree, Gives, Goes, Gone, HasNoGap, HeadComes, HeadFollows, Here, InParts, Input}
-use Rattle.sc_emit.proofs.Common.{Instr, IsActivation, IsClear, IsInside, IsTested, IsWellFormed, IsWord, Joint, Leads}
-use Rattle.sc_emit.proofs.Common.{Left, Line, List, Lives, Next, None, Ok, Option, Output, Overflows, Own, Piece, Place}
-use Rattle.sc_emit.proofs.Common.{Plan, Reached, Ready, Registers, Result, Return, Running, Set, Setting, Some}
+use Rattle.sc_emit.proofs.Common.{Inside, Instr, IsActivation, IsClear, IsInside, IsTested, IsWellFormed, IsWord, Joint}
+use Rattle.sc_emit.proofs.Common.{Leads, Left, Line, List, Lives, Next, None, Ok, Option, Output, Overflows, Own, Piece}
+use Rattle.sc_emit.proofs.Common.{Place, Plan, Reached, Ready, Registers, Result, Return, Running, Set, Setting, Some}
 use Rattle.sc_emit.proofs.Common.{Standpoint, Starts, State as Meant, Stopped, TacStmt, TacStmt-F, Temps, Trail, Value}
-use Rattle.sc_emit.proofs.Common.{Walks, [], add_word, ahead_at, all_do, all_front, and_then, ap, append_assoc, ap₂}
-use Rattle.sc_emit.proofs.Common.{arith, back_to, branch_back, branch_reach, call_does, choose, code_inside, code_step}
-use Rattle.sc_emit.proofs.Common.{completed, computed, effect_still, ends_of, eq-eqb, false, first_scratch}
-use Rattle.sc_emit.proofs.Common.{fold-roll-TacStmt, follow as then_follow, follow_goes, fork_kind, gets, if◌then◌else◌}
-use Rattle.sc_emit.proofs.Common.{in_parts, inl, inr, is_plain, is_true, jump_back, kind_is, kind_of, known as is_known}
-use Rattle.sc_emit.proofs.Common.{layer_kind, leads_then, leads_then_steps, leave, length, length-map, live_before}
-use Rattle.sc_emit.proofs.Common.{load, loop_kind, low_plainly, lt-ltb, machine, map, map-TacStmt, map-append, moved}
-use Rattle.sc_emit.proofs.Common.{neg_ℤ, operand, operated, or_left, or_right, overflows_with, plain, plainly}
-use Rattle.sc_emit.proofs.Common.{plainly_at, pos, read, read_all, readings, received, refl, roll-TacStmt, row}
-use Rattle.sc_emit.proofs.Common.{row_first, row_points, second, seen_from, select, shows_after, shows_here, stays}
-use Rattle.sc_emit.proofs.Common.{stmt_does, stmt_induction, store, stored, subst, suc, sym, take, test_stmt, testing}
-use Rattle.sc_emit.proofs.Common.{then_from, trail, trail_step, true, with_memory, with_temp, word_at, word_of}
-use Rattle.sc_emit.proofs.Common.{wrapping, ℕ, ℤ, ⊎_elim, ◌*◌, ◌++◌, ◌+◌, ◌<◌, ◌==◌, ◌∙◌, ◌∷◌, ◌≡◌, ◌≤◌}
+use Rattle.sc_emit.proofs.Common.{Walks, [], add_word, ahead_at, all_do, all_front, all_plain, and_parts, and_then, ap}
+use Rattle.sc_emit.proofs.Common.{append_assoc, ap₂, arith, back_to, branch_back, branch_reach, call_does, choose}
+use Rattle.sc_emit.proofs.Common.{code_inside, code_step, completed, computed, each_plain, effect_still, ends_of}
+use Rattle.sc_emit.proofs.Common.{eq-eqb, false, first_scratch, fold-roll-TacStmt, follow as then_follow, follow_goes}
+use Rattle.sc_emit.proofs.Common.{fork_kind, gets, if◌then◌else◌, in_loop, in_parts, inl, inr, is_plain, is_true}
+use Rattle.sc_emit.proofs.Common.{jump_back, kind_is, kind_of, known as is_known, layer_kind, leads_then}
+use Rattle.sc_emit.proofs.Common.{leads_then_steps, leave, length, length-map, live_before, load, loop_kind}
+use Rattle.sc_emit.proofs.Common.{low_plainly, lt-ltb, machine, map, map-TacStmt, map-append, moved, neg_ℤ, operand}
+use Rattle.sc_emit.proofs.Common.{operated, or_left, or_right, overflows_with, plain, plain_fork, plainly, plainly_at}
+use Rattle.sc_emit.proofs.Common.{pos, read, read_all, readings, received, refl, roll-TacStmt, rounds, row, row_first}
+use Rattle.sc_emit.proofs.Common.{row_points, second, seen_from, select, shows_after, shows_here, stays, stmt_does}
+use Rattle.sc_emit.proofs.Common.{stmt_induction, store, stored, subst, suc, sym, take, test_stmt, testing, then_from}
+use Rattle.sc_emit.proofs.Common.{trail, trail_step, true, turn, with_memory, with_temp, word_at, word_of, wrapping}
+use Rattle.sc_emit.proofs.Common.{zero, ℕ, ℤ, ⊎_elim, ◌*◌, ◌++◌, ◌+◌, ◌<◌, ◌==◌, ◌∙◌, ◌∷◌, ◌≡◌, ◌≤◌}
 use Rattle.sc_core.specs.Prelude.{in_order as one_by_one, take as take_route}
 use Rattle.sc_select.specs.Prelude.{Piece as Code}
 use Rattle.sc_tac.specs.declared.stmt.TacStmt.TheOpen as tac
@@ -60,6 +61,30 @@ follow_on (Reached l s) rest h later = by l.exit h
     by Continue h = cc h
     by (Return v) h = refl
 
+-- behind a part of a loop, whatever it leaves by
+round_on : (piece : Piece (Left Temps)) (rest : Codes) → AlwaysOn rest → GoesOn (then_follow in_loop piece rest)
+round_on (Stopped end s) rest later = tt
+round_on (Reached l s) rest later = by l.exit
+  where
+    by : (exit : Exit) → GoesOn (take_route (in_loop exit) rest l.carried s)
+    by Next = later l.carried s
+    by Break = refl
+    by Continue = later l.carried s
+    by (Return v) = refl
+
+rounds_on : (head body next : Codes) (k : ℕ) → AlwaysOn (rounds k head body next)
+rounds_on head body next zero temps s = tt
+rounds_on head body next (suc k) temps s =
+    round_on (head temps s)
+    (λ temps s. and_then (turn s)
+    (λ u s. then_follow in_loop (body temps s) (λ temps s. then_follow in_loop (next temps s)
+    (rounds k head body next))))
+    (λ temps s. then_on (turn s)
+    (λ u s. then_follow in_loop (body temps s) (λ temps s. then_follow in_loop (next temps s)
+    (rounds k head body next)))
+    (λ u s. round_on (body temps s) (λ temps s. then_follow in_loop (next temps s) (rounds k head body next))
+    (λ temps s. round_on (next temps s) (rounds k head body next) (rounds_on head body next k))))
+
 module _ (frame : FrameTree) (places : List Place) (plan : Plan) (here : Here) (calls : Calls) where
   abbrev does : TacStmt → Codes
   does = stmt_does wrapping here calls
@@ -86,48 +111,66 @@ module _ (frame : FrameTree) (places : List Place) (plan : Plan) (here : Here) (
       (λ vs s. then_on (calls here.comp target vs s) (λ result s. leave Next (received dest result temps) s)
       (λ result s. refl))
 
+  chosen_on : (b : Bool) (one two : Piece (Left Temps)) → GoesOn one → GoesOn two → GoesOn (if b then one else two)
+  chosen_on true one two h k = h
+  chosen_on false one two h k = k
+
+  each_goes_on : (stmts : List TacStmt) → Each (λ stmt. IsPlain stmt → AlwaysOn (does stmt)) stmts →
+      Each IsPlain stmts → AlwaysOn (all_do (map does stmts))
+  each_goes_on [] each plain temps s = refl
+  each_goes_on (stmt ∷ rest) each plain temps s =
+      follow_on (does stmt temps s) (all_do (map does rest)) (each.0 plain.0 temps s)
+      (each_goes_on rest each.1 plain.1)
+
   -- a statement by its outermost layer
-  layer_goes_on : (layer : TacStmt-F TacStmt) → is_plain (layer_kind frame places plan layer) ≡ true →
-      AlwaysOn (layer_does layer)
-  layer_goes_on (tac.Const dest value) h temps s = refl
-  layer_goes_on (tac.Copy dest from) h temps s =
+  layer_goes_on : (layer : TacStmt-F TacStmt) → Inside (λ stmt. IsPlain stmt → AlwaysOn (does stmt)) layer →
+      is_plain (layer_kind frame places plan layer) ≡ true → AlwaysOn (layer_does layer)
+  layer_goes_on (tac.Const dest value) inside h temps s = refl
+  layer_goes_on (tac.Copy dest from) inside h temps s =
       then_on (read here from temps s) (λ v s. leave Next (with_temp dest v temps) s) (λ v s. refl)
-  layer_goes_on (tac.Op dest o left right) h temps s =
+  layer_goes_on (tac.Op dest o left right) inside h temps s =
       then_on (read here left temps s)
       (λ v s. and_then (second here right v temps s) (λ w s. gets here dest (operated wrapping (s.memory here.comp) o v
       w) temps s))
       (λ v s. then_on (second here right v temps s)
       (λ w s. gets here dest (operated wrapping (s.memory here.comp) o v w) temps s)
       (λ w s. gets_on dest (operated wrapping (s.memory here.comp) o v w) temps s))
-  layer_goes_on (tac.ObjectPlace dest object) h temps s = refl
-  layer_goes_on (tac.GlobalPlace dest global) h temps s = refl
-  layer_goes_on (tac.Load dest place pointer) h temps s =
+  layer_goes_on (tac.ObjectPlace dest object) inside h temps s = refl
+  layer_goes_on (tac.GlobalPlace dest global) inside h temps s = refl
+  layer_goes_on (tac.Load dest place pointer) inside h temps s =
       then_on (read here place temps s) (λ q s. gets here dest (load (s.memory here.comp) pointer q) temps s)
       (λ q s. gets_on dest (load (s.memory here.comp) pointer q) temps s)
-  layer_goes_on (tac.Store place value) h temps s =
+  layer_goes_on (tac.Store place value) inside h temps s =
       then_on (read here place temps s)
       (λ q s. and_then (read here value temps s) (λ v s. stored here q v 0 temps s))
       (λ q s. then_on (read here value temps s) (λ v s. stored here q v 0 temps s) (λ v s. stored_on q v temps s))
-  layer_goes_on (tac.If cond first second) h temps s =
-      absurd (fork_kind frame places plan (λ kind. is_plain kind ≡ true → ⊥) (λ e. cc e) (λ cond e. cc e) cond
-      (map (select frame places plan) first) (map (select frame places plan) second) h)
-  layer_goes_on (tac.Loop head body next) h temps s =
-      let other : false ≡ true = sym (ap is_plain (loop_kind frame places plan head body next)) ∙ h in cc other
-  layer_goes_on tac.Break h temps s = cc h
-  layer_goes_on tac.Continue h temps s = cc h
-  layer_goes_on (tac.CallOwn dest function args) h temps s = call_on dest (Own function) args temps s
-  layer_goes_on (tac.CallCross dest comp index args) h temps s = call_on dest (Cross comp index) args temps s
-  layer_goes_on (tac.Input dest) h temps s = call_on dest Input [] temps s
-  layer_goes_on (tac.Output value) h temps s = call_on None Output (value ∷ []) temps s
-  layer_goes_on (tac.Return None) h temps s = refl
-  layer_goes_on (tac.Return (Some t)) h temps s =
+  layer_goes_on (tac.If cond first second) inside h temps s =
+      let both = sym (plain_fork frame places plan cond (map (select frame places plan) first)
+      (map (select frame places plan) second)) ∙ h in
+      let parts = and_parts (all_plain (map (select frame places plan) first))
+      (all_plain (map (select frame places plan) second)) both in
+      then_on (read here cond temps s)
+      (λ v s. choose v (all_do (map does first) temps s) (all_do (map does second) temps s))
+      (λ v s. chosen_on (is_true v) (all_do (map does first) temps s) (all_do (map does second) temps s)
+      (each_goes_on first inside.0 (each_plain frame places plan first parts.0) temps s)
+      (each_goes_on second inside.1 (each_plain frame places plan second parts.1) temps s))
+  layer_goes_on (tac.Loop head body next) inside h temps s =
+      rounds_on (all_do (map does head)) (all_do (map does body)) (all_do (map does next)) (suc s.turns) temps s
+  layer_goes_on tac.Break inside h temps s = cc h
+  layer_goes_on tac.Continue inside h temps s = cc h
+  layer_goes_on (tac.CallOwn dest function args) inside h temps s = call_on dest (Own function) args temps s
+  layer_goes_on (tac.CallCross dest comp index args) inside h temps s = call_on dest (Cross comp index) args temps s
+  layer_goes_on (tac.Input dest) inside h temps s = call_on dest Input [] temps s
+  layer_goes_on (tac.Output value) inside h temps s = call_on None Output (value ∷ []) temps s
+  layer_goes_on (tac.Return None) inside h temps s = refl
+  layer_goes_on (tac.Return (Some t)) inside h temps s =
       then_on (read here t temps s) (λ v s. leave (Return (Some v)) temps s) (λ v s. refl)
 
   -- a plain statement, and statements that are plain
   pub plain_goes_on : (stmt : TacStmt) → IsPlain stmt → AlwaysOn (does stmt)
   plain_goes_on = stmt_induction (λ stmt. IsPlain stmt → AlwaysOn (does stmt)) (λ layer inside h.
       subst AlwaysOn (sym (fold-roll-TacStmt Codes (code_step wrapping here calls) layer))
-      (layer_goes_on layer (sym (ap is_plain (kind_is frame places plan layer)) ∙ h)))
+      (layer_goes_on layer inside (sym (ap is_plain (kind_is frame places plan layer)) ∙ h)))
 
   pub row_goes_on : (stmts : List TacStmt) → Each IsPlain stmts → AlwaysOn (all_do (map does stmts))
   row_goes_on [] plain temps s = refl

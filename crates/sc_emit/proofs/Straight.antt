@@ -1,7 +1,7 @@
 -- Statements without others inside, as straight code.
-use Rattle.sc_emit.proofs.Common.{All, Arrives, Cause, CodeAt, Codes, Comes, Controls, Ends, Err, Follows, Goes, Here}
-use Rattle.sc_emit.proofs.Common.{Instr, IsClear, Joint, Kind, Left, Line, List, Lives, Next, None, Ok, Other, Piece}
-use Rattle.sc_emit.proofs.Common.{Reached, Ready, Result, Role, Running, Setting, State as Meant, Temps, Trail, Value}
+use Rattle.sc_emit.proofs.Common.{All, Arrives, Cause, CodeAt, Codes, Comes, Ends, Err, Follows, Goes, Here, Instr}
+use Rattle.sc_emit.proofs.Common.{IsClear, Joint, Kind, Left, Line, List, Lives, Next, None, Ok, Other, Piece, Reached}
+use Rattle.sc_emit.proofs.Common.{Ready, Result, Role, Running, Setting, State as Meant, Strays, Temps, Trail, Value}
 use Rattle.sc_emit.proofs.Common.{and_then, ap, arith, completed, computed, ends_of, followed, inl, known, length}
 use Rattle.sc_emit.proofs.Common.{length-map, live_at, low_after, low_plainly, nothing as no_lines, plain, plainly}
 use Rattle.sc_emit.proofs.Common.{plainly_at, read, refl, same, straight, straightly, subst, sym, ℕ, ◌*◌, ◌+◌, ◌≡◌, ◌≤◌}
@@ -109,5 +109,5 @@ module _ (T : Setting) (R : Running) where
       Follows T R does (followed no_lines code) trail
   behind_nothing does code trail F =
       let same : code.size ≡ 0 + code.size = omega arith in
-      subst (λ size. Follows T R does (record { size = size; lines = code.lines; role = Other; kind = Controls }) trail)
-      same (with_kind does (record code { role = Other }) Controls trail (with_role does code Other trail F))
+      subst (λ size. Follows T R does (record { size = size; lines = code.lines; role = Other; kind = Strays }) trail)
+      same (with_kind does (record code { role = Other }) Strays trail (with_role does code Other trail F))

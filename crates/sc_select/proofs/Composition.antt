@@ -56,7 +56,7 @@ parted : (stmts : List TacStmt) (i : ℕ) (x : TacStmt) → i < length stmts →
 parted stmts i x h is = drop-cons stmts i x h ∙ ap (λ y. y ∷ drop (suc i) stmts) (sym is)
 
 -- a statement among others weighs no more than they
-no_heavier : (stmts : List TacStmt) (i : ℕ) (x : TacStmt) → i < length stmts → x ≡ get_or stmts i x →
+pub no_heavier : (stmts : List TacStmt) (i : ℕ) (x : TacStmt) → i < length stmts → x ≡ get_or stmts i x →
     stmt_weight x ≤ weight stmts
 no_heavier stmts i x h is =
     let parts : weight (drop i stmts) ≡ stmt_weight x + weight (drop (suc i) stmts) =

@@ -20,7 +20,7 @@ pub use Rattle.sc_select.specs.Operators.{short, short_code, short_form, stepped
 pub use Rattle.sc_select.specs.Pieces.{a0, a7, address_scratch, far_from_sp, first_scratch, frame_left, frame_taken}
 pub use Rattle.sc_select.specs.Pieces.{is_short, load_word, loading, lower_part, move, moved_by, ra, register_of}
 pub use Rattle.sc_select.specs.Pieces.{second_scratch, sp, store_word, upper_part}
-pub use Rattle.sc_select.specs.Selection.{Breaks, Controls, Kind, Piece, Plain, Plan, Tests, as_one, at_hand}
+pub use Rattle.sc_select.specs.Selection.{Breaks, Kind, Piece, Plain, Plan, Strays, Tests, all_plain, as_one, at_hand}
 pub use Rattle.sc_select.specs.Selection.{before_test, between, branch_back, branch_reach, breaking, breaks, brought}
 pub use Rattle.sc_select.specs.Selection.{call_cross, call_own, choice, choosing, closing, code_of, continuing, copied}
 pub use Rattle.sc_select.specs.Selection.{cycle, ending_past, ending_test, entrance, environment_call, followed, fork}
@@ -32,5 +32,5 @@ pub use Rattle.sc_select.specs.Selection.{receive, result_register, return, role
 pub use Rattle.sc_select.specs.Selection.{role_of_load, role_of_operation, role_of_return, role_of_store, rotated}
 pub use Rattle.sc_select.specs.Selection.{second_operand, select, select_all, select_step, short_operation}
 pub use Rattle.sc_select.specs.Selection.{short_return, skipping, slot_offset, store_arguments, store_to, straight}
-pub use Rattle.sc_select.specs.Selection.{straightly, take, take_second, taken, test_of, testing, turning}
+pub use Rattle.sc_select.specs.Selection.{straightly, take, take_second, taken, test_by, test_of, testing, turning}
 pub use Rattle.sc_select.specs.Selection.{word_of_constant}

@@ -5,6 +5,7 @@ use Rattle.sc_select.specs.Common.{fold-TacStmt}
 use Rattle.std.specs.Prelude.{ℕ, zero, suc, pos, ◌+◌, ◌*◌, List, [], ◌∷◌, ◌++◌, map, length, Option, None, Some}
 use Rattle.std.specs.Prelude.{slice_get, neg_ℤ, ◌==◌, ◌&&◌, ◌-◌, if◌then◌else◌, Bool, drop, false, is_some, not, true}
 use Rattle.std.specs.Prelude.{nat_lt, take as take_front}
+use Rattle.std.specs.List.{list_all}
 use Rattle.std.specs.Option.{unwrap_or}
 use Rattle.sc_event.specs.declared.row.Entry.{Entry}
 use Rattle.sc_event.specs.declared.row.Entry.TheVariants.{Main}
@@ -35,12 +36,12 @@ abbrev pub plan_by : List Bool → Bool → Plan
 plan_by marks near = record { needed = has_mark marks; near = near }
 
 -- what a statement is to the loop in whose head it stands: behind it the next one is done, if the call goes on; or it
--- is a break; or it breaks where a value is false; or anything else
+-- is a break; or it breaks where a value is false; or it may break or continue
 pub data Kind : Type 0 where
   Plain : Kind
   Breaks : Kind
   Tests : (cond : ℕ) → Kind
-  Controls : Kind
+  Strays : Kind
 
 -- how many lines a piece of code has, and which, where so many lie between its end and where a break leads, and a
 -- continue; whether one piece may stand for it and its neighbour; and what it is to a loop
@@ -63,7 +64,7 @@ followed first second = record {
   lines = λ to_break to_continue.
       first.lines (second.size + to_break) (second.size + to_continue) ++ second.lines to_break to_continue;
   role = Other;
-  kind = Controls;
+  kind = Strays;
 }
 
 -- one piece behind the other
@@ -112,14 +113,12 @@ abbrev pub role_of_return : Option ℕ → Role
 role_of_return None = Other
 role_of_return (Some temp) = Returns temp
 
--- an `If` that does nothing where a value is true, and else breaks
-abbrev pub kind_by : (cond : ℕ) → Kind → Kind
-kind_by cond Breaks = Tests cond
-kind_by cond kind = Controls
+abbrev pub is_plain : Kind → Bool
+is_plain Plain = true
+is_plain kind = false
 
-abbrev pub kind_of_fork : (cond : ℕ) → (first second : List Piece) → Kind
-kind_of_fork cond [] (piece ∷ []) = kind_by cond piece.kind
-kind_of_fork cond first second = Controls
+abbrev pub all_plain : List Piece → Bool
+all_plain pieces = list_all {X = Piece} (λ piece. is_plain piece.kind) pieces
 
 -- Helping: the same by a test of each part
 abbrev pub breaks : Kind → Bool
@@ -130,9 +129,18 @@ abbrev pub is_break : List Piece → Bool
 is_break (piece ∷ []) = breaks piece.kind
 is_break pieces = false
 
-abbrev pub is_plain : Kind → Bool
-is_plain Plain = true
-is_plain kind = false
+-- an `If` that does nothing where a value is true, and else breaks
+abbrev pub kind_by : (cond : ℕ) → Kind → Kind
+kind_by cond Breaks = Tests cond
+kind_by cond kind = Strays
+
+abbrev pub test_by : (cond : ℕ) → (first second : List Piece) → Kind
+test_by cond [] (piece ∷ []) = kind_by cond piece.kind
+test_by cond first second = Strays
+
+abbrev pub kind_of_fork : (cond : ℕ) → (first second : List Piece) → Kind
+kind_of_fork cond first second =
+    if all_plain first && all_plain second then Plain else test_by cond first second
 
 abbrev pub test_of : Kind → Option ℕ
 test_of (Tests cond) = Some cond
@@ -166,7 +174,7 @@ breaking = record { size = 1; lines = λ to_break to_continue. jump_over to_brea
 
 abbrev pub continuing : Piece
 continuing =
-    record { size = 1; lines = λ to_break to_continue. jump_over to_continue ∷ []; role = Other; kind = Controls }
+    record { size = 1; lines = λ to_break to_continue. jump_over to_continue ∷ []; role = Other; kind = Strays }
 
 -- a jump back to where so many lines begin, behind which it stands
 abbrev pub jump_back : ℕ → Line
@@ -322,7 +330,7 @@ module _ (frame : FrameTree) (places : List Place) where
         loop_begins ∷ (head.lines (body.size + suc next.size) 0 ++ (body.lines (suc next.size) 0 ++
         (next.lines 1 0 ++ (jump_back (head.size + (body.size + next.size)) ∷ []))));
     role = Other;
-    kind = Controls;
+    kind = Plain;
   }
 
   -- a branch back to where so many lines begin, behind which it stands, where a value is true. Where it doesn't reach,
@@ -349,7 +357,7 @@ module _ (frame : FrameTree) (places : List Place) where
             (next.lines (head.size + test) 0 ++ (head.lines test 0 ++
             testing cond (body.size + (next.size + head.size)))));
         role = Other;
-        kind = Controls;
+        kind = Plain;
       }
 
   -- a variable's word into a temporary

@@ -1,20 +1,40 @@
 //! What statements are to the loop in whose head they stand.
 
-ghost use Rattle.sc_select.specs.Prelude.{FrameTree, Place, Plan, breaks, ending_test, is_break, is_plain};
+ghost use Rattle.sc_select.specs.Prelude.{FrameTree, Place, Plan, all_plain, breaks, ending_test, is_break, is_plain};
 ghost use Rattle.sc_select.specs.Prelude.{kind_of_fork, select, test_of};
 ghost use Rattle.std.specs.Prelude.{◌≡◌, List, map};
 
 use sc_tac::TacStmt;
 
 // Whether the next statement is done behind this one, if the call goes on.
+#[cycle(plain)]
 fn is_plain(stmt: &TacStmt) -> bool
     ensures { (frame : FrameTree) (places : List Place) (plan : Plan) → result ≡
         is_plain (select frame places plan stmt.now).kind }
 {
-    !matches!(
-        stmt,
-        TacStmt::If { .. } | TacStmt::Loop { .. } | TacStmt::Break | TacStmt::Continue
-    )
+    match stmt {
+        TacStmt::If {
+            then_part,
+            else_part,
+            ..
+        } => all_plain(then_part.as_slice()) && all_plain(else_part.as_slice()),
+        TacStmt::Break | TacStmt::Continue => false,
+        _ => true,
+    }
+}
+
+// Whether that is so behind each of these.
+#[cycle(plain)]
+fn all_plain(stmts: &[TacStmt]) -> bool
+    ensures { (frame : FrameTree) (places : List Place) (plan : Plan) → result ≡
+        all_plain (map (select frame places plan) stmts.now) }
+{
+    for at in 0..stmts.len() {
+        if !is_plain(&stmts[at]) {
+            return false;
+        }
+    }
+    true
 }
 
 fn breaks(stmt: &TacStmt) -> bool

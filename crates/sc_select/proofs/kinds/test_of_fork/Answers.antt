@@ -1,5 +1,5 @@
-use Rattle.sc_select.proofs.Common.{Bool, None, Option, Some, ap, ap₂, if◌then◌else◌, is_break, map, refl}
-use Rattle.sc_select.proofs.Common.{select, sym, ℕ, ◌&&◌, ◌∙◌}
+use Rattle.sc_select.proofs.Common.{Bool, None, Option, Some, ap, ap₂, if◌then◌else◌, is_break, map, refl, select, sym}
+use Rattle.sc_select.proofs.Common.{ℕ, ◌&&◌, ◌∙◌}
 use Rattle.sc_select.proofs.Turning.{forked}
 use Rattle.sc_select.proofs.kinds.test_of_fork.Goals as goal
 
