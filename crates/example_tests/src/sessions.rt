@@ -618,7 +618,7 @@ chain 0
         want: b"call Main Parser next_kind
 in Parser -524288
 in Parser 5
-stop trap owner 0x01300084
+stop trap owner 0x0130006c
 chain 0
 ",
     },
