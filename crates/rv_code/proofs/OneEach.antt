@@ -21,10 +21,6 @@ one_instr w i j h k =
     let q : ◌≡◌ {A = Option Instr} (Some i) (Some j) = sym (decoded-word i w h) ∙ decoded-word j w k in
     cc
 
--- an instruction has one word
-pub one_word : (i : Instr) (v w : ℕ) → HasWord i v → HasWord i w → v ≡ w
-one_word i v w h k = h.word ∙ sym k.word
-
 -- the word of an instruction, by itself
 pub HasWord-own : (i : Instr) → IsInstr i → HasWord i (word_of i)
 HasWord-own i h = record { instr = h; word = refl }

@@ -65,13 +65,6 @@ module _ (given : List Given) (x : Interval) (place : Place) (fair : AreFair giv
         (get_pushed given its g i at);
   }
 
-pub none_fair : AreFair []
-none_fair = record {
-  apart = λ i j g h less at. absurd (cc at);
-  over_calls = λ i g at. absurd (cc at);
-  spared = λ i g at. absurd (cc at);
-}
-
 get_taken : {A : Type 0} (xs : List A) (n i : ℕ) (x : A) → slice_get (take n xs) i ≡ Some x →
     (i < n) × (slice_get xs i ≡ Some x)
 get_taken xs zero i x e = absurd (cc e)

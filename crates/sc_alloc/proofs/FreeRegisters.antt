@@ -1,10 +1,9 @@
 -- A register that is given, and one that isn't.
 use Rattle.sc_alloc.proofs.Common.{AllOver, AreRegisters, Given, Interval, IsHeld, List, None, Option, Place, Register}
 use Rattle.sc_alloc.proofs.Common.{Slot, Some, [], ap, arith, cases_eq, false, get_behind, get_or, is_over, length}
-use Rattle.sc_alloc.proofs.Common.{length-set, position, refl, register_count, replicate, slice_get, slice_get-get_or}
-use Rattle.sc_alloc.proofs.Common.{slice_set, subst, suc, sym, true, with_place, zero, ℕ, ⊎_elim, ◌++◌, ◌<◌, ◌∙◌, ◌∷◌}
-use Rattle.sc_alloc.proofs.Common.{◌≡◌, ◌≤◌}
-use Rattle.sc_alloc.proofs.Lists.{get_pushed, get_kept, get_set_same, get_set_other, get_replicate, all_fail}
+use Rattle.sc_alloc.proofs.Common.{length-set, position, refl, register_count, slice_get, slice_get-get_or, slice_set}
+use Rattle.sc_alloc.proofs.Common.{subst, suc, sym, true, with_place, zero, ℕ, ⊎_elim, ◌++◌, ◌<◌, ◌∙◌, ◌∷◌, ◌≡◌, ◌≤◌}
+use Rattle.sc_alloc.proofs.Lists.{get_pushed, get_kept, get_set_same, get_set_other, all_fail}
 
 pub all_over_pushed : (given : List Given) (x : Interval) (place other : Place) (at : ℕ) → AllOver given other at →
     (place ≡ other → x.last < at) → AllOver (with_place given x place) other at
@@ -30,16 +29,6 @@ held_before given r at last le h = record {
   its = h.its;
   place = h.place;
   lasts = omega (arith, le, h.lasts);
-}
-
-pub none_given : (lasts : List (Option ℕ)) → lasts ≡ replicate register_count None → AreRegisters [] lasts
-none_given lasts e = record {
-  count = ap length e;
-  known = λ i r g get same. absurd (cc get);
-  held = λ r last get. absurd (let h : None ≡ Some last = get_replicate register_count r None (Some last)
-      (subst (λ xs. slice_get xs r ≡ Some (Some last)) e get) in cc);
-  unheld = λ r none at i g get same. absurd (cc get);
-  over = λ r last its i g get same. absurd (cc get);
 }
 
 free_over : (given : List Given) (lasts : List (Option ℕ)) (r at : ℕ) (last : Option ℕ) → AreRegisters given lasts →

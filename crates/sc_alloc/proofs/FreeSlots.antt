@@ -42,17 +42,6 @@ IsBelow count end = end.0.slot < count
 abbrev IsLast : List Given → Reverse SlotEnd → Type 0
 IsLast given end = AllOver given (Slot end.0.slot) (suc end.0.last)
 
-pub none_given : AreSlots [] [] 0
-none_given = record {
-  few = omega arith;
-  knows = record {
-    once = λ slot. omega arith;
-    below = All-nil (IsBelow 0);
-    known = λ i slot g get same. absurd (cc get);
-    over = All-nil (IsLast []);
-  };
-}
-
 -- the slot that is over first is taken where it is over
 module _ (given : List Given) (ends rest : List (Reverse SlotEnd)) (end : Reverse SlotEnd) (count at : ℕ)
     (slots : AreSlots given ends count) (moved : IsPermutation ends (end ∷ rest)) (ended : end.0.last < at) where

@@ -1,7 +1,7 @@
 -- Lists that grow at their end, and what is at each place.
 use Rattle.sc_alloc.proofs.Common.{Bool, IsTrue, List, None, Option, Some, [], ap, arith, false, inl, inr, length}
-use Rattle.sc_alloc.proofs.Common.{list_all, option_map, position, position-cons, refl, replicate, same_Some, slice_get}
-use Rattle.sc_alloc.proofs.Common.{slice_set, suc, sym, true, zero, ℕ, ⊎_elim, ◌++◌, ◌<◌, ◌∙◌, ◌∷◌, ◌≡◌, ◌≢◌, ◌⊎◌}
+use Rattle.sc_alloc.proofs.Common.{list_all, option_map, position, position-cons, refl, same_Some, slice_get, slice_set}
+use Rattle.sc_alloc.proofs.Common.{suc, sym, true, zero, ℕ, ⊎_elim, ◌++◌, ◌<◌, ◌∙◌, ◌∷◌, ◌≡◌, ◌≢◌, ◌⊎◌}
 
 -- an element of a list with one more at its end
 pub get_pushed : {A : Type 0} (xs : List A) (x y : A) (i : ℕ) → slice_get (xs ++ x ∷ []) i ≡ Some y →
@@ -30,11 +30,6 @@ get_set_other (z ∷ xs) zero zero x h = absurd (h refl)
 get_set_other (z ∷ xs) zero (suc j) x h = refl
 get_set_other (z ∷ xs) (suc i) zero x h = refl
 get_set_other (z ∷ xs) (suc i) (suc j) x h = get_set_other xs i j x (λ e. h (ap suc e))
-
-pub get_replicate : {A : Type 0} (n i : ℕ) (x y : A) → slice_get (replicate n x) i ≡ Some y → x ≡ y
-get_replicate zero i x y e = absurd (cc e)
-get_replicate (suc n) zero x y e = same_Some x y e
-get_replicate (suc n) (suc i) x y e = get_replicate n i x y e
 
 none_behind : (o : Option ℕ) → option_map suc o ≡ None → o ≡ None
 none_behind None same = refl

@@ -1,12 +1,10 @@
 -- The names that several proofs of this crate cite, passed on from one place. Declares nothing.
 pub use Rattle.std.proofs.Common.{All, Bool, List, None, Ok, Option, Some, [], ap, append-nil, append_assoc, ap₂, arith}
 pub use Rattle.std.proofs.Common.{drop, eq-eqb, eqb-true, false, get_or, if◌then◌else◌, inl, inr, length, length-append}
-pub use Rattle.std.proofs.Common.{map, ne_eqb, refl, rules, slice_get, slice_index_or, subst, suc, sym, take, take_all}
-pub use Rattle.std.proofs.Common.{true, zero, ℕ, ℤ, ⊎_elim, ◌++◌, ◌+◌, ◌-◌, ◌<◌, ◌==◌, ◌^◌, ◌||◌, ◌∙◌, ◌∷◌, ◌≡◌, ◌≤◌}
-pub use Rattle.std.proofs.Common.{◌⊎◌}
+pub use Rattle.std.proofs.Common.{map, ne_eqb, refl, rules, slice_index_or, subst, suc, sym, take, take_all, true, zero}
+pub use Rattle.std.proofs.Common.{ℕ, ℤ, ⊎_elim, ◌++◌, ◌+◌, ◌-◌, ◌<◌, ◌==◌, ◌^◌, ◌||◌, ◌∙◌, ◌∷◌, ◌≡◌, ◌≤◌, ◌⊎◌}
 pub use Rattle.std.proofs.lemmas.Bool.{cases_eq, cases_lt}
-pub use Rattle.std.proofs.lemmas.List.{at_drop_all, at_drop_more, get_or_read_under, length-map, map-append}
-pub use Rattle.std.proofs.lemmas.List.{take-append-le}
+pub use Rattle.std.proofs.lemmas.List.{at_drop_all, get_or_read_under, length-map, map-append, take-append-le}
 pub use Rattle.std.proofs.lemmas.List.Elements.{All-append, All-from_recursion, All-map, All-push, recursion_from_All}
 pub use Rattle.std.specs.List.{AllByRecursion, concat, list_any}
 pub use Rattle.sc_base.specs.declared.stop.Stop.{Stop}

@@ -1,5 +1,5 @@
 -- Sections and their interfaces, one after another.
-use Rattle.sc_elab.proofs.Common.{IsSome, List, None, SectionTree, Some, [], ap, append_assoc, arith, callees_of, drop}
+use Rattle.sc_elab.proofs.Common.{IsSome, List, SectionTree, Some, [], ap, append_assoc, arith, callees_of, drop}
 use Rattle.sc_elab.proofs.Common.{drop-step, get_or, get_or_from_slice_get, import_of, interface_of, interfaces_from}
 use Rattle.sc_elab.proofs.Common.{interfaces_of, length, map, option_map, refl, sections_from, slice_get}
 use Rattle.sc_elab.proofs.Common.{slice_get-get_or, slice_get_within, suc, sym, typed_section, zero, ℕ, ◌++◌, ◌+◌, ◌<◌}
@@ -49,9 +49,6 @@ module _ (sections : List SectionTree) where
       (h : slice_get sections i ≡ Some section) where
     stands_at : slice_get interfaces.comps i ≡ Some (interface_of sections i section)
     stands_at = ap (λ (x : Interfaces). slice_get x.comps i) are ∙ comp_at i section h
-
-    pub has_comp : slice_get interfaces.comps i ≡ None → ⊥
-    has_comp none = let both : None ≡ Some (interface_of sections i section) = sym none ∙ stands_at in cc both
 
     same_some : (a b : Interface) → Some a ≡ Some b → a ≡ b
     same_some a b e = cc e

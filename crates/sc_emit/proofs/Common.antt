@@ -1,11 +1,10 @@
 -- The names that several proofs of this crate cite, passed on from one place. Declares nothing.
 pub use Rattle.std.proofs.Common.{All, Bool, Err, IfOk, IsSome, IsTrue, List, None, Ok, Option, Result, Some, [], ap}
 pub use Rattle.std.proofs.Common.{append-nil, append_assoc, ap₂, arith, cond, eq-eqb, eqb-true, false, if◌then◌else◌}
-pub use Rattle.std.proofs.Common.{inl, inr, int_le, is_some, le-leb, le-ltb, leb-true, length, length-append, lt-ltb}
-pub use Rattle.std.proofs.Common.{ltb-true, map, max, nat_eq, nat_le, nat_lt, ne_eqb, neg_ℤ, negsuc, not, pos, refl}
-pub use Rattle.std.proofs.Common.{rules, slice_get, subst, suc, sym, true, true≢false, zero, ℕ, ℤ, ⊎_elim, ◌%◌, ◌&&◌}
-pub use Rattle.std.proofs.Common.{◌*◌, ◌++◌, ◌+◌, ◌-ℤ◌, ◌-◌, ◌/◌, ◌<◌, ◌==◌, ◌^◌, ◌||◌, ◌∙◌, ◌∷◌, ◌≡◌, ◌≢◌, ◌≤ℤ◌, ◌≤◌}
-pub use Rattle.std.proofs.Common.{◌⊎◌}
+pub use Rattle.std.proofs.Common.{inl, inr, is_some, le-leb, le-ltb, leb-true, length, length-append, lt-ltb, ltb-true}
+pub use Rattle.std.proofs.Common.{map, max, nat_eq, nat_le, nat_lt, ne_eqb, neg_ℤ, not, pos, refl, slice_get, subst}
+pub use Rattle.std.proofs.Common.{suc, sym, true, true≢false, zero, ℕ, ℤ, ⊎_elim, ◌%◌, ◌&&◌, ◌*◌, ◌++◌, ◌+◌, ◌-ℤ◌, ◌-◌}
+pub use Rattle.std.proofs.Common.{◌/◌, ◌<◌, ◌==◌, ◌^◌, ◌||◌, ◌∙◌, ◌∷◌, ◌≡◌, ◌≢◌, ◌≤◌, ◌⊎◌}
 pub use Rattle.std.proofs.lemmas.Bool.{and_from, and_parts, cases_eq, cases_lt, lt-leb, or_left, or_right}
 pub use Rattle.std.proofs.lemmas.List.{length-map, map-append}
 pub use Rattle.std.proofs.lemmas.List.Elements.{All-cons, All-nil, All-tail}
@@ -19,26 +18,24 @@ pub use Rattle.sc_base.proofs.Lists.{all_at, is_there, list_all_along}
 pub use Rattle.sc_event.specs.declared.row.Entry.{Entry}
 pub use Rattle.sc_event.specs.declared.row.Entry.TheVariants.{Export, Main}
 pub use Rattle.sc_word.proofs.Words.{word_of-lt, word_of-unsigned_sub}
-pub use Rattle.sc_word.specs.Prelude.{add_word, mul_word, signed_of, sub_word, word_of}
+pub use Rattle.sc_word.specs.Prelude.{add_word, sub_word, word_of}
 pub use Rattle.sc_core.proofs.Induction.{Each, everywhere}
 pub use Rattle.sc_core.specs.Prelude.{Blocks, Break, Calls, Continue, Exit, Front, Function, Here, Left, Next, Piece}
 pub use Rattle.sc_core.specs.Prelude.{Reached, Return, State, Stopped, all_do, and_then, at_brace, begun, choose}
-pub use Rattle.sc_core.specs.Prelude.{closed, computed, done, follow, in_loop, is_true, leave, load, most_params}
-pub use Rattle.sc_core.specs.Prelude.{rounds, store, stored, total, turn, with_memory, wrapping}
+pub use Rattle.sc_core.specs.Prelude.{closed, computed, done, follow, in_loop, is_true, leave, load, rounds, store}
+pub use Rattle.sc_core.specs.Prelude.{stored, total, turn, with_memory, wrapping}
 pub use Rattle.sc_core.specs.declared.cause.Cause.{Cause}
 pub use Rattle.sc_core.specs.declared.expr.CallTarget.{CallTarget}
 pub use Rattle.sc_core.specs.declared.expr.CallTarget.TheVariants.{Cross, Input, Output, Own}
 pub use Rattle.sc_core.specs.declared.value.Value.{Value}
 pub use Rattle.sc_core.specs.declared.value.Value.TheVariants.{Null, Ptr, Word}
-pub use Rattle.sc_laws.proofs.Growing.{FunctionGoes, done_goes, follow_goes, front_same, no_turn, reached, same, stays}
+pub use Rattle.sc_laws.proofs.Growing.{FunctionGoes, done_goes, follow_goes, front_same, reached, same, stays}
 pub use Rattle.sc_laws.proofs.Growing.{then_from, then_goes, then_then}
 pub use Rattle.sc_laws.specs.Prelude.{Goes, Gone, Grown, last}
-pub use Rattle.rv_code.specs.Prelude.{IsBranchOffset, IsImmediate, IsInstr, IsJumpOffset, IsReg, IsUpper}
 pub use Rattle.rv_code.specs.declared.instr.BranchOp.TheVariants.{Bne}
-pub use Rattle.rv_code.specs.declared.instr.Instr.TheVariants.{Branch, Ebreak, Ecall, Jal, Jalr, Load, Op, OpImm, Shift}
-pub use Rattle.rv_code.specs.declared.instr.Instr.TheVariants.{Store, Upper}
-pub use Rattle.rv_code.specs.declared.instr.LoadOp.TheVariants.{Lw}
-pub use Rattle.rv_code.specs.declared.instr.OpImmOp.TheVariants.{Addi, Andi, Ori, Xori}
+pub use Rattle.rv_code.specs.declared.instr.Instr.TheVariants.{Branch, Ebreak, Ecall, Jal, Jalr, Load, Op, OpImm, Store}
+pub use Rattle.rv_code.specs.declared.instr.Instr.TheVariants.{Upper}
+pub use Rattle.rv_code.specs.declared.instr.OpImmOp.TheVariants.{Addi}
 pub use Rattle.rv_code.specs.declared.instr.StoreOp.TheVariants.{Sw}
 pub use Rattle.rv_code.specs.declared.instr.UpperOp.TheVariants.{Lui}
 pub use Rattle.sc_store.specs.Prelude.{Memory}
@@ -46,7 +43,7 @@ pub use Rattle.sc_image.specs.Prelude.{IsWellFormed, IsWord, Traps, Walks, code_
 pub use Rattle.sc_image.specs.Prelude.{jalr_target, refused, stack_size, stack_top, start, start_memory, step, unless}
 unfoldable pub use Rattle.sc_image.specs.Prelude.{are_data, word_at}
 pub use Rattle.sc_image.specs.declared.parts.ImageParts.{ImageParts}
-pub use Rattle.sc_hart.proofs.Fetching.{back_at, code_is_fetched, front_at}
+pub use Rattle.sc_hart.proofs.Fetching.{back_at, front_at}
 pub use Rattle.sc_hart.proofs.Inside.{IsInside, code_inside}
 pub use Rattle.sc_hart.specs.Prelude.{Apart, CodeAt, Fetches, Owned, Registers, World, at, look, put_word, word}
 pub use Rattle.sc_tac.proofs.Induction.{Inside, stmt_induction}
@@ -54,12 +51,12 @@ pub use Rattle.sc_tac.specs.Prelude.{Ahead, ArePlaces, Codes, HasRoom, IsAssignm
 pub use Rattle.sc_tac.specs.Prelude.{Lives, Point, Set, Temps, Trail, ahead_at, all_true, branch_step, branches}
 pub use Rattle.sc_tac.specs.Prelude.{call_does, code_does, code_function, code_library, code_step, constant_value}
 pub use Rattle.sc_tac.specs.Prelude.{counts_elements, entry_weight, function_points, gets, has_elements, has_operands}
-pub use Rattle.sc_tac.specs.Prelude.{has_words, interval_of, intervals_of, is_one, is_place, is_unsigned, known}
-pub use Rattle.sc_tac.specs.Prelude.{live_across, live_before, names_own_object, names_own_temps, no_temps}
-pub use Rattle.sc_tac.specs.Prelude.{nothing_live, one_or_none, operated, parts, passes_few, passes_words, plain_points}
-pub use Rattle.sc_tac.specs.Prelude.{point, read, read_all, readings, received, register_count, return_does, row_first}
-pub use Rattle.sc_tac.specs.Prelude.{row_points, same_entry, second, slots_of, slots_up_to, start_of, stmt_branches}
-pub use Rattle.sc_tac.specs.Prelude.{stmt_does, takes_two, trail, trail_step, weight, with_parts, with_temp}
+pub use Rattle.sc_tac.specs.Prelude.{has_words, interval_of, intervals_of, is_one, is_place, known, live_across}
+pub use Rattle.sc_tac.specs.Prelude.{live_before, names_own_object, names_own_temps, no_temps, nothing_live}
+pub use Rattle.sc_tac.specs.Prelude.{one_or_none, operated, parts, passes_few, passes_words, plain_points, point, read}
+pub use Rattle.sc_tac.specs.Prelude.{read_all, readings, received, register_count, return_does, row_first, row_points}
+pub use Rattle.sc_tac.specs.Prelude.{same_entry, second, slots_of, slots_up_to, start_of, stmt_branches, stmt_does}
+pub use Rattle.sc_tac.specs.Prelude.{takes_two, trail, trail_step, weight, with_parts, with_temp}
 pub use Rattle.sc_tac.specs.declared.frame.FrameTree.{FrameTree}
 pub use Rattle.sc_tac.specs.declared.function.TacFnTree.{TacFnTree}
 pub use Rattle.sc_tac.specs.declared.place.Place.{Place}
@@ -75,24 +72,23 @@ pub use Rattle.sc_select.proofs.Joining.{stores_it, third_is_last, turning_role,
 pub use Rattle.sc_select.proofs.Sizes.{row_is_sized}
 pub use Rattle.sc_select.proofs.Turning.{IsTested, break_stmt, each_before, each_plain, fork_kind, kind_is, kind_of}
 pub use Rattle.sc_select.proofs.Turning.{layer_kind, loop_kind, plain_fork, test_stmt, turning_by}
-pub use Rattle.sc_select.specs.Prelude.{Addresses, Fits, Kind, Line, Need, Plan, Strays, a0, a7, added_by}
-pub use Rattle.sc_select.specs.Prelude.{address_scratch, all_plain, as_one, at_hand, between, binary_code, binary_short}
-pub use Rattle.sc_select.specs.Prelude.{branch_back, branch_reach, brought, bytes_ahead, bytes_of, call_cross, call_own}
-pub use Rattle.sc_select.specs.Prelude.{choice, choosing, closing, code_of, completed, copied, cycle, ending_past}
-pub use Rattle.sc_select.specs.Prelude.{ending_test, entrance, environment_call, first_scratch, followed, fork}
-pub use Rattle.sc_select.specs.Prelude.{frame_left, frame_taken, function_lines, in_order, in_turn, is_named, is_near}
-pub use Rattle.sc_select.specs.Prelude.{is_plain, is_short, joined, joins, jump_back, jump_over, keep, kept}
-pub use Rattle.sc_select.specs.Prelude.{kind_of_fork, less_than, linked, load_from, load_word, loading, loop_begins}
-pub use Rattle.sc_select.specs.Prelude.{low_after, lower_part, most_lines, move, moved_by, need, need_step, needs_of}
-pub use Rattle.sc_select.specs.Prelude.{nothing, object_offset, object_read, object_store, op_code, operand, operation}
-pub use Rattle.sc_select.specs.Prelude.{pass, past, place_needed, place_of, place_of_global, plain, plainly, plan_of}
-pub use Rattle.sc_select.specs.Prelude.{put, ra, receive, referring, refers_only, register_of, relocation_of}
+pub use Rattle.sc_select.specs.Prelude.{Addresses, Kind, Line, Need, Plan, Strays, a0, a7, address_scratch, all_plain}
+pub use Rattle.sc_select.specs.Prelude.{as_one, at_hand, between, binary_code, branch_back, branch_reach, brought}
+pub use Rattle.sc_select.specs.Prelude.{bytes_ahead, bytes_of, call_cross, call_own, choice, choosing, closing, code_of}
+pub use Rattle.sc_select.specs.Prelude.{completed, copied, cycle, ending_past, ending_test, entrance, environment_call}
+pub use Rattle.sc_select.specs.Prelude.{first_scratch, followed, fork, frame_left, frame_taken, function_lines}
+pub use Rattle.sc_select.specs.Prelude.{in_order, in_turn, is_named, is_near, is_plain, is_short, joined, joins}
+pub use Rattle.sc_select.specs.Prelude.{jump_back, jump_over, keep, kept, kind_of_fork, linked, load_from, load_word}
+pub use Rattle.sc_select.specs.Prelude.{loading, loop_begins, low_after, lower_part, move, moved_by, need, need_step}
+pub use Rattle.sc_select.specs.Prelude.{needs_of, nothing, object_offset, object_read, object_store, op_code, operand}
+pub use Rattle.sc_select.specs.Prelude.{operation, pass, past, place_needed, place_of, place_of_global, plain, plainly}
+pub use Rattle.sc_select.specs.Prelude.{plan_of, put, ra, receive, referring, refers_only, register_of, relocation_of}
 pub use Rattle.sc_select.specs.Prelude.{relocations_from, result_register, return, role_behind, role_first}
 pub use Rattle.sc_select.specs.Prelude.{role_of_load, role_of_operation, role_of_return, role_of_store, rotated}
 pub use Rattle.sc_select.specs.Prelude.{row_needs, second_operand, second_scratch, select, select_all, select_step}
-pub use Rattle.sc_select.specs.Prelude.{short, short_code, short_form, short_operation, short_return, skipping}
-pub use Rattle.sc_select.specs.Prelude.{slot_offset, sp, store_arguments, store_to, store_word, straight, straightly}
-pub use Rattle.sc_select.specs.Prelude.{take, take_second, taken, testing, unary_code, upper_part, word_of_constant}
+pub use Rattle.sc_select.specs.Prelude.{short_code, short_form, short_operation, short_return, skipping, slot_offset}
+pub use Rattle.sc_select.specs.Prelude.{sp, store_arguments, store_to, store_word, straight, straightly, take}
+pub use Rattle.sc_select.specs.Prelude.{take_second, taken, testing, unary_code, upper_part, word_of_constant}
 pub use Rattle.sc_select.specs.declared.operators.ShortForm.{ShortForm}
 pub use Rattle.sc_select.specs.declared.roles.Role.{Role}
 pub use Rattle.sc_select.specs.declared.roles.Role.TheVariants.{Applies, Loads, Operates, Other, Places, Sets}
@@ -130,6 +126,6 @@ pub use Rattle.sc_relation.specs.Prelude.{Returns, Running, Setting, Settled, Sh
 pub use Rattle.sc_relation.specs.Prelude.{Starts, ends_of, live_at, machine, of_environment, row, runs_with, seen_from}
 pub use Rattle.sc_relation.specs.Prelude.{wanted}
 pub use Rattle.sc_emit.specs.Common.{CodeTree, Instr, TacStmt, TacStmt-F, fold-TacStmt}
-pub use Rattle.sc_emit.specs.Prelude.{AreReached, CodeFollows, IsEmitted, IsPlaced, calls_only, code_back_edges}
-pub use Rattle.sc_emit.specs.Prelude.{code_branches, has_known_jumps, has_no_ebreak, is_backward, is_branch, is_call}
-pub use Rattle.sc_emit.specs.Prelude.{is_ebreak, is_known_jump, leads_back, loop_step, loops, names_only, stmt_loops}
+pub use Rattle.sc_emit.specs.Prelude.{AreReached, IsEmitted, IsPlaced, calls_only, code_back_edges, code_branches}
+pub use Rattle.sc_emit.specs.Prelude.{has_known_jumps, has_no_ebreak, is_backward, is_branch, is_call, is_ebreak}
+pub use Rattle.sc_emit.specs.Prelude.{is_known_jump, leads_back, loop_step, loops, names_only, stmt_loops}

@@ -2,12 +2,12 @@
 use Rattle.sc_emit.proofs.Common.{Activation, Addi, All, CallStands, CallTarget, Calls, CallsFollow, CodeAt, ComesBack}
 use Rattle.sc_emit.proofs.Common.{Computes, Ecall, Fetches, Follows, FrameTree, Input, Instr, IsActivation, IsBack}
 use Rattle.sc_emit.proofs.Common.{IsClear, IsWellFormed, IsWord, Joint, List, Lives, None, OpImm, Option, Output, Ready}
-use Rattle.sc_emit.proofs.Common.{Running, Setting, Standpoint, State as Meant, Temps, Value, [], a0, a7, across_live}
-use Rattle.sc_emit.proofs.Common.{all_at, ap, append-nil, append_assoc, arith, asked, back_at, back_with, brought}
-use Rattle.sc_emit.proofs.Common.{call_does, call_from, code_step, environment_call, false, length, list_all}
-use Rattle.sc_emit.proofs.Common.{live_across, live_plain, moved, of_environment, pass, place_of, plain_points, pos}
-use Rattle.sc_emit.proofs.Common.{receive, refl, seen_from, select_step, subst, sym, trail_step, true, wanted_less}
-use Rattle.sc_emit.proofs.Common.{with_number, wrapping, ℕ, ◌*◌, ◌++◌, ◌+◌, ◌<◌, ◌^◌, ◌∙◌, ◌∷◌, ◌≡◌, ◌≤◌}
+use Rattle.sc_emit.proofs.Common.{Running, Setting, State as Meant, Temps, Value, [], a0, a7, across_live, all_at, ap}
+use Rattle.sc_emit.proofs.Common.{append-nil, append_assoc, arith, asked, back_at, back_with, brought, call_does}
+use Rattle.sc_emit.proofs.Common.{call_from, code_step, environment_call, false, length, list_all, live_across}
+use Rattle.sc_emit.proofs.Common.{live_plain, moved, of_environment, pass, place_of, plain_points, pos, receive, refl}
+use Rattle.sc_emit.proofs.Common.{select_step, subst, sym, trail_step, true, wanted_less, with_number, wrapping, ℕ, ◌*◌}
+use Rattle.sc_emit.proofs.Common.{◌++◌, ◌+◌, ◌<◌, ◌^◌, ◌∙◌, ◌∷◌, ◌≡◌, ◌≤◌}
 use Rattle.sc_tac.specs.declared.stmt.TacStmt.TheOpen as tac
 use Rattle.sc_emit.proofs.Arguments.{AreRead, read_length, Passes}
 use Rattle.sc_emit.proofs.Calls.{Answers, none_wanted, HasPlace, last_point, Prepares, goes, call_runs, passes_args}
@@ -19,9 +19,6 @@ module _ (T : Setting) (R : Running) (formed : IsWellFormed T.image) (inputs : A
     (nodes : ℕ) (is : IsActivation T.performs cells R.places nodes R.activation) (placed : ArePlaced R) where
   abbrev A : Activation
   A = R.activation
-
-  abbrev P : Standpoint
-  P = seen_from R.activation
 
   abbrev frame : FrameTree
   frame = R.activation.frame

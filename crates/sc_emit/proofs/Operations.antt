@@ -1,7 +1,7 @@
 -- Operators, loads and stores.
 use Rattle.sc_emit.proofs.Common.{All, AreOperands, Arrives, Blocks, Bool, Calls, Cause, CodeAt, Comes, Computes, Does}
 use Rattle.sc_emit.proofs.Common.{Ends, Err, Follows, FrameTree, Goes, Gone, HasNoOtherUse, Instr, IsActivation}
-use Rattle.sc_emit.proofs.Common.{IsClear, IsLoaded, IsSound, IsWellFormed, IsWord, Joint, List, Lives, Load, Lw, Next}
+use Rattle.sc_emit.proofs.Common.{IsClear, IsLoaded, IsSound, IsWellFormed, IsWord, Joint, List, Lives, Load, Next}
 use Rattle.sc_emit.proofs.Common.{None, Ok, Option, Other, Place, Reached, Ready, Registers, Result, Running, Set}
 use Rattle.sc_emit.proofs.Common.{Setting, Settled, Some, StandsFor, State as Meant, Store, Stores, Sw, TacOp, Temps}
 use Rattle.sc_emit.proofs.Common.{Value, [], add_word, and_first, and_from, and_rest, and_then, ap, append-nil}
@@ -14,6 +14,7 @@ use Rattle.sc_emit.proofs.Common.{role_of_store, same, second_operand, second_sc
 use Rattle.sc_emit.proofs.Common.{shows_here, slice_get, sp, stays, store, store_to, stored, stores, straightly, subst}
 use Rattle.sc_emit.proofs.Common.{sym, take, takes_two, trail_step, true, with_memory, with_temp, word, word_of}
 use Rattle.sc_emit.proofs.Common.{wrapping, ℕ, ⊎_elim, ◌&&◌, ◌*◌, ◌++◌, ◌+◌, ◌==◌, ◌∙◌, ◌∷◌, ◌≡◌}
+use Rattle.rv_code.specs.declared.instr.LoadOp.TheVariants.{Lw}
 use Rattle.sc_pieces.proofs.Rows.{stores as stores_to, loads as loads_from}
 use Rattle.sc_tac.specs.declared.stmt.TacStmt.TheOpen as tac
 use Rattle.sc_pieces.proofs.Operators.{gives_word}

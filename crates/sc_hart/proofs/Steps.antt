@@ -3,7 +3,7 @@ use Rattle.sc_hart.proofs.Common.{BadJump, Fetches, Goes, ImageParts, Instr, IsA
 use Rattle.sc_hart.proofs.Common.{Registers, Some, State, Traps, Walks, World, ap, ap₂, arith, at, calls, compares}
 use Rattle.sc_hart.proofs.Common.{computed, data_start, eq-eqb, false, gives, jalr_target, jump, leaves, load_of, look}
 use Rattle.sc_hart.proofs.Common.{on_registers, put_word, refl, set, shift_on_registers, step, steps_by_instruction}
-use Rattle.sc_hart.proofs.Common.{store, stored, subst, suc, true, unless, word, word_at, ℕ, ℤ, ◌%◌, ◌+◌, ◌<◌, ◌∙◌, ◌≡◌}
+use Rattle.sc_hart.proofs.Common.{store, stored, true, unless, word, word_at, ℕ, ℤ, ◌%◌, ◌+◌, ◌<◌, ◌∙◌, ◌≡◌}
 use Rattle.sc_word.specs.Prelude.{add_word, word_of}
 use Rattle.rv_code.specs.declared.instr.Instr.TheVariants.{Upper, Jal, Jalr, Branch, Load, Store, OpImm, Op, Shift}
 use Rattle.rv_code.specs.declared.instr.ShiftOp.{ShiftOp}
@@ -24,12 +24,6 @@ module _ (image : ImageParts) (inputs : List ℕ) where
   pub then_go : {a b : ℕ} {s t u : State} → Walks image inputs a s t → Walks image inputs b t u →
       Walks image inputs (a + b) s u
   then_go {a} {b} {s} {t} {u} x y = stretches_compose.together image inputs a b s t u x y
-
-  pub step_go : {n : ℕ} {s t u : State} → Walks image inputs 1 s t → Walks image inputs n t u →
-      Walks image inputs (suc n) s u
-  step_go {n} {s} {t} {u} x y =
-      let count : 1 + n ≡ suc n = omega arith in
-      subst (λ k. Walks image inputs k s u) count (stretches_compose.together image inputs 1 n s t u x y)
 
   one : {s t : State} → step image inputs s ≡ Goes t → Walks image inputs 1 s t
   one {s} {t} h = stretches_compose.one_step image inputs s t h

@@ -25,7 +25,7 @@ pub use Rattle.sc_image.specs.RoundTrip.{BadOrImage, BytesNameOneImage, IsImage}
 pub use Rattle.sc_image.specs.Rules.{are_distinct, comps_keep, exports_keep, imports_keep, is_entry, is_import}
 pub use Rattle.sc_image.specs.Rules.{is_same_import, is_same_name, keeps_rules}
 pub use Rattle.sc_image.specs.State.{Crossing, State, a0, a7, byte_at, ra, reg, saved_sp, sp, stack_tops, start}
-pub use Rattle.sc_image.specs.State.{with_pc, with_reg, written}
+pub use Rattle.sc_image.specs.State.{with_pc, written}
 unfoldable pub use Rattle.sc_image.specs.State.{start_memory}
 pub use Rattle.sc_image.specs.Steady.{IsChain, IsSteady, KeepsWords, OpenCall, call_of, count_read, inputs_in}
 pub use Rattle.sc_image.specs.Steady.{open_after, open_calls, without_latest}

@@ -2,14 +2,14 @@
 pub use Rattle.std.proofs.Common.{All, AllPairs, Bool, IfNone, IfSome, IsTrue, List, None, Option, Some, [], ap}
 pub use Rattle.std.proofs.Common.{append-nil, ap₂, arith, bytes_eq, codes, cond, drop, drop-drop, eq-eqb, eqb, eqb-true}
 pub use Rattle.std.proofs.Common.{false, flat_map, fold, get_or, get_or-drop, get_or-take, is_some, le-leb, le-ltb, leb}
-pub use Rattle.std.proofs.Common.{leb-true, length, length-drop, length-take, length-take-le, lt-ltb, ltb-true, min}
-pub use Rattle.std.proofs.Common.{nat_eq, nat_le, nat_lt, ne_eqb, not, one-add, refl, slice_index, slice_range, subst}
-pub use Rattle.std.proofs.Common.{suc, sym, take, take-append-drop, take_all, true, zero, ℕ, ⊎_elim, ◌&&◌, ◌*◌, ◌++◌}
-pub use Rattle.std.proofs.Common.{◌+◌, ◌-◌, ◌<◌, ◌==◌, ◌||◌, ◌∙◌, ◌∷◌, ◌≡◌, ◌≤◌}
+pub use Rattle.std.proofs.Common.{leb-true, length, length-drop, length-take, length-take-le, ltb-true, min, nat_eq}
+pub use Rattle.std.proofs.Common.{nat_le, nat_lt, ne_eqb, not, one-add, refl, slice_index, slice_range, subst, suc, sym}
+pub use Rattle.std.proofs.Common.{take, take-append-drop, take_all, true, zero, ℕ, ⊎_elim, ◌&&◌, ◌*◌, ◌++◌, ◌+◌, ◌-◌}
+pub use Rattle.std.proofs.Common.{◌<◌, ◌==◌, ◌||◌, ◌∙◌, ◌∷◌, ◌≡◌, ◌≤◌}
 pub use Rattle.std.proofs.lemmas.Bool.{and_from, and_left, and_parts, and_right, cases_lt, false_from_ne_true}
 pub use Rattle.std.proofs.lemmas.Bool.{false≢true, lt-leb, not-false, not-true, not_from_false, not_from_true, or_cases}
 pub use Rattle.std.proofs.lemmas.Bool.{or_left, or_right}
-pub use Rattle.std.proofs.lemmas.List.{drop_all, drop_more, take_more, take_rest}
+pub use Rattle.std.proofs.lemmas.List.{drop_all, drop_more, take_rest}
 pub use Rattle.std.proofs.lemmas.List.Folds.{list_all-append, list_all_at}
 pub use Rattle.std.proofs.lemmas.List.Sums.{fold-append, fold_more, prefix_len-le-length, prefix_len_passes}
 pub use Rattle.std.proofs.lemmas.List.Sums.{prefix_len_stops, sum_by-append}
@@ -19,14 +19,14 @@ pub use Rattle.std.specs.List.{filter, list_all, list_any, position_or_len, pref
 pub use Rattle.sc_base.specs.Prelude.{is_between, is_name_byte, is_nondigit, name_of, reserved_words}
 unfoldable pub use Rattle.sc_base.specs.Prelude.{is_name, is_reserved}
 pub use Rattle.sc_lex.specs.Prelude.{AreSections, AreSpans, Cuts, IsBadHeading, IsCut, IsGap, IsPiece, IsSection}
-pub use Rattle.sc_lex.specs.Prelude.{IsSpan, IsSplit, IsStuck, IsToken, Lex, NoHeading, NoPiece, NoToken, Refusal}
-pub use Rattle.sc_lex.specs.Prelude.{RefusesBytes, RefusesHeading, allows_directive, base_of, begins_block_comment}
-pub use Rattle.sc_lex.specs.Prelude.{begins_heading, begins_line, begins_line_comment, block_comment, digit_value}
-pub use Rattle.sc_lex.specs.Prelude.{digits_of, directive_kind, ends_comment, gap, has_suffix, heading_name, is_blank}
-pub use Rattle.sc_lex.specs.Prelude.{is_digit, is_directive, is_empty, is_export, is_heading, is_hexadecimal, is_import}
-pub use Rattle.sc_lex.specs.Prelude.{is_inside_line, is_pragma, is_white_space, line_after, line_at, line_comment}
-pub use Rattle.sc_lex.specs.Prelude.{line_len, mark_kind, marks, may_follow, name_at, newlines, none, nothing, number}
-pub use Rattle.sc_lex.specs.Prelude.{only_name, placed, section, token, token_at, white_space, without_suffix}
+pub use Rattle.sc_lex.specs.Prelude.{IsSpan, IsStuck, IsToken, Lex, NoHeading, NoPiece, NoToken, Refusal, RefusesBytes}
+pub use Rattle.sc_lex.specs.Prelude.{allows_directive, base_of, begins_block_comment, begins_heading, begins_line}
+pub use Rattle.sc_lex.specs.Prelude.{begins_line_comment, block_comment, digit_value, digits_of, directive_kind}
+pub use Rattle.sc_lex.specs.Prelude.{ends_comment, gap, has_suffix, heading_name, is_blank, is_digit, is_directive}
+pub use Rattle.sc_lex.specs.Prelude.{is_empty, is_export, is_heading, is_hexadecimal, is_import, is_inside_line}
+pub use Rattle.sc_lex.specs.Prelude.{is_pragma, is_white_space, line_after, line_at, line_comment, line_len, mark_kind}
+pub use Rattle.sc_lex.specs.Prelude.{marks, may_follow, newlines, none, nothing, number, only_name, placed, section}
+pub use Rattle.sc_lex.specs.Prelude.{token, token_at, white_space, without_suffix}
 unfoldable pub use Rattle.sc_lex.specs.Prelude.{is_integer, is_mark, is_number, kind_of, line_kind, word_kind, words}
 pub use Rattle.sc_lex.specs.declared.token.Token.{Token}
 pub use Rattle.sc_lex.specs.declared.token.TokenKind.{TokenKind}

@@ -147,11 +147,6 @@ module _ (bytes : List ℕ) where
         front = rw h.in_line (cuts_then h.front one);
       }
 
-  pub progress_cut : (at line : ℕ) (found : List Token) → Progress at line found → length bytes ≤ at → IsCut bytes found
-  progress_cut at line found h past =
-      let end : at ≡ length bytes = omega (arith, h.within) in
-      subst (λ to. Cuts bytes 0 to found) end h.front
-
   pub progress_refused : (at line first_line : ℕ) (found : List Token) (refusal : Refusal) → Progress at line found →
       at < length bytes → Stops at → refusal ≡ record {
         phase = Lex;

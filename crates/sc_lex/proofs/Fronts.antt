@@ -4,8 +4,8 @@ use Rattle.sc_lex.proofs.Common.{TokenKind, and_from, and_parts, ap, arith, begi
 use Rattle.sc_lex.proofs.Common.{cases_lt, directive_kind, eq-eqb, false, false≢true, get_or-take, is_directive}
 use Rattle.sc_lex.proofs.Common.{is_inside_line, is_mark, is_name_byte, is_white_space, kind_of, le-leb, leb-true}
 use Rattle.sc_lex.proofs.Common.{length, length-take, length-take-le, line_kind, line_len, list_all, mark_kind, nat_le}
-use Rattle.sc_lex.proofs.Common.{none-some, or_cases, prefix_len, refl, slice_index, sym, take, true, word_kind, ℕ}
-use Rattle.sc_lex.proofs.Common.{⊎_elim, ◌&&◌, ◌<◌, ◌==◌, ◌||◌, ◌∙◌, ◌≡◌, ◌≤◌}
+use Rattle.sc_lex.proofs.Common.{none-some, prefix_len, refl, slice_index, sym, take, true, word_kind, ℕ, ⊎_elim, ◌&&◌}
+use Rattle.sc_lex.proofs.Common.{◌<◌, ◌==◌, ◌∙◌, ◌≡◌, ◌≤◌}
 use Rattle.sc_lex.proofs.Gaps.{slash_first, star_first}
 use Rattle.sc_lex.proofs.Texts.{IsRun, word_run, directive_run, mark_is, no_mark, kind_of-word, kind_of-directive}
 use Rattle.sc_lex.proofs.Texts.{kind_of-mark, kind_of-white_space}
@@ -143,11 +143,6 @@ module _ (text : List ℕ) (some : 0 < length text) (word : is_name_byte (slice_
       (λ low. ⊎_elim (λ less. ⊎_elim (λ least. let e : len ≡ 1 = omega arith in rw e one)
       (λ le. let e : len ≡ 2 = omega arith in rw e two) (cases_lt len 2))
       (λ le. let e : len ≡ 3 = omega arith in rw e three) (cases_lt len 3))) ∙ t.spelled)
-
--- nothing that a comment begins is a token
-pub comment_none : (text : List ℕ) → (begins_block_comment text || begins_line_comment text) ≡ true → NoToken text
-comment_none text h directives kind len t = ⊎_elim t.no_block_comment t.no_line_comment
-    (or_cases (begins_block_comment text) (begins_line_comment text) h)
 
 -- white space begins no token
 pub white_none : (text : List ℕ) → is_white_space (slice_index text 0) ≡ true → NoToken text

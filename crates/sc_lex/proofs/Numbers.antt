@@ -1,9 +1,8 @@
 -- The number that digits stand for.
 use Rattle.sc_lex.proofs.Common.{Bool, List, None, Option, Some, [], and_left, and_right, ap, arith, cond, digit_value}
 use Rattle.sc_lex.proofs.Common.{drop, false, fold, fold-append, fold_more, get_or, is_digit, is_empty, is_number}
-use Rattle.sc_lex.proofs.Common.{le-leb, le-ltb, leb, length, list_all, list_all-append, list_all_at, lt-leb, lt-ltb}
-use Rattle.sc_lex.proofs.Common.{not, number, refl, sym, take, take-append-drop, take_all, take_more, true, ℕ, ◌&&◌}
-use Rattle.sc_lex.proofs.Common.{◌*◌, ◌+◌, ◌<◌, ◌∙◌, ◌∷◌, ◌≡◌, ◌≤◌}
+use Rattle.sc_lex.proofs.Common.{le-leb, le-ltb, leb, length, list_all, list_all_at, lt-leb, not, number, refl, sym}
+use Rattle.sc_lex.proofs.Common.{take, take-append-drop, take_all, true, ℕ, ◌&&◌, ◌*◌, ◌+◌, ◌<◌, ◌∙◌, ◌∷◌, ◌≡◌, ◌≤◌}
 use Rattle.std.proofs.Math.Nat.{mul-le-mul_left}
 
 pub product_fits : (value base : ℕ) → value ≤ 4294967295 → base ≤ 16 → value * base ≤ 68719476720
@@ -23,24 +22,6 @@ module _ (base : ℕ) where
     pub low : value ≤ greatest
     pub value_is : value ≡ number base (take i digits)
     pub all : list_all (λ digit. is_digit base digit) (take i digits) ≡ true
-
-  pub read_none : (digits : List ℕ) (greatest : ℕ) → IsRead digits 0 0 greatest
-  read_none digits greatest = record { low = omega arith; value_is = refl; all = refl }
-
-  pub read_more : (digits : List ℕ) (i value greatest d : ℕ) → IsRead digits i value greatest → i < length digits →
-      d ≡ digit_value (get_or digits i 0) → d < base → value * base + d ≤ greatest →
-      IsRead digits (i + 1) (value * base + d) greatest
-  read_more digits i value greatest d h less is digit low =
-      let step = fold_more (λ value digit. value * base + digit_value digit) 0 digits i 0 less in
-      let passes : is_digit base (get_or digits i 0) ≡ true =
-      lt-ltb (digit_value (get_or digits i 0)) base (rw is at digit) in
-      record {
-        low = low;
-        value_is = rw (is, h.value_is) (sym step);
-        all = ap (λ ds. list_all (λ digit. is_digit base digit) ds) (take_more digits i 0 less) ∙
-            list_all-append (λ digit. is_digit base digit) (take i digits) (get_or digits i 0 ∷ []) ∙
-            rw (h.all, passes);
-      }
 
   pub no_digit : (digits : List ℕ) (i greatest d : ℕ) → i < length digits → d ≡ digit_value (get_or digits i 0) →
       base ≤ d → is_number base greatest digits ≡ false

@@ -1,10 +1,9 @@
 -- Sections that follow one another, and what the loop over them keeps.
-use Rattle.sc_lex.proofs.Common.{AreSections, IsBadHeading, IsSection, IsSplit, IsTrue, Lex, List, NoHeading, None}
-use Rattle.sc_lex.proofs.Common.{Refusal, RefusesHeading, [], and_parts, ap, arith, begins_heading, begins_line}
-use Rattle.sc_lex.proofs.Common.{cases_lt, cond, drop, drop-drop, flat_map, is_heading, length, length-drop}
-use Rattle.sc_lex.proofs.Common.{length-take-le, line_after, line_at, min, name_at, newlines, none, none-some, refl}
-use Rattle.sc_lex.proofs.Common.{section, slice_range, sum_by-append, sym, take, take_all, ℕ, ⊎_elim, ◌++◌, ◌+◌, ◌-◌}
-use Rattle.sc_lex.proofs.Common.{◌<◌, ◌==◌, ◌∙◌, ◌∷◌, ◌≡◌, ◌≤◌}
+use Rattle.sc_lex.proofs.Common.{AreSections, IsBadHeading, IsSection, IsTrue, List, NoHeading, [], and_parts, ap}
+use Rattle.sc_lex.proofs.Common.{arith, begins_heading, begins_line, cases_lt, cond, drop, drop-drop, flat_map}
+use Rattle.sc_lex.proofs.Common.{is_heading, length, length-drop, line_after, line_at, min, newlines, none, none-some}
+use Rattle.sc_lex.proofs.Common.{refl, section, slice_range, sum_by-append, sym, take, take_all, ℕ, ⊎_elim, ◌++◌, ◌+◌}
+use Rattle.sc_lex.proofs.Common.{◌-◌, ◌<◌, ◌==◌, ◌∙◌, ◌∷◌, ◌≡◌, ◌≤◌}
 use Rattle.std.proofs.Math.Seq.{take-add}
 use Rattle.sc_lex.specs.declared.section.Section.{Section}
 use Rattle.sc_lex.proofs.Wording.{heading_fits}
@@ -94,18 +93,6 @@ progress_on text first at end line found s h g heading = record {
       (cases_lt k at);
 }
 
-pub progress_split : (text : List ℕ) (first at line : ℕ) (found : List Section) → Progress text first at line found →
-    length text ≤ at → IsSplit text (take first text) found
-progress_split text first at line found h past =
-    let low = sections_rise h.so_far in
-    let end : at ≡ length text = omega (arith, h.within) in
-    let long : length (take first text) ≡ first = length-take-le first text (omega arith) in
-    record {
-      front = rw long;
-      before = rw long h.before;
-      behind = rw (long, ← end) h.so_far;
-    }
-
 pub progress_joined : (text : List ℕ) (first at line : ℕ) (found : List Section) → Progress text first at line found →
     length text ≤ at → take first text ++ flat_map (λ s. s.bytes.now) found ≡ text
 progress_joined text first at line found h past =
@@ -116,14 +103,3 @@ progress_joined text first at line found h past =
 pub progress_good : (text : List ℕ) (first at line : ℕ) (found : List Section) → Progress text first at line found →
     length text ≤ at → (k : ℕ) → IsBadHeading text k → ⊥
 progress_good text first at line found h past k bad = h.good k (omega (arith, heading_within text k bad.heading)) bad
-
-pub progress_refused : (text : List ℕ) (first at line : ℕ) (found : List Section) (refusal : Refusal) →
-    Progress text first at line found → at < length text → name_at text at ≡ None →
-    refusal ≡ record { phase = Lex; line = line } → RefusesHeading text refusal
-progress_refused text first at line found refusal h more nameless is = record {
-  at = at;
-  bad = record { heading = h.heading more; nameless = nameless };
-  first = h.good;
-  phase = ap (λ r. r.phase) is;
-  line = ap (λ r. r.line) is ∙ h.in_line;
-}

@@ -1,18 +1,11 @@
 -- Compartments of a linked image, by their numbers: what each consists of, and which interface and section it has.
-use Rattle.sc_linker.proofs.Common.{CodeTree, CompPart, Interface, Interfaces, IsWellTyped, List, None, Option}
-use Rattle.sc_linker.proofs.Common.{ProgramTree, Proto, Some, TypedSection, [], and_first, and_rest, ap, are_distinct}
-use Rattle.sc_linker.proofs.Common.{arith, codes as text, comp_at, comp_part, comp_parts, export_at, exports_at}
-use Rattle.sc_linker.proofs.Common.{exports_in, false≢true, inl, inr, interface_fits, leb-true, length, linked_image}
-use Rattle.sc_linker.proofs.Common.{map, most_compartments, nat_le, option_and_then, option_map, refl, section_at}
+use Rattle.sc_linker.proofs.Common.{CodeTree, CompPart, Interface, Interfaces, IsWellTyped, List, None, ProgramTree}
+use Rattle.sc_linker.proofs.Common.{Proto, Some, TypedSection, [], and_first, and_rest, ap, are_distinct, arith}
+use Rattle.sc_linker.proofs.Common.{codes as text, comp_at, comp_part, comp_parts, export_at, exports_at, exports_in}
+use Rattle.sc_linker.proofs.Common.{false≢true, inl, inr, interface_fits, leb-true, length, linked_image, map}
+use Rattle.sc_linker.proofs.Common.{most_compartments, nat_le, option_and_then, option_map, refl, section_at}
 use Rattle.sc_linker.proofs.Common.{section_fits, section_or_none, sections_fit, sections_so, slice_get}
 use Rattle.sc_linker.proofs.Common.{slice_get_within, subst, suc, sym, true, zero, ℕ, ◌+◌, ◌<◌, ◌∙◌, ◌∷◌, ◌≡◌, ◌⊎◌}
-
--- PARTS
--- a compartment of an image is the part of its interface
-pub record IsPart (program : ProgramTree) (codes : List CodeTree) (c : ℕ) (comp : CompPart) : Type 0 where
-  pub interface : Interface
-  pub face : comp_at program.interfaces c ≡ Some interface
-  pub same : comp_part program codes c interface ≡ comp
 
 module _ (program : ProgramTree) (codes : List CodeTree) where
   parts_at : (k number : ℕ) (interfaces : List Interface) (c : ℕ) → number ≡ k + c →
@@ -30,14 +23,6 @@ module _ (program : ProgramTree) (codes : List CodeTree) where
   pub part_there : (c : ℕ) (interface : Interface) → comp_at program.interfaces c ≡ Some interface →
       slice_get (linked_image program codes).comps c ≡ Some (comp_part program codes c interface)
   part_there c interface is = part_at c ∙ ap (option_map (comp_part program codes c)) is
-
-  pub part_of : (c : ℕ) (comp : CompPart) → slice_get (linked_image program codes).comps c ≡ Some comp →
-      IsPart program codes c comp
-  part_of c comp is = by (comp_at program.interfaces c) refl (sym (part_at c) ∙ is) where
-    by : (o : Option Interface) → comp_at program.interfaces c ≡ o →
-        option_map (comp_part program codes c) o ≡ Some comp → IsPart program codes c comp
-    by None at h = absurd (cc)
-    by (Some interface) at h = record { interface = interface; face = at; same = cc }
 
   parts_length : (k : ℕ) (interfaces : List Interface) → length (comp_parts program codes k interfaces) ≡ length
       interfaces
@@ -139,13 +124,6 @@ module _ (program : ProgramTree) (typed : IsWellTyped program) where
           faces = p.faces;
         })
         by (inr none) = inr none
-
-  pub of_face : (c : ℕ) (interface : Interface) → comp_at program.interfaces c ≡ Some interface → Fits program c
-  of_face c interface is = by (fits_or_none c) where
-    by : Fits program c ⊎ ((comp_at program.interfaces c ≡ None) × (slice_get program.sections c ≡ None)) →
-        Fits program c
-    by (inl fits) = fits
-    by (inr none) = let never : Some interface ≡ None = sym is ∙ none.0 in absurd (cc)
 
   pub of_section : (c : ℕ) (section : TypedSection) → slice_get program.sections c ≡ Some section → Fits program c
   of_section c section is = by (fits_or_none c) where

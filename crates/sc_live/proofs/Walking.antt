@@ -2,7 +2,7 @@
 use Rattle.sc_live.proofs.Common.{Bool, Holds, List, Lives, Option, Point, Set, TacStmt, TacStmt-F, Trail, Walk, Walked}
 use Rattle.sc_live.proofs.Common.{WalkedAll, WalkedOver, [], ap, append_assoc, arith, drop, drop-cons, false}
 use Rattle.sc_live.proofs.Common.{fold-roll-TacStmt, get_or, if_calls, is_one, length, live_before, live_first}
-use Rattle.sc_live.proofs.Common.{lives_at, map, map-TacStmt, not, one_or_none, plain_points, point, refl, roll-TacStmt}
+use Rattle.sc_live.proofs.Common.{lives_at, map, map-TacStmt, not, one_or_none, plain_points, point, roll-TacStmt}
 use Rattle.sc_live.proofs.Common.{row_points, set_of, subst, suc, sym, trail, trail_step, true, ℕ, ◌&&◌, ◌++◌, ◌-◌, ◌<◌}
 use Rattle.sc_live.proofs.Common.{◌==◌, ◌||◌, ◌∙◌, ◌∷◌, ◌≡◌, ◌≤◌}
 use Rattle.std.proofs.Math.Bool.{or_comm}
@@ -36,9 +36,6 @@ walked_on xs ys set set' before between after h k = record {
       subst (Holds temps after) (sym (append_assoc xs ys behind))
       (k.holds temps (ys ++ behind) (h.holds temps behind g));
 }
-
-pub walked_none : (walk : Walk) → Walked [] (set_of walk.live) walk walk
-walked_none walk = record { live = refl; holds = λ temps behind g. g }
 
 pub walked_as : (points points' : List Point) (set set' : Set) (before after : Walk) → points ≡ points' → set ≡ set' →
     Walked points set before after → Walked points' set' before after

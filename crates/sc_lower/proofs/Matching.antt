@@ -61,9 +61,6 @@ pub ends_then : {V W : Type 0} (end : RunEnd) (s : State) (p : Piece V) (g : V �
     Ends end s (and_then p g)
 ends_then end s p g h = record { other = h.other; is = ap (λ x. and_then x g) h.is; same = h.same }
 
-pub ends_along : {V : Type 0} (end : RunEnd) (s : State) (p q : Piece V) → q ≡ p → Ends end s p → Ends end s q
-ends_along end s p q e h = record { other = h.other; is = e ∙ h.is; same = h.same }
-
 pub blamed : {V : Type 0} (here : Here) (cause : Cause) (line : ℕ) (s : State) (p : Piece V) →
     p ≡ Stopped (Blamed here.comp cause 0) s → Ends (Blamed here.comp cause line) s p
 blamed here cause line s p e = record { other = Blamed here.comp cause 0; is = e; same = refl }

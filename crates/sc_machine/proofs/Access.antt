@@ -1,11 +1,11 @@
 -- Which accesses are allowed, and that there is memory for them.
 use Rattle.sc_machine.proofs.Common.{Bool, CompPart, HasBytes, ImageParts, IsBacked, IsLookedUp, IsPlace, List, Memory}
-use Rattle.sc_machine.proofs.Common.{None, Some, State, TrapReason, Traps, ap, are_data, arith, comp_of_data}
-use Rattle.sc_machine.proofs.Common.{data_start, extended, false, gives, globals_of, if◌then◌else◌, is_some, le-leb}
-use Rattle.sc_machine.proofs.Common.{le-ltb, length, load, load_of, load_size, lt-leb, most_globals, nat_le, nat_lt}
-use Rattle.sc_machine.proofs.Common.{next, refl, refused, slice_get, slice_get_cases, stack_size, stack_top, start_is}
-use Rattle.sc_machine.proofs.Common.{start_memory, store, store_size, stored, stretch, subst, sym, true, with_stored, ℕ}
-use Rattle.sc_machine.proofs.Common.{⊎_elim, ◌%◌, ◌+◌, ◌-◌, ◌<◌, ◌∙◌, ◌≡◌, ◌≤◌}
+use Rattle.sc_machine.proofs.Common.{None, Some, State, ap, are_data, arith, comp_of_data, data_start, extended, false}
+use Rattle.sc_machine.proofs.Common.{gives, globals_of, if◌then◌else◌, is_some, le-leb, le-ltb, length, load, load_of}
+use Rattle.sc_machine.proofs.Common.{load_size, lt-leb, most_globals, nat_le, nat_lt, next, refl, refused, slice_get}
+use Rattle.sc_machine.proofs.Common.{slice_get_cases, stack_size, stack_top, start_is, start_memory, store, store_size}
+use Rattle.sc_machine.proofs.Common.{stored, stretch, subst, sym, true, with_stored, ℕ, ⊎_elim, ◌%◌, ◌+◌, ◌-◌, ◌<◌, ◌∙◌}
+use Rattle.sc_machine.proofs.Common.{◌≡◌, ◌≤◌}
 use Rattle.std.proofs.lemmas.Bool.Decides.{nat_tests}
 use Rattle.rv_code.specs.declared.instr.LoadOp.{LoadOp}
 use Rattle.rv_code.specs.declared.instr.StoreOp.{StoreOp}
@@ -98,22 +98,12 @@ stored_backed image memory a size word backed there =
 -- A load and a store, by whether they are allowed.
 
 module _ (image : ImageParts) (state : State) where
-  pub load_refused : (op : LoadOp) (rd a size : ℕ) (reason : TrapReason) → size ≡ load_size op →
-      Some reason ≡ refused image state.active size a →
-      Traps reason ≡ load image state op rd a
-  load_refused op rd a size reason is why = rw (sym is, sym why) refl
-
   pub load_goes : (op : LoadOp) (rd a size word : ℕ) → size ≡ load_size op → None ≡ refused image state.active size a →
       word ≡ extended op (load_of state.memory a (load_size op)) → gives state rd word ≡ load image state op rd a
   load_goes op rd a size word is allows loads =
       let allowed : refused image state.active (load_size op) a ≡ None =
       sym (subst (λ n. None ≡ refused image state.active n a) is allows) in
       rw (allowed, loads) refl
-
-  pub store_refused : (op : StoreOp) (a size word : ℕ) (reason : TrapReason) → size ≡ store_size op →
-      Some reason ≡ refused image state.active size a →
-      Traps reason ≡ store image state op a word
-  store_refused op a size word reason is why = rw (sym is, sym why) refl
 
   pub store_goes : (op : StoreOp) (a size word : ℕ) → size ≡ store_size op → None ≡ refused image state.active size a →
       next (with_stored state op a word) ≡ store image state op a word
@@ -123,8 +113,3 @@ module _ (image : ImageParts) (state : State) where
       rw allowed refl
 
 -- One byte.
-
-pub one_byte : (m : Memory) (a b : ℕ) → m a ≡ Some b → load_of m a 1 ≡ b
-one_byte m a b is =
-    let place : a + 0 ≡ a = omega arith in
-    rw (place, is) (omega arith)

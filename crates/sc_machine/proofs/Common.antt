@@ -13,7 +13,6 @@ pub use Rattle.std.proofs.lemmas.Option.{get_or_from_slice_get, slice_get-get_or
 pub use Rattle.std.specs.List.{slice_get}
 pub use Rattle.std.specs.Option.{option_and_then, option_map_or}
 pub use Rattle.sc_base.specs.declared.stop.TrapReason.{TrapReason}
-pub use Rattle.sc_base.specs.declared.stop.TrapReason.TheVariants.{BadJump, Misaligned, NoImport}
 pub use Rattle.sc_word.specs.Prelude.{add_word, word_of}
 pub use Rattle.sc_store.proofs.Access.{next_there, written-stored, written_more, written_nothing}
 pub use Rattle.sc_store.specs.Prelude.{AreApart, AreBelow, HasBytes, IsIn, Memory, byte_of, is_in, load_of, stored}
@@ -28,7 +27,7 @@ pub use Rattle.sc_image.specs.Prelude.{export_at, export_called, exports_of, ext
 pub use Rattle.sc_image.specs.Prelude.{is_ended, jump, leaves, load, load_size, machine, may_call, may_input}
 pub use Rattle.sc_image.specs.Prelude.{may_output, most_globals, next, params_of, ra, refused, reg, returned}
 pub use Rattle.sc_image.specs.Prelude.{stack_size, stack_top, stack_tops, start, step, stops_or, store, store_size}
-pub use Rattle.sc_image.specs.Prelude.{stretch, with_pc, with_reg, with_stored}
+pub use Rattle.sc_image.specs.Prelude.{stretch, with_stored}
 unfoldable pub use Rattle.sc_image.specs.Prelude.{execute_by, run, start_memory, stopped, word_at}
 pub use Rattle.sc_image.specs.declared.parts.CompPart.{CompPart}
 pub use Rattle.sc_image.specs.declared.parts.ExportPart.{ExportPart}

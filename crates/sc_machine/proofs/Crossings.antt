@@ -1,16 +1,13 @@
 -- Calls of other compartments and returns, by what was found.
-use Rattle.sc_machine.proofs.Common.{BadJump, Callee, CompPart, ExportPart, Goes, ImageParts, IsCallee, IsWellFormed}
-use Rattle.sc_machine.proofs.Common.{List, NoImport, None, Option, Some, State, TrapReason, Traps, [], ap, arith}
-use Rattle.sc_machine.proofs.Common.{called, calls, comp_of_code, eq-eqb, export_at, export_called, exports_of, false}
-use Rattle.sc_machine.proofs.Common.{get_or, length, may_call, ne_eqb, option_map_or, params_of, position, ra, refl}
-use Rattle.sc_machine.proofs.Common.{slice_get, slice_get-get_or, slice_get_within, subst, sym, true, ℕ, ◌<◌, ◌==◌, ◌∙◌}
-use Rattle.sc_machine.proofs.Common.{◌≡◌, ◌≢◌, ◌≤◌}
+use Rattle.sc_machine.proofs.Common.{Callee, CompPart, ExportPart, Goes, ImageParts, IsCallee, IsWellFormed, List, None}
+use Rattle.sc_machine.proofs.Common.{Option, Some, State, Traps, [], ap, arith, called, calls, comp_of_code, eq-eqb}
+use Rattle.sc_machine.proofs.Common.{export_at, export_called, exports_of, false, get_or, length, may_call}
+use Rattle.sc_machine.proofs.Common.{option_map_or, params_of, position, ra, refl, slice_get, slice_get-get_or}
+use Rattle.sc_machine.proofs.Common.{slice_get_within, subst, sym, true, ℕ, ◌<◌, ◌==◌, ◌∙◌, ◌≡◌, ◌≤◌}
+use Rattle.sc_base.specs.declared.stop.TrapReason.TheVariants.{BadJump, NoImport}
 use Rattle.std.proofs.lemmas.List.Quantifiers.{position-Some}
 
 module _ (image : ImageParts) (state : State) (target : ℕ) where
-  pub no_call : (rd : ℕ) → rd ≢ ra → calls image state rd target ≡ Traps BadJump
-  no_call rd h = rw (ne_eqb rd ra h) refl
-
   linked : (rd : ℕ) → rd ≡ ra → calls image state rd target ≡
       export_called image state (comp_of_code target) target (export_at image (comp_of_code target) target)
   linked rd h = rw (eq-eqb rd ra h) refl
@@ -28,11 +25,6 @@ module _ (image : ImageParts) (state : State) (target : ℕ) where
       linked rd links ∙ called_by callee.comp callee.index callee.params (rw at at h.comp)
       (rw at at h.index) h.params h.may ∙
       ap (λ entry. Goes (called state callee.comp callee.index callee.params entry)) (sym at)
-
-  pub call_refused : (rd : ℕ) (reason : TrapReason) → rd ≡ ra →
-      Traps reason ≡ export_called image state (comp_of_code target) target
-      (export_at image (comp_of_code target) target) → Traps reason ≡ calls image state rd target
-  call_refused rd reason links is = is ∙ sym (linked rd links)
 
   pub not_imported : (comp index : ℕ) → comp ≡ comp_of_code target → export_at image comp target ≡ Some index →
       may_call image state.active comp index ≡ false →

@@ -1,19 +1,9 @@
 -- Jumps, by the case of their target.
-use Rattle.sc_machine.proofs.Common.{Goes, ImageParts, List, Misaligned, None, Outcome, State, Traps, add_word, ap}
-use Rattle.sc_machine.proofs.Common.{arith, calls, cases_eq, eq-eqb, execute, execute_by, gate, is_some, jump, leaves}
-use Rattle.sc_machine.proofs.Common.{ne_eqb, refl, reg, returned, sym, true, with_pc, with_reg, word_at, word_of, ℕ, ℤ}
-use Rattle.sc_machine.proofs.Common.{⊎_elim, ◌%◌, ◌*◌, ◌+◌, ◌/◌, ◌≡◌, ◌≢◌}
+use Rattle.sc_machine.proofs.Common.{Goes, ImageParts, List, None, State, add_word, ap, arith, calls, cases_eq, eq-eqb}
+use Rattle.sc_machine.proofs.Common.{execute, execute_by, gate, jump, leaves, ne_eqb, refl, reg, returned, sym, word_at}
+use Rattle.sc_machine.proofs.Common.{word_of, ℕ, ℤ, ⊎_elim, ◌*◌, ◌/◌, ◌≡◌, ◌≢◌}
 use Rattle.rv_code.specs.declared.instr.Instr.TheVariants.{Jalr}
 use Rattle.sc_machine.proofs.Words.{below_code}
-
-pub jump_misaligned : (image : ImageParts) (state : State) (rd target : ℕ) (other : Outcome) →
-    target % 4 ≢ 0 → jump image state rd target other ≡ Traps Misaligned
-jump_misaligned image state rd target other h = rw (ne_eqb _ _ h) refl
-
-pub jump_inside : (image : ImageParts) (state : State) (rd target : ℕ) (other : Outcome) →
-    target % 4 ≡ 0 → is_some (word_at image state.active target) ≡ true →
-    jump image state rd target other ≡ Goes (with_pc (with_reg state rd (state.pc + 4)) target)
-jump_inside image state rd target other e h = rw (eq-eqb _ _ e, h) refl
 
 -- JALR, by the sum of its register and its immediate
 leaves_by : (image : ImageParts) (state : State) (rd target : ℕ) → (rd ≡ 0 → target ≡ gate → ⊥) →

@@ -1,8 +1,8 @@
 -- The numbers of functions and workers: which are in a list, and that they rise.
 use Rattle.sc_made.proofs.Common.{AllByRecursion, Bool, IsAmong, List, [], all_functions, arith, cond, eq-eqb, false}
 use Rattle.sc_made.proofs.Common.{false≢true, filter, first, functions_of, inl, inr, is_first_or_later, later, nat_eq}
-use Rattle.sc_made.proofs.Common.{none_among, numbers_from, refl, subst, suc, sym, true, workers, zero, ℕ, ◌%◌, ◌+◌}
-use Rattle.sc_made.proofs.Common.{◌<◌, ◌∷◌, ◌≡◌, ◌≤◌}
+use Rattle.sc_made.proofs.Common.{none_among, numbers_from, refl, subst, suc, true, workers, zero, ℕ, ◌%◌, ◌+◌, ◌<◌}
+use Rattle.sc_made.proofs.Common.{◌∷◌, ◌≡◌, ◌≤◌}
 use Rattle.std.proofs.lemmas.Nat.{mod_below}
 
 -- the numbers rise, from `low` on, and stay below `high`
@@ -84,13 +84,6 @@ pub function_there : (size j : ℕ) → IsAmong j (all_functions size) → IsAmo
 function_there size j h =
     filter_keeps (λ k. nat_eq (k % workers size) (j % workers size)) j (all_functions size)
     (eq-eqb (j % workers size) (j % workers size) refl) h
-
-pub below_high : (low high j : ℕ) (js : List ℕ) → Rise low high js → IsAmong j js → j < high
-below_high low high j [] h there = none_among j there
-below_high low high j (i ∷ js) h there = elim (is_first_or_later j i js there) [
-  | inl same ↦ subst (λ n. n < high) (sym same) h.1
-  | inr rest ↦ below_high (suc i) high j js h.2 rest
-]
 
 -- a function's worker is one of the workers
 pub worker_low : (size j : ℕ) → 1 ≤ size → j % workers size < workers size

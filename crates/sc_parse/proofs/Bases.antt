@@ -258,13 +258,3 @@ declarator_reads {ts} {us} {stars} {elements} t name p d l rest h =
     let no_star : NoStar (t ∷ (us ++ rest)) = rw p in
     let counted = stars_count d (t ∷ (us ++ rest)) no_star in
     rw (counted.0, counted.1, p, length_complete l rest h)
-
--- a declarator of this type and name is one behind each base
-pub record Split (ts : List Lexeme) (x : Declarator) : Type 0 where
-  pub before : List Lexeme
-  pub behind_name : List Lexeme
-  pub name : Lexeme
-  pub is : ts ≡ before ++ name ∷ behind_name
-  pub ident : IsIdent x.name name
-  pub stars : SpellsStars before x.stars
-  pub elements : IsLength behind_name x.length

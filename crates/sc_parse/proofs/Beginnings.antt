@@ -1,12 +1,12 @@
 -- What declarations begin with.
 use Rattle.sc_parse.proofs.Common.{BaseTree, Declares, GlobalTree, HeadTree, InitTree, IsGlobal, Lexeme, List, None}
 use Rattle.sc_parse.proofs.Common.{Option, Separated, SpellsBase, SpellsDeclarator, SpellsHead, SpellsInit}
-use Rattle.sc_parse.proofs.Common.{SpellsResult, SpellsStars, SpellsStruct, SpellsTypeName, StructTree, TypeName}
-use Rattle.sc_parse.proofs.Common.{TypeTree, [], a_result, absent, ap, append_assoc, arith, array, begins_call}
-use Rattle.sc_parse.proofs.Common.{begins_head, begins_struct, begins_with, declares, drop, false, first_line, global}
-use Rattle.sc_parse.proofs.Common.{head, int, length, length-append, line_at, many, many_comma, more, no_result}
-use Rattle.sc_parse.proofs.Common.{past_base, past_stars, signed, signed_int, star, subst, sym, true, type_name}
-use Rattle.sc_parse.proofs.Common.{unsigned, unsigned_int, ℕ, ◌++◌, ◌<◌, ◌∙◌, ◌∷◌, ◌≡◌}
+use Rattle.sc_parse.proofs.Common.{SpellsResult, SpellsStars, SpellsStruct, StructTree, TypeName, TypeTree, []}
+use Rattle.sc_parse.proofs.Common.{a_result, absent, ap, append_assoc, arith, array, begins_call, begins_head}
+use Rattle.sc_parse.proofs.Common.{begins_struct, begins_with, declares, drop, false, global, head, int, length}
+use Rattle.sc_parse.proofs.Common.{line_at, many, many_comma, more, no_result, past_base, past_stars, signed}
+use Rattle.sc_parse.proofs.Common.{signed_int, star, subst, sym, true, type_name, unsigned, unsigned_int, ℕ, ◌++◌, ◌<◌}
+use Rattle.sc_parse.proofs.Common.{◌∙◌, ◌∷◌, ◌≡◌}
 use Rattle.sc_expr.specs.declared.mark.Mark.TheVariants as mark
 use Rattle.sc_parse.specs.Lists as lists
 use Rattle.sc_parse.specs.Types as types
@@ -166,9 +166,6 @@ head_begins (head {ts = ts} {us = us} t u v name p q r d g) rest =
 pub struct_begins : {ts : List Lexeme} {x : StructTree} (d : SpellsStruct ts x) (rest : List Lexeme) →
     (begins_struct (ts ++ rest) ≡ true) × NoLine (ts ++ rest)
 struct_begins (struct t u v w y tag p q r k l d g) rest = (rw (p, q, r), rw p)
-
-pub head_some : {ts : List Lexeme} {x : HeadTree} (d : SpellsHead ts x) → 0 < length ts
-head_some (head {ts = ts} {us = us} t u v name p q r d g) = omega (arith, length-append ts (t ∷ u ∷ (us ++ v ∷ [])))
 
 pub struct_some : {ts : List Lexeme} {x : StructTree} (d : SpellsStruct ts x) → 0 < length ts
 struct_some (struct t u v w y tag p q r k l d g) = omega arith

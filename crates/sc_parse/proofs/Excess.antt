@@ -18,9 +18,6 @@ pub record IsWithin (lexemes : List Lexeme) (at count : ℕ) : Type 0 where
   pub few : most_open 0 (take at lexemes) ≤ 1024
   pub low : count ≤ 1024
 
-pub within_start : (lexemes : List Lexeme) → IsWithin lexemes 0 0
-within_start lexemes = record { count_is = refl; few = omega arith; low = omega arith }
-
 more_open : (lexemes : List Lexeme) (at count : ℕ) (t : Lexeme) → at < length lexemes → IsWithin lexemes at count →
     open_along 0 (take (at + 1) lexemes) ≡ open_after (get_or lexemes at t).symbol count
 more_open lexemes at count t h w =

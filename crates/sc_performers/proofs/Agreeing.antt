@@ -178,13 +178,3 @@ module _ (sections : List SectionTree) (number : ℕ) (section : SectionTree) (m
             (back_empty (unless (head_holds sections number section before (head_of tree.head) &&
             main_holds mains (head_of tree.head)) tree.head.line) _ h)),
       )
-
--- a function's head is one of its section's
-pub head_among : (tree : FunctionTree) (decls : List Decl) → IsAmong (decl.Function tree) decls →
-    IsAmong (head_of tree.head) (heads_in decls)
-head_among tree decls (first rest) = first (heads_in rest)
-head_among tree decls (later (decl.Struct other) rest there) = head_among tree rest there
-head_among tree decls (later (decl.Global other) rest there) = head_among tree rest there
-head_among tree decls (later (decl.Proto head) rest there) = later head (heads_in rest) (head_among tree rest there)
-head_among tree decls (later (decl.Function other) rest there) =
-    later (head_of other.head) (heads_in rest) (head_among tree rest there)

@@ -1,15 +1,14 @@
 -- The names that several proofs of this crate cite, passed on from one place. Declares nothing.
 pub use Rattle.std.proofs.Common.{All, Bool, IsTrue, List, None, Option, Some, [], ap, append-nil, append_assoc, ap₂}
 pub use Rattle.std.proofs.Common.{arith, bytes_eq, codes, cond, drop, eq-eqb, eqb-true, false, filter, if◌then◌else◌}
-pub use Rattle.std.proofs.Common.{inl, inr, is_some, le-leb, leb-false, leb-true, length, length-append, lt-ltb}
-pub use Rattle.std.proofs.Common.{ltb-true, map, nat_le, nat_lt, not, position, refl, rules, slice_get, subst, suc, sym}
-pub use Rattle.std.proofs.Common.{true, zero, ℕ, ◌&&◌, ◌*◌, ◌++◌, ◌+◌, ◌-◌, ◌<◌, ◌==◌, ◌^◌, ◌||◌, ◌∙◌, ◌∷◌, ◌≡◌, ◌≤◌}
-pub use Rattle.std.proofs.Common.{◌⊎◌}
+pub use Rattle.std.proofs.Common.{inl, inr, is_some, le-leb, leb-false, leb-true, length, length-append, lt-ltb, map}
+pub use Rattle.std.proofs.Common.{nat_le, nat_lt, not, position, refl, rules, slice_get, subst, suc, sym, true, zero, ℕ}
+pub use Rattle.std.proofs.Common.{◌&&◌, ◌*◌, ◌++◌, ◌+◌, ◌-◌, ◌<◌, ◌==◌, ◌^◌, ◌||◌, ◌∙◌, ◌∷◌, ◌≡◌, ◌≤◌, ◌⊎◌}
 pub use Rattle.std.proofs.lemmas.Bool.{and_from, and_parts, eqb-false, false≢true, or_from, or_left, or_parts, or_right}
 pub use Rattle.std.proofs.lemmas.Bool.Decides.{Decides-eqb}
 pub use Rattle.std.proofs.lemmas.Fmt.{decimal_injective, digits_decimal}
 pub use Rattle.std.proofs.lemmas.List.{length-map, map-append}
-pub use Rattle.std.proofs.lemmas.List.Elements.{All-from_recursion, All-nil, filter_map-append, recursion_from_All}
+pub use Rattle.std.proofs.lemmas.List.Elements.{All-from_recursion, filter_map-append, recursion_from_All}
 pub use Rattle.std.proofs.lemmas.Option.{none-some, same_Some}
 pub use Rattle.std.specs.Fmt.{decimal}
 pub use Rattle.std.specs.List.{AllByRecursion, concat, cons_option, filter_map, list_all, list_any}
@@ -106,4 +105,3 @@ pub use Rattle.sc_performers.specs.Common.{Row, SectionTree, proto_of}
 pub use Rattle.sc_performers.specs.Laws.{CountsHold, LegalRowsFit, NamesHold, RowsPerform, TypesHold}
 pub use Rattle.sc_performers.specs.Performer.{FitsRow, IsImportedAs, IsPerformer, IsUsable, IsWordOrNone, MayDo, all_of}
 pub use Rattle.sc_performers.specs.Performer.{defined, names_of, used}
-pub use Rattle.sc_performers.specs.Recomposed.{AreRecomposed, RecomposedHold}

@@ -33,9 +33,6 @@ among_back xs ys name h = among-append xs ys name ∙ or_right (among xs name) (
 pub not_front : (xs ys : List Text) (name : Text) → among (xs ++ ys) name ≡ false → among xs name ≡ false
 not_front xs ys name h = (or_parts (among xs name) (among ys name) (sym (among-append xs ys name) ∙ h)).0
 
-pub not_back : (xs ys : List Text) (name : Text) → among (xs ++ ys) name ≡ false → among ys name ≡ false
-not_back xs ys name h = (or_parts (among xs name) (among ys name) (sym (among-append xs ys name) ∙ h)).1
-
 -- the first of distinct names isn't among the others
 pub first_new : (name : Text) (names : List Text) → are_distinct (name ∷ names) ≡ true → among names name ≡ false
 first_new name names h = not_to (among names name) (and_first (is_new names name) (are_distinct names) h)

@@ -1,12 +1,13 @@
 -- The sections of a text in which some perform their parts of a trace keep the rules, and are the program recomposed.
 use Rattle.sc_performers.proofs.Common.{AllBecome, Bool, Callees, Event, ImportFacts, IsRecomposed, IsTyped, List, None}
-use Rattle.sc_performers.proofs.Common.{Option, RecomposedHold, SectionTree, Some, [], among, ap, append_assoc, arith}
-use Rattle.sc_performers.proofs.Common.{back_empty, callees_of, concat, decls_from, defines_main, each_at, each_empty}
-use Rattle.sc_performers.proofs.Common.{eqb-true, exports_from, false, false≢true, front_empty, imports_from}
-use Rattle.sc_performers.proofs.Common.{interface_broken, interface_of, interfaces_of, legal, length, line_of_text}
-use Rattle.sc_performers.proofs.Common.{list_any, main_from, map, map_empty, most_compartments, name_fits, name_holds}
-use Rattle.sc_performers.proofs.Common.{part, program_of, proto_names, refl, slice_get, some_item, subst, suc, sym}
-use Rattle.sc_performers.proofs.Common.{true, unless, zero, ℕ, ◌++◌, ◌+◌, ◌<◌, ◌==◌, ◌||◌, ◌∙◌, ◌∷◌, ◌≡◌}
+use Rattle.sc_performers.proofs.Common.{Option, SectionTree, Some, [], among, ap, append_assoc, arith, back_empty}
+use Rattle.sc_performers.proofs.Common.{callees_of, concat, decls_from, defines_main, each_at, each_empty, eqb-true}
+use Rattle.sc_performers.proofs.Common.{exports_from, false, false≢true, front_empty, imports_from, interface_broken}
+use Rattle.sc_performers.proofs.Common.{interface_of, interfaces_of, legal, length, line_of_text, list_any, main_from}
+use Rattle.sc_performers.proofs.Common.{map, map_empty, most_compartments, name_fits, name_holds, part, program_of}
+use Rattle.sc_performers.proofs.Common.{proto_names, refl, slice_get, some_item, subst, suc, sym, true, unless, zero, ℕ}
+use Rattle.sc_performers.proofs.Common.{◌++◌, ◌+◌, ◌<◌, ◌==◌, ◌||◌, ◌∙◌, ◌∷◌, ◌≡◌}
+use Rattle.sc_performers.specs.Recomposed.{RecomposedHold}
 use Rattle.sc_scope.specs.Names as names
 use Rattle.sc_interfaces.specs.Faces as faces
 use Rattle.sc_elab.specs.Sections as elab

@@ -12,7 +12,7 @@ pub use Rattle.sc_word.proofs.OnAllWords.{signed_wraps, tests_are_words}
 pub use Rattle.sc_word.proofs.Words.{word_of-lt, word_of-unsigned_sub}
 pub use Rattle.sc_word.specs.Prelude.{add_word, div_word, mul_word, signed_of, slt_word, sltu_word, sub_word, word_of}
 pub use Rattle.sc_core.specs.Prelude.{negated_word, number_of, on_all_words, truth}
-pub use Rattle.rv_code.specs.declared.instr.Instr.TheVariants.{Jalr, Load, Op, OpImm, Shift, Store, Upper}
+pub use Rattle.rv_code.specs.declared.instr.Instr.TheVariants.{Load, Op, OpImm, Shift, Store, Upper}
 pub use Rattle.rv_code.specs.declared.instr.LoadOp.TheVariants.{Lw}
 pub use Rattle.rv_code.specs.declared.instr.OpImmOp.{OpImmOp}
 pub use Rattle.rv_code.specs.declared.instr.OpImmOp.TheVariants.{Addi, Andi, Ori, Slti, Sltiu, Xori}
@@ -29,9 +29,9 @@ pub use Rattle.sc_hart.specs.Prelude.{CodeAt, Fetches, Owned, Registers, World, 
 pub use Rattle.sc_tac.specs.Prelude.{is_unsigned}
 pub use Rattle.sc_tac.specs.declared.stmt.TacOp.{TacOp}
 pub use Rattle.sc_select.specs.Prelude.{address_scratch, binary_code, binary_short, bytes_ahead, bytes_of, far_from_sp}
-pub use Rattle.sc_select.specs.Prelude.{frame_left, frame_taken, is_short, load_word, loading, lower_part, move}
-pub use Rattle.sc_select.specs.Prelude.{moved_by, op_code, pointer_difference, pointer_move, second_scratch, short}
-pub use Rattle.sc_select.specs.Prelude.{short_code, short_form, store_word, unary_code, upper_part}
+pub use Rattle.sc_select.specs.Prelude.{frame_taken, is_short, load_word, loading, lower_part, move, moved_by, op_code}
+pub use Rattle.sc_select.specs.Prelude.{pointer_difference, pointer_move, second_scratch, short, short_code, short_form}
+pub use Rattle.sc_select.specs.Prelude.{store_word, unary_code, upper_part}
 pub use Rattle.sc_pieces.specs.Common.{ImageParts, Instr}
 pub use Rattle.sc_pieces.specs.Operators.{AreOperands, op_word, stepped_word, unary_word}
 pub use Rattle.sc_pieces.specs.Pieces.{Besides, Computes, Does, IsFromSp, IsWritable, Stores}

@@ -1,10 +1,9 @@
 -- The way into a function, and the way out of it.
-use Rattle.sc_pieces.proofs.Common.{CodeAt, Computes, Fetches, ImageParts, Instr, Jalr, List, Load, Lw, Memory, Owned}
-use Rattle.sc_pieces.proofs.Common.{Registers, Store, Stores, Sw, World, [], add_word, ap, arith, back_at, data_start}
-use Rattle.sc_pieces.proofs.Common.{frame_left, frame_taken, front_at, length, length-append, moved_by, pos, refl}
-use Rattle.sc_pieces.proofs.Common.{sub_word, sw_traps, word, word_of-lt, word_of-unsigned_sub, ℕ, ◌%◌, ◌*◌, ◌+◌, ◌<◌}
-use Rattle.sc_pieces.proofs.Common.{◌^◌, ◌∙◌, ◌∷◌, ◌≡◌}
-use Rattle.sc_pieces.specs.Frames.{frame_raised, TakesFrame, FrameOverflows, LeavesFrame}
+use Rattle.sc_pieces.proofs.Common.{CodeAt, Computes, ImageParts, Instr, List, Load, Lw, Memory, Owned, Registers}
+use Rattle.sc_pieces.proofs.Common.{Store, Stores, Sw, World, [], add_word, ap, arith, back_at, data_start, frame_taken}
+use Rattle.sc_pieces.proofs.Common.{front_at, length, length-append, moved_by, pos, refl, sub_word, sw_traps, word}
+use Rattle.sc_pieces.proofs.Common.{word_of-lt, word_of-unsigned_sub, ℕ, ◌%◌, ◌*◌, ◌+◌, ◌<◌, ◌^◌, ◌∙◌, ◌∷◌, ◌≡◌}
+use Rattle.sc_pieces.specs.Frames.{TakesFrame, FrameOverflows, LeavesFrame}
 use Rattle.sc_pieces.proofs.Rows.{in_row, computes, loads, stores}
 use Rattle.sc_pieces.proofs.Loading.{moves_on}
 
@@ -83,13 +82,3 @@ module _ (image : ImageParts) (inputs : List ℕ) (world : World) (memory : Memo
       (computes image inputs world (7 ∷ []) (regs 2 + bytes)
       (moves_on image inputs world memory first.after 2 2 bytes (regs 2) (omega arith) (omega arith) (omega arith)
       (first.others 2 (omega arith)) (omega arith)) (omega arith) (λ q k. k))
-
--- the jump that ends it
-pub jump_back_at : (image : ImageParts) (c pc bytes : ℕ) → CodeAt image c pc (frame_left bytes) →
-    Fetches image c (pc + 4 * length (frame_raised bytes)) (Jalr 0 1 (pos 0))
-jump_back_at image c pc bytes code = (back_at image c pc (frame_raised bytes) (Jalr 0 1 (pos 0) ∷ []) code).0
-
--- all of it but the jump
-pub raised_at : (image : ImageParts) (c pc bytes : ℕ) → CodeAt image c pc (frame_left bytes) →
-    CodeAt image c pc (frame_raised bytes)
-raised_at image c pc bytes code = front_at image c pc (frame_raised bytes) (Jalr 0 1 (pos 0) ∷ []) code

@@ -87,12 +87,6 @@ module _ (c : ℕ) (word_at : (rest : List ℕ) → Opens (c ∷ []) rest → Is
     (opens : (before text : List ℕ) → (bytes_eq before (c ∷ []) && is_doubled (c ∷ [])) ≡ false →
     Opens before (c ∷ text)) (of : Printed) (inner : (rest : List ℕ) → Calm rest →
     Tidy (of (c ∷ []) 1) rest × Opens (c ∷ []) (text_of (of (c ∷ []) 1) ++ rest)) where
-  signed : List Piece
-  signed = word (c ∷ []) ∷ of (c ∷ []) 1
-
-  gapped : Bool → List Piece
-  gapped wanted = (if wanted then blank ∷ [] else []) ++ word (c ∷ []) ∷ of (c ∷ []) 1
-
   with_gap : (wanted : Bool) → Sound ((if wanted then blank ∷ [] else []) ++ word (c ∷ []) ∷ of (c ∷ []) 1)
   with_gap true rest calm = let i = inner rest calm in gap (next (word_at _ i.1) i.0)
   with_gap false rest calm = let i = inner rest calm in next (word_at _ i.1) i.0

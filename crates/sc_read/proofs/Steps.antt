@@ -1,17 +1,16 @@
 -- From what the functions over the sections find to what is said of the text.
-use Rattle.sc_read.proofs.Common.{All, AllByRecursion, AllZip, Any, AreSections, Cuts, Err, Fails, FailsLex}
-use Rattle.sc_read.proofs.Common.{FailsSyntax, First, HasTokens, HasTree, IfOk, IsCut, IsCutInto, IsCuttable, IsGap}
-use Rattle.sc_read.proofs.Common.{IsParsable, IsParsed, IsRead, IsSection, IsSplit, IsTreeOf, IsTrue, IsUncut, IsUnread}
-use Rattle.sc_read.proofs.Common.{List, None, Ok, Option, Part, PassesLex, Reads, Refusal, RefusesBytes, RefusesHeading}
-use Rattle.sc_read.proofs.Common.{RefusesTokens, Result, Section, SectionTree, Some, Token, [], and_parts, ap, arith}
-use Rattle.sc_read.proofs.Common.{bad_heading, begins_block_comment, begins_heading, begins_line, begins_line_comment}
-use Rattle.sc_read.proofs.Common.{block_comment, codes, drop, false, false≢true, front_byte, gap, get_or, get_or-take}
-use Rattle.sc_read.proofs.Common.{here, in_preamble, in_section, is_white_space, later, length, length-drop}
-use Rattle.sc_read.proofs.Common.{length-take-le, lexemes_of, line_after, line_at, line_comment, map, newlines, none}
-use Rattle.sc_read.proofs.Common.{none-some, nothing, part_of, parts_of, refl, section, slash_first, slice_get}
-use Rattle.sc_read.proofs.Common.{slice_index, slice_range, slice_set, star_first, subst, suc, sym, take}
-use Rattle.sc_read.proofs.Common.{take-append-drop, take_all, token, true, uncut, white_space, zero, ℕ, ◌++◌, ◌+◌, ◌-◌}
-use Rattle.sc_read.proofs.Common.{◌<◌, ◌∙◌, ◌∷◌, ◌≡◌, ◌≤◌}
+use Rattle.sc_read.proofs.Common.{AllByRecursion, AllZip, Any, AreSections, Cuts, Err, Fails, FailsLex, FailsSyntax}
+use Rattle.sc_read.proofs.Common.{First, HasTokens, HasTree, IfOk, IsCut, IsCutInto, IsCuttable, IsGap, IsParsable}
+use Rattle.sc_read.proofs.Common.{IsParsed, IsRead, IsSplit, IsTreeOf, IsUncut, IsUnread, List, None, Ok, Part}
+use Rattle.sc_read.proofs.Common.{PassesLex, Reads, Refusal, RefusesBytes, RefusesHeading, RefusesTokens, Result}
+use Rattle.sc_read.proofs.Common.{Section, SectionTree, Some, Token, [], and_parts, ap, arith, bad_heading}
+use Rattle.sc_read.proofs.Common.{begins_heading, begins_line, block_comment, codes, drop, false, false≢true}
+use Rattle.sc_read.proofs.Common.{front_byte, gap, get_or, get_or-take, here, in_preamble, in_section, is_white_space}
+use Rattle.sc_read.proofs.Common.{later, length, length-drop, length-take-le, lexemes_of, line_after, line_at}
+use Rattle.sc_read.proofs.Common.{line_comment, map, newlines, none, none-some, nothing, part_of, refl, section}
+use Rattle.sc_read.proofs.Common.{slash_first, slice_get, slice_index, slice_set, star_first, subst, suc, sym, take}
+use Rattle.sc_read.proofs.Common.{take-append-drop, token, true, uncut, white_space, zero, ℕ, ◌++◌, ◌+◌, ◌-◌, ◌<◌, ◌∙◌}
+use Rattle.sc_read.proofs.Common.{◌∷◌, ◌≡◌, ◌≤◌}
 use Rattle.std.proofs.lemmas.List.{take_more, drop_more}
 use Rattle.sc_lex.specs.declared.refusal.Phase.TheVariants as phase
 
@@ -206,10 +205,6 @@ first_bad {Good = Good} {Bad = Bad} R good ss ys at s low is h bad =
     ap (λ x. take at ss ++ x ∷ drop (at + 1) ss) is ∙ ap (λ xs. take at ss ++ xs) (sym (drop_more ss at s low)) ∙
     take-append-drop at ss in
     subst (λ xs. First Good Bad xs) split (first_behind R good (take at ss) ys (s ∷ drop (at + 1) ss) h (here bad))
-
-pub all_sections : {B : Type 0} (R : Section → B → Type 0) (ss : List Section) (ys : List B) (at : ℕ) → length ss ≤ at →
-    AllZip R (take at ss) ys → AllZip R ss ys
-all_sections R ss ys at past h = subst (λ xs. AllZip R xs ys) (take_all at ss past) h
 
 -- as many of the one as of the other
 pub as_many : {A B : Type 0} (R : A → B → Type 0) (xs : List A) (ys : List B) → AllZip R xs ys → length xs ≡ length ys

@@ -93,12 +93,6 @@ module _ (A : Activation) where
     kept_but_slot regs after bytes same (Slot i) n =
         λ u e. own_kept bytes (suc i) u e (λ f. n (ap Slot (let g : i ≡ k = omega (arith, f) in g)))
 
-    pub frame_written : (image : ImageParts) (inj : Injection) (memory : Memory) (bytes : Bytes) →
-        FrameMatches image A inj memory bytes → FrameMatches image A inj memory (put_word bytes (A.sp + offset) w)
-    frame_written image inj memory bytes h =
-        frame_kept image inj inj memory memory bytes (put_word bytes (A.sp + offset) w) (λ b a e. e) (λ q g. g)
-        (ra_kept bytes) h
-
   module _ (places : List Place) (inj more : Injection) (regs after : Registers) (bytes later : Bytes)
       (grows : Grows (inj A.here.comp) (more A.here.comp)) where
     -- what is live afterwards was live, and its places are as they were
@@ -156,12 +150,6 @@ module _ (A : Activation) where
                   (kept y.place (λ same. other (sym (clear.assigned d t assigned on
                   (place, its, y.its ∙ ap Some same))))) y.value;
             }
-
-  -- less is live
-  pub held_less : (places : List Place) (inj : Injection) (regs : Registers) (bytes : Bytes) (live less : Set)
-      (temps : Temps) → ((t : ℕ) → less t ≡ true → live t ≡ true) → AreHeld A places inj regs bytes live temps →
-      AreHeld A places inj regs bytes less temps
-  held_less places inj regs bytes live less temps fewer h t v on e = h t v (fewer t on) e
 
   -- where a function begins no temporary is assigned
   pub held_at_entry : (places : List Place) (inj : Injection) (regs : Registers) (bytes : Bytes) (live : Set) →

@@ -84,8 +84,6 @@ module _ (image : ImageParts) (formed : IsWellFormed image) (performs : ℕ → 
     (memory : Memory) (bytes : Bytes) (matches : BlocksMatch image performs floor inj memory bytes) (comp : ℕ)
     (honest : performs comp ≡ false) (known : comp < 32) where
   -- where a place is
-  abbrev Lies : Pointer → ℕ → Type 0
-  Lies p x = inj comp p.block ≡ Some x
 
   -- a place in a block that lives, or just behind its last cell
   pub place_address : (b x i : ℕ) (cells : List Cell) → LiveAt memory comp b cells → inj comp b ≡ Some x →

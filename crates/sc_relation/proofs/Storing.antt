@@ -80,10 +80,6 @@ module _ (image : ImageParts) (formed : IsWellFormed image) (performs : ℕ → 
   guarded_cells c q value g k b a i cells honest live e l =
       word_apart bytes q value (a + 4 * i) (guarded_apart c q k b a i cells g honest live e l)
 
-  pub blocks_guarded : (c q value : ℕ) → Guarded image inj memory c q →
-      BlocksMatch image performs floor inj memory (put_word bytes q value)
-  blocks_guarded c q value g = blocks_kept (put_word bytes q value) (guarded_cells c q value g)
-
   -- a load gives the word of the value that the meaning loads
   pub record LoadsWord (c a : ℕ) (p : Pointer) (v : Value) : Type 0 where
     pub owned : Owned image c (a + 4 * p.index)

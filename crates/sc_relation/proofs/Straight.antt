@@ -5,13 +5,12 @@ use Rattle.sc_relation.proofs.Common.{Memory as Bytes, None, Null, Ok, Option, O
 use Rattle.sc_relation.proofs.Common.{Pointer, Protected, Ptr, Ready, Register, Registers, Running, Set, Setting}
 use Rattle.sc_relation.proofs.Common.{Settled, Shows, Slot, Some, Standpoint, StandsFor, State as Meant, Temps, Value}
 use Rattle.sc_relation.proofs.Common.{Walks, Word, ahead_at, all_at, and_first, and_from, and_rest, arith, false}
-use Rattle.sc_relation.proofs.Common.{is_one, live_across, load, machine, ne_eqb, not, one_or_none, or_left, or_right}
-use Rattle.sc_relation.proofs.Common.{own_words, plain_points, put_word, refl, register_of, seen_from, slice_get, sp}
-use Rattle.sc_relation.proofs.Common.{store, subst, suc, sym, true, wanted, with_memory, with_temp, word, word_same, ℕ}
-use Rattle.sc_relation.proofs.Common.{◌*◌, ◌+◌, ◌<◌, ◌^◌, ◌∙◌, ◌≡◌, ◌≢◌, ◌≤◌}
+use Rattle.sc_relation.proofs.Common.{is_one, live_across, load, machine, ne_eqb, not, one_or_none, or_right, own_words}
+use Rattle.sc_relation.proofs.Common.{plain_points, put_word, refl, register_of, seen_from, slice_get, sp, store, subst}
+use Rattle.sc_relation.proofs.Common.{suc, sym, true, wanted, with_memory, with_temp, word, word_same, ℕ, ◌*◌, ◌+◌, ◌∙◌}
+use Rattle.sc_relation.proofs.Common.{◌≡◌, ◌≢◌}
 use Rattle.sc_tac.specs.Prelude.{plain}
 use Rattle.sc_relation.proofs.Wanted.{clear_wanted, wanted_less}
-use Rattle.sc_relation.proofs.Frames.{own_inside}
 use Rattle.sc_relation.proofs.Held.{PlaceKept, frame_kept, kept_but_register, kept_but_slot, kept_all, ra_kept}
 use Rattle.sc_relation.proofs.Held.{held_kept, held_assigned, held_over_call}
 use Rattle.sc_relation.proofs.Registers.{HasNoOtherUse}
@@ -29,10 +28,6 @@ module _ (reads : List ℕ) (assigned : Option ℕ) (lives : Lives) where
   -- what is live before a statement without others inside
   abbrev pub live_plain : Set
   live_plain t = (plain t reads assigned).first (ahead_at lives t)
-
-  -- what it reads
-  pub read_live : (t : ℕ) → is_one t reads ≡ true → live_plain t ≡ true
-  read_live t is = or_left (is_one t reads) _ is
 
   -- what is live behind it and isn't assigned
   pub across_live : (t : ℕ) → live_across reads false assigned lives t ≡ true → live_plain t ≡ true
@@ -97,24 +92,6 @@ module _ (T : Setting) (R : Running) where
       keeps = own_keeps T formed cells R.places nodes A is x (suc k) offset w its ready.frame;
     }
 
-    -- where a slot lies
-    pub record HasSlot (offset : ℕ) : Type 0 where
-      pub owned : Owned T.image A.here.comp (A.sp + offset)
-      pub inside : offset + 4 ≤ A.frame.bytes
-      pub near : offset < 65536
-      pub low : A.sp + offset < 2 ^ 32
-
-    pub has_slot : (live : Set) (temps : Temps) (x : Joint) (k offset : ℕ) → Ready T R live temps x →
-        slice_get A.frame.slots k ≡ Some offset → HasSlot offset
-    has_slot live temps x k offset ready its =
-        let inside : offset + 4 ≤ A.frame.bytes = own_inside cells R.places nodes A.frame is.room (suc k) offset its in
-        record {
-          owned = (ready.frame.guard (suc k) offset its).owned;
-          inside = inside;
-          near = omega (arith, inside, is.low, is.high);
-          low = omega (arith, inside, is.known, is.high);
-        }
-
     -- registers with another use change, and control moves on
     pub record MovesOn (live : Set) (temps : Temps) (x : Joint) (n left pc : ℕ) (regs : Registers) : Type 0 where
       pub leads : Leads T P x (moved x pc regs x.bytes) (n + left) left
@@ -176,20 +153,6 @@ module _ (T : Setting) (R : Running) where
         (record { assigned = Some d; calls = false; live = lives.behind }) temps x n left d pc place v regs later ready
         (all_at (IsClear R.places) (plain_points reads false (Some d) lives) 1 _ clear refl) refl its
         (λ t on e. behind_live reads lives t d on e) h walks
-
-    -- it assigns what a call gave
-    pub received_at : (reads : List ℕ) (lives : Lives) (temps : Temps) (x : Joint) (n left d pc : ℕ) (place : Place)
-        (v : Value) (regs : Registers) (later : Bytes) →
-        Ready T R (live_across reads true (Some d) lives) temps x →
-        All (IsClear R.places) (plain_points reads true (Some d) lives) → slice_get R.places d ≡ Some place →
-        Assigns x place v regs later →
-        Walks T.image T.inputs n (machine P x) (machine P (moved x pc regs later)) →
-        Arrives T R lives.behind x (n + left) left (with_temp d v temps) x.meant pc
-    received_at reads lives temps x n left d pc place v regs later ready clear its h walks =
-        assigned_at (live_across reads true (Some d) lives)
-        (record { assigned = Some d; calls = false; live = lives.behind }) temps x n left d pc place v regs later ready
-        (all_at (IsClear R.places) (plain_points reads true (Some d) lives) 2 _ clear refl) refl its
-        (λ t on e. and_from (not (is_one t (one_or_none (Some d)))) (lives.behind t) (not_one t d e) on) h walks
 
     -- a store through a pointer
     pub stored_through : (reads : List ℕ) (lives : Lives) (temps : Temps) (x : Joint) (n left pc a w : ℕ) (p : Pointer)

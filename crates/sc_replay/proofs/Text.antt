@@ -13,7 +13,6 @@ use Rattle.sc_base.specs.declared.op.BinaryOp.TheVariants as op
 use Rattle.sc_event.specs.declared.row.Action.TheVariants as act
 use Rattle.sc_core.specs.declared.expr.TypedKind
 use Rattle.sc_core.specs.declared.expr.VarRef.TheVariants.{Global}
-use Rattle.sc_core.specs.declared.stmt.TypedStmtKind.{TypedStmtKind}
 use Rattle.sc_core.specs.declared.stmt.TypedStmtKind as kind
 use Rattle.sc_core.specs.declared.stmt.TypedStmtKind.TheVariants.{rolls-Assign, rolls-Call, rolls-If, rolls-Return}
 use Rattle.sc_core.specs.declared.stmt.TypedStmtKind.TheVariants.{rolls-ReturnValue, rolls-While}
@@ -132,10 +131,6 @@ module _ (structs : List TypedStruct) (here : Here) (params : ℕ) (by : Calls) 
       (sym (row_is interfaces result row line set_line at)) ∙
       ap (λ x. all_do (x ++ map (stmt_does c_arith structs here params by) rest))
       (lines_are c_arith structs here params by (row_line interfaces result row line set_line at))
-
-  test_is : (number n : ℕ) (rest : Blocks) →
-      way_of (bt_is number) want.Value (counting n ∷ rest) ≡ Ok (of_bool (n == number))
-  test_is number n rest = refl
 
   module _ (line set_line : ℕ) (x : List Acts) (y : Acts) (rest : Blocks) (s : State) where
     -- the row, then what stands behind

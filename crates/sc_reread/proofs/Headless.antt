@@ -260,9 +260,6 @@ module _ (interfaces : Interfaces) (comp : ℕ) (rows : List Row) (interface : I
   abbrev text : List ℕ
   text = section_text interfaces comp rows interface
 
-  pub text_begins : begins_heading text ≡ true
-  text_begins = heading_begins (interface.name ++ (codes "\n" ++ behind))
-
   pub text_closing : Closing text
   text_closing =
       behind_closing mark (interface.name ++ (codes "\n" ++ behind))

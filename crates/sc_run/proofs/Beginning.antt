@@ -1,10 +1,10 @@
 -- Where a run begins.
 use Rattle.sc_run.proofs.Common.{Begun, Callee, Cell, Frame, List, Main, None, Nowhere, Option, Piece, ProgramTree}
-use Rattle.sc_run.proofs.Common.{Seen, Some, Standing, State, TurnsOut, TypedGlobal, TypedSection, Value, [], and_then}
-use Rattle.sc_run.proofs.Common.{ap, arith, back_own, begun, bodies, body_acts, c_arith, call_own, done, entry_in}
-use Rattle.sc_run.proofs.Common.{first_blocks, first_state, found, function, function_of, global_block, globals_of}
-use Rattle.sc_run.proofs.Common.{length, library, map, refl, run_in, run_of, run_step, run_to, seen_of, slice_get}
-use Rattle.sc_run.proofs.Common.{struct_zeros, subst, suc, sym, within, ℕ, ◌∙◌, ◌∷◌, ◌≡◌}
+use Rattle.sc_run.proofs.Common.{Seen, Some, Standing, State, TypedGlobal, TypedSection, Value, [], and_then, ap, arith}
+use Rattle.sc_run.proofs.Common.{back_own, begun, bodies, body_acts, c_arith, call_own, entry_in, first_blocks}
+use Rattle.sc_run.proofs.Common.{first_state, found, function, function_of, global_block, globals_of, length, library}
+use Rattle.sc_run.proofs.Common.{map, refl, run_in, run_of, run_step, run_to, seen_of, slice_get, struct_zeros, subst}
+use Rattle.sc_run.proofs.Common.{suc, sym, within, ℕ, ◌∙◌, ◌∷◌, ◌≡◌}
 use Rattle.sc_run.proofs.Blank.{blank}
 use Rattle.sc_run.proofs.Calling.{frame_at, enter_is, begun_seen, frame_is}
 
@@ -39,26 +39,6 @@ module _ (program : ProgramTree) (inputs : List ℕ) (turns : ℕ) where
       and_then (found (entry_in program program.interfaces.main Main) s)
       (λ number s. call_own (library program) (within (run_step (library program))
       (suc turns)) program.interfaces.main number [] s)
-
-  pub no_main : entry_in program program.interfaces.main Main ≡ None →
-      (run_of c_arith program inputs turns).behaviour ≡ record { trace = []; end = TurnsOut }
-  no_main is =
-      ap (λ o. (run_to program.interfaces.main (and_then (found o at_start)
-      (λ number s. call_own (library program) (within (run_step (library program))
-      (suc turns)) program.interfaces.main number [] s))).behaviour) is
-
-  pub main_missing : (number : ℕ) → entry_in program program.interfaces.main Main ≡ Some number →
-      function (library program) program.interfaces.main number ≡ None →
-      (run_of c_arith program inputs turns).behaviour ≡ record { trace = []; end = TurnsOut }
-  main_missing number at is =
-      ap (λ o. (run_to program.interfaces.main (and_then (found o at_start)
-      (λ number s. call_own (library program) (within (run_step (library program))
-      (suc turns)) program.interfaces.main number [] s))).behaviour) at
-      ∙ ap (λ o. (run_to program.interfaces.main (and_then (found o at_start)
-      (λ f s. and_then (bodies program (suc turns) number
-      (record { comp = program.interfaces.main; first = length (s.memory program.interfaces.main) })
-      (begun program.interfaces.main f [] s)) (λ v t.
-      back_own v (done program.interfaces.main f (length (s.memory program.interfaces.main)) t))))).behaviour) is
 
   module _ (callee : Callee) (number : ℕ) (after : Seen) (f : Frame) where
     pub begins : entry_in program program.interfaces.main Main ≡ Some number →

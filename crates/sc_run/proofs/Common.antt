@@ -1,16 +1,15 @@
 -- The names that several proofs of this crate cite, passed on from one place. Declares nothing.
 pub use Rattle.std.proofs.Common.{Bool, Err, List, None, Ok, Option, Result, Some, [], add-one, ap, append-nil}
-pub use Rattle.std.proofs.Common.{append_assoc, arith, bytes_eq, drop, drop-cons, eq-eqb, eqb-true, false, get_or}
-pub use Rattle.std.proofs.Common.{if◌then◌else◌, is_some, le-leb, length, length-append, length-drop, length-take}
-pub use Rattle.std.proofs.Common.{lt-ltb, map, nat_lt, not, pos, refl, replicate, reverse, rules, slice_get}
-pub use Rattle.std.proofs.Common.{slice_index_or, slice_set, subst, suc, sym, take, take_all, true, true≢false, zero, ℕ}
-pub use Rattle.std.proofs.Common.{ℤ, ◌&&◌, ◌++◌, ◌+ℤ◌, ◌+◌, ◌-◌, ◌<◌, ◌==◌, ◌∙◌, ◌∷◌, ◌≡◌, ◌≤◌}
+pub use Rattle.std.proofs.Common.{append_assoc, arith, bytes_eq, drop, drop-cons, eq-eqb, false, get_or, if◌then◌else◌}
+pub use Rattle.std.proofs.Common.{is_some, le-leb, length, length-append, length-drop, length-take, lt-ltb, map, nat_lt}
+pub use Rattle.std.proofs.Common.{not, pos, refl, replicate, reverse, rules, slice_get, slice_index_or, slice_set}
+pub use Rattle.std.proofs.Common.{subst, suc, sym, take, take_all, true, true≢false, zero, ℕ, ℤ, ◌&&◌, ◌++◌, ◌+ℤ◌, ◌+◌}
+pub use Rattle.std.proofs.Common.{◌-◌, ◌<◌, ◌==◌, ◌∙◌, ◌∷◌, ◌≡◌, ◌≤◌}
 pub use Rattle.std.proofs.lemmas.Bool.{false≢true}
 pub use Rattle.std.proofs.lemmas.List.{drop_all, length-map, map-append, map-set, reverse-append, take-append-le}
 pub use Rattle.std.proofs.lemmas.List.{take-map, take_more}
-pub use Rattle.std.proofs.lemmas.Option.{IfSome_then, none-some, slice_get-map}
 pub use Rattle.std.proofs.lemmas.Result.{IfOk-weaker}
-pub use Rattle.std.specs.Option.{option_copied, option_map}
+pub use Rattle.std.specs.Option.{option_copied}
 pub use denote.Bor.{Bor}
 pub use Rattle.sc_base.proofs.Lists.{drop-step, drop_next}
 pub use Rattle.sc_event.specs.declared.event.Event.TheVariants.{End, In, Out}
@@ -38,7 +37,6 @@ pub use Rattle.sc_core.specs.declared.expr.CallTarget.TheVariants.{Cross, Input,
 pub use Rattle.sc_core.specs.declared.expr.TypedExpr.{TypedExpr}
 pub use Rattle.sc_core.specs.declared.run.RunEnd.TheVariants.{Blamed, Ended, EventsOut, TurnsOut}
 pub use Rattle.sc_core.specs.declared.run.SourceRun.{SourceRun}
-pub use Rattle.sc_core.specs.declared.section.TypedFunction.{TypedFunction}
 pub use Rattle.sc_core.specs.declared.section.TypedGlobal.{TypedGlobal}
 pub use Rattle.sc_core.specs.declared.section.TypedLocal.{TypedLocal}
 pub use Rattle.sc_core.specs.declared.section.TypedParam.{TypedParam}

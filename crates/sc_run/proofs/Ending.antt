@@ -1,10 +1,10 @@
 -- Calls that end, and the end of the run.
-use Rattle.sc_run.proofs.Common.{Caller, End, Ended, Err, Exit, Frame, Left, List, None, Ok, Option, Piece, ProgramTree}
-use Rattle.sc_run.proofs.Common.{Result, Ret, RunEnd, Seen, Some, SourceRun, Standing, State, Step, Steps, Stop}
-use Rattle.sc_run.proofs.Common.{Stopped, To, Value, Work, [], and_then, ap, arith, back_own, back_to, back_value}
-use Rattle.sc_run.proofs.Common.{cleared, closes, done, ended, ended_as, exit_word, function_in, leave, left_by}
-use Rattle.sc_run.proofs.Common.{result_goes, resume, returned, reverse, run_to, seen_of, subst, suc, sym, tell}
-use Rattle.sc_run.proofs.Common.{told_back, variable_count, with_blocks, word_crossing, ℕ, ◌++◌, ◌∙◌, ◌∷◌, ◌≡◌, ◌≤◌}
+use Rattle.sc_run.proofs.Common.{Caller, Err, Exit, Frame, Left, List, None, Ok, Option, Piece, ProgramTree, Result}
+use Rattle.sc_run.proofs.Common.{Ret, RunEnd, Seen, Some, SourceRun, Standing, State, Step, Steps, Stop, Stopped, To}
+use Rattle.sc_run.proofs.Common.{Value, Work, [], and_then, ap, arith, back_to, back_value, cleared, closes, done}
+use Rattle.sc_run.proofs.Common.{ended, ended_as, function_in, leave, left_by, result_goes, resume, returned, reverse}
+use Rattle.sc_run.proofs.Common.{seen_of, subst, suc, sym, tell, told_back, variable_count, with_blocks, word_crossing}
+use Rattle.sc_run.proofs.Common.{ℕ, ◌++◌, ◌∙◌, ◌∷◌, ◌≡◌, ◌≤◌}
 use Rattle.sc_run.proofs.Blank.{left_same}
 use Rattle.sc_run.proofs.Coming.{with_memory, seen_with, blocks_seen}
 use Rattle.sc_run.proofs.Standing.{resume_stopped, newest_first}
@@ -112,28 +112,4 @@ module _ (program : ProgramTree) (f : Frame) (exit : Exit) where
               (subst (λ x. Standing program whole (told_back program caller f crossing v (left_by f before)) work caller
               (λ n s. result_goes program caller to x s)) (sym gives)
               (call_returns whole before work caller to crossing v is standing)));
-        }
-
-    run_at : (whole : SourceRun) (v : Option Value) (word : ℕ) (n : ℕ) (s : State) → word ≡ exit_word v →
-        ClosedBy program f exit (Ok v) → seen_of s ≡ before → (resume program n [] f (leaving s)).behaviour ≡ whole →
-        whole ≡ record { trace = before.trace ++ End program.interfaces.main word ∷ []; end = Ended }
-    run_at whole v word n s is closed_is shows rest =
-        sym rest ∙ ap (λ p. (run_to program.interfaces.main p).behaviour) (returned_ok v back_own s closed_is) ∙
-        (λ i. record { trace = (shows i).trace ++ End program.interfaces.main (sym is i) ∷ []; end = Ended })
-
-    pub run_ends : (v : Option Value) (word : ℕ) (after : Seen) → word ≡ exit_word v → ClosedBy program f exit (Ok v) →
-        after ≡ record before { trace = before.trace ++ End program.interfaces.main word ∷ [] } →
-        Steps program before [] f (λ n s. leaving s) (Stop Ended) after [] f
-    run_ends v word after is closed_is tells =
-        record {
-          stands = λ whole h. run_at whole v word h.open_calls h.state is closed_is h.shows h.rest ∙
-              (λ i. record { trace = (sym tells i).trace; end = Ended });
-        }
-
-    pub run_stops : (end : RunEnd) → ClosedBy program f exit (Err end) →
-        Steps program before [] f (λ n s. leaving s) (Stop end) before [] f
-    run_stops end is =
-        record {
-          stands = λ whole h. sym h.rest ∙ ap (λ p. (run_to program.interfaces.main p).behaviour)
-              (returned_err end back_own h.state is) ∙ (λ i. record { trace = (h.shows i).trace; end = end });
         }

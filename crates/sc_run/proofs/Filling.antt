@@ -1,14 +1,14 @@
 -- Globals, one after the other.
-use Rattle.sc_run.proofs.Common.{Blocks, Cell, List, Memory, Option, Some, TypedGlobal, TypedSection, TypedStruct}
-use Rattle.sc_run.proofs.Common.{Undef, [], add-one, ap, append-nil, append_assoc, arith, cell_with, drop, drop-cons}
-use Rattle.sc_run.proofs.Common.{drop_all, drop_next, first_blocks, get_or, global_block, globals_of, if◌then◌else◌}
-use Rattle.sc_run.proofs.Common.{length, length-take, map, map-append, member_zeros, refl, repeated, slice_get}
-use Rattle.sc_run.proofs.Common.{struct_zeros, suc, sym, take, take_more, with_blocks, with_words, zero, zeros_of, ℕ}
-use Rattle.sc_run.proofs.Common.{◌++◌, ◌+◌, ◌<◌, ◌==◌, ◌∙◌, ◌∷◌, ◌≡◌, ◌≤◌}
+use Rattle.sc_run.proofs.Common.{Blocks, Cell, List, Memory, Option, Some, TypedGlobal, TypedSection, Undef, []}
+use Rattle.sc_run.proofs.Common.{add-one, ap, append-nil, append_assoc, arith, cell_with, drop, drop-cons, drop_all}
+use Rattle.sc_run.proofs.Common.{drop_next, first_blocks, get_or, global_block, globals_of, if◌then◌else◌, length}
+use Rattle.sc_run.proofs.Common.{length-take, map, map-append, member_zeros, refl, repeated, slice_get, suc, sym, take}
+use Rattle.sc_run.proofs.Common.{take_more, with_blocks, with_words, zero, zeros_of, ℕ, ◌++◌, ◌+◌, ◌<◌, ◌==◌, ◌∙◌, ◌∷◌}
+use Rattle.sc_run.proofs.Common.{◌≡◌, ◌≤◌}
 use Rattle.std.proofs.Math.Dec.{eqb-suc-zero, eqb-zero-suc, eqb-suc-suc}
 use Rattle.sc_core.specs.declared.section.TypedMember.{TypedMember}
 use Rattle.sc_core.specs.declared.value.Cell.TheVariants.{Word, Null, Ptr}
-use Rattle.sc_run.proofs.Making.{with_twice, with_none, at_itself}
+use Rattle.sc_run.proofs.Making.{with_twice, at_itself}
 
 repeated_more : (zeros : List (List Cell)) (n : ℕ) (cells : List Cell) →
     cells ++ repeated zeros n cells ≡ repeated zeros n cells ++ cells
@@ -39,18 +39,6 @@ pub member_more : (zeros : List (List Cell)) (ms : List TypedMember) (i : ℕ) (
 member_more zeros ms i m so_far there item is =
     ap (λ cs. cs ++ zeros_of zeros m.ty) is ∙ sym (members_more zeros (take i ms) m) ∙
     ap (member_zeros zeros) (ap (λ x. take i ms ++ x ∷ []) item ∙ sym (take_more ms i m there))
-
-struct_next : (structs : List TypedStruct) (i : ℕ) (s : TypedStruct) → i < length structs → s ≡ get_or structs i s →
-    drop i structs ≡ s ∷ drop (i + 1) structs
-struct_next structs i s there item = rw (add-one, drop-cons structs i s) (λ k. sym item k ∷ drop (suc i) structs)
-
--- one more struct
-pub struct_more : (structs : List TypedStruct) (i : ℕ) (s : TypedStruct) (known : List (List Cell)) (cells : List Cell)
-    (whole : List (List Cell)) → i < length structs → s ≡ get_or structs i s → cells ≡ member_zeros known s.members →
-    struct_zeros known (drop i structs) ≡ whole → struct_zeros (known ++ cells ∷ []) (drop (i + 1) structs) ≡ whole
-struct_more structs i s known cells whole there item is so_far =
-    ap (λ cs. struct_zeros (known ++ cs ∷ []) (drop (i + 1) structs)) is ∙
-    sym (ap (struct_zeros known) (struct_next structs i s there item)) ∙ so_far
 
 word_first : (ws : List ℕ) (c : Cell) (cs : List Cell) →
     with_words ws (c ∷ cs) ≡ cell_with (slice_get ws 0) c ∷ with_words (drop 1 ws) cs
@@ -112,10 +100,6 @@ global_more zeros gs i g comp memory now later there item is gives =
     (memory comp ++ map (global_block zeros) (take i gs)) memory
     ∙ ap (λ bs. with_blocks comp bs memory) (append_assoc (memory comp) (map (global_block zeros) (take i gs))
     (global_block zeros g ∷ []) ∙ ap (λ bs. memory comp ++ bs) more)
-
-pub no_global : (zeros : List (List Cell)) (comp : ℕ) (memory : Memory) →
-    memory ≡ with_blocks comp (memory comp ++ []) memory
-no_global zeros comp memory = sym (with_none comp [] memory)
 
 module _ (section : TypedSection) where
   abbrev its_blocks : Blocks

@@ -1,12 +1,13 @@
 -- The variables of a call, one block after the other, and their initialisers.
 use Rattle.sc_run.proofs.Common.{Acts, Blocks, Bool, CameTo, Comes, Err, Here, Left, List, Memory, Next, None, Ok}
 use Rattle.sc_run.proofs.Common.{Option, Piece, Reached, Result, RunEnd, Seen, Some, State, Stopped, TypedExpr}
-use Rattle.sc_run.proofs.Common.{TypedFunction, TypedLocal, TypedParam, TypedStruct, Value, [], all_do, ap, append-nil}
-use Rattle.sc_run.proofs.Common.{append_assoc, arith, block_for, blocks_for, c_arith, cells_of, drop, drop-step}
-use Rattle.sc_run.proofs.Common.{drop_all, eq-eqb, eqb-true, false, follow, get_or, if◌then◌else◌, in_order, init_does}
-use Rattle.sc_run.proofs.Common.{inits_do, length, length-append, length-map, length-take, map, map-append, refl}
-use Rattle.sc_run.proofs.Common.{seen_of, slice_get, subst, suc, sym, take, take-map, take_more, true, with_blocks}
-use Rattle.sc_run.proofs.Common.{with_exit, ℕ, ◌++◌, ◌+◌, ◌<◌, ◌==◌, ◌∙◌, ◌∷◌, ◌≡◌, ◌≤◌}
+use Rattle.sc_run.proofs.Common.{TypedLocal, TypedParam, TypedStruct, Value, [], all_do, ap, append_assoc, arith}
+use Rattle.sc_run.proofs.Common.{block_for, blocks_for, c_arith, cells_of, drop, drop-step, drop_all, eq-eqb, false}
+use Rattle.sc_run.proofs.Common.{follow, get_or, if◌then◌else◌, in_order, init_does, inits_do, length, length-append}
+use Rattle.sc_run.proofs.Common.{length-map, length-take, map, map-append, refl, seen_of, slice_get, subst, suc, sym}
+use Rattle.sc_run.proofs.Common.{take, take-map, take_more, true, with_blocks, with_exit, ℕ, ◌++◌, ◌+◌, ◌<◌, ◌==◌, ◌∙◌}
+use Rattle.sc_run.proofs.Common.{◌∷◌, ◌≡◌, ◌≤◌}
+use Rattle.sc_core.specs.declared.section.TypedFunction.{TypedFunction}
 
 with_if : (b : Bool) (x y z : Blocks) → (if b then x else (if b then y else z)) ≡ (if b then x else z)
 with_if true x y z = refl
@@ -16,10 +17,6 @@ with_if false x y z = refl
 pub with_twice : (comp : ℕ) (x y : Blocks) (memory : Memory) →
     with_blocks comp x (with_blocks comp y memory) ≡ with_blocks comp x memory
 with_twice comp x y memory = λ i c. with_if (c == comp) x y (memory c) i
-
-if_same : (b : Bool) (x y : Blocks) → (b ≡ true → x ≡ y) → (if b then x else y) ≡ y
-if_same true x y h = h refl
-if_same false x y h = refl
 
 blocks_more : (sizes : List ℕ) (args : List Value) (n : ℕ) →
     blocks_for (sizes ++ n ∷ []) args ≡ blocks_for sizes args ++ block_for n (slice_get args (length sizes)) ∷ []
@@ -31,14 +28,6 @@ blocks_more (m ∷ sizes) (v ∷ args) n = ap (λ bs. block_for m (Some v) ∷ b
 -- the memory with the variables of these sizes
 abbrev pub with_sizes : ℕ → List ℕ → List Value → Memory → Memory
 with_sizes comp sizes args memory = with_blocks comp (memory comp ++ blocks_for sizes args) memory
-
-itself : (comp : ℕ) (memory : Memory) (c : ℕ) → with_blocks comp (memory comp ++ []) memory c ≡ memory c
-itself comp memory c =
-    if_same (c == comp) (memory comp ++ []) (memory c)
-    (λ same. append-nil (memory comp) ∙ ap memory (sym (eqb-true c comp same)))
-
-pub with_none : (comp : ℕ) (args : List Value) (memory : Memory) → with_sizes comp [] args memory ≡ memory
-with_none comp args memory = λ i c. itself comp memory c i
 
 pub at_itself : (comp : ℕ) (x : Blocks) (memory : Memory) → with_blocks comp x memory comp ≡ x
 at_itself comp x memory = ap (λ b. if b then x else memory comp) (eq-eqb comp comp refl)
@@ -77,9 +66,6 @@ module _ (structs : List TypedStruct) (here : Here) (params : ℕ) where
     pub fewer : now.turns ≤ before.turns
     pub on : (after : Seen) (r : Result (Left (Unit {0})) RunEnd) → Comes now after r (inits_from locals k tt) →
         Comes before after r (inits_from locals 0 tt)
-
-  pub started : (locals : List TypedLocal) (before : Seen) → Started locals 0 before before
-  started locals before = record { fewer = omega arith; on = λ after r c. c }
 
   first_init : (locals : List TypedLocal) (k : ℕ) (local : TypedLocal) → k < length locals →
       local ≡ get_or locals k local → (s : State) →

@@ -1,12 +1,12 @@
 -- Statements, by their layers.
-use Rattle.sc_run.proofs.Common.{Acts, Bor, Break, Continue, Exit, Frame, Left, List, Loop, Next, None, Option, Piece}
+use Rattle.sc_run.proofs.Common.{Acts, Bor, Break, Continue, Exit, Frame, Left, List, Loop, Next, Option, Piece}
 use Rattle.sc_run.proofs.Common.{ProgramTree, Reached, Rest, Return, Route, Seen, Some, State, Step, Steps, Stopped}
 use Rattle.sc_run.proofs.Common.{TypedExpr, TypedSimple, TypedStmt, TypedStmtKind, TypedStmtKind-F, Work, [], and_then}
 use Rattle.sc_run.proofs.Common.{ap, arith, assign, block_acts, c_arith, calls_in, choose, drop, drop_all, evaluated}
 use Rattle.sc_run.proofs.Common.{follow, get_or, here_of, in_order, kind_step, layer_of, leave, length, length-drop}
-use Rattle.sc_run.proofs.Common.{loop, loop_acts, part_acts, part_does, refl, resume, reverse, roll-TypedStmtKind}
-use Rattle.sc_run.proofs.Common.{stmt_acts, stmt_at, stmt_step, subst, sym, take, take_all, test, way_in, ℕ, ◌++◌, ◌-◌}
-use Rattle.sc_run.proofs.Common.{◌∙◌, ◌∷◌, ◌≡◌, ◌≤◌}
+use Rattle.sc_run.proofs.Common.{loop, loop_acts, part_acts, refl, resume, reverse, roll-TypedStmtKind, stmt_acts}
+use Rattle.sc_run.proofs.Common.{stmt_at, stmt_step, subst, sym, take, take_all, test, way_in, ℕ, ◌++◌, ◌-◌, ◌∙◌, ◌∷◌}
+use Rattle.sc_run.proofs.Common.{◌≡◌, ◌≤◌}
 use Rattle.sc_core.specs.declared.stmt.TypedStmtKind.TheOpen as layer
 use Rattle.sc_core.specs.declared.value.Want.TheVariants as want
 use Rattle.sc_run.proofs.Standing.{Acting}
@@ -95,20 +95,6 @@ part_steps program before work later f route waiting given part l step after las
     (λ n s. follow route (part_acts program n f (Some part) tt s) (loop_acts program n f l))
     (λ n. part_acts program n f (Some part) tt) step after last g pushed
     (λ n s. waits n (reverse work) (part_acts program n f (Some part) tt s)) h)
-
--- a loop at once, where there is no first part
-pub no_first : (program : ProgramTree) (before : Seen) (work : List Work) (f : Frame) (first : Option TypedSimple)
-    (l : Loop) (step : Step) (after : Seen) (last : List Work) (g : Frame) → first ≡ None →
-    Steps program before work f (λ n. loop_acts program n f l tt) step after last g →
-    Steps program before work f (λ n s. follow in_order
-    (part_does c_arith f.scope.structs.now (here_of f.scope) f.scope.params (calls_in program n) first tt s)
-    (loop_acts program n f l)) step after last g
-no_first program before work f first l step after last g is h =
-    steps_as program before work f (λ n s. follow in_order
-    (part_does c_arith f.scope.structs.now (here_of f.scope) f.scope.params (calls_in program n) first tt s)
-    (loop_acts program n f l)) (λ n. loop_acts program n f l tt) step after last g
-    (λ n s. ap (λ o. follow in_order (part_does c_arith f.scope.structs.now (here_of f.scope) f.scope.params
-    (calls_in program n) o tt s) (loop_acts program n f l)) is) h
 
 module _ (program : ProgramTree) (before : Seen) (work : List Work) (f : Frame) (line : ℕ) (step : Step) (after : Seen)
     (later : List Work) (g : Frame) where

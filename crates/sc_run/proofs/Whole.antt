@@ -1,10 +1,9 @@
 -- A run from its first step to its end.
-use Rattle.sc_run.proofs.Common.{Begun, Callee, EndsAs, EntryAt, Event, EventsOut, Frame, Go, List, Main, Memory, None}
-use Rattle.sc_run.proofs.Common.{Now, Option, ProgramTree, RunEnd, Seen, Some, SourceRun, Standing, Stands, Step, Steps}
-use Rattle.sc_run.proofs.Common.{Stop, TurnsOut, Work, [], ap, body_acts, c_arith, does_now, entry_in, globals_of}
-use Rattle.sc_run.proofs.Common.{if◌then◌else◌, le-leb, length, meaning, refl, run_of, stopped_at, subst, sym, take, ℕ}
-use Rattle.sc_run.proofs.Common.{◌∙◌, ◌≡◌, ◌≤◌}
-use Rattle.sc_run.proofs.Beginning.{no_main, main_missing, begins}
+use Rattle.sc_run.proofs.Common.{Begun, Callee, EndsAs, EntryAt, Event, EventsOut, Frame, Go, List, Main, Memory, Now}
+use Rattle.sc_run.proofs.Common.{ProgramTree, RunEnd, Seen, Some, SourceRun, Standing, Stands, Step, Steps, Stop, Work}
+use Rattle.sc_run.proofs.Common.{[], ap, body_acts, c_arith, does_now, globals_of, if◌then◌else◌, le-leb, length}
+use Rattle.sc_run.proofs.Common.{meaning, refl, run_of, stopped_at, subst, sym, take, ℕ, ◌∙◌, ◌≡◌, ◌≤◌}
+use Rattle.sc_run.proofs.Beginning.{begins}
 use Rattle.sc_run.proofs.Onward.{stopped_here}
 
 -- whatever the whole run is, it stands here after it stood there
@@ -47,19 +46,6 @@ module _ (program : ProgramTree) (inputs : List ℕ) (turns events : ℕ) where
   pub seen_at_first : (memory : Memory) (trace : List Event) → memory ≡ globals_of program.sections → trace ≡ [] →
       ◌≡◌ {A = Seen} (record { memory = memory; trace = trace; turns = turns; inputs = inputs }) seen_first
   seen_at_first memory trace is none = λ i. record { memory = is i; trace = none i; turns = turns; inputs = inputs }
-
-  no_main_at : (o : Option ℕ) → entry_in program program.interfaces.main Main ≡ o →
-      EntryAt program program.interfaces.main Main None → whole_run ≡ record { trace = []; end = TurnsOut }
-  no_main_at None is h = no_main program inputs turns is
-  no_main_at (Some number) is h = main_missing program inputs turns number is (h number is)
-
-  -- a program without `main`
-  pub not_begun : (run : SourceRun) (trace : List Event) → trace ≡ [] →
-      EntryAt program program.interfaces.main Main None →
-      run ≡ stopped_at events (record { trace = trace; end = TurnsOut }) → run ≡ meaning program inputs turns events
-  not_begun run trace none h is =
-      is ∙ ap (λ t. stopped_at events (record { trace = t; end = TurnsOut })) none ∙
-      ap (stopped_at events) (sym (no_main_at (entry_in program program.interfaces.main Main) refl h))
 
   module _ (run : SourceRun) (callee : Callee) (before after started : Seen) (f : Frame)
       (at_first : before ≡ seen_first) (at : EntryAt program program.interfaces.main Main (Some callee))

@@ -1,10 +1,9 @@
 -- The rows of a trace, event by event.
 use Rattle.sc_event.specs.Prelude.{Standing, action_of, part, performer, rows_from, stands_after}
-use Rattle.std.proofs.Common.{◌≡◌, refl, sym, ap, ◌∙◌, arith, ℕ, suc, ◌+◌, ◌≤◌, Bool, true, false, List, [], ◌∷◌, ◌++◌}
+use Rattle.std.proofs.Common.{◌≡◌, refl, sym, ap, ◌∙◌, arith, ℕ, suc, ◌+◌, Bool, true, false, List, [], ◌∷◌, ◌++◌}
 use Rattle.std.proofs.Common.{length, drop, Option, Some, None, if◌then◌else◌, append_assoc, length-append, append-nil}
 use Rattle.std.specs.Prelude.{◌==◌}
 use Rattle.sc_event.specs.declared.event.Event.{Event}
-use Rattle.sc_event.specs.declared.row.Entry.{Entry}
 use Rattle.sc_event.specs.declared.row.Row.{Row}
 use Rattle.sc_script.specs.Row.{row_of}
 
@@ -32,17 +31,6 @@ one_event comp number at event later = split (performer event == comp)
         ap (λ n. row ∷ rows_from comp n (stands_after at event) later) next
     split false = let same : number ≡ number + 0 = omega arith in
         ap (λ n. rows_from comp n (stands_after at event) later) same
-
--- at most one row comes by an event
-pub few_rows : (comp number : ℕ) (entry : Entry) (event : Event) → length (row_of comp number entry event) ≤ 1
-few_rows comp number entry event = split (performer event == comp)
-  where
-    row : Row
-    row = record { entry = entry; number = number; action = action_of event }
-
-    split : (mine : Bool) → length {A = Row} (if mine then row ∷ [] else []) ≤ 1
-    split true = omega arith
-    split false = omega arith
 
 module _ (main comp : ℕ) (trace : List Event) where
   -- the rows so far, and those of what is left, are the part

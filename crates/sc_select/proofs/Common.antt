@@ -2,7 +2,7 @@
 pub use Rattle.std.proofs.Common.{All, AllPairs, Bool, Err, IfOk, IsTrue, List, None, Ok, OnOk, Option, Some, []}
 pub use Rattle.std.proofs.Common.{add-one, ap, append-nil, append_assoc, ap₂, arith, drop, drop-cons, eq-eqb, eqb-true}
 pub use Rattle.std.proofs.Common.{false, get_or, if◌then◌else◌, inl, inr, is_some, le-ltb, length, length-append}
-pub use Rattle.std.proofs.Common.{lt-ltb, ltb-true, map, nat_lt, ne_eqb, neg_ℤ, negsuc, not, pos, pred, refl, replicate}
+pub use Rattle.std.proofs.Common.{ltb-true, map, nat_lt, ne_eqb, neg_ℤ, negsuc, not, pos, pred, refl, replicate}
 pub use Rattle.std.proofs.Common.{reverse, slice_get, slice_set, subst, suc, sym, true, zero, ℕ, ⊎_elim, ◌&&◌, ◌*◌}
 pub use Rattle.std.proofs.Common.{◌++◌, ◌+◌, ◌-◌, ◌<◌, ◌==◌, ◌^◌, ◌||◌, ◌∙◌, ◌∷◌, ◌≡◌, ◌≤◌, ◌⊎◌}
 pub use Rattle.std.proofs.lemmas.Bool.{and_from}

@@ -25,9 +25,6 @@ none_behind (Applies temp left o word) = refl
 none_behind (Returns temp) = refl
 none_behind Other = refl
 
-pub none_before : (role : Role) → joins Other role ≡ false
-none_before role = refl
-
 -- a statement that isn't one with the one before it is to its neighbour what it is by itself
 pub role_alone : (before own : Role) → joins before own ≡ false → role_behind before own ≡ own
 role_alone (Sets temp word) (Operates other left o) h =

@@ -87,7 +87,3 @@ first_taken is js ts us i t h hi ht =
 
 pub none_left : (is : List Instr) (ts : List (Option Target)) → is ≡ [] → reverse (lines_of is ts) ≡ []
 none_left is ts h = ap (λ x. reverse (lines_of x ts)) h
-
--- what is read so far and what is left are all instructions
-pub instr_read : (read rest all : List Instr) (i : Instr) → read ++ i ∷ rest ≡ all → (read ++ i ∷ []) ++ rest ≡ all
-instr_read read rest all i h = append_assoc read (i ∷ []) rest ∙ h

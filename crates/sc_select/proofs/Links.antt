@@ -7,15 +7,15 @@ use Rattle.sc_select.proofs.Common.{branch_back, branch_reach, brought, call_cro
 use Rattle.sc_select.proofs.Common.{code_of_lines, copied, cycle, entrance, environment_call, eq-eqb, false}
 use Rattle.sc_select.proofs.Common.{first_scratch, fold-roll-TacStmt, followed, frame_taken, function_lines, has_mark}
 use Rattle.sc_select.proofs.Common.{if◌then◌else◌, in_order, is_address, is_jal, is_linkable, is_near, jump_back, keep}
-use Rattle.sc_select.proofs.Common.{le-ltb, length, length-append, length-map, load_from, loading, lt-ltb, map}
-use Rattle.sc_select.proofs.Common.{map-TacStmt, moved_by, nat_lt, needed_in, neg_ℤ, object_offset, object_read}
-use Rattle.sc_select.proofs.Common.{object_store, operand, operation, pass, place_of_global, plain, plainly, plan_by}
-use Rattle.sc_select.proofs.Common.{plan_of, pos, receive, referring, refl, relocation_of, relocations_from}
-use Rattle.sc_select.proofs.Common.{result_register, return, role_of_load, role_of_operation, role_of_return}
-use Rattle.sc_select.proofs.Common.{role_of_store, rotated, select, select_all, select_step, short_form}
-use Rattle.sc_select.proofs.Common.{short_operation, short_return, slice_get, stmt_induction, store_arguments, store_to}
-use Rattle.sc_select.proofs.Common.{straightly, sub_word, subst, suc, sym, take, testing, true, word_of_constant, ℕ}
-use Rattle.sc_select.proofs.Common.{◌&&◌, ◌*◌, ◌++◌, ◌+◌, ◌<◌, ◌∙◌, ◌∷◌, ◌≡◌, ◌≤◌}
+use Rattle.sc_select.proofs.Common.{le-ltb, length, length-append, length-map, load_from, loading, map, map-TacStmt}
+use Rattle.sc_select.proofs.Common.{moved_by, nat_lt, needed_in, neg_ℤ, object_offset, object_read, object_store}
+use Rattle.sc_select.proofs.Common.{operand, operation, pass, place_of_global, plain, plainly, plan_by, plan_of, pos}
+use Rattle.sc_select.proofs.Common.{receive, referring, refl, relocation_of, relocations_from, result_register, return}
+use Rattle.sc_select.proofs.Common.{role_of_load, role_of_operation, role_of_return, role_of_store, rotated, select}
+use Rattle.sc_select.proofs.Common.{select_all, select_step, short_form, short_operation, short_return, slice_get}
+use Rattle.sc_select.proofs.Common.{stmt_induction, store_arguments, store_to, straightly, sub_word, subst, suc, sym}
+use Rattle.sc_select.proofs.Common.{take, testing, true, word_of_constant, ℕ, ◌&&◌, ◌*◌, ◌++◌, ◌+◌, ◌<◌, ◌∙◌, ◌∷◌, ◌≡◌}
+use Rattle.sc_select.proofs.Common.{◌≤◌}
 use Rattle.sc_core.proofs.Induction.{everywhere as each_holds}
 use Rattle.std.proofs.lemmas.List.Elements.{All-cons, All-nil, All-weaker}
 use Rattle.std.proofs.lemmas.List.Kept.{AllPairs-cons}
@@ -331,16 +331,6 @@ whole_function frame places near f tree marks lines old marked same h none =
     append-nil (function_lines frame places (plan_by marks near) tree) ∙
     ap (λ t. function_lines frame places (plan_by marks near) t) same ∙
     (λ i. function_lines frame places (record { needed = λ t. marked t i; near = near }) f)
-
--- which of the two codes is a function's
-pub near_code : (f : TacFnTree) (places : List Place) (frame : FrameTree) (lines : List Line) →
-    lines ≡ function_lines frame places (plan_of f true) f → length lines < 1024 →
-    code_of_lines lines ≡ code_of f places frame
-near_code f places frame lines is short =
-    let near : is_near f places frame ≡ true =
-    ap (λ l. nat_lt (length l) 1024) (sym is) ∙ lt-ltb (length lines) 1024 short in
-    ap code_of_lines is ∙
-    ap (λ b. code_of_lines (function_lines frame places (plan_of f b) f)) (sym near)
 
 pub far_code : (f : TacFnTree) (places : List Place) (frame : FrameTree) (near far : List Line) →
     near ≡ function_lines frame places (plan_of f true) f → far ≡ function_lines frame places (plan_of f false) f →

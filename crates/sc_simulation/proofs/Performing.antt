@@ -1,8 +1,7 @@
 -- Calls of compartments that perform are followed where their functions are, from compartments that run their code.
 use Rattle.sc_simulation.proofs.Common.{Addresses, All, GivesResults, ImageParts, IsFunction, IsLinked, IsProgram}
-use Rattle.sc_simulation.proofs.Common.{IsWord, Library, List, PerformersDo, PerformersFollow, Roles, Setting, Some}
-use Rattle.sc_simulation.proofs.Common.{TacFnTree, TacTree, code_library, functions_in, setting, slice_get, wrapping, ℕ}
-use Rattle.sc_simulation.proofs.Common.{◌≡◌}
+use Rattle.sc_simulation.proofs.Common.{IsWord, List, PerformersDo, PerformersFollow, Roles, Setting, Some, TacFnTree}
+use Rattle.sc_simulation.proofs.Common.{TacTree, functions_in, setting, slice_get, ℕ, ◌≡◌}
 use Rattle.sc_simulation.proofs.CrossCalls.{cross_where}
 use Rattle.sc_simulation.proofs.UnknownCrossing.{into_unknown}
 
@@ -13,9 +12,6 @@ module _ (program : TacTree) (image : ImageParts) (inputs : List ℕ) (roles : R
     (words : All IsWord inputs) where
   abbrev T : Setting
   T = setting program image inputs roles.scripted turn_pays addresses
-
-  abbrev library : Library
-  library = code_library wrapping program
 
   pub performers_follow : (n : ℕ) → PerformersDo program roles T n → PerformersFollow program roles T n
   performers_follow n perform P x to index args honest performing makes settled base at_base passed stands =

@@ -4,12 +4,11 @@ use Rattle.sc_simulation.proofs.Common.{IsBase, IsLinked, IsProgram, Joint, List
 use Rattle.sc_simulation.proofs.Common.{Registers, Setting, Settled, Some, Standpoint, TacFnTree, TacSection, TacTree}
 use Rattle.sc_simulation.proofs.Common.{[], and_parts, ap, are_headed, arith, code_function, code_globals, cond, count}
 use Rattle.sc_simulation.proofs.Common.{eqb-true, false, first_state, function_entered, functions_in, functions_or_none}
-use Rattle.sc_simulation.proofs.Common.{gate, has_head, if◌then◌else◌, length, lt-ltb, ltb-true, machine, main_entered}
-use Rattle.sc_simulation.proofs.Common.{nat_lt, not, option_map, or_parts, position, position-cons, refl}
-use Rattle.sc_simulation.proofs.Common.{runs_are_steady, same_Some, same_entry, setting, slice_get, slice_get_within}
-use Rattle.sc_simulation.proofs.Common.{slice_index, stack_top, stack_tops, start, start_memory, subst, suc, sym, true}
-use Rattle.sc_simulation.proofs.Common.{truth, word, wrapping, zero, zero-add, ℕ, ◌*◌, ◌+◌, ◌<◌, ◌==◌, ◌||◌, ◌∙◌, ◌∷◌}
-use Rattle.sc_simulation.proofs.Common.{◌≡◌, ◌≤◌, ◌⊎◌}
+use Rattle.sc_simulation.proofs.Common.{gate, has_head, if◌then◌else◌, length, lt-ltb, ltb-true, main_entered, nat_lt}
+use Rattle.sc_simulation.proofs.Common.{not, option_map, or_parts, position, position-cons, refl, runs_are_steady}
+use Rattle.sc_simulation.proofs.Common.{same_Some, same_entry, setting, slice_get, slice_get_within, slice_index}
+use Rattle.sc_simulation.proofs.Common.{stack_top, stack_tops, start_memory, subst, suc, sym, true, truth, word}
+use Rattle.sc_simulation.proofs.Common.{wrapping, zero, zero-add, ℕ, ◌*◌, ◌+◌, ◌<◌, ◌==◌, ◌||◌, ◌∙◌, ◌∷◌, ◌≡◌, ◌≤◌, ◌⊎◌}
 use Rattle.sc_core.specs.declared.value.Cell.TheVariants as cell
 use Rattle.sc_image.specs.declared.parts.CompPart.{CompPart}
 use Rattle.sc_simulation.proofs.Sections.{all_at, position_at}
@@ -141,9 +140,6 @@ module _ (program : TacTree) (image : ImageParts) (inputs : List ℕ) (performs 
     saved = stack_tops 0 image.comps;
     input = 0;
   }
-
-  pub starts : machine P x ≡ start image
-  starts = refl
 
   -- a global has its place
   at_place : (k b a : ℕ) → first_inj k b ≡ Some a → a ≡ (addresses k).global b

@@ -1,9 +1,8 @@
 -- Accesses byte by byte, and the numbers that their bytes make.
 use Rattle.sc_store.proofs.Common.{HasBytes, IsSome, List, Memory, Some, [], ap, arith, byte_of, cases_eq, cases_lt}
-use Rattle.sc_store.proofs.Common.{get_or, get_or-take, length, length-take-le, load_of, refl, stored, subst, suc, sym}
-use Rattle.sc_store.proofs.Common.{take, unwrap_or, written, zero, ℕ, ⊎_elim, ◌*◌, ◌+◌, ◌-◌, ◌<◌, ◌^◌, ◌∙◌, ◌∷◌, ◌≡◌}
-use Rattle.sc_store.proofs.Common.{◌≤◌}
-use Rattle.std.specs.Int.{w32, to_le_bytes, sum_through, byte_worth}
+use Rattle.sc_store.proofs.Common.{get_or, get_or-take, length, length-take-le, refl, stored, subst, suc, sym, take}
+use Rattle.sc_store.proofs.Common.{written, zero, ℕ, ⊎_elim, ◌+◌, ◌-◌, ◌<◌, ◌∙◌, ◌∷◌, ◌≡◌, ◌≤◌}
+use Rattle.std.specs.Int.{w32, to_le_bytes}
 use Rattle.sc_store.proofs.Words.{stored-in, stored-apart}
 use Rattle.sc_store.proofs.Parts.{written-in, written-apart}
 
@@ -53,16 +52,6 @@ next_there m m' a bs k e h has =
     let front : length (take k bs) ≡ k = length-take-le k bs (omega arith) in
     subst (λ o. IsSome o) (sym (ap (λ f. f (a + k)) e ∙ written-apart m a (take k bs) (a + k) (λ l u. omega arith)))
     (has k h)
-
--- ---- numbers and their bytes
-pub load_of-read : (m : Memory) (a : ℕ) (bs : List ℕ) (n : ℕ) →
-    ((k : ℕ) → k < suc n → m (a + k) ≡ Some (get_or bs k 0)) →
-    load_of m a (suc n) ≡ sum_through (λ i. byte_worth i (get_or bs i 0)) n
-load_of-read m a bs zero h = ap (λ o. 0 + unwrap_or o 0 * 256 ^ 0) (h 0 (omega arith)) ∙ omega arith
-load_of-read m a bs (suc n) h =
-    ap (λ w. w + unwrap_or (m (a + suc n)) 0 * 256 ^ suc n) (load_of-read m a bs n (λ k l. h k (omega arith)))
-    ∙ ap (λ o. sum_through (λ i. byte_worth i (get_or bs i 0)) n + unwrap_or o 0 * 256 ^ suc n)
-    (h (suc n) (omega arith))
 
 stored_at : (m : Memory) (a : ℕ) (bs : List ℕ) (v : ℕ) → ((k : ℕ) → k < length bs → get_or bs k 0 ≡ byte_of v k) →
     (b : ℕ) → written m a bs b ≡ stored m a (length bs) v b

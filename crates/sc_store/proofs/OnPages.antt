@@ -161,10 +161,6 @@ zeros_unwritten table pool a bs free fits zero_bytes = λ j i. at_place i j
         (cases_lt i (a + length bs)))
         (cases_lt i a)
 
--- a place is its page and the byte there
-same_page : (a i : ℕ) → i / 4096 ≡ a / 4096 → (i ≡ a + i % 4096 - a % 4096) × (a % 4096 ≤ a)
-same_page a i e = (omega arith, omega arith)
-
 page_there : (pool : Pages) (n : ℕ) (old : List ℕ) → page_of pool n ≡ Some old → n < length pool.slots
 page_there pool n old e = ⊎_elim
     (λ below. below)

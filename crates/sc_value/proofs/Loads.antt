@@ -1,10 +1,9 @@
 -- What the store of blocks gives and takes is what the memory does.
-use Rattle.sc_value.proofs.Common.{Blocks, Bool, Cause, Err, List, None, Ok, Option, Ptr, Result, Some, Value, bind}
-use Rattle.sc_value.proofs.Common.{cell_of, cells_at, false, if◌then◌else◌, is_live, length, load, loaded, nat_lt, refl}
-use Rattle.sc_value.proofs.Common.{slice_get, slice_set, store, true, typed, with_cell, ◌≡◌}
-use Rattle.sc_core.specs.declared.cause.Cause.TheVariants.{BadType, Dangling, OutOfBounds}
+use Rattle.sc_value.proofs.Common.{Blocks, Bool, Cause, Err, List, None, Ok, Option, Ptr, Result, Some, bind, cells_at}
+use Rattle.sc_value.proofs.Common.{false, if◌then◌else◌, is_live, load, loaded, refl, slice_get, true, typed, ◌≡◌}
+use Rattle.sc_core.specs.declared.cause.Cause.TheVariants.{BadType, Dangling}
 use Rattle.sc_core.specs.declared.value.Cell.{Cell}
-use Rattle.sc_blocks.specs.Rows.{living, load_cell, or_cause, put_in, read_cell, store_cell}
+use Rattle.sc_blocks.specs.Rows.{load_cell, or_cause, read_cell}
 use Rattle.sc_core.specs.declared.value.Cell.TheVariants as cell
 use Rattle.sc_core.specs.declared.value.Pointer.{Pointer}
 use Rattle.sc_blocks.specs.declared.fault.BlockFault.{BlockFault}
@@ -30,22 +29,6 @@ load_is blocks pointer p = by_cells (cells_at blocks p.block) where
       bind (bind r (λ cells. read_cell blocks (slice_get cells p.index))) (typed pointer)
   by_cells (Err cause) = refl
   by_cells (Ok cells) = loaded_is blocks pointer (slice_get cells p.index)
-
-pub store_is : (blocks : Blocks) (p : Pointer) (v : Value) →
-    store blocks (Ptr p) v ≡ store_cell blocks (cell.Ptr p) (cell_of v)
-store_is blocks p v = by_cells (cells_at blocks p.block) where
-  by_test : (cells : List Cell) (b : Bool) → (if b then
-      Ok (slice_set blocks p.block (record { live = true; cells = slice_set cells p.index (cell_of v) })) else
-      Err OutOfBounds) ≡ bind (if b then Ok (slice_set cells p.index (cell_of v)) else Err OutOfBounds)
-      (λ cells. Ok (slice_set blocks p.block (living cells)))
-  by_test cells true = refl
-  by_test cells false = refl
-
-  by_cells : (r : Result (List Cell) Cause) → bind r (with_cell blocks p v) ≡
-      bind r (λ cells. bind (put_in cells p.index (cell_of v))
-      (λ cells. Ok (slice_set blocks p.block (living cells))))
-  by_cells (Err cause) = refl
-  by_cells (Ok cells) = by_test cells (nat_lt p.index (length cells))
 
 -- the value that was loaded, by the cell that the blocks gave
 pub load_typed : (blocks : Blocks) (pointer : Bool) (p : Pointer) (r : Result Cell BlockFault) →

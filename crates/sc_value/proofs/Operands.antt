@@ -1,21 +1,15 @@
 -- What an expression gives, by what its parts give.
 use Rattle.sc_value.proofs.Common.{Blocks, Bool, Cause, Err, Here, List, Meant, None, Ok, Result, Some, TypedExpr}
-use Rattle.sc_value.proofs.Common.{Value, Ways, Word, ap, applied_one, at_pointer, binary, bind, c_arith, decided}
-use Rattle.sc_value.proofs.Common.{false, fold-roll-TypedExpr, if◌then◌else◌, is_array, is_pointer, is_true}
-use Rattle.sc_value.proofs.Common.{is_unsigned, joined, literal, load, meant, meant_step, moved, of_bool, pos, refl}
-use Rattle.sc_value.proofs.Common.{sym, term_step, true, variable_at, wanted, ways, ℕ, ◌∙◌, ◌≡◌}
+use Rattle.sc_value.proofs.Common.{Value, Ways, Word, ap, at_pointer, binary, bind, c_arith, decided, false}
+use Rattle.sc_value.proofs.Common.{fold-roll-TypedExpr, if◌then◌else◌, is_array, is_pointer, is_true, joined, load}
+use Rattle.sc_value.proofs.Common.{meant, meant_step, of_bool, refl, sym, term_step, true, wanted, ways, ℕ, ◌∙◌, ◌≡◌}
 use Rattle.sc_core.specs.declared.ty.Ty.{Ty}
 use Rattle.sc_core.specs.declared.section.TypedStruct.{TypedStruct}
-use Rattle.sc_base.specs.declared.op.UnaryOp.{UnaryOp}
 use Rattle.sc_base.specs.declared.op.BinaryOp.{BinaryOp}
 use Rattle.sc_base.specs.declared.op.BinaryOp.TheVariants as op
 use Rattle.sc_core.specs.declared.expr.TypedKind.{TypedKind, TypedKind-F, roll-TypedKind}
 use Rattle.sc_core.specs.declared.expr.TypedKind.TheOpen as term
-use Rattle.sc_core.specs.declared.expr.TypedKind.TheVariants.{Literal, Variable, Unary, Binary, Index, Member, Arrow}
-use Rattle.sc_core.specs.declared.expr.TypedKind.TheVariants.{Deref, Address, rolls-Literal, rolls-Variable}
-use Rattle.sc_core.specs.declared.expr.TypedKind.TheVariants.{rolls-Unary, rolls-Binary, rolls-Index, rolls-Member}
-use Rattle.sc_core.specs.declared.expr.TypedKind.TheVariants.{rolls-Arrow, rolls-Deref, rolls-Address}
-use Rattle.sc_core.specs.declared.expr.VarRef.{VarRef}
+use Rattle.sc_core.specs.declared.expr.TypedKind.TheVariants.{Binary, Index, rolls-Binary, rolls-Index}
 use Rattle.sc_core.specs.declared.value.Want.{Want}
 use Rattle.sc_core.specs.declared.value.Want.TheVariants as want
 use Rattle.sc_core.proofs.Layers.{expr_at, term_of}
@@ -89,22 +83,6 @@ module _ (structs : List TypedStruct) where
         ap (λ m. m.ty) (fold-roll-TypedExpr (Ty → Ways) Meant (term_step c_arith structs here params) meant_step
         (record { ty = e.ty; kind = e.kind }))
 
-    pub literal_gives : (e : TypedExpr) (word : ℕ) (wish : Want) (blocks : Blocks) → e.kind ≡ Literal word →
-        way e wish blocks ≡ Ok (literal e.ty word)
-    literal_gives e word wish blocks is = λ i. way_at e (term.Literal word)
-        (is ∙ sym (rolls-Literal word)) i wish blocks
-
-    pub variable_gives : (e : TypedExpr) (v : VarRef) (wish : Want) (blocks : Blocks) → e.kind ≡ Variable v →
-        way e wish blocks ≡ wanted e.ty (variable_at here params v) wish blocks
-    variable_gives e v wish blocks is = λ i. way_at e (term.Variable v) (is ∙ sym (rolls-Variable v)) i wish blocks
-
-    pub unary_gives : (e : TypedExpr) (o : UnaryOp) (a : TypedExpr) (wish : Want) (blocks : Blocks) →
-        e.kind ≡ Unary o a → way e wish blocks ≡ bind (way a want.Value blocks)
-        (applied_one c_arith (is_unsigned a.ty) o)
-    unary_gives e o a wish blocks is =
-        (λ i. way_at e (term.Unary o a) (is ∙ sym (rolls-Unary o a)) i wish blocks) ∙
-        ap (λ t. bind (way a want.Value blocks) (applied_one c_arith (is_unsigned t) o)) (ty_is a)
-
     pub binary_gives : (e : TypedExpr) (o : BinaryOp) (a b : TypedExpr) (wish : Want) (blocks : Blocks) →
         e.kind ≡ Binary o a b → way e wish blocks ≡
         bind (way a want.Value blocks) (λ v. or_else (decided o v)
@@ -130,26 +108,6 @@ module _ (structs : List TypedStruct) where
         ∙ ap (λ t. bind (bind (way a want.Value blocks)
         (λ v. bind (way b want.Value blocks) (at_pointer structs blocks op.Add a.ty t v)))
         (λ q. wanted e.ty q wish blocks)) (ty_is b)
-
-    pub member_gives : (e a : TypedExpr) (offset : ℕ) (wish : Want) (blocks : Blocks) → e.kind ≡ Member a offset →
-        way e wish blocks ≡ bind (bind (way a want.Place blocks) (moved blocks (pos offset)))
-        (λ q. wanted e.ty q wish blocks)
-    member_gives e a offset wish blocks is = λ i. way_at e (term.Member a offset)
-        (is ∙ sym (rolls-Member a offset)) i wish blocks
-
-    pub arrow_gives : (e a : TypedExpr) (offset : ℕ) (wish : Want) (blocks : Blocks) → e.kind ≡ Arrow a offset →
-        way e wish blocks ≡ bind (bind (way a want.Value blocks) (moved blocks (pos offset)))
-        (λ q. wanted e.ty q wish blocks)
-    arrow_gives e a offset wish blocks is = λ i. way_at e (term.Arrow a offset)
-        (is ∙ sym (rolls-Arrow a offset)) i wish blocks
-
-    pub deref_gives : (e a : TypedExpr) (wish : Want) (blocks : Blocks) → e.kind ≡ Deref a →
-        way e wish blocks ≡ bind (way a want.Value blocks) (λ q. wanted e.ty q wish blocks)
-    deref_gives e a wish blocks is = λ i. way_at e (term.Deref a) (is ∙ sym (rolls-Deref a)) i wish blocks
-
-    pub address_gives : (e a : TypedExpr) (wish : Want) (blocks : Blocks) → e.kind ≡ Address a →
-        way e wish blocks ≡ way a want.Place blocks
-    address_gives e a wish blocks is = λ i. way_at e (term.Address a) (is ∙ sym (rolls-Address a)) i wish blocks
 
     -- an expression that was found to be another, and its word
     pub word_same : (a b : TypedExpr) (blocks : Blocks) (v w : ℕ) → b ≡ a → v ≡ w →

@@ -11,8 +11,8 @@ pub use Rattle.clap.specs.Faults.{other_fault, settle_fault, step_fault, turn_fa
 unfoldable pub use Rattle.clap.specs.Faults.{defaults_fault, walk_fault}
 pub use Rattle.clap.specs.Kinds.{IsAmong, Kinds, or_else}
 pub use Rattle.clap.specs.Lexer.{short_of}
-pub use Rattle.clap.specs.Simple.{App, HasMatchesOf, Shape, built, entered, is_simple, label_of, names_of, new_shape}
-pub use Rattle.clap.specs.Simple.{rows_at, subcommand_of, subcommand_rows, subcommand_rows_of}
+pub use Rattle.clap.specs.Simple.{App, HasMatchesOf, Shape, entered, is_simple, label_of, names_of, new_shape, rows_at}
+pub use Rattle.clap.specs.Simple.{subcommand_of, subcommand_rows, subcommand_rows_of}
 pub use Rattle.clap.specs.Walk.{Held, Names, Row, Rule, Step, Waiting, Walk, after_flag, after_step, answers_to}
 pub use Rattle.clap.specs.Walk.{arg_by_id, arg_by_index, arg_by_long, at_row, finished, first_of, has_long, has_row}
 pub use Rattle.clap.specs.Walk.{idle, long_met, more_values, nothing_held, one_of, option, reacted, row_text}

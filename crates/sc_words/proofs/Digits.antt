@@ -173,13 +173,6 @@ pub record IsReadUpTo (text : List ℕ) (count : ℕ) (done : List ℤ) (left : 
   pub values : integers (pieces text) ≡ option_map (λ xs. done ++ xs) (integers (pieces left))
   pub pieces : length (pieces text) ≡ count + length (pieces left)
 
-pub begins : (text : List ℕ) → IsReadUpTo text 0 [] text
-begins text = record { values = same (integers (pieces text)); pieces = omega arith }
-  where
-    same : (o : Option (List ℤ)) → o ≡ option_map (λ xs. [] ++ xs) o
-    same None = refl
-    same (Some xs) = refl
-
 -- the pieces that are left
 cut : (left : List ℕ) → ((pieces_behind left ≡ None) × (pieces left ≡ first_piece left ∷ []))
     ⊎ ((behind : List ℕ) × (pieces_behind left ≡ Some behind) × (pieces left ≡ first_piece left ∷ pieces behind))

@@ -1,7 +1,7 @@
 -- What a parse makes of all the words: the command's name and its options, or a fault.
 use Rattle.sc_words.proofs.Common.{App, Bool, Form, Held, Kinds, List, Names, None, Option, Row, Setting, Shape, Some}
 use Rattle.sc_words.proofs.Common.{Step, Tells, Text, Walk, [], after_step, answers_to, ap, append-nil, append_assoc}
-use Rattle.sc_words.proofs.Common.{application, begins_with_hyphen, built, bytes_eq, check_fault, codes, commands, cond}
+use Rattle.sc_words.proofs.Common.{application, begins_with_hyphen, bytes_eq, check_fault, codes, commands, cond}
 use Rattle.sc_words.proofs.Common.{defaults_fault, entered, entered_fault, false, fault_of, find, find-map, find_passes}
 use Rattle.sc_words.proofs.Common.{finished, fold, form_of, idle, is_bare, is_simple, is_simple_and_free, is_some}
 use Rattle.sc_words.proofs.Common.{label_of, level_fault, list_all, map, names_of, new_shape, not, nothing_held}
@@ -35,9 +35,6 @@ shapes = map (λ c. ready c.0 c.1)
 
 abbrev app : App
 app = record { top = top; subs = shapes commands }
-
-built_is : built application ≡ app
-built_is = refl
 
 pub is_exact : is_simple_and_free application ≡ true
 is_exact = refl

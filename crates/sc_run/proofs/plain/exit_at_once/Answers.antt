@@ -1,4 +1,5 @@
-use Rattle.sc_run.proofs.Common.{IfSome_then, exit_of, kept_by}
+use Rattle.sc_run.proofs.Common.{exit_of, kept_by}
+use Rattle.std.proofs.lemmas.Option.{IfSome_then}
 use Rattle.sc_run.proofs.Ahead.{first_leaves}
 use Rattle.sc_run.proofs.plain.exit_at_once.Goals as goal
 
