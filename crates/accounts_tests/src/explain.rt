@@ -1,170 +1,8 @@
 // The command `explain` on programs with faults.
+use chain_texts::programs::{ACCOUNTS, EXTREME_ARGUMENTS, REENTRY_BLAMED, STORE};
 use memory_runs::Run;
 use std::alloc::Global;
 use std::test::Fail;
-
-const STORE: &[u8] = b"#pragma compartment Main
-#pragma import Net put
-#pragma import Env output
-int put(int i, int v);
-void output(int v);
-int main(void) {
-  int r;
-  r = put(4, 9);
-  output(r);
-  return 0;
-}
-#pragma compartment Net
-#pragma export put
-int buf[4];
-int key;
-int put(int i, int v) {
-  buf[i] = v;
-  return key;
-}
-";
-
-const REENTRY: &[u8] = b"#pragma compartment Main
-#pragma import A f
-#pragma import Env output
-int f(int i);
-void output(int v);
-int main(void) {
-  int r;
-  r = f(2);
-  output(r);
-  return 0;
-}
-#pragma compartment A
-#pragma export f
-#pragma export h
-#pragma import B g
-int g(int v);
-int x[2];
-int y;
-int f(int i) {
-  int r;
-  x[i] = 5;
-  r = g(y);
-  return r + y;
-}
-int h(int v) {
-  y = y + v;
-  return y;
-}
-#pragma compartment B
-#pragma export g
-#pragma import A h
-int h(int v);
-int g(int v) {
-  int r;
-  r = h(v + 1);
-  return r;
-}
-";
-
-const EXTREME_ARGUMENTS: &[u8] = b"#pragma compartment Main
-#pragma import A f
-#pragma import Env output
-int f(int a, unsigned int b);
-void output(int v);
-int main(void) {
-  int r;
-  r = f(-2147483647 - 1, 4294967295u);
-  output(r);
-  return 0;
-}
-#pragma compartment A
-#pragma export f
-#pragma import B g
-int g(int a, unsigned int b);
-int x[1];
-int y;
-int f(int a, unsigned int b) {
-  int r;
-  x[1] = 1;
-  r = g(a, b);
-  return r;
-}
-#pragma compartment B
-#pragma export g
-int g(int a, unsigned int b) {
-  return a;
-}
-";
-
-const ACCOUNTS: &[u8] = b"#pragma compartment Reader
-#pragma import Accounts apply
-#pragma import Log note
-#pragma import Env input
-int apply(int kind, int who, int amount);
-void note(int what, int value);
-int input(void);
-int req[4];
-int served;
-
-void read_request(int n) {
-  int i;
-  int v;
-  for (i = 0; i < n; i++) {
-    v = input();
-    req[i] = v;
-  }
-}
-
-int main(void) {
-  int n;
-  int r;
-  n = input();
-  while (n != 0) {
-    read_request(n);
-    r = apply(req[0], req[1], req[2]);
-    note(req[0], r);
-    served = served + 1;
-    n = input();
-  }
-  note(0, served);
-  return 0;
-}
-#pragma compartment Accounts
-#pragma export apply
-struct Account {
-  int balance;
-  unsigned int moves;
-};
-struct Account table[8];
-
-int apply(int kind, int who, int amount) {
-  struct Account *a;
-  if (who < 0 || who >= 8 || amount < 0 || amount > 1000000) {
-    return -1;
-  }
-  a = &table[who];
-  if (kind == 1) {
-    a->balance = a->balance + amount;
-  } else if (kind == 2 && a->balance >= amount) {
-    a->balance = a->balance - amount;
-  } else {
-    return -2;
-  }
-  a->moves = a->moves + 1u;
-  return a->balance;
-}
-#pragma compartment Log
-#pragma export note
-#pragma import Env output
-void output(int v);
-unsigned int lines;
-
-void note(int what, int value) {
-  lines = lines + 1u;
-  if (what == 0) {
-    output(1000 + value);
-  } else {
-    output(value);
-  }
-}
-";
 
 const ACCOUNTS_INPUTS: &str = "3,1,2,500,3,2,2,200,5,1,3,40,7,99,3,2,5,10,0";
 
@@ -198,7 +36,7 @@ replace Net after 1 OutOfBounds line 6
         },
         Case {
             words: &["explain"],
-            program: REENTRY,
+            program: REENTRY_BLAMED,
             want: b"call Main A f 2
 call A B g 5
 call B A h 6
@@ -294,8 +132,8 @@ fn the_first_text_is_the_program(rt: HostRuntime) -> Result<(), Fail> {
         },
         Case {
             words: &["explain", "--show", "0"],
-            program: REENTRY,
-            want: REENTRY,
+            program: REENTRY_BLAMED,
+            want: REENTRY_BLAMED,
         },
         Case {
             words: &["explain", "--show", "0"],
@@ -342,7 +180,7 @@ int put(int bt_0, int bt_1) {
         },
         Case {
             words: &["explain", "--show", "1"],
-            program: REENTRY,
+            program: REENTRY_BLAMED,
             want: b"#pragma compartment Main
 #pragma import A f
 #pragma import Env output

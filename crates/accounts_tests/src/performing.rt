@@ -1,7 +1,8 @@
 // Texts in which compartments perform a trace, read and run by the program.
 use crate::lines::told;
 use crate::traces::{Inputs, LIKE_IMAGES, LONG, Origin, long_text};
-use code_texts::{INPUTS, LEFT_OUT, PROGRAMS, STORE};
+use chain_texts::programs::{INPUTS, LEFT_OUT, STORE};
+use code_texts::PROGRAMS;
 use memory_runs::Run;
 use sc_base::OutOfMemory;
 use sc_chain::replaced;

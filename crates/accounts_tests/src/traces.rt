@@ -1,6 +1,6 @@
 // Programs with what they read, and traces for which texts are made.
 use crate::drawn::drawn;
-use code_texts::INPUTS;
+use chain_texts::programs::INPUTS;
 use sc_chain::explain;
 use sc_event::Trace;
 use sc_run::run_source;

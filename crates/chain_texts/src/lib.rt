@@ -2,5 +2,6 @@
 #![tactic(auto)]
 
 mod generate;
+pub mod programs;
 
 pub use generate::{EVENTS, FIRST, STEPS, generated};

@@ -1,6 +1,7 @@
 // The code of whole programs: how many temporaries, instructions at most and branches each function has, beside its
 // nodes.
-use code_texts::{LEFT_OUT, LOOPS, MEMBERS, STORE, lowered};
+use chain_texts::programs::{LEFT_OUT, LOOPS, STORE};
+use code_texts::{MEMBERS, lowered};
 use sc_base::OutOfMemory;
 use sc_tac::Tac;
 use std::alloc::Global;

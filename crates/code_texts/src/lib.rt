@@ -7,4 +7,4 @@ mod programs;
 
 pub use code::lowered;
 pub use long::{append, repeated};
-pub use programs::{INPUTS, LEFT_OUT, LOOPS, MEMBERS, PROGRAMS, STORE};
+pub use programs::{MEMBERS, PROGRAMS};

@@ -1,27 +1,7 @@
 // The command `check`, and the phases that a text fails.
+use chain_texts::programs::STORE;
 use memory_runs::Run;
 use std::test::Fail;
-
-const STORE: &[u8] = b"#pragma compartment Main
-#pragma import Net put
-#pragma import Env output
-int put(int i, int v);
-void output(int v);
-int main(void) {
-  int r;
-  r = put(4, 9);
-  output(r);
-  return 0;
-}
-#pragma compartment Net
-#pragma export put
-int buf[4];
-int key;
-int put(int i, int v) {
-  buf[i] = v;
-  return key;
-}
-";
 
 const STORE_FACES: &[u8] = b"compartment Main
 import Net put int int int

@@ -1,5 +1,5 @@
 // The commands `compile` and `run` on whole programs.
-use crate::runs::{INPUTS, MIN_BY_MINUS_ONE, STORE, TWO_STORES};
+use chain_texts::programs::{BIG_DATA, BIG_FRAME, INPUTS, MIN_BY_MINUS_ONE, STORE, TWO_STORES};
 use code_texts::{PROGRAMS, append, repeated};
 use memory_runs::{Ran, Run};
 use std::alloc::Global;
@@ -20,22 +20,6 @@ ret B Main 5
 out Main 5
 end Main 0
 stop ended
-";
-
-// 458,756 bytes of globals, 4 more than there is room for.
-const BIG_DATA: &[u8] = b"#pragma compartment Main
-int big[114689];
-int main(void) {
-  return 0;
-}
-";
-
-// A frame of at most 36,080 bytes.
-const BIG_FRAME: &[u8] = b"#pragma compartment Main
-int main(void) {
-  int a[9000];
-  return 0;
-}
 ";
 
 const ENDLESS_RECURSION: &[u8] = b"#pragma compartment Main

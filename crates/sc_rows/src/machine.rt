@@ -1,24 +1,7 @@
 // The commands that compile and run.
+use chain_texts::programs::{GREATEST_OUTPUT, SEVEN};
 use memory_runs::Run;
 use std::test::Fail;
-
-const SEVEN: &[u8] = b"#pragma compartment Main
-#pragma import Env output
-void output(int v);
-int main(void) {
-  output(7);
-  return 0;
-}
-";
-
-const GREATEST: &[u8] = b"#pragma compartment Main
-#pragma import Env output
-void output(int v);
-int main(void) {
-  output(2147483647);
-  return 0;
-}
-";
 
 #[test]
 fn a_compiled_program_is_run_and_explained(rt: HostRuntime) -> Result<(), Fail> {
@@ -26,7 +9,7 @@ fn a_compiled_program_is_run_and_explained(rt: HostRuntime) -> Result<(), Fail> 
         ("run", SEVEN, b"out Main 7\nend Main 0\nstop ended\n"),
         (
             "run",
-            GREATEST,
+            GREATEST_OUTPUT,
             b"out Main 2147483647\nend Main 0\nstop ended\n",
         ),
         (

@@ -1,4 +1,5 @@
 // The command `meaning`.
+use chain_texts::programs::SEVEN;
 use memory_runs::Run;
 use std::alloc::{AllocError, Global};
 use std::test::Fail;
@@ -7,15 +8,6 @@ const HEAD: &[u8] = b"#pragma compartment Main
 #pragma import Env output
 void output(int v);
 int main(void) {
-";
-
-const SEVEN: &[u8] = b"#pragma compartment Main
-#pragma import Env output
-void output(int v);
-int main(void) {
-  output(7);
-  return 0;
-}
 ";
 
 const TOLD: &[u8] = b"out Main 7\nend Main 0\nstop ended\n";

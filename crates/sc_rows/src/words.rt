@@ -1,15 +1,7 @@
 // The words of the command line.
+use chain_texts::programs::SEVEN;
 use memory_runs::Run;
 use std::test::Fail;
-
-const SEVEN: &[u8] = b"#pragma compartment Main
-#pragma import Env output
-void output(int v);
-int main(void) {
-  output(7);
-  return 0;
-}
-";
 
 #[test]
 fn words_that_are_no_command_leave_the_input_unread(rt: HostRuntime) -> Result<(), Fail> {
