@@ -1,6 +1,6 @@
 -- Tests that hold, lists that are empty, and the places of names.
 use Rattle.sc_types.proofs.Common.{Bool, List, None, Option, Some, [], and_first, and_rest, ap, arith, concat, cond}
-use Rattle.sc_types.proofs.Common.{false, false≢true, if◌then◌else◌, list_all, map, not, option_map, position}
+use Rattle.sc_types.proofs.Common.{false, false≢true, if◌then◌else◌, list_all, map, option_map, position}
 use Rattle.sc_types.proofs.Common.{position_from, refl, suc, true, unless, ℕ, ◌++◌, ◌+◌, ◌||◌, ◌∙◌, ◌∷◌, ◌≡◌}
 use Rattle.std.proofs.lemmas.Iterator.Adapters.{position_from-zero}
 
@@ -22,15 +22,15 @@ rule_holds false line h = some_item line [] h
 
 pub front_empty : {A : Type 0} (xs ys : List A) → xs ++ ys ≡ [] → xs ≡ []
 front_empty [] ys h = refl
-front_empty (x ∷ xs) ys h = some_item x (xs ++ ys) h
+front_empty (x ∷ xs) ys h = some_item x _ h
 
 pub back_empty : {A : Type 0} (xs ys : List A) → xs ++ ys ≡ [] → ys ≡ []
 back_empty [] ys h = h
-back_empty (x ∷ xs) ys h = some_item x (xs ++ ys) h
+back_empty (x ∷ xs) ys h = some_item x _ h
 
 pub map_empty : {A B : Type 0} (f : A → B) (xs : List A) → map f xs ≡ [] → xs ≡ []
 map_empty f [] h = refl
-map_empty f (x ∷ xs) h = some_item (f x) (map f xs) h
+map_empty f (x ∷ xs) h = some_item (f x) _ h
 
 -- P of each
 abbrev pub Each : {A : Type 0} → (A → Type 0) → List A → Type 0
@@ -46,7 +46,7 @@ each_empty f (x ∷ xs) h = (
 
 pub each_passes : {A : Type 0} (p : A → Bool) (xs : List A) → list_all p xs ≡ true → Each (λ x. p x ≡ true) xs
 each_passes p [] h = tt
-each_passes p (x ∷ xs) h = (and_first (p x) (list_all p xs) h, each_passes p xs (and_rest (p x) (list_all p xs) h))
+each_passes p (x ∷ xs) h = (and_first (p x) _ h, each_passes p xs (and_rest (p x) _ h))
 
 abbrev pub is_there : {A : Type 0} → Option A → Bool
 is_there None = false
@@ -69,7 +69,7 @@ find_at : {A : Type 0} (p : A → Bool) (i : ℕ) (xs : List A) (b : Bool) →
     cond b (Some i) (position_from p (i + 1) xs) ≡ option_map (λ k. k + i)
     (if b then Some 0 else option_map suc (find p xs))
 find_at p i xs true h = ap Some (omega arith)
-find_at p i xs false h = h ∙ shift i (find p xs)
+find_at p i xs false h = h ∙ shift i _
 
 find_from : {A : Type 0} (p : A → Bool) (i : ℕ) (xs : List A) →
     position_from p i xs ≡ option_map (λ k. k + i) (find p xs)
@@ -81,4 +81,4 @@ unshifted None = refl
 unshifted (Some k) = ap Some (omega arith)
 
 pub position_is : {A : Type 0} (p : A → Bool) (xs : List A) → position p xs ≡ find p xs
-position_is p xs = position_from-zero p xs ∙ find_from p 0 xs ∙ unshifted (find p xs)
+position_is p xs = position_from-zero p xs ∙ find_from p 0 xs ∙ unshifted _

@@ -1,14 +1,14 @@
 -- Statements that break no rule of names and of types are well typed.
-use Rattle.sc_types.proofs.Common.{Bool, CallTree, Callable, Callees, ExprTree, Inside, Judged, Known, List, None}
+use Rattle.sc_types.proofs.Common.{Bool, CallTree, Callable, Callees, ExprTree, Inside, Known, List, None}
 use Rattle.sc_types.proofs.Common.{Option, Scope, SimpleKind, SimpleTree, Some, StmtKind, StmtKind-F, StmtTree, Ty}
-use Rattle.sc_types.proofs.Common.{TypedExpr, TypedKind-F, TypedStmt, TypedStmtKind, TypedStmtKind-F, Visible, []}
+use Rattle.sc_types.proofs.Common.{TypedStmt, TypedStmtKind, TypedStmtKind-F, Visible, []}
 use Rattle.sc_types.proofs.Common.{and_first, and_from, and_rest, ap, args_fit, assign_call_fits, assign_call_holds}
-use Rattle.sc_types.proofs.Common.{call_fits, call_holds, call_known, concat, cond_holds, expr_at, expr_known}
+use Rattle.sc_types.proofs.Common.{call_fits, call_holds, call_known, concat, cond_holds, expr_known}
 use Rattle.sc_types.proofs.Common.{going_to_some, is_callable, is_target, judged, kind_fits, kind_lines, kind_step}
 use Rattle.sc_types.proofs.Common.{layer_of, list_all, map, on_line, option_map, part_fits, part_lines, refl}
 use Rattle.sc_types.proofs.Common.{result_goes, return_call_holds, returned_call_fits, roll-TypedStmtKind, simple_fits}
 use Rattle.sc_types.proofs.Common.{simple_holds, simple_known, stmt_at, stmt_fits, stmt_induction, stmt_lines}
-use Rattle.sc_types.proofs.Common.{stmt_step, sym, target_signature, term_judged, true, typed_args, typed_call}
+use Rattle.sc_types.proofs.Common.{stmt_step, sym, target_signature, true, typed_args, typed_call}
 use Rattle.sc_types.proofs.Common.{typed_simple, typed_simple_kind, typed_stmt, typed_value, unless, ℕ, ◌&&◌, ◌++◌, ◌∙◌}
 use Rattle.sc_types.proofs.Common.{◌∷◌, ◌≡◌}
 use Rattle.sc_ast.specs.declared.stmt.SimpleKind.TheVariants as simple
@@ -17,7 +17,6 @@ use Rattle.sc_ast.proofs.Induction as tree_induction
 use Rattle.sc_ast.proofs.Layers as tree_layers
 use Rattle.sc_core.specs.declared.expr.TypedKind.TheOpen as term
 use Rattle.sc_core.specs.declared.stmt.TypedStmtKind.TheOpen as layer
-use Rattle.sc_core.proofs.Induction.{expr_induction}
 use Rattle.sc_scope.specs.Names as names
 use Rattle.sc_elab_expr.specs.Expressions as elab
 use Rattle.sc_types.proofs.Basics.{rule_holds, front_empty, back_empty}
@@ -33,7 +32,7 @@ module _ (known : Known) (visible : Visible) (callees : Callees) (scope : Scope)
       (map (judged scope) (typed_call visible callees call).args) ≡ true
   call_is call in_names holds =
       ap (λ signature. args_fit signature (map (judged scope) (typed_args visible callees call)))
-      (same call.name (and_first (is_callable known call.name) _ in_names)) ∙ holds
+      (same call.name (and_first _ _ in_names)) ∙ holds
 
   assign_call_is : (place : ExprTree) (call : CallTree) → (expr_known known place && call_known known call) ≡ true →
       assign_call_holds visible callees scope result place call ≡ true →
@@ -43,15 +42,14 @@ module _ (known : Known) (visible : Visible) (callees : Callees) (scope : Scope)
       let called : call_known known call ≡ true = and_rest (expr_known known place) (call_known known call) in_names in
       let rest : (call_holds visible callees scope result call &&
       result_goes (callees.signature call.name) (elab.typed visible place).ty) ≡ true =
-      and_rest (is_target (judged scope (elab.typed visible place))) _ holds in
+      and_rest (is_target (judged scope _)) _ holds in
       let goes : result_goes (target_signature callable (callees.target call.name))
       (judged scope (elab.typed visible place)).ty ≡
       result_goes (callees.signature call.name) (elab.typed visible place).ty =
-      λ i. result_goes (same call.name (and_first (is_callable known call.name) _ called) i)
+      λ i. result_goes (same call.name (and_first (is_callable known _) _ called) i)
       (judged_ty scope (elab.typed visible place) i) in
-      and_from (is_target (judged scope (elab.typed visible place))) _
-      (and_first (is_target (judged scope (elab.typed visible place))) _ holds)
-      (and_from _ _ (call_is call called (and_first (call_holds visible callees scope result call) _ rest))
+      and_from (is_target (judged scope (elab.typed visible place))) _ (and_first (is_target (judged scope _)) _ holds)
+      (and_from _ _ (call_is call called (and_first _ _ rest))
       (goes ∙ and_rest (call_holds visible callees scope result call) _ rest))
 
   return_call_is : (present : Option Ty) (call : CallTree) → call_known known call ≡ true →
@@ -60,9 +58,8 @@ module _ (known : Known) (visible : Visible) (callees : Callees) (scope : Scope)
       (map (judged scope) (typed_call visible callees call).args) ≡ true
   return_call_is None call in_names holds = holds
   return_call_is (Some t) call in_names holds =
-      and_from _ _ (call_is call in_names (and_first (call_holds visible callees scope result call) _ holds))
-      (ap (λ signature. result_goes signature t) (same call.name
-      (and_first (is_callable known call.name) _ in_names)) ∙
+      and_from _ _ (call_is call in_names (and_first _ _ holds))
+      (ap (λ signature. result_goes signature t) (same call.name (and_first _ _ in_names)) ∙
       and_rest (call_holds visible callees scope result call) _ holds)
 
   -- Statements.
@@ -92,10 +89,8 @@ module _ (known : Known) (visible : Visible) (callees : Callees) (scope : Scope)
       (map (typed_stmt visible callees result) stmts)) ≡ true
   all_fit looping [] each in_names holds = refl
   all_fit looping (s ∷ stmts) each in_names holds =
-      and_from _ _ (each.0 looping (front_empty (names.stmt_lines known s looping) _ in_names)
-      (front_empty (stmt_lines visible callees scope result s) _ holds))
-      (all_fit looping stmts each.1 (back_empty (names.stmt_lines known s looping) _ in_names)
-      (back_empty (stmt_lines visible callees scope result s) _ holds))
+      and_from _ _ (each.0 looping (front_empty _ _ in_names) (front_empty _ _ holds))
+      (all_fit looping stmts each.1 (back_empty (names.stmt_lines known s looping) _ in_names) (back_empty _ _ holds))
 
   -- the layer of a statement, where the statements inside have their types
   abbrev Layer : Type 0
@@ -135,13 +130,11 @@ module _ (known : Known) (visible : Visible) (callees : Callees) (scope : Scope)
       call_is call (rule_holds _ line in_names) (rule_holds _ line holds)
   by_kind line (tree.If cond first second) under looping in_names holds =
       fits_at line (layer.If (elab.typed visible cond) (map (typed_stmt visible callees result) first)
-      (map (typed_stmt visible callees result) second)) looping
-      ∙ and_from _ _ (rule_holds _ line (front_empty (unless
-      (cond_holds visible callees scope result cond) line) _ holds))
+      (map (typed_stmt visible callees result) second)) looping ∙ and_from _ _ (rule_holds _ line (front_empty (unless
+      _ line) _ holds))
       (and_from _ _ (all_fit looping first under.0 (front_empty _ _ names_inside) (front_empty _ _ inside))
-      (all_fit looping second under.1 (back_empty
-      (names.all_in known looping (map (names.stmt_lines known) first)) _ names_inside)
-      (back_empty (concat (map (stmt_lines visible callees scope result) first)) _ inside))) where
+      (all_fit looping second under.1 (back_empty (names.all_in known looping (map _ first)) _ names_inside)
+      (back_empty (concat (map _ first)) _ inside))) where
         names_inside : names.all_in known looping (map (names.stmt_lines known) first) ++
             names.all_in known looping (map (names.stmt_lines known) second) ≡ []
         names_inside = back_empty (unless (expr_known known cond) line) _ in_names
@@ -151,8 +144,7 @@ module _ (known : Known) (visible : Visible) (callees : Callees) (scope : Scope)
         inside = back_empty (unless (cond_holds visible callees scope result cond) line) _ holds
   by_kind line (tree.While cond body) under looping in_names holds =
       fits_at line (layer.While (elab.typed visible cond) (map (typed_stmt visible callees result) body)) looping
-      ∙ and_from _ _ (rule_holds _ line (front_empty (unless
-      (cond_holds visible callees scope result cond) line) _ holds))
+      ∙ and_from _ _ (rule_holds _ line (front_empty (unless _ line) _ holds))
       (all_fit true body under (back_empty (unless (expr_known known cond) line) _ in_names)
       (back_empty (unless (cond_holds visible callees scope result cond) line) _ holds))
   by_kind line (tree.For first cond next body) under looping in_names holds =
@@ -160,12 +152,10 @@ module _ (known : Known) (visible : Visible) (callees : Callees) (scope : Scope)
       (option_map (typed_simple visible callees) next) (map (typed_stmt visible callees result) body)) looping
       ∙ and_from _ _ (part_is first (front_empty (names.part_lines known first) _ in_names)
       (front_empty (part_lines visible callees scope result first) _ holds))
-      (and_from _ _ (rule_holds _ line (front_empty
-      (unless (cond_holds visible callees scope result cond) line) _ behind_first))
-      (and_from _ _ (part_is next (front_empty (names.part_lines known next) _ names_behind)
-      (front_empty (part_lines visible callees scope result next) _ behind))
+      (and_from _ _ (rule_holds _ line (front_empty (unless _ line) _ behind_first))
+      (and_from _ _ (part_is next (front_empty _ _ names_behind) (front_empty _ _ behind))
       (all_fit true body under (back_empty (names.part_lines known next) _ names_behind)
-      (back_empty (part_lines visible callees scope result next) _ behind)))) where
+      (back_empty _ _ behind)))) where
         names_behind : names.part_lines known next ++ names.all_in known true (map (names.stmt_lines known) body) ≡ []
         names_behind = back_empty (unless (expr_known known cond) line) _
             (back_empty (names.part_lines known first) _ in_names)
@@ -192,9 +182,8 @@ module _ (known : Known) (visible : Visible) (callees : Callees) (scope : Scope)
 
   pub fits : (s : StmtTree) → Fits s
   fits =
-      stmt_induction Fits (λ line k under looping in_names holds.
-      ap (λ s. stmt_fits scope callable result s looping)
-      (tree_layers.stmt_at _ _ (kind_step visible callees result) (stmt_step visible callees result) line k) ∙
+      stmt_induction Fits (λ line k under looping in_names holds. ap (λ s. stmt_fits scope callable result s looping)
+      (tree_layers.stmt_at _ _ _ (stmt_step visible callees result) line k) ∙
       by_kind line k under looping (sym (ap (λ lines. lines looping)
       (tree_layers.stmt_at _ _ (names.kind_lines known) (λ s. s.kind s.line) line k)) ∙ in_names)
-      (sym (tree_layers.stmt_at _ _ (kind_lines visible callees scope result) (λ s. s.kind s.line) line k) ∙ holds))
+      (sym (tree_layers.stmt_at _ _ _ _ line k) ∙ holds))

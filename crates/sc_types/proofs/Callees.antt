@@ -35,7 +35,7 @@ or_not false false h q = absurd (false≢true q)
 names_append : (a b : List Text) (name : Text) → is_numbered (a ++ b) name ≡ true → is_numbered a name ≡ false →
     is_numbered b name ≡ true
 names_append [] b name h q = h
-names_append (x ∷ a) b name h q = by_case (bytes_eq name x) h q (names_append a b name) where
+names_append (x ∷ a) b name h q = by_case _ h q (names_append a b name) where
   by_case : (c : Bool) → (c || is_numbered (a ++ b) name) ≡ true → (c || is_numbered a name) ≡ false →
       (is_numbered (a ++ b) name ≡ true → is_numbered a name ≡ false → is_numbered b name ≡ true) →
       is_numbered b name ≡ true
@@ -58,10 +58,9 @@ module _ (sections : List SectionTree) (hold : (j : ℕ) (s : SectionTree) → s
   imported : (at : ℕ) (line : ImportLine) → slice_get section.imports at ≡ Some line →
       list_any (same_import (import_of sections number line)) callable.imports ≡ true
   imported at line got =
-      any_passes_from_place (same_import (import_of sections number line))
-      (map (import_of sections number) section.imports) at
-      (import_of sections number line) (get_map (import_of sections number) section.imports at ∙
-      ap (option_map (import_of sections number)) got) (same_import_refl (import_of sections number line))
+      any_passes_from_place (same_import (import_of _ number line)) (map (import_of _ number) section.imports) at
+      (import_of sections number line) (get_map (import_of _ number) section.imports at ∙
+      ap (option_map _) got) (same_import_refl (import_of _ number line))
 
   module _ (name : Text) (f : FoundImport (ImportFacts sections number section) name section.imports)
       (h : FoundHead (DeclFacts sections number section facts.mains) name section.decls) where
@@ -72,16 +71,13 @@ module _ (sections : List SectionTree) (hold : (j : ℕ) (s : SectionTree) → s
     head = h.head
 
     same_name : line.name ≡ head.name
-    same_name = same_text line.name name f.named ∙ sym (same_text head.name name h.named)
+    same_name = same_text _ name f.named ∙ sym (same_text _ name h.named)
 
     as_line : agrees_as sections number section head line ≡ true
     as_line =
-        implied (bytes_eq line.name head.name) _
-        (each_at (λ line. (not (bytes_eq line.name head.name) || agrees_as sections number section head line) ≡
-        true) section.imports f.at line (each_passes {A = ImportLine}
-        (λ line. not (bytes_eq line.name head.name) ||
-        agrees_as sections number section head line) section.imports h.holds.1) f.got)
-        (subst (λ n. bytes_eq line.name n ≡ true) same_name (same_refl line.name))
+        implied (bytes_eq line.name head.name) _ (each_at (λ line. (not _ || agrees_as _ number section head line) ≡
+        true) _ f.at line (each_passes _ _ h.holds.1) f.got)
+        (subst (λ n. bytes_eq _ n ≡ true) same_name (same_refl line.name))
 
     abbrev Goal : Import → Type 0
     Goal i = target_signature callable (import_target i) ≡ Some (signature_by (tags section) head)
@@ -91,13 +87,13 @@ module _ (sections : List SectionTree) (hold : (j : ℕ) (s : SectionTree) → s
     input_goal is agrees =
         ap (λ b. allowed b (Some (record { params = []; result = Some ty.Int })))
         (subst (λ i. list_any (same_import i) callable.imports ≡ true) is (imported f.at line f.got)) ∙
-        ap Some (sym (input_signature (tags section) head agrees))
+        ap Some (sym (input_signature _ head agrees))
 
     output_goal : import_of sections number line ≡ import.Output → is_output head ≡ true → Goal import.Output
     output_goal is agrees =
         ap (λ b. allowed b (Some (record { params = ty.Int ∷ []; result = None })))
         (subst (λ i. list_any (same_import i) callable.imports ≡ true) is (imported f.at line f.got)) ∙
-        ap Some (sym (output_signature (tags section) head agrees))
+        ap Some (sym (output_signature _ head agrees))
 
     abbrev import_by : Bool → Bool → Import
     import_by env input =
@@ -134,14 +130,13 @@ module _ (sections : List SectionTree) (hold : (j : ℕ) (s : SectionTree) → s
 
       export : FoundBy {A = ExportLine} (λ line. line.name) line.name other.exports
       export =
-          found_by {A = ExportLine} (λ line. line.name) line.name other.exports
-          (and_rest (not (o.number == number)) _ (and_rest (bytes_eq other.name line.comp) _ o.offers))
+          found_by _ _ _ (and_rest (not (o.number == number)) _ (and_rest (bytes_eq other.name line.comp) _ o.offers))
 
       abbrev export_line : ExportLine
       export_line = export.item
 
       export_name : line.name ≡ export_line.name
-      export_name = same_text line.name export_line.name export.named
+      export_name = same_text _ _ export.named
 
       defined : is_numbered (function_names other.decls) export_line.name ≡ true
       defined =
@@ -149,7 +144,7 @@ module _ (sections : List SectionTree) (hold : (j : ℕ) (s : SectionTree) → s
           export.got).defined
 
       g : FoundFunction export_line.name (functions_in other.decls)
-      g = find_function export_line.name (functions_in other.decls) defined
+      g = find_function _ _ defined
 
       import_is : import_of sections number line ≡ import.Function o.number export.at
       import_is =
@@ -165,19 +160,16 @@ module _ (sections : List SectionTree) (hold : (j : ℕ) (s : SectionTree) → s
       agrees =
           implied (bytes_eq g.tree.head.name head.name) _
           (each_at (λ tree. (not (bytes_eq tree.head.name head.name) || agree (head_of tree.head) head) ≡ true)
-          (functions_in other.decls) g.at g.tree (heads_of_functions
-          (λ other. not (bytes_eq other.name head.name) || agree other head) other.decls with_all) g.got)
+          _ g.at g.tree (heads_of_functions (λ other. not _ || agree other head) other.decls with_all) g.got)
           (subst (λ n. bytes_eq g.tree.head.name n ≡ true) (sym export_name ∙ same_name) g.named)
 
       there_name : is_numbered (import_names section) head.name ≡ true
       there_name =
-          any_passes_from_place (bytes_eq head.name) (import_names section) f.at line.name
-          (get_map {A = ImportLine} (λ line. line.name) section.imports f.at ∙
-          ap (option_map {T = ImportLine} (λ line. line.name)) f.got)
-          (subst (λ n. bytes_eq n line.name ≡ true) same_name (same_refl line.name))
+          any_passes_from_place (bytes_eq _) (import_names section) f.at line.name (get_map _ _ f.at ∙
+          ap (option_map _) f.got) (subst (λ n. bytes_eq n _ ≡ true) same_name (same_refl line.name))
 
       head_is : head_crosses head ≡ true
-      head_is = or_not (head_crosses head) _ h.holds.0 (or_right _ _ there_name)
+      head_is = or_not _ _ h.holds.0 (or_right _ _ there_name)
 
       proto_is : export_at (interfaces_of sections) o.number export.at ≡ Some (promised export_line.name (Some g.tree))
       proto_is =
@@ -190,17 +182,16 @@ module _ (sections : List SectionTree) (hold : (j : ℕ) (s : SectionTree) → s
           (option_signature proto_signature (export_at (interfaces_of sections) o.number export.at)))
           (subst (λ i. list_any (same_import i) callable.imports ≡ true) import_is (imported f.at line f.got)) ∙
           ap (option_signature proto_signature) proto_is ∙
-          ap Some (agreed_signature (tags section) export_line.name g.tree head agrees head_is))
+          ap Some (agreed_signature _ export_line.name g.tree head agrees head_is))
 
     offered_line : is_offered sections number section line ≡ true
     offered_line = f.holds.offered
 
     import_goal : Goal (import_of sections number line)
     import_goal =
-        env_goal (is_environment line) (bytes_eq line.name input_name)
-        (bytes_eq line.name output_name) refl refl refl offered_line
-        (ap (λ n. agrees_by (is_environment line) (bytes_eq n input_name) (bytes_eq n output_name)) same_name ∙
-        as_line) (λ env. other_goal (find_offering number line sections
+        env_goal _ _ _ refl refl refl offered_line
+        (ap (λ n. agrees_by (is_environment line) (bytes_eq n _) (bytes_eq n _)) same_name ∙
+        as_line) (λ env. other_goal (find_offering number line _
         (sym (ap (λ b. offered_by b (bytes_eq line.name input_name) (bytes_eq line.name output_name)) env) ∙
         offered_line)) env)
 
@@ -208,7 +199,7 @@ module _ (sections : List SectionTree) (hold : (j : ℕ) (s : SectionTree) → s
   own_goal : (name : Text) → is_numbered (function_names section.decls) name ≡ true →
       target_signature callable (callees.target name) ≡ callees.signature name
   own_goal name h =
-      let f : FoundFunction name (functions_in section.decls) = find_function name (functions_in section.decls) h in
+      let f = find_function name _ h in
       ap (λ n. target_signature callable (target_or n
       (imported_target sections number (import_named name section.imports)))) f.number ∙
       own_at section callees name f ∙ sym (ap (λ t.
@@ -218,29 +209,25 @@ module _ (sections : List SectionTree) (hold : (j : ℕ) (s : SectionTree) → s
       is_numbered (import_names section) name ≡ true →
       target_signature callable (callees.target name) ≡ callees.signature name
   import_case name none h =
-      let f : FoundImport (ImportFacts sections number section) name section.imports =
-      find_import (ImportFacts sections number section) name section.imports facts.imports h in
-      let named : f.line.name ≡ name = same_text f.line.name name f.named in
-      let head : FoundHead (DeclFacts sections number section facts.mains) name section.decls =
-      find_head (DeclFacts sections number section facts.mains) name section.decls facts.decls
+      let f : FoundImport _ name _ =
+      find_import _ name section.imports facts.imports h in
+      let named = same_text f.line.name name f.named in
+      let head =
+      find_head (DeclFacts _ number section _) name _ facts.decls
       (subst (λ n. is_numbered (proto_names section.decls) n ≡ true) named f.holds.declared) none in
       ap (λ n. target_signature callable (target_or n
-      (imported_target sections number (import_named name section.imports))))
-      (no_place (function_names section.decls) name none) ∙
+      (imported_target sections number (import_named name section.imports)))) (no_place _ name none) ∙
       ap (λ l. target_signature callable (imported_target sections number l)) f.first ∙ import_goal name f head ∙
-      sym (λ i. option_map (signature_by (tags section))
-      (or_first (no_function name (functions_in section.decls) none i) (head.first i)))
+      sym (λ i. option_map (signature_by (tags section)) (or_first (no_function name _ none i) (head.first i)))
 
   by_name : (name : Text) (b : Bool) → is_numbered (function_names section.decls) name ≡ b →
       is_numbered (function_names section.decls ++ import_names section) name ≡ true →
       target_signature callable (callees.target name) ≡ callees.signature name
   by_name name true q h = own_goal name q
-  by_name name false q h = import_case name q (names_append (function_names section.decls)
-      (import_names section) name h q)
+  by_name name false q h = import_case name q (names_append _ _ name h q)
 
   -- what may be called has the signature of its target
   pub same_signature_called : (before : List Decl) (tree : FunctionTree) (name : Text) →
       is_callable (known_in (declared section before) tree) name ≡ true →
       target_signature callable (callees.target name) ≡ callees.signature name
-  same_signature_called before tree name h = by_name name (is_numbered (function_names section.decls) name) refl
-      (and_first _ _ h)
+  same_signature_called before tree name h = by_name name _ refl (and_first _ _ h)

@@ -32,7 +32,7 @@ crossing_base tags (base_tree.Struct tag) h = absurd (false≢true h)
 pub crossing_ty : (tags : List Text) (t : TypeName) → crosses t ≡ true → type_of_name tags t ≡ scalar_ty (scalar_of t)
 crossing_ty tags t h =
     ap (λ stars. starred stars (base_of tags t.base)) (zero_is t.stars (and_first _ _ h)) ∙
-    crossing_base tags t.base (and_rest (nat_eq t.stars 0) _ h)
+    crossing_base tags t.base (and_rest _ _ h)
 
 same_scalar : (a b : BaseTree) → same_base a b ≡ true → base_scalar a ≡ base_scalar b
 same_scalar base_tree.Int base_tree.Int h = refl
@@ -48,8 +48,7 @@ same_scalar (base_tree.Struct tag) (base_tree.Struct other) h = refl
 -- a type that crosses and agrees with another
 agreed_ty : (tags : List Text) (a b : TypeName) → same_type a b ≡ true → crosses b ≡ true →
     type_of_name tags b ≡ scalar_ty (scalar_of a)
-agreed_ty tags a b same h =
-    crossing_ty tags b h ∙ ap scalar_ty (sym (same_scalar a.base b.base (and_rest (nat_eq a.stars b.stars) _ same)))
+agreed_ty tags a b same h = crossing_ty tags b h ∙ ap scalar_ty (sym (same_scalar a.base b.base (and_rest _ _ same)))
 
 agreed_params : (tags : List Text) (a b : List ParamTree) → same_params a b ≡ true →
     list_all {X = ParamTree} (λ param. crosses param.ty) b ≡ true →
@@ -57,9 +56,8 @@ agreed_params : (tags : List Text) (a b : List ParamTree) → same_params a b �
 agreed_params tags [] [] same h = refl
 agreed_params tags [] (p ∷ b) same h = absurd (false≢true same)
 agreed_params tags (p ∷ a) [] same h = absurd (false≢true same)
-agreed_params tags (p ∷ a) (q ∷ b) same h = λ i.
-    agreed_ty tags p.ty q.ty (and_first _ _ same) (and_first _ _ h) i ∷
-    agreed_params tags a b (and_rest (same_type p.ty q.ty) _ same) (and_rest (crosses q.ty) _ h) i
+agreed_params tags (p ∷ a) (q ∷ b) same h = λ i. agreed_ty tags p.ty q.ty (and_first _ _ same) (and_first _ _ h) i ∷
+    agreed_params tags a b (and_rest _ _ same) (and_rest _ _ h) i
 
 agreed_result : (tags : List Text) (a b : Option TypeName) → same_result a b ≡ true → result_crosses b ≡ true →
     option_map (type_of_name tags) b ≡ result_ty (option_map scalar_of a)
@@ -79,9 +77,8 @@ pub agreed_signature : (tags : List Text) (name : Text) (tree : FunctionTree) (h
     proto_signature (promised name (Some tree)) ≡ signature_by tags head
 agreed_signature tags name tree head same h = λ i.
     record {
-      params = sym (agreed_params tags (map param_of tree.head.params) head.params
-          (and_rest (same_result tree.head.result head.result) _ same) (and_rest (result_crosses head.result) _ h) ∙
-          ap (map scalar_ty) (scalars_of tree.head.params)) i;
+      params = sym (agreed_params tags (map _ _) head.params (and_rest _ _ same) (and_rest _ _ h) ∙
+          ap (map _) (scalars_of _)) i;
       result = sym (agreed_result tags tree.head.result head.result (and_first _ _ same) (and_first _ _ h)) i;
     }
 
@@ -92,7 +89,7 @@ int_by tags stars base_tree.Unsigned h k = absurd (false≢true k)
 int_by tags stars (base_tree.Struct tag) h k = absurd (false≢true k)
 
 pub int_ty : (tags : List Text) (t : TypeName) → is_int t ≡ true → type_of_name tags t ≡ ty.Int
-int_ty tags t h = int_by tags t.stars t.base (and_first _ _ h) (and_rest (nat_eq t.stars 0) _ h)
+int_ty tags t h = int_by tags t.stars t.base (and_first _ _ h) (and_rest _ _ h)
 
 int_result : (tags : List Text) (result : Option TypeName) → gives_int result ≡ true →
     option_map (type_of_name tags) result ≡ Some ty.Int
@@ -118,7 +115,7 @@ pub input_signature : (tags : List Text) (head : HeadTree) → is_input head ≡
     signature_by tags head ≡ record { params = []; result = Some ty.Int }
 input_signature tags head h = λ i.
     record {
-      params = no_params tags head.params (and_rest (gives_int head.result) _ h) i;
+      params = no_params tags head.params (and_rest _ _ h) i;
       result = int_result tags head.result (and_first _ _ h) i;
     }
 
@@ -126,7 +123,7 @@ pub output_signature : (tags : List Text) (head : HeadTree) → is_output head �
     signature_by tags head ≡ record { params = ty.Int ∷ []; result = None }
 output_signature tags head h = λ i.
     record {
-      params = int_params tags head.params (and_rest (not (is_some head.result)) _ h) i;
+      params = int_params tags head.params (and_rest _ _ h) i;
       result = no_result tags head.result (and_first _ _ h) i;
     }
 
@@ -155,18 +152,16 @@ module _ {A : Type 0} (name_in : A → Text) (name : Text) where
       record {
         at = 0;
         item = x;
-        place = ap (λ c. if c then Some 0 else
-            option_map suc (find (bytes_eq name) (map name_in xs))) q;
+        place = ap (λ c. if c then Some 0 else option_map suc (find (bytes_eq name) (map name_in xs))) q;
         got = refl;
         named = q;
       }
   by_at x xs false q f h =
-      let rest : FindBy xs = f h in
+      let rest = f h in
       record {
         at = suc rest.at;
         item = rest.item;
-        place = ap
-            (λ c. if c then Some 0 else option_map suc (find (bytes_eq name) (map name_in xs))) q ∙
+        place = ap (λ c. if c then Some 0 else option_map suc (find (bytes_eq name) (map name_in xs))) q ∙
             ap (option_map suc) rest.place;
         got = rest.got;
         named = rest.named;
@@ -174,15 +169,15 @@ module _ {A : Type 0} (name_in : A → Text) (name : Text) where
 
   find_by : (xs : List A) → list_any (bytes_eq name) (map name_in xs) ≡ true → FindBy xs
   find_by [] h = absurd (false≢true h)
-  find_by (x ∷ xs) h = by_at x xs (bytes_eq name (name_in x)) refl (find_by xs) h
+  find_by (x ∷ xs) h = by_at x xs _ refl (find_by xs) h
 
   pub found_by : (xs : List A) → is_numbered (map name_in xs) name ≡ true → FoundBy name_in name xs
   found_by xs h =
-      let f : FindBy xs = find_by xs h in
+      let f = find_by xs h in
       record {
         at = f.at;
         item = f.item;
-        place = number_is (map name_in xs) name ∙ f.place;
+        place = number_is _ name ∙ f.place;
         got = f.got;
         named = f.named;
       }
@@ -212,9 +207,7 @@ module _ (section : SectionTree) (callees : Callees) where
       slice_get (map signature_of (map (typed_function section callees) (functions_in section.decls))) f.at ≡
       Some (signature_by (tags section) (head_of f.tree.head))
   own_at name f =
-      get_map signature_of (map (typed_function section callees) (functions_in section.decls)) f.at
-      ∙ ap (option_map signature_of) (get_map (typed_function section callees) (functions_in section.decls) f.at ∙
-      ap (option_map (typed_function section callees)) f.got)
+      get_map _ _ f.at ∙ ap (option_map _) (get_map _ _ f.at ∙ ap (option_map _) f.got)
       ∙ ap Some (own_signature f.tree)
 
 -- Imports.
@@ -235,9 +228,9 @@ module _ (P : ImportLine → Type 0) (name : Text) where
   import_at line lines true q holds f h = record {
     at = 0;
     line = line;
-    first = ap (λ c. if c then Some line else import_named name lines) (same_sym line.name name ∙ q);
+    first = ap (λ c. if c then Some line else import_named name lines) (same_sym _ name ∙ q);
     got = refl;
-    named = same_sym line.name name ∙ q;
+    named = same_sym _ name ∙ q;
     holds = holds;
   }
   import_at line lines false q holds f h =
@@ -253,8 +246,7 @@ module _ (P : ImportLine → Type 0) (name : Text) where
   pub find_import : (lines : List ImportLine) → Each P lines →
       list_any (bytes_eq name) (map {A = ImportLine} (λ line. line.name) lines) ≡ true → FoundImport P name lines
   find_import [] each h = absurd (false≢true h)
-  find_import (line ∷ lines) each h = import_at line lines (bytes_eq name line.name) refl each.0
-      (find_import lines each.1) h
+  find_import (line ∷ lines) each h = import_at line lines _ refl each.0 (find_import lines each.1) h
 
 -- The section that offers what is imported.
 
@@ -294,27 +286,25 @@ module _ (importer : ℕ) (line : ImportLine) where
         offers = q;
       }
   offering_at front section rest false q f h =
-      let next : OfferingFrom importer line (front ++ section ∷ []) rest =
+      let next =
       f (ap (λ k. is_some (offering importer line k rest)) (length_snoc front section) ∙ h) in record {
         number = next.number;
         section = next.section;
         is = ap (λ b. pick b (length front) section rest) q ∙
             ap (λ k. offering importer line k rest) (sym (length_snoc front section)) ∙ next.is;
-        got = ap (λ list. slice_get list next.number) (sym (append_assoc front (section ∷ []) rest)) ∙ next.got;
+        got = ap (λ list. slice_get list next.number) (sym (append_assoc front _ rest)) ∙ next.got;
         offers = next.offers;
       }
 
   offering_from : (front rest : List SectionTree) → is_some (offering importer line (length front) rest) ≡ true →
       OfferingFrom importer line front rest
   offering_from front [] h = absurd (false≢true h)
-  offering_from front (section ∷ rest) h =
-      offering_at front section rest (offers importer line (length front) section) refl
-      (offering_from (front ++ section ∷ []) rest) h
+  offering_from front (section ∷ rest) h = offering_at front section rest _ refl (offering_from _ rest) h
 
   pub find_offering : (sections : List SectionTree) → is_some (offering importer line 0 sections) ≡ true →
       Offering importer line sections
   find_offering sections h =
-      let f : OfferingFrom importer line [] sections = offering_from [] sections h in
+      let f = offering_from [] _ h in
       record { number = f.number; section = f.section; is = f.is; got = f.got; offers = f.offers }
 
 -- Interfaces by their numbers.
@@ -328,17 +318,16 @@ module _ (sections : List SectionTree) where
         plus_zero : (n : ℕ) → n ≡ n + 0
         plus_zero n = omega arith
   interface_from k (s ∷ rest) (suc j) section got =
-      interface_from (suc k) rest j section got ∙ ap (λ n. Some (interface_of sections n section)) (omega arith)
+      interface_from _ rest j section got ∙ ap (λ n. Some (interface_of sections n section)) (omega arith)
 
   pub comp_is : (j : ℕ) (section : SectionTree) → slice_get sections j ≡ Some section →
       comp_at (interfaces_of sections) j ≡ Some (interface_of sections j section)
-  comp_is j section got = interface_from 0 sections j section got ∙
+  comp_is j section got = interface_from 0 _ j section got ∙
       ap (λ n. Some (interface_of sections n section)) (omega arith)
 
   pub export_is : (j : ℕ) (section : SectionTree) (index : ℕ) (line : ExportLine) →
       slice_get sections j ≡ Some section → slice_get section.exports index ≡ Some line →
       export_at (interfaces_of sections) j index ≡ Some (proto_of section line)
   export_is j section index line got there =
-      ap (option_and_then (λ found. slice_get found.exports index)) (comp_is j section got)
-      ∙ get_map (proto_of section) section.exports index
-      ∙ ap (option_map (proto_of section)) there
+      ap (option_and_then _) (comp_is j section got) ∙ get_map (proto_of section) section.exports index
+      ∙ ap (option_map _) there

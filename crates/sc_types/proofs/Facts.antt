@@ -1,11 +1,11 @@
 -- What sections keep that break no rule of interfaces.
 use Rattle.sc_types.proofs.Common.{Bool, Decl, ExportLine, Function, Global, ImportLine, List, Proto, SectionTree}
 use Rattle.sc_types.proofs.Common.{Struct, [], agrees_with, among, and_first, and_from, and_rest, ap, bytes_eq}
-use Rattle.sc_types.proofs.Common.{decls_from, export_holds, export_names, exports_from, false, false≢true}
-use Rattle.sc_types.proofs.Common.{function_names, head_fits, head_holds, head_of, import_holds, import_names}
+use Rattle.sc_types.proofs.Common.{decls_from, export_names, exports_from, false, false≢true}
+use Rattle.sc_types.proofs.Common.{function_names, head_fits, head_holds, head_of, import_names}
 use Rattle.sc_types.proofs.Common.{imported_agrees, imports_from, is_numbered, is_offered, is_plain, main_holds}
 use Rattle.sc_types.proofs.Common.{main_name, map, name_holds, not, not-true, proto_names, refl, same_text}
-use Rattle.sc_types.proofs.Common.{section_lines, sym, true, unless, ℕ, ◌&&◌, ◌++◌, ◌||◌, ◌∙◌, ◌∷◌, ◌≡◌}
+use Rattle.sc_types.proofs.Common.{section_lines, sym, true, unless, ℕ, ◌++◌, ◌||◌, ◌∙◌, ◌∷◌, ◌≡◌}
 use Rattle.sc_scope.specs.Prelude.{are_distinct}
 use Rattle.sc_types.proofs.Basics.{rule_holds, front_empty, back_empty, Each}
 use Rattle.sc_types.proofs.Places.{Text, same_refl, numbered_front}
@@ -19,7 +19,7 @@ Fresh before (name ∷ names) = (is_numbered before name ≡ false) × Fresh (be
 last_there : (before : List Text) (name : Text) → bytes_eq name name ≡ true →
     is_numbered (before ++ name ∷ []) name ≡ true
 last_there [] name h = ap (λ b. b || false) h
-last_there (x ∷ before) name h = by_case (bytes_eq name x) (last_there before name h) where
+last_there (x ∷ before) name h = by_case _ (last_there before name h) where
   by_case : (b : Bool) → is_numbered (before ++ name ∷ []) name ≡ true →
       (b || is_numbered (before ++ name ∷ []) name) ≡ true
   by_case true k = refl
@@ -36,15 +36,15 @@ pub not_again : (name : Text) (before names : List Text) → Fresh before names 
     is_numbered names name ≡ false
 not_again name before [] fresh there = refl
 not_again name before (x ∷ names) fresh there =
-    not_again_at name before x names (bytes_eq name x) refl fresh.0 there
-    (not_again name (before ++ x ∷ []) names fresh.1 (numbered_front before (x ∷ []) name there))
+    not_again_at name before x names _ refl fresh.0 there
+    (not_again name _ names fresh.1 (numbered_front before _ name there))
 
 pub fresh_distinct : (before names : List Text) → Fresh before names → are_distinct names ≡ true
 fresh_distinct before [] fresh = refl
 fresh_distinct before (name ∷ names) fresh =
-    and_from (not (is_numbered names name)) (are_distinct names)
-    (ap not (not_again name (before ++ name ∷ []) names fresh.1 (last_there before name (same_refl name))))
-    (fresh_distinct (before ++ name ∷ []) names fresh.1)
+    and_from (not _) (are_distinct names)
+    (ap not (not_again name _ names fresh.1 (last_there before name (same_refl name))))
+    (fresh_distinct _ names fresh.1)
 
 -- Exports, imports and declarations.
 
@@ -72,21 +72,19 @@ module _ (sections : List SectionTree) (number : ℕ) (section : SectionTree) wh
       Each ExportFacts lines × Fresh before (map {A = ExportLine} (λ line. line.name) lines)
   exports_each before [] h = (tt, tt)
   exports_each before (line ∷ lines) h =
-      let holds : export_holds sections number section before line ≡ true =
+      let holds =
       rule_holds _ line.line (front_empty _ _ h) in
-      let new : (not (among before line.name) && (not (bytes_eq line.name main_name) && is_plain line.name)) ≡ true =
+      let new =
       and_rest (among (function_names section.decls) line.name) _ holds in
-      let other : (not (bytes_eq line.name main_name) && is_plain line.name) ≡ true =
-      and_rest (not (among before line.name)) _ new in
-      let rest : Each ExportFacts lines × Fresh (before ++ line.name ∷ [])
-      (map {A = ExportLine} (λ line. line.name) lines) =
-      exports_each (before ++ line.name ∷ []) lines
-      (back_empty (unless (export_holds sections number section before line) line.line) _ h) in (
+      let other =
+      and_rest (not _) _ new in
+      let rest =
+      exports_each _ lines (back_empty _ _ h) in (
         (
           record {
             defined = and_first _ _ holds;
             no_main = not-true _ (and_first _ _ other);
-            plain = and_rest (not (bytes_eq line.name main_name)) _ other;
+            plain = and_rest (not _) _ other;
           },
           rest.0,
         ),
@@ -98,26 +96,22 @@ module _ (sections : List SectionTree) (number : ℕ) (section : SectionTree) wh
       Each ImportFacts lines × Fresh before (map {A = ImportLine} (λ line. line.name) lines)
   imports_each before [] h = (tt, tt)
   imports_each before (line ∷ lines) h =
-      let holds : import_holds sections number section before line ≡ true =
+      let holds =
       rule_holds _ line.line (front_empty _ _ h) in
-      let new : (not (among before line.name) && (not (among (function_names section.decls) line.name) &&
-      (among (proto_names section.decls) line.name && is_plain line.name))) ≡ true =
-      and_rest (is_offered sections number section line) _ holds in
-      let other : (not (among (function_names section.decls) line.name) &&
-      (among (proto_names section.decls) line.name && is_plain line.name)) ≡ true =
-      and_rest (not (among before line.name)) _ new in
-      let last : (among (proto_names section.decls) line.name && is_plain line.name) ≡ true =
-      and_rest (not (among (function_names section.decls) line.name)) _ other in
-      let rest : Each ImportFacts lines × Fresh (before ++ line.name ∷ [])
-      (map {A = ImportLine} (λ line. line.name) lines) =
-      imports_each (before ++ line.name ∷ []) lines
-      (back_empty (unless (import_holds sections number section before line) line.line) _ h) in (
+      let new =
+      and_rest (is_offered _ number section line) _ holds in
+      let other =
+      and_rest (not _) _ new in
+      let last =
+      and_rest (not _) _ other in
+      let rest =
+      imports_each _ lines (back_empty _ _ h) in (
         (
           record {
             offered = and_first _ _ holds;
             not_defined = not-true _ (and_first _ _ other);
             declared = and_first _ _ last;
-            plain = and_rest (among (proto_names section.decls) line.name) _ last;
+            plain = and_rest _ _ last;
           },
           rest.0,
         ),
@@ -127,29 +121,23 @@ module _ (sections : List SectionTree) (number : ℕ) (section : SectionTree) wh
   decls_each : (mains : Bool) (before decls : List Decl) → decls_from sections number section mains before decls ≡ [] →
       Each (DeclFacts mains) decls
   decls_each mains before [] h = tt
-  decls_each mains before (Struct tree ∷ decls) h = (tt, decls_each mains (before ++ Struct tree ∷ []) decls h)
-  decls_each mains before (Global tree ∷ decls) h = (tt, decls_each mains (before ++ Global tree ∷ []) decls h)
+  decls_each mains before (Struct tree ∷ decls) h = (tt, decls_each mains _ decls h)
+  decls_each mains before (Global tree ∷ decls) h = (tt, decls_each mains _ decls h)
   decls_each mains before (Proto head ∷ decls) h =
-      let holds : (head_holds sections number section before head && imported_agrees sections number section head) ≡
-      true = rule_holds _ head.line (front_empty _ _ h) in (
+      let holds = rule_holds _ head.line (front_empty _ _ h) in (
         (
           and_rest (agrees_with _ head) _ (and_first _ _ holds),
           and_rest (head_holds sections number section before head) _ holds,
         ),
-        decls_each mains (before ++ Proto head ∷ []) decls
-            (back_empty (unless (head_holds sections number section before head &&
-            imported_agrees sections number section head) head.line) _ h),
+        decls_each mains (before ++ Proto head ∷ []) decls (back_empty _ _ h),
       )
   decls_each mains before (Function tree ∷ decls) h =
-      let holds : (head_holds sections number section before (head_of tree.head) &&
-      main_holds mains (head_of tree.head)) ≡ true = rule_holds _ tree.head.line (front_empty _ _ h) in (
+      let holds = rule_holds _ tree.head.line (front_empty _ _ h) in (
         (
           and_rest (agrees_with _ (head_of tree.head)) _ (and_first _ _ holds),
           and_rest (head_holds sections number section before (head_of tree.head)) _ holds,
         ),
-        decls_each mains (before ++ Function tree ∷ []) decls
-            (back_empty (unless (head_holds sections number section before (head_of tree.head) &&
-            main_holds mains (head_of tree.head)) tree.head.line) _ h),
+        decls_each mains (before ++ Function tree ∷ []) decls (back_empty _ _ h),
       )
 
   -- what a section keeps, where some sections before it define `main` or not
@@ -164,24 +152,21 @@ module _ (sections : List SectionTree) (number : ℕ) (section : SectionTree) wh
   pub face_facts : (mains : Bool) (before : List SectionTree) →
       section_lines sections number section mains before ≡ [] → FaceFacts
   face_facts mains before h =
-      let behind_name : exports_from sections number section [] section.exports ++
-      (imports_from sections number section [] section.imports ++
-      decls_from sections number section mains [] section.decls) ≡ [] =
+      let behind_name =
       back_empty (unless (name_holds sections number section mains before) 1) _ h in
-      let behind_exports : imports_from sections number section [] section.imports ++
-      decls_from sections number section mains [] section.decls ≡ [] =
+      let behind_exports =
       back_empty (exports_from sections number section [] section.exports) _ behind_name in
-      let out : Each ExportFacts section.exports × Fresh [] (export_names section) =
-      exports_each [] section.exports (front_empty _ _ behind_name) in
-      let imported : Each ImportFacts section.imports × Fresh [] (import_names section) =
-      imports_each [] section.imports (front_empty _ _ behind_exports) in
+      let out =
+      exports_each [] _ (front_empty _ _ behind_name) in
+      let imported =
+      imports_each [] _ (front_empty _ _ behind_exports) in
       record {
         exports = out.0;
         fresh_exports = out.1;
         imports = imported.0;
         fresh_imports = imported.1;
         mains = mains;
-        decls = decls_each mains [] section.decls (back_empty
+        decls = decls_each mains [] _ (back_empty
             (imports_from sections number section [] section.imports) _ behind_exports);
       }
 
@@ -189,6 +174,5 @@ module _ (sections : List SectionTree) (number : ℕ) (section : SectionTree) wh
   pub decls_hold : (mains : Bool) (before : List SectionTree) →
       section_lines sections number section mains before ≡ [] → Each (DeclFacts mains) section.decls
   decls_hold mains before h =
-      decls_each mains [] section.decls (back_empty (imports_from sections number section [] section.imports) _
-      (back_empty (exports_from sections number section [] section.exports) _
-      (back_empty (unless (name_holds sections number section mains before) 1) _ h)))
+      decls_each mains [] _ (back_empty (imports_from sections number section [] section.imports) _
+      (back_empty (exports_from sections number section [] _) _ (back_empty _ _ h)))

@@ -1,19 +1,19 @@
 -- Functions, globals and structs of a section that breaks no rule are well typed.
 use Rattle.sc_types.proofs.Common.{BaseTree, BaseTy, Bool, Callable, Callees, Decl, ExprTree, Function, FunctionParam}
-use Rattle.sc_types.proofs.Common.{FunctionTree, Global, GlobalTree, List, LocalTree, MemberTree, None, Option}
+use Rattle.sc_types.proofs.Common.{FunctionTree, Global, GlobalTree, List, LocalTree, None, Option}
 use Rattle.sc_types.proofs.Common.{ParamTree, Proto, SectionTree, Some, StmtTree, Struct, StructTree, Ty, TypeName}
 use Rattle.sc_types.proofs.Common.{TypeTree, TypedParam, TypedStmt, [], and_first, and_from, and_rest, ap, append-nil}
-use Rattle.sc_types.proofs.Common.{append_assoc, arith, base_known, base_of, body_fits, concat, decl_lines, false}
+use Rattle.sc_types.proofs.Common.{append_assoc, arith, base_known, body_fits, concat, decl_lines, false}
 use Rattle.sc_types.proofs.Common.{false≢true, filter_map-append, function_fits, function_names, functions_in}
-use Rattle.sc_types.proofs.Common.{global_fits, global_names, globals_in, head_known, head_of, heads_in, if◌then◌else◌}
+use Rattle.sc_types.proofs.Common.{global_fits, global_names, globals_in, head_of, heads_in, if◌then◌else◌}
 use Rattle.sc_types.proofs.Common.{import_names, init_height, init_holds, init_words, is_array, is_callable, is_null}
 use Rattle.sc_types.proofs.Common.{is_numbered, is_sized, is_small, known_in, length, length-map, list_all, local_fits}
-use Rattle.sc_types.proofs.Common.{local_holds, locals_from, map, map-append, map_twice, max, member_known, most_cells}
+use Rattle.sc_types.proofs.Common.{local_holds, locals_from, map, map-append, map_twice, max, most_cells}
 use Rattle.sc_types.proofs.Common.{most_height, most_params, nat_eq, nat_le, not, not-true, option_map, param_names}
 use Rattle.sc_types.proofs.Common.{param_of, passed_fits, proto_names, refl, result_fits, result_known, result_of}
 use Rattle.sc_types.proofs.Common.{scope_in, scope_of, slice_get, starred, stmt_height, stmt_lines, struct_cells}
-use Rattle.sc_types.proofs.Common.{struct_in, struct_lines, struct_names, structs, structs_from, structs_in, subst, suc}
-use Rattle.sc_types.proofs.Common.{sym, tags, target_signature, true, type_in, type_of, type_of_name, type_within}
+use Rattle.sc_types.proofs.Common.{struct_lines, struct_names, structs, structs_from, structs_in, subst, suc}
+use Rattle.sc_types.proofs.Common.{sym, tags, target_signature, true, type_of, type_of_name, type_within}
 use Rattle.sc_types.proofs.Common.{typed_function, typed_global, typed_init, typed_local, typed_locals, typed_param}
 use Rattle.sc_types.proofs.Common.{typed_section, typed_stmt, unless, variable_fits, visible_in, visible_of}
 use Rattle.sc_types.proofs.Common.{word_of_const, words_fit, zero, ℕ, ◌%◌, ◌&&◌, ◌++◌, ◌+◌, ◌-◌, ◌<◌, ◌==◌, ◌^◌, ◌∙◌}
@@ -28,7 +28,6 @@ use Rattle.sc_ast.specs.declared.section.InitTree.TheVariants.{Absent, One, Many
 use Rattle.sc_ast.specs.Height as surface
 use Rattle.sc_core.specs.declared.ty.Ty.TheVariants as ty
 use Rattle.sc_core.specs.declared.ty.BaseTy.TheVariants as base
-use Rattle.sc_core.specs.declared.section.TypedGlobal.{TypedGlobal}
 use Rattle.sc_core.specs.declared.section.TypedLocal.{TypedLocal}
 use Rattle.sc_scope.specs.Names as names
 use Rattle.sc_types.specs.Counts as counts
@@ -39,18 +38,16 @@ use Rattle.sc_types.proofs.Bodies.{fits}
 use Rattle.sc_types.proofs.Heights as heights
 
 low_left : (a b n : ℕ) → nat_le (max a b) n ≡ true → nat_le a n ≡ true
-low_left a b n h = at_most a n (omega (arith, le-max_left a b, is_at_most (max a b) n h))
+low_left a b n h = at_most a n (omega (arith, le-max_left a b, is_at_most _ n h))
 
 low_right : (a b n : ℕ) → nat_le (max a b) n ≡ true → nat_le b n ≡ true
-low_right a b n h = at_most b n (omega (arith, le-max_right a b, is_at_most (max a b) n h))
+low_right a b n h = at_most b n (omega (arith, le-max_right a b, is_at_most _ n h))
 
 -- Tags.
 
 pub struct_names_append : (before decls : List Decl) →
     struct_names (before ++ decls) ≡ struct_names before ++ struct_names decls
-struct_names_append before decls =
-    ap (map {A = StructTree} (λ tree. tree.name)) (filter_map-append struct_in before decls) ∙
-    map-append {A = StructTree} (λ tree. tree.name) (structs_in before) (structs_in decls)
+struct_names_append before decls = ap (map _) (filter_map-append _ before decls) ∙ map-append _ _ _
 
 known_front : (some more : List Text) (b : BaseTree) → base_known some b ≡ true → base_known (some ++ more) b ≡ true
 known_front some more base_tree.Int h = refl
@@ -63,10 +60,10 @@ module _ (section : SectionTree) where
       base_known (struct_names before) b ≡ true → base_known (tags section) b ≡ true
   known_whole before decls whole b h =
       subst (λ names. base_known names b ≡ true) (sym (struct_names_append before decls) ∙ ap struct_names whole)
-      (known_front (struct_names before) (struct_names decls) b h)
+      (known_front _ (struct_names decls) b h)
 
   count_is : length (structs section) ≡ length (tags section)
-  count_is = structs_length (structs_in section.decls)
+  count_is = structs_length _
 
   within_is : (t : Ty) → type_within (length (tags section)) (length (tags section)) t ≡ true →
       is_small section t ≡ true → variable_fits (structs section) t ≡ true
@@ -76,17 +73,16 @@ module _ (section : SectionTree) where
       is_small section (type_of (tags section) t) ≡ true →
       variable_fits (structs section) (type_of (tags section) t) ≡ true
   tree_fits t sized known small =
-      within_is (type_of (tags section) t) (subst (λ all.
-      type_within (length (tags section)) (length (tags section)) (type_of all t) ≡ true)
-      (append-nil (tags section)) (type_is_within (tags section) [] t sized known)) small
+      within_is _ (subst (λ all. type_within (length (tags section)) (length (tags section)) (type_of all t) ≡ true)
+      (append-nil _) (type_is_within _ [] t sized known)) small
 
   pub name_fits : (t : TypeName) → base_known (tags section) t.base ≡ true →
       is_small section (type_of_name (tags section) t) ≡ true →
       variable_fits (structs section) (type_of_name (tags section) t) ≡ true
   name_fits t known small =
-      within_is (type_of_name (tags section) t) (subst
+      within_is _ (subst
       (λ all. type_within (length (tags section)) (length (tags section)) (type_of_name all t) ≡ true)
-      (append-nil (tags section)) (name_is_within (tags section) [] t known)) small
+      (append-nil _) (name_is_within _ [] t known)) small
 
   -- Structs are small.
 
@@ -111,24 +107,23 @@ module _ (section : SectionTree) where
   module _ (small : AllSmall (structs section) 0 (structs_in section.decls)) where
     small_struct : (n : ℕ) → n < length (tags section) → is_small section (ty.Struct n) ≡ true
     small_struct n less =
-        ap (λ m. nat_le (struct_cells (slice_get (structs section) m)) most_cells) (omega arith) ∙
-        small_at 0 (structs_in section.decls) n small
-        (subst (λ m. n < m) (length-map (structs_in section.decls) (λ tree. tree.name)) less)
+        ap (λ m. nat_le (struct_cells (slice_get (structs section) m)) most_cells) (omega arith) ∙ small_at 0 _ n small
+        (subst (λ m. n < m) (length-map _ _) less)
 
     small_starred : (stars : ℕ) (b : BaseTy) → type_within (length (tags section)) (length (tags section))
         (starred stars b) ≡ true → is_small section (starred stars b) ≡ true
     small_starred zero base.Int h = refl
     small_starred zero base.Unsigned h = refl
-    small_starred zero (base.Struct n) h = small_struct n (is_less n (length (tags section)) h)
+    small_starred zero (base.Struct n) h = small_struct n (is_less n _ h)
     small_starred (suc stars) b h = refl
 
     -- a type name over known tags
     named_fits : (t : TypeName) → base_known (tags section) t.base ≡ true →
         variable_fits (structs section) (type_of_name (tags section) t) ≡ true
     named_fits t known =
-        name_fits t known (small_starred t.stars (base_of (tags section) t.base)
+        name_fits t known (small_starred t.stars _
         (subst (λ all. type_within (length (tags section)) (length (tags section)) (type_of_name all t) ≡ true)
-        (append-nil (tags section)) (name_is_within (tags section) [] t known)))
+        (append-nil _) (name_is_within _ [] t known)))
 
     no_array : (stars : ℕ) (b : BaseTy) → is_array (starred stars b) ≡ false
     no_array zero base.Int = refl
@@ -138,7 +133,7 @@ module _ (section : SectionTree) where
 
     pub passed : (t : TypeName) → base_known (tags section) t.base ≡ true →
         passed_fits (structs section) (type_of_name (tags section) t) ≡ true
-    passed t known = and_from _ _ (ap not (no_array t.stars (base_of (tags section) t.base))) (named_fits t known)
+    passed t known = and_from _ _ (ap not (no_array t.stars _)) (named_fits t known)
 
     pub result_passed : (result : Option TypeName) → result_known (tags section) result ≡ true →
         result_fits (structs section) (option_map (type_of_name (tags section)) result) ≡ true
@@ -151,7 +146,7 @@ module _ (section : SectionTree) where
         (map (typed_param (tags section)) params) ≡ true
     params_passed [] known = refl
     params_passed (p ∷ params) known = and_from _ _ (passed p.ty (and_first _ _ known))
-        (params_passed params (and_rest (base_known (tags section) p.ty.base) _ known))
+        (params_passed params (and_rest _ _ known))
 
   -- Globals.
 
@@ -177,12 +172,10 @@ module _ (section : SectionTree) where
   words_are (ty.Pointer stars b) (Many consts) h = absurd (false≢true h)
   words_are (ty.Array zero base.Int count) Absent h = at_most 0 count (omega arith)
   words_are (ty.Array zero base.Int count) (One const) h = absurd (false≢true h)
-  words_are (ty.Array zero base.Int count) (Many consts) h =
-      ap (λ n. nat_le n count) (length-map consts word_of_const) ∙ h
+  words_are (ty.Array zero base.Int count) (Many consts) h = ap (λ n. nat_le n count) (length-map consts _) ∙ h
   words_are (ty.Array zero base.Unsigned count) Absent h = at_most 0 count (omega arith)
   words_are (ty.Array zero base.Unsigned count) (One const) h = absurd (false≢true h)
-  words_are (ty.Array zero base.Unsigned count) (Many consts) h =
-      ap (λ n. nat_le n count) (length-map consts word_of_const) ∙ h
+  words_are (ty.Array zero base.Unsigned count) (Many consts) h = ap (λ n. nat_le n count) (length-map consts _) ∙ h
   words_are (ty.Array zero (base.Struct n) count) Absent h = refl
   words_are (ty.Array zero (base.Struct n) count) (One const) h = absurd (false≢true h)
   words_are (ty.Array zero (base.Struct n) count) (Many consts) h = absurd (false≢true h)
@@ -196,7 +189,7 @@ module _ (section : SectionTree) where
       global_fits (structs section) (typed_global (tags section) tree) ≡ true
   global_is tree known holds small =
       and_from _ _ (tree_fits tree.ty (and_first _ _ holds) known small)
-      (words_are (type_of (tags section) tree.ty) tree.init (and_rest (is_sized tree.ty) _ holds))
+      (words_are (type_of _ tree.ty) tree.init (and_rest _ _ holds))
 
   -- A function's variables.
 
@@ -212,9 +205,8 @@ module _ (section : SectionTree) where
       scope_of (typed_section section callees) (typed_function section callees tree) ≡ scope_in section tree
   scope_is callees tree = λ i. record {
     structs = structs section;
-    globals = map_twice {A = GlobalTree} {B = TypedGlobal} (λ g. g.ty) (typed_global (tags section))
-        (globals_in section.decls) i;
-    params = map_twice {A = FunctionParam} {B = TypedParam} (λ p. p.ty) (typed_param (tags section)) tree.head.params i;
+    globals = map_twice (λ g. g.ty) (typed_global (tags section)) (globals_in section.decls) i;
+    params = map_twice (λ p. p.ty) (typed_param (tags section)) tree.head.params i;
     locals = local_types tree 0 tree.locals i;
   }
 
@@ -229,9 +221,8 @@ module _ (section : SectionTree) where
       is_small section (type_of (tags section) local.ty) ≡ true → nat_le (surface.local_height local) 256 ≡ true →
       local_fits (scope_in section tree) (typed_local section tree place local) ≡ true
   local_is callees tree place local holds known small low =
-      and_from _ _ (tree_fits local.ty (and_first _ _ holds) known small)
-      (and_from _ _ (and_rest (is_sized local.ty) _ holds)
-      (ap (λ n. nat_le n most_height) (init_low tree place (type_of (tags section) local.ty) local.init) ∙ low))
+      and_from _ _ (tree_fits _ (and_first _ _ holds) known small) (and_from _ _ (and_rest (is_sized local.ty) _ holds)
+      (ap (λ n. nat_le n most_height) (init_low tree place _ _) ∙ low))
 
   locals_are : (callees : Callees) (before decls : List Decl) → before ++ decls ≡ section.decls →
       (globals own : List Text) (tree : FunctionTree) (place : ℕ) (locals : List LocalTree) →
@@ -242,18 +233,13 @@ module _ (section : SectionTree) where
   unfolding typed_locals
   locals_are callees before decls whole globals own tree place [] holds known small low = refl
   locals_are callees before decls whole globals own tree place (local ∷ locals) holds known small low =
-      let in_names : names.local_known (struct_names before) globals own local ≡ true =
+      let in_names =
       rule_holds _ local.line (front_empty _ _ known) in
       and_from _ _ (local_is callees tree place local (rule_holds _ local.line (front_empty _ _ holds))
-      (known_whole before decls whole local.ty.base
-      (and_first _ _ (and_rest (not (is_numbered own local.name)) _ in_names)))
-      (rule_holds _ local.line (front_empty _ _ small))
-      (low_left (surface.local_height local) (surface.locals_height locals) 256 low))
-      (locals_are callees before decls whole globals (own ++ local.name ∷ []) tree (suc place) locals
-      (back_empty (unless (local_holds section callees tree place local) local.line) _ holds)
-      (back_empty (unless (names.local_known (struct_names before) globals own local) local.line) _ known)
-      (back_empty (counts.local_lines section local) _ small)
-      (low_right (surface.local_height local) (surface.locals_height locals) 256 low))
+      (known_whole before decls whole _ (and_first _ _ (and_rest (not _) _ in_names)))
+      (rule_holds _ local.line (front_empty _ _ small)) (low_left _ _ 256 low))
+      (locals_are callees before decls whole globals (own ++ local.name ∷ []) tree _ locals (back_empty _ _ holds)
+      (back_empty _ _ known) (back_empty _ _ small) (low_right _ _ 256 low))
 
   -- Bodies.
 
@@ -268,11 +254,8 @@ module _ (section : SectionTree) where
     body_is before tree [] known holds = refl
     body_is before tree (s ∷ body) known holds =
         and_from _ _ (fits (known_in (names.declared section before) tree) (visible_of section tree) callees
-        (scope_in section tree) callable (same before tree) (result_of section tree) s false (front_empty _ _ known)
-        (front_empty _ _ holds)) (body_is before tree body
-        (back_empty (names.stmt_lines (known_in (names.declared section before) tree) s false) _ known)
-        (back_empty (stmt_lines (visible_of section tree) callees (scope_in section tree)
-        (result_of section tree) s) _ holds))
+        _ callable (same before tree) (result_of section tree) s false (front_empty _ _ known)
+        (front_empty _ _ holds)) (body_is before tree body (back_empty _ _ known) (back_empty _ _ holds))
 
     body_low : (tree : FunctionTree) (body : List StmtTree) → nat_le (surface.stmts_height body) 256 ≡ true →
         list_all {X = TypedStmt} (λ s. nat_le (stmt_height s) most_height)
@@ -280,8 +263,7 @@ module _ (section : SectionTree) where
     body_low tree [] low = refl
     body_low tree (s ∷ body) low =
         and_from _ _ (ap (λ n. nat_le n most_height) (heights.stmt_is (visible_of section tree) callees
-        (result_of section tree) s) ∙ low_left (surface.stmt_height s) (surface.stmts_height body) 256 low)
-        (body_low tree body (low_right (surface.stmt_height s) (surface.stmts_height body) 256 low))
+        (result_of section tree) s) ∙ low_left _ _ 256 low) (body_low tree body (low_right _ _ 256 low))
 
     result_whole : (before decls : List Decl) → before ++ decls ≡ section.decls → (result : Option TypeName) →
         result_known (struct_names before) result ≡ true → result_known (tags section) result ≡ true
@@ -293,8 +275,8 @@ module _ (section : SectionTree) where
         list_all {X = ParamTree} (λ param. base_known (tags section) param.ty.base) params ≡ true
     params_whole before decls whole [] h = refl
     params_whole before decls whole (p ∷ params) h =
-        and_from _ _ (known_whole before decls whole p.ty.base (and_first _ _ h))
-        (params_whole before decls whole params (and_rest (base_known (struct_names before) p.ty.base) _ h))
+        and_from _ _ (known_whole before decls whole _ (and_first _ _ h))
+        (params_whole before decls whole params (and_rest _ _ h))
 
     function_is : (before decls : List Decl) → before ++ decls ≡ section.decls →
         AllSmall (structs section) 0 (structs_in section.decls) → (tree : FunctionTree) →
@@ -303,41 +285,35 @@ module _ (section : SectionTree) where
         nat_le (surface.function_height tree) 256 ≡ true →
         function_fits callable (typed_section section callees) (typed_function section callees tree) ≡ true
     function_is before decls whole small tree in_names holds sizes count low =
-        let head : names.head_of_known (names.declared section before) tree ≡ true =
+        let head =
         rule_holds _ tree.head.line (front_empty _ _ in_names) in
-        let behind_head : names.locals_from (struct_names before) (global_names before)
-        (param_names tree) tree.locals ++ names.body_lines
-        (known_in (names.declared section before) tree) tree.body ≡ [] =
+        let behind_head =
         back_empty (unless (names.head_of_known (names.declared section before) tree) tree.head.line) _ in_names in
-        let tags_known : head_known (struct_names before) (head_of tree.head) ≡ true =
+        let tags_known =
         and_first _ _ (and_rest (not (is_numbered (function_names before) tree.head.name)) _
         (and_rest (not (is_numbered (global_names before) tree.head.name)) _ head)) in
-        and_from _ _ (ap (λ n. nat_le n most_params) (length-map tree.head.params (typed_param (tags section)) ∙
-        sym (length-map tree.head.params param_of)) ∙ rule_holds _ tree.head.line count)
-        (and_from _ _ (params_passed small tree.head.params
+        and_from _ _ (ap (λ n. nat_le n most_params) (length-map tree.head.params (typed_param _) ∙
+        sym (length-map _ _)) ∙ rule_holds _ _ count) (and_from _ _ (params_passed small tree.head.params
         (params_whole before decls whole (map param_of tree.head.params)
         (and_rest (result_known (struct_names before) tree.head.result) _ tags_known)))
         (and_from _ _ (result_passed small tree.head.result
-        (result_whole before decls whole tree.head.result (and_first _ _ tags_known)))
+        (result_whole before decls whole _ (and_first _ _ tags_known)))
         (and_from _ _ (subst (λ scope. list_all (local_fits scope) (typed_locals section tree 0 tree.locals) ≡ true)
         (sym (scope_is callees tree)) (locals_are callees before decls whole (global_names before)
         (param_names tree) tree 0 tree.locals (front_empty _ _ holds) (front_empty _ _ behind_head)
-        (back_empty (unless (list_all (counts.param_small section) tree.head.params) tree.head.line) _ sizes)
-        (low_left (surface.locals_height tree.locals) (surface.stmts_height tree.body) 256 low)))
+        (back_empty _ _ sizes) (low_left _ _ 256 low)))
         (and_from _ _ (subst (λ scope. body_fits scope callable (result_of section tree)
         (map (typed_stmt (visible_of section tree) callees (result_of section tree)) tree.body) ≡ true)
         (sym (scope_is callees tree)) (body_is before tree tree.body
         (back_empty (names.locals_from (struct_names before) (global_names before)
-        (param_names tree) tree.locals) _ behind_head)
-        (back_empty (locals_from section callees tree 0 tree.locals) _ holds)))
-        (body_low tree tree.body (low_right (surface.locals_height tree.locals)
-        (surface.stmts_height tree.body) 256 low))))))
+        (param_names tree) tree.locals) _ behind_head) (back_empty _ _ holds))) (body_low tree tree.body (low_right _
+        _ 256 low))))))
 
     -- All declarations, those before one after another.
 
     next_whole : (before : List Decl) (decl : Decl) (decls : List Decl) → before ++ decl ∷ decls ≡ section.decls →
         (before ++ decl ∷ []) ++ decls ≡ section.decls
-    next_whole before decl decls whole = append_assoc before (decl ∷ []) decls ∙ whole
+    next_whole before decl decls whole = append_assoc before _ decls ∙ whole
 
     pub functions_are : AllSmall (structs section) 0 (structs_in section.decls) → (before decls : List Decl) →
         before ++ decls ≡ section.decls → names.lines_from section before decls ≡ [] →
@@ -349,31 +325,24 @@ module _ (section : SectionTree) where
         (map (typed_function section callees) (functions_in decls)) ≡ true
     functions_are small before [] whole in_names holds heads sizes low = refl
     functions_are small before (Struct tree ∷ decls) whole in_names holds heads sizes low =
-        functions_are small (before ++ Struct tree ∷ []) decls (next_whole before (Struct tree) decls whole)
+        functions_are small (before ++ Struct tree ∷ []) decls (next_whole before _ decls whole)
         (back_empty (names.decl_lines (names.declared section before) (Struct tree)) _ in_names)
-        (back_empty (decl_lines section callees (Struct tree)) _ holds) heads sizes
-        (low_right 0 (surface.decls_height decls) 256 low)
+        (back_empty _ _ holds) heads sizes (low_right 0 _ 256 low)
     functions_are small before (Global tree ∷ decls) whole in_names holds heads sizes low =
-        functions_are small (before ++ Global tree ∷ []) decls (next_whole before (Global tree) decls whole)
+        functions_are small (before ++ Global tree ∷ []) decls (next_whole before _ decls whole)
         (back_empty (names.decl_lines (names.declared section before) (Global tree)) _ in_names)
-        (back_empty (decl_lines section callees (Global tree)) _ holds) heads sizes
-        (low_right 0 (surface.decls_height decls) 256 low)
+        (back_empty _ _ holds) heads sizes (low_right 0 _ 256 low)
     functions_are small before (Proto head ∷ decls) whole in_names holds heads sizes low =
-        functions_are small (before ++ Proto head ∷ []) decls (next_whole before (Proto head) decls whole)
+        functions_are small (before ++ Proto head ∷ []) decls (next_whole before _ decls whole)
         (back_empty (names.decl_lines (names.declared section before) (Proto head)) _ in_names)
-        (back_empty (decl_lines section callees (Proto head)) _ holds)
-        (back_empty (counts.head_lines section head) _ heads) sizes
-        (low_right 0 (surface.decls_height decls) 256 low)
+        (back_empty (decl_lines section callees (Proto head)) _ holds) (back_empty _ _ heads) sizes
+        (low_right 0 _ 256 low)
     functions_are small before (Function tree ∷ decls) whole in_names holds heads sizes low =
-        and_from _ _ (function_is before (Function tree ∷ decls) whole small tree (front_empty _ _ in_names)
-        (front_empty _ _ holds) (front_empty _ _ sizes) (front_empty _ _ heads)
-        (low_left (surface.function_height tree) (surface.decls_height decls) 256 low))
-        (functions_are small (before ++ Function tree ∷ []) decls (next_whole before (Function tree) decls whole)
+        and_from _ _ (function_is before _ whole small tree (front_empty _ _ in_names)
+        (front_empty _ _ holds) (front_empty _ _ sizes) (front_empty _ _ heads) (low_left _ _ 256 low))
+        (functions_are small (before ++ Function tree ∷ []) decls (next_whole before _ decls whole)
         (back_empty (names.decl_lines (names.declared section before) (Function tree)) _ in_names)
-        (back_empty (decl_lines section callees (Function tree)) _ holds)
-        (back_empty (counts.head_lines section (head_of tree.head)) _ heads)
-        (back_empty (counts.function_lines section tree) _ sizes)
-        (low_right (surface.function_height tree) (surface.decls_height decls) 256 low))
+        (back_empty _ _ holds) (back_empty _ _ heads) (back_empty _ _ sizes) (low_right _ _ 256 low))
 
   module _ (callees : Callees) where
     pub globals_are : (before decls : List Decl) → before ++ decls ≡ section.decls →
@@ -382,53 +351,49 @@ module _ (section : SectionTree) where
         list_all (global_fits (structs section)) (map (typed_global (tags section)) (globals_in decls)) ≡ true
     globals_are before [] whole in_names holds sizes = refl
     globals_are before (Struct tree ∷ decls) whole in_names holds sizes =
-        globals_are (before ++ Struct tree ∷ []) decls (append_assoc before (Struct tree ∷ []) decls ∙ whole)
+        globals_are (before ++ Struct tree ∷ []) decls (append_assoc before _ decls ∙ whole)
         (back_empty (names.decl_lines (names.declared section before) (Struct tree)) _ in_names)
-        (back_empty (decl_lines section callees (Struct tree)) _ holds) sizes
+        (back_empty _ _ holds) sizes
     globals_are before (Global tree ∷ decls) whole in_names holds sizes =
-        let known : names.global_known (names.declared section before) tree ≡ true =
+        let known =
         rule_holds _ tree.line (front_empty _ _ in_names) in
-        let tag : base_known (struct_names before) tree.ty.base ≡ true =
+        let tag =
         and_rest (not (is_numbered (import_names section) tree.name)) _
         (and_rest (not (is_numbered (proto_names before) tree.name)) _
         (and_rest (not (is_numbered (function_names before) tree.name)) _
         (and_rest (not (is_numbered (global_names before) tree.name)) _ known))) in
-        and_from _ _ (global_is tree (known_whole before (Global tree ∷ decls) whole tree.ty.base tag)
+        and_from _ _ (global_is tree (known_whole before _ whole _ tag)
         (rule_holds _ tree.line (front_empty _ _ holds)) (rule_holds _ tree.line (front_empty _ _ sizes)))
-        (globals_are (before ++ Global tree ∷ []) decls (append_assoc before (Global tree ∷ []) decls ∙ whole)
-        (back_empty (names.decl_lines (names.declared section before) (Global tree)) _ in_names)
-        (back_empty (decl_lines section callees (Global tree)) _ holds)
-        (back_empty (counts.global_lines section tree) _ sizes))
+        (globals_are (before ++ Global tree ∷ []) decls (append_assoc before _ decls ∙ whole)
+        (back_empty (names.decl_lines (names.declared section before) (Global tree)) _ in_names) (back_empty _ _ holds)
+        (back_empty _ _ sizes))
     globals_are before (Proto head ∷ decls) whole in_names holds sizes =
-        globals_are (before ++ Proto head ∷ []) decls (append_assoc before (Proto head ∷ []) decls ∙ whole)
+        globals_are (before ++ Proto head ∷ []) decls (append_assoc before _ decls ∙ whole)
         (back_empty (names.decl_lines (names.declared section before) (Proto head)) _ in_names)
         (back_empty (decl_lines section callees (Proto head)) _ holds) sizes
     globals_are before (Function tree ∷ decls) whole in_names holds sizes =
-        globals_are (before ++ Function tree ∷ []) decls (append_assoc before (Function tree ∷ []) decls ∙ whole)
+        globals_are (before ++ Function tree ∷ []) decls (append_assoc before _ decls ∙ whole)
         (back_empty (names.decl_lines (names.declared section before) (Function tree)) _ in_names)
-        (back_empty (decl_lines section callees (Function tree)) _ holds) sizes
+        (back_empty _ _ holds) sizes
 
     struct_is : (before : List Decl) (tree : StructTree) →
         names.decl_lines (names.declared section before) (Struct tree) ≡ [] → struct_lines section tree ≡ [] →
         Known (struct_names before) tree
     struct_is before tree in_names holds =
-        let known : names.struct_known (names.declared section before) tree ≡ true = rule_holds _ tree.line in_names in
-        let shape : (nat_le 1 (length tree.members) &&
-        list_all {X = MemberTree} (λ member. is_sized member.ty) tree.members) ≡ true =
-        rule_holds _ tree.line holds in
+        let known = rule_holds _ tree.line in_names in
+        let shape =
+        rule_holds _ _ holds in
         record {
           new = not-true _ (and_first _ _ known);
-          members = and_rest (are_distinct (map {A = MemberTree} (λ member. member.name) tree.members)) _
+          members = and_rest (are_distinct (map (λ member. member.name) tree.members)) _
               (and_rest (not (is_numbered (struct_names before) tree.name)) _ known);
-          sized = and_rest (nat_le 1 (length tree.members)) _ shape;
+          sized = and_rest _ _ shape;
           some = and_first _ _ shape;
         }
 
     same_names : (before : List Decl) (decl : Decl) → struct_names (decl ∷ []) ≡ [] →
         struct_names (before ++ decl ∷ []) ≡ struct_names before
-    same_names before decl h =
-        struct_names_append before (decl ∷ []) ∙ ap (λ more. struct_names before ++ more) h ∙
-        append-nil (struct_names before)
+    same_names before decl h = struct_names_append before _ ∙ ap (λ more. struct_names before ++ more) h ∙ append-nil _
 
     pub structs_known : (before decls : List Decl) → names.lines_from section before decls ≡ [] →
         concat (map (decl_lines section callees) decls) ≡ [] → AllKnown (struct_names before) (structs_in decls)

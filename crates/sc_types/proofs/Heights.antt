@@ -5,7 +5,7 @@ use Rattle.sc_types.proofs.Common.{TypedKind, TypedKind-F, TypedStmt, TypedStmtK
 use Rattle.sc_types.proofs.Common.{[], ap, arith, beside, call_height, expr_at, expr_height, expr_induction, false}
 use Rattle.sc_types.proofs.Common.{fold-roll-TypedExpr, found, going_to, going_to_all, going_to_some, highest}
 use Rattle.sc_types.proofs.Common.{if◌then◌else◌, is_pointer, is_zero, kind_height, kind_step, layer_of, map}
-use Rattle.sc_types.proofs.Common.{map-ExprTree, max, on_line, option_map, params_of, part_height, refl, roll-TypedKind}
+use Rattle.sc_types.proofs.Common.{map-ExprTree, max, on_line, option_map, part_height, refl, roll-TypedKind}
 use Rattle.sc_types.proofs.Common.{roll-TypedStmtKind, simple_height, stmt_at, stmt_height, stmt_induction, stmt_step}
 use Rattle.sc_types.proofs.Common.{suc, sym, term_height, term_of, true, typed, typed_call, typed_simple}
 use Rattle.sc_types.proofs.Common.{typed_simple_kind, typed_stmt, typed_value, variable_typed, ℕ, ◌&&◌, ◌+◌, ◌∙◌, ◌∷◌}
@@ -27,9 +27,7 @@ one_more n = omega arith
 -- the height doesn't depend on the type
 type_aside : (t u : Ty) (k : TypedKind) → expr_height (record { ty = t; kind = k }) ≡
     expr_height (record { ty = u; kind = k })
-type_aside t u k =
-    fold-roll-TypedExpr ℕ ℕ term_height (λ e. e.kind) (record { ty = t; kind = k }) ∙
-    sym (fold-roll-TypedExpr ℕ ℕ term_height (λ e. e.kind) (record { ty = u; kind = k }))
+type_aside t u k = fold-roll-TypedExpr ℕ ℕ _ _ _ ∙ sym (fold-roll-TypedExpr ℕ ℕ _ _ _)
 
 going_by : (b : Bool) (t : Ty) (e : TypedExpr) → expr_height (if b then record { ty = t; kind = e.kind } else e) ≡
     expr_height e
@@ -62,7 +60,7 @@ beside_height tree_op.Rem other e = refl
 -- an expression of this layer
 height_at : (t : Ty) (k : TypedKind-F TypedKind TypedExpr) →
     expr_height (typed t k) ≡ term_of ℕ ℕ term_height (λ e. e.kind) k
-height_at t k = expr_at ℕ ℕ term_height (λ e. e.kind) t k
+height_at t k = expr_at ℕ ℕ _ _ t k
 
 module _ (visible : Visible) where
   abbrev Same : ExprTree → Type 0
@@ -71,36 +69,31 @@ module _ (visible : Visible) where
   variable_height : (o : Option Found) → expr_height (variable_typed o) ≡ 1
   unfolding roll-TypedKind denote.Hole.Carrier.roll
   variable_height None = height_at _ (term.Variable _)
-  variable_height (Some f) = height_at _ (term.Variable f.variable)
+  variable_height (Some f) = height_at _ (term.Variable _)
 
   -- by the layer of the tree
   by_term : (t : ExprTree-F ExprTree) → Under Same t →
       expr_height (elab.step visible (map-ExprTree _ _ (elab.typed visible) t)) ≡
       surface.expr_step (map-ExprTree _ _ surface.expr_height t)
   unfolding roll-TypedKind denote.Hole.Carrier.roll
-  by_term (tree_term.Literal number) under = height_at _ (term.Literal number.value)
+  by_term (tree_term.Literal number) under = height_at _ (term.Literal _)
   by_term (tree_term.Variable name) under = variable_height (found visible name)
-  by_term (tree_term.Unary o e) under =
-      height_at _ (term.Unary o (elab.typed visible e)) ∙ ap suc under ∙ one_more _
+  by_term (tree_term.Unary o e) under = height_at _ (term.Unary o _) ∙ ap suc under ∙ one_more _
   by_term (tree_term.Binary o a b) under =
-      height_at _ (term.Binary o (beside o (elab.typed visible b).ty (elab.typed visible a))
-      (beside o (elab.typed visible a).ty (elab.typed visible b)))
+      height_at _ (term.Binary o _ _)
       ∙ (λ i. suc (max ((beside_height o (elab.typed visible b).ty (elab.typed visible a) ∙ under.0) i)
-      ((beside_height o (elab.typed visible a).ty (elab.typed visible b) ∙ under.1) i)))
-      ∙ one_more _
+      ((beside_height o (elab.typed visible a).ty (elab.typed visible b) ∙ under.1) i))) ∙ one_more _
   by_term (tree_term.Index a b) under =
-      height_at _ (term.Index (elab.typed visible a) (elab.typed visible b)) ∙
-      (λ i. suc (max (under.0 i) (under.1 i))) ∙ one_more _
-  by_term (tree_term.Member e name) under = height_at _ (term.Member (elab.typed visible e) _) ∙ ap suc under ∙
-      one_more _
-  by_term (tree_term.Arrow e name) under = height_at _ (term.Arrow (elab.typed visible e) _) ∙ ap suc under ∙ one_more _
-  by_term (tree_term.Deref e) under = height_at _ (term.Deref (elab.typed visible e)) ∙ ap suc under ∙ one_more _
-  by_term (tree_term.Address e) under = height_at _ (term.Address (elab.typed visible e)) ∙ ap suc under ∙ one_more _
+      height_at _ (term.Index _ _) ∙ (λ i. suc (max (under.0 i) (under.1 i))) ∙ one_more _
+  by_term (tree_term.Member e name) under = height_at _ (term.Member _ _) ∙ ap suc under ∙ one_more _
+  by_term (tree_term.Arrow e name) under = height_at _ (term.Arrow _ _) ∙ ap suc under ∙ one_more _
+  by_term (tree_term.Deref e) under = height_at _ (term.Deref _) ∙ ap suc under ∙ one_more _
+  by_term (tree_term.Address e) under = height_at _ (term.Address _) ∙ ap suc under ∙ one_more _
 
   pub typed_height : (e : ExprTree) → Same e
   typed_height =
-      expr_induction Same (λ t under. ap expr_height (tree_layers.expr_at (elab.step visible) t) ∙ by_term t under ∙
-      sym (tree_layers.expr_at surface.expr_step t))
+      expr_induction Same (λ t under. ap expr_height (tree_layers.expr_at _ t) ∙ by_term t under ∙
+      sym (tree_layers.expr_at _ t))
 
   module _ (callees : Callees) where
     args_height : (types : List Ty) (args : List ExprTree) →
@@ -109,15 +102,14 @@ module _ (visible : Visible) where
     args_height [] [] = refl
     args_height [] (e ∷ args) = λ i. max (typed_height e i) (args_height [] args i)
     args_height (t ∷ types) [] = refl
-    args_height (t ∷ types) (e ∷ args) =
-        λ i. max ((going_height t (elab.typed visible e) ∙ typed_height e) i) (args_height types args i)
+    args_height (t ∷ types) (e ∷ args) = λ i. max ((going_height t _ ∙ typed_height e) i) (args_height types args i)
 
     call_is : (call : CallTree) → call_height (typed_call visible callees call) ≡ surface.call_height call
-    call_is call = args_height (params_of (callees.signature call.name)) call.args
+    call_is call = args_height _ _
 
     value_is : (place value : ExprTree) → expr_height (typed_value visible callees place value) ≡
         surface.expr_height value
-    value_is place value = going_height _ (elab.typed visible value) ∙ typed_height value
+    value_is place value = going_height _ _ ∙ typed_height value
 
     simple_is : (s : SimpleKind) → simple_height (typed_simple_kind visible callees s) ≡ surface.simple_kind_height s
     simple_is (simple.Assign place value) = λ i. max (typed_height place i) (value_is place value i)
@@ -156,45 +148,33 @@ module _ (visible : Visible) where
       -- a statement of this layer
       stmt_of : (line : ℕ) (k : TypedStmtKind-F TypedStmtKind TypedStmt) →
           stmt_height (on_line line k) ≡ suc (layer_of ℕ ℕ kind_height (λ s. suc s.kind) k)
-      stmt_of line k = stmt_at ℕ ℕ kind_height (λ s. suc s.kind) line k
+      stmt_of line k = stmt_at ℕ ℕ _ _ line k
 
       by_kind : (line : ℕ) (k : Layer) → Inside SameStmt k →
           stmt_height (record { line = line; kind = typed_kind k }) ≡ suc (height_of k)
       unfolding roll-TypedStmtKind denote.Hole.Carrier.roll
       by_kind line tree.Empty inside = stmt_of line layer.Empty
       by_kind line (tree.Assign place value) inside =
-          stmt_of line (layer.Assign (elab.typed visible place) (typed_value visible callees place value)) ∙
-          (λ i. suc (max (typed_height place i) (value_is place value i)))
+          stmt_of line (layer.Assign _ _) ∙ (λ i. suc (max (typed_height place i) (value_is place value i)))
       by_kind line (tree.AssignCall place call) inside =
-          stmt_of line (layer.AssignCall (elab.typed visible place) (typed_call visible callees call)) ∙
-          (λ i. suc (max (typed_height place i) (call_is call i)))
-      by_kind line (tree.Call call) inside = stmt_of line (layer.Call (typed_call visible callees call)) ∙
-          ap suc (call_is call)
+          stmt_of line (layer.AssignCall _ _) ∙ (λ i. suc (max (typed_height place i) (call_is call i)))
+      by_kind line (tree.Call call) inside = stmt_of line (layer.Call _) ∙ ap suc (call_is call)
       by_kind line (tree.If cond first second) inside =
-          stmt_of line (layer.If (elab.typed visible cond) (map (typed_stmt visible callees result) first)
-          (map (typed_stmt visible callees result) second)) ∙
-          (λ i. suc (max (typed_height cond i) (max (all_heights first inside.0 i)
+          stmt_of line (layer.If _ _ _) ∙ (λ i. suc (max (typed_height cond i) (max (all_heights first inside.0 i)
           (all_heights second inside.1 i))))
       by_kind line (tree.While cond body) inside =
-          stmt_of line (layer.While (elab.typed visible cond) (map (typed_stmt visible callees result) body)) ∙
-          (λ i. suc (max (typed_height cond i) (all_heights body inside i)))
+          stmt_of line (layer.While _ _) ∙ (λ i. suc (max (typed_height cond i) (all_heights body inside i)))
       by_kind line (tree.For first cond next body) inside =
-          stmt_of line (layer.For (option_map (typed_simple visible callees) first) (elab.typed visible cond)
-          (option_map (typed_simple visible callees) next) (map (typed_stmt visible callees result) body)) ∙
-          (λ i. suc (max (max (part_is first i) (part_is next i))
+          stmt_of line (layer.For _ _ _ _) ∙ (λ i. suc (max (max (part_is first i) (part_is next i))
           (max (typed_height cond i) (all_heights body inside i))))
       by_kind line tree.Break inside = stmt_of line layer.Break
       by_kind line tree.Continue inside = stmt_of line layer.Continue
       by_kind line tree.Return inside = stmt_of line layer.Return
       by_kind line (tree.ReturnValue value) inside =
-          stmt_of line (layer.ReturnValue (going_to_some result (elab.typed visible value))) ∙
-          ap suc (some_height result (elab.typed visible value) ∙ typed_height value)
-      by_kind line (tree.ReturnCall call) inside = stmt_of line (layer.ReturnCall (typed_call visible callees call)) ∙
-          ap suc (call_is call)
+          stmt_of line (layer.ReturnValue _) ∙ ap suc (some_height result _ ∙ typed_height value)
+      by_kind line (tree.ReturnCall call) inside = stmt_of line (layer.ReturnCall _) ∙ ap suc (call_is call)
 
       pub stmt_is : (s : StmtTree) → SameStmt s
       stmt_is =
-          stmt_induction SameStmt (λ line k inside. ap stmt_height
-          (tree_layers.stmt_at _ _ (kind_step visible callees result) (stmt_step visible callees result) line k) ∙
-          by_kind line k inside ∙ one_more _ ∙ sym
-          (tree_layers.stmt_at _ _ surface.kind_step surface.stmt_step line k))
+          stmt_induction SameStmt (λ line k inside. ap stmt_height (tree_layers.stmt_at _ _ _ _ line k) ∙
+          by_kind line k inside ∙ one_more _ ∙ sym (tree_layers.stmt_at _ _ _ _ line k))

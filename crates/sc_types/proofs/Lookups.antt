@@ -51,8 +51,8 @@ place_at name tree trees true q f h = record {
   tree = tree;
   place = ap (λ c. if c then Some 0 else option_map suc (find (bytes_eq name) (names_of trees))) q;
   got = refl;
-  first = ap (λ c. if c then Some tree else function_named name trees) (same_sym tree.head.name name ∙ q);
-  named = same_sym tree.head.name name ∙ q;
+  first = ap (λ c. if c then Some tree else function_named name trees) (same_sym _ name ∙ q);
+  named = same_sym _ name ∙ q;
 }
 place_at name tree trees false q f h =
     let rest : FoundPlace name trees = f h in record {
@@ -69,17 +69,16 @@ place_at name tree trees false q f h =
 find_place : (name : Text) (trees : List FunctionTree) → list_any (bytes_eq name) (names_of trees) ≡ true →
     FoundPlace name trees
 find_place name [] h = absurd (false≢true h)
-find_place name (tree ∷ trees) h = place_at name tree trees (bytes_eq name tree.head.name) refl
-    (find_place name trees) h
+find_place name (tree ∷ trees) h = place_at name tree trees _ refl (find_place name trees) h
 
 pub find_function : (name : Text) (trees : List FunctionTree) → is_numbered (names_of trees) name ≡ true →
     FoundFunction name trees
 find_function name trees h =
-    let f : FoundPlace name trees = find_place name trees h in
+    let f = find_place name trees h in
     record {
       at = f.at;
       tree = f.tree;
-      number = number_is (names_of trees) name ∙ f.place;
+      number = number_is _ name ∙ f.place;
       got = f.got;
       first = f.first;
       named = f.named;
@@ -92,13 +91,12 @@ no_function_at : (name : Text) (tree : FunctionTree) (trees : List FunctionTree)
     function_named name (tree ∷ trees) ≡ None
 no_function_at name tree trees true q f h = absurd (false≢true (sym h))
 no_function_at name tree trees false q f h =
-    ap (λ c. if c then Some tree else function_named name trees) (same_sym tree.head.name name ∙ q) ∙ f h
+    ap (λ c. if c then Some tree else function_named name trees) (same_sym _ name ∙ q) ∙ f h
 
 pub no_function : (name : Text) (trees : List FunctionTree) → is_numbered (names_of trees) name ≡ false →
     function_named name trees ≡ None
 no_function name [] h = refl
-no_function name (tree ∷ trees) h = no_function_at name tree trees (bytes_eq name tree.head.name) refl
-    (no_function name trees) h
+no_function name (tree ∷ trees) h = no_function_at name tree trees _ refl (no_function name trees) h
 
 -- a name that isn't numbered is found nowhere
 pub no_number : {A : Type 0} (p : A → Bool) (xs : List A) → list_any p xs ≡ false → find p xs ≡ None
@@ -110,7 +108,7 @@ no_number p (x ∷ xs) h = by_case (p x) h (no_number p xs) where
   by_case false h f = ap (option_map suc) (f h)
 
 pub no_place : (names : List Text) (name : Text) → is_numbered names name ≡ false → number_of names name ≡ None
-no_place names name h = number_is names name ∙ no_number (bytes_eq name) names h
+no_place names name h = number_is names name ∙ no_number _ names h
 
 -- Heads.
 
@@ -129,9 +127,8 @@ pub heads_of_functions : (p : HeadTree → Bool) (decls : List Decl) → list_al
 heads_of_functions p [] h = tt
 heads_of_functions p (Struct tree ∷ decls) h = heads_of_functions p decls h
 heads_of_functions p (Global tree ∷ decls) h = heads_of_functions p decls h
-heads_of_functions p (Proto head ∷ decls) h = heads_of_functions p decls (and_rest (p head) _ h)
-heads_of_functions p (Function tree ∷ decls) h =
-    (and_first (p (head_of tree.head)) _ h, heads_of_functions p decls (and_rest (p (head_of tree.head)) _ h))
+heads_of_functions p (Proto head ∷ decls) h = heads_of_functions p decls (and_rest _ _ h)
+heads_of_functions p (Function tree ∷ decls) h = (and_first _ _ h, heads_of_functions p decls (and_rest _ _ h))
 
 -- the first head of a name that no function has, which is a prototype's
 pub record FoundHead (P : Decl → Type 0) (name : Text) (decls : List Decl) : Type 0 where
@@ -152,8 +149,8 @@ module _ (P : Decl → Type 0) (name : Text) where
       FoundHead P name (Proto head ∷ decls)
   head_at head decls true q holds f h = record {
     head = head;
-    first = ap (λ c. if c then Some head else head_named name (heads_in decls)) (same_sym head.name name ∙ q);
-    named = same_sym head.name name ∙ q;
+    first = ap (λ c. if c then Some head else head_named name (heads_in decls)) (same_sym _ name ∙ q);
+    named = same_sym _ name ∙ q;
     holds = holds;
   }
   head_at head decls false q holds f h =
@@ -171,10 +168,10 @@ module _ (P : Decl → Type 0) (name : Text) where
       FoundHead P name (Function tree ∷ decls)
   over_at tree decls true q h f = absurd (false≢true (sym h))
   over_at tree decls false q h f =
-      let rest : FoundHead P name decls = f h in record {
+      let rest = f h in record {
         head = rest.head;
         first = ap (λ c. if c then Some (head_of tree.head) else head_named name (heads_in decls))
-            (same_sym tree.head.name name ∙ q) ∙ rest.first;
+            (same_sym _ name ∙ q) ∙ rest.first;
         named = rest.named;
         holds = rest.holds;
       }
@@ -183,12 +180,10 @@ module _ (P : Decl → Type 0) (name : Text) where
       FoundHead P name decls
   find_head [] each h none = absurd (false≢true h)
   find_head (Struct tree ∷ decls) each h none =
-      let rest : FoundHead P name decls = find_head decls each.1 h none in
+      let rest = find_head decls each.1 h none in
       record { head = rest.head; first = rest.first; named = rest.named; holds = rest.holds }
   find_head (Global tree ∷ decls) each h none =
-      let rest : FoundHead P name decls = find_head decls each.1 h none in
+      let rest = find_head decls each.1 h none in
       record { head = rest.head; first = rest.first; named = rest.named; holds = rest.holds }
-  find_head (Proto head ∷ decls) each h none =
-      head_at head decls (bytes_eq name head.name) refl each.0 (λ k. find_head decls each.1 k none) h
-  find_head (Function tree ∷ decls) each h none =
-      over_at tree decls (bytes_eq name tree.head.name) refl none (λ k. find_head decls each.1 h k)
+  find_head (Proto head ∷ decls) each h none = head_at head decls _ refl each.0 (λ k. find_head decls each.1 k none) h
+  find_head (Function tree ∷ decls) each h none = over_at tree decls _ refl none (λ k. find_head decls each.1 h k)

@@ -13,13 +13,12 @@ use Rattle.sc_scope.proofs.Lines.{step}
 
 concat-append : (xs ys : List (List ℕ)) → concat (xs ++ ys) ≡ concat xs ++ concat ys
 concat-append [] ys = refl
-concat-append (x ∷ xs) ys = ap (λ rest. x ++ rest) (concat-append xs ys) ∙ sym (append_assoc x (concat xs) (concat ys))
+concat-append (x ∷ xs) ys = ap (λ rest. x ++ rest) (concat-append xs ys) ∙ sym (append_assoc x _ _)
 
 -- the item beyond a count, where there is one
 pub none-beyond : {A : Type 0} (line_of : A → ℕ) (most : ℕ) (items : List A) (old : BrokenLines) →
     None ≡ slice_get items most → old ≡ with_lines old (line_beyond line_of most items)
-none-beyond line_of most items old n =
-    nothing old (line_beyond line_of most items) (ap (line_of_some line_of) (sym n))
+none-beyond line_of most items old n = nothing old _ (ap (line_of_some line_of) (sym n))
 
 pub some-beyond : {A : Type 0} (line_of : A → ℕ) (most : ℕ) (items : List A) (item : A) (old a : BrokenLines) →
     Some item ≡ slice_get items most → a ≡ with_lines old (line_of item ∷ []) →
@@ -48,17 +47,15 @@ module _ {A : Type 0} (pick : Decl → Option A) (part : A → List ℕ) where
 
   lines-append : (xs ys : List Decl) → lines_of (xs ++ ys) ≡ lines_of xs ++ lines_of ys
   lines-append xs ys =
-      ap (λ zs. concat (map part zs)) (filter_map-append pick xs ys)
-      ∙ (ap concat (map-append part (filter_map pick xs) (filter_map pick ys)) ∙
-      concat-append (map part (filter_map pick xs)) (map part (filter_map pick ys)))
+      ap (λ zs. concat (map part zs)) (filter_map-append pick xs ys) ∙ (ap concat (map-append part _ _) ∙
+      concat-append (map part _) (map part _))
 
   kind-noted : (decls : List Decl) (i : ℕ) (decl : Decl) (old a b : BrokenLines) (all : List ℕ) → i < length decls →
       decl ≡ get_or decls i decl → with_lines a (lines_of (drop i decls)) ≡ with_lines old all →
       b ≡ with_lines a (lines_of (decl ∷ [])) → with_lines b (lines_of (drop (i + 1) decls)) ≡ with_lines old all
   kind-noted decls i decl old a b all lt is p q =
-      step old a b (lines_of (decl ∷ [])) (lines_of (drop (i + 1) decls)) all
-      (ap (with_lines a) (sym (ap lines_of (drop-step decls i decl lt is) ∙
-      lines-append (decl ∷ []) (drop (i + 1) decls))) ∙ p) q
+      step old a b _ _ all (ap (with_lines a) (sym (ap lines_of (drop-step decls i decl lt is) ∙
+      lines-append (decl ∷ []) (drop _ decls))) ∙ p) q
 
   kind-done : (decls : List Decl) (i : ℕ) (old a : BrokenLines) (all : List ℕ) → length decls ≤ i →
       with_lines a (lines_of (drop i decls)) ≡ with_lines old all → a ≡ with_lines old all
@@ -70,36 +67,36 @@ module _ (section : SectionTree) where
       with_lines a (lines_of global_in (global_lines section) (drop i decls)) ≡ with_lines old all →
       b ≡ with_lines a (lines_of global_in (global_lines section) (decl ∷ [])) →
       with_lines b (lines_of global_in (global_lines section) (drop (i + 1) decls)) ≡ with_lines old all
-  globals-noted = kind-noted global_in (global_lines section)
+  globals-noted = kind-noted _ _
 
   pub globals-done : (decls : List Decl) (i : ℕ) (old a : BrokenLines) (all : List ℕ) → length decls ≤ i →
       with_lines a (lines_of global_in (global_lines section) (drop i decls)) ≡ with_lines old all →
       a ≡ with_lines old all
-  globals-done = kind-done global_in (global_lines section)
+  globals-done = kind-done _ _
 
   pub heads-noted : (decls : List Decl) (i : ℕ) (decl : Decl) (old a b : BrokenLines) (all : List ℕ) →
       i < length decls → decl ≡ get_or decls i decl →
       with_lines a (lines_of head_in (head_lines section) (drop i decls)) ≡ with_lines old all →
       b ≡ with_lines a (lines_of head_in (head_lines section) (decl ∷ [])) →
       with_lines b (lines_of head_in (head_lines section) (drop (i + 1) decls)) ≡ with_lines old all
-  heads-noted = kind-noted head_in (head_lines section)
+  heads-noted = kind-noted head_in _
 
   pub heads-done : (decls : List Decl) (i : ℕ) (old a : BrokenLines) (all : List ℕ) → length decls ≤ i →
       with_lines a (lines_of head_in (head_lines section) (drop i decls)) ≡ with_lines old all →
       a ≡ with_lines old all
-  heads-done = kind-done head_in (head_lines section)
+  heads-done = kind-done head_in _
 
   pub functions-noted : (decls : List Decl) (i : ℕ) (decl : Decl) (old a b : BrokenLines) (all : List ℕ) →
       i < length decls → decl ≡ get_or decls i decl →
       with_lines a (lines_of function_in (function_lines section) (drop i decls)) ≡ with_lines old all →
       b ≡ with_lines a (lines_of function_in (function_lines section) (decl ∷ [])) →
       with_lines b (lines_of function_in (function_lines section) (drop (i + 1) decls)) ≡ with_lines old all
-  functions-noted = kind-noted function_in (function_lines section)
+  functions-noted = kind-noted _ _
 
   pub functions-done : (decls : List Decl) (i : ℕ) (old a : BrokenLines) (all : List ℕ) → length decls ≤ i →
       with_lines a (lines_of function_in (function_lines section) (drop i decls)) ≡ with_lines old all →
       a ≡ with_lines old all
-  functions-done = kind-done function_in (function_lines section)
+  functions-done = kind-done _ _
 
   pub global-absent : (decl : Decl) (old : BrokenLines) → ((tree : GlobalTree) → decl ≡ Global tree → ⊥) →
       old ≡ with_lines old (lines_of global_in (global_lines section) (decl ∷ []))
@@ -120,8 +117,7 @@ module _ (section : SectionTree) where
       b ≡ with_lines a (concat (map (local_lines section) tree.locals)) →
       b ≡ with_lines old (function_lines section tree)
   function-noted tree params holds old a b s h p q =
-      then old a b _ _ (p ∙ ap (λ v. with_lines old (unless v tree.head.line))
-      (h ∙ ap (list_all (param_small section)) s)) q
+      then old a b _ _ (p ∙ ap (λ v. with_lines old (unless v tree.head.line)) (h ∙ ap (list_all _) s)) q
 
   -- Structs, which have numbers.
 
@@ -144,8 +140,7 @@ module _ (section : SectionTree) where
       ap (λ rest. unless (is_small section (ty.Struct k)) x.line ++ rest) (structs-append (suc k) xs ys)
       ∙ (ap (λ n. unless (is_small section (ty.Struct k)) x.line ++
       (structs_from section (suc k) xs ++ structs_from section n ys)) (next-number k (length xs))
-      ∙ sym (append_assoc (unless (is_small section (ty.Struct k)) x.line) (structs_from section (suc k) xs)
-      (structs_from section (k + suc (length xs)) ys)))
+      ∙ sym (append_assoc (unless _ x.line) (structs_from section _ xs) (structs_from section _ ys)))
 
   pub structs-noted : (decls : List Decl) (i : ℕ) (decl : Decl) (number next : ℕ) (old a b : BrokenLines)
       (all : List ℕ) → i < length decls → decl ≡ get_or decls i decl →
@@ -154,13 +149,10 @@ module _ (section : SectionTree) where
       b ≡ with_lines a (structs_from section number (structs_in (decl ∷ []))) →
       with_lines b (structs_from section next (structs_in (drop (i + 1) decls))) ≡ with_lines old all
   structs-noted decls i decl number next old a b all lt is p n q =
-      ap (λ k. with_lines b (structs_from section k (structs_in (drop (i + 1) decls)))) n
-      ∙ step old a b (structs_from section number (structs_in (decl ∷ []))) _ all
-      (ap (with_lines a)
-      (sym (ap (λ ds. structs_from section number (structs_in ds)) (drop-step decls i decl lt is)
-      ∙ (ap (structs_from section number) (filter_map-append struct_in (decl ∷ []) (drop (i + 1) decls)) ∙
-      structs-append number (structs_in (decl ∷ [])) (structs_in (drop (i + 1) decls))))) ∙ p)
-      q
+      ap (λ k. with_lines b (structs_from section k (structs_in (drop (i + 1) decls)))) n ∙ step old a b _ _ all
+      (ap (with_lines a) (sym (ap (λ ds. structs_from section number (structs_in ds)) (drop-step decls i decl lt is)
+      ∙ (ap (structs_from section number) (filter_map-append struct_in (decl ∷ []) (drop _ decls)) ∙
+      structs-append number (structs_in (decl ∷ [])) (structs_in (drop (i + 1) decls))))) ∙ p) q
 
   pub structs-done : (decls : List Decl) (i number : ℕ) (old a : BrokenLines) (all : List ℕ) → length decls ≤ i →
       with_lines a (structs_from section number (structs_in (drop i decls))) ≡ with_lines old all →

@@ -48,21 +48,19 @@ beyond sections = line_beyond {A = SectionTree} (λ section. line_of_text sectio
 pub none-refused : (sections : List SectionTree) → None ≡ slice_get sections most_compartments →
     None ≡ refused_at (beyond sections)
 none-refused sections n =
-    sym (noted-none None) ∙ ap (λ s. noted_all None (line_of_some {A = SectionTree}
-    (λ section. line_of_text section.line 1) s)) n
+    sym (noted-none None) ∙ ap (λ s. noted_all None (line_of_some (λ section. line_of_text section.line 1) s)) n
 
 pub some-refused : (sections : List SectionTree) (section : SectionTree) (line : ℕ) →
     Some section ≡ slice_get sections most_compartments → line ≡ line_of_text section.line 1 →
     Some line ≡ refused_at (beyond sections)
 some-refused sections section line n l =
-    ap Some l ∙ (sym (noted-first (line_of_text section.line 1)) ∙
-    ap (λ s. noted_all None (line_of_some {A = SectionTree} (λ section. line_of_text section.line 1) s)) n)
+    ap Some l ∙ (sym (noted-first _) ∙
+    ap (λ s. noted_all None (line_of_some (λ section. line_of_text section.line 1) s)) n)
 
 pub counts-begun : (sections : List SectionTree) (least : Option ℕ) → least ≡ refused_at (beyond sections) →
     noted_all least (lines_from sections 0 sections) ≡ refused_at (counts_broken sections)
 counts-begun sections least h =
-    ap (λ l. noted_all l (lines_from sections 0 sections)) h ∙
-    sym (noted_all-append None (beyond sections) (lines_from sections 0 sections))
+    ap (λ l. noted_all l (lines_from sections 0 sections)) h ∙ sym (noted_all-append None _ _)
 
 pub count-noted : (sections : List SectionTree) (i : ℕ) (section : SectionTree) (least : Option ℕ) (lines : BrokenLines)
     (all : Option ℕ) → i < length sections → section ≡ get_or sections i section →
@@ -71,15 +69,11 @@ pub count-noted : (sections : List SectionTree) (i : ℕ) (section : SectionTree
     (section_lines section (callees_of sections i section)) →
     noted_all lines.least (lines_from sections (i + 1) (drop (i + 1) sections)) ≡ all
 count-noted sections i section least lines all lt is p q =
-    rw add-one
-    (ap (λ l. noted_all l.least (lines_from sections (suc i) (drop (suc i) sections))) q
-    ∙ (sym (noted_all-append least (map (line_of_text section.line)
-    (section_lines section (callees_of sections i section))) (lines_from sections (suc i) (drop (suc i) sections)))
-    ∙ (ap (λ rest. noted_all least (lines_from sections i rest))
-    (sym (drop-cons sections i section lt ∙ ap (λ s. s ∷ drop (suc i) sections) (sym is))) ∙ p)))
+    rw add-one (ap (λ l. noted_all l.least (lines_from sections (suc i) (drop (suc i) sections))) q
+    ∙ (sym (noted_all-append least _ _) ∙ (ap (λ rest. noted_all least (lines_from sections i rest))
+    (sym (drop-cons _ i section lt ∙ ap (λ s. s ∷ drop (suc i) sections) (sym is))) ∙ p)))
 
 pub counts-noted : (sections : List SectionTree) (i : ℕ) (least : Option ℕ) (all : Option ℕ) → length sections ≤ i →
     noted_all least (lines_from sections i (drop i sections)) ≡ all → least ≡ all
 counts-noted sections i least all le p =
-    sym (noted-none least) ∙ (ap (λ rest. noted_all least (lines_from sections i rest)) (sym (drop_all i sections le)) ∙
-    p)
+    sym (noted-none least) ∙ (ap (λ rest. noted_all least (lines_from sections i rest)) (sym (drop_all i _ le)) ∙ p)

@@ -1,13 +1,12 @@
 -- What the phases give to one another.
-use Rattle.sc_types.proofs.Common.{All, AreLow, Decl, Err, ExportLine, FailsRules, HasFewExports, HasFewParams}
-use Rattle.sc_types.proofs.Common.{ImportLine, IsWellTyped, IsWithinCounts, List, None, Ok, OnOk, Option, Phase}
-use Rattle.sc_types.proofs.Common.{ProgramTree, Result, SectionTree, Some, [], ap, arith, callees_of, concat}
+use Rattle.sc_types.proofs.Common.{All, AreLow, Decl, Err, HasFewExports, HasFewParams}
+use Rattle.sc_types.proofs.Common.{IsWellTyped, IsWithinCounts, List, None, Ok, OnOk, Option}
+use Rattle.sc_types.proofs.Common.{ProgramTree, Result, SectionTree, [], ap, arith, callees_of, concat}
 use Rattle.sc_types.proofs.Common.{counts_broken, functions_in, globals_in, head_of, heads_in, interface_broken, length}
-use Rattle.sc_types.proofs.Common.{length-map, line_of_text, map, most_compartments, most_exports, most_nodes}
+use Rattle.sc_types.proofs.Common.{length-map, line_of_text, map, most_exports, most_nodes}
 use Rattle.sc_types.proofs.Common.{most_params, names_broken, nat_le, param_of, program_of, refused_at, structs_in}
-use Rattle.sc_types.proofs.Common.{subst, suc, sym, types_broken, unless, zero, ℕ, ◌&&◌, ◌++◌, ◌∙◌, ◌∷◌, ◌≡◌}
+use Rattle.sc_types.proofs.Common.{subst, suc, sym, types_broken, unless, zero, ℕ, ◌&&◌, ◌∙◌, ◌∷◌, ◌≡◌}
 use Rattle.sc_lex.specs.declared.refusal.Phase.TheVariants as phase
-use Rattle.sc_lex.specs.declared.refusal.Refusal.{Refusal}
 use Rattle.sc_ast.specs.declared.section.Decl.TheVariants as decl
 use Rattle.sc_types.specs.Counts as counts
 use Rattle.sc_types.proofs.Basics.{Each, rule_holds, front_empty, back_empty, map_empty}
@@ -45,8 +44,7 @@ few_params : (section : SectionTree) (decls : List Decl) →
 few_params section [] h = tt
 few_params section (decl.Struct tree ∷ decls) h = few_params section decls h
 few_params section (decl.Global tree ∷ decls) h = few_params section decls h
-few_params section (decl.Proto head ∷ decls) h = few_params section decls
-    (back_empty (counts.head_lines section head) _ h)
+few_params section (decl.Proto head ∷ decls) h = few_params section decls (back_empty _ _ h)
 few_params section (decl.Function tree ∷ decls) h = (
   is_at_most (length tree.head.params) most_params
       (ap (λ n. nat_le n most_params) (sym (length-map tree.head.params param_of)) ∙
@@ -60,46 +58,34 @@ Params section = All HasFewParams (functions_in section.decls)
 section_counts : (sections : List SectionTree) (k : ℕ) (section : SectionTree) →
     counts.section_lines section (callees_of sections k section) ≡ [] → HasFewExports section × Params section
 section_counts sections k section h =
-    let behind : counts.line_beyond {A = ExportLine} (λ line. line.line) most_exports section.exports ++
-    (counts.line_beyond {A = ImportLine} (λ line. line.line) most_exports section.imports ++
-    (counts.structs_from section 0 (structs_in section.decls) ++
-    (concat (map (counts.global_lines section) (globals_in section.decls)) ++
-    (concat (map (counts.head_lines section) (heads_in section.decls)) ++
-    concat (map (counts.function_lines section) (functions_in section.decls)))))) ≡ [] =
-    back_empty (unless (nat_le (counts.section_nodes section (callees_of sections k section)) most_nodes &&
+    let behind =
+    back_empty (unless (nat_le (counts.section_nodes section (callees_of _ k section)) most_nodes &&
     nat_le (length section.decls) most_nodes) 1) _ h in
-    let heads : concat (map (counts.head_lines section) (heads_in section.decls)) ++
-    concat (map (counts.function_lines section) (functions_in section.decls)) ≡ [] =
+    let heads =
     back_empty (concat (map (counts.global_lines section) (globals_in section.decls))) _
     (back_empty (counts.structs_from section 0 (structs_in section.decls)) _
-    (back_empty (counts.line_beyond {A = ImportLine} (λ line. line.line) most_exports section.imports) _
-    (back_empty (counts.line_beyond {A = ExportLine}
-    (λ line. line.line) most_exports section.exports) _ behind))) in (
-      is_at_most (length section.exports) most_exports
-          (none_beyond {A = ExportLine} (λ line. line.line) most_exports section.exports (front_empty _ _ behind)),
-      all_of HasFewParams (functions_in section.decls) (few_params section section.decls (front_empty _ _ heads)),
+    (back_empty (counts.line_beyond (λ line. line.line) most_exports section.imports) _ (back_empty (counts.line_beyond
+    (λ line. _) most_exports section.exports) _ behind))) in (
+      is_at_most _ _ (none_beyond (λ line. line.line) _ _ (front_empty _ _ behind)),
+      all_of HasFewParams _ (few_params section section.decls (front_empty _ _ heads)),
     )
 
 all_counts : (sections : List SectionTree) (k : ℕ) (rest : List SectionTree) → counts.lines_from sections k rest ≡ [] →
     Each HasFewExports rest × Each Params rest
 all_counts sections k [] h = (tt, tt)
 all_counts sections k (section ∷ rest) h =
-    let here : HasFewExports section × Params section =
+    let here =
     section_counts sections k section (map_empty _ _ (front_empty _ _ h)) in
-    let later : Each HasFewExports rest × Each Params rest =
-    all_counts sections (suc k) rest (back_empty (map (line_of_text section.line)
-    (counts.section_lines section (callees_of sections k section))) _ h) in
+    let later =
+    all_counts sections (suc k) rest (back_empty _ _ h) in
     ((here.0, later.0), (here.1, later.1))
 
 pub within_counts : (sections : List SectionTree) → counts_broken sections ≡ [] → IsWithinCounts sections
 within_counts sections h =
-    let c : Each HasFewExports sections × Each Params sections =
-    all_counts sections 0 sections (back_empty (counts.line_beyond {A = SectionTree}
-    (λ section. line_of_text section.line 1) most_compartments sections) _ h) in
+    let c =
+    all_counts sections 0 _ (back_empty _ _ h) in
     record {
-      sections = is_at_most (length sections) most_compartments
-          (none_beyond {A = SectionTree} (λ section. line_of_text section.line 1) most_compartments sections
-          (front_empty _ _ h));
-      exports = all_of HasFewExports sections c.0;
-      params = all_of Params sections c.1;
+      sections = is_at_most _ _ (none_beyond (λ section. line_of_text _ 1) _ _ (front_empty _ _ h));
+      exports = all_of HasFewExports _ c.0;
+      params = all_of Params _ c.1;
     }

@@ -51,12 +51,11 @@ module _ {A : Type 0} (p : A → Bool) where
         passes = q;
       }
   found_at x xs false q f h =
-      let rest : Found p xs = f h in
+      let rest = f h in
       record {
         at = suc rest.at;
         item = rest.item;
-        is = ap (λ c. if c then Some 0 else option_map suc (find p xs)) q ∙
-            ap (option_map suc) rest.is;
+        is = ap (λ c. if c then Some 0 else option_map suc (find p xs)) q ∙ ap (option_map suc) rest.is;
         within = omega (arith, rest.within);
         got = rest.got;
         passes = rest.passes;
@@ -86,34 +85,30 @@ module _ {A : Type 0} (p : A → Bool) where
   pub find_next : (xs : List A) (y : A) (ys : List A) → list_any p xs ≡ false → p y ≡ true →
       find p (xs ++ y ∷ ys) ≡ Some (length xs)
   find_next [] y ys h k = ap (λ c. if c then Some 0 else option_map suc (find p ys)) k
-  find_next (x ∷ xs) y ys h k =
-      next_at x (find p (xs ++ y ∷ ys)) (length xs) (p x) (or_parts (p x) (list_any p xs) h).0
-      (find_next xs y ys (or_parts (p x) (list_any p xs) h).1 k)
+  find_next (x ∷ xs) y ys h k = next_at x _ _ (p x) (or_parts (p x) _ h).0 (find_next xs y ys (or_parts (p x) _ h).1 k)
 
 -- the number of a name is where it is found
 pub number_is : (names : List Text) (name : Text) → number_of names name ≡ find (bytes_eq name) names
-number_is names name = position_is (bytes_eq name) names
+number_is names name = position_is _ names
 
 pub placed : (names : List Text) (name : Text) → is_numbered names name ≡ true → Placed names name
 placed names name h =
-    let f : Found (bytes_eq name) names = any_found (bytes_eq name) names h in
+    let f = any_found _ names h in
     record { at = f.at; is = number_is names name ∙ f.is; within = f.within }
 
 -- the number of a name that is there
 pub number_within : (names : List Text) (name : Text) → is_numbered names name ≡ true →
     number_or_zero (number_of names name) < length names
 number_within names name h =
-    let p : Placed names name = placed names name h in subst (λ o. number_or_zero o < length names) (sym p.is) p.within
+    let p = placed names name h in subst (λ o. number_or_zero o < length names) (sym p.is) p.within
 
 pub number_front : (names more : List Text) (name : Text) → is_numbered names name ≡ true →
     number_of (names ++ more) name ≡ number_of names name
-number_front names more name h =
-    number_is (names ++ more) name ∙ find_front (bytes_eq name) names more h ∙ sym (number_is names name)
+number_front names more name h = number_is _ name ∙ find_front _ names more h ∙ sym (number_is names name)
 
 pub number_next : (names : List Text) (name : Text) (more : List Text) → is_numbered names name ≡ false →
     number_of (names ++ name ∷ more) name ≡ Some (length names)
-number_next names name more h = number_is (names ++ name ∷ more) name ∙
-    find_next (bytes_eq name) names name more h (same_refl name)
+number_next names name more h = number_is _ name ∙ find_next _ names name more h (same_refl name)
 
 list_any-append : {A : Type 0} (p : A → Bool) (xs ys : List A) → list_any p xs ≡ true → list_any p (xs ++ ys) ≡ true
 list_any-append p [] ys h = absurd (false≢true h)
@@ -125,4 +120,4 @@ list_any-append p (x ∷ xs) ys h = either_way (p x) h (list_any-append p xs ys)
 
 pub numbered_front : (names more : List Text) (name : Text) → is_numbered names name ≡ true →
     is_numbered (names ++ more) name ≡ true
-numbered_front names more name h = list_any-append (bytes_eq name) names more h
+numbered_front names more name h = list_any-append _ names more h

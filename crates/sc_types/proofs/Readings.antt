@@ -14,12 +14,11 @@ low_from text [] [] h = refl
 low_from text [] (tree ∷ trees) h = absurd h
 low_from text (part ∷ parts) [] h = absurd h
 low_from text (part ∷ parts) (tree ∷ trees) h =
-    and_from (nat_le (section_height tree) 256) _ (at_most (section_height tree) 256 h.0.parsed.low)
-    (low_from text parts trees h.1)
+    and_from (nat_le _ 256) _ (at_most _ 256 h.0.parsed.low) (low_from text parts trees h.1)
 
 -- no tree of a text is high
 pub reads_low : (text : List ℕ) (trees : List SectionTree) → Reads text trees → AreLow trees
-reads_low text trees r = low_from text r.sections trees r.each
+reads_low text trees r = low_from text _ trees r.each
 
 -- a text that isn't read fails
 pub unread_fails : (text : List ℕ) (in_phase : Phase) (line : ℕ) → reading.Fails text in_phase line →
@@ -52,7 +51,7 @@ abbrev Decided : List ℕ → Type 0
 Decided lines = (lines ≡ []) ⊎ ((line : ℕ) × (refused_at lines ≡ Some line))
 
 decide : (lines : List ℕ) → Decided lines
-decide lines = go (refused_at lines) refl
+decide lines = go _ refl
   where
     go : (found : Option ℕ) → refused_at lines ≡ found → Decided lines
     go None h = inl (no_line lines h)

@@ -1,8 +1,8 @@
 -- Sections that break a rule are refused, and are those of no program.
 use Rattle.sc_types.proofs.Common.{Accepts, Fails, FailsRules, FailsTyped, IsTyped, List, None, Phase, ProgramTree}
-use Rattle.sc_types.proofs.Common.{Reads, SectionTree, Some, [], ap, counts_broken, earlier, interface_broken}
-use Rattle.sc_types.proofs.Common.{names_broken, noted_all, program_of, refl, refused_at, same_Some, subst, sym}
-use Rattle.sc_types.proofs.Common.{types_broken, ℕ, ◌∙◌, ◌∷◌, ◌≡◌}
+use Rattle.sc_types.proofs.Common.{Reads, SectionTree, Some, [], ap, earlier}
+use Rattle.sc_types.proofs.Common.{noted_all, program_of, refl, refused_at, same_Some, subst, sym}
+use Rattle.sc_types.proofs.Common.{ℕ, ◌∙◌, ◌∷◌, ◌≡◌}
 use Rattle.sc_lex.specs.declared.refusal.Phase.TheVariants as phase
 use Rattle.sc_read.specs.Reading as reading
 use Rattle.sc_types.proofs.Basics.{none_some}
@@ -28,10 +28,10 @@ pub typed_passes : (sections : List SectionTree) (program : ProgramTree) (in_pha
     IsTyped sections program → FailsRules sections in_phase line → ⊥
 typed_passes sections program phase.Lex line t f = f
 typed_passes sections program phase.Syntax line t f = f
-typed_passes sections program phase.Names line t f = none_refused (names_broken sections) line t.names f
-typed_passes sections program phase.Types line t f = none_refused (types_broken sections) line t.types f.1
-typed_passes sections program phase.Interface line t f = none_refused (interface_broken sections) line t.interfaces f.2
-typed_passes sections program phase.Count line t f = none_refused (counts_broken sections) line t.counts f.3
+typed_passes sections program phase.Names line t f = none_refused _ line t.names f
+typed_passes sections program phase.Types line t f = none_refused _ line t.types f.1
+typed_passes sections program phase.Interface line t f = none_refused _ line t.interfaces f.2
+typed_passes sections program phase.Count line t f = none_refused _ line t.counts f.3
 
 -- an earlier phase passes where a later one fails
 pub one_refusal : (sections : List SectionTree) (p q : Phase) (line other : ℕ) → FailsRules sections p line →
@@ -41,26 +41,26 @@ one_refusal sections phase.Syntax q line other f g = absurd f
 one_refusal sections phase.Names phase.Lex line other f g = absurd g
 one_refusal sections phase.Names phase.Syntax line other f g = absurd g
 one_refusal sections phase.Names phase.Names line other f g = (refl, same_Some line other (sym f ∙ g))
-one_refusal sections phase.Names phase.Types line other f g = none_refused (names_broken sections) line g.0 f
-one_refusal sections phase.Names phase.Interface line other f g = none_refused (names_broken sections) line g.0 f
-one_refusal sections phase.Names phase.Count line other f g = none_refused (names_broken sections) line g.0 f
+one_refusal sections phase.Names phase.Types line other f g = none_refused _ line g.0 f
+one_refusal sections phase.Names phase.Interface line other f g = none_refused _ line g.0 f
+one_refusal sections phase.Names phase.Count line other f g = none_refused _ line g.0 f
 one_refusal sections phase.Types phase.Lex line other f g = absurd g
 one_refusal sections phase.Types phase.Syntax line other f g = absurd g
-one_refusal sections phase.Types phase.Names line other f g = none_refused (names_broken sections) other f.0 g
+one_refusal sections phase.Types phase.Names line other f g = none_refused _ other f.0 g
 one_refusal sections phase.Types phase.Types line other f g = (refl, same_Some line other (sym f.1 ∙ g.1))
-one_refusal sections phase.Types phase.Interface line other f g = none_refused (types_broken sections) line g.1 f.1
-one_refusal sections phase.Types phase.Count line other f g = none_refused (types_broken sections) line g.1 f.1
+one_refusal sections phase.Types phase.Interface line other f g = none_refused _ line g.1 f.1
+one_refusal sections phase.Types phase.Count line other f g = none_refused _ line g.1 f.1
 one_refusal sections phase.Interface phase.Lex line other f g = absurd g
 one_refusal sections phase.Interface phase.Syntax line other f g = absurd g
-one_refusal sections phase.Interface phase.Names line other f g = none_refused (names_broken sections) other f.0 g
-one_refusal sections phase.Interface phase.Types line other f g = none_refused (types_broken sections) other f.1 g.1
+one_refusal sections phase.Interface phase.Names line other f g = none_refused _ other f.0 g
+one_refusal sections phase.Interface phase.Types line other f g = none_refused _ other f.1 g.1
 one_refusal sections phase.Interface phase.Interface line other f g = (refl, same_Some line other (sym f.2 ∙ g.2))
-one_refusal sections phase.Interface phase.Count line other f g = none_refused (interface_broken sections) line g.2 f.2
+one_refusal sections phase.Interface phase.Count line other f g = none_refused _ line g.2 f.2
 one_refusal sections phase.Count phase.Lex line other f g = absurd g
 one_refusal sections phase.Count phase.Syntax line other f g = absurd g
-one_refusal sections phase.Count phase.Names line other f g = none_refused (names_broken sections) other f.0 g
-one_refusal sections phase.Count phase.Types line other f g = none_refused (types_broken sections) other f.1 g.1
-one_refusal sections phase.Count phase.Interface line other f g = none_refused (interface_broken sections) other f.2 g.2
+one_refusal sections phase.Count phase.Names line other f g = none_refused _ other f.0 g
+one_refusal sections phase.Count phase.Types line other f g = none_refused _ other f.1 g.1
+one_refusal sections phase.Count phase.Interface line other f g = none_refused _ other f.2 g.2
 one_refusal sections phase.Count phase.Count line other f g = (refl, same_Some line other (sym f.3 ∙ g.3))
 
 -- Texts, where reading is unique.
@@ -70,22 +70,21 @@ module _ (one_reading : (text : List ℕ) (trees others : List SectionTree) → 
   pub one_program_of : (text : List ℕ) (program other : ProgramTree) → Accepts text program → Accepts text other →
       program ≡ other
   one_program_of text program other a b =
-      a.typed.is ∙ ap program_of (one_reading text a.sections b.sections a.reads b.reads) ∙ sym b.typed.is
+      a.typed.is ∙ ap program_of (one_reading text _ _ a.reads b.reads) ∙ sym b.typed.is
 
   pub accepted_of : (text : List ℕ) (program : ProgramTree) (in_phase : Phase) (line : ℕ) → Accepts text program →
       FailsTyped text in_phase line → ⊥
   accepted_of text program in_phase line a f =
-      typed_passes a.sections program in_phase line a.typed
-      (subst (λ s. FailsRules s in_phase line) (one_reading text f.sections a.sections f.reads a.reads) f.fails)
+      typed_passes _ program in_phase line a.typed
+      (subst (λ s. FailsRules s _ line) (one_reading text _ _ f.reads a.reads) f.fails)
 
   module _ (read_or_refused : (text : List ℕ) (trees : List SectionTree) (in_phase : Phase) (line : ℕ) →
       Reads text trees → reading.Fails text in_phase line → ⊥) where
     pub accepted_or_refused_of : (text : List ℕ) (program : ProgramTree) (in_phase : Phase) (line : ℕ) →
         Accepts text program → Fails text in_phase line → ⊥
-    accepted_or_refused_of text program phase.Lex line a f = read_or_refused text a.sections phase.Lex line a.reads f
-    accepted_or_refused_of text program phase.Syntax line a f =
-        read_or_refused text a.sections phase.Syntax line a.reads f
-    accepted_or_refused_of text program phase.Names line a f = accepted_of text program phase.Names line a f
-    accepted_or_refused_of text program phase.Types line a f = accepted_of text program phase.Types line a f
-    accepted_or_refused_of text program phase.Interface line a f = accepted_of text program phase.Interface line a f
-    accepted_or_refused_of text program phase.Count line a f = accepted_of text program phase.Count line a f
+    accepted_or_refused_of text program phase.Lex line a f = read_or_refused text _ phase.Lex line a.reads f
+    accepted_or_refused_of text program phase.Syntax line a f = read_or_refused text _ phase.Syntax line a.reads f
+    accepted_or_refused_of text program phase.Names line a f = accepted_of text program _ line a f
+    accepted_or_refused_of text program phase.Types line a f = accepted_of text program _ line a f
+    accepted_or_refused_of text program phase.Interface line a f = accepted_of text program _ line a f
+    accepted_or_refused_of text program phase.Count line a f = accepted_of text program _ line a f

@@ -5,15 +5,15 @@ use Rattle.sc_types.proofs.Common.{Proto, SectionTree, Signature, Some, Struct, 
 use Rattle.sc_types.proofs.Common.{TypedSection, [], agree, and_first, and_from, and_rest, any_passes_from_place, ap}
 use Rattle.sc_types.proofs.Common.{append-nil, append_assoc, are_distinct, arith, bytes_eq, callees_of, export_at}
 use Rattle.sc_types.proofs.Common.{export_fits, export_name, export_names, false, false≢true, filter_map-append}
-use Rattle.sc_types.proofs.Common.{function_named, function_names, functions_in, get_behind, globals_in, head_crosses}
-use Rattle.sc_types.proofs.Common.{head_fits, head_of, heads_in, if◌then◌else◌, import_fits, import_name, import_names}
-use Rattle.sc_types.proofs.Common.{import_of, input_name, interface_fits, interface_of, interfaces_of, is_environment}
-use Rattle.sc_types.proofs.Common.{is_numbered, is_offered, is_plain_name, is_some, length, length-map, list_all}
+use Rattle.sc_types.proofs.Common.{function_named, function_names, functions_in, get_behind, head_crosses}
+use Rattle.sc_types.proofs.Common.{head_fits, head_of, if◌then◌else◌, import_fits, import_name, import_names}
+use Rattle.sc_types.proofs.Common.{import_of, input_name, interface_fits, interface_of, interfaces_of}
+use Rattle.sc_types.proofs.Common.{is_numbered, is_plain_name, is_some, length, length-map, list_all}
 use Rattle.sc_types.proofs.Common.{list_any, main_name, map, map-append, map_twice, most_exports, most_nodes, nat_le}
 use Rattle.sc_types.proofs.Common.{not, not-true, number_or_zero, offered, offering, option_map, or_left, output_name}
 use Rattle.sc_types.proofs.Common.{promised, proto_of, proto_signature, refl, same_base, same_results, same_signature}
-use Rattle.sc_types.proofs.Common.{same_text, same_ty, same_type, same_types, signature_by, signature_of, slice_get}
-use Rattle.sc_types.proofs.Common.{structs, structs_in, subst, suc, sym, tags, true, typed_function, typed_section}
+use Rattle.sc_types.proofs.Common.{same_text, same_ty, same_type, same_types, signature_of, slice_get}
+use Rattle.sc_types.proofs.Common.{subst, suc, sym, true, typed_function, typed_section}
 use Rattle.sc_types.proofs.Common.{unless, zero, ℕ, ◌&&◌, ◌++◌, ◌==◌, ◌||◌, ◌∙◌, ◌∷◌, ◌≡◌, ◌≤◌}
 use Rattle.sc_event.specs.declared.interface.Import.TheVariants as import
 use Rattle.sc_event.specs.declared.interface.Proto as event
@@ -28,7 +28,7 @@ use Rattle.sc_types.proofs.Basics.{rule_holds, front_empty, back_empty, Each, no
 use Rattle.sc_types.proofs.Places.{Text, same_refl, eq_refl, at_most}
 use Rattle.sc_types.proofs.Lookups.{each_at, each_function, FoundFunction, find_function}
 use Rattle.sc_types.proofs.Facts.{Fresh, fresh_distinct, ExportFacts, ImportFacts, DeclFacts, FaceFacts}
-use Rattle.sc_types.proofs.Calls.{agreed_signature, FoundBy, found_by, get_map, own_signature, Offering, find_offering}
+use Rattle.sc_types.proofs.Calls.{agreed_signature, found_by, get_map, own_signature, Offering, find_offering}
 use Rattle.sc_types.proofs.Calls.{export_is}
 
 -- Signatures are the same as themselves.
@@ -85,12 +85,12 @@ within (x ∷ xs) (suc n) h = omega (arith, within xs n h)
 
 by_item : {A : Type 0} (line_of : A → ℕ) (most : ℕ) (items : List A) (o : Option A) → slice_get items most ≡ o →
     counts.line_of_some line_of o ≡ [] → nat_le (length items) most ≡ true
-by_item line_of most items None q h = at_most (length items) most (within items most q)
-by_item line_of most items (Some x) q h = some_item (line_of x) [] h
+by_item line_of most items None q h = at_most _ most (within items most q)
+by_item line_of most items (Some x) q h = some_item _ [] h
 
 pub none_beyond : {A : Type 0} (line_of : A → ℕ) (most : ℕ) (items : List A) →
     counts.line_beyond line_of most items ≡ [] → nat_le (length items) most ≡ true
-none_beyond line_of most items h = by_item line_of most items (slice_get items most) refl h
+none_beyond line_of most items h = by_item line_of most items _ refl h
 
 -- Names that a list doesn't have are distinct from its own.
 
@@ -102,8 +102,8 @@ pub not_in_append : (name : Text) (xs ys : List Text) → is_numbered xs name �
     is_numbered (xs ++ ys) name ≡ false
 not_in_append name [] ys h k = k
 not_in_append name (x ∷ xs) ys h k =
-    let parts : (bytes_eq name x ≡ false) × (is_numbered xs name ≡ false) =
-    none_there (bytes_eq name x) (is_numbered xs name) h in
+    let parts =
+    none_there _ _ h in
     ap (λ b. b || is_numbered (xs ++ ys) name) parts.0 ∙ not_in_append name xs ys parts.1 k
 
 pub both_distinct : (xs ys : List Text) → decls.are_distinct xs ≡ true → Each (λ x. is_numbered ys x ≡ false) xs →
@@ -111,43 +111,36 @@ pub both_distinct : (xs ys : List Text) → decls.are_distinct xs ≡ true → E
 both_distinct [] ys h none k = k
 both_distinct (x ∷ xs) ys h none k =
     and_from _ _ (ap not (not_in_append x xs ys (not-true _ (and_first _ _ h)) none.0))
-    (both_distinct xs ys (and_rest (not (is_numbered xs x)) _ h) none.1 k)
+    (both_distinct xs ys (and_rest _ _ h) none.1 k)
 
 -- Functions are distinct.
 
 names_append : (before more : List Decl) → function_names (before ++ more) ≡ function_names before ++
     function_names more
-names_append before more =
-    ap (map {A = FunctionTree} (λ tree. tree.head.name)) (filter_map-append decls.function_in before more) ∙
-    map-append {A = FunctionTree} (λ tree. tree.head.name) (functions_in before) (functions_in more)
+names_append before more = ap (map _) (filter_map-append _ before more) ∙ map-append _ _ _
 
 names_same : (before : List Decl) (decl : Decl) → function_names (decl ∷ []) ≡ [] →
     function_names (before ++ decl ∷ []) ≡ function_names before
-names_same before decl h =
-    names_append before (decl ∷ []) ∙ ap (λ more. function_names before ++ more) h ∙ append-nil (function_names before)
+names_same before decl h = names_append before _ ∙ ap (λ more. function_names before ++ more) h ∙ append-nil _
 
 pub functions_fresh : (section : SectionTree) (before rest : List Decl) → names.lines_from section before rest ≡ [] →
     Fresh (function_names before) (function_names rest)
 functions_fresh section before [] h = tt
 functions_fresh section before (Struct tree ∷ rest) h =
     subst (λ all. Fresh all (function_names rest)) (names_same before (Struct tree) refl)
-    (functions_fresh section (before ++ Struct tree ∷ []) rest
-    (back_empty (names.decl_lines (names.declared section before) (Struct tree)) _ h))
+    (functions_fresh section (before ++ Struct tree ∷ []) rest (back_empty _ _ h))
 functions_fresh section before (Global tree ∷ rest) h =
     subst (λ all. Fresh all (function_names rest)) (names_same before (Global tree) refl)
-    (functions_fresh section (before ++ Global tree ∷ []) rest
-    (back_empty (names.decl_lines (names.declared section before) (Global tree)) _ h))
+    (functions_fresh section (before ++ Global tree ∷ []) rest (back_empty _ _ h))
 functions_fresh section before (Proto head ∷ rest) h =
     subst (λ all. Fresh all (function_names rest)) (names_same before (Proto head) refl)
-    (functions_fresh section (before ++ Proto head ∷ []) rest
-    (back_empty (names.decl_lines (names.declared section before) (Proto head)) _ h))
+    (functions_fresh section (before ++ Proto head ∷ []) rest (back_empty _ _ h))
 functions_fresh section before (Function tree ∷ rest) h =
-    let known : names.head_of_known (names.declared section before) tree ≡ true =
+    let known =
     rule_holds _ tree.head.line (front_empty _ _ (front_empty _ _ h)) in (
-      not-true _ (and_first _ _ (and_rest (not (is_numbered (decls.global_names before) tree.head.name)) _ known)),
+      not-true _ (and_first _ _ (and_rest _ _ known)),
       subst (λ all. Fresh all (function_names rest)) (names_append before (Function tree ∷ []))
-          (functions_fresh section (before ++ Function tree ∷ []) rest
-          (back_empty (names.decl_lines (names.declared section before) (Function tree)) _ h)),
+          (functions_fresh section (before ++ Function tree ∷ []) rest (back_empty _ _ h)),
     )
 
 -- the name of what is promised under a name
@@ -175,30 +168,28 @@ module _ (sections : List SectionTree) (hold : (j : ℕ) (s : SectionTree) → s
   other_name : (line : ImportLine) → Offering number line sections →
       import_name (interfaces_of sections) (offered line (offering number line 0 sections)) ≡ line.name
   other_name line o =
-      let export : FoundBy {A = ExportLine} (λ line. line.name) line.name o.section.exports =
-      found_by {A = ExportLine} (λ line. line.name) line.name o.section.exports
+      let export =
+      found_by (λ line. line.name) line.name o.section.exports
       (and_rest (not (o.number == number)) _ (and_rest (bytes_eq o.section.name line.comp) _ o.offers)) in
       ap (λ found. import_name (interfaces_of sections) (offered line found)) o.is
       ∙ ap (λ index. export_name (export_at (interfaces_of sections) o.number (number_or_zero index))) export.place
-      ∙ ap export_name (export_is sections o.number o.section export.at export.item o.got export.got)
-      ∙ promised_name export.item.name (function_named export.item.name (functions_in o.section.decls))
-      ∙ sym (same_text line.name export.item.name export.named)
+      ∙ ap export_name (export_is sections o.number _ export.at export.item o.got export.got)
+      ∙ promised_name _ (function_named export.item.name (functions_in o.section.decls))
+      ∙ sym (same_text _ _ export.named)
 
   name_by : (line : ImportLine) (env input output : Bool) → bytes_eq line.name input_name ≡ input →
       bytes_eq line.name output_name ≡ output → (if env then input || output else
       is_some (offering number line 0 sections)) ≡ true →
       import_name (interfaces_of sections) (if env then (if input then import.Input else import.Output) else
       offered line (offering number line 0 sections)) ≡ line.name
-  name_by line true true output i o h = sym (same_text line.name input_name i)
-  name_by line true false true i o h = sym (same_text line.name output_name o)
+  name_by line true true output i o h = sym (same_text _ _ i)
+  name_by line true false true i o h = sym (same_text _ _ o)
   name_by line true false false i o h = absurd (false≢true h)
-  name_by line false input output i o h = other_name line (find_offering number line sections h)
+  name_by line false input output i o h = other_name line (find_offering number line _ h)
 
   import_named_is : (line : ImportLine) → ImportFacts sections number section line →
       import_name (interfaces_of sections) (import_of sections number line) ≡ line.name
-  import_named_is line f =
-      name_by line (is_environment line) (bytes_eq line.name input_name)
-      (bytes_eq line.name output_name) refl refl f.offered
+  import_named_is line f = name_by line _ _ _ refl refl f.offered
 
   imports_named : (lines : List ImportLine) → Each (ImportFacts sections number section) lines →
       map (import_name (interfaces_of sections)) (map (import_of sections number) lines) ≡
@@ -213,8 +204,7 @@ module _ (sections : List SectionTree) (hold : (j : ℕ) (s : SectionTree) → s
   not_defined (line ∷ lines) each = (each.0.not_defined, not_defined lines each.1)
 
   functions_named : map {A = TypedFunction} (λ f. f.name) typed.functions ≡ function_names section.decls
-  functions_named = map_twice {A = FunctionTree} {B = TypedFunction} (λ f. f.name) (typed_function section callees)
-      (functions_in section.decls)
+  functions_named = map_twice _ _ _
 
   all_distinct : names.section_lines section ≡ [] → are_distinct
       (map (import_name (interfaces_of sections)) interface.imports ++
@@ -222,7 +212,7 @@ module _ (sections : List SectionTree) (hold : (j : ℕ) (s : SectionTree) → s
   all_distinct in_names =
       subst (λ all. are_distinct all ≡ true) (λ i. sym (imports_named section.imports facts.imports) i ++
       sym functions_named i) (both_distinct (import_names section) (function_names section.decls)
-      (fresh_distinct [] (import_names section) facts.fresh_imports) (not_defined section.imports facts.imports)
+      (fresh_distinct [] (import_names section) facts.fresh_imports) (not_defined _ facts.imports)
       (fresh_distinct [] (function_names section.decls) (functions_fresh section [] section.decls in_names)))
 
   -- Exports.
@@ -235,7 +225,7 @@ module _ (sections : List SectionTree) (hold : (j : ℕ) (s : SectionTree) → s
 
   exports_distinct : are_distinct (map {A = event.Proto} (λ p. p.name) interface.exports) ≡ true
   exports_distinct =
-      subst (λ all. are_distinct all ≡ true) (sym (exports_named section.exports))
+      subst (λ all. are_distinct all ≡ true) (sym (exports_named _))
       (fresh_distinct [] (export_names section) facts.fresh_exports)
 
   or_not : (a b : Bool) → (a || not b) ≡ true → b ≡ true → a ≡ true
@@ -247,49 +237,46 @@ module _ (sections : List SectionTree) (hold : (j : ℕ) (s : SectionTree) → s
   module _ (at : ℕ) (line : ExportLine) (got : slice_get section.exports at ≡ Some line)
       (f : ExportFacts sections number section line) where
     pub g : FoundFunction line.name (functions_in section.decls)
-    g = find_function line.name (functions_in section.decls) f.defined
+    g = find_function _ _ f.defined
 
     exported : is_numbered (export_names section) g.tree.head.name ≡ true
     exported =
-        any_passes_from_place (bytes_eq g.tree.head.name) (export_names section) at line.name
-        (get_map {A = ExportLine} (λ line. line.name) section.exports at ∙
-        ap (option_map {T = ExportLine} (λ line. line.name)) got) g.named
+        any_passes_from_place (bytes_eq _) (export_names section) at line.name (get_map _ _ at ∙
+        ap (option_map _) got) g.named
 
     fits : head_fits sections number section (head_of g.tree.head) ≡ true
     fits =
-        (each_at (λ tree. DeclFacts sections number section facts.mains (Function tree))
-        (functions_in section.decls) g.at g.tree (each_function
-        (DeclFacts sections number section facts.mains) section.decls facts.decls) g.got).0
+        (each_at (λ tree. DeclFacts sections number section facts.mains (Function tree)) _ g.at g.tree (each_function
+        (DeclFacts _ number section _) section.decls facts.decls) g.got).0
 
     pub crossing : head_crosses (head_of g.tree.head) ≡ true
-    crossing = or_not (head_crosses (head_of g.tree.head)) _ fits (or_left _ _ exported)
+    crossing = or_not _ _ fits (or_left _ _ exported)
 
     promise : proto_of section line ≡ promised line.name (Some g.tree)
-    promise = ap (promised line.name) g.first
+    promise = ap (promised _) g.first
 
     signatures : signature_of (typed_function section callees g.tree) ≡ proto_signature (proto_of section line)
     signatures =
-        own_signature section callees g.tree ∙ sym (agreed_signature (tags section) line.name g.tree
+        own_signature section callees g.tree ∙ sym (agreed_signature _ line.name g.tree
         (head_of g.tree.head) (agrees (head_of g.tree.head)) crossing) ∙ ap proto_signature (sym promise)
 
     is_function : list_any {X = TypedFunction} (λ f. bytes_eq f.name (proto_of section line).name &&
         same_signature (signature_of f) (proto_signature (proto_of section line))) typed.functions ≡ true
     is_function =
-        any_passes_from_place {K = TypedFunction} (λ f. bytes_eq f.name (proto_of section line).name &&
+        any_passes_from_place (λ f. bytes_eq f.name (proto_of section line).name &&
         same_signature (signature_of f) (proto_signature (proto_of section line))) typed.functions g.at
-        (typed_function section callees g.tree) (get_map (typed_function section callees)
-        (functions_in section.decls) g.at ∙ ap (option_map (typed_function section callees)) g.got)
+        (typed_function section callees g.tree) (get_map _ _ g.at ∙ ap (option_map _) g.got)
         (and_from _ _ (ap (bytes_eq g.tree.head.name)
-        (promised_name line.name (function_named line.name (functions_in section.decls))) ∙ g.named)
+        (promised_name _ (function_named line.name (functions_in section.decls))) ∙ g.named)
         (ap (λ s. same_signature s (proto_signature (proto_of section line))) signatures ∙
         signature_refl (proto_signature (proto_of section line))))
 
     export_is_function : export_fits typed.functions (proto_of section line) ≡ true
     export_is_function =
-        and_from _ _ (ap is_plain_name (promised_name line.name
+        and_from _ _ (ap is_plain_name (promised_name _
         (function_named line.name (functions_in section.decls))) ∙ f.plain)
         (and_from _ _ (ap not (ap (λ n. bytes_eq n main_name)
-        (promised_name line.name (function_named line.name (functions_in section.decls))) ∙ f.no_main)) is_function)
+        (promised_name _ (function_named line.name (functions_in section.decls))) ∙ f.no_main)) is_function)
 
   exports_are : (before lines : List ExportLine) → before ++ lines ≡ section.exports →
       Each (ExportFacts sections number section) lines →
@@ -298,21 +285,21 @@ module _ (sections : List SectionTree) (hold : (j : ℕ) (s : SectionTree) → s
   exports_are before (line ∷ lines) whole each =
       and_from _ _ (export_is_function (length before) line
       (ap (λ list. slice_get list (length before)) (sym whole) ∙ get_behind before line lines) each.0)
-      (exports_are (before ++ line ∷ []) lines (append_assoc before (line ∷ []) lines ∙ whole) each.1)
+      (exports_are (before ++ line ∷ []) lines (append_assoc before _ lines ∙ whole) each.1)
 
   -- Imports lead to exports of other sections.
 
   other_fits : (line : ImportLine) → Offering number line sections →
       import_fits (interfaces_of sections) number (offered line (offering number line 0 sections)) ≡ true
   other_fits line o =
-      let export : FoundBy {A = ExportLine} (λ line. line.name) line.name o.section.exports =
-      found_by {A = ExportLine} (λ line. line.name) line.name o.section.exports
+      let export =
+      found_by (λ line. line.name) line.name o.section.exports
       (and_rest (not (o.number == number)) _ (and_rest (bytes_eq o.section.name line.comp) _ o.offers)) in
       ap (λ found. import_fits (interfaces_of sections) number (offered line found)) o.is
       ∙ ap (λ index. import_fits (interfaces_of sections) number
       (import.Function o.number (number_or_zero index))) export.place
       ∙ and_from _ _ (and_first _ _ (and_rest (bytes_eq o.section.name line.comp) _ o.offers))
-      (ap is_some (export_is sections o.number o.section export.at export.item o.got export.got))
+      (ap is_some (export_is sections o.number _ export.at export.item o.got export.got))
 
   fits_by : (line : ImportLine) (env input output : Bool) →
       (if env then input || output else is_some (offering number line 0 sections)) ≡ true →
@@ -320,30 +307,25 @@ module _ (sections : List SectionTree) (hold : (j : ℕ) (s : SectionTree) → s
       offered line (offering number line 0 sections)) ≡ true
   fits_by line true true output h = refl
   fits_by line true false output h = refl
-  fits_by line false input output h = other_fits line (find_offering number line sections h)
+  fits_by line false input output h = other_fits line (find_offering number line _ h)
 
   imports_are : (lines : List ImportLine) → Each (ImportFacts sections number section) lines →
       list_all (import_fits (interfaces_of sections) number) (map (import_of sections number) lines) ≡ true
   imports_are [] each = refl
   imports_are (line ∷ lines) each =
-      and_from _ _ (fits_by line (is_environment line) (bytes_eq line.name input_name)
-      (bytes_eq line.name output_name) each.0.offered) (imports_are lines each.1)
+      and_from _ _ (fits_by line _ _ (bytes_eq line.name output_name) each.0.offered) (imports_are lines each.1)
 
   -- Counts.
 
   pub interface_is : names.section_lines section ≡ [] → counts.section_lines section callees ≡ [] →
       interface_fits (interfaces_of sections) number interface typed ≡ true
   interface_is in_names count =
-      let behind : counts.line_beyond {A = ExportLine} (λ line. line.line) most_exports section.exports ++
-      (counts.line_beyond {A = ImportLine} (λ line. line.line) most_exports section.imports ++ _) ≡ [] =
+      let behind =
       back_empty (unless (nat_le (counts.section_nodes section callees) most_nodes &&
-      nat_le (length section.decls) most_nodes) 1) _ count in
+      nat_le (length _) most_nodes) 1) _ count in
       and_from _ _ (all_distinct in_names) (and_from _ _ exports_distinct
-      (and_from _ _ (exports_are [] section.exports refl facts.exports)
-      (and_from _ _ (imports_are section.imports facts.imports)
-      (and_from _ _ (ap (λ n. nat_le n most_exports) (length-map section.exports (proto_of section)) ∙
-      none_beyond {A = ExportLine} (λ line. line.line) most_exports section.exports (front_empty _ _ behind))
-      (ap (λ n. nat_le n most_exports) (length-map section.imports (import_of sections number)) ∙
-      none_beyond {A = ImportLine} (λ line. line.line) most_exports section.imports
-      (front_empty _ _ (back_empty (counts.line_beyond {A = ExportLine}
-      (λ line. line.line) most_exports section.exports) _ behind)))))))
+      (and_from _ _ (exports_are [] _ refl facts.exports) (and_from _ _ (imports_are section.imports facts.imports)
+      (and_from _ _ (ap (λ n. nat_le n most_exports) (length-map _ _) ∙
+      none_beyond (λ line. _) most_exports section.exports (front_empty _ _ behind))
+      (ap (λ n. nat_le n most_exports) (length-map _ (import_of _ number)) ∙
+      none_beyond (λ line. line.line) most_exports section.imports (front_empty _ _ (back_empty _ _ behind)))))))

@@ -1,5 +1,5 @@
 -- The parts of a text, by the places at which its sections begin.
-use Rattle.sc_types.proofs.Common.{Accepts, AreStarts, IsKept, IsRead, IsSource, List, ProgramTree, Reads, Section}
+use Rattle.sc_types.proofs.Common.{Accepts, AreStarts, IsKept, IsSource, List, ProgramTree, Section}
 use Rattle.sc_types.proofs.Common.{SectionTree, Some, [], add-one, ap, ap₂, arith, as_many, concat, drop, first_start}
 use Rattle.sc_types.proofs.Common.{flat_map, get_or, interfaces_from, length, length-map, map, map-append, part_of}
 use Rattle.sc_types.proofs.Common.{parts_from, refl, slice_get, slice_range, source_of, start_of, subst, suc, sym, take}
@@ -30,7 +30,7 @@ concat_is (s ∷ found) = ap (λ more. bytes_of s ++ more) (concat_is found)
 joined : {text preamble : List ℕ} {found : List Section} → IsSplit text preamble found →
     take (length preamble) text ++ flat_map bytes_of found ≡ text
 joined {text} {preamble} {found} split =
-    progress_joined text (length preamble) (length text) (line_at text (length text)) found (record {
+    progress_joined text _ (length text) (line_at text _) found (record {
       within = omega arith;
       heading = λ less. absurd (omega arith);
       in_line = refl;
@@ -43,18 +43,15 @@ joined {text} {preamble} {found} split =
 pub interfaces_length : (sections : List SectionTree) (k : ℕ) (rest : List SectionTree) →
     length (interfaces_from sections k rest) ≡ length rest
 interfaces_length sections k [] = refl
-interfaces_length sections k (tree ∷ rest) = ap suc (interfaces_length sections (suc k) rest)
+interfaces_length sections k (tree ∷ rest) = ap suc (interfaces_length sections _ rest)
 
 -- as many sections as compartments
 each_has_one : {text preamble : List ℕ} {found : List Section} (program : ProgramTree) → IsSplit text preamble found →
     Accepts text program → length found ≡ length program.interfaces.comps
 each_has_one {text} {preamble} {found} program split a =
-    let r : Reads text a.sections = a.reads in
-    sym (length-map found part_of)
-    ∙ ap length (same_parts split r.lexed.split)
-    ∙ ap length (sym r.lexed.parts)
-    ∙ as_many (IsRead text) r.sections a.sections r.each
-    ∙ sym (interfaces_length a.sections 0 a.sections)
+    let r = a.reads in
+    sym (length-map found part_of) ∙ ap length (same_parts split r.lexed.split) ∙ ap length (sym r.lexed.parts)
+    ∙ as_many _ _ _ r.each ∙ sym (interfaces_length a.sections 0 _)
     ∙ ap (λ p. length p.interfaces.comps) (sym a.typed.is)
 
 -- what is kept of a text makes its parts
@@ -134,7 +131,7 @@ section_lies text starts at start end a from to =
 pub preamble_lies : (text starts : List ℕ) (end : ℕ) → AreStarts text starts → end ≡ first_start text (drop 0 starts) →
     (0 ≤ end) × (end ≤ length text)
 preamble_lies text starts end a to =
-    let is : first_start text starts ≡ length a.preamble =
+    let is : first_start text starts ≡ length _ =
     ap (first_start text) a.places ∙ first_is a.split.behind refl in
     (omega arith, omega (arith, to, is, sections_rise a.split.behind))
 
@@ -148,6 +145,5 @@ pub starts_more : (sections : List Section) (starts : List ℕ) (at : ℕ) (s : 
     s ≡ get_or sections at s → starts ≡ map start_of (take at sections) →
     starts ++ start_of s ∷ [] ≡ map start_of (take (at + 1) sections)
 starts_more sections starts at s low is h =
-    ap₂ (λ a b. a ++ start_of b ∷ []) h is
-    ∙ sym (map-append start_of (take at sections) (get_or sections at s ∷ []))
-    ∙ ap (map start_of) (sym (take_more sections at s low))
+    ap₂ (λ a b. a ++ start_of b ∷ []) h is ∙ sym (map-append _ _ (get_or _ at s ∷ []))
+    ∙ ap (map _) (sym (take_more _ at s low))

@@ -4,7 +4,7 @@ use Rattle.sc_types.proofs.Common.{TypeTree, [], and_first, and_from, and_rest, 
 use Rattle.sc_types.proofs.Common.{base_cells, base_known, base_of, base_within, bytes_eq, cells_from, cells_of}
 use Rattle.sc_types.proofs.Common.{end_of_member, false, false≢true, get_behind, get_front, is_numbered, is_sized}
 use Rattle.sc_types.proofs.Common.{length, length-map, list_all, ltb-true, map, member_known, members_fit, members_from}
-use Rattle.sc_types.proofs.Common.{most_cells, nat_eq, nat_le, nat_lt, not, number_of, number_or_zero, option_map_or}
+use Rattle.sc_types.proofs.Common.{most_cells, nat_le, nat_lt, number_of, number_or_zero, option_map_or}
 use Rattle.sc_types.proofs.Common.{pointed_known, refl, same_text, slice_get, starred, starred_cells, starred_within}
 use Rattle.sc_types.proofs.Common.{struct_cells, struct_fits, structs_fit, subst, suc, sym, true, type_of, type_of_name}
 use Rattle.sc_types.proofs.Common.{type_with, type_within, typed_struct, typed_structs, zero, ℕ, ◌*◌, ◌++◌, ◌+◌, ◌<◌}
@@ -24,7 +24,7 @@ pub base_is_within : (tags more : List Text) (b : BaseTree) → base_known tags 
 base_is_within tags more base_tree.Int h = refl
 base_is_within tags more base_tree.Unsigned h = refl
 base_is_within tags more (base_tree.Struct tag) h =
-    less (number_or_zero (number_of (tags ++ more) tag)) (length tags)
+    less _ _
     (subst (λ o. number_or_zero o < length tags) (sym (number_front tags more tag h)) (number_within tags tag h))
 
 pub is_less : (i n : ℕ) → nat_lt i n ≡ true → i < n
@@ -42,15 +42,13 @@ starred_within_is : (whole pointed stars : ℕ) (b : BaseTy) → starred_within 
 starred_within_is whole pointed zero base.Int h = refl
 starred_within_is whole pointed zero base.Unsigned h = refl
 starred_within_is whole pointed zero (base.Struct n) h = h
-starred_within_is whole pointed (suc stars) b h = and_from (nat_le 1 (suc stars)) (base_within pointed b)
-    (at_most 1 (suc stars) (omega arith)) h
+starred_within_is whole pointed (suc stars) b h = and_from _ _ (at_most 1 _ (omega arith)) h
 
 with_within : (tags : List Text) (whole pointed : ℕ) (size : Option ℕ) (stars : ℕ) (b : BaseTy) →
     option_map_or (λ n. nat_le 1 n) size true ≡ true → starred_within whole pointed stars b ≡ true →
     type_within whole pointed (type_with tags size stars b) ≡ true
 with_within tags whole pointed None stars b sized h = starred_within_is whole pointed stars b h
-with_within tags whole pointed (Some n) stars b sized h =
-    and_from (nat_le 1 n) (starred_within whole pointed stars b) sized h
+with_within tags whole pointed (Some n) stars b sized h = and_from _ _ sized h
 
 all_within : (n stars : ℕ) (b : BaseTy) → base_within n b ≡ true → starred_within n n stars b ≡ true
 all_within n zero b h = h
@@ -60,14 +58,13 @@ all_within n (suc stars) b h = h
 pub type_is_within : (tags more : List Text) (t : TypeTree) → is_sized t ≡ true → base_known tags t.base ≡ true →
     type_within (length tags) (length tags) (type_of (tags ++ more) t) ≡ true
 type_is_within tags more t sized h =
-    with_within (tags ++ more) (length tags) (length tags) t.length t.stars (base_of (tags ++ more) t.base) sized
-    (all_within (length tags) t.stars (base_of (tags ++ more) t.base) (base_is_within tags more t.base h))
+    with_within (tags ++ more) (length tags) (length tags) t.length t.stars (base_of _ t.base) sized
+    (all_within _ t.stars _ (base_is_within tags more t.base h))
 
 pub name_is_within : (tags more : List Text) (t : TypeName) → base_known tags t.base ≡ true →
     type_within (length tags) (length tags) (type_of_name (tags ++ more) t) ≡ true
 name_is_within tags more t h =
-    starred_within_is (length tags) (length tags) t.stars (base_of (tags ++ more) t.base)
-    (all_within (length tags) t.stars (base_of (tags ++ more) t.base) (base_is_within tags more t.base h))
+    starred_within_is _ _ t.stars _ (all_within _ t.stars _ (base_is_within tags more t.base h))
 
 -- Members, of the struct behind the first ones.
 
@@ -80,9 +77,8 @@ module _ (names : List Text) (self : Text) (more : List Text) (new : is_numbered
 
   known_within : (stars : ℕ) (b : BaseTree) → base_known names b ≡ true →
       starred_within k (suc k) stars (base_of tags b) ≡ true
-  known_within zero b h = base_is_within names (self ∷ more) b h
-  known_within (suc stars) b h = more_within k (suc k) (base_of tags b) (omega arith)
-      (base_is_within names (self ∷ more) b h)
+  known_within zero b h = base_is_within names _ b h
+  known_within (suc stars) b h = more_within k (suc k) (base_of tags b) (omega arith) (base_is_within names _ b h)
 
   self_number : (tag : Text) → bytes_eq tag self ≡ true → number_or_zero (number_of tags tag) ≡ k
   self_number tag h = ap (λ t. number_or_zero (number_of tags t)) (same_text tag self h) ∙
@@ -92,20 +88,17 @@ module _ (names : List Text) (self : Text) (more : List Text) (new : is_numbered
       starred_within k (suc k) stars (base_of tags b) ≡ true
   pointed_within stars base_tree.Int h = absurd (false≢true h)
   pointed_within stars base_tree.Unsigned h = absurd (false≢true h)
-  pointed_within zero (base_tree.Struct tag) h = absurd (false≢true (and_rest (bytes_eq tag self) false h))
-  pointed_within (suc stars) (base_tree.Struct tag) h =
-      less (number_or_zero (number_of tags tag)) (suc k)
-      (omega (arith, self_number tag (and_first (bytes_eq tag self) (not (nat_eq (suc stars) 0)) h)))
+  pointed_within zero (base_tree.Struct tag) h = absurd (false≢true (and_rest _ false h))
+  pointed_within (suc stars) (base_tree.Struct tag) h = less _ _ (omega (arith, self_number tag (and_first _ _ h)))
 
   member_starred : (m : MemberTree) → member_known names self m ≡ true →
       starred_within k (suc k) m.ty.stars (base_of tags m.ty.base) ≡ true
   member_starred m h =
-      either (base_known names m.ty.base) (pointed_known self m.ty.stars m.ty.base) h
-      (known_within m.ty.stars m.ty.base) (λ no. pointed_within m.ty.stars m.ty.base)
+      either (base_known names _) (pointed_known self _ _) h (known_within _ _) (λ no. pointed_within _ _)
 
   member_within : (m : MemberTree) → member_known names self m ≡ true → is_sized m.ty ≡ true →
       type_within k (suc k) (type_of tags m.ty) ≡ true
-  member_within m h sized = with_within tags k (suc k) m.ty.length m.ty.stars (base_of tags m.ty.base) sized
+  member_within m h sized = with_within tags k (suc k) m.ty.length m.ty.stars (base_of tags _) sized
       (member_starred m h)
 
 -- Cells over the first structs are those over all.
@@ -127,8 +120,7 @@ module _ (done more : List TypedStruct) (n : ℕ) (size : length done ≡ n) whe
   cells_same pointed (ty.Struct i) h = ap struct_cells (get_front done more i (omega (arith, size, is_less i n h)))
   cells_same pointed (ty.Pointer stars b) h = refl
   cells_same pointed (ty.Array stars b count) h =
-      ap (λ cells. count * cells) (starred_cells_same pointed stars b
-      (and_rest (nat_le 1 count) (starred_within n pointed stars b) h))
+      ap (λ cells. count * cells) (starred_cells_same pointed stars b (and_rest _ _ h))
 
 -- A struct over those before it.
 
@@ -159,7 +151,7 @@ module _ (names : List Text) (self : Text) (after : List Text) (new : is_numbere
   below : (offset : ℕ) (members : List MemberTree) → offset ≤ 4294967295 → offset ≤ cells_from every done offset members
   below offset [] within = omega arith
   below offset (m ∷ members) within =
-      let behind : end offset m ≤ cells_from every done (end offset m) members =
+      let behind =
       below (end offset m) members (end_within offset m) in
       omega (arith, within, behind)
 
@@ -168,33 +160,29 @@ module _ (names : List Text) (self : Text) (after : List Text) (new : is_numbere
       cells_from every done (end offset m) members ≤ 1048576 →
       end offset m ≡ offset + cells_of done (type_of every m.ty)
   exact offset m members small =
-      let behind : end offset m ≤ cells_from every done (end offset m) members =
-      below (end offset m) members (end_within offset m) in
+      let behind =
+      below _ members (end_within offset m) in
       omega (arith, small, behind)
 
   member_is : (offset : ℕ) (m : MemberTree) (members : List MemberTree) → member_known names self m ≡ true →
       is_sized m.ty ≡ true → end offset m ≡ offset + cells_of done (type_of every m.ty) →
       Fits (end offset m) members → Fits offset (m ∷ members)
   member_is offset m members known sized same rest =
-      let within : type_within (length names) (suc (length names)) (type_of every m.ty) ≡ true =
+      let within =
       member_within names self after new m known sized in
       and_from (offset == offset) _ (eq_refl offset) (and_from _ _ within
       (subst (λ start. members_fit (done ++ more) (length names) start
       (members_from every done (end offset m) members) (cells_from every done (end offset m) members) ≡ true)
-      (same ∙ ap (λ cells. offset + cells) (sym (cells_same done more (length names) size (suc (length names))
-      (type_of every m.ty) within))) rest))
+      (same ∙ ap (λ cells. offset + cells) (sym (cells_same done more _ size _ _ within))) rest))
 
   members_are : (offset : ℕ) (members : List MemberTree) → list_all (member_known names self) members ≡ true →
       list_all {X = MemberTree} (λ member. is_sized member.ty) members ≡ true →
       cells_from every done offset members ≤ 1048576 → Fits offset members
   members_are offset [] known sized small = eq_refl offset
   members_are offset (m ∷ members) known sized small =
-      member_is offset m members (and_first (member_known names self m)
-      (list_all (member_known names self) members) known)
-      (and_first (is_sized m.ty) (list_all {X = MemberTree} (λ member. is_sized member.ty) members) sized)
-      (exact offset m members small) (members_are (end offset m) members
-      (and_rest (member_known names self m) (list_all (member_known names self) members) known)
-      (and_rest (is_sized m.ty) (list_all {X = MemberTree} (λ member. is_sized member.ty) members) sized) small)
+      member_is offset m members (and_first _ _ known) (and_first _ _ sized)
+      (exact offset m members small) (members_are (end offset m) members (and_rest _ _ known)
+      (and_rest _ _ sized) small)
 
 members_length : (all : List Text) (structs : List TypedStruct) (offset : ℕ) (members : List MemberTree) →
     length (members_from all structs offset members) ≡ length members
@@ -215,9 +203,7 @@ pub structs_are : (all : List Text) (done : List TypedStruct) (trees : List Stru
 unfolding typed_structs
 structs_are all done [] = sym (append-nil done)
 structs_are all done (tree ∷ trees) =
-    structs_are all (done ++ typed_struct all done tree ∷ []) trees ∙
-    append_assoc done (typed_struct all done tree ∷ [])
-    (rest_of all (done ++ typed_struct all done tree ∷ []) trees)
+    structs_are all (done ++ typed_struct all done tree ∷ []) trees ∙ append_assoc done _ _
 
 abbrev pub tags_of : List StructTree → List Text
 tags_of trees = map {A = StructTree} (λ tree. tree.name) trees
@@ -274,15 +260,12 @@ module _ (all : List Text) where
       structs_fit structs (length names) (rest_of all done trees) ≡ true
   rest_fit names [] done structs is size whole known small = refl
   rest_fit names (tree ∷ trees) done structs is size whole known small =
-      and_from _ _ (struct_is names (tags_of trees) tree done
-      (rest_of all (done ++ typed_struct all done tree ∷ []) trees) structs is size whole known.0 small.0)
+      and_from _ _ (struct_is names _ tree done _ structs is size whole known.0 small.0)
       (subst (λ n. structs_fit structs n (rest_of all (done ++ typed_struct all done tree ∷ []) trees) ≡ true)
-      (length_next names tree.name) (rest_fit (names ++ tree.name ∷ []) trees
-      (done ++ typed_struct all done tree ∷ []) structs (append_assoc names (tree.name ∷ []) (tags_of trees) ∙ is)
-      (length_next done (typed_struct all done tree) ∙ ap suc size ∙ sym (length_next names tree.name))
-      (whole ∙ sym (append_assoc done (typed_struct all done tree ∷ [])
-      (rest_of all (done ++ typed_struct all done tree ∷ []) trees))) known.1
-      (subst (λ n. AllSmall structs n trees) (sym (length_next names tree.name)) small.1)))
+      (length_next names tree.name) (rest_fit _ trees
+      (done ++ typed_struct all done tree ∷ []) structs (append_assoc names _ _ ∙ is)
+      (length_next done _ ∙ ap suc size ∙ sym (length_next names _)) (whole ∙ sym (append_assoc done _ _)) known.1
+      (subst (λ n. AllSmall structs n trees) (sym (length_next names _)) small.1)))
 
 -- structs that are known and small fit
 pub structs_all_fit : (trees : List StructTree) → AllKnown [] trees →
@@ -290,8 +273,7 @@ pub structs_all_fit : (trees : List StructTree) → AllKnown [] trees →
     structs_fit (typed_structs (tags_of trees) [] trees) 0 (typed_structs (tags_of trees) [] trees) ≡ true
 structs_all_fit trees known small =
     subst (λ s. structs_fit (typed_structs (tags_of trees) [] trees) 0 s ≡ true)
-    (sym (structs_are (tags_of trees) [] trees)) (rest_fit (tags_of trees) [] trees []
-    (typed_structs (tags_of trees) [] trees) refl refl (structs_are (tags_of trees) [] trees) known small)
+    (sym (structs_are _ [] trees)) (rest_fit _ [] trees [] _ refl refl (structs_are _ [] trees) known small)
 
 -- there are as many as tags
 rest_length : (all : List Text) (done : List TypedStruct) (trees : List StructTree) →
@@ -302,5 +284,4 @@ rest_length all done (tree ∷ trees) = ap suc (rest_length all (done ++ typed_s
 pub structs_length : (trees : List StructTree) → length (typed_structs (tags_of trees) [] trees) ≡
     length (tags_of trees)
 structs_length trees =
-    ap length (structs_are (tags_of trees) [] trees) ∙ rest_length (tags_of trees) [] trees ∙
-    sym (length-map trees (λ tree. tree.name))
+    ap length (structs_are _ [] trees) ∙ rest_length (tags_of trees) [] trees ∙ sym (length-map trees _)

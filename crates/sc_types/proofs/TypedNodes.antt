@@ -3,14 +3,14 @@ use Rattle.sc_types.proofs.Common.{BinaryOp, Bool, CallTree, Callees, Each, Expr
 use Rattle.sc_types.proofs.Common.{Inside, List, LocalTree, None, Option, SectionTree, SimpleKind, SimpleTree, Some}
 use Rattle.sc_types.proofs.Common.{StmtKind, StmtKind-F, StmtTree, Ty, TypedExpr, TypedKind, TypedStmt, TypedStmtKind}
 use Rattle.sc_types.proofs.Common.{Under, Visible, [], ap, ap₂, beside, call_nodes, cond, decayed, decls_nodes}
-use Rattle.sc_types.proofs.Common.{expr_induction, expr_nodes, expr_step, false, found, function_nodes, functions_in}
-use Rattle.sc_types.proofs.Common.{going_to, going_to_all, going_to_some, init_nodes, is_pointer, is_zero}
+use Rattle.sc_types.proofs.Common.{expr_induction, expr_nodes, expr_step, false, found, function_nodes}
+use Rattle.sc_types.proofs.Common.{going_to, going_to_all, going_to_some, init_nodes}
 use Rattle.sc_types.proofs.Common.{kind_step as typed_kind_step, length-map, local_nodes, map, map-ExprTree, nodes}
-use Rattle.sc_types.proofs.Common.{option_map, params_of, part_nodes, refl, result_of, rules, simple_nodes, step}
+use Rattle.sc_types.proofs.Common.{option_map, part_nodes, refl, result_of, rules, simple_nodes, step}
 use Rattle.sc_types.proofs.Common.{stmt_induction, stmt_nodes, stmt_step as typed_stmt_step, suc, sym, the_lemmas}
 use Rattle.sc_types.proofs.Common.{total, true, typed_call, typed_function, typed_init, typed_locals, typed_section}
 use Rattle.sc_types.proofs.Common.{typed_simple, typed_simple_kind, typed_stmt, variable_typed, visible_in, visible_of}
-use Rattle.sc_types.proofs.Common.{ℕ, ◌&&◌, ◌+◌, ◌∙◌, ◌∷◌, ◌≡◌}
+use Rattle.sc_types.proofs.Common.{ℕ, ◌+◌, ◌∙◌, ◌∷◌, ◌≡◌}
 use Rattle.sc_elab_expr.specs.Prelude.{typed}
 use Rattle.sc_types.specs.Prelude.{kind_step, stmt_step}
 use Rattle.sc_base.specs.declared.op.BinaryOp.TheVariants as tree_op
@@ -46,11 +46,11 @@ kind-alone t u k = search (rules, the_lemmas)
 
 going-if : (b : Bool) (place : Ty) (e : TypedExpr) → core.expr_nodes
     (cond b (record { ty = decayed place; kind = e.kind }) e) ≡ core.expr_nodes e
-going-if true place e = kind-alone (decayed place) e.ty e.kind
+going-if true place e = kind-alone _ e.ty e.kind
 going-if false place e = refl
 
 going : (place : Ty) (e : TypedExpr) → core.expr_nodes (going_to place e) ≡ core.expr_nodes e
-going place e = going-if (is_pointer place && is_zero e) place e
+going place e = going-if _ place e
 
 going-some : (place : Option Ty) (e : TypedExpr) → core.expr_nodes (going_to_some place e) ≡ core.expr_nodes e
 going-some None e = refl
@@ -77,26 +77,24 @@ module _ (visible : Visible) where
 
   step-nodes : (t : ExprTree-F ExprTree) → Under AsTree t →
       core.expr_nodes (step visible (map-ExprTree _ _ (typed visible) t)) ≡ expr_step (map-ExprTree _ _ expr_nodes t)
-  step-nodes (tree.Literal number) h = node-at _ _ (open_term.Literal number.value) (rolls-Literal _)
+  step-nodes (tree.Literal number) h = node-at _ _ (open_term.Literal _) (rolls-Literal _)
   step-nodes (tree.Variable name) h = variable-nodes (found visible name)
-  step-nodes (tree.Unary o a) h = node-at _ _ (open_term.Unary o (typed visible a)) (rolls-Unary _ _) ∙ ap suc h
+  step-nodes (tree.Unary o a) h = node-at _ _ (open_term.Unary o _) (rolls-Unary _ _) ∙ ap suc h
   step-nodes (tree.Binary o a b) h =
-      node-at _ _ (open_term.Binary o (beside o (typed visible b).ty (typed visible a))
-      (beside o (typed visible a).ty (typed visible b))) (rolls-Binary _ _ _)
+      node-at _ _ (open_term.Binary o _ _) (rolls-Binary _ _ _)
       ∙ ap₂ (λ m n. suc (m + n)) (beside-nodes o (typed visible b).ty (typed visible a) ∙ h.0)
       (beside-nodes o (typed visible a).ty (typed visible b) ∙ h.1)
   step-nodes (tree.Index a b) h =
-      node-at _ _ (open_term.Index (typed visible a) (typed visible b)) (rolls-Index _ _) ∙ ap₂
-      (λ m n. suc (m + n)) h.0 h.1
-  step-nodes (tree.Member a name) h = node-at _ _ (open_term.Member (typed visible a) _) (rolls-Member _ _) ∙ ap suc h
-  step-nodes (tree.Arrow a name) h = node-at _ _ (open_term.Arrow (typed visible a) _) (rolls-Arrow _ _) ∙ ap suc h
-  step-nodes (tree.Deref a) h = node-at _ _ (open_term.Deref (typed visible a)) (rolls-Deref _) ∙ ap suc h
-  step-nodes (tree.Address a) h = node-at _ _ (open_term.Address (typed visible a)) (rolls-Address _) ∙ ap suc h
+      node-at _ _ (open_term.Index _ _) (rolls-Index _ _) ∙ ap₂ (λ m n. suc (m + n)) h.0 h.1
+  step-nodes (tree.Member a name) h = node-at _ _ (open_term.Member _ _) (rolls-Member _ _) ∙ ap suc h
+  step-nodes (tree.Arrow a name) h = node-at _ _ (open_term.Arrow _ _) (rolls-Arrow _ _) ∙ ap suc h
+  step-nodes (tree.Deref a) h = node-at _ _ (open_term.Deref _) (rolls-Deref _) ∙ ap suc h
+  step-nodes (tree.Address a) h = node-at _ _ (open_term.Address _) (rolls-Address _) ∙ ap suc h
 
   pub typed-nodes : (e : ExprTree) → core.expr_nodes (typed visible e) ≡ expr_nodes e
   typed-nodes =
-      expr_induction AsTree (λ t h. ap core.expr_nodes (layers.expr_at (step visible) t) ∙
-      (step-nodes t h ∙ sym (layers.expr_at expr_step t)))
+      expr_induction AsTree (λ t h. ap core.expr_nodes (layers.expr_at _ t) ∙
+      (step-nodes t h ∙ sym (layers.expr_at _ t)))
 
   exprs-nodes : (exprs : List ExprTree) → total (map core.expr_nodes (map (typed visible) exprs)) ≡
       total (map expr_nodes exprs)
@@ -105,8 +103,7 @@ module _ (visible : Visible) where
 
   module _ (callees : Callees) where
     call-nodes : (call : CallTree) → core.call_nodes (typed_call visible callees call) ≡ call_nodes call
-    call-nodes call =
-        going-all (params_of (callees.signature call.name)) (map (typed visible) call.args) ∙ exprs-nodes call.args
+    call-nodes call = going-all _ _ ∙ exprs-nodes _
 
     value-nodes : (place value : ExprTree) → core.expr_nodes (going_to (typed visible place).ty (typed visible value)) ≡
         expr_nodes value
@@ -152,8 +149,7 @@ module _ (visible : Visible) (callees : Callees) (result : Option Ty) where
   layer-nodes line layer.Empty h = stmt-node-at line _ open_kind.Empty rolls-Empty
   layer-nodes line (layer.Assign place value) h =
       stmt-node-at line _ (open_kind.Assign _ _) (rolls-Assign _ _) ∙ ap₂ (λ a b. suc (a + b))
-      (typed-nodes visible place)
-      (value-nodes visible callees place value)
+      (typed-nodes visible place) (value-nodes visible callees place value)
   layer-nodes line (layer.AssignCall place call) h =
       stmt-node-at line _ (open_kind.AssignCall _ _) (rolls-AssignCall _ _) ∙
       ap₂ (λ a b. suc (a + b)) (typed-nodes visible place) (call-nodes visible callees call)
@@ -175,16 +171,14 @@ module _ (visible : Visible) (callees : Callees) (result : Option Ty) where
   layer-nodes line layer.Return h = stmt-node-at line _ open_kind.Return rolls-Return
   layer-nodes line (layer.ReturnValue value) h =
       stmt-node-at line _ (open_kind.ReturnValue _) (rolls-ReturnValue _) ∙
-      ap suc (going-some result (typed visible value) ∙ typed-nodes visible value)
+      ap suc (going-some result _ ∙ typed-nodes visible value)
   layer-nodes line (layer.ReturnCall call) h =
       stmt-node-at line _ (open_kind.ReturnCall _) (rolls-ReturnCall _) ∙ ap suc (call-nodes visible callees call)
 
   pub stmt-nodes : (s : StmtTree) → core.stmt_nodes (typed_stmt visible callees result s) ≡ stmt_nodes s
   stmt-nodes =
-      stmt_induction StmtAsTree
-      (λ line k h. ap core.stmt_nodes (layers.stmt_at TypedStmtKind TypedStmt (typed_kind_step visible callees result)
-      (typed_stmt_step visible callees result) line k)
-      ∙ (layer-nodes line k h ∙ sym (layers.stmt_at ℕ ℕ kind_step stmt_step line k)))
+      stmt_induction StmtAsTree (λ line k h. ap core.stmt_nodes (layers.stmt_at TypedStmtKind TypedStmt _ _ line k)
+      ∙ (layer-nodes line k h ∙ sym (layers.stmt_at ℕ ℕ _ _ line k)))
 
   stmts-nodes : (stmts : List StmtTree) → total (map core.stmt_nodes (map (typed_stmt visible callees result) stmts)) ≡
       total (map stmt_nodes stmts)
@@ -197,9 +191,7 @@ module _ (section : SectionTree) where
   init-nodes : (tree : FunctionTree) (place : ℕ) (t : Ty) (init : Option ExprTree) →
       core.init_nodes (typed_init section tree place t init) ≡ init_nodes init
   init-nodes tree place t None = refl
-  init-nodes tree place t (Some init) =
-      going t (typed (visible_in section tree (suc place)) init) ∙
-      typed-nodes (visible_in section tree (suc place)) init
+  init-nodes tree place t (Some init) = going t _ ∙ typed-nodes (visible_in section tree (suc place)) init
 
   locals-nodes : (tree : FunctionTree) (place : ℕ) (locals : List LocalTree) →
       total (map core.local_nodes (typed_locals section tree place locals)) ≡ total (map local_nodes locals)
@@ -211,7 +203,7 @@ module _ (section : SectionTree) where
   module _ (callees : Callees) where
     pub function-nodes : (tree : FunctionTree) → nodes (typed_function section callees tree) ≡ function_nodes tree
     function-nodes tree =
-        ap₂ (λ a b. a + b) (ap₂ (λ a b. suc a + b) (length-map tree.head.params _) (locals-nodes tree 0 tree.locals))
+        ap₂ (λ a b. a + b) (ap₂ (λ a b. suc a + b) (length-map _ _) (locals-nodes tree 0 _))
         (stmts-nodes (visible_of section tree) callees (result_of section tree) tree.body)
 
     functions-nodes : (trees : List FunctionTree) → total (map nodes (map (typed_function section callees) trees)) ≡
@@ -221,4 +213,4 @@ module _ (section : SectionTree) where
 
     -- the nodes of a section's typed functions are those of its trees, whoever is called
     pub section-nodes : total (map nodes (typed_section section callees).functions) ≡ decls_nodes section.decls
-    section-nodes = functions-nodes (functions_in section.decls)
+    section-nodes = functions-nodes _

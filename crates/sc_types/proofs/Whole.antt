@@ -1,6 +1,6 @@
 -- A text that breaks no rule is a well-typed program.
 use Rattle.sc_types.proofs.Common.{AreLow, Bool, Callees, Decl, ExportLine, Function, FunctionTree, Global, ImportLine}
-use Rattle.sc_types.proofs.Common.{Interface, IsWellTyped, List, Proto, SectionTree, Some, Struct, TypedFunction}
+use Rattle.sc_types.proofs.Common.{Interface, IsWellTyped, List, Proto, SectionTree, Some, Struct}
 use Rattle.sc_types.proofs.Common.{TypedSection, [], and_first, and_from, and_rest, any_passes_from_place, ap}
 use Rattle.sc_types.proofs.Common.{append_assoc, are_distinct, arith, bytes_eq, callees_of, codes, concat}
 use Rattle.sc_types.proofs.Common.{counts_broken, decl_count, defines_main, environment, false, false≢true}
@@ -8,11 +8,11 @@ use Rattle.sc_types.proofs.Common.{functions_in, get_behind, globals_in, head_of
 use Rattle.sc_types.proofs.Common.{interface_broken, interface_fits, interface_of, interfaces_from, interfaces_of}
 use Rattle.sc_types.proofs.Common.{is_main, is_numbered, is_well_typed, length, length-map, line_of_text, list_any}
 use Rattle.sc_types.proofs.Common.{main_fits, main_from, main_name, mains_in, map, map-append, most_compartments}
-use Rattle.sc_types.proofs.Common.{most_exports, most_nodes, name_holds, names_broken, nat_le, not, not-true}
+use Rattle.sc_types.proofs.Common.{most_exports, most_nodes, names_broken, nat_le, not, not-true}
 use Rattle.sc_types.proofs.Common.{option_map, program_of, refl, same_Some, same_signature, section_fits}
-use Rattle.sc_types.proofs.Common.{section_height, sections_fit, sections_from, signature_by, signature_of, slice_get}
+use Rattle.sc_types.proofs.Common.{section_height, sections_fit, sections_from, signature_of, slice_get}
 use Rattle.sc_types.proofs.Common.{structs, structs_in, subst, suc, sym, tags, true, truth, typed_function}
-use Rattle.sc_types.proofs.Common.{typed_global, typed_section, types_broken, unless, zero, ℕ, ◌&&◌, ◌++◌, ◌+◌, ◌==◌}
+use Rattle.sc_types.proofs.Common.{typed_global, typed_section, types_broken, zero, ℕ, ◌&&◌, ◌++◌, ◌+◌, ◌==◌}
 use Rattle.sc_types.proofs.Common.{◌||◌, ◌∙◌, ◌∷◌, ◌≡◌, ◌≤◌}
 use Rattle.sc_core.specs.declared.ty.Ty.TheVariants as ty
 use Rattle.sc_scope.specs.Names as names
@@ -55,18 +55,10 @@ none_of_none = omega arith
 kept_in : (decls : List Decl) →
     length (structs_in decls) + (length (globals_in decls) + length (functions_in decls)) ≤ length decls
 kept_in [] = none_of_none
-kept_in (Struct tree ∷ decls) =
-    first_more (length (structs_in decls)) (length (globals_in decls)) (length (functions_in decls)) (length decls)
-    (kept_in decls)
-kept_in (Global tree ∷ decls) =
-    second_more (length (structs_in decls)) (length (globals_in decls)) (length (functions_in decls)) (length decls)
-    (kept_in decls)
-kept_in (Proto head ∷ decls) =
-    no_more (length (structs_in decls)) (length (globals_in decls)) (length (functions_in decls)) (length decls)
-    (kept_in decls)
-kept_in (Function tree ∷ decls) =
-    third_more (length (structs_in decls)) (length (globals_in decls)) (length (functions_in decls)) (length decls)
-    (kept_in decls)
+kept_in (Struct tree ∷ decls) = first_more _ _ _ _ (kept_in decls)
+kept_in (Global tree ∷ decls) = second_more _ _ _ _ (kept_in decls)
+kept_in (Proto head ∷ decls) = no_more _ _ _ _ (kept_in decls)
+kept_in (Function tree ∷ decls) = third_more _ _ _ _ (kept_in decls)
 
 within_more : (a b c : ℕ) → a ≤ b → b ≤ c → a ≤ c
 within_more a b c h k = omega (arith, h, k)
@@ -78,17 +70,13 @@ decl_count_is section callees = λ i.
     length-map (functions_in section.decls) (typed_function section callees) i)
   where
     structs_are : length (structs section) ≡ length (structs_in section.decls)
-    structs_are =
-        structs_length (structs_in section.decls) ∙
-        length-map (structs_in section.decls) (λ tree. tree.name)
+    structs_are = structs_length _ ∙ length-map _ _
 
 few_kept : (section : SectionTree) (callees : Callees) → nat_le (length section.decls) most_nodes ≡ true →
     nat_le (decl_count (typed_section section callees)) most_nodes ≡ true
 few_kept section callees few =
-    ap (λ n. nat_le n most_nodes) (decl_count_is section callees) ∙
-    at_most kept most_nodes
-    (within_more kept (length section.decls) most_nodes (kept_in section.decls)
-    (is_at_most (length section.decls) most_nodes few))
+    ap (λ n. nat_le n most_nodes) (decl_count_is section callees) ∙ at_most kept most_nodes
+    (within_more kept (length _) most_nodes (kept_in _) (is_at_most (length _) most_nodes few))
   where
     kept : ℕ
     kept = length (structs_in section.decls) + (length (globals_in section.decls) + length (functions_in section.decls))
@@ -107,14 +95,12 @@ module _ (sections : List SectionTree) where
   face_from k before (s ∷ rest) zero section h got =
       subst (λ n. FaceFacts sections n section) (plus_zero k)
       (subst (λ t. FaceFacts sections k t) (same_Some s section got)
-      (face_facts sections k s (list_any defines_main before) before (map_empty _ _ (front_empty _ _ h)))) where
+      (face_facts _ k s (list_any defines_main before) before (map_empty _ _ (front_empty _ _ h)))) where
         plus_zero : (n : ℕ) → n ≡ n + 0
         plus_zero n = omega arith
   face_from k before (s ∷ rest) (suc j) section h got =
-      subst (λ n. FaceFacts sections n section) (plus_one k j)
-      (face_from (suc k) (before ++ s ∷ []) rest j section
-      (back_empty (map (line_of_text s.line) (faces.section_lines sections k s
-      (list_any defines_main before) before)) _ h) got) where
+      subst (λ n. FaceFacts sections n section) (plus_one k j) (face_from _ (before ++ s ∷ []) rest j section
+      (back_empty _ _ h) got) where
         plus_one : (n m : ℕ) → suc n + m ≡ n + suc m
         plus_one n m = omega arith
 
@@ -124,8 +110,7 @@ module _ (sections : List SectionTree) where
   pub hold : interface_broken sections ≡ [] → (j : ℕ) (section : SectionTree) → slice_get sections j ≡ Some section →
       FaceFacts sections j section
   hold h j section got =
-      subst (λ n. FaceFacts sections n section) (plus_none j)
-      (face_from 0 [] sections j section (front_empty _ _ h) got)
+      subst (λ n. FaceFacts sections n section) (plus_none j) (face_from 0 [] _ j section (front_empty _ _ h) got)
 
   -- the rules of counts, by the section's number
   count_from : (k : ℕ) (rest : List SectionTree) (j : ℕ) (section : SectionTree) →
@@ -140,8 +125,7 @@ module _ (sections : List SectionTree) where
         plus_zero n = omega arith
   count_from k (s ∷ rest) (suc j) section h got =
       subst (λ n. counts.section_lines section (callees_of sections n section) ≡ []) (plus_one k j)
-      (count_from (suc k) rest j section (back_empty
-      (map (line_of_text s.line) (counts.section_lines s (callees_of sections k s))) _ h) got) where
+      (count_from (suc k) rest j section (back_empty _ _ h) got) where
         plus_one : (n m : ℕ) → suc n + m ≡ n + suc m
         plus_one n m = omega arith
 
@@ -149,36 +133,31 @@ module _ (sections : List SectionTree) where
       slice_get sections j ≡ Some section → counts.section_lines section (callees_of sections j section) ≡ []
   count_at h j section got =
       subst (λ n. counts.section_lines section (callees_of sections n section) ≡ []) (plus_none j)
-      (count_from 0 sections j section h got)
+      (count_from 0 _ j section h got)
 
   module _ (low : AreLow sections) (in_names : names_broken sections ≡ []) (in_types : types_broken sections ≡ [])
       (in_faces : interface_broken sections ≡ []) (in_counts : counts_broken sections ≡ []) where
     counts_of : counts.lines_from sections 0 sections ≡ []
-    counts_of = back_empty (counts.line_beyond {A = SectionTree}
-        (λ section. line_of_text section.line 1) most_compartments sections) _ in_counts
+    counts_of = back_empty (counts.line_beyond (λ section. line_of_text _ 1) most_compartments sections) _ in_counts
 
     -- The section of a number.
     module _ (number : ℕ) (section : SectionTree) (there : slice_get sections number ≡ Some section) where
       names_at : names.section_lines section ≡ []
       names_at =
-          map_empty _ _ (each_at (λ section. map (line_of_text section.line) (names.section_lines section) ≡
-          []) sections number section (each_empty {A = SectionTree}
-          (λ section. map (line_of_text section.line) (names.section_lines section)) sections in_names) there)
+          map_empty _ _ (each_at (λ section. map (line_of_text _) (names.section_lines section) ≡
+          []) _ number section (each_empty _ _ in_names) there)
 
       types_at : elab.section_lines section (callees_of sections number section) ≡ []
       types_at =
           map_empty _ _ (each_at (λ section. map (line_of_text section.line)
-          (elab.section_lines section (callees_of sections 0 section)) ≡ []) sections number section
-          (each_empty {A = SectionTree} (λ section.
-          map (line_of_text section.line) (elab.section_lines section
-          (callees_of sections 0 section))) sections in_types) there)
+          (elab.section_lines section (callees_of sections 0 section)) ≡ []) _ number section
+          (each_empty _ _ in_types) there)
 
       counted : counts.section_lines section (callees_of sections number section) ≡ []
       counted = count_at counts_of number section there
 
       low_at : nat_le (section_height section) 256 ≡ true
-      low_at = each_at (λ section. nat_le (section_height section) 256 ≡ true) sections number section
-          (each_passes {A = SectionTree} (λ section. nat_le (section_height section) 256) sections low) there
+      low_at = each_at (λ section. nat_le _ 256 ≡ true) _ number section (each_passes _ _ low) there
 
       abbrev typed : TypedSection
       typed = typed_section section (callees_of sections number section)
@@ -192,22 +171,20 @@ module _ (sections : List SectionTree) where
           (concat (map (counts.global_lines section) (globals_in section.decls)) ++
           (concat (map (counts.head_lines section) (heads_in section.decls)) ++
           concat (map (counts.function_lines section) (functions_in section.decls)))))) ≡ []
-      behind_nodes = back_empty (unless (nat_le (counts.section_nodes section callees) most_nodes &&
-          nat_le (length section.decls) most_nodes) 1) _ counted
+      behind_nodes = back_empty _ _ counted
 
       behind_imports : counts.structs_from section 0 (structs_in section.decls) ++
           (concat (map (counts.global_lines section) (globals_in section.decls)) ++
           (concat (map (counts.head_lines section) (heads_in section.decls)) ++
           concat (map (counts.function_lines section) (functions_in section.decls)))) ≡ []
       behind_imports =
-          back_empty (counts.line_beyond {A = ImportLine} (λ line. line.line) most_exports section.imports) _
-          (back_empty (counts.line_beyond {A = ExportLine}
-          (λ line. line.line) most_exports section.exports) _ behind_nodes)
+          back_empty (counts.line_beyond (λ line. line.line) most_exports section.imports) _
+          (back_empty (counts.line_beyond (λ line. _) most_exports section.exports) _ behind_nodes)
 
       behind_structs : concat (map (counts.global_lines section) (globals_in section.decls)) ++
           (concat (map (counts.head_lines section) (heads_in section.decls)) ++
           concat (map (counts.function_lines section) (functions_in section.decls))) ≡ []
-      behind_structs = back_empty (counts.structs_from section 0 (structs_in section.decls)) _ behind_imports
+      behind_structs = back_empty (counts.structs_from section 0 _) _ behind_imports
 
       behind_globals : concat (map (counts.head_lines section) (heads_in section.decls)) ++
           concat (map (counts.function_lines section) (functions_in section.decls)) ≡ []
@@ -215,7 +192,7 @@ module _ (sections : List SectionTree) where
           (globals_in section.decls))) _ behind_structs
 
       small : AllSmall (structs section) 0 (structs_in section.decls)
-      small = small_from section 0 (structs_in section.decls) (front_empty _ _ behind_imports)
+      small = small_from section 0 _ (front_empty _ _ behind_imports)
 
       few_nodes : (nat_le (counts.section_nodes section callees) most_nodes &&
           nat_le (length section.decls) most_nodes) ≡ true
@@ -223,20 +200,17 @@ module _ (sections : List SectionTree) where
 
       section_is : section_fits (interfaces_of sections) number (interface_of sections number section) typed ≡ true
       section_is =
-          and_from _ _ (structs_all_fit (structs_in section.decls)
-          (structs_known section callees [] section.decls names_at types_at) small)
-          (and_from _ _ (globals_are section callees [] section.decls refl names_at types_at
+          and_from _ _ (structs_all_fit _ (structs_known section callees [] section.decls names_at types_at) small)
+          (and_from _ _ (globals_are section callees [] _ refl names_at types_at
           (front_empty _ _ behind_structs)) (and_from _ _
-          (functions_are section callees (called.callable sections (hold in_faces) number section there)
-          (called.same_signature_called sections (hold in_faces) number section there) small [] section.decls refl
+          (functions_are section callees (called.callable _ (hold in_faces) number section there)
+          (called.same_signature_called _ (hold in_faces) number section there) small [] _ refl
           names_at types_at (front_empty _ _ behind_globals)
           (back_empty (concat (map (counts.head_lines section) (heads_in section.decls))) _ behind_globals) low_at)
-          (and_from _ _ (and_first _ _ few_nodes)
-          (few_kept section callees (and_rest (nat_le
-          (counts.section_nodes section callees) most_nodes) _ few_nodes)))))
+          (and_from _ _ (and_first _ _ few_nodes) (few_kept section callees (and_rest (nat_le _ _) _ few_nodes)))))
 
       faces_is : interface_fits (interfaces_of sections) number (interface_of sections number section) typed ≡ true
-      faces_is = interface_is sections (hold in_faces) number section there names_at counted
+      faces_is = interface_is _ (hold in_faces) number section there names_at counted
 
     -- All sections.
     sections_are : (front rest : List SectionTree) → front ++ rest ≡ sections →
@@ -244,13 +218,12 @@ module _ (sections : List SectionTree) where
         (sections_from sections (length front) rest) ≡ true
     sections_are front [] whole = refl
     sections_are front (section ∷ rest) whole =
-        let there : slice_get sections (length front) ≡ Some section =
+        let there =
         ap (λ list. slice_get list (length front)) (sym whole) ∙ get_behind front section rest in
-        and_from _ _ (section_is (length front) section there)
-        (and_from _ _ (faces_is (length front) section there)
+        and_from _ _ (section_is _ section there) (and_from _ _ (faces_is _ section there)
         (subst (λ n. sections_fit (interfaces_of sections) n (interfaces_from sections n rest)
         (sections_from sections n rest) ≡ true) (length_snoc front section)
-        (sections_are (front ++ section ∷ []) rest (append_assoc front (section ∷ []) rest ∙ whole))))
+        (sections_are (front ++ section ∷ []) rest (append_assoc front _ rest ∙ whole))))
 
     -- Names of compartments.
     compartments : (k : ℕ) (before rest : List SectionTree) → faces.lines_from sections k before rest ≡ [] →
@@ -258,26 +231,22 @@ module _ (sections : List SectionTree) where
         Each (λ name. bytes_eq name environment ≡ false) (map name_of rest)
     compartments k before [] h = (tt, tt)
     compartments k before (section ∷ rest) h =
-        let holds : name_holds sections k section (list_any defines_main before) before ≡ true =
+        let holds =
         rule_holds _ 1 (front_empty _ _ (map_empty _ _ (front_empty _ _ h))) in
-        let next : Fresh (map name_of (before ++ section ∷ [])) (map name_of rest) ×
-        Each (λ name. bytes_eq name environment ≡ false) (map name_of rest) =
-        compartments (suc k) (before ++ section ∷ []) rest
-        (back_empty (map (line_of_text section.line)
-        (faces.section_lines sections k section (list_any defines_main before) before)) _ h) in (
+        let next =
+        compartments (suc k) (before ++ section ∷ []) rest (back_empty _ _ h) in (
           (
             not-true _ (and_first _ _ holds),
-            subst (λ all. Fresh all (map name_of rest))
-                (map-append name_of before (section ∷ [])) next.0,
+            subst (λ all. Fresh all (map name_of rest)) (map-append name_of before (section ∷ [])) next.0,
           ),
-          (not-true _ (and_rest (not (is_numbered (map name_of before) section.name)) _ holds), next.1),
+          (not-true _ (and_rest _ _ holds), next.1),
         )
 
     no_environment : (all : List Text) → Each (λ name. bytes_eq name environment ≡ false) all →
         is_numbered all environment ≡ false
     no_environment [] each = refl
     no_environment (name ∷ all) each =
-        ap (λ b. b || is_numbered all environment) (same_sym environment name ∙ each.0) ∙ no_environment all each.1
+        ap (λ b. b || is_numbered all environment) (same_sym _ name ∙ each.0) ∙ no_environment all each.1
 
     interface_names : (k : ℕ) (rest : List SectionTree) →
         map {A = Interface} (λ i. i.name) (interfaces_from sections k rest) ≡ map name_of rest
@@ -287,11 +256,9 @@ module _ (sections : List SectionTree) where
     names_distinct : are_distinct (codes "Env" ∷ map {A = Interface} (λ i. i.name) (interfaces_of sections).comps) ≡
         true
     names_distinct =
-        let c : Fresh [] (map name_of sections) × Each (λ name. bytes_eq name environment ≡ false)
-        (map name_of sections) = compartments 0 [] sections (front_empty _ _ in_faces) in
+        let c = compartments 0 [] sections (front_empty _ _ in_faces) in
         subst (λ all. are_distinct (codes "Env" ∷ all) ≡ true) (sym (interface_names 0 sections))
-        (and_from _ _ (ap not (no_environment (map name_of sections) c.1))
-        (fresh_distinct [] (map name_of sections) c.0))
+        (and_from _ _ (ap not (no_environment _ c.1)) (fresh_distinct [] _ c.0))
 
     -- `main`.
 
@@ -310,13 +277,12 @@ module _ (sections : List SectionTree) where
     module _ (k : ℕ) (section : SectionTree) (mains : Bool)
         (each : Each (DeclFacts sections k section mains) section.decls) (has : defines_main section ≡ true) where
       main_found : FoundFunction main_name (functions_in section.decls)
-      main_found = find_function main_name (functions_in section.decls) has
+      main_found = find_function _ _ has
 
       main_rule : faces.main_holds mains (head_of main_found.tree.head) ≡ true
       main_rule =
           (each_at (λ tree. DeclFacts sections k section mains (Function tree))
-          (functions_in section.decls) main_found.at main_found.tree
-          (each_function (DeclFacts sections k section mains) section.decls each) main_found.got).1
+          (functions_in section.decls) main_found.at main_found.tree (each_function _ _ each) main_found.got).1
 
       main_alone : (not mains && faces.is_main (head_of main_found.tree.head)) ≡ true
       main_alone = by_name (bytes_eq main_found.tree.head.name main_name) main_found.named main_rule where
@@ -328,34 +294,31 @@ module _ (sections : List SectionTree) where
     main_typed : (k : ℕ) (section : SectionTree) → slice_get sections k ≡ Some section → defines_main section ≡ true →
         main_fits (Some (typed_section section (callees_of sections k section))) ≡ true
     main_typed k section got has =
-        let facts : FaceFacts sections k section = hold in_faces k section got in
-        let g : FoundFunction main_name (functions_in section.decls) =
+        let facts = hold in_faces k section got in
+        let g =
         main_found k section facts.mains facts.decls has in
-        let is : faces.is_main (head_of g.tree.head) ≡ true =
+        let is =
         and_rest (not facts.mains) _ (main_alone k section facts.mains facts.decls has) in
-        any_passes_from_place {K = TypedFunction} (λ f. is_main f &&
+        any_passes_from_place (λ f. is_main f &&
         same_signature (signature_of f) (record { params = []; result = Some ty.Int }))
-        (typed_section section (callees_of sections k section)).functions g.at
-        (typed_function section (callees_of sections k section) g.tree)
-        (get_map (typed_function section (callees_of sections k section)) (functions_in section.decls) g.at ∙
-        ap (option_map (typed_function section (callees_of sections k section))) g.got)
+        (typed_section section (callees_of _ k section)).functions g.at
+        (typed_function section (callees_of _ k section) g.tree) (get_map _ _ g.at ∙ ap (option_map _) g.got)
         (and_from _ _ g.named (ap (λ s. same_signature s (record { params = []; result = Some ty.Int }))
-        (own_signature section (callees_of sections k section) g.tree ∙
-        input_signature (tags section) (head_of g.tree.head) is)))
+        (own_signature section (callees_of sections k section) g.tree ∙ input_signature _ (head_of g.tree.head) is)))
 
     any_append : (before : List SectionTree) (section : SectionTree) →
         list_any defines_main (before ++ section ∷ []) ≡ (list_any defines_main before || defines_main section)
-    any_append [] section = or-false (defines_main section)
+    any_append [] section = or-false _
     any_append (s ∷ before) section =
         ap (λ b. defines_main s || b) (any_append before section) ∙
-        sym (or_assoc (defines_main s) (list_any defines_main before) (defines_main section))
+        sym (or_assoc (defines_main s) (list_any _ before) (defines_main section))
 
     count_by : (b d more : Bool) (n : ℕ) → (d ≡ true → not b ≡ true) → n ≡ (if b || d then 0 else truth more) →
         truth d + n ≡ (if b then 0 else truth (d || more))
     count_by true true more n alone h = absurd (false≢true (alone refl))
     count_by true false more n alone h = ap (λ m. 0 + m) h ∙ omega arith
     count_by false true more n alone h = ap (λ m. 1 + m) h ∙ omega arith
-    count_by false false more n alone h = ap (λ m. 0 + m) h ∙ plus_none (truth more)
+    count_by false false more n alone h = ap (λ m. 0 + m) h ∙ plus_none _
 
     none_more : (b : Bool) → truth false ≡ (if b then 0 else truth false)
     none_more true = refl
@@ -364,25 +327,19 @@ module _ (sections : List SectionTree) where
     mains_count : (k : ℕ) (before rest : List SectionTree) → faces.lines_from sections k before rest ≡ [] →
         mains_in (sections_from sections k rest) ≡ (if list_any defines_main before then 0 else
         truth (list_any defines_main rest))
-    mains_count k before [] h = none_more (list_any defines_main before)
+    mains_count k before [] h = none_more _
     mains_count k before (section ∷ rest) h =
         ap (λ b. truth b + mains_in (sections_from sections (suc k) rest))
-        (section_mains section (callees_of sections k section)) ∙
-        count_by (list_any defines_main before) (defines_main section) (list_any defines_main rest)
-        (mains_in (sections_from sections (suc k) rest))
-        (λ has. and_first _ _ (main_alone k section (list_any defines_main before)
-        (decls_hold sections k section (list_any defines_main before) before
-        (map_empty _ _ (front_empty _ _ h))) has))
-        (mains_count (suc k) (before ++ section ∷ []) rest
-        (back_empty (map (line_of_text section.line)
-        (faces.section_lines sections k section (list_any defines_main before) before)) _ h) ∙
-        ap (λ b. if b then 0 else truth (list_any defines_main rest)) (any_append before section))
+        (section_mains section (callees_of _ k section)) ∙ count_by _ (defines_main section) (list_any _ rest)
+        (mains_in _) (λ has. and_first _ _ (main_alone k section _ (decls_hold _ k section _ before
+        (map_empty _ _ (front_empty _ _ h))) has)) (mains_count (suc k) (before ++ section ∷ []) rest
+        (back_empty _ _ h) ∙ ap (λ b. if b then 0 else truth (list_any defines_main rest)) (any_append before section))
 
     has_main : list_any defines_main sections ≡ true
     has_main = rule_holds _ 0 (back_empty (faces.lines_from sections 0 [] sections) _ in_faces)
 
     one_main : (mains_in (sections_from sections 0 sections) == 1) ≡ true
-    one_main = ap (λ n. n == 1) (mains_count 0 [] sections (front_empty _ _ in_faces) ∙ ap truth has_main)
+    one_main = ap (λ n. n == 1) (mains_count 0 [] _ (front_empty _ _ in_faces) ∙ ap truth has_main)
 
     -- The section of `main`.
 
@@ -416,7 +373,7 @@ module _ (sections : List SectionTree) where
 
     main_at : (k : ℕ) (rest : List SectionTree) → list_any defines_main rest ≡ true → MainAt k rest
     main_at k [] h = absurd (false≢true h)
-    main_at k (section ∷ rest) h = main_by k section rest (defines_main section) refl (main_at (suc k) rest) h
+    main_at k (section ∷ rest) h = main_by k section rest _ refl (main_at _ rest) h
 
     typed_from : (k : ℕ) (rest : List SectionTree) (j : ℕ) (section : SectionTree) → slice_get rest j ≡ Some section →
         slice_get (sections_from sections k rest) j ≡
@@ -426,33 +383,32 @@ module _ (sections : List SectionTree) where
         ap (λ t. Some (typed_section t (callees_of sections k t))) (same_Some s section got) ∙
         ap (λ n. Some (typed_section section (callees_of sections n section))) (omega arith)
     typed_from k (s ∷ rest) (suc j) section got =
-        typed_from (suc k) rest j section got ∙ ap (λ n. Some (typed_section section (callees_of sections n section)))
+        typed_from _ rest j section got ∙ ap (λ n. Some (typed_section section (callees_of sections n section)))
         (omega arith)
 
     main_is : main_fits (slice_get (sections_from sections 0 sections) (interfaces_of sections).main) ≡ true
     main_is =
-        let m : MainAt 0 sections = main_at 0 sections has_main in
+        let m = main_at 0 _ has_main in
         ap (λ n. main_fits (slice_get (sections_from sections 0 sections) n)) (m.is ∙ plus_none m.at) ∙
-        ap main_fits (typed_from 0 sections m.at m.section m.got) ∙
+        ap main_fits (typed_from 0 _ m.at _ m.got) ∙
         ap (λ n. main_fits (Some (typed_section m.section (callees_of sections n m.section)))) (plus_none m.at) ∙
-        main_typed m.at m.section m.got m.has
+        main_typed m.at _ m.got m.has
 
     -- The whole.
 
     typed_length : (k : ℕ) (rest : List SectionTree) → length (sections_from sections k rest) ≡ length rest
     typed_length k [] = refl
-    typed_length k (section ∷ rest) = ap suc (typed_length (suc k) rest)
+    typed_length k (section ∷ rest) = ap suc (typed_length _ rest)
 
     few : nat_le (length (sections_from sections 0 sections)) most_compartments ≡ true
     few =
-        ap (λ n. nat_le n most_compartments) (typed_length 0 sections) ∙
-        none_beyond {A = SectionTree} (λ section. line_of_text section.line 1) most_compartments sections
-        (front_empty _ _ in_counts)
+        ap (λ n. nat_le n most_compartments) (typed_length 0 _) ∙
+        none_beyond (λ section. line_of_text section.line 1) most_compartments sections (front_empty _ _ in_counts)
 
     is_typed : is_well_typed (program_of sections) ≡ true
     is_typed =
         and_from _ _ few (and_from _ _ names_distinct
-        (and_from _ _ (sections_are [] sections refl) (and_from _ _ main_is one_main)))
+        (and_from _ _ (sections_are [] _ refl) (and_from _ _ main_is one_main)))
 
 -- trees that break no rule are those of a well-typed program
 pub well_typed : (sections : List SectionTree) → AreLow sections → names_broken sections ≡ [] →
