@@ -28,7 +28,7 @@ pub record Word (ts : List Lexeme) (word : Keyword) : Type 0 where
 
 pub word_ahead : (ts : List Lexeme) (word : Keyword) → keyword_at ts ≡ Some word → Word ts word
 word_ahead [] word h = absurd (none-some word h)
-word_ahead (t ∷ ts) word h = record { first = t; is = refl; keyword = keyword_is t.symbol word h }
+word_ahead (t ∷ ts) word h = record { first = t; is = refl; keyword = keyword_is _ word h }
 
 -- an `int` at the front
 pub int_ahead : (ts : List Lexeme) → is_int (keyword_at ts) ≡ true → Word ts word.Int
@@ -99,7 +99,7 @@ NoStar rest = begins_with mark.Star rest ≡ false
 pub mark_is : (m : Mark) (t : Lexeme) → is_mark m t.symbol ≡ true → IsMark m t
 mark_is m t h =
     let b = behind_mark m (t ∷ []) [] (rw h) in
-    let e : t ∷ [] ≡ b.0 ∷ [] = b.1 in
+    let e = b.1 in
     let same : t ≡ b.0 = cc in
     subst (IsMark m) (sym same) b.2
 
@@ -117,8 +117,7 @@ stars_ahead (t ∷ ts) = go (stars_ahead ts) (is_mark mark.Star t.symbol) refl
         rw one-add (record {
           taken = t ∷ more.taken;
           split = ap (λ l. t ∷ l) more.split;
-          spelled = subst (λ n. SpellsStars (t ∷ more.taken) n) (omega arith)
-              (star t (mark_is mark.Star t q) more.spelled);
+          spelled = subst (λ n. SpellsStars (t ∷ more.taken) n) (omega arith) (star t (mark_is _ t q) more.spelled);
         })
     go more false q = record { taken = []; split = refl; spelled = none }
 
@@ -135,13 +134,11 @@ type_name_sound : (ts rest : List Lexeme) (x : TypeName) → type_name_at ts ≡
     Taken SpellsTypeName ts x rest
 unfolding type_name_at
 type_name_sound ts rest x h =
-    let b = bound (λ x. Some (record { base = x.0; stars = star_count x.1 }, drop (star_count x.1) x.1)) (base_at ts)
-    (x, rest) h in
+    let b = bound _ _ _ h in
     let first = base_sound ts b.0.1 b.0.0 b.1 in
     let stars = stars_ahead b.0.1 in
-    took SpellsTypeName ts (first.taken ++ stars.taken) x (record { base = b.0.0; stars = star_count b.0.1 })
-    (drop (star_count b.0.1) b.0.1) rest
-    (glued ts b.0.1 (drop (star_count b.0.1) b.0.1) first.taken stars.taken first.split stars.split)
+    took SpellsTypeName ts (first.taken ++ stars.taken) x _ _ rest
+    (glued ts b.0.1 (drop _ b.0.1) first.taken stars.taken first.split stars.split)
     (type_name first.spelled stars.spelled) b.2
 
 -- no `int` stands at the front of `*` and what is no `int`
@@ -179,17 +176,16 @@ pub record Elements (ts rest : List Lexeme) (elements : ℕ) : Type 0 where
 elements_ahead : (ts rest : List Lexeme) (x : ℕ) → elements_at ts ≡ Some (x, rest) → Elements ts rest x
 elements_ahead [] rest x h = absurd (none-some _ h)
 elements_ahead (t ∷ ts) rest x h =
-    let b = bound (λ number. array_length number.value >>= (λ elements. Some (elements, ts))) (integer_by t.symbol)
-    (x, rest) h in
-    let c = bound (λ elements. Some (elements, ts)) (array_length b.0.value) (x, rest) b.2 in
+    let b = bound _ _ _ h in
+    let c = bound _ _ _ b.2 in
     let same = same_some c.2 in
-    let value : c.0 ≡ x = ap (λ p. p.0) same in
-    let behind : ts ≡ rest = ap (λ p. p.1) same in
+    let value = ap (λ p. p.0) same in
+    let behind = ap (λ p. p.1) same in
     record {
       first = t;
       number = b.0;
       is = ap (λ l. t ∷ l) behind;
-      integer = integer_is t.symbol b.0 b.1;
+      integer = integer_is _ b.0 b.1;
       fits = c.1 ∙ ap (λ n. Some n) value;
     }
 
@@ -234,20 +230,19 @@ IsDeclarator ts x = (base : BaseTree) → SpellsDeclarator base ts (type_of base
 with_length : {ts us : List Lexeme} {stars : ℕ} {elements : Option ℕ} (t : Lexeme) (name : List ℕ) → IsIdent name t →
     SpellsStars ts stars → IsLength us elements → IsDeclarator (ts ++ t ∷ us) (declarator stars name elements)
 with_length t name p d no_length base = plain t name p d
-with_length t name p d (in_brackets u v w number elements q r s k) base = array t u v w name number elements p q r s k d
+with_length t name p d (in_brackets u v w number elements q r s k) base = array t u v w name number _ p q r s k d
 
 pub declarator_sound : (ts rest : List Lexeme) (x : Declarator) → declarator_at ts ≡ Some (x, rest) →
     Taken IsDeclarator ts x rest
 unfolding declarator_at
 declarator_sound ts rest x h =
     let stars = stars_ahead ts in
-    let b = bound (λ x. length_at x.1 >>= (λ y. Some (declarator (star_count ts) x.0 y.0, y.1)))
-    (name_at (drop (star_count ts) ts)) (x, rest) h in
-    let c = bound (λ y. Some (declarator (star_count ts) b.0.0 y.0, y.1)) (length_at b.0.1) (x, rest) b.2 in
-    let t = name_ahead (drop (star_count ts) ts) b.0.1 b.0.0 b.1 in
+    let b = bound (λ x. length_at x.1 >>= (λ y. Some _)) _ _ h in
+    let c = bound (λ y. Some _) _ _ b.2 in
+    let t = name_ahead (drop _ ts) b.0.1 b.0.0 b.1 in
     let l = length_sound b.0.1 c.0.1 c.0.0 c.1 in
-    took IsDeclarator ts (stars.taken ++ t.0 ∷ l.taken) x (declarator (star_count ts) b.0.0 c.0.0) c.0.1 rest
-    (glued ts (drop (star_count ts) ts) c.0.1 stars.taken (t.0 ∷ l.taken) stars.split (t.1 ∙ ap (λ r. t.0 ∷ r) l.split))
+    took IsDeclarator ts (stars.taken ++ t.0 ∷ l.taken) x (declarator _ b.0.0 c.0.0) c.0.1 rest
+    (glued ts (drop _ ts) c.0.1 stars.taken (t.0 ∷ l.taken) stars.split (t.1 ∙ ap (λ r. t.0 ∷ r) l.split))
     (with_length t.0 b.0.0 t.2 stars.spelled l.spelled) c.2
 
 pub declarator_reads : {ts us : List Lexeme} {stars : ℕ} {elements : Option ℕ} (t : Lexeme) (name : List ℕ)

@@ -45,9 +45,9 @@ past_all {ts} d rest h = let c = stars_count d rest h in ap (λ k. drop k (ts ++
 declarator_no_curly : {base : BaseTree} {ts : List Lexeme} {ty : TypeTree} {name : List ℕ}
     (d : SpellsDeclarator base ts ty name) (rest : List Lexeme) → NoCurly (ts ++ rest)
 declarator_no_curly (plain {ts = ts} t name p d) rest =
-    subst NoCurly (sym (append_assoc ts (t ∷ []) rest)) (stars_no_curly d (t ∷ rest) (rw p))
+    subst NoCurly (sym (append_assoc ts _ rest)) (stars_no_curly d (t ∷ rest) (rw p))
 declarator_no_curly (array {ts = ts} t u v w name number elements p q r s k d) rest =
-    subst NoCurly (sym (append_assoc ts (t ∷ u ∷ v ∷ w ∷ []) rest)) (stars_no_curly d (t ∷ u ∷ v ∷ w ∷ rest) (rw p))
+    subst NoCurly (sym (append_assoc ts _ rest)) (stars_no_curly d (t ∷ u ∷ v ∷ w ∷ rest) (rw p))
 
 named_no_call : {ts : List Lexeme} {n : ℕ} (d : SpellsStars ts n) (rest : List Lexeme) →
     begins_with mark.Star rest ≡ false → begins_call rest ≡ false → NoCall (ts ++ rest)
@@ -56,10 +56,9 @@ named_no_call d rest h k = ap begins_call (past_all d rest h) ∙ k
 declarator_no_call : {base : BaseTree} {ts : List Lexeme} {ty : TypeTree} {name : List ℕ}
     (d : SpellsDeclarator base ts ty name) (rest : List Lexeme) → NoParen rest → NoCall (ts ++ rest)
 declarator_no_call (plain {ts = ts} t name p d) rest h =
-    subst NoCall (sym (append_assoc ts (t ∷ []) rest)) (named_no_call d (t ∷ rest) (rw p) (rw p h))
+    subst NoCall (sym (append_assoc ts _ rest)) (named_no_call d (t ∷ rest) (rw p) (rw p h))
 declarator_no_call (array {ts = ts} t u v w name number elements p q r s k d) rest h =
-    subst NoCall (sym (append_assoc ts (t ∷ u ∷ v ∷ w ∷ []) rest))
-    (named_no_call d (t ∷ u ∷ v ∷ w ∷ rest) (rw p) (rw (p, q)))
+    subst NoCall (sym (append_assoc ts _ rest)) (named_no_call d (t ∷ u ∷ v ∷ w ∷ rest) (rw p) (rw (p, q)))
 
 init_no_paren : {ts : List Lexeme} {x : InitTree} (d : SpellsInit ts x) (rest : List Lexeme) → NoParen rest →
     NoParen (ts ++ rest)
@@ -79,15 +78,15 @@ global_front : {base : BaseTree} {line : ℕ} {ts : List Lexeme} {x : GlobalTree
 global_front (global {ts = ts} {us = us} d i) rest h =
     subst Front (sym (append_assoc ts us rest)) (record {
       no_int = declarator_no_int d (us ++ rest);
-      no_curly = declarator_no_curly d (us ++ rest);
-      no_call = declarator_no_call d (us ++ rest) (init_no_paren i rest h);
+      no_curly = declarator_no_curly d _;
+      no_call = declarator_no_call d _ (init_no_paren i rest h);
     })
 
 globals_front : {base : BaseTree} {line : ℕ} {ts : List Lexeme} {xs : List GlobalTree}
     (d : Separated (IsGlobal base line) ts xs) (rest : List Lexeme) → NoParen rest → Front (ts ++ rest)
 globals_front (lists.one d) rest h = global_front d rest h
 globals_front (more {ts = ts} {us = us} t p d g) rest h =
-    subst Front (sym (append_assoc ts (t ∷ us) rest)) (global_front d (t ∷ us ++ rest) (rw p))
+    subst Front (sym (append_assoc ts _ rest)) (global_front d (t ∷ us ++ rest) (rw p))
 
 -- no struct is declared where no `{` stands behind the base
 base_no_struct : {ts : List Lexeme} {base : BaseTree} (d : SpellsBase ts base) (rest : List Lexeme) → NoCurly rest →
@@ -130,13 +129,13 @@ pub record BeginsGlobals (ts : List Lexeme) : Type 0 where
 pub globals_begin : {ts : List Lexeme} {trees : List GlobalTree} (d : Declares IsGlobal ts trees) (rest : List Lexeme) →
     BeginsGlobals (ts ++ rest)
 globals_begin (declares {ts = ts} {us = us} t p d g) rest =
-    let all : (ts ++ (us ++ t ∷ [])) ++ rest ≡ ts ++ (us ++ t ∷ rest) =
-    append_assoc ts (us ++ t ∷ []) rest ∙ ap (λ l. ts ++ l) (append_assoc us (t ∷ []) rest) in
+    let all =
+    append_assoc ts (us ++ t ∷ []) rest ∙ ap (λ l. ts ++ l) (append_assoc us _ rest) in
     let front = globals_front g (t ∷ rest) (rw p) in
     subst BeginsGlobals (sym all) (record {
-      no_struct = base_no_struct d (us ++ t ∷ rest) front.no_curly;
-      no_head = base_head d (us ++ t ∷ rest) front.no_int ∙ front.no_call;
-      no_line = base_no_line d (us ++ t ∷ rest);
+      no_struct = base_no_struct d _ front.no_curly;
+      no_head = base_head d _ front.no_int ∙ front.no_call;
+      no_line = base_no_line d _;
     })
 
 -- what a declaration begins with that is read as one with a head
@@ -151,16 +150,14 @@ unfolding begins_head
 result_begins (no_result t p) rest a b c k = record { no_struct = rw p; is_head = rw p; no_line = rw p }
 result_begins (a_result (type_name {ts = ts} {us = us} d g)) rest a b c k =
     subst BeginsHead (sym (append_assoc ts us rest)) (record {
-      no_struct = base_no_struct d (us ++ rest)
-          (stars_no_curly g rest b);
-      is_head = base_head d (us ++ rest) (stars_no_int g rest a) ∙
-          ap begins_call (past_all g rest c) ∙ k;
-      no_line = base_no_line d (us ++ rest);
+      no_struct = base_no_struct d (us ++ rest) (stars_no_curly g rest b);
+      is_head = base_head d _ (stars_no_int g rest a) ∙ ap begins_call (past_all g rest c) ∙ k;
+      no_line = base_no_line d _;
     })
 
 pub head_begins : {ts : List Lexeme} {x : HeadTree} (d : SpellsHead ts x) (rest : List Lexeme) → BeginsHead (ts ++ rest)
 head_begins (head {ts = ts} {us = us} t u v name p q r d g) rest =
-    subst BeginsHead (sym (append_assoc ts (t ∷ u ∷ (us ++ v ∷ [])) rest))
+    subst BeginsHead (sym (append_assoc ts _ rest))
     (result_begins d (t ∷ u ∷ ((us ++ v ∷ []) ++ rest)) (rw p) (rw p) (rw p) (rw (p, q)))
 
 pub struct_begins : {ts : List Lexeme} {x : StructTree} (d : SpellsStruct ts x) (rest : List Lexeme) →

@@ -3,13 +3,13 @@ use Rattle.sc_parse.proofs.Common.{BaseTree, Declares, ExprTree, FunctionHead, F
 use Rattle.sc_parse.proofs.Common.{HeadTree, IsLocal, IsMark, Lexeme, List, LocalTree, None, Option, ParamTree}
 use Rattle.sc_parse.proofs.Common.{Separated, Some, SpellsBase, SpellsIf, SpellsStmtKind, SpellsStmts, SpellsValue}
 use Rattle.sc_parse.proofs.Common.{StmtKind, StmtTree, [], a_value, alone, ap, append_assoc, arith, behind, behind_mark}
-use Rattle.sc_parse.proofs.Common.{body_behind, bound, choice, declaration_at, declarator_at, declares, empty, expr_at}
+use Rattle.sc_parse.proofs.Common.{body_behind, bound, choice, declaration_at, declares, empty, expr_at}
 use Rattle.sc_parse.proofs.Common.{false, first_line, for_loop, function_head, function_param, function_tree, grouped}
 use Rattle.sc_parse.proofs.Common.{head_of, init_height, int, is_base, length, local, local_at, local_height}
-use Rattle.sc_parse.proofs.Common.{local_tree, locals_at, locals_behind, locals_height, map, max, more, named_head}
+use Rattle.sc_parse.proofs.Common.{locals_behind, locals_height, map, max, more, named_head}
 use Rattle.sc_parse.proofs.Common.{named_params, no_base, no_value, none-some, not, option_map_or, otherwise}
 use Rattle.sc_parse.proofs.Common.{otherwise_if, param_of, plain, refl, return_call, return_nothing, return_value}
-use Rattle.sc_parse.proofs.Common.{same_some, signed, signed_int, stmt_at, stmts_at, stmts_height, struct, subst, sym}
+use Rattle.sc_parse.proofs.Common.{same_some, signed, signed_int, stmts_height, struct, subst, sym}
 use Rattle.sc_parse.proofs.Common.{true, unsigned, unsigned_int, value_at, while_loop, ℕ, ◌++◌, ◌+◌, ◌>>=◌, ◌∙◌, ◌∷◌}
 use Rattle.sc_parse.proofs.Common.{◌≡◌, ◌≤◌}
 use Rattle.sc_expr.specs.declared.mark.Mark.TheVariants as mark
@@ -73,13 +73,11 @@ local_sound : (free limit : ℕ) → (base : BaseTree) (line : ℕ) (ts rest : L
     local_at free limit base line ts ≡ Some (x, rest) → Taken (IsLow limit base line) ts x rest
 unfolding local_at
 local_sound free limit base line ts rest x h =
-    let b = bound (λ x. value_at free limit x.1 >>= (λ y. Some (local_tree base x.0 y.0 line, y.1))) (declarator_at ts)
-    (x, rest) h in
-    let c = bound (λ y. Some (local_tree base b.0.0 y.0 line, y.1)) (value_at free limit b.0.1) (x, rest) b.2 in
+    let b = bound _ _ _ h in
+    let c = bound _ _ _ b.2 in
     let d = declarator_sound ts b.0.1 b.0.0 b.1 in
     let v = value_sound free limit b.0.1 c.0.1 c.0.0 c.1 in
-    took (IsLow limit base line) ts (d.taken ++ v.taken) x (local_tree base b.0.0 c.0.0 line) c.0.1 rest
-    (glued ts b.0.1 c.0.1 d.taken v.taken d.split v.split)
+    took _ ts (d.taken ++ v.taken) x _ c.0.1 rest (glued ts b.0.1 c.0.1 d.taken v.taken d.split v.split)
     (record { spelled = local (d.spelled base) v.spelled.spelled; low = v.spelled.low }) c.2
 
 local_complete : (free limit : ℕ) → {base : BaseTree} {line : ℕ} {ts : List Lexeme} {x : LocalTree}
@@ -105,8 +103,8 @@ local_exact free limit base line = record {
 
 local_line_exact : (free limit : ℕ) → ExactAdder (Few free) (Declares (IsLow limit)) (λ rest. Unit {0})
     (declaration_at (locals_behind free limit))
-local_line_exact free limit = declaration_exact (Few free) (few_left free) (few_right free) (IsLow limit) EndsLocal
-    (local_at free limit) (local_exact free limit) (λ t rest p. (rw p, rw p, rw p)) (λ t rest p. (rw p, rw p, rw p))
+local_line_exact free limit = declaration_exact _ (few_left free) (few_right free) _ EndsLocal
+    _ (local_exact free limit) (λ t rest p. (rw p, rw p, rw p)) (λ t rest p. (rw p, rw p, rw p))
     (λ base line ts rest x d. local_no_int d.spelled rest)
 
 base_begins : {ts : List Lexeme} {base : BaseTree} (d : SpellsBase ts base) (rest : List Lexeme) →
@@ -121,15 +119,14 @@ base_begins (struct t u tag p q) rest = rw p
 declares_begins : {A : Type 0} {Item : BaseTree → ℕ → List Lexeme → A → Type 0} {ts : List Lexeme} {xs : List A}
     (d : Declares Item ts xs) (rest : List Lexeme) → no_base (ts ++ rest) ≡ false
 declares_begins (declares {ts = ts} {us = us} t p d g) rest =
-    ap no_base (append_assoc ts (us ++ t ∷ []) rest) ∙ base_begins d ((us ++ t ∷ []) ++ rest)
+    ap no_base (append_assoc ts _ rest) ∙ base_begins d ((us ++ t ∷ []) ++ rest)
 
 pub lows_exact : (free limit : ℕ) → ExactAdder (Few free) (Grouped (Declares (IsLow limit)))
     (λ rest. no_base rest ≡ true) (λ xs ts. grouped no_base (declaration_at (locals_behind free limit))
     (length ts + 1) xs ts)
-lows_exact free limit = grouped_exact (Few free) (few_left free) (few_right free) no_base (Declares (IsLow limit))
-    (λ rest. Unit {0}) (declaration_at (locals_behind free limit)) (local_line_exact free limit)
-    (λ us rest zs d. declares_begins d rest) (λ us zs d. declares_some (IsLow limit) d) (λ rest h. tt)
-    (λ us rest zs d. tt)
+lows_exact free limit = grouped_exact _ (few_left free) (few_right free) no_base _
+    (λ rest. Unit {0}) _ (local_line_exact free limit)
+    (λ us rest zs d. declares_begins d rest) (λ us zs d. declares_some _ d) (λ rest h. tt) (λ us rest zs d. tt)
 
 heights_joined : (xs ys : List LocalTree) → locals_height (xs ++ ys) ≡ max (locals_height xs) (locals_height ys)
 heights_joined [] ys = omega arith
@@ -192,7 +189,7 @@ named_sound head named h =
     let b = bound (λ params. Some (function_head head params)) (named_params head.params) named h in
     let same = same_some b.2 in
     ap head_of (sym same) ∙ ap (λ l. record { result = head.result; name = head.name; params = l; line = head.line })
-    (params_sound head.params b.0 b.1)
+    (params_sound _ b.0 b.1)
 
 -- What stands behind the head of a function.
 pub data IsBody (limit : ℕ) (head : FunctionHead) : List Lexeme → FunctionTree → Type 0 where
@@ -205,28 +202,19 @@ pub body_sound : (free limit : ℕ) → (head : FunctionHead) (ts rest : List Le
     body_behind free limit head ts ≡ Some (x, rest) → Taken (IsBody limit head) ts x rest
 unfolding body_behind
 body_sound free limit head ts rest x h =
-    let o = bound (λ us. locals_at free limit us >>= (λ x.
-    stmts_at (stmt_at free limit) x.1 >>= (λ y. behind mark.CloseCurly y.1 >>=
-    (λ rest. Some (function_tree head x.0 y.0 (first_line y.1), rest))))) (behind mark.OpenCurly ts) (x, rest) h in
-    let l = bound (λ x. stmts_at (stmt_at free limit) x.1 >>=
-    (λ y. behind mark.CloseCurly y.1 >>= (λ rest. Some (function_tree head x.0 y.0 (first_line y.1), rest))))
-    (locals_at free limit o.0) (x, rest) o.2 in
-    let s = bound (λ y. behind mark.CloseCurly y.1 >>=
-    (λ rest. Some (function_tree head l.0.0 y.0 (first_line y.1), rest))) (stmts_at (stmt_at free limit) l.0.1)
-    (x, rest) l.2 in
-    let c = bound (λ rest. Some (function_tree head l.0.0 s.0.0 (first_line s.0.1), rest))
-    (behind mark.CloseCurly s.0.1) (x, rest) s.2 in
-    let t = behind_mark mark.OpenCurly ts o.0 o.1 in
+    let o = bound _ _ _ h in
+    let l = bound _ _ _ o.2 in
+    let s = bound _ _ _ l.2 in
+    let c = bound _ _ _ s.2 in
+    let t = behind_mark _ ts o.0 o.1 in
     let locals = (lows_exact free limit).sound [] l.0.0 o.0 l.0.1 l.1 in
     let apart = locals_apart limit locals.spelled in
     let stmts = (stmts_exact free limit).sound l.0.1 s.0.1 s.0.0 s.1 in
-    let u = behind_mark mark.CloseCurly s.0.1 c.0 c.1 in
-    let line : first_line s.0.1 ≡ u.0.line = ap first_line u.1 in
-    let made : IsBody limit head (t.0 ∷ (locals.taken ++ (stmts.taken ++ u.0 ∷ [])))
-    (function_tree head locals.added s.0.0 u.0.line) =
+    let u = behind_mark _ s.0.1 c.0 c.1 in
+    let line = ap first_line u.1 in
+    let made =
     a_body t.0 u.0 t.2 u.2 apart.0 stmts.spelled.spelled apart.1 stmts.spelled.low in
-    took (IsBody limit head) ts (t.0 ∷ (locals.taken ++ (stmts.taken ++ u.0 ∷ []))) x
-    (function_tree head l.0.0 s.0.0 (first_line s.0.1)) c.0 rest
+    took _ ts (t.0 ∷ (locals.taken ++ (stmts.taken ++ u.0 ∷ []))) x _ c.0 rest
     (t.1 ∙ ap (λ k. t.0 ∷ k) (glued o.0 l.0.1 c.0 locals.taken (stmts.taken ++ u.0 ∷ []) locals.split
     (glued l.0.1 s.0.1 c.0 stmts.taken (u.0 ∷ []) stmts.split u.1)))
     (subst (λ n. IsBody limit head (t.0 ∷ (locals.taken ++ (stmts.taken ++ u.0 ∷ [])))
@@ -243,7 +231,7 @@ if_no_base (otherwise_if t u p q c b e) rest = rw p
 kind_no_base : {ts : List Lexeme} {k : StmtKind} (d : SpellsStmtKind ts k) (rest : List Lexeme) →
     no_base (ts ++ rest) ≡ true
 kind_no_base (empty t p) rest = rw p
-kind_no_base (plain {ts = ts} t p d) rest = ap no_base (append_assoc ts (t ∷ []) rest) ∙
+kind_no_base (plain {ts = ts} t p d) rest = ap no_base (append_assoc ts _ rest) ∙
     ap (λ o. not (is_base o)) (kind_no_word d (t ∷ rest))
 kind_no_base (statements.break t u p q) rest = rw p
 kind_no_base (statements.continue t u p q) rest = rw p
@@ -258,7 +246,7 @@ stmts_no_base : {ts : List Lexeme} {ss : List StmtTree} (d : SpellsStmts ts ss) 
     IsMark mark.CloseCurly u → no_base (ts ++ u ∷ rest) ≡ true
 stmts_no_base statements.none u rest p = rw p
 stmts_no_base (statements.next {ts = ts} {us = us} d g) u rest p =
-    ap no_base (append_assoc ts us (u ∷ rest)) ∙ kind_no_base d (us ++ u ∷ rest)
+    ap no_base (append_assoc ts us _) ∙ kind_no_base d (us ++ u ∷ rest)
 
 pub body_complete : (free limit : ℕ) → {head : FunctionHead} {ts : List Lexeme} {x : FunctionTree}
     (d : IsBody limit head ts x) (rest : List Lexeme) → Few free ts →

@@ -1,10 +1,10 @@
 -- Declarations of variables and structs are read exactly as they are spelled.
 use Rattle.sc_parse.proofs.Common.{BaseTree, Declarator, Declares, IsMark, IsMember, Lexeme, List, MemberTree, None}
 use Rattle.sc_parse.proofs.Common.{Option, Reader, Separated, Some, SpellsBase, SpellsDeclarator, TypeTree, [], adds}
-use Rattle.sc_parse.proofs.Common.{all_separated, ap, append_assoc, array, base_at, behind, behind_mark, bound}
+use Rattle.sc_parse.proofs.Common.{all_separated, ap, append_assoc, array, behind, behind_mark, bound}
 use Rattle.sc_parse.proofs.Common.{declaration_at, declarator, declarator_at, declares, first_line, int, member_at}
 use Rattle.sc_parse.proofs.Common.{members_behind, more, one, refl, same_some, signed, signed_int, struct, subst, sym}
-use Rattle.sc_parse.proofs.Common.{type_of, unsigned, unsigned_int, ℕ, ◌++◌, ◌>>=◌, ◌∙◌, ◌∷◌, ◌≡◌}
+use Rattle.sc_parse.proofs.Common.{type_of, unsigned, unsigned_int, ℕ, ◌++◌, ◌∙◌, ◌∷◌, ◌≡◌}
 use Rattle.sc_expr.specs.declared.mark.Mark.TheVariants as mark
 use Rattle.sc_parse.specs.Types.{plain}
 use Rattle.sc_parse.proofs.Exact.{Taken, Added, Exact, ExactAdder, Any, took, glued, separated_exact}
@@ -16,7 +16,7 @@ Comma = behind mark.Comma
 
 pub comma_ahead : (us vs : List Lexeme) → behind mark.Comma us ≡ Some vs →
     (t : Lexeme) × (us ≡ t ∷ vs) × IsMark mark.Comma t
-comma_ahead us vs h = behind_mark mark.Comma us vs h
+comma_ahead us vs h = behind_mark _ us vs h
 
 -- a declarator of a type and a name is read as one that makes them of its base
 pub record Reads (base : BaseTree) (ts rest : List Lexeme) (ty : TypeTree) (name : List ℕ) : Type 0 where
@@ -30,16 +30,15 @@ pub declarator_complete : {base : BaseTree} {ts : List Lexeme} {ty : TypeTree} {
 declarator_complete (plain {ts = ts} {stars = n} t name p d) rest h =
     record {
       read = declarator n name None;
-      is = ap declarator_at (append_assoc ts (t ∷ []) rest) ∙
-          declarator_reads t name p d no_length rest h;
+      is = ap declarator_at (append_assoc ts _ rest) ∙ declarator_reads t name p d no_length rest h;
       ty_is = refl;
       name_is = refl;
     }
 declarator_complete (array {ts = ts} {stars = n} t u v w name number elements p q r s k d) rest h =
     record {
-      read = declarator n name (Some elements);
-      is = ap declarator_at (append_assoc ts (t ∷ u ∷ v ∷ w ∷ []) rest) ∙
-          declarator_reads t name p d (in_brackets u v w number elements q r s k) rest h;
+      read = declarator n name _;
+      is = ap declarator_at (append_assoc ts _ rest) ∙
+          declarator_reads t name p d (in_brackets u v w number _ q r s k) rest h;
       ty_is = refl;
       name_is = refl;
     }
@@ -48,9 +47,9 @@ declarator_complete (array {ts = ts} {stars = n} t u v w name number elements p 
 pub declarator_no_int : {base : BaseTree} {ts : List Lexeme} {ty : TypeTree} {name : List ℕ}
     (d : SpellsDeclarator base ts ty name) (rest : List Lexeme) → NoInt (ts ++ rest)
 declarator_no_int (plain {ts = ts} t name p d) rest =
-    subst NoInt (sym (append_assoc ts (t ∷ []) rest)) (stars_no_int d (t ∷ rest) (rw p))
+    subst NoInt (sym (append_assoc ts _ rest)) (stars_no_int d (t ∷ rest) (rw p))
 declarator_no_int (array {ts = ts} t u v w name number elements p q r s k d) rest =
-    subst NoInt (sym (append_assoc ts (t ∷ u ∷ v ∷ w ∷ []) rest)) (stars_no_int d (t ∷ u ∷ v ∷ w ∷ rest) (rw p))
+    subst NoInt (sym (append_assoc ts _ rest)) (stars_no_int d (t ∷ u ∷ v ∷ w ∷ rest) (rw p))
 
 pub first_line_base : {ts : List Lexeme} {base : BaseTree} (d : SpellsBase ts base) (rest : List Lexeme) →
     first_line (ts ++ rest) ≡ first_line ts
@@ -72,7 +71,7 @@ pub separated_front : {A : Type 0} {Item : List Lexeme → A → Type 0} (P : Li
     (d : Separated Item ts xs) (rest : List Lexeme) → P (ts ++ rest)
 separated_front P front (one {ts = ts} {x = x} d) rest = front ts rest x d
 separated_front P front (more {ts = ts} {us = us} {x = x} t p d g) rest =
-    subst P (sym (append_assoc ts (t ∷ us) rest)) (front ts (t ∷ us ++ rest) x d)
+    subst P (sym (append_assoc ts _ rest)) (front ts (t ∷ us ++ rest) x d)
 
 module _ {A : Type 0} (Fits : List Lexeme → Type 0) (fits_left : (ts us : List Lexeme) → Fits (ts ++ us) → Fits ts)
     (fits_right : (ts us : List Lexeme) → Fits (ts ++ us) → Fits us)
@@ -84,26 +83,24 @@ module _ {A : Type 0} (Fits : List Lexeme → Type 0) (fits_left : (ts us : List
     NoInt (ts ++ rest)) where
   items_exact : (base : BaseTree) (line : ℕ) → ExactAdder Fits (Separated (Item base line))
       (λ rest. Ends rest × (behind mark.Comma rest ≡ None)) (all_separated (adds (item base line)))
-  items_exact base line = separated_exact Fits fits_left fits_right (behind mark.Comma) comma_ahead
-      (Item base line) Ends (item base line) (exact base line) before_comma (λ t us rest zs p d. rw p)
+  items_exact base line = separated_exact Fits fits_left fits_right _ comma_ahead
+      _ Ends _ (exact base line) before_comma (λ t us rest zs p d. rw p)
 
   declaration_sound : (xs ys : List A) (ts rest : List Lexeme) →
       declaration_at (λ base line. adds (item base line)) xs ts ≡ Some (ys, rest) →
       Added (Declares Item) xs ts ys rest
   unfolding declaration_at
   declaration_sound xs ys ts rest h =
-      let b = bound (λ x. all_separated (adds (item x.0 (first_line ts))) xs x.1 >>=
-      (λ y. behind mark.Semicolon y.1 >>= (λ rest. Some (y.0, rest)))) (base_at ts) (ys, rest) h in
-      let c = bound (λ y. behind mark.Semicolon y.1 >>= (λ rest. Some (y.0, rest)))
-      (all_separated (adds (item b.0.0 (first_line ts))) xs b.0.1) (ys, rest) b.2 in
-      let s = bound (λ rest. Some (c.0.0, rest)) (behind mark.Semicolon c.0.1) (ys, rest) c.2 in
+      let b = bound _ _ _ h in
+      let c = bound _ _ _ b.2 in
+      let s = bound _ _ _ c.2 in
       let same = same_some s.2 in
-      let all : c.0.0 ≡ ys = ap (λ p. p.0) same in
-      let behind : s.0 ≡ rest = ap (λ p. p.1) same in
+      let all = ap (λ p. p.0) same in
+      let behind = ap (λ p. p.1) same in
       let first = base_exact.sound ts b.0.1 b.0.0 b.1 in
-      let items = (items_exact b.0.0 (first_line ts)).sound xs c.0.0 b.0.1 c.0.1 c.1 in
-      let mark = behind_mark mark.Semicolon c.0.1 s.0 s.1 in
-      let line : first_line ts ≡ first_line first.taken =
+      let items = (items_exact b.0.0 _).sound xs c.0.0 b.0.1 c.0.1 c.1 in
+      let mark = behind_mark _ c.0.1 s.0 s.1 in
+      let line =
       ap first_line first.split ∙ first_line_base first.spelled b.0.1 in
       record {
         taken = first.taken ++ (items.taken ++ mark.0 ∷ []);
@@ -148,10 +145,9 @@ member_sound : (base : BaseTree) (line : ℕ) (ts rest : List Lexeme) (x : Membe
     member_at base ts ≡ Some (x, rest) → Taken (IsMember base line) ts x rest
 unfolding member_at
 member_sound base line ts rest x h =
-    let b = bound (λ x. Some (record { ty = type_of base x.0; name = x.0.name }, x.1)) (declarator_at ts) (x, rest) h in
+    let b = bound _ _ _ h in
     let d = declarator_sound ts b.0.1 b.0.0 b.1 in
-    took (IsMember base line) ts d.taken x (record { ty = type_of base b.0.0; name = b.0.0.name }) b.0.1 rest d.split
-    (d.spelled base) b.2
+    took _ ts d.taken x _ b.0.1 rest d.split (d.spelled base) b.2
 
 member_complete : (base : BaseTree) (ts rest : List Lexeme) (x : MemberTree) → SpellsDeclarator base ts x.ty x.name →
     NoBracket rest → member_at base (ts ++ rest) ≡ Some (x, rest)
@@ -166,6 +162,5 @@ member_exact base line = record {
 
 -- a declaration of members
 pub member_line_exact : ExactAdder Any (Declares IsMember) (λ rest. Unit {0}) (declaration_at members_behind)
-member_line_exact = declaration_exact Any any_left any_right IsMember NoBracket
-    (λ base line. member_at base) member_exact comma_no_bracket semicolon_no_bracket
+member_line_exact = declaration_exact Any _ _ IsMember NoBracket _ member_exact comma_no_bracket semicolon_no_bracket
     (λ base line ts rest x d. declarator_no_int d rest)

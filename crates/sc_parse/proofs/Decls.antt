@@ -46,7 +46,7 @@ function_reads : (free limit : ℕ) → {front body : List Lexeme} {x : Function
     headed_at free limit ((front ++ body) ++ rest) ≡ Some (decl.Function x, rest)
 unfolding headed_at function_behind
 function_reads free limit {front} {body} {x} d b rest few =
-    let first = head_exact.complete front (body ++ rest) (head_of x.head) d tt tt in
+    let first = head_exact.complete front (body ++ rest) _ d tt tt in
     let named = head_named x.head (head_of x.head) refl in
     ap (headed_at free limit) (append_assoc front body rest) ∙
     rw (first, body_opens limit b rest, named, body_complete free limit b rest few)
@@ -79,7 +79,7 @@ decl_complete free limit (a_function {ts = ts} {tree = tree} d) xs rest low few 
     let o = body_of limit d low in
     let b = head_begins o.3 (o.1 ++ rest) in
     let all : ts ++ rest ≡ o.0 ++ (o.1 ++ rest) = ap (λ l. l ++ rest) o.2 ∙ append_assoc o.0 o.1 rest in
-    let read : headed_at free limit (o.0 ++ (o.1 ++ rest)) ≡ Some (decl.Function tree, rest) =
+    let read : headed_at free limit _ ≡ Some _ =
     ap (headed_at free limit) (sym (append_assoc o.0 o.1 rest)) ∙
     function_reads free limit o.3 o.4 rest (few_right free o.0 o.1 (subst (Few free) o.2 few)) in
     ap (decl_at free limit xs) all ∙ rw (b.no_struct, b.is_head, read)
@@ -102,11 +102,11 @@ decl_some (a_function (function {ts = ts} {us = us} {vs = vs} t u p q d g s)) =
 pub decl_no_line : {ts : List Lexeme} {zs : List Decl} (d : SpellsDecl ts zs) (rest : List Lexeme) → NoLine (ts ++ rest)
 decl_no_line (a_struct d) rest = (struct_begins d rest).1
 decl_no_line (globals d) rest = (globals_begin d rest).no_line
-decl_no_line (prototype {ts = ts} t p d) rest = subst NoLine (sym (append_assoc ts (t ∷ []) rest))
+decl_no_line (prototype {ts = ts} t p d) rest = subst NoLine (sym (append_assoc ts _ rest))
     (head_begins d (t ∷ rest)).no_line
 decl_no_line (a_function (function {ts = ts} {us = us} {vs = vs} t u p q d g s)) rest =
     let body = t ∷ (us ++ (vs ++ u ∷ [])) in
-    subst NoLine (sym (append_assoc ts (t ∷ (us ++ (vs ++ u ∷ []))) rest)) (head_begins d (body ++ rest)).no_line
+    subst NoLine (sym (append_assoc ts _ rest)) (head_begins d (body ++ rest)).no_line
 
 full : (ts rest : List Lexeme) → 0 < length ts → is_empty (ts ++ rest) ≡ false
 full [] rest h = absurd (omega arith)
@@ -115,8 +115,8 @@ full (t ∷ ts) rest h = refl
 -- all declarations of a section
 pub all_exact : (free limit : ℕ) → ExactAdder (Few free) (Grouped (IsDecls limit)) (λ rest. is_empty rest ≡ true)
     (λ xs ts. grouped is_empty (decl_at free limit) (length ts + 1) xs ts)
-all_exact free limit = grouped_exact (Few free) (few_left free) (few_right free) is_empty (IsDecls limit)
-    (λ rest. Unit {0}) (decl_at free limit) (decl_exact free limit) (λ us rest zs d. full us rest (decl_some d.spelled))
+all_exact free limit = grouped_exact _ (few_left free) (few_right free) _ _
+    (λ rest. Unit {0}) _ (decl_exact free limit) (λ us rest zs d. full us rest (decl_some d.spelled))
     (λ us zs d. decl_some d.spelled) (λ rest h. tt) (λ us rest zs d. tt)
 
 heights_joined : (xs ys : List Decl) → decls_height (xs ++ ys) ≡ max (decls_height xs) (decls_height ys)

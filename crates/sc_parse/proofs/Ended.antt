@@ -1,13 +1,13 @@
 -- Statements are read exactly as they are spelled.
-use Rattle.sc_parse.proofs.Common.{Bool, IsKeyword, IsMark, Keyword, Lexeme, List, Option, Some, SpellsBlock}
-use Rattle.sc_parse.proofs.Common.{SpellsCall, SpellsCondition, SpellsIf, SpellsKind, SpellsPart, SpellsStmtKind}
-use Rattle.sc_parse.proofs.Common.{SpellsStmts, SpellsTest, StmtKind, StmtTree, [], alone, ap, append_assoc, arith}
-use Rattle.sc_parse.proofs.Common.{begins_call, begins_with, behind, behind_mark, block, bound, break_height, call_at}
+use Rattle.sc_parse.proofs.Common.{Bool, IsKeyword, IsMark, Keyword, Lexeme, List, Option, Some}
+use Rattle.sc_parse.proofs.Common.{SpellsIf, SpellsStmtKind}
+use Rattle.sc_parse.proofs.Common.{StmtKind, StmtTree, [], alone, ap, append_assoc, arith}
+use Rattle.sc_parse.proofs.Common.{begins_call, begins_with, behind, behind_mark, bound, break_height, call_at}
 use Rattle.sc_parse.proofs.Common.{choice, cond, continue_height, drop, empty, empty_height, ended_at, expr_at, false}
 use Rattle.sc_parse.proofs.Common.{first_line, for_loop, is_else, keyword_at, kind_height, kind_of, length}
 use Rattle.sc_parse.proofs.Common.{length-append, otherwise, otherwise_if, plain, plain_at, plain_height, refl}
 use Rattle.sc_parse.proofs.Common.{return_call, return_call_height, return_height, return_nothing, return_value}
-use Rattle.sc_parse.proofs.Common.{returned, same_some, simple_at, simple_or_none, step_of, stmt_tree, subst, true}
+use Rattle.sc_parse.proofs.Common.{returned, same_some, simple_at, simple_or_none, stmt_tree, subst, true}
 use Rattle.sc_parse.proofs.Common.{value_height, value_returned, while_loop, ℕ, ◌++◌, ◌<◌, ◌>>=◌, ◌∙◌, ◌∷◌, ◌≡◌, ◌≤◌}
 use Rattle.sc_ast.specs.declared.stmt.StmtKind.TheVariants as stmt
 use Rattle.sc_expr.specs.declared.mark.Keyword.TheVariants as word
@@ -37,7 +37,7 @@ pub kind_starts : {ts : List Lexeme} {k : StmtKind} (d : SpellsStmtKind ts k) �
 kind_starts (empty t p) = record { some = omega arith; no_end = λ rest. rw p; no_else = λ rest. rw p }
 kind_starts (plain {ts = ts} t p d) = record {
   some = omega (arith, length-append ts (t ∷ []));
-  no_end = λ rest. ap (begins_with mark.CloseCurly) (append_assoc ts (t ∷ []) rest) ∙
+  no_end = λ rest. ap (begins_with mark.CloseCurly) (append_assoc ts _ rest) ∙
       kind_no_mark mark.CloseCurly refl refl d (t ∷ rest);
   no_else = λ rest. ap (λ l. is_else (keyword_at l)) (append_assoc ts (t ∷ []) rest) ∙
       ap is_else (kind_no_word d (t ∷ rest));
@@ -78,10 +78,9 @@ ended_front : (ts : List Lexeme) (word : Keyword) (rest : List Lexeme) (k x : St
     (behind mark.Semicolon (drop 1 ts) >>= (λ rest. Some (k, rest))) (Some (x, rest)) → Taken (IsKind room) ts x rest
 ended_front ts word rest k x room q make h =
     let t = word_ahead ts word q in
-    let c = bound (λ rest. Some (k, rest)) (behind mark.Semicolon (drop 1 ts)) (x, rest) h in
+    let c = bound (λ rest. Some _) _ _ h in
     let u = behind_mark mark.Semicolon (drop 1 ts) c.0 c.1 in
-    took (IsKind room) ts (t.first ∷ u.0 ∷ []) x k c.0 rest (t.is ∙ ap (λ l. t.first ∷ l) u.1)
-    (make t.first u.0 t.keyword u.2) c.2
+    took _ ts (t.first ∷ u.0 ∷ []) x k c.0 rest (t.is ∙ ap (λ l. t.first ∷ l) u.1) (make t.first u.0 t.keyword u.2) c.2
 
 returned_sound : (free : ℕ) → (room : ℕ) (ts rest : List Lexeme) (x : StmtKind) → keyword_at ts ≡ Some word.Return →
     before_semicolon (returned free room (drop 1 ts)) ≡ Some (x, rest) → Taken (IsKind room) ts x rest

@@ -44,8 +44,8 @@ pub took : {A : Type 0} (Item : List Lexeme → A → Type 0) (ts taken : List L
     Taken Item ts x rest
 took Item ts taken x y us rest split spelled h =
     let same = same_some h in
-    let value : y ≡ x = ap (λ p. p.0) same in
-    let behind : us ≡ rest = ap (λ p. p.1) same in
+    let value = ap (λ p. p.0) same in
+    let behind = ap (λ p. p.1) same in
     record {
       taken = taken;
       split = split ∙ ap (λ l. taken ++ l) behind;
@@ -69,11 +69,11 @@ pub adds_exact : {A : Type 0} (Fits : List Lexeme → Type 0) (Item : List Lexem
 unfolding adds
 adds_exact {A} Fits Item Ends reader e = record {
   sound = λ xs ys ts rest h.
-      let b = bound (λ x. Some (xs ++ x.0 ∷ [], x.1)) (reader ts) (ys, rest) h in
+      let b = bound _ _ _ h in
       let t = e.sound ts b.0.1 b.0.0 b.1 in
       let same = same_some b.2 in
-      let all : xs ++ b.0.0 ∷ [] ≡ ys = ap (λ p. p.0) same in
-      let behind : b.0.1 ≡ rest = ap (λ p. p.1) same in
+      let all = ap (λ p. p.0) same in
+      let behind = ap (λ p. p.1) same in
       record {
         taken = t.taken;
         added = b.0.0 ∷ [];
@@ -151,22 +151,20 @@ module _ {A : Type 0} (Fits : List Lexeme → Type 0) (fits_left : (ts us : List
       separated_reads (more t p d g) zero xs rest h fits ends stop = absurd (omega arith)
       separated_reads (more {ts = ts} {us = us} {x = x} {xs = zs} t p d g) (suc turns) xs rest h fits ends stop =
           let first = (adds_exact Fits Item Ends reader exact).complete xs (x ∷ []) ts (t ∷ (us ++ rest))
-          (record { item = x; is = refl; spelled = d }) (fits_left ts (t ∷ us) fits)
-          (before_comma t (us ++ rest) p) in
+          (record { item = x; is = refl; spelled = d }) (fits_left ts _ fits) (before_comma t (us ++ rest) p) in
           let others = separated_reads g turns (xs ++ x ∷ []) rest (omega arith)
-          (fits_right (t ∷ []) us (fits_right ts (t ∷ us) fits)) ends stop in
-          ap (λ l. separated comma (adds reader) (suc turns) xs l) (append_assoc ts (t ∷ us) rest)
-          ∙ rw (first, goes_on t us rest zs p g) (others ∙ ap (λ l. Some (l, rest)) (append_assoc xs (x ∷ []) zs))
+          (fits_right (t ∷ []) us (fits_right ts _ fits)) ends stop in
+          ap (λ l. separated comma (adds reader) (suc turns) xs l) (append_assoc ts _ rest)
+          ∙ rw (first, goes_on t us rest zs p g) (others ∙ ap (λ l. Some (l, rest)) (append_assoc xs _ zs))
 
       -- all that stands between the items is commas
       pub separated_exact : ExactAdder Fits (Separated Item) (λ rest. Ends rest × (comma rest ≡ None))
           (λ xs ts. separated comma (adds reader) (length ts + 1) xs ts)
       separated_exact = record {
-        sound = λ xs ys ts rest h. separated_sound (length ts + 1) xs ys ts rest h;
+        sound = λ xs ys ts rest h. separated_sound _ xs ys ts rest h;
         complete = λ xs zs ts rest g fits ends.
             let short = separated_short g in
-            separated_reads g (length (ts ++ rest) + 1) xs rest
-            (omega (arith, length-append ts rest)) fits ends.0 ends.1;
+            separated_reads g _ xs rest (omega (arith, length-append ts rest)) fits ends.0 ends.1;
       }
 
   module _ (ends : List Lexeme → Bool) (Group : List Lexeme → List A → Type 0) (Ends : List Lexeme → Type 0)
@@ -190,7 +188,7 @@ module _ {A : Type 0} (Fits : List Lexeme → Type 0) (fits_left : (ts us : List
               ap ends (sym behind) ∙ q,
             )
         go false q e ih =
-            let b = bound (λ x. grouped ends group turns x.0 x.1) (group xs ts) (ys, rest) e in
+            let b = bound (λ x. grouped ends group turns x.0 x.1) _ (ys, rest) e in
             let a = exact.sound xs b.0.0 ts b.0.1 b.1 in
             let l = ih b.0.0 ys b.0.1 rest b.2 in (
               record {
@@ -232,7 +230,7 @@ module _ {A : Type 0} (Fits : List Lexeme → Type 0) (fits_left : (ts us : List
       grouped_reads none (suc turns) xs rest h fits stop = rw stop (ap (λ l. Some (l, rest)) (sym (append-nil xs)))
       grouped_reads (next d g) zero xs rest h fits stop = absurd (omega arith)
       grouped_reads (next {ts = ts} {us = us} {xs = zs} {ys = ws} d g) (suc turns) xs rest h fits stop =
-          let first = exact.complete xs zs ts (us ++ rest) d (fits_left ts us fits) (before g rest stop) in
+          let first = exact.complete xs zs ts _ d (fits_left ts us fits) (before g rest stop) in
           let others = grouped_reads g turns (xs ++ zs) rest (omega arith) (fits_right ts us fits) stop in
           ap (λ l. grouped ends group (suc turns) xs l) (append_assoc ts us rest)
           ∙ rw (starts ts (us ++ rest) zs d, first) (others ∙ ap (λ l. Some (l, rest)) (append_assoc xs zs ws))
@@ -240,8 +238,8 @@ module _ {A : Type 0} (Fits : List Lexeme → Type 0) (fits_left : (ts us : List
       pub grouped_exact : ExactAdder Fits (Grouped Group) (λ rest. ends rest ≡ true)
           (λ xs ts. grouped ends group (length ts + 1) xs ts)
       grouped_exact = record {
-        sound = λ xs ys ts rest h. (grouped_sound (length ts + 1) xs ys ts rest h).0;
+        sound = λ xs ys ts rest h. (grouped_sound _ xs ys ts rest h).0;
         complete = λ xs zs ts rest g fits stop.
             let short = group_short g in
-            grouped_reads g (length (ts ++ rest) + 1) xs rest (omega (arith, length-append ts rest)) fits stop;
+            grouped_reads g _ xs rest (omega (arith, length-append ts rest)) fits stop;
       }

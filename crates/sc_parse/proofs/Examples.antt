@@ -1,6 +1,6 @@
 -- Small texts and the trees that they spell.
 use Rattle.sc_parse.proofs.Common.{Lexeme, List, None, Number, Some, Spells, SpellsBlock, SpellsCondition, SpellsDecl}
-use Rattle.sc_parse.proofs.Common.{SpellsIf, SpellsKind, SpellsStmtKind, Symbol, [], codes, false, is_place, looser}
+use Rattle.sc_parse.proofs.Common.{SpellsIf, SpellsKind, Symbol, [], codes, false, is_place, looser}
 use Rattle.sc_parse.proofs.Common.{loosest_level, refl, rules, the_lemmas, true, variable, ℕ, ◌∷◌, ◌≡◌}
 use Rattle.sc_ast.specs.declared.types.BaseTree.TheVariants as base
 use Rattle.sc_ast.specs.declared.expr.ExprTree.TheVariants as expr
@@ -51,17 +51,14 @@ pub two_globals : SpellsDecl
       line = 1;
     }) ∷ [])
 two_globals =
-    declarations.globals (declarations.declares (the (symbol.Mark mark.Semicolon)) refl
-    (types.int (in_line 1 (symbol.Keyword word.Int)) refl)
-    (lists.more (the (symbol.Mark mark.Comma)) refl
-    (declarations.global (types.array (the a) (the (symbol.Mark mark.OpenSquare)) (the (symbol.Integer three))
-    (the (symbol.Mark mark.CloseSquare)) (codes "a") three 3 refl refl refl refl refl
-    (types.star (the (symbol.Mark mark.Star)) refl types.none)) declarations.absent)
-    (lists.one (declarations.global (types.plain (the b) (codes "b") refl types.none) declarations.absent))))
+    declarations.globals (declarations.declares (the _) refl (types.int _ refl) (lists.more (the _) refl
+    (declarations.global (types.array (the a) (the _) (the _) (the _) _ three 3 refl refl refl refl refl
+    (types.star _ refl types.none)) declarations.absent)
+    (lists.one (declarations.global (types.plain (the b) _ refl types.none) declarations.absent))))
 
 variable_spelled : (name : List ℕ) → Spells loosest_level (the (symbol.Ident name) ∷ []) (expr.Variable name)
 variable_spelled name = looser (looser (looser (looser
-    (looser (looser (looser (looser (looser (looser (looser (variable (the (symbol.Ident name)) name refl)))))))))))
+    (looser (looser (looser (looser (looser (looser (looser (variable _ name refl)))))))))))
 
 a_place : is_place (expr.Variable (codes "a")) ≡ true
 a_place = search (rules, the_lemmas)
@@ -69,17 +66,14 @@ a_place = search (rules, the_lemmas)
 -- `++ a` is `a = a + 1`
 pub a_step : SpellsKind (the (symbol.Mark mark.PlusPlus) ∷ the a ∷ [])
     (simple.Assign (expr.Variable (codes "a")) (expr.Binary binary.Add (expr.Variable (codes "a")) one))
-a_step = statements.step_before (the (symbol.Mark mark.PlusPlus)) mark.PlusPlus binary.Add refl refl
-    (looser (variable (the a) (codes "a") refl), a_place)
+a_step = statements.step_before _ _ _ refl refl (looser (variable _ _ refl), a_place)
 
 a_condition : (name : List ℕ) → SpellsCondition (the (symbol.Mark mark.OpenParen) ∷ the (symbol.Ident name) ∷
     the (symbol.Mark mark.CloseParen) ∷ []) (expr.Variable name)
-a_condition name = statements.condition (the (symbol.Mark mark.OpenParen)) (the (symbol.Mark mark.CloseParen)) refl refl
-    (variable_spelled name)
+a_condition name = statements.condition _ (the _) refl refl (variable_spelled name)
 
 empty_block : SpellsBlock (the (symbol.Mark mark.OpenCurly) ∷ the (symbol.Mark mark.CloseCurly) ∷ []) []
-empty_block = statements.block (the (symbol.Mark mark.OpenCurly))
-    (the (symbol.Mark mark.CloseCurly)) refl refl statements.none
+empty_block = statements.block _ (the _) refl refl statements.none
 
 -- in `if (a) { } else if (b) { } else { }` the last part is that of the second `if`
 pub an_else_if : SpellsIf
@@ -91,7 +85,5 @@ pub an_else_if : SpellsIf
     (stmt.If (expr.Variable (codes "a")) [] (record { line = 3; kind = stmt.If (expr.Variable (codes "b")) [] [] } ∷
     []))
 an_else_if =
-    statements.otherwise_if (the (symbol.Keyword word.If)) (the (symbol.Keyword word.Else)) refl refl
-    (a_condition (codes "a")) empty_block
-    (statements.otherwise (in_line 3 (symbol.Keyword word.If)) (the (symbol.Keyword word.Else)) refl refl
-    (a_condition (codes "b")) empty_block empty_block)
+    statements.otherwise_if _ (the _) refl refl (a_condition _) empty_block (statements.otherwise _ (the _) refl refl
+    (a_condition _) empty_block empty_block)

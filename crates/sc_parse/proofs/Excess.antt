@@ -5,7 +5,7 @@ use Rattle.sc_parse.proofs.Common.{open_along, refl, sym, take, take_more, ℕ, 
 along_snoc : (n : ℕ) (ts : List Lexeme) (t : Lexeme) →
     open_along n (ts ++ t ∷ []) ≡ open_after t.symbol (open_along n ts)
 along_snoc n [] t = refl
-along_snoc n (u ∷ ts) t = along_snoc (open_after u.symbol n) ts t
+along_snoc n (u ∷ ts) t = along_snoc (open_after _ n) ts t
 
 most_snoc : (n : ℕ) (ts : List Lexeme) (t : Lexeme) →
     most_open n (ts ++ t ∷ []) ≡ max (most_open n ts) (open_after t.symbol (open_along n ts))
@@ -47,6 +47,6 @@ pub excess : (lexemes : List Lexeme) (at count next : ℕ) (t : Lexeme) → at <
     IsWithin lexemes at count → t ≡ get_or lexemes at t → next ≡ open_after t.symbol count → 1024 < next →
     IsExcess lexemes at
 excess lexemes at count next t h w is q many =
-    let same : next ≡ open_after (get_or lexemes at t).symbol count = q ∙ ap (λ u. open_after u.symbol count) is in
+    let same = q ∙ ap (λ u. open_after u.symbol count) is in
     let most = more_most lexemes at count t h w in
     record { within = h; few = w.few; many = omega (arith, most, same, many) }

@@ -3,11 +3,11 @@ use Rattle.sc_parse.proofs.Common.{BinaryOp, Bool, CallTree, ExprTree, Found, Is
 use Rattle.sc_parse.proofs.Common.{Prefix, Separated, Some, Spells, SpellsArgs, SpellsCall, Symbol, [], all_separated}
 use Rattle.sc_parse.proofs.Common.{ap, append_assoc, args_at, args_behind, args_in_parens, arith, arrow, begins_call}
 use Rattle.sc_parse.proofs.Common.{begins_with, behind, behind_mark, binary_of, bound, call, call_at, call_height}
-use Rattle.sc_parse.proofs.Common.{call_tree, cond, expr_at, expr_height, exprs_height, extension_at, false, found}
+use Rattle.sc_parse.proofs.Common.{cond, expr_at, expr_height, exprs_height, extension_at, false, found}
 use Rattle.sc_parse.proofs.Common.{index, is_mark, is_some, joined, lead_by, literal, looser, loosest_level, member}
-use Rattle.sc_parse.proofs.Common.{more, most_open, name_ahead, name_at, no_args, none-some, one, open_after}
+use Rattle.sc_parse.proofs.Common.{more, most_open, name_ahead, no_args, none-some, one, open_after}
 use Rattle.sc_parse.proofs.Common.{open_behind, open_low, parenthesised, prefix, prefix_of, read, read_sound, refl}
-use Rattle.sc_parse.proofs.Common.{same_some, some_args, subst, sym, true, unary_level, variable, ℕ, ◌++◌, ◌>>=◌, ◌∙◌}
+use Rattle.sc_parse.proofs.Common.{same_some, some_args, subst, sym, true, unary_level, variable, ℕ, ◌++◌, ◌∙◌}
 use Rattle.sc_parse.proofs.Common.{◌∷◌, ◌≡◌, ◌≤◌}
 use Rattle.sc_expr.specs.declared.mark.Mark.TheVariants as mark
 use Rattle.sc_expr.specs.declared.lexeme.Symbol.TheVariants as symbol
@@ -76,29 +76,29 @@ pub record Measured (room : ℕ) (ts : List Lexeme) (x : Found) : Type 0 where
 
 pub measured : (free : ℕ) → (room : ℕ) (ts : List Lexeme) (x : Found) → read free room loosest_level ts ≡ Some x →
     Measured room ts x
-measured free room ts x h = let r = read_sound free room loosest_level ts x (omega arith) h in
+measured free room ts x h = let r = read_sound free room _ ts x (omega arith) h in
     record { taken = r.taken; split = r.split; spelled = r.spelled; height = r.measured; low = r.low }
 
 pub expr_reads : (free : ℕ) → {level : ℕ} {ts : List Lexeme} {e : ExprTree} (d : Spells level ts e) (room : ℕ)
     (rest : List Lexeme) → level ≤ 11 → expr_height e ≤ room → Few free ts → NoExtension rest →
     read free room loosest_level (ts ++ rest) ≡ Some (found e (expr_height e) rest)
-expr_reads free d room rest inside low few ends = reads_all d free room loosest_level 0 rest inside low (omega arith)
+expr_reads free d room rest inside low few ends = reads_all d free room _ 0 rest inside low (omega arith)
     (λ ext at. absurd (none-some ext (sym ends ∙ at)))
 
 -- the same up to an operator between operands
 pub unary_reads : (free : ℕ) → {ts : List Lexeme} {e : ExprTree} (d : Spells unary_level ts e) (room : ℕ)
     (rest : List Lexeme) → expr_height e ≤ room → Few free ts → NoExtension rest →
     read free room unary_level (ts ++ rest) ≡ Some (found e (expr_height e) rest)
-unary_reads free d room rest low few ends = reads_all d free room unary_level 0 rest (omega arith) low (omega arith)
+unary_reads free d room rest low few ends = reads_all d free room _ 0 rest (omega arith) low (omega arith)
     (λ ext at. absurd (none-some ext (sym ends ∙ at)))
 
 expr_sound : (free : ℕ) → (room : ℕ) (ts rest : List Lexeme) (x : ExprTree) → expr_at free room ts ≡ Some (x, rest) →
     Taken (IsExpr room) ts x rest
 unfolding expr_at
 expr_sound free room ts rest x h =
-    let b = bound (λ x. Some (x.tree, x.rest)) (read free room loosest_level ts) (x, rest) h in
+    let b = bound _ _ _ h in
     let m = measured free room ts b.0 b.1 in
-    took (IsExpr room) ts m.taken x b.0.tree b.0.rest rest m.split
+    took _ ts m.taken x _ _ rest m.split
     (record { spelled = m.spelled; low = let low = m.low in let height = m.height in omega arith }) b.2
 
 expr_complete : (free : ℕ) → (room : ℕ) (ts rest : List Lexeme) (x : ExprTree) → IsExpr room ts x → Few free ts →
@@ -137,14 +137,14 @@ expr_starts (literal t number p) rest = rw p
 expr_starts (variable t name p) rest = rw p
 expr_starts (parenthesised t u p q d) rest = rw p
 expr_starts (index {ts = ts} {us = us} t u p q d g) rest =
-    ap begins_expr (append_assoc ts (t ∷ (us ++ u ∷ [])) rest) ∙ expr_starts d (t ∷ (us ++ u ∷ []) ++ rest)
-expr_starts (member {ts = ts} t u name p q d) rest = ap begins_expr (append_assoc ts (t ∷ u ∷ []) rest) ∙
+    ap begins_expr (append_assoc ts _ rest) ∙ expr_starts d (t ∷ (us ++ u ∷ []) ++ rest)
+expr_starts (member {ts = ts} t u name p q d) rest = ap begins_expr (append_assoc ts _ rest) ∙
     expr_starts d (t ∷ u ∷ rest)
-expr_starts (arrow {ts = ts} t u name p q d) rest = ap begins_expr (append_assoc ts (t ∷ u ∷ []) rest) ∙
+expr_starts (arrow {ts = ts} t u name p q d) rest = ap begins_expr (append_assoc ts _ rest) ∙
     expr_starts d (t ∷ u ∷ rest)
 expr_starts (prefix t m o p q d) rest = rw p (prefix_leads m o q)
 expr_starts (joined {ts = ts} {us = us} t m op p q k d g) rest =
-    ap begins_expr (append_assoc ts (t ∷ us) rest) ∙ expr_starts d (t ∷ us ++ rest)
+    ap begins_expr (append_assoc ts _ rest) ∙ expr_starts d (t ∷ us ++ rest)
 expr_starts (looser d) rest = expr_starts d rest
 
 pub false-true : false ≡ true → ⊥
@@ -155,11 +155,11 @@ pub no_mark : (m : Mark) → is_some (lead_by m) ≡ false → (ts : List Lexeme
     begins_with m ts ≡ false
 unfolding begins_expr starts_expr
 no_mark m h [] e = refl
-no_mark m h (t ∷ ts) e = go (is_mark m t.symbol) refl
+no_mark m h (t ∷ ts) e = go _ refl
   where
     go : (b : Bool) → is_mark m t.symbol ≡ b → b ≡ false
     go false q = refl
-    go true q = let is : t.symbol ≡ symbol.Mark m = mark_is m t q in absurd (false-true (sym h ∙ (rw is at e)))
+    go true q = let is = mark_is m t q in absurd (false-true (sym h ∙ (rw is at e)))
 
 args_apart : {room : ℕ} {ts : List Lexeme} {es : List ExprTree} → Separated (IsExpr room) ts es →
     Separated (Spells loosest_level) ts es × (exprs_height es ≤ room)
@@ -173,13 +173,13 @@ args_joined (more t p d g) h = more t p (record { spelled = d; low = omega arith
 
 all_args_exact : (free : ℕ) → (room : ℕ) → ExactAdder (Few free) (Separated (IsExpr room))
     (λ rest. NoExtension rest × (behind mark.Comma rest ≡ None)) (all_separated (args_behind free room))
-all_args_exact free room = separated_exact (Few free) (few_left free) (few_right free) (behind mark.Comma) comma_ahead
-    (IsExpr room) NoExtension (expr_at free room) (expr_exact free room) (λ t rest p. rw p) (λ t us rest zs p d. rw p)
+all_args_exact free room = separated_exact _ (few_left free) (few_right free) _ comma_ahead
+    _ NoExtension _ (expr_exact free room) (λ t rest p. rw p) (λ t us rest zs p d. rw p)
 
 args_start : {ts : List Lexeme} {es : List ExprTree} (d : Separated (Spells loosest_level) ts es) (rest : List Lexeme) →
     begins_expr (ts ++ rest) ≡ true
 args_start (one d) rest = expr_starts d rest
-args_start (more {ts = ts} {us = us} t p d g) rest = ap begins_expr (append_assoc ts (t ∷ us) rest) ∙
+args_start (more {ts = ts} {us = us} t p d g) rest = ap begins_expr (append_assoc ts _ rest) ∙
     expr_starts d (t ∷ us ++ rest)
 
 -- arguments that are at most so high
@@ -194,15 +194,14 @@ args_sound free room ts rest x h = go (begins_with mark.CloseParen ts) h
   where
     go : (b : Bool) → cond {A = Option (List ExprTree × List Lexeme)} b (Some ([], ts))
         (all_separated (args_behind free room) [] ts) ≡ Some (x, rest) → Taken (IsArgs room) ts x rest
-    go true e = took (IsArgs room) ts [] x [] ts rest refl (record { spelled = no_args; low = omega arith }) e
+    go true e = took _ ts [] x [] ts rest refl (record { spelled = no_args; low = omega arith }) e
     go false e =
         let l = (all_args_exact free room).sound [] x ts rest e in
         let a = args_apart l.spelled in
         record {
           taken = l.taken;
           split = l.split;
-          spelled = subst (λ v. IsArgs room l.taken v) (sym l.all)
-              (record { spelled = some_args a.0; low = a.1 });
+          spelled = subst (λ v. IsArgs room l.taken v) (sym l.all) (record { spelled = some_args a.0; low = a.1 });
         }
 
 args_complete : (free : ℕ) → {room : ℕ} {ts : List Lexeme} {es : List ExprTree} (d : SpellsArgs ts es) (v : Lexeme)
@@ -223,17 +222,15 @@ parens_sound : (free : ℕ) → (room : ℕ) (ts rest : List Lexeme) (x : List E
     args_in_parens free room ts ≡ Some (x, rest) → (u : Lexeme) × (taken : List Lexeme) × (v : Lexeme) ×
     (ts ≡ u ∷ (taken ++ v ∷ rest)) × IsMark mark.OpenParen u × IsMark mark.CloseParen v × IsArgs room taken x
 parens_sound free room ts rest x h =
-    let o = bound (λ us. args_at free room us >>= (λ x. behind mark.CloseParen x.1 >>= (λ rest. Some (x.0, rest))))
-    (behind mark.OpenParen ts) (x, rest) h in
-    let b = bound (λ x. behind mark.CloseParen x.1 >>= (λ rest. Some (x.0, rest))) (args_at free room o.0)
-    (x, rest) o.2 in
-    let c = bound (λ rest. Some (b.0.0, rest)) (behind mark.CloseParen b.0.1) (x, rest) b.2 in
+    let o = bound _ _ _ h in
+    let b = bound _ _ _ o.2 in
+    let c = bound _ _ _ b.2 in
     let same = same_some c.2 in
-    let value : b.0.0 ≡ x = ap (λ p. p.0) same in
-    let after : c.0 ≡ rest = ap (λ p. p.1) same in
-    let u = behind_mark mark.OpenParen ts o.0 o.1 in
+    let value = ap (λ p. p.0) same in
+    let after = ap (λ p. p.1) same in
+    let u = behind_mark _ ts o.0 o.1 in
     let d = args_sound free room o.0 b.0.1 b.0.0 b.1 in
-    let v = behind_mark mark.CloseParen b.0.1 c.0 c.1 in (
+    let v = behind_mark _ b.0.1 c.0 c.1 in (
       u.0,
       d.taken,
       v.0,
@@ -247,20 +244,19 @@ call_sound : (free : ℕ) → (room : ℕ) (ts rest : List Lexeme) (x : CallTree
     Taken (IsCall room) ts x rest
 unfolding call_at
 call_sound free room ts rest x h =
-    let b = bound (λ x. args_in_parens free room x.1 >>= (λ y. Some (call_tree x.0 y.0, y.1))) (name_at ts)
-    (x, rest) h in
-    let c = bound (λ y. Some (call_tree b.0.0 y.0, y.1)) (args_in_parens free room b.0.1) (x, rest) b.2 in
+    let b = bound _ _ _ h in
+    let c = bound _ _ _ b.2 in
     let t = name_ahead ts b.0.1 b.0.0 b.1 in
     let p = parens_sound free room b.0.1 c.0.1 c.0.0 c.1 in
-    took (IsCall room) ts (t.0 ∷ p.0 ∷ (p.1 ++ p.2 ∷ [])) x (call_tree b.0.0 c.0.0) c.0.1 rest
-    (t.1 ∙ ap (λ l. t.0 ∷ l) (p.3 ∙ ap (λ l. p.0 ∷ l) (sym (append_assoc p.1 (p.2 ∷ []) c.0.1))))
+    took _ ts (t.0 ∷ p.0 ∷ (p.1 ++ p.2 ∷ [])) x _ c.0.1 rest
+    (t.1 ∙ ap (λ l. t.0 ∷ l) (p.3 ∙ ap (λ l. p.0 ∷ l) (sym (append_assoc p.1 _ c.0.1))))
     (record { spelled = call t.0 p.0 p.2 b.0.0 t.2 p.4 p.5 p.6.spelled; low = p.6.low }) c.2
 
 call_complete : (free : ℕ) → {room : ℕ} {ts : List Lexeme} {x : CallTree} (d : SpellsCall ts x) (rest : List Lexeme) →
     call_height x ≤ room → Few free ts → call_at free room (ts ++ rest) ≡ Some (x, rest)
 unfolding call_at
 call_complete free {room = room} (call {ts = ts} t u v name p q r d) rest h few =
-    let inner = few_left free ts (v ∷ []) (few_tail free u (ts ++ v ∷ []) (few_tail free t (u ∷ (ts ++ v ∷ [])) few)) in
+    let inner = few_left free ts (v ∷ []) (few_tail free u _ (few_tail free t (u ∷ (ts ++ v ∷ [])) few)) in
     ap (λ l. call_at free room (t ∷ u ∷ l)) (append_assoc ts (v ∷ []) rest) ∙
     rw (p, q, args_complete free d v rest h inner r, r)
 
@@ -283,7 +279,7 @@ binary_no_paren t m op p q = go (is_mark mark.OpenParen t.symbol) refl
     go : (b : Bool) → is_mark mark.OpenParen t.symbol ≡ b → b ≡ false
     go false e = refl
     go true e =
-        let is : symbol.Mark m ≡ symbol.Mark mark.OpenParen = sym p ∙ mark_is mark.OpenParen t e in
+        let is : symbol.Mark m ≡ symbol.Mark _ = sym p ∙ mark_is mark.OpenParen t e in
         let same : m ≡ mark.OpenParen = cc in
         absurd (none-some op (sym (ap binary_of same) ∙ q))
 
@@ -293,12 +289,12 @@ no_call (literal t number p) rest h = rw p
 no_call (variable t name p) rest h = rw (p, h)
 no_call (parenthesised t u p q d) rest h = rw p
 no_call (index {ts = ts} {us = us} t u p q d g) rest h =
-    ap begins_call (append_assoc ts (t ∷ (us ++ u ∷ [])) rest) ∙ no_call d (t ∷ (us ++ u ∷ []) ++ rest) (rw p)
-no_call (member {ts = ts} t u name p q d) rest h = ap begins_call (append_assoc ts (t ∷ u ∷ []) rest) ∙
+    ap begins_call (append_assoc ts _ rest) ∙ no_call d (t ∷ (us ++ u ∷ []) ++ rest) (rw p)
+no_call (member {ts = ts} t u name p q d) rest h = ap begins_call (append_assoc ts _ rest) ∙
     no_call d (t ∷ u ∷ rest) (rw p)
-no_call (arrow {ts = ts} t u name p q d) rest h = ap begins_call (append_assoc ts (t ∷ u ∷ []) rest) ∙
+no_call (arrow {ts = ts} t u name p q d) rest h = ap begins_call (append_assoc ts _ rest) ∙
     no_call d (t ∷ u ∷ rest) (rw p)
 no_call (prefix t m o p q d) rest h = rw p
 no_call (joined {ts = ts} {us = us} t m op p q k d g) rest h =
-    ap begins_call (append_assoc ts (t ∷ us) rest) ∙ no_call d (t ∷ us ++ rest) (binary_no_paren t m op p q)
+    ap begins_call (append_assoc ts _ rest) ∙ no_call d (t ∷ us ++ rest) (binary_no_paren t m op p q)
 no_call (looser d) rest h = no_call d rest h

@@ -2,8 +2,8 @@
 use Rattle.sc_parse.proofs.Common.{BaseTree, Bool, ConstTree, Decl, Declares, GlobalTree, InitTree, IsGlobal, IsMark}
 use Rattle.sc_parse.proofs.Common.{Lexeme, List, None, Option, Separated, Some, SpellsConst, SpellsInit, [], absent}
 use Rattle.sc_parse.proofs.Common.{all_consts, ap, append_assoc, begins_with, behind, behind_inner_comma, behind_mark}
-use Rattle.sc_parse.proofs.Common.{bound, cond, const_at, consts_at, declaration_at, declarator_at, false, global}
-use Rattle.sc_parse.proofs.Common.{global_at, global_decl, globals_behind, init_at, init_behind, many, many_comma}
+use Rattle.sc_parse.proofs.Common.{bound, cond, const_at, consts_at, declaration_at, false, global}
+use Rattle.sc_parse.proofs.Common.{global_at, globals_behind, init_at, init_behind, many, many_comma}
 use Rattle.sc_parse.proofs.Common.{negated, non_empty, one_at, option_map_or, past_comma, refl, same_some, subst, sym}
 use Rattle.sc_parse.proofs.Common.{true, ℕ, ◌++◌, ◌>>=◌, ◌∙◌, ◌∷◌, ◌≡◌}
 use Rattle.sc_ast.specs.declared.section.InitTree.TheVariants as init
@@ -12,7 +12,7 @@ use Rattle.sc_expr.specs.declared.mark.Mark.TheVariants as mark
 use Rattle.sc_parse.specs.Declarations.{plain, one}
 use Rattle.sc_parse.proofs.Exact.{Taken, Exact, ExactAdder, Any, took, glued}
 use Rattle.sc_parse.proofs.Bases.{NoInt, NoBracket, declarator_sound}
-use Rattle.sc_parse.proofs.Declared.{any_left, any_right, declaration_exact, declarator_complete, declarator_no_int}
+use Rattle.sc_parse.proofs.Declared.{declaration_exact, declarator_complete, declarator_no_int}
 use Rattle.sc_parse.proofs.Structures.{non_empty_some, non_empty_is, separated_some, const_sound, const_complete}
 use Rattle.sc_parse.proofs.Structures.{all_consts_exact}
 
@@ -27,8 +27,7 @@ in_braces : {ts : List Lexeme} {values : List ConstTree} (d : IsListed ts values
     SpellsInit (t ∷ u ∷ (ts ++ v ∷ [])) (init.Many values)
 in_braces (bare d) t u v p q r = many t u v p q r d
 in_braces (with_comma {ts = ts} {values = values} w k d) t u v p q r =
-    subst (λ l. SpellsInit (t ∷ u ∷ l) (init.Many values)) (sym (append_assoc ts (w ∷ []) (v ∷ [])))
-    (many_comma t u w v p q k r d)
+    subst (λ l. SpellsInit (t ∷ u ∷ l) (init.Many values)) (sym (append_assoc ts _ _)) (many_comma t u w v p q k r d)
 
 -- behind `{`
 consts_sound : (ts rest : List Lexeme) (x : InitTree) → consts_at ts ≡ Some (x, rest) →
@@ -38,7 +37,7 @@ unfolding consts_at
 consts_sound ts rest x h =
     let b = bound (λ x. behind mark.CloseCurly (past_comma x.1) >>=
     (λ rest. non_empty x.0 >>= (λ values. Some (init.Many values, rest)))) (all_consts ts) (x, rest) h in
-    let c = bound (λ rest. non_empty b.0.0 >>= (λ values. Some (init.Many values, rest)))
+    let c = bound (λ rest. non_empty b.0.0 >>= (λ values. Some _))
     (behind mark.CloseCurly (past_comma b.0.1)) (x, rest) b.2 in
     let n = bound (λ values. Some (init.Many values, c.0)) (non_empty b.0.0) (x, rest) c.2 in
     let same = same_some n.2 in
@@ -46,7 +45,7 @@ consts_sound ts rest x h =
     let after : c.0 ≡ rest = ap (λ p. p.1) same in
     let l = all_consts_exact.sound [] b.0.0 ts b.0.1 b.1 in
     let full = non_empty_some b.0.0 n.0 n.1 in
-    let values : l.added ≡ n.0 = sym l.all ∙ full.0 in
+    let values = sym l.all ∙ full.0 in
     let v = behind_mark mark.CloseCurly (past_comma b.0.1) c.0 c.1 in
     go l.taken n.0 (subst (λ z. Separated SpellsConst l.taken z) values l.spelled) b.0.1 l.split v.0
     (v.1 ∙ ap (λ r. v.0 ∷ r) after) v.2 (sym value) (behind mark.Comma b.0.1) refl
@@ -65,7 +64,7 @@ consts_sound ts rest x h =
           taken ++ t.0 ∷ [],
           values,
           v,
-          glued ts us (v ∷ rest) taken (t.0 ∷ []) split (t.1 ∙ ap (λ l. t.0 ∷ l) is),
+          glued ts us _ taken (t.0 ∷ []) split (t.1 ∙ ap (λ l. t.0 ∷ l) is),
           with_comma t.0 t.2 d,
           p,
           value,
@@ -104,7 +103,7 @@ init_sound ts rest x h = go (behind mark.Equal ts) refl h
         let c = consts_sound vs rest x e in
         record {
           taken = t ∷ u.0 ∷ (c.0 ++ c.2 ∷ []);
-          split = is ∙ ap (λ l. t ∷ l) (u.1 ∙ ap (λ l. u.0 ∷ l) (c.3 ∙ sym (append_assoc c.0 (c.2 ∷ []) rest)));
+          split = is ∙ ap (λ l. t ∷ l) (u.1 ∙ ap (λ l. u.0 ∷ l) (c.3 ∙ sym (append_assoc c.0 _ rest)));
           spelled = subst (λ v. SpellsInit (t ∷ u.0 ∷ (c.0 ++ c.2 ∷ [])) v) (sym c.6)
               (in_braces c.4 t u.0 c.2 p u.2 c.5);
         }
@@ -146,12 +145,11 @@ global_sound : (base : BaseTree) (line : ℕ) (ts rest : List Lexeme) (x : Decl)
     global_at base line ts ≡ Some (x, rest) → Taken (IsGlobalDecl base line) ts x rest
 unfolding global_at
 global_sound base line ts rest x h =
-    let b = bound (λ x. init_at x.1 >>= (λ y. Some (global_decl base x.0 y.0 line, y.1))) (declarator_at ts)
-    (x, rest) h in
-    let c = bound (λ y. Some (global_decl base b.0.0 y.0 line, y.1)) (init_at b.0.1) (x, rest) b.2 in
+    let b = bound _ _ _ h in
+    let c = bound _ _ _ b.2 in
     let d = declarator_sound ts b.0.1 b.0.0 b.1 in
     let i = init_sound b.0.1 c.0.1 c.0.0 c.1 in
-    took (IsGlobalDecl base line) ts (d.taken ++ i.taken) x (global_decl base b.0.0 c.0.0 line) c.0.1 rest
+    took _ ts (d.taken ++ i.taken) x _ c.0.1 rest
     (glued ts b.0.1 c.0.1 d.taken i.taken d.split i.split) (a_global (global (d.spelled base) i.spelled)) c.2
 
 init_no_bracket : {ts : List Lexeme} {x : InitTree} (d : SpellsInit ts x) (rest : List Lexeme) → NoBracket rest →
@@ -185,5 +183,5 @@ global_exact base line = record {
 
 -- a declaration of globals
 pub globals_exact : ExactAdder Any (Declares IsGlobalDecl) (λ rest. Unit {0}) (declaration_at globals_behind)
-globals_exact = declaration_exact Any any_left any_right IsGlobalDecl EndsGlobal global_at global_exact
+globals_exact = declaration_exact Any _ _ IsGlobalDecl EndsGlobal _ global_exact
     (λ t rest p. (rw p, rw p)) (λ t rest p. (rw p, rw p)) (λ base line ts rest x d. global_no_int d rest)

@@ -3,15 +3,15 @@ use Rattle.sc_parse.proofs.Common.{Bool, ExprTree, Grouped, IsKeyword, IsMark, K
 use Rattle.sc_parse.proofs.Common.{Option, Reader, SimpleKind, SimpleTree, Some, SpellsBlock, SpellsCondition, SpellsIf}
 use Rattle.sc_parse.proofs.Common.{SpellsPart, SpellsStmtKind, SpellsStmts, SpellsTest, StmtKind, StmtTree, [], adds}
 use Rattle.sc_parse.proofs.Common.{alone, ap, append-nil, append_assoc, arith, before_mark, begins_with, behind}
-use Rattle.sc_parse.proofs.Common.{behind_mark, block, block_at, bound, call_at, choice, cond, condition_at, drop}
-use Rattle.sc_parse.proofs.Common.{else_at, else_behind, empty, ended_at, expr_at, expr_height, false, first_line}
+use Rattle.sc_parse.proofs.Common.{behind_mark, block, block_at, bound, choice, cond, drop}
+use Rattle.sc_parse.proofs.Common.{else_at, else_behind, empty, ended_at, expr_height, false, first_line}
 use Rattle.sc_parse.proofs.Common.{first_part, for_behind, for_head, for_height, for_loop, for_parts, grouped}
 use Rattle.sc_parse.proofs.Common.{if_behind, if_height, is_else, is_if, keyword_at, kind_by, kind_height, kind_of}
 use Rattle.sc_parse.proofs.Common.{last_part, length, loop_of, middle_part, none-some, option_height, otherwise}
 use Rattle.sc_parse.proofs.Common.{otherwise_if, part_at, plain, plain_at, plain_height, refl, return_call}
 use Rattle.sc_parse.proofs.Common.{return_call_height, return_nothing, return_value, returned, same_some, simple_at}
-use Rattle.sc_parse.proofs.Common.{simple_or_none, stmt_at, stmt_tree, stmt_within, stmts_at, stmts_height, subst, suc}
-use Rattle.sc_parse.proofs.Common.{sym, test_at, tree_height, true, value_height, value_returned, while_behind}
+use Rattle.sc_parse.proofs.Common.{stmt_at, stmt_tree, stmt_within, stmts_at, stmts_height, subst, suc}
+use Rattle.sc_parse.proofs.Common.{sym, test_at, tree_height, true, value_height, while_behind}
 use Rattle.sc_parse.proofs.Common.{while_height, while_loop, zero, ℕ, ◌++◌, ◌+◌, ◌<◌, ◌>>=◌, ◌∙◌, ◌∷◌, ◌≡◌, ◌≤◌}
 use Rattle.sc_ast.specs.declared.stmt.StmtKind.TheVariants as stmt
 use Rattle.sc_expr.specs.declared.mark.Keyword.TheVariants as word
@@ -75,11 +75,11 @@ stmts_joined {room} (statements.next {ts = ts} {kind = k} {stmts = ss} d g) h =
     let height = tree_height (first_line ts) k in
     let low : kind_height k < room = omega arith in
     let less : stmts_height ss ≤ room = omega arith in
-    lists.next (record { item = stmt_tree (first_line ts) k; is = refl; spelled = a_stmt d low }) (stmts_joined g less)
+    lists.next (record { item = stmt_tree _ k; is = refl; spelled = a_stmt d low }) (stmts_joined g less)
 
 if_kind : {ts : List Lexeme} {k : StmtKind} (d : SpellsStmtKind ts k) → is_if (keyword_at ts) ≡ true → SpellsIf ts k
 if_kind (empty t p) h = absurd (false-true (rw p at h))
-if_kind (plain {ts = ts} t p d) h = absurd (false-true (sym (ap is_if (kind_no_word d (t ∷ []))) ∙ h))
+if_kind (plain {ts = ts} t p d) h = absurd (false-true (sym (ap is_if (kind_no_word d _)) ∙ h))
 if_kind (statements.break t u p q) h = absurd (false-true (rw p at h))
 if_kind (statements.continue t u p q) h = absurd (false-true (rw p at h))
 if_kind (return_nothing t u p q) h = absurd (false-true (rw p at h))
@@ -116,11 +116,11 @@ part_ended : {A : Type 0} (m : Mark) (reader : Reader A) (Item : List Lexeme →
     (sound : (ts rest : List Lexeme) (x : A) → reader ts ≡ Some (x, rest) → Taken Item ts x rest) (ts : List Lexeme)
     (y : A × List Lexeme) → before_mark m reader ts ≡ Some y → Before Item m ts y.0 y.1
 part_ended m reader Item sound ts y h =
-    let b = bound (λ x. behind m x.1 >>= (λ rest. Some (x.0, rest))) (reader ts) y h in
-    let c = bound (λ rest. Some (b.0.0, rest)) (behind m b.0.1) y b.2 in
+    let b = bound _ _ y h in
+    let c = bound _ _ y b.2 in
     let same = same_some c.2 in
-    let value : b.0.0 ≡ y.0 = ap (λ p. p.0) same in
-    let after : c.0 ≡ y.1 = ap (λ p. p.1) same in
+    let value = ap (λ p. p.0) same in
+    let after = ap (λ p. p.1) same in
     let d = sound ts b.0.1 b.0.0 b.1 in
     let v = behind_mark m b.0.1 c.0 c.1 in
     record {
@@ -140,8 +140,7 @@ plain_ended free room ts t rest k p none other read = rw (none, other, read, p)
 module _ (free : ℕ) (room : ℕ) (inner : Reader StmtTree) (exact : Exact (Few free) (IsStmt room) NoElse inner) where
   inner_exact : ExactAdder (Few free) (Grouped (One (IsStmt room))) (λ rest. begins_with mark.CloseCurly rest ≡ true)
       (λ xs ts. grouped (begins_with mark.CloseCurly) (adds inner) (length ts + 1) xs ts)
-  inner_exact = grouped_exact (Few free) (few_left free) (few_right free) (begins_with mark.CloseCurly)
-      (One (IsStmt room)) NoElse (adds inner) (adds_exact (Few free) (IsStmt room) NoElse inner exact)
+  inner_exact = grouped_exact _ (few_left free) (few_right free) _ _ NoElse _ (adds_exact _ _ NoElse inner exact)
       (λ us rest zs d. (stmt_starts d.spelled).no_end rest) (λ us zs d. (stmt_starts d.spelled).some) end_no_else
       (λ us rest zs d. (stmt_starts d.spelled).no_else rest)
 
@@ -149,16 +148,15 @@ module _ (free : ℕ) (room : ℕ) (inner : Reader StmtTree) (exact : Exact (Few
       Taken (IsBlock room) ts x rest
   unfolding block_at
   block_sound ts rest x h =
-      let o = bound (λ us. before_mark mark.CloseCurly (stmts_at inner) us) (behind mark.OpenCurly ts) (x, rest) h in
-      let b = bound (λ x. behind mark.CloseCurly x.1 >>= (λ rest. Some (x.0, rest))) (stmts_at inner o.0)
-      (x, rest) o.2 in
-      let c = bound (λ rest. Some (b.0.0, rest)) (behind mark.CloseCurly b.0.1) (x, rest) b.2 in
+      let o = bound (λ us. before_mark mark.CloseCurly (stmts_at inner) us) _ _ h in
+      let b = bound (λ x. behind mark.CloseCurly x.1 >>= (λ rest. Some (x.0, rest))) _ _ o.2 in
+      let c = bound (λ rest. Some (b.0.0, rest)) _ _ b.2 in
       let u = behind_mark mark.OpenCurly ts o.0 o.1 in
       let d = inner_exact.sound [] b.0.0 o.0 b.0.1 b.1 in
       let s = stmts_apart d.spelled in
       let v = behind_mark mark.CloseCurly b.0.1 c.0 c.1 in
-      took (IsBlock room) ts (u.0 ∷ (d.taken ++ v.0 ∷ [])) x b.0.0 c.0 rest
-      (u.1 ∙ ap (λ l. u.0 ∷ l) (glued o.0 b.0.1 c.0 d.taken (v.0 ∷ []) d.split v.1))
+      took _ ts (u.0 ∷ (d.taken ++ v.0 ∷ [])) x b.0.0 c.0 rest
+      (u.1 ∙ ap (λ l. u.0 ∷ l) (glued o.0 b.0.1 c.0 d.taken _ d.split v.1))
       (subst (λ z. IsBlock room (u.0 ∷ (d.taken ++ v.0 ∷ [])) z) (sym d.all)
       (record { spelled = block u.0 v.0 u.2 v.2 s.0; low = s.1 })) c.2
 
@@ -202,7 +200,7 @@ module _ (free : ℕ) (room : ℕ) (inner : Reader StmtTree) (exact : Exact (Few
       go : (b : Bool) → is_else (keyword_at ts) ≡ b →
           cond {A = Option (List StmtTree × List Lexeme)} b (else_behind inner (drop 1 ts)) (Some ([], ts)) ≡
           Some (x, rest) → Taken (IsElse room) ts x rest
-      go true q e = let t = else_ahead ts q in by_if t.first t.is t.keyword (is_if (keyword_at (drop 1 ts))) refl e
+      go true q e = let t = else_ahead ts q in by_if t.first t.is t.keyword (is_if (keyword_at _)) refl e
       go false q e = took (IsElse room) ts [] x [] ts rest refl nothing e
 
   else_complete : {ts : List Lexeme} {x : List StmtTree} (d : IsElse room ts x) (rest : List Lexeme) → Few free ts →
@@ -212,8 +210,7 @@ module _ (free : ℕ) (room : ℕ) (inner : Reader StmtTree) (exact : Exact (Few
   else_complete (a_block {ts = ts} u p d low) rest few ends =
       rw (p, block_no_if d rest, block_complete d rest low (few_tail free u ts few))
   else_complete (an_if {ts = ts} {k = k} u p d low) rest few ends =
-      let read = exact.complete ts rest (stmt_tree (first_line ts) k) (a_stmt (choice d) low)
-      (few_tail free u ts few) ends in
+      let read = exact.complete ts rest _ (a_stmt (choice d) low) (few_tail free u ts few) ends in
       rw (p, if_begins d rest, read)
 
   if_made : {ts us vs : List Lexeme} {c : ExprTree} {th e : List StmtTree} (t : Lexeme) → IsKeyword word.If t →
@@ -230,11 +227,9 @@ module _ (free : ℕ) (room : ℕ) (inner : Reader StmtTree) (exact : Exact (Few
   unfolding if_behind
   if_sound ts rest x q h =
       let t = word_ahead ts word.If q in
-      let b = bound (λ x. block_at inner x.1 >>= (λ y. else_at inner y.1 >>= (λ z. Some (stmt.If x.0 y.0 z.0, z.1))))
-      (condition_at free room (drop 1 ts)) (x, rest) h in
-      let c = bound (λ y. else_at inner y.1 >>= (λ z. Some (stmt.If b.0.0 y.0 z.0, z.1))) (block_at inner b.0.1)
-      (x, rest) b.2 in
-      let e = bound (λ z. Some (stmt.If b.0.0 c.0.0 z.0, z.1)) (else_at inner c.0.1) (x, rest) c.2 in
+      let b = bound _ _ _ h in
+      let c = bound _ _ _ b.2 in
+      let e = bound _ _ _ c.2 in
       let k = (condition_exact free room).sound (drop 1 ts) b.0.1 b.0.0 b.1 in
       let d = block_sound b.0.1 c.0.1 c.0.0 c.1 in
       let f = else_sound c.0.1 e.0.1 e.0.0 e.1 in
@@ -243,8 +238,8 @@ module _ (free : ℕ) (room : ℕ) (inner : Reader StmtTree) (exact : Exact (Few
       let first = k.spelled.low in
       let second = d.spelled.low in
       let third = made.1 in
-      took (IsKind room) ts (t.first ∷ (k.taken ++ (d.taken ++ f.taken))) x (stmt.If b.0.0 c.0.0 e.0.0) e.0.1 rest
-      (t.is ∙ ap (λ l. t.first ∷ l) (glued (drop 1 ts) b.0.1 e.0.1 k.taken (d.taken ++ f.taken) k.split
+      took _ ts (t.first ∷ (k.taken ++ (d.taken ++ f.taken))) x _ e.0.1 rest
+      (t.is ∙ ap (λ l. t.first ∷ l) (glued _ b.0.1 e.0.1 k.taken _ k.split
       (glued b.0.1 c.0.1 e.0.1 d.taken f.taken d.split f.split)))
       (record { spelled = choice made.0; low = omega arith }) e.2
 
@@ -256,10 +251,10 @@ module _ (free : ℕ) (room : ℕ) (inner : Reader StmtTree) (exact : Exact (Few
   if_reads {ts} {us} {vs} {c} {th} {e} k b d rest low less few ends =
       let inside = few_right free ts (us ++ vs) few in
       let first = (condition_exact free room).complete ts (us ++ (vs ++ rest)) c (record { spelled = k; low = low })
-      (few_left free ts (us ++ vs) few) tt in
+      (few_left free ts _ few) tt in
       let second = block_complete b (vs ++ rest) less (few_left free us vs inside) in
       let third = else_complete d rest (few_right free us vs inside) ends in
-      let all : (ts ++ (us ++ vs)) ++ rest ≡ ts ++ (us ++ (vs ++ rest)) =
+      let all =
       append_assoc ts (us ++ vs) rest ∙ ap (λ l. ts ++ l) (append_assoc us vs rest) in
       ap (if_behind free inner room) all ∙ rw (first, second, third)
 
@@ -270,15 +265,14 @@ module _ (free : ℕ) (room : ℕ) (inner : Reader StmtTree) (exact : Exact (Few
       let height = if_height c th [] in
       let same : us ++ [] ≡ us = append-nil us in
       let read = if_reads k b nothing rest (omega arith) (omega arith)
-      (subst (λ l. Few free (ts ++ l)) (sym same) (few_tail free t (ts ++ us) few)) ends in
+      (subst (λ l. Few free (ts ++ l)) (sym same) (few_tail free t _ few)) ends in
       (rw p, ap (λ l. if_behind free inner room ((ts ++ l) ++ rest)) (sym same) ∙ read)
   if_complete (otherwise {ts = ts} {us = us} {vs = vs} {cond = c} {then_part = th} {else_part = e} t u p q k b d) rest
       low few ends =
       let height = if_height c th e in
       let third : stmts_height e ≤ room = omega arith in (
         rw p,
-        if_reads k b (a_block u q d third) rest (omega arith) (omega arith)
-            (few_tail free t (ts ++ (us ++ u ∷ vs)) few) ends,
+        if_reads k b (a_block u q d third) rest (omega arith) (omega arith) (few_tail free t _ few) ends,
       )
   if_complete (otherwise_if {ts = ts} {us = us} {vs = vs} {cond = c} {then_part = th} {kind = kind} t u p q k b d) rest
       low few ends =
@@ -286,25 +280,23 @@ module _ (free : ℕ) (room : ℕ) (inner : Reader StmtTree) (exact : Exact (Few
       let one = tree_height (first_line vs) kind in
       let third : kind_height kind < room = omega arith in (
         rw p,
-        if_reads k b (an_if u q d third) rest (omega arith) (omega arith)
-            (few_tail free t (ts ++ (us ++ u ∷ vs)) few) ends,
+        if_reads k b (an_if u q d third) rest (omega arith) (omega arith) (few_tail free t _ few) ends,
       )
 
   while_sound : (ts rest : List Lexeme) (x : StmtKind) → keyword_at ts ≡ Some word.While →
       while_behind free inner room (drop 1 ts) ≡ Some (x, rest) → Taken (IsKind room) ts x rest
   unfolding while_behind
   while_sound ts rest x q h =
-      let t = word_ahead ts word.While q in
-      let b = bound (λ x. block_at inner x.1 >>= (λ y. Some (stmt.While x.0 y.0, y.1)))
-      (condition_at free room (drop 1 ts)) (x, rest) h in
-      let c = bound (λ y. Some (stmt.While b.0.0 y.0, y.1)) (block_at inner b.0.1) (x, rest) b.2 in
+      let t = word_ahead ts _ q in
+      let b = bound _ _ _ h in
+      let c = bound _ _ _ b.2 in
       let k = (condition_exact free room).sound (drop 1 ts) b.0.1 b.0.0 b.1 in
       let d = block_sound b.0.1 c.0.1 c.0.0 c.1 in
       let height = while_height b.0.0 c.0.0 in
       let first = k.spelled.low in
       let second = d.spelled.low in
-      took (IsKind room) ts (t.first ∷ (k.taken ++ d.taken)) x (stmt.While b.0.0 c.0.0) c.0.1 rest
-      (t.is ∙ ap (λ l. t.first ∷ l) (glued (drop 1 ts) b.0.1 c.0.1 k.taken d.taken k.split d.split))
+      took _ ts (t.first ∷ (k.taken ++ d.taken)) x _ c.0.1 rest
+      (t.is ∙ ap (λ l. t.first ∷ l) (glued _ b.0.1 c.0.1 k.taken d.taken k.split d.split))
       (record { spelled = while_loop t.first t.keyword k.spelled.spelled d.spelled.spelled; low = omega arith }) c.2
 
   while_reads : {ts us : List Lexeme} {c : ExprTree} {body : List StmtTree} (k : SpellsCondition ts c)
@@ -341,7 +333,7 @@ module _ (free : ℕ) (room : ℕ) (inner : Reader StmtTree) (exact : Exact (Few
       let first = part_ended mark.Semicolon (part_at free room mark.Semicolon) (IsPart room)
       (part_sound free room mark.Semicolon) o.0 a.0 o.2 in
       let second = part_ended mark.Semicolon (test_at free room) (IsTest room) (test_sound free room) a.0.1 b.0 b.1 in
-      let third = part_ended mark.CloseParen (part_at free room mark.CloseParen) (IsPart room)
+      let third = part_ended mark.CloseParen (part_at free room _) (IsPart room)
       (part_sound free room mark.CloseParen) b.0.1 c.0 c.1 in
       let body = block_sound c.0.1 e.0.1 e.0.0 e.1 in
       let height = for_height a.0.0 b.0.0 c.0.0 e.0.0 in
@@ -363,8 +355,7 @@ module _ (free : ℕ) (room : ℕ) (inner : Reader StmtTree) (exact : Exact (Few
       (ap (λ l. first.ends ∷ l) after2) in
       took (IsKind room) ts (t.first ∷ u.0 ∷ (first.taken ++ first.ends ∷
       (second.taken ++ second.ends ∷ (third.taken ++ third.ends ∷ body.taken)))) x
-      (stmt.For a.0.0 b.0.0 c.0.0 e.0.0) e.0.1 rest
-      (t.is ∙ ap (λ l. t.first ∷ l) (u.1 ∙ ap (λ l. u.0 ∷ l) after1))
+      (stmt.For a.0.0 b.0.0 c.0.0 e.0.0) e.0.1 rest (t.is ∙ ap (λ l. t.first ∷ l) (u.1 ∙ ap (λ l. u.0 ∷ l) after1))
       (record {
         spelled = for_loop t.first u.0 first.ends second.ends third.ends t.keyword u.2 first.mark second.mark
             third.mark first.spelled.spelled second.spelled.spelled third.spelled.spelled body.spelled.spelled;
@@ -380,13 +371,13 @@ module _ (free : ℕ) (room : ℕ) (inner : Reader StmtTree) (exact : Exact (Few
       Some (stmt.For first c next body, rest)
   unfolding for_behind for_head first_part middle_part last_part
   for_reads {ts} {us} {vs} {ws} {first} {next} {c} {body} u v w x p q r s f k n b rest l1 l2 l3 l4 few =
-      let few2 = few_tail free v (us ++ w ∷ (vs ++ x ∷ ws)) (few_right free ts (v ∷ (us ++ w ∷ (vs ++ x ∷ ws))) few) in
-      let few3 = few_tail free w (vs ++ x ∷ ws) (few_right free us (w ∷ (vs ++ x ∷ ws)) few2) in
+      let few2 = few_tail free v (us ++ w ∷ (vs ++ x ∷ ws)) (few_right free ts _ few) in
+      let few3 = few_tail free w (vs ++ x ∷ ws) (few_right free us _ few2) in
       let few4 = few_tail free x ws (few_right free vs (x ∷ ws) few3) in
-      let r1 = part_reads free room mark.Semicolon refl refl f v (us ++ w ∷ (vs ++ x ∷ (ws ++ rest))) q l1
+      let r1 = part_reads free room _ refl refl f v (us ++ w ∷ (vs ++ x ∷ (ws ++ rest))) q l1
       (few_left free ts (v ∷ (us ++ w ∷ (vs ++ x ∷ ws))) few) (rw q, rw q) (rw q) in
-      let r2 = test_reads free room k w (vs ++ x ∷ (ws ++ rest)) r l2 (few_left free us (w ∷ (vs ++ x ∷ ws)) few2) in
-      let r3 = part_reads free room mark.CloseParen refl refl n x (ws ++ rest) s l3 (few_left free vs (x ∷ ws) few3)
+      let r2 = test_reads free room k w (vs ++ x ∷ (ws ++ rest)) r l2 (few_left free us _ few2) in
+      let r3 = part_reads free room mark.CloseParen refl refl n x (ws ++ rest) s l3 (few_left free vs _ few3)
       (rw s, rw s) (rw s) in
       rw (p, r1, q, r2, r, r3, s, block_complete b rest l4 few4)
 
@@ -455,14 +446,12 @@ module _ (free : ℕ) (room : ℕ) (inner : Reader StmtTree) (exact : Exact (Few
       Taken (IsStmt (suc room)) ts x rest
   unfolding stmt_within
   within_sound ts rest x h =
-      let b = bound (λ x. Some (stmt_tree (first_line ts) x.0, x.1)) (kind_by free inner room (keyword_at ts) ts)
-      (x, rest) h in
+      let b = bound _ _ _ h in
       let k = kind_sound ts b.0.1 b.0.0 b.1 in
-      let line : first_line ts ≡ first_line k.taken =
+      let line =
       ap first_line k.split ∙ first_line_some k.taken b.0.1 (kind_starts k.spelled.spelled).some in
       let low = k.spelled.low in
-      took (IsStmt (suc room)) ts k.taken x (stmt_tree (first_line ts) b.0.0) b.0.1 rest k.split
-      (subst (λ n. IsStmt (suc room) k.taken (stmt_tree n b.0.0)) (sym line)
+      took _ ts k.taken x _ b.0.1 rest k.split (subst (λ n. IsStmt (suc room) k.taken (stmt_tree n b.0.0)) (sym line)
       (a_stmt k.spelled.spelled (omega arith))) b.2
 
   within_complete : {ts : List Lexeme} {x : StmtTree} (d : IsStmt (suc room) ts x) (rest : List Lexeme) → Few free ts →
@@ -481,7 +470,7 @@ no_stmt (a_stmt d low) = omega arith
 pub stmt_exact : (free : ℕ) → (room : ℕ) → Exact (Few free) (IsStmt room) NoElse (stmt_at free room)
 unfolding stmt_at
 stmt_exact free zero = record {
-  sound = λ ts rest x h. absurd (none-some (x, rest) h);
+  sound = λ ts rest x h. absurd (none-some _ h);
   complete = λ ts rest x d few ends. absurd (no_stmt d);
 }
 stmt_exact free (suc room) =
@@ -501,7 +490,7 @@ AtEnd rest = begins_with mark.CloseCurly rest ≡ true
 
 pub stmts_exact : (free : ℕ) → (room : ℕ) → Exact (Few free) (IsStmts room) AtEnd (stmts_at (stmt_at free room))
 stmts_exact free room =
-    let e = inner_exact free room (stmt_at free room) (stmt_exact free room) in
+    let e = inner_exact free room _ (stmt_exact free room) in
     record {
       sound = λ ts rest x h.
           let d = e.sound [] x ts rest h in
@@ -509,8 +498,7 @@ stmts_exact free room =
           record {
             taken = d.taken;
             split = d.split;
-            spelled = subst (λ z. IsStmts room d.taken z) (sym d.all)
-                (record { spelled = s.0; low = s.1 });
+            spelled = subst (λ z. IsStmts room d.taken z) (sym d.all) (record { spelled = s.0; low = s.1 });
           };
       complete = λ ts rest x d few ends. e.complete [] x ts rest (stmts_joined d.spelled d.low) few ends;
     }

@@ -1,7 +1,7 @@
 -- Conditions and the parts of a `for` are read exactly as they are spelled.
 use Rattle.sc_parse.proofs.Common.{Bool, CallTree, ExprTree, IsMark, Lexeme, List, Mark, None, Option, SimpleKind}
 use Rattle.sc_parse.proofs.Common.{SimpleTree, Some, Spells, SpellsCall, SpellsCondition, SpellsKind, SpellsPart}
-use Rattle.sc_parse.proofs.Common.{SpellsPlace, SpellsSimple, SpellsTest, Symbol, [], a_part, a_test, always, ap}
+use Rattle.sc_parse.proofs.Common.{SpellsTest, Symbol, [], a_part, a_test, always, ap}
 use Rattle.sc_parse.proofs.Common.{append_assoc, arith, assign, assign_call, begins_with, behind, behind_mark, bound}
 use Rattle.sc_parse.proofs.Common.{call, compound, cond, cond_is, condition, condition_at, expr_at, expr_height, false}
 use Rattle.sc_parse.proofs.Common.{first_line, is_mark, is_some, keyword_at, keyword_by, le-leb, lead_by, leb, leb-true}
@@ -28,15 +28,14 @@ condition_sound : (free : ℕ) → (room : ℕ) (ts rest : List Lexeme) (x : Exp
 unfolding condition_at
 condition_sound free room ts rest x h =
     let o = bound (λ us. expr_at free room us >>= (λ x. behind mark.CloseParen x.1 >>= (λ rest. Some (x.0, rest))))
-    (behind mark.OpenParen ts) (x, rest) h in
-    let b = bound (λ x. behind mark.CloseParen x.1 >>= (λ rest. Some (x.0, rest))) (expr_at free room o.0)
-    (x, rest) o.2 in
-    let c = bound (λ rest. Some (b.0.0, rest)) (behind mark.CloseParen b.0.1) (x, rest) b.2 in
+    _ _ h in
+    let b = bound (λ x. behind mark.CloseParen x.1 >>= (λ rest. Some (x.0, rest))) _ _ o.2 in
+    let c = bound (λ rest. Some (b.0.0, rest)) _ _ b.2 in
     let u = behind_mark mark.OpenParen ts o.0 o.1 in
     let d = (expr_exact free room).sound o.0 b.0.1 b.0.0 b.1 in
     let v = behind_mark mark.CloseParen b.0.1 c.0 c.1 in
-    took (IsCondition room) ts (u.0 ∷ (d.taken ++ v.0 ∷ [])) x b.0.0 c.0 rest
-    (u.1 ∙ ap (λ l. u.0 ∷ l) (glued o.0 b.0.1 c.0 d.taken (v.0 ∷ []) d.split v.1))
+    took _ ts (u.0 ∷ (d.taken ++ v.0 ∷ [])) x b.0.0 c.0 rest
+    (u.1 ∙ ap (λ l. u.0 ∷ l) (glued o.0 b.0.1 c.0 d.taken _ d.split v.1))
     (record { spelled = condition u.0 v.0 u.2 v.2 d.spelled.spelled; low = d.spelled.low }) c.2
 
 condition_complete : (free : ℕ) → (room : ℕ) {ts : List Lexeme} {x : ExprTree} (d : SpellsCondition ts x)
@@ -77,7 +76,7 @@ symbol_no_word _ h = refl
 pub expr_no_word : (ts : List Lexeme) → begins_expr ts ≡ true → keyword_at ts ≡ None
 unfolding begins_expr
 expr_no_word [] h = refl
-expr_no_word (t ∷ ts) h = symbol_no_word t.symbol h
+expr_no_word (t ∷ ts) h = symbol_no_word _ h
 
 call_no_word : {ts : List Lexeme} {x : CallTree} (d : SpellsCall ts x) (rest : List Lexeme) →
     keyword_at (ts ++ rest) ≡ None
@@ -86,8 +85,7 @@ call_no_word (statements.call t u v name p q r d) rest = rw p
 behind_place : {A : Type 0} (f : List Lexeme → A) (value : A) {level : ℕ} {ts : List Lexeme} {e : ExprTree}
     (d : Spells level ts e) (us rest : List Lexeme) → ((l : List Lexeme) → begins_expr l ≡ true → f l ≡ value) →
     f ((ts ++ us) ++ rest) ≡ value
-behind_place f value {level} {ts} d us rest h = ap f (append_assoc ts us rest) ∙
-    h (ts ++ (us ++ rest)) (expr_starts d (us ++ rest))
+behind_place f value {level} {ts} d us rest h = ap f (append_assoc ts us rest) ∙ h _ (expr_starts d _)
 
 -- no reserved word begins a simple statement
 pub kind_no_word : {ts : List Lexeme} {k : SimpleKind} (d : SpellsKind ts k) (rest : List Lexeme) →
@@ -110,7 +108,7 @@ step_no_mark m other t p h q = go (is_mark m t.symbol) refl
     go : (b : Bool) → is_mark m t.symbol ≡ b → b ≡ false
     go false e = refl
     go true e =
-        let is : symbol.Mark other ≡ symbol.Mark m = sym p ∙ mark_is m t e in
+        let is = sym p ∙ mark_is m t e in
         let same : other ≡ m = cc in
         absurd (false-true (sym h ∙ ap (λ k. is_some (step_of k)) (sym same) ∙ q))
 
@@ -142,16 +140,14 @@ part_sound free room m ts rest x h = go (begins_with m ts) h
         Taken (IsPart room) ts x rest
     go true e = took (IsPart room) ts [] x None ts rest refl (record { spelled = no_part; low = omega arith }) e
     go false e =
-        let c = cond_is (leb 1 room) (simple_at free (room - 1) ts >>=
-        (λ x. Some (Some (simple_tree (first_line ts) x.0), x.1))) (x, rest) e in
+        let c = cond_is (leb 1 room) (simple_at free _ ts >>= (λ x. Some _)) (x, rest) e in
         let some = leb-true 1 room c.0 in
-        let b = bound (λ x. Some (Some (simple_tree (first_line ts) x.0), x.1)) (simple_at free (room - 1) ts)
-        (x, rest) c.1 in
+        let b = bound (λ x. Some _) (simple_at free (room - 1) ts) (x, rest) c.1 in
         let k = (simple_exact free (room - 1)).sound ts b.0.1 b.0.0 b.1 in
-        let line : first_line ts ≡ first_line k.taken =
+        let line =
         ap first_line k.split ∙ first_line_some k.taken b.0.1 (kind_some k.spelled.spelled) in
         let low = k.spelled.low in
-        took (IsPart room) ts k.taken x (Some (simple_tree (first_line ts) b.0.0)) b.0.1 rest k.split
+        took (IsPart room) ts k.taken x _ b.0.1 rest k.split
         (record { spelled = a_part (k.spelled.spelled, line); low = omega arith }) b.2
 
 pub part_reads : (free : ℕ) → (room : ℕ) (m : Mark) → is_some (lead_by m) ≡ false → is_some (step_of m) ≡ false →
@@ -163,7 +159,7 @@ part_reads free room m h s no_part v rest p low few ends starts = rw starts
 part_reads free room m h s (a_part {ts = ts} {tree = tree} d) v rest p low few ends starts =
     let other = kind_no_mark m h s d.0 (v ∷ rest) in
     let some : 1 ≤ room = omega arith in
-    let read = (simple_exact free (room - 1)).complete ts (v ∷ rest) tree.kind
+    let read = (simple_exact free (room - 1)).complete ts (v ∷ rest) _
     (record { spelled = d.0; low = omega arith }) few ends in
     let line : first_line (ts ++ v ∷ rest) ≡ tree.line = first_line_some ts (v ∷ rest) (kind_some d.0) ∙ sym d.1 in
     rw (other, le-leb 1 room some, read, line)
@@ -176,15 +172,15 @@ pub record IsTest (room : ℕ) (ts : List Lexeme) (e : ExprTree) : Type 0 where
 pub test_sound : (free : ℕ) → (room : ℕ) (ts rest : List Lexeme) (x : ExprTree) →
     test_at free room ts ≡ Some (x, rest) → Taken (IsTest room) ts x rest
 unfolding test_at
-test_sound free room ts rest x h = go (begins_with mark.Semicolon ts) h
+test_sound free room ts rest x h = go _ h
   where
     go : (b : Bool) → cond {A = Option (ExprTree × List Lexeme)} b (always room ts) (expr_at free room ts) ≡
         Some (x, rest) → Taken (IsTest room) ts x rest
     go true e =
-        let c = cond_is (leb 1 room) (Some (one, ts)) (x, rest) e in
+        let c = cond_is _ _ _ e in
         let some = leb-true 1 room c.0 in
         let height = one_height in
-        took (IsTest room) ts [] x one ts rest refl (record { spelled = no_test; low = omega arith }) c.1
+        took _ ts [] x one ts rest refl (record { spelled = no_test; low = omega arith }) c.1
     go false e =
         let d = (expr_exact free room).sound ts rest x e in
         record {
@@ -203,6 +199,6 @@ unfolding test_at
 test_reads free room no_test v rest p low few = let height = one_height in let some : 1 ≤ room = omega arith in
     rw (p, le-leb 1 room some)
 test_reads free room (a_test {ts = ts} {cond = e} d) v rest p low few =
-    let other = no_mark mark.Semicolon refl (ts ++ v ∷ rest) (expr_starts d (v ∷ rest)) in
+    let other = no_mark mark.Semicolon refl _ (expr_starts d (v ∷ rest)) in
     let read = (expr_exact free room).complete ts (v ∷ rest) e (record { spelled = d; low = low }) few (rw p) in
     rw (other, read)

@@ -13,7 +13,7 @@ use Rattle.sc_expr.specs.declared.mark.Mark.TheVariants as mark
 use Rattle.sc_parse.specs.Lists as lists
 use Rattle.sc_parse.proofs.Exact.{Taken, Exact, ExactAdder, Any, took, glued, separated_exact}
 use Rattle.sc_parse.proofs.Bases.{Word, word_ahead, NoType, type_name_exact}
-use Rattle.sc_parse.proofs.Declared.{any_left, any_right, comma_ahead, first_line_base}
+use Rattle.sc_parse.proofs.Declared.{comma_ahead, first_line_base}
 
 abbrev pub NoName : List Lexeme → Type 0
 NoName rest = name_at rest ≡ None
@@ -25,7 +25,7 @@ param_sound : (ts rest : List Lexeme) (x : ParamTree) → param_at ts ≡ Some (
 unfolding param_at
 param_sound ts rest x h =
     let b = bound (λ x. option_map_or {U = Option (ParamTree × List Lexeme)}
-    (λ y. Some (param_tree x.0 (Some y.0), y.1)) (name_at x.1) (Some (param_tree x.0 None, x.1))) (type_name_at ts)
+    (λ y. Some (param_tree x.0 _, y.1)) (name_at x.1) (Some (param_tree x.0 None, x.1))) (type_name_at ts)
     (x, rest) h in
     go b.0.0 b.0.1 (type_name_exact.sound ts b.0.1 b.0.0 b.1) (name_at b.0.1) refl b.2
   where
@@ -37,7 +37,7 @@ param_sound ts rest x h =
     go ty us d (Some y) q e =
         let t = name_ahead us y.1 y.0 q in
         took SpellsParam ts (d.taken ++ t.0 ∷ []) x (param_tree ty (Some y.0)) y.1 rest
-        (glued ts us y.1 d.taken (t.0 ∷ []) d.split t.1) (named t.0 y.0 t.2 d.spelled) e
+        (glued ts us y.1 d.taken _ d.split t.1) (named t.0 y.0 t.2 d.spelled) e
 
 param_complete : {ts : List Lexeme} {x : ParamTree} (d : SpellsParam ts x) (rest : List Lexeme) → EndsParam rest →
     param_at (ts ++ rest) ≡ Some (x, rest)
@@ -52,9 +52,8 @@ param_exact = record { sound = param_sound; complete = λ ts rest x d fits h. pa
 
 all_params_exact : ExactAdder Any (Separated SpellsParam) (λ rest. EndsParam rest × (behind mark.Comma rest ≡ None))
     (all_separated (adds param_at))
-all_params_exact = separated_exact Any any_left any_right
-    (behind mark.Comma) comma_ahead SpellsParam EndsParam param_at param_exact (λ t rest p. ((rw p, rw p), rw p))
-    (λ t us rest zs p d. rw p)
+all_params_exact = separated_exact Any _ _
+    _ comma_ahead SpellsParam EndsParam _ param_exact (λ t rest p. ((rw p, rw p), rw p)) (λ t us rest zs p d. rw p)
 
 -- a `void` at the front
 pub void_ahead : (ts : List Lexeme) → is_void (keyword_at ts) ≡ true → Word ts word.Void
@@ -82,7 +81,7 @@ type_name_no_void (type_name {ts = ts} {us = us} d g) rest =
     subst NoVoid (sym (append_assoc ts us rest)) (base_no_void d (us ++ rest))
 
 param_no_void : {ts : List Lexeme} {x : ParamTree} (d : SpellsParam ts x) (rest : List Lexeme) → NoVoid (ts ++ rest)
-param_no_void (named {ts = ts} t name p d) rest = subst NoVoid (sym (append_assoc ts (t ∷ []) rest))
+param_no_void (named {ts = ts} t name p d) rest = subst NoVoid (sym (append_assoc ts _ rest))
     (type_name_no_void d (t ∷ rest))
 param_no_void (nameless d) rest = type_name_no_void d rest
 
@@ -90,7 +89,7 @@ params_no_void : {ts : List Lexeme} {xs : List ParamTree} (d : Separated SpellsP
     NoVoid (ts ++ rest)
 params_no_void (lists.one d) rest = param_no_void d rest
 params_no_void (more {ts = ts} {us = us} t p d g) rest =
-    subst NoVoid (sym (append_assoc ts (t ∷ us) rest)) (param_no_void d (t ∷ us ++ rest))
+    subst NoVoid (sym (append_assoc ts _ rest)) (param_no_void d (t ∷ us ++ rest))
 
 abbrev EndsParams : List Lexeme → Type 0
 EndsParams rest = EndsParam rest × (behind mark.Comma rest ≡ None)
@@ -128,12 +127,12 @@ result_sound ts rest x h = go (is_void (keyword_at ts)) refl h
     go : (b : Bool) → is_void (keyword_at ts) ≡ b → cond {A = Option (Option TypeName × List Lexeme)} b
         (Some (None, drop 1 ts)) (type_name_at ts >>= (λ x. Some (Some x.0, x.1))) ≡ Some (x, rest) →
         Taken SpellsResult ts x rest
-    go true q e = let first = void_ahead ts q in took SpellsResult ts (first.first ∷ []) x None
+    go true q e = let first = void_ahead ts q in took SpellsResult ts _ x None
         (drop 1 ts) rest first.is (no_result first.first first.keyword) e
     go false q e =
-        let b = bound (λ x. Some (Some x.0, x.1)) (type_name_at ts) (x, rest) e in
+        let b = bound (λ x. Some _) (type_name_at ts) (x, rest) e in
         let d = type_name_exact.sound ts b.0.1 b.0.0 b.1 in
-        took SpellsResult ts d.taken x (Some b.0.0) b.0.1 rest d.split (a_result d.spelled) b.2
+        took SpellsResult ts d.taken x _ b.0.1 rest d.split (a_result d.spelled) b.2
 
 result_complete : {ts : List Lexeme} {x : Option TypeName} (d : SpellsResult ts x) (rest : List Lexeme) → NoType rest →
     result_at (ts ++ rest) ≡ Some (x, rest)
@@ -147,16 +146,15 @@ parens_sound : (ts rest : List Lexeme) (x : List ParamTree) → params_in_parens
     (u : Lexeme) × (taken : List Lexeme) × (v : Lexeme) × (ts ≡ u ∷ (taken ++ v ∷ rest)) × IsMark mark.OpenParen u ×
     IsMark mark.CloseParen v × SpellsParams taken x
 parens_sound ts rest x h =
-    let o = bound (λ us. params_at us >>= (λ x. behind mark.CloseParen x.1 >>= (λ rest. Some (x.0, rest))))
-    (behind mark.OpenParen ts) (x, rest) h in
-    let b = bound (λ x. behind mark.CloseParen x.1 >>= (λ rest. Some (x.0, rest))) (params_at o.0) (x, rest) o.2 in
-    let c = bound (λ rest. Some (b.0.0, rest)) (behind mark.CloseParen b.0.1) (x, rest) b.2 in
+    let o = bound _ _ _ h in
+    let b = bound _ _ _ o.2 in
+    let c = bound _ _ _ b.2 in
     let same = same_some c.2 in
-    let value : b.0.0 ≡ x = ap (λ p. p.0) same in
-    let after : c.0 ≡ rest = ap (λ p. p.1) same in
-    let u = behind_mark mark.OpenParen ts o.0 o.1 in
+    let value = ap (λ p. p.0) same in
+    let after = ap (λ p. p.1) same in
+    let u = behind_mark _ ts o.0 o.1 in
     let d = params_sound o.0 b.0.1 b.0.0 b.1 in
-    let v = behind_mark mark.CloseParen b.0.1 c.0 c.1 in (
+    let v = behind_mark _ b.0.1 c.0 c.1 in (
       u.0,
       d.taken,
       v.0,
@@ -179,20 +177,17 @@ first_line_result (a_result d) rest = first_line_type d rest
 head_sound : (ts rest : List Lexeme) (x : HeadTree) → head_at ts ≡ Some (x, rest) → Taken SpellsHead ts x rest
 unfolding head_at
 head_sound ts rest x h =
-    let b = bound (λ x. name_at x.1 >>= (λ y. params_in_parens y.1 >>=
-    (λ z. Some (head_tree x.0 y.0 z.0 (first_line ts), z.1)))) (result_at ts) (x, rest) h in
-    let n = bound (λ y. params_in_parens y.1 >>= (λ z. Some (head_tree b.0.0 y.0 z.0 (first_line ts), z.1)))
-    (name_at b.0.1) (x, rest) b.2 in
-    let c = bound (λ z. Some (head_tree b.0.0 n.0.0 z.0 (first_line ts), z.1)) (params_in_parens n.0.1) (x, rest) n.2 in
+    let b = bound _ _ _ h in
+    let n = bound _ _ _ b.2 in
+    let c = bound _ _ _ n.2 in
     let r = result_sound ts b.0.1 b.0.0 b.1 in
     let t = name_ahead b.0.1 n.0.1 n.0.0 n.1 in
     let p = parens_sound n.0.1 c.0.1 c.0.0 c.1 in
-    let line : first_line ts ≡ first_line r.taken = ap first_line r.split ∙ first_line_result r.spelled b.0.1 in
+    let line = ap first_line r.split ∙ first_line_result r.spelled b.0.1 in
     let made = head t.0 p.0 p.2 n.0.0 t.2 p.4 p.5 r.spelled p.6 in
-    took SpellsHead ts (r.taken ++ t.0 ∷ p.0 ∷ (p.1 ++ p.2 ∷ [])) x
-    (head_tree b.0.0 n.0.0 c.0.0 (first_line ts)) c.0.1 rest
-    (glued ts b.0.1 c.0.1 r.taken (t.0 ∷ p.0 ∷ (p.1 ++ p.2 ∷ [])) r.split
-    (t.1 ∙ ap (λ l. t.0 ∷ l) (p.3 ∙ ap (λ l. p.0 ∷ l) (sym (append_assoc p.1 (p.2 ∷ []) c.0.1)))))
+    took SpellsHead ts (r.taken ++ t.0 ∷ p.0 ∷ (p.1 ++ p.2 ∷ [])) x _ c.0.1 rest
+    (glued ts b.0.1 c.0.1 r.taken _ r.split
+    (t.1 ∙ ap (λ l. t.0 ∷ l) (p.3 ∙ ap (λ l. p.0 ∷ l) (sym (append_assoc p.1 _ c.0.1)))))
     (subst (λ k. SpellsHead (r.taken ++ t.0 ∷ p.0 ∷ (p.1 ++ p.2 ∷ [])) (head_tree b.0.0 n.0.0 c.0.0 k))
     (sym line) made) c.2
 
@@ -201,7 +196,7 @@ head_complete : {ts : List Lexeme} {x : HeadTree} (d : SpellsHead ts x) (rest : 
 unfolding head_at
 head_complete (head {ts = ts} {us = us} {result = result} {params = xs} t u v name p q r d g) rest =
     let all : (ts ++ t ∷ u ∷ (us ++ v ∷ [])) ++ rest ≡ ts ++ t ∷ u ∷ (us ++ v ∷ rest) =
-    append_assoc ts (t ∷ u ∷ (us ++ v ∷ [])) rest ∙ ap (λ l. ts ++ t ∷ u ∷ l) (append_assoc us (v ∷ []) rest) in
+    append_assoc ts _ rest ∙ ap (λ l. ts ++ t ∷ u ∷ l) (append_assoc us _ rest) in
     let first = result_complete d (t ∷ u ∷ (us ++ v ∷ rest)) (rw p, rw p) in
     let inner = params_complete g (v ∷ rest) (((rw r, rw r), rw r), rw r) in
     ap head_at all ∙ rw (first, first_line_result d (t ∷ u ∷ (us ++ v ∷ rest)), p, q, inner, r)

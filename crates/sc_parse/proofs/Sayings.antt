@@ -1,11 +1,11 @@
 -- Tokens say something.
 use Rattle.sc_parse.proofs.Common.{Bool, IsSpan, List, Mark, None, Option, Some, Symbol, Token, [], ap, arith, bytes_eq}
-use Rattle.sc_parse.proofs.Common.{codes, cond, directive_kind, false, get_or, has_suffix, heading_name, ident_in}
-use Rattle.sc_parse.proofs.Common.{import_of, integer_of, is_export, is_import, is_integer, is_name, is_pragma}
+use Rattle.sc_parse.proofs.Common.{codes, cond, directive_kind, false, get_or, heading_name, ident_in}
+use Rattle.sc_parse.proofs.Common.{import_of, integer_of, is_export, is_import, is_integer, is_name}
 use Rattle.sc_parse.proofs.Common.{is_reserved, is_some, le-leb, leb-false, line_kind, list_any, look_up, map}
 use Rattle.sc_parse.proofs.Common.{mark_kind, mark_of, mark_texts, name_of, nat_le, nat_lt, none-some, number_in}
 use Rattle.sc_parse.proofs.Common.{option_map, option_or, or_unused, refl, same_some, says, slice_range, subst, sym}
-use Rattle.sc_parse.proofs.Common.{symbol_of, third_word, true, value_of, word_kind, words, ℕ, ◌&&◌, ◌||◌, ◌∙◌, ◌∷◌}
+use Rattle.sc_parse.proofs.Common.{symbol_of, third_word, true, word_kind, words, ℕ, ◌&&◌, ◌||◌, ◌∙◌, ◌∷◌}
 use Rattle.sc_parse.proofs.Common.{◌≡◌}
 use Rattle.sc_lex.specs.Prelude.{is_mark, kind_of}
 use Rattle.std.proofs.lemmas.Slice.Eq.{bytes_eq-Decides}
@@ -28,10 +28,10 @@ ident_speaks text free named = rw (named, free)
 
 typed : (suffix : Bool) (value : ℕ) → ((suffix || nat_lt 2147483647 value) || nat_le value 2147483647) ≡ true
 typed true value = refl
-typed false value = go (nat_le value 2147483647) refl
+typed false value = go _ refl
   where
     go : (b : Bool) → nat_le value 2147483647 ≡ b → (nat_lt 2147483647 value || b) ≡ true
-    go true q = either (nat_lt 2147483647 value)
+    go true q = either _
       where
         either : (b : Bool) → (b || true) ≡ true
         either true = refl
@@ -40,7 +40,7 @@ typed false value = go (nat_le value 2147483647) refl
 
 integer_speaks : (text : List ℕ) → is_integer text ≡ true → is_some (number_in text) ≡ true
 unfolding integer_of
-integer_speaks text h = rw (h, typed (has_suffix text) (value_of text))
+integer_speaks text h = rw (h, typed _ _)
 
 -- texts alike by either test
 alike : (xs ys : List ℕ) → bytes_eq xs ys ≡ true → bytes_eq ys xs ≡ true
@@ -49,7 +49,7 @@ alike xs ys h = (bytes_eq-Decides ys xs).1 (sym ((bytes_eq-Decides xs ys).0 h))
 looked : (rows : List (List ℕ × Mark)) (text : List ℕ) →
     list_any (λ mark. bytes_eq text mark) (map (λ row. row.0) rows) ≡ true → is_some (look_up rows text) ≡ true
 looked [] text h = absurd (false-true h)
-looked (row ∷ rows) text h = go (bytes_eq text row.0) refl (bytes_eq row.0 text) refl (looked rows text) h
+looked (row ∷ rows) text h = go _ refl _ refl (looked rows text) h
   where
     go : (b : Bool) → bytes_eq text row.0 ≡ b → (a : Bool) → bytes_eq row.0 text ≡ a →
         (list_any (λ mark. bytes_eq text mark) (map (λ row. row.0) rows) ≡ true →
@@ -70,8 +70,7 @@ export_speaks : (ws : List (List ℕ)) → is_export ws ≡ true → is_some (na
 export_speaks [] h = absurd (false-true h)
 export_speaks (a ∷ []) h = absurd (false-true h)
 export_speaks (a ∷ b ∷ []) h = absurd (false-true h)
-export_speaks (a ∷ b ∷ c ∷ []) h = named_word c (and_rest (bytes_eq a (codes "#pragma") && bytes_eq b (codes "export"))
-    (is_name c) h)
+export_speaks (a ∷ b ∷ c ∷ []) h = named_word c (and_rest _ _ h)
 export_speaks (a ∷ b ∷ c ∷ d ∷ more) h = absurd (false-true h)
 
 import_speaks : (ws : List (List ℕ)) → is_import ws ≡ true →
@@ -82,8 +81,7 @@ import_speaks (a ∷ b ∷ []) h = absurd (false-true h)
 import_speaks (a ∷ b ∷ c ∷ []) h = absurd (false-true h)
 import_speaks (a ∷ b ∷ c ∷ d ∷ []) h =
     let words = bytes_eq a (codes "#pragma") && bytes_eq b (codes "import") in
-    both (is_name c) refl (is_name d) refl (and_rest words (is_name c) (and_first (words && is_name c) (is_name d) h))
-    (and_rest (words && is_name c) (is_name d) h)
+    both _ refl _ refl (and_rest words _ (and_first _ _ h)) (and_rest _ _ h)
   where
     both : (x : Bool) → is_name c ≡ x → (y : Bool) → is_name d ≡ y → x ≡ true → y ≡ true →
         is_some (import_of (name_of c) (name_of d)) ≡ true
@@ -111,10 +109,10 @@ word_speaks text k free h = go (is_reserved text) refl (is_name text) refl (is_i
 
 mark_kind_speaks : (text : List ℕ) (k : TokenKind) → mark_kind text ≡ Some k → Speaks k text
 unfolding says
-mark_kind_speaks text k h = go (is_mark text) refl h
+mark_kind_speaks text k h = go _ refl h
   where
     go : (b : Bool) → is_mark text ≡ b → cond {A = Option TokenKind} b (Some kind.Mark) None ≡ Some k → Speaks k text
-    go true p e = as_kind text k kind.Mark e (mapped (λ m. symbol.Mark m) (mark_of text) (mark_speaks text p))
+    go true p e = as_kind text k _ e (mapped _ _ (mark_speaks text p))
     go false p e = absurd (none-some k e)
 
 line_speaks : (text : List ℕ) (k : TokenKind) → line_kind text ≡ Some k → Speaks k text
@@ -133,7 +131,7 @@ line_speaks text k h = go (is_some (heading_name text)) refl (is_export (words t
     go false p false q false t e = absurd (none-some k e)
 
 directive_speaks : (text : List ℕ) (k : TokenKind) → directive_kind text ≡ Some k → Speaks k text
-directive_speaks text k h = go (is_pragma text) h
+directive_speaks text k h = go _ h
   where
     go : (b : Bool) → cond {A = Option TokenKind} b (line_kind text) None ≡ Some k → Speaks k text
     go true e = line_speaks text k e
@@ -141,7 +139,7 @@ directive_speaks text k h = go (is_pragma text) h
 
 kind_speaks : (text : List ℕ) (k : TokenKind) → (k ≡ kind.Reserved → ⊥) → kind_of text ≡ Some k → Speaks k text
 unfolding kind_of
-kind_speaks text k free h = go (word_kind text) refl (mark_kind text) refl h
+kind_speaks text k free h = go (word_kind text) refl _ refl h
   where
     go : (w : Option TokenKind) → word_kind text ≡ w → (m : Option TokenKind) → mark_kind text ≡ m →
         option_or w (option_or m (directive_kind text)) ≡ Some k → Speaks k text
@@ -156,5 +154,4 @@ said (Some s) h = refl
 -- a token that is no reserved word is the lexeme that its text says
 pub token_says : (bytes : List ℕ) (token : Token) → IsSpan bytes token → (token.kind ≡ kind.Reserved → ⊥) →
     says token.kind (slice_range bytes token.start token.end) ≡ Some (symbol_of bytes token)
-token_says bytes token span free = said (says token.kind (slice_range bytes token.start token.end))
-    (kind_speaks (slice_range bytes token.start token.end) token.kind free span.kind)
+token_says bytes token span free = said _ (kind_speaks _ _ free span.kind)

@@ -1,6 +1,6 @@
 -- Sections are read exactly as they are spelled, within the limits of height and of brackets, and no lexemes spell two.
 use Rattle.sc_parse.proofs.Common.{Decl, Grouped, Lexeme, List, SectionTree, Some, SpellsDecl, SpellsSection, Symbol}
-use Rattle.sc_parse.proofs.Common.{[], ap, append-nil, arith, bound, compartment_at, compartment_by, decl_at, decls_at}
+use Rattle.sc_parse.proofs.Common.{[], ap, append-nil, arith, bound, compartment_at, compartment_by, decls_at}
 use Rattle.sc_parse.proofs.Common.{decls_height, directives, directives_at, is_empty, length, length-append, max}
 use Rattle.sc_parse.proofs.Common.{most_open, none-some, refl, same_some, section, section_at, section_height}
 use Rattle.sc_parse.proofs.Common.{section_tree, section_within, subst, sym, true, ℕ, ◌++◌, ◌+◌, ◌>>=◌, ◌∙◌, ◌∷◌, ◌≡◌}
@@ -28,15 +28,14 @@ compartment_ahead : (ts rest : List Lexeme) (name : List ℕ) → compartment_at
     Compartment ts rest name
 compartment_ahead [] rest name h = absurd (none-some _ h)
 compartment_ahead (t ∷ ts) rest name h =
-    let b = bound (λ name. Some (name, ts)) (compartment_by t.symbol) (name, rest) h in
+    let b = bound _ _ _ h in
     let same = same_some b.2 in
-    let value : b.0 ≡ name = ap (λ p. p.0) same in
-    let after : ts ≡ rest = ap (λ p. p.1) same in
+    let value = ap (λ p. p.0) same in
+    let after = ap (λ p. p.1) same in
     record {
       first = t;
       is = ap (λ l. t ∷ l) after;
-      names = compartment_is t.symbol b.0 b.1 ∙
-          ap (λ n. symbol.Compartment n) value;
+      names = compartment_is _ b.0 b.1 ∙ ap (λ n. symbol.Compartment n) value;
     }
 
 -- declarations up to the end, at most so high
@@ -51,11 +50,11 @@ ended (t ∷ rest) h = absurd (false-true h)
 decls_sound : (free limit : ℕ) (ts rest : List Lexeme) (zs : List Decl) → decls_at free limit ts ≡ Some (zs, rest) →
     Declared limit ts zs × (rest ≡ [])
 decls_sound free limit ts rest zs h =
-    let g = grouped_sound (Few free) (few_left free) (few_right free) is_empty (IsDecls limit) (λ rest. Unit {0})
-    (decl_at free limit) (decl_exact free limit) (length ts + 1) [] zs ts rest h in
+    let g = grouped_sound (Few free) (few_left free) (few_right free) _ (IsDecls limit) (λ rest. Unit {0})
+    _ (decl_exact free limit) _ [] zs ts rest h in
     let apart = decls_apart limit g.0.spelled in
     let end = ended rest g.1 in
-    let taken : g.0.taken ≡ ts = sym (g.0.split ∙ ap (λ l. g.0.taken ++ l) end ∙ append-nil g.0.taken) in (
+    let taken = sym (g.0.split ∙ ap (λ l. g.0.taken ++ l) end ∙ append-nil _) in (
       subst (λ l. Declared limit l zs) taken (subst (λ z. Declared limit g.0.taken z) (sym g.0.all)
           (record { spelled = apart.0; low = apart.1 })),
       end,
@@ -103,8 +102,8 @@ within_complete free limit {line} (section {ts = ts} {us = us} {exports = export
     name p d g) low few =
     let lines = lines_complete d (length (ts ++ us) + 1) [] [] us (omega (arith, length-append ts us))
     (decls_no_line g) in
-    let fits = few_right free ts us (few_tail free t (ts ++ us) few) in
-    let read : decls_at free limit us ≡ Some (decls, []) =
+    let fits = few_right free ts us (few_tail free t _ few) in
+    let read : decls_at free limit us ≡ Some _ =
     ap (decls_at free limit) (sym (append-nil us)) ∙
     (all_exact free limit).complete [] decls us [] (decls_joined limit g low) fits refl in
     rw (p, lines, read)

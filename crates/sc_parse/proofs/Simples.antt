@@ -4,12 +4,12 @@ use Rattle.sc_parse.proofs.Common.{Prefix, SimpleKind, Some, Spells, SpellsCall,
 use Rattle.sc_parse.proofs.Common.{ap, append_assoc, arith, arrow, assign, assign_call, assignment_at, begins_call}
 use Rattle.sc_parse.proofs.Common.{begins_value, begins_with, bound, call, call_alone, call_at, call_height, change_at}
 use Rattle.sc_parse.proofs.Common.{change_of, changed, compound, compound_of, cond, cond_is, drop, expr_at, expr_height}
-use Rattle.sc_parse.proofs.Common.{false, index, is_place, is_some, joined, lead_by, literal, looser, lt-ltb, ltb}
+use Rattle.sc_parse.proofs.Common.{false, index, is_place, is_some, joined, lead_by, literal, looser, lt-ltb}
 use Rattle.sc_parse.proofs.Common.{ltb-true, makes_value, mark_at, mark_by, max, member, none-some, operand_behind}
 use Rattle.sc_parse.proofs.Common.{option_map_or, parenthesised, place_at, placed, prefix, prefix_of, prefixed, read}
 use Rattle.sc_parse.proofs.Common.{read_sound, refl, rules, same_some, simple_at, simple_kind_height, step_at}
 use Rattle.sc_parse.proofs.Common.{step_before, step_behind, step_of, stepped, subst, sym, the_lemmas, true}
-use Rattle.sc_parse.proofs.Common.{unary_level, unary_place, unstepped, updates, value_behind, variable, ℕ, ◌++◌, ◌+◌}
+use Rattle.sc_parse.proofs.Common.{unary_place, unstepped, updates, value_behind, variable, ℕ, ◌++◌, ◌+◌}
 use Rattle.sc_parse.proofs.Common.{◌-◌, ◌<◌, ◌>>=◌, ◌∙◌, ◌∷◌, ◌≡◌, ◌≤◌}
 use Rattle.sc_ast.specs.declared.expr.ExprTree.TheVariants as expr
 use Rattle.sc_base.specs.declared.op.UnaryOp.{UnaryOp}
@@ -41,7 +41,7 @@ mark_is_by _ m h = absurd (none-some m h)
 
 pub mark_ahead : (ts : List Lexeme) (m : Mark) → mark_at ts ≡ Some m → Marked ts m
 mark_ahead [] m h = absurd (none-some m h)
-mark_ahead (t ∷ ts) m h = record { first = t; is = refl; mark = mark_is_by t.symbol m h }
+mark_ahead (t ∷ ts) m h = record { first = t; is = refl; mark = mark_is_by _ m h }
 
 -- what stands behind a place, as a mark says
 data Changes : Mark → Change → Type 0 where
@@ -61,19 +61,19 @@ change_other m c h = go (compound_of m) refl (step_of m) refl h
     go None q None r e = absurd (none-some c e)
 
 changes : (m : Mark) (c : Change) → change_of m ≡ Some c → Changes m c
-changes mark.Equal c h = subst (Changes mark.Equal) (same_some h) sets
-changes mark.PlusEqual c h = change_other mark.PlusEqual c h
-changes mark.MinusEqual c h = change_other mark.MinusEqual c h
-changes mark.StarEqual c h = change_other mark.StarEqual c h
-changes mark.SlashEqual c h = change_other mark.SlashEqual c h
-changes mark.PercentEqual c h = change_other mark.PercentEqual c h
-changes mark.LessLessEqual c h = change_other mark.LessLessEqual c h
-changes mark.GreaterGreaterEqual c h = change_other mark.GreaterGreaterEqual c h
-changes mark.AndEqual c h = change_other mark.AndEqual c h
-changes mark.CaretEqual c h = change_other mark.CaretEqual c h
-changes mark.OrEqual c h = change_other mark.OrEqual c h
-changes mark.PlusPlus c h = change_other mark.PlusPlus c h
-changes mark.MinusMinus c h = change_other mark.MinusMinus c h
+changes mark.Equal c h = subst (Changes _) (same_some h) sets
+changes mark.PlusEqual c h = change_other _ c h
+changes mark.MinusEqual c h = change_other _ c h
+changes mark.StarEqual c h = change_other _ c h
+changes mark.SlashEqual c h = change_other _ c h
+changes mark.PercentEqual c h = change_other _ c h
+changes mark.LessLessEqual c h = change_other _ c h
+changes mark.GreaterGreaterEqual c h = change_other _ c h
+changes mark.AndEqual c h = change_other _ c h
+changes mark.CaretEqual c h = change_other _ c h
+changes mark.OrEqual c h = change_other _ c h
+changes mark.PlusPlus c h = change_other _ c h
+changes mark.MinusMinus c h = change_other _ c h
 changes _ c h = absurd (none-some c h)
 
 -- a statement that may stand in the head of a `for`, whose parts are at most so high
@@ -91,14 +91,13 @@ record PlaceTaken (room : ℕ) (ts : List Lexeme) (x : Placed) (rest : List Lexe
 unary_place_sound : (free : ℕ) → (room : ℕ) (ts rest : List Lexeme) (x : Placed) →
     unary_place free room ts ≡ Some (x, rest) → PlaceTaken room ts x rest
 unary_place_sound free room ts rest x h =
-    let b = bound (λ x. cond (is_place x.tree) (Some (placed x.tree x.height, x.rest)) None)
-    (read free room unary_level ts) (x, rest) h in
-    let m = read_sound free room unary_level ts b.0 (omega arith) b.1 in
-    let c = cond_is (is_place b.0.tree) (Some (placed b.0.tree b.0.height, b.0.rest)) (x, rest) b.2 in
+    let b = bound _ _ _ h in
+    let m = read_sound free room _ ts b.0 (omega arith) b.1 in
+    let c = cond_is _ _ _ b.2 in
     let same = same_some c.1 in
-    let value : placed b.0.tree b.0.height ≡ x = ap (λ p. p.0) same in
-    let after : b.0.rest ≡ rest = ap (λ p. p.1) same in
-    let made : PlaceTaken room ts (placed b.0.tree b.0.height) b.0.rest =
+    let value = ap (λ p. p.0) same in
+    let after = ap (λ p. p.1) same in
+    let made : PlaceTaken room ts _ _ =
     record { taken = m.taken; split = m.split; spelled = (m.spelled, c.0); height = m.measured; low = m.low } in
     subst (λ y. PlaceTaken room ts y rest) value (subst
     (λ r. PlaceTaken room ts (placed b.0.tree b.0.height) r) after made)
@@ -106,11 +105,11 @@ unary_place_sound free room ts rest x h =
 place_sound : (free : ℕ) → (room : ℕ) (ts rest : List Lexeme) (x : Placed) → place_at free room ts ≡ Some (x, rest) →
     PlaceTaken room ts x rest
 unfolding place_at
-place_sound free room ts rest x h = go (begins_value ts) h
+place_sound free room ts rest x h = go _ h
   where
     go : (b : Bool) → cond {A = Option (Placed × List Lexeme)} b None (unary_place free room ts) ≡ Some (x, rest) →
         PlaceTaken room ts x rest
-    go true e = absurd (none-some (x, rest) e)
+    go true e = absurd (none-some _ e)
     go false e = unary_place_sound free room ts rest x e
 
 -- a postfix expression begins with no operator
@@ -120,11 +119,11 @@ postfix_begins (literal t number p) rest h = rw p
 postfix_begins (variable t name p) rest h = rw p
 postfix_begins (parenthesised t u p q d) rest h = rw p
 postfix_begins (index {ts = ts} {us = us} t u p q d g) rest h =
-    ap begins_value (append_assoc ts (t ∷ (us ++ u ∷ [])) rest) ∙ postfix_begins d (t ∷ (us ++ u ∷ []) ++ rest) refl
+    ap begins_value (append_assoc ts _ rest) ∙ postfix_begins d (t ∷ (us ++ u ∷ []) ++ rest) refl
 postfix_begins (member {ts = ts} t u name p q d) rest h =
-    ap begins_value (append_assoc ts (t ∷ u ∷ []) rest) ∙ postfix_begins d (t ∷ u ∷ rest) refl
+    ap begins_value (append_assoc ts _ rest) ∙ postfix_begins d (t ∷ u ∷ rest) refl
 postfix_begins (arrow {ts = ts} t u name p q d) rest h =
-    ap begins_value (append_assoc ts (t ∷ u ∷ []) rest) ∙ postfix_begins d (t ∷ u ∷ rest) refl
+    ap begins_value (append_assoc ts _ rest) ∙ postfix_begins d (t ∷ u ∷ rest) refl
 postfix_begins (prefix t m o p q d) rest h = absurd (omega arith)
 postfix_begins (joined t m op p q k d g) rest h = absurd (omega arith)
 postfix_begins (looser d) rest h = absurd (omega arith)
@@ -159,11 +158,11 @@ place_begins (literal t number p) rest h = rw p
 place_begins (variable t name p) rest h = rw p
 place_begins (parenthesised t u p q d) rest h = rw p
 place_begins (index {ts = ts} {us = us} t u p q d g) rest h =
-    ap begins_value (append_assoc ts (t ∷ (us ++ u ∷ [])) rest) ∙ postfix_begins d (t ∷ (us ++ u ∷ []) ++ rest) refl
+    ap begins_value (append_assoc ts _ rest) ∙ postfix_begins d (t ∷ (us ++ u ∷ []) ++ rest) refl
 place_begins (member {ts = ts} t u name p q d) rest h =
-    ap begins_value (append_assoc ts (t ∷ u ∷ []) rest) ∙ postfix_begins d (t ∷ u ∷ rest) refl
+    ap begins_value (append_assoc ts _ rest) ∙ postfix_begins d (t ∷ u ∷ rest) refl
 place_begins (arrow {ts = ts} t u name p q d) rest h =
-    ap begins_value (append_assoc ts (t ∷ u ∷ []) rest) ∙ postfix_begins d (t ∷ u ∷ rest) refl
+    ap begins_value (append_assoc ts _ rest) ∙ postfix_begins d (t ∷ u ∷ rest) refl
 place_begins (prefix {e = e} t m o p q d) rest h = rw p (no_value m o e q h)
 place_begins (joined {e = e} {f = f} t m op p q k d g) rest h = absurd (false-true (sym (binary_no_place op e f) ∙ h))
 place_begins (looser d) rest h = place_begins d rest h
@@ -179,7 +178,7 @@ place_reads free room d rest low few ends = rw (
 )
 
 pub one_height : expr_height one ≡ 1
-one_height = literal_height (record { value = 1; unsigned = false })
+one_height = literal_height _
 
 -- the height of an assignment that an operator makes
 updates_height : (op : BinaryOp) (e f : ExprTree) → simple_kind_height (updates op e f) ≡
@@ -194,9 +193,9 @@ stepped_some : (room : ℕ) (op : BinaryOp) (x : Placed) (ts rest : List Lexeme)
     stepped room op x ts ≡ Some (k, rest) → (x.height < room) × (k ≡ updates op x.place one) × (ts ≡ rest)
 unfolding stepped
 stepped_some room op x ts rest k h =
-    let c = cond_is (ltb x.height room) (Some (updates op x.place one, ts)) (k, rest) h in
+    let c = cond_is _ _ _ h in
     let same = same_some c.1 in
-    (ltb-true x.height room c.0, sym (ap (λ p. p.0) same), ap (λ p. p.1) same)
+    (ltb-true _ room c.0, sym (ap (λ p. p.0) same), ap (λ p. p.1) same)
 
 step_before_sound : (free : ℕ) → (room : ℕ) (op : BinaryOp) (m : Mark) (ts rest : List Lexeme) (k : SimpleKind) →
     mark_at ts ≡ Some m → step_of m ≡ Some op → readers.step_before free room op (drop 1 ts) ≡ Some (k, rest) →
@@ -204,12 +203,12 @@ step_before_sound : (free : ℕ) → (room : ℕ) (op : BinaryOp) (m : Mark) (ts
 unfolding readers.step_before
 step_before_sound free room op m ts rest k q r h =
     let t = mark_ahead ts m q in
-    let b = bound (λ x. stepped room op x.0 x.1) (place_at free room (drop 1 ts)) (k, rest) h in
-    let p = place_sound free room (drop 1 ts) b.0.1 b.0.0 b.1 in
+    let b = bound _ _ _ h in
+    let p = place_sound free room _ b.0.1 b.0.0 b.1 in
     let s = stepped_some room op b.0.0 b.0.1 rest k b.2 in
     let height = p.height in
     let short = s.0 in
-    let low : simple_kind_height (updates op b.0.0.place one) ≤ room =
+    let low =
     step_low op b.0.0.place room (positive p.spelled.0) (omega arith) in
     record {
       taken = t.first ∷ p.taken;
@@ -221,10 +220,9 @@ step_before_sound free room op m ts rest k q r h =
 call_alone_sound : (free : ℕ) → (room : ℕ) (ts rest : List Lexeme) (k : SimpleKind) →
     call_alone free room ts ≡ Some (k, rest) → Taken (IsSimple room) ts k rest
 call_alone_sound free room ts rest k h =
-    let b = bound (λ x. Some (simple.Call x.0, x.1)) (call_at free room ts) (k, rest) h in
+    let b = bound _ _ _ h in
     let c = (call_exact free room).sound ts b.0.1 b.0.0 b.1 in
-    took (IsSimple room) ts c.taken k (simple.Call b.0.0) b.0.1 rest c.split
-    (record { spelled = call c.spelled.spelled; low = c.spelled.low }) b.2
+    took _ ts c.taken k _ b.0.1 rest c.split (record { spelled = call c.spelled.spelled; low = c.spelled.low }) b.2
 
 value_sound : (free : ℕ) → (room : ℕ) (place : ExprTree) (before : List Lexeme) (t : Lexeme) (ts rest : List Lexeme)
     (k : SimpleKind) → IsMark mark.Equal t → SpellsPlace before place → expr_height place ≤ room →
@@ -256,14 +254,13 @@ operand_sound : (free : ℕ) → (room : ℕ) (op : BinaryOp) (m : Mark) (x : Pl
     Taken (λ us k. IsSimple room (before ++ t ∷ us) k) ts k rest
 unfolding operand_behind
 operand_sound free room op m x before t ts rest k p q d height h =
-    let c = cond_is (ltb x.height room) (expr_at free (room - 1) ts >>= (λ y. Some (updates op x.place y.0, y.1)))
-    (k, rest) h in
-    let short = ltb-true x.height room c.0 in
-    let b = bound (λ y. Some (updates op x.place y.0, y.1)) (expr_at free (room - 1) ts) (k, rest) c.1 in
-    let e = (expr_exact free (room - 1)).sound ts b.0.1 b.0.0 b.1 in
+    let c = cond_is _ _ _ h in
+    let short = ltb-true _ room c.0 in
+    let b = bound _ _ _ c.1 in
+    let e = (expr_exact free _).sound ts b.0.1 b.0.0 b.1 in
     let low = e.spelled.low in
     let made = updates_height op x.place b.0.0 in
-    took (λ us k. IsSimple room (before ++ t ∷ us) k) ts e.taken k (updates op x.place b.0.0) b.0.1 rest e.split
+    took _ ts e.taken k _ b.0.1 rest e.split
     (record { spelled = compound t m op p q d e.spelled.spelled; low = omega arith }) b.2
 
 assignment_sound : (free : ℕ) → (room : ℕ) (ts rest : List Lexeme) (k : SimpleKind) →
@@ -317,7 +314,7 @@ assignment_sound free room ts rest k h =
 simple_sound : (free : ℕ) → (room : ℕ) (ts rest : List Lexeme) (k : SimpleKind) →
     simple_at free room ts ≡ Some (k, rest) → Taken (IsSimple room) ts k rest
 unfolding simple_at
-simple_sound free room ts rest k h = go (mark_at ts) refl h
+simple_sound free room ts rest k h = go _ refl h
   where
     other : (b : Bool) → cond {A = Option (SimpleKind × List Lexeme)} b (call_alone free room ts)
         (assignment_at free room ts) ≡ Some (k, rest) → Taken (IsSimple room) ts k rest
@@ -327,12 +324,12 @@ simple_sound free room ts rest k h = go (mark_at ts) refl h
     by_step : (m : Mark) → mark_at ts ≡ Some m → (o : Option BinaryOp) → step_of m ≡ o →
         option_map_or (λ op. readers.step_before free room op (drop 1 ts)) o (unstepped free room ts) ≡
         Some (k, rest) → Taken (IsSimple room) ts k rest
-    by_step m q None r e = other (begins_call ts) e
+    by_step m q None r e = other _ e
     by_step m q (Some op) r e = step_before_sound free room op m ts rest k q r e
 
     go : (o : Option Mark) → mark_at ts ≡ o → option_map_or (λ op. readers.step_before free room op (drop 1 ts))
         (o >>= step_of) (unstepped free room ts) ≡ Some (k, rest) → Taken (IsSimple room) ts k rest
-    go None q e = other (begins_call ts) e
+    go None q e = other _ e
     go (Some m) q e = by_step m q (step_of m) refl e
 
 compound_change : (m : Mark) (op : BinaryOp) → compound_of m ≡ Some op → change_of m ≡ Some (change.By op)
@@ -383,7 +380,7 @@ symbol_no_step _ h = refl
 no_step : (ts : List Lexeme) → begins_expr ts ≡ true → step_at ts ≡ None
 unfolding begins_expr
 no_step [] h = refl
-no_step (t ∷ ts) h = symbol_no_step t.symbol h
+no_step (t ∷ ts) h = symbol_no_step _ h
 
 call_no_step : {ts : List Lexeme} {x : CallTree} (d : SpellsCall ts x) (rest : List Lexeme) →
     step_at (ts ++ rest) ≡ None
@@ -401,7 +398,7 @@ assigned : (free : ℕ) → (room : ℕ) {ts : List Lexeme} {place : ExprTree} (
 unfolding simple_at assignment_at
 assigned free room {ts} d m t us c k rest p q stops low few h =
     let stop = stops t us p in
-    let none = no_step (ts ++ t ∷ us) (expr_starts d.0 (t ∷ us)) in
+    let none = no_step (ts ++ t ∷ us) (expr_starts d.0 _) in
     let plain = no_call d.0 (t ∷ us) stop.1 in
     rw (none, plain, place_reads free room d (t ∷ us) low few stop.0, p, q) h
 
@@ -418,7 +415,7 @@ before_complete free room {ts} {place} t m op p q d rest low few ends =
       p,
       q,
       place_reads free room d rest (omega arith) (few_tail free t ts few) ends.0,
-      lt-ltb (expr_height place) room short,
+      lt-ltb _ room short,
     )
 
 call_alone_complete : (free : ℕ) → (room : ℕ) {ts : List Lexeme} {c : CallTree} (d : SpellsCall ts c)
@@ -438,36 +435,33 @@ simple_complete : (free : ℕ) → (room : ℕ) {ts : List Lexeme} {k : SimpleKi
     simple_at free room (ts ++ rest) ≡ Some (k, rest)
 unfolding value_behind operand_behind stepped
 simple_complete free room (assign {ts = ts} {us = us} {place = place} {value = value} t p d v) rest low few ends =
-    let inner = few_tail free t us (few_right free ts (t ∷ us) few) in
+    let inner = few_tail free t us (few_right free ts _ few) in
     let read = (expr_exact free room).complete us rest value (record { spelled = v; low = omega arith }) inner ends.0 in
-    ap (simple_at free room) (append_assoc ts (t ∷ us) rest)
-    ∙ assigned free room d mark.Equal t (us ++ rest) change.Set (simple.Assign place value) rest p refl
-    (λ t rest p. (rw p, rw p)) (omega arith) (few_left free ts (t ∷ us) few) (rw (no_call v rest ends.1, read))
+    ap (simple_at free room) (append_assoc ts _ rest) ∙ assigned free room d _ t (us ++ rest) _ _ rest p refl
+    (λ t rest p. (rw p, rw p)) (omega arith) (few_left free ts _ few) (rw (no_call v rest ends.1, read))
 simple_complete free room (assign_call {ts = ts} {us = us} {place = place} {call = c} t p d v) rest low few ends =
-    let inner = few_tail free t us (few_right free ts (t ∷ us) few) in
+    let inner = few_tail free t us (few_right free ts _ few) in
     let read = (call_exact free room).complete us rest c (record { spelled = v; low = omega arith }) inner tt in
-    ap (simple_at free room) (append_assoc ts (t ∷ us) rest)
-    ∙ assigned free room d mark.Equal t (us ++ rest) change.Set (simple.AssignCall place c) rest p refl
-    (λ t rest p. (rw p, rw p)) (omega arith) (few_left free ts (t ∷ us) few) (rw (call_begins v rest, read))
+    ap (simple_at free room) (append_assoc ts _ rest) ∙ assigned free room d _ t (us ++ rest) _ _ rest p refl
+    (λ t rest p. (rw p, rw p)) (omega arith) (few_left free ts _ few) (rw (call_begins v rest, read))
 simple_complete free room (compound {ts = ts} {us = us} {place = place} {operand = operand} t m op p q d v) rest low few
     ends =
-    let inner = few_tail free t us (few_right free ts (t ∷ us) few) in
+    let inner = few_tail free t us (few_right free ts _ few) in
     let made = updates_height op place operand in
     let short : expr_height place < room = omega arith in
     let less : expr_height operand ≤ room - 1 = omega arith in
     let read = (expr_exact free (room - 1)).complete us rest operand
     (record { spelled = v; low = less }) inner ends.0 in
-    ap (simple_at free room) (append_assoc ts (t ∷ us) rest)
-    ∙ assigned free room d m t (us ++ rest) (change.By op) (updates op place operand) rest p (compound_change m op q)
-    (compound_stops m op q) (omega arith) (few_left free ts (t ∷ us) few)
-    (rw (lt-ltb (expr_height place) room short, read))
+    ap (simple_at free room) (append_assoc ts _ rest)
+    ∙ assigned free room d m t (us ++ rest) (change.By op) _ rest p (compound_change m op q)
+    (compound_stops m op q) (omega arith) (few_left free ts _ few) (rw (lt-ltb _ room short, read))
 simple_complete free room (step_behind {ts = ts} {place = place} t m op p q d) rest low few ends =
     let made = updates_height op place one in
     let height = one_height in
     let short : expr_height place < room = omega arith in
-    ap (simple_at free room) (append_assoc ts (t ∷ []) rest)
-    ∙ assigned free room d m t rest (change.Step op) (updates op place one) rest p (step_change m op q)
-    (step_stops m op q) (omega arith) (few_left free ts (t ∷ []) few) (rw (lt-ltb (expr_height place) room short))
+    ap (simple_at free room) (append_assoc ts _ rest)
+    ∙ assigned free room d m t rest (change.Step op) _ rest p (step_change m op q)
+    (step_stops m op q) (omega arith) (few_left free ts _ few) (rw (lt-ltb _ room short))
 simple_complete free room (step_before t m op p q d) rest low few ends =
     before_complete free room t m op p q d rest low few ends
 simple_complete free room (call {ts = ts} {call = c} d) rest low few ends = call_alone_complete free room d rest low few

@@ -1,10 +1,10 @@
 -- Structs, globals and what they begin with are read exactly as they are spelled.
 use Rattle.sc_parse.proofs.Common.{BaseTree, Bool, ConstTree, Declares, Grouped, IsIdent, IsInteger, IsKeyword, IsMark}
 use Rattle.sc_parse.proofs.Common.{IsMember, Lexeme, List, MemberTree, None, Number, Option, Separated, Some}
-use Rattle.sc_parse.proofs.Common.{SpellsBase, SpellsConst, SpellsDeclarator, SpellsStruct, StructTree, [], adds, ap}
+use Rattle.sc_parse.proofs.Common.{SpellsBase, SpellsConst, SpellsStruct, StructTree, [], adds, ap}
 use Rattle.sc_parse.proofs.Common.{append_assoc, arith, begins_with, behind, behind_inner_comma, behind_mark, bound}
 use Rattle.sc_parse.proofs.Common.{cond, const_at, const_tree, declaration_at, declares, drop, false, first_line}
-use Rattle.sc_parse.proofs.Common.{grouped, int, integer_by, keyword_at, length, length-append, literal_at, members_at}
+use Rattle.sc_parse.proofs.Common.{grouped, int, keyword_at, length, length-append, literal_at, members_at}
 use Rattle.sc_parse.proofs.Common.{members_behind, members_in_braces, more, name_ahead, name_at, negated, next}
 use Rattle.sc_parse.proofs.Common.{non_empty, none, none-some, option_map_or, refl, same_some, separated, signed}
 use Rattle.sc_parse.proofs.Common.{signed_int, struct_at, struct_tree, subst, sym, true, unsigned, unsigned_int, ℕ}
@@ -16,7 +16,7 @@ use Rattle.sc_parse.specs.Lists as lists
 use Rattle.sc_parse.specs.Declarations.{struct, plain}
 use Rattle.sc_parse.proofs.Exact.{Taken, Exact, ExactAdder, Any, took, glued, separated_exact, grouped_exact}
 use Rattle.sc_parse.proofs.Bases.{word_ahead, integer_is}
-use Rattle.sc_parse.proofs.Declared.{any_left, any_right, member_line_exact}
+use Rattle.sc_parse.proofs.Declared.{member_line_exact}
 
 -- no `}` stands at the front of a base
 pub base_starts : {ts : List Lexeme} {base : BaseTree} (d : SpellsBase ts base) (rest : List Lexeme) →
@@ -40,15 +40,15 @@ module _ {A : Type 0} (Item : BaseTree → ℕ → List Lexeme → A → Type 0)
   pub declares_starts : {ts : List Lexeme} {xs : List A} (d : Declares Item ts xs) (rest : List Lexeme) →
       begins_with mark.CloseCurly (ts ++ rest) ≡ false
   declares_starts (declares {ts = ts} {us = us} t p d g) rest =
-      ap (begins_with mark.CloseCurly) (append_assoc ts (us ++ t ∷ []) rest) ∙ base_starts d ((us ++ t ∷ []) ++ rest)
+      ap (begins_with mark.CloseCurly) (append_assoc ts _ rest) ∙ base_starts d ((us ++ t ∷ []) ++ rest)
 
   pub declares_some : {ts : List Lexeme} {xs : List A} (d : Declares Item ts xs) → 0 < length ts
   declares_some (declares {ts = ts} {us = us} t p d g) = omega (arith, base_some d, length-append ts (us ++ t ∷ []))
 
 lines_exact : ExactAdder Any (Grouped (Declares IsMember)) (λ rest. begins_with mark.CloseCurly rest ≡ true)
     (λ xs ts. grouped (begins_with mark.CloseCurly) (declaration_at members_behind) (length ts + 1) xs ts)
-lines_exact = grouped_exact Any any_left any_right (begins_with mark.CloseCurly) (Declares IsMember) (λ rest. Unit {0})
-    (declaration_at members_behind) member_line_exact (λ us rest zs d. declares_starts IsMember d rest)
+lines_exact = grouped_exact Any _ _ _ _ (λ rest. Unit {0})
+    _ member_line_exact (λ us rest zs d. declares_starts IsMember d rest)
     (λ us zs d. declares_some IsMember d) (λ rest h. tt) (λ us rest zs d. tt)
 
 -- Members in lines, of which there is one at least.
@@ -78,15 +78,14 @@ members_sound : (ts rest : List Lexeme) (x : List MemberTree) → members_at ts 
     Taken IsMembers ts x rest
 unfolding members_at
 members_sound ts rest x h =
-    let b = bound (λ x. non_empty x.0 >>= (λ members. Some (members, x.1)))
-    (grouped (begins_with mark.CloseCurly) (declaration_at members_behind) (length ts + 1) [] ts) (x, rest) h in
-    let c = bound (λ members. Some (members, b.0.1)) (non_empty b.0.0) (x, rest) b.2 in
+    let b = bound _ _ _ h in
+    let c = bound _ _ _ b.2 in
     let g = lines_exact.sound [] b.0.0 ts b.0.1 b.1 in
     let n = non_empty_some b.0.0 c.0 c.1 in
     let same = same_some c.2 in
-    let value : c.0 ≡ x = ap (λ p. p.0) same in
-    let behind : b.0.1 ≡ rest = ap (λ p. p.1) same in
-    let all : g.added ≡ x = sym g.all ∙ n.0 ∙ value in
+    let value = ap (λ p. p.0) same in
+    let behind = ap (λ p. p.1) same in
+    let all = sym g.all ∙ n.0 ∙ value in
     let some : 0 < length g.added = omega (arith, n.1, ap length g.all) in
     record {
       taken = g.taken;
@@ -98,7 +97,7 @@ members_complete : {ts : List Lexeme} {x : List MemberTree} (d : IsMembers ts x)
     begins_with mark.CloseCurly rest ≡ true → members_at (ts ++ rest) ≡ Some (x, rest)
 unfolding members_at
 members_complete (lines {ts = ts} {us = us} {members = members} {others = others} (declares t p b s) g) rest h =
-    let all = lines_exact.complete [] (members ++ others) (ts ++ us) rest (next (declares t p b s) g) tt h in
+    let all = lines_exact.complete [] (members ++ others) _ rest (next (declares t p b s) g) tt h in
     let some : 0 < length (members ++ others) = omega (arith, separated_some s, length-append members others) in
     rw (all, non_empty_is (members ++ others) some)
 
@@ -107,7 +106,7 @@ struct_made : {ms : List Lexeme} {members : List MemberTree} (d : IsMembers ms m
     IsMark mark.Semicolon y → SpellsStruct (t ∷ u ∷ v ∷ (ms ++ w ∷ y ∷ [])) (struct_tree tag members t.line)
 struct_made (lines {ts = ts} {us = us} {members = members} {others = others} d g) t u v w y tag p q r k l =
     subst (λ z. SpellsStruct (t ∷ u ∷ v ∷ z) (struct_tree tag (members ++ others) t.line))
-    (sym (append_assoc ts us (w ∷ y ∷ []))) (struct t u v w y tag p q r k l d g)
+    (sym (append_assoc ts us _)) (struct t u v w y tag p q r k l d g)
 
 pub struct_sound : (ts rest : List Lexeme) (x : StructTree) → keyword_at ts ≡ Some word.Struct →
     struct_at ts ≡ Some (x, rest) → Taken SpellsStruct ts x rest
@@ -119,8 +118,7 @@ struct_sound ts rest x q h =
     (x, rest) h in
     let c = bound (λ y. behind mark.Semicolon y.1 >>= (λ rest. Some (struct_tree b.0.0 y.0 (first_line ts), rest)))
     (members_in_braces b.0.1) (x, rest) b.2 in
-    let s = bound (λ rest. Some (struct_tree b.0.0 c.0.0 (first_line ts), rest)) (behind mark.Semicolon c.0.1)
-    (x, rest) c.2 in
+    let s = bound (λ rest. Some (struct_tree b.0.0 c.0.0 _, rest)) (behind mark.Semicolon c.0.1) (x, rest) c.2 in
     let o = bound (λ us. members_at us >>= (λ x. behind mark.CloseCurly x.1 >>= (λ rest. Some (x.0, rest))))
     (behind mark.OpenCurly b.0.1) c.0 c.1 in
     let m = bound (λ x. behind mark.CloseCurly x.1 >>= (λ rest. Some (x.0, rest))) (members_at o.0) c.0 o.2 in
@@ -152,7 +150,7 @@ unfolding struct_at
 struct_complete (struct {ts = ts} {us = us} {members = members} {others = others} t u v w y tag p q r k l d g) rest =
     let closes : begins_with mark.CloseCurly (w ∷ y ∷ rest) ≡ true = rw k in
     let inner : members_at (ts ++ (us ++ w ∷ y ∷ rest)) ≡ Some (members ++ others, w ∷ y ∷ rest) =
-    ap members_at (sym (append_assoc ts us (w ∷ y ∷ rest))) ∙ members_complete (lines d g) (w ∷ y ∷ rest) closes in
+    ap members_at (sym (append_assoc ts us _)) ∙ members_complete (lines d g) (w ∷ y ∷ rest) closes in
     let all : (ts ++ (us ++ w ∷ y ∷ [])) ++ rest ≡ ts ++ (us ++ w ∷ y ∷ rest) =
     append_assoc ts (us ++ w ∷ y ∷ []) rest ∙ ap (λ l. ts ++ l) (append_assoc us (w ∷ y ∷ []) rest) in
     ap (λ l. struct_at (t ∷ u ∷ v ∷ l)) all ∙ rw (q, r, inner, k, l)
@@ -162,11 +160,11 @@ literal_sound : (negative : Bool) (ts rest : List Lexeme) (x : ConstTree) → li
     (t : Lexeme) × (number : Number) × (ts ≡ t ∷ rest) × IsInteger number t × (x ≡ const_tree negative number)
 literal_sound negative [] rest x h = absurd (none-some _ h)
 literal_sound negative (t ∷ ts) rest x h =
-    let b = bound (λ number. Some (const_tree negative number, ts)) (integer_by t.symbol) (x, rest) h in
+    let b = bound _ _ _ h in
     let same = same_some b.2 in
-    let value : const_tree negative b.0 ≡ x = ap (λ p. p.0) same in
-    let behind : ts ≡ rest = ap (λ p. p.1) same in
-    (t, b.0, ap (λ l. t ∷ l) behind, integer_is t.symbol b.0 b.1, sym value)
+    let value = ap (λ p. p.0) same in
+    let behind = ap (λ p. p.1) same in
+    (t, b.0, ap (λ l. t ∷ l) behind, integer_is _ b.0 b.1, sym value)
 
 pub const_sound : (ts rest : List Lexeme) (x : ConstTree) → const_at ts ≡ Some (x, rest) → Taken SpellsConst ts x rest
 unfolding const_at
@@ -208,20 +206,20 @@ const_starts (negated t u number p q) rest = rw p
 inner_ahead : (us vs : List Lexeme) → behind_inner_comma us ≡ Some vs →
     (t : Lexeme) × (us ≡ t ∷ vs) × IsMark mark.Comma t
 inner_ahead [] vs h = absurd (none-some vs h)
-inner_ahead (t ∷ ts) vs h = go (begins_with mark.CloseCurly ts) h
+inner_ahead (t ∷ ts) vs h = go _ h
   where
     go : (b : Bool) → cond b None (behind mark.Comma (t ∷ ts)) ≡ Some vs →
         (u : Lexeme) × (t ∷ ts ≡ u ∷ vs) × IsMark mark.Comma u
     go true e = absurd (none-some vs e)
-    go false e = behind_mark mark.Comma (t ∷ ts) vs e
+    go false e = behind_mark _ _ vs e
 
 consts_starts : {ts : List Lexeme} {xs : List ConstTree} (d : Separated SpellsConst ts xs) (rest : List Lexeme) →
     begins_with mark.CloseCurly (ts ++ rest) ≡ false
 consts_starts (lists.one d) rest = const_starts d rest
 consts_starts (more {ts = ts} {us = us} t p d g) rest =
-    ap (begins_with mark.CloseCurly) (append_assoc ts (t ∷ us) rest) ∙ const_starts d (t ∷ us ++ rest)
+    ap (begins_with mark.CloseCurly) (append_assoc ts _ rest) ∙ const_starts d (t ∷ us ++ rest)
 
 pub all_consts_exact : ExactAdder Any (Separated SpellsConst) (λ rest. Unit {0} × (behind_inner_comma rest ≡ None))
     (λ xs ts. separated behind_inner_comma (adds const_at) (length ts + 1) xs ts)
-all_consts_exact = separated_exact Any any_left any_right behind_inner_comma inner_ahead SpellsConst
-    (λ rest. Unit {0}) const_at const_exact (λ t rest p. tt) (λ t us rest zs p d. rw (consts_starts d rest, p))
+all_consts_exact = separated_exact Any _ _ _ inner_ahead SpellsConst
+    _ _ const_exact _ (λ t us rest zs p d. rw (consts_starts d rest, p))

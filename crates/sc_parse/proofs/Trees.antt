@@ -24,7 +24,7 @@ too_many line ts at e = ap (λ b. cond b (option_map (λ x. x.0) (section_at lin
 
 pub unread : (line : ℕ) (ts : List Lexeme) → section_at line ts ≡ None → tree_of line ts ≡ None
 unfolding tree_of
-unread line ts h = go (leb (most_open 0 ts) 1024) (section_at line ts) h
+unread line ts h = go _ _ h
   where
     go : (b : Bool) (o : Option (SectionTree × List Lexeme)) → o ≡ None →
         cond {A = Option SectionTree} b (option_map (λ x. x.0) o) None ≡ None
@@ -35,8 +35,8 @@ pub tree_found : (line : ℕ) (ts rest : List Lexeme) (x : SectionTree) → sect
     most_open 0 ts ≤ 1024 → tree_of line ts ≡ Some x
 unfolding tree_of
 tree_found line ts rest x h few =
-    ap (λ b. cond {A = Option SectionTree} b (option_map (λ x. x.0) (section_at line ts)) None)
-    (le-leb (most_open 0 ts) 1024 few) ∙ ap (λ o. option_map (λ x. x.0) o) h
+    ap (λ b. cond b (option_map (λ x. x.0) (section_at line ts)) None)
+    (le-leb _ 1024 few) ∙ ap (λ o. option_map (λ x. x.0) o) h
 
 pub ruleset trees = (too_many, unread, tree_found)
 
@@ -45,12 +45,11 @@ pub parsed : (line : ℕ) (ts : List Lexeme) (result : Result SectionTree TextFa
 unfolding tree_of
 parsed line ts (Err e) h = tt
 parsed line ts (Ok tree) h =
-    let c = cond_is (leb (most_open 0 ts) 1024) (option_map (λ x. x.0) (section_at line ts)) tree h in
+    let c = cond_is (leb (most_open 0 ts) 1024) (option_map _ _) tree h in
     go (section_at line ts) refl c.1
   where
     few : tree_of line ts ≡ Some tree → most_open 0 ts ≤ 1024
-    few h = leb-true (most_open 0 ts) 1024 (cond_is (leb (most_open 0 ts) 1024)
-        (option_map (λ x. x.0) (section_at line ts)) tree h).0
+    few h = leb-true (most_open 0 ts) 1024 (cond_is (leb _ 1024) (option_map (λ x. x.0) _) tree h).0
 
     go : (o : Option (SectionTree × List Lexeme)) → section_at line ts ≡ o → option_map (λ x. x.0) o ≡ Some tree →
         IsParsed line ts tree

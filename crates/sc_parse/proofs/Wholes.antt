@@ -5,7 +5,7 @@ use Rattle.sc_parse.proofs.Common.{SpellsHead, [], a_function, a_struct, adds, a
 use Rattle.sc_parse.proofs.Common.{behind, behind_head, behind_mark, body_behind, bound, cond, decl_at, declaration_at}
 use Rattle.sc_parse.proofs.Common.{declares, decls_height, drop, false, function, function_behind, globals}
 use Rattle.sc_parse.proofs.Common.{globals_behind, head_at, head_of, headed_at, is_struct_word, keyword_at, map, more}
-use Rattle.sc_parse.proofs.Common.{named_head, names_struct, option_map_or, prototype, refl, same_some, struct_at}
+use Rattle.sc_parse.proofs.Common.{named_head, names_struct, option_map_or, prototype, refl, same_some}
 use Rattle.sc_parse.proofs.Common.{struct_decl_at, subst, sym, true, ℕ, ◌++◌, ◌>>=◌, ◌∙◌, ◌∷◌, ◌≡◌, ◌≤◌}
 use Rattle.sc_ast.specs.declared.section.Decl.TheVariants as decl
 use Rattle.sc_expr.specs.declared.mark.Keyword.TheVariants as word
@@ -32,11 +32,11 @@ one_added : (limit : ℕ) → (reader : Reader Decl) (xs ys : List Decl) (ts res
     adds reader xs ts ≡ Some (ys, rest) → Added (IsDecls limit) xs ts ys rest
 unfolding adds
 one_added limit reader xs ys ts rest sound h =
-    let b = bound (λ x. Some (xs ++ x.0 ∷ [], x.1)) (reader ts) (ys, rest) h in
+    let b = bound _ _ _ h in
     let t = sound b.0.0 b.0.1 b.1 in
     let same = same_some b.2 in
-    let all : xs ++ b.0.0 ∷ [] ≡ ys = ap (λ p. p.0) same in
-    let after : b.0.1 ≡ rest = ap (λ p. p.1) same in
+    let all = ap (λ p. p.0) same in
+    let after = ap (λ p. p.1) same in
     record {
       taken = t.taken;
       added = b.0.0 ∷ [];
@@ -46,7 +46,7 @@ one_added limit reader xs ys ts rest sound h =
     }
 
 struct_word : (ts : List Lexeme) → begins_struct ts ≡ true → keyword_at ts ≡ Some word.Struct
-struct_word ts h = go (keyword_at ts) refl h
+struct_word ts h = go _ refl h
   where
     go : (o : Option Keyword) → keyword_at ts ≡ o → cond (is_struct_word o) (names_struct (drop 1 ts)) false ≡ true →
         keyword_at ts ≡ Some word.Struct
@@ -57,10 +57,9 @@ struct_one : (limit : ℕ) → (ts rest : List Lexeme) (x : Decl) → keyword_at
     struct_decl_at ts ≡ Some (x, rest) → Taken (IsOne limit) ts x rest
 unfolding struct_decl_at
 struct_one limit ts rest x q h =
-    let b = bound (λ x. Some (decl.Struct x.0, x.1)) (struct_at ts) (x, rest) h in
+    let b = bound _ _ _ h in
     let t = struct_sound ts b.0.1 b.0.0 q b.1 in
-    took (IsOne limit) ts t.taken x (decl.Struct b.0.0) b.0.1 rest t.split
-    (record { spelled = a_struct t.spelled; low = omega arith }) b.2
+    took _ ts t.taken x _ b.0.1 rest t.split (record { spelled = a_struct t.spelled; low = omega arith }) b.2
 
 function_made : (limit : ℕ) → {ts us : List Lexeme} {head : FunctionHead} {x : FunctionTree}
     (d : SpellsHead ts (head_of head)) (b : IsBody limit head us x) → IsOne limit (ts ++ us) (decl.Function x)
