@@ -1,14 +1,14 @@
 -- Libraries that agree function by function run the same, also where compartments perform scripts.
 use Rattle.sc_laws.proofs.Common.{Action, AgreeingRunAlike, BehavioursAgree, Blamed, BodiesAgree, Body, Bool, Call}
-use Rattle.sc_laws.proofs.Common.{CallTarget, CallsAgree, Cross, Ended, EventsOut, Export, Function, FunctionsAgree}
+use Rattle.sc_laws.proofs.Common.{CallTarget, CallsAgree, Cross, Ended, EventsOut, Function, FunctionsAgree}
 use Rattle.sc_laws.proofs.Common.{Here, Input, LibrariesAgree, Library, List, Main, Meets, Memory, None, Option, Output}
 use Rattle.sc_laws.proofs.Common.{Own, Piece, PiecesAgree, Reached, Roles, Row, RunEnd, RunsAgree, Some, SourceRun}
 use Rattle.sc_laws.proofs.Common.{State, Step, Stopped, TurnsOut, Value, Word, [], acts, and_then, ap, asks, back_cross}
-use Rattle.sc_laws.proofs.Common.{back_own, begun, call_cross, call_own, called, calls, crossed, done, false}
+use Rattle.sc_laws.proofs.Common.{back_own, begun, call_cross, call_own, called, calls, done, false}
 use Rattle.sc_laws.proofs.Common.{first_state, found, function, if◌then◌else◌, is_number, is_some, length, map}
-use Rattle.sc_laws.proofs.Common.{may_call, nat_le, nat_lt, performs, piece_without_line, reaches, refl, rows_left}
+use Rattle.sc_laws.proofs.Common.{may_call, nat_le, nat_lt, performs, piece_without_line, reaches, refl}
 use Rattle.sc_laws.proofs.Common.{run_by, run_in, run_step, run_to, scripted_step, stopped_at, subst, suc, sym, take}
-use Rattle.sc_laws.proofs.Common.{tell, true, turn, within, without_line, word_in, zero, ℕ, ◌∙◌, ◌∷◌, ◌≡◌}
+use Rattle.sc_laws.proofs.Common.{true, within, without_line, zero, ℕ, ◌∙◌, ◌∷◌, ◌≡◌}
 use Rattle.sc_event.specs.declared.row.Action.TheVariants as act
 use Rattle.sc_laws.proofs.Libraries.{may_call_same}
 
@@ -25,7 +25,7 @@ pub then_agree : {V W : Type 0} (o p : Piece V) (k l : V → State → Piece W) 
     PiecesAgree o p → ((v : V) (s : State) → PiecesAgree (k v s) (l v s)) → PiecesAgree (and_then o k) (and_then p l)
 then_agree o p k l h x = record {
   same = line_of_then o k ∙ ap (λ y. and_then y (λ v s. piece_without_line (k v s))) h.same
-      ∙ ap (and_then (piece_without_line p)) (λ i v s. (x v s).same i) ∙ sym (line_of_then p l);
+      ∙ ap (and_then _) (λ i v s. (x v s).same i) ∙ sym (line_of_then p l);
 }
 
 -- what is done where a test, which answers the same, allows it
@@ -50,8 +50,7 @@ module _ (L M : Library) (agree : LibrariesAgree L M) where
   may_same : (from : ℕ) (target : CallTarget) (args : List Value) →
       may_call L from target args ≡ may_call M from target args
   may_same =
-      may_call_same M L agree.interfaces agree.entered (λ comp number. both_there (function L comp number)
-      (function M comp number) (agree.functions comp number))
+      may_call_same M L agree.interfaces agree.entered (λ comp number. both_there _ _ (agree.functions comp number))
 
   module _ (body other : Body) (bodies : BodiesAgree body other) where
     runs_there : (comp number : ℕ) (args : List Value) (back back' : Option Value → State → Piece (Option Value)) →
@@ -66,15 +65,13 @@ module _ (L M : Library) (agree : LibrariesAgree L M) where
     runs_there comp number args back back' b s None (Some g) h = absurd h
     runs_there comp number args back back' b s (Some f) None h = absurd h
     runs_there comp number args back back' b s (Some f) (Some g) h =
-        rw (h.cells, h.room) (then_agree _ _ _ _ (bodies number (record { comp = comp; first = length (s.memory comp) })
-        (begun comp g args s)) (λ v t. b v (done comp g (length (s.memory comp)) t)))
+        rw (h.cells, h.room) (then_agree _ _ _ _ (bodies number _ _) (λ v t. b v _))
 
     runs_in : (comp number : ℕ) (args : List Value) (back back' : Option Value → State → Piece (Option Value)) →
         ((v : Option Value) (s : State) → PiecesAgree (back v s) (back' v s)) → (s : State) →
         PiecesAgree (run_in L body comp number args back s) (run_in M other comp number args back' s)
     runs_in comp number args back back' b s =
-        runs_there comp number args back back' b s (function L comp number) (function M comp number)
-        (agree.functions comp number)
+        runs_there comp number args back back' b s _ _ (agree.functions comp number)
 
     pub own_agree : (comp number : ℕ) (args : List Value) (s : State) →
         PiecesAgree (call_own L body comp number args s) (call_own M other comp number args s)
@@ -88,15 +85,13 @@ module _ (L M : Library) (agree : LibrariesAgree L M) where
     pub cross_agree : (from to index : ℕ) (args : List Value) (s : State) →
         PiecesAgree (call_cross L body from to index args s) (call_cross M other from to index args s)
     cross_agree from to index args s =
-        then_agree _ _ _ _ (found_agree (L.entered to (Export index)) (M.entered to (Export index)) s
-        (agree.entered to (Export index))) (λ number s.
-        runs_in to number (crossed args) (back_cross L.interfaces from to index) (back_cross M.interfaces from to index)
-        (back_agree from to index) (tell (Call from to index (map word_in args)) s))
+        then_agree _ _ _ _ (found_agree _ _ s (agree.entered to _)) (λ number s.
+        runs_in to number _ (back_cross L.interfaces from to index) (back_cross M.interfaces from to index)
+        (back_agree from to index) _)
 
     called_agree : CallsAgree (called L body) (called M other)
-    called_agree from (Own number) args s = then_agree _ _ _ _ (itself (turn s)) (λ _ s. own_agree from number args s)
-    called_agree from (Cross to index) args s =
-        then_agree _ _ _ _ (itself (turn s)) (λ _ s. cross_agree from to index args s)
+    called_agree from (Own number) args s = then_agree _ _ _ _ (itself _) (λ _ s. own_agree from number args s)
+    called_agree from (Cross to index) args s = then_agree _ _ _ _ (itself _) (λ _ s. cross_agree from to index args s)
     called_agree from Input args s = itself _
     called_agree from Output args s = itself _
 
@@ -111,11 +106,10 @@ module _ (L M : Library) (agree : LibrariesAgree L M) where
     does_there here s None None h = itself _
     does_there here s None (Some g) h = absurd h
     does_there here s (Some f) None h = absurd h
-    does_there here s (Some f) (Some g) h = h.does (calls L body) (calls M other) calls_agree here s
+    does_there here s (Some f) (Some g) h = h.does _ _ calls_agree here s
 
     pub step_agree : BodiesAgree (run_step L body) (run_step M other)
-    step_agree number here s =
-        does_there here s (function L here.comp number) (function M here.comp number) (agree.functions here.comp number)
+    step_agree number here s = does_there here s (function L _ number) (function M _ number) (agree.functions _ number)
 
     -- scripts
     asks_agree : (comp : ℕ) (target : CallTarget) (args : List Value) (s : State) →
@@ -128,7 +122,7 @@ module _ (L M : Library) (agree : LibrariesAgree L M) where
         ((s : State) → PiecesAgree (next s) (next' s)) → ((s : State) → PiecesAgree (again s) (again' s)) →
         PiecesAgree (acts L body action next again comp s) (acts M other action next' again' comp s)
     acts_agree (act.Call to index args) next next' again again' comp s n a =
-        then_agree _ _ _ _ (asks_agree comp (Cross to index) (map (λ w. Word w) args) s) (λ v s. a s)
+        then_agree _ _ _ _ (asks_agree comp (Cross to index) (map _ args) s) (λ v s. a s)
     acts_agree (act.Ret v) next next' again again' comp s n a = itself _
     acts_agree (act.Out w) next next' again again' comp s n a =
         then_agree _ _ _ _ (asks_agree comp Output (Word w ∷ []) s) (λ v s. n s)
@@ -139,9 +133,8 @@ module _ (L M : Library) (agree : LibrariesAgree L M) where
     pub performs_agree : (rows : List Row) → BodiesAgree (performs L body rows) (performs M other rows)
     performs_agree [] number here s = itself _
     performs_agree (row ∷ rest) number here s =
-        if_agree (is_number number (L.entered here.comp row.entry)) (is_number number (M.entered here.comp row.entry))
-        _ _ _ _
-        (ap (is_number number) (agree.entered here.comp row.entry))
+        if_agree (is_number number (L.entered _ _)) (is_number number (M.entered _ _)) _ _ _ _
+        (ap (is_number number) (agree.entered _ _))
         (acts_agree row.action _ _ _ _ here.comp s (λ s. performs_agree rest number here s) (λ s. bodies number here s))
         (itself _)
 
@@ -151,14 +144,12 @@ module _ (L M : Library) (agree : LibrariesAgree L M) where
 
   pub within_agree : (step to : Step) → StepsAgree step to → (n : ℕ) → BodiesAgree (within step n) (within to n)
   within_agree step to k zero number here s = itself _
-  within_agree step to k (suc n) number here s =
-      k (within step n) (within to n) (within_agree step to k n) number here s
+  within_agree step to k (suc n) number here s = k _ _ (within_agree step to k n) number here s
 
   pub scripted_agree : (roles : Roles) (step to : Step) → StepsAgree step to →
       StepsAgree (scripted_step L roles step) (scripted_step M roles to)
   scripted_agree roles step to k body other bodies number here s =
-      if_agree (roles.scripted here.comp) (roles.scripted here.comp) _ _ _ _ refl
-      (performs_agree body other bodies (rows_left roles here.comp s.trace) number here s)
+      if_agree (roles.scripted _) _ _ _ _ _ refl (performs_agree body other bodies _ number here s)
       (k body other bodies number here s)
 
   pub start_agree : (step to : Step) → StepsAgree step to → (main turns : ℕ) (s : State) →
@@ -166,8 +157,7 @@ module _ (L M : Library) (agree : LibrariesAgree L M) where
       number [] s))
       (and_then (found (M.entered main Main) s) (λ number s. call_own M (within to (suc turns)) main number [] s))
   start_agree step to k main turns s =
-      then_agree _ _ _ _ (found_agree (L.entered main Main) (M.entered main Main) s (agree.entered main Main))
-      (λ number s.
+      then_agree _ _ _ _ (found_agree _ _ s (agree.entered main Main)) (λ number s.
       own_agree (within step (suc turns)) (within to (suc turns)) (within_agree step to k (suc turns)) main number [] s)
 
 -- whole runs
@@ -203,11 +193,11 @@ if_shown false false run other run' other' is h k = k
 pub stopped_agree : (events : ℕ) (run other : SourceRun) → BehavioursAgree run other →
     BehavioursAgree (stopped_at events run) (stopped_at events other)
 stopped_agree events run other h =
-    if_shown (reaches events run run.end) (reaches events other other.end) (record {
-      trace = take events run.trace;
+    if_shown (reaches events run run.end) (reaches events other _) (record {
+      trace = take events _;
       end = EventsOut;
-    }) (record { trace = take events other.trace; end = EventsOut }) run other
-    (same_reach events run other run.end other.end h.trace h.end) (record {
+    }) (record { trace = take events _; end = EventsOut }) run other
+    (same_reach events run other run.end _ h.trace h.end) (record {
       trace = ap (take events) h.trace;
       end = refl;
     }) h
@@ -255,13 +245,11 @@ runs_agree L M agree step to k globals inputs turns =
     subst (λ i. RunsAgree (run_by L step globals inputs turns)
     (run_to i.main (and_then (found (M.entered i.main Main) (first_state globals inputs turns))
     (λ number s. call_own M (within to (suc turns)) i.main number [] s)))) agree.interfaces
-    (run_agree L.interfaces.main _ _ (start_agree L M agree step to k L.interfaces.main turns
-    (first_state globals inputs turns)))
+    (run_agree L.interfaces.main _ _ (start_agree L M agree step to k L.interfaces.main turns _))
 
 pub agreeing_run_alike : AgreeingRunAlike
 agreeing_run_alike = record {
   meaning = λ L M agree. runs_agree L M agree (run_step L) (run_step M) (step_agree L M agree);
   scripted = λ L M agree roles. runs_agree L M agree (scripted_step L roles (run_step L))
-      (scripted_step M roles (run_step M)) (scripted_agree L M agree roles (run_step L) (run_step M)
-      (step_agree L M agree));
+      (scripted_step M roles (run_step M)) (scripted_agree L M agree roles _ _ (step_agree L M agree));
 }

@@ -1,5 +1,5 @@
 -- Two runs that do the same, where the second may have more turns, and may go on where the first has to stop.
-use Rattle.sc_laws.proofs.Common.{AllFrom, Blamed, Cause, Ended, Err, EventsOut, Front, Goes, Gone, Grown, Here, Ok}
+use Rattle.sc_laws.proofs.Common.{AllFrom, Blamed, Cause, Ended, EventsOut, Front, Goes, Gone, Grown, Here, Ok}
 use Rattle.sc_laws.proofs.Common.{Piece, Reached, Result, RunEnd, State, Stopped, TurnsOut, and_then, ap, arith}
 use Rattle.sc_laws.proofs.Common.{computed, inl, inr, last, length, refl, subst, suc, sym, turn, turn_of, with_blocks}
 use Rattle.sc_laws.proofs.Common.{zero, ℕ, ◌+◌, ◌<◌, ◌∙◌, ◌≡◌, ◌≤◌, ◌⊎◌}
@@ -28,9 +28,8 @@ later_more : (s t u : State) → Later s t → Grown t u → Later s u
 later_more s t u h g =
     record {
       events = front_more s.trace t.trace u.trace h.events g.events;
-      frames = front_more s.frames t.frames
-          u.frames h.frames g.frames;
-      late = late_more s t h.frames.more g.frames.more h.events h.late g.late;
+      frames = front_more _ t.frames _ h.frames g.frames;
+      late = late_more s t _ _ h.events h.late g.late;
     }
 
 -- by how many turns the second is richer, for which causes it goes on where the first is blamed, and whether it does
@@ -61,12 +60,11 @@ module _ (d : ℕ) (Soft : Cause → Type 0) (Turns : Type 0) where
     on_along : (V W : Type 0) (s s' : State) (o p : Piece V) (k l : V → State → Piece W) → Ahead n n' s s' → Gone s o →
         Gone s' p → p ≡ richer_piece d o → After V W s s' k l → Below W (and_then o k) (and_then p l)
     on_along V W s s' (Reached v t) p k l a g g' is h =
-        let g2 : Grown s' (richer d t) = subst (λ x. Grown s' (last x)) is g'.grown in
-        subst (λ x. Below W (k v t) (and_then x l)) (sym is)
-        (h v t (richer d t) g.grown g2 (record {
+        let g2 = subst (λ x. Grown s' (last x)) is g'.grown in
+        subst (λ x. Below W (k v t) (and_then x l)) (sym is) (h v t _ g.grown g2 (record {
           state = refl;
           few = at_most t.turns s.turns n g.grown.turns a.few;
-          few' = at_most (t.turns + d) s'.turns n' g2.turns a.few';
+          few' = at_most _ _ n' g2.turns a.few';
         }))
       where
         at_most : (x y z : ℕ) → x ≤ y → y ≤ z → x ≤ z
@@ -77,8 +75,7 @@ module _ (d : ℕ) (Soft : Cause → Type 0) (Turns : Type 0) where
         o ≡ Stopped end t → Passes end → Later t (last p) → ((v : V) → Goes (l v)) →
         Below W (and_then o k) (and_then p l)
     on_passed V W o p k l end t is passes front goes =
-        passed end t (ap (λ x. and_then x k) is) passes (later_more t (last p) (last (and_then p l)) front
-        (then_from p l goes))
+        passed end t (ap (λ x. and_then x k) is) passes (later_more t _ _ front (then_from p l goes))
 
     after : (V W : Type 0) (s s' : State) (o p : Piece V) (k l : V → State → Piece W) → Ahead n n' s s' → Gone s o →
         Gone s' p → ((v : V) → Goes (k v)) → ((v : V) → Goes (l v)) → Below V o p → After V W s s' k l →
@@ -115,9 +112,9 @@ module _ (d : ℕ) (Soft : Cause → Type 0) (Turns : Type 0) where
         → ((t t' : State) → t.turns < s.turns → t'.turns < s'.turns → Ahead n n' t t' → Below W (k tt t) (l tt t')) →
         Below W (and_then (turn s) k) (and_then (turn s') l)
     turned W k l goes goes' s s' a h =
-        let same_turns : s'.turns ≡ s.turns + d = ap (λ x. x.turns) a.state in
+        let same_turns = ap (λ x. x.turns) a.state in
         subst (λ x. Below W (and_then (turn s) k) (and_then (turn x) l)) (sym a.state)
-        (turn_at W k l goes' s s.turns (s.turns + d) refl refl a.few (subst (λ x. x ≤ n') same_turns a.few')
+        (turn_at W k l goes' s s.turns _ refl refl a.few (subst (λ x. x ≤ n') same_turns a.few')
         (λ t t' less less' b. h t t' less (subst (λ x. t'.turns < x) (sym same_turns) less') b))
 
     pub below_kept : Kept (Ahead n n') Below
@@ -130,27 +127,25 @@ module _ (d : ℕ) (Soft : Cause → Type 0) (Turns : Type 0) where
         along (ap (λ x. computed here line x (richer d s)) is ∙ itself r) where
           itself : (r : Result V Cause) → computed here line r (richer d s) ≡ richer_piece d (computed here line r s)
           itself (Ok v) = refl
-          itself (Err cause) = refl
+          itself _ = refl
     computed_below V here line r r' s (blamed cause soft is) =
         passed (Blamed here.comp cause line) s (ap (λ x. computed here line x s) is) soft (stays r') where
           stays : (r : Result V Cause) → Later s (last (computed here line r (richer d s)))
-          stays (Ok v) = record { events = front_same s.trace; frames = front_same s.frames; late = tt }
-          stays (Err cause) = record { events = front_same s.trace; frames = front_same s.frames; late = tt }
+          stays (Ok v) = record { events = front_same s.trace; frames = front_same _; late = tt }
+          stays _ = record { events = front_same s.trace; frames = front_same _; late = tt }
 
     pub below_at : (here : Here) → KeptAt (Ahead n n') Below Soft here
     below_at here =
         record {
           computing = λ V line e e' h s s' a. subst (λ x. Below V (computed here line (e (s.memory here.comp)) s)
               (computed here line (e' (x.memory here.comp)) x)) (sym a.state)
-              (computed_below V here line (e (s.memory here.comp)) (e' (s.memory here.comp)) s
-              (h (s.memory here.comp)));
-          passed = λ V cause line soft s s' a p g. passed (Blamed here.comp cause line) s refl soft
+              (computed_below V here line (e (s.memory here.comp)) (e' _) s (h _));
+          passed = λ V cause line soft s s' a p g. passed _ s refl soft
               (let on = later (richer d s) (last p) (subst (λ x. Grown x (last p)) a.state g.grown) in
               record { events = on.events; frames = on.frames; late = on.late });
           stored =
               λ blocks s s' a. record {
-                state = ap {A = State} {B = State}
-                    (λ x. record x { memory = with_blocks here.comp blocks x.memory }) a.state;
+                state = ap {A = State} (λ x. record x { memory = with_blocks here.comp blocks x.memory }) a.state;
                 few = a.few;
                 few' = a.few';
               };

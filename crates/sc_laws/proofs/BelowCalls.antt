@@ -4,7 +4,7 @@ use Rattle.sc_laws.proofs.Common.{Goes, Grown, Here, Input, Interfaces, Library,
 use Rattle.sc_laws.proofs.Common.{Piece, Roles, Row, Some, State, Step, Stopped, TurnsOut, Value, Word, [], acts}
 use Rattle.sc_laws.proofs.Common.{and_then, ap, ap₂, arith, asks, back_cross, back_own, begun, call_cross, call_own}
 use Rattle.sc_laws.proofs.Common.{called, calls, crossed, done, false, found, function, if◌then◌else◌, is_number}
-use Rattle.sc_laws.proofs.Common.{length, map, may_call, performs, refl, rows_left, run_in, run_step, scripted_step}
+use Rattle.sc_laws.proofs.Common.{length, map, may_call, performs, refl, run_in, run_step, scripted_step}
 use Rattle.sc_laws.proofs.Common.{subst, suc, sym, tell, true, turn, within, word_in, zero, ℕ, ◌+◌, ◌<◌, ◌∙◌, ◌∷◌, ◌≡◌}
 use Rattle.sc_laws.proofs.Common.{◌≤◌, ◌⊎◌}
 use Rattle.sc_event.specs.declared.row.Action.TheVariants as act
@@ -66,9 +66,9 @@ module _ (d : ℕ) (Soft : Cause → Type 0) (Turns : Type 0) (spent : (d ≡ 0)
           bodies number here start (omega (arith, up.turns, few)) (omega (arith, up.turns, few')) in
           subst (λ x. Below d Soft Turns (Option Value) (and_then (a number here start) out)
           (and_then (b number here x) out')) (sym alike_start) ((below_kept d Soft Turns n n' spent).after
-          (Option Value) (Option Value) start (richer d start) (a number here start) (b number here (richer d start))
+          (Option Value) (Option Value) start (richer d start) (a number here start) (b number here _)
           out out' (record { state = refl; few = omega (arith, up.turns, few); few' = omega (arith, up.turns, few') })
-          (goes number here start) (goes' number here (richer d start)) leaves leaves' inside
+          (goes number here start) (goes' number here _) leaves leaves' inside
           (λ v t t' x x' ahead. along (ap (out' v) ahead.state ∙ alike_out v t)))
 
       abbrev RunBelow : (s : State) → (f g : State → Piece (Option Value)) → Type 0
@@ -90,8 +90,8 @@ module _ (d : ℕ) (Soft : Cause → Type 0) (Turns : Type 0) (spent : (d ≡ 0)
             ((v : Option Value) (s : State) → back v (richer d s) ≡ richer_piece d (back v s)) → (s : State) →
             RunBelow s (run_in L a comp number args back) (run_in M b comp number args back)
         run_below comp number args back k k' s few few' =
-            found_below (function L comp number) (function M comp number) (function_twins (Ahead d Soft Turns n n')
-            (Below d Soft Turns) Anywhere L M twins comp number) s _ _ (λ f g meets. entered_below f g meets comp number
+            found_below (function L comp number) (function M comp number) (function_twins _
+            _ Anywhere L M twins comp number) s _ _ (λ f g meets. entered_below f g meets comp number
             args back k k' s few few')
 
         pub own_below : (comp number : ℕ) (args : List Value) (s : State) →
@@ -112,40 +112,38 @@ module _ (d : ℕ) (Soft : Cause → Type 0) (Turns : Type 0) (spent : (d ≡ 0)
             (and_then (found number (richer d s)) (crosses M b L.interfaces from to index args))
         cross_to from to index args None s few few' = along refl
         cross_to from to index args (Some number) s few few' =
-            run_below to number (crossed args) (back_cross L.interfaces from to index)
-            (back_goes L.interfaces from to index) (λ v s. refl) (tell (Call from to index (map word_in args)) s) few
-            few'
+            run_below to number _ (back_cross L.interfaces from to index)
+            (back_goes L.interfaces from to index) (λ v s. refl) _ few few'
 
         pub cross_below : (from to index : ℕ) (args : List Value) (s : State) →
             RunBelow s (call_cross L a from to index args) (call_cross M b from to index args)
         cross_below from to index args s few few' =
             subst (λ x. Below d Soft Turns (Option Value) (call_cross L a from to index args s)
             (and_then (found x (richer d s)) (crosses M b M.interfaces from to index args)))
-            (sym (entered_same (Ahead d Soft Turns n n') (Below d Soft Turns) Anywhere L M twins to (Export index)))
+            (sym (entered_same _ _ Anywhere L M twins to (Export index)))
             (subst (λ i. Below d Soft Turns (Option Value) (call_cross L a from to index args s)
             (and_then (found (L.entered to (Export index)) (richer d s)) (crosses M b i from to index args)))
-            (sym twins.interfaces) (cross_to from to index args (L.entered to (Export index)) s few few'))
+            (sym twins.interfaces) (cross_to from to index args (L.entered to _) s few few'))
 
         -- a turn, and then what is related while fewer calls are made
         after_turn : (f g : State → Piece (Option Value)) → Goes f → Goes g → ((s : State) → RunBelow s f g) →
             (s s' : State) → Ahead d Soft Turns n n' s s' →
             Below d Soft Turns (Option Value) (and_then (turn s) (λ _. f)) (and_then (turn s') (λ _. g))
         after_turn f g go go' h s s' ahead =
-            (below_kept d Soft Turns n n' spent).turned (Option Value) (λ _. f) (λ _. g) (λ _. go) (λ _. go') s s' ahead
-            (λ t t' less less' next. let poorer : t'.turns ≡ t.turns + d = ap (λ x. x.turns) next.state in
-            subst (λ x. Below d Soft Turns (Option Value) (f t) (g x)) (sym next.state)
+            (below_kept d Soft Turns n n' spent).turned (Option Value) _ _ (λ _. go) (λ _. go') s s' ahead
+            (λ t t' less less' next. let poorer = ap (λ x. x.turns) next.state in
+            subst (λ x. Below d Soft Turns _ (f t) (g x)) (sym next.state)
             (h t (omega (arith, less, ahead.few)) (omega (arith, less', ahead.few', poorer))))
 
         called_below : (from : ℕ) (target : CallTarget) (args : List Value) (s s' : State) →
             Ahead d Soft Turns n n' s s' → Below d Soft Turns (Option Value) (called L a from target args s)
             (called M b from target args s')
         called_below from (Own number) args s s' ahead =
-            after_turn (call_own L a from number args) (call_own M b from number args)
+            after_turn _ _
             (own_goes L a goes from number args) (own_goes M b goes' from number args) (own_below from number args) s s'
             ahead
         called_below from (Cross to index) args s s' ahead =
-            after_turn (call_cross L a from to index args) (call_cross M b from to index args)
-            (cross_goes L a goes from to index args) (cross_goes M b goes' from to index args)
+            after_turn _ _ (cross_goes L a goes from to index args) (cross_goes M b goes' from to index args)
             (cross_below from to index args) s s' ahead
         called_below from Input args s s' ahead =
             subst (λ x. Below d Soft Turns (Option Value) (called L a from Input args s) (called M b from Input args x))
@@ -162,8 +160,7 @@ module _ (d : ℕ) (Soft : Cause → Type 0) (Turns : Type 0) (spent : (d ≡ 0)
 
         same_tests : (from : ℕ) (target : CallTarget) (args : List Value) →
             may_call M from target args ≡ may_call L from target args
-        same_tests from target args =
-            may_same (Ahead d Soft Turns n n') (Below d Soft Turns) Anywhere L M twins from target args
+        same_tests from target args = may_same _ _ Anywhere L M twins from target args
 
         guarded_below : (from : ℕ) (target : CallTarget) (args : List Value) (s s' : State) →
             Ahead d Soft Turns n n' s s' → Below d Soft Turns (Option Value) (calls L a from target args s)
@@ -195,9 +192,8 @@ module _ (d : ℕ) (Soft : Cause → Type 0) (Turns : Type 0) (spent : (d ≡ 0)
 
         pub run_step_below : BodiesWithin n n' (run_step L a) (run_step M b)
         run_step_below number here s few few' =
-            found_below (function L here.comp number) (function M here.comp number)
-            (function_twins (Ahead d Soft Turns n n') (Below d Soft Turns) Anywhere L M twins here.comp number) s
-            _ _ (λ f g meets. (meets.does (calls L a) (calls M b) here tt (calls_below here.comp)).both s (richer d s)
+            found_below (function L _ number) (function M _ number) (function_twins _ _ Anywhere L M twins _ number) s
+            _ _ (λ f g meets. (meets.does _ _ here tt (calls_below _)).both s _
             (record { state = refl; few = few; few' = few' }))
 
         -- a row's call, and then the function again
@@ -209,16 +205,15 @@ module _ (d : ℕ) (Soft : Cause → Type 0) (Turns : Type 0) (spent : (d ≡ 0)
         again_below : (number : ℕ) (here : Here) (to index : ℕ) (args : List Value) (s : State) →
             RunBelow s (calls_again L a number here to index args) (calls_again M b number here to index args)
         again_below number here to index args s few few' =
-            (below_kept d Soft Turns n n' spent).after (Option Value) (Option Value) s (richer d s)
-            (call_cross L a here.comp to index args s) (call_cross M b here.comp to index args (richer d s))
+            (below_kept d Soft Turns n n' spent).after (Option Value) _ s (richer d s)
+            (call_cross L a _ to index args s) (call_cross M b _ to index args _)
             (λ v. a number here) (λ v. b number here) (record {
               state = refl;
               few = omega (arith, few);
               few' = omega (arith, few');
-            }) (cross_goes L a goes here.comp to index args s)
-            (cross_goes M b goes' here.comp to index args (richer d s)) (λ v. goes number here) (λ v. goes' number here)
-            (cross_below here.comp to index args s few few') (λ v t t' up up' ahead. let poorer : t'.turns
-            ≡ t.turns + d =
+            }) (cross_goes L a goes _ to index args s)
+            (cross_goes M b goes' _ to index args _) (λ v. goes number here) (λ v. goes' number here)
+            (cross_below _ to index args s few few') (λ v t t' up up' ahead. let poorer =
             ap (λ x. x.turns) ahead.state in subst (λ x. Below d Soft Turns (Option Value) (a number here t)
             (b number here x)) (sym ahead.state) (bodies number here t (omega (arith, up.turns, few))
             (omega (arith, up'.turns, few', poorer))))
@@ -235,11 +230,10 @@ module _ (d : ℕ) (Soft : Cause → Type 0) (Turns : Type 0) (spent : (d ≡ 0)
             subst (λ x. Below d Soft Turns (Option Value) x
             (and_then (called M b here.comp (Cross to index) args (richer d s)) (λ v. b number here)))
             (sym (then_then (turn s) (λ _. call_cross L a here.comp to index args) (λ v. a number here)))
-            (subst (Below d Soft Turns (Option Value)
-            (and_then (turn s) (λ _. calls_again L a number here to index args)))
+            (subst (Below d Soft Turns (Option Value) _)
             (sym (then_then (turn (richer d s)) (λ _. call_cross M b here.comp to index args) (λ v. b number here)))
             (after_turn (calls_again L a number here to index args) (calls_again M b number here to index args)
-            (λ s. then_goes s (call_cross L a here.comp to index args s) _ (cross_goes L a goes here.comp to index args
+            (λ s. then_goes s (call_cross L a _ to index args s) _ (cross_goes L a goes here.comp to index args
             s) (λ v. goes number here)) (λ s. then_goes s (call_cross M b here.comp to index args s)
             _ (cross_goes M b goes' here.comp to index args s) (λ v. goes' number here))
             (again_below number here to index args) s (richer d s) (record { state = refl; few = few; few' = few' })))
@@ -252,12 +246,12 @@ module _ (d : ℕ) (Soft : Cause → Type 0) (Turns : Type 0) (spent : (d ≡ 0)
             → Below d Soft Turns (Option Value) (and_then (asks L a from target args s) (λ v. next))
             (and_then (asks M b from target args (richer d s)) (λ v. next'))
         row_then from target args next next' go go' h s few few' =
-            (below_kept d Soft Turns n n' spent).after (Option Value) (Option Value) s (richer d s)
-            (asks L a from target args s) (asks M b from target args (richer d s)) (λ v. next) (λ v. next')
+            (below_kept d Soft Turns n n' spent).after (Option Value) _ s (richer d s)
+            (asks L a from target args s) (asks M b from target args _) (λ v. next) (λ v. next')
             (record { state = refl; few = few; few' = few' }) (asks_go L a goes from target args s)
-            (asks_go M b goes' from target args (richer d s)) (λ v. go) (λ v. go')
-            (asked_below from target args s (richer d s) (record { state = refl; few = few; few' = few' }))
-            (λ v t t' up up' ahead. let poorer : t'.turns ≡ t.turns + d = ap (λ x. x.turns) ahead.state in
+            (asks_go M b goes' from target args _) (λ v. go) (λ v. go')
+            (asked_below from target args s _ (record { state = refl; few = few; few' = few' }))
+            (λ v t t' up up' ahead. let poorer = ap (λ x. x.turns) ahead.state in
             subst (λ x. Below d Soft Turns (Option Value) (next t) (next' x)) (sym ahead.state)
             (h t ahead.few (omega (arith, ahead.few', poorer))))
 
@@ -276,7 +270,7 @@ module _ (d : ℕ) (Soft : Cause → Type 0) (Turns : Type 0) (spent : (d ≡ 0)
             let other : Bool → Piece (Option Value) =
             λ may. and_then (if may then called M b here.comp (Cross to index) args (richer d s) else Stopped TurnsOut
             (richer d s)) k' in
-            subst (λ p. Below d Soft Turns (Option Value) (and_then p k)
+            subst (λ p. Below d Soft Turns _ (and_then p k)
             (and_then (asks M b here.comp (Cross to index) args (richer d s)) k'))
             (sym (asks_is L a goes here.comp (Cross to index) args s))
             (subst (λ p. Below d Soft Turns (Option Value) (one (may_call L here.comp (Cross to index) args))
@@ -296,9 +290,8 @@ module _ (d : ℕ) (Soft : Cause → Type 0) (Turns : Type 0) (spent : (d ≡ 0)
         performs_below (row ∷ rest) number here s few few' =
             subst (λ x. Below d Soft Turns (Option Value) (performs L a (row ∷ rest) number here s)
             (if is_number number x then acts M b row.action (performs M b rest number here) (b number here) here.comp
-            (richer d s) else Stopped TurnsOut (richer d s)))
-            (sym (entered_same (Ahead d Soft Turns n n') (Below d Soft Turns) Anywhere L M twins here.comp row.entry))
-            (if_below (is_number number (L.entered here.comp row.entry)) _ _ _ _ (acts_below row.action
+            (richer d s) else Stopped TurnsOut (richer d s))) (sym (entered_same _ _ Anywhere L M twins _ _))
+            (if_below (is_number number _) _ _ _ _ (acts_below row.action
             (performs L a rest number here) (performs M b rest number here) (performs_go L a goes rest number here)
             (performs_go M b goes' rest number here) number here (performs_below rest number here) s few few')
             (along refl))
@@ -306,8 +299,7 @@ module _ (d : ℕ) (Soft : Cause → Type 0) (Turns : Type 0) (spent : (d ≡ 0)
         pub scripted_below : (roles : Roles) (step step' : Step) → BodiesWithin n n' (step a) (step' b) →
             BodiesWithin n n' (scripted_step L roles step a) (scripted_step M roles step' b)
         scripted_below roles step step' h number here s few few' =
-            if_below (roles.scripted here.comp) _ _ _ _ (performs_below (rows_left roles here.comp s.trace) number here
-            s few few') (h number here s few few')
+            if_below (roles.scripted _) _ _ _ _ (performs_below _ number here s few few') (h number here s few few')
 
   -- steps under which bodies are related for one call more
   abbrev pub StepsBelow : Step → Step → Type 0
@@ -319,5 +311,5 @@ module _ (d : ℕ) (Soft : Cause → Type 0) (Turns : Type 0) (spent : (d ≡ 0)
   within_below step step' goes goes' h zero n' number here s few few' = absurd (omega (arith, few))
   within_below step step' goes goes' h (suc n) zero number here s few few' = absurd (omega (arith, few'))
   within_below step step' goes goes' h (suc n) (suc n') number here s few few' =
-      h n n' (within step n) (within step' n') (within_goes step goes n) (within_goes step' goes' n')
+      h n n' _ _ (within_goes step goes n) (within_goes step' goes' n')
       (within_below step step' goes goes' h n n') number here s (omega (arith, few)) (omega (arith, few'))

@@ -1,13 +1,13 @@
 -- No compartment that performs is blamed, whatever the trace is, and only compartments that there are.
 use Rattle.sc_laws.proofs.Common.{Action, BadType, Blamed, Body, Bool, Call, CallTarget, Cause, Cross, Ended, EventsOut}
-use Rattle.sc_laws.proofs.Common.{Export, Function, Here, Input, Kept, Library, List, Main, Memory, Obedient, Option}
+use Rattle.sc_laws.proofs.Common.{Function, Here, Input, Kept, Library, List, Main, Memory, Obedient, Option}
 use Rattle.sc_laws.proofs.Common.{Output, Own, Piece, Property, Reached, Roles, Row, RunEnd, Some, SourceRun, State}
-use Rattle.sc_laws.proofs.Common.{Stopped, TurnsOut, Value, Word, [], acts, arith, asks, back_cross, back_own, begun}
-use Rattle.sc_laws.proofs.Common.{call_cross, call_own, called, calls, crossed, done, false, first_state, found_kept}
-use Rattle.sc_laws.proofs.Common.{function, if◌then◌else◌, is_number, length, map, may_call, performs, reaches, refl}
+use Rattle.sc_laws.proofs.Common.{Stopped, TurnsOut, Value, Word, [], acts, arith, asks, back_cross, back_own}
+use Rattle.sc_laws.proofs.Common.{call_cross, call_own, called, calls, false, first_state, found_kept}
+use Rattle.sc_laws.proofs.Common.{function, if◌then◌else◌, length, map, performs, refl}
 use Rattle.sc_laws.proofs.Common.{roles_run, rows_left, run_by, run_in, run_step, run_to, scripted_step, slice_get}
-use Rattle.sc_laws.proofs.Common.{slice_index_or, stopped_at, subst, suc, take, tell, then_kept, true, turn, turn_of}
-use Rattle.sc_laws.proofs.Common.{within, word_in, zero, ℕ, ◌<◌, ◌∷◌, ◌≡◌}
+use Rattle.sc_laws.proofs.Common.{slice_index_or, stopped_at, subst, suc, take, then_kept, true, turn, turn_of}
+use Rattle.sc_laws.proofs.Common.{within, zero, ℕ, ◌<◌, ◌∷◌, ◌≡◌}
 use Rattle.sc_event.specs.declared.row.Action.TheVariants as act
 use Rattle.sc_laws.proofs.Growing.{BodyGoes, calls_go, within_goes}
 use Rattle.sc_laws.proofs.Matching.{scripted_goes_on}
@@ -41,23 +41,20 @@ module _ (Fair : ℕ → Type 0) where
         ((v : Option Value) (s : State) → Kept sparing (back v s)) → (s : State) →
         Kept sparing (run_in library body comp number args back s)
     run_spares comp number args back b s =
-        found_kept sparing (function library comp number) s _ tt (λ f is.
-        then_kept sparing (body number (record { comp = comp; first = length (s.memory comp) }) (begun comp f args s)) _
-        (spares number (record { comp = comp; first = length (s.memory comp) }) (begun comp f args s))
-        (λ v t h. b v (done comp f (length (s.memory comp)) t)))
+        found_kept sparing (function library comp number) s _ tt (λ f is. then_kept sparing (body number _ _) _
+        (spares number _ _) (λ v t h. b v _))
 
     cross_spares : (from to index : ℕ) (args : List Value) (s : State) →
         Kept sparing (call_cross library body from to index args s)
     cross_spares from to index args s =
-        found_kept sparing (library.entered to (Export index)) s _ tt (λ number is.
-        run_spares to number (crossed args) (back_cross library.interfaces from to index) (λ v s. record { after = tt })
-        (tell (Call from to index (map word_in args)) s))
+        found_kept sparing (library.entered to _) s _ tt (λ number is.
+        run_spares to number _ (back_cross library.interfaces from to index) (λ v s. record { after = tt }) _)
 
     called_spares : (from : ℕ) (target : CallTarget) (args : List Value) (s : State) →
         Kept sparing (called library body from target args s)
     called_spares from (Own number) args s =
         then_kept sparing (turn s) (λ _ s. call_own library body from number args s) (turned s.turns s)
-        (λ _ s h. run_spares from number args back_own (λ v s. record { after = tt }) s)
+        (λ _ s h. run_spares from number args back_own _ s)
     called_spares from (Cross to index) args s =
         then_kept sparing (turn s) (λ _ s. call_cross library body from to index args s) (turned s.turns s)
         (λ _ s h. cross_spares from to index args s)
@@ -66,7 +63,7 @@ module _ (Fair : ℕ → Type 0) where
 
     calls_spare : (from : ℕ) → Fair from → (target : CallTarget) (args : List Value) (s : State) →
         Kept sparing (calls library body from target args s)
-    calls_spare from clear target args s = by (may_call library from target args) where
+    calls_spare from clear target args s = by _ where
       by : (b : Bool) →
           Kept sparing (if b then called library body from target args s else Stopped (Blamed from BadType 0) s)
       by true = called_spares from target args s
@@ -74,7 +71,7 @@ module _ (Fair : ℕ → Type 0) where
 
     asks_spare : (comp : ℕ) (target : CallTarget) (args : List Value) (s : State) →
         Kept sparing (asks library body comp target args s)
-    asks_spare comp target args s = by (may_call library comp target args) where
+    asks_spare comp target args s = by _ where
       by : (b : Bool) →
           Kept sparing (if b then (if b then called library body comp target args s else Stopped (Blamed comp BadType 0)
           s) else Stopped TurnsOut s)
@@ -85,17 +82,16 @@ module _ (Fair : ℕ → Type 0) where
         ((f : Function) → function library here.comp number ≡ Some f → Fair here.comp) →
         Kept sparing (run_step library body number here s)
     run_step_spares obedient goes number here s fair =
-        found_kept sparing (function library here.comp number) s (λ f s. f.does (calls library body) here s) tt (λ f is.
-        function_keeps library obedient here.comp number f is sparing here (is_kept here (fair f is))
-        (calls library body)
-        (calls_go library body goes) (λ target args s h. calls_spare here.comp (fair f is) target args s) s tt)
+        found_kept sparing (function library _ number) s (λ f s. f.does _ here s) tt (λ f is.
+        function_keeps library obedient _ number f is sparing here (is_kept here (fair f is)) _
+        (calls_go library body goes) (λ target args s h. calls_spare _ (fair f is) target args s) s tt)
 
     acts_spare : (action : Action) (next again : State → Piece (Option Value)) → ((s : State) → Kept sparing (next s)) →
         ((s : State) → Kept sparing (again s)) → (comp : ℕ) (s : State) →
         Kept sparing (acts library body action next again comp s)
     acts_spare (act.Call to index args) next again n a comp s =
-        then_kept sparing (asks library body comp (Cross to index) (map (λ w. Word w) args) s)
-        _ (asks_spare comp (Cross to index) (map (λ w. Word w) args) s) (λ v s h. a s)
+        then_kept sparing (asks library body comp (Cross to index) (map _ args) s)
+        _ (asks_spare comp (Cross to index) (map _ args) s) (λ v s h. a s)
     acts_spare (act.Ret v) next again n a comp s = record { after = tt }
     acts_spare (act.Out w) next again n a comp s =
         then_kept sparing (asks library body comp Output (Word w ∷ []) s) _ (asks_spare comp Output (Word w ∷ []) s)
@@ -107,12 +103,11 @@ module _ (Fair : ℕ → Type 0) where
     performs_spare : (rows : List Row) → BodySpares (performs library body rows)
     performs_spare [] number here s = record { after = tt }
     performs_spare (row ∷ rest) number here s =
-        by (performs_spare rest number here) (is_number number (library.entered here.comp row.entry)) where
+        by (performs_spare rest number here) _ where
           by : ((s : State) → Kept sparing (performs library body rest number here s)) → (b : Bool) →
               Kept sparing (if b then acts library body row.action (performs library body rest number here)
               (body number here) here.comp s else Stopped TurnsOut s)
-          by next true = acts_spare row.action (performs library body rest number here) (body number here) next
-              (spares number here) here.comp s
+          by next true = acts_spare _ _ _ next (spares number here) _ s
           by next false = record { after = tt }
 
   module _ (library : Library) (obedient : Obedient library) (roles : Roles)
@@ -120,11 +115,11 @@ module _ (Fair : ℕ → Type 0) where
       Fair comp) where
     step_spares : (body : Body) → BodyGoes body → BodySpares body →
         BodySpares (scripted_step library roles (run_step library) body)
-    step_spares body goes spares number here s = by (roles.scripted here.comp) refl where
+    step_spares body goes spares number here s = by (roles.scripted _) refl where
       by : (b : Bool) → roles.scripted here.comp ≡ b →
           Kept sparing (if b then performs library body (rows_left roles here.comp s.trace) number here s else run_step
           library body number here s)
-      by true is = performs_spare library body spares (rows_left roles here.comp s.trace) number here s
+      by true is = performs_spare library body spares _ number here s
       by false is =
           run_step_spares library body spares obedient goes number here s
           (λ f found_f. fair here.comp number f is found_f)
@@ -133,7 +128,7 @@ module _ (Fair : ℕ → Type 0) where
     within_spares zero number here s = record { after = tt }
     within_spares (suc n) number here s =
         step_spares (within (scripted_step library roles (run_step library)) n)
-        (within_goes (scripted_step library roles (run_step library)) (scripted_goes_on library obedient roles) n)
+        (within_goes (scripted_step library roles _) (scripted_goes_on library obedient roles) n)
         (within_spares n) number here s
 
     run_to_spares : (main : ℕ) (piece : Piece (Option Value)) → Kept sparing piece →
@@ -144,14 +139,13 @@ module _ (Fair : ℕ → Type 0) where
     run_by_spares : (globals : Memory) (inputs : List ℕ) (turns : ℕ) →
         Spares (run_by library (scripted_step library roles (run_step library)) globals inputs turns).behaviour.end
     run_by_spares globals inputs turns =
-        run_to_spares library.interfaces.main _ (found_kept sparing (library.entered library.interfaces.main Main)
+        run_to_spares library.interfaces.main _ (found_kept sparing (library.entered _ Main)
         (first_state globals inputs turns) _ tt (λ number is.
         run_spares library (within (scripted_step library roles (run_step library)) (suc turns))
-        (within_spares (suc turns)) library.interfaces.main number [] back_own (λ v s. record { after = tt })
-        (first_state globals inputs turns)))
+        (within_spares (suc turns)) _ number [] back_own (λ v s. record { after = tt }) _))
 
   stopped_spares : (events : ℕ) (run : SourceRun) → Spares run.end → Spares (stopped_at events run).end
-  stopped_spares events run h = by (reaches events run run.end) where
+  stopped_spares events run h = by _ where
     by : (b : Bool) → Spares (if b then record { trace = take events run.trace; end = EventsOut } else run).end
     by true = tt
     by false = h

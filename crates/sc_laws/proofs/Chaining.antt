@@ -12,11 +12,10 @@ use Rattle.sc_laws.proofs.FollowingRuns.{passes_blames}
 -- a run that is blamed has fewer events than were allowed
 early : (n : ℕ) (x : SourceRun) (comp : ℕ) (cause : Cause) (line : ℕ) → (stopped_at n x).end ≡ Blamed comp cause line →
     length (stopped_at n x).trace < n
-early n x comp cause line ends = by (reaches n x x.end) refl ends where
+early n x comp cause line ends = by _ refl ends where
   few : (end : RunEnd) → end ≡ Blamed comp cause line → reaches n x end ≡ false → length x.trace < n
   few end is stays =
-      let test : nat_le n (length x.trace) ≡ false =
-      ap (reaches n x) (sym is) ∙ stays in leb-false n (length x.trace) test
+      let test : nat_le n _ ≡ false = ap (reaches n x) (sym is) ∙ stays in leb-false n _ test
 
   by : (b : Bool) → reaches n x x.end ≡ b → (if b then record { trace = take n x.trace; end = EventsOut } else x).end
       ≡ Blamed comp cause line → length (if b then record { trace = take n x.trace; end = EventsOut } else x).trace < n
@@ -39,8 +38,7 @@ module _ (L : Library) (obedient : Obedient L) (globals : Memory) (inputs : List
   blamed_early : (set : Set) (comp : ℕ) (cause : Cause) (line : ℕ) → (behaviour set).end ≡ Blamed comp cause line →
       length (behaviour set).trace < length t
   blamed_early set comp cause line ends =
-      early (length t) (roles_run L globals inputs turns
-      (roles_in L.interfaces.main set t)).behaviour comp cause line ends
+      early _ (roles_run L globals inputs turns (roles_in L.interfaces.main set t)).behaviour comp cause line ends
 
   -- where the next run is blamed it has told more
   told_more : (run other : SourceRun) (comp : ℕ) (cause : Cause) (line : ℕ) → other.end ≡ Blamed comp cause line →
@@ -142,8 +140,7 @@ module _ (t : List Event) (runs : Set → SourceRun) (count : ℕ)
       let counts = below_counts set b.comp count b.outside b.compartment in absurd (omega (arith, few, counts)))
       (each set)
   found (suc most) set few =
-      ⊎_elim (λ tells. ([], tells, omega arith)) (λ b. goes_on b (found most (with b.comp set) (fewer b)))
-      (each set) where
+      ⊎_elim (λ tells. ([], tells, omega arith)) (λ b. goes_on b (found most _ (fewer b))) (each set) where
         fewer : (b : IsBlamedOutside count set (runs set) t) → missing (with b.comp set) count ≤ most
         fewer b = let counts = below_counts set b.comp count b.outside b.compartment in omega (arith, few, counts)
 
@@ -151,11 +148,10 @@ module _ (t : List Event) (runs : Set → SourceRun) (count : ℕ)
         goes_on b rest =
             let link : Link =
             record { comp = b.comp; after = length (runs set).trace; cause = b.cause; line = b.line } in
-            let few_links : length rest.0 ≤ most = rest.2 in (
+            let few_links = rest.2 in (
               link ∷ rest.0,
               (record { blamed = b.blamed; front = b.front; after = refl }, rest.1),
-              omega
-                  (arith, few_links),
+              omega (arith, few_links),
             )
 
 pub has_chain : (trace : List Event) (runs : Set → SourceRun) → HasChain trace runs

@@ -2,7 +2,7 @@
 use Rattle.sc_laws.proofs.Common.{Arith, BinaryOp, Blocks, Bool, Cause, Err, Here, List, Meant, Null, Ok, Ptr, Result}
 use Rattle.sc_laws.proofs.Common.{TypedExpr, TypedStruct, Under, Value, Want, Ways, Word, [], ap, applied, applied_one}
 use Rattle.sc_laws.proofs.Common.{as_word, at_place, at_pointer, binary, bind, choose, expr_at, expr_induction, false}
-use Rattle.sc_laws.proofs.Common.{if◌then◌else◌, is_pointer, is_unsigned, is_unsigned_op, map, meant, meant_step, moved}
+use Rattle.sc_laws.proofs.Common.{if◌then◌else◌, is_pointer, is_unsigned, map, meant, meant_step, moved}
 use Rattle.sc_laws.proofs.Common.{on_words, pos, refl, subst, sym, term_of, term_step, true, typed, values, ways, ℕ}
 use Rattle.sc_laws.proofs.Common.{◌∙◌, ◌∷◌, ◌≡◌}
 use Rattle.sc_base.specs.declared.op.UnaryOp.{UnaryOp}
@@ -43,7 +43,7 @@ module _ (Soft : Cause → Type 0) where
 
     pub on_words_keep : (unsigned : Bool) (o : BinaryOp) (v w : Value) →
         Keeps Value (on_words ar unsigned o v w) (on_words br unsigned o v w)
-    on_words_keep unsigned o (Word a) (Word b) = word_keeps _ _ (arith.binary unsigned o a b)
+    on_words_keep unsigned o (Word a) (Word b) = word_keeps _ _ (arith.binary _ o a b)
     on_words_keep unsigned o (Word a) Null = alike refl
     on_words_keep unsigned o (Word a) (Ptr p) = alike refl
     on_words_keep unsigned o Null w = alike refl
@@ -51,7 +51,7 @@ module _ (Soft : Cause → Type 0) where
 
     pub one_keeps : (unsigned : Bool) (o : UnaryOp) (v : Value) →
         Keeps Value (applied_one ar unsigned o v) (applied_one br unsigned o v)
-    one_keeps unsigned unary.Minus (Word a) = word_keeps _ _ (arith.negated unsigned a)
+    one_keeps unsigned unary.Minus (Word a) = word_keeps _ _ (arith.negated _ a)
     one_keeps unsigned unary.Minus Null = alike refl
     one_keeps unsigned unary.Minus (Ptr p) = alike refl
     one_keeps unsigned unary.Plus v = alike refl
@@ -63,7 +63,7 @@ module _ (Soft : Cause → Type 0) where
           Keeps Value (applied ar structs blocks o left right v w) (applied br structs blocks o left right v w)
       applied_keeps blocks o left right v w =
           if_keeps Value (is_pointer left) _ _ _ _ (if_keeps Value (is_pointer right) _ _ _ _ (alike refl) (alike refl))
-          (if_keeps Value (is_pointer right) _ _ _ _ (alike refl) (on_words_keep (is_unsigned_op o left right) o v w))
+          (if_keeps Value (is_pointer right) _ _ _ _ (alike refl) (on_words_keep _ o v w))
 
       -- an expression in both: of one type, and what it gives is kept
       pub record Agrees (a b : Meant) : Type 0 where
@@ -87,14 +87,14 @@ module _ (Soft : Cause → Type 0) where
           Keeps Value (binary ar structs o a b blocks) (binary br structs o a' b' blocks)
       binary_keeps op.AndAlso a a' b b' h k blocks =
           bind_keeps Value Value _ _ _ _ (h.way want.Value blocks)
-          (λ v. choose_keeps v _ _ _ _ (bind_keeps Value Value _ _ _ _ (k.way want.Value blocks) (λ w. alike refl))
+          (λ v. choose_keeps v _ _ _ _ (bind_keeps Value Value _ _ _ _ (k.way _ blocks) (λ w. alike refl))
           (alike refl))
       binary_keeps op.OrElse a a' b b' h k blocks =
-          bind_keeps Value Value _ _ _ _ (h.way want.Value blocks) (λ v. choose_keeps v _ _ _ _ (alike refl)
-          (bind_keeps Value Value _ _ _ _ (k.way want.Value blocks) (λ w. alike refl)))
+          bind_keeps Value Value _ _ _ _ (h.way _ blocks) (λ v. choose_keeps v _ _ _ _ (alike refl)
+          (bind_keeps Value Value _ _ _ _ (k.way _ blocks) (λ w. alike refl)))
       binary_keeps o a a' b b' h k blocks =
           bind_keeps Value Value _ _ _ _ (h.way want.Value blocks)
-          (λ v. bind_keeps Value Value _ _ _ _ (k.way want.Value blocks) (λ w. at_types blocks o a.ty a'.ty b.ty b'.ty v
+          (λ v. bind_keeps Value Value _ _ _ _ (k.way _ blocks) (λ w. at_types blocks o a.ty a'.ty b.ty b'.ty v
           w h.ty k.ty))
 
       place_keeps : (ty : Ty) (p p' : Blocks → Result Value Cause) →
@@ -143,8 +143,7 @@ module _ (Soft : Cause → Type 0) where
         expr_agrees : (e : TypedExpr) → Both e
         expr_agrees =
             expr_induction Both (λ ty k h. subst (λ x. Agrees x (meant br structs here params (typed ty k)))
-            (sym (expr_at _ _ (term_step ar structs here params) meant_step ty k)) (subst (Agrees (meant_by ar ty k))
-            (sym (expr_at _ _ (term_step br structs here params) meant_step ty k))
+            (sym (expr_at _ _ _ _ ty k)) (subst (Agrees _) (sym (expr_at _ _ _ _ ty k))
             (record { ty = refl; way = term_keeps ty k h })))
 
         -- what an expression gives is kept
@@ -159,5 +158,5 @@ module _ (Soft : Cause → Type 0) where
             (values (map (ways br structs here params) es) blocks)
         values_keep [] blocks = alike refl
         values_keep (e ∷ es) blocks =
-            bind_keeps Value (List Value) _ _ _ _ (ways_keep e want.Value blocks)
-            (λ v. bind_keeps (List Value) (List Value) _ _ _ _ (values_keep es blocks) (λ vs. alike refl))
+            bind_keeps Value _ _ _ _ _ (ways_keep e _ blocks)
+            (λ v. bind_keeps (List Value) _ _ _ _ _ (values_keep es blocks) (λ vs. alike refl))

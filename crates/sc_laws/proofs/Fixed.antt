@@ -31,21 +31,19 @@ module _ (step : Step) (goes : StepGoes step) (steps : StepsBelow 0 Never ⊥ (i
   pub any_depth : (n m number : ℕ) (here : Here) (s : State) → s.turns < n → s.turns < m →
       within step m number here s ≡ within step n number here s
   any_depth n m number here s few few' =
-      ap (within step m number here) (sym (no_richer s)) ∙ only_same (within step n number here s)
-      (within step m number here (richer 0 s)) (within_below 0 Never ⊥ (inl refl) step step goes goes steps n m number
-      here s few (omega (arith, few')))
+      ap (within step m number here) (sym (no_richer s)) ∙ only_same _
+      _ (within_below 0 Never ⊥ (inl refl) step step goes goes steps n m number here s few (omega (arith, few')))
 
   pub now_goes : BodyGoes (now step)
   now_goes number here s = within_goes step goes (suc s.turns) number here s
 
   pub fixed : IsFixed step
   fixed number here s =
-      let inner : BodiesBelow 0 Never ⊥ (inl refl) s.turns (s.turns + 0) (within step s.turns) (now step) =
-      λ number here t few few'. within_below 0 Never ⊥ (inl refl) step step goes goes steps s.turns (suc (t.turns + 0))
+      let inner : BodiesBelow 0 Never ⊥ (inl refl) s.turns (s.turns + 0) _ (now step) =
+      λ number here t few few'. within_below 0 Never ⊥ (inl refl) step step goes goes steps s.turns (suc _)
       number here t few (omega arith) in
-      sym (only_same (step (within step s.turns) number here s) (step (now step) number here (richer 0 s))
-      (steps s.turns (s.turns + 0) (within step s.turns) (now step) (within_goes step goes s.turns) now_goes inner
-      number here s (omega arith) (omega arith))) ∙ ap (step (now step) number here) (no_richer s)
+      sym (only_same _ _ (steps s.turns _ _ _ (within_goes step goes s.turns) now_goes inner
+      number here s (omega arith) (omega arith))) ∙ ap (step _ number here) (no_richer s)
 
 module _ (library : Library) (obedient : Obedient library) where
   steady_steps : StepsBelow 0 Never ⊥ (inl refl) (run_step library) (run_step library)
@@ -60,16 +58,14 @@ module _ (library : Library) (obedient : Obedient library) where
 
   pub scripted_fixed : (roles : Roles) → IsFixed (scripted_step library roles (run_step library))
   scripted_fixed roles =
-      fixed (scripted_step library roles (run_step library)) (scripted_goes_on library obedient roles)
-      (steady_scripts roles)
+      fixed (scripted_step library roles _) (scripted_goes_on library obedient roles) (steady_scripts roles)
 
   pub run_steady : IsSteady (run_step library)
   run_steady = any_depth (run_step library) (run_goes_on library obedient) steady_steps
 
   pub scripted_steady : (roles : Roles) → IsSteady (scripted_step library roles (run_step library))
   scripted_steady roles =
-      any_depth (scripted_step library roles (run_step library)) (scripted_goes_on library obedient roles)
-      (steady_scripts roles)
+      any_depth (scripted_step library roles _) (scripted_goes_on library obedient roles) (steady_scripts roles)
 
   pub has_fixed_point : HasFixedPoint library
   has_fixed_point =

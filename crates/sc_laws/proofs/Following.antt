@@ -124,14 +124,12 @@ module _ (main : ℕ) (t : List Event) (S' : ℕ → Bool) where
         trace = ap (λ u. u ++ e ∷ []) n.trace;
         front = record {
           more = more;
-          is = is
-              ∙ sym (append_assoc s.trace (e ∷ []) more);
+          is = is ∙ sym (append_assoc s.trace _ more);
         };
         turns = n.turns;
         inputs = n.inputs;
         memory = n.memory;
-        stands =
-            stands_last (at_start main) s.trace e st n.stands ∙ moves;
+        stands = stands_last _ s.trace e st n.stands ∙ moves;
       }
 
   -- a piece that goes on from the place where the trace ends has told all of it
@@ -151,7 +149,7 @@ module _ (main : ℕ) (t : List Event) (S' : ℕ → Bool) where
       MovesOn V u p → MovesOn W u (and_then p l)
   passed_then V W u p l goes (no_turn s' is same) = no_turn s' (ap (λ y. and_then y l) is) same
   passed_then V W u p l goes (longer e front) =
-      longer e (front_more (u ++ e ∷ []) (last p).trace (last (and_then p l)).trace front (then_from p l goes).events)
+      longer e (front_more _ (last p).trace (last (and_then p l)).trace front (then_from p l goes).events)
 
   pub beyond_then : (V W : Type 0) (end : RunEnd) (s : State) (p : Piece V) (l : V → State → Piece W) →
       ((v : V) → Goes (l v)) → Beyond V end s p → Beyond W end s (and_then p l)
@@ -169,7 +167,7 @@ module _ (main : ℕ) (t : List Event) (S' : ℕ → Bool) where
       ((v : Option Value) → Goes (l v)) →
       ((v : Option Value) (x : State) → (e : Event) × Front (x.trace ++ e ∷ []) (last (l v x)).trace) →
       MovesOrReturns u p → MovesOn W u (and_then p l)
-  passed_back W u p l goes tells (passes h) = passed_then (Option Value) W u p l goes h
+  passed_back W u p l goes tells (passes h) = passed_then _ W u p l goes h
   passed_back W u p l goes tells (hands_back v s' is same) =
       (let e : Event = (tells v s').0 in longer e (subst (λ y. Front (u ++ e ∷ []) (last (and_then y l)).trace) (sym is)
       (subst (λ x. Front (x ++ e ∷ []) (last (l v s')).trace) same (tells v s').1)))
@@ -179,11 +177,9 @@ module _ (main : ℕ) (t : List Event) (S' : ℕ → Bool) where
       (e : Event) × Front (x.trace ++ e ∷ []) (last (l v x)).trace) → BeyondIn end s p → Beyond W end s (and_then p l)
   beyond_back W end s p l goes tells by =
       record {
-        front = front_more s.trace (last p).trace (last (and_then p l)).trace by.front
-            (then_from p l goes).events;
-        agreed = agreed_then (Option Value) W end s p l by.agreed;
-        passed =
-            if_blamed end _ _ (passed_back W s.trace p l goes tells) by.passed;
+        front = front_more s.trace (last p).trace (last (and_then p l)).trace by.front (then_from p l goes).events;
+        agreed = agreed_then _ W end s p l by.agreed;
+        passed = if_blamed end _ _ (passed_back W s.trace p l goes tells) by.passed;
       }
 
   module _ (st : Standing) where
@@ -210,19 +206,16 @@ module _ (main : ℕ) (t : List Event) (S' : ℕ → Bool) where
         Keeping st W (k tt x) (l tt x')) → Keeping st W (and_then (turn_of m s) k) (and_then (turn_of m' s') l)
     turn_follows W k l goes s s' n zero m' is is' h =
         record {
-          follows = λ along. stop TurnsOut s refl
-              (record {
-                front = subst (λ u. Front u (last (and_then (turn_of m' s') l)).trace) n.trace
-                    (then_goes s' (turn_of m' s') l (turn_of_goes m' s' is') goes).grown.events;
-                agreed = tt;
-                passed = tt;
-              });
+          follows = λ along. stop TurnsOut s refl (record {
+            front = subst (λ u. Front u (last (and_then (turn_of m' s') l)).trace) n.trace
+                (then_goes s' (turn_of m' s') l (turn_of_goes m' s' is') goes).grown.events;
+            agreed = tt;
+            passed = tt;
+          });
         }
-    turn_follows W k l goes s s' n (suc m) zero is is' h =
-        (let le : s.turns ≤ s'.turns = n.turns in absurd (omega (arith, le, is, is')))
+    turn_follows W k l goes s s' n (suc m) zero is is' h = (let le = n.turns in absurd (omega (arith, le, is, is')))
     turn_follows W k l goes s s' n (suc m) (suc m') is is' h =
-        (let le : s.turns ≤ s'.turns = n.turns in h (record s { turns = m }) (record s' { turns = m' })
-        (omega (arith, is)) (omega (arith, is')) (record {
+        (let le = n.turns in h _ _ (omega (arith, is)) (omega (arith, is')) (record {
           trace = n.trace;
           front = n.front;
           turns = omega (arith, le, is, is');
@@ -241,8 +234,7 @@ module _ (main : ℕ) (t : List Event) (S' : ℕ → Bool) where
                     goes' h along (r.follows (in_line_before t (last o).trace (last (and_then o k)).trace
                     (then_from o k goes).events along));
               };
-          turned = λ W k l goes goes' s s' n h. turn_follows W k l goes' s s' n
-              s.turns s'.turns refl refl h;
+          turned = λ W k l goes goes' s s' n h. turn_follows W k l goes' s s' n s.turns _ refl refl h;
         }
 
     computed_follow : (V : Type 0) (here : Here) → S' here.comp ≡ false →
@@ -251,12 +243,11 @@ module _ (main : ℕ) (t : List Event) (S' : ℕ → Bool) where
     computed_follow V here clear line (Ok v) s s' n = record { follows = λ along. both v s s' refl refl n }
     computed_follow V here clear line (Err cause) s s' n =
         record {
-          follows = λ along. stop (Blamed here.comp cause line) s refl
-              (record {
-                front = subst (Front s.trace) (sym n.trace) (front_same s.trace);
-                agreed = λ clear. (s', refl, n.trace);
-                passed = λ set. absurd (both_ways (S' here.comp) clear set);
-              });
+          follows = λ along. stop _ s refl (record {
+            front = subst (Front s.trace) (sym n.trace) (front_same s.trace);
+            agreed = λ clear. (s', refl, n.trace);
+            passed = λ set. absurd (both_ways _ clear set);
+          });
         }
 
     -- calls of a compartment that performs in neither run
@@ -265,11 +256,9 @@ module _ (main : ℕ) (t : List Event) (S' : ℕ → Bool) where
         record {
           computing = λ V line e e' h s s' n. subst
               (λ x. Keeping st V (computed here line (e (s.memory here.comp)) s) (computed here line (e' x) s'))
-              (sym (n.memory here.comp clear)) (equal V line (e (s.memory here.comp)) (e' (s.memory here.comp)) s s' n
-              (h (s.memory here.comp)));
+              (sym (n.memory here.comp clear)) (equal V line (e _) (e' (s.memory here.comp)) s s' n (h _));
           passed = λ V cause line soft s s' n p g. absurd soft;
-          stored =
-              λ blocks s s' n. near_blocks st s s' here.comp blocks blocks (λ c. refl) n;
+          stored = λ blocks s s' n. near_blocks st s s' here.comp blocks blocks (λ c. refl) n;
         } where
           equal : (V : Type 0) (line : ℕ) (r r' : Result V Cause) (s s' : State) → Abreast st s s' →
               Keeps Never V r r' → Keeping st V (computed here line r s) (computed here line r' s')
@@ -325,8 +314,8 @@ module _ (main : ℕ) (t : List Event) (S' : ℕ → Bool) where
       turn_performs W k s x zero is h along =
           stop TurnsOut s refl (record { front = left_goes s x; agreed = tt; passed = tt })
       turn_performs W k s x (suc m) is h along =
-          (let le : s.turns ≤ x.other.turns = x.near.turns in
-          (h (record s { turns = m }) (omega (arith, is)) (record {
+          (let le = x.near.turns in
+          (h _ (omega (arith, is)) (record {
             other = x.other;
             is = x.is;
             near = record {
@@ -338,8 +327,7 @@ module _ (main : ℕ) (t : List Event) (S' : ℕ → Bool) where
               stands = x.near.stands;
             };
           }) (k tt (record s {
-            turns =
-                m;
+            turns = m;
           }))).performs along)
 
       pub perform_kept : Kept OneSided Perform
@@ -370,17 +358,16 @@ module _ (main : ℕ) (t : List Event) (S' : ℕ → Bool) where
           Stands s → Performs V (computed at line r s)
       computed_performs V at set by line (Ok v) s x = here v s refl x
       computed_performs V at set by line (Err cause) s x =
-          stop (Blamed at.comp cause line) s refl
-          (record {
+          stop _ s refl (record {
             front = left_goes s x;
-            agreed = λ clear. absurd (both_ways (S' at.comp) clear set);
+            agreed = λ clear. absurd (both_ways _ clear set);
             passed = λ yes. by s x;
           })
 
       pub stands_stored : (c : ℕ) (x : Blocks) (s : State) → S' c ≡ true → Stands s →
           Stands (record s { memory = with_blocks c x s.memory })
       stands_stored c x s set at =
-          record { other = at.other; is = at.is; near = near_left st s at.other c x set at.near }
+          record { other = at.other; is = at.is; near = near_left st s _ c x set at.near }
 
       -- calls of a compartment that performs in the second run alone
       pub perform_at : ((s : State) → Stands s → MovesOrReturns s.trace left) → (at : Here) → S' at.comp ≡ true →
@@ -388,15 +375,12 @@ module _ (main : ℕ) (t : List Event) (S' : ℕ → Bool) where
       perform_at by at set =
           record {
             computing = λ V line e e' h s s' one. record {
-              performs = λ along. computed_performs V at set by line
-                  (e (s.memory at.comp)) s one.stands;
+              performs = λ along. computed_performs V at set by line _ s one.stands;
             };
             passed = λ V cause line soft s s' one p g. absurd soft;
             stored =
                 λ blocks s s' one. record {
-                  same = ap {A = State} {B = State}
-                      (λ z. record z { memory = with_blocks at.comp blocks z.memory }) one.same;
-                  stands =
-                      stands_stored at.comp blocks s set one.stands;
+                  same = ap {A = State} (λ z. record z { memory = with_blocks at.comp blocks z.memory }) one.same;
+                  stands = stands_stored at.comp blocks s set one.stands;
                 };
           }

@@ -1,16 +1,16 @@
 -- Calls in two runs along one trace, of which the second has more compartments that perform their parts of it.
-use Rattle.sc_laws.proofs.Common.{Action, BadType, Blamed, Blocks, Body, Bool, Call, CallTarget, Cross, Event, Export}
+use Rattle.sc_laws.proofs.Common.{Action, BadType, Blamed, Body, Bool, Call, CallTarget, Cross, Event, Export}
 use Rattle.sc_laws.proofs.Common.{Front, Function, Goes, Gone, Here, In, Input, IsFixed, Library, List, Meets, None}
 use Rattle.sc_laws.proofs.Common.{Option, Out, Output, Own, Piece, Proto, Reached, Ret, Row, Scalar, Some, Standing}
 use Rattle.sc_laws.proofs.Common.{State, Step, Stopped, TurnsOut, Value, Word, [], action_of, acts, and_from, and_parts}
 use Rattle.sc_laws.proofs.Common.{and_then, ap, ap₂, arith, asks, at_start, back_cross, begun, blocks_for, both_ways}
 use Rattle.sc_laws.proofs.Common.{call_cross, call_own, called, calls, count_of, crossed, crossing, done, drop, ended}
 use Rattle.sc_laws.proofs.Common.{eq-eqb, export_at, false, first_word, found, function, if◌then◌else◌, imports}
-use Rattle.sc_laws.proofs.Common.{is_function, is_number, is_output, is_word, last, length, list_all, map, may_call}
+use Rattle.sc_laws.proofs.Common.{is_number, is_output, is_word, last, length, list_all, map, may_call}
 use Rattle.sc_laws.proofs.Common.{next_input, now, option_value, part, performer, performs, read_input, refl, roles_in}
 use Rattle.sc_laws.proofs.Common.{rows_left, run_in, run_step, scripted_step, stands_after, stands_behind, subst, suc}
 use Rattle.sc_laws.proofs.Common.{sym, takes, tell, true, turn, turn_of, with_blocks, within, word_back, word_in, zero}
-use Rattle.sc_laws.proofs.Common.{ℕ, ◌++◌, ◌∙◌, ◌∷◌, ◌≡◌, ◌≤◌}
+use Rattle.sc_laws.proofs.Common.{ℕ, ◌++◌, ◌∙◌, ◌∷◌, ◌≡◌}
 use Rattle.sc_event.specs.declared.row.Action.TheVariants as act
 use Rattle.sc_laws.proofs.Growing.{front_same, front_more, more, reached, stays, no_turn, earlier, then_from, then_goes}
 use Rattle.sc_laws.proofs.Growing.{BodyGoes, done_goes, own_goes, cross_goes, back_goes, calls_go, performs_go}
@@ -38,7 +38,7 @@ back_stays (Some scalar) (Some v) = refl
 crossing_stays : (proto : Option Proto) (v : Option Value) → crossing proto (option_value (crossing proto v))
     ≡ crossing proto v
 crossing_stays None v = refl
-crossing_stays (Some proto) v = back_stays proto.result v
+crossing_stays (Some proto) v = back_stays _ v
 
 crossed_again : (args : List Value) → crossed (map (λ w. Word w) (map word_in args)) ≡ crossed args
 crossed_again [] = refl
@@ -106,16 +106,15 @@ module _ (L : Library) (main : ℕ) (t : List Event) (S S' : ℕ → Bool) (larg
         S' comp ≡ true → L.entered comp st.active.entry ≡ Some k → performer e ≡ comp → t ≡ s.trace ++ e ∷ more →
         stands_behind (at_start main) s.trace ≡ Some st → Telling k comp first e s
     performs_next k comp first st s e more set is_k own is stands =
-        let next : Next (drop (count_of comp s.trace) (part main comp t)) st e =
+        let next : Next _ st e =
         row_of_next main comp t s.trace e more st is stands own in
         let row : Row = record { entry = st.active.entry; number = next.number; action = action_of e } in
-        let doing : Piece (Option Value) = acts L second (action_of e) (performs L second next.rest k (at comp first))
-        (second k (at comp first)) comp s in
+        let doing = acts L second (action_of e) (performs L second next.rest k _) (second k (at comp first)) comp s in
         record {
           rest = next.rest;
           left = rows_behind main comp t s.trace e st own next;
           is =
-              fixed k (at comp first) s
+              fixed k _ s
               ∙ ap (λ b. if b then performs L second (rows_left (roles_in main S' t) comp s.trace) k (at comp first)
               s else run_step L second k (at comp first) s) set
               ∙ ap (λ rows. performs L second rows k (at comp first) s) next.is
@@ -148,9 +147,7 @@ module _ (L : Library) (main : ℕ) (t : List Event) (S S' : ℕ → Bool) (larg
       told_state : State
       told_state = tell (Call from to index (map word_in args)) (record s { turns = m })
 
-      by_found : (f : Option Function) →
-          Passes s (and_then
-          (and_then (found f told_state)
+      by_found : (f : Option Function) → Passes s (and_then (and_then (found f told_state)
           (λ f s. and_then (second number (at to (length (s.memory to))) (begun to f (crossed args) s))
           (λ v u. back_cross L.interfaces from to index v (done to f (length (s.memory to)) u)))) k)
       by_found None = tells_more s (Call from to index (map word_in args)) (Stopped TurnsOut told_state)
@@ -163,51 +160,45 @@ module _ (L : Library) (main : ℕ) (t : List Event) (S S' : ℕ → Bool) (larg
           let ret_goes : (v : Option Value) → Goes (ret v) =
           λ v u. earlier u (done to f first u) (ret v u) (done_goes to f first u)
           (back_goes L.interfaces from to index v (done to f first u)) in
-          tells_more s (Call from to index (map word_in args))
-          (and_then (and_then (second number (at to first) start) ret) k)
+          tells_more s (Call from to index (map word_in args)) (and_then (and_then _ ret) k)
           (then_goes start (and_then (second number (at to first) start) ret) k
-          (then_goes start (second number (at to first) start) ret (second_goes number (at to first) start) ret_goes)
-          goes).grown.events
+          (then_goes start (second number _ start) ret (second_goes number _ start) ret_goes) goes).grown.events
 
     environment_passes : (allowed : Bool) (s : State) (e : Event) (x : State) (v : Option Value) (next : State →
         Piece (Option Value)) → x.trace ≡ s.trace ++ e ∷ [] → Goes next →
         Passes s (and_then (if allowed then Reached v x else Stopped TurnsOut s) (λ v. next))
     environment_passes false s e x v next is goes = halts s
     environment_passes true s e x v next is goes =
-        tells_more s e (next x) (subst (λ u. Front u (last (next x)).trace) is (goes x).grown.events)
+        tells_more s e _ (subst (λ u. Front u (last (next x)).trace) is (goes x).grown.events)
 
     action_passes : (action : Action) (k comp first : ℕ) (next : State → Piece (Option Value)) → Goes next →
         (s : State) → Passes s (acts L second action next (second k (at comp first)) comp s)
     action_passes (act.Call to index words) k comp first next goes s =
-        let args : List Value = map (λ w. Word w) words in
+        let args = map (λ w. Word w) words in
         subst (λ o. Passes s (and_then o (λ v. second k (at comp first))))
         (sym (asks_is L second second_goes comp (Cross to index) args s))
         (call_passes (may_call L comp (Cross to index) args) s.turns comp to index args (L.entered to (Export index)) s
-        (λ v. second k (at comp first)) (λ v. second_goes k (at comp first)))
-    action_passes (act.Ret v) k comp first next goes s = passing.hands_back (option_value v) s refl refl
+        (λ v. second k _) (λ v. second_goes k (at comp first)))
+    action_passes (act.Ret v) k comp first next goes s = passing.hands_back _ s refl refl
     action_passes (act.Out w) k comp first next goes s =
         subst (λ o. Passes s (and_then o (λ v. next))) (sym (asks_is L second second_goes comp Output (Word w ∷ []) s))
-        (environment_passes (may_call L comp Output (Word w ∷ [])) s (Out comp w) (tell (Out comp w) s) None next refl
-        goes)
+        (environment_passes (may_call L comp Output (Word w ∷ [])) s (Out comp w) (tell _ s) None next refl goes)
     action_passes (act.In w) k comp first next goes s =
         subst (λ o. Passes s (and_then o (λ v. next))) (sym (asks_is L second second_goes comp Input [] s))
-        (environment_passes (may_call L comp Input []) s (In comp (next_input s.inputs)) (read_input comp s)
-        (Some (Word (next_input s.inputs))) next refl goes)
-    action_passes (act.End w) k comp first next goes s = passing.hands_back (Some (Word w)) s refl refl
+        (environment_passes (may_call L comp Input []) s (In comp _) (read_input comp s) (Some _) next refl goes)
+    action_passes (act.End w) k comp first next goes s = passing.hands_back _ s refl refl
 
     rows_pass : (rows : List Row) (k comp first : ℕ) (s : State) → Passes s (performs L second rows k (at comp first) s)
     rows_pass [] k comp first s = halts s
-    rows_pass (row ∷ rest) k comp first s = by_test (is_number k (L.entered comp row.entry)) where
-      by_test : (b : Bool) →
-          Passes s (if b then acts L second row.action (performs L second rest k (at comp first))
+    rows_pass (row ∷ rest) k comp first s = by_test _ where
+      by_test : (b : Bool) → Passes s (if b then acts L second row.action (performs L second rest k (at comp first))
           (second k (at comp first)) comp s else Stopped TurnsOut s)
-      by_test true = action_passes row.action k comp first (performs L second rest k (at comp first))
-          (performs_go L second second_goes rest k (at comp first)) s
+      by_test true = action_passes _ k comp first _ (performs_go L second second_goes rest k _) s
       by_test false = halts s
 
     pub second_passes : (k comp first : ℕ) (s : State) → S' comp ≡ true → Passes s (second k (at comp first) s)
     second_passes k comp first s set =
-        subst (Passes s) (sym (fixed k (at comp first) s
+        subst (Passes s) (sym (fixed k _ s
         ∙ ap (λ b. if b then performs L second (rows_left (roles_in main S' t) comp s.trace) k (at comp first)
         s else run_step L second k (at comp first) s) set)) (rows_pass (rows_left (roles_in main S' t) comp s.trace) k
         comp first s)
@@ -224,8 +215,7 @@ module _ (L : Library) (main : ℕ) (t : List Event) (S S' : ℕ → Bool) (larg
     returns_goes : (to from index : ℕ) (f : Function) (first : ℕ) (v : Option Value) →
         Goes (returns to from index f first v)
     returns_goes to from index f first v s =
-        earlier s (done to f first s) (returns to from index f first v s) (done_goes to f first s)
-        (back_goes L.interfaces from to index v (done to f first s))
+        earlier s (done to f first s) _ (done_goes to f first s) (back_goes L.interfaces from to index v _)
 
     -- the standing within a call
     abbrev inside : Standing → (to index : ℕ) → Standing
@@ -332,16 +322,14 @@ module _ (L : Library) (main : ℕ) (t : List Event) (S S' : ℕ → Bool) (larg
                 ∙ performed_return v u') (near_tell main t S' (inside st to index) st (done to f first u)
                 (done to f first' u') (Ret to from (back to index v)) more refl all
                 (quiet (near_blocks main t S' (inside st to index) u u' to (ended first (length f.cells) (u.memory to))
-                (ended first' (length f.cells) (u'.memory to)) (λ clear. absurd (both_ways (S' to) clear set))
-                stands.near)))
+                (ended first' (length f.cells) (u'.memory to)) (λ clear. absurd (both_ways _ clear set)) stands.near)))
               where
                 quiet : Abreast main t S' (inside st to index)
                     (record u { memory = with_blocks to (ended first (length f.cells) (u.memory to)) u.memory })
                     (record stands.other {
                       memory = with_blocks to (ended first' (length f.cells) (stands.other.memory to))
                           stands.other.memory;
-                    }) → Abreast main t S' (inside st to index) (done to f first u)
-                    (done to f first' stands.other)
+                    }) → Abreast main t S' (inside st to index) (done to f first u) (done to f first' stands.other)
                 quiet n = record {
                   trace = n.trace;
                   front = n.front;
@@ -370,10 +358,7 @@ module _ (L : Library) (main : ℕ) (t : List Event) (S S' : ℕ → Bool) (larg
           (from to index number : ℕ) (args : List Value) (f : Function) (s : State) →
           Gone (starts from to index args f s) (enters body from to index number args f s)
       enters_goes body goes from to index number args f s =
-          then_goes (starts from to index args f s) (body number (at to (length (s.memory to)))
-          (starts from to index args f s)) (returns to from index f (length (s.memory to)))
-          (goes number (at to (length (s.memory to))) (starts from to index args f s))
-          (returns_goes to from index f (length (s.memory to)))
+          then_goes _ (body number _ _) (returns to from index f _) (goes number _ _) (returns_goes to from index f _)
 
       module _ (from to index number : ℕ) (args : List Value) (f : Function) (is_number : L.entered to (Export index)
           ≡ Some number) (st : Standing) (s s' : State) (n : N st s s') where
@@ -394,19 +379,14 @@ module _ (L : Library) (main : ℕ) (t : List Event) (S S' : ℕ → Bool) (larg
 
         entered_near : (more : List Event) → t ≡ s.trace ++ event ∷ more → N (inside st to index) x x'
         entered_near more all =
-            quiet (near_blocks main t S' (inside st to index) (tell event s) (tell event s') to
-            (s.memory to ++ blocks_for f.cells (crossed args)) (s'.memory to ++ blocks_for f.cells (crossed args))
+            quiet (near_blocks main t S' _ _ _ to _ _
             (λ clear. ap (λ blocks. blocks ++ blocks_for f.cells (crossed args)) (n.memory to clear))
-            (near_tell main t S' st (inside st to index) s s' event more refl all n)) where
-              quiet : N (inside st to index)
-                  (record (tell event s) {
-                    memory = with_blocks to (s.memory to ++ blocks_for f.cells (crossed args))
-                        s.memory;
-                  }) (record (tell event s') {
-                    memory =
-                        with_blocks to (s'.memory to ++ blocks_for f.cells (crossed args)) s'.memory;
-                  }) →
-                  N (inside st to index) x x'
+            (near_tell main t S' st _ s s' event more refl all n)) where
+              quiet : N (inside st to index) (record (tell event s) {
+                memory = with_blocks to (s.memory to ++ blocks_for f.cells (crossed args)) s.memory;
+              }) (record (tell event s') {
+                memory = with_blocks to (s'.memory to ++ blocks_for f.cells (crossed args)) s'.memory;
+              }) → N (inside st to index) x x'
               quiet n = record {
                 trace = n.trace;
                 front = n.front;
@@ -424,7 +404,7 @@ module _ (L : Library) (main : ℕ) (t : List Event) (S S' : ℕ → Bool) (larg
         callee true b' set set' near along =
             let inner : F (inside st to index) (a number (at to first) x) (second number (at to first') x') =
             bodies.enters number to first first' (inside st to index) x x' set near in
-            both_return st from to index f first first' (a number (at to first) x) (second number (at to first') x')
+            both_return st from to index f first first' (a number (at to first) x) (second number _ x')
             (λ clear. absurd (both_ways (S' to) clear (larger to set))) along
             (inner.follows (inner_in_line along)) where
               inner_in_line : InLine t (last (enters a from to index number args f s)).trace →
@@ -435,11 +415,11 @@ module _ (L : Library) (main : ℕ) (t : List Event) (S S' : ℕ → Bool) (larg
                   (returns to from index f first) (returns_goes to from index f first)).events
         callee false true clear set' near along =
             let inner : P (inside st to index) number to first' (second number (at to first') x')
-            (a number (at to first) x) =
+            (a number _ x) =
             bodies.resumes number to first number first' (inside st to index) (second number (at to first') x') x clear
             set' is_number (record { other = x'; near = near; is = refl }) in
             held_return st from to index f first first' number (a number (at to first) x)
-            (second number (at to first') x') set' is_number (second_goes number (at to first')) along
+            (second number (at to first') x') set' is_number (second_goes number _) along
             (inner.performs (inner_in_line along)) where
               inner_in_line : InLine t (last (enters a from to index number args f s)).trace →
                   InLine t (last (a number (at to first) x)).trace
@@ -449,11 +429,11 @@ module _ (L : Library) (main : ℕ) (t : List Event) (S S' : ℕ → Bool) (larg
                   (returns to from index f first) (returns_goes to from index f first)).events
         callee false false clear clear' near along =
             let equal : first' ≡ first = ap length (n.memory to clear') in
-            let inner : F (inside st to index) (a number (at to first) x) (second number (at to first) x') =
+            let inner : F (inside st to index) (a number (at to first) x) (second number _ x') =
             bodies.plain number (at to first) (inside st to index) x x' clear' near in
             subst (λ k. KeepsUp main t S' st (Option Value) (enters a from to index number args f s)
             (and_then (second number (at to k) x') (returns to from index f k))) (sym equal)
-            (both_return st from to index f first first (a number (at to first) x) (second number (at to first) x')
+            (both_return st from to index f first first (a number _ x) (second number (at to first) x')
             (λ c. refl) along (inner.follows (inner_in_line along))) where
               inner_in_line : InLine t (last (enters a from to index number args f s)).trace →
                   InLine t (last (a number (at to first) x)).trace
@@ -471,7 +451,7 @@ module _ (L : Library) (main : ℕ) (t : List Event) (S S' : ℕ → Bool) (larg
             (front_more t x'.trace (last (enters second from to index number args f s')).trace
             (past s'.trace event (all ∙ sym n.trace)) (enters_goes second second_goes from to index number args f
             s').grown.events)
-        call_next (next_told more all) along = callee (S to) (S' to) refl refl (entered_near more all) along
+        call_next (next_told more all) along = callee (S to) _ refl refl (entered_near more all) along
 
         enters_follow : F st (enters a from to index number args f s) (enters second from to index number args f s')
         enters_follow =
@@ -494,13 +474,11 @@ module _ (L : Library) (main : ℕ) (t : List Event) (S S' : ℕ → Bool) (larg
           F st (Stopped TurnsOut (tell e s)) (Stopped TurnsOut (tell e s'))
       nothing_told st s s' e n =
           record {
-            follows = λ along. follows.stop TurnsOut (tell e s) refl
-                (record {
-                  front = subst (λ u. Front (s.trace ++ e ∷ []) (u ++ e ∷ [])) (sym n.trace)
-                      (front_same (s.trace ++ e ∷ []));
-                  agreed = tt;
-                  passed = tt;
-                });
+            follows = λ along. follows.stop TurnsOut _ refl (record {
+              front = subst (λ u. Front (s.trace ++ e ∷ []) (u ++ e ∷ [])) (sym n.trace) (front_same _);
+              agreed = tt;
+              passed = tt;
+            });
           }
 
       -- where a compartment that performs in neither is blamed it is blamed in both
@@ -508,10 +486,10 @@ module _ (L : Library) (main : ℕ) (t : List Event) (S S' : ℕ → Bool) (larg
           F st (Stopped (Blamed comp BadType 0) s) (Stopped (Blamed comp BadType 0) s')
       blamed_follows comp clear st s s' n =
           record {
-            follows = λ along. follows.stop (Blamed comp BadType 0) s refl (record {
+            follows = λ along. follows.stop _ s refl (record {
               front = subst (Front s.trace) (sym n.trace) (front_same s.trace);
               agreed = λ _. (s', refl, n.trace);
-              passed = λ set. absurd (both_ways (S' comp) clear set);
+              passed = λ set. absurd (both_ways _ clear set);
             });
           }
 
@@ -530,8 +508,7 @@ module _ (L : Library) (main : ℕ) (t : List Event) (S S' : ℕ → Bool) (larg
           (and_then (found f (tell (Call from to index (map word_in args)) s'))
           (λ f y. and_then (second number (at to (length (y.memory to))) (begun to f (crossed args) y))
           (returns to from index f (length (y.memory to)))))
-      by_function from to index number args is None st s s' n =
-          nothing_told st s s' (Call from to index (map word_in args)) n
+      by_function from to index number args is None st s s' n = nothing_told st s s' _ n
       by_function from to index number args is (Some f) st s s' n =
           enters_follow from to index number args f is st s s' n
 
@@ -540,13 +517,11 @@ module _ (L : Library) (main : ℕ) (t : List Event) (S S' : ℕ → Bool) (larg
           F st (and_then (found number s) (crosses a from to index args))
           (and_then (found number s') (crosses second from to index args))
       by_number from to index args None is st s s' n = nothing_follows st s s' n
-      by_number from to index args (Some number) is st s s' n =
-          by_function from to index number args is (function L to number) st s s' n
+      by_number from to index args (Some number) is st s s' n = by_function from to index number args is _ st s s' n
 
       pub cross_follows : (from to index : ℕ) (args : List Value) (st : Standing) (s s' : State) → N st s s' →
           F st (call_cross L a from to index args s) (call_cross L second from to index args s')
-      cross_follows from to index args st s s' n =
-          by_number from to index args (L.entered to (Export index)) refl st s s' n
+      cross_follows from to index args st s s' n = by_number from to index args _ refl st s s' n
 
       if_follows : (b : Bool) (st : Standing) (o o' p p' : Piece (Option Value)) → F st o o' → F st p p' →
           F st (if b then o else p) (if b then o' else p')
@@ -559,7 +534,7 @@ module _ (L : Library) (main : ℕ) (t : List Event) (S S' : ℕ → Bool) (larg
           F st p p'
           → F st (if may_call L from target args then called L a from target args s else p)
           (if may_call L from target args then called L second from target args s' else p')
-      guarded from target args st s s' p p' h k = if_follows (may_call L from target args) st _ _ p p' h k
+      guarded from target args st s s' p p' h k = if_follows _ st _ _ p p' h k
 
       -- a call that both ask for
       asked : (from : ℕ) (target : CallTarget) (args : List Value) (st : Standing) (s s' : State) → N st s s' →
@@ -567,16 +542,14 @@ module _ (L : Library) (main : ℕ) (t : List Event) (S S' : ℕ → Bool) (larg
           F st (asks L a from target args s) (asks L second from target args s')
       asked from target args st s s' n h =
           subst (λ o. F st o (asks L second from target args s')) (sym (asks_is L a bodies.goes from target args s))
-          (subst (F st (if may_call L from target args then called L a from target args s else Stopped TurnsOut s))
-          (sym (asks_is L second second_goes from target args s'))
-          (guarded from target args st s s' (Stopped TurnsOut s) (Stopped TurnsOut s') h (nothing_follows st s s' n)))
+          (subst (F st _) (sym (asks_is L second second_goes from target args s'))
+          (guarded from target args st s s' _ (Stopped TurnsOut s') h (nothing_follows st s s' n)))
 
       -- with its turn
       turned_follows : (from to index : ℕ) (args : List Value) (st : Standing) (s s' : State) → N st s s' →
           F st (called L a from (Cross to index) args s) (called L second from (Cross to index) args s')
       turned_follows from to index args st s s' n =
-          (follow_kept main t S' st).turned (Option Value) (λ _. call_cross L a from to index args)
-          (λ _. call_cross L second from to index args) (λ _. cross_goes L a bodies.goes from to index args)
+          (follow_kept main t S' st).turned (Option Value) _ _ (λ _. cross_goes L a bodies.goes from to index args)
           (λ _. cross_goes L second second_goes from to index args) s s' n (λ y y' less less' near. cross_follows from
           to index args st y y' near)
 
@@ -588,11 +561,10 @@ module _ (L : Library) (main : ℕ) (t : List Event) (S S' : ℕ → Bool) (larg
           record {
             trace = a' ∙ n.trace ∙ sym a;
             front = subst (λ u. Front u t) (sym a) n.front;
-            turns = (let le : s.turns ≤ s'.turns = n.turns in omega (arith, le, b, b'));
-            inputs =
-                c' ∙ n.inputs ∙ sym c;
+            turns = (let le = n.turns in omega (arith, le, b, b'));
+            inputs = c' ∙ n.inputs ∙ sym c;
             memory = memory;
-            stands = ap (stands_behind (at_start main)) a ∙ n.stands;
+            stands = ap (stands_behind _) a ∙ n.stands;
           }
 
       -- an event in both, and what follows it
@@ -635,9 +607,7 @@ module _ (L : Library) (main : ℕ) (t : List Event) (S S' : ℕ → Bool) (larg
           let w : ℕ = next_input s.inputs in
           subst (λ i. Keeping main t S' st V (k w (read_input comp s))
           (l (next_input i) (tell (In comp (next_input i)) (taken s')))) (sym n.inputs) (tells V st (taken s) (taken s')
-          (In comp w) (k w (read_input comp s)) (l w (tell (In comp w) (taken s'))) refl (taken_near st s s' n)
-          (goes w (read_input comp s)) (goes' w (tell (In comp w) (taken s'))) (λ near. h w (read_input comp s)
-          (tell (In comp w) (taken s')) near))
+          (In comp w) _ _ refl (taken_near st s s' n) (goes w _) (goes' w _) (λ near. h w _ _ near))
 
       own_function : (comp number : ℕ) (args : List Value) (f : Option Function) → S' comp ≡ false →
           (st : Standing) (s s' : State) → N st s s'
@@ -650,68 +620,61 @@ module _ (L : Library) (main : ℕ) (t : List Event) (S S' : ℕ → Bool) (larg
       own_function comp number args None clear st s s' n = nothing_follows st s s' n
       own_function comp number args (Some f) clear st s s' n =
           let first : ℕ = length (s.memory comp) in
-          let equal : length (s'.memory comp) ≡ first = ap length (n.memory comp clear) in
-          let more_blocks : List Value → Blocks = blocks_for f.cells in
-          let near_start : N st (begun comp f args s) (begun comp f args s') =
+          let equal = ap length (n.memory comp clear) in
+          let more_blocks = blocks_for f.cells in
+          let near_start =
           quiet_near st s s' (begun comp f args s) (begun comp f args s') refl refl refl refl refl refl
           (near_blocks main t S' st s s' comp (s.memory comp ++ more_blocks args) (s'.memory comp ++ more_blocks args)
           (λ c. ap (λ blocks. blocks ++ more_blocks args) (n.memory comp c)) n).memory n in
           subst (λ k. F st (and_then (a number (at comp first) (begun comp f args s))
           (λ v u. Reached v (done comp f first u))) (and_then (second number (at comp k) (begun comp f args s'))
           (λ v u. Reached v (done comp f k u)))) (sym equal) ((follow_kept main t S' st).after (Option Value)
-          (Option Value) (begun comp f args s) (begun comp f args s') (a number (at comp first) (begun comp f args s))
-          (second number (at comp first) (begun comp f args s')) (λ v u. Reached v (done comp f first u))
-          (λ v u. Reached v (done comp f first u)) near_start (bodies.goes number (at comp first) (begun comp f args s))
-          (second_goes number (at comp first) (begun comp f args s')) (λ v u. reached v u (done comp f first u)
-          (done_goes comp f first u)) (λ v u. reached v u (done comp f first u) (done_goes comp f first u))
-          (bodies.plain number (at comp first) st (begun comp f args s) (begun comp f args s') clear near_start)
-          (λ v u u' up up' near. record {
-            follows = λ along. follows.both v _ _ refl refl
-                (quiet_near st u u' (done comp f first u) (done comp f first u') refl refl refl refl refl refl
-                (near_blocks main t S' st u u' comp (ended first (length f.cells) (u.memory comp))
-                (ended first (length f.cells) (u'.memory comp)) (λ c. ap (ended first (length f.cells))
-                (near.memory comp c))
+          _ (begun comp f args s) (begun comp f args s') (a number _ _)
+          (second number _ _) (λ v u. Reached v (done comp f first u))
+          (λ v u. Reached v (done comp f first u)) near_start (bodies.goes number _ _)
+          (second_goes number (at comp first) _) (λ v u. reached v u _
+          (done_goes comp f first u)) (λ v u. reached v u _ (done_goes comp f first u))
+          (bodies.plain number _ st _ _ clear near_start) (λ v u u' up up' near. record {
+            follows = λ along. follows.both v _ _ refl refl (quiet_near st u u' _ _ refl refl refl refl refl refl
+                (near_blocks main t S' st u u' comp _ _ (λ c. ap (ended first _) (near.memory comp c))
                 near).memory near);
           }))
 
       own_follows : (comp number : ℕ) (args : List Value) → S' comp ≡ false → (st : Standing) (s s' : State) →
           N st s s' → F st (call_own L a comp number args s) (call_own L second comp number args s')
-      own_follows comp number args clear st s s' n =
-          own_function comp number args (function L comp number) clear st s s' n
+      own_follows comp number args clear st s s' n = own_function comp number args _ clear st s s' n
 
       -- calls of the environment
       input_follows : (from : ℕ) (args : List Value) (st : Standing) (s s' : State) → N st s s' →
           F st (called L a from Input args s) (called L second from Input args s')
       input_follows from args st s s' n =
-          reads (Option Value) st from s s' (λ w. Reached (Some (Word w))) (λ w. Reached (Some (Word w))) n
-          (λ w. stays (Some (Word w))) (λ w. stays (Some (Word w))) (λ w x x' near. (follow_kept main t S' st).reached
-          (Option Value) (Some (Word w)) x x' near)
+          reads _ st from s s' (λ w. Reached _) (λ w. Reached _) n
+          (λ w. stays (Some (Word w))) (λ w. stays _) (λ w x x' near. (follow_kept main t S' st).reached
+          (Option Value) _ x x' near)
 
       output_follows : (from : ℕ) (args : List Value) (st : Standing) (s s' : State) → N st s s' →
           F st (called L a from Output args s) (called L second from Output args s')
       output_follows from args st s s' n =
-          tells (Option Value) st s s' (Out from (first_word args)) _ _ refl n
-          (stays None (tell (Out from (first_word args)) s)) (stays None (tell (Out from (first_word args)) s'))
+          tells _ st s s' (Out from _) _ _ refl n (stays None _) (stays None _)
           (λ near. (follow_kept main t S' st).reached (Option Value) None _ _ near)
 
       both_called : (here : Here) → S' here.comp ≡ false →
           (st : Standing) (target : CallTarget) (args : List Value) (s s' : State) → N st s s' →
           F st (called L a here.comp target args s) (called L second here.comp target args s')
       both_called here clear st (Own number) args s s' n =
-          (follow_kept main t S' st).turned (Option Value) (λ _. call_own L a here.comp number args)
-          (λ _. call_own L second here.comp number args) (λ _. own_goes L a bodies.goes here.comp number args)
-          (λ _. own_goes L second second_goes here.comp number args) s s' n
-          (λ y y' less less' near. own_follows here.comp number args clear st y y' near)
-      both_called here clear st (Cross to index) args s s' n = turned_follows here.comp to index args st s s' n
-      both_called here clear st Input args s s' n = input_follows here.comp args st s s' n
-      both_called here clear st Output args s s' n = output_follows here.comp args st s s' n
+          (follow_kept main t S' st).turned (Option Value) _ _ (λ _. own_goes L a bodies.goes _ number args)
+          (λ _. own_goes L second second_goes _ number args) s s' n
+          (λ y y' less less' near. own_follows _ number args clear st y y' near)
+      both_called here clear st (Cross to index) args s s' n = turned_follows _ to index args st s s' n
+      both_called here clear st Input args s s' n = input_follows _ args st s s' n
+      both_called here clear st Output args s s' n = output_follows _ args st s s' n
 
       both_calls : (here : Here) → S' here.comp ≡ false →
           (st : Standing) (target : CallTarget) (args : List Value) (s s' : State) → N st s s' →
           F st (calls L a here.comp target args s) (calls L second here.comp target args s')
       both_calls here clear st target args s s' n =
-          guarded here.comp target args st s s' _ _ (both_called here clear st target args s s' n)
-          (blamed_follows here.comp clear st s s' n)
+          guarded _ target args st s s' _ _ (both_called here clear st target args s s' n)
+          (blamed_follows _ clear st s s' n)
 
       -- calls of a compartment that performs in neither run
       pub calls_follow : (here : Here) → S' here.comp ≡ false → (st : Standing) →
@@ -719,9 +682,8 @@ module _ (L : Library) (main : ℕ) (t : List Event) (S S' : ℕ → Bool) (larg
           (calls L second)
       calls_follow here clear st target args =
           record {
-            first = calls_go L a bodies.goes here.comp target args;
-            second = calls_go L second second_goes
-                here.comp target args;
+            first = calls_go L a bodies.goes _ target args;
+            second = calls_go L second second_goes _ target args;
             both = both_calls here clear st target args;
           }
 
@@ -732,40 +694,38 @@ module _ (L : Library) (main : ℕ) (t : List Event) (S S' : ℕ → Bool) (larg
           → F st (acts L a action next (a number (at comp mine)) comp s)
           (acts L second action next' (second number (at comp theirs)) comp s')
       acts_follow (act.Call to index words) next next' number comp mine theirs goes goes' set st h s s' n =
-          let args : List Value = map (λ w. Word w) words in
-          (follow_kept main t S' st).after (Option Value) (Option Value) s s' (asks L a comp (Cross to index) args s)
-          (asks L second comp (Cross to index) args s') (λ v. a number (at comp mine))
-          (λ v. second number (at comp theirs)) n (asks_go L a bodies.goes comp (Cross to index) args s)
-          (asks_go L second second_goes comp (Cross to index) args s') (λ v. bodies.goes number (at comp mine))
-          (λ v. second_goes number (at comp theirs)) (asked comp (Cross to index) args st s s' n
+          let args = map (λ w. Word w) words in
+          (follow_kept main t S' st).after (Option Value) _ s s' (asks L a comp (Cross to index) args s)
+          (asks L second comp (Cross to index) args s') (λ v. a number _)
+          (λ v. second number _) n (asks_go L a bodies.goes comp (Cross to index) args s)
+          (asks_go L second second_goes comp (Cross to index) args s') (λ v. bodies.goes number _)
+          (λ v. second_goes number _) (asked comp (Cross to index) args st s s' n
           (turned_follows comp to index args st s s' n)) (λ v u u' up up' near. bodies.enters number comp mine theirs st
           u u' set near)
       acts_follow (act.Ret v) next next' number comp mine theirs goes goes' set st h s s' n =
-          (follow_kept main t S' st).reached (Option Value) (option_value v) s s' n
+          (follow_kept main t S' st).reached (Option Value) _ s s' n
       acts_follow (act.Out w) next next' number comp mine theirs goes goes' set st h s s' n =
-          (follow_kept main t S' st).after (Option Value) (Option Value) s s' (asks L a comp Output (Word w ∷ []) s)
+          (follow_kept main t S' st).after (Option Value) _ s s' (asks L a comp Output (Word w ∷ []) s)
           (asks L second comp Output (Word w ∷ []) s') (λ v. next) (λ v. next') n (asks_go L a bodies.goes comp Output
           (Word w ∷ []) s) (asks_go L second second_goes comp Output (Word w ∷ []) s') (λ v. goes) (λ v. goes')
           (asked comp Output (Word w ∷ []) st s s' n (output_follows comp (Word w ∷ []) st s s' n))
           (λ v u u' up up' near. h u u' near)
       acts_follow (act.In w) next next' number comp mine theirs goes goes' set st h s s' n =
-          (follow_kept main t S' st).after (Option Value) (Option Value) s s' (asks L a comp Input [] s)
+          (follow_kept main t S' st).after (Option Value) _ s s' (asks L a comp Input [] s)
           (asks L second comp Input [] s') (λ v. next) (λ v. next') n (asks_go L a bodies.goes comp Input [] s)
           (asks_go L second second_goes comp Input [] s') (λ v. goes) (λ v. goes')
           (asked comp Input [] st s s' n (input_follows comp [] st s s' n)) (λ v u u' up up' near. h u u' near)
       acts_follow (act.End w) next next' number comp mine theirs goes goes' set st h s s' n =
-          (follow_kept main t S' st).reached (Option Value) (Some (Word w)) s s' n
+          (follow_kept main t S' st).reached (Option Value) _ s s' n
 
       pub performs_follow : (rows : List Row) (number comp mine theirs : ℕ) → S comp ≡ true →
           (st : Standing) (s s' : State) → N st s s' →
           F st (performs L a rows number (at comp mine) s) (performs L second rows number (at comp theirs) s')
       performs_follow [] number comp mine theirs set st s s' n = nothing_follows st s s' n
       performs_follow (row ∷ rest) number comp mine theirs set st s s' n =
-          if_follows (is_number number (L.entered comp row.entry)) st _ _ _ _ (acts_follow row.action
-          (performs L a rest number (at comp mine)) (performs L second rest number (at comp theirs)) number comp mine
-          theirs (performs_go L a bodies.goes rest number (at comp mine)) (performs_go L second second_goes rest number
-          (at comp theirs)) set st (performs_follow rest number comp mine theirs set st) s s' n)
-          (nothing_follows st s s' n)
+          if_follows (is_number number _) st _ _ _ _ (acts_follow _ _ _ number comp mine
+          theirs (performs_go L a bodies.goes rest number _) (performs_go L second second_goes rest number
+          _) set st (performs_follow rest number comp mine theirs set st) s s' n) (nothing_follows st s s' n)
 
       -- A FUNCTION THAT RUNS IN THE FIRST AND PERFORMS IN THE SECOND
       module _ (st : Standing) (k comp theirs : ℕ) (left : Piece (Option Value)) (clear : S comp ≡ false) (set : S' comp
@@ -792,7 +752,7 @@ module _ (L : Library) (main : ℕ) (t : List Event) (S S' : ℕ → Bool) (larg
         rows_now : (u : State) (rows : List Row) → rows_left (roles_in main S' t) comp u.trace ≡ rows →
             performs L second rows k (at comp theirs) u ≡ rest u
         rows_now u rows is =
-            sym (fixed k (at comp theirs) u
+            sym (fixed k _ u
             ∙ ap (λ b. if b then performs L second (rows_left (roles_in main S' t) comp u.trace) k (at comp theirs)
             u else run_step L second k (at comp theirs) u) set
             ∙ ap (λ rows. performs L second rows k (at comp theirs) u) is)
@@ -809,7 +769,7 @@ module _ (L : Library) (main : ℕ) (t : List Event) (S S' : ℕ → Bool) (larg
             }
 
         behind : (s : State) → H s → Front s.trace (last left).trace
-        behind s h = left_goes main t S' st left rest rest_goes s h
+        behind s h = left_goes main t S' st left rest _ s h
 
         stopped : (V : Type 0) (s y : State) → y.trace ≡ s.trace → H s → Done V (Stopped TurnsOut y)
         stopped V s y a h =
@@ -907,8 +867,8 @@ module _ (L : Library) (main : ℕ) (t : List Event) (S S' : ℕ → Bool) (larg
             CrossTells to index args s (and_then (found number s) (crosses a comp to index args))
         number_tells to index args None s = silent s refl refl
         number_tells to index args (Some number) s =
-            loud (run_goes L a bodies.goes to number (crossed args) (back_cross L.interfaces comp to index)
-            (back_goes L.interfaces comp to index) (tell (Call comp to index (map word_in args)) s)).grown.events
+            loud (run_goes L a bodies.goes to number _ (back_cross L.interfaces comp to index)
+            (back_goes L.interfaces comp to index) _).grown.events
 
         same_trace : (to index : ℕ) (args : List Value) (s y : State) (o : Piece (Option Value)) → y.trace ≡ s.trace →
             CrossTells to index args y o → CrossTells to index args s o
@@ -920,33 +880,29 @@ module _ (L : Library) (main : ℕ) (t : List Event) (S S' : ℕ → Bool) (larg
             CrossTells to index args s (and_then (turn_of m s) (λ _ s. call_cross L a comp to index args s))
         cross_tells to index args s zero = silent s refl refl
         cross_tells to index args s (suc m) =
-            same_trace to index args s (record s { turns = m }) (call_cross L a comp to index args
-            (record s { turns = m })) refl (number_tells to index args (L.entered to (Export index))
-            (record s { turns = m }))
+            same_trace to index args s (record s { turns = m }) _ refl (number_tells to index args _ _)
 
         -- a call with the words of a row is the call with the values that they come of
         words_may : (to index : ℕ) (args : List Value) → may (Cross to index) args ≡ true →
             may (Cross to index) (map (λ w. Word w) (map word_in args)) ≡ true
         words_may to index args allowed =
-            let first = and_parts (imports L.interfaces comp (is_function to index)) _ allowed in
-            let second = and_parts (takes L.interfaces to index (length args)) _ first.1 in
+            let first = and_parts (imports L.interfaces comp _) _ allowed in
+            let second = and_parts (takes L.interfaces to index _) _ first.1 in
             let third = and_parts (list_all is_word args) _ second.1 in
-            and_from (imports L.interfaces comp (is_function to index)) _ first.0
-            (and_from (takes L.interfaces to index (length (map (λ w. Word w) (map word_in args))))
-            _ (ap (takes L.interfaces to index) (as_many args) ∙ second.0)
-            (and_from (list_all is_word (map (λ w. Word w) (map word_in args))) _ (words_are (map word_in args))
+            and_from _ _ first.0 (and_from (takes L.interfaces to index _)
+            _ (ap (takes L.interfaces to index) (as_many args) ∙ second.0) (and_from _ _ (words_are (map word_in args))
             third.1))
 
         recalled : (to index : ℕ) (args : List Value) (u : State) → may (Cross to index) args ≡ true →
             asks L second comp (Cross to index) (map (λ w. Word w) (map word_in args)) u ≡ called L second comp
             (Cross to index) args u
         recalled to index args u allowed =
-            asks_is L second second_goes comp (Cross to index) (map (λ w. Word w) (map word_in args)) u
+            asks_is L second second_goes comp (Cross to index) (map _ _) u
             ∙ ap (λ b. if b then called L second comp (Cross to index) (map (λ w. Word w) (map word_in args))
             u else Stopped TurnsOut u) (words_may to index args allowed)
             ∙ ap₂ (λ values words. and_then (turn u) (λ _ s. and_then (found (L.entered to (Export index)) s)
             (λ number s. run_in L second to number values (back_cross L.interfaces comp to index)
-            (tell (Call comp to index words) s)))) (crossed_again args) (words_again (map word_in args))
+            (tell (Call comp to index words) s)))) (crossed_again args) (words_again _)
 
         cross_performs : (to index : ℕ) (args : List Value) (s : State) → H s → may (Cross to index) args ≡ true →
             InLine t (last (called L a comp (Cross to index) args s)).trace →
@@ -1014,10 +970,9 @@ module _ (L : Library) (main : ℕ) (t : List Event) (S S' : ℕ → Bool) (larg
             λ u. record u { memory = with_blocks comp (ended first (length f.cells) (u.memory comp)) u.memory } in
             let h_done : (u : State) → H u → H (done comp f first u) =
             λ u at_u. quiet_held (over_blocks u) (done comp f first u) refl refl refl (λ other same. same)
-            (stands_stored main t S' st left rest rest_goes comp (ended first (length f.cells) (u.memory comp)) u set
-            at_u) in
+            (stands_stored main t S' st left rest rest_goes comp (ended first _ _) u set at_u) in
             let o : Piece (Option Value) = a number (at comp first) start in
-            let ret : Option Value → State → Piece (Option Value) = λ v u. Reached v (done comp f first u) in
+            let ret : Option Value → State → Piece _ = λ v u. Reached v (done comp f first u) in
             let ret_goes : (v : Option Value) → Goes (ret v) =
             λ v u. reached v u (done comp f first u) (done_goes comp f first u) in
             (perform_kept main t S' st left rest rest_goes).after (Option Value) (Option Value) start start o o ret ret
@@ -1025,8 +980,7 @@ module _ (L : Library) (main : ℕ) (t : List Event) (S S' : ℕ → Bool) (larg
             (bodies.goes number (at comp first) start) ret_goes ret_goes
             (bodies.resumes number comp first k theirs st left
             start clear set is_k h_start) (λ v u u' up up' one. record {
-              performs = λ along. performing.here v
-                  (done comp f first u) refl (h_done u one.stands);
+              performs = λ along. performing.here v (done comp f first u) refl (h_done u one.stands);
             })
 
         as_other : (o p q : Piece (Option Value)) → Pieces (Option Value) o p → Pieces (Option Value) o q
@@ -1036,12 +990,12 @@ module _ (L : Library) (main : ℕ) (t : List Event) (S S' : ℕ → Bool) (larg
         -- point
         blamed_here : (s : State) → H s → Done (Option Value) (Stopped (Blamed comp BadType 0) s)
         blamed_here s h =
-            performing.stop (Blamed comp BadType 0) s refl (record {
+            performing.stop _ s refl (record {
               front = behind s h;
-              agreed = λ clear. absurd (both_ways (S' comp) clear set);
+              agreed = λ clear. absurd (both_ways _ clear set);
               passed =
                   λ _. subst (λ u. MovesOrReturns main t S' u left) h.near.trace
-                  (subst (MovesOrReturns main t S' h.other.trace) (sym h.is) (second_passes k comp theirs h.other set));
+                  (subst (MovesOrReturns main t S' _) (sym h.is) (second_passes k comp theirs h.other set));
             })
 
         -- a call that may be made, or the end of the run
@@ -1056,11 +1010,11 @@ module _ (L : Library) (main : ℕ) (t : List Event) (S S' : ℕ → Bool) (larg
             (may target args ≡ true → InLine t (last (called L a comp target args s)).trace →
             Done (Option Value) (called L a comp target args s)) →
             InLine t (last (calls L a comp target args s)).trace → Done (Option Value) (calls L a comp target args s)
-        with_test target args s h go along = by_test (may target args) refl along where
+        with_test target args s h go along = by_test _ refl along where
           by_test : (b : Bool) → may target args ≡ b →
               InLine t (last (if b then called L a comp target args s else Stopped (Blamed comp BadType 0) s)).trace →
               Done (Option Value) (if b then called L a comp target args s else Stopped (Blamed comp BadType 0) s)
-          by_test b is along = if_allowed (called L a comp target args s) s h b (λ yes. go (is ∙ yes)) along
+          by_test b is along = if_allowed _ s h b (λ yes. go (is ∙ yes)) along
 
         own_performs : (number : ℕ) (args : List Value) (s s' : State) → One s s' →
             Pieces (Option Value) (called L a comp (Own number) args s) (called L a comp (Own number) args s')
@@ -1119,7 +1073,7 @@ module _ (L : Library) (main : ℕ) (t : List Event) (S S' : ℕ → Bool) (larg
         runs_follow None (Some g) st meets here clear s s' n = absurd meets
         runs_follow (Some f) None st meets here clear s s' n = absurd meets
         runs_follow (Some f) (Some g) st meets here clear s s' n =
-            (meets.does (calls L a) (calls L second) here clear (calls_follow here clear st)).both s s' n
+            (meets.does _ _ here clear (calls_follow here clear st)).both s s' n
 
         smaller : (c : ℕ) → S' c ≡ false → S c ≡ false
         smaller c clear = by_test (S c) refl where
@@ -1143,53 +1097,46 @@ module _ (L : Library) (main : ℕ) (t : List Event) (S S' : ℕ → Bool) (larg
         step_plain : (number : ℕ) (here : Here) (st : Standing) (s s' : State) → S' here.comp ≡ false → N st s s' →
             F st (first_step a number here s) (second number here s')
         step_plain number here st s s' clear n =
-            subst (λ x. F st x (second number here s')) (sym (runs_here a S number here s (smaller here.comp clear)))
-            (subst (F st (run_step L a number here s))
-            (sym (fixed number here s' ∙ runs_here second S' number here s' clear))
-            (runs_follow (function L here.comp number) (function L here.comp number) st
-            (function_twins (Abreast main t S' st) (Keeping main t S' st) (λ h. S' h.comp ≡ false) L L (follow_twins st)
-            here.comp number) here clear s s' n))
+            subst (λ x. F st x (second number here s')) (sym (runs_here a S number here s (smaller _ clear)))
+            (subst (F st _) (sym (fixed number here s' ∙ runs_here second S' number here s' clear))
+            (runs_follow (function L _ number) (function L _ number) st (function_twins _ _ _ L L (follow_twins st)
+            _ number) here clear s s' n))
 
         step_enters : (number comp mine theirs : ℕ) (st : Standing) (s s' : State) → S comp ≡ true → N st s s' →
             F st (first_step a number (at comp mine) s) (second number (at comp theirs) s')
         step_enters number comp mine theirs st s s' set n =
-            let rows : List Row = rows_left (roles_in main S t) comp s.trace in
-            let same_rows : rows_left (roles_in main S' t) comp s'.trace ≡ rows =
+            let rows = rows_left (roles_in main S t) comp s.trace in
+            let same_rows =
             ap (λ u. drop (count_of comp u) (part main comp t)) n.trace in
-            subst (λ x. F st x (second number (at comp theirs) s'))
-            (sym (performs_here a S number (at comp mine) s set))
-            (subst (F st (performs L a rows number (at comp mine) s)) (sym (fixed number (at comp theirs) s'
-            ∙ performs_here second S' number (at comp theirs) s' (larger comp set)
+            subst (λ x. F st x (second number (at comp theirs) s')) (sym (performs_here a S number _ s set))
+            (subst (F st _) (sym (fixed number _ s' ∙ performs_here second S' number _ s' (larger comp set)
             ∙ ap (λ rows. performs L second rows number (at comp theirs) s') same_rows))
             (performs_follow rows number comp mine theirs set st s s' n))
 
         held_passes : (st : Standing) (k comp theirs : ℕ) (left : Piece (Option Value)) → S' comp ≡ true → (s : State) →
             Held st k comp theirs left s → MovesOrReturns main t S' s.trace left
         held_passes st k comp theirs left set s h =
-            subst (λ u. MovesOrReturns main t S' u left) h.near.trace (subst (MovesOrReturns main t S' h.other.trace)
+            subst (λ u. MovesOrReturns main t S' u left) h.near.trace (subst (MovesOrReturns main t S' _)
             (sym h.is) (second_passes k comp theirs h.other set))
 
         step_resumes : (number comp mine k theirs : ℕ) (st : Standing) (left : Piece (Option Value)) (s : State) →
             S comp ≡ false → S' comp ≡ true → L.entered comp st.active.entry ≡ Some k → Held st k comp theirs left s →
             P st k comp theirs left (first_step a number (at comp mine) s)
         step_resumes number comp mine k theirs st left s clear set is_k h =
-            subst (P st k comp theirs left) (sym (runs_here a S number (at comp mine) s clear))
-            (by_function_held (function L comp number) (function L comp number)
-            (function_twins (OneSided main t S' st left (Onward k comp theirs) (second_goes k (at comp theirs)))
-            (Perform main t S' st left (Onward k comp theirs) (second_goes k (at comp theirs))) (λ h. S' h.comp ≡ true)
-            L L (perform_twins st left (Onward k comp theirs) (second_goes k (at comp theirs))
-            (held_passes st k comp theirs left set)) comp number)) where
+            subst (P st k comp theirs left) (sym (runs_here a S number _ s clear))
+            (by_function_held (function L comp number) (function L comp number) (function_twins _ _ _
+            L L (perform_twins st left _ _ (held_passes st k comp theirs left set)) comp number)) where
               by_function_held : (f g : Option Function) →
                   Meets (FunctionTwins (OneSided main t S' st left (Onward k comp theirs)
                   (second_goes k (at comp theirs))) (Perform main t S' st left (Onward k comp theirs)
                   (second_goes k (at comp theirs))) (λ h. S' h.comp ≡ true)) f g →
                   P st k comp theirs left (and_then (found f s) (λ f s. f.does (calls L a) (at comp mine) s))
               by_function_held None g meets =
-                  record { performs = λ along. stopped st k comp theirs left clear set is_k (Option Value) s s refl h }
+                  record { performs = λ along. stopped st k comp theirs left clear set is_k _ s s refl h }
               by_function_held (Some f) None meets = absurd meets
-              by_function_held (Some f) (Some g) meets =
+              by_function_held _ (Some g) meets =
                   record {
-                    performs = ((meets.does (calls L a) (calls L a) (at comp mine) set
+                    performs = ((meets.does _ (calls L a) _ set
                         (calls_perform st k comp theirs left clear set is_k)).both s s
                         (record { same = refl; stands = h })).performs;
                   }
@@ -1211,30 +1158,27 @@ module _ (L : Library) (main : ℕ) (t : List Event) (S S' : ℕ → Bool) (larg
           goes = λ number here s. no_turn s;
           plain = λ number here st s s' clear n.
               record {
-                follows = λ along. follows.stop TurnsOut s refl
-                    (record {
-                      front = on (second number here s') s s' n.trace (second_goes number here s').grown.events;
-                      agreed = tt;
-                      passed = tt;
-                    });
+                follows = λ along. follows.stop TurnsOut s refl (record {
+                  front = on (second number here s') s s' n.trace (second_goes number here s').grown.events;
+                  agreed = tt;
+                  passed = tt;
+                });
               };
           enters = λ number comp mine theirs st s s' set n. record {
             follows =
                 λ along. follows.stop TurnsOut s refl (record {
-                  front = on (second number (at comp theirs) s') s s' n.trace
-                      (second_goes number (at comp theirs) s').grown.events;
+                  front = on (second number _ s') s s' n.trace (second_goes number _ s').grown.events;
                   agreed = tt;
                   passed = tt;
                 });
           };
           resumes =
               λ number comp mine k theirs st left s clear set is_k h. record {
-                performs = λ along. performing.stop TurnsOut s
-                    refl (record {
-                      front = left_goes main t S' st left (Onward k comp theirs) (second_goes k (at comp theirs)) s h;
-                      agreed = tt;
-                      passed = tt;
-                    });
+                performs = λ along. performing.stop TurnsOut s refl (record {
+                  front = left_goes main t S' st left (Onward k comp theirs) _ s h;
+                  agreed = tt;
+                  passed = tt;
+                });
               };
         } where
           on : (p : Piece (Option Value)) (s s' : State) → s'.trace ≡ s.trace → Front s'.trace (last p).trace →

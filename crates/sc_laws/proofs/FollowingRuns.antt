@@ -4,7 +4,7 @@ use Rattle.sc_laws.proofs.Common.{IsFixed, IsStop, IsWithin, KeepsBlames, LeastI
 use Rattle.sc_laws.proofs.Common.{Memory, Never, None, Obedient, Option, PassesBlame, PassesBlames, Piece, Reached}
 use Rattle.sc_laws.proofs.Common.{RunEnd, Set, Some, SourceRun, Standing, State, Step, Stopped, StopsSo, TellsWithMore}
 use Rattle.sc_laws.proofs.Common.{TurnsOut, Value, [], and_then, ap, append-nil, arith, at_start, begun, call_own, done}
-use Rattle.sc_laws.proofs.Common.{eqb-true, exit_word, false, first_state, found, function, if◌then◌else◌, inl, inr}
+use Rattle.sc_laws.proofs.Common.{eqb-true, exit_word, false, first_state, found, if◌then◌else◌, inl, inr}
 use Rattle.sc_laws.proofs.Common.{last, leb-false, length, length-append, longer, lt-leb, nobody, now, performed_by}
 use Rattle.sc_laws.proofs.Common.{reaches, refl, roles_in, roles_run, run_by, run_to, stands_behind, stopped_at, subst}
 use Rattle.sc_laws.proofs.Common.{suc, sym, take, take_all, true, turnless, with, within, zero, ℕ, ◌++◌, ◌+◌, ◌<◌, ◌==◌}
@@ -15,8 +15,8 @@ use Rattle.sc_laws.proofs.Matching.{library_twins, scripted_goes_on, library_goe
 use Rattle.sc_laws.proofs.Fixed.{scripted_fixed}
 use Rattle.sc_laws.proofs.Runs.{front_long, trace_is, take_fronts}
 use Rattle.sc_laws.proofs.Rows.{InLine, in_line_before, NextIs, over, next_told_is, told as next_told}
-use Rattle.sc_laws.proofs.Following.{Abreast, KeepsUp, Keeping, Beyond, whole, follow_kept, follow_at, OneSided}
-use Rattle.sc_laws.proofs.Following.{Performs, Perform, left_goes, perform_kept, perform_at, MovesOrReturns, MovesOn}
+use Rattle.sc_laws.proofs.Following.{KeepsUp, Beyond, whole, follow_kept, follow_at}
+use Rattle.sc_laws.proofs.Following.{Performs, left_goes, perform_kept, perform_at, MovesOrReturns, MovesOn}
 use Rattle.sc_laws.proofs.Following.{Agreed, IfBlamed, BeyondIn, KeepsUp as follows, Performs as performing}
 use Rattle.sc_laws.proofs.Following.{MovesOn as passed, MovesOrReturns as passing}
 use Rattle.sc_laws.proofs.FollowingCalls.{at, first_step, second_step, N, Bodies, Telling, performs_next, all_bodies}
@@ -24,7 +24,7 @@ use Rattle.sc_base.proofs.Lists.{take_front}
 
 -- what is shown of a piece goes on from where it is
 behaviour_front : (main : ℕ) (o : Piece (Option Value)) → Front (last o).trace (run_to main o).behaviour.trace
-behaviour_front main (Reached v s) = record { more = event.End main (exit_word v) ∷ []; is = refl }
+behaviour_front main (Reached v s) = record { more = event.End main _ ∷ []; is = refl }
 behaviour_front main (Stopped end s) = front_same s.trace
 
 module _ (t : List Event) (S' : Set) where
@@ -43,8 +43,8 @@ module _ (t : List Event) (S' : Set) where
         (comp : ℕ) (cause : Cause) (line : ℕ) → end ≡ Blamed comp cause line → S' comp ≡ false →
         (run_to main p).behaviour ≡ record { trace = u.trace; end = end }
     stays_blamed end u p by comp cause line is clear =
-        let blame : Agreed main t S' (Option Value) (Blamed comp cause line) u p =
-        subst (λ e. Agreed main t S' (Option Value) e u p) is by in
+        let blame =
+        subst (λ e. Agreed main t S' _ e u p) is by in
         let x = blame clear in
         ap (λ y. (run_to main y).behaviour) x.1 ∙ (λ i. record { trace = x.2 i; end = sym is i })
 
@@ -55,7 +55,7 @@ module _ (t : List Event) (S' : Set) where
         ap (λ z. record { trace = z; end = TurnsOut }) (told ∙ sym same))
     passes_on x u p same (passed.longer e front) =
         longer e (subst (λ z. Front (z ++ e ∷ []) (run_to main p).behaviour.trace) (sym same)
-        (front_more (u ++ e ∷ []) (last p).trace (run_to main p).behaviour.trace front (behaviour_front main p)))
+        (front_more _ (last p).trace (run_to main p).behaviour.trace front (behaviour_front main p)))
 
     passes_in : (x : SourceRun) (u : List Event) (p : Piece (Option Value)) → x.trace ≡ u →
         MovesOrReturns main t S' u p → PassesBlame x (run_to main p).behaviour
@@ -64,8 +64,7 @@ module _ (t : List Event) (S' : Set) where
         longer (event.End main (exit_word v)) (record {
           more = [];
           is = ap (λ y. (run_to main y).behaviour.trace) is
-              ∙ ap (λ z. z ++ event.End main (exit_word v) ∷ []) (told ∙ sym same)
-              ∙ sym (append-nil (x.trace ++ event.End main (exit_word v) ∷ []));
+              ∙ ap (λ z. z ++ event.End main (exit_word v) ∷ []) (told ∙ sym same) ∙ sym (append-nil _);
         })
 
     -- where the first piece stopped
@@ -88,7 +87,7 @@ module _ (t : List Event) (S' : Set) where
         Beyond main t S' (Option Value) end u p → RunsFollow (run_to main o).behaviour (run_to main p).behaviour
     stops_so end u o p is stop by =
         stops_by end u o p is stop by.front by.agreed (λ x same comp cause line blame set. passes_on x u.trace p same
-        (subst (λ e. IfBlamed main t S' e (MovesOn main t S' (Option Value) u.trace p)) blame by.passed set))
+        (subst (λ e. IfBlamed main t S' e (MovesOn main t S' _ u.trace p)) blame by.passed set))
 
     stops_in : (end : RunEnd) (u : State) (o p : Piece (Option Value)) → o ≡ Stopped end u → StopsSo o →
         BeyondIn main t S' end u p → RunsFollow (run_to main o).behaviour (run_to main p).behaviour
@@ -98,8 +97,7 @@ module _ (t : List Event) (S' : Set) where
 
     ended_whole : (x : SourceRun) → x.end ≡ Ended → (comp : ℕ) (cause : Cause) (line : ℕ) →
         x.end ≡ Blamed comp cause line → ⊥
-    ended_whole x ended comp cause line blame =
-        (let clash : Ended ≡ Blamed comp cause line = sym ended ∙ blame in absurd (cc))
+    ended_whole x ended comp cause line blame = (let clash = sym ended ∙ blame in absurd (cc))
 
     both_end : (st : Standing) (o p : Piece (Option Value)) → StopsSo o → KeepsUp main t S' st (Option Value) o p →
         RunsFollow (run_to main o).behaviour (run_to main p).behaviour
@@ -124,19 +122,16 @@ module _ (L : Library) (obedient : Obedient L) (t : List Event) (S S' : Set) (la
   step' = second_step L main t S S' larger
 
   step_fixed : IsFixed step'
-  step_fixed = scripted_fixed L obedient (roles_in main S' t)
+  step_fixed = scripted_fixed L obedient _
 
   later_goes : BodyGoes (now step')
-  later_goes number here s =
-      within_goes step' (scripted_goes_on L obedient (roles_in main S' t)) (suc s.turns) number here s
+  later_goes number here s = within_goes step' (scripted_goes_on L obedient _) (suc s.turns) number here s
 
   bodies : (n : ℕ) → Bodies L main t S S' larger step_fixed later_goes (within step n)
   bodies =
-      all_bodies L main t S S' larger step_fixed later_goes (library_goes L obedient)
-      (λ st. library_twins Never (Abreast main t S' st) (Keeping main t S' st) (λ h. S' h.comp ≡ false)
+      all_bodies L main t S S' larger _ _ (library_goes L obedient) (λ st. library_twins Never _ _ _
       (follow_kept main t S' st) (follow_at main t S' st) L L obedient)
-      (λ st left rest goes passes. library_twins Never (OneSided main t S' st left rest goes)
-      (Perform main t S' st left rest goes) (λ h. S' h.comp ≡ true) (perform_kept main t S' st left rest goes)
+      (λ st left rest goes passes. library_twins Never _ _ _ (perform_kept main t S' st left rest goes)
       (perform_at main t S' st left rest goes passes) L L obedient)
 
   module _ (globals : Memory) (inputs : List ℕ) (turns : ℕ) where
@@ -233,7 +228,7 @@ module _ (L : Library) (obedient : Obedient L) (t : List Event) (S S' : Set) (la
       main_runs along =
           subst (λ r. RunsFollow t S' r (run_to main (and_then p ends)).behaviour) (sym (ended_shows o))
           (subst (RunsFollow t S' (run_to main o).behaviour) (sym (ended_shows p))
-          (main_follows (S main) (S' main) refl refl (subst (λ r. InLine t r.trace) (ended_shows o) along)))
+          (main_follows _ _ refl refl (subst (λ r. InLine t r.trace) (ended_shows o) along)))
 
     function_runs : (number : ℕ) → L.entered main Main ≡ Some number → (f : Option Function) →
         InLine t (run_to main
@@ -261,25 +256,25 @@ module _ (L : Library) (obedient : Obedient L) (t : List Event) (S S' : Set) (la
         (λ number s. call_own L (within step' (suc turns))
         main number [] s))).behaviour
     number_runs None is along = ends_so (λ comp cause line blame. absurd (cc)) refl
-    number_runs (Some number) is along = function_runs number is (function L main number) along
+    number_runs (Some number) is along = function_runs number is _ along
 
     run_follows : InLine t (run_by L step globals inputs turns).behaviour.trace →
         RunsFollow t S' (run_by L step globals inputs turns).behaviour (run_by L step' globals inputs turns).behaviour
-    run_follows along = number_runs (L.entered main Main) refl along
+    run_follows along = number_runs _ refl along
 
 -- LISTS
 front_taken : {A : Type 0} (n : ℕ) (xs : List A) → Front (take n xs) xs
 front_taken zero xs = record { more = xs; is = refl }
 front_taken (suc n) [] = record { more = []; is = refl }
 front_taken (suc n) (x ∷ xs) =
-    let rest : Front (take n xs) xs = front_taken n xs in
+    let rest = front_taken n xs in
     record { more = rest.more; is = ap (λ ys. x ∷ ys) rest.is }
 
 -- THE LAWS
 module _ (t : List Event) (x y : SourceRun) where
   -- a run that is stopped at the length of the trace shows the trace where its events begin with it
   shows : Front t y.trace → (stopped_at (length t) y).trace ≡ t
-  shows front = trace_is (length t) y ∙ ap (take (length t)) front.is ∙ take_front t front.more
+  shows front = trace_is _ y ∙ ap (take _) front.is ∙ take_front t front.more
 
   tells_too : (S' : Set) → (InLine t x.trace → RunsFollow t S' x y) → (stopped_at (length t) x).trace ≡ t →
       (stopped_at (length t) y).trace ≡ t
@@ -295,8 +290,7 @@ module _ (t : List Event) (x y : SourceRun) where
   -- a run that was blamed before it had so many events
   blamed_early : (comp : ℕ) (cause : Cause) (line : ℕ) → x.end ≡ Blamed comp cause line →
       reaches (length t) x x.end ≡ false → length x.trace < length t
-  blamed_early comp cause line ends is =
-      leb-false (length t) (length x.trace) (ap (reaches (length t) x) (sym ends) ∙ is)
+  blamed_early comp cause line ends is = leb-false _ _ (ap (reaches _ x) (sym ends) ∙ is)
 
   stays_so : (S' : Set) → (InLine t x.trace → RunsFollow t S' x y) → (comp : ℕ) (cause : Cause) (line : ℕ) →
       S' comp ≡ false → (b : Bool) → reaches (length t) x x.end ≡ b →
@@ -353,11 +347,10 @@ module _ (t : List Event) (x y : SourceRun) where
       (if b then record { trace = take (length t) x.trace; end = EventsOut } else x).trace ≡ t → ⊥
   blamed_below comp cause line true is ends tells = cc
   blamed_below comp cause line false is ends tells =
-      (let few : length x.trace < length t = blamed_early comp cause line ends is in let long : length x.trace
-      ≡ length t = ap length tells in omega (arith, few, long))
+      (let few = blamed_early comp cause line ends is in let long = ap length tells in omega (arith, few, long))
 
 with_link : (set small : Set) (comp : ℕ) → IsWithin small set → set comp ≡ true → IsWithin (with comp small) set
-with_link set small comp larger has c is = by_test (c == comp) refl is where
+with_link set small comp larger has c is = by_test _ refl is where
   by_test : (b : Bool) → (c == comp) ≡ b → (b || small c) ≡ true → set c ≡ true
   by_test true same is = subst (λ d. set d ≡ true) (sym (eqb-true c comp same)) has
   by_test false same is = larger c is
@@ -376,12 +369,12 @@ module _ (L : Library) (obedient : Obedient L) (globals : Memory) (inputs : List
 
   pub keeps_blames : KeepsBlames t behaviour
   keeps_blames small large larger comp cause line ends front clear =
-      stays_so t (whole_run small) (whole_run large) large (run_follows L obedient t small large larger globals inputs
+      stays_so t _ _ large (run_follows L obedient t small large larger globals inputs
       turns) comp cause line clear _ refl ends front
 
   pub passes_blames : PassesBlames t behaviour
   passes_blames small large larger comp cause line ends front set =
-      passes_so t (whole_run small) (whole_run large) large (run_follows L obedient t small large larger globals inputs
+      passes_so t _ _ large (run_follows L obedient t small large larger globals inputs
       turns) comp cause line set _ refl ends front
 
   module _ (set : Set) where
@@ -405,7 +398,7 @@ module _ (L : Library) (obedient : Obedient L) (globals : Memory) (inputs : List
         Includes set links → (behaviour set).trace ≡ t
     is_enough [] small larger chain all = tells_with_more small set larger chain
     is_enough (link ∷ links) small larger chain all =
-        is_enough links (with link.comp small) (with_link set small link.comp larger all.0) chain.1 all.1
+        is_enough links _ (with_link set small _ larger all.0) chain.1 all.1
 
   pub least_is_chain : LeastIsChain t behaviour
   least_is_chain links set chain =

@@ -1,12 +1,12 @@
 -- Each word of the meaning only goes on: events are appended, and no turns come back.
 use Rattle.sc_laws.proofs.Common.{Action, AllFrom, BadType, Blamed, Body, Bool, Call, CallTarget, Calls, Closed, Cross}
-use Rattle.sc_laws.proofs.Common.{Does, Event, Exit, Export, FrameChange, Front, Function, Goes, Gone, Grown, Here, In}
-use Rattle.sc_laws.proofs.Common.{Input, Interfaces, Left, Library, List, None, On, Opened, Option, Out as Out', Output}
+use Rattle.sc_laws.proofs.Common.{Does, Event, Exit, FrameChange, Front, Function, Goes, Gone, Grown, Here, In}
+use Rattle.sc_laws.proofs.Common.{Input, Interfaces, Left, Library, List, None, On, Opened, Option, Output}
 use Rattle.sc_laws.proofs.Common.{Own, Piece, Reached, Ret, Roles, Route, Row, Some, State, Step, Stopped, TurnsOut}
 use Rattle.sc_laws.proofs.Common.{Value, Word, [], acts, and_then, ap, append-nil, append_assoc, arith, asks}
-use Rattle.sc_laws.proofs.Common.{back_cross, back_own, begun, call_cross, call_own, called, calls, crossed, crossing}
-use Rattle.sc_laws.proofs.Common.{done, export_at, false, first_word, follow, found, function, if◌then◌else◌, is_number}
-use Rattle.sc_laws.proofs.Common.{last, length, length-append, map, may_call, next_input, option_value, performs}
+use Rattle.sc_laws.proofs.Common.{back_cross, back_own, begun, call_cross, call_own, called, calls}
+use Rattle.sc_laws.proofs.Common.{done, false, follow, found, function, if◌then◌else◌, is_number}
+use Rattle.sc_laws.proofs.Common.{last, length, length-append, map, may_call, performs}
 use Rattle.sc_laws.proofs.Common.{read_input, refl, rows_left, run_in, run_step, scripted_step, suc, sym, tell, true}
 use Rattle.sc_laws.proofs.Common.{turn, turn_of, within, word_in, zero, ℕ, ◌++◌, ◌+◌, ◌∙◌, ◌∷◌, ◌≡◌, ◌≤◌}
 use Rattle.sc_core.specs.Prelude.{Out, take}
@@ -20,7 +20,7 @@ front_more xs ys zs a b =
     record { more = a.more ++ b.more; is = b.is ∙ ap (λ x. x ++ b.more) a.is ∙ append_assoc xs a.more b.more }
 
 pub same : (s : State) → Grown s s
-same s = record { events = front_same s.trace; frames = front_same s.frames; late = tt; turns = omega arith }
+same s = record { events = front_same s.trace; frames = front_same _; late = tt; turns = omega arith }
 
 -- moments at which changes were made
 
@@ -44,23 +44,20 @@ from_append events (Closed told c room ∷ first) second h k = (h.0, from_append
 
 pub front_no_longer : {A : Type 0} (xs ys : List A) → Front xs ys → length xs ≤ length ys
 front_no_longer xs ys h =
-    let long : length ys ≡ length xs + length h.more = ap length h.is ∙ length-append xs h.more in omega (arith, long)
+    let long = ap length h.is ∙ length-append xs h.more in omega (arith, long)
 
 pub late_more : (s t : State) (first second : List FrameChange) → Front s.trace t.trace →
     AllFrom (length s.trace) first → AllFrom (length t.trace) second → AllFrom (length s.trace) (first ++ second)
 late_more s t first second events h k =
-    from_append (length s.trace) first second h
-    (from_less (length s.trace) (length t.trace) (front_no_longer s.trace t.trace events) second k)
+    from_append _ first second h (from_less _ _ (front_no_longer s.trace t.trace events) second k)
 
 pub more : (s t u : State) → Grown s t → Grown t u → Grown s u
 more s t u a b =
     record {
       events = front_more s.trace t.trace u.trace a.events b.events;
-      frames = front_more s.frames t.frames
-          u.frames a.frames b.frames;
-      late = late_more s t a.frames.more b.frames.more a.events a.late b.late;
-      turns =
-          (let p : t.turns ≤ s.turns = a.turns in let q : u.turns ≤ t.turns = b.turns in omega (arith, p, q));
+      frames = front_more _ t.frames _ a.frames b.frames;
+      late = late_more s t _ _ a.events a.late b.late;
+      turns = (let p = a.turns in let q = b.turns in omega (arith, p, q));
     }
 
 pub reached : {V : Type 0} (v : V) (s t : State) → Grown s t → Gone s (Reached v t)
@@ -74,7 +71,7 @@ no_turn s = record { grown = same s; stop = tt }
 
 -- what goes on from a later state goes on from an earlier one
 pub earlier : {V : Type 0} (s t : State) (o : Piece V) → Grown s t → Gone t o → Gone s o
-earlier s t o g h = record { grown = more s t (last o) g h.grown; stop = h.stop }
+earlier s t o g h = record { grown = more s t _ g h.grown; stop = h.stop }
 
 -- pieces in a row
 pub then_then : {U V W : Type 0} (o : Piece U) (k : U → State → Piece V) (l : V → State → Piece W) →
@@ -89,25 +86,23 @@ then_from (Stopped end s) k h = same s
 
 pub then_goes : {V W : Type 0} (s : State) (o : Piece V) (k : V → State → Piece W) → Gone s o → ((v : V) → Goes (k v)) →
     Gone s (and_then o k)
-then_goes s (Reached v t) k g h = earlier s t (k v t) g.grown (h v t)
+then_goes s (Reached v t) k g h = earlier s t _ g.grown (h v t)
 then_goes s (Stopped end t) k g h = record { grown = g.grown; stop = g.stop }
 
 take_goes : {A : Type 0} (route : Route) (go : Does A) → ((a : A) → Goes (go a)) → (a : A) → Goes (take route go a)
 take_goes On go h a = h a
-take_goes (Out exit) go h a = stays (record { exit = exit; carried = a })
+take_goes (Out exit) go h a = stays _
 
 pub follow_goes : {A : Type 0} (route : Exit → Route) (s : State) (o : Piece (Left A)) (go : Does A) → Gone s o →
     ((a : A) → Goes (go a)) → Gone s (follow route o go)
-follow_goes route s o go g h =
-    then_goes s o (λ left. take (route left.exit) go left.carried) g
-    (λ left. take_goes (route left.exit) go h left.carried)
+follow_goes route s o go g h = then_goes s o _ g (λ left. take_goes _ go h _)
 
 pub turn_of_goes : (n : ℕ) (s : State) → n ≡ s.turns → Gone s (turn_of n s)
 turn_of_goes zero s is = no_turn s
 turn_of_goes (suc n) s is =
-    reached tt s (record s { turns = n }) (record {
+    reached tt s _ (record {
       events = front_same s.trace;
-      frames = front_same s.frames;
+      frames = front_same _;
       late = tt;
       turns = omega (arith, is);
     })
@@ -118,7 +113,7 @@ turn_goes s = turn_of_goes s.turns s refl
 pub told : (event : Event) (s : State) → Grown s (tell event s)
 told event s = record {
   events = record { more = event ∷ []; is = refl };
-  frames = front_same s.frames;
+  frames = front_same _;
   late = tt;
   turns = omega arith;
 }
@@ -146,7 +141,7 @@ begun_goes comp f args s =
     record {
       events = front_same s.trace;
       frames = record {
-        more = Opened (length s.trace) comp f.room ∷ [];
+        more = Opened _ comp f.room ∷ [];
         is = refl;
       };
       late = (omega arith, tt);
@@ -158,7 +153,7 @@ done_goes comp f first s =
     record {
       events = front_same s.trace;
       frames = record {
-        more = Closed (length s.trace) comp f.room ∷ [];
+        more = Closed _ comp f.room ∷ [];
         is = refl;
       };
       late = (omega arith, tt);
@@ -168,8 +163,8 @@ done_goes comp f first s =
 pub read_goes : (comp : ℕ) (s : State) → Grown s (read_input comp s)
 read_goes comp s =
     record {
-      events = record { more = In comp (next_input s.inputs) ∷ []; is = refl };
-      frames = front_same s.frames;
+      events = record { more = In comp _ ∷ []; is = refl };
+      frames = front_same _;
       late = tt;
       turns = omega arith;
     }
@@ -180,10 +175,7 @@ if_goes s false o p h k = k
 
 pub back_goes : (interfaces : Interfaces) (from to index : ℕ) (v : Option Value) →
     Goes (back_cross interfaces from to index v)
-back_goes interfaces from to index v s =
-    reached (option_value (crossing (export_at interfaces to index) v)) s
-    (tell (Ret to from (crossing (export_at interfaces to index) v)) s)
-    (told (Ret to from (crossing (export_at interfaces to index) v)) s)
+back_goes interfaces from to index v s = reached _ s _ (told _ s)
 
 module _ (library : Library) (body : Body) (goes : BodyGoes body) where
   -- what follows once the function is found
@@ -193,41 +185,38 @@ module _ (library : Library) (body : Body) (goes : BodyGoes body) where
       then_goes s (found (function library comp number) s) _ (found_goes (function library comp number) s) (λ f s.
       let first : ℕ = length (s.memory comp) in
       let here : Here = record { comp = comp; first = first } in
-      let start : State = begun comp f args s in
-      then_goes s (body number here start) _ (earlier s start (body number here start) (begun_goes comp f args s)
+      let start = begun comp f args s in
+      then_goes s (body number here start) _ (earlier s start _ (begun_goes comp f args s)
       (goes number here start)) (λ v t.
-      let end : State = done comp f first t in earlier t end (back v end) (done_goes comp f first t) (k v end)))
+      let end = done comp f first t in earlier t end _ (done_goes comp f first t) (k v end)))
 
   pub own_goes : (comp number : ℕ) (args : List Value) → Goes (call_own library body comp number args)
   own_goes comp number args = run_goes comp number args back_own (λ v. stays v)
 
   pub cross_goes : (from to index : ℕ) (args : List Value) → Goes (call_cross library body from to index args)
   cross_goes from to index args s =
-      then_goes s (found (library.entered to (Export index)) s) _ (found_goes (library.entered to (Export index)) s)
-      (λ number s.
-      let event : Event = Call from to index (map word_in args) in
-      earlier s (tell event s) _ (told event s) (run_goes to number (crossed args)
-      (back_cross library.interfaces from to index) (back_goes library.interfaces from to index) (tell event s)))
+      then_goes s (found (library.entered to _) s) _ (found_goes (library.entered to _) s) (λ number s.
+      let event = Call from to index (map word_in args) in
+      earlier s (tell event s) _ (told event s) (run_goes to number _
+      (back_cross library.interfaces from to index) (back_goes library.interfaces from to index) _))
 
   pub called_go : CallsGo (called library body)
   called_go from (Own number) args s = then_goes s (turn s) _ (turn_goes s) (λ u. own_goes from number args)
   called_go from (Cross to index) args s = then_goes s (turn s) _ (turn_goes s) (λ u. cross_goes from to index args)
-  called_go from Input args s = reached _ s (read_input from s) (read_goes from s)
-  called_go from Output args s =
-      reached _ s (tell (Out' from (first_word args)) s) (told (Out' from (first_word args)) s)
+  called_go from Input args s = reached _ s _ (read_goes from s)
+  called_go from Output args s = reached _ s _ (told _ s)
 
   pub calls_go : CallsGo (calls library body)
   calls_go from target args s =
       if_goes s (may_call library from target args) (called library body from target args s)
-      (Stopped (Blamed from BadType 0) s) (called_go from target args s) (record { grown = same s; stop = tt })
+      (Stopped _ s) (called_go from target args s) (record { grown = same s; stop = tt })
 
   -- a call that a script asks for is made where it may be
   pub asks_is : (comp : ℕ) (target : CallTarget) (args : List Value) (s : State) →
       asks library body comp target args s ≡ (if may_call library comp target args then called library body comp target
       args s else Stopped TurnsOut s)
-  asks_is comp target args s = by (may_call library comp target args) where
-    by : (b : Bool) →
-        (if b then (if b then called library body comp target args s else Stopped (Blamed comp BadType 0)
+  asks_is comp target args s = by _ where
+    by : (b : Bool) → (if b then (if b then called library body comp target args s else Stopped (Blamed comp BadType 0)
         s) else Stopped TurnsOut s) ≡ (if b then called library body comp target args s else Stopped TurnsOut s)
     by true = refl
     by false = refl
@@ -239,7 +228,7 @@ module _ (library : Library) (body : Body) (goes : BodyGoes body) where
 
   pub run_step_goes : LibraryGoes library → BodyGoes (run_step library body)
   run_step_goes h number here s =
-      known (function library here.comp number) (h here.comp number) where
+      known (function library _ number) (h _ number) where
         known : (f : Option Function) → ((g : Function) → f ≡ Some g → FunctionGoes g) →
             Gone s (and_then (found f s) (λ f s. f.does (calls library body) here s))
         known None h = no_turn s
@@ -248,21 +237,20 @@ module _ (library : Library) (body : Body) (goes : BodyGoes body) where
   pub acts_go : (action : Action) (next again : State → Piece (Option Value)) → Goes next → Goes again → (comp : ℕ) →
       Goes (acts library body action next again comp)
   acts_go (act.Call to index args) next again h k comp s =
-      then_goes s (asks library body comp (Cross to index) (map (λ w. Word w) args) s) _ (asks_go comp (Cross to index)
-      (map (λ w. Word w) args) s) (λ v. k)
-  acts_go (act.Ret v) next again h k comp s = stays (option_value v) s
+      then_goes s (asks library body comp (Cross to index) (map _ args) s) _ (asks_go comp (Cross to index)
+      (map _ args) s) (λ v. k)
+  acts_go (act.Ret v) next again h k comp s = stays _ s
   acts_go (act.Out w) next again h k comp s =
       then_goes s (asks library body comp Output (Word w ∷ []) s) _ (asks_go comp Output (Word w ∷ []) s) (λ v. h)
   acts_go (act.In w) next again h k comp s =
       then_goes s (asks library body comp Input [] s) _ (asks_go comp Input [] s) (λ v. h)
-  acts_go (act.End w) next again h k comp s = stays (Some (Word w)) s
+  acts_go (act.End w) next again h k comp s = stays _ s
 
   pub performs_go : (rows : List Row) → BodyGoes (performs library body rows)
   performs_go [] number here s = no_turn s
   performs_go (row ∷ rest) number here s =
-      if_goes s (is_number number (library.entered here.comp row.entry))
-      _ _ (acts_go row.action (performs library body rest number here) (body number here) (performs_go rest number here)
-      (goes number here) here.comp s) (no_turn s)
+      if_goes s (is_number number _) _ _ (acts_go _ _ _ (performs_go rest number here)
+      (goes number here) _ s) (no_turn s)
 
 -- functions in which calls go on only go on
 abbrev pub StepGoes : Step → Type 0
@@ -271,13 +259,13 @@ StepGoes step = (body : Body) → BodyGoes body → BodyGoes (step body)
 pub scripted_goes : (library : Library) (roles : Roles) (step : Step) → StepGoes step →
     StepGoes (scripted_step library roles step)
 scripted_goes library roles step h body goes number here s =
-    by_role (roles.scripted here.comp) where
+    by_role _ where
       by_role : (b : Bool) →
           Gone s (if b then performs library body (rows_left roles here.comp s.trace) number here s else step body
           number here s)
-      by_role true = performs_go library body goes (rows_left roles here.comp s.trace) number here s
+      by_role true = performs_go library body goes _ number here s
       by_role false = h body goes number here s
 
 pub within_goes : (step : Step) → StepGoes step → (n : ℕ) → BodyGoes (within step n)
 within_goes step h zero number here s = no_turn s
-within_goes step h (suc n) number here s = h (within step n) (within_goes step h n) number here s
+within_goes step h (suc n) number here s = h _ (within_goes step h n) number here s

@@ -35,15 +35,12 @@ take_grown (Out exit) s f g h a t up = refl
 
 pub follow_grown : {A : Type 0} (route : Exit → Route) (s : State) (o : Piece (Left A)) (f g : Does A) → Gone s o →
     ((a : A) (t : State) → Grown s t → f a t ≡ g a t) → follow route o f ≡ follow route o g
-follow_grown route s o f g gone h =
-    then_same s o gone (λ left t. take (route left.exit) f left.carried t)
-    (λ left t. take (route left.exit) g left.carried t)
-    (λ left t up. take_grown (route left.exit) s f g h left.carried t up)
+follow_grown route s o f g gone h = then_same s o gone _ _ (λ left t up. take_grown _ s f g h _ t up)
 
 pub turn_same : {W : Type 0} (m : ℕ) (s : State) (k l : State → Piece W) → m ≡ s.turns →
     ((t : State) → t.turns < s.turns → k t ≡ l t) → and_then (turn_of m s) (λ _. k) ≡ and_then (turn_of m s) (λ _. l)
 turn_same zero s k l is h = refl
-turn_same (suc m) s k l is h = h (record s { turns = m }) (omega (arith, is))
+turn_same (suc m) s k l is h = h _ (omega (arith, is))
 
 then_reached : {V : Type 0} (o : Piece V) → o ≡ and_then o (λ v s. Reached v s)
 then_reached (Reached v s) = refl
@@ -55,23 +52,22 @@ pub played_bind : {V W : Type 0} (tree : Interaction V) (next : V → Interactio
 played_bind (Gives v) next by here s = refl
 played_bind (Blames cause line) next by here s = refl
 played_bind (Reads go) next by here s = played_bind (go (s.memory here.comp)) next by here s
-played_bind (Stores blocks go) next by here s = played_bind go next by here (with_memory here.comp blocks s)
+played_bind (Stores blocks go) next by here s = played_bind go next by here _
 played_bind (Spends go) next by here s =
     (λ i. and_then (turn s) (λ _ t. played_bind go next by here t i))
-    ∙ sym (then_then (turn s) (λ _ t. played go by here t) (λ v t. played (next v) by here t))
+    ∙ sym (then_then (turn s) (λ _ t. played go by here t) _)
 played_bind (Asks target args go) next by here s =
     (λ i. and_then (by here.comp target args s) (λ v t. played_bind (go v) next by here t i))
-    ∙ sym (then_then (by here.comp target args s) (λ v t. played (go v) by here t) (λ v t. played (next v) by here t))
+    ∙ sym (then_then (by _ target args s) (λ v t. played (go v) by here t) (λ v t. played (next v) by here t))
 played_bind Halts next by here s = refl
 
 pub played_goes : {V : Type 0} (tree : Interaction V) (by : Calls) (here : Here) → GoFrom here.comp by →
     Goes (played tree by here)
 played_goes (Gives v) by here go s = stays v s
 played_goes (Blames cause line) by here go s = record { grown = same s; stop = tt }
-played_goes (Reads next) by here go s = played_goes (next (s.memory here.comp)) by here go s
+played_goes (Reads next) by here go s = played_goes (next (s.memory _)) by here go s
 played_goes (Stores blocks next) by here go s =
-    earlier s (with_memory here.comp blocks s) (played next by here (with_memory here.comp blocks s)) (unseen s)
-    (played_goes next by here go (with_memory here.comp blocks s)) where
+    earlier s (with_memory _ blocks s) (played next by here _) (unseen s) (played_goes next by here go _) where
       unseen : (s : State) → Grown s (with_memory here.comp blocks s)
       unseen s =
           record { events = (same s).events; frames = (same s).frames; late = (same s).late; turns = (same s).turns }
@@ -88,10 +84,10 @@ lasts_most n zero tree le h = tt
 lasts_most zero (suc m) tree le h = absurd (omega (arith, le))
 lasts_most (suc n) (suc m) (Gives v) le h = tt
 lasts_most (suc n) (suc m) (Blames cause line) le h = tt
-lasts_most (suc n) (suc m) (Reads go) le h = λ blocks. lasts_most (suc n) (suc m) (go blocks) le (h blocks)
-lasts_most (suc n) (suc m) (Stores blocks go) le h = lasts_most (suc n) (suc m) go le h
+lasts_most (suc n) (suc m) (Reads go) le h = λ blocks. lasts_most (suc n) _ (go blocks) le (h blocks)
+lasts_most (suc n) (suc m) (Stores blocks go) le h = lasts_most (suc n) _ go le h
 lasts_most (suc n) (suc m) (Spends go) le h = lasts_most n m go (omega (arith, le)) h
-lasts_most (suc n) (suc m) (Asks target args go) le h = λ v. lasts_most (suc n) (suc m) (go v) le (h v)
+lasts_most (suc n) (suc m) (Asks target args go) le h = λ v. lasts_most _ (suc m) (go v) le (h v)
 lasts_most (suc n) (suc m) Halts le h = absurd h
 
 pub lasts_bind : {V W : Type 0} (n : ℕ) (tree : Interaction V) (next : V → Interaction W) → Lasts n tree →
@@ -132,9 +128,7 @@ module _ {A : Type 0} (here : Here) where
 
   lasts_trail : (n : ℕ) (route : Exit → Route) (tree : Interaction (Left A)) (go : A → Interaction (Left A)) →
       Lasts n tree → ((a : A) → Lasts n (go a)) → Lasts n (trail route tree go)
-  lasts_trail n route tree go h k =
-      lasts_bind n tree (λ left. on_route (route left.exit) go left.carried) h (λ left. lasts_route n (route left.exit)
-      go k left.carried)
+  lasts_trail n route tree go h k = lasts_bind n tree _ h (λ left. lasts_route n _ go k _)
 
   module _ (by : Calls) (goes : GoFrom here.comp by) where
     take_same : (route : Route) (s : State) (f : Does A) (g : A → Interaction (Left A)) →
@@ -148,19 +142,16 @@ module _ {A : Type 0} (here : Here) where
         ((a : A) (t : State) → Grown s t → f a t ≡ played (g a) by here t) →
         follow route o f ≡ played (trail route tree g) by here s
     follow_same route s o tree f g is h =
-        ap (λ x. follow route x f) is
-        ∙ then_same s (played tree by here s) (played_goes tree by here goes s)
-        (λ left t. take (route left.exit) f left.carried t)
-        (λ left t. played (on_route (route left.exit) g left.carried) by here t)
-        (λ left t up. take_same (route left.exit) s f g h left.carried t up)
-        ∙ sym (played_bind tree (λ left. on_route (route left.exit) g left.carried) by here s)
+        ap (λ x. follow route x f) is ∙ then_same s (played tree by here s) (played_goes tree by here goes s)
+        (λ left t. take _ f _ t) (λ left t. played (on_route _ g _) by here t)
+        (λ left t up. take_same _ s f g h _ t up) ∙ sym (played_bind tree _ by here s)
 
 -- PLAYS
 pub plays_reached : {V : Type 0} (here : Here) (v : V) → Plays here (λ by. Reached v) (λ n. Gives v)
 plays_reached here v = record { lasts = lasts; is = λ n by goes s few. refl } where
   lasts : (n : ℕ) → Lasts n (Gives v)
   lasts zero = tt
-  lasts (suc n) = tt
+  lasts _ = tt
 
 pub plays_then : {V W : Type 0} (here : Here) (f : Doing V) (k : V → Doing W) (tree : ℕ → Interaction V) (next : V → ℕ →
     Interaction W) → Plays here f tree → ((v : V) → Plays here (k v) (next v)) →
@@ -185,7 +176,7 @@ plays_computed {V} here line e =
     record { lasts = lasts; is = λ n by goes s few. is (e (s.memory here.comp)) by s } where
       lasts_result : (n : ℕ) (r : Result V Cause) → Lasts n (of_result line r)
       lasts_result zero r = tt
-      lasts_result (suc n) (Ok v) = tt
+      lasts_result _ (Ok v) = tt
       lasts_result (suc n) (Err cause) = tt
 
       lasts : (n : ℕ) → Lasts n (Reads (λ blocks. of_result line (e blocks)))
@@ -201,15 +192,15 @@ pub plays_stored : {V : Type 0} (here : Here) (v : V) (blocks : Blocks) →
 plays_stored {V} here v blocks = record { lasts = lasts; is = λ n by goes s few. refl } where
   lasts : (n : ℕ) → Lasts n (Stores blocks (Gives v))
   lasts zero = tt
-  lasts (suc n) = tt
+  lasts _ = tt
 
 pub plays_call : (here : Here) (target : CallTarget) (args : List Value) →
     Plays here (λ by. by here.comp target args) (λ n. Asks target args (λ v. Gives v))
 plays_call here target args =
-    record { lasts = lasts; is = λ n by goes s few. then_reached (by here.comp target args s) } where
+    record { lasts = lasts; is = λ n by goes s few. then_reached _ } where
       lasts : (n : ℕ) → Lasts n (Asks target args (λ v. Gives v))
       lasts zero = tt
-      lasts (suc n) = λ v. tt
+      lasts _ = λ v. tt
 
 -- doings with what a run carries
 abbrev pub DoingWith : Type 0 → Type 0
@@ -222,15 +213,12 @@ module _ {A : Type 0} (here : Here) where
   plays_take : (route : Route) (f : DoingWith A) (tree : A → ℕ → Interaction (Left A)) → PlaysWith f tree →
       PlaysWith (λ by. take route (f by)) (λ a n. on_route route (λ a. tree a n) a)
   plays_take On f tree h a = h a
-  plays_take (Out exit) f tree h a = plays_reached here (record { exit = exit; carried = a })
+  plays_take (Out exit) f tree h a = plays_reached here _
 
   pub plays_follow : (route : Exit → Route) (f : Doing (Left A)) (k : DoingWith A) (tree : ℕ → Interaction (Left A))
       (next : A → ℕ → Interaction (Left A)) → Plays here f tree → PlaysWith k next →
       Plays here (λ by s. follow route (f by s) (k by)) (λ n. trail route (tree n) (λ a. next a n))
-  plays_follow route f k tree next h x =
-      plays_then here f (λ left by t. take (route left.exit) (k by) left.carried t) tree
-      (λ left n. on_route (route left.exit) (λ a. next a n) left.carried) h (λ left. plays_take (route left.exit) k next
-      x left.carried)
+  plays_follow route f k tree next h x = plays_then here f _ tree _ h (λ left. plays_take _ k next x _)
 
   module _ (f f2 f3 : DoingWith A) (head body next : A → ℕ → Interaction (Left A)) (h : PlaysWith f head)
       (b : PlaysWith f2 body) (x : PlaysWith f3 next) (most : ℕ) where
@@ -240,13 +228,10 @@ module _ {A : Type 0} (here : Here) where
     lasts_rounds : (n : ℕ) → n ≤ most → (a : A) → Lasts n (trees n a)
     lasts_rounds zero le a = tt
     lasts_rounds (suc n) le a =
-        let rest : (a : A) → Lasts n (trees n a) = lasts_rounds n (omega (arith, le)) in
-        lasts_trail here (suc n) in_loop (head a most) _ (lasts_most most (suc n) (head a most) le ((h a).lasts most))
-        (λ a.
-        lasts_trail here n in_loop (body a most) _ (lasts_most most n (body a most) (omega (arith, le))
-        ((b a).lasts most)) (λ a.
-        lasts_trail here n in_loop (next a most) _ (lasts_most most n (next a most) (omega (arith, le))
-        ((x a).lasts most)) rest))
+        let rest = lasts_rounds n (omega (arith, le)) in
+        lasts_trail here (suc n) in_loop (head a most) _ (lasts_most most _ (head a most) le ((h a).lasts most)) (λ a.
+        lasts_trail here n in_loop (body a most) _ (lasts_most most n _ (omega (arith, le)) ((b a).lasts most)) (λ a.
+        lasts_trail here n in_loop _ _ (lasts_most most n _ (omega (arith, le)) ((x a).lasts most)) rest))
 
     pub rounds_are : (by : Calls) → GoFrom here.comp by → (n m : ℕ) (a : A) (s : State) → s.turns < n → s.turns < m →
         s.turns < most → rounds n (f by) (f2 by) (f3 by) a s ≡ played (trees m a) by here s
@@ -254,11 +239,9 @@ module _ {A : Type 0} (here : Here) where
     rounds_are by goes (suc n) zero a s few few' small = absurd (omega (arith, few'))
     rounds_are by goes (suc n) (suc m) a s few few' small =
         follow_same here by goes in_loop s (f by a s) (head a most) _ _ ((h a).is most by goes s small) (λ a t up.
-        turn_same t.turns t (λ t. follow in_loop (f2 by a t) (λ a s. follow in_loop (f3 by a s)
-        (rounds n (f by) (f2 by) (f3 by))))
+        turn_same t.turns t (λ t. follow in_loop (f2 by a t) (λ a s. follow in_loop (f3 by a s) (rounds n (f by) _ _)))
         (λ t. played (trail in_loop (body a most) (λ a. trail in_loop (next a most) (trees m))) by here t) refl
-        (λ w less.
-        follow_same here by goes in_loop w (f2 by a w) (body a most) _ _ ((b a).is most by goes w
+        (λ w less. follow_same here by goes in_loop w (f2 by a w) (body a most) _ _ ((b a).is most by goes w
         (omega (arith, small, up.turns, less))) (λ a u up2.
         follow_same here by goes in_loop u (f3 by a u) (next a most) _ _ ((x a).is most by goes u
         (omega (arith, small, up.turns, less, up2.turns))) (λ a z up3.
@@ -302,7 +285,7 @@ module _ (Soft : Cause → Type 0) where
       subst (λ x. Alike Soft (of_result line r) (of_result line x)) (sym is) (itself r) where
         itself : (r : Result V Cause) → Alike Soft (of_result line r) (of_result line r)
         itself (Ok v) = refl
-        itself (Err cause) = inr refl
+        itself _ = inr refl
   alike_result {V} line r r' (blamed cause soft is) =
       subst (λ x. Alike Soft (of_result line x) (of_result line r')) (sym is) (inl soft)
 
@@ -315,10 +298,7 @@ module _ (Soft : Cause → Type 0) where
     alike_trail : (route : Exit → Route) (tree twin : Interaction (Left A)) (go go' : A → Interaction (Left A)) →
         Alike Soft tree twin → ((a : A) → Alike Soft (go a) (go' a)) →
         Alike Soft (trail route tree go) (trail route twin go')
-    alike_trail route tree twin go go' h k =
-        alike_bind tree twin (λ left. on_route (route left.exit) go left.carried)
-        (λ left. on_route (route left.exit) go' left.carried) h (λ left. alike_route (route left.exit) go go' k
-        left.carried)
+    alike_trail route tree twin go go' h k = alike_bind tree twin _ _ h (λ left. alike_route _ go go' k _)
 
     alike_rounds : (n : ℕ) (f g f2 g2 f3 g3 : A → Interaction (Left A)) → ((a : A) → Alike Soft (f a) (g a)) →
         ((a : A) → Alike Soft (f2 a) (g2 a)) → ((a : A) → Alike Soft (f3 a) (g3 a)) → (a : A) →
@@ -326,7 +306,7 @@ module _ (Soft : Cause → Type 0) where
     alike_rounds zero f g f2 g2 f3 g3 h b x a = refl
     alike_rounds (suc n) f g f2 g2 f3 g3 h b x a =
         alike_trail in_loop (f a) (g a) _ _ (h a) (λ a. (
-          (trail in_loop (g2 a) (λ a. trail in_loop (g3 a) (round_trees n g g2 g3))),
+          (trail in_loop (g2 a) _),
           refl,
           alike_trail in_loop (f2 a) (g2 a) _ _ (b a) (λ a.
               alike_trail in_loop (f3 a) (g3 a) _ _ (x a) (alike_rounds n f g f2 g2 f3 g3 h b x)),
@@ -360,16 +340,15 @@ module _ (Soft : Cause → Type 0) where
         Match Soft here (λ by s. computed here line (e (s.memory here.comp)) s)
         (λ by s. computed here line (e' (s.memory here.comp)) s)
     match_computed line e e' h = record {
-      tree = λ n. Reads (λ blocks. of_result line (e blocks));
-      twin = λ n. Reads (λ blocks. of_result line (e' blocks));
+      tree = λ n. Reads _;
+      twin = λ n. Reads _;
       first = plays_computed here line e;
       second = plays_computed here line e';
       alike =
           λ n. (
-            (λ blocks. of_result line (e' blocks)),
+            (λ blocks. of_result line _),
             refl,
-            λ blocks. alike_result line (e blocks) (e' blocks)
-                (h blocks),
+            λ blocks. alike_result line _ _ (h blocks),
           );
     }
 
@@ -377,8 +356,8 @@ module _ (Soft : Cause → Type 0) where
         Match Soft here (λ by s. Reached v (with_memory here.comp blocks s))
         (λ by s. Reached v (with_memory here.comp blocks s))
     match_stored v blocks = record {
-      tree = λ n. Stores blocks (Gives v);
-      twin = λ n. Stores blocks (Gives v);
+      tree = λ n. Stores blocks _;
+      twin = λ n. Stores blocks _;
       first = plays_stored here v blocks;
       second = plays_stored here v blocks;
       alike = λ n. (Gives v, refl, refl);
@@ -387,8 +366,8 @@ module _ (Soft : Cause → Type 0) where
     pub match_call : (target : CallTarget) (args : List Value) →
         Match Soft here (λ by. by here.comp target args) (λ by. by here.comp target args)
     match_call target args = record {
-      tree = λ n. Asks target args (λ v. Gives v);
-      twin = λ n. Asks target args (λ v. Gives v);
+      tree = λ n. Asks target args _;
+      twin = λ n. Asks target args _;
       first = plays_call here target args;
       second = plays_call here target args;
       alike = λ n. ((λ v. Gives v), refl, λ v. refl);
@@ -404,42 +383,39 @@ module _ (Soft : Cause → Type 0) where
       MatchWith f g = (a : A) → Match Soft here (λ by. f by a) (λ by. g by a)
 
       pub match_leave : (exit : Exit) → MatchWith (λ by. leave exit) (λ by. leave exit)
-      match_leave exit a = match_reached (record { exit = exit; carried = a })
+      match_leave exit a = match_reached _
 
       pub match_follow : (route : Exit → Route) (f g : Doing (Left A)) (k l : DoingWith A) → Match Soft here f g →
           MatchWith k l → Match Soft here (λ by s. follow route (f by s) (k by)) (λ by s. follow route (g by s) (l by))
       match_follow route f g k l h x = record {
-        tree = λ n. trail route (h.tree n) (λ a. (x a).tree n);
-        twin = λ n. trail route (h.twin n) (λ a. (x a).twin n);
-        first = plays_follow here route f k h.tree (λ a. (x a).tree) h.first (λ a. (x a).first);
-        second = plays_follow here route g l h.twin (λ a. (x a).twin) h.second (λ a. (x a).second);
-        alike = λ n. alike_trail route (h.tree n) (h.twin n) _ _ (h.alike n) (λ a. (x a).alike n);
+        tree = λ n. trail route _ (λ a. (x a).tree n);
+        twin = λ n. trail route _ (λ a. (x a).twin n);
+        first = plays_follow here route f k h.tree _ h.first (λ a. (x a).first);
+        second = plays_follow here route g l h.twin _ h.second (λ a. (x a).second);
+        alike = λ n. alike_trail route _ _ _ _ (h.alike n) (λ a. (x a).alike n);
       }
 
       -- a value at a place
       pub match_store : (q v : Value) (line : ℕ) → MatchWith (λ by. stored here q v line) (λ by. stored here q v line)
       match_store q v line a =
-          match_then _ _ (λ blocks by t. leave Next a (with_memory here.comp blocks t))
-          (λ blocks by t. leave Next a (with_memory here.comp blocks t))
+          match_then _ _ (λ blocks by t. leave Next a _) (λ blocks by t. leave Next a _)
           (match_computed line (λ blocks. store blocks q v) (λ blocks. store blocks q v) (λ blocks. alike refl))
-          (λ blocks. match_stored (record { exit = Next; carried = a }) blocks)
+          (λ blocks. match_stored _ blocks)
 
       -- what each of a list does, in order
       pub match_all : {X : Type 0} (f g : X → DoingWith A) (xs : List X) → Each (λ x. MatchWith (f x) (g x)) xs →
           MatchWith (λ by. all_do (map (λ x. f x by) xs)) (λ by. all_do (map (λ x. g x by) xs))
       match_all f g [] h a = match_leave Next a
       match_all f g (x ∷ xs) h a =
-          match_follow in_order (λ by. f x by a) (λ by. g x by a) (λ by. all_do (map (λ x. f x by) xs))
-          (λ by. all_do (map (λ x. g x by) xs)) (h.0 a) (match_all f g xs h.1)
+          match_follow in_order (λ by. f x by a) (λ by. g x by a) (λ by. all_do (map _ xs))
+          (λ by. all_do (map _ xs)) (h.0 a) (match_all f g xs h.1)
 
       pub match_loop : (f g f2 g2 f3 g3 : DoingWith A) → MatchWith f g → MatchWith f2 g2 → MatchWith f3 g3 →
           MatchWith (λ by. loop (f by) (f2 by) (f3 by)) (λ by. loop (g by) (g2 by) (g3 by))
       match_loop f g f2 g2 f3 g3 h b x a = record {
         tree = λ n. round_trees n (λ a. (h a).tree n) (λ a. (b a).tree n) (λ a. (x a).tree n) a;
         twin = λ n. round_trees n (λ a. (h a).twin n) (λ a. (b a).twin n) (λ a. (x a).twin n) a;
-        first = plays_loop here f f2 f3 (λ a. (h a).tree) (λ a. (b a).tree) (λ a. (x a).tree) (λ a. (h a).first)
-            (λ a. (b a).first) (λ a. (x a).first) a;
-        second = plays_loop here g g2 g3 (λ a. (h a).twin) (λ a. (b a).twin) (λ a. (x a).twin) (λ a. (h a).second)
-            (λ a. (b a).second) (λ a. (x a).second) a;
+        first = plays_loop here f f2 f3 _ _ _ (λ a. (h a).first) (λ a. (b a).first) (λ a. (x a).first) a;
+        second = plays_loop here g g2 g3 _ _ _ (λ a. (h a).second) (λ a. (b a).second) (λ a. (x a).second) a;
         alike = λ n. alike_rounds n _ _ _ _ _ _ (λ a. (h a).alike n) (λ a. (b a).alike n) (λ a. (x a).alike n) a;
       }

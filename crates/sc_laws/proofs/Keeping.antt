@@ -6,7 +6,7 @@ use Rattle.sc_laws.proofs.Common.{Result, Some, State, Stopped, Value, and_then,
 use Rattle.sc_laws.proofs.Common.{subst, suc, sym, turn, turn_of, with_blocks, zero, ℕ, ◌<◌, ◌≡◌}
 use Rattle.sc_laws.proofs.Growing.{CallsGo}
 use Rattle.sc_laws.proofs.Twins.{Kept as RelationKept, KeptAt}
-use Rattle.sc_laws.proofs.Libraries.{FunctionTwins, LibraryTwins}
+use Rattle.sc_laws.proofs.Libraries.{FunctionTwins}
 use Rattle.sc_laws.proofs.Matching.{library_twins}
 
 -- what is to be shown of a property, for the functions of a compartment
@@ -38,7 +38,7 @@ module _ (K : Property) where
   turn_kept : (W : Type 0) (k : Unit {0} → State → Piece W) (s : State) (m : ℕ) → m ≡ s.turns → Kept K (turn_of m s) →
       ((t : State) → t.turns < s.turns → K.Goes t → Kept K (k tt t)) → Kept K (and_then (turn_of m s) k)
   turn_kept W k s zero is h n = record { after = h.after }
-  turn_kept W k s (suc m) is h n = n (record s { turns = m }) (omega (arith, is)) h.after
+  turn_kept W k s (suc m) is h n = n _ (omega (arith, is)) h.after
 
   module _ (here : Here) (kept : IsKept K here) where
     one_kept : RelationKept One Pieces
@@ -59,13 +59,12 @@ module _ (K : Property) where
 
     one_at : (at : Here) → IsKept K at → KeptAt One Pieces Never at
     one_at at is = record {
-      computing = λ V line e e' h s t one. computed_kept V at is line (e (s.memory at.comp)) s one.goes;
+      computing = λ V line e e' h s t one. computed_kept V at is line _ s one.goes;
       passed = λ V cause line soft s t one p g. absurd soft;
       stored =
           λ blocks s t one. record {
             goes = is.memory s blocks one.goes;
-            is = ap {A = State} {B = State}
-                (λ z. record z { memory = with_blocks at.comp blocks z.memory }) one.is;
+            is = ap {B = State} (λ z. record z { memory = with_blocks at.comp blocks z.memory }) one.is;
           };
     }
 
@@ -78,21 +77,18 @@ module _ (K : Property) where
     keeps_here (Some f) None meets h is by goes keeps s at = absurd meets
     keeps_here (Some f) (Some g) meets h is by goes keeps s at =
         let equal : f ≡ h = cc in
-        subst {A = Function} (λ x. Kept K (x.does by here s)) equal
-        ((meets.does by by here kept (λ target args. record {
-          first = goes here.comp target args;
-          second = goes here.comp target args;
+        subst (λ x. Kept K (x.does by here s)) equal ((meets.does by by here kept (λ target args. record {
+          first = goes _ target args;
+          second = goes _ target args;
           both = λ s t one. keeps target args s one.goes;
-        })).both s s
-        (record { goes = at; is = refl }))
+        })).both s s (record { goes = at; is = refl }))
 
 -- a function of a library keeps what its calls keep
 pub function_keeps : (library : Library) → Obedient library → (comp number : ℕ) (f : Function) →
     function library comp number ≡ Some f → (K : Property) (here : Here) → IsKept K here → (by : Calls) → CallsGo by →
     CallsKeep K here.comp by → (s : State) → K.Goes s → Kept K (f.does by here s)
 function_keeps library obedient comp number f is K here kept by goes keeps s at =
-    let twins : LibraryTwins (One K) (Pieces K) (IsKept K) library library =
+    let twins =
     library_twins Never (One K) (Pieces K) (IsKept K) (one_kept K here kept) (one_at K here kept) library library
     obedient in
-    keeps_here K here kept (function library comp number) (function library comp number) (twins.functions comp number) f
-    is by goes keeps s at
+    keeps_here K here kept _ (function library comp number) (twins.functions comp number) f is by goes keeps s at

@@ -5,10 +5,10 @@ use Rattle.sc_laws.proofs.Common.{Obedient, Option, Out, Output, Own, Piece, Pro
 use Rattle.sc_laws.proofs.Common.{RunEnd, Scalar, Some, Standing, State, Step, Stopped, TurnsOut, Value, Word, [], acts}
 use Rattle.sc_laws.proofs.Common.{and_from, and_parts, and_then, ap, asks, at_start, awaits, back_cross, back_own}
 use Rattle.sc_laws.proofs.Common.{begun, call_cross, call_own, called, calls, crossed, crossing, done, eq-eqb}
-use Rattle.sc_laws.proofs.Common.{exit_word, export_at, false, first_state, first_word, fits_result, found, found_kept}
+use Rattle.sc_laws.proofs.Common.{export_at, false, first_state, fits_result, found, found_kept}
 use Rattle.sc_laws.proofs.Common.{function, if◌then◌else◌, imports, is_allowed, is_function, is_input, is_legal_from}
 use Rattle.sc_laws.proofs.Common.{is_number, is_output, legal, length, length-map, library_run, map, may_call}
-use Rattle.sc_laws.proofs.Common.{may_perform, may_return, next_input, option_map_or, performer, performs, refl}
+use Rattle.sc_laws.proofs.Common.{may_perform, may_return, option_map_or, performer, performs, refl}
 use Rattle.sc_laws.proofs.Common.{roles_run, rows_left, run_by, run_in, run_step, run_to, scripted_step, stands_after}
 use Rattle.sc_laws.proofs.Common.{stands_behind, stopped_at, subst, suc, sym, take, takes, tell, then_kept, true, turn}
 use Rattle.sc_laws.proofs.Common.{turn_of, within, word_back, word_in, zero, ℕ, ◌&&◌, ◌++◌, ◌==◌, ◌∙◌, ◌∷◌, ◌≡◌}
@@ -23,23 +23,19 @@ module _ (interfaces : Interfaces) where
       stands_behind at (t ++ e ∷ []) ≡ stands_after st e
   behind_more at [] st e h = ap (λ x. stands_behind x (e ∷ [])) h
   behind_more None (x ∷ t) st e h = cc h
-  behind_more (Some a) (x ∷ t) st e h = behind_more (stands_after a x) t st e h
+  behind_more (Some a) (x ∷ t) st e h = behind_more _ t st e h
 
   legal_more : (at : Option Standing) (t : List Event) (st : Standing) (e : Event) → stands_behind at t ≡ Some st →
       is_legal_from interfaces at t ≡ true → is_allowed interfaces st e ≡ true →
       is_legal_from interfaces at (t ++ e ∷ []) ≡ true
-  legal_more at [] st e h l may = ap (λ x. is_legal_from interfaces x (e ∷ [])) h
-      ∙ and_from (is_allowed interfaces st e) true may refl
+  legal_more at [] st e h l may = ap (λ x. is_legal_from interfaces x (e ∷ [])) h ∙ and_from _ true may refl
   legal_more None (x ∷ t) st e h l may = cc l
   legal_more (Some a) (x ∷ t) st e h l may =
-      more (and_parts (is_allowed interfaces a x) (is_legal_from interfaces (stands_after a x) t) l)
-      (λ k. legal_more (stands_after a x) t st e h k may) where
+      more (and_parts _ _ l) (λ k. legal_more _ t st e h k may) where
         more : (is_allowed interfaces a x ≡ true) × (is_legal_from interfaces (stands_after a x) t ≡ true) →
             (is_legal_from interfaces (stands_after a x) t ≡ true → is_legal_from interfaces (stands_after a x)
             (t ++ e ∷ []) ≡ true) → is_legal_from interfaces (Some a) (x ∷ t ++ e ∷ []) ≡ true
-        more p rest = and_from (is_allowed interfaces a x) (is_legal_from interfaces (stands_after a x) (t ++ e ∷ []))
-            p.0
-            (rest p.1)
+        more p rest = and_from _ _ p.0 (rest p.1)
 
   legal_take : (n : ℕ) (at : Option Standing) (t : List Event) → is_legal_from interfaces at t ≡ true →
       is_legal_from interfaces at (take n t) ≡ true
@@ -47,14 +43,11 @@ module _ (interfaces : Interfaces) where
   legal_take (suc n) at [] l = refl
   legal_take (suc n) None (x ∷ t) l = cc l
   legal_take (suc n) (Some a) (x ∷ t) l =
-      first (and_parts (is_allowed interfaces a x) (is_legal_from interfaces (stands_after a x) t) l)
-      (λ k. legal_take n (stands_after a x) t k) where
+      first (and_parts _ _ l) (λ k. legal_take n _ t k) where
         first : (is_allowed interfaces a x ≡ true) × (is_legal_from interfaces (stands_after a x) t ≡ true) →
             (is_legal_from interfaces (stands_after a x) t ≡ true → is_legal_from interfaces (stands_after a x)
-            (take n t)
-            ≡ true) → is_legal_from interfaces (Some a) (x ∷ take n t) ≡ true
-        first p rest = and_from (is_allowed interfaces a x) (is_legal_from interfaces (stands_after a x) (take n t)) p.0
-            (rest p.1)
+            (take n t) ≡ true) → is_legal_from interfaces (Some a) (x ∷ take n t) ≡ true
+        first p rest = and_from _ _ p.0 (rest p.1)
 
   -- where a legal trace stands
   pub record IsAt (t : List Event) (st : Standing) : Type 0 where
@@ -65,8 +58,8 @@ module _ (interfaces : Interfaces) where
       stands_after st e ≡ Some next → IsAt (t ++ e ∷ []) next
   told_at t st next e h may then_at =
       record {
-        stands = behind_more (at_start interfaces.main) t st e h.stands ∙ then_at;
-        is_legal = legal_more (at_start interfaces.main) t st e h.stands h.is_legal may;
+        stands = behind_more _ t st e h.stands ∙ then_at;
+        is_legal = legal_more _ t st e h.stands h.is_legal may;
       }
 
   -- the run stands here, after a legal trace
@@ -105,7 +98,7 @@ module _ (interfaces : Interfaces) where
       option_map_or (λ found. length found.params == count) o false ≡ true →
       option_map_or (λ found. fits_result found.result (crossing o v)) o false ≡ true
   back_fits None count v h = cc h
-  back_fits (Some proto) count v h = fits_back proto.result v
+  back_fits (Some proto) count v h = fits_back _ v
 
   module _ (library : Library) (same : library.interfaces ≡ interfaces) (body : Body)
       (legal_body : BodyLegal body) where
@@ -116,13 +109,10 @@ module _ (interfaces : Interfaces) where
         → (s : State) → IsAt s.trace inner → Kept (standing outer) (run_in library body comp number args back s)
     run_at inner outer comp number args back is b s h =
         found_kept (standing outer) (function library comp number) s (λ f s.
-        and_then (body number (record { comp = comp; first = length (s.memory comp) }) (begun comp f args s)) (λ v t.
-        back v (done comp f (length (s.memory comp)) t))) (h.is_legal, tt) (λ f found_f.
-        then_at inner outer (body number (record { comp = comp; first = length (s.memory comp) }) (begun comp f args s))
-        (λ v t.
-        back v (done comp f (length (s.memory comp)) t))
-        (legal_body number (record { comp = comp; first = length (s.memory comp) }) (begun comp f args s) inner is h)
-        (λ v t g. b v (done comp f (length (s.memory comp)) t) g))
+        and_then (body number _ (begun comp f args s)) _) (h.is_legal, tt) (λ f found_f.
+        then_at inner outer (body number _ _) (λ v t. back v (done comp f _ t))
+        (legal_body number (record { comp = comp; first = length _ }) (begun comp f args s) inner is h)
+        (λ v t g. b v _ g))
 
     pub own_at : (st : Standing) (comp number : ℕ) (args : List Value) (s : State) → comp ≡ st.active.comp →
         IsAt s.trace st → Kept (standing st) (call_own library body comp number args s)
@@ -136,8 +126,7 @@ module _ (interfaces : Interfaces) where
         (imports interfaces from (is_function to index) && takes interfaces to index (length args)) ≡ true →
         is_allowed interfaces st (Call from to index (map word_in args)) ≡ true
     call_is_allowed st from to index args is may =
-        and_from (from == st.active.comp) (imports interfaces from (is_function to index) && takes interfaces to index
-        (length (map word_in args))) (eq-eqb from st.active.comp is)
+        and_from (from == st.active.comp) (imports interfaces from _ && takes interfaces to index _) (eq-eqb from _ is)
         (ap (λ n. imports interfaces from (is_function to index) && takes interfaces to index n) (length-map _ _) ∙ may)
 
     back_is_allowed : (st : Standing) (from to index : ℕ) (args : List Value) (v : Option Value) →
@@ -145,9 +134,9 @@ module _ (interfaces : Interfaces) where
         is_allowed interfaces (entered_at st to index) (Ret to from (crossing (export_at interfaces to index) v)) ≡ true
     back_is_allowed st from to index args v is may =
         and_from (to == to) (awaits (st.active ∷ st.waiting) from && may_return interfaces to (Export index)
-        (crossing (export_at interfaces to index) v)) (eq-eqb to to refl) (and_from (st.active.comp == from)
-        (may_return interfaces to (Export index) (crossing (export_at interfaces to index) v))
-        (eq-eqb st.active.comp from (sym is)) (back_fits (export_at interfaces to index) (length args) v may))
+        (crossing _ v)) (eq-eqb to to refl) (and_from (st.active.comp == from)
+        (may_return interfaces to (Export index) (crossing _ v))
+        (eq-eqb _ from (sym is)) (back_fits (export_at interfaces to index) (length args) v may))
 
     cross_at : (st : Standing) (from to index : ℕ) (args : List Value) (s : State) → from ≡ st.active.comp
         → (imports interfaces from (is_function to index) && takes interfaces to index (length args)) ≡ true
@@ -158,24 +147,18 @@ module _ (interfaces : Interfaces) where
         (tell (Call from to index (map word_in args)) s)))) (sym same)
         (found_kept (standing st) (library.entered to (Export index)) s (λ number s.
         run_in library body to number (crossed args) (back_cross interfaces from to index)
-        (tell (Call from to index (map word_in args)) s))
-        (h.is_legal, tt) (λ number found_number.
+        (tell (Call from to index (map word_in args)) s)) (h.is_legal, tt) (λ number found_number.
         run_at (entered_at st to index) st to number (crossed args) (back_cross interfaces from to index) refl
         (λ v s h. record {
-          after = told_at s.trace (entered_at st to index) st (Ret to from (crossing (export_at interfaces to index) v))
-              h
-              (back_is_allowed st from to index args v is (and_parts (imports interfaces from (is_function to index))
-              (takes interfaces to index (length args)) may).1) refl;
-        })
-        (tell (Call from to index (map word_in args)) s)
+          after = told_at s.trace (entered_at st to index) st (Ret to from _) h
+              (back_is_allowed st from to index args v is (and_parts _ _ may).1) refl;
+        }) (tell (Call from to index (map word_in args)) s)
         (told_at s.trace st (entered_at st to index) (Call from to index (map word_in args)) h
         (call_is_allowed st from to index args is may) refl)))
 
     environment_at : (st : Standing) (from : ℕ) (e : Event) (s : State) → performer e ≡ st.active.comp →
         may_perform interfaces st e ≡ true → stands_after st e ≡ Some st → IsAt s.trace st → IsAt (s.trace ++ e ∷ []) st
-    environment_at st from e s is may stays h =
-        told_at s.trace st st e h (and_from (performer e == st.active.comp) (may_perform interfaces st e)
-        (eq-eqb (performer e) st.active.comp is) may) stays
+    environment_at st from e s is may stays h = told_at s.trace st st e h (and_from _ _ (eq-eqb _ _ is) may) stays
 
     -- what the interfaces say of a call that may be made
     abbrev Allowed : ℕ → CallTarget → List Value → Type 0
@@ -189,32 +172,31 @@ module _ (interfaces : Interfaces) where
         Allowed from target args
     allowed from (Own number) args may = tt
     allowed from (Cross to index) args may =
-        let first = and_parts (imports library.interfaces from (is_function to index)) _ may in
-        let second = and_parts (takes library.interfaces to index (length args)) _ first.1 in
-        and_from (imports interfaces from (is_function to index)) (takes interfaces to index (length args))
+        let first = and_parts (imports library.interfaces from _) _ may in
+        let second = and_parts (takes library.interfaces to index _) _ first.1 in
+        and_from (imports interfaces from _) (takes interfaces to index _)
         (ap (λ i. imports i from (is_function to index)) (sym same) ∙ first.0) (ap (λ i. takes i to index (length args))
         (sym same) ∙ second.0)
     allowed from Input args may = ap (λ i. imports i from is_input) (sym same) ∙ may
-    allowed from Output args may =
-        ap (λ i. imports i from is_output) (sym same) ∙ (and_parts (imports library.interfaces from is_output) _ may).0
+    allowed from Output args may = ap (λ i. imports i from is_output) (sym same) ∙ (and_parts _ _ may).0
 
     called_at : (st : Standing) (from : ℕ) (target : CallTarget) (args : List Value) (s : State) →
         from ≡ st.active.comp → Allowed from target args → IsAt s.trace st →
         Kept (standing st) (called library body from target args s)
     called_at st from (Own number) args s is may h =
-        then_kept (standing st) (turn s) (λ _ s. call_own library body from number args s) (turned_at st s.turns s h)
+        then_kept _ (turn s) (λ _ s. call_own library body from number args s) (turned_at st s.turns s h)
         (λ _ s h. own_at st from number args s is h)
     called_at st from (Cross to index) args s is may h =
-        then_kept (standing st) (turn s) (λ _ s. call_cross library body from to index args s)
+        then_kept _ (turn s) (λ _ s. call_cross library body from to index args s)
         (turned_at st s.turns s h) (λ _ s h. cross_at st from to index args s is may h)
     called_at st from Input args s is may h =
-        record { after = environment_at st from (In from (next_input s.inputs)) s is may refl h }
+        record { after = environment_at st from _ s is may refl h }
     called_at st from Output args s is may h =
-        record { after = environment_at st from (Out from (first_word args)) s is may refl h }
+        record { after = environment_at st from _ s is may refl h }
 
     pub calls_at : (st : Standing) (from : ℕ) (target : CallTarget) (args : List Value) (s : State) →
         from ≡ st.active.comp → IsAt s.trace st → Kept (standing st) (calls library body from target args s)
-    calls_at st from target args s is h = by_test (may_call library from target args) refl where
+    calls_at st from target args s is h = by_test _ refl where
       by_test : (b : Bool) → may_call library from target args ≡ b →
           Kept (standing st) (if b then called library body from target args s else Stopped (Blamed from BadType 0) s)
       by_test true may = called_at st from target args s is (allowed from target args may) h
@@ -222,7 +204,7 @@ module _ (interfaces : Interfaces) where
 
     asks_at : (st : Standing) (comp : ℕ) (target : CallTarget) (args : List Value) (s : State) → comp ≡ st.active.comp →
         IsAt s.trace st → Kept (standing st) (asks library body comp target args s)
-    asks_at st comp target args s is h = by_test (may_call library comp target args) where
+    asks_at st comp target args s is h = by_test _ where
       by_test : (b : Bool) →
           Kept (standing st) (if b then calls library body comp target args s else Stopped TurnsOut s)
       by_test true = calls_at st comp target args s is h
@@ -235,7 +217,7 @@ module _ (interfaces : Interfaces) where
     pub run_step_legal : StepLegal (run_step library)
     run_step_legal body goes legal_body number here s st is h =
         found_kept (standing st) (function library here.comp number) s (λ f s. f.does (calls library body) here s)
-        (h.is_legal, tt) (λ f found_f. function_keeps library obedient here.comp number f found_f (standing st) here
+        (h.is_legal, tt) (λ f found_f. function_keeps library obedient here.comp number f found_f _ here
         (is_kept st here) (calls library body) (calls_go library body goes) (λ target args s h. calls_at library same
         body legal_body st here.comp target args s is h) s h)
 
@@ -272,18 +254,17 @@ module _ (interfaces : Interfaces) where
           by_test false next = record { after = (h.is_legal, tt) }
 
     pub scripted_legal : (roles : Roles) → StepLegal (scripted_step library roles (run_step library))
-    scripted_legal roles body goes legal_body number here s st is h = by_role (roles.scripted here.comp) where
+    scripted_legal roles body goes legal_body number here s st is h = by_role _ where
       by_role : (b : Bool) →
           Kept (standing st) (if b then performs library body (rows_left roles here.comp s.trace) number here
           s else run_step library body number here s)
-      by_role true = performs_legal body legal_body (rows_left roles here.comp s.trace) number here s st is h
+      by_role true = performs_legal body legal_body _ number here s st is h
       by_role false = run_step_legal body goes legal_body number here s st is h
 
     within_legal : (step : Step) → StepGoes step → StepLegal step → (n : ℕ) → BodyLegal (within step n)
     within_legal step step_goes legal_step zero number here s st is h = record { after = (h.is_legal, tt) }
     within_legal step step_goes legal_step (suc n) number here s st is h =
-        legal_step (within step n) (within_goes step step_goes n) (within_legal step step_goes legal_step n) number here
-        s st is h
+        legal_step _ (within_goes step step_goes n) (within_legal step step_goes legal_step n) number here s st is h
 
     abbrev begins : Standing
     begins = record { active = record { comp = interfaces.main; entry = Main }; waiting = [] }
@@ -291,9 +272,7 @@ module _ (interfaces : Interfaces) where
     piece_legal : (piece : Piece (Option Value)) → Kept (standing begins) piece →
         legal interfaces (run_to interfaces.main piece).behaviour.trace ≡ true
     piece_legal (Reached v s) h =
-        legal_more (at_start interfaces.main) s.trace begins (End interfaces.main (exit_word v)) h.after.stands
-        h.after.is_legal (and_from (interfaces.main == interfaces.main) true (eq-eqb interfaces.main interfaces.main
-        refl) refl)
+        legal_more _ s.trace begins _ h.after.stands h.after.is_legal (and_from _ true (eq-eqb _ _ refl) refl)
     piece_legal (Stopped end s) h = h.after.0
 
     run_legal : (step : Step) → StepGoes step → StepLegal step → (globals : Memory) (inputs : List ℕ) (turns : ℕ) →
@@ -302,30 +281,29 @@ module _ (interfaces : Interfaces) where
         subst (λ c. legal interfaces
         (run_to c.main (and_then (found (library.entered c.main Main) (first_state globals inputs turns))
         (λ number s. call_own library (within step (suc turns)) c.main number [] s))).behaviour.trace ≡ true) (sym same)
-        (piece_legal (and_then (found (library.entered interfaces.main Main) (first_state globals inputs turns))
+        (piece_legal (and_then (found (library.entered interfaces.main Main) _)
         (λ number s. call_own library (within step (suc turns)) interfaces.main number [] s))
-        (found_kept (standing begins) (library.entered interfaces.main Main) (first_state globals inputs turns)
+        (found_kept _ (library.entered interfaces.main Main) (first_state globals inputs turns)
         (λ number s. call_own library (within step (suc turns)) interfaces.main number [] s) (refl, tt)
-        (λ number found_number. own_at library same (within step (suc turns)) (within_legal step step_goes legal_step
-        (suc turns)) begins interfaces.main number [] (first_state globals inputs turns) refl
+        (λ number found_number. own_at library same _ (within_legal step step_goes legal_step
+        (suc turns)) begins _ number [] (first_state globals inputs turns) refl
         (record { stands = refl; is_legal = refl }))))
 
 stopped_legal : (interfaces : Interfaces) (n : ℕ) (t : List Event) (end : RunEnd) → legal interfaces t ≡ true →
     legal interfaces (stopped_at n (record { trace = t; end = end })).trace ≡ true
-stopped_legal interfaces n t end h = ap (legal interfaces) (trace_is n (record { trace = t; end = end }))
-    ∙ legal_take interfaces n (at_start interfaces.main) t h
+stopped_legal interfaces n t end h = ap (legal _) (trace_is n _) ∙ legal_take interfaces n _ t h
 
 module _ (library : Library) (obedient : Obedient library) (globals : Memory) (inputs : List ℕ) (turns events : ℕ) where
   pub runs_legal : legal library.interfaces (stopped_at events
       (library_run library globals inputs turns).behaviour).trace
       ≡ true
   runs_legal =
-      stopped_legal library.interfaces events _ _ (run_legal library.interfaces library refl obedient (run_step library)
-      (run_goes_on library obedient) (run_step_legal library.interfaces library refl obedient) globals inputs turns)
+      stopped_legal _ events _ _ (run_legal _ library refl obedient (run_step library)
+      (run_goes_on library obedient) (run_step_legal _ library refl obedient) globals inputs turns)
 
   pub scripts_legal : (roles : Roles) →
       legal library.interfaces (stopped_at events (roles_run library globals inputs turns roles).behaviour).trace ≡ true
   scripts_legal roles =
-      stopped_legal library.interfaces events _ _ (run_legal library.interfaces library refl obedient
-      (scripted_step library roles (run_step library)) (scripted_goes_on library obedient roles)
-      (scripted_legal library.interfaces library refl obedient roles) globals inputs turns)
+      stopped_legal _ events _ _ (run_legal _ library refl obedient
+      (scripted_step library roles _) (scripted_goes_on library obedient roles)
+      (scripted_legal _ library refl obedient roles) globals inputs turns)

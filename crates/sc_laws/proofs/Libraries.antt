@@ -24,8 +24,7 @@ module _ (L M : Library) (interfaces : M.interfaces ≡ L.interfaces)
       ap (λ i. imports i from (is_function to index) && (takes i to index (length args)
       && (list_all is_word args && leads M to (M.entered to (Export index))))) interfaces
       ∙ ap (λ b. imports L.interfaces from (is_function to index) && (takes L.interfaces to index (length args)
-      && (list_all is_word args && b)))
-      (ap (leads M to) (entered to (Export index)) ∙ leads_same to (L.entered to (Export index)))
+      && (list_all is_word args && b))) (ap (leads M to) (entered to _) ∙ leads_same to (L.entered to _))
   may_call_same from Input args = ap (λ i. imports i from is_input) interfaces
   may_call_same from Output args =
       ap (λ i. imports i from is_output && (length args == 1 && list_all is_word args)) interfaces
@@ -66,5 +65,4 @@ module _ (P : State → State → Type 0) (R : (V : Type 0) → Piece V → Piec
     pub may_same : (from : ℕ) (target : CallTarget) (args : List Value) →
         may_call M from target args ≡ may_call L from target args
     may_same =
-        may_call_same L M twins.interfaces twins.entered (λ comp number. some_same (function L comp number)
-        (function M comp number) (function_twins comp number))
+        may_call_same L M twins.interfaces twins.entered (λ comp number. some_same _ _ (function_twins comp number))

@@ -8,17 +8,16 @@ use Rattle.sc_laws.proofs.Common.{TypedStmt-F, TypedStmtKind, TypedStmtKind-F, T
 use Rattle.sc_laws.proofs.Common.{all_do, ap, ap₂, assign, assign_call, at_brace, at_place, block_does, body_does}
 use Rattle.sc_laws.proofs.Common.{bytes_eq, call, call_alone, cells_of, choose, closed, computed, cond, entry_in}
 use Rattle.sc_laws.proofs.Common.{evaluated, everywhere, export_at, expr_nodes, false, first_blocks, fold-TypedStmt}
-use Rattle.sc_laws.proofs.Common.{fold-TypedStmtKind, follow, frame_bound, function_of, functions_in, functions_of}
-use Rattle.sc_laws.proofs.Common.{globals_of, if◌then◌else◌, in_loop, in_order, init_does, inits_do, is_some, is_true}
+use Rattle.sc_laws.proofs.Common.{fold-TypedStmtKind, follow, frame_bound, function_of, functions_in}
+use Rattle.sc_laws.proofs.Common.{globals_of, if◌then◌else◌, in_loop, in_order, init_does, inits_do}
 use Rattle.sc_laws.proofs.Common.{kind_nodes, kind_step, layer_of, leave, length, length-map, library_of, local_nodes}
 use Rattle.sc_laws.proofs.Common.{loop, main_name, map, map-TypedStmtKind, nat_lt, nodes, not, on_line, option_map}
 use Rattle.sc_laws.proofs.Common.{part_does, part_nodes, place_named, place_of_export, position_or_len, refl}
 use Rattle.sc_laws.proofs.Common.{roll-TypedStmtKind, rounds, run_by, run_of, run_step, simple_does, slice_get}
 use Rattle.sc_laws.proofs.Common.{slice_get-map, stmt_at, stmt_does, stmt_induction, stmt_nodes, stmt_step, store}
-use Rattle.sc_laws.proofs.Common.{store_at, store_result, stored, subst, suc, sym, test, total, true, turn, values}
-use Rattle.sc_laws.proofs.Common.{variable_at, variables, ways, zero, ℕ, ◌&&◌, ◌++◌, ◌+◌, ◌==◌, ◌∙◌, ◌∷◌, ◌≡◌}
+use Rattle.sc_laws.proofs.Common.{store_at, store_result, stored, subst, suc, sym, test, total, true, turn}
+use Rattle.sc_laws.proofs.Common.{variable_at, variables, ways, zero, ℕ, ◌++◌, ◌+◌, ◌∙◌, ◌∷◌, ◌≡◌}
 use Rattle.sc_core.specs.Prelude.{Out, take}
-use Rattle.sc_core.specs.declared.section.TypedParam.{TypedParam}
 use Rattle.sc_core.specs.declared.stmt.TypedSimpleKind.TheVariants as simple
 use Rattle.sc_core.specs.declared.stmt.TypedStmtKind.TheOpen as layer
 use Rattle.sc_core.specs.declared.value.Want.TheVariants as want
@@ -35,7 +34,7 @@ computed_agree here line other (Err cause) s = record { same = refl }
 
 choose_agree : {V : Type 0} (v : Value) (o p o' p' : Piece V) → PiecesAgree o p → PiecesAgree o' p' →
     PiecesAgree (choose v o o') (choose v p p')
-choose_agree {V} v o p o' p' h k = by (is_true v) where
+choose_agree {V} v o p o' p' h k = by _ where
   by : (b : Bool) → PiecesAgree (if b then o else o') (if b then p else p')
   by true = h
   by false = k
@@ -50,14 +49,13 @@ take_agree (Out exit) f g h a s = itself _
 
 follow_agree : {A : Type 0} (route : Exit → Route) (o p : Piece (Left A)) (f g : Does A) → PiecesAgree o p →
     DoesAgree f g → PiecesAgree (follow route o f) (follow route p g)
-follow_agree route o p f g h k = then_agree o p _ _ h (λ left s. take_agree (route left.exit) f g k left.carried s)
+follow_agree route o p f g h k = then_agree o p _ _ h (λ left s. take_agree _ f g k _ s)
 
 rounds_agree : {A : Type 0} (n : ℕ) (f g f2 g2 f3 g3 : Does A) → DoesAgree f g → DoesAgree f2 g2 → DoesAgree f3 g3 →
     DoesAgree (rounds n f f2 f3) (rounds n g g2 g3)
 rounds_agree zero f g f2 g2 f3 g3 h b x a s = itself _
 rounds_agree (suc n) f g f2 g2 f3 g3 h b x a s =
-    follow_agree in_loop (f a s) (g a s) _ _ (h a s) (λ a s.
-    then_agree (turn s) (turn s) _ _ (itself (turn s)) (λ u s.
+    follow_agree in_loop (f a s) (g a s) _ _ (h a s) (λ a s. then_agree (turn s) (turn s) _ _ (itself _) (λ u s.
     follow_agree in_loop (f2 a s) (g2 a s) _ _ (b a s) (λ a s.
     follow_agree in_loop (f3 a s) (g3 a s) _ _ (x a s) (rounds_agree n f g f2 g2 f3 g3 h b x))))
 
@@ -77,7 +75,7 @@ module _ (line_of : ℕ → ℕ) where
 
   lined_at : (line : ℕ) (k : TypedStmtKind-F TypedStmtKind TypedStmt) →
       stmt_lined line_of (on_line line k) ≡ on_line (line_of line) (inner_lined k)
-  lined_at line k = stmt_at TypedStmtKind TypedStmt kind_lined moved line k
+  lined_at line k = stmt_at TypedStmtKind TypedStmt _ moved line k
 
   -- it has as many nodes
   abbrev SameNodes : TypedStmt → Type 0
@@ -117,7 +115,7 @@ module _ (line_of : ℕ → ℕ) where
   same_nodes : (stmt : TypedStmt) → SameNodes stmt
   same_nodes =
       stmt_induction SameNodes (λ line k h. ap stmt_nodes (lined_at line k) ∙ stmt_at ℕ ℕ kind_nodes (λ s. s.kind)
-      (line_of line) (inner_lined k) ∙ layer_nodes k h ∙ sym (stmt_at ℕ ℕ kind_nodes (λ s. s.kind) line k))
+      (line_of line) (inner_lined k) ∙ layer_nodes k h ∙ sym (stmt_at ℕ ℕ _ _ line k))
 
   same_locals : (locals : List TypedLocal) → map local_nodes (map (local_lined line_of) locals) ≡ map local_nodes locals
   same_locals [] = refl
@@ -136,31 +134,30 @@ module _ (line_of : ℕ → ℕ) where
 
   function_cells : (structs : List TypedStruct) (f : TypedFunction) →
       variables structs (function_lined line_of f) ≡ variables structs f
-  function_cells structs f =
-      ap (λ ns. map {A = TypedParam} (λ p. cells_of structs p.ty) f.params ++ ns) (same_cells structs f.locals)
+  function_cells structs f = ap (λ ns. map (λ p. cells_of structs p.ty) f.params ++ ns) (same_cells structs f.locals)
 
 -- STATEMENTS
 module _ (here : Here) where
   stored_agree : (q v : Value) (line other : ℕ) →
       DoesAgree {A = Unit {0}} (stored here q v line) (stored here q v other)
   stored_agree q v line other a s =
-      then_agree _ _ _ _ (computed_agree here line other (store (s.memory here.comp) q v) s) (λ blocks s. itself _)
+      then_agree _ _ _ _ (computed_agree here line other (store _ q v) s) (λ blocks s. itself _)
 
   given_agree : (w : Want) (e : Ways) (line other : ℕ) (s : State) →
       PiecesAgree (evaluated here w e line s) (evaluated here w e other s)
-  given_agree w e line other s = computed_agree here line other (e w (s.memory here.comp)) s
+  given_agree w e line other s = computed_agree here line other _ s
 
   store_at_agree : (place : Ways) (v : Value) (line other : ℕ) →
       DoesAgree (store_at here place v line) (store_at here place v other)
   store_at_agree place v line other a s =
-      then_agree _ _ _ _ (given_agree want.Place place line other s) (λ q s. stored_agree q v line other a s)
+      then_agree _ _ _ _ (given_agree _ place line other s) (λ q s. stored_agree q v line other a s)
 
   assign_agree : (place e : Ways) (line other : ℕ) → DoesAgree (assign here place e line) (assign here place e other)
   assign_agree place e line other a s =
-      then_agree _ _ _ _ (given_agree want.Value e line other s) (λ v s. store_at_agree place v line other a s)
+      then_agree _ _ _ _ (given_agree _ e line other s) (λ v s. store_at_agree place v line other a s)
 
   test_agree : (e : Ways) (line other : ℕ) → DoesAgree (test here e line) (test here e other)
-  test_agree e line other a s = then_agree _ _ _ _ (given_agree want.Value e line other s) (λ v s. itself _)
+  test_agree e line other a s = then_agree _ _ _ _ (given_agree _ e line other s) (λ v s. itself _)
 
   store_result_agree : (place : Ways) (result : Option Value) (line other : ℕ) →
       DoesAgree (store_result here place result line) (store_result here place result other)
@@ -171,8 +168,7 @@ module _ (here : Here) where
     call_agree : (target : CallTarget) (args : List Ways) (line other : ℕ) (s : State) →
         PiecesAgree (call here C target args line s) (call here D target args other s)
     call_agree target args line other s =
-        then_agree _ _ _ _ (computed_agree here line other (values args (s.memory here.comp)) s)
-        (λ vs s. calls here.comp target vs s)
+        then_agree _ _ _ _ (computed_agree here line other _ s) (λ vs s. calls _ target vs s)
 
     assign_call_agree : (place : Ways) (target : CallTarget) (args : List Ways) (line other : ℕ) →
         DoesAgree (assign_call here C place target args line) (assign_call here D place target args other)
@@ -191,16 +187,14 @@ module _ (here : Here) where
       simple_agree (simple.Assign place e) line other =
           assign_agree (ways arith structs here params place) (ways arith structs here params e) line other
       simple_agree (simple.AssignCall place c) line other =
-          assign_call_agree (ways arith structs here params place) c.target
-          (map (ways arith structs here params) c.args) line other
-      simple_agree (simple.Call c) line other =
-          call_alone_agree c.target (map (ways arith structs here params) c.args) line other
+          assign_call_agree (ways arith structs here params place) c.target (map _ c.args) line other
+      simple_agree (simple.Call c) line other = call_alone_agree c.target (map _ c.args) line other
 
       part_agree : (part : Option TypedSimple) →
           DoesAgree (part_does arith structs here params C part) (part_does arith structs here params D
           (option_map (simple_lined line_of) part))
       part_agree None a s = itself _
-      part_agree (Some p) a s = simple_agree p.kind p.line (line_of p.line) a s
+      part_agree (Some p) a s = simple_agree p.kind p.line _ a s
 
       abbrev Agrees : TypedStmt → Type 0
       Agrees stmt =
@@ -229,10 +223,8 @@ module _ (here : Here) where
       layer_agree line (layer.Assign place e) h a s =
           assign_agree (ways arith structs here params place) (ways arith structs here params e) line (line_of line) a s
       layer_agree line (layer.AssignCall place c) h a s =
-          assign_call_agree (ways arith structs here params place) c.target
-          (map (ways arith structs here params) c.args) line (line_of line) a s
-      layer_agree line (layer.Call c) h a s =
-          call_alone_agree c.target (map (ways arith structs here params) c.args) line (line_of line) a s
+          assign_call_agree (ways arith structs here params place) c.target (map _ c.args) line (line_of line) a s
+      layer_agree line (layer.Call c) h a s = call_alone_agree c.target (map _ c.args) line (line_of line) a s
       layer_agree line (layer.If cond x y) h a s =
           then_agree _ _ _ _ (given_agree want.Value (ways arith structs here params cond) line (line_of line) s)
           (λ v s. choose_agree v _ _ _ _ (block_agree x h.0 a s) (block_agree y h.1 a s))
@@ -242,7 +234,7 @@ module _ (here : Here) where
       layer_agree line (layer.For first cond next x) h a s =
           follow_agree in_order _ _ _ _ (part_agree first a s) (loop_agree (ways arith structs here params cond) line
           (line_of line) _ _ (part_does arith structs here params C next) (part_does arith structs here params D
-          (option_map (simple_lined line_of) next)) (block_agree x h) (part_agree next))
+          _) (block_agree x h) (part_agree next))
       layer_agree line layer.Break h a s = itself _
       layer_agree line layer.Continue h a s = itself _
       layer_agree line layer.Return h a s = itself _
@@ -250,16 +242,13 @@ module _ (here : Here) where
           then_agree _ _ _ _ (given_agree want.Value (ways arith structs here params e) line (line_of line) s)
           (λ v s. itself _)
       layer_agree line (layer.ReturnCall c) h a s =
-          then_agree _ _ _ _ (call_agree c.target (map (ways arith structs here params) c.args) line (line_of line) s)
-          (λ result s. itself _)
+          then_agree _ _ _ _ (call_agree c.target (map _ c.args) line (line_of line) s) (λ result s. itself _)
 
       stmt_agree : (stmt : TypedStmt) → Agrees stmt
       stmt_agree =
-          stmt_induction Agrees
-          (λ line k h. subst
+          stmt_induction Agrees (λ line k h. subst
           (λ x. DoesAgree x (stmt_does arith structs here params D (stmt_lined line_of (on_line line k))))
-          (sym (stmt_at _ _ (kind_step arith structs here params C) stmt_step line k))
-          (subst (DoesAgree (layered C k line))
+          (sym (stmt_at _ _ _ _ line k)) (subst (DoesAgree _)
           (sym (ap (stmt_does arith structs here params D) (lined_at line_of line k)
           ∙ stmt_at _ _ (kind_step arith structs here params D) stmt_step (line_of line) (inner_lined line_of k)))
           (layer_agree line k h)))
@@ -270,14 +259,14 @@ module _ (here : Here) where
       init_agree k local None a s = itself _
       init_agree k local (Some e) a s =
           assign_agree (at_place local.ty (λ blocks. Ok (variable_at here params (Local k))))
-          (ways arith structs here params e) local.line (line_of local.line) a s
+          (ways arith structs here params e) local.line (line_of _) a s
 
       inits_agree : (k : ℕ) (locals : List TypedLocal) →
           DoesAgree (all_do (inits_do arith structs here params k locals))
           (all_do (inits_do arith structs here params k (map (local_lined line_of) locals)))
       inits_agree k [] a s = itself _
       inits_agree k (local ∷ rest) a s =
-          follow_agree in_order _ _ _ _ (init_agree k local local.init a s) (inits_agree (suc k) rest)
+          follow_agree in_order _ _ _ _ (init_agree k local local.init a s) (inits_agree _ rest)
 
       body_agree : (f : TypedFunction) →
           DoesAgree (body_does arith structs here params C f) (body_does arith structs here params D
@@ -294,9 +283,9 @@ module _ (here : Here) where
 
   closed_agree : (exit : Exit) (has_result is_main : Bool) (line other : ℕ) (s : State) →
       PiecesAgree (closed exit has_result is_main line here s) (closed exit has_result is_main other here s)
-  closed_agree Next has_result is_main line other s = brace_agree has_result is_main line other s
-  closed_agree Break has_result is_main line other s = brace_agree has_result is_main line other s
-  closed_agree Continue has_result is_main line other s = brace_agree has_result is_main line other s
+  closed_agree Next has_result is_main line other s = brace_agree _ is_main line other s
+  closed_agree Break has_result is_main line other s = brace_agree _ is_main line other s
+  closed_agree Continue has_result is_main line other s = brace_agree _ is_main line other s
   closed_agree (Return v) has_result is_main line other s = itself _
 
 -- FUNCTIONS AND LIBRARIES
@@ -306,10 +295,8 @@ module _ (arith : Arith) (line_of : ℕ → ℕ) where
   function_agrees main structs f = record {
     cells = sym (function_cells line_of structs f);
     room = ap₂ frame_bound (sym (function_cells line_of structs f)) (sym (function_nodes line_of f));
-    does = λ C D calls here s.
-        then_agree _ _ _ _ (body_agree here C D calls arith structs (length f.params) line_of f tt s) (λ left s.
-        closed_agree here left.exit (is_some f.result) (here.comp == main && bytes_eq f.name main_name) f.close_line
-        (line_of f.close_line) s);
+    does = λ C D calls here s. then_agree _ _ _ _ (body_agree here C D calls arith structs _ line_of f tt s) (λ left s.
+        closed_agree here _ _ _ _ _ s);
   }
 
   functions_agree : (main : ℕ) (structs : List TypedStruct) (fs : List TypedFunction) →
@@ -322,8 +309,7 @@ module _ (arith : Arith) (line_of : ℕ → ℕ) where
       Pairs (Pairs FunctionsAgree) (map (functions_in arith main) sections)
       (map (functions_in arith main) (map (section_lined line_of) sections))
   sections_agree main [] = tt
-  sections_agree main (section ∷ rest) =
-      (functions_agree main section.structs section.functions, sections_agree main rest)
+  sections_agree main (section ∷ rest) = (functions_agree main _ _, sections_agree main rest)
 
   -- names lead to the same places
   same_prefix : (name : List ℕ) (fs : List TypedFunction) →
@@ -342,26 +328,23 @@ module _ (arith : Arith) (line_of : ℕ → ℕ) where
   same_export : (proto : Option Proto) (section : Option TypedSection) →
       place_of_export proto (option_map (section_lined line_of) section) ≡ place_of_export proto section
   same_export None section = refl
-  same_export (Some proto) section = same_place proto.name section
+  same_export (Some proto) section = same_place _ section
 
   same_entry : (program : ProgramTree) (comp : ℕ) (entry : Entry) →
       entry_in program comp entry ≡ entry_in (program_lined line_of program) comp entry
   same_entry program comp Main =
-      sym (ap (place_named main_name) (slice_get-map (section_lined line_of) program.sections comp)
-      ∙ same_place main_name (slice_get program.sections comp))
+      sym (ap (place_named _) (slice_get-map _ _ comp) ∙ same_place main_name (slice_get _ comp))
   same_entry program comp (Export index) =
-      sym (ap (place_of_export (export_at program.interfaces comp index)) (slice_get-map (section_lined line_of)
-      program.sections comp) ∙ same_export (export_at program.interfaces comp index) (slice_get program.sections comp))
+      sym (ap (place_of_export _) (slice_get-map _
+      _ comp) ∙ same_export (export_at program.interfaces comp index) (slice_get _ comp))
 
 libraries_agree : (arith : Arith) (line_of : ℕ → ℕ) (program : ProgramTree) →
     LibrariesAgree (library_of arith program) (library_of arith (program_lined line_of program))
 libraries_agree arith line_of program = record {
   interfaces = refl;
-  functions = λ comp number. meets_at FunctionsAgree (functions_of (library_of arith program) comp)
-      (functions_of (library_of arith (program_lined line_of program)) comp) number
+  functions = λ comp number. meets_at FunctionsAgree _ _ number
       (lists_at FunctionsAgree (library_of arith program).functions
-      (library_of arith (program_lined line_of program)).functions comp
-      (sections_agree arith line_of program.interfaces.main program.sections));
+      (library_of arith (program_lined line_of program)).functions comp (sections_agree arith line_of _ _));
   entered = same_entry arith line_of program;
 }
 
@@ -373,18 +356,15 @@ same_blocks line_of (Some section) = refl
 
 same_globals : (line_of : ℕ → ℕ) (sections : List TypedSection) (comp : ℕ) →
     globals_of sections comp ≡ globals_of (map (section_lined line_of) sections) comp
-same_globals line_of sections comp =
-    same_blocks line_of (slice_get sections comp)
-    ∙ sym (ap first_blocks (slice_get-map (section_lined line_of) sections comp))
+same_globals line_of sections comp = same_blocks line_of _ ∙ sym (ap first_blocks (slice_get-map _ _ comp))
 
 pub other_lines_agree : OtherLinesAgree
 other_lines_agree = record {
   libraries = libraries_agree;
-  runs = λ arith line_of program inputs turns.
-      subst (λ globals. RunsAgree (run_of arith program inputs turns)
+  runs = λ arith line_of program inputs turns. subst (λ globals. RunsAgree (run_of arith program inputs turns)
       (run_by (library_of arith (program_lined line_of program))
       (run_step (library_of arith (program_lined line_of program))) globals inputs turns))
       (λ i comp. same_globals line_of program.sections comp i)
-      (agreeing_run_alike.meaning (library_of arith program) (library_of arith (program_lined line_of program))
-      (libraries_agree arith line_of program) (globals_of program.sections) inputs turns);
+      (agreeing_run_alike.meaning (library_of arith program) (library_of arith _)
+      (libraries_agree arith line_of program) (globals_of _) inputs turns);
 }

@@ -98,8 +98,7 @@ module _ (Soft : Cause → Type 0) (P : State → State → Type 0) (R : (V : Ty
   pub library_twins : (L M : Library) → LibrariesMatch Soft L M → LibraryTwins P R Good L M
   library_twins L M match = record {
     interfaces = match.interfaces;
-    functions = λ comp number. both_there (function L comp number) (function M comp number)
-        (match.functions comp number);
+    functions = λ comp number. both_there _ _ (match.functions comp number);
     entered = match.entered;
   }
 
@@ -108,8 +107,7 @@ module _ (Soft : Cause → Type 0) where
   tree_goes : {V : Type 0} (here : Here) (does : Doing V) (tree : ℕ → Interaction V) → Plays here does tree →
       (by : Calls) → GoFrom here.comp by → Goes (does by)
   tree_goes here does tree plays by go s =
-      subst (Gone s) (sym (plays.is (suc s.turns) by go s (omega arith))) (played_goes (tree (suc s.turns)) by here go
-      s)
+      subst (Gone s) (sym (plays.is (suc s.turns) by go s (omega arith))) (played_goes (tree _) by here go s)
 
   pub match_goes : {V : Type 0} (here : Here) (does other : Doing V) → Match Soft here does other → (by : Calls) →
       GoFrom here.comp by → Goes (does by)
@@ -120,23 +118,23 @@ module _ (Soft : Cause → Type 0) where
   goes_here None (Some g) meets h is = absurd meets
   goes_here (Some f) None meets h is = absurd meets
   goes_here (Some f) (Some g) meets h is = λ by go here.
-      (let equal : f ≡ h = cc in subst {A = Function} (λ x. Goes (x.does by here)) equal)
-      (tree_goes here (λ by. f.does by here) (meets.does here).tree (meets.does here).first by (go here.comp))
+      (let equal : f ≡ h = cc in subst (λ x. Goes (x.does by here)) equal)
+      (tree_goes here _ (meets.does here).tree (meets.does here).first by (go _))
 
   goes_there : (f g : Option Function) → Meets (FunctionsMatch Soft) f g → (h : Function) → g ≡ Some h → FunctionGoes h
   goes_there None None meets h is = absurd (cc)
   goes_there None (Some g) meets h is = absurd meets
   goes_there (Some f) None meets h is = absurd meets
   goes_there (Some f) (Some g) meets h is = λ by go here.
-      (let equal : g ≡ h = cc in subst {A = Function} (λ x. Goes (x.does by here)) equal)
-      (tree_goes here (λ by. g.does by here) (meets.does here).twin (meets.does here).second by (go here.comp))
+      (let equal : g ≡ h = cc in subst (λ x. Goes (x.does by here)) equal)
+      (tree_goes here _ (meets.does here).twin (meets.does here).second by (go _))
 
   module _ (L M : Library) (match : LibrariesMatch Soft L M) where
     pub first_goes : LibraryGoes L
-    first_goes comp number = goes_here (function L comp number) (function M comp number) (match.functions comp number)
+    first_goes comp number = goes_here _ (function M comp number) (match.functions comp number)
 
     pub second_goes : LibraryGoes M
-    second_goes comp number = goes_there (function L comp number) (function M comp number) (match.functions comp number)
+    second_goes comp number = goes_there (function L comp number) _ (match.functions comp number)
 
 module _ (library : Library) (obedient : Obedient library) where
   pub library_goes : LibraryGoes library
@@ -146,4 +144,4 @@ module _ (library : Library) (obedient : Obedient library) where
   run_goes_on body goes = run_step_goes library body goes library_goes
 
   pub scripted_goes_on : (roles : Roles) → StepGoes (scripted_step library roles (run_step library))
-  scripted_goes_on roles = scripted_goes library roles (run_step library) run_goes_on
+  scripted_goes_on roles = scripted_goes library roles _ run_goes_on

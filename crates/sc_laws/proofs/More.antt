@@ -26,8 +26,7 @@ module _ (d : ℕ) (one other : Run) (events more_events : ℕ) (le : events ≤
   longer = other.behaviour
 
   front_events : RunsBelow d Never (Unit {0}) one other → Front shorter.trace longer.trace
-  front_events (goes.same_run is) = subst (λ z. Front shorter.trace z.behaviour.trace) (sym is)
-      (front_same shorter.trace)
+  front_events (goes.same_run is) = subst (λ z. Front shorter.trace z.behaviour.trace) (sym is) (front_same _)
   front_events (goes.goes_past end is stop passes front ended frames late) = front
 
   final_at : (b : Bool) → reaches events shorter shorter.end ≡ b →
@@ -41,7 +40,7 @@ module _ (d : ℕ) (one other : Run) (events more_events : ℕ) (le : events ≤
   final_at false is final (goes.same_run equal) =
       ap (λ z. stopped_at more_events z.behaviour) equal
       ∙ ap (λ b. if b then record { trace = take more_events shorter.trace; end = EventsOut } else shorter)
-      (still_unreached events more_events shorter shorter.end le is)
+      (still_unreached events _ shorter _ le is)
   final_at false is final (goes.goes_past end ends stop passes front ended frames late) =
       absurd (no_end end passes (subst IsFinal ends final)) where
         no_end : (end : RunEnd) → Passes d Never (Unit {0}) end → IsFinal end → ⊥
@@ -54,10 +53,8 @@ module _ (d : ℕ) (one other : Run) (events more_events : ℕ) (le : events ≤
   extends below =
       record {
         trace = subst (λ t. Front t (stopped_at more_events longer).trace) (sym (trace_is events shorter))
-            (subst (Front (take events shorter.trace)) (sym (trace_is more_events longer))
-            (take_fronts events more_events shorter.trace longer.trace le (front_events below)));
-        final =
-            λ final. final_at (reaches events shorter shorter.end) refl final below;
+            (subst (Front _) (sym (trace_is _ longer)) (take_fronts events _ _ longer.trace le (front_events below)));
+        final = λ final. final_at _ refl final below;
       }
 
 module _ (library : Library) (obedient : Obedient library) (globals : Memory) (inputs : List ℕ) where
@@ -68,25 +65,25 @@ module _ (library : Library) (obedient : Obedient library) (globals : Memory) (i
       let sum : turns + d ≡ more_turns = omega (arith, le_turns) in
       subst (λ n. Extends (stopped_at events (run_by library step globals inputs turns).behaviour)
       (stopped_at more_events (run_by library step globals inputs n).behaviour)) sum
-      (extends d _ _ events more_events le_events (runs_below d Never (Unit {0}) (inr tt) library library obedient step
+      (extends d _ _ events more_events le_events (runs_below d Never _ (inr tt) library library obedient step
       step goes goes (steps d) globals inputs turns))
 
   pub more_runs : ExtendedByMore (λ turns events. stopped_at events
       (library_run library globals inputs turns).behaviour)
   more_runs =
-      more_of (run_step library) (run_goes_on library obedient) (λ d. run_steps d Never (Unit {0}) (inr tt) library
+      more_of (run_step library) (run_goes_on library obedient) (λ d. run_steps d Never _ (inr tt) library
       library obedient)
 
   pub more_scripted : (roles : Roles) →
       ExtendedByMore (λ turns events. stopped_at events (roles_run library globals inputs turns roles).behaviour)
   more_scripted roles =
-      more_of (scripted_step library roles (run_step library)) (scripted_goes_on library obedient roles)
-      (λ d. scripted_steps d Never (Unit {0}) (inr tt) library library obedient roles)
+      more_of (scripted_step library roles _) (scripted_goes_on library obedient roles)
+      (λ d. scripted_steps d Never _ (inr tt) library library obedient roles)
 
 -- ARITHMETIC
 pub wrapping_keeps : ArithKeeps IsArithmetic c_arith wrapping
 wrapping_keeps =
-    record { binary = λ unsigned o a b. binary_fits unsigned o a b; negated = λ unsigned a. negated_fits unsigned a }
+    record { binary = λ unsigned o a b. binary_fits _ o a b; negated = λ unsigned a. negated_fits _ a }
 
 -- two runs with as many turns, of which the first may be blamed for arithmetic
 module _ (one other : Run) (events : ℕ) where
@@ -98,18 +95,13 @@ module _ (one other : Run) (events : ℕ) where
 
   reached_too : (end : RunEnd) → Front x.trace y.trace → (end ≡ Ended → length x.trace < length y.trace) →
       events ≤ length x.trace → reaches events y end ≡ true
-  reached_too Ended front ended le =
-      (let longer : length x.trace < length y.trace = ended refl in lt-ltb events (length y.trace)
-      (omega (arith, le, longer)))
+  reached_too Ended front ended le = (let longer = ended refl in lt-ltb events _ (omega (arith, le, longer)))
   reached_too (Blamed comp cause line) front ended le =
-      (let long : length x.trace ≤ length y.trace = front_long x.trace y.trace front in le-leb events (length y.trace)
-      (omega (arith, le, long)))
+      (let long = front_long x.trace y.trace front in le-leb events _ (omega (arith, le, long)))
   reached_too TurnsOut front ended le =
-      (let long : length x.trace ≤ length y.trace = front_long x.trace y.trace front in le-leb events (length y.trace)
-      (omega (arith, le, long)))
+      (let long = front_long x.trace y.trace front in le-leb events _ (omega (arith, le, long)))
   reached_too EventsOut front ended le =
-      (let long : length x.trace ≤ length y.trace = front_long x.trace y.trace front in le-leb events (length y.trace)
-      (omega (arith, le, long)))
+      (let long = front_long x.trace y.trace front in le-leb events _ (omega (arith, le, long)))
 
   took_same : Front x.trace y.trace → events ≤ length x.trace → take events y.trace ≡ take events x.trace
   took_same front le = ap (take events) front.is ∙ take-append-le events x.trace front.more le
@@ -119,7 +111,7 @@ module _ (one other : Run) (events : ℕ) where
       reaches events x x.end ≡ b →
       AgreesUntilBlame (if b then record { trace = take events x.trace; end = EventsOut } else x) (stopped_at events y)
   blamed_at comp cause line ends soft front ended true is =
-      let le : events ≤ length x.trace = leb_true events (length x.trace) (ap (reaches events x) (sym ends) ∙ is) in
+      let le = leb_true events (length x.trace) (ap (reaches events x) (sym ends) ∙ is) in
       same (ap (λ b. if b then record { trace = take events y.trace; end = EventsOut } else y)
       (reached_too y.end front ended le) ∙ ap (λ t. record { trace = t; end = EventsOut }) (took_same front le)) where
         leb_true : (a b : ℕ) → nat_le a b ≡ true → a ≤ b
@@ -133,7 +125,7 @@ module _ (one other : Run) (events : ℕ) where
   agrees (goes.same_run is) = same (ap (λ z. stopped_at events z.behaviour) is)
   agrees (goes.goes_past Ended ends stop passes front ended frames late) = absurd passes
   agrees (goes.goes_past (Blamed comp cause line) ends stop passes front ended frames late) =
-      blamed_at comp cause line ends passes front ended (reaches events x x.end) refl
+      blamed_at comp cause line ends passes front ended _ refl
   agrees (goes.goes_past TurnsOut ends stop passes front ended frames late) = absurd passes
   agrees (goes.goes_past EventsOut ends stop passes front ended frames late) = absurd passes
 
@@ -151,7 +143,7 @@ module _ (one other : Run) where
       subst (λ z. depth_in one events comp ≤ depth_in z events comp) (sym is) (omega arith)
   no_deeper (blamed_run c cause line ends soft front frames late) events comp =
       subst (λ z. depth_in one events comp ≤ deepest events comp 0 z) (sym frames.is)
-      (deepest_more events comp 0 one.frames frames.more)
+      (deepest_more events comp 0 _ frames.more)
 
   pub in_room : RunsBelow 0 IsArithmetic ⊥ one other → AgreesInRoom one other
   in_room below = record {
@@ -183,8 +175,8 @@ module _ (L M : Library) (match : LibrariesMatch IsArithmetic L M) (globals : Me
   pub scripts_agree : (roles : Roles) →
       AgreesInRoom (roles_run L globals inputs turns roles) (roles_run M globals inputs turns roles)
   scripts_agree roles =
-      in_room _ _ (below_of (scripted_step L roles (run_step L)) (scripted_step M roles (run_step M))
-      (scripted_goes L roles (run_step L) run_goes) (scripted_goes M roles (run_step M) run_goes')
+      in_room _ _ (below_of (scripted_step L roles _) (scripted_step M roles (run_step M))
+      (scripted_goes L roles _ run_goes) (scripted_goes M roles _ run_goes')
       (scripted_steps 0 IsArithmetic ⊥ (inl refl) L M match roles))
 
 pub wrapping_matches : (program : ProgramTree) →

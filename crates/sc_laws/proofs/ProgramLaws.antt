@@ -26,7 +26,7 @@ pub only_goes_on : OnlyGoesOn
 only_goes_on = record {
   libraries = λ library obedient n number here. within_goes (run_step library) (run_goes_on library obedient) n number
       here;
-  scripts = λ library obedient roles n number here. within_goes (scripted_step library roles (run_step library))
+  scripts = λ library obedient roles n number here. within_goes (scripted_step library roles _)
       (scripted_goes_on library obedient roles) n number here;
   programs = λ arith program n number here. within_goes (run_step (library_of arith program))
       (run_goes_on (library_of arith program) (program_obeys arith program)) n number here;
@@ -49,29 +49,28 @@ pub more_goes_on : MoreGoesOn
 more_goes_on = record {
   libraries = more_scripted;
   programs = λ arith program set trace inputs. more_scripted (library_of arith program) (program_obeys arith program)
-      (globals_of program.sections) inputs (roles_in program.interfaces.main set trace);
+      (globals_of _) inputs (roles_in _ set trace);
 }
 
 pub meaning_goes_on : MeaningGoesOn
 meaning_goes_on = record {
   libraries = more_runs;
   programs = λ arith program inputs. more_runs (library_of arith program) (program_obeys arith program)
-      (globals_of program.sections) inputs;
+      (globals_of _) inputs;
 }
 
 pub wrapping_agrees : WrappingAgrees
 wrapping_agrees = record {
   libraries = scripts_agree;
   programs = λ program set trace inputs turns. scripts_agree (library_of c_arith program) (library_of wrapping program)
-      (wrapping_matches program) (globals_of program.sections) inputs turns
-      (roles_in program.interfaces.main set trace);
+      (wrapping_matches program) (globals_of _) inputs turns (roles_in _ set trace);
 }
 
 pub wrapped_agrees : WrappedAgrees
 wrapped_agrees = record {
   libraries = runs_agree;
   programs = λ program inputs turns. runs_agree (library_of c_arith program) (library_of wrapping program)
-      (wrapping_matches program) (globals_of program.sections) inputs turns;
+      (wrapping_matches program) (globals_of _) inputs turns;
 }
 
 pub traces_are_legal : TracesAreLegal
@@ -79,27 +78,25 @@ traces_are_legal = record {
   libraries = runs_legal;
   scripts = scripts_legal;
   meaning = λ arith program inputs turns events. runs_legal (library_of arith program) (program_obeys arith program)
-      (globals_of program.sections) inputs turns events;
+      (globals_of _) inputs turns events;
   scripted = λ arith program set trace inputs turns events. scripts_legal (library_of arith program)
-      (program_obeys arith program) (globals_of program.sections) inputs turns events
-      (roles_in program.interfaces.main set trace);
+      (program_obeys arith program) (globals_of _) inputs turns events (roles_in _ set trace);
 }
 
 pub nobody_who_performs_is_blamed : NobodyWhoPerformsIsBlamed
 nobody_who_performs_is_blamed = record {
   libraries = nobody_is_blamed;
   programs = λ arith program set trace inputs turns events. nobody_is_blamed (library_of arith program)
-      (program_obeys arith program) (globals_of program.sections) inputs turns events
-      (roles_in program.interfaces.main set trace);
+      (program_obeys arith program) (globals_of _) inputs turns events (roles_in _ set trace);
 }
 
 pub blamed_are_there : BlamedAreThere
 blamed_are_there = record {
   libraries = blamed_is_there;
   programs = λ arith program set trace inputs turns events comp cause line ends.
-      subst (λ n. comp < n) (length-map program.sections (functions_in arith program.interfaces.main))
-      (blamed_is_there (library_of arith program) (program_obeys arith program) (globals_of program.sections) inputs
-      turns events (roles_in program.interfaces.main set trace) comp cause line ends);
+      subst (λ n. comp < n) (length-map _ (functions_in arith _))
+      (blamed_is_there (library_of arith program) (program_obeys arith program) (globals_of _) inputs
+      turns events (roles_in _ set trace) comp cause line ends);
 }
 
 -- what holds of libraries that obey holds of programs
@@ -109,7 +106,7 @@ of_sets : (law : List Event → (Set → SourceRun) → Type 0) →
 of_sets law holds = record {
   libraries = holds;
   programs = λ arith program inputs turns trace. holds (library_of arith program) (program_obeys arith program)
-      (globals_of program.sections) inputs turns trace;
+      (globals_of _) inputs turns trace;
 }
 
 pub more_may_perform : MoreMayPerform
@@ -128,9 +125,7 @@ pub chains_rise : ChainsRise
 chains_rise = of_sets _ chain_rises
 
 pub chain_exists : ChainExists
-chain_exists =
-    of_sets _ (λ library obedient globals inputs turns trace. has_chain trace (performed_by library globals inputs turns
-    trace))
+chain_exists = of_sets _ (λ library _ globals inputs turns trace. has_chain trace _)
 
 pub rooms_are_kept : RoomsAreKept
 rooms_are_kept = record {

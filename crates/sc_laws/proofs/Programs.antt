@@ -1,9 +1,9 @@
 -- A program under two arithmetics, of which the second gives what the first does or the first blames: what its
 -- functions do matches.
 use Rattle.sc_laws.proofs.Common.{Arith, Cause, FunctionsMatch, LibrariesMatch, List, Meets, Never, Obedient}
-use Rattle.sc_laws.proofs.Common.{ProgramTree, TypedFunction, TypedSection, TypedStruct, [], bytes_eq, closed}
-use Rattle.sc_laws.proofs.Common.{function_of, functions_in, functions_of, is_some, length, library_of, main_name, map}
-use Rattle.sc_laws.proofs.Common.{refl, slice_get, slice_index_or, suc, zero, ℕ, ◌&&◌, ◌==◌, ◌∷◌}
+use Rattle.sc_laws.proofs.Common.{ProgramTree, TypedFunction, TypedSection, TypedStruct, [], closed}
+use Rattle.sc_laws.proofs.Common.{function_of, functions_in, library_of, map}
+use Rattle.sc_laws.proofs.Common.{refl, slice_get, slice_index_or, suc, zero, ℕ, ◌∷◌}
 use Rattle.sc_laws.proofs.Expressions.{alike, ArithKeeps}
 use Rattle.sc_laws.proofs.Interactions.{match_then}
 use Rattle.sc_laws.proofs.Statements.{body_matches, closed_matches}
@@ -37,13 +37,8 @@ module _ (Soft : Cause → Type 0) (ar br : Arith) (arith : ArithKeeps Soft ar b
   of_function main structs f = record {
     cells = refl;
     room = refl;
-    does = λ here.
-        match_then Soft here _ _ (λ left by s. closed left.exit (is_some f.result)
-        (here.comp == main && bytes_eq f.name main_name) f.close_line here s)
-        (λ left by s. closed left.exit (is_some f.result) (here.comp == main && bytes_eq f.name main_name) f.close_line
-        here s)
-        (body_matches Soft here ar br arith structs (length f.params) f tt) (λ left. closed_matches Soft here left.exit
-        (is_some f.result) (here.comp == main && bytes_eq f.name main_name) f.close_line);
+    does = λ here. match_then Soft here _ _ (λ left by s. closed _ _ _ _ here s) (λ left by s. closed _ _ _ _ here s)
+        (body_matches Soft here ar br arith structs _ f tt) (λ left. closed_matches Soft here _ _ _ _);
   }
 
   of_functions : (main : ℕ) (structs : List TypedStruct) (fs : List TypedFunction) →
@@ -54,16 +49,13 @@ module _ (Soft : Cause → Type 0) (ar br : Arith) (arith : ArithKeeps Soft ar b
   of_sections : (main : ℕ) (sections : List TypedSection) →
       Pairs (Pairs (FunctionsMatch Soft)) (map (functions_in ar main) sections) (map (functions_in br main) sections)
   of_sections main [] = tt
-  of_sections main (section ∷ sections) =
-      (of_functions main section.structs section.functions, of_sections main sections)
+  of_sections main (section ∷ sections) = (of_functions main _ section.functions, of_sections main sections)
 
   pub program_matches : (program : ProgramTree) → LibrariesMatch Soft (library_of ar program) (library_of br program)
   program_matches program = record {
     interfaces = refl;
-    functions = λ comp number. meets_at (FunctionsMatch Soft) (functions_of (library_of ar program) comp)
-        (functions_of (library_of br program) comp) number
-        (lists_at (FunctionsMatch Soft) (library_of ar program).functions (library_of br program).functions comp
-        (of_sections program.interfaces.main program.sections));
+    functions = λ comp number. meets_at _ _ _ number
+        (lists_at _ (library_of ar program).functions (library_of br program).functions comp (of_sections _ _));
     entered = λ comp entry. refl;
   }
 

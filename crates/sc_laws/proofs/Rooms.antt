@@ -1,15 +1,15 @@
 -- Frames: each change is of a moment within the trace, and a call that returns leaves the open room as it was.
 use Rattle.sc_laws.proofs.Common.{Action, AllBefore, AreTold, BadType, Blamed, Body, Bool, Call, CallTarget, Closed}
-use Rattle.sc_laws.proofs.Common.{Cross, DeepestIsReached, End, Event, Export, FrameChange, Function, Here, In, Input}
+use Rattle.sc_laws.proofs.Common.{Cross, DeepestIsReached, End, Event, FrameChange, Function, Here, In, Input}
 use Rattle.sc_laws.proofs.Common.{KeepsRooms, Kept, LeavesRooms, Library, List, Main, Memory, Obedient, Opened, Option}
 use Rattle.sc_laws.proofs.Common.{Out, Output, Own, Piece, Property, Reached, Ret, Roles, Row, State, Step, Stopped}
 use Rattle.sc_laws.proofs.Common.{TellsNoEnd, TurnsOut, Value, Word, [], acts, and_then, ap, arith, asks, back_cross}
-use Rattle.sc_laws.proofs.Common.{back_own, begun, call_cross, call_own, called, calls, crossed, crossing, deepest}
-use Rattle.sc_laws.proofs.Common.{done, exit_word, export_at, false, first_state, first_word, found_kept, function}
-use Rattle.sc_laws.proofs.Common.{has_no_end, if◌then◌else◌, is_end, is_number, last, length, length-append, list_any}
-use Rattle.sc_laws.proofs.Common.{lt-ltb, map, max, may_call, nat_lt, next_input, not, open_room, performs, read_input}
+use Rattle.sc_laws.proofs.Common.{back_own, begun, call_cross, call_own, called, calls, deepest}
+use Rattle.sc_laws.proofs.Common.{done, exit_word, false, first_state, found_kept, function}
+use Rattle.sc_laws.proofs.Common.{has_no_end, if◌then◌else◌, is_end, last, length, length-append, list_any}
+use Rattle.sc_laws.proofs.Common.{lt-ltb, map, max, nat_lt, not, open_room, performs}
 use Rattle.sc_laws.proofs.Common.{refl, room_after, rows_left, run_by, run_in, run_step, run_to, scripted_step, subst}
-use Rattle.sc_laws.proofs.Common.{suc, sym, tell, then_kept, true, turn, turn_of, with_blocks, within, word_in, zero, ℕ}
+use Rattle.sc_laws.proofs.Common.{suc, sym, tell, then_kept, true, turn, turn_of, within, zero, ℕ}
 use Rattle.sc_laws.proofs.Common.{◌&&◌, ◌++◌, ◌+◌, ◌-◌, ◌==◌, ◌||◌, ◌∙◌, ◌∷◌, ◌≡◌, ◌≤◌}
 use Rattle.sc_event.specs.declared.row.Action.TheVariants as act
 use Rattle.sc_laws.proofs.Growing.{BodyGoes, StepGoes, calls_go, within_goes}
@@ -24,17 +24,15 @@ room_append comp room [] ys = refl
 room_append comp room (Opened told c more ∷ xs) ys =
     by (c == comp) (room_append comp (room + more) xs ys) (room_append comp room xs ys) where
       by : (b : Bool) → room_after comp (room + more) (xs ++ ys) ≡ room_after comp (room_after comp (room + more) xs)
-          ys →
-          room_after comp room (xs ++ ys) ≡ room_after comp (room_after comp room xs) ys
+          ys → room_after comp room (xs ++ ys) ≡ room_after comp (room_after comp room xs) ys
           → (if b then room_after comp (room + more) (xs ++ ys) else room_after comp room (xs ++ ys))
           ≡ room_after comp (if b then room_after comp (room + more) xs else room_after comp room xs) ys
       by true h k = h
       by false h k = k
 room_append comp room (Closed told c less ∷ xs) ys =
-    by (c == comp) (room_append comp (room - less) xs ys) (room_append comp room xs ys) where
+    by _ (room_append comp _ xs ys) (room_append comp room xs ys) where
       by : (b : Bool) → room_after comp (room - less) (xs ++ ys) ≡ room_after comp (room_after comp (room - less) xs)
-          ys →
-          room_after comp room (xs ++ ys) ≡ room_after comp (room_after comp room xs) ys
+          ys → room_after comp room (xs ++ ys) ≡ room_after comp (room_after comp room xs) ys
           → (if b then room_after comp (room - less) (xs ++ ys) else room_after comp room (xs ++ ys))
           ≡ room_after comp (if b then room_after comp (room - less) xs else room_after comp room xs) ys
       by true h k = h
@@ -57,13 +55,13 @@ before_more n m le (Closed told c less ∷ xs) h = let first =
 deepest_first : (events comp room : ℕ) (ys : List FrameChange) → room ≤ deepest events comp room ys
 deepest_first events comp room [] = omega arith
 deepest_first events comp room (Opened told c more ∷ ys) =
-    by (c == comp && nat_lt told events) (deepest_first events comp room ys) where
+    by _ (deepest_first events comp room ys) where
       by : (b : Bool) → room ≤ deepest events comp room ys →
           room ≤ (if b then max room (deepest events comp (room + more) ys) else deepest events comp room ys)
       by true h = omega arith
       by false h = h
 deepest_first events comp room (Closed told c less ∷ ys) =
-    by (c == comp && nat_lt told events) (deepest_first events comp room ys) where
+    by _ (deepest_first events comp room ys) where
       by : (b : Bool) → room ≤ deepest events comp room ys →
           room ≤ (if b then max room (deepest events comp (room - less) ys) else deepest events comp room ys)
       by true h = omega arith
@@ -73,7 +71,7 @@ deepest_from : (events comp room : ℕ) (xs ys : List FrameChange) → AllBefore
     room_after comp room xs ≤ deepest events comp room (xs ++ ys)
 deepest_from events comp room [] ys h = deepest_first events comp room ys
 deepest_from events comp room (Opened told c more ∷ xs) ys h =
-    by (c == comp) (nat_lt told events) (lt-ltb told events h.0) (deepest_from events comp (room + more) xs ys h.1)
+    by _ _ (lt-ltb told events h.0) (deepest_from events comp (room + more) xs ys h.1)
     (deepest_from events comp room xs ys h.1) where
       by : (b before : Bool) → before ≡ true → room_after comp (room + more) xs ≤ deepest events comp (room + more)
           (xs ++ ys) → room_after comp room xs ≤ deepest events comp room (xs ++ ys)
@@ -83,7 +81,7 @@ deepest_from events comp room (Opened told c more ∷ xs) ys h =
       by true false is h k = cc
       by false before is h k = k
 deepest_from events comp room (Closed told c less ∷ xs) ys h =
-    by (c == comp) (nat_lt told events) (lt-ltb told events h.0) (deepest_from events comp (room - less) xs ys h.1)
+    by _ _ (lt-ltb told events h.0) (deepest_from events comp _ xs ys h.1)
     (deepest_from events comp room xs ys h.1) where
       by : (b before : Bool) → before ≡ true → room_after comp (room - less) xs ≤ deepest events comp (room - less)
           (xs ++ ys) → room_after comp room xs ≤ deepest events comp room (xs ++ ys)
@@ -107,8 +105,7 @@ deepest_more events comp room (Opened told c more ∷ xs) ys =
       by true h k = omega (arith, h)
       by false h k = k
 deepest_more events comp room (Closed told c less ∷ xs) ys =
-    by (c == comp && nat_lt told events) (deepest_more events comp (room - less) xs ys)
-    (deepest_more events comp room xs ys) where
+    by _ (deepest_more events comp _ xs ys) (deepest_more events comp room xs ys) where
       by : (b : Bool) → deepest events comp (room - less) xs ≤ deepest events comp (room - less) (xs ++ ys) →
           deepest events comp room xs ≤ deepest events comp room (xs ++ ys)
           → (if b then max room (deepest events comp (room - less) xs) else deepest events comp room xs)
@@ -141,7 +138,7 @@ noting base rooms = record { Goes = λ s. Noted base rooms s; Ends = λ end s. T
 endless_more : (xs : List Event) (e : Event) → is_end e ≡ false → has_no_end xs ≡ true →
     has_no_end (xs ++ e ∷ []) ≡ true
 endless_more [] e plain h = rw plain refl
-endless_more (x ∷ xs) e plain h = by (is_end x) (endless_more xs e plain) h where
+endless_more (x ∷ xs) e plain h = by _ (endless_more xs e plain) h where
   by : (b : Bool) → (has_no_end xs ≡ true → has_no_end (xs ++ e ∷ []) ≡ true) →
       not (b || list_any is_end xs) ≡ true → not (b || list_any is_end (xs ++ e ∷ [])) ≡ true
   by true later h = h
@@ -158,13 +155,13 @@ module _ (base : State) where
   turned : (rooms : Rooms) (n : ℕ) (s : State) → Noted base rooms s → Kept (noting base rooms) (turn_of n s)
   turned rooms zero s h = record { after = h.told }
   turned rooms (suc n) s h =
-      record { after = record { told = told_again s (record s { turns = n }) refl refl h.told; open_ = h.open_ } }
+      record { after = record { told = told_again s _ refl refl h.told; open_ = h.open_ } }
 
   is_kept : (rooms : Rooms) (here : Here) → IsKept (noting base rooms) here
   is_kept rooms here =
       record {
         memory = λ s blocks h. record {
-          told = told_again s (record s { memory = with_blocks here.comp blocks s.memory }) refl refl h.told;
+          told = told_again s _ refl refl h.told;
           open_ = h.open_;
         };
         turned = λ s h. turned rooms s.turns s h;
@@ -176,8 +173,8 @@ module _ (base : State) where
   told_noted rooms e s plain h =
       record {
         told = record {
-          moments = λ first. before_more (suc (length s.trace)) (suc (length (s.trace ++ e ∷ [])))
-              (omega (arith, length-append s.trace (e ∷ []))) s.frames (h.told.moments first);
+          moments = λ first. before_more (suc _) _
+              (omega (arith, length-append s.trace (e ∷ []))) _ (h.told.moments first);
           endless = λ first. endless_more s.trace e plain (h.told.endless first);
         };
         open_ = h.open_;
@@ -191,11 +188,11 @@ module _ (base : State) where
       Noted base (wider comp f.room rooms) (begun comp f args s)
   begun_noted rooms comp f args s h = record {
     told = record {
-      moments = λ first. before_append (suc (length s.trace)) s.frames (Opened (length s.trace) comp f.room ∷ [])
+      moments = λ first. before_append (suc _) s.frames (Opened _ comp f.room ∷ [])
           (h.told.moments first) (omega arith, tt);
       endless = h.told.endless;
     };
-    open_ = λ c. room_append c 0 s.frames (Opened (length s.trace) comp f.room ∷ [])
+    open_ = λ c. room_append c 0 s.frames (Opened _ comp f.room ∷ [])
         ∙ ap (λ room. if comp == c then room + f.room else room) (h.open_ c);
   }
 
@@ -204,12 +201,12 @@ module _ (base : State) where
       Noted base rooms (done comp f first s)
   done_noted rooms comp f first s h = record {
     told = record {
-      moments = λ first. before_append (suc (length s.trace)) s.frames (Closed (length s.trace) comp f.room ∷ [])
+      moments = λ first. before_append (suc _) s.frames (Closed _ comp f.room ∷ [])
           (h.told.moments first) (omega arith, tt);
       endless = h.told.endless;
     };
-    open_ = λ c. room_append c 0 s.frames (Closed (length s.trace) comp f.room ∷ [])
-        ∙ (ap (λ room. if comp == c then room - f.room else room) (h.open_ c) ∙ narrower (comp == c) (rooms c) f.room);
+    open_ = λ c. room_append c 0 s.frames (Closed _ comp f.room ∷ [])
+        ∙ (ap (λ room. if comp == c then room - f.room else room) (h.open_ c) ∙ narrower (comp == c) _ f.room);
   } where
     narrower : (b : Bool) (room more : ℕ) →
         (if b then (if b then room + more else room) - more else (if b then room + more else room)) ≡ room
@@ -235,12 +232,9 @@ module _ (base : State) where
         Noted base rooms s →
         Kept (noting base rooms) (run_in library body comp number args back s)
     run_notes comp number args back b s h =
-        found_kept (noting base rooms) (function library comp number) s _ h.told (λ f is.
-        then_back (wider comp f.room rooms) rooms (body number (record { comp = comp; first = length (s.memory comp) })
-        (begun comp f args s)) _
-        (notes (wider comp f.room rooms) number (record { comp = comp; first = length (s.memory comp) })
-        (begun comp f args s) (begun_noted rooms comp f args s h))
-        (λ v t g. b v (done comp f (length (s.memory comp)) t) (done_noted rooms comp f (length (s.memory comp)) t g)))
+        found_kept _ (function library comp number) s _ h.told (λ f is.
+        then_back (wider comp f.room rooms) rooms (body number _ _) _ (notes _ number _
+        _ (begun_noted rooms comp f args s h)) (λ v t g. b v _ (done_noted rooms comp f _ t g)))
 
     own_notes : (comp number : ℕ) (args : List Value) (s : State) → Noted base rooms s →
         Kept (noting base rooms) (call_own library body comp number args s)
@@ -249,37 +243,32 @@ module _ (base : State) where
     cross_notes : (from to index : ℕ) (args : List Value) (s : State) → Noted base rooms s →
         Kept (noting base rooms) (call_cross library body from to index args s)
     cross_notes from to index args s h =
-        found_kept (noting base rooms) (library.entered to (Export index)) s _ h.told (λ number is.
-        run_notes to number (crossed args) (back_cross library.interfaces from to index)
-        (λ v s h. record {
-          after = told_noted rooms (Ret to from (crossing (export_at library.interfaces to index) v)) s refl h;
-        })
-        (tell (Call from to index (map word_in args)) s) (told_noted rooms (Call from to index (map word_in args)) s
-        refl h))
+        found_kept _ (library.entered to _) s _ h.told (λ number is.
+        run_notes to number _ (back_cross library.interfaces from to index) (λ v s h. record {
+          after = told_noted rooms _ s refl h;
+        }) _ (told_noted rooms _ s refl h))
 
     called_notes : (from : ℕ) (target : CallTarget) (args : List Value) (s : State) → Noted base rooms s →
         Kept (noting base rooms) (called library body from target args s)
     called_notes from (Own number) args s h =
         then_kept (noting base rooms) (turn s) (λ _ s. call_own library body from number args s) (turned rooms s.turns s
-        h)
-        (λ _ s h. own_notes from number args s h)
+        h) (λ _ s h. own_notes from number args s h)
     called_notes from (Cross to index) args s h =
-        then_kept (noting base rooms) (turn s) (λ _ s. call_cross library body from to index args s) (turned rooms
-        s.turns s h)
+        then_kept _ (turn s) (λ _ s. call_cross library body from to index args s) (turned rooms s.turns s h)
         (λ _ s h. cross_notes from to index args s h)
     called_notes from Input args s h =
         record {
-          after = let told = told_noted rooms (In from (next_input s.inputs)) s refl h in
+          after = let told = told_noted rooms (In from _) s refl h in
               record {
-                told = told_again (tell (In from (next_input s.inputs)) s) (read_input from s) refl refl told.told;
+                told = told_again (tell (In from _) s) _ refl refl told.told;
                 open_ = told.open_;
               };
         }
-    called_notes from Output args s h = record { after = told_noted rooms (Out from (first_word args)) s refl h }
+    called_notes from Output args s h = record { after = told_noted rooms (Out from _) s refl h }
 
     calls_note : (from : ℕ) (target : CallTarget) (args : List Value) (s : State) → Noted base rooms s →
         Kept (noting base rooms) (calls library body from target args s)
-    calls_note from target args s h = by (may_call library from target args) where
+    calls_note from target args s h = by _ where
       by : (b : Bool) →
           Kept (noting base rooms) (if b then called library body from target args s else Stopped (Blamed from BadType
           0) s)
@@ -290,7 +279,7 @@ module _ (base : State) where
   module _ (library : Library) (body : Body) (notes : BodyNotes body) (rooms : Rooms) where
     asks_note : (comp : ℕ) (target : CallTarget) (args : List Value) (s : State) → Noted base rooms s →
         Kept (noting base rooms) (asks library body comp target args s)
-    asks_note comp target args s h = by (may_call library comp target args) where
+    asks_note comp target args s h = by _ where
       by : (b : Bool) → Kept (noting base rooms) (if b then calls library body comp target args s else Stopped TurnsOut
           s)
       by true = calls_note library body notes rooms comp target args s h
@@ -302,30 +291,26 @@ module _ (base : State) where
         → (comp : ℕ) (s : State) → Noted base rooms s → Kept (noting base rooms) (acts library body action next again
         comp s)
     acts_note (act.Call to index args) next again n a comp s h =
-        then_kept (noting base rooms) (asks library body comp (Cross to index) (map (λ w. Word w) args) s)
-        _ (asks_note comp (Cross to index) (map (λ w. Word w) args) s h) (λ v s h. a s h)
+        then_kept _ (asks library body comp (Cross to index) (map _ args) s)
+        _ (asks_note comp (Cross to index) (map _ args) s h) (λ v s h. a s h)
     acts_note (act.Ret v) next again n a comp s h = record { after = h }
     acts_note (act.Out w) next again n a comp s h =
-        then_kept (noting base rooms) (asks library body comp Output (Word w ∷ []) s) _ (asks_note comp Output (Word w ∷
-        []) s
+        then_kept _ (asks library body comp Output (Word w ∷ []) s) _ (asks_note comp Output (Word w ∷ []) s
         h) (λ v s h. n s h)
     acts_note (act.In w) next again n a comp s h =
-        then_kept (noting base rooms) (asks library body comp Input [] s) _ (asks_note comp Input [] s h) (λ v s h. n s
-        h)
+        then_kept _ (asks library body comp Input [] s) _ (asks_note comp Input [] s h) (λ v s h. n s h)
     acts_note (act.End w) next again n a comp s h = record { after = h }
 
     performs_note : (rows : List Row) (number : ℕ) (here : Here) (s : State) → Noted base rooms s →
         Kept (noting base rooms) (performs library body rows number here s)
     performs_note [] number here s h = record { after = h.told }
     performs_note (row ∷ rest) number here s h =
-        by (performs_note rest number here) (is_number number (library.entered here.comp row.entry)) where
+        by (performs_note rest number here) _ where
           by : ((s : State) → Noted base rooms s → Kept (noting base rooms) (performs library body rest number here s))
-              →
-              (b : Bool) →
+              → (b : Bool) →
               Kept (noting base rooms) (if b then acts library body row.action (performs library body rest number here)
               (body number here) here.comp s else Stopped TurnsOut s)
-          by next true = acts_note row.action (performs library body rest number here) (body number here) next
-              (λ s h. notes rooms number here s h) here.comp s h
+          by next true = acts_note _ _ _ next (λ s h. notes rooms number here s h) _ s h
           by next false = record { after = h.told }
 
   abbrev StepNotes : Step → Type 0
@@ -334,26 +319,23 @@ module _ (base : State) where
   module _ (library : Library) (obedient : Obedient library) where
     run_step_notes : (body : Body) → BodyGoes body → BodyNotes body → BodyNotes (run_step library body)
     run_step_notes body goes notes rooms number here s h =
-        found_kept (noting base rooms) (function library here.comp number) s (λ f s. f.does (calls library body) here s)
-        h.told
-        (λ f is.
-        function_keeps library obedient here.comp number f is (noting base rooms) here (is_kept rooms here)
-        (calls library body) (calls_go library body goes) (λ target args s h. calls_note library body notes rooms
-        here.comp target args s h) s h)
+        found_kept _ (function library _ number) s (λ f s. f.does _ here s) h.told (λ f is.
+        function_keeps library obedient _ number f is _ here (is_kept rooms here)
+        _ (calls_go library body goes) (λ target args s h. calls_note library body notes rooms _ target args s h) s h)
 
     scripted_notes : (roles : Roles) → StepNotes (scripted_step library roles (run_step library))
-    scripted_notes roles body goes notes rooms number here s h = by (roles.scripted here.comp) where
+    scripted_notes roles body goes notes rooms number here s h = by _ where
       by : (b : Bool) →
           Kept (noting base rooms) (if b then performs library body (rows_left roles here.comp s.trace) number here
           s else run_step library body number here s)
-      by true = performs_note library body notes rooms (rows_left roles here.comp s.trace) number here s h
+      by true = performs_note library body notes rooms _ number here s h
       by false = run_step_notes body goes notes rooms number here s h
 
     module _ (step : Step) (goes : StepGoes step) (notes : StepNotes step) where
       within_notes : (n : ℕ) → BodyNotes (within step n)
       within_notes zero rooms number here s h = record { after = h.told }
       within_notes (suc n) rooms number here s h =
-          notes (within step n) (within_goes step goes n) (within_notes n) rooms number here s h
+          notes _ (within_goes step goes n) (within_notes n) rooms number here s h
 
 module _ (library : Library) (obedient : Obedient library) where
   module _ (step : Step) (goes : StepGoes step) (notes : (base : State) → StepNotes base step) where
@@ -362,8 +344,7 @@ module _ (library : Library) (obedient : Obedient library) where
         Kept (noting s (λ c. open_room c s)) (call_own library (within step n) comp number args s)
     own_kept n comp number args s =
         own_notes s library (within step n) (within_notes s library obedient step goes (notes s) n)
-        (λ c. open_room c s) comp number args s
-        (record { told = record { moments = λ h. h; endless = λ h. h }; open_ = λ c. refl })
+        _ comp number args s (record { told = record { moments = λ h. h; endless = λ h. h }; open_ = λ c. refl })
 
     last_told : (base : State) (rooms : Rooms) (piece : Piece (Option Value)) → Kept (noting base rooms) piece →
         Told base (last piece)
@@ -374,22 +355,19 @@ module _ (library : Library) (obedient : Obedient library) where
         AllBefore (suc (length base.trace)) base.frames → Kept (noting base rooms) piece →
         AreTold (run_to main piece)
     run_to_notes base rooms main (Reached v s) first h =
-        before_more (suc (length s.trace)) (suc (length (s.trace ++ End main (exit_word v) ∷ [])))
-        (omega (arith, length-append s.trace (End main (exit_word v) ∷ []))) s.frames (h.after.told.moments first)
+        before_more (suc (length s.trace)) (suc (length _))
+        (omega (arith, length-append s.trace (End main (exit_word v) ∷ []))) _ (h.after.told.moments first)
     run_to_notes base rooms main (Stopped end s) first h = h.after.moments first
 
     run_by_notes : (globals : Memory) (inputs : List ℕ) (turns : ℕ) → AreTold (run_by library step globals inputs turns)
     run_by_notes globals inputs turns =
-        let base : State = first_state globals inputs turns in
-        run_to_notes base (λ c. 0) library.interfaces.main _ tt
-        (found_kept (noting base (λ c. 0)) (library.entered library.interfaces.main Main) base _
-        (record { moments = λ h. h; endless = λ h. h })
-        (λ number is. own_kept (suc turns) library.interfaces.main number [] base))
+        let base = first_state globals inputs turns in
+        run_to_notes base (λ c. 0) library.interfaces.main _ tt (found_kept _ (library.entered _ Main) base _
+        (record { moments = λ h. h; endless = λ h. h }) (λ number is. own_kept (suc turns) _ number [] base))
 
     leaves_rooms : LeavesRooms library step
     leaves_rooms n comp number args v s t told is =
-        (reached_noted (λ c. open_room c s) (call_own library (within step n) comp number args s) v t is
-        (own_kept n comp number args s)).open_ where
+        (reached_noted _ _ v t is (own_kept n comp number args s)).open_ where
           reached_noted : (rooms : Rooms) (piece : Piece (Option Value)) (v : Option Value) (t : State) →
               piece ≡ Reached v t → Kept (noting s rooms) piece → Noted s rooms t
           reached_noted rooms piece v t is h = (subst (λ p. Kept (noting s rooms) p) is h).after
@@ -403,16 +381,16 @@ module _ (library : Library) (obedient : Obedient library) where
   keeps_rooms = record {
     told = run_by_notes (run_step library) (run_goes_on library obedient) (λ base. run_step_notes base library
         obedient);
-    scripted_told = λ globals inputs turns roles. run_by_notes (scripted_step library roles (run_step library))
+    scripted_told = λ globals inputs turns roles. run_by_notes (scripted_step library roles _)
         (scripted_goes_on library obedient roles) (λ base. scripted_notes base library obedient roles) globals inputs
         turns;
     returns = leaves_rooms (run_step library) (run_goes_on library obedient)
         (λ base. run_step_notes base library obedient);
     scripted_returns =
-        λ roles. leaves_rooms (scripted_step library roles (run_step library)) (scripted_goes_on library obedient roles)
+        λ roles. leaves_rooms (scripted_step library roles _) (scripted_goes_on library obedient roles)
         (λ base. scripted_notes base library obedient roles);
     no_end = tells_no_end (run_step library) (run_goes_on library obedient)
         (λ base. run_step_notes base library obedient);
-    scripted_no_end = λ roles. tells_no_end (scripted_step library roles (run_step library))
+    scripted_no_end = λ roles. tells_no_end (scripted_step library roles _)
         (scripted_goes_on library obedient roles) (λ base. scripted_notes base library obedient roles);
   }

@@ -11,7 +11,7 @@ pub stands_last : (at : Option Standing) (u : List Event) (e : Event) (st : Stan
 stands_last None [] e st is = absurd (cc)
 stands_last None (f ∷ u) e st is = absurd (cc)
 stands_last (Some x) [] e st is = (let same : x ≡ st = cc in ap (λ y. stands_after y e) same)
-stands_last (Some x) (f ∷ u) e st is = stands_last (stands_after x f) u e st is
+stands_last (Some x) (f ∷ u) e st is = stands_last _ u e st is
 
 -- ROWS
 counted : (c : ℕ) (f : Event) (u : List Event) (b : Bool) → (performer f == c) ≡ b →
@@ -25,13 +25,13 @@ counted c f u false is =
 
 one_more : (c : ℕ) (f e : Event) (u : List Event) (b : Bool) → (performer f == c) ≡ b →
     count_of c (u ++ e ∷ []) ≡ suc (count_of c u) → count_of c (f ∷ (u ++ e ∷ [])) ≡ suc (count_of c (f ∷ u))
-one_more c f e u true is more = counted c f (u ++ e ∷ []) true is ∙ ap suc more ∙ ap suc (sym (counted c f u true is))
-one_more c f e u false is more = counted c f (u ++ e ∷ []) false is ∙ more ∙ ap suc (sym (counted c f u false is))
+one_more c f e u true is more = counted c f _ true is ∙ ap suc more ∙ ap suc (sym (counted c f u true is))
+one_more c f e u false is more = counted c f _ false is ∙ more ∙ ap suc (sym (counted c f u false is))
 
 pub counts_its_own : (c : ℕ) (u : List Event) (e : Event) → performer e ≡ c →
     count_of c (u ++ e ∷ []) ≡ suc (count_of c u)
-counts_its_own c [] e own = counted c e [] true (eq-eqb (performer e) c own)
-counts_its_own c (f ∷ u) e own = one_more c f e u (performer f == c) refl (counts_its_own c u e own)
+counts_its_own c [] e own = counted c e [] true (eq-eqb _ c own)
+counts_its_own c (f ∷ u) e own = one_more c f e u _ refl (counts_its_own c u e own)
 
 -- the first of these rows is one of this entry and action
 pub record Next (rows : List Row) (st : Standing) (e : Event) : Type 0 where
@@ -74,20 +74,19 @@ next_from c number (Some x) [] e more st is own =
     record {
       number = number;
       rest = rows_from c (suc number) (stands_after x e) more;
-      is = ap (from_here c number x e more) (eq-eqb (performer e) c own)
+      is = ap (from_here c number x e more) (eq-eqb _ c own)
           ∙ ap (λ y. record { entry = y.active.entry; number = number; action = action_of e } ∷ rows_from c (suc number)
           (stands_after x e) more) same;
     }
 next_from c number (Some x) (f ∷ u) e more st is own =
-    next_behind c number x st f e u (u ++ e ∷ more) (performer f == c) refl (next_from c (suc number) (stands_after x f)
-    u e more st is own) (next_from c number (stands_after x f) u e more st is own)
+    next_behind c number x st f e u _ (performer f == c) refl (next_from c (suc number) _
+    u e more st is own) (next_from c number _ u e more st is own)
 
 -- the next row of a compartment that performs the next event of a trace
 pub row_of_next : (main c : ℕ) (t u : List Event) (e : Event) (more : List Event) (st : Standing) → t ≡ u ++ e ∷ more →
     stands_behind (at_start main) u ≡ Some st → performer e ≡ c → Next (drop (count_of c u) (part main c t)) st e
 row_of_next main c t u e more st is stands own =
-    subst (λ z. Next (drop (count_of c u) (part main c z)) st e) (sym is) (next_from c 0 (at_start main) u e more st
-    stands own)
+    subst (λ z. Next (drop (count_of c u) (part main c z)) st e) (sym is) (next_from c 0 _ u e more st stands own)
 
 -- once it is told, the rows behind it are left
 pub rows_behind : (main c : ℕ) (t u : List Event) (e : Event) (st : Standing) → performer e ≡ c →
@@ -98,7 +97,7 @@ rows_behind main c t u e st own next =
     ∙ ap (drop 1) next.is where
       one_less : {A : Type 0} (n : ℕ) (xs : List A) → drop (suc n) xs ≡ drop 1 (drop n xs)
       one_less zero [] = refl
-      one_less zero (x ∷ xs) = refl
+      one_less zero _ = refl
       one_less (suc n) [] = refl
       one_less (suc n) (x ∷ xs) = one_less n xs
 

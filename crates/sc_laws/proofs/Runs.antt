@@ -9,17 +9,17 @@ use Rattle.sc_laws.proofs.Common.{take, take_all, true, within, zero, ℕ, ◌++
 use Rattle.sc_laws.proofs.Growing.{front_more, StepGoes, then_goes, found_goes, own_goes, within_goes}
 use Rattle.sc_laws.proofs.Libraries.{Anywhere}
 use Rattle.sc_laws.proofs.Matching.{library_twins}
-use Rattle.sc_laws.proofs.Below.{richer, richer_piece, Passes, Below, along, passed, Ahead, below_kept, below_at}
+use Rattle.sc_laws.proofs.Below.{richer, richer_piece, Passes, Below, along, passed, below_kept, below_at}
 use Rattle.sc_laws.proofs.BelowCalls.{StepsBelow, LibrariesBelow, run_step_below, scripted_below, own_below}
 use Rattle.sc_laws.proofs.BelowCalls.{within_below}
 
 -- LISTS
 take_front : {A : Type 0} (n m : ℕ) (xs more : List A) → n ≤ m → Front (take n xs) (take m (xs ++ more))
-take_front zero m xs more le = record { more = take m (xs ++ more); is = refl }
+take_front zero m xs more le = record { more = take m _; is = refl }
 take_front (suc n) zero xs more le = absurd (omega (arith, le))
 take_front (suc n) (suc m) [] more le = record { more = take (suc m) more; is = refl }
 take_front (suc n) (suc m) (x ∷ xs) more le =
-    let rest : Front (take n xs) (take m (xs ++ more)) = take_front n m xs more (omega (arith, le)) in
+    let rest = take_front n m xs more (omega (arith, le)) in
     record { more = rest.more; is = ap (λ ys. x ∷ ys) rest.is }
 
 pub take_fronts : {A : Type 0} (n m : ℕ) (xs ys : List A) → n ≤ m → Front xs ys → Front (take n xs) (take m ys)
@@ -28,7 +28,7 @@ take_fronts n m xs ys le front =
 
 pub front_long : {A : Type 0} (xs ys : List A) → Front xs ys → length xs ≤ length ys
 front_long xs ys front =
-    let long : length ys ≡ length xs + length front.more = ap length front.is ∙ length-append xs front.more in
+    let long = ap length front.is ∙ length-append xs front.more in
     omega (arith, long)
 
 -- RUNS THAT ARE STOPPED
@@ -37,33 +37,33 @@ at_most less = omega (arith, less)
 
 pub unreached : (events : ℕ) (run : SourceRun) (end : RunEnd) → reaches events run end ≡ false →
     length run.trace ≤ events
-unreached events run Ended below = ltb-false events (length run.trace) below
-unreached events run (Blamed comp cause line) below = at_most (leb-false events (length run.trace) below)
-unreached events run TurnsOut below = at_most (leb-false events (length run.trace) below)
-unreached events run EventsOut below = at_most (leb-false events (length run.trace) below)
+unreached events run Ended below = ltb-false events _ below
+unreached events run (Blamed comp cause line) below = at_most (leb-false events _ below)
+unreached events run TurnsOut below = at_most (leb-false events _ below)
+unreached events run EventsOut below = at_most (leb-false events _ below)
 
 pub trace_is : (events : ℕ) (run : SourceRun) → (stopped_at events run).trace ≡ take events run.trace
-trace_is events run = by_test (reaches events run run.end) refl where
+trace_is events run = by_test _ refl where
   by_test : (b : Bool) → reaches events run run.end ≡ b →
       (if b then record { trace = take events run.trace; end = EventsOut } else run).trace ≡ take events run.trace
   by_test true is = refl
-  by_test false is = sym (take_all events run.trace (unreached events run run.end is))
+  by_test false is = sym (take_all events _ (unreached events run run.end is))
 
 -- a run that reaches fewer events reaches more no sooner
 pub still_unreached : (events more_events : ℕ) (run : SourceRun) (end : RunEnd) → events ≤ more_events →
     reaches events run end ≡ false → reaches more_events run end ≡ false
 still_unreached events more_events run Ended le is =
-    (let few : length run.trace ≤ events = ltb-false events (length run.trace) is in
-    le-ltb more_events (length run.trace) (omega (arith, few, le)))
+    (let few = ltb-false events _ is in
+    le-ltb _ _ (omega (arith, few, le)))
 still_unreached events more_events run (Blamed comp cause line) le is =
-    (let few : length run.trace < events = leb-false events (length run.trace) is in
-    lt-leb more_events (length run.trace) (omega (arith, few, le)))
+    (let few = leb-false events _ is in
+    lt-leb _ _ (omega (arith, few, le)))
 still_unreached events more_events run TurnsOut le is =
-    (let few : length run.trace < events = leb-false events (length run.trace) is in
-    lt-leb more_events (length run.trace) (omega (arith, few, le)))
+    (let few = leb-false events _ is in
+    lt-leb _ _ (omega (arith, few, le)))
 still_unreached events more_events run EventsOut le is =
-    (let few : length run.trace < events = leb-false events (length run.trace) is in
-    lt-leb more_events (length run.trace) (omega (arith, few, le)))
+    (let few = leb-false events _ is in
+    lt-leb _ _ (omega (arith, few, le)))
 
 -- the frames of a run are those of its last state
 pub frames_are : (main : ℕ) (p : Piece (Option Value)) → (run_to main p).frames ≡ (last p).frames
@@ -116,14 +116,14 @@ module _ (d : ℕ) (Soft : Cause → Type 0) (Turns : Type 0) where
       let late : FramesOn (length (run_to main o).behaviour.trace) (run_to main o).frames (run_to main p).frames =
       subst (λ n. FramesOn n (run_to main o).frames (run_to main p).frames) (sym (ap length ends))
       (subst (λ x. FramesOn (length s.trace) x (run_to main p).frames) (sym frames)
-      (subst (FramesOn (length s.trace) s.frames) (sym (frames_are main p)) (on.frames, on.late))) in
+      (subst (FramesOn _ _) (sym (frames_are main p)) (on.frames, on.late))) in
       goes_past end (ap (λ x. (run_to main x).behaviour.end) is) (subst StopsSo is stop) passes more.0 more.1 late.0
       late.1
 
   module _ (spent : (d ≡ 0) ⊎ Turns) (L M : Library) (match : LibrariesMatch Soft L M) where
     pub libraries : (n n' : ℕ) → LibrariesBelow d Soft Turns spent n n' L M
     libraries n n' =
-        library_twins Soft (Ahead d Soft Turns n n') (Below d Soft Turns) Anywhere (below_kept d Soft Turns n n' spent)
+        library_twins Soft _ _ Anywhere (below_kept d Soft Turns n n' spent)
         (λ here good. below_at d Soft Turns n n' spent here) L M match
 
     pub run_steps : StepsBelow d Soft Turns spent (run_step L) (run_step M)
@@ -155,11 +155,10 @@ module _ (d : ℕ) (Soft : Cause → Type 0) (Turns : Type 0) where
           (second_comes main number)
       begin_below None = along refl
       begin_below (Some number) =
-          own_below d Soft Turns spent (suc turns) (suc (turns + d)) (within step (suc turns))
-          (within step' (suc (turns + d))) (within_goes step goes (suc turns))
-          (within_goes step' goes' (suc (turns + d))) (within_below d Soft Turns spent step step' goes goes' steps
-          (suc turns) (suc (turns + d))) L M (libraries (suc turns) (suc (turns + d))) main number [] start
-          (omega arith) (omega arith)
+          own_below d Soft Turns spent (suc turns) (suc _) (within step (suc turns))
+          (within step' (suc _)) (within_goes step goes (suc turns))
+          (within_goes step' goes' (suc _)) (within_below d Soft Turns spent step step' goes goes' steps
+          _ _) L M (libraries _ (suc (turns + d))) main number [] start (omega arith) (omega arith)
 
       begin_goes : (library : Library) (step : Step) → StepGoes step →
           (turns main : ℕ) (number : Option ℕ) (s : State) →
@@ -173,8 +172,8 @@ module _ (d : ℕ) (Soft : Cause → Type 0) (Turns : Type 0) where
           subst (λ i. RunsBelow (run_by L step globals inputs turns)
           (run_to i.main (second_comes i.main (M.entered i.main Main))))
           (sym (libraries (suc turns) (suc (turns + d))).interfaces)
-          (run_to_below main (and_then (found (L.entered main Main) start) (first_call L step turns main))
-          (second_comes main (M.entered main Main)) (begin_goes L step goes turns main (L.entered main Main) start).stop
+          (run_to_below main (and_then (found _ start) (first_call L step turns main))
+          (second_comes main _) (begin_goes L step goes turns main (L.entered main Main) start).stop
           (begin_goes M step' goes' (turns + d) main (M.entered main Main) (richer d start)).stop
           (subst (λ x. Below d Soft Turns (Option Value) (and_then (found (L.entered main Main) start)
           (first_call L step turns main)) (second_comes main x))

@@ -5,14 +5,14 @@ use Rattle.sc_laws.proofs.Common.{EventsOut, Export, ExportsLead, Here, In, Inpu
 use Rattle.sc_laws.proofs.Common.{Main, Memory, None, Obedient, Option, Out, Output, Own, Piece, Property, Reached, Ret}
 use Rattle.sc_laws.proofs.Common.{Roles, Row, RunEnd, Set, Some, SpendsAlong, Standing, State, Stopped, TurnsOut, Value}
 use Rattle.sc_laws.proofs.Common.{Word, [], action_of, acts, and_from, and_parts, and_then, ap, arith, at_start}
-use Rattle.sc_laws.proofs.Common.{back_cross, back_own, begun, call_cross, call_own, called, calls, count_of, crossed}
-use Rattle.sc_laws.proofs.Common.{crossing, done, drop, eq-eqb, eqb-true, export_at, false, false≢true, first_state}
-use Rattle.sc_laws.proofs.Common.{found, function, if◌then◌else◌, imports, is_allowed, is_function, is_legal_from}
-use Rattle.sc_laws.proofs.Common.{is_number, is_output, is_some, is_word, leads, legal, length, length-map, list_all}
-use Rattle.sc_laws.proofs.Common.{map, may_call, may_perform, next_input, part, performer, performs, refl, roles_in}
+use Rattle.sc_laws.proofs.Common.{back_cross, back_own, begun, call_cross, call_own, called, calls, count_of}
+use Rattle.sc_laws.proofs.Common.{done, drop, eq-eqb, eqb-true, false, false≢true, first_state}
+use Rattle.sc_laws.proofs.Common.{found, function, if◌then◌else◌, imports, is_allowed, is_legal_from}
+use Rattle.sc_laws.proofs.Common.{is_number, is_some, is_word, leads, legal, length-map, list_all}
+use Rattle.sc_laws.proofs.Common.{map, may_call, may_perform, part, performer, performs, refl, roles_in}
 use Rattle.sc_laws.proofs.Common.{rows_left, run_in, run_step, same_Some, scripted_call, scripted_step, stands_after}
 use Rattle.sc_laws.proofs.Common.{stands_behind, subst, suc, sym, takes, tell, then_kept, true, turn_of, within}
-use Rattle.sc_laws.proofs.Common.{word_in, zero, ℕ, ◌++◌, ◌<◌, ◌==◌, ◌∙◌, ◌∷◌, ◌≡◌}
+use Rattle.sc_laws.proofs.Common.{zero, ℕ, ◌++◌, ◌<◌, ◌∙◌, ◌∷◌, ◌≡◌}
 use Rattle.sc_event.specs.declared.row.Action.TheVariants as act
 use Rattle.sc_laws.proofs.Growing.{BodyGoes, calls_go, within_goes}
 use Rattle.sc_laws.proofs.Keeping.{IsKept, function_keeps}
@@ -27,11 +27,9 @@ pub allowed_at : (interfaces : Interfaces) (at : Option Standing) (u : List Even
 allowed_at interfaces None [] e more st l is = absurd (cc)
 allowed_at interfaces (Some a) [] e more st l is =
     subst (λ x. is_allowed interfaces x e ≡ true) (same_Some a st is)
-    (and_parts (is_allowed interfaces a e) (is_legal_from interfaces (stands_after a e) more) l).0
+    (and_parts (is_allowed interfaces a e) (is_legal_from interfaces _ more) l).0
 allowed_at interfaces None (x ∷ u) e more st l is = absurd (false≢true l)
-allowed_at interfaces (Some a) (x ∷ u) e more st l is =
-    allowed_at interfaces (stands_after a x) u e more st
-    (and_parts (is_allowed interfaces a x) (is_legal_from interfaces (stands_after a x) (u ++ e ∷ more)) l).1 is
+allowed_at interfaces (Some a) (x ∷ u) e more st l is = allowed_at interfaces _ u e more st (and_parts _ _ l).1 is
 
 -- what is left behind the first of what is left
 left_behind : {A : Type 0} (n : ℕ) (xs : List A) (x : A) (rest : List A) → x ∷ rest ≡ drop n xs →
@@ -65,7 +63,7 @@ module _ (main : ℕ) (trace : List Event) where
   turned : (n m : ℕ) (st : Standing) (s : State) → m ≡ s.turns → At n st s → Kept (standing n st) (turn_of m s)
   turned n zero st s is at = record { after = λ event more along. sym is }
   turned n (suc m) st s is at = record {
-    after = record { few = (let few : s.turns < n = at.few in omega (arith, is, few)); stands = at.stands };
+    after = record { few = (let few = at.few in omega (arith, is, few)); stands = at.stands };
   }
 
   is_kept : (n : ℕ) (st : Standing) (here : Here) → IsKept (standing n st) here
@@ -79,7 +77,7 @@ module _ (main : ℕ) (trace : List Event) where
       Kept (standing (suc n) st) o
   more_turns n st (Reached v s) h = record {
     after = record {
-      few = (let few : s.turns < n = h.after.few in omega (arith, few));
+      few = (let few = h.after.few in omega (arith, few));
       stands = h.after.stands;
     };
   }
@@ -91,8 +89,7 @@ module _ (main : ℕ) (trace : List Event) where
       Kept (standing n st) (and_then (turn_of m s) (λ _. k))
   after_turn n zero st s k is at h = record { after = λ event more along. sym is }
   after_turn n (suc m) st s k is at h =
-      h (record s { turns = m })
-      (record { few = (let few : s.turns < suc n = at.few in omega (arith, is, few)); stands = at.stands })
+      h _ (record { few = (let few = at.few in omega (arith, is, few)); stands = at.stands })
 
   -- what is looked up and there
   there : {V W : Type 0} (K : Property) (o : Option V) (s : State) (go : V → State → Piece W) → is_some o ≡ true →
@@ -110,7 +107,7 @@ module _ (main : ℕ) (trace : List Event) where
   told : (n : ℕ) (st next : Standing) (s : State) (e : Event) → At n st s → stands_after st e ≡ Some next →
       At n next (tell e s)
   told n st next s e at then_on =
-      record { few = at.few; stands = stands_last (at_start main) s.trace e st at.stands ∙ then_on }
+      record { few = at.few; stands = stands_last _ s.trace e st at.stands ∙ then_on }
 
 -- FUNCTIONS
 module _ (library : Library) (leads_on : ExportsLead library) (trace : List Event)
@@ -141,12 +138,10 @@ module _ (library : Library) (leads_on : ExportsLead library) (trace : List Even
         ((v : Option Value) (s : State) → At main trace n inner s → Kept (Kind n outer) (back v s)) → (s : State) →
         At main trace n inner s → Kept (Kind n outer) (run_in library body comp number args back s)
     run_along inner outer comp number args back here is entered b s at =
-        there main trace (Kind n outer) (function library comp number) s _ is (λ f found_f.
-        then_at main trace n inner outer
-        (body number (record { comp = comp; first = length (s.memory comp) }) (begun comp f args s)) _
-        (along number (record { comp = comp; first = length (s.memory comp) }) (begun comp f args s) inner here is
+        there main trace (Kind n outer) _ s _ is (λ f found_f. then_at main trace n inner outer
+        (body number _ (begun comp f args s)) _ (along number _ (begun comp f args s) inner here is
         entered (record { few = at.few; stands = at.stands }))
-        (λ v t at. b v (done comp f (length (s.memory comp)) t) (record { few = at.few; stands = at.stands })))
+        (λ v t at. b v (done comp f _ t) (record { few = at.few; stands = at.stands })))
 
     own_along : (st : Standing) (comp number : ℕ) (args : List Value) → comp ≡ st.active.comp →
         is_some (function library comp number) ≡ true → IsEntered comp number st → (s : State) →
@@ -166,23 +161,18 @@ module _ (library : Library) (leads_on : ExportsLead library) (trace : List Even
         leads library to (library.entered to (Export index)) ≡ true → (s : State) → At main trace n st s →
         Kept (Kind n st) (call_cross library body from to index args s)
     cross_along st from to index args is s at =
-        there main trace (Kind n st) (library.entered to (Export index)) s _
-        (led_somewhere to (library.entered to (Export index)) is) (λ number same.
-        run_along (entered_at st to index) st to number (crossed args) (back_cross library.interfaces from to index)
-        refl (sym (ap (leads library to) same) ∙ is) (λ performing. same)
-        (λ v s inside. record {
-          after = told main trace n (entered_at st to index) st s
-              (Ret to from (crossing (export_at library.interfaces to index) v)) inside refl;
-        })
-        (tell (Call from to index (map word_in args)) s)
-        (told main trace n st (entered_at st to index) s (Call from to index (map word_in args)) at refl))
+        there main trace _ (library.entered to _) s _ (led_somewhere to _ is) (λ number same.
+        run_along (entered_at st to index) st to number _ (back_cross library.interfaces from to index)
+        refl (sym (ap (leads library to) same) ∙ is) (λ performing. same) (λ v s inside. record {
+          after = told main trace n _ st s _ inside refl;
+        }) _ (told main trace n st _ s _ at refl))
 
     -- a call that takes a turn
     turned_own : (st : Standing) (from number : ℕ) (args : List Value) (s : State) → from ≡ st.active.comp →
         set from ≡ false → is_some (function library from number) ≡ true → At main trace (suc n) st s →
         Kept (Kind n st) (called library body from (Own number) args s)
     turned_own st from number args s here plain is at =
-        after_turn main trace n s.turns st s (call_own library body from number args) refl at
+        after_turn main trace n s.turns st s _ refl at
         (λ t at. own_along st from number args here is (λ performing. absurd
         (false≢true (sym plain ∙ performing))) t at)
 
@@ -190,14 +180,13 @@ module _ (library : Library) (leads_on : ExportsLead library) (trace : List Even
         leads library to (library.entered to (Export index)) ≡ true → At main trace (suc n) st s →
         Kept (Kind n st) (called library body from (Cross to index) args s)
     turned_cross st from to index args s is at =
-        after_turn main trace n s.turns st s (call_cross library body from to index args) refl at
-        (λ t at. cross_along st from to index args is t at)
+        after_turn main trace n s.turns st s _ refl at (λ t at. cross_along st from to index args is t at)
 
     led : (from to index : ℕ) (args : List Value) → may_call library from (Cross to index) args ≡ true →
         leads library to (library.entered to (Export index)) ≡ true
     led from to index args may =
-        let first = and_parts (imports library.interfaces from (is_function to index)) _ may in
-        let second = and_parts (takes library.interfaces to index (length args)) _ first.1 in
+        let first = and_parts (imports library.interfaces from _) _ may in
+        let second = and_parts (takes library.interfaces to index _) _ first.1 in
         (and_parts (list_all is_word args) _ second.1).1
 
     -- OF COMPARTMENTS THAT RUN THEIR FUNCTIONS
@@ -205,25 +194,21 @@ module _ (library : Library) (leads_on : ExportsLead library) (trace : List Even
         from ≡ st.active.comp → set from ≡ false → may_call library from target args ≡ true →
         At main trace (suc n) st s → Kept (Kind (suc n) st) (called library body from target args s)
     called_along st from (Own number) args s here plain may at =
-        more_turns main trace n st (called library body from (Own number) args s)
-        (turned_own st from number args s here plain may at)
+        more_turns main trace n st _ (turned_own st from number args s here plain may at)
     called_along st from (Cross to index) args s here plain may at =
-        more_turns main trace n st (called library body from (Cross to index) args s)
-        (turned_cross st from to index args s (led from to index args may) at)
+        more_turns main trace n st _ (turned_cross st from to index args s (led from to index args may) at)
     called_along st from Input args s here plain may at =
         record {
-          after = told main trace (suc n) st st (record s { inputs = drop 1 s.inputs }) (In from (next_input s.inputs))
-              (record { few = at.few; stands = at.stands }) refl;
+          after = told main trace _ st st _ _ (record { few = at.few; stands = at.stands }) refl;
         }
     called_along st from Output args s here plain may at =
-        record { after = told main trace (suc n) st st s (Out from _) at refl }
+        record { after = told main trace _ st st s _ at refl }
 
     calls_along : (st : Standing) (from : ℕ) (target : CallTarget) (args : List Value) (s : State) →
         from ≡ st.active.comp → set from ≡ false → At main trace (suc n) st s →
         Kept (Kind (suc n) st) (calls library body from target args s)
-    calls_along st from target args s here plain at = by (may_call library from target args) refl where
-      by : (b : Bool) → may_call library from target args ≡ b →
-          Kept (Kind (suc n) st)
+    calls_along st from target args s here plain at = by _ refl where
+      by : (b : Bool) → may_call library from target args ≡ b → Kept (Kind (suc n) st)
           (if b then called library body from target args s else Stopped (Blamed from BadType 0) s)
       by true may = called_along st from target args s here plain may at
       by false may = record { after = tt }
@@ -240,17 +225,14 @@ module _ (library : Library) (leads_on : ExportsLead library) (trace : List Even
     may_ask : (st : Standing) (comp : ℕ) (e : Event) → performer e ≡ comp →
         may_perform library.interfaces st e ≡ true → MayAsk comp (action_of e)
     may_ask st comp (Call from to index args) own may =
-        let parts = and_parts (imports library.interfaces from (is_function to index)) _ may in
-        subst (λ c. may_call library c (Cross to index) (map (λ w. Word w) args) ≡ true) own
-        (and_from (imports library.interfaces from (is_function to index)) _ parts.0
-        (and_from (takes library.interfaces to index (length (map (λ w. Word w) args))) _
-        (ap (takes library.interfaces to index) (length-map args (λ w. Word w)) ∙ parts.1)
-        (and_from (list_all is_word (map (λ w. Word w) args)) _ (words_are args)
-        (leads_on to index (length args) parts.1))))
+        let parts = and_parts (imports library.interfaces from _) _ may in
+        subst (λ c. may_call library c (Cross to index) (map (λ w. Word w) args) ≡ true) own (and_from _ _ parts.0
+        (and_from (takes library.interfaces to index _) _
+        (ap (takes library.interfaces to index) (length-map args _) ∙ parts.1)
+        (and_from (list_all is_word (map _ args)) _ (words_are args) (leads_on to index _ parts.1))))
     may_ask st comp (Ret from to v) own may = tt
     may_ask st comp (Out from w) own may =
-        subst (λ c. may_call library c Output (Word w ∷ []) ≡ true) own
-        (and_from (imports library.interfaces from is_output) _ may refl)
+        subst (λ c. may_call library c Output (Word w ∷ []) ≡ true) own (and_from _ _ may refl)
     may_ask st comp (In from w) own may = subst (λ c. may_call library c Input [] ≡ true) own may
     may_ask st comp (End from w) own may = tt
 
@@ -265,8 +247,8 @@ module _ (library : Library) (leads_on : ExportsLead library) (trace : List Even
     is_next st comp s e more here at is =
         let allowed = allowed_at library.interfaces (at_start main) s.trace e more st
         (subst (λ t. legal library.interfaces t ≡ true) is legal_trace) at.stands in
-        let parts = and_parts (performer e == st.active.comp) (may_perform library.interfaces st e) allowed in
-        let own : performer e ≡ comp = eqb-true (performer e) st.active.comp parts.0 ∙ sym here in
+        let parts = and_parts _ _ allowed in
+        let own = eqb-true _ _ parts.0 ∙ sym here in
         record { row = row_of_next main comp trace s.trace e more st is at.stands own; own = own; may = parts.1 }
 
     -- a function of a compartment that performs, with the row that it performs next
@@ -284,23 +266,23 @@ module _ (library : Library) (leads_on : ExportsLead library) (trace : List Even
       names : (e : Event) (more : List Event) → trace ≡ s.trace ++ e ∷ more →
           is_number number (library.entered here.comp row.entry) ≡ true
       names e more along_trace =
-          let following = is_next st here.comp s e more active at along_trace in
-          ap (λ (r : Row). is_number number (library.entered here.comp r.entry)) (same_row e more following) ∙
+          let following = is_next st _ s e more active at along_trace in
+          ap (λ r. is_number number (library.entered here.comp r.entry)) (same_row e more following) ∙
           ap (is_number number) entered ∙ eq-eqb number number refl
 
       -- and asks for what may be called
       asked : (action : Action) → row.action ≡ action → (e : Event) (more : List Event) →
           trace ≡ s.trace ++ e ∷ more → MayAsk here.comp action
       asked action its e more along_trace =
-          let following = is_next st here.comp s e more active at along_trace in
-          subst (MayAsk here.comp) (sym (ap (λ (r : Row). r.action) (same_row e more following)) ∙ its)
-          (may_ask st here.comp e following.own following.may)
+          let following = is_next st _ s e more active at along_trace in
+          subst (MayAsk _) (sym (ap (λ r. r.action) (same_row e more following)) ∙ its)
+          (may_ask st _ e following.own following.may)
 
       -- once an event was told, the rows behind are left
       rows_then : (e : Event) → performer e ≡ here.comp → rest ≡ rows_left roles here.comp (s.trace ++ e ∷ [])
       rows_then e own =
-          left_behind (count_of here.comp s.trace) (part main here.comp trace) row rest rows ∙
-          ap (λ k. drop k (part main here.comp trace)) (sym (counts_its_own here.comp s.trace e own))
+          left_behind (count_of _ s.trace) (part main _ trace) row rest rows ∙
+          ap (λ k. drop k (part main here.comp trace)) (sym (counts_its_own _ s.trace e own))
 
       call_along : (to index : ℕ) (args : List ℕ) → row.action ≡ act.Call to index args → (b : Bool) →
           may_call library here.comp (Cross to index) (map (λ w. Word w) args) ≡ b →
@@ -308,15 +290,12 @@ module _ (library : Library) (leads_on : ExportsLead library) (trace : List Even
           (and_then (if b then (if b then called library body here.comp (Cross to index) (map (λ w. Word w) args) s else
           Stopped (Blamed here.comp BadType 0) s) else Stopped TurnsOut s) (λ v s. body number here s))
       call_along to index args its true may =
-          let call = called library body here.comp (Cross to index) (map (λ w. Word w) args) s in
-          more_turns main trace n st (and_then call (λ v s. body number here s))
-          (then_kept (Kind n st) call (λ v s. body number here s)
-          (turned_cross st here.comp to index (map (λ w. Word w) args) s
-          (led here.comp to index (map (λ w. Word w) args) may) at)
+          let call = called library body here.comp (Cross to index) (map _ args) s in
+          more_turns main trace n st _ (then_kept _ call _ (turned_cross st _ to index _ s (led _ to index _ may) at)
           (λ v t at. along number here t st active is (λ performing. entered) at))
       call_along to index args its false may = record {
         after = λ e more along_trace.
-            let asks_well = asked (act.Call to index args) its e more along_trace in
+            let asks_well = asked _ its e more along_trace in
             absurd (false≢true (sym may ∙ asks_well));
       }
 
@@ -326,12 +305,10 @@ module _ (library : Library) (leads_on : ExportsLead library) (trace : List Even
           (and_then (if b then (if b then called library body here.comp Output (Word w ∷ []) s else
           Stopped (Blamed here.comp BadType 0) s) else Stopped TurnsOut s)
           (λ v s. performs library body rest number here s))
-      out_along w its true may =
-          next (tell (Out here.comp w) s) (rows_then (Out here.comp w) refl)
-          (told main trace (suc n) st st s (Out here.comp w) at refl)
+      out_along w its true may = next _ (rows_then _ refl) (told main trace _ st st s _ at refl)
       out_along w its false may = record {
         after = λ e more along_trace.
-            let asks_well = asked (act.Out w) its e more along_trace in absurd (false≢true (sym may ∙ asks_well));
+            let asks_well = asked _ its e more along_trace in absurd (false≢true (sym may ∙ asks_well));
       }
 
       in_along : (w : ℕ) → row.action ≡ act.In w → (b : Bool) → may_call library here.comp Input [] ≡ b →
@@ -340,31 +317,27 @@ module _ (library : Library) (leads_on : ExportsLead library) (trace : List Even
           Stopped (Blamed here.comp BadType 0) s) else Stopped TurnsOut s)
           (λ v s. performs library body rest number here s))
       in_along w its true may =
-          next (tell (In here.comp (next_input s.inputs)) (record s { inputs = drop 1 s.inputs }))
-          (rows_then (In here.comp (next_input s.inputs)) refl)
-          (told main trace (suc n) st st (record s { inputs = drop 1 s.inputs }) (In here.comp (next_input s.inputs))
-          (record { few = at.few; stands = at.stands }) refl)
+          next _ (rows_then _ refl) (told main trace _ st st _ _ (record { few = at.few; stands = at.stands }) refl)
       in_along w its false may = record {
         after = λ e more along_trace.
-            let asks_well = asked (act.In w) its e more along_trace in absurd (false≢true (sym may ∙ asks_well));
+            let asks_well = asked _ its e more along_trace in absurd (false≢true (sym may ∙ asks_well));
       }
 
       acts_along : (action : Action) → row.action ≡ action →
           Kept (Kind (suc n) st) (acts library body action (performs library body rest number here) (body number here)
           here.comp s)
-      acts_along (act.Call to index args) its =
-          call_along to index args its (may_call library here.comp (Cross to index) (map (λ w. Word w) args)) refl
+      acts_along (act.Call to index args) its = call_along to index args its _ refl
       acts_along (act.Ret v) its = record { after = at }
-      acts_along (act.Out w) its = out_along w its (may_call library here.comp Output (Word w ∷ [])) refl
-      acts_along (act.In w) its = in_along w its (may_call library here.comp Input []) refl
+      acts_along (act.Out w) its = out_along w its _ refl
+      acts_along (act.In w) its = in_along w its _ refl
       acts_along (act.End w) its = record { after = at }
 
       row_along : Kept (Kind (suc n) st) (performs library body (row ∷ rest) number here s)
-      row_along = by (is_number number (library.entered here.comp row.entry)) refl where
+      row_along = by (is_number number (library.entered _ _)) refl where
         by : (b : Bool) → is_number number (library.entered here.comp row.entry) ≡ b →
             Kept (Kind (suc n) st) (if b then acts library body row.action (performs library body rest number here)
             (body number here) here.comp s else Stopped TurnsOut s)
-        by true named = acts_along row.action refl
+        by true named = acts_along _ refl
         by false named = record {
           after = λ e more along_trace. (let own = names e more along_trace in absurd (false≢true (sym named ∙ own)));
         }
@@ -376,7 +349,7 @@ module _ (library : Library) (leads_on : ExportsLead library) (trace : List Even
         Kept (Kind (suc n) st) (performs library body rows number here s)
     performs_along [] number here s st rows active is entered at = record {
       after = λ e more along_trace.
-          let following = is_next st here.comp s e more active at along_trace in
+          let following = is_next st _ s e more active at along_trace in
           let never = rows ∙ following.row.is in absurd (cc never);
     }
     performs_along (row ∷ rest) number here s st rows active is entered at =
@@ -405,10 +378,10 @@ module _ (library : Library) (leads_on : ExportsLead library) (trace : List Even
 
     within_along : (n : ℕ) → BodyAlong n (its_bodies n)
     within_along zero number here s st active is entered at =
-        let few : s.turns < 0 = at.few in absurd (omega (arith, few))
+        let few = at.few in absurd (omega (arith, few))
     within_along (suc n) number here s st active is entered at =
         step_along n (its_bodies n)
-        (within_goes (scripted_step library roles (run_step library)) (scripted_goes_on library obedient roles) n)
+        (within_goes (scripted_step library roles _) (scripted_goes_on library obedient roles) n)
         (within_along n) number here s st active is entered at
 
     abbrev first : Standing
@@ -418,13 +391,11 @@ module _ (library : Library) (leads_on : ExportsLead library) (trace : List Even
         leads library main (library.entered main Main) ≡ true →
         Kept (Kind (suc turns) first) (scripted_call library roles globals inputs turns)
     main_along globals inputs turns is =
-        let body : Body = its_bodies (suc turns) in
-        there main trace (Kind (suc turns) first) (library.entered main Main) (first_state globals inputs turns) _
-        (led_somewhere (suc turns) body (within_along (suc turns)) main (library.entered main Main) is)
-        (λ number same.
-        own_along (suc turns) body (within_along (suc turns)) first main number [] refl
-        (sym (ap (leads library main) same) ∙ is) (λ performing. same) (first_state globals inputs turns)
-        (record { few = omega arith; stands = refl }))
+        let body = its_bodies (suc turns) in
+        there main trace _ (library.entered main Main) (first_state globals inputs turns) _
+        (led_somewhere (suc turns) body (within_along _) main _ is) (λ number same.
+        own_along _ body (within_along _) first main number [] refl
+        (sym (ap (leads library main) same) ∙ is) (λ performing. same) _ (record { few = omega arith; stands = refl }))
 
 pub spends_along : (library : Library) → Obedient library → ExportsLead library →
     leads library library.interfaces.main (library.entered library.interfaces.main Main) ≡ true →

@@ -2,7 +2,7 @@
 use Rattle.sc_laws.proofs.Common.{Acts, Arith, Blocks, Bool, Break, CallTarget, Calls, Cause, Continue, Doing, Each}
 use Rattle.sc_laws.proofs.Common.{Err, Exit, Here, Inside, List, Local, Match, Next, NoReturn, None, Ok, Option, Return}
 use Rattle.sc_laws.proofs.Common.{Some, TypedExpr, TypedFunction, TypedLocal, TypedSimple, TypedSimpleKind, TypedStmt}
-use Rattle.sc_laws.proofs.Common.{TypedStmtKind, TypedStmtKind-F, TypedStruct, Value, Want, Ways, Word, [], all_do}
+use Rattle.sc_laws.proofs.Common.{TypedStmtKind, TypedStmtKind-F, TypedStruct, Value, Want, Ways, [], all_do}
 use Rattle.sc_laws.proofs.Common.{assign, assign_call, at_brace, at_place, block_does, body_does, call, call_alone}
 use Rattle.sc_laws.proofs.Common.{choose, closed, evaluated, everywhere, false, in_order, init_does, inits_do}
 use Rattle.sc_laws.proofs.Common.{kind_step, layer_of, leave, loop, map, on_line, part_does, refl, simple_does, stmt_at}
@@ -35,13 +35,13 @@ module _ (Soft : Cause → Type 0) (here : Here) where
       ActsMatch (λ by. store_at here place v line) (λ by. store_at here place' v line)
   store_at_matches place place' h v line a =
       match_then Soft here _ _ (λ q by. stored here q v line a) (λ q by. stored here q v line a)
-      (given_matches want.Place place place' h line) (λ q. match_store Soft here q v line a)
+      (given_matches _ place place' h line) (λ q. match_store Soft here q v line a)
 
   assign_matches : (place place' e e' : Ways) → WaysMatch place place' → WaysMatch e e' → (line : ℕ) →
       ActsMatch (λ by. assign here place e line) (λ by. assign here place' e' line)
   assign_matches place place' e e' h k line a =
       match_then Soft here _ _ (λ v by. store_at here place v line a) (λ v by. store_at here place' v line a)
-      (given_matches want.Value e e' k line) (λ v. store_at_matches place place' h v line a)
+      (given_matches _ e e' k line) (λ v. store_at_matches place place' h v line a)
 
   choose_matches : {V : Type 0} (v : Value) (f g f' g' : Doing V) → Match Soft here f g → Match Soft here f' g' →
       Match Soft here (λ by s. choose v (f by s) (f' by s)) (λ by s. choose v (g by s) (g' by s))
@@ -50,9 +50,8 @@ module _ (Soft : Cause → Type 0) (here : Here) where
   pub test_matches : (cond cond' : Ways) → WaysMatch cond cond' → (line : ℕ) →
       ActsMatch (λ by. test here cond line) (λ by. test here cond' line)
   test_matches cond cond' h line a =
-      match_then Soft here _ _ (λ v by s. choose v (leave Next a s) (leave Break a s))
-      (λ v by s. choose v (leave Next a s) (leave Break a s)) (given_matches want.Value cond cond' h line) (λ v.
-      choose_matches v (λ by. leave Next a) (λ by. leave Next a) (λ by. leave Break a) (λ by. leave Break a)
+      match_then Soft here _ _ (λ v by s. choose v _ _)
+      (λ v by s. choose v _ _) (given_matches _ cond cond' h line) (λ v. choose_matches v _ _ _ _
       (leave_matches Next a) (leave_matches Break a))
 
   pub store_result_matches : (place place' : Ways) → WaysMatch place place' → (result : Option Value) (line : ℕ) →
@@ -64,8 +63,8 @@ module _ (Soft : Cause → Type 0) (here : Here) where
       ((blocks : Blocks) → Keeps Soft (List Value) (values args blocks) (values args' blocks)) → (line : ℕ) →
       Match Soft here (λ by. call here by target args line) (λ by. call here by target args' line)
   call_matches target args args' h line =
-      match_then Soft here _ _ (λ vs by. by here.comp target vs) (λ vs by. by here.comp target vs)
-      (match_computed Soft here line (values args) (values args') h) (λ vs. match_call Soft here target vs)
+      match_then Soft here _ _ (λ vs by. by _ target vs) (λ vs by. by _ target vs)
+      (match_computed Soft here line _ _ h) (λ vs. match_call Soft here target vs)
 
   module _ (ar br : Arith) (arith : ArithKeeps Soft ar br) (structs : List TypedStruct) (params : ℕ) where
     pub way_matches : (e : TypedExpr) → WaysMatch (ways ar structs here params e) (ways br structs here params e)
@@ -113,9 +112,7 @@ module _ (Soft : Cause → Type 0) (here : Here) where
 
     inner : (block : List TypedStmt) → Each Both block →
         ActsMatch (λ by. block_does ar structs here params by block) (λ by. block_does br structs here params by block)
-    inner block h =
-        match_all Soft here (λ stmt by. stmt_does ar structs here params by stmt)
-        (λ stmt by. stmt_does br structs here params by stmt) block h
+    inner block h = match_all Soft here _ _ block h
 
     abbrev layered : Arith → TypedStmtKind-F TypedStmtKind TypedStmt → ℕ → Calls → Acts
     layered arith k line by = layer_of _ _ (kind_step arith structs here params by) stmt_step k line
@@ -143,7 +140,7 @@ module _ (Soft : Cause → Type 0) (here : Here) where
     layer_matches line (layer.If cond x y) h a =
         match_then Soft here _ _
         (λ v by s. choose v (block_does ar structs here params by x a s) (block_does ar structs here params by y a s))
-        (λ v by s. choose v (block_does br structs here params by x a s) (block_does br structs here params by y a s))
+        (λ v by s. choose v (block_does br structs here params by x a s) _)
         (given_matches want.Value _ _ (way_matches cond) line) (λ v. choose_matches v _ _ _ _ (inner x h.0 a)
         (inner y h.1 a))
     layer_matches line (layer.While cond x) h a =
@@ -151,16 +148,15 @@ module _ (Soft : Cause → Type 0) (here : Here) where
     layer_matches line (layer.For first cond next x) h a =
         match_follow Soft here in_order (λ by. part_does ar structs here params by first a)
         (λ by. part_does br structs here params by first a) _ _ (part_matches first a)
-        (looped cond line x h (λ by. part_does ar structs here params by next) (λ by. part_does br structs here params
-        by next) (part_matches next))
+        (looped cond line x h (λ by. part_does ar structs here params by next) _ (part_matches next))
     layer_matches line layer.Break h a = leave_matches Break a
     layer_matches line layer.Continue h a = leave_matches Continue a
     layer_matches line layer.Return h a = leave_matches (Return None) a
     layer_matches line (layer.ReturnValue e) h a =
-        match_then Soft here _ _ (λ v by. leave (Return (Some v)) a) (λ v by. leave (Return (Some v)) a)
-        (given_matches want.Value _ _ (way_matches e) line) (λ v. leave_matches (Return (Some v)) a)
+        match_then Soft here _ _ (λ v by. leave (Return _) a) (λ v by. leave (Return (Some v)) a)
+        (given_matches want.Value _ _ (way_matches e) line) (λ v. leave_matches (Return _) a)
     layer_matches line (layer.ReturnCall c) h a =
-        match_then Soft here _ _ (λ result by. leave (Return result) a) (λ result by. leave (Return result) a)
+        match_then Soft here _ _ (λ result by. leave (Return result) a) (λ result by. leave _ a)
         (called_matches c line) (λ result. leave_matches (Return result) a)
 
     -- a statement does what its layer does
@@ -172,7 +168,7 @@ module _ (Soft : Cause → Type 0) (here : Here) where
     stmt_matches =
         stmt_induction Both
         (λ line k h. subst (λ x. ActsMatch x (λ by. stmt_does br structs here params by (on_line line k)))
-        (layer_is ar line k) (subst (ActsMatch (layered ar k line)) (layer_is br line k) (layer_matches line k h)))
+        (layer_is ar line k) (subst (ActsMatch _) (layer_is br line k) (layer_matches line k h)))
 
     pub block_matches : (block : List TypedStmt) →
         ActsMatch (λ by. block_does ar structs here params by block) (λ by. block_does br structs here params by block)
@@ -183,7 +179,7 @@ module _ (Soft : Cause → Type 0) (here : Here) where
         init)
     init_matches k local None = leave_matches Next
     init_matches k local (Some e) =
-        let place : Ways = at_place local.ty (λ blocks. Ok (variable_at here params (Local k))) in
+        let place = at_place local.ty (λ blocks. Ok (variable_at here params (Local k))) in
         assign_matches place place _ _ (λ w blocks. alike refl) (way_matches e) local.line
 
     inits_match : (k : ℕ) (locals : List TypedLocal) →
@@ -193,8 +189,8 @@ module _ (Soft : Cause → Type 0) (here : Here) where
     inits_match k (local ∷ locals) a =
         match_follow Soft here in_order (λ by. init_does ar structs here params k local local.init a)
         (λ by. init_does br structs here params k local local.init a)
-        (λ by. all_do (inits_do ar structs here params (suc k) locals))
-        (λ by. all_do (inits_do br structs here params (suc k) locals)) (init_matches k local local.init a)
+        (λ by. all_do (inits_do ar structs here params _ locals))
+        (λ by. all_do (inits_do br structs here params _ locals)) (init_matches k local local.init a)
         (inits_match (suc k) locals)
 
     pub body_matches : (f : TypedFunction) →
@@ -207,15 +203,14 @@ module _ (Soft : Cause → Type 0) (here : Here) where
 
   brace_matches : (has_result is_main : Bool) (line : ℕ) →
       Match Soft here (λ by. at_brace has_result is_main line here) (λ by. at_brace has_result is_main line here)
-  brace_matches true true line = match_reached Soft here (Some (Word 0))
+  brace_matches true true line = match_reached Soft here _
   brace_matches true false line =
-      match_computed Soft here {V = Option Value} line (λ blocks. Err NoReturn) (λ blocks. Err NoReturn)
-      (λ blocks. alike refl)
+      match_computed Soft here line (λ blocks. Err NoReturn) (λ blocks. Err NoReturn) (λ blocks. alike refl)
   brace_matches false is_main line = match_reached Soft here None
 
   pub closed_matches : (exit : Exit) (has_result is_main : Bool) (line : ℕ) →
       Match Soft here (λ by. closed exit has_result is_main line here) (λ by. closed exit has_result is_main line here)
-  closed_matches Next has_result is_main line = brace_matches has_result is_main line
-  closed_matches Break has_result is_main line = brace_matches has_result is_main line
-  closed_matches Continue has_result is_main line = brace_matches has_result is_main line
+  closed_matches Next has_result is_main line = brace_matches _ is_main line
+  closed_matches Break has_result is_main line = brace_matches _ is_main line
+  closed_matches Continue has_result is_main line = brace_matches _ is_main line
   closed_matches (Return v) has_result is_main line = match_reached Soft here v

@@ -1,12 +1,12 @@
 -- A run that is out of turns has none left, where all functions that are called are there.
-use Rattle.sc_laws.proofs.Common.{BadType, Blamed, Body, Bool, Call, CallTarget, Cross, Ended, EventsOut, Export, Here}
+use Rattle.sc_laws.proofs.Common.{BadType, Blamed, Body, Bool, CallTarget, Cross, Ended, EventsOut, Export, Here}
 use Rattle.sc_laws.proofs.Common.{Input, IsSpent, Kept, Library, List, Main, Memory, None, Obedient, Option, Output}
 use Rattle.sc_laws.proofs.Common.{Own, Piece, Property, Reached, RunEnd, Some, SpendsTurns, State, Stopped, StopsSpent}
 use Rattle.sc_laws.proofs.Common.{TurnsOut, Value, [], and_parts, and_then, ap, arith, back_cross, back_own, begun}
-use Rattle.sc_laws.proofs.Common.{call_cross, call_own, called, calls, crossed, done, false, first_state, found}
-use Rattle.sc_laws.proofs.Common.{function, if◌then◌else◌, imports, is_function, is_some, is_word, leads, length}
-use Rattle.sc_laws.proofs.Common.{list_all, main_call, map, may_call, refl, run_in, run_step, run_to, subst, suc, sym}
-use Rattle.sc_laws.proofs.Common.{takes, tell, then_kept, true, turn_of, within, word_in, zero, ℕ, ◌<◌, ◌∙◌, ◌≡◌}
+use Rattle.sc_laws.proofs.Common.{call_cross, call_own, called, calls, false, first_state, found}
+use Rattle.sc_laws.proofs.Common.{function, if◌then◌else◌, imports, is_some, is_word, leads, length}
+use Rattle.sc_laws.proofs.Common.{list_all, main_call, may_call, refl, run_in, run_step, run_to, subst, suc, sym}
+use Rattle.sc_laws.proofs.Common.{takes, then_kept, true, turn_of, within, zero, ℕ, ◌<◌, ◌∙◌, ◌≡◌}
 use Rattle.sc_laws.proofs.Growing.{BodyGoes, calls_go, within_goes}
 use Rattle.sc_laws.proofs.Matching.{run_goes_on}
 use Rattle.sc_laws.proofs.Keeping.{IsKept, function_keeps}
@@ -35,14 +35,14 @@ is_kept n here =
     }
 
 more_turns : {V : Type 0} (n : ℕ) (o : Piece V) → Kept (fewer n) o → Kept (fewer (suc n)) o
-more_turns n (Reached v s) h = (let few : s.turns < n = h.after in record { after = omega (arith, few) })
+more_turns n (Reached v s) h = (let few = h.after in record { after = omega (arith, few) })
 more_turns n (Stopped end s) h = record { after = h.after }
 
 -- a turn, and then what has one turn less
 after_turn : {V : Type 0} (n m : ℕ) (s : State) (k : State → Piece V) → m ≡ s.turns → s.turns < suc n →
     ((t : State) → t.turns < n → Kept (fewer (suc n)) (k t)) → Kept (fewer (suc n)) (and_then (turn_of m s) (λ _. k))
 after_turn n zero s k is few h = record { after = sym is }
-after_turn n (suc m) s k is few h = h (record s { turns = m }) (omega (arith, is, few))
+after_turn n (suc m) s k is few h = h _ (omega (arith, is, few))
 
 -- what is looked up and there
 there : {V W : Type 0} (n : ℕ) (o : Option V) (s : State) (go : V → State → Piece W) → is_some o ≡ true →
@@ -62,10 +62,9 @@ module _ (library : Library) where
         Kept (fewer n) (run_in library body comp number args back s)
     run_spends comp number args back is b s few =
         there n (function library comp number) s _ is (λ f found_f.
-        then_kept (fewer n) (body number (record { comp = comp; first = length (s.memory comp) }) (begun comp f args s))
-        _
+        then_kept _ (body number (record { comp = comp; first = length _ }) _) _
         (spends number (record { comp = comp; first = length (s.memory comp) }) (begun comp f args s) is few)
-        (λ v t few. b v (done comp f (length (s.memory comp)) t) few))
+        (λ v t few. b v _ few))
 
     own_spends : (comp number : ℕ) (args : List Value) → is_some (function library comp number) ≡ true → (s : State) →
         s.turns < n → Kept (fewer n) (call_own library body comp number args s)
@@ -82,11 +81,9 @@ module _ (library : Library) where
     cross_spends : (from to index : ℕ) (args : List Value) → leads library to (library.entered to (Export index))
         ≡ true → (s : State) → s.turns < n → Kept (fewer n) (call_cross library body from to index args s)
     cross_spends from to index args is s few =
-        there n (library.entered to (Export index)) s _ (led_somewhere to (library.entered to (Export index)) is)
-        (λ number same.
-        run_spends to number (crossed args) (back_cross library.interfaces from to index)
-        (led_there to number (library.entered to (Export index)) is same) (λ v s few. record { after = few })
-        (tell (Call from to index (map word_in args)) s) few)
+        there n (library.entered to _) s _ (led_somewhere to _ is) (λ number same.
+        run_spends to number _ (back_cross library.interfaces from to index)
+        (led_there to number _ is same) (λ v s few. record { after = few }) _ few)
 
     -- what is there, of a call that may be made
     abbrev IsThere : ℕ → CallTarget → Type 0
@@ -99,8 +96,8 @@ module _ (library : Library) where
         IsThere from target
     is_there from (Own number) args may = may
     is_there from (Cross to index) args may =
-        let first = and_parts (imports library.interfaces from (is_function to index)) _ may in
-        let second = and_parts (takes library.interfaces to index (length args)) _ first.1 in
+        let first = and_parts (imports library.interfaces from _) _ may in
+        let second = and_parts (takes library.interfaces to index _) _ first.1 in
         (and_parts (list_all is_word args) _ second.1).1
     is_there from Input args may = tt
     is_there from Output args may = tt
@@ -108,18 +105,15 @@ module _ (library : Library) where
     called_spends : (from : ℕ) (target : CallTarget) (args : List Value) (s : State) → IsThere from target →
         s.turns < suc n → Kept (fewer (suc n)) (called library body from target args s)
     called_spends from (Own number) args s is few =
-        after_turn n s.turns s (call_own library body from number args) refl few
-        (λ t few. more_turns n (call_own library body from number args t) (own_spends from number args is t few))
+        after_turn n s.turns s _ refl few (λ t few. more_turns n _ (own_spends from number args is t few))
     called_spends from (Cross to index) args s is few =
-        after_turn n s.turns s (call_cross library body from to index args) refl few
-        (λ t few. more_turns n (call_cross library body from to index args t)
-        (cross_spends from to index args is t few))
+        after_turn n s.turns s _ refl few (λ t few. more_turns n _ (cross_spends from to index args is t few))
     called_spends from Input args s is few = record { after = few }
     called_spends from Output args s is few = record { after = few }
 
     calls_spend : (from : ℕ) (target : CallTarget) (args : List Value) (s : State) → s.turns < suc n →
         Kept (fewer (suc n)) (calls library body from target args s)
-    calls_spend from target args s few = by (may_call library from target args) refl where
+    calls_spend from target args s few = by _ refl where
       by : (b : Bool) → may_call library from target args ≡ b →
           Kept (fewer (suc n)) (if b then called library body from target args s else Stopped (Blamed from BadType 0) s)
       by true may = called_spends from target args s (is_there from target args may) few
@@ -128,8 +122,8 @@ module _ (library : Library) where
   module _ (obedient : Obedient library) where
     step_spends : (n : ℕ) (body : Body) → BodyGoes body → BodySpends n body → BodySpends (suc n) (run_step library body)
     step_spends n body goes spends number here s is few =
-        there (suc n) (function library here.comp number) s (λ f s. f.does (calls library body) here s) is (λ f found_f.
-        function_keeps library obedient here.comp number f found_f (fewer (suc n)) here (is_kept (suc n) here)
+        there (suc n) (function library _ number) s (λ f s. f.does _ here s) is (λ f found_f.
+        function_keeps library obedient here.comp number f found_f (fewer _) here (is_kept _ here)
         (calls library body) (calls_go library body goes) (λ target args s few. calls_spend n body spends here.comp
         target args s few) s few)
 
@@ -148,13 +142,11 @@ module _ (library : Library) where
     main_spends : (globals : Memory) (inputs : List ℕ) (turns : ℕ) → leads library main (library.entered main Main)
         ≡ true → Kept (fewer (suc turns)) (main_call library globals inputs turns)
     main_spends globals inputs turns is =
-        let body : Body = within (run_step library) (suc turns) in
-        there (suc turns) (library.entered main Main) (first_state globals inputs turns)
-        _ (led_somewhere (suc turns) body (within_spends (suc turns)) main (library.entered main Main) is)
-        (λ number same.
-        own_spends (suc turns) body (within_spends (suc turns)) main number []
-        (led_there (suc turns) body (within_spends (suc turns)) main number (library.entered main Main) is same)
-        (first_state globals inputs turns) (omega arith))
+        let body = within (run_step library) (suc turns) in
+        there _ (library.entered main Main) (first_state globals inputs turns)
+        _ (led_somewhere (suc turns) body (within_spends _) main _ is) (λ number same.
+        own_spends _ body (within_spends _) main number []
+        (led_there (suc turns) body (within_spends _) main number _ is same) _ (omega arith))
 
     stops : (globals : Memory) (inputs : List ℕ) (turns : ℕ) (o : Piece (Option Value)) →
         main_call library globals inputs turns ≡ o → Kept (fewer (suc turns)) o →
@@ -168,8 +160,7 @@ module _ (library : Library) where
 
     pub spends_turns : SpendsTurns library
     spends_turns = record {
-      functions = λ number here s is. is_spent (suc s.turns) (within (run_step library) (suc s.turns) number here s)
-          (within_spends (suc s.turns) number here s is (omega arith));
-      runs = λ globals inputs turns is ends. stops globals inputs turns (main_call library globals inputs turns) refl
+      functions = λ number here s is. is_spent (suc s.turns) _ (within_spends _ number here s is (omega arith));
+      runs = λ globals inputs turns is ends. stops globals inputs turns _ refl
           (main_spends globals inputs turns is) ends;
     }
