@@ -1,9 +1,9 @@
 -- The memory of the start, by the offset of an address in its stretch of data.
 use Rattle.sc_image.proofs.Common.{CompPart, ImageParts, List, Memory, None, Option, Some, [], ap, arith, byte_at}
-use Rattle.sc_image.proofs.Common.{cases_lt, comp_of_data, data_start, data_with, false, if◌then◌else◌, le-leb, le-ltb}
-use Rattle.sc_image.proofs.Common.{length, lt-leb, lt-ltb, nat_le, nat_lt, option_and_then, refl, slice_get}
+use Rattle.sc_image.proofs.Common.{cases_lt, comp_of_data, data_start, data_with, if◌then◌else◌, le-leb, le-ltb}
+use Rattle.sc_image.proofs.Common.{length, lt-leb, lt-ltb, nat_lt, option_and_then, refl, slice_get}
 use Rattle.sc_image.proofs.Common.{slice_get-get_or, slice_get_past, slice_index, stack_size, stack_top, start_memory}
-use Rattle.sc_image.proofs.Common.{stretch, suc, sym, true, zero, ℕ, ⊎_elim, ◌%◌, ◌+◌, ◌-◌, ◌/◌, ◌<◌, ◌∙◌, ◌∷◌, ◌≡◌}
+use Rattle.sc_image.proofs.Common.{stretch, sym, ℕ, ⊎_elim, ◌%◌, ◌+◌, ◌-◌, ◌<◌, ◌∙◌, ◌≡◌}
 use Rattle.sc_image.proofs.Common.{◌≤◌}
 
 -- the byte of a compartment's data at an offset: a stack of zeros, and then the globals
@@ -23,18 +23,17 @@ module _ (c a : ℕ) (globals : List ℕ) where
   before_data low = rw (lt-leb (data_start c) a low, lt-leb (stack_top c) a (omega (arith, low))) refl
 
   in_stack : data_start c ≤ a → a < stack_top c → byte_at (data_with c globals) a ≡ Some 0
-  in_stack low high =
-      rw (le-leb (data_start c) a low, lt-ltb a (data_start c + stack_size) high) (ap Some (empty (a - data_start c)))
+  in_stack low high = rw (le-leb _ a low, lt-ltb a _ high) (ap Some (empty (a - data_start c)))
 
   in_globals : stack_top c ≤ a → a < stack_top c + length globals →
       byte_at (data_with c globals) a ≡ slice_get globals (a - stack_top c)
   in_globals low high =
       rw (
         le-leb (data_start c) a (omega (arith, low)),
-        le-ltb a (data_start c + stack_size) low,
-        le-leb (stack_top c) a low,
-        lt-ltb a (stack_top c + length globals) high,
-      ) (sym (slice_get-get_or globals (a - stack_top c) 0 (omega (arith, low, high))))
+        le-ltb a _ low,
+        le-leb _ a low,
+        lt-ltb a _ high,
+      ) (sym (slice_get-get_or globals _ 0 (omega (arith, low, high))))
 
   past_data : stack_top c + length globals ≤ a → byte_at (data_with c globals) a ≡ None
   past_data low =
@@ -42,7 +41,7 @@ module _ (c a : ℕ) (globals : List ℕ) where
         le-leb (data_start c) a (omega (arith, low)),
         le-ltb a (data_start c + stack_size) (omega (arith, low)),
         le-leb (stack_top c) a (omega (arith, low)),
-        le-ltb a (stack_top c + length globals) low,
+        le-ltb a _ low,
       ) refl
 
 module _ (c a : ℕ) (comp : CompPart) (from : data_start c ≤ a) where
@@ -63,9 +62,8 @@ module _ (c a : ℕ) (comp : CompPart) (from : data_start c ≤ a) where
   past_data_is : stack_top c + length comp.globals ≤ a →
       byte_at (data_with c comp.globals) a ≡ data_byte (a - data_start c) comp
   past_data_is low =
-      past_data c a comp.globals low ∙
-      sym (rw (le-ltb (a - data_start c) stack_size (omega (arith, low)), place)
-      (slice_get_past comp.globals (a - stack_top c) (omega (arith, low))))
+      past_data c a comp.globals low ∙ sym (rw (le-ltb (a - data_start c) stack_size (omega (arith, low)), place)
+      (slice_get_past comp.globals _ (omega (arith, low))))
 
   data_is : byte_at (data_with c comp.globals) a ≡ data_byte (a - data_start c) comp
   data_is =
@@ -77,7 +75,7 @@ module _ (a : ℕ) where
   low_by : (c : ℕ) (found : Option CompPart) → a < data_start 0 →
       option_and_then (λ comp. byte_at (data_with c comp.globals) a) found ≡ None
   low_by c None low = refl
-  low_by c (Some comp) low = before_data c a comp.globals (omega (arith, low))
+  low_by c (Some comp) low = before_data c a _ (omega (arith, low))
 
   from_by : (c : ℕ) (found : Option CompPart) → comp_of_data a ≡ c → data_start 0 ≤ a →
       option_and_then (λ comp. byte_at (data_with c comp.globals) a) found ≡
@@ -90,10 +88,5 @@ module _ (a : ℕ) where
   pub start_is : (image : ImageParts) → start_memory image a ≡ byte_by_offset image a
   unfolding start_memory
   start_is image =
-      ⊎_elim
-      (λ low. low_by (comp_of_data a) (slice_get image.comps (comp_of_data a)) low ∙
-      sym (rw (lt-ltb a (data_start 0) low) refl))
-      (λ from.
-      from_by (comp_of_data a) (slice_get image.comps (comp_of_data a)) refl from ∙
-      sym (rw (le-ltb a (data_start 0) from) refl))
-      (cases_lt a (data_start 0))
+      ⊎_elim (λ low. low_by _ _ low ∙ sym (rw (lt-ltb a _ low) refl)) (λ from. from_by _ _ refl from ∙
+      sym (rw (le-ltb a _ from) refl)) (cases_lt a _)

@@ -4,7 +4,7 @@ use Rattle.sc_image.proofs.Common.{Some, are_data, arith, byte_of, comp_of_data,
 use Rattle.sc_image.proofs.Common.{get_or_from_slice_get, globals_of, if◌then◌else◌, leb-true, length, ltb-true}
 use Rattle.sc_image.proofs.Common.{most_globals, nat_le, nat_lt, option_and_then, refl, refused, slice_get}
 use Rattle.sc_image.proofs.Common.{slice_get_cases, slice_get_within, stack_size, start_memory, stored, stretch, subst}
-use Rattle.sc_image.proofs.Common.{sym, true, ℕ, ⊎_elim, ◌%◌, ◌&&◌, ◌+◌, ◌-◌, ◌/◌, ◌<◌, ◌^◌, ◌∙◌, ◌≡◌, ◌≤◌}
+use Rattle.sc_image.proofs.Common.{sym, true, ℕ, ⊎_elim, ◌%◌, ◌&&◌, ◌+◌, ◌-◌, ◌<◌, ◌^◌, ◌∙◌, ◌≡◌, ◌≤◌}
 use Rattle.sc_image.proofs.AtStart.{data_byte, start_is}
 use Rattle.sc_image.proofs.Cases.{allowed_data}
 use Rattle.sc_image.proofs.Data.{data_bounds}
@@ -20,7 +20,7 @@ IsByteAt address byte = (address < 2 ^ 32) × (byte < 256)
 -- the test of an access
 both : (x y : Bool) → (x && y) ≡ true → (x ≡ true) × (y ≡ true)
 both true y h = (refl, h)
-both false y h = let never : false ≡ true = h in cc never
+both false y h = let never = h in cc never
 
 digit : (n : ℕ) → n % 256 < 256
 digit n = omega arith
@@ -36,9 +36,9 @@ module _ (image : ImageParts) (formed : IsWellFormed image) (c a size word : ℕ
       (if inside then Some (byte_of word (x - a)) else memory x) ≡ Some byte → IsByteAt x byte
   stored_by x byte true is at =
       let same : byte_of word (x - a) ≡ byte = cc at in
-      let tests = both (nat_le a x) (nat_lt x (a + size)) is in (
-        data_below x (leb-true a x tests.0) (ltb-true x (a + size) tests.1),
-        subst (λ b. b < 256) same (digit (word / 256 ^ (x - a))),
+      let tests = both (nat_le a x) _ is in (
+        data_below x (leb-true a x tests.0) (ltb-true x _ tests.1),
+        subst (λ b. b < 256) same (digit _),
       )
   stored_by x byte false is at = bytes x byte at
 
@@ -46,8 +46,7 @@ pub stored_bytes : (image : ImageParts) → IsWellFormed image → (c a size wor
     c < length image.comps → refused image c size a ≡ None →
     HoldsBytes memory → HoldsBytes (stored memory a size word)
 stored_bytes image formed c a size word memory active allowed bytes x byte at =
-    stored_by image formed c a size word memory active (allowed_data image c size a allowed) bytes x byte
-    (nat_le a x && nat_lt x (a + size)) refl at
+    stored_by image formed c a size word memory active (allowed_data image c size a allowed) bytes x byte _ refl at
 
 -- the start
 
@@ -55,29 +54,27 @@ module _ (image : ImageParts) (formed : IsWellFormed image) (a b : ℕ) where
   global_byte : (c : ℕ) (comp : CompPart) → slice_get image.comps c ≡ Some comp → (k : ℕ) →
       slice_get comp.globals k ≡ Some b → b < 256
   global_byte c comp is k at =
-      subst IsByte (get_or_from_slice_get comp.globals k b b at)
-      ((formed.comps c comp is).bytes k b (slice_get_within comp.globals k b at))
+      subst IsByte (get_or_from_slice_get _ k b b at) ((formed.comps c comp is).bytes k b (slice_get_within _ k b at))
 
   byte_by : (c : ℕ) (comp : CompPart) → slice_get image.comps c ≡ Some comp → (offset : ℕ) (in_stack : Bool) →
       (if in_stack then Some 0 else slice_get comp.globals (offset - stack_size)) ≡ Some b → b < 256
-  byte_by c comp is offset true at = let same : ◌≡◌ {A = ℕ} 0 b = cc at in subst (λ n. n < 256) same (omega arith)
-  byte_by c comp is offset false at = global_byte c comp is (offset - stack_size) at
+  byte_by c comp is offset true at = let same : ◌≡◌ 0 b = cc at in subst (λ n. n < 256) same (omega arith)
+  byte_by c comp is offset false at = global_byte c comp is _ at
 
   start_by : (comp : Option CompPart) → slice_get image.comps (comp_of_data a) ≡ comp →
       option_and_then (data_byte ((a - data_start 0) % stretch)) comp ≡ Some b → IsByteAt a b
-  start_by None is at = let never : ◌≡◌ {A = Option ℕ} None (Some b) = at in cc never
+  start_by None is at = let never = at in cc never
   start_by (Some comp) is at =
-      let within = slice_get_within image.comps (comp_of_data a) comp is in (
+      let within = slice_get_within _ (comp_of_data a) comp is in (
         omega (arith, within, formed.few_comps),
-        byte_by (comp_of_data a) comp is ((a - data_start 0) % stretch)
-            (nat_lt ((a - data_start 0) % stretch) stack_size) at,
+        byte_by _ comp is _ _ at,
       )
 
   below_by : (below : Bool) → (if below then None else
       option_and_then (data_byte ((a - data_start 0) % stretch)) (slice_get image.comps (comp_of_data a))) ≡ Some b →
       IsByteAt a b
-  below_by true at = let never : ◌≡◌ {A = Option ℕ} None (Some b) = at in cc never
-  below_by false at = start_by (slice_get image.comps (comp_of_data a)) refl at
+  below_by true at = let never = at in cc never
+  below_by false at = start_by _ refl at
 
   start_byte : start_memory image a ≡ Some b → IsByteAt a b
   start_byte at = below_by (nat_lt a (data_start 0)) (sym (start_is a image) ∙ at)

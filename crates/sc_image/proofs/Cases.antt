@@ -6,13 +6,13 @@ use Rattle.sc_image.proofs.Common.{Fence, Goes, HasWord, HoldsBytes, Illegal, Im
 use Rattle.sc_image.proofs.Common.{Jal, Jalr, List, Load, LoadOp, Lui, Memory, Misaligned, NoImport, None, Op, OpImm}
 use Rattle.sc_image.proofs.Common.{Option, Outcome, Owner, Shift, ShiftOp, Some, State, Store, StoreOp, TrapReason}
 use Rattle.sc_image.proofs.Common.{Traps, Upper, a7, add_word-lt, ap, are_data, arith, by_owner, called, calls}
-use Rattle.sc_image.proofs.Common.{comp_of_code, compares, computed, decoded, execute, execute_by, export_at}
-use Rattle.sc_image.proofs.Common.{export_called, extended, false, gate, gives, if_decoded, if_fetched, if◌then◌else◌}
+use Rattle.sc_image.proofs.Common.{compares, computed, decoded, execute, execute_by, export_at}
+use Rattle.sc_image.proofs.Common.{export_called, extended, false, gives, if_decoded, if_fetched, if◌then◌else◌}
 use Rattle.sc_image.proofs.Common.{input, is_some, jalr_target, jump, leaves, length, length-set, load_of-same}
 use Rattle.sc_image.proofs.Common.{load_size, loaded, may_call, may_input, may_output, nat_eq, next, not, on_registers}
 use Rattle.sc_image.proofs.Common.{output, params_of, ra, refl, refused, reg, returned, set, shift_on_registers}
 use Rattle.sc_image.proofs.Common.{slice_index, sll_word-lt, sra_word-lt, srl_word-lt, step, step_by, store_size, subst}
-use Rattle.sc_image.proofs.Common.{true, unless, with_pc, with_stored, word_at, word_of-lt, written, ℕ, ◌%◌, ◌&&◌, ◌+◌}
+use Rattle.sc_image.proofs.Common.{true, unless, with_pc, with_stored, word_at, word_of-lt, written, ℕ, ◌%◌, ◌+◌}
 use Rattle.sc_image.proofs.Common.{◌<◌, ◌==◌, ◌≡◌}
 use Rattle.sc_word.specs.Prelude.{add_word, word_of}
 use Rattle.rv_code.specs.declared.instr.ShiftOp.TheVariants.{Slli, Srli, Srai}
@@ -26,7 +26,7 @@ pub one_of : (image : ImageParts) (c a size k : ℕ) → are_data image c a size
     are_data image c (a + k) 1 ≡ true
 one_of image c a size k all within =
     let bounds = data_bounds image c a size (omega (arith, within)) all in
-    within_data image c (a + k) 1 (omega arith) (omega (arith, bounds.0)) (omega (arith, bounds.1, within))
+    within_data image c _ 1 (omega arith) (omega (arith, bounds.0)) (omega (arith, bounds.1, within))
 
 -- an access that isn't refused is of the compartment's bytes
 data_by : (aligned owned : Bool) → (if not aligned then Some Misaligned else if not owned then Some Owner else None) ≡
@@ -36,10 +36,10 @@ data_by true false h = cc h
 data_by false owned h = cc h
 
 pub allowed_data : (image : ImageParts) (c size a : ℕ) → refused image c size a ≡ None → are_data image c a size ≡ true
-allowed_data image c size a h = data_by (a % size == 0) (are_data image c a size) h
+allowed_data image c size a h = data_by _ _ h
 
 pub length-written : (regs : List ℕ) (r word : ℕ) → length (written regs r word) ≡ length regs
-length-written regs r word = by_zero (nat_eq r 0)
+length-written regs r word = by_zero _
   where
     by_zero : (zero_is : Bool) → length (if zero_is then regs else set regs r word) ≡ length regs
     by_zero true = refl
@@ -125,11 +125,10 @@ module _ (image : ImageParts) (inputs : List ℕ) (formed : IsWellFormed image) 
 
     gives_both : (rd word : ℕ) → (IsWord (pc + 4) → AreWords regs → HoldsBytes memory → IsWord word) →
         P (gives one rd word) (gives other rd word)
-    gives_both rd word is_word = h.quiet (written regs rd word) (pc + 4)
-        (moves_with rd word (pc + 4) is_word (λ here. here))
+    gives_both rd word is_word = h.quiet _ _ (moves_with rd word _ is_word (λ here. here))
 
     next_both : P (next one) (next other)
-    next_both = h.quiet regs (pc + 4) (record {
+    next_both = h.quiet regs _ (record {
       count = refl;
       zero = λ z. z;
       words = λ here w bytes. w;
@@ -140,15 +139,13 @@ module _ (image : ImageParts) (inputs : List ℕ) (formed : IsWellFormed image) 
         P (jump image one rd target x) (jump image other rd target x')
     jump_both rd target x x' elsewhere =
         either (not (target % 4 == 0)) _ _ _ _ (h.traps Misaligned)
-        (where_true (is_some (word_at image c target)) _ _ _ _
-        (λ some. h.quiet (written regs rd (pc + 4)) target
-        (moves_with rd (pc + 4) target (λ here w bytes. here)
-        (λ here. code_address image formed c target some))) elsewhere)
+        (where_true (is_some (word_at image c target)) _ _ _ _ (λ some. h.quiet _ target
+        (moves_with rd _ target (λ here w bytes. here) (λ here. code_address image formed c target some))) elsewhere)
 
     export_both : (to target : ℕ) (index : Option ℕ) → export_at image to target ≡ index →
         P (export_called image one to target index) (export_called image other to target index)
     export_both to target None at = h.traps BadJump
-    export_both to target (Some index) at = may_by (may_call image c to index) refl
+    export_both to target (Some index) at = may_by _ refl
       where
         may_by : (may : Bool) → may_call image c to index ≡ may →
             P (if may then Goes (called one to index (params_of image to index) target) else Traps NoImport)
@@ -157,25 +154,22 @@ module _ (image : ImageParts) (inputs : List ℕ) (formed : IsWellFormed image) 
         may_by false is = h.traps NoImport
 
     calls_both : (rd target : ℕ) → P (calls image one rd target) (calls image other rd target)
-    calls_both rd target =
-        either (nat_eq rd ra) _ _ _ _ (export_both (comp_of_code target) target
-        (export_at image (comp_of_code target) target) refl) (h.traps BadJump)
+    calls_both rd target = either (nat_eq rd ra) _ _ _ _ (export_both _ target _ refl) (h.traps BadJump)
 
     leaves_both : (rd target : ℕ) → P (leaves image one rd target) (leaves image other rd target)
-    leaves_both rd target = either (nat_eq rd 0 && nat_eq target gate) _ _ _ _ h.returns (calls_both rd target)
+    leaves_both rd target = either _ _ _ _ _ h.returns (calls_both rd target)
 
     loaded_same : (op : LoadOp) (a : ℕ) → refused image c (load_size op) a ≡ None → loaded one op a ≡ loaded other op a
     loaded_same op a allowed =
-        ap (extended op) (load_of-same memory memory' a (load_size op)
-        (λ k within. h.same (a + k) (one_of image c a (load_size op) k
-        (allowed_data image c (load_size op) a allowed) within)))
+        ap (extended op) (load_of-same memory memory' a _ (λ k within. h.same _ (one_of image c a _ k
+        (allowed_data image c _ a allowed) within)))
 
     load_both : (op : LoadOp) (rd a : ℕ) (why : Option TrapReason) → refused image c (load_size op) a ≡ why →
         P (unless why (gives one rd (loaded one op a))) (unless why (gives other rd (loaded other op a)))
     load_both op rd a (Some reason) is = h.traps reason
     load_both op rd a None is =
         subst (λ word. P (gives one rd (loaded one op a)) (gives other rd word)) (loaded_same op a is)
-        (gives_both rd (loaded one op a) (λ here w bytes. loaded_word memory op a bytes))
+        (gives_both rd _ (λ here w bytes. loaded_word memory op a bytes))
 
     store_both : (op : StoreOp) (a word : ℕ) (why : Option TrapReason) → refused image c (store_size op) a ≡ why →
         P (unless why (next (with_stored one op a word))) (unless why (next (with_stored other op a word)))
@@ -191,28 +185,23 @@ module _ (image : ImageParts) (inputs : List ℕ) (formed : IsWellFormed image) 
     unfolding execute_by
     execute_both (Upper Lui rd imm) fits = gives_both rd imm (λ here w bytes. fits)
     execute_both (Upper Auipc rd imm) fits = gives_both rd (add_word pc imm) (λ here w bytes. add_word-lt pc imm)
-    execute_both (Jal rd imm) fits = jump_both rd (add_word pc (word_of imm)) _ _
-        (calls_both rd (add_word pc (word_of imm)))
-    execute_both (Jalr rd rs1 imm) fits = jump_both rd (jalr_target (reg one rs1) imm) _ _
-        (leaves_both rd (jalr_target (reg one rs1) imm))
+    execute_both (Jal rd imm) fits = jump_both rd _ _ _ (calls_both rd _)
+    execute_both (Jalr rd rs1 imm) fits = jump_both rd _ _ _ (leaves_both rd (jalr_target _ imm))
     execute_both (Branch op rs1 rs2 imm) fits =
-        either (compares op (reg one rs1) (reg one rs2)) _ _ _ _
-        (jump_both 0 (add_word pc (word_of imm)) _ _ (h.traps BadJump)) next_both
-    execute_both (Load op rd rs1 imm) fits = load_both op rd (add_word (reg one rs1) (word_of imm)) _ refl
-    execute_both (Store op rs1 rs2 imm) fits = store_both op (add_word (reg one rs1) (word_of imm)) (reg one rs2) _ refl
+        either (compares op _ _) _ _ _ _ (jump_both 0 _ _ _ (h.traps BadJump)) next_both
+    execute_both (Load op rd rs1 imm) fits = load_both op rd _ _ refl
+    execute_both (Store op rs1 rs2 imm) fits = store_both op _ _ _ refl
     execute_both (OpImm op rd rs1 imm) fits =
         gives_both rd (computed (on_registers op) (reg one rs1) (word_of imm))
         (λ here w bytes. computed_word (on_registers op) (reg one rs1) (word_of imm) (w rs1) (word_of-lt imm))
     execute_both (Shift op rd rs1 amount) fits =
         gives_both rd (computed (shift_on_registers op) (reg one rs1) amount)
-        (λ here w bytes. shifted_word op (reg one rs1) amount (w rs1))
-    execute_both (Op op rd rs1 rs2) fits =
-        gives_both rd (computed op (reg one rs1) (reg one rs2))
-        (λ here w bytes. computed_word op (reg one rs1) (reg one rs2) (w rs1) (w rs2))
+        (λ here w bytes. shifted_word op _ amount (w rs1))
+    execute_both (Op op rd rs1 rs2) fits = gives_both rd _ (λ here w bytes. computed_word op _ _ (w rs1) (w rs2))
     execute_both (Fence imm rs1 rd) fits = next_both
     execute_both Ecall fits =
-        either (nat_eq (reg one a7) 1) _ _ _ _ (where_true (may_input image c) _ _ _ _ h.reads (h.traps NoImport))
-        (either (nat_eq (reg one a7) 2) _ _ _ _ (where_true (may_output image c) _ _ _ _ h.outputs (h.traps NoImport))
+        either (nat_eq (reg one a7) 1) _ _ _ _ (where_true _ _ _ _ _ h.reads (h.traps NoImport))
+        (either (nat_eq _ 2) _ _ _ _ (where_true (may_output image c) _ _ _ _ h.outputs (h.traps NoImport))
         (h.traps BadCall))
     execute_both Ebreak fits = h.traps Breakpoint
 
@@ -239,12 +228,12 @@ module _ (image : ImageParts) (inputs : List ℕ) (formed : IsWellFormed image) 
     fetched_both : (word : Option ℕ) → word_at image c pc ≡ word →
         P (if_fetched (by_owner image inputs) one word) (if_fetched (by_owner image inputs) other word)
     fetched_both None at = h.traps BadJump
-    fetched_both (Some word) at = decoded_both word (decoded word) (in_code image formed c pc word at).bits refl
+    fetched_both (Some word) at = decoded_both word _ (in_code image formed c pc word at).bits refl
 
     -- the step
     pub step_both : P (step image inputs one) (step image inputs other)
     unfolding step_by
-    step_both = fetched_both (word_at image c pc) refl
+    step_both = fetched_both _ refl
 
 -- One state: a property of its outcome.
 module _ (image : ImageParts) (inputs : List ℕ) (formed : IsWellFormed image) (state : State)
@@ -255,6 +244,4 @@ module _ (image : ImageParts) (inputs : List ℕ) (formed : IsWellFormed image) 
       state.memory state.memory state.cross state.cross (λ x y. P x)
 
   pub step_of : OneCases → P (step image inputs state)
-  step_of h =
-      step_both image inputs formed state.regs state.pc state.active state.input state.trace state.saved state.saved
-      state.memory state.memory state.cross state.cross (λ x y. P x) h
+  step_of h = step_both image inputs formed _ _ _ _ _ _ _ _ _ _ _ _ h

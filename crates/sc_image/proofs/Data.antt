@@ -21,13 +21,10 @@ pub data_range : (image : ImageParts) (c a k : ℕ) →
     are_data image c a (suc k) ≡ (nat_le (data_start c) a &&
     nat_le (a + suc k) (stack_top c + length (globals_of image c)))
 unfolding are_data
-data_range image c a zero =
-    byte_is (data_start c) stack_size (length (globals_of image c)) (a + 0) ∙
-    first_is (data_start c) (stack_top c + length (globals_of image c)) a
+data_range image c a zero = byte_is _ _ _ (a + 0) ∙ first_is _ _ a
 data_range image c a (suc k) =
-    ap₂ (λ (x y : Bool). x && y) (data_range image c a k)
-    (byte_is (data_start c) stack_size (length (globals_of image c)) (a + suc k)) ∙
-    next_is (data_start c) (stack_top c + length (globals_of image c)) a k
+    ap₂ (λ (x y : Bool). x && y) (data_range image c a k) (byte_is _ stack_size (length _) (a + suc k)) ∙
+    next_is _ _ a k
 
 pub range_of : (image : ImageParts) (c a size : ℕ) → 0 < size →
     are_data image c a size ≡ (nat_le (data_start c) a && nat_le (a + size) (stack_top c + length (globals_of image c)))
@@ -42,13 +39,9 @@ holds x y z w h k = grind (arith, nat_tests)
 
 pub data_bounds : (image : ImageParts) (c a size : ℕ) → 0 < size → are_data image c a size ≡ true →
     (data_start c ≤ a) × (a + size ≤ stack_top c + length (globals_of image c))
-data_bounds image c a size some all =
-    facts (data_start c) a (a + size) (stack_top c + length (globals_of image c))
-    (sym (range_of image c a size some) ∙ all)
+data_bounds image c a size some all = facts _ a _ _ (sym (range_of image c a size some) ∙ all)
 
 pub within_data : (image : ImageParts) (c a size : ℕ) → 0 < size → data_start c ≤ a →
     a + size ≤ stack_top c + length (globals_of image c) →
     are_data image c a size ≡ true
-within_data image c a size some low high =
-    range_of image c a size some ∙ holds (data_start c) a (a + size)
-    (stack_top c + length (globals_of image c)) low high
+within_data image c a size some low high = range_of image c a size some ∙ holds _ a _ _ low high

@@ -1,5 +1,5 @@
 -- What belongs to a compartment that a call or a return makes active.
-use Rattle.sc_image.proofs.Common.{Adds, Bool, Call, CompPart, Crossing, End, Entered, EntersByEvent, Event, Export}
+use Rattle.sc_image.proofs.Common.{Adds, Bool, Call, CompPart, Crossing, Entered, EntersByEvent, Event, Export}
 use Rattle.sc_image.proofs.Common.{ExportPart, Goes, ImageParts, In, IsChain, IsExport, IsSteady, IsWellFormed, Kept}
 use Rattle.sc_image.proofs.Common.{List, None, Option, Out, Outcome, Own, Ret, Some, State, Waits, [], a0, activates}
 use Rattle.sc_image.proofs.Common.{after_outcome, ap, arguments, arith, called, data_of, drop, drop-append_seam}
@@ -31,8 +31,8 @@ kept_same keeps r [] (y ∷ ys) same h = absurd (omega arith)
 kept_same keeps r (x ∷ xs) [] same h = absurd (omega arith)
 kept_same keeps r (x ∷ xs) (y ∷ ys) same h =
     let here : r + 0 ≡ r = omega arith in
-    let first : (if keeps r then x else 0) ≡ (if keeps r then y else 0) =
-    if_same (keeps r) x y (λ e. h 0 (ap keeps here ∙ e)) in
+    let first =
+    if_same _ x y (λ e. h 0 (ap keeps here ∙ e)) in
     let later = kept_same keeps (suc r) xs ys (omega arith)
     (λ i e. h (suc i) (let next : r + suc i ≡ suc r + i = omega arith in ap keeps next ∙ e)) in
     λ i. first i ∷ later i
@@ -53,8 +53,7 @@ length-from_a0 count words few same =
 get-from_a0 : (count i : ℕ) (words : List ℕ) → length words ≡ count → 10 ≤ i → i < 10 + count →
     get_or (from_a0 count words) i 0 ≡ get_or words (i - 10) 0
 get-from_a0 count i words same low high =
-    get_or-append_right (replicate 10 0) (words ++ replicate (22 - count) 0) 10 i 0 refl low ∙
-    get_or_append_left words (replicate (22 - count) 0) 0 (i - 10) (omega arith)
+    get_or-append_right (replicate 10 0) _ 10 i 0 refl low ∙ get_or_append_left words (replicate _ 0) 0 _ (omega arith)
 
 both_facts : (x y z w : ℕ) → (nat_le x y && nat_lt z w) ≡ true → (x ≤ y) × (z < w)
 both_facts x y z w h = (grind (arith, nat_tests), grind (arith, nat_tests))
@@ -63,22 +62,22 @@ both_facts x y z w h = (grind (arith, nat_tests), grind (arith, nat_tests))
 
 length-arguments : (params : ℕ) (regs : List ℕ) → params ≤ 8 → length regs ≡ 32 →
     length (arguments params regs) ≡ params
-length-arguments params regs few same = length-take-le params (drop 10 regs) (omega (arith, length-drop 10 regs))
+length-arguments params regs few same = length-take-le params _ (omega (arith, length-drop 10 regs))
 
 argument_same : (params i : ℕ) (regs : List ℕ) → params ≤ 8 → length regs ≡ 32 → is_argument params i ≡ true →
     get_or regs i 0 ≡ get_or (from_a0 params (arguments params regs)) i 0
 argument_same params i regs few same is =
-    let place = both_facts 10 i i (10 + params) is in
+    let place = both_facts 10 i i _ is in
     let at : 10 + (i - 10) ≡ i = omega (arith, place.0) in
-    sym (get-from_a0 params i (arguments params regs) (length-arguments params regs few same) place.0 place.1 ∙
-    get_or-take params (drop 10 regs) (i - 10) 0 (omega (arith, place.0, place.1)) ∙ get_or-drop 10 regs (i - 10) 0 ∙
+    sym (get-from_a0 params i _ (length-arguments params regs few same) place.0 place.1 ∙
+    get_or-take params _ _ 0 (omega (arith, place.0, place.1)) ∙ get_or-drop 10 regs _ 0 ∙
     ap (λ k. get_or regs k 0) at)
 
 arguments_same : (params : ℕ) (regs : List ℕ) → params ≤ 8 → length regs ≡ 32 →
     kept (is_argument params) regs ≡ kept (is_argument params) (from_a0 params (arguments params regs))
 arguments_same params regs few same =
-    kept_same (is_argument params) 0 regs (from_a0 params (arguments params regs))
-    (same ∙ sym (length-from_a0 params (arguments params regs) few (length-arguments params regs few same)))
+    kept_same _ 0 regs (from_a0 params _)
+    (same ∙ sym (length-from_a0 params _ few (length-arguments params regs few same)))
     (λ i e. argument_same params i regs few same (let here : 0 + i ≡ i = omega arith in
     sym (ap (is_argument params) here) ∙ e))
 
@@ -94,8 +93,7 @@ both_true false x y h = cc h
 result_same : (result : Bool) (regs : List ℕ) → length regs ≡ 32 →
     kept (is_result result) regs ≡ result_of (if result then Some (get_or regs 10 0) else None)
 result_same true regs same =
-    kept_same (is_result true) 0 regs (from_a0 1 (get_or regs 10 0 ∷ [])) same
-    (λ i e. let here : 0 + i ≡ i = omega arith in
+    kept_same _ 0 regs (from_a0 1 (get_or regs 10 0 ∷ [])) same (λ i e. let here : 0 + i ≡ i = omega arith in
     let at : i ≡ 10 = (both_true true i 10 (sym (ap (is_result true) here) ∙ e)).1 in rw at refl)
 result_same false regs same = kept_same (is_result false) 0 regs (from_a0 1 (0 ∷ [])) same (λ i e. cc e)
 
@@ -111,14 +109,13 @@ few_of : (image : ImageParts) (d index : ℕ) → IsWellFormed image → (comp :
     option_map_or (λ export. export.params) (slice_get (option_map_or (λ comp. comp.exports) comp []) index) 0 ≤ 8
 few_of image d index formed None is = omega arith
 few_of image d index formed (Some comp) is =
-    some_or_none (λ e. Unit {0}) (λ (export : ExportPart). export.params) (slice_get comp.exports index)
-    (λ export found.
+    some_or_none (λ e. Unit {0}) (λ export. _) (slice_get _ index) (λ export found.
     let all = (formed.comps d comp is).exports in
-    (subst (IsExport image d) (get_or_from_slice_get comp.exports index export export found)
-    (all index export (slice_get_within comp.exports index export found))).params)
+    (subst (IsExport image d) (get_or_from_slice_get _ index export export found)
+    (all index export (slice_get_within _ index export found))).params)
 
 few_params : (image : ImageParts) (d index : ℕ) → IsWellFormed image → params_of image d index ≤ 8
-few_params image d index formed = few_of image d index formed (slice_get image.comps d) refl
+few_params image d index formed = few_of image d index formed _ refl
 
 abbrev entry_of : ImageParts → (c index : ℕ) → ℕ
 entry_of image c index = option_map_or (λ export. export.entry) (slice_get (exports_of image c) index) 0
@@ -190,18 +187,13 @@ module _ (image : ImageParts) (inputs : List ℕ) (state : State) (d : ℕ) (for
       } in
       let kept_is : kept_by d crossing ≡ Entered (saved_sp state d) ∷ [] =
       rw (ne_eqb state.active d differ, eq-eqb d d refl) refl in
-      let calls : kept_by d crossing ++ flat_map (kept_by d) state.cross ≡ Entered (saved_sp state d) ∷
-      flat_map (kept_by d) state.cross =
+      let calls =
       ap (λ k. k ++ flat_map (kept_by d) state.cross) kept_is in
-      let saved : saved_sp after d ≡ saved_sp state d =
-      get_or-set_other state.saved state.active d (reg state sp) 0 (λ same. differ (sym same)) in
-      let regs = arguments_same params state.regs (few_params image d index formed) h.regs in
-      let runs : (if nat_eq d d then Some (record { regs = after.regs; pc = after.pc }) else None) ≡
-      Some (record {
-        regs = written (written (kept (is_argument params)
-            (from_a0 params (arguments params state.regs))) ra gate) sp (saved_sp state d);
-        pc = entry_of image d index;
-      }) =
+      let saved =
+      get_or-set_other _ _ d _ 0 (λ same. differ (sym same)) in
+      let regs = arguments_same params _ (few_params image d index formed) h.regs in
+      let runs : (if nat_eq d d then Some _ else None) ≡
+      Some _ =
       rw (eq-eqb d d refl) (λ i. Some (record {
         regs = written (written (regs i) ra gate) sp (saved_sp state d);
         pc = sym (entry_is image d target index at) i;
@@ -212,27 +204,26 @@ module _ (image : ImageParts) (inputs : List ℕ) (state : State) (d : ℕ) (for
   enters_return : (cross : List Crossing) → state.cross ≡ cross → Enters (Goes (returned image state cross))
   enters_return [] is = λ active event same. absurd (differ active)
   enters_return (x ∷ xs) is = λ active event same.
-      let chain : IsChain (length image.comps) state.active (x ∷ xs) =
-      subst (IsChain (length image.comps) state.active) is h.chain in
+      let chain : IsChain (length _) _ (x ∷ xs) =
+      subst (IsChain _ state.active) is h.chain in
       let callee : x.callee ≢ d = λ e. differ (sym chain.0 ∙ e) in
       let result = has_result image x.callee x.entry in
       let after = returned_to result state x xs in
       let kept_is : kept_by d x ≡ Waits x.pc x.sp ∷ [] = rw (eq-eqb x.caller d active, ne_eqb x.callee d callee) refl in
-      let calls : flat_map (kept_by d) state.cross ≡ Waits x.pc x.sp ∷ flat_map (kept_by d) xs =
+      let calls =
       ap (flat_map (kept_by d)) is ∙ ap (λ k. k ++ flat_map (kept_by d) xs) kept_is in
-      let saved : saved_sp after d ≡ saved_sp state d =
+      let saved =
       get_or-set_other state.saved state.active d x.saved 0 (λ e. differ (sym e)) in
-      let regs : kept (is_result result) state.regs ≡ result_of (given_back result state) =
-      result_same result state.regs h.regs in
-      let runs : (if nat_eq x.caller d then Some (record { regs = after.regs; pc = after.pc }) else None) ≡
+      let regs : kept _ _ ≡ result_of _ =
+      result_same result _ h.regs in
+      let runs : (if nat_eq x.caller d then Some _ else None) ≡
       Some (record { regs = written (result_of (given_back result state)) sp x.sp; pc = x.pc }) =
       rw (eq-eqb x.caller d active) (λ i. Some (record { regs = written (regs i) sp x.sp; pc = x.pc })) in
-      let is_event : Ret state.active x.caller (given_back result state) ≡ event = last_same state.trace _ event same in
-      let before : by_return (own image state d) (given_back result state) (Waits x.pc x.sp ∷ flat_map (kept_by d) xs) ≡
-      by_return (own image state d) (given_back result state) (own image state d).calls =
-      ap (by_return (own image state d) (given_back result state)) (sym calls) in
-      let first : own image after d ≡ by_return (own image state d) (given_back result state)
-      (Waits x.pc x.sp ∷ flat_map (kept_by d) xs) =
+      let is_event = last_same state.trace _ event same in
+      let before =
+      ap (by_return (own image state d) _) (sym calls) in
+      let first : own image after d ≡ by_return (own image state d) _
+      (Waits x.pc x.sp ∷ flat_map _ xs) =
       λ i. record {
         bytes = data_of image d state.memory;
         saved = saved i;
@@ -272,25 +263,23 @@ module _ (image : ImageParts) (inputs : List ℕ) (state : State) (d : ℕ) (for
 
   no_event : Adds (drop (length state.trace) state.trace) ≡ Adds (event ∷ []) → ⊥
   no_event shows =
-      let none : Adds [] ≡ Adds (event ∷ []) = ap Adds (sym (drop-length state.trace)) ∙ shows in cc none
+      let none = ap Adds (sym (drop-length state.trace)) ∙ shows in cc none
 
   that_event : (one : Event) → Adds (drop (length state.trace) (state.trace ++ one ∷ [])) ≡ Adds (event ∷ []) →
       one ≡ event
   that_event one shows =
-      let same : Adds (one ∷ []) ≡ Adds (event ∷ []) =
-      ap Adds (sym (drop-append_seam state.trace (one ∷ []))) ∙ shows in cc same
+      let same = ap Adds (sym (drop-append_seam state.trace (one ∷ []))) ∙ shows in cc same
 
   activates_that : (one : Event) → one ≡ event → activates d one ≡ true
   activates_that one same = ap (activates d) same ∙ activating
 
   return_activates : (cross : List Crossing) → Activated (Goes (returned image state cross))
   return_activates [] shows =
-      let never : false ≡ true = activates_that (End state.active (reg state a0))
-      (that_event (End state.active (reg state a0)) shows) in cc never
+      let never = activates_that _ (that_event _ shows) in cc never
   return_activates (x ∷ xs) shows =
-      let one : Event = Ret state.active x.caller (given_back (has_result image x.callee x.entry) state) in
-      let same : one ≡ event = that_event one shows in
-      (eqb-true x.caller d (activates_that one same), ap (λ e. state.trace ++ e ∷ []) same)
+      let one = Ret _ _ _ in
+      let same = that_event one shows in
+      (eqb-true _ d (activates_that one same), ap (λ e. state.trace ++ e ∷ []) same)
 
   pub step_activates : Activated (step image inputs state)
   step_activates = step_of image inputs formed state Activated (record {

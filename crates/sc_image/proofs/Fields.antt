@@ -15,13 +15,13 @@ IsBytes bytes = (i : ℕ) → get_or bytes i 0 < 256
 -- the same of a list of bytes, place by place
 pub bytes_fit : (bytes : List ℕ) → All (λ byte. byte < 2 ^ 8) bytes → IsBytes bytes
 bytes_fit bytes all i =
-    elim (cases_lt i (length bytes)) [
+    elim (cases_lt i _) [
       | inl lt ↦ all i 0 lt
       | inr le ↦ rw (get_or_past bytes i 0 le) (omega arith)
     ]
 
 IsBytes-drop : (n : ℕ) (bytes : List ℕ) → IsBytes bytes → IsBytes (drop n bytes)
-IsBytes-drop n bytes h i = rw get_or-drop (h (n + i))
+IsBytes-drop n bytes h i = rw get_or-drop (h _)
 
 IsBytes-take : (n : ℕ) (bytes : List ℕ) → IsBytes bytes → IsBytes (take n bytes)
 IsBytes-take n bytes h i =
@@ -55,7 +55,7 @@ pub record Takes (bytes text rest : List ℕ) : Type 0 where
 
 Takes-then : (a x b y c : List ℕ) → Takes a x b → Takes b y c → Takes a (x ++ y) c
 Takes-then a x b y c p q = record {
-  parts = p.parts ∙ ap (λ (t : List ℕ). x ++ t) q.parts ∙ sym (append_assoc x y c);
+  parts = p.parts ∙ ap (λ t. x ++ t) q.parts ∙ sym (append_assoc x y c);
   rest_fits = q.rest_fits;
 }
 
@@ -71,8 +71,8 @@ pub restated : {A : Type 0} {f : List ℕ → Read A} {t u : A → List ℕ} {F 
 restated {A} {f} {t} {u} {F} {G} h same to from = record {
   takes = λ bytes x rest fits e.
       let took = h.takes bytes x rest fits e in
-      (subst (λ (text : List ℕ). Takes bytes text rest) (same x took.1) took.0, to x took.1);
-  again = λ x rest fits. subst (λ (text : List ℕ). f (text ++ rest) ≡ Ok (x, rest)) (same x (from x fits))
+      (subst (λ text. Takes bytes text rest) (same x took.1) took.0, to x took.1);
+  again = λ x rest fits. subst (λ text. f (text ++ rest) ≡ Ok (x, rest)) (same x (from x fits))
       (h.again x rest (from x fits));
 }
 
@@ -82,15 +82,14 @@ pub made : {A B : Type 0} {f : List ℕ → Read A} {t : A → List ℕ} {F : A 
     IsField (λ bytes. f bytes >>= (λ x. Ok (make x.0, x.1))) (λ y. t (part y)) (λ y. F (part y) × (y ≡ make (part y)))
 made {A} {B} {f} {t} {F} h make part part_is = record {
   takes = λ bytes y rest fits e.
-      let a = bind_ok (f bytes) (λ x. Ok (make x.0, x.1)) (y, rest) e in
-      let p : ◌≡◌ {A = B × List ℕ} (make a.0.0, a.0.1) (y, rest) = ok_is (make a.0.0, a.0.1) (y, rest) a.2 in
+      let a = bind_ok _ _ _ e in
+      let p = ok_is _ _ a.2 in
       let took = h.takes bytes a.0.0 a.0.1 fits a.1 in
-      subst (λ (q : B × List ℕ). Takes bytes (t (part q.0)) q.1 × (F (part q.0) × (q.0 ≡ make (part q.0)))) p
-      (subst (λ (z : A). Takes bytes (t z) a.0.1 × (F z × (make a.0.0 ≡ make z))) (sym (part_is a.0.0))
+      subst (λ q. Takes bytes (t (part q.0)) q.1 × (F (part q.0) × (q.0 ≡ make (part q.0)))) p
+      (subst (λ z. Takes bytes (t z) a.0.1 × (F z × (make a.0.0 ≡ make z))) (sym (part_is a.0.0))
       (took.0, (took.1, refl)));
-  again = λ y rest fits.
-      ap (λ (r : Read A). r >>= (λ x. Ok (make x.0, x.1))) (h.again (part y) rest fits.0) ∙
-      ap (λ (z : B). Ok (z, rest)) (sym fits.1);
+  again = λ y rest fits. ap (λ r. r >>= (λ x. Ok (make x.0, x.1))) (h.again _ rest fits.0) ∙
+      ap (λ z. Ok (z, rest)) (sym fits.1);
 }
 
 -- a field whose value passes a test
@@ -99,10 +98,10 @@ pub tested : {A : Type 0} {f : List ℕ → Read A} {t : A → List ℕ} {F : A 
     IsField (λ bytes. f bytes >>= (λ x. if_good cause (passes x.0) x)) t (λ x. F x × (passes x ≡ true))
 tested {A} {f} {t} {F} h cause passes = record {
   takes = λ bytes y rest fits e.
-      let a = bind_ok (f bytes) (λ x. if_good cause (passes x.0) x) (y, rest) e in
-      let g = good_ok cause (passes a.0.0) a.0 (y, rest) a.2 in
+      let a = bind_ok _ _ _ e in
+      let g = good_ok cause _ a.0 _ a.2 in
       let took = h.takes bytes a.0.0 a.0.1 fits a.1 in
-      subst (λ (z : A × List ℕ). Takes bytes (t z.0) z.1 × (F z.0 × (passes z.0 ≡ true))) g.1 (took.0, (took.1, g.0));
+      subst (λ z. Takes bytes (t z.0) z.1 × (F z.0 × (passes z.0 ≡ true))) g.1 (took.0, (took.1, g.0));
   again = λ y rest fits. rw (h.again y rest fits.0, fits.1) refl;
 }
 
@@ -115,17 +114,17 @@ pub followed : {A B : Type 0} {f : List ℕ → Read A} {t : A → List ℕ} {F 
     (λ y. F (first y) × G (first y) y)
 followed {A} {B} {f} {t} {F} {g} {u} {G} h first k keeps = record {
   takes = λ bytes y rest fits e.
-      let a = bind_ok (f bytes) (λ x. g x.0 x.1) (y, rest) e in
+      let a = bind_ok _ _ _ e in
       let one = h.takes bytes a.0.0 a.0.1 fits a.1 in
       let two = (k a.0.0 one.1).takes a.0.1 y rest one.0.rest_fits a.2 in
-      subst (λ (b : A). Takes bytes (t b ++ u b y) rest × (F b × G b y)) (sym (keeps a.0.0 y one.1 two.1))
-      (Takes-then bytes (t a.0.0) a.0.1 (u a.0.0 y) rest one.0 two.0, (one.1, two.1));
+      subst (λ b. Takes bytes (t b ++ u b y) rest × (F b × G b y)) (sym (keeps a.0.0 y one.1 two.1))
+      (Takes-then bytes _ a.0.1 _ rest one.0 two.0, (one.1, two.1));
   again = λ y rest fits.
       let b = first y in
-      let regrouped : (t b ++ u b y) ++ rest ≡ t b ++ (u b y ++ rest) = append_assoc (t b) (u b y) rest in
-      let one : f ((t b ++ u b y) ++ rest) ≡ Ok (b, u b y ++ rest) =
-      ap f regrouped ∙ h.again b (u b y ++ rest) fits.0 in
-      ap (λ (r : Read A). r >>= (λ x. g x.0 x.1)) one ∙ (k b fits.0).again y rest fits.1;
+      let regrouped = append_assoc (t b) (u b y) rest in
+      let one =
+      ap f regrouped ∙ h.again b _ fits.0 in
+      ap (λ r. r >>= (λ x. g x.0 x.1)) one ∙ (k b fits.0).again y rest fits.1;
 }
 
 -- so many bytes
@@ -138,7 +137,7 @@ bytes_field cause size = record {
       let parts : Takes bytes (take size bytes) (drop size bytes) =
       record { parts = sym (take-append-drop size bytes); rest_fits = IsBytes-drop size bytes fits } in
       let len : length (take size bytes) ≡ size = omega (arith, length-take size bytes) in
-      subst (λ (p : List ℕ × List ℕ). Takes bytes p.0 p.1 × ((length p.0 ≡ size) × IsBytes p.0)) g.1
+      subst (λ p. Takes bytes p.0 p.1 × ((length p.0 ≡ size) × IsBytes p.0)) g.1
       (parts, (len, IsBytes-take size bytes fits));
   again = λ x rest fits.
       let long : nat_le size (length (x ++ rest)) ≡ true = le-leb _ _ (omega (arith, length-append x rest, fits.0)) in
@@ -152,10 +151,10 @@ pub record IsWide (size : ℕ) : Type 0 where
       little_bytes size (little_number size bytes) ≡ bytes
 
 pub two_wide : IsWide 2
-two_wide = record { back = λ bytes len fits. le_bytes_2 bytes (little_number 2 bytes) len fits (omega arith) }
+two_wide = record { back = λ bytes len fits. le_bytes_2 bytes _ len fits (omega arith) }
 
 pub four_wide : IsWide 4
-four_wide = record { back = λ bytes len fits. le_bytes_4 bytes (little_number 4 bytes) len fits (omega arith) }
+four_wide = record { back = λ bytes len fits. le_bytes_4 bytes _ len fits (omega arith) }
 
 -- the lowest byte first
 pub number_field : (cause : BadImage) (size : ℕ) → IsWide size →
@@ -174,7 +173,7 @@ number_field cause size wide = record {
         parts = sym (take-append-drop size bytes) ∙ ap (λ (t : List ℕ). t ++ drop size bytes) (sym front);
         rest_fits = IsBytes-drop size bytes fits;
       } in
-      subst (λ (p : ℕ × List ℕ). Takes bytes (little_bytes size p.0) p.1 × (p.0 < 256 ^ size)) g.1
+      subst (λ p. Takes bytes (little_bytes size p.0) p.1 × (p.0 < 256 ^ size)) g.1
       (parts, little_from-lt 0 size bytes fits);
   again = λ n rest lt.
       let len = length-bytes_low_first 0 size n in
@@ -188,14 +187,13 @@ byte_takes : (cause : BadImage) (bytes : List ℕ) (n : ℕ) (rest : List ℕ) �
     number_at cause 1 bytes ≡ Ok (n, rest) → Takes bytes (n ∷ []) rest × (n < 256)
 byte_takes cause [] n rest fits e = absurd cc
 byte_takes cause (b ∷ bytes) n rest fits e =
-    let g = good_ok cause (nat_le 1 (length (b ∷ bytes))) (little_number 1 (b ∷ bytes), drop 1 (b ∷ bytes))
-    (n, rest) e in
+    let g = good_ok cause _ _ _ e in
     let number : little_number 1 (b ∷ bytes) ≡ b = omega arith in
-    let n-is : b ≡ n = sym number ∙ ap (λ (p : ℕ × List ℕ). p.0) g.1 in
-    let rest-is : bytes ≡ rest = ap (λ (p : ℕ × List ℕ). p.1) g.1 in
-    let whole : Takes (b ∷ bytes) (b ∷ []) bytes = record { parts = refl; rest_fits = λ i. fits (suc i) } in
-    subst (λ (m : ℕ). Takes (b ∷ bytes) (m ∷ []) rest × (m < 256)) n-is
-    (subst (λ (r : List ℕ). Takes (b ∷ bytes) (b ∷ []) r) rest-is whole, fits 0)
+    let n-is = sym number ∙ ap (λ p. p.0) g.1 in
+    let rest-is = ap (λ p. p.1) g.1 in
+    let whole : Takes _ (b ∷ []) bytes = record { parts = refl; rest_fits = λ i. fits (suc i) } in
+    subst (λ m. Takes (b ∷ bytes) (m ∷ []) rest × (m < 256)) n-is
+    (subst (λ r. Takes (b ∷ bytes) (b ∷ []) r) rest-is whole, fits 0)
 
 pub byte_field : (cause : BadImage) → IsField (number_at cause 1) (λ n. n ∷ []) (λ n. n < 256)
 byte_field cause = record {
@@ -214,22 +212,20 @@ module _ {A : Type 0} (f : List ℕ → Read A) (t : A → List ℕ) (F : A → 
       Takes bytes (flat_map t xs) rest × ((length xs ≡ count) × AllByRecursion F xs)
   unfolding fields_at
   many_takes zero bytes xs rest fits e =
-      let p : ◌≡◌ {A = List A × List ℕ} ([], bytes) (xs, rest) = ok_is ([], bytes) (xs, rest) e in
+      let p = ok_is _ _ e in
       let none : Takes bytes (flat_map t []) bytes = record { parts = refl; rest_fits = fits } in
-      subst (λ (q : List A × List ℕ). Takes bytes (flat_map t q.0) q.1 × ((length q.0 ≡ 0) × AllByRecursion F q.0)) p
-      (none, (refl, tt))
+      subst (λ q. Takes bytes (flat_map t q.0) q.1 × ((length q.0 ≡ 0) × AllByRecursion F q.0)) p (none, (refl, tt))
   many_takes (suc count) bytes xs rest fits e =
-      let a = bind_ok (f bytes) (λ x. fields_at f count x.1 >>= (λ others. Ok (x.0 ∷ others.0, others.1)))
-      (xs, rest) e in
-      let b = bind_ok (fields_at f count a.0.1) (λ others. Ok (a.0.0 ∷ others.0, others.1)) (xs, rest) a.2 in
+      let a = bind_ok _ _ _ e in
+      let b = bind_ok _ _ _ a.2 in
       let one = h.takes bytes a.0.0 a.0.1 fits a.1 in
       let two = many_takes count a.0.1 b.0.0 b.0.1 one.0.rest_fits b.1 in
-      let both = Takes-then bytes (t a.0.0) a.0.1 (flat_map t b.0.0) b.0.1 one.0 two.0 in
-      let p : ◌≡◌ {A = List A × List ℕ} (a.0.0 ∷ b.0.0, b.0.1) (xs, rest) =
-      ok_is (a.0.0 ∷ b.0.0, b.0.1) (xs, rest) b.2 in
-      let whole : Takes bytes (flat_map t (a.0.0 ∷ b.0.0)) b.0.1 =
-      subst (λ (text : List ℕ). Takes bytes text b.0.1) (sym (flat_map-cons t a.0.0 b.0.0)) both in
-      subst (λ (q : List A × List ℕ). Takes bytes (flat_map t q.0) q.1 ×
+      let both = Takes-then bytes _ a.0.1 _ b.0.1 one.0 two.0 in
+      let p =
+      ok_is _ _ b.2 in
+      let whole =
+      subst (λ text. Takes bytes text b.0.1) (sym (flat_map-cons t a.0.0 b.0.0)) both in
+      subst (λ q. Takes bytes (flat_map t q.0) q.1 ×
       ((length q.0 ≡ suc count) × AllByRecursion F q.0)) p (whole, (ap suc two.1.0, (one.1, two.1.1)))
 
   many_again : (xs : List A) (rest : List ℕ) → AllByRecursion F xs →
@@ -237,18 +233,18 @@ module _ {A : Type 0} (f : List ℕ → Read A) (t : A → List ℕ) (F : A → 
   unfolding fields_at
   many_again [] rest all = refl
   many_again (x ∷ xs) rest all =
-      let regrouped : flat_map t (x ∷ xs) ++ rest ≡ t x ++ (flat_map t xs ++ rest) =
-      ap (λ (text : List ℕ). text ++ rest) (flat_map-cons t x xs) ∙ append_assoc (t x) (flat_map t xs) rest in
-      let one : f (flat_map t (x ∷ xs) ++ rest) ≡ Ok (x, flat_map t xs ++ rest) =
-      ap f regrouped ∙ h.again x (flat_map t xs ++ rest) all.0 in
-      ap (λ (r : Read A). r >>= (λ y. fields_at f (length xs) y.1 >>= (λ others. Ok (y.0 ∷ others.0, others.1)))) one ∙
-      ap (λ (r : Read (List A)). r >>= (λ others. Ok (x ∷ others.0, others.1))) (many_again xs rest all.1)
+      let regrouped =
+      ap (λ text. text ++ rest) (flat_map-cons t x xs) ∙ append_assoc (t x) (flat_map t xs) rest in
+      let one =
+      ap f regrouped ∙ h.again x _ all.0 in
+      ap (λ r. r >>= (λ y. fields_at f (length xs) y.1 >>= (λ others. Ok (y.0 ∷ others.0, others.1)))) one ∙
+      ap (λ r. r >>= (λ others. Ok (x ∷ others.0, others.1))) (many_again xs rest all.1)
 
   -- so many of them
   pub many_field : (count : ℕ) → IsField (fields_at f count) (flat_map t)
       (λ xs. (length xs ≡ count) × AllByRecursion F xs)
   many_field count = record {
     takes = many_takes count;
-    again = λ xs rest fits. subst (λ (n : ℕ). fields_at f n (flat_map t xs ++ rest) ≡ Ok (xs, rest)) fits.0
+    again = λ xs rest fits. subst (λ n. fields_at f n (flat_map t xs ++ rest) ≡ Ok (xs, rest)) fits.0
         (many_again xs rest fits.1);
   }

@@ -7,7 +7,7 @@ use Rattle.sc_image.proofs.Common.{exports_at, exports_bytes, false, flags, get_
 use Rattle.sc_image.proofs.Common.{import_at, import_bytes, imports_at, imports_bytes, is_between, is_name}
 use Rattle.sc_image.proofs.Common.{is_name_byte, is_nondigit, is_same_name, le-leb, leb-true, length, list_all}
 use Rattle.sc_image.proofs.Common.{little_bytes, lt-ltb, ltb-true, most_globals, name_at, name_bytes, nat_le, nat_lt}
-use Rattle.sc_image.proofs.Common.{nat_tests, not, not-true, not_from_false, number_at, parts_in_version, refl}
+use Rattle.sc_image.proofs.Common.{nat_tests, not-true, not_from_false, number_at, parts_in_version, refl}
 use Rattle.sc_image.proofs.Common.{same_text, stretch, suc, sym, true, zero, ℕ, ◌%◌, ◌&&◌, ◌*◌, ◌++◌, ◌+◌, ◌/◌, ◌<◌}
 use Rattle.sc_image.proofs.Common.{◌==◌, ◌^◌, ◌∙◌, ◌∷◌, ◌≡◌, ◌≤◌}
 use Rattle.sc_image.specs.Reading.{export_at}
@@ -25,10 +25,8 @@ nondigit_is_small b h = grind (arith, nat_tests)
 
 name_bytes_are_bytes : (xs : List ℕ) → list_all is_name_byte xs ≡ true → IsBytes xs
 name_bytes_are_bytes [] all i = omega arith
-name_bytes_are_bytes (x ∷ xs) all zero = name_byte_is_small x
-    (and_parts (is_name_byte x) (list_all is_name_byte xs) all).0
-name_bytes_are_bytes (x ∷ xs) all (suc i) = name_bytes_are_bytes xs
-    (and_parts (is_name_byte x) (list_all is_name_byte xs) all).1 i
+name_bytes_are_bytes (x ∷ xs) all zero = name_byte_is_small x (and_parts _ _ all).0
+name_bytes_are_bytes (x ∷ xs) all (suc i) = name_bytes_are_bytes xs (and_parts _ _ all).1 i
 
 pub name_is_bytes : (name : List ℕ) → is_name name ≡ true → IsBytes name
 unfolding is_name
@@ -36,17 +34,16 @@ name_is_bytes [] named = absurd cc
 name_is_bytes (first ∷ rest) named = by_place
   where
     tests : (is_nondigit first ≡ true) × ((list_all is_name_byte rest && nat_lt (length rest) 63) ≡ true)
-    tests = and_parts (is_nondigit first) (list_all is_name_byte rest && nat_lt (length rest) 63) named
+    tests = and_parts (is_nondigit first) _ named
 
     by_place : (i : ℕ) → get_or (first ∷ rest) i 0 < 256
     by_place zero = nondigit_is_small first tests.0
-    by_place (suc i) = name_bytes_are_bytes rest (and_parts (list_all is_name_byte rest)
-        (nat_lt (length rest) 63) tests.1).0 i
+    by_place (suc i) = name_bytes_are_bytes rest (and_parts _ (nat_lt (length rest) 63) tests.1).0 i
 
 name_field : (cause : BadImage) → IsField (name_at cause) name_bytes (λ name. is_name name ≡ true)
 unfolding name_at
 name_field cause =
-    restated (followed (byte_field cause) (λ (name : List ℕ). length name)
+    restated (followed (byte_field cause) _
     (λ size ok. tested (bytes_field cause size) cause is_name) (λ size name a b. b.0.0))
     (λ name h. refl) (λ name h. h.1.1) (λ name h. (omega (arith, short_name name h), ((refl, name_is_bytes name h), h)))
 
@@ -54,8 +51,7 @@ comp_name_field : IsField comp_name_at name_bytes (λ name. (is_name name ≡ tr
     (is_same_name name (codes "Env") ≡ false))
 unfolding comp_name_at
 comp_name_field =
-    restated (tested (name_field Compartment) Compartment (λ name. not (is_same_name name (codes "Env"))))
-    (λ name h. refl)
+    restated (tested (name_field Compartment) Compartment _) (λ name h. refl)
     (λ name h. (h.0, not-true _ h.1)) (λ name h. (h.0, not_from_false _ h.1))
 
 -- exports
@@ -92,19 +88,15 @@ export_again export = ap (λ (b : Bool). record {
 pub export_field : IsField export_at export_bytes FitsExport
 unfolding export_at
 export_field =
-    restated
-    (followed (name_field Exports) (λ (export : ExportPart). export.name) (λ name ok.
+    restated (followed (name_field Exports) (λ (export : ExportPart). export.name) (λ name ok.
     followed (tested (byte_field Exports) Exports (λ n. nat_le n 8)) (λ (export : ExportPart). export.params)
     (λ params ok.
     followed (tested (byte_field Exports) Exports (λ n. nat_le n 1)) (λ (export : ExportPart). bit export.result)
     (λ result ok.
     made (number_field Exports 4 four_wide) (export_with name params result) (λ (export : ExportPart). export.entry)
-    (λ entry. refl))
-    (λ result y a b. ap (λ (e : ExportPart). bit e.result) b.1 ∙ bit_of result (leb-true _ _ a.1)))
-    (λ params y a b. ap (λ (e : ExportPart). e.params) b.1.1))
-    (λ name y a b. ap (λ (e : ExportPart). e.name) b.1.1.1))
-    (λ export h. refl)
-    (λ export h. record { name = h.0; params = leb-true _ _ h.1.0.1; entry = h.1.1.1.0 })
+    (λ entry. refl)) (λ result y a b. ap (λ e. bit e.result) b.1 ∙ bit_of result (leb-true _ _ a.1)))
+    (λ params y a b. ap (λ (e : ExportPart). e.params) b.1.1)) (λ name y a b. ap (λ (e : ExportPart). e.name) b.1.1.1))
+    (λ export h. refl) (λ export h. record { name = h.0; params = leb-true _ _ h.1.0.1; entry = h.1.1.1.0 })
     (λ export h. (
       h.name,
       (
@@ -120,10 +112,8 @@ pub record FitsExports (exports : List ExportPart) : Type 0 where
 pub exports_field : IsField exports_at exports_bytes FitsExports
 unfolding exports_at
 exports_field =
-    restated
-    (followed (tested (number_field Exports 2 two_wide) Exports (λ n. nat_le n 4096))
-    (λ (exports : List ExportPart). length exports)
-    (λ count ok. many_field export_at export_bytes FitsExport export_field count) (λ count exports a b. b.0))
+    restated (followed (tested (number_field Exports 2 two_wide) Exports _) _
+    (λ count ok. many_field _ export_bytes FitsExport export_field count) (λ count exports a b. b.0))
     (λ exports h. refl) (λ exports h. record { few = leb-true _ _ h.0.1; each = h.1.1 })
     (λ exports h. ((omega (arith, h.few), le-leb _ _ h.few), (refl, h.each)))
 
@@ -144,15 +134,14 @@ pub record FitsCode (code : List ℕ) : Type 0 where
   pub each : AllByRecursion (λ word. word < 2 ^ 32) code
 
 code_size : (size k : ℕ) → (size % 4 == 0 && nat_le size stretch) ≡ true → k ≡ size / 4 → 4 * k ≡ size
-code_size size k passes is = let whole : size % 4 ≡ 0 =
-    eqb-true _ _ (and_parts (size % 4 == 0) (nat_le size stretch) passes).0 in omega (arith, whole, is)
+code_size size k passes is = let whole =
+    eqb-true _ _ (and_parts _ (nat_le size stretch) passes).0 in omega (arith, whole, is)
 
 code_passes : (k : ℕ) → 4 * k ≤ stretch → (4 * k % 4 == 0 && nat_le (4 * k) stretch) ≡ true
-code_passes k short = and_from (4 * k % 4 == 0) (nat_le (4 * k) stretch) (eq-eqb (4 * k % 4) 0 (omega arith))
-    (le-leb (4 * k) stretch short)
+code_passes k short = and_from (4 * k % 4 == 0) _ (eq-eqb _ 0 (omega arith)) (le-leb _ stretch short)
 
 code_short : (size k : ℕ) → (4 * k % 4 == 0 && nat_le (4 * k) stretch) ≡ true → 4 * k ≤ stretch
-code_short size k passes = leb-true _ _ (and_parts (4 * k % 4 == 0) (nat_le (4 * k) stretch) passes).1
+code_short size k passes = leb-true _ _ (and_parts _ _ passes).1
 
 pub code_field : IsField code_at code_bytes FitsCode
 unfolding code_at
@@ -173,9 +162,7 @@ pub record FitsGlobals (globals : List ℕ) : Type 0 where
 pub globals_field : IsField globals_at globals_bytes FitsGlobals
 unfolding globals_at
 globals_field =
-    restated
-    (followed (tested (number_field Contents 4 four_wide) Contents (λ n. nat_le n most_globals))
-    (λ (globals : List ℕ). length globals)
+    restated (followed (tested (number_field Contents 4 four_wide) Contents _) _
     (λ size ok. bytes_field Contents size) (λ size globals a b. b.0))
     (λ globals h. refl) (λ globals h. record { short = leb-true _ _ h.0.1; bytes = h.1.1 })
     (λ globals h. ((omega (arith, h.short), le-leb _ _ h.short), (refl, h.bytes)))
@@ -224,7 +211,7 @@ comp_again : (comp : CompPart) → comp ≡ comp_with comp.name
     (flags comp) comp.exports comp.imports comp.code comp.globals
 comp_again comp =
     let h = has_flags comp.input comp.output in
-    ap (λ (b : Bool). record {
+    ap (λ b. record {
       name = comp.name;
       input = b;
       output = comp.output;
@@ -232,8 +219,7 @@ comp_again comp =
       imports = comp.imports;
       code = comp.code;
       globals = comp.globals;
-    }) (sym h.first) ∙
-    ap (λ (b : Bool). record {
+    }) (sym h.first) ∙ ap (λ b. record {
       name = comp.name;
       input = flags comp % 2 == 1;
       output = b;
@@ -254,51 +240,41 @@ module _ (comps : ℕ) (few : comps ≤ 32) where
   import_field =
       restated
       (followed (tested (byte_field Imports) Imports (λ c. nat_lt c comps)) (λ (import : ImportPart). import.comp)
-      (λ comp ok.
-      made (number_field Imports 2 two_wide) (λ index. record { comp = comp; index = index })
-      (λ (import : ImportPart). import.index) (λ index. refl))
-      (λ comp y a b. ap (λ (i : ImportPart). i.comp) b.1))
+      (λ comp ok. made (number_field Imports 2 two_wide) _
+      (λ import. import.index) (λ index. refl)) (λ comp y a b. ap (λ (i : ImportPart). i.comp) b.1))
       (λ import h. refl) (λ import h. record { comp = ltb-true _ _ h.0.1; index = h.1.0 })
       (λ import h. ((omega (arith, h.comp, few), lt-ltb _ _ h.comp), (h.index, refl)))
 
   pub imports_field : IsField (imports_at comps) imports_bytes (FitsImports comps)
   unfolding imports_at
   imports_field =
-      restated
-      (followed (tested (number_field Imports 2 two_wide) Imports (λ n. nat_le n 4096))
-      (λ (imports : List ImportPart). length imports)
-      (λ count ok. many_field (import_at comps) import_bytes (FitsImport comps) import_field count)
-      (λ count imports a b. b.0))
+      restated (followed (tested (number_field Imports 2 two_wide) Imports _) _
+      (λ count ok. many_field _ import_bytes _ import_field count) (λ count imports a b. b.0))
       (λ imports h. refl) (λ imports h. record { few = leb-true _ _ h.0.1; each = h.1.1 })
       (λ imports h. ((omega (arith, h.few), le-leb _ _ h.few), (refl, h.each)))
 
   pub comp_field : IsField (comp_at comps) comp_bytes (FitsComp comps)
   unfolding comp_at
   comp_field =
-      restated
-      (followed comp_name_field (λ (comp : CompPart). comp.name) (λ name ok.
+      restated (followed comp_name_field (λ (comp : CompPart). comp.name) (λ name ok.
       followed (tested (byte_field Compartment) Compartment (λ f. nat_le f 3)) (λ (comp : CompPart). flags comp)
-      (λ f ok.
-      followed exports_field (λ (comp : CompPart). comp.exports) (λ exports ok.
+      (λ f ok. followed exports_field (λ (comp : CompPart). comp.exports) (λ exports ok.
       followed imports_field (λ (comp : CompPart). comp.imports) (λ imports ok.
       followed code_field (λ (comp : CompPart). comp.code) (λ code ok.
-      made globals_field (comp_with name f exports imports code) (λ (comp : CompPart). comp.globals) (λ globals. refl))
-      (λ code y a b. ap (λ (c : CompPart). c.code) b.1))
-      (λ imports y a b. ap (λ (c : CompPart). c.imports) b.1.1))
+      made globals_field (comp_with name f exports imports code) (λ comp. comp.globals) (λ globals. refl))
+      (λ code y a b. ap (λ c. c.code) b.1)) (λ imports y a b. ap (λ (c : CompPart). c.imports) b.1.1))
       (λ exports y a b. ap (λ (c : CompPart). c.exports) b.1.1.1))
       (λ f y a b. ap (λ (c : CompPart). flags c) b.1.1.1.1 ∙ flags_of f (leb-true _ _ a.1)))
       (λ name y a b. ap (λ (c : CompPart). c.name) b.1.1.1.1.1))
       (λ comp h. grouped (name_bytes comp.name) (exports_bytes comp.exports) (imports_bytes comp.imports)
-      (code_bytes comp.code) (globals_bytes comp.globals) (flags comp))
-      (λ comp h. record {
+      (code_bytes comp.code) (globals_bytes comp.globals) (flags comp)) (λ comp h. record {
         name = h.0.0;
         no_environment = h.0.1;
         exports = h.1.1.0;
         imports = h.1.1.1.0;
         code = h.1.1.1.1.0;
         globals = h.1.1.1.1.1.0;
-      })
-      (λ comp h.
+      }) (λ comp h.
       let all_flags = has_flags comp.input comp.output in (
         (h.name, h.no_environment),
         (

@@ -12,7 +12,7 @@ fits image c comp h = record {
 }
 
 pub comps_fit : (image : ImageParts) → IsWellFormed image → All FitsItsFields image.comps
-comps_fit image h = all_by FitsItsFields image.comps (λ c comp e. fits image c comp (h.comps c comp e))
+comps_fit image h = all_by FitsItsFields _ (λ c comp e. fits image c comp (h.comps c comp e))
 
 pub short_name : (name : List ℕ) → IsTrue (is_name name) → length name ≤ 63
 short_name name h = name_is_short name h

@@ -1,9 +1,9 @@
 -- Whether the parts keep the rules on a whole image, as it is found out.
 use Rattle.sc_image.proofs.Common.{All, Bool, CompPart, Decides, Decides-and, Decides-like, ExportPart, ImageParts}
-use Rattle.sc_image.proofs.Common.{ImportPart, Int, IsEquivalence, IsWellFormed, List, Scalar, Some, [], ap}
+use Rattle.sc_image.proofs.Common.{ImportPart, Int, IsEquivalence, IsWellFormed, List, Some, [], ap}
 use Rattle.sc_image.proofs.Common.{are_distinct, arith, comps_keep, cond, drop, drop_more, false, get_or}
 use Rattle.sc_image.proofs.Common.{hash_set_len-from_list, is_same_import, is_same_name, length, length-map, list_any}
-use Rattle.sc_image.proofs.Common.{map, nat_eq, refl, replicate, slice_get, slice_get-get_or, suc, sym, take}
+use Rattle.sc_image.proofs.Common.{map, nat_eq, refl, replicate, slice_get-get_or, suc, sym, take}
 use Rattle.sc_image.proofs.Common.{take-replicate, true, unsigned_Decides, ℕ, ◌&&◌, ◌+◌, ◌<◌, ◌==◌, ◌||◌, ◌∙◌, ◌∷◌, ◌≡◌}
 use Rattle.sc_image.proofs.Common.{◌≤◌}
 use Rattle.std.proofs.Math.ListN.{drop_of_length-le}
@@ -20,21 +20,21 @@ module _ (image : ImageParts) (comps : List CompPart) (c : ℕ) where
   keep_at comp within here =
       let next : suc c ≡ c + 1 = omega arith in
       ap (comps_keep image c) (drop_more comps c comp within) ∙
-      (ap (λ (x : CompPart). comps_keep image c (x ∷ drop (c + 1) comps)) (sym here) ∙
-      ap (λ (k : ℕ). keeps image c comp && comps_keep image k (drop (c + 1) comps)) next)
+      (ap (λ x. comps_keep image c (x ∷ drop (c + 1) comps)) (sym here) ∙
+      ap (λ k. keeps image c comp && comps_keep image k (drop (c + 1) comps)) next)
 
   pub refused_by : (comp : CompPart) (total keep : Bool) → total ≡ comps_keep image c (drop c comps) →
       c < length comps → comp ≡ get_or comps c comp →
       keep ≡ keeps image c comp → keep ≡ false → false ≡ total
   refused_by comp total keep so_far within here is denied =
-      sym (so_far ∙ (keep_at comp within here ∙ ap (λ (b : Bool). b && comps_keep image (c + 1) (drop (c + 1) comps))
+      sym (so_far ∙ (keep_at comp within here ∙ ap (λ b. b && comps_keep image (c + 1) (drop (c + 1) comps))
       (sym is ∙ denied)))
 
   pub goes_further : (comp : CompPart) (total keep : Bool) → total ≡ comps_keep image c (drop c comps) →
       c < length comps → comp ≡ get_or comps c comp →
       keep ≡ keeps image c comp → keep ≡ true → total ≡ comps_keep image (c + 1) (drop (c + 1) comps)
   goes_further comp total keep so_far within here is granted =
-      so_far ∙ (keep_at comp within here ∙ ap (λ (b : Bool). b && comps_keep image (c + 1) (drop (c + 1) comps))
+      so_far ∙ (keep_at comp within here ∙ ap (λ b. b && comps_keep image (c + 1) (drop (c + 1) comps))
       (sym is ∙ granted))
 
   pub all_kept : (total : Bool) → total ≡ comps_keep image c (drop c comps) → length comps ≤ c → true ≡ total
@@ -52,22 +52,19 @@ pub comp_names_count : {S : Type 0} (comps : List CompPart) (set : HashSet (List
     bag.IsFromIterResult is_same_name (map (λ comp. comp.name) comps) set → len ≡ hash_set_len set →
     nat_eq len (length comps) ≡ are_distinct is_same_name (map (λ comp. comp.name) comps)
 comp_names_count comps set len made len-is =
-    count_tells is_same_name (equivalence is_same_name names_decide) (map (λ comp. comp.name) comps) set len
-    (length comps) made len-is (sym (length-map comps (λ (comp : CompPart). comp.name)))
+    count_tells _ (equivalence _ names_decide) _ set len _ made len-is (sym (length-map comps _))
 
 pub export_names_count : {S : Type 0} (exports : List ExportPart) (set : HashSet (List ℕ) S) (len : ℕ) →
     bag.IsFromIterResult is_same_name (map (λ export. export.name) exports) set → len ≡ hash_set_len set →
     nat_eq len (length exports) ≡ are_distinct is_same_name (map (λ export. export.name) exports)
 export_names_count exports set len made len-is =
-    count_tells is_same_name (equivalence is_same_name names_decide) (map (λ export. export.name) exports) set len
-    (length exports) made len-is (sym (length-map exports (λ (export : ExportPart). export.name)))
+    count_tells _ (equivalence _ names_decide) _ set len _ made len-is (sym (length-map exports _))
 
 pub entries_count : {S : Type 0} (exports : List ExportPart) (set : HashSet ℕ S) (len : ℕ) →
     bag.IsFromIterResult ◌==◌ (map (λ export. export.entry) exports) set → len ≡ hash_set_len set →
     nat_eq len (length exports) ≡ are_distinct ◌==◌ (map (λ export. export.entry) exports)
 entries_count exports set len made len-is =
-    count_tells ◌==◌ (equivalence ◌==◌ entries_decide) (map (λ export. export.entry) exports) set len
-    (length exports) made len-is (sym (length-map exports (λ (export : ExportPart). export.entry)))
+    count_tells ◌==◌ (equivalence ◌==◌ entries_decide) _ set len _ made len-is (sym (length-map exports _))
 
 -- imports are told apart by their numbers
 
@@ -80,7 +77,7 @@ is_same_pair a b = a.0 == b.0 && a.1 == b.1
 one_of_many : (x : ImportPart) (imports : List ImportPart) →
     list_any (is_same_pair (numbers x)) (map numbers imports) ≡ list_any (is_same_import x) imports
 one_of_many x [] = refl
-one_of_many x (y ∷ imports) = ap (λ (later : Bool). is_same_import x y || later) (one_of_many x imports)
+one_of_many x (y ∷ imports) = ap (λ later. is_same_import x y || later) (one_of_many x imports)
 
 unless_there : (there : Bool) (pairs : List (ℕ × ℕ)) (imports : List ImportPart) (p : ℕ × ℕ) (i : ImportPart) →
     length pairs ≡ length imports →
@@ -92,26 +89,24 @@ as_many : (imports : List ImportPart) → distinct_count is_same_pair (map numbe
     distinct_count is_same_import imports
 as_many [] = refl
 as_many (x ∷ imports) =
-    ap (λ (there : Bool). length (cond there (unique_keys is_same_pair (map numbers imports))
-    (numbers x ∷ unique_keys is_same_pair (map numbers imports)))) (one_of_many x imports) ∙
-    unless_there (list_any (is_same_import x) imports) (unique_keys is_same_pair (map numbers imports))
-    (unique_keys is_same_import imports) (numbers x) x (as_many imports)
+    ap (λ there. length (cond there (unique_keys is_same_pair (map numbers imports))
+    (numbers x ∷ unique_keys is_same_pair (map numbers imports)))) (one_of_many x imports) ∙ unless_there _ _
+    _ (numbers x) x (as_many imports)
 
 pairs_decide : (a b : ℕ × ℕ) → Decides (is_same_pair a b) (a ≡ b)
 pairs_decide a b =
-    Decides-like (is_same_pair a b) (λ both. ap (λ (n : ℕ). (n, a.1)) both.0 ∙ ap (λ (n : ℕ). (b.0, n)) both.1)
-    (λ same. (ap (λ (p : ℕ × ℕ). p.0) same, ap (λ (p : ℕ × ℕ). p.1) same))
-    (Decides-and (a.0 == b.0) (a.1 == b.1) (unsigned_Decides a.0 b.0) (unsigned_Decides a.1 b.1))
+    Decides-like _ (λ both. ap (λ n. (n, a.1)) both.0 ∙ ap (λ n. (b.0, n)) both.1)
+    (λ same. (ap (λ p. p.0) same, ap (λ p. p.1) same))
+    (Decides-and (a.0 == b.0) _ (unsigned_Decides a.0 b.0) (unsigned_Decides a.1 b.1))
 
 pub imports_count : {S : Type 0} (imports : List ImportPart) (set : HashSet (ℕ × ℕ) S) (len : ℕ) →
     bag.IsFromIterResult is_same_pair (map (λ import. (import.comp, import.index)) imports) set →
     len ≡ hash_set_len set →
     nat_eq len (length imports) ≡ are_distinct is_same_import imports
 imports_count imports set len made len-is =
-    count_tells is_same_pair (equivalence is_same_pair pairs_decide) (map numbers imports) set len
-    (length imports) made len-is (sym (length-map imports numbers)) ∙
-    (ap (λ (n : ℕ). n == length (map numbers imports)) (as_many imports) ∙
-    ap (λ (n : ℕ). distinct_count is_same_import imports == n) (length-map imports numbers))
+    count_tells _ (equivalence _ pairs_decide) _ set len _ made len-is (sym (length-map imports numbers)) ∙
+    (ap (λ n. n == length (map numbers imports)) (as_many imports) ∙
+    ap (λ n. distinct_count is_same_import imports == n) (length-map imports numbers))
 
 pub ruleset counted = (comp_names_count, export_names_count, entries_count, imports_count)
 
@@ -119,13 +114,12 @@ pub ruleset counted = (comp_names_count, export_names_count, entries_count, impo
 pub ints_taken : (n m : ℕ) → n ≤ 8 → m ≡ n → take m (Int ∷ Int ∷ Int ∷ Int ∷ Int ∷ Int ∷ Int ∷ Int ∷ []) ≡
     replicate n Int
 ints_taken n m few is =
-    let eight : ◌≡◌ {A = List Scalar} (Int ∷ Int ∷ Int ∷ Int ∷ Int ∷ Int ∷ Int ∷ Int ∷ []) (replicate 8 Int) = refl in
+    let eight : ◌≡◌ _ (replicate 8 Int) = refl in
     rw (is, eight) (take-replicate n 8 Int few)
 
 pub few_params : (image : ImageParts) → IsWellFormed image → (c : ℕ) (comp : CompPart) → c < length image.comps →
     comp ≡ get_or image.comps c comp →
     All (λ export. export.params ≤ 8) comp.exports
 few_params image formed c comp within here k d there =
-    let at : slice_get image.comps c ≡ Some comp = slice_get-get_or image.comps c comp within ∙
-    ap (λ (x : CompPart). Some x) (sym here) in
+    let at = slice_get-get_or _ c comp within ∙ ap (λ x. Some x) (sym here) in
     ((formed.comps c comp at).exports k d there).params

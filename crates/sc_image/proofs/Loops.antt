@@ -10,7 +10,7 @@ with_front front read = read >>= (λ x. Ok (front ++ x.0, x.1))
 
 regroup : {A : Type 0} (front : List A) (x : A) (read : Read (List A)) →
     with_front front (read >>= (λ others. Ok (x ∷ others.0, others.1))) ≡ with_front (front ++ x ∷ []) read
-regroup {A} front x (Ok others) = ap (λ (xs : List A). Ok (xs, others.1)) (simp append_assoc)
+regroup {A} front x (Ok others) = ap (λ xs. Ok (xs, others.1)) (simp append_assoc)
 regroup front x (Err cause) = refl
 
 alone : {A : Type 0} (read : Read (List A)) → with_front [] read ≡ read
@@ -19,7 +19,7 @@ alone (Err cause) = refl
 
 module _ {A : Type 0} (field : List ℕ → Read A) (count : ℕ) where
   pub begins : (bytes : List ℕ) → with_front [] (fields_at field (count - 0) bytes) ≡ fields_at field count bytes
-  begins bytes = let all : count - 0 ≡ count = omega arith in rw all (alone (fields_at field count bytes))
+  begins bytes = let all : count - 0 ≡ count = omega arith in rw all (alone _)
 
   pub goes_on : (front : List A) (i : ℕ) (bytes : List ℕ) (x : A) (after : List ℕ) (total : Read (List A)) → i < count →
       field bytes ≡ Ok (x, after) →
@@ -28,9 +28,9 @@ module _ {A : Type 0} (field : List ℕ → Read A) (count : ℕ) where
   unfolding fields_at
   goes_on front i bytes x after total lt read so_far =
       let k : count - i ≡ suc (count - (i + 1)) = omega (arith, lt) in
-      let one : with_front front (fields_at field (count - i) bytes) ≡
-      with_front (front ++ x ∷ []) (fields_at field (count - (i + 1)) after) =
-      rw (k, read) (regroup front x (fields_at field (count - (i + 1)) after)) in
+      let one : with_front front _ ≡
+      with_front _ _ =
+      rw (k, read) (regroup front x _) in
       sym one ∙ so_far
 
   pub ends : (fault : ImageFault) (front : List A) (i : ℕ) (bytes : List ℕ) (total : Read (List A)) → i < count →
@@ -40,7 +40,7 @@ module _ {A : Type 0} (field : List ℕ → Read A) (count : ℕ) where
   ends faults.OutOfMemory front i bytes total lt read so_far = tt
   ends (faults.Bad cause) front i bytes total lt read so_far =
       let k : count - i ≡ suc (count - (i + 1)) = omega (arith, lt) in
-      let one : with_front front (fields_at field (count - i) bytes) ≡ Err cause = rw (k, read) refl in
+      let one : with_front front _ ≡ Err cause = rw (k, read) refl in
       sym so_far ∙ one
 
   pub is_done : (front : List A) (i : ℕ) (bytes : List ℕ) (total : Read (List A)) → count ≤ i →
@@ -48,6 +48,6 @@ module _ {A : Type 0} (field : List ℕ → Read A) (count : ℕ) where
   unfolding fields_at
   is_done front i bytes total le so_far =
       let k : count - i ≡ 0 = omega (arith, le) in
-      let one : with_front front (fields_at field (count - i) bytes) ≡ Ok (front, bytes) =
-      rw k (ap (λ (xs : List A). Ok (xs, bytes)) (append-nil front)) in
+      let one : with_front front _ ≡ Ok _ =
+      rw k (ap (λ xs. Ok (xs, bytes)) (append-nil front)) in
       sym so_far ∙ one

@@ -1,6 +1,6 @@
 -- What makes an image of one compartment that takes nothing from others.
 use Rattle.sc_image.proofs.Common.{All, All-nil, CompPart, ImageParts, IsByte, IsComp, IsDistinct, IsExport, IsImport}
-use Rattle.sc_image.proofs.Common.{IsSome, IsTrue, IsWellFormed, IsWord, List, None, Option, Some, [], arith, codes}
+use Rattle.sc_image.proofs.Common.{IsSome, IsTrue, IsWellFormed, IsWord, List, Some, [], arith, codes}
 use Rattle.sc_image.proofs.Common.{is_name, length, lit<, lit≤, map, most_globals, slice_get, stretch, subst, suc}
 use Rattle.sc_image.proofs.Common.{word_at, zero, ℕ, ◌*◌, ◌∷◌, ◌≡◌, ◌≢◌, ◌≤◌}
 
@@ -35,11 +35,11 @@ is_comp entry comp lone = record {
   name = lone.name;
   no_environment = lone.no_environment;
   few_exports = rw lone.exports (lit≤ tt);
-  exports = all_of_none (IsExport (only entry comp) 0) comp.exports lone.exports;
-  export_names = distinct_none (λ export. export.name) comp.exports lone.exports;
-  export_entries = distinct_none (λ export. export.entry) comp.exports lone.exports;
+  exports = all_of_none (IsExport _ 0) _ lone.exports;
+  export_names = distinct_none _ _ lone.exports;
+  export_entries = distinct_none _ _ lone.exports;
   few_imports = rw lone.imports (lit≤ tt);
-  imports = all_of_none (IsImport (only entry comp) 0) comp.imports lone.imports;
+  imports = all_of_none (IsImport _ 0) _ lone.imports;
   distinct_imports = rw lone.imports distinct_empty;
   short_code = lone.short_code;
   words = lone.words;
@@ -49,8 +49,8 @@ is_comp entry comp lone = record {
 
 only_there : (entry : ℕ) (comp : CompPart) → IsComp (only entry comp) 0 comp →
     (c : ℕ) (found : CompPart) → slice_get (comp ∷ []) c ≡ Some found → IsComp (only entry comp) c found
-only_there entry comp h zero found at = let same : comp ≡ found = cc at in subst (IsComp (only entry comp) 0) same h
-only_there entry comp h (suc c) found at = let none : ◌≡◌ {A = Option CompPart} None (Some found) = at in cc none
+only_there entry comp h zero found at = let same : comp ≡ found = cc at in subst (IsComp _ 0) same h
+only_there entry comp h (suc c) found at = let none = at in cc none
 
 pub one_well_formed : (entry : ℕ) (comp : CompPart) → IsLone comp → IsSome (word_at (only entry comp) 0 entry) →
     IsWellFormed (only entry comp)
@@ -59,5 +59,5 @@ one_well_formed entry comp lone at = record {
   main = lit< tt;
   entry = at;
   comps = only_there entry comp (is_comp entry comp lone);
-  names = distinct_one comp.name;
+  names = distinct_one _;
 }

@@ -1,8 +1,8 @@
 -- A step leaves what belongs to other compartments.
 use Rattle.sc_image.proofs.Common.{Adds, Bool, Call, Crossing, Event, Export, Goes, ImageParts, IsChain, IsSteady}
-use Rattle.sc_image.proofs.Common.{IsWellFormed, LeavesOthers, List, Memory, None, Outcome, Ret, Running, Some, State}
+use Rattle.sc_image.proofs.Common.{IsWellFormed, LeavesOthers, List, Memory, None, Outcome, Running, Some, State}
 use Rattle.sc_image.proofs.Common.{[], a0, activates, after_outcome, ap, are_data, arguments, arith, called, data_of}
-use Rattle.sc_image.proofs.Common.{drop, drop-append_seam, eq-eqb, false, flat_map, get_or-set_other, given_back}
+use Rattle.sc_image.proofs.Common.{drop, drop-append_seam, eq-eqb, false, flat_map, get_or-set_other}
 use Rattle.sc_image.proofs.Common.{has_result, if◌then◌else◌, input_at, kept_by, length, nat_eq, ne_eqb, observation_of}
 use Rattle.sc_image.proofs.Common.{own, params_of, refl, reg, returned, returned_to, saved_sp, shows_entry, sp, step}
 use Rattle.sc_image.proofs.Common.{store_size, stored, stored-apart, subst, sym, true, written, ℕ, ◌++◌, ◌+◌, ◌<◌, ◌==◌}
@@ -32,7 +32,7 @@ pub data_kept : (image : ImageParts) (c d a size word : ℕ) (memory : Memory) �
     are_data image c a size ≡ true →
     data_of image d (stored memory a size word) ≡ data_of image d memory
 data_kept image c d a size word memory formed differ mine =
-    λ i x. byte_kept image c d a size word x memory formed differ mine (are_data image d x 1) refl i
+    λ i x. byte_kept image c d a size word x memory formed differ mine _ refl i
 
 -- who isn't active has no registers, and who is in no call has no numbers of it
 
@@ -44,7 +44,7 @@ pub idle_both : (c e d : ℕ) (one other : Running) → c ≢ d → e ≢ d →
 idle_both c e d one other differ differs = idle c d one differ ∙ sym (idle e d other differs)
 
 not_in : (d : ℕ) (crossing : Crossing) → crossing.caller ≢ d → crossing.callee ≢ d → kept_by d crossing ≡ []
-not_in d crossing caller callee = rw (ne_eqb crossing.caller d caller, ne_eqb crossing.callee d callee) refl
+not_in d crossing caller callee = rw (ne_eqb _ d caller, ne_eqb _ d callee) refl
 
 module _ (image : ImageParts) (inputs : List ℕ) (state : State) (d : ℕ) (formed : IsWellFormed image)
     (h : IsSteady image state) (differ : state.active ≢ d) where
@@ -57,7 +57,7 @@ module _ (image : ImageParts) (inputs : List ℕ) (state : State) (d : ℕ) (for
     bytes = data_of image d state.memory;
     saved = saved_sp state d;
     calls = flat_map (kept_by d) state.cross;
-    running = idle_both state.active state.active d
+    running = idle_both _ _ d
         (record { regs = state.regs; pc = state.pc }) (record { regs = state.regs; pc = state.pc }) differ differ i;
   }
   return_keeps (x ∷ xs) is = λ next.
@@ -141,7 +141,7 @@ module _ (image : ImageParts) (inputs : List ℕ) (state : State) (d : ℕ) (for
 -- Who is active after a step that shows no entry of d.
 
 entry_by : (to d : ℕ) → (to == d || false) ≡ false → to ≢ d
-entry_by to d none same = let yes : (to == d || false) ≡ true = rw (eq-eqb to d same) refl in let never : true ≡ false =
+entry_by to d none same = let yes : (to == d || false) ≡ true = rw (eq-eqb to d same) refl in let never =
     sym yes ∙ none in cc never
 
 module _ (image : ImageParts) (inputs : List ℕ) (state : State) (d : ℕ) (formed : IsWellFormed image)
@@ -151,14 +151,11 @@ module _ (image : ImageParts) (inputs : List ℕ) (state : State) (d : ℕ) (for
 
   one_event : (event : Event) → shows_entry d (Adds (drop (length state.trace) (state.trace ++ event ∷ []))) ≡ false →
       (activates d event || false) ≡ false
-  one_event event none = sym (ap (λ events. shows_entry d (Adds events)) (drop-append_seam state.trace (event ∷ []))) ∙
-      none
+  one_event event none = sym (ap (λ events. shows_entry d (Adds events)) (drop-append_seam state.trace _)) ∙ none
 
   return_elsewhere : (cross : List Crossing) → Elsewhere (Goes (returned image state cross))
   return_elsewhere [] none = differ
-  return_elsewhere (x ∷ xs) none =
-      entry_by x.caller d (one_event (Ret state.active x.caller
-      (given_back (has_result image x.callee x.entry) state)) none)
+  return_elsewhere (x ∷ xs) none = entry_by _ d (one_event _ none)
 
   pub step_elsewhere : Elsewhere (step image inputs state)
   step_elsewhere = step_of image inputs formed state Elsewhere (record {

@@ -1,14 +1,14 @@
 -- What holds of every state that a run reaches.
-use Rattle.sc_image.proofs.Common.{All, All-cons, All-head, All-nil, All-tail, Bool, Call, CompPart, Crossing, End}
-use Rattle.sc_image.proofs.Common.{Event, Export, Goes, HoldsBytes, ImageParts, ImportPart, In, IsChain, IsImport}
+use Rattle.sc_image.proofs.Common.{All, All-cons, All-head, All-nil, All-tail, Bool, Call, CompPart, Crossing}
+use Rattle.sc_image.proofs.Common.{Event, Export, Goes, HoldsBytes, ImageParts, ImportPart, IsChain, IsImport}
 use Rattle.sc_image.proofs.Common.{IsReached, IsSteady, IsWellFormed, IsWord, KeepsWords, List, Memory, None, Option}
-use Rattle.sc_image.proofs.Common.{Out, Outcome, Ret, Run, RunsAreSteady, Some, State, StepsOut, Stop, Traps, [], a0}
-use Rattle.sc_image.proofs.Common.{after, after_outcome, after_step, ap, arguments, arith, call_of, called, count_read}
+use Rattle.sc_image.proofs.Common.{Outcome, Ret, Run, RunsAreSteady, Some, State, Stop, Traps, [], a0}
+use Rattle.sc_image.proofs.Common.{after, after_outcome, after_step, ap, arith, call_of, called, count_read}
 use Rattle.sc_image.proofs.Common.{eqb-true, export_at, false, gate, get_or_from_slice_get, given_back, has_result}
 use Rattle.sc_image.proofs.Common.{input, input_at, inputs_in, is_argument, is_result, kept, kept_from, length}
 use Rattle.sc_image.proofs.Common.{length-set, list_any, map, may_call, open_after, open_calls, option_map_or, output}
 use Rattle.sc_image.proofs.Common.{params_of, position, ra, refl, reg, replicate, returned, run, saved_sp, slice_get}
-use Rattle.sc_image.proofs.Common.{slice_get_within, slice_index, sp, stack_top, stack_tops, start, step, stopped}
+use Rattle.sc_image.proofs.Common.{slice_get_within, slice_index, sp, stack_tops, start, step, stopped}
 use Rattle.sc_image.proofs.Common.{stops_or, store_size, stored, subst, suc, sym, true, unwrap_or, with_pc}
 use Rattle.sc_image.proofs.Common.{without_latest, word_at, written, zero, ℕ, ◌&&◌, ◌++◌, ◌+◌, ◌<◌, ◌==◌, ◌||◌, ◌∙◌}
 use Rattle.sc_image.proofs.Common.{◌∷◌, ◌≡◌, ◌≢◌, ◌≤◌}
@@ -23,58 +23,56 @@ use Rattle.sc_image.proofs.Cases.{length-written, step_of}
 
 open_more : (trace : List Event) (event : Event) → open_calls (trace ++ event ∷ []) ≡
     open_after (open_calls trace) event
-open_more trace event = fold-append open_after [] trace (event ∷ [])
+open_more trace event = fold-append _ [] trace _
 
 read_more : (trace : List Event) (event : Event) → inputs_in (trace ++ event ∷ []) ≡ count_read (inputs_in trace) event
-read_more trace event = fold-append count_read 0 trace (event ∷ [])
+read_more trace event = fold-append _ 0 trace _
 
 length-kept : (keeps : ℕ → Bool) (r : ℕ) (regs : List ℕ) → length (kept_from keeps r regs) ≡ length regs
 length-kept keeps r [] = refl
-length-kept keeps r (word ∷ words) = ap suc (length-kept keeps (suc r) words)
+length-kept keeps r (word ∷ words) = ap suc (length-kept keeps _ words)
 
 -- as many stacks as compartments
 pub length-stack_tops : (c : ℕ) (comps : List CompPart) → length (stack_tops c comps) ≡ length comps
 length-stack_tops c [] = refl
-length-stack_tops c (comp ∷ comps) = ap suc (length-stack_tops (suc c) comps)
+length-stack_tops c (comp ∷ comps) = ap suc (length-stack_tops _ comps)
 
 -- A call goes to another compartment of the image.
 
 some_export : (image : ImageParts) (to target index : ℕ) (comp : Option CompPart) → slice_get image.comps to ≡ comp →
     position (λ export. export.entry == target) (option_map_or (λ comp. comp.exports) comp []) ≡ Some index →
     to < length image.comps
-some_export image to target index None is at = let never : ◌≡◌ {A = Option ℕ} None (Some index) = at in cc never
-some_export image to target index (Some comp) is at = slice_get_within image.comps to comp is
+some_export image to target index None is at = let never = at in cc never
+some_export image to target index (Some comp) is at = slice_get_within _ to comp is
 
 pub called_there : (image : ImageParts) (to target index : ℕ) → export_at image to target ≡ Some index →
     to < length image.comps
-called_there image to target index at = some_export image to target index (slice_get image.comps to) refl at
+called_there image to target index at = some_export image to target index _ refl at
 
 to_own_by : (image : ImageParts) (c to index : ℕ) (import : ImportPart) (rest : Bool) → import.comp ≢ c →
     (rest ≡ true → c ≢ to) →
     (this : Bool) → (import.comp == to) ≡ this → (this && import.index == index || rest) ≡ true → c ≢ to
-to_own_by image c to index import rest other later true is some = λ same. other (eqb-true import.comp to is ∙ sym same)
+to_own_by image c to index import rest other later true is some = λ same. other (eqb-true _ to is ∙ sym same)
 to_own_by image c to index import rest other later false is some = later some
 
 none_to_own : (image : ImageParts) (c to index : ℕ) (imports : List ImportPart) → All (IsImport image c) imports →
     list_any (λ import. import.comp == to && import.index == index) imports ≡ true → c ≢ to
-none_to_own image c to index [] all some = λ same. let never : false ≡ true = some in cc never
+none_to_own image c to index [] all some = λ same. let never = some in cc never
 none_to_own image c to index (import ∷ imports) all some =
-    to_own_by image c to index import (list_any (λ import. import.comp == to && import.index == index) imports)
-    (All-head (IsImport image c) import imports all).other
-    (none_to_own image c to index imports (All-tail (IsImport image c) import imports all))
-    (import.comp == to) refl some
+    to_own_by image c to index import (list_any _ imports) (All-head (IsImport image c) import imports all).other
+    (none_to_own image c to index imports (All-tail (IsImport image c) import imports all)) _ refl some
 
 imports_other : (image : ImageParts) (c to index : ℕ) → IsWellFormed image → (comp : Option CompPart) →
     slice_get image.comps c ≡ comp →
     list_any (λ import. import.comp == to && import.index == index) (option_map_or (λ comp. comp.imports) comp []) ≡
     true → c ≢ to
-imports_other image c to index formed None is some = none_to_own image c to index [] (All-nil (IsImport image c)) some
+imports_other image c to index formed None is some = none_to_own image c to index [] (All-nil _) some
 imports_other image c to index formed (Some comp) is some =
-    none_to_own image c to index comp.imports (formed.comps c comp is).imports some
+    none_to_own image c to index _ (formed.comps c comp is).imports some
 
 pub called_other : (image : ImageParts) (c to index : ℕ) → IsWellFormed image → may_call image c to index ≡ true →
     c ≢ to
-called_other image c to index formed may = imports_other image c to index formed (slice_get image.comps c) refl may
+called_other image c to index formed may = imports_other image c to index formed _ refl may
 
 -- One more step.
 
@@ -90,7 +88,7 @@ input_by inputs k all (Some word) is =
     subst IsWord (get_or_from_slice_get inputs k word word is) (all k word (slice_get_within inputs k word is))
 
 input_word : (inputs : List ℕ) (k : ℕ) → All IsWord inputs → IsWord (input_at inputs k)
-input_word inputs k all = input_by inputs k all (slice_get inputs k) refl
+input_word inputs k all = input_by inputs k all _ refl
 
 module _ (image : ImageParts) (inputs : List ℕ) (formed : IsWellFormed image) (all : All IsWord inputs) (state : State)
     (h : IsSteady image state) where
@@ -115,8 +113,8 @@ module _ (image : ImageParts) (inputs : List ℕ) (formed : IsWellFormed image) 
     bytes = h.bytes;
     chain = h.chain;
     kept = h.kept;
-    calls = same_calls (End state.active (reg state a0)) refl;
-    input = same_input (End state.active (reg state a0)) refl;
+    calls = same_calls _ refl;
+    input = same_input _ refl;
   }
   steady_return (x ∷ xs) is =
       let chain : IsChain (length image.comps) state.active (x ∷ xs) =
@@ -150,9 +148,9 @@ module _ (image : ImageParts) (inputs : List ℕ) (formed : IsWellFormed image) 
         may_call image state.active to index ≡ true →
         IsSteady image (called state to index (params_of image to index) target)
     steady_call to index target at may =
-        let event : Event = Call state.active to index (arguments (params_of image to index) state.regs) in
-        let keeps = is_argument (params_of image to index) in
-        let cleared = kept keeps state.regs in
+        let event = Call _ to index _ in
+        let keeps = is_argument _ in
+        let cleared = kept keeps _ in
         let crossing : Crossing = record {
           caller = state.active;
           pc = state.pc + 4;
@@ -162,21 +160,19 @@ module _ (image : ImageParts) (inputs : List ℕ) (formed : IsWellFormed image) 
           saved = saved_sp state to;
         } in
         record {
-          regs = length-written (written cleared ra gate) sp (saved_sp state to) ∙ length-written cleared ra gate ∙
-              length-kept keeps 0 state.regs ∙ h.regs;
+          regs = length-written _ sp _ ∙ length-written cleared ra gate ∙ length-kept keeps 0 _ ∙ h.regs;
           words =
-              written_words (written cleared ra gate) sp (saved_sp state to)
-              (written_words cleared ra gate (kept_words keeps 0 state.regs h.words) (omega arith)) (h.saved_words to);
+              written_words _ sp _
+              (written_words cleared ra gate (kept_words keeps 0 _ h.words) (omega arith)) (h.saved_words to);
           zero = written_zero (written cleared ra gate) sp (saved_sp state to)
-              (written_zero cleared ra gate (kept_zero keeps 0 state.regs h.zero));
+              (written_zero cleared ra gate (kept_zero keeps 0 _ h.zero));
           pc = entry_address image formed to target index at;
           active = called_there image to target index at;
-          saved = length-set state.saved state.active (reg state sp) ∙ h.saved;
-          saved_words = set_words state.saved state.active (reg state sp) h.saved_words (h.words sp);
+          saved = length-set _ _ _ ∙ h.saved;
+          saved_words = set_words _ _ _ h.saved_words (h.words sp);
           bytes = h.bytes;
-          chain = (refl, called_other image state.active to index formed may, h.active, h.chain);
-          kept = All-cons KeepsWords crossing state.cross
-              (record { pc = here; sp = h.words sp; saved = h.saved_words to }) h.kept;
+          chain = (refl, called_other image _ to index formed may, h.active, h.chain);
+          kept = All-cons KeepsWords _ _ (record { pc = here; sp = h.words sp; saved = h.saved_words to }) h.kept;
           calls = ap (λ calls. record { caller = state.active; callee = to; entry = Export index } ∷ calls) h.calls ∙
               sym (open_more state.trace event);
           input = same_input event refl;
@@ -229,16 +225,16 @@ module _ (image : ImageParts) (inputs : List ℕ) (formed : IsWellFormed image) 
       bytes = h.bytes;
       chain = h.chain;
       kept = h.kept;
-      calls = same_calls (Out state.active (reg state a0)) refl;
-      input = same_input (Out state.active (reg state a0)) refl;
+      calls = same_calls _ refl;
+      input = same_input _ refl;
     }
 
     steady_input : IsSteady image (with_pc (input inputs state) (state.pc + 4))
     steady_input =
-        let word = input_at inputs state.input in
+        let word = input_at inputs _ in
         record {
-          regs = length-written state.regs a0 word ∙ h.regs;
-          words = written_words state.regs a0 word h.words (input_word inputs state.input all);
+          regs = length-written _ a0 word ∙ h.regs;
+          words = written_words _ a0 word h.words (input_word inputs _ all);
           zero = written_zero state.regs a0 word h.zero;
           pc = here;
           active = h.active;
@@ -247,8 +243,8 @@ module _ (image : ImageParts) (inputs : List ℕ) (formed : IsWellFormed image) 
           bytes = h.bytes;
           chain = h.chain;
           kept = h.kept;
-          calls = same_calls (In state.active word) refl;
-          input = ap suc h.input ∙ sym (read_more state.trace (In state.active word));
+          calls = same_calls _ refl;
+          input = ap suc h.input ∙ sym (read_more state.trace _);
         }
 
     steady_next : SteadyAfter image (step image inputs state)
@@ -268,10 +264,10 @@ module _ (image : ImageParts) (inputs : List ℕ) (formed : IsWellFormed image) 
   by_fetch : (word : Option ℕ) → word_at image state.active state.pc ≡ word →
       SteadyAfter image (step image inputs state)
   by_fetch None at = subst (SteadyAfter image) (sym (step_nowhere image inputs state at)) tt
-  by_fetch (Some word) at = steady_next (in_code image formed state.active state.pc word at).next
+  by_fetch (Some word) at = steady_next (in_code image formed _ _ word at).next
 
   pub steady_step : SteadyAfter image (step image inputs state)
-  steady_step = by_fetch (word_at image state.active state.pc) refl
+  steady_step = by_fetch _ refl
 
 -- Runs.
 
@@ -292,11 +288,9 @@ module _ (image : ImageParts) (inputs : List ℕ) (formed : IsWellFormed image) 
   steady_run : (steps : ℕ) (state : State) → IsSteady image state →
       IsSteady image (run image inputs events steps state).state
   unfolding run
-  steady_run zero state h = steady_by (stopped events state.trace) state (record { state = state; stop = StepsOut }) h h
+  steady_run zero state h = steady_by _ state _ h h
   steady_run (suc steps) state h =
-      steady_by (stopped events state.trace) state (after state (step image inputs state)
-      (run image inputs events steps)) h
-      (steady_after state (step image inputs state) (run image inputs events steps) h
+      steady_by (stopped events _) state _ h (steady_after state _ _ h
       (steady_step image inputs formed all state h) (steady_run steps))
 
 -- The start.
@@ -304,7 +298,7 @@ module _ (image : ImageParts) (inputs : List ℕ) (formed : IsWellFormed image) 
 stack_tops_words : (c : ℕ) (comps : List CompPart) → c + length comps ≤ 32 → AreWords (stack_tops c comps)
 stack_tops_words c [] few i = omega arith
 stack_tops_words c (comp ∷ comps) few zero = omega (arith, few)
-stack_tops_words c (comp ∷ comps) few (suc i) = stack_tops_words (suc c) comps (omega (arith, few)) i
+stack_tops_words c (comp ∷ comps) few (suc i) = stack_tops_words _ comps (omega (arith, few)) i
 
 zeros_words : (n : ℕ) → AreWords (replicate n 0)
 zeros_words zero i = omega arith
@@ -320,12 +314,12 @@ start_words top h (suc (suc (suc i))) = zeros_words 29 i
 pub steady_start : (image : ImageParts) → IsWellFormed image → IsSteady image (start image)
 steady_start image formed = record {
   regs = refl;
-  words = start_words (stack_top image.main) (omega (arith, formed.main, formed.few_comps));
+  words = start_words _ (omega (arith, formed.main, formed.few_comps));
   zero = refl;
-  pc = code_address image formed image.main image.entry formed.entry;
+  pc = code_address image formed image.main _ formed.entry;
   active = formed.main;
-  saved = length-stack_tops 0 image.comps;
-  saved_words = stack_tops_words 0 image.comps (omega (arith, formed.few_comps));
+  saved = length-stack_tops 0 _;
+  saved_words = stack_tops_words 0 _ (omega (arith, formed.few_comps));
   bytes = start_bytes image formed;
   chain = tt;
   kept = All-nil KeepsWords;
@@ -336,8 +330,7 @@ steady_start image formed = record {
 pub reached_steady : (image : ImageParts) (inputs : List ℕ) (state : State) → IsWellFormed image → All IsWord inputs →
     IsReached image inputs state → IsSteady image state
 reached_steady image inputs state formed all reached =
-    subst (IsSteady image) reached.1.1 (steady_run image inputs formed all reached.1.0 reached.0 (start image)
-    (steady_start image formed))
+    subst (IsSteady image) reached.1.1 (steady_run image inputs formed all _ _ _ (steady_start image formed))
 
 step_steady_by : (image : ImageParts) (state : State) (outcome : Outcome) → IsSteady image state →
     SteadyAfter image outcome → IsSteady image (after_outcome state outcome)

@@ -1,7 +1,7 @@
 -- A run may be cut into pieces: it goes on from the state that it stopped in.
 use Rattle.sc_image.proofs.Common.{Bool, Ended, Event, EventsOut, Goes, ImageParts, List, None, Option, Outcome, Run}
 use Rattle.sc_image.proofs.Common.{Some, State, StepsOut, Stop, Trap, TrapReason, Traps, after, ap, continued, false}
-use Rattle.sc_image.proofs.Common.{if◌then◌else◌, is_ended, length, nat_le, refl, run, step, stopped, stops_or, subst}
+use Rattle.sc_image.proofs.Common.{if◌then◌else◌, refl, run, step, stopped, stops_or, subst}
 use Rattle.sc_image.proofs.Common.{suc, sym, true, unless_stopped, zero, zero-add, ℕ, ◌+◌, ◌∙◌, ◌≡◌}
 use Rattle.std.proofs.Math.Nat.{suc-add}
 
@@ -18,7 +18,7 @@ stays_by false false stop earlier later h = cc h
 stays : (events : ℕ) (trace : List Event) (stop : Stop) (earlier later : Run) →
     stopped events trace ≡ Some stop → unless_stopped stop earlier later ≡ earlier
 unfolding stopped
-stays events trace stop earlier later h = stays_by (is_ended trace) (nat_le events (length trace)) stop earlier later h
+stays events trace stop earlier later h = stays_by _ _ stop earlier later h
 
 -- it stops with any number of steps
 pub run_stopped : (image : ImageParts) (inputs : List ℕ) (events n : ℕ) (state : State) (stop : Stop) →
@@ -51,10 +51,7 @@ module _ (image : ImageParts) (inputs : List ℕ) (events n : ℕ) where
       run image inputs events n state ≡ continued (run image inputs events n)
       (stops_or early state (record { state = state; stop = StepsOut }))
   none_first state None h = refl
-  none_first state (Some stop) h =
-      run_stopped image inputs events n state stop h ∙
-      sym (stays events state.trace stop (record { state = state; stop = stop })
-      (run image inputs events n state) h)
+  none_first state (Some stop) h = run_stopped image inputs events n state stop h ∙ sym (stays events _ stop _ _ h)
 
   -- with one step more, of which the outcome is given
   one_more : (m : ℕ) (state : State) (outcome : Outcome) →
@@ -72,16 +69,13 @@ module _ (image : ImageParts) (inputs : List ℕ) (events n : ℕ) where
       stops_or early state (after state (step image inputs state) (run image inputs events (m + n))) ≡
       continued (run image inputs events n) (stops_or early state
       (after state (step image inputs state) (run image inputs events m)))
-  one_first m state None h later = one_more m state (step image inputs state) later
-  one_first m state (Some stop) h later =
-      sym (stays events state.trace stop (record { state = state; stop = stop }) (run image inputs events n state) h)
+  one_first m state None h later = one_more m state _ later
+  one_first m state (Some stop) h later = sym (stays events _ stop _ _ h)
 
   -- m + n steps are m steps and then n
   pub run_more : (m : ℕ) (state : State) →
       run image inputs events (m + n) state ≡ continued (run image inputs events n) (run image inputs events m state)
   unfolding run
-  run_more zero state =
-      ap (λ k. run image inputs events k state) (zero-add n) ∙ none_first state (stopped events state.trace) refl
+  run_more zero state = ap (λ k. run image inputs events k state) (zero-add n) ∙ none_first state _ refl
   run_more (suc m) state =
-      ap (λ k. run image inputs events k state) (suc-add m n) ∙
-      one_first m state (stopped events state.trace) refl (run_more m)
+      ap (λ k. run image inputs events k state) (suc-add m n) ∙ one_first m state _ refl (run_more m)

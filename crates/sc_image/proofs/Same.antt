@@ -1,12 +1,12 @@
 -- What a compartment does follows from its own parts and the events before.
 use Rattle.sc_image.proofs.Common.{Adds, All, AreSilent, Bool, Call, Crossing, End, Entered, Event, Export}
-use Rattle.sc_image.proofs.Common.{FollowsFromOwn, Goes, GoesOnSame, ImageParts, In, IsChain, IsSilent, IsSteady}
-use Rattle.sc_image.proofs.Common.{IsWellFormed, IsWord, List, LooksSame, Memory, None, OpenCall, Out, Outcome, Ret}
+use Rattle.sc_image.proofs.Common.{FollowsFromOwn, Goes, GoesOnSame, ImageParts, IsChain, IsSilent, IsSteady}
+use Rattle.sc_image.proofs.Common.{IsWellFormed, IsWord, List, LooksSame, Memory, None, OpenCall, Outcome, Ret}
 use Rattle.sc_image.proofs.Common.{Running, Some, State, Traps, Waits, [], a0, after_outcome, after_step, after_steps}
 use Rattle.sc_image.proofs.Common.{ap, ap₂, are_data, arguments, arith, byte_of, call_of, called, data_of, drop, eq-eqb}
-use Rattle.sc_image.proofs.Common.{false, flat_map, get_or-set_same, given_back, has_result, if◌then◌else◌, input_at}
+use Rattle.sc_image.proofs.Common.{false, flat_map, get_or-set_same, given_back, has_result, if◌then◌else◌}
 use Rattle.sc_image.proofs.Common.{inputs_in, kept_by, length, map, nat_eq, nat_le, nat_lt, ne_eqb, observation}
-use Rattle.sc_image.proofs.Common.{observation_of, own, params_of, refl, reg, returned, returned_to, saved_sp, sp, step}
+use Rattle.sc_image.proofs.Common.{observation_of, own, refl, reg, returned, returned_to, saved_sp, sp, step}
 use Rattle.sc_image.proofs.Common.{store_size, stored, subst, suc, sym, true, written, zero, ℕ, ◌&&◌, ◌++◌, ◌+◌, ◌-◌}
 use Rattle.sc_image.proofs.Common.{◌↔◌, ◌∙◌, ◌∷◌, ◌≡◌, ◌≢◌}
 use Rattle.sc_image.proofs.Cases.{one, other, Cases, step_both}
@@ -22,7 +22,7 @@ drop_front (x ∷ xs) ys = drop_front xs ys
 -- an event is no silence
 loud : (trace : List Event) (event : Event) → Adds (drop (length trace) (trace ++ event ∷ [])) ≡ Adds [] → ⊥
 loud trace event silent =
-    let some : Adds (event ∷ []) ≡ Adds [] = ap Adds (sym (drop_front trace (event ∷ []))) ∙ silent in cc some
+    let some = ap Adds (sym (drop_front trace _)) ∙ silent in cc some
 
 -- The bytes of one compartment.
 
@@ -42,7 +42,7 @@ stored_same : (image : ImageParts) (c a size word : ℕ) (memory memory' : Memor
     ((b : ℕ) → are_data image c b 1 ≡ true → memory b ≡ memory' b) →
     data_of image c (stored memory a size word) ≡ data_of image c (stored memory' a size word)
 stored_same image c a size word memory memory' same =
-    λ i x. stored_at image c a size word x memory memory' same (are_data image c x 1) refl i
+    λ i x. stored_at image c a size word x memory memory' same _ refl i
 
 -- The two states, as the compartment can't tell them apart.
 
@@ -144,13 +144,13 @@ module _ (image : ImageParts) (inputs : List ℕ) (formed : IsWellFormed image) 
           entry = Export index;
           saved = saved_sp right to;
         } in
-        let kept : kept_by c mine ++ flat_map (kept_by c) cross ≡ kept_by c theirs ++ flat_map (kept_by c) cross' =
+        let kept =
         ap₂ (λ k ks. k ++ ks) (kept_of_caller to mine refl to_other ∙
         sym (kept_of_caller to theirs refl to_other)) calls_same in
-        let sps : saved_sp (called left to index params target) c ≡ saved_sp (called right to index params target) c =
-        get_or-set_same saved c (reg left sp) 0 (omega (arith, h.left_steady.saved, h.left_steady.active)) ∙
-        sym (get_or-set_same saved' c (reg left sp) 0 (omega (arith, h.right_steady.saved, h.right_steady.active))) in
-        let event : Event = Call c to index (arguments params regs) in
+        let sps =
+        get_or-set_same saved c _ 0 (omega (arith, h.left_steady.saved, h.left_steady.active)) ∙
+        sym (get_or-set_same saved' c _ 0 (omega (arith, h.right_steady.saved, h.right_steady.active))) in
+        let event = Call c to index (arguments params regs) in
         record {
           shows = refl;
           parts = λ i. record {
@@ -159,8 +159,7 @@ module _ (image : ImageParts) (inputs : List ℕ) (formed : IsWellFormed image) 
             calls = kept i;
             running =
                 idle_both to to c (record { regs = (called left to index params target).regs; pc = target })
-                (record { regs = (called right to index params target).regs; pc = target })
-                to_other to_other i;
+                (record { regs = (called right to index params target).regs; pc = target }) to_other to_other i;
           };
           traces = refl;
           stays = λ silent. absurd (loud trace event silent);
@@ -169,14 +168,14 @@ module _ (image : ImageParts) (inputs : List ℕ) (formed : IsWellFormed image) 
     -- a return
     kept_of_callee : (crossing : Crossing) → crossing.caller ≢ c → crossing.callee ≡ c →
         kept_by c crossing ≡ Entered crossing.saved ∷ []
-    kept_of_callee crossing caller callee = rw (ne_eqb crossing.caller c caller, eq-eqb crossing.callee c callee) refl
+    kept_of_callee crossing caller callee = rw (ne_eqb _ c caller, eq-eqb _ c callee) refl
 
     returns_on : (x x' : Crossing) (xs xs' : List Crossing) → cross ≡ x ∷ xs → cross' ≡ x' ∷ xs' →
         Follow (Goes (returned image left (x ∷ xs))) (Goes (returned image right (x' ∷ xs')))
     returns_on x x' xs xs' is is' =
         let chain : IsChain (length image.comps) c (x ∷ xs) =
         subst (IsChain (length image.comps) c) is h.left_steady.chain in
-        let chain' : IsChain (length image.comps) c (x' ∷ xs') =
+        let chain' : IsChain (length _) c (x' ∷ xs') =
         subst (IsChain (length image.comps) c) is' h.right_steady.chain in
         let caller : x.caller ≢ c = λ same. chain.1 (same ∙ sym chain.0) in
         let caller' : x'.caller ≢ c = λ same. chain'.1 (same ∙ sym chain'.0) in
@@ -212,10 +211,9 @@ module _ (image : ImageParts) (inputs : List ℕ) (formed : IsWellFormed image) 
         Follow (Goes (returned image left xs)) (Goes (returned image right xs'))
     returns_both [] [] is is' = on regs pc place (trace ++ End c (reg left a0) ∷ []) (λ m. m) bytes_same
     returns_both [] (x' ∷ xs') is is' =
-        let never : ◌≡◌ {A = List OpenCall} [] (call_of x' ∷ map call_of xs') =
-        sym (ap (map call_of) is) ∙ shapes_same ∙ ap (map call_of) is' in cc never
+        let never = sym (ap (map call_of) is) ∙ shapes_same ∙ ap (map call_of) is' in cc never
     returns_both (x ∷ xs) [] is is' =
-        let never : call_of x ∷ map call_of xs ≡ [] = sym (ap (map call_of) is) ∙ shapes_same ∙ ap (map call_of) is' in
+        let never = sym (ap (map call_of) is) ∙ shapes_same ∙ ap (map call_of) is' in
         cc never
     returns_both (x ∷ xs) (x' ∷ xs') is is' = returns_on x x' xs xs' is is'
 
@@ -225,14 +223,11 @@ module _ (image : ImageParts) (inputs : List ℕ) (formed : IsWellFormed image) 
       traps = λ reason. record { shows = refl; parts = h.own_parts; traces = refl; stays = λ silent. cc silent };
       quiet = λ regs' pc' same. on regs' pc' place trace (λ m. m) bytes_same;
       stores = λ op a word allowed. on regs (pc + 4) place trace (λ m. stored m a (store_size op) word)
-          (stored_same image c a (store_size op) word memory memory'
-          (λ b owned. same_at image c b memory memory' bytes_same owned));
-      calls = λ to index target at may. calls_on to index (params_of image to index) target
-          (called_other image c to index formed may);
+          (stored_same image c a _ word memory memory' (λ b owned. same_at image c b memory memory' bytes_same owned));
+      calls = λ to index target at may. calls_on to index _ target (called_other image c to index formed may);
       returns = returns_both cross cross' refl refl;
-      outputs = λ may. on regs (pc + 4) place (trace ++ Out c (reg left a0) ∷ []) (λ m. m) bytes_same;
-      reads = λ may. on (written regs a0 (input_at inputs place)) (pc + 4) (suc place)
-          (trace ++ In c (input_at inputs place) ∷ []) (λ m. m) bytes_same;
+      outputs = λ may. on regs (pc + 4) place _ (λ m. m) bytes_same;
+      reads = λ may. on _ _ _ _ (λ m. m) bytes_same;
     }
 
     pub follow : Follow (step image inputs left) (step image inputs right)
@@ -259,8 +254,8 @@ module _ (image : ImageParts) (inputs : List ℕ) (formed : IsWellFormed image) 
   module _ (s t : State) (h : LooksSame image c s t) where
     running_same : running s ≡ running t
     running_same =
-        let both : Some (running s) ≡ Some (running t) =
-        sym (running_of c s.active (running s) h.one_active) ∙ ap (λ o. o.running) h.own_parts ∙
+        let both : Some (running s) ≡ Some _ =
+        sym (running_of c _ _ h.one_active) ∙ ap (λ o. o.running) h.own_parts ∙
         running_of c t.active (running t) h.other_active in
         cc both
 
@@ -300,14 +295,13 @@ module _ (image : ImageParts) (inputs : List ℕ) (formed : IsWellFormed image) 
 
     next_written : Next image inputs c first second
     next_written =
-        let alike : Alike image inputs formed s.regs s.pc c s.input s.trace s.saved t.saved s.memory t.memory s.cross
+        let alike : Alike image inputs formed s.regs s.pc c s.input s.trace s.saved t.saved _ _ s.cross
         t.cross = record {
           left_steady = subst (IsSteady image) first_is h.one_steady;
           right_steady = subst (IsSteady image) second_is h.other_steady;
           own_parts = ap (λ x. own image x c) (sym first_is) ∙ h.own_parts ∙ ap (λ x. own image x c) second_is;
         } in
-        let f = follow image inputs formed s.regs s.pc c s.input s.trace s.saved t.saved s.memory t.memory s.cross
-        t.cross alike in
+        let f = follow image inputs formed s.regs s.pc c s.input s.trace s.saved t.saved _ _ s.cross t.cross alike in
         record { shows = f.shows; parts = f.parts; traces = f.traces; stays = f.stays }
 
     pub next_same : Next image inputs c s t
@@ -347,8 +341,7 @@ module _ (image : ImageParts) (inputs : List ℕ) (formed : IsWellFormed image) 
       (((λ p. tt), (λ p. tt)), λ p. record { own_parts = h.own_parts; next = n.shows; later_parts = n.parts })
   goes_on (suc steps) s t h =
       let n = next_same s t h in
-      let later = λ (silent : IsSilent image inputs s).
-      goes_on steps (after_step image inputs s) (after_step image inputs t) (alike_after s t h silent) in (
+      let later = λ (silent : IsSilent image inputs s). goes_on steps _ _ (alike_after s t h silent) in (
         ((λ p. (sym n.shows ∙ p.0, (later p.0).0.0 p.1)), (λ p. (n.shows ∙ p.0, (later (n.shows ∙ p.0)).0.1 p.1))),
         λ p. (later p.0).1 p.1,
       )

@@ -71,4 +71,4 @@ only_is_lone = record {
 
 pub seven_is_well_formed : IsWellFormed (parts (codes "M") true)
 unfolding word_at
-seven_is_well_formed = one_well_formed 0x01000000 (only_comp (codes "M") true) only_is_lone refl
+seven_is_well_formed = one_well_formed 0x01000000 _ only_is_lone refl

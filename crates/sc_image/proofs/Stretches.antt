@@ -3,7 +3,7 @@ use Rattle.sc_image.proofs.Common.{Bool, Call, Crossing, End, Ended, Event, Even
 use Rattle.sc_image.proofs.Common.{IsWellFormed, List, None, Option, Out, Outcome, Ret, Run, Some, State, StepsOut}
 use Rattle.sc_image.proofs.Common.{Stop, StretchesCompose, Traps, [], a0, after, ap, append-nil, append_assoc}
 use Rattle.sc_image.proofs.Common.{arguments, arith, false, given_back, has_result, if◌then◌else◌, input_at, is_ended}
-use Rattle.sc_image.proofs.Common.{length, length-append, lt-leb, nat_le, params_of, refl, reg, returned, run, start}
+use Rattle.sc_image.proofs.Common.{length, length-append, lt-leb, params_of, refl, reg, returned, run, start}
 use Rattle.sc_image.proofs.Common.{step, stopped, stops_or, subst, suc, suc-add, sym, then_on, true, walk, zero}
 use Rattle.sc_image.proofs.Common.{zero-add, ℕ, ◌++◌, ◌+◌, ◌<◌, ◌∙◌, ◌∷◌, ◌≡◌, ◌≤◌}
 use Rattle.sc_image.proofs.Cases.{step_of}
@@ -31,7 +31,7 @@ none_left xs (x ∷ rest) h = absurd (omega (arith, h, length-append xs (x ∷ r
 -- a front that isn't shorter is the whole
 front_whole : (xs ys : List Event) → IsFront xs ys → length ys ≤ length xs → xs ≡ ys
 front_whole xs ys p h =
-    let short : length (xs ++ p.0) ≤ length xs = subst (λ n. n ≤ length xs) (sym (ap length p.1)) h in
+    let short = subst (λ n. n ≤ length xs) (sym (ap length p.1)) h in
     sym (none_left xs p.0 short) ∙ p.1
 
 abbrev Adds_to : List Event → Outcome → Type 0
@@ -40,16 +40,15 @@ Adds_to trace (Traps reason) = Unit {0}
 
 return_adds : (image : ImageParts) (state : State) (cross : List Crossing) →
     IsFront state.trace (returned image state cross).trace
-return_adds image state [] = (End state.active (reg state a0) ∷ [], refl)
+return_adds image state [] = (End _ _ ∷ [], refl)
 return_adds image state (x ∷ xs) = (
-  Ret state.active x.caller (given_back (has_result image x.callee x.entry) state) ∷
-      [],
+  Ret state.active x.caller (given_back (has_result image x.callee x.entry) state) ∷ [],
   refl,
 )
 
 step_adds : (image : ImageParts) (inputs : List ℕ) (state : State) → IsWellFormed image →
     Adds_to state.trace (step image inputs state)
-step_adds image inputs state formed = step_of image inputs formed state (Adds_to state.trace) (record {
+step_adds image inputs state formed = step_of image inputs formed state (Adds_to _) (record {
   same = λ a owned. refl;
   traps = λ reason. tt;
   quiet = λ regs pc moves. front_self state.trace;
@@ -73,13 +72,12 @@ one_more trace event = omega (arith, length-append trace (event ∷ []))
 
 return_one : (image : ImageParts) (state : State) (cross : List Crossing) →
     length (returned image state cross).trace ≤ suc (length state.trace)
-return_one image state [] = one_more state.trace (End state.active (reg state a0))
-return_one image state (x ∷ xs) =
-    one_more state.trace (Ret state.active x.caller (given_back (has_result image x.callee x.entry) state))
+return_one image state [] = one_more _ _
+return_one image state (x ∷ xs) = one_more _ _
 
 step_one : (image : ImageParts) (inputs : List ℕ) (state : State) → IsWellFormed image →
     AddsOne state.trace (step image inputs state)
-step_one image inputs state formed = step_of image inputs formed state (AddsOne state.trace) (record {
+step_one image inputs state formed = step_of image inputs formed state (AddsOne _) (record {
   same = λ a owned. refl;
   traps = λ reason. tt;
   quiet = λ regs pc moves. omega arith;
@@ -92,24 +90,23 @@ step_one image inputs state formed = step_of image inputs formed state (AddsOne 
 
 pub goes_one : (image : ImageParts) (inputs : List ℕ) → IsWellFormed image → (state next : State) →
     step image inputs state ≡ Goes next → length next.trace ≤ suc (length state.trace)
-goes_one image inputs formed state next goes = subst (AddsOne state.trace) goes (step_one image inputs state formed)
+goes_one image inputs formed state next goes = subst (AddsOne _) goes (step_one image inputs state formed)
 
 module _ (image : ImageParts) (inputs : List ℕ) (formed : IsWellFormed image) where
   pub goes_adds : (state next : State) → step image inputs state ≡ Goes next → IsFront state.trace next.trace
-  goes_adds state next goes = subst (Adds_to state.trace) goes (step_adds image inputs state formed)
+  goes_adds state next goes = subst (Adds_to _) goes (step_adds image inputs state formed)
 
   walked_adds : (n : ℕ) (state to : State) (outcome : Outcome) → step image inputs state ≡ outcome →
       then_on outcome (walk image inputs n) ≡ Goes to →
       ((next : State) → walk image inputs n next ≡ Goes to → IsFront next.trace to.trace) → IsFront state.trace to.trace
-  walked_adds n state to (Goes next) is goes later = front_on state.trace next.trace to.trace (goes_adds state next is)
+  walked_adds n state to (Goes next) is goes later = front_on _ next.trace _ (goes_adds state next is)
       (later next goes)
-  walked_adds n state to (Traps reason) is goes later = let never : Traps reason ≡ Goes to = goes in cc never
+  walked_adds n state to (Traps reason) is goes later = let never = goes in cc never
 
   pub walk_adds : (n : ℕ) (state to : State) → walk image inputs n state ≡ Goes to → IsFront state.trace to.trace
   walk_adds zero state to goes = let same : state ≡ to = cc goes in
-      subst (λ (t : State). IsFront state.trace t.trace) same (front_self state.trace)
-  walk_adds (suc n) state to goes = walked_adds n state to (step image inputs state) refl goes
-      (λ next. walk_adds n next to)
+      subst (λ t. IsFront state.trace t.trace) same (front_self _)
+  walk_adds (suc n) state to goes = walked_adds n state to _ refl goes (λ next. walk_adds n next to)
 
   module _ (events more : ℕ) where
     along : (n : ℕ) (from to : State) (outcome : Outcome) → step image inputs from ≡ outcome →
@@ -120,14 +117,13 @@ module _ (image : ImageParts) (inputs : List ℕ) (formed : IsWellFormed image) 
         run image inputs events (n + more) next ≡ run image inputs events more to) →
         run image inputs events (suc (n + more)) from ≡ run image inputs events more to
     along n from to (Goes next) is goes silent early later =
-        let last : IsFront next.trace to.trace = walk_adds n next to goes in
-        let short : length next.trace ≤ length from.trace =
-        subst (λ (t : List Event). length next.trace ≤ length t) (sym silent)
-        (front_short next.trace to.trace last) in
-        let same : from.trace ≡ next.trace = front_whole from.trace next.trace (goes_adds from next is) short in
-        run_goes image inputs events (n + more) from next early is ∙
-        later next goes (sym same ∙ silent) (subst (λ (t : List Event). stopped events t ≡ None) same early)
-    along n from to (Traps reason) is goes silent early later = let never : Traps reason ≡ Goes to = goes in cc never
+        let last = walk_adds n next to goes in
+        let short =
+        subst (λ t. length next.trace ≤ length t) (sym silent) (front_short _ _ last) in
+        let same = front_whole from.trace next.trace (goes_adds from next is) short in
+        run_goes image inputs events _ from next early is ∙
+        later next goes (sym same ∙ silent) (subst (λ t. stopped events t ≡ None) same early)
+    along n from to (Traps reason) is goes silent early later = let never = goes in cc never
 
     run_along : (n : ℕ) (from to : State) → walk image inputs n from ≡ Goes to → from.trace ≡ to.trace →
         stopped events from.trace ≡ None →
@@ -137,7 +133,7 @@ module _ (image : ImageParts) (inputs : List ℕ) (formed : IsWellFormed image) 
         ap (run image inputs events more) same
     run_along (suc n) from to goes silent early =
         ap (λ k. run image inputs events k from) (suc-add n more) ∙
-        along n from to (step image inputs from) refl goes silent early (λ next. run_along n next to)
+        along n from to _ refl goes silent early (λ next. run_along n next to)
 
   -- The states that runs reach.
 
@@ -151,7 +147,7 @@ module _ (image : ImageParts) (inputs : List ℕ) (formed : IsWellFormed image) 
   walk_more : (n : ℕ) (from middle to : State) → OpenWalk n from middle → is_ended middle.trace ≡ false →
       step image inputs middle ≡ Goes to → OpenWalk (suc n) from to
   walk_more zero from middle to same going goes =
-      subst (λ (m : State). (is_ended m.trace ≡ false) ×
+      subst (λ m. (is_ended m.trace ≡ false) ×
       ((next : State) × ((step image inputs m ≡ Goes next) × (next ≡ to)))) (sym same) (going, (to, (goes, refl)))
   walk_more (suc n) from middle to h going goes = (
     h.0,
@@ -159,20 +155,20 @@ module _ (image : ImageParts) (inputs : List ℕ) (formed : IsWellFormed image) 
   )
 
   open_adds : (n : ℕ) (from to : State) → OpenWalk n from to → length from.trace ≤ length to.trace
-  open_adds zero from to same = subst (λ (t : State). length from.trace ≤ length t.trace) same (omega arith)
+  open_adds zero from to same = subst (λ t. length from.trace ≤ length t.trace) same (omega arith)
   open_adds (suc n) from to h =
-      let first = front_short from.trace h.1.0.trace (goes_adds from h.1.0 h.1.1.0) in
+      let first = front_short _ _ (goes_adds from h.1.0 h.1.1.0) in
       let later = open_adds n h.1.0 to h.1.1.1 in omega (arith, first, later)
 
   -- what a run comes to
   not_ended : (events : ℕ) (trace : List Event) (ended full : Bool) → is_ended trace ≡ ended →
       (if ended then Some Ended else if full then Some EventsOut else None) ≡ None → is_ended trace ≡ false
   not_ended events trace false full at is = at
-  not_ended events trace true full at is = let never : ◌≡◌ {A = Option Stop} (Some Ended) None = is in cc never
+  not_ended events trace true full at is = let never = is in cc never
 
   pub goes_on : (events : ℕ) (trace : List Event) → stopped events trace ≡ None → is_ended trace ≡ false
   unfolding stopped
-  goes_on events trace is = not_ended events trace (is_ended trace) (nat_le events (length trace)) refl is
+  goes_on events trace is = not_ended events trace _ _ refl is
 
   abbrev Comes : State → State → Type 0
   Comes from to = (n : ℕ) × OpenWalk n from to
@@ -190,18 +186,16 @@ module _ (image : ImageParts) (inputs : List ℕ) (formed : IsWellFormed image) 
 
   comes : (events steps : ℕ) (from : State) → Comes from (run image inputs events steps from).state
   unfolding run
-  comes events zero from = comes_by from (record { state = from; stop = StepsOut }) (stopped events from.trace)
-      (λ early. (0, refl))
+  comes events zero from = comes_by from _ (stopped events _) (λ early. (0, refl))
   comes events (suc steps) from =
-      comes_by from (after from (step image inputs from) (run image inputs events steps)) (stopped events from.trace)
-      (λ early. comes_after from (step image inputs from) (run image inputs events steps) refl
-      (goes_on events from.trace early) (comes events steps))
+      comes_by from _ (stopped events _)
+      (λ early. comes_after from _ _ refl (goes_on events _ early) (comes events steps))
 
   -- a run comes along such a stretch
   pub not_stopped : (events : ℕ) (trace : List Event) → is_ended trace ≡ false → length trace < events →
       stopped events trace ≡ None
   unfolding stopped
-  not_stopped events trace going below = rw (going, lt-leb events (length trace) below) refl
+  not_stopped events trace going below = rw (going, lt-leb events _ below) refl
 
   none_by : (from : State) (early : Option Stop) →
       (stops_or early from (record { state = from; stop = StepsOut })).state ≡ from
@@ -210,19 +204,18 @@ module _ (image : ImageParts) (inputs : List ℕ) (formed : IsWellFormed image) 
 
   none_runs : (events : ℕ) (from : State) → (run image inputs events 0 from).state ≡ from
   unfolding run
-  none_runs events from = none_by from (stopped events from.trace)
+  none_runs events from = none_by from _
 
   open_run : (events n : ℕ) (from to : State) → OpenWalk n from to → length to.trace < events →
       (run image inputs events n from).state ≡ to
   open_run events zero from to same below = none_runs events from ∙ same
   open_run events (suc n) from to h below =
       let fewer = open_adds (suc n) from to h in
-      ap (λ (r : Run). r.state) (run_goes image inputs events n from h.1.0
-      (not_stopped events from.trace h.0 (omega (arith, fewer, below))) h.1.1.0) ∙
-      open_run events n h.1.0 to h.1.1.1 below
+      ap (λ r. r.state) (run_goes image inputs events n from h.1.0
+      (not_stopped events _ h.0 (omega (arith, fewer, below))) h.1.1.0) ∙ open_run events n h.1.0 to h.1.1.1 below
 
   reached_open : (from : State) → IsReached image inputs from → Comes (start image) from
-  reached_open from h = subst (Comes (start image)) h.1.1 (comes h.1.0 h.0 (start image))
+  reached_open from h = subst (Comes _) h.1.1 (comes h.1.0 h.0 _)
 
   reached_next : (from to : State) → IsReached image inputs from → is_ended from.trace ≡ false →
       step image inputs from ≡ Goes to → IsReached image inputs to
@@ -231,7 +224,7 @@ module _ (image : ImageParts) (inputs : List ℕ) (formed : IsWellFormed image) 
         suc way.0,
         (
           suc (length to.trace),
-          open_run (suc (length to.trace)) (suc way.0) (start image) to
+          open_run _ (suc way.0) (start image) to
               (walk_more way.0 (start image) from to way.1 going goes) (omega arith),
         ),
       )

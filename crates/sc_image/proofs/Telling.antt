@@ -1,13 +1,13 @@
 -- Stretches that tell events, and the steps that tell one.
-use Rattle.sc_image.proofs.Common.{Bool, CompPart, End, Ended, Event, Goes, ImageParts, IsCall, IsSome, IsWellFormed}
+use Rattle.sc_image.proofs.Common.{Bool, CompPart, Ended, Event, Goes, ImageParts, IsCall, IsSome, IsWellFormed}
 use Rattle.sc_image.proofs.Common.{List, None, Option, Outcome, Some, State, StepsTell, Stop, TellingComposes, Tells}
-use Rattle.sc_image.proofs.Common.{Traps, Walks, [], a0, ap, append-nil, append_assoc, arith, called, calls, code_of}
+use Rattle.sc_image.proofs.Common.{Traps, Walks, [], ap, append-nil, append_assoc, arith, called, calls, code_of}
 use Rattle.sc_image.proofs.Common.{code_start, comp_of_code, ended, eq-eqb, eqb-true, false, gate, if◌then◌else◌}
 use Rattle.sc_image.proofs.Common.{is_end, is_ended, is_some, jump, leaves, leb-true, length, length-append, list_any}
-use Rattle.sc_image.proofs.Common.{lt-leb, nat_eq, nat_le, option_map_or, or_from, or_parts, params_of, ra, refl, reg}
+use Rattle.sc_image.proofs.Common.{lt-leb, nat_eq, nat_le, option_map_or, or_from, or_parts, params_of, ra, refl}
 use Rattle.sc_image.proofs.Common.{returned, run, slice_get, slice_get_within, step, stopped, subst, suc, suc-add, sym}
 use Rattle.sc_image.proofs.Common.{then_on, true, walk, word_at, zero, zero-add, ℕ, ◌%◌, ◌&&◌, ◌++◌, ◌+◌, ◌-◌, ◌/◌, ◌<◌}
-use Rattle.sc_image.proofs.Common.{◌||◌, ◌∙◌, ◌∷◌, ◌≡◌, ◌≢◌, ◌≤◌}
+use Rattle.sc_image.proofs.Common.{◌∙◌, ◌∷◌, ◌≡◌, ◌≢◌, ◌≤◌}
 use Rattle.sc_image.proofs.Words.{entry_code}
 use Rattle.sc_image.proofs.Reached.{called_other}
 use Rattle.sc_image.proofs.Traces.{ended_by}
@@ -21,27 +21,26 @@ none_in_both : (first second : List Event) → list_any is_end first ≡ false �
     list_any is_end (first ++ second) ≡ false
 none_in_both [] second none later = later
 none_in_both (event ∷ first) second none later =
-    let parts = or_parts (is_end event) (list_any is_end first) none in
-    or_from (is_end event) _ parts.0 (none_in_both first second parts.1 later)
+    let parts = or_parts (is_end event) _ none in
+    or_from _ _ parts.0 (none_in_both first second parts.1 later)
 
 none_behind : (first second : List Event) → list_any is_end (first ++ second) ≡ false → list_any is_end second ≡ false
 none_behind [] second none = none
-none_behind (event ∷ first) second none =
-    none_behind first second (or_parts (is_end event) (list_any is_end (first ++ second)) none).1
+none_behind (event ∷ first) second none = none_behind first second (or_parts _ _ none).1
 
 none_in_front : (first second : List Event) → list_any is_end (first ++ second) ≡ false → list_any is_end first ≡ false
 none_in_front [] second none = refl
 none_in_front (event ∷ first) second none =
-    let parts = or_parts (is_end event) (list_any is_end (first ++ second)) none in
-    or_from (is_end event) _ parts.0 (none_in_front first second parts.1)
+    let parts = or_parts (is_end event) _ none in
+    or_from _ _ parts.0 (none_in_front first second parts.1)
 
 -- so a trace that hadn't ended hasn't with them
 still_open : (trace told : List Event) → is_ended trace ≡ false → list_any is_end told ≡ false →
     is_ended (trace ++ told) ≡ false
-still_open trace [] going none = subst (λ (t : List Event). is_ended t ≡ false) (sym (append-nil trace)) going
+still_open trace [] going none = subst (λ t. is_ended t ≡ false) (sym (append-nil trace)) going
 still_open trace (event ∷ told) going none =
-    let parts = or_parts (is_end event) (list_any is_end told) none in
-    subst (λ (t : List Event). is_ended t ≡ false) (append_assoc trace (event ∷ []) told)
+    let parts = or_parts (is_end event) _ none in
+    subst (λ t. is_ended t ≡ false) (append_assoc trace (event ∷ []) told)
     (still_open (trace ++ event ∷ []) told (ended_by trace event ∙ parts.0) parts.1)
 
 -- two ends of one list, the first no longer
@@ -54,7 +53,7 @@ behind (event ∷ trace) first told rest same = behind trace first told rest (cc
 silent : (image : ImageParts) (inputs : List ℕ) (steps : ℕ) (from to : State) →
     Walks image inputs steps from to → from.trace ≡ to.trace → Tells image inputs steps [] from to
 silent image inputs steps from to walks same =
-    record { walks = walks; trace = sym same ∙ sym (append-nil from.trace); no_end = refl }
+    record { walks = walks; trace = sym same ∙ sym (append-nil _); no_end = refl }
 
 one_event : (image : ImageParts) (inputs : List ℕ) (event : Event) (from to : State) →
     step image inputs from ≡ Goes to → to.trace ≡ from.trace ++ event ∷ [] → is_end event ≡ false →
@@ -67,7 +66,7 @@ together : (image : ImageParts) (inputs : List ℕ) (m n : ℕ) (first second : 
     Tells image inputs (m + n) (first ++ second) from to
 together image inputs m n first second from middle to one two = record {
   walks = walk_together image inputs m n from middle to one.walks two.walks;
-  trace = two.trace ∙ ap (λ (t : List Event). t ++ second) one.trace ∙ append_assoc from.trace first second;
+  trace = two.trace ∙ ap (λ t. t ++ second) one.trace ∙ append_assoc _ first second;
   no_end = none_in_both first second one.no_end two.no_end;
 }
 
@@ -82,19 +81,18 @@ module _ (image : ImageParts) (inputs : List ℕ) (formed : IsWellFormed image) 
       run image inputs events (n + more) next ≡ run image inputs events more to) →
       run image inputs events (suc (n + more)) from ≡ run image inputs events more to
   along n told from to (Goes next) is goes trace none going below later =
-      let first : IsFront from.trace next.trace = goes_adds image inputs formed from next is in
-      let last : IsFront next.trace to.trace = walk_adds image inputs formed n next to goes in
+      let first : IsFront _ _ = goes_adds image inputs formed from next is in
+      let last = walk_adds image inputs formed n next to goes in
       let parts : first.0 ++ last.0 ≡ told =
-      behind from.trace first.0 told last.0 (ap (λ (t : List Event). t ++ last.0) first.1 ∙ last.1 ∙ trace) in
-      let all : list_any is_end (first.0 ++ last.0) ≡ false =
-      subst (λ (t : List Event). list_any is_end t ≡ false) (sym parts) none in
+      behind _ first.0 told last.0 (ap (λ t. t ++ last.0) first.1 ∙ last.1 ∙ trace) in
+      let all =
+      subst (λ t. list_any is_end t ≡ false) (sym parts) none in
       let short : length from.trace < events =
       omega (arith, below, sym (ap length trace) ∙ refl, length-append from.trace told) in
-      let still : is_ended next.trace ≡ false =
-      subst (λ (t : List Event). is_ended t ≡ false) first.1
+      let still =
+      subst (λ t. is_ended t ≡ false) first.1
       (still_open from.trace first.0 going (none_in_front first.0 last.0 all)) in
-      run_goes image inputs events (n + more) from next
-      (not_stopped image inputs formed events from.trace going short) is ∙
+      run_goes image inputs events (n + more) from next (not_stopped image inputs formed events _ going short) is ∙
       later last.0 next goes (sym last.1) (none_behind first.0 last.0 all) still
   along n told from to (Traps reason) is goes trace none going below later =
       let never : Traps reason ≡ Goes to = goes in cc never
@@ -107,7 +105,7 @@ module _ (image : ImageParts) (inputs : List ℕ) (formed : IsWellFormed image) 
       ap (λ k. run image inputs events k from) (zero-add more) ∙ ap (run image inputs events more) same
   run_along (suc n) told from to goes trace none going below =
       ap (λ k. run image inputs events k from) (suc-add n more) ∙
-      along n told from to (step image inputs from) refl goes trace none going below
+      along n told from to _ refl goes trace none going below
       (λ told next goes trace none going. run_along n told next to goes trace none going below)
 
 along_told : (image : ImageParts) (inputs : List ℕ) (events steps more : ℕ) (told : List Event) (from to : State) →
@@ -115,18 +113,18 @@ along_told : (image : ImageParts) (inputs : List ℕ) (events steps more : ℕ) 
     length to.trace < events → run image inputs events (steps + more) from ≡ run image inputs events more to
 along_told image inputs events steps more told from to formed tells early below =
     run_along image inputs formed events more steps told from to tells.walks.by tells.trace tells.no_end
-    (goes_on image inputs formed events from.trace early) below
+    (goes_on image inputs formed events _ early) below
 
 to_stop : (image : ImageParts) (inputs : List ℕ) (events steps more : ℕ) (told : List Event) (from last to : State)
     (stop : Stop) → IsWellFormed image → Tells image inputs steps told from last → stopped events from.trace ≡ None →
     length last.trace < events → step image inputs last ≡ Goes to → stopped events to.trace ≡ Some stop →
     run image inputs events (steps + suc more) from ≡ record { state = to; stop = stop }
 to_stop image inputs events steps more told from last to stop formed tells early below goes stops =
-    let going : is_ended last.trace ≡ false =
-    subst (λ (t : List Event). is_ended t ≡ false) (sym tells.trace)
-    (still_open from.trace told (goes_on image inputs formed events from.trace early) tells.no_end) in
-    along_told image inputs events steps (suc more) told from last formed tells early below ∙
-    run_goes image inputs events more last to (not_stopped image inputs formed events last.trace going below) goes ∙
+    let going =
+    subst (λ t. is_ended t ≡ false) (sym tells.trace)
+    (still_open from.trace told (goes_on image inputs formed events _ early) tells.no_end) in
+    along_told image inputs events steps _ told from last formed tells early below ∙
+    run_goes image inputs events more last to (not_stopped image inputs formed events _ going below) goes ∙
     run_stopped image inputs events more to stop stops
 
 pub telling_composes : TellingComposes
@@ -148,27 +146,26 @@ module _ (image : ImageParts) (formed : IsWellFormed image) (c address word : �
   code_by : (comp : Option CompPart) → slice_get image.comps c ≡ comp →
       slice_get (option_map_or (λ (x : CompPart). x.code) comp []) ((address - code_start c) / 4) ≡ Some word →
       address % 4 ≡ 0 → code_start c ≤ address → IsOfCode c address
-  code_by None is at aligned from = let none : ◌≡◌ {A = Option ℕ} None (Some word) = at in cc none
+  code_by None is at aligned from = let none = at in cc none
   code_by (Some comp) is at aligned from =
-      let within = slice_get_within comp.code ((address - code_start c) / 4) word at in
+      let within = slice_get_within _ ((address - code_start c) / 4) word at in
       let short = (formed.comps c comp is).short_code in
       record { aligned = aligned; comp = omega (arith, within, short, from) }
 
   code_where : (aligned from : Bool) → nat_eq (address % 4) 0 ≡ aligned → nat_le (code_start c) address ≡ from →
       (if aligned && from then slice_get (code_of image c) ((address - code_start c) / 4) else None) ≡ Some word →
       IsOfCode c address
-  code_where true true is low at =
-      code_by (slice_get image.comps c) refl at (eqb-true _ _ is) (leb-true (code_start c) address low)
-  code_where true false is low at = let none : ◌≡◌ {A = Option ℕ} None (Some word) = at in cc none
-  code_where false from is low at = let none : ◌≡◌ {A = Option ℕ} None (Some word) = at in cc none
+  code_where true true is low at = code_by _ refl at (eqb-true _ _ is) (leb-true _ address low)
+  code_where true false is low at = let none = at in cc none
+  code_where false from is low at = let none = at in cc none
 
   of_code : word_at image c address ≡ Some word → IsOfCode c address
   unfolding word_at
-  of_code at = code_where (nat_eq (address % 4) 0) (nat_le (code_start c) address) refl refl at
+  of_code at = code_where _ _ refl refl at
 
 some_of_code : (image : ImageParts) → IsWellFormed image → (c address : ℕ) (word : Option ℕ) →
     word_at image c address ≡ word → IsSome word → IsOfCode c address
-some_of_code image formed c address None at some = let never : false ≡ true = some in cc never
+some_of_code image formed c address None at some = let never = some in cc never
 some_of_code image formed c address (Some word) at some = of_code image formed c address word at
 
 -- no other compartment has code there
@@ -182,20 +179,15 @@ not_others image formed c d address other of (Some word) at =
 
 pub jump_out : (image : ImageParts) (state : State) (rd target : ℕ) (elsewhere : Outcome) → target % 4 ≡ 0 →
     is_some (word_at image state.active target) ≡ false → jump image state rd target elsewhere ≡ elsewhere
-jump_out image state rd target elsewhere aligned none = rw (eq-eqb (target % 4) 0 aligned, none) refl
+jump_out image state rd target elsewhere aligned none = rw (eq-eqb _ 0 aligned, none) refl
 
 module _ (image : ImageParts) (state : State) (to index target : ℕ) (formed : IsWellFormed image)
     (call : IsCall image state to index target) where
   there : IsOfCode to target
-  there =
-      some_of_code image formed to target (word_at image to target) refl
-      (entry_code image formed to target index call.entry)
+  there = some_of_code image formed to target _ refl (entry_code image formed to target index call.entry)
 
   outside : is_some (word_at image state.active target) ≡ false
-  outside =
-      not_others image formed state.active to target
-      (called_other image state.active to index formed call.may) there.comp
-      (word_at image state.active target) refl
+  outside = not_others image formed _ to target (called_other image _ to index formed call.may) there.comp _ refl
 
   calls_there : calls image state ra target ≡ Goes (called state to index (params_of image to index) target)
   calls_there = rw (there.comp, call.entry, call.may) refl
@@ -212,29 +204,26 @@ module _ (image : ImageParts) (state : State) (to index target : ℕ) (formed : 
 no_code : (image : ImageParts) (c : ℕ) → is_some (word_at image c gate) ≡ false
 unfolding word_at
 no_code image c =
-    let below : nat_le (code_start c) gate ≡ false = lt-leb (code_start c) gate (omega arith) in
+    let below = lt-leb (code_start c) gate (omega arith) in
     rw below refl
 
 leaves_there : (image : ImageParts) (inputs : List ℕ) (state : State) →
     jump image state 0 gate (leaves image state 0 gate) ≡ Goes (returned image state state.cross)
-leaves_there image inputs state = jump_out image state 0 gate _ refl (no_code image state.active)
+leaves_there image inputs state = jump_out image state 0 gate _ refl (no_code image _)
 
 ended_stops : (events : ℕ) (state : State) → stopped events (ended state).trace ≡ Some Ended
 unfolding stopped
-ended_stops events state = rw (ended_by state.trace (End state.active (reg state a0))) refl
+ended_stops events state = rw (ended_by _ _) refl
 
 pub steps_tell : StepsTell
 steps_tell = record {
-  jal_calls = λ image inputs state imm to index target formed at same call.
-      one_event image inputs _ state _
+  jal_calls = λ image inputs state imm to index target formed at same call. one_event image inputs _ state _
       (steps_by_instruction.jal image inputs state ra imm target at same ∙
       jal_there image state to index target formed call) refl refl;
-  jalr_calls = λ image inputs state rs1 imm to index target formed at same call.
-      one_event image inputs _ state _
+  jalr_calls = λ image inputs state rs1 imm to index target formed at same call. one_event image inputs _ state _
       (steps_by_instruction.jalr image inputs state ra rs1 imm target at same ∙
       jalr_there image state to index target formed call) refl refl;
-  returns = λ image inputs state rs1 imm crossing waiting at same cross.
-      one_event image inputs _ state _
+  returns = λ image inputs state rs1 imm _ waiting at same cross. one_event image inputs _ state _
       (steps_by_instruction.jalr image inputs state 0 rs1 imm gate at same ∙ leaves_there image inputs state ∙
       ap (λ c. Goes (returned image state c)) cross) refl refl;
   outputs = λ image inputs state at is may.

@@ -1,16 +1,16 @@
 -- The trace of a run is one that the image's interfaces allow.
 use Rattle.sc_image.proofs.Common.{Activation, All, Bool, Call, CompPart, Crossing, End, Ended, Entry, Event, EventsOut}
-use Rattle.sc_image.proofs.Common.{Export, ExportPart, Goes, ImageParts, Import, ImportPart, In, Int, Interface}
-use Rattle.sc_image.proofs.Common.{Interfaces, IsChain, IsSteady, IsWellFormed, IsWord, List, Main, None, Option, Out}
-use Rattle.sc_image.proofs.Common.{Outcome, Proto, Ret, Run, Some, Standing, State, StepsOut, Stop, TracesAreLegal}
+use Rattle.sc_image.proofs.Common.{Export, ExportPart, Goes, ImageParts, Import, ImportPart, In, Int}
+use Rattle.sc_image.proofs.Common.{Interfaces, IsChain, IsSteady, IsWellFormed, IsWord, List, Main, None, Option}
+use Rattle.sc_image.proofs.Common.{Outcome, Proto, Run, Some, Standing, State, Stop, TracesAreLegal}
 use Rattle.sc_image.proofs.Common.{Traps, [], a0, after, and_from, and_parts, ap, arguments, arith, at_start, cond}
 use Rattle.sc_image.proofs.Common.{drop, eq-eqb, exports_of, false, fits_result, get_or_from_slice_get, given_back}
-use Rattle.sc_image.proofs.Common.{has_result, if◌then◌else◌, import_of, imports, inl, input_at, inr, interface_of}
+use Rattle.sc_image.proofs.Common.{has_result, if◌then◌else◌, import_of, imports, inl, inr, interface_of}
 use Rattle.sc_image.proofs.Common.{interfaces_of, is_allowed, is_end, is_ended, is_function, is_input, is_legal_from}
 use Rattle.sc_image.proofs.Common.{is_output, is_there, length, length-append, length-drop, length-replicate}
-use Rattle.sc_image.proofs.Common.{length-take-le, list_any, ltb, ltb-true, machine, map, may_return, nat_le}
+use Rattle.sc_image.proofs.Common.{length-take-le, list_any, ltb, ltb-true, machine, map, may_return}
 use Rattle.sc_image.proofs.Common.{option_and_then, option_map, option_map_or, or_left, or_right, params_of, position}
-use Rattle.sc_image.proofs.Common.{position_or_len, proto_of, refl, reg, replicate, resumed, returned, run, slice_get}
+use Rattle.sc_image.proofs.Common.{position_or_len, proto_of, refl, reg, resumed, returned, run, slice_get}
 use Rattle.sc_image.proofs.Common.{slice_get-map, slice_get_within, stands_after, stands_behind, start, step, stopped}
 use Rattle.sc_image.proofs.Common.{stops_or, subst, suc, sym, takes, true, true≢false, zero, ℕ, ◌&&◌, ◌++◌, ◌-◌, ◌<◌}
 use Rattle.sc_image.proofs.Common.{◌==◌, ◌||◌, ◌∙◌, ◌∷◌, ◌≡◌, ◌≤◌, ◌⊎◌}
@@ -26,23 +26,19 @@ legal_more : (interfaces : Interfaces) (at : Option Standing) (trace : List Even
     is_legal_from interfaces at trace ≡ true → stands_behind at trace ≡ Some now →
     is_allowed interfaces now event ≡ true →
     is_legal_from interfaces at (trace ++ event ∷ []) ≡ true
-legal_more interfaces at [] event now legal stands allowed =
-    rw stands (and_from (is_allowed interfaces now event) true allowed refl)
-legal_more interfaces None (first ∷ later) event now legal stands allowed = let never : false ≡ true = legal in cc never
+legal_more interfaces at [] event now legal stands allowed = rw stands (and_from _ true allowed refl)
+legal_more interfaces None (first ∷ later) event now legal stands allowed = let never = legal in cc never
 legal_more interfaces (Some at) (first ∷ later) event now legal stands allowed =
-    let both = and_parts (is_allowed interfaces at first)
-    (is_legal_from interfaces (stands_after at first) later) legal in
-    and_from (is_allowed interfaces at first) (is_legal_from interfaces (stands_after at first)
-    (later ++ event ∷ [])) both.0
-    (legal_more interfaces (stands_after at first) later event now both.1 stands allowed)
+    let both = and_parts (is_allowed interfaces at first) _ legal in
+    and_from _ _ both.0 (legal_more interfaces _ later event now both.1 stands allowed)
 
 stands_more : (at : Option Standing) (trace : List Event) (event : Event) (now : Standing) →
     stands_behind at trace ≡ Some now →
     stands_behind at (trace ++ event ∷ []) ≡ stands_after now event
 stands_more at [] event now stands = rw stands refl
-stands_more None (first ∷ later) event now stands = let never : ◌≡◌ {A = Option Standing} None (Some now) = stands in
+stands_more None (first ∷ later) event now stands = let never = stands in
     cc never
-stands_more (Some at) (first ∷ later) event now stands = stands_more (stands_after at first) later event now stands
+stands_more (Some at) (first ∷ later) event now stands = stands_more _ later event now stands
 
 -- the event at the end
 last_of : {A : Type 0} (xs : List A) (x : A) → slice_get (xs ++ x ∷ []) (length (xs ++ x ∷ []) - 1) ≡ Some x
@@ -54,14 +50,14 @@ last_of xs x = let at : length (xs ++ x ∷ []) - 1 ≡ length xs = omega (arith
     by_length (y ∷ xs) x = by_length xs x
 
 pub ended_by : (trace : List Event) (event : Event) → is_ended (trace ++ event ∷ []) ≡ is_end event
-ended_by trace event = ap (λ (last : Option Event). option_map_or is_end last false) (last_of trace event)
+ended_by trace event = ap (λ last. option_map_or is_end last false) (last_of trace event)
 
 -- The interfaces of the image.
 
 any_map : {A B : Type 0} (test : B → Bool) (f : A → B) (xs : List A) →
     list_any test (map f xs) ≡ list_any (λ x. test (f x)) xs
 any_map test f [] = refl
-any_map test f (x ∷ xs) = ap (λ (later : Bool). test (f x) || later) (any_map test f xs)
+any_map test f (x ∷ xs) = ap (λ later. test (f x) || later) (any_map test f xs)
 
 -- what the imports of a compartment allow
 abbrev allowed_by : Bool → Bool → List ImportPart → (Import → Bool) → Bool
@@ -71,21 +67,21 @@ allowed_by input output others is_it =
 
 allowed_input : (output : Bool) (others : List ImportPart) (is_it : Import → Bool) → is_it Input ≡ true →
     allowed_by true output others is_it ≡ true
-allowed_input output others is_it is = or_left (is_it Input) _ is
+allowed_input output others is_it is = or_left _ _ is
 
 allowed_output : (input : Bool) (others : List ImportPart) (is_it : Import → Bool) → is_it Output ≡ true →
     allowed_by input true others is_it ≡ true
-allowed_output true others is_it is = or_right (is_it Input) _ (or_left (is_it Output) _ is)
-allowed_output false others is_it is = or_left (is_it Output) _ is
+allowed_output true others is_it is = or_right (is_it Input) _ (or_left _ _ is)
+allowed_output false others is_it is = or_left _ _ is
 
 allowed_function : (input output : Bool) (others : List ImportPart) (is_it : Import → Bool) →
     list_any (λ import. is_it (import_of import)) others ≡ true →
     allowed_by input output others is_it ≡ true
 allowed_function true true others is_it is = or_right (is_it Input) _
-    (or_right (is_it Output) _ (any_map is_it import_of others ∙ is))
-allowed_function true false others is_it is = or_right (is_it Input) _ (any_map is_it import_of others ∙ is)
-allowed_function false true others is_it is = or_right (is_it Output) _ (any_map is_it import_of others ∙ is)
-allowed_function false false others is_it is = any_map is_it import_of others ∙ is
+    (or_right (is_it Output) _ (any_map is_it _ others ∙ is))
+allowed_function true false others is_it is = or_right (is_it Input) _ (any_map is_it _ others ∙ is)
+allowed_function false true others is_it is = or_right (is_it Output) _ (any_map is_it _ others ∙ is)
+allowed_function false false others is_it is = any_map is_it _ others ∙ is
 
 module _ (image : ImageParts) where
   abbrev said : Interfaces
@@ -93,35 +89,32 @@ module _ (image : ImageParts) where
 
   comp_said : (c : ℕ) (comp : Option CompPart) → slice_get image.comps c ≡ comp →
       lookup.comp_at said c ≡ option_map interface_of comp
-  comp_said c comp at = slice_get-map interface_of image.comps c ∙ ap (option_map interface_of) at
+  comp_said c comp at = slice_get-map _ _ c ∙ ap (option_map _) at
 
   imports_said : (c : ℕ) (comp : CompPart) (is_it : Import → Bool) → slice_get image.comps c ≡ Some comp →
       imports said c is_it ≡ allowed_by comp.input comp.output comp.imports is_it
   imports_said c comp is_it at =
-      ap (λ (found : Option Interface). list_any is_it (option_map_or (λ (i : Interface). i.imports) found []))
-      (comp_said c (Some comp) at)
+      ap (λ found. list_any is_it (option_map_or (λ i. i.imports) found [])) (comp_said c _ at)
 
   input_said : (c : ℕ) (comp : Option CompPart) → slice_get image.comps c ≡ comp →
       option_map_or (λ (x : CompPart). x.input) comp false ≡ true → imports said c is_input ≡ true
-  input_said c None at may = let never : false ≡ true = may in cc never
+  input_said c None at may = let never = may in cc never
   input_said c (Some comp) at may =
-      imports_said c comp is_input at ∙ subst (λ (input : Bool). allowed_by input comp.output comp.imports is_input ≡
+      imports_said c comp _ at ∙ subst (λ input. allowed_by input comp.output comp.imports is_input ≡
       true) (sym may) (allowed_input comp.output comp.imports is_input refl)
 
   output_said : (c : ℕ) (comp : Option CompPart) → slice_get image.comps c ≡ comp →
       option_map_or (λ (x : CompPart). x.output) comp false ≡ true → imports said c is_output ≡ true
-  output_said c None at may = let never : false ≡ true = may in cc never
+  output_said c None at may = let never = may in cc never
   output_said c (Some comp) at may =
-      imports_said c comp is_output at ∙ subst (λ (output : Bool). allowed_by comp.input output comp.imports is_output ≡
+      imports_said c comp _ at ∙ subst (λ output. allowed_by comp.input output comp.imports is_output ≡
       true) (sym may) (allowed_output comp.input comp.imports is_output refl)
 
   function_said : (c to index : ℕ) (comp : Option CompPart) → slice_get image.comps c ≡ comp →
       list_any (λ import. import.comp == to && import.index == index)
       (option_map_or (λ (x : CompPart). x.imports) comp []) ≡ true → imports said c (is_function to index) ≡ true
-  function_said c to index None at may = let never : false ≡ true = may in cc never
-  function_said c to index (Some comp) at may =
-      imports_said c comp (is_function to index) at ∙
-      allowed_function comp.input comp.output comp.imports (is_function to index) may
+  function_said c to index None at may = let never = may in cc never
+  function_said c to index (Some comp) at may = imports_said c comp _ at ∙ allowed_function comp.input _ _ _ may
 
   -- an export of the image, as its interfaces say it
   record IsSaid (c index : ℕ) (export : ExportPart) : Type 0 where
@@ -131,27 +124,26 @@ module _ (image : ImageParts) where
   export_of : (c index : ℕ) (comp : Option CompPart) → slice_get image.comps c ≡ comp → (export : ExportPart) →
       slice_get (option_map_or (λ (x : CompPart). x.exports) comp []) index ≡ Some export →
       lookup.export_at said c index ≡ Some (proto_of export)
-  export_of c index None at export is = let never : ◌≡◌ {A = Option ExportPart} None (Some export) = is in cc never
+  export_of c index None at export is = let never = is in cc never
   export_of c index (Some comp) at export is =
-      ap (λ (found : Option Interface). option_and_then (λ (i : Interface). slice_get i.exports index) found)
-      (comp_said c (Some comp) at) ∙
-      (slice_get-map proto_of comp.exports index ∙ ap (option_map proto_of) is)
+      ap (λ found. option_and_then (λ i. slice_get i.exports index) found) (comp_said c _ at) ∙
+      (slice_get-map proto_of comp.exports index ∙ ap (option_map _) is)
 
   said_at : (c index : ℕ) → index < length (exports_of image c) → (export : ExportPart) × IsSaid c index export
   said_at c index within =
-      let found = is_there (exports_of image c) index within in
-      (found.0, record { there = found.1; said_so = export_of c index (slice_get image.comps c) refl found.0 found.1 })
+      let found = is_there _ index within in
+      (found.0, record { there = found.1; said_so = export_of c index _ refl found.0 found.1 })
 
   module _ (formed : IsWellFormed image) where
     few_by : (c index : ℕ) (comp : Option CompPart) → slice_get image.comps c ≡ comp → (export : ExportPart) →
         slice_get (option_map_or (λ (x : CompPart). x.exports) comp []) index ≡ Some export → export.params ≤ 8
-    few_by c index None at export is = let never : ◌≡◌ {A = Option ExportPart} None (Some export) = is in cc never
+    few_by c index None at export is = let never = is in cc never
     few_by c index (Some comp) at export is =
-        let all = (formed.comps c comp at).exports index export (slice_get_within comp.exports index export is) in
-        subst (λ (e : ExportPart). e.params ≤ 8) (get_or_from_slice_get comp.exports index export export is) all.params
+        let all = (formed.comps c comp at).exports index export (slice_get_within _ index export is) in
+        subst (λ e. e.params ≤ 8) (get_or_from_slice_get _ index export export is) all.params
 
     few_params : (c index : ℕ) (export : ExportPart) → IsSaid c index export → export.params ≤ 8
-    few_params c index export is = few_by c index (slice_get image.comps c) refl export is.there
+    few_params c index export is = few_by c index _ refl export is.there
 
 -- Where a run stands, by its cross stack.
 
@@ -198,14 +190,13 @@ ToldAfter image (Traps reason) = Unit {0}
 
 position_within : (test : ExportPart → Bool) (exports : List ExportPart) (index : ℕ) →
     position test exports ≡ Some index → index < length exports
-position_within test exports index is = by_test (ltb (position_or_len test exports) (length exports)) refl is
+position_within test exports index is = by_test _ refl is
   where
     by_test : (found : Bool) → ltb (position_or_len test exports) (length exports) ≡ found →
-        cond found (Some (position_or_len test exports)) None ≡ Some index →
-        index < length exports
+        cond found (Some (position_or_len test exports)) None ≡ Some index → index < length exports
     by_test true at is = let same : position_or_len test exports ≡ index = cc is in
-        subst (λ (k : ℕ). k < length exports) same (ltb-true _ _ at)
-    by_test false at is = let never : ◌≡◌ {A = Option ℕ} None (Some index) = is in cc never
+        subst (λ k. k < length exports) same (ltb-true _ _ at)
+    by_test false at is = let never = is in cc never
 
 module _ (image : ImageParts) (inputs : List ℕ) (formed : IsWellFormed image) (all : All IsWord inputs) (state : State)
     (h : IsTraced image state) where
@@ -232,41 +223,35 @@ module _ (image : ImageParts) (inputs : List ℕ) (formed : IsWellFormed image) 
       IsTold image (returned image state cross)
   told_return [] is steady =
       let event = End state.active (reg state a0) in
-      let outermost : is_allowed (interfaces_of image) (standing_of state) event ≡ true =
-      and_from (state.active == state.active) _ (eq-eqb state.active state.active refl)
-      (ap (λ (cross : List Crossing). law.is_outermost (waiting_of cross)) is) in
+      let outermost =
+      and_from (state.active == state.active) _ (eq-eqb _ _ refl)
+      (ap (λ cross. law.is_outermost (waiting_of cross)) is) in
       inr (record {
-        legal = legal_more (interfaces_of image) (at_start image.main) state.trace event
+        legal = legal_more (interfaces_of image) (at_start _) state.trace event
             (standing_of state) h.legal h.stands outermost;
         over = ended_by state.trace event;
       })
   told_return (x ∷ xs) is steady =
-      let chain : IsChain (length image.comps) state.active (x ∷ xs) =
-      subst (IsChain (length image.comps) state.active) is h.steady.chain in
-      let exports : AreOfExports image (x ∷ xs) = subst (AreOfExports image) is h.exports in
+      let chain =
+      subst (IsChain _ _) is h.steady.chain in
+      let exports = subst (AreOfExports image) is h.exports in
       let index = exports.0.0 in
       let said = said_at image x.callee index exports.0.1.1 in
       let value = given_back (has_result image x.callee x.entry) state in
-      let value_is : value ≡ given_back said.0.result state =
-      ap (λ (entry : Entry). given_back (has_result image x.callee entry) state) exports.0.1.0 ∙
-      ap (λ (found : Option ExportPart). given_back (option_map_or
-      (λ (e : ExportPart). e.result) found false) state) said.1.there in
-      let returns : may_return (interfaces_of image) x.callee x.entry value ≡ true =
-      ap (λ (entry : Entry). may_return (interfaces_of image) x.callee entry value) exports.0.1.0 ∙
-      (ap (λ (found : Option Proto). option_map_or (λ (p : Proto).
-      fits_result p.result value) found false) said.1.said_so ∙
+      let value_is =
+      ap (λ entry. given_back (has_result image x.callee entry) state) exports.0.1.0 ∙
+      ap (λ found. given_back (option_map_or (λ e. e.result) found false) state) said.1.there in
+      let returns =
+      ap (λ entry. may_return (interfaces_of image) x.callee entry value) exports.0.1.0 ∙
+      (ap (λ found. option_map_or (λ p. fits_result p.result value) found false) said.1.said_so ∙
       (ap (fits_result (if said.0.result then Some Int else None)) value_is ∙ fits_given said.0.result)) in
-      let here : may_return (interfaces_of image) state.active (entry_of state.cross) value ≡ true =
-      subst (λ (cross : List Crossing). may_return (interfaces_of image) state.active (entry_of cross) value ≡ true)
-      (sym is)
-      (subst (λ (c : ℕ). may_return (interfaces_of image) c x.entry value ≡ true) chain.0 returns) in
-      let awaited : law.awaits (waiting_of state.cross) x.caller ≡ true =
-      subst (λ (cross : List Crossing). law.awaits (waiting_of cross) x.caller ≡ true) (sym is)
-      (eq-eqb x.caller x.caller refl) in
-      goes_on (Ret state.active x.caller value) (returned image state (x ∷ xs)) steady exports.1 refl
-      (and_from (state.active == state.active) _ (eq-eqb state.active state.active refl)
-      (and_from (law.awaits (waiting_of state.cross) x.caller) _ awaited here))
-      (ap (λ (cross : List Crossing). resumed (waiting_of cross)) is)
+      let here =
+      subst (λ cross. may_return (interfaces_of image) state.active (entry_of cross) value ≡ true) (sym is)
+      (subst (λ c. may_return (interfaces_of image) c x.entry value ≡ true) chain.0 returns) in
+      let awaited =
+      subst (λ cross. law.awaits (waiting_of cross) x.caller ≡ true) (sym is) (eq-eqb x.caller _ refl) in
+      goes_on _ _ steady exports.1 refl (and_from (state.active == state.active) _ (eq-eqb _ _ refl)
+      (and_from _ _ awaited here)) (ap (λ cross. resumed (waiting_of cross)) is)
 
   told_step : ToldAfter image (step image inputs state)
   told_step = step_of image inputs formed state (λ outcome. SteadyAfter image outcome → ToldAfter image outcome)
@@ -290,32 +275,27 @@ module _ (image : ImageParts) (inputs : List ℕ) (formed : IsWellFormed image) 
             (exports_of image to) index at) in
             let few = few_params image formed to index said.0 said.1 in
             let params_is : params_of image to index ≡ said.0.params =
-            ap (λ (found : Option ExportPart). option_map_or (λ (e : ExportPart). e.params) found 0) said.1.there in
+            ap (λ (found : Option ExportPart). option_map_or (λ e. e.params) found 0) said.1.there in
             let args = arguments (params_of image to index) state.regs in
             let count : length args ≡ said.0.params =
             length-take-le (params_of image to index) (drop a0 state.regs)
             (omega (arith, few, params_is, length-drop a0 state.regs, h.steady.regs)) ∙ params_is in
-            let taken : takes (interfaces_of image) to index (length args) ≡ true =
-            ap (λ (found : Option Proto). option_map_or (λ (p : Proto).
-            length p.params == length args) found false) said.1.said_so ∙
-            eq-eqb (length (replicate said.0.params Int)) (length args)
+            let taken : takes (interfaces_of image) to index _ ≡ true =
+            ap (λ found. option_map_or (λ (p : Proto).
+            length p.params == length args) found false) said.1.said_so ∙ eq-eqb (length _) (length args)
             (length-replicate said.0.params Int ∙ sym count) in
-            goes_on (Call state.active to index args) _ steady (
-              (index, (refl, position_within (λ export. export.entry == target) (exports_of image to) index at)),
+            goes_on (Call _ to index args) _ steady (
+              (index, (refl, position_within (λ export. _ == target) (exports_of image to) index at)),
               h.exports,
-            ) refl
-            (and_from (state.active == state.active) _ (eq-eqb state.active state.active refl)
-            (and_from (imports (interfaces_of image) state.active (is_function to index)) _
-            (function_said image state.active to index (slice_get image.comps state.active) refl may) taken)) refl;
+            ) refl (and_from (state.active == state.active) _ (eq-eqb _ _ refl) (and_from _ _
+            (function_said image _ to index _ refl may) taken)) refl;
         returns = λ steady. told_return state.cross refl steady;
-        outputs = λ may steady.
-            goes_on (Out state.active (reg state a0)) _ steady h.exports refl
-            (and_from (state.active == state.active) _ (eq-eqb state.active state.active refl)
-            (output_said image state.active (slice_get image.comps state.active) refl may)) refl;
-        reads = λ may steady.
-            goes_on (In state.active (input_at inputs state.input)) _ steady h.exports refl
-            (and_from (state.active == state.active) _ (eq-eqb state.active state.active refl)
-            (input_said image state.active (slice_get image.comps state.active) refl may)) refl;
+        outputs = λ may steady. goes_on _ _ steady h.exports refl
+            (and_from (state.active == state.active) _ (eq-eqb state.active _ refl)
+            (output_said image _ _ refl may)) refl;
+        reads = λ may steady. goes_on (In state.active _) _ steady h.exports refl
+            (and_from (state.active == state.active) _ (eq-eqb _ _ refl)
+            (input_said image state.active _ refl may)) refl;
       }) (steady_step image inputs formed all state h.steady)
 
 -- Runs.
@@ -326,13 +306,12 @@ module _ (image : ImageParts) (inputs : List ℕ) (formed : IsWellFormed image) 
   not_over : (ended full : Bool) → (if ended then Some Ended else if full then Some EventsOut else None) ≡ None →
       ended ≡ false
   not_over false full is = refl
-  not_over true full is = let never : ◌≡◌ {A = Option Stop} (Some Ended) None = is in cc never
+  not_over true full is = let never = is in cc never
 
   goes : (state : State) → IsTold image state → stopped events state.trace ≡ None → IsTraced image state
   unfolding stopped
   goes state (inl traced) is = traced
-  goes state (inr over) is = absurd (true≢false (sym over.over ∙
-      not_over (is_ended state.trace) (nat_le events (length state.trace)) is))
+  goes state (inr over) is = absurd (true≢false (sym over.over ∙ not_over _ _ is))
 
   told_by : (early : Option Stop) (state : State) (later : Run) → stopped events state.trace ≡ early →
       IsTold image state →
@@ -347,12 +326,9 @@ module _ (image : ImageParts) (inputs : List ℕ) (formed : IsWellFormed image) 
 
   told_run : (steps : ℕ) (state : State) → IsTold image state → IsTold image (run image inputs events steps state).state
   unfolding run
-  told_run zero state h = told_by (stopped events state.trace) state (record { state = state; stop = StepsOut }) refl h
-      (λ is. h)
+  told_run zero state h = told_by _ state _ refl h (λ is. h)
   told_run (suc steps) state h =
-      told_by (stopped events state.trace) state (after state (step image inputs state)
-      (run image inputs events steps)) refl h
-      (λ is. told_after state (step image inputs state) (run image inputs events steps) h
+      told_by _ state _ refl h (λ is. told_after state (step image inputs state) (run image inputs events steps) h
       (told_step image inputs formed all state (goes state h is)) (told_run steps))
 
 told_start : (image : ImageParts) → IsWellFormed image → IsTold image (start image)
@@ -366,4 +342,4 @@ told_legal image state (inr over) = over.legal
 pub all_traces_legal : TracesAreLegal
 all_traces_legal image inputs steps events formed all =
     told_legal image (machine image inputs steps events).state
-    (told_run image inputs formed all events steps (start image) (told_start image formed))
+    (told_run image inputs formed all events steps _ (told_start image formed))

@@ -1,6 +1,6 @@
 -- Stretches of a run, steps by their instruction, and what stands in memory at the start.
 use Rattle.sc_image.proofs.Common.{CompPart, Goes, ImageInMemory, ImageParts, Instr, IsAt, IsWellFormed, IsWord, List}
-use Rattle.sc_image.proofs.Common.{Memory, None, Option, Outcome, Region, Some, State, StepsByInstruction, Traps, Walks}
+use Rattle.sc_image.proofs.Common.{Memory, Outcome, Region, Some, State, StepsByInstruction, Traps, Walks}
 use Rattle.sc_image.proofs.Common.{[], and_from, ap, are_data, arith, byte_of, code_of, code_start, comp_of_data}
 use Rattle.sc_image.proofs.Common.{data_regions, data_start, eq-eqb, execute, execute_by, false, flat_map, is_in}
 use Rattle.sc_image.proofs.Common.{le-leb, le-ltb, length, list_any, little_bytes, load_of, lt-ltb, nat_eq, nat_le}
@@ -23,7 +23,7 @@ module _ (image : ImageParts) (inputs : List ℕ) where
       walk image inputs (m + n) state ≡ walk image inputs n middle) →
       then_on outcome (walk image inputs (m + n)) ≡ walk image inputs n middle
   walked_first m n (Goes state) middle goes later = later state goes
-  walked_first m n (Traps reason) middle goes later = let never : Traps reason ≡ Goes middle = goes in cc never
+  walked_first m n (Traps reason) middle goes later = let never = goes in cc never
 
   walk_on : (m n : ℕ) (from middle : State) → walk image inputs m from ≡ Goes middle →
       walk image inputs (m + n) from ≡ walk image inputs n middle
@@ -32,7 +32,7 @@ module _ (image : ImageParts) (inputs : List ℕ) where
       ap (walk image inputs n) same
   walk_on (suc m) n from middle goes =
       ap (λ k. walk image inputs k from) (suc-add m n) ∙
-      walked_first m n (step image inputs from) middle goes (λ state. walk_on m n state middle)
+      walked_first m n _ middle goes (λ state. walk_on m n state middle)
 
 pub walk_together : (image : ImageParts) (inputs : List ℕ) (m n : ℕ) (from middle to : State) →
     Walks image inputs m from middle → Walks image inputs n middle to → Walks image inputs (m + n) from to
@@ -92,7 +92,7 @@ module _ (image : ImageParts) (c : ℕ) (comp : CompPart) (found : slice_get ima
 stack_placed : (image : ImageParts) (c : ℕ) (comp : CompPart) (k : ℕ) → slice_get image.comps c ≡ Some comp →
     k < stack_size → start_memory image (data_start c + k) ≡ Some 0
 stack_placed image c comp k found below =
-    let low : nat_lt k stack_size ≡ true = lt-ltb _ _ below in
+    let low = lt-ltb _ _ below in
     data_placed image c comp found k (omega (arith, below)) ∙ rw low refl
 
 globals_placed : (image : ImageParts) (c : ℕ) (comp : CompPart) (k : ℕ) → IsWellFormed image →
@@ -119,12 +119,11 @@ first_byte word others (suc (suc (suc (suc j)))) within = absurd (omega (arith, 
 
 word_byte : (words : List ℕ) (k j word : ℕ) → j < 4 → slice_get words k ≡ Some word →
     slice_get (flat_map (little_bytes 4) words) (4 * k + j) ≡ Some (byte_of word j)
-word_byte [] k j word within at = let none : ◌≡◌ {A = Option ℕ} None (Some word) = at in cc none
+word_byte [] k j word within at = let none = at in cc none
 word_byte (first ∷ words) zero j word within at =
     let same : first ≡ word = cc at in
     ap (slice_get (flat_map (little_bytes 4) (first ∷ words))) (zero-add j) ∙
-    first_byte first (flat_map (little_bytes 4) words) j within ∙
-    ap (λ w. Some (byte_of w j)) same
+    first_byte first (flat_map (little_bytes 4) words) j within ∙ ap (λ w. Some (byte_of w j)) same
 word_byte (first ∷ words) (suc k) j word within at =
     let place : 4 * suc k + j ≡ suc (suc (suc (suc (4 * k + j)))) = omega arith in
     ap (slice_get (flat_map (little_bytes 4) (first ∷ words))) place ∙ word_byte words k j word within at
@@ -145,19 +144,17 @@ words_placed : (image : ImageParts) (c : ℕ) (comp : CompPart) (words : List �
     slice_get image.comps c ≡ Some comp → comp.globals ≡ flat_map (little_bytes 4) words →
     slice_get words k ≡ Some word → IsWord word → load_of (start_memory image) (stack_top c + 4 * k) 4 ≡ word
 words_placed image c comp words k word formed found bytes at below =
-    load_is (start_memory image) (stack_top c + 4 * k) word below (λ j within.
-    let byte : slice_get comp.globals (4 * k + j) ≡ Some (byte_of word j) =
+    load_is (start_memory image) _ word below (λ j within.
+    let byte : slice_get _ (4 * k + j) ≡ Some (byte_of word j) =
     rw bytes (word_byte words k j word within at) in
     let place : stack_top c + 4 * k + j ≡ stack_top c + (4 * k + j) = omega arith in
-    ap (start_memory image) place ∙
-    globals_placed image c comp (4 * k + j) formed found
-    (slice_get_within comp.globals (4 * k + j) (byte_of word j) byte) ∙ byte)
+    ap (start_memory image) place ∙ globals_placed image c comp _ formed found (slice_get_within _ _ _ byte) ∙ byte)
 
 -- The addresses of a region.
 
 any_in : (regions : List Region) (number address : ℕ) (region : Region) → slice_get regions number ≡ Some region →
     is_in region address ≡ true → list_any (λ r. is_in r address) regions ≡ true
-any_in [] number address region at within = let none : ◌≡◌ {A = Option Region} None (Some region) = at in cc none
+any_in [] number address region at within = let none = at in cc none
 any_in (first ∷ regions) zero address region at within =
     let same : first ≡ region = cc at in
     or_left (is_in first address) _ (subst (λ r. is_in r address ≡ true) (sym same) within)
@@ -176,7 +173,7 @@ owned image c number address zero region at low high = refl
 owned image c number address (suc size) region at low high =
     and_from _ _ (owned image c number address size region at low (omega (arith, high)))
     (any_in (data_regions image c) number (address + size) region at
-    (within_region region (address + size) (omega (arith, low)) (omega (arith, high))))
+    (within_region region _ (omega (arith, low)) (omega (arith, high))))
 
 pub image_in_memory : ImageInMemory
 image_in_memory = record {

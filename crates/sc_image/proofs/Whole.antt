@@ -4,13 +4,13 @@ use Rattle.sc_image.proofs.Common.{Decides, Decides-and, Decides-like, ExportPar
 use Rattle.sc_image.proofs.Common.{IsComp, IsDistinct, IsDistinct-from_AllPairs, IsDistinct-from_count, IsEquivalence}
 use Rattle.sc_image.proofs.Common.{IsExport, IsImport, IsSomeAnd, IsWellFormed, IsWord, List, None, Option, Some, []}
 use Rattle.sc_image.proofs.Common.{all_by, and_from, and_parts, ap, are_distinct, arith, bytes_decides, code_of}
-use Rattle.sc_image.proofs.Common.{code_start, codes, comps_keep, cond, distinct_count-from_IsDistinct, eq-eqb}
+use Rattle.sc_image.proofs.Common.{code_start, comps_keep, cond, distinct_count-from_IsDistinct, eq-eqb}
 use Rattle.sc_image.proofs.Common.{eqb-false, eqb-true, exports_keep, false, false_from_ne_true, get_or_default}
 use Rattle.sc_image.proofs.Common.{imports_keep, is_entry, is_import, is_same_import, is_same_name, is_some}
-use Rattle.sc_image.proofs.Common.{keeps_rules, length, list_all, lit≤, lt-ltb, ltb-true, map, nat_eq, nat_le, nat_lt}
+use Rattle.sc_image.proofs.Common.{keeps_rules, length, list_all, lit≤, lt-ltb, ltb-true, map, nat_lt}
 use Rattle.sc_image.proofs.Common.{ne_eqb, not-true, not_from_Decides, not_from_false, option_map_or}
 use Rattle.sc_image.proofs.Common.{recursion_from_All, refl, same_from_decides, slice_get, slice_get_within, stretch}
-use Rattle.sc_image.proofs.Common.{subst, suc, sym, true, unsigned_Decides, word_at, zero, zero-add, ℕ, ◌%◌, ◌&&◌, ◌*◌}
+use Rattle.sc_image.proofs.Common.{subst, suc, sym, true, unsigned_Decides, word_at, zero, zero-add, ℕ, ◌&&◌, ◌*◌}
 use Rattle.sc_image.proofs.Common.{◌+◌, ◌-◌, ◌/◌, ◌<◌, ◌==◌, ◌^◌, ◌∙◌, ◌∷◌, ◌≡◌, ◌≤◌}
 use Rattle.sc_image.proofs.Fields.{IsBytes, bytes_fit}
 use Rattle.sc_image.proofs.FileFields.{FitsExport, FitsImport, FitsComp, FitsParts}
@@ -21,8 +21,8 @@ use Rattle.sc_image.proofs.FileFields.{FitsExport, FitsImport, FitsComp, FitsPar
 pub equivalence : {A : Type 0} (same : A → A → Bool) → ((a b : A) → Decides (same a b) (a ≡ b)) → IsEquivalence same
 equivalence {A} same decides = record {
   refl = λ x. (decides x x).1 refl;
-  symm = λ x y. same_from_decides (same x y) (same y x) (decides x y) (Decides-like (same y x) sym sym (decides y x));
-  congr = λ x y z is. ap (λ (w : A). same w z) ((decides x y).0 is);
+  symm = λ x y. same_from_decides _ _ (decides x y) (Decides-like _ sym sym (decides y x));
+  congr = λ x y z is. ap (λ w. same w z) ((decides x y).0 is);
 }
 
 module _ {A : Type 0} (same : A → A → Bool) (decides : (a b : A) → Decides (same a b) (a ≡ b)) where
@@ -42,34 +42,31 @@ entries_decide a b = unsigned_Decides a b
 
 pub imports_decide : (a b : ImportPart) → Decides (is_same_import a b) (a ≡ b)
 imports_decide a b =
-    Decides-like (is_same_import a b) (λ both. rejoin a b both.0 both.1)
-    (λ same. (ap (λ (i : ImportPart). i.comp) same, ap (λ (i : ImportPart). i.index) same))
-    (Decides-and (a.comp == b.comp) (a.index == b.index) (unsigned_Decides a.comp b.comp)
-    (unsigned_Decides a.index b.index))
+    Decides-like _ (λ both. rejoin a b both.0 both.1) (λ same. (ap (λ i. i.comp) same, ap (λ i. i.index) same))
+    (Decides-and (a.comp == b.comp) _ (unsigned_Decides a.comp b.comp) (unsigned_Decides a.index b.index))
   where
     rejoin : (a b : ImportPart) → a.comp ≡ b.comp → a.index ≡ b.index → a ≡ b
-    rejoin a b comp index = ap (λ (c : ℕ). record { comp = c; index = a.index }) comp ∙
-        ap (λ (k : ℕ). record { comp = b.comp; index = k }) index
+    rejoin a b comp index = ap (λ c. record { comp = c; index = a.index }) comp ∙
+        ap (λ k. record { comp = b.comp; index = k }) index
 
 -- Entries.
 
 some_within : (words : List ℕ) (k : ℕ) (found : Option ℕ) → slice_get words k ≡ found → is_some found ≡ true →
     k < length words
-some_within words k None at some = let never : false ≡ true = some in cc never
+some_within words k None at some = let never = some in cc never
 some_within words k (Some word) at some = slice_get_within words k word at
 
 entry_by : (image : ImageParts) (c entry : ℕ) (whole : Bool) →
     is_some (cond whole (slice_get (code_of image c) ((entry - code_start c) / 4)) None) ≡ true →
     (entry - code_start c) / 4 < length (code_of image c)
-entry_by image c entry true some = some_within (code_of image c) ((entry - code_start c) / 4)
-    (slice_get (code_of image c) ((entry - code_start c) / 4)) refl some
-entry_by image c entry false some = let never : false ≡ true = some in cc never
+entry_by image c entry true some = some_within _ _ _ refl some
+entry_by image c entry false some = let never = some in cc never
 
 entry_is_short : (image : ImageParts) (c entry : ℕ) → c < 32 → 4 * length (code_of image c) ≤ stretch →
     is_entry image c entry ≡ true → entry < 2 ^ 32
 unfolding word_at
 entry_is_short image c entry low short is =
-    let within = entry_by image c entry (nat_eq (entry % 4) 0 && nat_le (code_start c) entry) is in
+    let within = entry_by image c entry _ is in
     omega (arith, low, short, within)
 
 -- Imports.
@@ -77,7 +74,7 @@ entry_is_short image c entry low short is =
 offered_by_test : (index : ℕ) (found : Option CompPart) →
     option_map_or (λ (comp : CompPart). nat_lt index (length comp.exports)) found false ≡ true →
     IsSomeAnd found (λ comp. index < length comp.exports)
-offered_by_test index None is = let never : false ≡ true = is in cc never
+offered_by_test index None is = let never = is in cc never
 offered_by_test index (Some comp) is = ltb-true _ _ is
 
 test_by_offered : (index : ℕ) (found : Option CompPart) → IsSomeAnd found (λ comp. index < length comp.exports) →
@@ -91,14 +88,13 @@ import_by_test image c import is =
     let tests = and_parts _ _ is in
     record {
       other = eqb-false _ _ (not-true _ tests.0);
-      offered = offered_by_test import.index (slice_get image.comps import.comp) tests.1;
+      offered = offered_by_test _ _ tests.1;
     }
 
 test_by_import : (image : ImageParts) (c : ℕ) (import : ImportPart) → IsImport image c import →
     is_import image c import ≡ true
 test_by_import image c import is =
-    and_from _ _ (not_from_false _ (ne_eqb _ _ is.other))
-    (test_by_offered import.index (slice_get image.comps import.comp) is.offered)
+    and_from _ _ (not_from_false _ (ne_eqb _ _ is.other)) (test_by_offered _ _ is.offered)
 
 -- Lists.
 
@@ -125,23 +121,21 @@ weaker P Q each (x ∷ xs) all = (each x all.0, weaker P Q each xs all.1)
 exports_are : (image : ImageParts) (c : ℕ) (exports : List ExportPart) → AllByRecursion FitsExport exports →
     list_all (λ export. is_entry image c export.entry) exports ≡ true → All (IsExport image c) exports
 exports_are image c exports fits is =
-    All-from_recursion (IsExport image c) exports
-    (all_by_tests (λ (export : ExportPart). is_entry image c export.entry) FitsExport (IsExport image c)
+    All-from_recursion (IsExport image c) exports (all_by_tests _ FitsExport _
     (λ export h entry. record { name = h.name; params = h.params; entry = entry }) exports fits is)
 
 imports_are : (image : ImageParts) (c comps : ℕ) (imports : List ImportPart) →
     AllByRecursion (FitsImport comps) imports →
     list_all (is_import image c) imports ≡ true → All (IsImport image c) imports
 imports_are image c comps imports fits is =
-    All-from_recursion (IsImport image c) imports
-    (all_by_tests (is_import image c) (FitsImport comps) (IsImport image c)
+    All-from_recursion (IsImport image c) imports (all_by_tests _ _ _
     (λ import h test. import_by_test image c import test) imports fits is)
 
 abbrev pub keeps : ImageParts → ℕ → CompPart → Bool
 keeps image c comp = exports_keep image c comp.exports && imports_keep image c comp.imports
 
 all_bytes : (bytes : List ℕ) → IsBytes bytes → All IsByte bytes
-all_bytes bytes fits i d within = subst (λ (b : ℕ). b < 2 ^ 8) (get_or_default bytes i 0 d within) (fits i)
+all_bytes bytes fits i d within = subst (λ b. b < 2 ^ 8) (get_or_default bytes i 0 d within) (fits i)
 
 comp_is : (image : ImageParts) (comps c : ℕ) (comp : CompPart) → FitsComp comps comp → keeps image c comp ≡ true →
     IsComp image c comp
@@ -152,33 +146,32 @@ comp_is image comps c comp fits is =
     let imports = and_parts _ _ both.1 in
     record {
       name = fits.name;
-      no_environment = not_from_Decides _ (names_decide comp.name (codes "Env")) fits.no_environment;
+      no_environment = not_from_Decides _ (names_decide _ _) fits.no_environment;
       few_exports = fits.exports.few;
-      exports = exports_are image c comp.exports fits.exports.each exports.0;
-      export_names = distinct_by_test is_same_name names_decide (map (λ export. export.name) comp.exports) names.0;
-      export_entries = distinct_by_test ◌==◌ unsigned_Decides (map (λ export. export.entry) comp.exports) names.1;
+      exports = exports_are image c _ fits.exports.each exports.0;
+      export_names = distinct_by_test _ names_decide _ names.0;
+      export_entries = distinct_by_test ◌==◌ unsigned_Decides _ names.1;
       few_imports = fits.imports.few;
-      imports = imports_are image c comps comp.imports fits.imports.each imports.0;
-      distinct_imports = distinct_by_test is_same_import imports_decide comp.imports imports.1;
+      imports = imports_are image c comps _ fits.imports.each imports.0;
+      distinct_imports = distinct_by_test _ imports_decide _ imports.1;
       short_code = fits.code.short;
-      words = All-from_recursion IsWord comp.code fits.code.each;
+      words = All-from_recursion IsWord _ fits.code.each;
       short_globals = fits.globals.short;
-      bytes = all_bytes comp.globals fits.globals.bytes;
+      bytes = all_bytes _ fits.globals.bytes;
     }
 
 kept_at : (image : ImageParts) (c : ℕ) (comps : List CompPart) → comps_keep image c comps ≡ true →
     (i : ℕ) (comp : CompPart) → slice_get comps i ≡ Some comp → keeps image (c + i) comp ≡ true
-kept_at image c [] is i comp at = let never : ◌≡◌ {A = Option CompPart} None (Some comp) = at in cc never
+kept_at image c [] is i comp at = let never : ◌≡◌ None _ = at in cc never
 kept_at image c (first ∷ comps) is zero comp at =
     let same : first ≡ comp = cc at in
     let c-is : c + 0 ≡ c = omega arith in
     let first_keeps : keeps image (c + 0) first ≡ true =
-    rw c-is (and_parts (keeps image c first) (comps_keep image (suc c) comps) is).0 in
-    subst (λ (x : CompPart). keeps image (c + 0) x ≡ true) same first_keeps
+    rw c-is (and_parts (keeps image c first) _ is).0 in
+    subst (λ x. keeps image (c + 0) x ≡ true) same first_keeps
 kept_at image c (first ∷ comps) is (suc i) comp at =
     let next : suc c + i ≡ c + suc i = omega arith in
-    subst (λ (k : ℕ). keeps image k comp ≡ true) next
-    (kept_at image (suc c) comps (and_parts (keeps image c first) (comps_keep image (suc c) comps) is).1 i comp at)
+    subst (λ k. keeps image k comp ≡ true) next (kept_at image _ comps (and_parts _ _ is).1 i comp at)
 
 keep_by : (image : ImageParts) (c : ℕ) (comps : List CompPart) →
     ((i : ℕ) (comp : CompPart) → slice_get comps i ≡ Some comp → keeps image (c + i) comp ≡ true) →
@@ -186,16 +179,15 @@ keep_by : (image : ImageParts) (c : ℕ) (comps : List CompPart) →
 keep_by image c [] each = refl
 keep_by image c (first ∷ comps) each =
     let c-is : c + 0 ≡ c = omega arith in
-    and_from (keeps image c first) (comps_keep image (suc c) comps)
-    (subst (λ (k : ℕ). keeps image k first ≡ true) c-is (each zero first refl))
-    (keep_by image (suc c) comps (λ i comp at. let next : c + suc i ≡ suc c + i = omega arith in
-    subst (λ (k : ℕ). keeps image k comp ≡ true) next (each (suc i) comp at)))
+    and_from (keeps image c first) _ (subst (λ k. keeps image k first ≡ true) c-is (each zero first refl))
+    (keep_by image _ comps (λ i comp at. let next : c + suc i ≡ suc c + i = omega arith in
+    subst (λ k. keeps image k comp ≡ true) next (each _ comp at)))
 
 -- The whole.
 
 at_place : {A : Type 0} (P : A → Type 0) (xs : List A) → AllByRecursion P xs → (i : ℕ) (x : A) →
     slice_get xs i ≡ Some x → P x
-at_place {A} P [] all i x at = let never : ◌≡◌ {A = Option A} None (Some x) = at in cc never
+at_place {A} P [] all i x at = let never = at in cc never
 at_place {A} P (y ∷ xs) all zero x at = let same : y ≡ x = cc at in subst P same all.0
 at_place {A} P (y ∷ xs) all (suc i) x at = at_place P xs all.1 i x at
 
@@ -207,34 +199,27 @@ whole_is image fits is =
       few_comps = fits.few;
       main = fits.main;
       entry = rest.0;
-      comps = λ c comp at.
-          comp_is image (length image.comps) c comp (at_place
-          (FitsComp (length image.comps)) image.comps fits.comps c comp at)
-          (subst (λ (k : ℕ). keeps image k comp ≡ true) (zero-add c) (kept_at image 0 image.comps rest.1 c comp at));
-      names = distinct_by_test is_same_name names_decide (map (λ comp. comp.name) image.comps) names.0;
+      comps = λ c comp at. comp_is image (length image.comps) c comp (at_place _ _ fits.comps c comp at)
+          (subst (λ k. keeps image k comp ≡ true) (zero-add c) (kept_at image 0 _ rest.1 c comp at));
+      names = distinct_by_test _ names_decide _ names.0;
     }
 
 module _ (image : ImageParts) (formed : IsWellFormed image) where
   comp_keeps : (c : ℕ) (comp : CompPart) → slice_get image.comps c ≡ Some comp → keeps image c comp ≡ true
   comp_keeps c comp at =
       let h = formed.comps c comp at in
-      and_from _ _
-      (and_from _ _
-      (tests_by_all (λ (export : ExportPart). is_entry image c export.entry) (IsExport image c)
-      (λ export e. e.entry) comp.exports (recursion_from_All (IsExport image c) comp.exports h.exports))
-      (and_from _ _ (test_by_distinct is_same_name names_decide
-      (map (λ export. export.name) comp.exports) h.export_names)
-      (test_by_distinct ◌==◌ unsigned_Decides (map (λ export. export.entry) comp.exports) h.export_entries)))
-      (and_from _ _
+      and_from _ _ (and_from _ _ (tests_by_all (λ export. is_entry image c _) (IsExport image c)
+      (λ export e. e.entry) comp.exports (recursion_from_All _ _ h.exports))
+      (and_from _ _ (test_by_distinct is_same_name names_decide (map _ _) h.export_names)
+      (test_by_distinct ◌==◌ unsigned_Decides (map _ _) h.export_entries))) (and_from _ _
       (tests_by_all (is_import image c) (IsImport image c) (test_by_import image c) comp.imports
-      (recursion_from_All (IsImport image c) comp.imports h.imports))
+      (recursion_from_All _ _ h.imports))
       (test_by_distinct is_same_import imports_decide comp.imports h.distinct_imports))
 
   pub rules_are_kept : keeps_rules image ≡ true
   rules_are_kept =
-      and_from _ _ (test_by_distinct is_same_name names_decide (map (λ comp. comp.name) image.comps) formed.names)
-      (and_from _ _ formed.entry
-      (keep_by image 0 image.comps (λ i comp at. subst (λ (k : ℕ). keeps image k comp ≡ true) (sym (zero-add i))
+      and_from _ _ (test_by_distinct is_same_name names_decide (map _ _) formed.names) (and_from _ _ formed.entry
+      (keep_by image 0 image.comps (λ i comp at. subst (λ k. keeps image k comp ≡ true) (sym (zero-add i))
       (comp_keeps i comp at))))
 
   code_is_short : (c : ℕ) (found : Option CompPart) → slice_get image.comps c ≡ found →
@@ -244,8 +229,7 @@ module _ (image : ImageParts) (formed : IsWellFormed image) where
 
   entry_fits : (c entry : ℕ) → c < length image.comps → is_entry image c entry ≡ true → entry < 2 ^ 32
   entry_fits c entry within is =
-      entry_is_short image c entry (omega (arith, within, formed.few_comps))
-      (code_is_short c (slice_get image.comps c) refl) is
+      entry_is_short image c entry (omega (arith, within, formed.few_comps)) (code_is_short c _ refl) is
 
   import_comp : (index : ℕ) (c : ℕ) (found : Option CompPart) → slice_get image.comps c ≡ found →
       IsSomeAnd found (λ comp. index < length comp.exports) →
@@ -258,7 +242,7 @@ module _ (image : ImageParts) (formed : IsWellFormed image) where
 
   import_fits : (c : ℕ) (import : ImportPart) → IsImport image c import → FitsImport (length image.comps) import
   import_fits c import h =
-      let both = import_comp import.index import.comp (slice_get image.comps import.comp) refl h.offered in
+      let both = import_comp _ _ _ refl h.offered in
       record { comp = both.0; index = both.1 }
 
   comp_fits : (c : ℕ) (comp : CompPart) → slice_get image.comps c ≡ Some comp → FitsComp (length image.comps) comp
@@ -266,25 +250,21 @@ module _ (image : ImageParts) (formed : IsWellFormed image) where
       let h = formed.comps c comp at in
       record {
         name = h.name;
-        no_environment = false_from_ne_true _ (λ same.
-            h.no_environment ((names_decide comp.name (codes "Env")).0 same));
+        no_environment = false_from_ne_true _ (λ same. h.no_environment ((names_decide _ _).0 same));
         exports = record {
           few = h.few_exports;
-          each = weaker (IsExport image c) FitsExport
-              (λ export e. record {
-                name = e.name;
-                params = e.params;
-                entry = entry_fits c export.entry (slice_get_within image.comps c comp at) e.entry;
-              })
-              comp.exports (recursion_from_All (IsExport image c) comp.exports h.exports);
+          each = weaker (IsExport image c) FitsExport (λ export e. record {
+            name = e.name;
+            params = e.params;
+            entry = entry_fits c _ (slice_get_within _ c comp at) e.entry;
+          }) _ (recursion_from_All _ _ h.exports);
         };
         imports = record {
           few = h.few_imports;
-          each = weaker (IsImport image c) (FitsImport (length image.comps)) (import_fits c) comp.imports
-              (recursion_from_All (IsImport image c) comp.imports h.imports);
+          each = weaker _ _ (import_fits c) _ (recursion_from_All _ _ h.imports);
         };
-        code = record { short = h.short_code; each = recursion_from_All IsWord comp.code h.words };
-        globals = record { short = h.short_globals; bytes = bytes_fit comp.globals h.bytes };
+        code = record { short = h.short_code; each = recursion_from_All IsWord _ h.words };
+        globals = record { short = h.short_globals; bytes = bytes_fit _ h.bytes };
       }
 
   pub parts_fit : FitsParts image
@@ -292,7 +272,6 @@ module _ (image : ImageParts) (formed : IsWellFormed image) where
     some = omega (arith, formed.main);
     few = formed.few_comps;
     main = formed.main;
-    entry = entry_fits image.main image.entry formed.main formed.entry;
-    comps = recursion_from_All (FitsComp (length image.comps)) image.comps
-        (all_by (FitsComp (length image.comps)) image.comps comp_fits);
+    entry = entry_fits image.main _ formed.main formed.entry;
+    comps = recursion_from_All _ _ (all_by _ _ comp_fits);
   }

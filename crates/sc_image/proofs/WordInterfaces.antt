@@ -1,8 +1,8 @@
 -- Legal traces don't depend on the types of scalars.
 use Rattle.sc_image.proofs.Common.{Bool, Call, End, Entry, Event, Export, Import, In, Int, Interface, Interfaces}
 use Rattle.sc_image.proofs.Common.{LegalByWords, List, Main, None, Option, Out, Proto, Ret, Scalar, Some, Standing, []}
-use Rattle.sc_image.proofs.Common.{ap, ap₂, at_start, awaits, false, fits_result, imports, is_function, is_input}
-use Rattle.sc_image.proofs.Common.{is_legal_from, is_output, length, length-map, list_any, may_perform, may_return}
+use Rattle.sc_image.proofs.Common.{ap, ap₂, awaits, false, fits_result, imports}
+use Rattle.sc_image.proofs.Common.{is_legal_from, length, length-map, list_any, may_perform, may_return}
 use Rattle.sc_image.proofs.Common.{option_and_then, option_map, option_map_or, performer, refl, slice_get}
 use Rattle.sc_image.proofs.Common.{slice_get-map, stands_after, takes, word_interface, word_interfaces, word_proto, ℕ}
 use Rattle.sc_image.proofs.Common.{◌&&◌, ◌==◌, ◌∙◌, ◌∷◌, ◌≡◌}
@@ -11,7 +11,7 @@ use Rattle.sc_event.specs.Prelude.{comp_at, export_at}
 module _ (interfaces : Interfaces) where
   same_comp : (comp : ℕ) →
       comp_at (word_interfaces interfaces) comp ≡ option_map word_interface (comp_at interfaces comp)
-  same_comp comp = slice_get-map word_interface interfaces.comps comp
+  same_comp comp = slice_get-map _ _ comp
 
   -- imports
 
@@ -23,7 +23,7 @@ module _ (interfaces : Interfaces) where
   same_imports : (comp : ℕ) (is_it : Import → Bool) →
       imports (word_interfaces interfaces) comp is_it ≡ imports interfaces comp is_it
   same_imports comp is_it =
-      ap (list_any is_it) (ap (λ (found : Option Interface). option_map_or (λ (i : Interface). i.imports) found [])
+      ap (list_any is_it) (ap (λ found. option_map_or (λ i. i.imports) found [])
       (same_comp comp) ∙ imports_by (comp_at interfaces comp))
 
   -- exports
@@ -32,25 +32,24 @@ module _ (interfaces : Interfaces) where
       option_and_then (λ (i : Interface). slice_get i.exports index) (option_map word_interface found) ≡
       option_map word_proto (option_and_then (λ (i : Interface). slice_get i.exports index) found)
   export_by index None = refl
-  export_by index (Some i) = slice_get-map word_proto i.exports index
+  export_by index (Some i) = slice_get-map _ _ index
 
   same_export : (comp index : ℕ) →
       export_at (word_interfaces interfaces) comp index ≡ option_map word_proto (export_at interfaces comp index)
   same_export comp index =
-      ap (λ (found : Option Interface). option_and_then (λ (i : Interface). slice_get i.exports index) found)
-      (same_comp comp) ∙ export_by index (comp_at interfaces comp)
+      ap (λ found. option_and_then (λ i. slice_get i.exports index) found) (same_comp comp) ∙ export_by index _
 
   takes_by : (count : ℕ) (found : Option Proto) →
       option_map_or (λ (p : Proto). length p.params == count) (option_map word_proto found) false ≡
       option_map_or (λ (p : Proto). length p.params == count) found false
   takes_by count None = refl
-  takes_by count (Some proto) = ap (λ (n : ℕ). n == count) (length-map proto.params (λ param. Int))
+  takes_by count (Some proto) = ap (λ n. n == count) (length-map _ _)
 
   same_takes : (comp index count : ℕ) →
       takes (word_interfaces interfaces) comp index count ≡ takes interfaces comp index count
   same_takes comp index count =
-      ap (λ (found : Option Proto). option_map_or (λ (p : Proto). length p.params == count) found false)
-      (same_export comp index) ∙ takes_by count (export_at interfaces comp index)
+      ap (λ found. option_map_or (λ p. length p.params == count) found false)
+      (same_export comp index) ∙ takes_by count _
 
   fits_by : (result : Option Scalar) (value : Option ℕ) →
       fits_result (option_map (λ r. Int) result) value ≡ fits_result result value
@@ -63,24 +62,23 @@ module _ (interfaces : Interfaces) where
       option_map_or (λ (p : Proto). fits_result p.result value) (option_map word_proto found) false ≡
       option_map_or (λ (p : Proto). fits_result p.result value) found false
   result_by value None = refl
-  result_by value (Some proto) = fits_by proto.result value
+  result_by value (Some proto) = fits_by _ value
 
   same_return : (comp : ℕ) (entry : Entry) (value : Option ℕ) →
       may_return (word_interfaces interfaces) comp entry value ≡ may_return interfaces comp entry value
   same_return comp Main value = refl
   same_return comp (Export index) value =
-      ap (λ (found : Option Proto). option_map_or (λ (p : Proto). fits_result p.result value) found false)
-      (same_export comp index) ∙ result_by value (export_at interfaces comp index)
+      ap (λ found. option_map_or (λ p. fits_result p.result value) found false)
+      (same_export comp index) ∙ result_by value _
 
   -- events
 
   same_event : (at : Standing) (event : Event) →
       may_perform (word_interfaces interfaces) at event ≡ may_perform interfaces at event
-  same_event at (Call from to index args) = ap₂ (λ x y. x && y) (same_imports from (is_function to index))
-      (same_takes to index (length args))
-  same_event at (Ret from to value) = ap (λ x. awaits at.waiting to && x) (same_return from at.active.entry value)
-  same_event at (Out comp value) = same_imports comp is_output
-  same_event at (In comp value) = same_imports comp is_input
+  same_event at (Call from to index args) = ap₂ (λ x y. x && y) (same_imports from _) (same_takes to index _)
+  same_event at (Ret from to value) = ap (λ x. awaits at.waiting to && x) (same_return from _ value)
+  same_event at (Out comp value) = same_imports comp _
+  same_event at (In comp value) = same_imports comp _
   same_event at (End comp value) = refl
 
   same_from : (at : Option Standing) (trace : List Event) →
@@ -92,4 +90,4 @@ module _ (interfaces : Interfaces) where
       (same_from (stands_after at event) later)
 
 pub legal_by_words : LegalByWords
-legal_by_words interfaces trace = same_from interfaces (at_start interfaces.main) trace
+legal_by_words interfaces trace = same_from interfaces _ trace

@@ -3,11 +3,11 @@ use Rattle.sc_image.proofs.Common.{Bool, CompPart, ExportPart, HoldsBytes, Image
 use Rattle.sc_image.proofs.Common.{List, LoadOp, Memory, None, OpOp, Option, Some, [], add_word-lt, and_le_l, arith}
 use Rattle.sc_image.proofs.Common.{code_of, code_start, computed, div_word-lt, divu_word-lt, eqb-true, export_at}
 use Rattle.sc_image.proofs.Common.{extended, false, get_or_from_slice_get, if◌then◌else◌, kept_from, leb-true, load_of}
-use Rattle.sc_image.proofs.Common.{load_size, mul_word-lt, mulh_word-lt, mulhsu_word-lt, mulhu_word-lt, nat_eq, nat_le}
+use Rattle.sc_image.proofs.Common.{load_size, mul_word-lt, mulh_word-lt, mulhsu_word-lt, mulhu_word-lt, nat_le}
 use Rattle.sc_image.proofs.Common.{option_map_or, or_lt, position, position-Some, refl, rem_word-lt, remu_word-lt}
-use Rattle.sc_image.proofs.Common.{signed, slice_get, slice_get_within, slice_index, slice_set, sll_word-lt}
+use Rattle.sc_image.proofs.Common.{slice_get, slice_get_within, slice_index, slice_set, sll_word-lt}
 use Rattle.sc_image.proofs.Common.{slt_word-lt, sltu_word-lt, sra_word-lt, srl_word-lt, sub_word-lt, subst, suc, true}
-use Rattle.sc_image.proofs.Common.{unwrap_or, word_at, word_of-lt, written, xor_lt, zero, ℕ, ◌%◌, ◌&&◌, ◌+◌, ◌-◌, ◌/◌}
+use Rattle.sc_image.proofs.Common.{unwrap_or, word_at, word_of-lt, written, xor_lt, zero, ℕ, ◌&&◌, ◌+◌, ◌-◌, ◌/◌}
 use Rattle.sc_image.proofs.Common.{◌<◌, ◌==◌, ◌^◌, ◌∷◌, ◌≡◌, ◌≤◌}
 use Rattle.rv_code.specs.declared.instr.OpOp.TheVariants.{Add, Sub, Sll, Slt, Sltu, Xor, Srl, Sra, Or, And, Mul, Mulh}
 use Rattle.rv_code.specs.declared.instr.OpOp.TheVariants.{Mulhsu, Mulhu, Div, Divu, Rem, Remu}
@@ -25,7 +25,7 @@ set_words (x ∷ xs) (suc i) word h k zero = h 0
 set_words (x ∷ xs) (suc i) word h k (suc j) = set_words xs i word (λ l. h (suc l)) k j
 
 pub written_words : (regs : List ℕ) (r word : ℕ) → AreWords regs → IsWord word → AreWords (written regs r word)
-written_words regs r word h k = by_zero (nat_eq r 0)
+written_words regs r word h k = by_zero _
   where
     by_zero : (zero_is : Bool) → AreWords (if zero_is then regs else slice_set regs r word)
     by_zero true = h
@@ -37,8 +37,8 @@ if_word false x y h k = k
 
 pub kept_words : (keeps : ℕ → Bool) (r : ℕ) (regs : List ℕ) → AreWords regs → AreWords (kept_from keeps r regs)
 kept_words keeps r [] h i = h i
-kept_words keeps r (word ∷ words) h zero = if_word (keeps r) word 0 (h 0) (omega arith)
-kept_words keeps r (word ∷ words) h (suc i) = kept_words keeps (suc r) words (λ l. h (suc l)) i
+kept_words keeps r (word ∷ words) h zero = if_word _ word 0 (h 0) (omega arith)
+kept_words keeps r (word ∷ words) h (suc i) = kept_words keeps _ words (λ l. h (suc l)) i
 
 -- x0 stays 0
 
@@ -48,7 +48,7 @@ set_zero (x ∷ xs) r word h = h
 
 pub written_zero : (regs : List ℕ) (r word : ℕ) → slice_index regs 0 ≡ 0 → slice_index (written regs r word) 0 ≡ 0
 written_zero regs zero word h = h
-written_zero regs (suc r) word h = by_zero (nat_eq (suc r) 0)
+written_zero regs (suc r) word h = by_zero _
   where
     by_zero : (zero_is : Bool) → slice_index (if zero_is then regs else slice_set regs (suc r) word) 0 ≡ 0
     by_zero true = h
@@ -62,7 +62,7 @@ if_zero false = refl
 pub kept_zero : (keeps : ℕ → Bool) (r : ℕ) (regs : List ℕ) → slice_index regs 0 ≡ 0 →
     slice_index (kept_from keeps r regs) 0 ≡ 0
 kept_zero keeps r [] h = h
-kept_zero keeps r (word ∷ words) h = let first : word ≡ 0 = h in rw first (if_zero (keeps r))
+kept_zero keeps r (word ∷ words) h = let first = h in rw first (if_zero _)
 
 -- what an operation computes
 
@@ -96,7 +96,7 @@ byte_by memory a h None at = omega arith
 byte_by memory a h (Some b) at = (h a b at).1
 
 byte_below : (memory : Memory) (a : ℕ) → HoldsBytes memory → unwrap_or (memory a) 0 < 256
-byte_below memory a h = byte_by memory a h (memory a) refl
+byte_below memory a h = byte_by memory a h _ refl
 
 one_byte : (memory : Memory) (a : ℕ) → HoldsBytes memory → load_of memory a 1 < 2 ^ 8
 one_byte memory a h = omega (arith, byte_below memory (a + 0) h)
@@ -116,8 +116,8 @@ four_bytes memory a h =
 
 pub loaded_word : (memory : Memory) (op : LoadOp) (a : ℕ) → HoldsBytes memory →
     IsWord (extended op (load_of memory a (load_size op)))
-loaded_word memory Lb a h = word_of-lt (signed (2 ^ 7) (load_of memory a 1))
-loaded_word memory Lh a h = word_of-lt (signed (2 ^ 15) (load_of memory a 2))
+loaded_word memory Lb a h = word_of-lt _
+loaded_word memory Lh a h = word_of-lt _
 loaded_word memory Lw a h = four_bytes memory a h
 loaded_word memory Lbu a h = omega (arith, one_byte memory a h)
 loaded_word memory Lhu a h = omega (arith, two_bytes memory a h)
@@ -132,38 +132,36 @@ module _ (image : ImageParts) (formed : IsWellFormed image) (c address word : �
   comp_by : (comp : Option CompPart) → slice_get image.comps c ≡ comp →
       slice_get (option_map_or (λ comp. comp.code) comp []) ((address - code_start c) / 4) ≡ Some word →
       code_start c ≤ address → IsInCode address word
-  comp_by None is at from = let none : ◌≡◌ {A = Option ℕ} None (Some word) = at in cc none
+  comp_by None is at from = let none = at in cc none
   comp_by (Some comp) is at from =
       let well = formed.comps c comp is in
-      let within = slice_get_within comp.code ((address - code_start c) / 4) word at in
+      let within = slice_get_within _ ((address - code_start c) / 4) word at in
       record {
         next = omega (arith, within, well.short_code, from, slice_get_within image.comps c comp is, formed.few_comps);
-        bits =
-            subst IsWord (get_or_from_slice_get comp.code ((address - code_start c) / 4) word word at)
-            (well.words ((address - code_start c) / 4) word within);
+        bits = subst IsWord (get_or_from_slice_get comp.code _ word word at) (well.words _ word within);
       }
 
   where_true : (aligned from : Bool) → nat_le (code_start c) address ≡ from →
       (if aligned && from then slice_get (code_of image c) ((address - code_start c) / 4) else None) ≡ Some word →
       IsInCode address word
-  where_true true true is at = comp_by (slice_get image.comps c) refl at (leb-true (code_start c) address is)
-  where_true true false is at = let none : ◌≡◌ {A = Option ℕ} None (Some word) = at in cc none
-  where_true false from is at = let none : ◌≡◌ {A = Option ℕ} None (Some word) = at in cc none
+  where_true true true is at = comp_by _ refl at (leb-true _ address is)
+  where_true true false is at = let none = at in cc none
+  where_true false from is at = let none = at in cc none
 
   pub in_code : word_at image c address ≡ Some word → IsInCode address word
   unfolding word_at
-  in_code at = where_true (nat_eq (address % 4) 0) (nat_le (code_start c) address) refl at
+  in_code at = where_true _ _ refl at
 
 -- an address where there is a word of code, and where an export begins
 
 is_some_at : (image : ImageParts) → IsWellFormed image → (c address : ℕ) → (word : Option ℕ) →
     word_at image c address ≡ word → IsSome word → IsWord address
-is_some_at image formed c address None at some = let never : false ≡ true = some in cc never
+is_some_at image formed c address None at some = let never = some in cc never
 is_some_at image formed c address (Some word) at some = omega (arith, (in_code image formed c address word at).next)
 
 pub code_address : (image : ImageParts) → IsWellFormed image → (c address : ℕ) → IsSome (word_at image c address) →
     IsWord address
-code_address image formed c address some = is_some_at image formed c address (word_at image c address) refl some
+code_address image formed c address some = is_some_at image formed c address _ refl some
 
 abbrev no_export : ExportPart
 no_export = record { name = []; params = 0; result = false; entry = 0 }
@@ -172,15 +170,15 @@ entry_by : (image : ImageParts) → IsWellFormed image → (c target index : ℕ
     slice_get image.comps c ≡ comp →
     position (λ export. export.entry == target) (option_map_or (λ (x : CompPart). x.exports) comp []) ≡ Some index →
     IsSome (word_at image c target)
-entry_by image formed c target index None is at = let none : ◌≡◌ {A = Option ℕ} None (Some index) = at in cc none
+entry_by image formed c target index None is at = let none = at in cc none
 entry_by image formed c target index (Some comp) is at =
-    let first = position-Some (λ (export : ExportPart). export.entry == target) comp.exports index no_export at in
+    let first = position-Some _ _ index no_export at in
     let entry = ((formed.comps c comp is).exports index no_export first.0).entry in
-    subst (λ (address : ℕ). IsSome (word_at image c address)) (eqb-true _ _ first.1) entry
+    subst (λ address. IsSome (word_at image c address)) (eqb-true _ _ first.1) entry
 
 pub entry_code : (image : ImageParts) → IsWellFormed image → (c target index : ℕ) →
     export_at image c target ≡ Some index → IsSome (word_at image c target)
-entry_code image formed c target index at = entry_by image formed c target index (slice_get image.comps c) refl at
+entry_code image formed c target index at = entry_by image formed c target index _ refl at
 
 pub entry_address : (image : ImageParts) → IsWellFormed image → (c target index : ℕ) →
     export_at image c target ≡ Some index → IsWord target
