@@ -61,19 +61,19 @@ no_quotient = by_plan alone (one_main ([]) (return 2 (two op.Div (lit 1) (lit 0)
 
 -- `return 1u % 0u;`
 pub no_remainder : Shows ([]) (return 2 (Two ty.Unsigned op.Rem (unsigned 1) (unsigned 0))) (blamed ZeroDivisor 2)
-no_remainder = by_plan alone (one_main ([]) (return 2 (Two ty.Unsigned op.Rem (unsigned 1) (unsigned 0)))) [] 4 10
+no_remainder = by_plan alone (one_main ([]) (return 2 (Two _ op.Rem (unsigned 1) (unsigned 0)))) [] 4 10
 
 -- `return 1 << 32;`
 pub count_too_big : Shows ([]) (return 2 (two op.ShiftLeft (lit 1) (lit 32))) (blamed BadShift 2)
-count_too_big = by_plan alone (one_main ([]) (return 2 (two op.ShiftLeft (lit 1) (lit 32)))) [] 4 10
+count_too_big = by_plan alone (one_main ([]) (return 2 (two _ (lit 1) (lit 32)))) [] 4 10
 
 -- `return -1 << -1;`: the count is looked at first
 pub negative_count : Shows ([]) (return 2 (two op.ShiftLeft minus_one minus_one)) (blamed BadShift 2)
-negative_count = by_plan alone (one_main ([]) (return 2 (two op.ShiftLeft minus_one minus_one))) [] 4 10
+negative_count = by_plan alone (one_main ([]) (return 2 (two _ minus_one minus_one))) [] 4 10
 
 -- `return -1 << 0;`
 pub negative_value : Shows ([]) (return 2 (two op.ShiftLeft minus_one (lit 0))) (blamed Overflow 2)
-negative_value = by_plan alone (one_main ([]) (return 2 (two op.ShiftLeft minus_one (lit 0)))) [] 4 10
+negative_value = by_plan alone (one_main ([]) (return 2 (two _ minus_one (lit 0)))) [] 4 10
 
 -- `int *p; p = 0; return *p;`
 pub null_read : Shows (pointer ∷ []) (AssignLine 3 (pointer_at 0) null (return 4 (Star ty.Int (pointer_at 0))))
@@ -96,52 +96,50 @@ index_before_null = by_plan alone (one_main (pointer ∷ [])
 -- `int *p; p = 0; return &*p == 0;`
 pub null_of_null : Shows (pointer ∷ []) (AssignLine 3 (pointer_at 0) null
     (return 4 (two op.Equal (Amp int_pointer (Star ty.Int (pointer_at 0))) null))) (returns 1)
-null_of_null = by_plan alone (one_main (pointer ∷ [])
-    (AssignLine 3 (pointer_at 0) null (return 4 (two op.Equal
-    (Amp int_pointer (Star ty.Int (pointer_at 0))) null)))) [] 4 10
+null_of_null = by_plan alone (one_main (pointer ∷ []) (AssignLine 3 (pointer_at 0) null (return 4 (two _
+    (Amp _ (Star ty.Int (pointer_at 0))) null)))) [] 4 10
 
 -- `int a; int b; return &a < &b;`
 pub two_blocks_ordered : Shows (int ∷ int ∷ []) (return 2
     (two op.Less (Amp int_pointer (local 0)) (Amp int_pointer (local 1)))) (blamed BadPointer 2)
 two_blocks_ordered = by_plan alone (one_main (int ∷ int ∷ [])
-    (return 2 (two op.Less (Amp int_pointer (local 0)) (Amp int_pointer (local 1))))) [] 4 10
+    (return 2 (two op.Less (Amp _ (local 0)) (Amp int_pointer (local 1))))) [] 4 10
 
 -- `int a; int b; return &a == &b;`
 pub two_blocks_differ : Shows (int ∷ int ∷ []) (return 2
     (two op.Equal (Amp int_pointer (local 0)) (Amp int_pointer (local 1)))) (returns 0)
 two_blocks_differ = by_plan alone (one_main (int ∷ int ∷ [])
-    (return 2 (two op.Equal (Amp int_pointer (local 0)) (Amp int_pointer (local 1))))) [] 4 10
+    (return 2 (two _ (Amp _ (local 0)) (Amp int_pointer (local 1))))) [] 4 10
 
 -- `int a; int b; return &a + 1 == &b;`: one is past its end
 pub end_compared : Shows (int ∷ int ∷ []) (return 2 (two op.Equal
     (Two int_pointer op.Add (Amp int_pointer (local 0)) (lit 1)) (Amp int_pointer (local 1)))) (blamed BadPointer 2)
-end_compared = by_plan alone (one_main (int ∷ int ∷ [])
-    (return 2 (two op.Equal (Two int_pointer op.Add (Amp int_pointer (local 0)) (lit 1))
+end_compared = by_plan alone (one_main (int ∷ int ∷ []) (return 2 (two _ (Two _ op.Add (Amp _ (local 0)) (lit 1))
     (Amp int_pointer (local 1))))) [] 4 10
 
 -- `int a; return &a + 1 - &a;`
 pub one_element : Shows (int ∷ []) (return 2 (two op.Sub (Two int_pointer op.Add (Amp int_pointer (local 0)) (lit 1))
     (Amp int_pointer (local 0)))) (returns 1)
 one_element = by_plan alone (one_main (int ∷ []) (return 2
-    (two op.Sub (Two int_pointer op.Add (Amp int_pointer (local 0)) (lit 1)) (Amp int_pointer (local 0))))) [] 4 10
+    (two op.Sub (Two _ op.Add (Amp _ (local 0)) (lit 1)) (Amp int_pointer (local 0))))) [] 4 10
 
 -- `int a; return &a + 2 == &a;`
 pub past_the_end : Shows (int ∷ []) (return 2 (two op.Equal (Two int_pointer op.Add (Amp int_pointer (local 0)) (lit 2))
     (Amp int_pointer (local 0)))) (blamed OutOfBounds 2)
 past_the_end = by_plan alone (one_main (int ∷ []) (return 2
-    (two op.Equal (Two int_pointer op.Add (Amp int_pointer (local 0)) (lit 2)) (Amp int_pointer (local 0))))) [] 4 10
+    (two _ (Two _ op.Add (Amp _ (local 0)) (lit 2)) (Amp int_pointer (local 0))))) [] 4 10
 
 -- `int x; return 0 && x;`
 pub second_not_read : Shows (int ∷ []) (return 2 (two op.AndAlso (lit 0) (local 0))) (returns 0)
-second_not_read = by_plan alone (one_main (int ∷ []) (return 2 (two op.AndAlso (lit 0) (local 0)))) [] 4 10
+second_not_read = by_plan alone (one_main (int ∷ []) (return 2 (two _ (lit 0) (local 0)))) [] 4 10
 
 -- `int x; return 1 || x;`
 pub second_not_wanted : Shows (int ∷ []) (return 2 (two op.OrElse (lit 1) (local 0))) (returns 1)
-second_not_wanted = by_plan alone (one_main (int ∷ []) (return 2 (two op.OrElse (lit 1) (local 0)))) [] 4 10
+second_not_wanted = by_plan alone (one_main (int ∷ []) (return 2 (two _ (lit 1) (local 0)))) [] 4 10
 
 -- `int x; return 1 && x;`
 pub second_read : Shows (int ∷ []) (return 2 (two op.AndAlso (lit 1) (local 0))) (blamed Indeterminate 2)
-second_read = by_plan alone (one_main (int ∷ []) (return 2 (two op.AndAlso (lit 1) (local 0)))) [] 4 10
+second_read = by_plan alone (one_main (int ∷ []) (return 2 (two _ (lit 1) (local 0)))) [] 4 10
 
 -- `return -1 < 1u;`: both are unsigned
 pub unsigned_order : Shows ([]) (return 2 (two op.Less minus_one (unsigned 1))) (returns 0)
@@ -154,12 +152,11 @@ signed_order = by_plan alone (one_main ([]) (return 2 (two op.Less minus_one (li
 -- `return -8 >> 1;`
 pub arithmetic_shift : Shows ([]) (return 2 (two op.ShiftRight (One ty.Int unary.Minus (lit 8)) (lit 1)))
     (returns 4294967292)
-arithmetic_shift = by_plan alone (one_main ([]) (return 2
-    (two op.ShiftRight (One ty.Int unary.Minus (lit 8)) (lit 1)))) [] 4 10
+arithmetic_shift = by_plan alone (one_main ([]) (return 2 (two _ (One ty.Int _ (lit 8)) (lit 1)))) [] 4 10
 
 -- `return -7 / 2;`: rounded toward zero
 pub quotient : Shows ([]) (return 2 (two op.Div (One ty.Int unary.Minus (lit 7)) (lit 2))) (returns 4294967293)
-quotient = by_plan alone (one_main ([]) (return 2 (two op.Div (One ty.Int unary.Minus (lit 7)) (lit 2)))) [] 4 10
+quotient = by_plan alone (one_main ([]) (return 2 (two op.Div (One ty.Int _ (lit 7)) (lit 2)))) [] 4 10
 
 -- the brace of `main`
 pub main_gives_zero : Shows ([]) (NoLine) (returns 0)
@@ -172,8 +169,8 @@ pub while_leaves : Shows (int ∷ []) (AssignLine 1 (local 0) (lit 0)
     (IfLine 5 (two op.Equal (local 0) (lit 4)) (BreakLine 5 NoLine) NoLine NoLine))) (return 6 (local 0)))) (returns 4)
 while_leaves = by_plan alone (one_main (int ∷ []) (AssignLine 1 (local 0) (lit 0)
     (WhileLine 2 (two op.Less (local 0) (lit 5)) (AssignLine 3 (local 0) (plus (local 0) (lit 1))
-    (IfLine 4 (two op.Equal (local 0) (lit 2)) (ContinueLine 4 NoLine) NoLine
-    (IfLine 5 (two op.Equal (local 0) (lit 4)) (BreakLine 5 NoLine) NoLine NoLine))) (return 6 (local 0))))) [] 4 10
+    (IfLine 4 (two _ (local 0) (lit 2)) (ContinueLine 4 NoLine) NoLine
+    (IfLine 5 (two _ (local 0) (lit 4)) (BreakLine 5 NoLine) NoLine NoLine))) (return 6 (local 0))))) [] 4 10
 
 -- `while (1) { }` with four turns
 pub no_turn_left : Shows ([]) (WhileLine 2 (lit 1) NoLine NoLine) (record { trace = []; end = TurnsOut })
@@ -189,8 +186,8 @@ pub for_leaves : Shows (int ∷ int ∷ []) (AssignLine 1 (local 1) (lit 0)
     (return 6 (plus (two op.Mul (local 1) (lit 10)) (local 0))))) (returns 23)
 for_leaves = by_plan alone (one_main (int ∷ int ∷ [])
     (AssignLine 1 (local 1) (lit 0) (ForLine 2 (local 0) (lit 0) (two op.Less (local 0) (lit 9)) (local 0)
-    (plus (local 0) (lit 1)) (IfLine 3 (two op.Equal (local 0) (lit 1)) (ContinueLine 3 NoLine) NoLine
-    (IfLine 4 (two op.Equal (local 0) (lit 3)) (BreakLine 4 NoLine) NoLine
+    (plus (local 0) (lit 1)) (IfLine 3 (two _ (local 0) (lit 1)) (ContinueLine 3 NoLine) NoLine
+    (IfLine 4 (two _ (local 0) (lit 3)) (BreakLine 4 NoLine) NoLine
     (AssignLine 5 (local 1) (plus (local 1) (local 0)) NoLine)))
     (return 6 (plus (two op.Mul (local 1) (lit 10)) (local 0)))))) [] 4 10
 
@@ -212,9 +209,8 @@ initialiser = by_plan alone (one_main (record { ty = ty.Int; init = Some (lit 4)
 -- `int a[2]; a[1] = 3; return *(a + 1);`
 pub array_is_a_pointer : Shows (slot (ints 2) ∷ []) (AssignLine 3 (At ty.Int (Var (ints 2) (Local 0)) (lit 1)) (lit 3)
     (return 4 (Star ty.Int (Two int_pointer op.Add (Var (ints 2) (Local 0)) (lit 1))))) (returns 3)
-array_is_a_pointer = by_plan alone (one_main (slot (ints 2) ∷ [])
-    (AssignLine 3 (At ty.Int (Var (ints 2) (Local 0)) (lit 1)) (lit 3)
-    (return 4 (Star ty.Int (Two int_pointer op.Add (Var (ints 2) (Local 0)) (lit 1)))))) [] 4 10
+array_is_a_pointer = by_plan alone (one_main (slot (ints 2) ∷ []) (AssignLine 3 (At ty.Int (Var _ _) (lit 1)) (lit 3)
+    (return 4 (Star ty.Int (Two _ op.Add (Var _ _) (lit 1)))))) [] 4 10
 
 -- a sum by recursion: `int sum(int n) { int r; if (n == 0) { return 0; } r = sum(n - 1); return r + n; }` and `return
 -- sum(3);`
@@ -283,7 +279,7 @@ third_input_is_zero = by_plan reader three_inputs (4294967291 ∷ 3 ∷ []) 0 10
 -- where C leaves an operator undefined, the wrapped meaning goes on with a word
 pub shift_wraps : wrapped (program alone (one_main [] (return 2 (two op.ShiftLeft minus_one (lit 33))))) [] 0 10 ≡
     returns 4294967294
-shift_wraps = wrapped_by_plan alone (one_main [] (return 2 (two op.ShiftLeft minus_one (lit 33)))) [] 0 10
+shift_wraps = wrapped_by_plan alone (one_main [] (return 2 (two _ minus_one (lit 33)))) [] 0 10
 
 pub quotient_by_zero : wrapped (program alone (one_main [] (return 2 (two op.Div (lit 5) (lit 0))))) [] 0 10 ≡
     returns 4294967295

@@ -18,7 +18,7 @@ module _ (A B : Type 0) (kind_step : TypedKind-F A B → A) (expr_step : TypedEx
   pub expr_at : (ty : Ty) (k : TypedKind-F TypedKind TypedExpr) →
       fold-TypedExpr A B kind_step expr_step (typed ty k) ≡ expr_step (record { ty = ty; kind = term_of k })
   expr_at ty k =
-      fold-roll-TypedExpr A B kind_step expr_step (record { ty = ty; kind = roll-TypedKind k })
+      fold-roll-TypedExpr A B _ _ _
       ∙ ap (λ x. expr_step (record { ty = ty; kind = x })) (fold-roll-TypedKind A B kind_step expr_step k)
 
 -- a statement on a line, by its layer
@@ -34,5 +34,5 @@ module _ (A B : Type 0) (kind_step : TypedStmtKind-F A B → A) (stmt_step : Typ
   pub stmt_at : (line : ℕ) (k : TypedStmtKind-F TypedStmtKind TypedStmt) →
       fold-TypedStmt A B kind_step stmt_step (on_line line k) ≡ stmt_step (record { line = line; kind = layer_of k })
   stmt_at line k =
-      fold-roll-TypedStmt A B kind_step stmt_step (record { line = line; kind = roll-TypedStmtKind k })
+      fold-roll-TypedStmt A B _ _ _
       ∙ ap (λ x. stmt_step (record { line = line; kind = x })) (fold-roll-TypedStmtKind A B kind_step stmt_step k)

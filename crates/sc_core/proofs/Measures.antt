@@ -25,21 +25,21 @@ module _ (A B : Type 0) (kind : TypedKind-F A B → A) (of : TypedExpr-F A B →
   shape_fold (Amp ty a) = of (record { ty = ty; kind = kind (term.Address (shape_fold a)) })
 
   pub shape_fold_is : (a : Shape) → fold-TypedExpr A B kind of (expr a) ≡ shape_fold a
-  shape_fold_is (Lit ty word) = expr_at A B kind of ty (term.Literal word)
-  shape_fold_is (Var ty v) = expr_at A B kind of ty (term.Variable v)
-  shape_fold_is (One ty o a) = expr_at A B kind of ty (term.Unary o (expr a)) ∙
+  shape_fold_is (Lit ty word) = expr_at A B kind of ty _
+  shape_fold_is (Var ty v) = expr_at A B kind of ty _
+  shape_fold_is (One ty o a) = expr_at A B kind of ty _ ∙
       (λ j. of (record { ty = ty; kind = kind (term.Unary o (shape_fold_is a j)) }))
-  shape_fold_is (Two ty o a b) = expr_at A B kind of ty (term.Binary o (expr a) (expr b)) ∙
+  shape_fold_is (Two ty o a b) = expr_at A B kind of ty _ ∙
       (λ j. of (record { ty = ty; kind = kind (term.Binary o (shape_fold_is a j) (shape_fold_is b j)) }))
-  shape_fold_is (At ty a b) = expr_at A B kind of ty (term.Index (expr a) (expr b)) ∙
+  shape_fold_is (At ty a b) = expr_at A B kind of ty _ ∙
       (λ j. of (record { ty = ty; kind = kind (term.Index (shape_fold_is a j) (shape_fold_is b j)) }))
-  shape_fold_is (Dot ty a offset) = expr_at A B kind of ty (term.Member (expr a) offset) ∙
+  shape_fold_is (Dot ty a offset) = expr_at A B kind of ty _ ∙
       (λ j. of (record { ty = ty; kind = kind (term.Member (shape_fold_is a j) offset) }))
-  shape_fold_is (Arrow ty a offset) = expr_at A B kind of ty (term.Arrow (expr a) offset) ∙
+  shape_fold_is (Arrow ty a offset) = expr_at A B kind of ty _ ∙
       (λ j. of (record { ty = ty; kind = kind (term.Arrow (shape_fold_is a j) offset) }))
-  shape_fold_is (Star ty a) = expr_at A B kind of ty (term.Deref (expr a)) ∙
+  shape_fold_is (Star ty a) = expr_at A B kind of ty _ ∙
       (λ j. of (record { ty = ty; kind = kind (term.Deref (shape_fold_is a j)) }))
-  shape_fold_is (Amp ty a) = expr_at A B kind of ty (term.Address (expr a)) ∙
+  shape_fold_is (Amp ty a) = expr_at A B kind of ty _ ∙
       (λ j. of (record { ty = ty; kind = kind (term.Address (shape_fold_is a j)) }))
 
   pub shapes_are : (args : List Shape) → map (fold-TypedExpr A B kind of) (map expr args) ≡ map shape_fold args
@@ -50,10 +50,10 @@ abbrev pub shape_height : Shape → ℕ
 shape_height = shape_fold ℕ ℕ term_height (λ e. e.kind)
 
 pub height_is : (a : Shape) → expr_height (expr a) ≡ shape_height a
-height_is = shape_fold_is ℕ ℕ term_height (λ e. e.kind)
+height_is = shape_fold_is ℕ ℕ _ _
 
 heights_are : (args : List Shape) → map expr_height (map expr args) ≡ map shape_height args
-heights_are = shapes_are ℕ ℕ term_height (λ e. e.kind)
+heights_are = shapes_are ℕ ℕ _ _
 
 abbrev pub lines_high : Lines → List ℕ
 lines_high NoLine = []
@@ -91,7 +91,7 @@ lines_high_are (IfLine line c x y rest) = λ i. (stmt_at _ _ kind_height (λ s. 
     (max (height_is c j) (max (highest (lines_high_are x j)) (highest (lines_high_are y j)))))) i ∷
     lines_high_are rest i
 lines_high_are (WhileLine line c x rest) = λ i. (stmt_at _ _ kind_height (λ s. suc s.kind) line
-    (layer.While (expr c) (stmts x)) ∙ (λ j. suc (max (height_is c j) (highest (lines_high_are x j))))) i ∷
+    (layer.While _ (stmts x)) ∙ (λ j. suc (max (height_is c j) (highest (lines_high_are x j))))) i ∷
     lines_high_are rest i
 lines_high_are (ForLine line p e c q f x rest) = λ i.
     (stmt_at _ _ kind_height (λ s. suc s.kind) line (layer.For (part line p e) (expr c) (part line q f) (stmts x)) ∙
@@ -113,10 +113,10 @@ abbrev pub shape_nodes : Shape → ℕ
 shape_nodes = shape_fold ℕ ℕ term_nodes (λ e. e.kind)
 
 pub nodes_is : (a : Shape) → expr_nodes (expr a) ≡ shape_nodes a
-nodes_is = shape_fold_is ℕ ℕ term_nodes (λ e. e.kind)
+nodes_is = shape_fold_is ℕ ℕ _ _
 
 nodes_are : (args : List Shape) → map expr_nodes (map expr args) ≡ map shape_nodes args
-nodes_are = shapes_are ℕ ℕ term_nodes (λ e. e.kind)
+nodes_are = shapes_are ℕ ℕ _ _
 
 abbrev pub lines_nodes : Lines → List ℕ
 lines_nodes NoLine = []
@@ -152,8 +152,7 @@ lines_nodes_are (IfLine line c x y rest) = λ i. (stmt_at _ _ kind_nodes (λ s. 
     (layer.If (expr c) (stmts x) (stmts y)) ∙ (λ j. suc
     ((nodes_is c j) + total (lines_nodes_are x j) + total (lines_nodes_are y j)))) i ∷ lines_nodes_are rest i
 lines_nodes_are (WhileLine line c x rest) = λ i. (stmt_at _ _ kind_nodes (λ s. s.kind) line
-    (layer.While (expr c) (stmts x)) ∙ (λ j. suc ((nodes_is c j) + total (lines_nodes_are x j)))) i ∷
-    lines_nodes_are rest i
+    (layer.While _ (stmts x)) ∙ (λ j. suc ((nodes_is c j) + total (lines_nodes_are x j)))) i ∷ lines_nodes_are rest i
 lines_nodes_are (ForLine line p e c q f x rest) = λ i.
     (stmt_at _ _ kind_nodes (λ s. s.kind) line (layer.For (part line p e) (expr c) (part line q f) (stmts x)) ∙
     (λ j. suc (suc ((nodes_is p j) + (nodes_is e j)) + (nodes_is c j) + suc ((nodes_is q j) + (nodes_is f j)) + total
@@ -165,7 +164,7 @@ lines_nodes_are (ContinueLine line rest) = λ i. (stmt_at _ _ kind_nodes (λ s. 
 lines_nodes_are (ReturnLine line rest) = λ i. (stmt_at _ _ kind_nodes (λ s. s.kind) line (layer.Return) ∙ (λ j. 1)) i ∷
     lines_nodes_are rest i
 lines_nodes_are (ReturnValueLine line e rest) = λ i. (stmt_at _ _ kind_nodes (λ s. s.kind) line
-    (layer.ReturnValue (expr e)) ∙ (λ j. suc (nodes_is e j))) i ∷ lines_nodes_are rest i
+    (layer.ReturnValue _) ∙ (λ j. suc (nodes_is e j))) i ∷ lines_nodes_are rest i
 lines_nodes_are (ReturnCallLine line target args rest) =
     λ i. (stmt_at _ _ kind_nodes (λ s. s.kind) line (layer.ReturnCall (call_of target args)) ∙
     (λ j. suc (total (nodes_are args j)))) i ∷ lines_nodes_are rest i
@@ -175,10 +174,10 @@ module _ (scope : Scope) (callable : Callable) (result : Option Ty) where
   judge = shape_fold (Ty → Judged) Judged (term_judged scope) (λ e. e.kind e.ty)
 
   pub judge_is : (a : Shape) → judged scope (expr a) ≡ judge a
-  judge_is = shape_fold_is (Ty → Judged) Judged (term_judged scope) (λ e. e.kind e.ty)
+  judge_is = shape_fold_is _ Judged _ _
 
   judges_are : (args : List Shape) → map (judged scope) (map expr args) ≡ map judge args
-  judges_are = shapes_are (Ty → Judged) Judged (term_judged scope) (λ e. e.kind e.ty)
+  judges_are = shapes_are _ Judged _ _
 
   abbrev pub lines_fit : Lines → List (Bool → Bool)
   lines_fit NoLine = []

@@ -171,12 +171,11 @@ store_scripted_wrapped_depth =
 -- a script whose next row names another function, and one with no row left
 pub wrong_row : scripted_meaning (program reentry_interfaces reentry) (λ comp. comp == 1)
     (Call 0 1 1 (2 ∷ []) ∷ Ret 1 0 (Some 3) ∷ []) [] 9 8 ≡ record { trace = Call 0 1 0 (2 ∷ []) ∷ []; end = TurnsOut }
-wrong_row = scripted_by_plan reentry_interfaces reentry (λ comp. comp == 1)
-    (Call 0 1 1 (2 ∷ []) ∷ Ret 1 0 (Some 3) ∷ []) [] 9 8
+wrong_row = scripted_by_plan reentry_interfaces reentry (λ comp. comp == 1) (Call 0 1 1 _ ∷ Ret 1 0 _ ∷ []) [] 9 8
 
 pub no_row : scripted_meaning (program reentry_interfaces reentry) (λ comp. comp == 1)
     (Call 0 1 0 (2 ∷ []) ∷ []) [] 9 8 ≡ record { trace = Call 0 1 0 (2 ∷ []) ∷ []; end = TurnsOut }
-no_row = scripted_by_plan reentry_interfaces reentry (λ comp. comp == 1) (Call 0 1 0 (2 ∷ []) ∷ []) [] 9 8
+no_row = scripted_by_plan reentry_interfaces reentry (λ comp. comp == 1) (Call 0 1 0 _ ∷ []) [] 9 8
 
 -- the bytes that code takes at most, by the nodes of each function
 code_of_two : code_bound (10 ∷ 5 ∷ []) ≡ 1440

@@ -3,7 +3,7 @@
 use Rattle.sc_core.proofs.Common.{Acts, Arith, BinaryOp, Break, CallTarget, Calls, Continue, Here, List, Meant, Next}
 use Rattle.sc_core.proofs.Common.{None, Option, Return, Some, Ty, TypedExpr, TypedStmt, TypedStruct, UnaryOp, Ways, []}
 use Rattle.sc_core.proofs.Common.{all_do, and_then, ap, assign, assign_call, call, call_alone, choose, evaluated}
-use Rattle.sc_core.proofs.Common.{follow, in_order, kind_step, leave, loop, map, meant, meant_step, refl, stmt_does}
+use Rattle.sc_core.proofs.Common.{follow, in_order, kind_step, leave, loop, map, meant, refl, stmt_does}
 use Rattle.sc_core.proofs.Common.{stmt_step, term_step, test, ways, ℕ, ◌∙◌, ◌∷◌, ◌≡◌}
 use Rattle.sc_core.specs.declared.expr.TypedKind.TheOpen as term
 use Rattle.sc_core.specs.declared.expr.VarRef.{VarRef}
@@ -104,39 +104,35 @@ module _ (arith : Arith) (structs : List TypedStruct) (here : Here) (params : �
   way a = (sense a).way
 
   pub sense_is : (a : Shape) → meant arith structs here params (expr a) ≡ sense a
-  sense_is (Lit ty word) = expr_at _ _ (term_step arith structs here params) meant_step ty (term.Literal word)
-  sense_is (Var ty v) = expr_at _ _ (term_step arith structs here params) meant_step ty (term.Variable v)
+  sense_is (Lit ty word) = expr_at _ _ _ _ ty _
+  sense_is (Var ty v) = expr_at _ _ _ _ ty _
   sense_is (One ty o a) =
-      expr_at _ _ (term_step arith structs here params) meant_step ty (term.Unary o (expr a))
+      expr_at _ _ _ _ ty _
       ∙ ap (λ m. record { ty = ty; way = term_step arith structs here params (term.Unary o m) ty }) (sense_is a)
   sense_is (Two ty o a b) =
-      expr_at _ _ (term_step arith structs here params) meant_step ty (term.Binary o (expr a) (expr b))
-      ∙ ap (λ m. record {
+      expr_at _ _ _ _ ty _ ∙ ap (λ m. record {
         ty = ty;
-        way = term_step arith structs here params
-            (term.Binary o m (meant arith structs here params (expr b))) ty;
+        way = term_step arith structs here params (term.Binary o m (meant arith structs here params (expr b))) ty;
       }) (sense_is a)
       ∙ ap (λ m. record { ty = ty; way = term_step arith structs here params (term.Binary o (sense a) m) ty })
       (sense_is b)
   sense_is (At ty a b) =
-      expr_at _ _ (term_step arith structs here params) meant_step ty (term.Index (expr a) (expr b))
-      ∙ ap (λ m. record {
+      expr_at _ _ _ _ ty _ ∙ ap (λ m. record {
         ty = ty;
-        way = term_step arith structs here params
-            (term.Index m (meant arith structs here params (expr b))) ty;
+        way = term_step arith structs here params (term.Index m (meant arith structs here params (expr b))) ty;
       }) (sense_is a)
       ∙ ap (λ m. record { ty = ty; way = term_step arith structs here params (term.Index (sense a) m) ty }) (sense_is b)
   sense_is (Dot ty a offset) =
-      expr_at _ _ (term_step arith structs here params) meant_step ty (term.Member (expr a) offset)
+      expr_at _ _ _ _ ty _
       ∙ ap (λ m. record { ty = ty; way = term_step arith structs here params (term.Member m offset) ty }) (sense_is a)
   sense_is (Arrow ty a offset) =
-      expr_at _ _ (term_step arith structs here params) meant_step ty (term.Arrow (expr a) offset)
+      expr_at _ _ _ _ ty _
       ∙ ap (λ m. record { ty = ty; way = term_step arith structs here params (term.Arrow m offset) ty }) (sense_is a)
   sense_is (Star ty a) =
-      expr_at _ _ (term_step arith structs here params) meant_step ty (term.Deref (expr a))
+      expr_at _ _ _ _ ty _
       ∙ ap (λ m. record { ty = ty; way = term_step arith structs here params (term.Deref m) ty }) (sense_is a)
   sense_is (Amp ty a) =
-      expr_at _ _ (term_step arith structs here params) meant_step ty (term.Address (expr a))
+      expr_at _ _ _ _ ty _
       ∙ ap (λ m. record { ty = ty; way = term_step arith structs here params (term.Address m) ty }) (sense_is a)
 
   pub way_is : (a : Shape) → ways arith structs here params (expr a) ≡ way a
@@ -207,7 +203,7 @@ module _ (arith : Arith) (structs : List TypedStruct) (here : Here) (params : �
     lines_are (ReturnLine line rest) = λ i. stmt_at _ _
         (kind_step arith structs here params calls) stmt_step line layer.Return i ∷ lines_are rest i
     lines_are (ReturnValueLine line e rest) = λ i.
-        (stmt_at _ _ (kind_step arith structs here params calls) stmt_step line (layer.ReturnValue (expr e))
+        (stmt_at _ _ (kind_step arith structs here params calls) stmt_step line (layer.ReturnValue _)
         ∙ (λ j a s. and_then (evaluated here want.Value (way_is e j) line s) (λ v s. leave (Return (Some v)) a s))) i ∷
         lines_are rest i
     lines_are (ReturnCallLine line target args rest) = λ i.

@@ -1,11 +1,11 @@
 -- Which programs of plans are well typed.
 use Rattle.sc_core.proofs.Common.{Bool, Callable, Input, Interface, Interfaces, List, None, Option, Own, Scope, Some}
-use Rattle.sc_core.proofs.Common.{Ty, TypedSection, TypedStmt, [], ap, callable_in, codes, decl_count, false}
+use Rattle.sc_core.proofs.Common.{Ty, TypedSection, TypedStmt, [], ap, callable_in, decl_count, false}
 use Rattle.sc_core.proofs.Common.{function_fits, global_fits, goes_into, has_distinct_names, has_few_compartments}
 use Rattle.sc_core.proofs.Common.{has_main, has_one_main, init_fits, init_height, interface_fits, is_well_typed, length}
 use Rattle.sc_core.proofs.Common.{list_all, local_fits, map, most_height, most_nodes, most_params, nat_le, nodes}
-use Rattle.sc_core.proofs.Common.{params_fit, refl, result_fits, scope_of, section_fits, sections_fit, slice_get}
-use Rattle.sc_core.proofs.Common.{stmt_fits, stmt_height, structs_fit, suc, total, true, variable_fits, ℕ, ◌&&◌, ◌==◌}
+use Rattle.sc_core.proofs.Common.{params_fit, refl, result_fits, scope_of, section_fits, sections_fit}
+use Rattle.sc_core.proofs.Common.{stmt_fits, stmt_height, structs_fit, suc, total, true, variable_fits, ℕ, ◌&&◌}
 use Rattle.sc_core.proofs.Common.{◌∙◌, ◌∷◌, ◌≡◌}
 use Rattle.sc_base.specs.Prelude.{all_hold}
 use Rattle.sc_core.proofs.Shapes.{Shape, Lines, stmts, NoLine, BreakLine, CallLine, AssignLine}
@@ -65,8 +65,8 @@ module _ (scope : Scope) (callable : Callable) where
       (λ s. stmt_fits scope callable result s false) (stmts body) ≡
       list_all {X = Bool → Bool} (λ s. s false) (lines_fit scope callable result body)
   body_is result body =
-      all_of_map {Y = Bool → Bool} (λ s. s false) (stmt_fits scope callable result) (stmts body) ∙
-      ap (λ fits. list_all {X = Bool → Bool} (λ s. s false) fits) (lines_fit_are scope callable result body)
+      all_of_map (λ s. s false) (stmt_fits scope callable result) (stmts body) ∙
+      ap (λ fits. list_all (λ s. s false) fits) (lines_fit_are scope callable result body)
 
 heights_is : (body : Lines) → list_all {X = TypedStmt} (λ s. nat_le (stmt_height s) most_height) (stmts body) ≡
     list_all (λ h. nat_le h most_height) (lines_high body)
@@ -241,7 +241,7 @@ no_input = typed_by_plan alone (one_main [] (CallLine 2 Input [] NoLine))
 
 -- `main(1);`
 pub no_argument_of_main : is_well_typed (program alone (one_main [] (CallLine 2 (Own 0) (lit 1 ∷ []) NoLine))) ≡ false
-no_argument_of_main = typed_by_plan alone (one_main [] (CallLine 2 (Own 0) (lit 1 ∷ []) NoLine))
+no_argument_of_main = typed_by_plan alone (one_main [] (CallLine 2 _ (lit 1 ∷ []) NoLine))
 
 -- no section defines `main`
 pub no_main : is_well_typed (program alone (record { structs = []; globals = []; plans = [] } ∷ [])) ≡ false
