@@ -44,7 +44,7 @@ then_passes {before} {middle} {after} {p} {q} {r} h k =
           let a = h.passes n s shows in
           let b = k.passes n a.0 a.1 in
           (b.0, b.1, a.2 ∙ b.2);
-      fewer = at_most before.turns middle.turns after.turns h.fewer k.fewer;
+      fewer = at_most _ _ _ h.fewer k.fewer;
     }
 
 -- the same, told otherwise
@@ -106,7 +106,7 @@ module _ (program : ProgramTree) (work : List Work) (f : Frame) (step : Step) (a
         open_calls = st.open_calls;
         state = a.0;
         shows = a.1;
-        enough = enough_left st.state.turns before.turns a.0.turns middle.turns st.open_calls
+        enough = enough_left st.state.turns _ _ _ _
             (ap (λ x. x.turns) st.shows) (ap (λ x. x.turns) a.1) h.fewer st.enough;
         rest = ap (λ x. (resume program st.open_calls (reverse work) f x).behaviour) (sym a.2) ∙ st.rest;
       }
@@ -132,22 +132,19 @@ module _ (f : Frame) (place value : TypedExpr) (line : ℕ) (seen : Seen) (memor
       PassesIf b seen (with_memory seen memory) assigning ended_so
   assigned_passes false h = ap (λ m. with_memory seen m) h
   assigned_passes true h =
-      passes_to_end seen (with_memory seen memory) (λ s. assigning 0 s)
-      (then_goes seen seen (with_memory seen memory) h.given (with_exit {V = Unit {0}} Next (Ok tt))
+      passes_to_end seen _ _ (then_goes seen seen _ h.given _
       (evaluated (here_of f.scope) want.Value (way_in f value) line)
       (λ v s. store_at (here_of f.scope) (way_in f place) v line tt s)
-      (computed_comes (here_of f.scope) line (λ bs. way_in f value want.Value bs)
-      (way_same f.scope.structs.now (here_of f.scope) f.scope.params value want.Value) seen h.given (sym h.is))
-      (then_goes seen seen (with_memory seen memory) h.put.at (with_exit {V = Unit {0}} Next (Ok tt))
+      (computed_comes (here_of f.scope) line (λ bs. way_in f value _ bs)
+      (way_same _ (here_of f.scope) _ value _) seen h.given (sym h.is)) (then_goes seen seen _ h.put.at _
       (evaluated (here_of f.scope) want.Place (way_in f place) line)
       (λ q s. stored (here_of f.scope) q h.given line tt s)
-      (computed_comes (here_of f.scope) line (λ bs. way_in f place want.Place bs)
-      (way_same f.scope.structs.now (here_of f.scope) f.scope.params place want.Place) seen h.put.at
-      (sym h.put.found))
-      (stored_ok (here_of f.scope) h.put.at h.given line seen memory h.put.stored.is h.put.stored.others)))
+      (computed_comes (here_of f.scope) line (λ bs. way_in f place _ bs)
+      (way_same _ (here_of f.scope) _ place _) seen _ (sym h.put.found))
+      (stored_ok (here_of f.scope) _ h.given line seen memory h.put.stored.is h.put.stored.others)))
 
 pub rest_at : {A : Type 0} (n : ℕ) (xs : List A) → take (length xs - n) (drop n xs) ≡ drop n xs
-rest_at n xs = take_all (length xs - n) (drop n xs) (omega (arith, length-drop n xs))
+rest_at n xs = take_all _ _ (omega (arith, length-drop n xs))
 
 pub none_in : (xs : List TypedStmt) (b : Bool) → b ≡ (length xs == 0) → b ≡ true → xs ≡ []
 none_in [] b is empty = refl
@@ -165,15 +162,14 @@ module _ (program : ProgramTree) (f : Frame) where
 
   pub empty_done : (stmt : TypedStmt) (seen : Seen) → stmt.kind ≡ roll-TypedStmtKind layer.Empty →
       Passes seen seen (λ n. stmt_acts program n f stmt tt) ended_so
-  empty_done stmt seen is = passes_as (stmt_by stmt) (stmt_is program f stmt layer.Empty is) (stays_so seen ended_so)
+  empty_done stmt seen is = passes_as _ (stmt_is program f stmt _ is) (stays_so seen _)
 
   pub assign_done : (stmt : TypedStmt) (ref place e : TypedExpr) (b : Bool) (before after : Seen) →
       stmt.kind ≡ roll-TypedStmtKind (layer.Assign place e) → ref ≡ place →
       PassesIf b before after (λ n. assign (here_of f.scope) (way_in f ref) (way_in f e) stmt.line tt) ended_so →
       PassesIf b before after (λ n. stmt_acts program n f stmt tt) ended_so
   assign_done stmt ref place e b before after is same h =
-      passes_if_as b before after (stmt_by stmt) (assigned_by ref e stmt.line) ended_so
-      (λ n s. stmt_is program f stmt (layer.Assign place e) is n s ∙
+      passes_if_as b before after _ _ _ (λ n s. stmt_is program f stmt _ is n s ∙
       ap (λ x. assigned_by x e stmt.line n s) (sym same)) h
 
   -- one more statement
@@ -185,11 +181,11 @@ module _ (program : ProgramTree) (f : Frame) where
       Passes before after (λ n s. block_acts program n f stmts tt s)
       (λ n s. block_acts program n f (drop (at + 1) stmts) tt s)
   one_more stmts at stmt before middle after there item h k =
-      then_passes h (passes_as (block_by (drop at stmts))
+      then_passes h (passes_as _
       (λ n s. ap (λ xs. block_by xs n s) (drop-step stmts at stmt there item)) (next_one k)) where
         next_one : Passes middle after (λ n. stmt_acts program n f stmt tt) ended_so →
             Passes middle after (block_by (stmt ∷ drop (at + 1) stmts)) (block_by (drop (at + 1) stmts))
-        next_one k = passes_follow in_order (λ n. block_acts program n f (drop (at + 1) stmts)) k
+        next_one k = passes_follow in_order _ k
 
   pub all_done : (stmts : List TypedStmt) (at : ℕ) (before after : Seen) → length stmts ≤ at →
       Passes before after (λ n s. block_acts program n f stmts tt s)
@@ -198,7 +194,7 @@ module _ (program : ProgramTree) (f : Frame) where
       (λ n s. block_acts program n f (drop (length stmts) stmts) tt s)
   all_done stmts at before after le h =
       subst (λ xs. Passes before after (block_by stmts) (block_by xs))
-      (drop_all at stmts le ∙ sym (drop_all (length stmts) stmts (omega arith))) h
+      (drop_all at stmts le ∙ sym (drop_all _ stmts (omega arith))) h
 
   -- the statements that a condition chooses
   choosing : (stmt : TypedStmt) (cond : TypedExpr) (x y : List TypedStmt) (v : Value) (seen : Seen) →
@@ -206,11 +202,11 @@ module _ (program : ProgramTree) (f : Frame) where
       Ok v ≡ way_in f cond want.Value (seen.memory f.scope.comp.now) →
       Passes seen seen (λ n. stmt_acts program n f stmt tt) (λ n s. choose v (block_by x n s) (block_by y n s))
   choosing stmt cond x y v seen is gives =
-      passes_as (stmt_by stmt) (stmt_is program f stmt (layer.If cond x y) is)
+      passes_as _ (stmt_is program f stmt _ is)
       (passes_by seen seen v (evaluated (here_of f.scope) want.Value (way_in f cond) stmt.line)
       (λ n v s. choose v (block_by x n s) (block_by y n s))
-      (computed_comes (here_of f.scope) stmt.line (λ bs. way_in f cond want.Value bs)
-      (way_same f.scope.structs.now (here_of f.scope) f.scope.params cond want.Value) seen v gives))
+      (computed_comes (here_of f.scope) stmt.line (λ bs. way_in f cond _ bs)
+      (way_same _ (here_of f.scope) _ cond _) seen v gives))
 
   pub first_chosen : (stmt : TypedStmt) (cond : TypedExpr) (x y part : List TypedStmt) (v : Value) (seen : Seen) →
       stmt.kind ≡ roll-TypedStmtKind (layer.If cond x y) →
@@ -218,10 +214,9 @@ module _ (program : ProgramTree) (f : Frame) where
       is_true v ≡ true → part ≡ x →
       Passes seen seen (λ n. stmt_acts program n f stmt tt) (λ n. block_acts program n f part tt)
   first_chosen stmt cond x y part v seen is gives holds same =
-      then_passes (choosing stmt cond x y v seen is gives)
-      (passes_as (λ n s. choose v (block_by x n s) (block_by y n s))
+      then_passes (choosing stmt cond x y v seen is gives) (passes_as _
       (λ n s. ap (λ b. if b then block_by x n s else block_by y n s) holds ∙ ap (λ xs. block_by xs n s) (sym same))
-      (stays_so seen (block_by part)))
+      (stays_so seen _))
 
   pub second_chosen : (stmt : TypedStmt) (cond : TypedExpr) (x y part : List TypedStmt) (v : Value) (seen : Seen) →
       stmt.kind ≡ roll-TypedStmtKind (layer.If cond x y) →
@@ -229,10 +224,9 @@ module _ (program : ProgramTree) (f : Frame) where
       is_true v ≡ false → part ≡ y →
       Passes seen seen (λ n. stmt_acts program n f stmt tt) (λ n. block_acts program n f part tt)
   second_chosen stmt cond x y part v seen is gives fails same =
-      then_passes (choosing stmt cond x y v seen is gives)
-      (passes_as (λ n s. choose v (block_by x n s) (block_by y n s))
+      then_passes (choosing stmt cond x y v seen is gives) (passes_as _
       (λ n s. ap (λ b. if b then block_by x n s else block_by y n s) fails ∙ ap (λ xs. block_by xs n s) (sym same))
-      (stays_so seen (block_by part)))
+      (stays_so seen _))
 
   -- what is left of the part that was chosen
   pub part_left : (before middle after : Seen) (stmt : TypedStmt) (part : List TypedStmt) (count : ℕ) →
@@ -255,9 +249,8 @@ module _ (program : ProgramTree) (f : Frame) where
       Passes before after (λ n s. block_acts program n f stmts tt s)
       (λ n s. follow in_order (block_acts program n f part tt s) (block_acts program n f (drop (at + 1) stmts)))
   within_one stmts part at stmt before middle after there item h k =
-      then_passes h (passes_as (block_by (drop at stmts))
-      (λ n s. ap (λ xs. block_by xs n s) (drop-step stmts at stmt there item))
-      (passes_follow in_order (λ n. block_acts program n f (drop (at + 1) stmts)) k))
+      then_passes h (passes_as _ (λ n s. ap (λ xs. block_by xs n s) (drop-step stmts at stmt there item))
+      (passes_follow in_order (λ n. block_acts program n f _) k))
 
   pub one_over : (stmts part : List TypedStmt) (at : ℕ) (stmt : TypedStmt) (before middle after : Seen) → part ≡ [] →
       at < length stmts → stmt ≡ get_or stmts at stmt →
@@ -275,8 +268,7 @@ module _ (program : ProgramTree) (f : Frame) where
       (λ n s. block_acts program n f (drop at stmts) tt s) →
       Passes before after (λ n s. block_acts program n f stmts tt s) (λ n s. leave Next tt s)
   none_behind stmts at before after le h =
-      then_passes h (passes_as (block_by (drop at stmts)) (λ n s. ap (λ xs. block_by xs n s) (drop_all at stmts le))
-      (stays_so after (block_by [])))
+      then_passes h (passes_as _ (λ n s. ap (λ xs. block_by xs n s) (drop_all at stmts le)) (stays_so after _))
 
   -- control leaves a function
   pub value_leaves : (stmt : TypedStmt) (ref : TypedExpr) (e : TypedExpr) (v : Value) (seen : Seen) →
@@ -284,13 +276,11 @@ module _ (program : ProgramTree) (f : Frame) where
       Ok v ≡ way_in f ref want.Value (seen.memory f.scope.comp.now) → (rest : List TypedStmt) →
       Passes seen seen (λ n s. block_acts program n f (stmt ∷ rest) tt s) (λ n s. leave (Return (Some v)) tt s)
   value_leaves stmt ref e v seen is same gives rest =
-      passes_as (block_by (stmt ∷ rest)) (λ n s. ap (λ p. follow in_order p (block_acts program n f rest))
-      (stmt_is program f stmt (layer.ReturnValue e) is n s))
+      passes_as _ (λ n s. ap (λ p. follow in_order p (block_acts program n f rest)) (stmt_is program f stmt _ is n s))
       (passes_follow in_order (λ n. block_acts program n f rest)
       (passes_by seen seen v (evaluated (here_of f.scope) want.Value (way_in f e) stmt.line)
-      (λ n v s. leave (Return (Some v)) tt s)
-      (computed_comes (here_of f.scope) stmt.line (λ bs. way_in f e want.Value bs)
-      (way_same f.scope.structs.now (here_of f.scope) f.scope.params e want.Value) seen v
+      (λ n v s. leave (Return _) tt s) (computed_comes (here_of f.scope) stmt.line (λ bs. way_in f e _ bs)
+      (way_same _ (here_of f.scope) _ e _) seen v
       (subst (λ x. Ok v ≡ way_in f x want.Value (seen.memory f.scope.comp.now)) same gives))))
 
   pub first_leaves : (stmts : List TypedStmt) (stmt : TypedStmt) (exit : Exit) (seen : Seen) → 1 ≤ length stmts →
@@ -298,8 +288,7 @@ module _ (program : ProgramTree) (f : Frame) where
       Passes seen seen (λ n s. block_acts program n f (stmt ∷ rest) tt s) (λ n s. leave exit tt s)) →
       Passes seen seen (λ n s. block_acts program n f stmts tt s) (λ n s. leave exit tt s)
   first_leaves stmts stmt exit seen le item h =
-      passes_as (block_by stmts) (λ n s. ap (λ xs. block_by xs n s) (first_and_rest stmts stmt le item))
-      (h (drop 1 stmts))
+      passes_as _ (λ n s. ap (λ xs. block_by xs n s) (first_and_rest stmts stmt le item)) (h (drop 1 stmts))
 
   -- a part in the head of a `for`
   abbrev part_by : TypedSimple → Doing
@@ -311,7 +300,7 @@ module _ (program : ProgramTree) (f : Frame) where
       PassesIf b before after (λ n. simple_does c_arith f.scope.structs.now (here_of f.scope) f.scope.params
       (calls_in program n) part.kind part.line tt) ended_so
   part_assigned part ref place e b before after is same h =
-      passes_if_as b before after (part_by part) (assigned_by ref e part.line) ended_so
+      passes_if_as b before after _ _ ended_so
       (λ n s. ap (λ k. simple_does c_arith f.scope.structs.now (here_of f.scope) f.scope.params
       (calls_in program n) k part.line tt s) is ∙ ap (λ x. assigned_by x e part.line n s) (sym same)) h
 
@@ -324,30 +313,25 @@ module _ (program : ProgramTree) (f : Frame) where
 
     pub no_next : (seen : Seen) → option_copied l.next ≡ None →
         Passes seen seen (λ n. next_acts program n f l tt) ended_so
-    no_next seen is = passes_as next_by (λ n s. ap (λ o. part_acts program n f o tt s) is) (stays_so seen ended_so)
+    no_next seen is = passes_as next_by (λ n s. ap (λ o. part_acts program n f o tt s) is) (stays_so seen _)
 
     pub next_is_done : (part : TypedSimple) (b : Bool) (before after : Seen) → option_copied l.next ≡ Some part →
         PassesIf b before after (λ n. simple_does c_arith f.scope.structs.now (here_of f.scope) f.scope.params
         (calls_in program n) part.kind part.line tt) ended_so →
         PassesIf b before after (λ n. next_acts program n f l tt) ended_so
     next_is_done part b before after is h =
-        passes_if_as b before after next_by (part_by part) ended_so
-        (λ n s. ap (λ o. part_acts program n f o tt s) is) h
+        passes_if_as b before after next_by _ _ (λ n s. ap (λ o. part_acts program n f o tt s) is) h
 
     -- a round begins: its test holds, and there is a turn
     pub round_begins : (seen : Seen) (k : ℕ) → Holding (way_in f l.cond.now) (seen.memory f.scope.comp.now) →
         seen.turns ≡ suc k →
         Passes seen (record seen { turns = k }) (λ n. loop_acts program n f l tt) (in_body program f l l.body.now)
     round_begins seen k h turns =
-        passes_as loop_by (round_is program f l)
-        (then_passes (passes_by seen seen h.given (cond_evaluated program f l)
-        (λ n v s. tested program f l n (is_true v) s)
-        (computed_comes (here_of f.scope) l.line (λ bs. way_in f l.cond.now want.Value bs)
-        (way_same f.scope.structs.now (here_of f.scope) f.scope.params l.cond.now want.Value) seen h.given (sym h.is)))
-        (passes_as (λ n s. tested program f l n (is_true h.given) s)
+        passes_as loop_by (round_is program f l) (then_passes (passes_by seen seen h.given (cond_evaluated program f l)
+        (λ n v s. tested program f l n _ s) (computed_comes (here_of f.scope) l.line (λ bs. way_in f _ _ bs)
+        (way_same _ (here_of f.scope) _ _ _) seen h.given (sym h.is))) (passes_as _
         (λ n s. ap (λ b. tested program f l n b s) h.holds)
-        (passes_by seen (record seen { turns = k }) tt turn (λ n u s. in_body program f l l.body.now n s)
-        (turn_comes k seen turns))))
+        (passes_by seen _ tt turn (λ n u s. in_body program f l _ n s) (turn_comes k seen turns))))
 
     -- statements of the body are done
     pub body_done : (before middle after : Seen) (at : Option Position) →
@@ -356,9 +340,7 @@ module _ (program : ProgramTree) (f : Frame) where
         Passes before after (λ n. loop_acts program n f l tt)
         (λ n s. follow in_loop (left_at program f l.body.now at n s)
         (λ a s. follow in_loop (next_acts program n f l a s) (loop_acts program n f l)))
-    body_done before middle after at h k =
-        then_passes h (passes_follow in_loop (λ n a s. follow in_loop (next_acts program n f l a s)
-        (loop_acts program n f l)) k)
+    body_done before middle after at h k = then_passes h (passes_follow in_loop _ k)
 
     -- the loop stands behind its body
     pub behind_body : (before middle after : Seen) (none : Bor (List TypedStmt)) →
@@ -368,12 +350,10 @@ module _ (program : ProgramTree) (f : Frame) where
         Passes before after (λ n. loop_acts program n f l tt)
         (in_round program f l (Some (record { part = none; count = length l.body.now })))
     behind_body before middle after none h k empty =
-        then_passes (body_done before middle after None h k)
-        (passes_as (λ n s. follow in_loop (next_acts program n f l tt s) (loop_acts program n f l))
+        then_passes (body_done before middle after None h k) (passes_as _
         (λ n s. λ i. follow in_loop (follow in_order (block_by (sym empty i) n s)
         (block_acts program n f (sym (drop_all (length l.body.now) l.body.now (omega arith)) i)))
-        (λ a s. follow in_loop (next_acts program n f l a s) (loop_acts program n f l)))
-        (stays_so after (in_round program f l (Some (record { part = none; count = length l.body.now })))))
+        (λ a s. follow in_loop (next_acts program n f l a s) (loop_acts program n f l))) (stays_so after _))
 
     -- the loop stands before a round again
     pub round_done : (before middle done after : Seen) →
@@ -382,7 +362,7 @@ module _ (program : ProgramTree) (f : Frame) where
         Passes done after (λ n. next_acts program n f l tt) ended_so →
         Passes before after (λ n. loop_acts program n f l tt) (λ n. loop_acts program n f l tt)
     round_done before middle done after h k m =
-        then_passes (body_done before middle done None h k) (passes_follow in_loop (λ n. loop_acts program n f l) m)
+        then_passes (body_done before middle done None h k) (passes_follow in_loop _ m)
 
     -- what comes before the next round, and the loop again
     pub next_behind : (before middle : Seen) (work : List Work) (step : Step) (after : Seen) (later : List Work)
@@ -391,9 +371,7 @@ module _ (program : ProgramTree) (f : Frame) where
         Steps program before work f (λ n s. follow in_loop (next_acts program n f l tt s) (loop_acts program n f l))
         step after later g
     next_behind before middle work step after later g h k =
-        steps_behind program work f step after later g before middle
-        (λ n s. follow in_loop (next_acts program n f l tt s) (loop_acts program n f l)) loop_by
-        (passes_follow in_loop (λ n. loop_acts program n f l) h) k
+        steps_behind program work f step after later g before middle _ loop_by (passes_follow in_loop _ h) k
 
     -- a round that is left in its body
     pub left_in_body : (before middle : Seen) (work later : List Work) (at : Position) (step : Step) (after : Seen)
@@ -403,9 +381,8 @@ module _ (program : ProgramTree) (f : Frame) where
         Steps program middle later f (left_at program f l.body.now (Some at)) step after last g →
         Steps program before work f (λ n. loop_acts program n f l tt) step after last g
     left_in_body before middle work later at step after last g h is k =
-        steps_behind program work f step after last g before middle loop_by (in_round program f l (Some at)) h
-        (steps_wait program middle work f (Body' l) later (in_round program f l (Some at))
-        (left_at program f l.body.now (Some at)) step after last g is (λ n s. refl) k)
+        steps_behind program work f step after last g before middle loop_by _ h
+        (steps_wait program middle work f _ later _ _ step after last g is (λ n s. refl) k)
 
   no_part : (stmts : List TypedStmt) (at : Position) → at.part.now ≡ [] → (n : ℕ) (s : State) →
       left_at program f stmts (Some at) n s ≡ block_by (drop at.count stmts) n s
@@ -417,9 +394,9 @@ module _ (program : ProgramTree) (f : Frame) where
       rest ≡ take (length stmts - at.count) (drop at.count stmts) → b ≡ (length rest == 0) → b ≡ true →
       Steps program before work f (left_at program f stmts (Some at)) (Go (Run' at.part)) before work f
   part_last before work stmts rest at b same none empty =
-      steps_later program before work f (Run' at.part) (left_at program f stmts (Some at))
+      steps_later program before work f _ _
       (λ n s. ap (λ xs. follow in_order (block_by at.part.now n s) (block_acts program n f xs))
-      (sym (same ∙ rest_at at.count stmts) ∙ none_in rest b none empty) ∙ alone (block_by at.part.now n s))
+      (sym (same ∙ rest_at _ stmts) ∙ none_in rest b none empty) ∙ alone _)
 
   -- a step behind what was done of statements
   pub at_behind : (before middle : Seen) (work : List Work) (stmts body : List TypedStmt) (at : Option Position)
@@ -429,7 +406,7 @@ module _ (program : ProgramTree) (f : Frame) where
       Steps program before work f (λ n s. block_acts program n f body tt s) step after later g
   at_behind before middle work stmts body at step after later g same h k =
       subst (λ xs. Steps program before work f (block_by xs) step after later g) same
-      (steps_behind program work f step after later g before middle (block_by stmts) (left_at program f stmts at) h k)
+      (steps_behind program work f step after later g before middle _ _ h k)
 
   -- something more waits for the statements
   pub caller_behind : (before middle : Seen) (work pushed : List Work) (stmts body : List TypedStmt) (at : Position)
@@ -448,10 +425,8 @@ module _ (program : ProgramTree) (f : Frame) where
       (λ n s. block_acts program n f (take (length stmts - at.count) (drop at.count stmts)) tt s) step after later g →
       Steps program before work f (λ n s. block_acts program n f body tt s) step after later g
   rest_behind before middle work stmts body at step after later g same empty h k =
-      at_behind before middle work stmts body (Some at) step after later g same h
-      (steps_as program middle work f (left_at program f stmts (Some at))
-      (block_by (take (length stmts - at.count) (drop at.count stmts))) step after later g
-      (λ n s. no_part stmts at empty n s ∙ ap (λ xs. block_by xs n s) (sym (rest_at at.count stmts))) k)
+      at_behind before middle work stmts body (Some at) step after later g same h (steps_as program middle work f _
+      _ step after later g (λ n s. no_part stmts at empty n s ∙ ap (λ xs. block_by xs n s) (sym (rest_at _ stmts))) k)
 
   -- control leaves the function behind the statements that were done
   pub left_behind : (before middle : Seen) (work : List Work) (stmts body : List TypedStmt) (at : Position)
@@ -464,8 +439,7 @@ module _ (program : ProgramTree) (f : Frame) where
       Steps program before work f (λ n s. block_acts program n f body tt s) step after later g
   left_behind before middle work stmts body at exit step after later g same empty h left k =
       rest_behind before middle work stmts body at step after later g same empty h
-      (steps_behind program work f step after later g middle middle
-      (block_by (take (length stmts - at.count) (drop at.count stmts))) (λ n s. leave exit tt s) left k)
+      (steps_behind program work f step after later g middle middle _ _ left k)
 
 -- the end of a run, whatever waits
 pub stops_anywhere : (program : ProgramTree) (before after : Seen) (work : List Work) (f : Frame) (p : Doing)

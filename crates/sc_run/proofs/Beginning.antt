@@ -3,7 +3,7 @@ use Rattle.sc_run.proofs.Common.{Begun, Callee, Cell, Frame, List, Main, None, N
 use Rattle.sc_run.proofs.Common.{Seen, Some, Standing, State, TypedGlobal, TypedSection, Value, [], and_then, ap, arith}
 use Rattle.sc_run.proofs.Common.{back_own, begun, bodies, body_acts, c_arith, call_own, entry_in, first_blocks}
 use Rattle.sc_run.proofs.Common.{first_state, found, function, function_of, global_block, globals_of, length, library}
-use Rattle.sc_run.proofs.Common.{map, refl, run_in, run_of, run_step, run_to, seen_of, slice_get, struct_zeros, subst}
+use Rattle.sc_run.proofs.Common.{map, refl, run_in, run_of, run_step, run_to, seen_of, slice_get, subst}
 use Rattle.sc_run.proofs.Common.{suc, sym, within, ℕ, ◌∙◌, ◌∷◌, ◌≡◌}
 use Rattle.sc_run.proofs.Blank.{blank}
 use Rattle.sc_run.proofs.Calling.{frame_at, enter_is, begun_seen, frame_is}
@@ -15,7 +15,7 @@ globals_live zeros (g ∷ gs) = ap (λ bs. global_block zeros g ∷ bs) (globals
 
 first_live : (section : Option TypedSection) → blank (first_blocks section) ≡ first_blocks section
 first_live None = refl
-first_live (Some section) = globals_live (struct_zeros [] section.structs) section.globals
+first_live (Some section) = globals_live _ _
 
 module _ (program : ProgramTree) (inputs : List ℕ) (turns : ℕ) where
   abbrev at_start : State

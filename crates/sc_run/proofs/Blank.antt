@@ -2,7 +2,7 @@
 use Rattle.sc_run.proofs.Common.{BadType, Blocks, Bool, Cause, Cell, Dangling, Err, List, Memory, None, Null, Ok}
 use Rattle.sc_run.proofs.Common.{Option, OutOfBounds, Pointer, Ptr, Result, Some, Value, Word, [], ap, bind, blocks_for}
 use Rattle.sc_run.proofs.Common.{cell_of, cells_at, cleared, ended, false, given_back, if◌then◌else◌, is_live, length}
-use Rattle.sc_run.proofs.Common.{length-map, live_cells, load, loaded, map, map-append, map-set, nat_lt, refl}
+use Rattle.sc_run.proofs.Common.{length-map, live_cells, load, loaded, map, map-append, map-set, refl}
 use Rattle.sc_run.proofs.Common.{replicate, slice_get, slice_set, store, suc, sym, true, with_blocks, with_cell, zero}
 use Rattle.sc_run.proofs.Common.{ℕ, ◌++◌, ◌==◌, ◌∙◌, ◌∷◌, ◌≡◌}
 use Rattle.sc_core.specs.declared.value.Cell.TheVariants as cell
@@ -36,7 +36,7 @@ cells_same (b ∷ bs) zero = given_cells b.live b.cells
 cells_same (b ∷ bs) (suc k) = cells_same bs k
 
 pub length_same : (bs : Blocks) → length (blank bs) ≡ length bs
-length_same bs = length-map bs given_back
+length_same bs = length-map bs _
 
 loaded_same : (bs : Blocks) (pointer : Bool) (o : Option Cell) → loaded (blank bs) pointer o ≡ loaded bs pointer o
 loaded_same bs pointer None = refl
@@ -52,8 +52,7 @@ load_same bs pointer Null = refl
 load_same bs pointer (Ptr p) =
     ap (λ c. bind c (λ cells. loaded (blank bs) pointer (slice_get cells p.index))) (cells_same bs p.block)
     ∙ by_ok (cells_at bs p.block) (λ cells. loaded (blank bs) pointer (slice_get cells p.index))
-    (λ cells. loaded bs pointer (slice_get cells p.index))
-    (λ cells. loaded_same bs pointer (slice_get cells p.index))
+    (λ cells. loaded bs pointer _) (λ cells. loaded_same bs pointer _)
 
 abbrev pub blanked : Result Blocks Cause → Result Blocks Cause
 blanked r = bind r (λ bs. Ok (blank bs))
@@ -67,23 +66,21 @@ with_same : (bs : Blocks) (p : Pointer) (v : Value) (cells : List Cell) (b : Boo
       live = true;
       cells = slice_set cells p.index (cell_of v);
     })) else Err OutOfBounds)
-with_same bs p v cells true = ap Ok (sym (map-set given_back bs p.block
-    (record { live = true; cells = slice_set cells p.index (cell_of v) })))
+with_same bs p v cells true = ap Ok (sym (map-set _ bs p.block _))
 with_same bs p v cells false = refl
 
 stored_same : (bs : Blocks) (p : Pointer) (v : Value) (c : Result (List Cell) Cause) →
     bind c (with_cell (blank bs) p v) ≡ blanked (bind c (with_cell bs p v))
 stored_same bs p v (Err cause) = refl
-stored_same bs p v (Ok cells) = with_same bs p v cells (nat_lt p.index (length cells))
+stored_same bs p v (Ok cells) = with_same bs p v cells _
 
 pub store_same : (bs : Blocks) (q v : Value) → store (blank bs) q v ≡ blanked (store bs q v)
 store_same bs (Word w) v = refl
 store_same bs Null v = refl
-store_same bs (Ptr p) v = ap (λ c. bind c (with_cell (blank bs) p v)) (cells_same bs p.block) ∙
-    stored_same bs p v (cells_at bs p.block)
+store_same bs (Ptr p) v = ap (λ c. bind c (with_cell (blank bs) p v)) (cells_same bs p.block) ∙ stored_same bs p v _
 
 pub blank_more : (bs cs : Blocks) → blank (bs ++ cs) ≡ blank bs ++ blank cs
-blank_more bs cs = map-append given_back bs cs
+blank_more bs cs = map-append _ bs cs
 
 pub blank_new : (sizes : List ℕ) (args : List Value) → blank (blocks_for sizes args) ≡ blocks_for sizes args
 blank_new [] args = refl

@@ -20,8 +20,7 @@ pub unstored : (program : ProgramTree) (before after : Seen) (work : List Work) 
 unstored program before after work f to result place line v end is has c =
     subst (λ x. Steps program before work f (λ n s. result_goes program f x result s) (Stop end) after work f) (sym is)
     (subst (λ x. Steps program before work f (λ n s. result_goes program f (Place place line) x s)
-    (Stop end) after work f) (sym has) (step_ends program before after work f end
-    (store_at (here_of f.scope) (way_in f place.now) v line tt) c))
+    (Stop end) after work f) (sym has) (step_ends program before after work f end _ c))
 
 module _ (program : ProgramTree) (caller : Frame) (callee : Callee) (args : List Value) (to : To) where
   abbrev pub called_function : Function
@@ -66,17 +65,14 @@ module _ (program : ProgramTree) (caller : Frame) (callee : Callee) (args : List
   pub begun_seen : (t : State) (mid : Seen) → seen_of t ≡ mid →
       seen_of (begun callee.comp.now called_function args t) ≡ with_memory mid (with_variables callee args mid.memory)
   begun_seen t mid shows =
-      seen_with t mid callee.comp.now (t.memory callee.comp.now ++
-      blocks_for (variables callee.structs.now callee.function.now) args) shows
-      ∙ ap (λ bs. with_memory mid (with_blocks callee.comp.now bs mid.memory))
-      (blank_more (t.memory callee.comp.now) (blocks_for (variables callee.structs.now callee.function.now) args) ∙
+      seen_with t mid _ _ shows ∙ ap (λ bs. with_memory mid (with_blocks callee.comp.now bs mid.memory))
+      (blank_more (t.memory _) (blocks_for (variables callee.structs.now callee.function.now) args) ∙
       (λ i. blocks_seen t mid callee.comp.now shows i ++
       blank_new (variables callee.structs.now callee.function.now) args i))
 
   first_seen : (t : State) (mid : Seen) → seen_of t ≡ mid →
       length (mid.memory callee.comp.now) ≡ length (t.memory callee.comp.now)
-  first_seen t mid shows = ap length (sym (blocks_seen t mid callee.comp.now shows)) ∙
-      length_same (t.memory callee.comp.now)
+  first_seen t mid shows = ap length (sym (blocks_seen t mid _ shows)) ∙ length_same _
 
   pub frame_is : (t : State) (mid after : Seen) (g : Frame) → seen_of t ≡ mid → Begun callee args mid after g →
       g ≡ frame_at (length (t.memory callee.comp.now))
@@ -133,11 +129,11 @@ module _ (program : ProgramTree) (caller : Frame) (callee : Callee) (args : List
           shows = begun_seen t (told_call caller callee args crossing mid) shows ∙ sym b.seen;
           enough = enough;
           rest = ap (λ ws. (resume program m ws (frame_at (length (t.memory callee.comp.now))) entered_piece).behaviour)
-              (ap reverse pushed ∙ newest_first work (Caller caller to crossing)) ∙
-              ap (λ x. x.behaviour) (waits m entered_piece (frame_at (length (t.memory callee.comp.now))) refl) ∙
+              (ap reverse pushed ∙ newest_first work (Caller caller to _)) ∙
+              ap (λ x. x.behaviour) (waits m entered_piece (frame_at _) refl) ∙
               ap (λ q. (resume program (suc m) (reverse work) caller
               (and_then q (result_goes program caller to))).behaviour)
-              (sym (enter_is there (back_from program caller callee crossing) m t)) ∙ rest;
+              (sym (enter_is there (back_from program caller callee _) m t)) ∙ rest;
         }) where
           entered_piece : Piece (Left (Unit {0}))
           entered_piece = body_acts program m (frame_at (length (t.memory callee.comp.now))) tt
@@ -175,7 +171,7 @@ module _ (program : ProgramTree) (caller : Frame) (callee : Callee) (args : List
           by_turn (suc m) (Reached u t) e le rest =
               enter_at m (entry_from caller callee args crossing t) pushed (entry_seen crossing t mid e.1)
               (λ n p f is. waits_at crossing (length
-              ((entry_from caller callee args crossing t).memory callee.comp.now)) n p f is)
+              ((entry_from caller callee args _ t).memory callee.comp.now)) n p f is)
               (less (entry_turns crossing t) (ap (λ x. x.turns) e.1) le) rest where
                 less : (entry_from caller callee args crossing t).turns ≡ t.turns → t.turns ≡ mid.turns →
                     suc mid.turns ≤ suc m → (entry_from caller callee args crossing t).turns ≤ m
@@ -197,8 +193,7 @@ module _ (program : ProgramTree) (caller : Frame) (callee : Callee) (args : List
   enter_steps crossing work later before mid told begun_to g step last last_work last_frame there c taken tells b pushed
       h =
       record {
-        stands = λ whole standing. h.stands whole
-            (entered_from whole work later crossing mid begun_to g there
+        stands = λ whole standing. h.stands whole (entered_from whole work later _ mid _ g there
             (subst (λ x. Begun callee args x begun_to g) tells b) before pushed taken c standing);
       }
 
@@ -209,9 +204,8 @@ module _ (program : ProgramTree) (caller : Frame) (callee : Callee) (args : List
       (bodies program n) callee.comp.now callee.number args (back_from program caller callee crossing)
       (entry_from caller callee args crossing s))) (result_goes program caller to)) (Stop end) after work caller
   enter_stops crossing work before after end c =
-      steps_as program before work caller (λ n s. and_then (and_then (turn s) (λ _ s. from_call crossing n s))
-      (result_goes program caller to)) (λ n s. and_then (turn s)
-      (λ _ s. and_then (from_call crossing n s) (result_goes program caller to))) (Stop end) after work caller
-      (λ n s. then_then (turn s) (λ _ s. from_call crossing n s) (result_goes program caller to))
+      steps_as program before work caller (λ n s. and_then _ (result_goes program caller to)) (λ n s. and_then (turn s)
+      (λ _ s. and_then _ (result_goes program caller to))) (Stop end) after work caller
+      (λ n s. then_then (turn s) (λ _ s. from_call _ n s) (result_goes program caller to))
       (step_stops program before after work caller end turn
-      (λ n u s. and_then (from_call crossing n s) (result_goes program caller to)) c)
+      (λ n u s. and_then (from_call _ n s) (result_goes program caller to)) c)

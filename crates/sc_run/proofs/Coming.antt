@@ -13,7 +13,7 @@ pub seen_with : (s : State) (seen : Seen) (comp : ℕ) (bs : Blocks) → seen_of
     seen_of (record s { memory = with_blocks comp bs s.memory }) ≡
     record seen { memory = with_blocks comp (blank bs) seen.memory }
 seen_with s seen comp bs shows =
-    ap (λ memory. with_memory (seen_of s) memory) (memory_with comp bs s.memory) ∙
+    ap (λ memory. with_memory (seen_of s) memory) (memory_with comp bs _) ∙
     ap {A = Seen} (λ x. record x { memory = with_blocks comp (blank bs) x.memory }) shows
 
 -- the blocks of a compartment, as they are seen
@@ -37,8 +37,8 @@ module _ {V : Type 0} (here : Here) (line : ℕ) (f : Blocks → Result V Cause)
       Comes seen seen (Ok v) (λ s. computed here line (f (s.memory here.comp)) s)
   computed_comes v is =
       record {
-        comes = λ s shows. computed_ok here line (f (s.memory here.comp)) v s seen shows
-            (sym (same (s.memory here.comp)) ∙ ap f (blocks_seen s seen here.comp shows) ∙ sym is);
+        comes = λ s shows. computed_ok here line _ v s seen shows
+            (sym (same _) ∙ ap f (blocks_seen s seen _ shows) ∙ sym is);
         fewer = omega arith;
       }
 
@@ -46,8 +46,8 @@ module _ {V : Type 0} (here : Here) (line : ℕ) (f : Blocks → Result V Cause)
       Comes seen seen (Err (Blamed here.comp cause line)) (λ s. computed here line (f (s.memory here.comp)) s)
   computed_blamed cause is =
       record {
-        comes = λ s shows. computed_err here line (f (s.memory here.comp)) cause s seen shows
-            (sym (same (s.memory here.comp)) ∙ ap f (blocks_seen s seen here.comp shows) ∙ sym is);
+        comes = λ s shows. computed_err here line _ cause s seen shows
+            (sym (same _) ∙ ap f (blocks_seen s seen _ shows) ∙ sym is);
         fewer = omega arith;
       }
 
@@ -94,9 +94,8 @@ module _ (here : Here) (q v : Value) (line : ℕ) (seen : Seen) (after : Blocks)
       (with_exit {V = Unit {0}} Next (Ok tt)) (stored here q v line tt)
   stored_comes is =
       record {
-        comes = λ s shows. stored_at s (store (s.memory here.comp) q v) shows
-            (sym (store_same (s.memory here.comp) q v) ∙ ap (λ bs. store bs q v) (blocks_seen s seen here.comp shows) ∙
-            is);
+        comes = λ s shows. stored_at s _ shows
+            (sym (store_same _ q v) ∙ ap (λ bs. store bs q v) (blocks_seen s seen _ shows) ∙ is);
         fewer = omega arith;
       }
 
@@ -114,9 +113,8 @@ module _ (here : Here) (q v : Value) (line : ℕ) (seen : Seen) (cause : Cause) 
       Comes seen seen (with_exit {V = Unit {0}} Next (Err (Blamed here.comp cause line))) (stored here q v line tt)
   stored_blamed is =
       record {
-        comes = λ s shows. blamed_at s (store (s.memory here.comp) q v) shows
-            (sym (store_same (s.memory here.comp) q v) ∙ ap (λ bs. store bs q v) (blocks_seen s seen here.comp shows) ∙
-            is);
+        comes = λ s shows. blamed_at s _ shows
+            (sym (store_same _ q v) ∙ ap (λ bs. store bs q v) (blocks_seen s seen _ shows) ∙ is);
         fewer = omega arith;
       }
 
@@ -144,7 +142,7 @@ pub stored_ok : (here : Here) (q v : Value) (line : ℕ) (seen : Seen) (memory :
     Comes seen (with_memory seen memory) (with_exit {V = Unit {0}} Next (Ok tt)) (stored here q v line tt)
 stored_ok here q v line seen memory is others =
     subst (λ m. Comes seen (with_memory seen m) (with_exit {V = Unit {0}} Next (Ok tt)) (stored here q v line tt))
-    (sym others) (stored_comes here q v line seen (memory here.comp) is)
+    (sym others) (stored_comes here q v line seen _ is)
 
 pub stored_err : (here : Here) (q v : Value) (line : ℕ) (seen : Seen) (memory : Memory) (cause : Cause) (end : RunEnd) →
     end ≡ Blamed here.comp cause line → store (seen.memory here.comp) q v ≡ Err cause → memory ≡ seen.memory →

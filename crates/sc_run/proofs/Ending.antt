@@ -30,9 +30,9 @@ module _ (program : ProgramTree) (f : Frame) (exit : Exit) where
 
   over_seen : (s : State) (before : Seen) → seen_of s ≡ before → seen_of (over s) ≡ left_by f before
   over_seen s before shows =
-      seen_with s before f.scope.comp.now (ended f.scope.first (variable_count f) (s.memory f.scope.comp.now)) shows
+      seen_with s before _ (ended f.scope.first (variable_count f) (s.memory _)) shows
       ∙ ap (λ bs. with_memory before (with_blocks f.scope.comp.now bs before.memory))
-      (sym (left_same f.scope.first (variable_count f) (s.memory f.scope.comp.now)) ∙
+      (sym (left_same f.scope.first (variable_count f) (s.memory _)) ∙
       ap (λ bs. cleared f.scope.first (variable_count f) bs) (blocks_seen s before f.scope.comp.now shows))
 
   module _ (whole : SourceRun) (before : Seen) (work : List Work) (caller : Frame) (to : To) (crossing : Option ℕ) where
@@ -43,7 +43,7 @@ module _ (program : ProgramTree) (f : Frame) (exit : Exit) where
         resume program (suc n) (reverse work) caller
         (and_then (returned program f (back_to program caller f crossing) (leaving s))
         (result_goes program caller to))
-    resumed n s = ap (λ ws. resume program n ws f (leaving s)) (newest_first work (Caller caller to crossing))
+    resumed n s = ap (λ ws. resume program n ws f (leaving s)) (newest_first work _)
 
     pub call_ends : (end : RunEnd) → ClosedBy program f exit (Err end) →
         Standing program whole before waiting f (λ n s. leaving s) →
@@ -67,13 +67,10 @@ module _ (program : ProgramTree) (f : Frame) (exit : Exit) where
     back_at (Some index) v n s rest shows enough =
         record {
           open_calls = n;
-          state = tell (Ret f.scope.comp.now caller.scope.comp.now
-              (word_crossing program f index v)) (over s);
+          state = tell _ (over s);
           shows = ap {A = Seen} (λ x. record x {
-            trace = x.trace ++
-                Ret f.scope.comp.now caller.scope.comp.now (word_crossing program f index v) ∷ [];
-          })
-              (over_seen s before shows);
+            trace = x.trace ++ Ret f.scope.comp.now caller.scope.comp.now (word_crossing program f index v) ∷ [];
+          }) (over_seen s before shows);
           enough = enough;
           rest = rest;
         }
@@ -83,12 +80,9 @@ module _ (program : ProgramTree) (f : Frame) (exit : Exit) where
         Standing program whole (told_back program caller f crossing v (left_by f before)) work caller
         (λ n s. result_goes program caller to (back_value program f crossing v) s)
     call_returns v is h =
-        back_at crossing v (suc h.open_calls) h.state
-        (ap (λ r. r.behaviour) (sym (resumed h.open_calls h.state ∙
-        ap (λ p. resume program (suc h.open_calls) (reverse work) caller
-        (and_then p (result_goes program caller to)))
-        (returned_ok v (back_to program caller f crossing) h.state is))) ∙ h.rest) h.shows
-        (more h.state.turns h.open_calls h.enough) where
+        back_at _ v (suc h.open_calls) h.state (ap (λ r. r.behaviour) (sym (resumed _ h.state ∙
+        ap (λ p. resume program (suc h.open_calls) (reverse work) caller (and_then p (result_goes program caller to)))
+        (returned_ok v (back_to program caller f _) h.state is))) ∙ h.rest) h.shows (more _ _ h.enough) where
           more : (a b : ℕ) → a ≤ b → a ≤ suc b
           more a b z = omega (arith, z)
 
@@ -97,7 +91,7 @@ module _ (program : ProgramTree) (f : Frame) (exit : Exit) where
         ClosedBy program f exit (Err end) → Steps program before (work ++ Caller caller to crossing ∷ []) f
         (λ n s. leaving s) (Stop end) before work f
     return_stops work caller to crossing end is =
-        record { stands = λ whole h. call_ends whole before work caller to crossing end is h }
+        record { stands = λ whole h. call_ends whole before work caller to _ end is h }
 
     pub return_steps : (work : List Work) (caller : Frame) (to : To) (crossing : Option ℕ) (v back : Option Value)
         (ended told after : Seen) (step : Step) → ClosedBy program f exit (Ok v) → ended ≡ left_by f before →

@@ -14,7 +14,7 @@ repeated_more : (zeros : List (List Cell)) (n : ℕ) (cells : List Cell) →
     cells ++ repeated zeros n cells ≡ repeated zeros n cells ++ cells
 repeated_more zeros zero cells = append-nil cells
 repeated_more zeros (suc n) cells = ap (λ cs. cells ++ cs) (repeated_more zeros n cells) ∙
-    sym (append_assoc cells (repeated zeros n cells) cells)
+    sym (append_assoc cells _ cells)
 
 -- the cells once more
 pub once_more : (zeros : List (List Cell)) (n : ℕ) (cells more so_far : List Cell) → so_far ≡ repeated zeros n cells →
@@ -27,7 +27,7 @@ once_more zeros n cells more so_far is same =
 
 members_more : (zeros : List (List Cell)) (ms : List TypedMember) (m : TypedMember) →
     member_zeros zeros (ms ++ m ∷ []) ≡ member_zeros zeros ms ++ zeros_of zeros m.ty
-members_more zeros [] m = append-nil (zeros_of zeros m.ty)
+members_more zeros [] m = append-nil _
 members_more zeros (x ∷ ms) m =
     ap (λ cs. zeros_of zeros x.ty ++ cs) (members_more zeros ms m) ∙
     sym (append_assoc (zeros_of zeros x.ty) (member_zeros zeros ms) (zeros_of zeros m.ty))
@@ -62,7 +62,7 @@ pub word_more : (ws : List ℕ) (cs : List Cell) (i : ℕ) (c new : Cell) (word 
     so_far ++ with_words (drop i ws) (drop i cs) ≡ whole →
     (so_far ++ new ∷ []) ++ with_words (drop (i + 1) ws) (drop (i + 1) cs) ≡ whole
 word_more ws cs i c new word so_far whole there item is gives stands_so =
-    append_assoc so_far (new ∷ []) (with_words (drop (i + 1) ws) (drop (i + 1) cs))
+    append_assoc so_far (new ∷ []) _
     ∙ ap (λ xs. so_far ++ xs) ((λ k. (gives ∙ ap (λ o. cell_with o c) (is ∙ sym (first_of_rest ws i))) k ∷
     with_words (drop (plus_one i k) ws) (drop (i + 1) cs)) ∙
     ap (λ xs. cell_with (slice_get (drop i ws) 0) c ∷ with_words xs (drop (i + 1) cs)) (sym (drop_next ws i)) ∙
@@ -81,7 +81,7 @@ pub words_all : (ws : List ℕ) (cs : List Cell) (i : ℕ) (so_far whole : List 
     so_far ++ with_words (drop i ws) (drop i cs) ≡ whole → so_far ≡ whole
 words_all ws cs i so_far whole past stands_so =
     sym (append-nil so_far) ∙ ap (λ xs. so_far ++ xs)
-    (sym (ap (with_words (drop i ws)) (drop_all i cs past) ∙ no_more (drop i ws))) ∙ stands_so
+    (sym (ap (with_words _) (drop_all i cs past) ∙ no_more (drop i ws))) ∙ stands_so
 
 -- one more global
 pub global_more : (zeros : List (List Cell)) (gs : List TypedGlobal) (i : ℕ) (g : TypedGlobal) (comp : ℕ)
@@ -90,15 +90,12 @@ pub global_more : (zeros : List (List Cell)) (gs : List TypedGlobal) (i : ℕ) (
     later ≡ with_blocks comp (now comp ++ global_block zeros g ∷ []) now →
     later ≡ with_blocks comp (memory comp ++ map (global_block zeros) (take (i + 1) gs)) memory
 global_more zeros gs i g comp memory now later there item is gives =
-    let stands_so : now comp ≡ memory comp ++ map (global_block zeros) (take i gs) =
-    (λ k. is k comp) ∙ at_itself comp (memory comp ++ map (global_block zeros) (take i gs)) memory in
-    let more : map (global_block zeros) (take i gs) ++ global_block zeros g ∷ [] ≡
-    map (global_block zeros) (take (i + 1) gs) = sym (map-append (global_block zeros) (take i gs) (g ∷ [])) ∙
+    let stands_so : now comp ≡ memory comp ++ map _ _ =
+    (λ k. is k comp) ∙ at_itself comp _ memory in
+    let more = sym (map-append (global_block zeros) (take i gs) (g ∷ [])) ∙
     ap (map (global_block zeros)) (ap (λ x. take i gs ++ x ∷ []) item ∙ sym (take_more gs i g there)) in
-    gives ∙ (λ k. with_blocks comp (stands_so k ++ global_block zeros g ∷ []) (is k)) ∙
-    with_twice comp ((memory comp ++ map (global_block zeros) (take i gs)) ++ global_block zeros g ∷ [])
-    (memory comp ++ map (global_block zeros) (take i gs)) memory
-    ∙ ap (λ bs. with_blocks comp bs memory) (append_assoc (memory comp) (map (global_block zeros) (take i gs))
+    gives ∙ (λ k. with_blocks comp (stands_so k ++ global_block zeros g ∷ []) (is k)) ∙ with_twice comp _
+    (memory comp ++ map _ _) memory ∙ ap (λ bs. with_blocks comp bs memory) (append_assoc (memory comp) (map _ _)
     (global_block zeros g ∷ []) ∙ ap (λ bs. memory comp ++ bs) more)
 
 module _ (section : TypedSection) where
@@ -109,10 +106,9 @@ module _ (section : TypedSection) where
       (if c == length sections then its_blocks else first_blocks (slice_get sections c))
   at_next [] zero = refl
   at_next [] (suc c) = ap (λ b. if b then its_blocks else []) (sym (eqb-suc-zero c))
-  at_next (s ∷ sections) zero = ap (λ b. if b then its_blocks else first_blocks (Some s))
-      (sym (eqb-zero-suc (length sections)))
+  at_next (s ∷ sections) zero = ap (λ b. if b then its_blocks else first_blocks (Some s)) (sym (eqb-zero-suc _))
   at_next (s ∷ sections) (suc c) = at_next sections c ∙
-      ap (λ b. if b then its_blocks else first_blocks (slice_get sections c)) (sym (eqb-suc-suc c (length sections)))
+      ap (λ b. if b then its_blocks else first_blocks (slice_get sections c)) (sym (eqb-suc-suc c _))
 
   past : (sections : List TypedSection) → first_blocks (slice_get sections (length sections)) ≡ []
   past [] = refl
@@ -131,4 +127,4 @@ section_more sections at comp section now later there item same is gives =
     (λ k c. at_next section (take at sections) c k) ∙
     ap (λ n. with_blocks n (first_blocks (Some section)) (globals_of (take at sections))) short in
     gives ∙ (λ k. with_blocks (same k) (here k ++ first_blocks (Some section)) (is k)) ∙ sym next
-    ∙ ap globals_of (ap (λ x. take at sections ++ x ∷ []) item ∙ sym (take_more sections at section there))
+    ∙ ap globals_of (ap (λ x. take at sections ++ x ∷ []) item ∙ sym (take_more _ at section there))

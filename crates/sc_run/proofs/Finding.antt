@@ -15,7 +15,7 @@ module _ (program : ProgramTree) where
 
   pub none_at : (comp number : ℕ) → slice_get program.sections comp ≡ None →
       function (library program) comp number ≡ None
-  none_at comp number h = ap (λ fs. slice_get fs number) (no_section program.sections comp h)
+  none_at comp number h = ap (λ fs. slice_get fs number) (no_section _ comp h)
 
 -- a compartment that isn't there has no function
 pub no_comp : (program : ProgramTree) (comp : ℕ) (entry : Entry) → slice_get program.sections comp ≡ None →

@@ -2,9 +2,9 @@
 -- blame or without turns.
 use Rattle.sc_run.proofs.Common.{Acts, Back, Calls, Frame, GoFrom, Goes, Here, Left, List, Loop, Never, Nowhere, Option}
 use Rattle.sc_run.proofs.Common.{Place, ProgramTree, State, To, TypedStmt, Value, block_acts, block_does, bodies}
-use Rattle.sc_run.proofs.Common.{bytes_eq, c_arith, calls_go, calls_in, closes, here_of, is_some, library, loop}
-use Rattle.sc_run.proofs.Common.{loop_acts, main_name, next_acts, option_copied, part_does, result_goes, run_step}
-use Rattle.sc_run.proofs.Common.{stays, store_result, test, way_in, within_goes, ℕ, ◌&&◌, ◌==◌, ◌≡◌}
+use Rattle.sc_run.proofs.Common.{c_arith, calls_go, calls_in, closes, here_of, library, loop}
+use Rattle.sc_run.proofs.Common.{loop_acts, next_acts, option_copied, part_does, result_goes, run_step}
+use Rattle.sc_run.proofs.Common.{stays, store_result, test, way_in, within_goes, ℕ, ◌≡◌}
 use Rattle.sc_laws.proofs.Expressions.{ArithKeeps}
 use Rattle.sc_laws.proofs.Interactions.{MatchWith, match_loop}
 use Rattle.sc_laws.proofs.Loops.{one_round, loop_again}
@@ -37,7 +37,7 @@ module _ (program : ProgramTree) (n : ℕ) (f : Frame) where
   block_by stmts by = block_does c_arith f.scope.structs.now here f.scope.params by stmts
 
   block_tree : (stmts : List TypedStmt) → IsTree (block_by stmts)
-  block_tree = block_matches Never here c_arith c_arith itself f.scope.structs.now f.scope.params
+  block_tree = block_matches Never here c_arith c_arith itself _ _
 
   pub block_goes : (stmts : List TypedStmt) → Goes (block_acts program n f stmts tt)
   block_goes stmts = tree_goes (block_by stmts) (block_tree stmts)
@@ -51,11 +51,10 @@ module _ (program : ProgramTree) (n : ℕ) (f : Frame) where
 
     test_tree : IsTree test_by
     test_tree =
-        test_matches Never here (way_in f l.cond.now) (way_in f l.cond.now)
-        (way_matches Never here c_arith c_arith itself f.scope.structs.now f.scope.params l.cond.now) l.line
+        test_matches Never here (way_in f _) (way_in f _) (way_matches Never here c_arith c_arith itself _ _ _) l.line
 
     next_tree : IsTree next_by
-    next_tree = part_matches Never here c_arith c_arith itself f.scope.structs.now f.scope.params (option_copied l.next)
+    next_tree = part_matches Never here c_arith c_arith itself _ _ _
 
     pub next_goes : Goes (next_acts program n f l tt)
     next_goes = tree_goes next_by next_tree
@@ -71,19 +70,16 @@ module _ (program : ProgramTree) (n : ℕ) (f : Frame) where
         one_round (test_by (calls_in program n)) (block_acts program n f l.body.now) (next_acts program n f l)
         (loop_acts program n f l) tt s
     loop_is =
-        loop_again Never here (calls_in program n) calls_go_on test_by (block_by l.body.now) next_by test_tree
-        (block_tree l.body.now) next_tree tt
+        loop_again Never here (calls_in program n) calls_go_on test_by (block_by _) next_by test_tree
+        (block_tree _) next_tree tt
 
   pub closes_goes : (left : Left (Unit {0})) → Goes (closes program f left)
-  closes_goes left =
-      match_goes Never here _ _ (closed_matches Never here left.exit (is_some f.function.now.result)
-      (f.scope.comp.now == program.interfaces.main && bytes_eq f.function.now.name main_name)
-      f.function.now.close_line) (calls_in program n) calls_go_on
+  closes_goes left = match_goes Never here _ _ (closed_matches Never here _ _ _ _) (calls_in program n) calls_go_on
 
   pub result_goes_on : (to : To) (v : Option Value) → Goes (result_goes program f to v)
   result_goes_on Nowhere v = stays _
   result_goes_on (Place place line) v =
-      tree_goes (λ by. store_result here (way_in f place.now) v line)
-      (store_result_matches Never here (way_in f place.now) (way_in f place.now)
-      (way_matches Never here c_arith c_arith itself f.scope.structs.now f.scope.params place.now) v line)
+      tree_goes (λ by. store_result here (way_in f _) v line)
+      (store_result_matches Never here (way_in f _) (way_in f _)
+      (way_matches Never here c_arith c_arith itself _ _ _) v line)
   result_goes_on Back v = stays _

@@ -70,18 +70,16 @@ module _ (program : ProgramTree) (before : Seen) (work : List Work) (f : Frame) 
       (Stop end) before work f
   refused target args end same is =
       subst (λ e. Steps program before work f (calling target args) (Stop e) before work f) (sym same)
-      (steps_as program before work f (calling target args) (λ n s. and_then (stops_here {V = Option Value} s) rg)
-      (Stop refusal) before work f (λ n s. ap (λ b.
+      (steps_as program before work f _ (λ n s. and_then (stops_here s) rg) _ before work f (λ n s. ap (λ b.
       and_then (if b then called (library program) (bodies program n) f.scope.comp.now target args s else
-      Stopped refusal s) rg) is) (step_stops program before before work f refusal (stops_here {V = Option Value})
-      (λ n. rg) halts))
+      Stopped refusal s) rg) is) (step_stops program before before work f refusal _ (λ n. rg) halts))
 
   allowed : (target : CallTarget) (args : List Value) (step : Step) (after : Seen) (later : List Work) (g : Frame) →
       may_call (library program) f.scope.comp.now target args ≡ true →
       Steps program before work f (making target args) step after later g →
       Steps program before work f (calling target args) step after later g
   allowed target args step after later g is h =
-      steps_as program before work f (calling target args) (making target args) step after later g
+      steps_as program before work f _ _ step after later g
       (λ n s. ap (λ b. and_then (if b then called (library program)
       (bodies program n) f.scope.comp.now target args s else Stopped refusal s) rg) is) h
 
@@ -109,9 +107,8 @@ module _ (program : ProgramTree) (before : Seen) (work : List Work) (f : Frame) 
       Steps program before work f (λ n s. and_then (calls_in program n f.scope.comp.now
       (Own number) args s) rg) step after later g
   own_enters callee number args step after later g found h =
-      allowed (Own number) args step after later g (is_there callee f.scope.comp.now number found.0 found.1 found.2)
-      (steps_as program before work f (making (Own number) args) (entering callee args None) step after later g
-      (λ n s i. and_then (and_then (turn s) (λ _ s.
+      allowed (Own number) args step after later g (is_there callee _ number found.0 found.1 found.2)
+      (steps_as program before work f _ _ step after later g (λ n s i. and_then (and_then (turn s) (λ _ s.
       run_in (library program) (bodies program n) (sym found.0 i) (sym found.1 i) args back_own s)) rg) h)
 
   module _ (comp index : ℕ) (args : List Value) where
@@ -137,8 +134,7 @@ module _ (program : ProgramTree) (before : Seen) (work : List Work) (f : Frame) 
     pub cross_refused : (end : RunEnd) → end ≡ refusal → MayCross false →
         Steps program before work f (λ n s. and_then
         (calls_in program n f.scope.comp.now (Cross comp index) args s) rg) (Stop end) before work f
-    cross_refused end same may = refused (Cross comp index) args end same
-        (first_fails imported taken words leads_on (sym may))
+    cross_refused end same may = refused (Cross comp index) args end same (first_fails _ taken words _ (sym may))
 
     no_lead : (o : Option ℕ) → entry_in program comp (Export index) ≡ o → EntryAt program comp (Export index) None →
         leads_there o ≡ false
@@ -149,7 +145,7 @@ module _ (program : ProgramTree) (before : Seen) (work : List Work) (f : Frame) 
         Steps program before work f (λ n s. and_then
         (calls_in program n f.scope.comp.now (Cross comp index) args s) rg) (Stop end) before work f
     cross_missing end same none = refused (Cross comp index) args end same
-        (last_fails imported taken words leads_on (no_lead (entry_in program comp (Export index)) refl none))
+        (last_fails _ taken words _ (no_lead _ refl none))
 
     pub cross_enters : (callee : Callee) (step : Step) (after : Seen) (later : List Work) (g : Frame) → MayCross true →
         EntryAt program comp (Export index) (Some callee) →
@@ -187,8 +183,7 @@ module _ (program : ProgramTree) (before : Seen) (work : List Work) (f : Frame) 
       work f
   input_steps args word middle told after step may is rest tells h =
       allowed Input args step after work f may (steps_on program before work f told after (Some (Word word))
-      (λ s. Reached (Some (Word (next_input s.inputs))) (read_input f.scope.comp.now s)) (λ n. rg) step work f
-      (record {
+      (λ s. Reached (Some (Word _)) (read_input f.scope.comp.now s)) (λ n. rg) step work f (record {
         comes = λ s shows. (ap (λ w. Some (Word w)) (ap (λ x. next_input x.inputs) shows ∙ sym is), seen s shows);
         fewer = omega (arith, ap (λ x. x.turns) tells, ap (λ x. x.turns) rest);
       }) h) where
@@ -197,8 +192,7 @@ module _ (program : ProgramTree) (before : Seen) (work : List Work) (f : Frame) 
             ap {A = Seen} (λ x. record x {
               trace = x.trace ++ In f.scope.comp.now (next_input x.inputs) ∷ [];
               inputs = drop 1 x.inputs;
-            }) shows
-            ∙ (λ i. record before {
+            }) shows ∙ (λ i. record before {
               trace = before.trace ++ In f.scope.comp.now (sym is i) ∷ [];
               inputs = drop 1 before.inputs;
             })
@@ -212,7 +206,7 @@ module _ (program : ProgramTree) (before : Seen) (work : List Work) (f : Frame) 
       work f
   output_steps args word told after step may is tells h =
       allowed Output args step after work f may (steps_on program before work f told after None (λ s.
-      Reached None (tell (Out f.scope.comp.now (first_word args)) s)) (λ n. rg) step work f (record {
+      Reached None _) (λ n. rg) step work f (record {
         comes = λ s shows. (
           refl,
           ap {A = Seen} (λ x.
@@ -236,7 +230,7 @@ module _ (program : ProgramTree) (before : Seen) (work : List Work) (f : Frame) 
     stepwise n s = and_then (given_args s) (rest_of_call n)
 
     by_assoc : (n : ℕ) (s : State) → whole_call n s ≡ stepwise n s
-    by_assoc n s = then_then (given_args s) (λ vs s. calls_in program n f.scope.comp.now target vs s) rg
+    by_assoc n s = then_then (given_args s) (λ vs s. calls_in program n _ target vs s) rg
 
   pub as_called : (target t : CallTarget) (args : List Value) (step : Step) (after : Seen) (later : List Work)
       (g : Frame) → target ≡ t → Steps program before work f
@@ -253,7 +247,7 @@ module _ (program : ProgramTree) (before : Seen) (work : List Work) (f : Frame) 
       Steps program before work f (λ n s. and_then (calls_in program n f.scope.comp.now target given_vs s) rg) step
       after later g → Steps program before work f (whole_call target es line) step after later g
   call_steps_by target es given_es line r vs given_vs step after later g same is values_is c h =
-      steps_as program before work f (whole_call target es line) (stepwise target es line) step after later g
+      steps_as program before work f _ (stepwise target es line) step after later g
       (by_assoc target es line) (steps_on program before work f before after vs (given_args target es line)
       (rest_of_call target es line) step later g
       (subst (λ x. Comes before before (Ok vs) (given_args target x line)) same
@@ -265,7 +259,7 @@ module _ (program : ProgramTree) (before : Seen) (work : List Work) (f : Frame) 
       (end : RunEnd) → given_es ≡ es → r ≡ Err end → Comes before before r (given_args target given_es line) →
       Steps program before work f (whole_call target es line) (Stop end) before work f
   call_blamed_by target es given_es line r end same is c =
-      steps_as program before work f (whole_call target es line) (stepwise target es line) (Stop end) before work f
+      steps_as program before work f _ (stepwise target es line) _ before work f
       (by_assoc target es line) (step_stops program before before work f end (given_args target es line)
       (rest_of_call target es line) (subst (λ x. Comes before before (Err end) (given_args target x line)) same
       (subst (λ x. Comes before before x (given_args target given_es line)) is c)))

@@ -36,9 +36,8 @@ module _ (program : ProgramTree) (f : Frame) where
     pub round_is : (n : ℕ) (s : State) → loop_acts program n f l tt s ≡
         and_then (cond_evaluated s) (λ v s. tested n (is_true v) s)
     round_is n s =
-        loop_is program n f l s
-        ∙ then_then (cond_evaluated s) (λ v s. choose v (leave Next tt s) (leave Break tt s))
-        (λ left s. take (in_loop left.exit) (rest_of_round n) left.carried s)
+        loop_is program n f l s ∙ then_then (cond_evaluated s) (λ v s. choose v _ _)
+        (λ left s. take (in_loop _) (rest_of_round n) _ s)
         ∙ (λ i. and_then (cond_evaluated s) (λ v s. by_truth n (is_true v) s i))
 
 module _ (program : ProgramTree) (before : Seen) (work : List Work) (f : Frame) where
@@ -94,24 +93,19 @@ module _ (program : ProgramTree) (before : Seen) (work : List Work) (f : Frame) 
     pub round_err : (end : RunEnd) → Comes before before (Err end) (cond_evaluated program f l) →
         Steps program before work f (λ n. loop_acts program n f l tt) (Stop end) before work f
     round_err end c =
-        steps_as (λ n. loop_acts program n f l tt) (λ n s.
-        and_then (cond_evaluated program f l s) (λ v s. tested program f l n (is_true v) s))
-        (Stop end) before work f (round_is program f l)
-        (step_stops program before before work f end (cond_evaluated program f l)
-        (λ n v s. tested program f l n (is_true v) s) c)
+        steps_as _ (λ n s. and_then (cond_evaluated program f l s) (λ v s. tested program f l n _ s))
+        _ before work f (round_is program f l) (step_stops program before before work f end _
+        (λ n v s. tested program f l n _ s) c)
 
     pub round_goes : (v : Value) (after : Seen) (step : Step) (later : List Work) →
         Comes before before (Ok v) (cond_evaluated program f l) → is_true v ≡ true →
         Steps program before work f (λ n s. tested program f l n true s) step after later f →
         Steps program before work f (λ n. loop_acts program n f l tt) step after later f
     round_goes v after step later c true_is h =
-        steps_as (λ n. loop_acts program n f l tt) (λ n s.
-        and_then (cond_evaluated program f l s) (λ v s. tested program f l n (is_true v) s)) step after later f
-        (round_is program f l) (steps_on before after v (cond_evaluated program f l)
-        (λ n v s. tested program f l n (is_true v) s) step later f c
-        (steps_as (λ n s. tested program f l n (is_true v) s)
-        (λ n s. tested program f l n true s) step after later f
-        (λ n s. ap (λ b. tested program f l n b s) true_is) h))
+        steps_as _ (λ n s.
+        and_then (cond_evaluated program f l s) (λ v s. tested program f l n _ s)) step after later f
+        (round_is program f l) (steps_on before after v _ (λ n v s. tested program f l n _ s) step later f c
+        (steps_as _ _ step after later f (λ n s. ap (λ b. tested program f l n b s) true_is) h))
 
     abbrev in_body : ℕ → Unit {0} → State → Piece (Left (Unit {0}))
     in_body n u s = follow in_loop (block_acts program n f l.body.now tt s)
@@ -122,19 +116,16 @@ module _ (program : ProgramTree) (before : Seen) (work : List Work) (f : Frame) 
         Comes before after (Err end) turn → Steps program before work f (λ n. loop_acts program n f l tt)
         (Stop end) after work f
     round_out v after end c true_is t =
-        round_goes v after (Stop end) work c true_is (step_stops program before after work f end turn in_body t)
+        round_goes v after _ work c true_is (step_stops program before after work f end turn in_body t)
 
 module _ (program : ProgramTree) (before after : Seen) (work later : List Work) (f : Frame) (l : Loop) where
   pub round_in : (v : Value) → Comes before before (Ok v) (cond_evaluated program f l) → is_true v ≡ true →
       Comes before after (Ok tt) turn → later ≡ work ++ Body' l ∷ [] →
       Steps program before work f (λ n. loop_acts program n f l tt) (Go (Run' l.body)) after later f
   round_in v c true_is t is =
-      round_goes program before work f l v after (Go (Run' l.body)) later c true_is
-      (steps_on program before work f after after tt turn (in_body program before work f l)
-      (Go (Run' l.body)) later f t (steps_wait program after work f (Body' l) later
-      (λ n s. in_body program before work f l n tt s) (λ n s. block_acts program n f l.body.now tt s)
-      (Go (Run' l.body)) after later f is (λ n s. refl)
-      (steps_later program after later f (Run' l.body) (λ n s. block_acts program n f l.body.now tt s)
+      round_goes program before work f l v after _ later c true_is
+      (steps_on program before work f after after tt turn _ _ later f t (steps_wait program after work f _ later
+      _ (λ n s. block_acts program n f _ tt s) _ after later f is (λ n s. refl) (steps_later program after later f _ _
       (λ n s. refl))))
 
 -- nothing waits
@@ -142,10 +133,10 @@ pub nothing_waits : (program : ProgramTree) (before : Seen) (work later : List W
     (step : Step) (after : Seen) (g : Frame) → length work ≡ 0 → length later ≡ 0 →
     Steps program before [] f p step after [] g → Steps program before work f p step after later g
 nothing_waits program before [] [] f p step after g a b h = h
-nothing_waits program before [] (w ∷ later) f p step after g a b h = absurd (some (length later) b) where
+nothing_waits program before [] (w ∷ later) f p step after g a b h = absurd (some _ b) where
   some : (n : ℕ) → suc n ≡ 0 → ⊥
   some n e = omega (arith, e)
-nothing_waits program before (w ∷ work) later f p step after g a b h = absurd (some (length work) a) where
+nothing_waits program before (w ∷ work) later f p step after g a b h = absurd (some _ a) where
   some : (n : ℕ) → suc n ≡ 0 → ⊥
   some n e = omega (arith, e)
 
@@ -158,7 +149,7 @@ module _ (program : ProgramTree) (before : Seen) (work earlier : List Work) (f :
       ((n : ℕ) (s : State) → resume program n (x ∷ reverse earlier) f (leave exit tt s) ≡
       resume program n (reverse earlier) f (p n s)) → Steps program before work f (leaving exit) step after later g
   taken exit x p is h same =
-      steps_resume program before work f x earlier (leaving exit) p step after later g
+      steps_resume program before work f x earlier _ p step after later g
       (popped ∙ ap (λ y. earlier ++ y ∷ []) is) same h
 
   pub caller_taken : (p : Acting) (x : Work) → w ≡ x → Steps program before (earlier ++ x ∷ []) f p step after later g →

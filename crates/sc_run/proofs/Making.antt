@@ -38,15 +38,13 @@ pub with_more : (comp : ℕ) (sizes : List ℕ) (args : List Value) (n at : ℕ)
     now ≡ with_sizes comp sizes args memory → later ≡ with_blocks comp (now comp ++ block_for n arg ∷ []) now →
     later ≡ with_sizes comp (sizes ++ n ∷ []) args memory
 with_more comp sizes args n at arg memory now later place is so_far gives =
-    let block : block_for n arg ≡ block_for n (slice_get args (length sizes)) =
+    let block =
     ap (block_for n) (is ∙ ap (slice_get args) place) in
     let stands_so : now comp ≡ memory comp ++ blocks_for sizes args =
-    (λ i. so_far i comp) ∙ at_itself comp (memory comp ++ blocks_for sizes args) memory in
-    gives ∙ (λ i. with_blocks comp (stands_so i ++ block i ∷ []) (so_far i)) ∙
-    with_twice comp ((memory comp ++ blocks_for sizes args) ++ block_for n (slice_get args (length sizes)) ∷ [])
+    (λ i. so_far i comp) ∙ at_itself comp _ memory in
+    gives ∙ (λ i. with_blocks comp (stands_so i ++ block i ∷ []) (so_far i)) ∙ with_twice comp _
     (memory comp ++ blocks_for sizes args) memory
-    ∙ ap (λ bs. with_blocks comp bs memory) (append_assoc (memory comp) (blocks_for sizes args)
-    (block_for n (slice_get args (length sizes)) ∷ []) ∙
+    ∙ ap (λ bs. with_blocks comp bs memory) (append_assoc (memory comp) (blocks_for sizes args) (block_for n _ ∷ []) ∙
     ap (λ bs. memory comp ++ bs) (sym (blocks_more sizes args n)))
 
 module _ (structs : List TypedStruct) (here : Here) (params : ℕ) where
@@ -111,10 +109,9 @@ module _ (structs : List TypedStruct) (here : Here) (params : ℕ) where
       (init_does c_arith structs here params k local local.init tt) →
       Comes before next (Err end) (inits_from locals 0 tt)
   started_blamed locals k local before now next end there item h c =
-      h.on next (Err end) (record {
-        comes = λ s shows.
-            subst (CameTo (Err end) next) (sym (first_init locals k local there item s))
-            (by_piece (init_does c_arith structs here params k local local.init tt s) (c.comes s shows));
+      h.on next _ (record {
+        comes = λ s shows. subst (CameTo (Err end) next) (sym (first_init locals k local there item s))
+            (by_piece (init_does c_arith structs here params k local _ tt s) (c.comes s shows));
         fewer = c.fewer;
       }) where
         by_piece : (p : Piece (Left (Unit {0}))) → CameTo (Err end) next p →
@@ -142,9 +139,8 @@ module _ {A : Type 0} (f : A → ℕ) (xs : List A) (at : ℕ) (x : A) (there : 
     (item : x ≡ get_or xs at x) where
   pub sizes_more : take (at + 1) (map f xs) ≡ take at (map f xs) ++ f x ∷ []
   sizes_more =
-      take-map f (at + 1) xs ∙ ap (map f) (take_more xs at x there ∙ ap (λ y. take at xs ++ y ∷ []) (sym item)) ∙
-      map-append f (take at xs) (x ∷ [])
-      ∙ ap (λ ys. ys ++ f x ∷ []) (sym (take-map f at xs))
+      take-map f _ xs ∙ ap (map f) (take_more xs at x there ∙ ap (λ y. take at xs ++ y ∷ []) (sym item)) ∙
+      map-append f (take at xs) (x ∷ []) ∙ ap (λ ys. ys ++ f x ∷ []) (sym (take-map f at xs))
 
   sizes_length : at ≡ length (take at (map f xs))
   sizes_length = omega (arith, length-take at (map f xs), length-map xs f)
@@ -156,8 +152,7 @@ module _ {A : Type 0} (f : A → ℕ) (xs : List A) (at : ℕ) (x : A) (there : 
       later ≡ with_blocks comp (now comp ++ block_for count arg ∷ []) now →
       later ≡ with_sizes comp (front ++ take (at + 1) (map f xs)) args memory
   one_more comp front args place count arg memory now later where_ counted is so_far gives =
-      with_more comp (front ++ take at (map f xs)) args count place arg memory now later
+      with_more comp _ args count place arg memory now later
       (omega (arith, where_, length-append front (take at (map f xs)), sizes_length)) is so_far gives
-      ∙ ap (λ sizes. with_sizes comp sizes args memory)
-      (append_assoc front (take at (map f xs)) (count ∷ []) ∙
+      ∙ ap (λ sizes. with_sizes comp sizes args memory) (append_assoc front _ _ ∙
       ap (λ ys. front ++ ys) (ap (λ n. take at (map f xs) ++ n ∷ []) counted ∙ sym sizes_more))

@@ -2,8 +2,8 @@
 use Rattle.sc_run.proofs.Common.{Again, Body as Body', Caller, End, Ended, Event, EventsOut, First, Frame, Front, Goes}
 use Rattle.sc_run.proofs.Common.{Gone, IsStop, Leave, Left, List, None, Now, Option, Piece, ProgramTree, Reached, Rest}
 use Rattle.sc_run.proofs.Common.{Run as Run', RunEnd, Seen, Some, SourceRun, Standing, State, Stopped, Value, Work, []}
-use Rattle.sc_run.proofs.Common.{and_then, ap, arith, back_goes, back_own, back_to, closes, does_now, done, done_goes}
-use Rattle.sc_run.proofs.Common.{earlier, exit_of, exit_word, follow_goes, front_more, function_in, if◌then◌else◌}
+use Rattle.sc_run.proofs.Common.{and_then, ap, arith, back_goes, back_own, back_to, does_now, done, done_goes}
+use Rattle.sc_run.proofs.Common.{earlier, exit_word, follow_goes, front_more, function_in, if◌then◌else◌}
 use Rattle.sc_run.proofs.Common.{in_loop, in_order, le-leb, length, length-append, lt-ltb, next_acts, refl, resume}
 use Rattle.sc_run.proofs.Common.{returned, reverse, run_to, stays, stopped_at, subst, suc, take, take-append-le}
 use Rattle.sc_run.proofs.Common.{then_goes, ℕ, ◌<◌, ◌∙◌, ◌∷◌, ◌≡◌, ◌≤◌}
@@ -29,10 +29,9 @@ module _ (program : ProgramTree) (s : State) where
       ((v : Option Value) → Goes (back v)) →
       (p : Piece (Left (Unit {0}))) → Gone s p → Gone s (returned program f back p)
   returned_goes f back b p h =
-      then_goes s (and_then p (closes program f)) _ (then_goes s p (closes program f) h (closes_goes program 0 f))
-      (λ v t.
-      let end : State = done f.scope.comp.now (function_in program f) f.scope.first t in
-      earlier t end (back v end) (done_goes f.scope.comp.now (function_in program f) f.scope.first t) (b v end))
+      then_goes s (and_then p _) _ (then_goes s p _ h (closes_goes program 0 f)) (λ v t.
+      let end = done f.scope.comp.now (function_in program f) f.scope.first t in
+      earlier t end _ (done_goes _ (function_in program f) _ t) (b v end))
 
   run_goes : (p : Piece (Option Value)) → Gone s p → Onward s.trace (run_to program.interfaces.main p).behaviour
   run_goes (Reached v t) h =
@@ -41,7 +40,7 @@ module _ (program : ProgramTree) (s : State) where
         ended = λ _. omega (
           arith,
           length-append t.trace (end ∷ []),
-          ap (length {A = Event}) h.grown.events.is,
+          ap (length) h.grown.events.is,
           length-append s.trace h.grown.events.more,
         );
       } where
@@ -68,15 +67,15 @@ module _ (program : ProgramTree) (s : State) where
       (result_goes_on program 0 caller to))
 
 now_goes : (program : ProgramTree) (n : ℕ) (f : Frame) (now : Now) → Goes (does_now program f now n)
-now_goes program n f (Run' stmts) = block_goes program n f stmts.now
-now_goes program n f (Leave exit) = stays (record { exit = exit_of exit; carried = tt })
+now_goes program n f (Run' stmts) = block_goes program n f _
+now_goes program n f (Leave exit) = stays _
 
 module _ (program : ProgramTree) (whole : SourceRun) (seen : Seen) (work : List Work) (f : Frame) (now : Now) where
   onward : Standing program whole seen work f (does_now program f now) → Onward seen.trace whole
   onward h =
-      subst (λ t. Onward t whole) (ap (λ x. x.trace) h.shows) (subst (Onward h.state.trace) h.rest
-      (resume_goes program h.state h.open_calls (reverse work) f (does_now program f now h.open_calls h.state)
-      (now_goes program h.open_calls f now h.state)))
+      subst (λ t. Onward t whole) (ap (λ x. x.trace) h.shows) (subst (Onward _) h.rest
+      (resume_goes program h.state h.open_calls (reverse work) f (does_now program f now _ h.state)
+      (now_goes program _ f now h.state)))
 
   reached : (events : ℕ) (trace : List Event) (end : RunEnd) → events ≤ length seen.trace →
       Onward seen.trace (record { trace = trace; end = end }) →
@@ -84,13 +83,12 @@ module _ (program : ProgramTree) (whole : SourceRun) (seen : Seen) (work : List 
   reached events trace Ended le h =
       ap (λ b. if b then (record { trace = take events trace; end = EventsOut }) else
       (record { trace = trace; end = Ended })) (lt-ltb events (length trace)
-      (over (length seen.trace) (length trace) le (h.ended refl))) where
+      (over (length _) (length trace) le (h.ended refl))) where
         over : (a b : ℕ) → events ≤ a → suc a ≤ b → events < b
         over a b x y = omega (arith, x, y)
   reached events trace end le h =
       ap (λ b. if b then (record { trace = take events trace; end = EventsOut }) else
-      (record { trace = trace; end = end }))
-      (le-leb events (length trace) (omega (
+      (record { trace = trace; end = end })) (le-leb events (length trace) (omega (
         arith,
         le,
         ap (length {A = Event}) h.grown.is,
@@ -102,5 +100,5 @@ module _ (program : ProgramTree) (whole : SourceRun) (seen : Seen) (work : List 
       Standing program whole seen work f (does_now program f now) →
       stopped_at events whole ≡ record { trace = take events seen.trace; end = EventsOut }
   stopped_here events le h =
-      reached events whole.trace whole.end le (onward h) ∙
-      (λ i. record { trace = take_front events seen.trace whole.trace le (onward h).grown i; end = EventsOut })
+      reached events _ _ le (onward h) ∙
+      (λ i. record { trace = take_front events _ _ le (onward h).grown i; end = EventsOut })

@@ -1,7 +1,7 @@
 -- Where a run stands, as pieces come to something and as things are left to wait.
 use Rattle.sc_run.proofs.Common.{Again, Body as Body', Caller, CameTo, Comes, Err, First, Frame, Left, List, Ok, Piece}
 use Rattle.sc_run.proofs.Common.{ProgramTree, Reached, Rest, RunEnd, Seen, SourceRun, Standing, State, Steps, Stop}
-use Rattle.sc_run.proofs.Common.{Stopped, Work, [], and_then, ap, arith, refl, resume, reverse, reverse-append, suc}
+use Rattle.sc_run.proofs.Common.{Stopped, Work, [], and_then, ap, arith, refl, resume, reverse, reverse-append}
 use Rattle.sc_run.proofs.Common.{sym, ℕ, ◌++◌, ◌∙◌, ◌∷◌, ◌≡◌, ◌≤◌}
 use Rattle.sc_run.proofs.Coming.{then_stops}
 
@@ -17,7 +17,7 @@ module _ (program : ProgramTree) where
   resume_stopped n (First l ∷ work) f end s = resume_stopped n work f end s
   resume_stopped n (Body' l ∷ work) f end s = resume_stopped n work f end s
   resume_stopped n (Again l ∷ work) f end s = resume_stopped n work f end s
-  resume_stopped n (Caller caller to crossing ∷ work) f end s = resume_stopped (suc n) work caller end s
+  resume_stopped n (Caller caller to crossing ∷ work) f end s = resume_stopped _ work caller end s
 
   module _ (whole : SourceRun) (work : List Work) (f : Frame) where
     -- the same, as the piece is told otherwise
@@ -29,8 +29,7 @@ module _ (program : ProgramTree) where
           state = h.state;
           shows = h.shows;
           enough = h.enough;
-          rest = ap (λ x. (resume program h.open_calls (reverse work) f x).behaviour)
-              (sym (same h.open_calls h.state)) ∙ h.rest;
+          rest = ap (λ x. (resume program h.open_calls (reverse work) f x).behaviour) (sym (same _ h.state)) ∙ h.rest;
         }
 
     goes_at : {V : Type 0} (after : Seen) (v : V) (n : ℕ) (x : Piece V) (go : ℕ → V → State → Piece (Left (Unit {0}))) →
@@ -54,7 +53,7 @@ module _ (program : ProgramTree) where
         Standing program whole before work f (λ n s. and_then (p s) (go n)) →
         Standing program whole after work f (λ n s. go n v s)
     goes_on before after v p go c h =
-        goes_at after v h.open_calls (p h.state) go (c.comes h.state h.shows)
+        goes_at after v _ _ go (c.comes h.state h.shows)
         (fewer (ap (λ x. x.turns) h.shows) c.fewer h.enough) h.rest where
           fewer : h.state.turns ≡ before.turns → after.turns ≤ before.turns → h.state.turns ≤ h.open_calls →
               after.turns ≤ h.open_calls
@@ -70,12 +69,12 @@ module _ (program : ProgramTree) where
         state = h.state;
         shows = h.shows;
         enough = h.enough;
-        rest = ap (λ x. x.behaviour) (sym (same h.open_calls h.state)) ∙ h.rest;
+        rest = ap (λ x. x.behaviour) (sym (same _ h.state)) ∙ h.rest;
       }
 
 -- the newest thing that waits stands first
 pub newest_first : (work : List Work) (w : Work) → reverse (work ++ w ∷ []) ≡ w ∷ reverse work
-newest_first work w = reverse-append work (w ∷ [])
+newest_first work w = reverse-append work _
 
 module _ (program : ProgramTree) (before after : Seen) (work : List Work) (f : Frame) where
   ended_at : (whole : SourceRun) (end : RunEnd) (n : ℕ) (x : Piece (Left (Unit {0}))) → CameTo (Err end) after x →
@@ -89,11 +88,10 @@ module _ (program : ProgramTree) (before after : Seen) (work : List Work) (f : F
       Comes before after (Err end) p → Steps program before work f (λ n s. and_then (p s) (go n))
       (Stop end) after work f
   step_stops end p go c = record {
-    stands = λ whole h. ended_at whole end h.open_calls (and_then (p h.state) (go h.open_calls))
-        ((then_stops before after end p (go h.open_calls) c).comes h.state h.shows) h.rest;
+    stands = λ whole h. ended_at whole end _ _ ((then_stops before after end p _ c).comes h.state h.shows) h.rest;
   }
 
   pub step_ends : (end : RunEnd) (p : State → Piece (Left (Unit {0}))) → Comes before after (Err end) p →
       Steps program before work f (λ n s. p s) (Stop end) after work f
   step_ends end p c =
-      record { stands = λ whole h. ended_at whole end h.open_calls (p h.state) (c.comes h.state h.shows) h.rest }
+      record { stands = λ whole h. ended_at whole end _ _ (c.comes h.state h.shows) h.rest }

@@ -4,7 +4,7 @@ use Rattle.sc_run.proofs.Common.{ProgramTree, Reached, Rest, Return, Route, Seen
 use Rattle.sc_run.proofs.Common.{TypedExpr, TypedSimple, TypedStmt, TypedStmtKind, TypedStmtKind-F, Work, [], and_then}
 use Rattle.sc_run.proofs.Common.{ap, arith, assign, block_acts, c_arith, calls_in, choose, drop, drop_all, evaluated}
 use Rattle.sc_run.proofs.Common.{follow, get_or, here_of, in_order, kind_step, layer_of, leave, length, length-drop}
-use Rattle.sc_run.proofs.Common.{loop, loop_acts, part_acts, refl, resume, reverse, roll-TypedStmtKind, stmt_acts}
+use Rattle.sc_run.proofs.Common.{loop, loop_acts, part_acts, refl, resume, roll-TypedStmtKind, stmt_acts}
 use Rattle.sc_run.proofs.Common.{stmt_at, stmt_step, subst, sym, take, take_all, test, way_in, ℕ, ◌++◌, ◌-◌, ◌∙◌, ◌∷◌}
 use Rattle.sc_run.proofs.Common.{◌≡◌, ◌≤◌}
 use Rattle.sc_core.specs.declared.stmt.TypedStmtKind.TheOpen as layer
@@ -33,15 +33,14 @@ pub stmt_as : (program : ProgramTree) (before : Seen) (work : List Work) (f : Fr
     (λ n. layer_acts program n f k stmt.line) step after later g →
     Steps program before work f (λ n. stmt_acts program n f stmt tt) step after later g
 stmt_as program before work f stmt k step after later g is h =
-    steps_as program before work f (λ n. stmt_acts program n f stmt tt)
-    (λ n. layer_acts program n f k stmt.line) step after later g (stmt_is program f stmt k is) h
+    steps_as program before work f _ _ step after later g (stmt_is program f stmt k is) h
 
 pub first_and_rest : {A : Type 0} (xs : List A) (x : A) → 1 ≤ length xs → x ≡ get_or xs 0 x → xs ≡ x ∷ drop 1 xs
 first_and_rest [] x h is = absurd (omega (arith, h))
 first_and_rest (y ∷ xs) x h is = λ i. sym is i ∷ xs
 
 pub rest_of : {A : Type 0} (xs : List A) → take (length xs - 1) (drop 1 xs) ≡ drop 1 xs
-rest_of xs = take_all (length xs - 1) (drop 1 xs) (omega (arith, length-drop 1 xs))
+rest_of xs = take_all _ _ (omega (arith, length-drop 1 xs))
 
 -- the first statement, while the others wait
 pub list_steps : (program : ProgramTree) (before : Seen) (work later : List Work) (f : Frame) (stmts : List TypedStmt)
@@ -50,11 +49,9 @@ pub list_steps : (program : ProgramTree) (before : Seen) (work later : List Work
     Steps program before later f (λ n. stmt_acts program n f stmt tt) step after last g →
     Steps program before work f (λ n s. block_acts program n f stmts tt s) step after last g
 list_steps program before work later f stmts stmt rest step after last g split same pushed h =
-    steps_as program before work f (λ n s. block_acts program n f stmts tt s)
-    (λ n s. block_acts program n f (stmt ∷ rest.now) tt s) step after last g
+    steps_as program before work f _ (λ n s. block_acts program n f (stmt ∷ rest.now) tt s) step after last g
     (λ n s. ap (λ xs. block_acts program n f xs tt s) (split ∙ ap (λ xs. stmt ∷ xs) (sym same)))
-    (steps_wait program before work f (Rest rest) later (λ n s. block_acts program n f (stmt ∷ rest.now) tt s)
-    (λ n. stmt_acts program n f stmt tt) step after last g pushed (λ n s. refl) h)
+    (steps_wait program before work f _ later _ _ step after last g pushed (λ n s. refl) h)
 
 by_exit : (exit : Exit) (s : State) → follow in_order (leave exit tt s) (leave {A = Unit {0}} Next) ≡ leave exit tt s
 by_exit Next s = refl
@@ -64,7 +61,7 @@ by_exit (Return v) s = refl
 
 -- nothing follows the last statement
 pub alone : (p : Piece (Left (Unit {0}))) → follow in_order p (leave Next) ≡ p
-alone (Reached left s) = by_exit left.exit s
+alone (Reached left s) = by_exit _ s
 alone (Stopped end s) = refl
 
 -- the last statement, with nothing that waits for it
@@ -74,10 +71,8 @@ pub last_steps : (program : ProgramTree) (before : Seen) (work : List Work) (f :
     Steps program before work f (λ n. stmt_acts program n f stmt tt) step after later g →
     Steps program before work f (λ n s. block_acts program n f stmts tt s) step after later g
 last_steps program before work f stmts stmt step after later g split one h =
-    steps_as program before work f (λ n s. block_acts program n f stmts tt s)
-    (λ n. stmt_acts program n f stmt tt) step after later g
-    (λ n s. ap (λ xs. block_acts program n f xs tt s)
-    (split ∙ ap (λ xs. stmt ∷ xs) (drop_all 1 stmts (omega (arith, one)))) ∙ alone (stmt_acts program n f stmt tt s)) h
+    steps_as program before work f _ _ step after later g (λ n s. ap (λ xs. block_acts program n f xs tt s)
+    (split ∙ ap (λ xs. stmt ∷ xs) (drop_all 1 stmts (omega (arith, one)))) ∙ alone _) h
 
 -- a part of a `for`, while the loop waits: the first one, or what comes before the next round
 pub part_steps : (program : ProgramTree) (before : Seen) (work later : List Work) (f : Frame) (route : Exit → Route)
@@ -91,10 +86,7 @@ pub part_steps : (program : ProgramTree) (before : Seen) (work later : List Work
 part_steps program before work later f route waiting given part l step after last g waits is pushed h =
     subst (λ o. Steps program before work f
     (λ n s. follow route (part_acts program n f o tt s) (loop_acts program n f l)) step after last g) (sym is)
-    (steps_wait program before work f waiting later
-    (λ n s. follow route (part_acts program n f (Some part) tt s) (loop_acts program n f l))
-    (λ n. part_acts program n f (Some part) tt) step after last g pushed
-    (λ n s. waits n (reverse work) (part_acts program n f (Some part) tt s)) h)
+    (steps_wait program before work f waiting later _ _ step after last g pushed (λ n s. waits n _ _) h)
 
 module _ (program : ProgramTree) (before : Seen) (work : List Work) (f : Frame) (line : ℕ) (step : Step) (after : Seen)
     (later : List Work) (g : Frame) where

@@ -60,13 +60,13 @@ between_same bs o cells v w = refl
 
 wanted_same : (ty : Ty) (q : Value) → WaySame (wanted ty q)
 wanted_same ty q want.Place bs = refl
-wanted_same ty q want.Value bs = ap (λ r. if is_array ty then Ok q else r) (load_same bs (is_pointer ty) q)
+wanted_same ty q want.Value bs = ap (λ r. if is_array ty then Ok q else r) (load_same bs _ q)
 
 at_same : (ty : Ty) (place : Blocks → Result Value Cause) → ((bs : Blocks) → place (blank bs) ≡ place bs) →
     WaySame (at_place ty place)
 at_same ty place h wish bs =
     ap (λ r. bind r (λ q. wanted ty q wish (blank bs))) (h bs) ∙
-    by_ok (place bs) (λ q. wanted ty q wish (blank bs)) (λ q. wanted ty q wish bs) (λ q. wanted_same ty q wish bs)
+    by_ok (place bs) (λ q. wanted ty q wish _) (λ q. wanted ty q wish bs) (λ q. wanted_same ty q wish bs)
 
 module _ (structs : List TypedStruct) where
   pointer_same : (bs : Blocks) (o : BinaryOp) (l r : Ty) (v w : Value) →
@@ -122,7 +122,7 @@ module _ (structs : List TypedStruct) where
 
     layer_same : (ty : Ty) (k : TypedKind-F TypedKind TypedExpr) → Under Same k → Same (typed ty k)
     layer_same ty k h =
-        subst (λ m. WaySame m.way) (sym (expr_at _ _ (term_step c_arith structs here params) meant_step ty k))
+        subst (λ m. WaySame m.way) (sym (expr_at _ _ (term_step c_arith structs here params) _ ty k))
         (term_same ty k h)
 
     pub way_same : (e : TypedExpr) → WaySame (ways c_arith structs here params e)

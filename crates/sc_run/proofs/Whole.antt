@@ -33,7 +33,7 @@ module _ (program : ProgramTree) (first : Now) (begun : Seen) (f : Frame) (now :
   since_events events enough whole start =
       stopped_here program whole seen work g now events enough (stands_so whole start)
       ∙ sym (ap (λ b. if b then (record { trace = take events seen.trace; end = EventsOut }) else
-      (record { trace = seen.trace; end = EventsOut })) (le-leb events (length seen.trace) enough))
+      (record { trace = seen.trace; end = EventsOut })) (le-leb events _ enough))
 
 module _ (program : ProgramTree) (inputs : List ℕ) (turns events : ℕ) where
   abbrev seen_first : Seen
@@ -52,7 +52,7 @@ module _ (program : ProgramTree) (inputs : List ℕ) (turns events : ℕ) where
       (begun : Begun callee [] before after f) where
     stands_first : Standing program whole_run after [] f (λ n s. body_acts program n f tt s)
     stands_first =
-        begins program inputs turns callee callee.number after f at.0 at.1.0 refl at.1.2
+        begins program inputs turns callee _ after f at.0 at.1.0 refl at.1.2
         (subst (λ x. Begun callee [] x after f) at_first begun)
 
     module _ (step : Step) (steps : Steps program after [] f
@@ -63,12 +63,11 @@ module _ (program : ProgramTree) (inputs : List ℕ) (turns events : ℕ) where
           run ≡ meaning program inputs turns events
       over_at_once end stops is =
           is ∙ sym (ap (stopped_at events) (subst (λ x. Stands program whole_run x started [] f) stops
-          (steps.stands whole_run stands_first)))
+          (steps.stands _ stands_first)))
 
       -- a run that was gone through to its end
       pub gone_through : (now : Now) (trace : List Event) (end : RunEnd) → step ≡ Go now →
           EndsAs program now started f events trace end →
           run ≡ stopped_at events (record { trace = trace; end = end }) → run ≡ meaning program inputs turns events
       gone_through now trace end goes ends is =
-          is ∙ sym (ends whole_run (subst (λ x. Stands program whole_run x started [] f) goes
-          (steps.stands whole_run stands_first)))
+          is ∙ sym (ends _ (subst (λ x. Stands program whole_run x started [] f) goes (steps.stands _ stands_first)))
