@@ -3,8 +3,8 @@ use Rattle.sc_interfaces.proofs.Common.{Agreements, Bool, HeadTree, List, None, 
 use Rattle.sc_interfaces.proofs.Common.{added_beside, agree, agrees_first, agrees_with, all_added, all_numbered}
 use Rattle.sc_interfaces.proofs.Common.{allowed, among, and-false, and-true, and_assoc, ap, bytes_eq, cond, false}
 use Rattle.sc_interfaces.proofs.Common.{first_by_name, forbidden, if◌then◌else◌, is_numbered, is_some, list_any-append}
-use Rattle.sc_interfaces.proofs.Common.{nat_list_eq_equiv, no_heads, not, numbered, or_assoc, pointwise, refl, sym}
-use Rattle.sc_interfaces.proofs.Common.{true, with_first, ◌&&◌, ◌++◌, ◌==◌, ◌||◌, ◌∙◌, ◌∷◌, ◌≡◌}
+use Rattle.sc_interfaces.proofs.Common.{nat_list_eq_equiv, no_heads, not, numbered, or_assoc, refl, sym}
+use Rattle.sc_interfaces.proofs.Common.{true, with_first, ◌&&◌, ◌++◌, ◌||◌, ◌∙◌, ◌∷◌, ◌≡◌}
 use Rattle.std.proofs.lemmas.Slice.Eq.{bytes_eq-Decides}
 use Rattle.sc_interfaces.proofs.Agreeing.{agree_symm, agree_left}
 
@@ -24,23 +24,20 @@ or_absorbed false false h = refl
 
 numbered_by : (names : List Text) (name k : Text) (known : Bool) → is_numbered names name ≡ known →
     is_numbered (if known then names else names ++ name ∷ []) k ≡ (is_numbered names k || bytes_eq k name)
-numbered_by names name k true there =
-    or_absorbed (is_numbered names k) (bytes_eq k name) (λ same. ap (is_numbered names) (same_text k name same) ∙ there)
+numbered_by names name k true there = or_absorbed _ _ (λ same. ap (is_numbered names) (same_text k name same) ∙ there)
 numbered_by names name k false absent =
-    list_any-append (pointwise ◌==◌ k) names (name ∷ []) ∙
-    ap (λ last. is_numbered names k || last) (or-false (bytes_eq k name))
+    list_any-append _ names _ ∙ ap (λ last. is_numbered names k || last) (or-false _)
 
 -- a name is there after another came, where it was there or is that name
 pub is_numbered-numbered : (names : List Text) (name k : Text) →
     is_numbered (numbered names name) k ≡ (is_numbered names k || bytes_eq k name)
-is_numbered-numbered names name k = numbered_by names name k (is_numbered names name) refl
+is_numbered-numbered names name k = numbered_by names name k _ refl
 
 all_numbered_from : (names known : List Text) (k : Text) →
     is_numbered (all_numbered known names) k ≡ (is_numbered known k || is_numbered names k)
-all_numbered_from [] known k = sym (or-false (is_numbered known k))
+all_numbered_from [] known k = sym (or-false _)
 all_numbered_from (name ∷ names) known k =
-    all_numbered_from names (numbered known name) k ∙
-    (ap (λ first. first || is_numbered names k) (is_numbered-numbered known name k) ∙
+    all_numbered_from names _ k ∙ (ap (λ first. first || is_numbered names k) (is_numbered-numbered known name k) ∙
     or_assoc (is_numbered known k) (bytes_eq k name) (is_numbered names k))
 
 pub all_numbered_same : (names : List Text) (k : Text) → among (all_numbered [] names) k ≡ among names k
@@ -60,9 +57,9 @@ pub allowed_forbidden : (known : Agreements) (name : Text) (head : HeadTree) →
     allowed (forbidden known name) head ≡ (allowed known head && not (bytes_eq name head.name))
 allowed_forbidden known name head =
     ap (λ there. not there && agrees_first (first_by_name known.firsts head.name) head)
-    (is_numbered-numbered known.conflicts name head.name) ∙
+    (is_numbered-numbered _ name _) ∙
     forbidden_bools (among known.conflicts head.name) (bytes_eq head.name name) (bytes_eq name head.name)
-    (agrees_first (first_by_name known.firsts head.name) head) (nat_list_eq_equiv.symm name head.name)
+    (agrees_first (first_by_name known.firsts head.name) head) (nat_list_eq_equiv.symm name _)
 
 abbrev or_last : Option HeadTree → Bool → HeadTree → Option HeadTree
 or_last (Some first) same head = Some first
@@ -94,7 +91,7 @@ new_bools false true true agrees o (Some f) head added a absent = cc (absent ref
 new_bools false true false agrees o first head added a absent = cc
 new_bools false false true agrees o first head added a absent = cc
 new_bools false false false agrees o None head added a absent = refl
-new_bools false false false agrees o (Some f) head added a absent = sym (and-true (agree f head))
+new_bools false false false agrees o (Some f) head added a absent = sym (and-true _)
 
 old_bools : (x same agrees : Bool) → (same ≡ true → x ≡ true → agrees ≡ true) → x ≡ (x && (not same || agrees))
 old_bools true true agrees h = sym (h refl refl)
@@ -113,9 +110,9 @@ allowed_first : (known : Agreements) (name : Text) (first head : HeadTree) →
     first_by_name known.firsts name ≡ Some first → bytes_eq name head.name ≡ true →
     allowed known head ≡ true → agree first head ≡ true
 allowed_first known name first head there same holds =
-    second (among known.conflicts head.name) (agree first head)
+    second (among known.conflicts head.name) _
     (ap (λ found. not (among known.conflicts head.name) && agrees_first found head)
-    (sym there ∙ ap (first_by_name known.firsts) (same_text name head.name same)) ∙ holds)
+    (sym there ∙ ap (first_by_name _) (same_text name _ same)) ∙ holds)
   where
     second : (a b : Bool) → (not a && b) ≡ true → b ≡ true
     second true b h = cc
@@ -132,29 +129,26 @@ beside : (known : Agreements) (name : Text) (added head : HeadTree) (first : Opt
     (allowed known head && (not (bytes_eq name head.name) || agree added head))
 beside known name added head None absent =
     ap (λ firsts. not (among known.conflicts head.name) && agrees_first (first_by_name firsts head.name) head)
-    (with_first_last known.firsts name added absent) ∙
+    (with_first_last _ name added absent) ∙
     ap (λ found. not (among known.conflicts head.name) && agrees_first found head)
     (first_by_name-last known.firsts name head.name added) ∙
-    new_bools (among known.conflicts head.name) (bytes_eq head.name name) (bytes_eq name head.name) (agree added head)
-    (nat_list_eq_equiv.symm name head.name)
+    new_bools (among known.conflicts head.name) _ (bytes_eq name head.name) _ (nat_list_eq_equiv.symm name _)
     (first_by_name known.firsts head.name) head added refl
-    (λ same. ap (first_by_name known.firsts) (same_text head.name name same) ∙ absent)
+    (λ same. ap (first_by_name _) (same_text _ name same) ∙ absent)
 beside known name added head (Some first) there = at (agree first added) refl
   where
-    at : (agrees : Bool) → agree first added ≡ agrees →
-        allowed (if agrees then known else forbidden known name) head ≡
+    at : (agrees : Bool) → agree first added ≡ agrees → allowed (if agrees then known else forbidden known name) head ≡
         (allowed known head && (not (bytes_eq name head.name) || agree added head))
     at true both =
-        old_bools (allowed known head) (bytes_eq name head.name) (agree added head)
+        old_bools _ (bytes_eq name head.name) _
         (λ same holds. sym (agree_left first added head both) ∙ allowed_first known name first head there same holds)
     at false apart =
-        allowed_forbidden known name head ∙
-        conflict_bools (allowed known head) (bytes_eq name head.name) (agree added head)
+        allowed_forbidden known name head ∙ conflict_bools _ (bytes_eq name _) _
         (λ same holds agrees. clash same holds agrees)
       where
         clash : bytes_eq name head.name ≡ true → allowed known head ≡ true → agree added head ≡ true → ⊥
         clash same holds agrees =
-            let first_agrees : agree first head ≡ true = allowed_first known name first head there same holds in
+            let first_agrees = allowed_first known name first head there same holds in
             let joined : agree first added ≡ true = agree_left first head added first_agrees ∙
             (agree_symm head added ∙ agrees) in
             cc
@@ -162,17 +156,17 @@ beside known name added head (Some first) there = at (agree first added) refl
 pub allowed_added : (known : Agreements) (name : Text) (added_head head : HeadTree) →
     allowed (added known name added_head) head ≡ (allowed known head &&
     (not (bytes_eq name head.name) || agree added_head head))
-allowed_added known name added_head head = beside known name added_head head (first_by_name known.firsts name) refl
+allowed_added known name added_head head = beside known name _ head _ refl
 
 pub allowed_all : (known : Agreements) (heads : List HeadTree) (head : HeadTree) →
     allowed (all_added known heads) head ≡ (allowed known head && agrees_with heads head)
-allowed_all known [] head = sym (and-true (allowed known head))
+allowed_all known [] head = sym (and-true _)
 allowed_all known (x ∷ heads) head =
     allowed_all (added known x.name x) heads head ∙
     (ap (λ first. first && agrees_with heads head) (allowed_added known x.name x head) ∙
-    and_assoc (allowed known head) (not (bytes_eq x.name head.name) || agree x head) (agrees_with heads head))
+    and_assoc (allowed known head) (not _ || agree x head) (agrees_with heads head))
 
 -- a table of heads allows those that agree with all of them
 pub allowed_same : (heads : List HeadTree) (head : HeadTree) →
     allowed (all_added no_heads heads) head ≡ agrees_with heads head
-allowed_same heads head = allowed_all no_heads heads head
+allowed_same heads head = allowed_all _ heads head

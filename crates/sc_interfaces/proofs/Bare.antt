@@ -6,9 +6,8 @@ pub bare_within : (section : SectionTree) → section.exports ≡ [] → section
 bare_within section exports decls = record {
   sections = omega arith;
   exports = All-cons HasFewExports section [] (omega (arith, ap length exports)) (All-nil HasFewExports);
-  params = All-cons {X = SectionTree} (λ other. All HasFewParams (functions_in other.decls)) section []
-      (subst (λ ds. All HasFewParams (functions_in ds)) (sym decls) (All-nil HasFewParams))
-      (All-nil {X = SectionTree} (λ other. All HasFewParams (functions_in other.decls)));
+  params = All-cons (λ other. All HasFewParams (functions_in other.decls)) section []
+      (subst (λ ds. All HasFewParams (functions_in ds)) (sym decls) (All-nil HasFewParams)) (All-nil _);
 }
 
 pub ruleset sections = bare_within

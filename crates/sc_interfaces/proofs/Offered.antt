@@ -99,16 +99,14 @@ placed_turn false None k (Some n) = ap (λ m. Some m) (suc_moved k n)
 all_placed_is : (items : List (Option Text)) (known : Placed) (k : ℕ) (name : Text) →
     first_by_name (all_placed known k items) name ≡ first_or (first_by_name known name)
     (moved k (first_place name items))
-all_placed_is [] known k name = sym (first_or_none (first_by_name known name))
+all_placed_is [] known k name = sym (first_or_none _)
 all_placed_is (None ∷ items) known k name =
-    all_placed_is items known (suc k) name ∙
-    (ap (λ first. first_or first (moved (suc k) (first_place name items)))
-    (sym (first_or_none (first_by_name known name))) ∙
-    placed_turn false (first_by_name known name) k (first_place name items))
+    all_placed_is items known _ name ∙ (ap (λ first. first_or first (moved (suc k) (first_place name items)))
+    (sym (first_or_none _)) ∙ placed_turn false _ k _)
 all_placed_is (Some other ∷ items) known k name =
-    all_placed_is items (with_first known other k) (suc k) name ∙
+    all_placed_is items _ _ name ∙
     (ap (λ first. first_or first (moved (suc k) (first_place name items))) (first_by_name-placed known other name k) ∙
-    placed_turn (pointwise ◌==◌ name other) (first_by_name known name) k (first_place name items))
+    placed_turn _ _ k _)
 
 moved_zero : (place : Option ℕ) → moved 0 place ≡ place
 moved_zero None = refl
@@ -119,7 +117,7 @@ moved_zero (Some n) = ap (λ m. Some m) (zero_first n)
 
 place_is : (items : List (Option Text)) (name : Text) →
     first_by_name (all_placed [] 0 items) name ≡ first_place name items
-place_is items name = all_placed_is items [] 0 name ∙ moved_zero (first_place name items)
+place_is items name = all_placed_is items [] 0 name ∙ moved_zero _
 
 -- Exports.
 
@@ -128,7 +126,7 @@ number_is : (lines : List ExportLine) (name : Text) →
 number_is [] name = refl
 number_is (line ∷ lines) name =
     ap (λ later. cond (pointwise ◌==◌ name line.name) (Some 0) (option_map suc later)) (number_is lines name) ∙
-    sym (position-cons (pointwise ◌==◌ name) line.name (map {A = ExportLine} (λ other. other.name) lines))
+    sym (position-cons (pointwise ◌==◌ name) line.name (map _ lines))
 
 -- a place is one of the list
 abbrev IsPlace : ℕ → Option ℕ → Type 0
@@ -143,8 +141,7 @@ within_turn false count (Some n) h = omega arith
 
 pub first_place_within : (items : List (Option Text)) (name : Text) → IsPlace (length items) (first_place name items)
 first_place_within [] name = tt
-first_place_within (item ∷ items) name = within_turn (comes name item) (length items) (first_place name items)
-    (first_place_within items name)
+first_place_within (item ∷ items) name = within_turn _ _ _ (first_place_within items name)
 
 -- Functions.
 
@@ -161,28 +158,24 @@ moved_on decl decls (Some n) = refl
 function_is : (decls : List Decl) (name : Text) → option_and_then (function_there decls)
     (first_place name (map function_name decls)) ≡ function_named name (functions_in decls)
 function_is [] name = refl
-function_is (declared.Struct tree ∷ decls) name = moved_on (declared.Struct tree) decls
-    (first_place name (map function_name decls)) ∙ function_is decls name
-function_is (declared.Global tree ∷ decls) name = moved_on (declared.Global tree) decls
-    (first_place name (map function_name decls)) ∙ function_is decls name
-function_is (declared.Proto head ∷ decls) name = moved_on (declared.Proto head) decls
-    (first_place name (map function_name decls)) ∙ function_is decls name
+function_is (declared.Struct tree ∷ decls) name = moved_on _ decls _ ∙ function_is decls name
+function_is (declared.Global tree ∷ decls) name = moved_on _ decls _ ∙ function_is decls name
+function_is (declared.Proto head ∷ decls) name = moved_on _ decls _ ∙ function_is decls name
 function_is (declared.Function tree ∷ decls) name =
     ap (λ same. option_and_then (function_there (declared.Function tree ∷ decls))
     (cond same (Some 0) (option_map suc (first_place name (map function_name decls)))))
-    (nat_list_eq_equiv.symm name tree.head.name) ∙ at (pointwise ◌==◌ tree.head.name name) (function_is decls name)
+    (nat_list_eq_equiv.symm name tree.head.name) ∙ at (pointwise ◌==◌ _ name) (function_is decls name)
   where
     at : (same : Bool) → option_and_then (function_there decls) (first_place name (map function_name decls)) ≡
-        function_named name (functions_in decls) →
-        option_and_then (function_there (declared.Function tree ∷ decls))
+        function_named name (functions_in decls) → option_and_then (function_there (declared.Function tree ∷ decls))
         (cond same (Some 0) (option_map suc (first_place name (map function_name decls)))) ≡
         (if same then Some tree else function_named name (functions_in decls))
     at true rest = refl
-    at false rest = moved_on (declared.Function tree) decls (first_place name (map function_name decls)) ∙ rest
+    at false rest = moved_on _ decls _ ∙ rest
 
 function_at_is : (decls : List Decl) (name : Text) → function_at decls (function_places decls) name ≡
     function_named name (functions_in decls)
-function_at_is decls name = ap (option_and_then (function_there decls)) (place_is (map function_name decls) name) ∙
+function_at_is decls name = ap (option_and_then (function_there decls)) (place_is (map _ decls) name) ∙
     function_is decls name
 
 abbrev IsFew : Option FunctionTree → Type 0
@@ -197,7 +190,7 @@ few_or false tree later h k = k
 named_few : (trees : List FunctionTree) (name : Text) → All HasFewParams trees → IsFew (function_named name trees)
 named_few [] name h = tt
 named_few (tree ∷ trees) name h =
-    few_or (pointwise ◌==◌ tree.head.name name) tree (function_named name trees) (All-head HasFewParams tree trees h)
+    few_or (pointwise ◌==◌ _ name) tree (function_named name trees) (All-head HasFewParams tree trees h)
     (named_few trees name (All-tail HasFewParams tree trees h))
 
 promised_is : (name : Text) (found : Option FunctionTree) → IsFew found → promised_by name found ≡ promised name found
@@ -207,8 +200,7 @@ promised_is name (Some tree) h =
       name = name;
       params = params;
       result = option_map scalar_of tree.head.result;
-    })
-    (take_all 8 (map {A = FunctionParam} (λ param. scalar_of param.ty) tree.head.params) within)
+    }) (take_all 8 _ within)
   where
     within : length (map {A = FunctionParam} (λ param. scalar_of param.ty) tree.head.params) ≤ 8
     within = omega (arith, length-map {A = FunctionParam} tree.head.params (λ param. scalar_of param.ty))
@@ -217,8 +209,7 @@ export_is : (section : SectionTree) (line : ExportLine) → All HasFewParams (fu
     export_by section.decls (function_places section.decls) line ≡ proto_of section line
 export_is section line few =
     ap (promised_by line.name) (function_at_is section.decls line.name) ∙
-    promised_is line.name (function_named line.name (functions_in section.decls))
-    (named_few (functions_in section.decls) line.name few)
+    promised_is line.name (function_named line.name (functions_in section.decls)) (named_few _ line.name few)
 
 map_same : {A B : Type 0} (f g : A → B) (xs : List A) → ((x : A) → f x ≡ g x) → map f xs ≡ map g xs
 map_same f g [] h = refl
@@ -236,13 +227,13 @@ small_place count (Some n) h few = omega arith
 
 export_place_is : (section : SectionTree) (name : Text) →
     first_by_name (export_places section) name ≡ number_of (export_names section) name
-export_place_is section name = place_is (map export_name section.exports) name ∙ number_is section.exports name
+export_place_is section name = place_is (map export_name section.exports) name ∙ number_is _ name
 
 export_place_small : (section : SectionTree) (name : Text) → HasFewExports section →
     number_or_zero (number_of (export_names section) name) ≤ 65535
 export_place_small section name few =
-    subst (λ place. number_or_zero place ≤ 65535) (number_is section.exports name)
-    (small_place (length (map export_name section.exports)) (first_place name (map export_name section.exports))
+    subst (λ place. number_or_zero place ≤ 65535) (number_is _ name)
+    (small_place _ (first_place name (map export_name section.exports))
     (first_place_within (map export_name section.exports) name) count)
   where
     count : length (map export_name section.exports) ≤ 65536
@@ -284,9 +275,8 @@ module _ (sections : List SectionTree) (count : length sections ≤ 32) (few : A
       (map export_places sections) number line ≡ import_of sections number line
   import_is number line =
       ap (λ there. if is_environment line then (if pointwise ◌==◌ line.name input_name then import.Input else
-      import.Output) else there)
-      (ap (offered_by (map export_places sections) line) (offering_number_is number line 0 sections) ∙
-      offered_is sections line (offering number line 0 sections) (offering_stands number line 0 sections) count few)
+      import.Output) else there) (ap (offered_by (map _ _) line) (offering_number_is number line 0 sections) ∙
+      offered_is _ line (offering number line 0 sections) (offering_stands number line 0 sections) count few)
 
   interface_is : (number : ℕ) (section : SectionTree) → All HasFewParams (functions_in section.decls) →
       interface_by (map table_of sections) (map export_places sections) number section ≡
@@ -304,10 +294,8 @@ module _ (sections : List SectionTree) (count : length sections ≤ 32) (few : A
       interfaces_by (map table_of sections) (map export_places sections) k rest ≡ interfaces_from sections k rest
   interfaces_are k [] few_params = refl
   interfaces_are k (section ∷ rest) few_params =
-      ap₂ (λ first others. first ∷ others)
-      (interface_is k section (All-head {X = SectionTree}
-      (λ other. All HasFewParams (functions_in other.decls)) section rest few_params))
-      (interfaces_are (suc k) rest (All-tail {X = SectionTree}
+      ap₂ (λ first others. first ∷ others) (interface_is k section (All-head
+      (λ other. All HasFewParams (functions_in other.decls)) section rest few_params)) (interfaces_are _ rest (All-tail
       (λ other. All HasFewParams (functions_in other.decls)) section rest few_params))
 
 -- The main compartment.
@@ -331,7 +319,7 @@ main_within k (section ∷ sections) = at (defines_main section) (main_within (s
     at false (inr h) = inr h
 
 main_small : (sections : List SectionTree) → length sections ≤ 32 → main_from 0 sections ≤ 31
-main_small sections count = at (main_within 0 sections)
+main_small sections count = at (main_within 0 _)
   where
     at : (main_from 0 sections < 0 + length sections) ⊎ (main_from 0 sections ≡ 0) → main_from 0 sections ≤ 31
     at (inl h) = omega arith
@@ -344,9 +332,8 @@ pub built : (sections : List SectionTree) (tables : List SectionTable) (places :
     comps ≡ interfaces_by tables places 0 sections → main ≡ min (main_by 0 tables) 31 →
     ◌≡◌ {A = Interfaces} (record { comps = comps; main = main }) (interfaces_of sections)
 built sections tables places comps main counts tables_are places_are comps_are main_is_min =
-    ap₂ (λ (list : List Interface) (number : ℕ). record { comps = list; main = number })
+    ap₂ (λ list (number : ℕ). record { comps = list; main = number })
     (comps_are ∙ (ap₂ (λ t p. interfaces_by t p 0 sections) tables_are places_are ∙
-    interfaces_are sections counts.sections counts.exports 0 sections counts.params))
-    (main_is_min ∙ (ap (λ t. min (main_by 0 t) 31) tables_are ∙
-    (ap (λ number. min number 31) (main_is 0 sections) ∙
-    min_within (main_from 0 sections) 31 (main_small sections counts.sections))))
+    interfaces_are _ counts.sections counts.exports 0 _ counts.params))
+    (main_is_min ∙ (ap (λ t. min (main_by 0 t) 31) tables_are ∙ (ap (λ number. min number 31) (main_is 0 sections) ∙
+    min_within _ 31 (main_small sections counts.sections))))

@@ -4,8 +4,7 @@ use Rattle.sc_interfaces.proofs.Common.{length-take-le, map, sym, take, take-map
 
 pub front_done : {A B : Type 0} (f : A → B) (xs : List A) (ys : List B) (i : ℕ) → ys ≡ map f (take i xs) →
     length xs ≤ i → i ≤ 8 → ys ≡ take 8 (map f xs)
-front_done f xs ys i is past few =
-    is ∙ (ap (map f) (take_all i xs past) ∙ sym (take_all 8 (map f xs) within))
+front_done f xs ys i is past few = is ∙ (ap (map f) (take_all i xs past) ∙ sym (take_all 8 _ within))
   where
     within : length (map f xs) ≤ 8
     within = omega (arith, length-map xs f)
@@ -30,5 +29,5 @@ pub front_stopped : {A B : Type 0} (f : A → B) (xs : List A) (ys now : List B)
     ys ≡ map f (take i xs) → i < length xs → i ≤ 8 →
     is_some r ≡ false → (length ys < 8 → is_some r ≡ true) → IfNone r (now ≡ ys) → now ≡ take 8 (map f xs)
 front_stopped f xs ys now i r is within few none room same =
-    let h = push_full r (length ys) (now ≡ ys) none room same in
+    let h = push_full r _ _ none room same in
     h.1 ∙ front_full f xs ys i is within few h.0

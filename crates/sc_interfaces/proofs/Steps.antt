@@ -3,8 +3,8 @@ use Rattle.sc_interfaces.proofs.Common.{Agreements, Bool, Decl, ExportLine, Func
 use Rattle.sc_interfaces.proofs.Common.{ParamTree, Proto, SectionTable, Struct, Text, [], all_added, and_right, ap}
 use Rattle.sc_interfaces.proofs.Common.{arith, decl_told, decls_told, drop, drop-cons, export_fits, exports_told, false}
 use Rattle.sc_interfaces.proofs.Common.{get_or, head_added, head_in, heads_in, import_fits, imports_told, is_offered_by}
-use Rattle.sc_interfaces.proofs.Common.{length, numbered, refl, same_params, same_type, suc, sym, true, unless}
-use Rattle.sc_interfaces.proofs.Common.{with_lines, with_lines-append, with_lines-nil, ℕ, ◌&&◌, ◌++◌, ◌+◌, ◌<◌, ◌∙◌}
+use Rattle.sc_interfaces.proofs.Common.{length, numbered, refl, same_params, same_type, suc, sym, unless}
+use Rattle.sc_interfaces.proofs.Common.{with_lines, with_lines-append, with_lines-nil, ℕ, ◌++◌, ◌+◌, ◌<◌, ◌∙◌}
 use Rattle.sc_interfaces.proofs.Common.{◌∷◌, ◌≡◌, ◌≤◌}
 use Rattle.std.proofs.Math.ListN.{drop_of_length-le}
 use Rattle.sc_scope.specs.declared.broken.BrokenLines.{BrokenLines}
@@ -38,10 +38,10 @@ pub exports_turn : (functions before after : List Text) (xs : List ExportLine) (
     with_lines now (exports_told functions after (drop (i + 1) xs)) ≡ total
 exports_turn functions before after xs i x holds lines now total within is fits told added earlier =
     ap (λ names. with_lines now (exports_told functions names (drop (i + 1) xs))) added ∙
-    told_turn lines now total (unless (export_fits functions before x) x.line)
-    (exports_told functions (numbered before x.name) (drop (i + 1) xs)) (exports_told functions before (drop i xs))
+    told_turn lines now total (unless (export_fits _ before x) x.line)
+    (exports_told functions (numbered before x.name) (drop _ xs)) _
     (told ∙ ap (λ b. with_lines lines (unless b x.line)) fits)
-    (ap (exports_told functions before) (drop_item xs i x within is)) earlier
+    (ap (exports_told _ before) (drop_item xs i x within is)) earlier
 
 pub imports_turn : (tables : List SectionTable) (importer : ℕ) (functions protos before after : List Text)
     (xs : List ImportLine) (i : ℕ) (x : ImportLine) (holds : Bool) (lines now total : BrokenLines) →
@@ -53,11 +53,10 @@ pub imports_turn : (tables : List SectionTable) (importer : ℕ) (functions prot
 imports_turn tables importer functions protos before after xs i x holds lines now total within is fits told added
     earlier =
     ap (λ names. with_lines now (imports_told tables importer functions protos names (drop (i + 1) xs))) added ∙
-    told_turn lines now total (unless (import_fits (is_offered_by tables importer x) functions protos before x) x.line)
-    (imports_told tables importer functions protos (numbered before x.name) (drop (i + 1) xs))
-    (imports_told tables importer functions protos before (drop i xs))
+    told_turn lines now total (unless (import_fits _ _ protos before x) x.line)
+    (imports_told tables importer functions protos (numbered before x.name) (drop _ xs)) _
     (told ∙ ap (λ b. with_lines lines (unless b x.line)) fits)
-    (ap (imports_told tables importer functions protos before) (drop_item xs i x within is)) earlier
+    (ap (imports_told tables _ _ protos before) (drop_item xs i x within is)) earlier
 
 pub decls_turn : (table : SectionTable) (imported : Imported) (mains : Bool) (known after : Agreements) (xs : List Decl)
     (i : ℕ) (x : Decl) (lines now total : BrokenLines) →
@@ -67,10 +66,8 @@ pub decls_turn : (table : SectionTable) (imported : Imported) (mains : Bool) (kn
     with_lines now (decls_told table imported mains after (drop (i + 1) xs)) ≡ total
 decls_turn table imported mains known after xs i x lines now total within is told added earlier =
     ap (λ heads. with_lines now (decls_told table imported mains heads (drop (i + 1) xs))) added ∙
-    told_turn lines now total (decl_told table imported mains known x)
-    (decls_told table imported mains (head_added known (head_in x)) (drop (i + 1) xs))
-    (decls_told table imported mains known (drop i xs)) told
-    (ap (decls_told table imported mains known) (drop_item xs i x within is)) earlier
+    told_turn lines now total _ (decls_told table imported mains (head_added known _) (drop _ xs)) _ told
+    (ap (decls_told table _ mains known) (drop_item xs i x within is)) earlier
 
 -- nothing is left
 pub told_end : (lines total : BrokenLines) (others : List ℕ) → others ≡ [] → with_lines lines others ≡ total →

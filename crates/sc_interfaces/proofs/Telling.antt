@@ -31,8 +31,7 @@ same_numbered : (names others : List Text) (name : Text) → Same names others �
     Same (numbered names name) (others ++ name ∷ [])
 same_numbered names others name same = record {
   at = λ k. is_numbered-numbered names name k ∙ (ap (λ first. first || bytes_eq k name) (same.at k) ∙
-      (ap (λ last. among others k || last) (sym (or-false (bytes_eq k name))) ∙
-      sym (list_any-append (bytes_eq k) others (name ∷ []))));
+      (ap (λ last. among others k || last) (sym (or-false _)) ∙ sym (list_any-append _ others _)));
 }
   where
     or-false : (a : Bool) → (a || false) ≡ a
@@ -53,12 +52,10 @@ module _ (sections : List SectionTree) (number : ℕ) (section : SectionTree) wh
       exports_told functions seen lines ≡ Faces.exports_from sections number section before lines
   exports_told_is functions seen before [] known same = refl
   exports_told_is functions seen before (line ∷ lines) known same =
-      ap₂ (λ these others. these ++ others)
-      (ap (λ holds. unless holds line.line)
+      ap₂ (λ these others. these ++ others) (ap (λ holds. unless holds line.line)
       (ap₂ (λ defined twice. defined && (not twice && (not (bytes_eq line.name main_name) && is_plain line.name)))
-      (known.at line.name) (same.at line.name)))
-      (exports_told_is functions (numbered seen line.name) (before ++ line.name ∷ []) lines known
-      (same_numbered seen before line.name same))
+      (known.at _) (same.at _))) (exports_told_is _ (numbered seen _) (before ++ line.name ∷ []) lines known
+      (same_numbered seen before _ same))
 
 -- Who offers an import.
 
@@ -82,7 +79,7 @@ pub offering_number_is : (importer : ℕ) (line : ImportLine) (k : ℕ) (section
 offering_number_is importer line k [] = refl
 offering_number_is importer line k (section ∷ sections) =
     ap (λ here. if here then Some k else offering_number importer line (suc k) (map table_of sections))
-    (offers_is importer line k section) ∙
+    (offers_is _ line k section) ∙
     at (offers importer line k section) (offering_number_is importer line (suc k) sections)
   where
     at : (here : Bool) → offering_number importer line (suc k) (map table_of sections) ≡
@@ -117,8 +114,7 @@ found_table : (sections : List SectionTree) (found : Option (ℕ × SectionTree)
     option_and_then (slice_get (map table_of sections)) (number_in found) ≡ option_map table_of (section_in found)
 found_table sections None h = refl
 found_table sections (Some found) h =
-    ap (slice_get (map table_of sections)) zero_first ∙
-    (slice_get-map table_of sections h.0 ∙ ap (option_map table_of) h.2)
+    ap (slice_get _) zero_first ∙ (slice_get-map table_of sections h.0 ∙ ap (option_map _) h.2)
   where
     zero_first : found.0 ≡ h.0
     zero_first = omega arith
@@ -127,8 +123,7 @@ offering_table_is : (sections : List SectionTree) (importer : ℕ) (line : Impor
     offering_table (map table_of sections) importer line ≡
     option_map table_of (section_in (offering importer line 0 sections))
 offering_table_is sections importer line =
-    ap (option_and_then (slice_get (map table_of sections))) (offering_number_is importer line 0 sections) ∙
-    found_table sections (offering importer line 0 sections) (offering_stands importer line 0 sections)
+    ap (option_and_then _) (offering_number_is _ line 0 _) ∙ found_table sections _ (offering_stands _ line 0 _)
 
 -- Imports.
 
@@ -154,7 +149,7 @@ input_agrees head = ap₂ (λ x y. x && y) (gives head.result) (takes head.param
 
     takes : (params : List ParamTree) → same_params [] params ≡ takes_nothing params
     takes [] = refl
-    takes (param ∷ params) = refl
+    takes _ = refl
 
 output_agrees : (head : HeadTree) → agree output_head head ≡ is_output head
 output_agrees head = ap₂ (λ x y. x && y) (gives head.result) (takes head.params)
@@ -213,14 +208,13 @@ table_asks : (heads : Agreements) (known : Agreements) (name : Text) (head : Hea
     first_added known name (first_by_name heads.firsts name)) head ≡
     (allowed known head && (not (bytes_eq name head.name) ||
     (not (among heads.conflicts name) && agrees_first (first_by_name heads.firsts name) head)))
-table_asks heads known name head = at (among heads.conflicts name) (first_by_name heads.firsts name)
+table_asks heads known name head = at (among _ name) _
   where
     at : (conflict : Bool) (found : Option HeadTree) →
         allowed (if conflict then forbidden known name else first_added known name found) head ≡
         (allowed known head && (not (bytes_eq name head.name) || (not conflict && agrees_first found head)))
-    at true found = allowed_forbidden known name head ∙
-        no_conflict true (bytes_eq name head.name) (allowed known head) (agrees_first found head) refl
-    at false None = or_free (allowed known head) (bytes_eq name head.name)
+    at true found = allowed_forbidden known name head ∙ no_conflict true _ _ (agrees_first found head) refl
+    at false None = or_free _ _
     at false (Some first) = allowed_added known name first head
 
 abbrev heads_of : SectionTree → Agreements
@@ -230,24 +224,18 @@ others_added_allows : (number : ℕ) (known : Agreements) (name : Text) (head : 
     (section : SectionTree) (found : Option (ℕ × SectionTree)) →
     allowed (others_added known name (option_map table_of (section_in found))) head ≡
     (allowed known head && (not (bytes_eq name head.name) || Faces.agrees_there sections number section head found))
-others_added_allows number known name head sections section None =
-    or_free (allowed known head) (bytes_eq name head.name)
+others_added_allows number known name head sections section None = or_free _ _
 others_added_allows number known name head sections section (Some found) =
-    table_asks (heads_of found.1) known name head ∙
-    ap (λ holds. allowed known head && holds)
-    (guarded (bytes_eq name head.name) (not (among (heads_of found.1).conflicts name) &&
-    agrees_first (first_by_name (heads_of found.1).firsts name) head) (agrees_with (heads_in found.1.decls) head)
-    (λ same. ap (λ text. not (among (heads_of found.1).conflicts text) &&
-    agrees_first (first_by_name (heads_of found.1).firsts text) head) (same_text name head.name same) ∙
-    allowed_same (heads_in found.1.decls) head))
+    table_asks _ known name head ∙ ap (λ holds. allowed known head && holds) (guarded (bytes_eq name _) (not _ &&
+    agrees_first _ head) (agrees_with _ head) (λ same. ap (λ text. not (among (heads_of found.1).conflicts text) &&
+    agrees_first (first_by_name (heads_of found.1).firsts text) head) (same_text name _ same) ∙ allowed_same _ head))
 
 module _ (sections : List SectionTree) (number : ℕ) (section : SectionTree) where
   is_offered_is : (line : ImportLine) → is_offered_by (map table_of sections) number line ≡
       Faces.is_offered sections number section line
   is_offered_is line =
       ap (λ found. if is_environment line then bytes_eq line.name input_name || bytes_eq line.name output_name else
-      found)
-      (ap is_some (offering_number_is number line 0 sections) ∙ is_some-number_in (offering number line 0 sections))
+      found) (ap is_some (offering_number_is number line 0 _) ∙ is_some-number_in (offering number line 0 _))
 
   imports_told_is : (functions protos seen before : List Text) (lines : List ImportLine) →
       Same functions (function_names section.decls) → Same protos (proto_names section.decls) → Same seen before →
@@ -255,14 +243,11 @@ module _ (sections : List SectionTree) (number : ℕ) (section : SectionTree) wh
       Faces.imports_from sections number section before lines
   imports_told_is functions protos seen before [] defined declared same = refl
   imports_told_is functions protos seen before (line ∷ lines) defined declared same =
-      ap₂ (λ these others. these ++ others)
-      (ap (λ holds. unless holds line.line)
-      (ap₂ (λ offered rest. offered && rest) (is_offered_is line)
-      (ap₂ (λ twice rest. not twice && rest) (same.at line.name)
-      (ap₂ (λ here declares. not here && (declares && is_plain line.name)) (defined.at line.name)
-      (declared.at line.name)))))
-      (imports_told_is functions protos (numbered seen line.name) (before ++ line.name ∷ []) lines defined declared
-      (same_numbered seen before line.name same))
+      ap₂ (λ these others. these ++ others) (ap (λ holds. unless holds line.line)
+      (ap₂ (λ offered rest. offered && rest) (is_offered_is line) (ap₂ (λ twice rest. not twice && rest) (same.at _)
+      (ap₂ (λ here declares. not here && (declares && is_plain line.name)) (defined.at _) (declared.at _)))))
+      (imports_told_is _ protos (numbered seen _) (before ++ line.name ∷ []) lines defined declared
+      (same_numbered seen before _ same))
 
   import_added_allows : (known : Agreements) (line : ImportLine) (head : HeadTree) →
       allowed (import_added (map table_of sections) number known line) head ≡
@@ -284,16 +269,12 @@ module _ (sections : List SectionTree) (number : ℕ) (section : SectionTree) wh
       allowed (imports_added (map table_of sections) number known lines) head ≡
       (allowed known head && list_all {X = ImportLine}
       (λ line. not (bytes_eq line.name head.name) || Faces.agrees_as sections number section head line) lines)
-  imports_added_allows known [] head = and_end (allowed known head)
+  imports_added_allows known [] head = and_end _
   imports_added_allows known (line ∷ lines) head =
-      imports_added_allows (import_added (map table_of sections) number known line) lines head ∙
-      (ap (λ first. first && list_all {X = ImportLine}
+      imports_added_allows (import_added _ number known line) lines head ∙ (ap (λ first. first && list_all
       (λ other. not (bytes_eq other.name head.name) || Faces.agrees_as sections number section head other) lines)
-      (import_added_allows known line head) ∙
-      and_assoc (allowed known head) (not (bytes_eq line.name head.name) ||
-      Faces.agrees_as sections number section head line)
-      (list_all {X = ImportLine} (λ other. not (bytes_eq other.name head.name) ||
-      Faces.agrees_as sections number section head other) lines))
+      (import_added_allows known line head) ∙ and_assoc (allowed known head) (not _ ||
+      Faces.agrees_as _ number section head line) (list_all _ lines))
 
   -- what the section imports, by its table, is what it imports
   imported_agrees_is : (head : HeadTree) → allowed (imported_by (map table_of sections) number section).heads head ≡
@@ -315,24 +296,20 @@ record Allows (known : Agreements) (decls : List Decl) : Type 0 where
 
 head_added_allows : (known : Agreements) (decl : Decl) (head : HeadTree) →
     allowed (head_added known (head_in decl)) head ≡ (allowed known head && agrees_with (heads_in (decl ∷ [])) head)
-head_added_allows known (Struct tree) head = and_end (allowed known head)
-head_added_allows known (Global tree) head = and_end (allowed known head)
+head_added_allows known (Struct tree) head = and_end _
+head_added_allows known (Global tree) head = and_end _
 head_added_allows known (Proto other) head =
-    allowed_added known other.name other head ∙ ap (λ last. allowed known head && last)
-    (and_end (not (bytes_eq other.name head.name) || agree other head))
+    allowed_added known _ other head ∙ ap (λ last. allowed known head && last) (and_end _)
 head_added_allows known (Function tree) head =
-    allowed_added known tree.head.name (head_of tree.head) head ∙
-    ap (λ last. allowed known head && last) (and_end (not (bytes_eq tree.head.name head.name) ||
-    agree (head_of tree.head) head))
+    allowed_added known _ _ head ∙ ap (λ last. allowed known head && last) (and_end _)
 
 allows_more : (known : Agreements) (before : List Decl) (decl : Decl) → Allows known before →
     Allows (head_added known (head_in decl)) (before ++ decl ∷ [])
 allows_more known before decl allows = record {
   at = λ head. head_added_allows known decl head ∙
       (ap (λ first. first && agrees_with (heads_in (decl ∷ [])) head) (allows.at head) ∙
-      (sym (list_all-append {X = HeadTree} (λ other. not (bytes_eq other.name head.name) || agree other head)
-      (heads_in before) (heads_in (decl ∷ []))) ∙
-      ap (λ heads. agrees_with heads head) (sym (heads_in-append before (decl ∷ [])))));
+      (sym (list_all-append (λ other. not _ || agree other head) (heads_in before) (heads_in (decl ∷ []))) ∙
+      ap (λ heads. agrees_with heads head) (sym (heads_in-append before _))));
 }
 
 allows_none : Allows no_heads []
@@ -344,7 +321,7 @@ module _ (sections : List SectionTree) (number : ℕ) (section : SectionTree) (m
       Faces.head_holds sections number section before head
   head_holds_is known before head allows =
       ap₂ (λ agrees fits. agrees && (head_crosses head || not fits)) (allows.at head)
-      (ap₂ (λ exported imported. exported || imported) (all_numbered_same (export_names section) head.name)
+      (ap₂ (λ exported imported. exported || imported) (all_numbered_same (export_names section) _)
       (all_numbered_same (import_names section) head.name))
 
   decl_told_is : (known : Agreements) (before : List Decl) (decl : Decl) → Allows known before →
@@ -354,10 +331,10 @@ module _ (sections : List SectionTree) (number : ℕ) (section : SectionTree) (m
   decl_told_is known before (Global tree) allows = refl
   decl_told_is known before (Proto head) allows =
       ap (λ holds. unless holds head.line)
-      (ap₂ (λ x y. x && y) (head_holds_is known before head allows) (imported_agrees_is sections number section head))
+      (ap₂ (λ x y. x && y) (head_holds_is known before head allows) (imported_agrees_is _ number section head))
   decl_told_is known before (Function tree) allows =
       ap (λ holds. unless (holds && main_holds mains (head_of tree.head)) tree.head.line)
-      (head_holds_is known before (head_of tree.head) allows)
+      (head_holds_is known before (head_of _) allows)
 
   decls_told_is : (known : Agreements) (before decls : List Decl) → Allows known before →
       decls_told (table_of section) (imported_by (map table_of sections) number section) mains known decls ≡
@@ -365,8 +342,7 @@ module _ (sections : List SectionTree) (number : ℕ) (section : SectionTree) (m
   decls_told_is known before [] allows = refl
   decls_told_is known before (decl ∷ decls) allows =
       ap₂ (λ these others. these ++ others) (decl_told_is known before decl allows)
-      (decls_told_is (head_added known (head_in decl)) (before ++ decl ∷ []) decls
-      (allows_more known before decl allows))
+      (decls_told_is (head_added known _) _ decls (allows_more known before decl allows))
 
   section_told_is : (seen : List Text) (before : List SectionTree) →
       Same seen (map {A = SectionTree} (λ other. other.name) before) →
@@ -377,11 +353,9 @@ module _ (sections : List SectionTree) (number : ℕ) (section : SectionTree) (m
       (ap (λ twice. unless (not twice && not (bytes_eq section.name environment)) 1) (same.at section.name))
       (ap₂ (λ these others. these ++ others)
       (exports_told_is sections number section (all_numbered [] (function_names section.decls)) [] [] section.exports
-      (same_all (function_names section.decls)) same_none)
-      (ap₂ (λ these others. these ++ others)
+      (same_all _) same_none) (ap₂ (λ these others. these ++ others)
       (imports_told_is sections number section (all_numbered [] (function_names section.decls))
-      (all_numbered [] (proto_names section.decls)) [] [] section.imports
-      (same_all (function_names section.decls)) (same_all (proto_names section.decls)) same_none)
+      (all_numbered [] (proto_names section.decls)) [] [] section.imports (same_all _) (same_all _) same_none)
       (decls_told_is no_heads [] section.decls allows_none)))
 
 -- Sections.
@@ -396,16 +370,14 @@ same_sections : (seen : List Text) (before : List SectionTree) (section : Sectio
     Same seen (map {A = SectionTree} (λ other. other.name) before) →
     Same (numbered seen section.name) (map {A = SectionTree} (λ other. other.name) (before ++ section ∷ []))
 same_sections seen before section same = record {
-  at = λ k. (same_numbered seen (map {A = SectionTree} (λ other. other.name) before) section.name same).at k ∙
-      ap (λ names. among names k) (sym (map_one before section));
+  at = λ k. (same_numbered seen _ _ same).at k ∙ ap (λ names. among names k) (sym (map_one before section));
 }
 
 mains_more : (mains : Bool) (before : List SectionTree) (section : SectionTree) → mains ≡ list_any defines_main before →
     (mains || among (table_of section).functions main_name) ≡ list_any defines_main (before ++ section ∷ [])
 mains_more mains before section same =
-    ap₂ (λ x y. x || y) same (all_numbered_same (function_names section.decls) main_name ∙
-    sym (or-false (among (function_names section.decls) main_name))) ∙
-    sym (list_any-append defines_main before (section ∷ []))
+    ap₂ (λ x y. x || y) same (all_numbered_same (function_names section.decls) main_name ∙ sym (or-false _)) ∙
+    sym (list_any-append _ before _)
   where
     or-false : (a : Bool) → (a || false) ≡ a
     or-false true = refl
@@ -418,11 +390,10 @@ lines_told_is : (sections : List SectionTree) (k : ℕ) (mains : Bool) (seen : L
 lines_told_is sections k mains seen before [] found same = refl
 lines_told_is sections k mains seen before (section ∷ rest) found same =
     ap₂ (λ these others. map (line_of_text section.line) these ++ others)
-    (section_told_is sections k section mains seen before same ∙
+    (section_told_is _ k section mains seen before same ∙
     ap (λ one. Faces.section_lines sections k section one before) found)
-    (lines_told_is sections (suc k) (mains || among (table_of section).functions main_name) (numbered seen section.name)
-    (before ++ section ∷ []) rest
-    (mains_more mains before section found) (same_sections seen before section same))
+    (lines_told_is sections (suc k) (mains || among (table_of section).functions main_name) (numbered seen _)
+    (before ++ section ∷ []) rest (mains_more mains before section found) (same_sections seen before section same))
 
 noted_none : (least : Option ℕ) → noted_all least [] ≡ least
 unfolding noted_all
@@ -435,7 +406,7 @@ table_at : (sections : List SectionTree) (tables : List SectionTable) (k : ℕ) 
 table_at sections tables k section table within is all its =
     let there : slice_get sections k ≡ Some section =
     slice_get_read sections (length sections) k section refl within is in
-    let as_long : length sections ≡ length tables = sym (ap length all ∙ length-map sections table_of) in
+    let as_long : length _ ≡ length tables = sym (ap length all ∙ length-map sections table_of) in
     let found : slice_get tables k ≡ Some table = slice_get_read tables (length sections) k table as_long within its in
     let made : slice_get tables k ≡ Some (table_of section) =
     ap (λ xs. slice_get xs k) all ∙ (slice_get-map table_of sections k ∙ ap (option_map table_of) there) in
@@ -450,15 +421,11 @@ turn_lines : (sections : List SectionTree) (tables : List SectionTable) (k : ℕ
     (drop (k + 1) sections)) ≡
     noted_all least (lines_told tables k mains before (drop k sections))
 turn_lines sections tables k mains before section least within is =
-    sym (noted_all-append least (map (line_of_text section.line)
-    (section_told tables k (table_of section) mains before section))
-    (lines_told tables (k + 1) (mains || among (table_of section).functions main_name) (numbered before section.name)
-    (drop (k + 1) sections))) ∙
-    (ap (λ n. noted_all least (map (line_of_text section.line)
+    sym (noted_all-append least _ _) ∙ (ap (λ n. noted_all least (map (line_of_text section.line)
     (section_told tables k (table_of section) mains before section) ++
     lines_told tables n (mains || among (table_of section).functions main_name) (numbered before section.name)
     (drop (k + 1) sections))) one_more ∙
-    ap (λ xs. noted_all least (lines_told tables k mains before xs)) (sym (drop_item sections k section within is)))
+    ap (λ xs. noted_all least (lines_told tables k mains before xs)) (sym (drop_item _ k section within is)))
   where
     one_more : k + 1 ≡ suc k
     one_more = omega arith
@@ -468,10 +435,9 @@ turn_mains : (sections : List SectionTree) (k : ℕ) (mains : Bool) (section : S
     ((mains || among (table_of section).functions main_name) || list_any defines_main (drop (k + 1) sections)) ≡
     (mains || list_any defines_main (drop k sections))
 turn_mains sections k mains section within is =
-    or_assoc mains (among (table_of section).functions main_name) (list_any defines_main (drop (k + 1) sections)) ∙
-    (ap (λ here. mains || (here || list_any defines_main (drop (k + 1) sections)))
+    or_assoc mains _ _ ∙ (ap (λ here. mains || (here || list_any defines_main (drop (k + 1) sections)))
     (all_numbered_same (function_names section.decls) main_name) ∙
-    ap (λ xs. mains || list_any defines_main xs) (sym (drop_item sections k section within is)))
+    ap (λ xs. mains || list_any defines_main xs) (sym (drop_item _ k section within is)))
 
 -- one section more
 pub sections_turn : (sections : List SectionTree) (tables : List SectionTable) (k : ℕ) (mains more : Bool)
@@ -486,20 +452,19 @@ pub sections_turn : (sections : List SectionTree) (tables : List SectionTable) (
     ((more || list_any defines_main (drop (k + 1) sections)) ≡ whole)
 sections_turn sections tables k mains more before after section table least later total whole within is all its told
     found added earlier =
-    let table_is : table ≡ table_of section = table_at sections tables k section table within is all its in
-    let told_is : later ≡ noted_all least (map (line_of_text section.line)
-    (section_told tables k (table_of section) mains before section)) =
+    let table_is = table_at _ tables k section table within is all its in
+    let told_is =
     told ∙ ap (λ t. noted_all least (map (line_of_text section.line)
     (section_told tables k t mains before section))) table_is in
-    let found_is : more ≡ (mains || among (table_of section).functions main_name) =
-    found ∙ ap (λ (t : SectionTable). mains || among t.functions main_name) table_is in (
+    let found_is =
+    found ∙ ap (λ t. mains || among t.functions main_name) table_is in (
       ap (λ l. noted_all l (lines_told tables (k + 1) more after (drop (k + 1) sections))) told_is ∙
           (ap₂ (λ m a. noted_all (noted_all least (map (line_of_text section.line)
           (section_told tables k (table_of section) mains before section)))
           (lines_told tables (k + 1) m a (drop (k + 1) sections))) found_is added ∙
-          (turn_lines sections tables k mains before section least within is ∙ earlier.0)),
+          (turn_lines _ tables k mains before section least within is ∙ earlier.0)),
       ap (λ m. m || list_any defines_main (drop (k + 1) sections)) found_is ∙
-          (turn_mains sections k mains section within is ∙ earlier.1),
+          (turn_mains _ k mains section within is ∙ earlier.1),
     )
 
 -- no section is left
@@ -511,17 +476,16 @@ pub sections_end : (sections : List SectionTree) (tables : List SectionTable) (k
     ((mains || list_any defines_main (drop k sections)) ≡ list_any defines_main sections) →
     last ≡ refused_at (Faces.interface_broken sections)
 sections_end sections tables k mains before least last past all told earlier =
-    let none : drop k sections ≡ [] = drop_past sections k past in
-    let least_is : least ≡ noted_all None (lines_told tables 0 false [] sections) =
+    let none = drop_past _ k past in
+    let least_is =
     sym (noted_none least) ∙ (ap (λ xs. noted_all least (lines_told tables k mains before xs)) (sym none) ∙
     earlier.0) in
-    let mains_is : mains ≡ list_any defines_main sections =
+    let mains_is =
     sym (or-none mains) ∙ (ap (λ xs. mains || list_any defines_main xs) (sym none) ∙ earlier.1) in
-    let lines_are : lines_told tables 0 false [] sections ≡ Faces.lines_from sections 0 [] sections =
+    let lines_are =
     ap (λ all_tables. lines_told all_tables 0 false [] sections) all ∙
     lines_told_is sections 0 false [] [] sections refl same_none in
-    told ∙
-    (ap₂ (λ l m. noted_all l (unless m 0)) (least_is ∙ ap (noted_all None) lines_are) mains_is ∙
+    told ∙ (ap₂ (λ l m. noted_all l (unless m 0)) (least_is ∙ ap (noted_all None) lines_are) mains_is ∙
     sym (noted_all-append None (Faces.lines_from sections 0 [] sections) (unless (list_any defines_main sections) 0)))
   where
     or-none : (a : Bool) → (a || false) ≡ a
