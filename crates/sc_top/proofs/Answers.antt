@@ -3,8 +3,8 @@ use Rattle.sc_top.proofs.Common.{Accepts, Answers, Check, Command, Compile, Exec
 use Rattle.sc_top.proofs.Common.{IsAccounted, IsAnswer, IsErrOf, IsGood, IsGoodText, IsImage, IsInput, IsOutput}
 use Rattle.sc_top.proofs.Common.{IsTextOutput, IsTrue, IsUndisturbed, IsUnfit, IsWhole, IsWithin, IsWithinLimit, List}
 use Rattle.sc_top.proofs.Common.{Make, Meaning, None, Option, ProgramTree, Refusal, Refuses, Result, Run, RunOptions}
-use Rattle.sc_top.proofs.Common.{SameAnswer, Says, Some, Status, Takes, Traffic, [], ap, append-nil, arith, bad}
-use Rattle.sc_top.proofs.Common.{built_image, by_name, cause_in, cause_number, cause_of, compiles, false≢true, inl, inr}
+use Rattle.sc_top.proofs.Common.{SameAnswer, Says, Some, Status, Takes, Traffic, ap, append-nil, arith, bad}
+use Rattle.sc_top.proofs.Common.{built_image, cause_in, cause_number, cause_of, compiles, false≢true, inl, inr}
 use Rattle.sc_top.proofs.Common.{large_in, length, length-append, limit_of, none-some, option_and_then, refl, status_by}
 use Rattle.sc_top.proofs.Common.{subst, sym, too_large, ℕ, ⊎_elim, ◌++◌, ◌+◌, ◌∙◌, ◌≡◌, ◌≤◌, ◌⊎◌}
 use Rattle.std.specs.Option.{option_map}
@@ -29,8 +29,8 @@ all_left : (limit : ℕ) (text bytes : List ℕ) (after : Option (List ℕ)) →
     bytes ≡ text
 all_left limit text bytes None w = absurd w.read
 all_left limit text bytes (Some rest) w =
-    let taken : text ≡ bytes ++ rest = w.read in
-    let nothing : rest ≡ [] = w.ended in
+    let taken = w.read in
+    let nothing = w.ended in
     sym (taken ∙ ap (λ r. bytes ++ r) nothing ∙ append-nil bytes)
 
 -- what was read is a front of the text
@@ -77,8 +77,8 @@ read_at : (c : Command) (text : List ℕ) (after : Option (List ℕ)) (bytes : L
     IsInput (limit_of c) (Some text) after bytes → Q bytes
     → (limit_of c ≡ None → Q bytes → Q text) → IsWithin c text × Q text
 read_at c text after bytes Q input holds else_ =
-    ⊎_elim (λ at. (at.1, subst Q at.0 holds)) (λ none. (within_none (limit_of c) text none, else_ none holds))
-    (input_at (limit_of c) text bytes after input)
+    ⊎_elim (λ at. (at.1, subst Q at.0 holds)) (λ none. (within_none _ text none, else_ none holds))
+    (input_at _ text bytes after input)
 
 -- a status other than those of the outside is the text's answer
 pub answered : (c : Command) (t : Traffic) (text : List ℕ) (s : Status) → Says c t s → t.left ≡ Some text →
@@ -127,25 +127,23 @@ made c t s says none calm = go s says where
   go status.OutOfMemory h = inr refl
 
 pub image_within : (bytes : List ℕ) → IsImage bytes → length bytes ≤ 67108864
-image_within bytes is =
-    subst (λ (b : List ℕ). length b ≤ 67108864) (sym is.bytes_are) (image_is_short is.image is.well_formed)
+image_within bytes is = subst (λ b. length b ≤ 67108864) (sym is.bytes_are) (image_is_short is.image is.well_formed)
 
 -- the bytes of an image have no cause for being none
 image_bad : (bytes : List ℕ) (cause : ℕ) → IsImage bytes → cause_in bytes ≡ Some cause → ⊥
 image_bad bytes cause is b =
-    let good : bad bytes ≡ None = ap (λ (t : List ℕ). bad t) is.bytes_are ∙ ap cause_of
-    (is_read_again is.image is.well_formed) in
+    let good = ap (λ t. bad t) is.bytes_are ∙ ap cause_of (is_read_again _ is.well_formed) in
     none-some cause (ap (λ found. option_map cause_number found) (sym good) ∙ b)
 
 same_some : {A : Type 0} (option : Option A) (x y : A) → option ≡ Some x → option ≡ Some y → x ≡ y
-same_some option x y e f = let p : ◌≡◌ {A = Option _} (Some x) (Some y) = sym e ∙ f in cc p
+same_some option x y e f = let p = sym e ∙ f in cc p
 
 -- within the limit, bytes are not too long
 not_both : (limit : Option ℕ) (text : List ℕ) (most : ℕ) → IsWithinLimit limit text →
     (limit ≡ Some most) × (most + 1 ≤ length text) → ⊥
 not_both None text most low long = none-some most long.0
 not_both (Some l) text most low long =
-    let same : l ≡ most = same_some (Some l) l most refl long.0 in
+    let same = same_some _ l most refl long.0 in
     let more = long.1 in omega (arith, low, same, more)
 
 -- what a command that takes a text says of it
@@ -179,28 +177,24 @@ good_text : (c : Command) (text out : List ℕ) → IsTextOutput c text out → 
 good_text c text out o = record {
   program = o.program;
   accepted = o.accepted;
-  fits = λ compiled.
-      fits_of (too_large o.program) (built_image o.program) o.image (o.compiled compiled).compiled;
+  fits = λ compiled. fits_of _ _ o.image (o.compiled compiled).compiled;
 }
 
 accounted_text : (options : RunOptions) (show : Option ℕ) (text out : List ℕ) → IsAccounted options show text out →
     IsGoodText (Explain options show) text
 accounted_text options show text out o = record {
   program = o.source.program;
-  accepted = subst (λ (bytes : List ℕ). Accepts bytes o.source.program) o.whole o.parts.accepted;
-  fits = λ compiled.
-      fits_of (too_large o.source.program) (built_image o.source.program) o.explained.image o.explained.compiled;
+  accepted = subst (λ bytes. Accepts bytes o.source.program) o.whole o.parts.accepted;
+  fits = λ compiled. fits_of _ (built_image _) o.explained.image o.explained.compiled;
 }
 
 sort : (c : Command) (bytes : List ℕ) → Sort c bytes
 sort Check bytes = text_sort Check bytes (good_text Check bytes) (λ r f. f) (λ cause b. b) (λ g. g)
-sort (Meaning options) bytes =
-    text_sort (Meaning options) bytes (good_text (Meaning options) bytes) (λ r f. f) (λ cause b. b) (λ g. g)
+sort (Meaning options) bytes = text_sort _ bytes (good_text _ bytes) (λ r f. f) (λ cause b. b) (λ g. g)
 sort Compile bytes = text_sort Compile bytes (good_text Compile bytes) (λ r f. f) (λ cause b. b) (λ g. g)
-sort (Run options) bytes =
-    text_sort (Run options) bytes (good_text (Run options) bytes) (λ r f. f) (λ cause b. b) (λ g. g)
+sort (Run options) bytes = text_sort _ bytes (good_text _ bytes) (λ r f. f) (λ cause b. b) (λ g. g)
 sort (Explain options show) bytes =
-    text_sort (Explain options show) bytes (accounted_text options show bytes) (λ r f. f) (λ cause b. b) (λ g. g)
+    text_sort _ bytes (accounted_text options show bytes) (λ r f. f) (λ cause b. b) (λ g. g)
 sort (Exec options) bytes =
     takes_image (record {
       output = λ out o. o.read;
@@ -209,7 +203,7 @@ sort (Exec options) bytes =
       compiles = λ h. false≢true h;
       proper = λ g. g;
     })
-sort (Make options) bytes = takes_nothing (reads_nothing (Make options) refl)
+sort (Make options) bytes = takes_nothing (reads_nothing _ refl)
 
 module _
     (accepted_or_refused : (text : List ℕ) (program : ProgramTree) (phase : Phase) (line : ℕ) →
@@ -228,8 +222,8 @@ module _
       Accepts text other → too_large program ≡ None → large_in other ≡ Some fault → ⊥
   fits_or_large text program other fault is known fits found =
       let same = one_program text program other is known in
-      let none : too_large other ≡ None = subst (λ p. too_large p ≡ None) same fits in
-      none-some fault (ap (option_and_then (by_name other.interfaces)) (sym none) ∙ found)
+      let none = subst (λ p. too_large p ≡ None) same fits in
+      none-some fault (ap (option_and_then _) (sym none) ∙ found)
 
   sound_text : (c : Command) (text : List ℕ) (of : OfText c text) (program : ProgramTree) → Accepts text program →
       (IsTrue (compiles c) → too_large program ≡ None) → Sound c text
@@ -307,14 +301,14 @@ module _
       fault ≡ other
   one_unfit c text fault other u v =
       let same = one_program text u.program v.program u.accepted v.accepted in
-      same_some (large_in v.program) fault other (subst (λ p. large_in p ≡ Some fault) same u.found) v.found
+      same_some _ fault other (subst (λ p. large_in p ≡ Some fault) same u.found) v.found
 
   -- bytes have one answer
   pub one_answer : (c : Command) (text : List ℕ) (s t : Status) → IsAnswer c text s → IsAnswer c text t → SameAnswer s t
   one_answer c text status.Done status.Done a b = refl
   one_answer c text status.Done (status.Refused r) a b = absurd ((sound_output c text a.1.0 a.1.1).refused r b.1)
   one_answer c text status.Done (status.TooLarge f) a b = absurd ((sound_output c text a.1.0 a.1.1).unfit f b.1)
-  one_answer c text status.Done (status.TooLong l) a b = absurd (not_both (limit_of c) text l a.0 b)
+  one_answer c text status.Done (status.TooLong l) a b = absurd (not_both _ text l a.0 b)
   one_answer c text status.Done (status.BadImage n) a b = absurd ((sound_output c text a.1.0 a.1.1).bad n b.1)
   one_answer c text status.Done status.Usage a b = absurd b
   one_answer c text status.Done status.ReadFault a b = absurd b
@@ -323,7 +317,7 @@ module _
   one_answer c text (status.Refused r) status.Done a b = absurd ((sound_output c text b.1.0 b.1.1).refused r a.1)
   one_answer c text (status.Refused r) (status.Refused q) a b = one_refusal c text r q a.1 b.1
   one_answer c text (status.Refused r) (status.TooLarge f) a b = absurd (refused_unfit c text r f a.1 b.1)
-  one_answer c text (status.Refused r) (status.TooLong l) a b = absurd (not_both (limit_of c) text l a.0 b)
+  one_answer c text (status.Refused r) (status.TooLong l) a b = absurd (not_both _ text l a.0 b)
   one_answer c text (status.Refused r) (status.BadImage n) a b = absurd (refused_bad c text r n a.1 b.1)
   one_answer c text (status.Refused r) status.Usage a b = absurd b
   one_answer c text (status.Refused r) status.ReadFault a b = absurd b
@@ -332,17 +326,17 @@ module _
   one_answer c text (status.TooLarge f) status.Done a b = absurd ((sound_output c text b.1.0 b.1.1).unfit f a.1)
   one_answer c text (status.TooLarge f) (status.Refused r) a b = absurd (refused_unfit c text r f b.1 a.1)
   one_answer c text (status.TooLarge f) (status.TooLarge g) a b = ap status.TooLarge (one_unfit c text f g a.1 b.1)
-  one_answer c text (status.TooLarge f) (status.TooLong l) a b = absurd (not_both (limit_of c) text l a.0 b)
+  one_answer c text (status.TooLarge f) (status.TooLong l) a b = absurd (not_both _ text l a.0 b)
   one_answer c text (status.TooLarge f) (status.BadImage n) a b = absurd (unfit_bad c text f n a.1 b.1)
   one_answer c text (status.TooLarge f) status.Usage a b = absurd b
   one_answer c text (status.TooLarge f) status.ReadFault a b = absurd b
   one_answer c text (status.TooLarge f) status.WriteFault a b = absurd b
   one_answer c text (status.TooLarge f) status.OutOfMemory a b = absurd b
-  one_answer c text (status.TooLong l) status.Done a b = absurd (not_both (limit_of c) text l b.0 a)
-  one_answer c text (status.TooLong l) (status.Refused r) a b = absurd (not_both (limit_of c) text l b.0 a)
-  one_answer c text (status.TooLong l) (status.TooLarge f) a b = absurd (not_both (limit_of c) text l b.0 a)
-  one_answer c text (status.TooLong l) (status.TooLong m) a b = ap status.TooLong (same_some (limit_of c) l m a.0 b.0)
-  one_answer c text (status.TooLong l) (status.BadImage n) a b = absurd (not_both (limit_of c) text l b.0 a)
+  one_answer c text (status.TooLong l) status.Done a b = absurd (not_both _ text l b.0 a)
+  one_answer c text (status.TooLong l) (status.Refused r) a b = absurd (not_both _ text l b.0 a)
+  one_answer c text (status.TooLong l) (status.TooLarge f) a b = absurd (not_both _ text l b.0 a)
+  one_answer c text (status.TooLong l) (status.TooLong m) a b = ap status.TooLong (same_some _ l m a.0 b.0)
+  one_answer c text (status.TooLong l) (status.BadImage n) a b = absurd (not_both _ text l b.0 a)
   one_answer c text (status.TooLong l) status.Usage a b = absurd b
   one_answer c text (status.TooLong l) status.ReadFault a b = absurd b
   one_answer c text (status.TooLong l) status.WriteFault a b = absurd b
@@ -350,7 +344,7 @@ module _
   one_answer c text (status.BadImage n) status.Done a b = absurd ((sound_output c text b.1.0 b.1.1).bad n a.1)
   one_answer c text (status.BadImage n) (status.Refused r) a b = absurd (refused_bad c text r n b.1 a.1)
   one_answer c text (status.BadImage n) (status.TooLarge f) a b = absurd (unfit_bad c text f n b.1 a.1)
-  one_answer c text (status.BadImage n) (status.TooLong l) a b = absurd (not_both (limit_of c) text l a.0 b)
+  one_answer c text (status.BadImage n) (status.TooLong l) a b = absurd (not_both _ text l a.0 b)
   one_answer c text (status.BadImage n) (status.BadImage m) a b = ap status.BadImage (one_cause c text n m a.1 b.1)
   one_answer c text (status.BadImage n) status.Usage a b = absurd b
   one_answer c text (status.BadImage n) status.ReadFault a b = absurd b
@@ -374,7 +368,7 @@ module _
   only_done c text status.Done sound within a = refl
   only_done c text (status.Refused r) sound within a = absurd (sound.refused r a.1)
   only_done c text (status.TooLarge f) sound within a = absurd (sound.unfit f a.1)
-  only_done c text (status.TooLong l) sound within a = absurd (not_both (limit_of c) text l within a)
+  only_done c text (status.TooLong l) sound within a = absurd (not_both _ text l within a)
   only_done c text (status.BadImage n) sound within a = absurd (sound.bad n a.1)
   only_done c text status.Usage sound within a = absurd a
   only_done c text status.ReadFault sound within a = absurd a
@@ -405,5 +399,4 @@ module _
       s ≡ status_by r → (asked ≡ None → IsErrOf r failure.Usage ⊎ IsErrOf r failure.OutOfMemory) →
       ((c : Command) → asked ≡ Some c → Says c t (status_by r)) → Answers asked t s
   answers_by asked t r s is no_command says =
-      subst (Answers asked t) (sym is)
-      (answers_all asked t (status_by r) (λ none. no_command_by r (no_command none)) says)
+      subst (Answers asked t) (sym is) (answers_all asked t _ (λ none. no_command_by r (no_command none)) says)

@@ -64,8 +64,7 @@ pub explained_perform : (source : SourceParts) (inputs : List ℕ) (steps events
     IsExplained source inputs steps events explanation →
     ArePerforming source explanation.trace explanation.links
 explained_perform source inputs steps events explanation is =
-    All-from_recursion (Performs source explanation.trace) explanation.links
-    (from_chain source explanation.trace inputs steps explanation.links [] 0 is.chain.chain)
+    All-from_recursion (Performs source _) _ (from_chain source _ inputs steps _ [] 0 is.chain.chain)
 
 -- the text in which the first links replace is that of the chain after them
 pub recomposed_after : (source : SourceParts) (explanation : Explanation) (links : ℕ) →
@@ -73,10 +72,8 @@ pub recomposed_after : (source : SourceParts) (explanation : Explanation) (links
     joined source (text_for (map replacement_of (take links explanation.links)))
     ≡ text_after source explanation links
 recomposed_after source explanation links all =
-    joined_same source explanation.trace _ _
-    (stands source explanation.trace (take links explanation.links)
-    (first_perform source explanation.trace links explanation.links
-    (recursion_from_All (Performs source explanation.trace) explanation.links all)))
+    joined_same source explanation.trace _ _ (stands source _ _ (first_perform source _ links _
+    (recursion_from_All _ _ all)))
 
 -- the same of the call that joins them
 pub shown_after : {E : Type 0} (r : Result (List ℕ) E) (source : SourceParts) (explanation : Explanation) (links : ℕ)
@@ -132,7 +129,7 @@ module _
         (next : IsNext source inputs steps trace comps least link) (other : ProgramTree) →
         Accepts (recomposed source trace (among comps)) other → next.text.program ≡ other
     same_program comps least link next other accepted =
-        one_program (recomposed source trace (among comps)) next.text.program other next.text.accepted accepted
+        one_program (recomposed source trace _) _ other next.text.accepted accepted
 
     -- a front with fewer events is not the trace
     long_take : (n : ℕ) (xs : List Event) → length (take n xs) ≤ n
@@ -149,12 +146,11 @@ module _
         IsNext source inputs steps trace comps least link → ⊥
     not_both comps least link told next =
         let same = same_program comps least link next told.text.program told.text.accepted in
-        let front : trace ≡ take link.after trace =
-        sym told.tells ∙ ap (λ program. (meaning program inputs steps (length trace)).trace) (sym same) ∙
-        next.blamed.front in
+        let front =
+        sym told.tells ∙ ap (λ program. (meaning program inputs steps _).trace) (sym same) ∙ next.blamed.front in
         let proper = next.blamed.proper in
-        let long : length trace ≤ link.after =
-        subst (λ xs. length xs ≤ link.after) (sym front) (long_take link.after trace) in
+        let long =
+        subst (λ xs. length xs ≤ link.after) (sym front) (long_take _ trace) in
         absurd (omega (arith, proper, long))
 
     one_link : (comps : List ℕ) (least : ℕ) (link other : Link) →
@@ -169,11 +165,10 @@ module _
     }
       where
         same : next.text.program ≡ known.text.program
-        same = same_program comps least link next known.text.program known.text.accepted
+        same = same_program comps least link next _ known.text.accepted
 
         end : ◌≡◌ {A = RunEnd} (Blamed link.comp link.cause link.line) (Blamed other.comp other.cause other.line)
-        end = sym next.blamed.end ∙ ap (λ program. (meaning program inputs steps (length trace)).end) same ∙
-            known.blamed.end
+        end = sym next.blamed.end ∙ ap (λ program. (meaning program inputs steps _).end) same ∙ known.blamed.end
 
         comp : link.comp ≡ other.comp
         comp = cc end
@@ -186,17 +181,17 @@ module _
 
         front : take link.after trace ≡ take other.after trace
         front = sym next.blamed.front ∙
-            ap (λ program. (meaning program inputs steps (length trace)).trace) same ∙ known.blamed.front
+            ap (λ program. (meaning program inputs steps _).trace) same ∙ known.blamed.front
 
         after : link.after ≡ other.after
         after =
             let here = next.blamed.proper in
             let there = known.blamed.proper in
-            sym (exact_take link.after trace (omega (arith, here))) ∙ ap length front ∙
-            exact_take other.after trace (omega (arith, there))
+            sym (exact_take _ trace (omega (arith, here))) ∙ ap length front ∙
+            exact_take _ trace (omega (arith, there))
 
         text : link.text ≡ other.text
-        text = next.performs ∙ ap (performing_text source.program.interfaces trace) comp ∙ sym known.performs
+        text = next.performs ∙ ap (performing_text _ trace) comp ∙ sym known.performs
 
     one_chain : (comps : List ℕ) (least : ℕ) (links others : List Link) →
         IsChainFrom source inputs steps trace comps least links →
@@ -206,10 +201,8 @@ module _
     one_chain comps least (link ∷ links) [] told known = absurd (not_both comps least link known told.0)
     one_chain comps least (link ∷ links) (other ∷ others) told known =
         let same = one_link comps least link other told.0 known.0 in
-        ap₂ (λ x xs. x ∷ xs) same
-        (one_chain (link.comp ∷ comps) (suc link.after) links others told.1
-        (subst (λ (l : Link). IsChainFrom source inputs steps trace (l.comp ∷ comps) (suc l.after) others) (sym same)
-        known.1))
+        ap₂ (λ x xs. x ∷ xs) same (one_chain _ _ links others told.1
+        (subst (λ l. IsChainFrom source inputs steps trace (l.comp ∷ comps) (suc l.after) others) (sym same) known.1))
 
   one_explanation : (source : SourceParts) (inputs : List ℕ) (steps events : ℕ) (explanation other : Explanation) →
       IsExplained source inputs steps events explanation → IsExplained source inputs steps events other →
@@ -243,9 +236,8 @@ module _
       IsAccounted options show bytes text → IsAccounted options show bytes other → text ≡ other
   one_account options show bytes text other is known =
       let source = one_source is.source known.source is.parts known.parts (is.whole ∙ sym known.whole) in
-      let explained = subst (λ (s : SourceParts). IsExplained s (map word_of options.inputs) options.steps
-      options.events is.explanation) source is.explained in
-      let explanation = one_explanation known.source (map word_of options.inputs) options.steps options.events
+      let explained = subst (λ s. IsExplained s _ _ _ _) source is.explained in
+      let explanation = one_explanation known.source (map word_of _) options.steps options.events
       is.explanation known.explanation explained known.explained in
       is.written ∙ ap₂ (account show) source explanation ∙ sym known.written
 
@@ -254,9 +246,8 @@ module _
       text ≡ other
   one_summary options text other is known =
       let source = one_source is.source known.source is.parts known.parts (is.made ∙ sym known.made) in
-      let explained = subst (λ (s : SourceParts). IsExplained s [] 16777216 4096 is.explanation) source is.explained in
+      let explained = subst (λ s. IsExplained s [] 16777216 4096 _) source is.explained in
       let explanation = one_explanation known.source [] 16777216 4096 is.explanation known.explanation explained
       known.explained in
-      is.written ∙
-      ap₂ (λ (s : SourceParts) (e : Explanation). summary_text options.size s.program.interfaces e) source explanation ∙
+      is.written ∙ ap₂ (λ s (e : Explanation). summary_text options.size s.program.interfaces e) source explanation ∙
       sym known.written

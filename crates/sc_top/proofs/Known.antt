@@ -2,7 +2,7 @@
 use Rattle.sc_top.proofs.Common.{All, All-map, Err, Event, IfOk, ImageParts, Interfaces, IsCompiled, IsExecuted}
 use Rattle.sc_top.proofs.Common.{IsKnown, IsSome, IsTrue, IsWellFormed, IsWellTyped, IsWord, List, Ok, ProgramTree}
 use Rattle.sc_top.proofs.Common.{Result, RunOptions, TracesAreLegal, TypedSection, [], and_parts, ap, arith, c_arith}
-use Rattle.sc_top.proofs.Common.{comp_at, false≢true, get_or, image_bytes, interface_of, interfaces_of}
+use Rattle.sc_top.proofs.Common.{comp_at, false≢true, image_bytes, interfaces_of}
 use Rattle.sc_top.proofs.Common.{legal as is_legal, length, length-map, machine_run, machine_text, main_fits, map}
 use Rattle.sc_top.proofs.Common.{meant, refl, run_text, sections_fit, slice_get, subst, suc, sym, true, word_of, zero}
 use Rattle.sc_top.proofs.Common.{ℕ, ℤ, ◌<◌, ◌∙◌, ◌∷◌, ◌≡◌}
@@ -22,8 +22,7 @@ within (x ∷ xs) (suc n) lt = within xs n (omega arith)
 main_known : (image : ImageParts) → IsWellFormed image →
     IsSome (comp_at (interfaces_of image) (interfaces_of image).main)
 main_known image formed =
-    within (interfaces_of image).comps image.main
-    (subst (λ n. image.main < n) (sym (length-map image.comps interface_of)) formed.main)
+    within (interfaces_of image).comps image.main (subst (λ n. image.main < n) (sym (length-map _ _)) formed.main)
 
 -- a program has as many compartments as sections, and its main compartment is one of them
 as_many : (interfaces : Interfaces) (comp : ℕ) (comps : List Interface) (sections : List TypedSection) →
@@ -32,7 +31,7 @@ as_many interfaces comp [] [] fit = refl
 as_many interfaces comp [] (section ∷ sections) fit = absurd (false≢true fit)
 as_many interfaces comp (i ∷ comps) [] fit = absurd (false≢true fit)
 as_many interfaces comp (i ∷ comps) (section ∷ sections) fit =
-    ap suc (as_many interfaces (suc comp) comps sections (and_parts _ _ (and_parts _ _ fit).1).1)
+    ap suc (as_many interfaces (suc comp) comps _ (and_parts _ _ (and_parts _ _ fit).1).1)
 
 main_there : (sections : List TypedSection) (main : ℕ) → IsTrue (main_fits (slice_get sections main)) →
     main < length sections
@@ -51,8 +50,8 @@ has_main program typed =
     let fit = (and_parts _ _ behind).0 in
     let main = (and_parts _ _ (and_parts _ _ behind).1).0 in
     record {
-      as_many = as_many program.interfaces 0 program.interfaces.comps program.sections fit;
-      main = main_there program.sections program.interfaces.main main;
+      as_many = as_many program.interfaces 0 _ _ fit;
+      main = main_there _ _ main;
     }
 
 pub sections_are : (program : ProgramTree) → IsWellTyped program →
@@ -70,31 +69,30 @@ program_main program typed =
 pub meant_known : SourceTracesAreLegal → (options : MeaningOptions) (program : ProgramTree) → IsWellTyped program →
     All (IsKnown program.interfaces) (meant options program).trace
 meant_known legal options program typed =
-    legal_is_known program.interfaces (meant options program).trace (program_main program typed)
-    (legal.meaning c_arith program (map word_of options.inputs) options.turns options.events)
+    legal_is_known _ (meant options program).trace (program_main program typed) (legal.meaning c_arith program _ _ _)
 
 -- words of inputs are words
 pub inputs_are_words : (inputs : List ℤ) → All IsWord (map word_of inputs)
-inputs_are_words inputs = All-map IsWord word_of inputs (λ i d within. word_of-lt (get_or inputs i d))
+inputs_are_words inputs = All-map IsWord word_of inputs (λ i d within. word_of-lt _)
 
 -- what the machine shows on the image of a program is known by the program's names: such traces are legal
 pub compiled_known : (options : RunOptions) (program : ProgramTree) (image : ImageParts) → IsWellTyped program →
     IsCompiled program image → All (IsKnown program.interfaces) (machine_run options image).state.trace
 compiled_known options program image typed is =
-    legal_is_known program.interfaces (machine_run options image).state.trace (program_main program typed)
-    (is.allowed (map word_of options.inputs) options.steps options.events (inputs_are_words options.inputs))
+    legal_is_known _ (machine_run options image).state.trace (program_main program typed)
+    (is.allowed _ _ _ (inputs_are_words _))
 
 -- a legal trace is known by the names
 pub legal_known : (program : ProgramTree) (trace : List Event) → IsWellTyped program →
     is_legal program.interfaces trace ≡ true → All (IsKnown program.interfaces) trace
-legal_known program trace typed allowed = legal_is_known program.interfaces trace (program_main program typed) allowed
+legal_known program trace typed allowed = legal_is_known _ trace (program_main program typed) allowed
 
 -- what the machine shows on an image is known by the image's names: such traces are legal
 pub machine_run_known : TracesAreLegal → (options : RunOptions) (image : ImageParts) → IsWellFormed image →
     All (IsKnown (interfaces_of image)) (machine_run options image).state.trace
 machine_run_known legal options image formed =
-    legal_is_known (interfaces_of image) (machine_run options image).state.trace (main_known image formed)
-    (legal image (map word_of options.inputs) options.steps options.events formed (inputs_are_words options.inputs))
+    legal_is_known _ (machine_run options image).state.trace (main_known image formed)
+    (legal image _ _ _ formed (inputs_are_words _))
 
 -- the run's text, from what was found of the run
 pub shown_text : {E : Type 0} (r : Result (List ℕ) E) (names : Interfaces) (options : RunOptions) (image : ImageParts)

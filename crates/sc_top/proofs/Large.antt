@@ -2,9 +2,9 @@
 use Rattle.sc_top.proofs.Common.{AllByRecursion, Bool, CodeTooLarge, CompileFault, DataTooLarge, Err, FrameTooLarge}
 use Rattle.sc_top.proofs.Common.{ImageParts, Interfaces, IsCompiling, IsNamed, IsSome, IsWellTyped, List, None, Ok}
 use Rattle.sc_top.proofs.Common.{Option, OutOfMemory, ProgramTree, Some, TypedFunction, TypedSection, [], above, ap}
-use Rattle.sc_top.proofs.Common.{arith, built_image, by_name, code_bytes, comp_at, data_bytes, false, first, flat_map}
+use Rattle.sc_top.proofs.Common.{arith, built_image, code_bytes, comp_at, data_bytes, false, first, flat_map}
 use Rattle.sc_top.proofs.Common.{found_in, frame_bytes, if◌then◌else◌, image_of, inl, inr, large_code, large_data}
-use Rattle.sc_top.proofs.Common.{large_frame, large_frames, length, most_frame, most_globals, nat_lt, none-some}
+use Rattle.sc_top.proofs.Common.{large_frame, large_frames, length, most_globals, none-some}
 use Rattle.sc_top.proofs.Common.{of_compile_fault, option_and_then, refl, stretch, subst, suc, sym, too_large, true}
 use Rattle.sc_top.proofs.Common.{unless_large, ℕ, ⊎_elim, ◌++◌, ◌+◌, ◌∷◌, ◌≡◌, ◌≤◌, ◌⊎◌}
 use Rattle.sc_compile.specs.Prelude.{IsFault}
@@ -34,7 +34,7 @@ module _ (interfaces : Interfaces) where
   named_append (x ∷ xs) ys here behind = (here.0, named_append xs ys here.1 behind)
 
   named_above : (limit size : ℕ) (fault : CompileFault) → IsNamed interfaces fault → AreNamed (above limit size fault)
-  named_above limit size fault is = by (nat_lt limit size) where
+  named_above limit size fault is = by _ where
     by : (large : Bool) → AreNamed (if large then fault ∷ [] else [])
     by true = (is, tt)
     by false = tt
@@ -44,8 +44,7 @@ module _ (interfaces : Interfaces) where
   named_frames comp section [] is = tt
   named_frames comp section (f ∷ functions) is =
       named_append (large_frame comp section f) (flat_map (large_frame comp section) functions)
-      (named_above most_frame (frame_bytes section f) (FrameTooLarge comp f.name (frame_bytes section f)) is)
-      (named_frames comp section functions is)
+      (named_above _ _ (FrameTooLarge comp f.name (frame_bytes section f)) is) (named_frames comp section functions is)
 
   named_found : (find : ℕ → TypedSection → List CompileFault) →
       ((comp : ℕ) (section : TypedSection) → IsSome (comp_at interfaces comp) → AreNamed (find comp section)) →
@@ -82,26 +81,26 @@ named_fault program typed fault of =
           named_append program.interfaces (found_in large_data 0 program.sections)
           (found_in large_frames 0 program.sections ++ found_in large_code 0 program.sections)
           (named_found program.interfaces large_data (λ comp section is. named_above program.interfaces most_globals
-          (data_bytes section) (DataTooLarge comp (data_bytes section)) is) 0 program.sections few)
+          (data_bytes section) (DataTooLarge comp _) is) 0 program.sections few)
           (named_append program.interfaces (found_in large_frames 0 program.sections)
           (found_in large_code 0 program.sections)
           (named_found program.interfaces large_frames (λ comp section is. named_frames program.interfaces comp section
           section.functions is) 0 program.sections few)
           (named_found program.interfaces large_code (λ comp section is. named_above program.interfaces stretch
-          (code_bytes section) (CodeTooLarge comp (code_bytes section)) is) 0 program.sections few))
+          (code_bytes section) (CodeTooLarge comp _) is) 0 program.sections few))
 
 -- so it is why the program isn't compiled
 told_fault : (program : ProgramTree) (fault : CompileFault) → too_large program ≡ Some fault →
     IsCompiling program (of_compile_fault program.interfaces fault)
-told_fault program (CodeTooLarge comp bound) is = ap (option_and_then (by_name program.interfaces)) is
-told_fault program (DataTooLarge comp bytes) is = ap (option_and_then (by_name program.interfaces)) is
-told_fault program (FrameTooLarge comp function bound) is = ap (option_and_then (by_name program.interfaces)) is
+told_fault program (CodeTooLarge comp bound) is = ap (option_and_then _) is
+told_fault program (DataTooLarge comp bytes) is = ap (option_and_then _) is
+told_fault program (FrameTooLarge comp function bound) is = ap (option_and_then _) is
 told_fault program OutOfMemory is = tt
 
 pub why_not_compiled : (program : ProgramTree) (fault : CompileFault) → IsFaultOf program fault →
     IsCompiling program (of_compile_fault program.interfaces fault)
 why_not_compiled program fault of =
-    ⊎_elim (λ is. told_fault program fault (large_of (too_large program) (built_image program) fault is))
+    ⊎_elim (λ is. told_fault program fault (large_of _ _ fault is))
     (λ is. subst (λ f. IsCompiling program (of_compile_fault program.interfaces f)) (sym is) tt) of
 
 -- the same in two cases

@@ -1,6 +1,6 @@
 -- How many bytes an image has at most.
 use Rattle.sc_top.proofs.Common.{AllByRecursion, ImageParts, IsComp, IsExport, IsWellFormed, List, Some, [], ap, arith}
-use Rattle.sc_top.proofs.Common.{bit, comp_bytes, export_bytes, exports_bytes, flags, flat_map, globals_bytes}
+use Rattle.sc_top.proofs.Common.{bit, comp_bytes, export_bytes, exports_bytes, flat_map, globals_bytes}
 use Rattle.sc_top.proofs.Common.{image_bytes, import_bytes, imports_bytes, length, length-append, name_bytes}
 use Rattle.sc_top.proofs.Common.{recursion_from_All, refl, slice_get, subst, suc, sym, ℕ, ◌*◌, ◌++◌, ◌+◌, ◌∷◌, ◌≡◌, ◌≤◌}
 use Rattle.sc_image.specs.Prelude.{code_bytes}
@@ -19,7 +19,7 @@ module _ {A : Type 0} (f : A → List ℕ) (most : ℕ) (bound : ℕ → ℕ)
       let first = each.0 in
       let others = many xs each.1 in
       let more = step (length xs) in
-      let whole : length (flat_map f (x ∷ xs)) ≡ length (f x) + length (flat_map f xs) =
+      let whole =
       length-append (f x) (flat_map f xs) in
       omega arith
 
@@ -59,7 +59,7 @@ exports_are_short : (image : ImageParts) (c : ℕ) (exports : List ExportPart) �
     AllByRecursion (IsExport image c) exports → length exports ≤ 4096 → length (exports_bytes exports) ≤ 286722
 exports_are_short image c exports all few =
     let each = many export_bytes 70 (λ n. 70 * n) (λ n. omega arith) exports
-    (each_of (IsExport image c) _ exports (export_is_short image c) all) in
+    (each_of _ _ exports (export_is_short image c) all) in
     let whole = length-append (little_bytes 2 (length exports)) (flat_map export_bytes exports) in
     omega arith
 
@@ -81,14 +81,11 @@ globals_are_short globals short = let whole = length-append (little_bytes 4 (len
 comp_is_short : (image : ImageParts) (c : ℕ) (comp : CompPart) → IsComp image c comp →
     length (comp_bytes comp) ≤ 2000000
 comp_is_short image c comp is =
-    subst (λ n. n ≤ 2000000) (sym (ap suc (pieces comp.name (flags comp) (exports_bytes comp.exports)
-    (imports_bytes comp.imports) (code_bytes comp.code) (globals_bytes comp.globals))))
-    (bounded (length comp.name) (length (exports_bytes comp.exports)) (length (imports_bytes comp.imports))
-    (length (code_bytes comp.code)) (length (globals_bytes comp.globals))
-    (short_name comp.name is.name)
+    subst (λ n. n ≤ 2000000) (sym (ap suc (pieces _ _ _ _ _ _)))
+    (bounded (length _) (length (exports_bytes _)) (length (imports_bytes _))
+    (length (code_bytes _)) (length (globals_bytes _)) (short_name _ is.name)
     (exports_are_short image c comp.exports (recursion_from_All _ _ is.exports) is.few_exports)
-    (imports_are_short comp.imports is.few_imports)
-    (code_is_short comp.code is.short_code)
+    (imports_are_short comp.imports is.few_imports) (code_is_short comp.code is.short_code)
     (globals_are_short comp.globals is.short_globals))
 
 pub image_is_short : (image : ImageParts) → IsWellFormed image → length (image_bytes image) ≤ 67108864

@@ -1,16 +1,16 @@
 -- Made programs fit, so that each has an image.
-use Rattle.sc_top.proofs.Common.{Accepts, AllByRecursion, AreSmall, Bool, CodeTooLarge, CompileFault, DataTooLarge, Err}
+use Rattle.sc_top.proofs.Common.{Accepts, AllByRecursion, AreSmall, CompileFault, DataTooLarge, Err}
 use Rattle.sc_top.proofs.Common.{Explanation, FrameTooLarge, IfOk, Interfaces, IsAccepted, IsExplained, IsMadeText}
 use Rattle.sc_top.proofs.Common.{IsSmall, IsSource, IsSummary, List, MakeOptions, None, Ok, ProgramTree, Result}
 use Rattle.sc_top.proofs.Common.{SourceParts, TypedFunction, TypedSection, [], above, ap, ap₂, arith, built_image}
-use Rattle.sc_top.proofs.Common.{code_bytes, data_bytes, first, flat_map, found_in, frame_bytes, if◌then◌else◌}
-use Rattle.sc_top.proofs.Common.{image_of, large_code, large_data, large_frame, large_frames, le-ltb, most_frame}
+use Rattle.sc_top.proofs.Common.{data_bytes, first, flat_map, found_in, frame_bytes, if◌then◌else◌}
+use Rattle.sc_top.proofs.Common.{image_of, large_code, large_data, large_frame, large_frames, le-ltb}
 use Rattle.sc_top.proofs.Common.{most_globals, recursion_from_All, refl, stretch, subst, suc, summary_text, sym}
 use Rattle.sc_top.proofs.Common.{too_large, unless_large, ℕ, ◌++◌, ◌∙◌, ◌∷◌, ◌≡◌, ◌≤◌}
 use Rattle.sc_made.specs.Text.{made_text}
 
 none_above : (limit size : ℕ) (fault : CompileFault) → size ≤ limit → above limit size fault ≡ []
-none_above limit size fault few = ap (λ (large : Bool). if large then fault ∷ [] else []) (le-ltb limit size few)
+none_above limit size fault few = ap (λ large. if large then fault ∷ [] else []) (le-ltb limit size few)
 
 both_none : (xs ys : List CompileFault) → xs ≡ [] → ys ≡ [] → xs ++ ys ≡ []
 both_none xs ys here behind = ap₂ (λ a b. a ++ b) here behind
@@ -20,7 +20,7 @@ none_found : (find : ℕ → TypedSection → List CompileFault) →
     (comp : ℕ) (sections : List TypedSection) → AllByRecursion IsSmall sections → found_in find comp sections ≡ []
 none_found find each comp [] small = refl
 none_found find each comp (section ∷ sections) small =
-    both_none (find comp section) (found_in find (suc comp) sections) (each comp section small.0)
+    both_none (find comp section) (found_in find _ _) (each comp section small.0)
     (none_found find each (suc comp) sections small.1)
 
 data_fit : (comp : ℕ) (section : TypedSection) → IsSmall section → large_data comp section ≡ []
@@ -33,29 +33,26 @@ each_frame_fits : (comp : ℕ) (section : TypedSection) (functions : List TypedF
 each_frame_fits comp section [] small = refl
 each_frame_fits comp section (f ∷ functions) small =
     both_none (large_frame comp section f) (flat_map (large_frame comp section) functions)
-    (none_above most_frame (frame_bytes section f) (FrameTooLarge comp f.name (frame_bytes section f)) small.0)
+    (none_above _ _ (FrameTooLarge comp f.name (frame_bytes section f)) small.0)
     (each_frame_fits comp section functions small.1)
 
 frames_fit : (comp : ℕ) (section : TypedSection) → IsSmall section → large_frames comp section ≡ []
-frames_fit comp section small =
-    each_frame_fits comp section section.functions
-    (recursion_from_All (λ f. frame_bytes section f ≤ 32768) section.functions small.frames)
+frames_fit comp section small = each_frame_fits comp section section.functions (recursion_from_All _ _ small.frames)
 
 code_fits : (comp : ℕ) (section : TypedSection) → IsSmall section → large_code comp section ≡ []
 code_fits comp section small =
     let nodes = small.nodes in
-    none_above stretch (code_bytes section) (CodeTooLarge comp (code_bytes section)) (omega (arith, nodes))
+    none_above stretch _ _ (omega (arith, nodes))
 
 -- nothing of a small program is too large
 pub small_fits : (program : ProgramTree) → AreSmall program → too_large program ≡ None
 small_fits program small =
-    let each = recursion_from_All IsSmall program.sections small in
+    let each = recursion_from_All IsSmall _ small in
     ap first (both_none (found_in large_data 0 program.sections)
     (found_in large_frames 0 program.sections ++ found_in large_code 0 program.sections)
-    (none_found large_data data_fit 0 program.sections each)
+    (none_found large_data data_fit 0 _ each)
     (both_none (found_in large_frames 0 program.sections) (found_in large_code 0 program.sections)
-    (none_found large_frames frames_fit 0 program.sections each)
-    (none_found large_code code_fits 0 program.sections each)))
+    (none_found large_frames frames_fit 0 _ each) (none_found large_code code_fits 0 _ each)))
 
 -- so it has an image
 fitting_image : (program : ProgramTree) → too_large program ≡ None → image_of program ≡ Ok (built_image program)
@@ -68,7 +65,7 @@ made_output options text accepted written =
     record {
       written = written;
       program = accepted.program;
-      accepted = subst (λ (bytes : List ℕ). Accepts bytes accepted.program) (sym written) accepted.accepted;
+      accepted = subst (λ bytes. Accepts bytes accepted.program) (sym written) accepted.accepted;
       image = built_image accepted.program;
       compiled = fitting_image accepted.program (small_fits accepted.program accepted.small);
     }
@@ -92,7 +89,7 @@ summary_result (Ok text) options source names explanation parts made same explai
       made = made;
       explanation = explanation;
       explained = explained;
-      written = written ∙ ap (λ (names : Interfaces). summary_text options.size names explanation) same;
+      written = written ∙ ap (λ names. summary_text options.size names explanation) same;
     }
 summary_result (Err fault) options source names explanation parts made same explained written = tt
 
@@ -101,5 +98,5 @@ pub read_fits : (bytes : List ℕ) (accepted : IsAccepted bytes) (program : Prog
     ((text : List ℕ) (program other : ProgramTree) → Accepts text program → Accepts text other → program ≡ other) →
     Accepts bytes program → too_large program ≡ None
 read_fits bytes accepted program one_program is =
-    subst (λ (p : ProgramTree). too_large p ≡ None)
-    (one_program bytes accepted.program program accepted.accepted is) (small_fits accepted.program accepted.small)
+    subst (λ p. too_large p ≡ None)
+    (one_program bytes _ program accepted.accepted is) (small_fits accepted.program accepted.small)

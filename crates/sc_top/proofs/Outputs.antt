@@ -1,7 +1,7 @@
 -- What comes of accepted texts: outputs and their causes, and that an output is one.
-use Rattle.sc_top.proofs.Common.{Accepts, Bool, BytesNameOneImage, Command, CompileFault, Failure, HasImage, ImageParts}
+use Rattle.sc_top.proofs.Common.{Accepts, Bool, BytesNameOneImage, Command, Failure, HasImage, ImageParts}
 use Rattle.sc_top.proofs.Common.{IsCompiling, IsExecuted, IsMadeBy, IsOutput, IsOutputCause, IsTextOutput, IsTrue, List}
-use Rattle.sc_top.proofs.Common.{MakeOptions, Ok, ProgramTree, Result, RunOptions, [], ap, compiles, false}
+use Rattle.sc_top.proofs.Common.{MakeOptions, ProgramTree, RunOptions, [], ap, compiles, false}
 use Rattle.sc_top.proofs.Common.{interfaces_of, machine_text, output, refl, subst, sym, true, ℕ, ◌∙◌, ◌≡◌}
 use Rattle.sc_words.specs.declared.command.Command.TheVariants as commands
 use Rattle.sc_top.specs.declared.failure.Failure.TheVariants as failure
@@ -54,8 +54,7 @@ pub compiled_cause : (command : Command) (bytes : List ℕ) (program other : Pro
     other ≡ program → Accepts bytes program → IsTrue (compiles command) → IsCompiling other f →
     IsOutputCause command bytes f
 compiled_cause command bytes program other f same accepted compiled why =
-    unfit_cause command bytes program f accepted compiled
-    (subst (λ (p : ProgramTree). IsCompiling p f) same why)
+    unfit_cause command bytes program f accepted compiled (subst (λ p. IsCompiling p f) same why)
 
 -- ONE OUTPUT
 
@@ -74,7 +73,7 @@ same_output (commands.Make options) program one other same = refl
 pub one_image : (program : ProgramTree) (one other : ImageParts) → HasImage program one → HasImage program other →
     one ≡ other
 one_image program one other is known =
-    let same : ◌≡◌ {A = Result ImageParts CompileFault} (Ok one) (Ok other) = sym is.compiled ∙ known.compiled in
+    let same = sym is.compiled ∙ known.compiled in
     cc same
 
 module _
@@ -84,17 +83,16 @@ module _
       IsTextOutput command bytes other → text ≡ other
   one_text command bytes text other is known =
       let program = one_program bytes is.program known.program is.accepted known.accepted in
-      let image : IsTrue (compiles command) → is.image ≡ known.image =
-      λ c. one_image known.program is.image known.image
-      (subst (λ (p : ProgramTree). HasImage p is.image) program (is.compiled c)) (known.compiled c) in
-      is.written ∙ (ap (λ p. output command p is.image) program ∙
-      (same_output command known.program is.image known.image image ∙ sym known.written))
+      let image : IsTrue _ → is.image ≡ known.image =
+      λ c. one_image known.program _ _ (subst (λ p. HasImage p is.image) program (is.compiled c)) (known.compiled c) in
+      is.written ∙ (ap (λ p. output command p _) program ∙
+      (same_output command known.program _ _ image ∙ sym known.written))
 
   one_run : BytesNameOneImage → (options : RunOptions) (bytes text other : List ℕ) → IsExecuted options bytes text →
       IsExecuted options bytes other → text ≡ other
   one_run one options bytes text other is known =
       is.written ∙ (ap (λ i. machine_text (interfaces_of i) options i)
-      (one is.read.image known.read.image is.read.well_formed known.read.well_formed
+      (one _ _ is.read.well_formed known.read.well_formed
       (sym is.read.bytes_are ∙ known.read.bytes_are)) ∙ sym known.written)
 
   one_made : (summary : Bool) (options : MakeOptions) (text other : List ℕ) → IsMadeBy summary options text →
@@ -105,14 +103,11 @@ module _
   -- a command has one output
   pub one_output : BytesNameOneImage → (command : Command) (bytes text other : List ℕ) → IsOutput command bytes text →
       IsOutput command bytes other → text ≡ other
-  one_output one commands.Check bytes text other is known = one_text commands.Check bytes text other is known
-  one_output one (commands.Meaning options) bytes text other is known =
-      one_text (commands.Meaning options) bytes text other is known
-  one_output one commands.Compile bytes text other is known = one_text commands.Compile bytes text other is known
-  one_output one (commands.Run options) bytes text other is known =
-      one_text (commands.Run options) bytes text other is known
+  one_output one commands.Check bytes text other is known = one_text _ bytes text other is known
+  one_output one (commands.Meaning options) bytes text other is known = one_text _ bytes text other is known
+  one_output one commands.Compile bytes text other is known = one_text _ bytes text other is known
+  one_output one (commands.Run options) bytes text other is known = one_text _ bytes text other is known
   one_output one (commands.Explain options show) bytes text other is known =
       one_account one_program options show bytes text other is known
   one_output one (commands.Exec options) bytes text other is known = one_run one options bytes text other is known
-  one_output one (commands.Make options) bytes text other is known =
-      one_made options.summary options text other is known
+  one_output one (commands.Make options) bytes text other is known = one_made _ options text other is known

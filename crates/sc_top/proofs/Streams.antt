@@ -82,7 +82,7 @@ more_added bytes a b c f g h count more so_far added within counted =
     let room = so_far.within in
     let rest = take_rest bytes count in
     let fits : more ≤ length (drop count bytes) = subst (λ piece. more ≤ length piece) rest within in
-    let piece : Adds b c (take more (drop count bytes)) = subst (λ piece. Adds b c (take more piece)) rest added in
+    let piece : Adds b c (take more _) = subst (λ piece. Adds b c (take more piece)) rest added in
     record {
       within = omega (arith, length-drop count bytes);
       added = subst (Adds a c) (sym (take-add count more bytes)) (Adds-more a b c _ _ so_far.added piece);
@@ -112,7 +112,7 @@ first_cut a b w w' f f' t rose =
       front = t.front;
       begins = record {
         rest = t.begins.rest ++ b;
-        joined = ap (λ x. x ++ b) t.begins.joined ∙ append_assoc t.front t.begins.rest b;
+        joined = ap (λ x. x ++ b) t.begins.joined ∙ append_assoc t.front _ b;
       };
       part = t.part;
       whole = inr rose;
@@ -126,7 +126,7 @@ then_told a b w u w' f g f' added low t =
       front = a ++ t.front;
       begins = record {
         rest = t.begins.rest;
-        joined = ap (λ x. a ++ x) t.begins.joined ∙ sym (append_assoc a t.front t.begins.rest);
+        joined = ap (λ x. a ++ x) t.begins.joined ∙ sym (append_assoc a t.front _);
       };
       part = Adds-more w u w' a t.front added t.part;
       whole = ⊎_elim (λ same. inl (ap (λ x. a ++ x) same)) (λ rose. inr (rose_since f g f' low rose)) t.whole;
