@@ -15,7 +15,7 @@ use Rattle.sc_image.proofs.Data.{range_of, data_bounds}
 -- The owner's test.
 
 pub below_data : (image : ImageParts) (c a size : ℕ) → 0 < size → a < data_start c → are_data image c a size ≡ false
-below_data image c a size some h = rw (range_of image c a size some, lt-leb (data_start c) a h) refl
+below_data image c a size some h = rw (range_of image c a size some, lt-leb _ a h) refl
 
 moved_test : (a low n size : ℕ) → low ≤ a → size ≤ n → nat_le (a - low) (n - size) ≡ nat_le (a + size) (low + n)
 moved_test a low n size h k = grind (arith, nat_tests)
@@ -25,8 +25,7 @@ pub from_data : (image : ImageParts) (c a size n : ℕ) → 0 < size → n ≡ l
     nat_le (a - data_start c) (stack_size + n - size) ≡ are_data image c a size
 from_data image c a size n some is low few =
     let top : data_start c + (stack_size + n) ≡ stack_top c + length (globals_of image c) = omega arith in
-    rw (range_of image c a size some, le-leb (data_start c) a low)
-    (moved_test a (data_start c) (stack_size + n) size low few ∙ ap (nat_le (a + size)) top)
+    rw (range_of image c a size some, le-leb _ a low) (moved_test a _ _ size low few ∙ ap (nat_le _) top)
 
 -- There is a byte at each of a compartment's addresses at the start.
 
@@ -43,11 +42,11 @@ start_there : (image : ImageParts) (c a : ℕ) (comp : CompPart) → slice_get i
     length comp.globals ≤ most_globals →
     data_start c ≤ a → a < stack_top c + length comp.globals → is_some (start_memory image a) ≡ true
 start_there image c a comp found few low high =
-    let above : nat_lt a (data_start 0) ≡ false = le-ltb a (data_start 0) (omega arith) in
+    let above : nat_lt a (data_start 0) ≡ false = le-ltb a _ (omega arith) in
     let number : comp_of_data a ≡ c = omega arith in
     let offset : (a - data_start 0) % stretch ≡ a - data_start c = omega arith in
     ap is_some (start_is a image) ∙ rw (above, number, found, offset)
-    (there_by (a - data_start c) comp (nat_lt (a - data_start c) stack_size) refl (omega arith))
+    (there_by (a - data_start c) comp (nat_lt _ _) refl (omega arith))
 
 found_there : (image : ImageParts) (c a size : ℕ) (comp : CompPart) → slice_get image.comps c ≡ Some comp →
     length comp.globals ≤ most_globals →
@@ -55,17 +54,15 @@ found_there : (image : ImageParts) (c a size : ℕ) (comp : CompPart) → slice_
 found_there image c a size comp found few h = λ k below.
     let same : globals_of image c ≡ comp.globals = rw found refl in
     let bounds = data_bounds image c a size (omega (arith, below)) h in
-    let high : a + size ≤ stack_top c + length comp.globals =
+    let high =
     subst (λ globals. a + size ≤ stack_top c + length globals) same bounds.1 in
-    start_there image c (a + k) comp found few (omega (arith, bounds.0)) (omega (arith, high, below))
+    start_there image c _ comp found few (omega (arith, bounds.0)) (omega (arith, high, below))
 
 pub data_there : (image : ImageParts) (c a size : ℕ) → IsPlace image c → are_data image c a size ≡ true →
     HasBytes (start_memory image) a size
 data_there image c a size place h =
-    ⊎_elim
-    (λ found. found_there image c a size found.0 found.2 (place.formed.comps c found.0 found.2).short_globals h)
-    (λ none. absurd (omega (arith, none.0, place.within)))
-    (slice_get_cases image.comps c).1
+    ⊎_elim (λ found. found_there image c a size found.0 found.2 (place.formed.comps c found.0 found.2).short_globals h)
+    (λ none. absurd (omega (arith, none.0, place.within))) (slice_get_cases _ c).1
 
 -- the same by what was looked up
 module _ {image : ImageParts} {c : ℕ} {words : List ℕ} {code_from data_from bytes : ℕ}
@@ -77,7 +74,7 @@ module _ {image : ImageParts} {c : ℕ} {words : List ℕ} {code_from data_from 
       nat_le (a - data_from) (bytes - size) ≡ are_data image c a size
   looked_data a size some low few =
       rw (looked.data_from_is, looked.bytes_are)
-      (from_data image c a size (length (globals_of image c)) some refl (rw looked.data_from_is at low) (omega arith))
+      (from_data image c a size _ some refl (rw looked.data_from_is at low) (omega arith))
 
   pub looked_there : (a size : ℕ) → 0 < size → IsPlace image c → data_from ≤ a → size ≤ 4 →
       nat_le (a - data_from) (bytes - size) ≡ true → HasBytes (start_memory image) a size
@@ -88,7 +85,7 @@ module _ {image : ImageParts} {c : ℕ} {words : List ℕ} {code_from data_from 
 
 pub backed_bytes : (image : ImageParts) (memory : Memory) (a size : ℕ) → IsBacked image memory →
     HasBytes (start_memory image) a size → HasBytes memory a size
-backed_bytes image memory a size backed there = λ k below. backed (a + k) ∙ there k below
+backed_bytes image memory a size backed there = λ k below. backed _ ∙ there k below
 
 pub stored_backed : (image : ImageParts) (memory : Memory) (a size word : ℕ) → IsBacked image memory →
     HasBytes memory a size → IsBacked image (stored memory a size word)
@@ -101,14 +98,14 @@ module _ (image : ImageParts) (state : State) where
   pub load_goes : (op : LoadOp) (rd a size word : ℕ) → size ≡ load_size op → None ≡ refused image state.active size a →
       word ≡ extended op (load_of state.memory a (load_size op)) → gives state rd word ≡ load image state op rd a
   load_goes op rd a size word is allows loads =
-      let allowed : refused image state.active (load_size op) a ≡ None =
+      let allowed =
       sym (subst (λ n. None ≡ refused image state.active n a) is allows) in
       rw (allowed, loads) refl
 
   pub store_goes : (op : StoreOp) (a size word : ℕ) → size ≡ store_size op → None ≡ refused image state.active size a →
       next (with_stored state op a word) ≡ store image state op a word
   store_goes op a size word is allows =
-      let allowed : refused image state.active (store_size op) a ≡ None =
+      let allowed =
       sym (subst (λ n. None ≡ refused image state.active n a) is allows) in
       rw allowed refl
 

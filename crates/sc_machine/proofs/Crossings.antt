@@ -1,5 +1,5 @@
 -- Calls of other compartments and returns, by what was found.
-use Rattle.sc_machine.proofs.Common.{Callee, CompPart, ExportPart, Goes, ImageParts, IsCallee, IsWellFormed, List, None}
+use Rattle.sc_machine.proofs.Common.{Callee, CompPart, ExportPart, Goes, ImageParts, IsCallee, IsWellFormed, None}
 use Rattle.sc_machine.proofs.Common.{Option, Some, State, Traps, [], ap, arith, called, calls, comp_of_code, eq-eqb}
 use Rattle.sc_machine.proofs.Common.{export_at, export_called, exports_of, false, get_or, length, may_call}
 use Rattle.sc_machine.proofs.Common.{option_map_or, params_of, position, ra, refl, slice_get, slice_get-get_or}
@@ -22,8 +22,7 @@ module _ (image : ImageParts) (state : State) (target : ℕ) where
   pub call_made : (rd : ℕ) (callee : Callee) → rd ≡ ra → callee.entry ≡ target → IsCallee image state.active callee →
       calls image state rd target ≡ Goes (called state callee.comp callee.index callee.params callee.entry)
   call_made rd callee links at h =
-      linked rd links ∙ called_by callee.comp callee.index callee.params (rw at at h.comp)
-      (rw at at h.index) h.params h.may ∙
+      linked rd links ∙ called_by _ _ callee.params (rw at at h.comp) (rw at at h.index) h.params h.may ∙
       ap (λ entry. Goes (called state callee.comp callee.index callee.params entry)) (sym at)
 
   pub not_imported : (comp index : ℕ) → comp ≡ comp_of_code target → export_at image comp target ≡ Some index →
@@ -42,7 +41,7 @@ module _ (image : ImageParts) (state : State) (target : ℕ) where
 exporter_by : (image : ImageParts) (c target i : ℕ) (comp : Option CompPart) → slice_get image.comps c ≡ comp →
     position (λ export. export.entry == target) (option_map_or (λ comp. comp.exports) comp []) ≡ Some i →
     (found : CompPart) × (slice_get image.comps c ≡ Some found)
-exporter_by image c target i None is at = let never : ◌≡◌ {A = Option ℕ} None (Some i) = at in cc never
+exporter_by image c target i None is at = let never = at in cc never
 exporter_by image c target i (Some comp) is at = (comp, is)
 
 abbrev no_export : ExportPart
@@ -51,22 +50,21 @@ no_export = record { name = []; params = 0; result = false; entry = 0 }
 module _ (image : ImageParts) (formed : IsWellFormed image) (c target i : ℕ)
     (at : export_at image c target ≡ Some i) where
   exporter : (found : CompPart) × (slice_get image.comps c ≡ Some found)
-  exporter = exporter_by image c target i (slice_get image.comps c) refl at
+  exporter = exporter_by image c target i _ refl at
 
   pub exporter_within : c < length image.comps
-  exporter_within = slice_get_within image.comps c exporter.0 exporter.1
+  exporter_within = slice_get_within _ c exporter.0 exporter.1
 
   pub exporter_few : c < 32
   exporter_few = omega (arith, exporter_within, formed.few_comps)
 
   pub export_within : i < length (exports_of image c)
-  export_within = (position-Some (λ (export : ExportPart). export.entry == target)
-      (exports_of image c) i no_export at).0
+  export_within = (position-Some _ _ i no_export at).0
 
   own_within : i < length exporter.0.exports
   own_within =
       let same : exports_of image c ≡ exporter.0.exports = rw exporter.1 refl in
-      subst (λ (exports : List ExportPart). i < length exports) same export_within
+      subst (λ exports. i < length exports) same export_within
 
   pub export_few : i < 4096
   export_few = omega (arith, own_within, (formed.comps c exporter.0 exporter.1).few_exports)
@@ -77,4 +75,4 @@ module _ (image : ImageParts) (formed : IsWellFormed image) (c target i : ℕ)
   pub takes_few : params_of image c i ≤ 8
   takes_few =
       rw (exporter.1, slice_get-get_or exporter.0.exports i no_export own_within)
-      ((formed.comps c exporter.0 exporter.1).exports i no_export own_within).params
+      ((formed.comps c _ exporter.1).exports i _ own_within).params

@@ -1,10 +1,10 @@
 -- What an import leads to is a function that may be called.
 use Rattle.sc_machine.proofs.Common.{Bool, CompPart, ExportPart, ImageParts, IsCallee, IsDistinct, IsEntry, IsExport}
 use Rattle.sc_machine.proofs.Common.{IsSome, IsWellFormed, List, None, Option, Some, ap, arith, cases_lt, code_of}
-use Rattle.sc_machine.proofs.Common.{code_start, comp_of_code, eq-eqb, eqb-true, false, get_or, get_or-map}
+use Rattle.sc_machine.proofs.Common.{comp_of_code, eq-eqb, eqb-true, false, get_or, get_or-map}
 use Rattle.sc_machine.proofs.Common.{get_or_from_slice_get, if◌then◌else◌, leb-true, length, length-map, map, may_call}
-use Rattle.sc_machine.proofs.Common.{nat_eq, nat_le, refl, slice_get, slice_get_within, stretch, subst, sym, true}
-use Rattle.sc_machine.proofs.Common.{word_at, ℕ, ⊎_elim, ◌%◌, ◌&&◌, ◌*◌, ◌-◌, ◌/◌, ◌<◌, ◌==◌, ◌∙◌, ◌≡◌, ◌≤◌}
+use Rattle.sc_machine.proofs.Common.{nat_le, refl, slice_get, slice_get_within, stretch, subst, sym, true}
+use Rattle.sc_machine.proofs.Common.{word_at, ℕ, ⊎_elim, ◌&&◌, ◌*◌, ◌-◌, ◌/◌, ◌<◌, ◌∙◌, ◌≡◌, ◌≤◌}
 use Rattle.sc_base.proofs.Lists.{position_of_only}
 use Rattle.sc_image.specs.declared.parts.ImportPart.{ImportPart}
 
@@ -21,16 +21,16 @@ one_entry exports distinct j k d inside within same =
   where
     at : (i : ℕ) → i < length exports → get_or (map (λ export. export.entry) exports) i d.entry ≡
         (get_or exports i d).entry
-    at i h = get_or-map (λ (export : ExportPart). export.entry) exports i d d.entry h
+    at i h = get_or-map _ exports i d d.entry h
 
     apart : (i l : ℕ) → i < l → l < length exports → (get_or exports i d).entry ≡ (get_or exports l d).entry → ⊥
     apart i l before h e =
-        distinct i l d.entry before (omega (arith, h, length-map exports (λ (export : ExportPart). export.entry)))
+        distinct i l d.entry before (omega (arith, h, length-map exports (λ export. export.entry)))
         (at i (omega (arith, before, h)) ∙ e ∙ sym (at l h))
 
 -- an entry lies in the stretch of its compartment's code
 has_word : (code : List ℕ) (k : ℕ) (word : Option ℕ) → slice_get code k ≡ word → IsSome word → k < length code
-has_word code k None at some = let never : false ≡ true = some in cc never
+has_word code k None at some = let never = some in cc never
 has_word code k (Some word) at some = slice_get_within code k word at
 
 lies_by : (aligned low : Bool) (begin entry : ℕ) (code : List ℕ) → (low ≡ true → begin ≤ entry) →
@@ -50,8 +50,7 @@ home_of : (image : ImageParts) (c entry : ℕ) → 4 * length (code_of image c) 
     c ≡ comp_of_code entry
 unfolding word_at
 home_of image c entry short is =
-    let lies = lies_by (nat_eq (entry % 4) 0) (nat_le (code_start c) entry) (code_start c) entry (code_of image c)
-    (low_is (code_start c) entry) is in
+    let lies = lies_by _ _ _ entry _ (low_is _ entry) is in
     omega (arith, short, lies.0, lies.1)
 
 pub imported : (image : ImageParts) (caller : ℕ) (import : ImportPart) (comp : CompPart) (export : ExportPart) →
@@ -66,21 +65,18 @@ pub imported : (image : ImageParts) (caller : ℕ) (import : ImportPart) (comp :
     })
 imported image caller import comp export formed may at found =
     let rules = formed.comps import.comp comp at in
-    let within = slice_get_within comp.exports import.index export found in
-    let is : get_or comp.exports import.index export ≡ export =
-    get_or_from_slice_get comp.exports import.index export export found in
-    let keeps : IsExport image import.comp export = subst (IsExport image import.comp) is
-    (rules.exports import.index export within) in
-    let short : 4 * length (code_of image import.comp) ≤ stretch = rw at rules.short_code in
+    let within = slice_get_within _ import.index export found in
+    let is =
+    get_or_from_slice_get comp.exports _ export export found in
+    let keeps : IsExport image _ export = subst (IsExport image _) is (rules.exports _ export within) in
+    let short : 4 * length _ ≤ stretch = rw at rules.short_code in
     let entry_is : (get_or comp.exports import.index export).entry ≡ export.entry =
-    ap (λ (e : ExportPart). e.entry) is in
+    ap (λ e. e.entry) is in
     record {
-      comp = home_of image import.comp export.entry short keeps.entry;
-      within = slice_get_within image.comps import.comp comp at;
-      index = rw at
-          (position_of_only (λ (e : ExportPart). e.entry == export.entry) comp.exports import.index export within
-          (eq-eqb _ _ entry_is)
-          (λ j inside same. one_entry comp.exports rules.export_entries j import.index export inside within
+      comp = home_of image import.comp _ short keeps.entry;
+      within = slice_get_within _ import.comp comp at;
+      index = rw at (position_of_only _ comp.exports _ export within (eq-eqb _ _ entry_is)
+          (λ j inside same. one_entry _ rules.export_entries j _ export inside within
           (eqb-true _ _ same ∙ sym entry_is)));
       params = rw (at, found) refl;
       few = keeps.params;

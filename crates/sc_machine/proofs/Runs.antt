@@ -1,8 +1,8 @@
 -- Runs, step by step and call by call.
 use Rattle.sc_machine.proofs.Common.{Bool, Goes, ImageParts, List, None, Option, Run, Some, State, TrapReason, Traps}
-use Rattle.sc_machine.proofs.Common.{[], add-zero, add_assoc, ap, continued, false, fold, if◌then◌else◌, is_ended}
+use Rattle.sc_machine.proofs.Common.{[], add-zero, add_assoc, ap, continued, false, fold, if◌then◌else◌}
 use Rattle.sc_machine.proofs.Common.{leb-false, length, machine, nat_le, refl, run, run_goes, run_more, run_traps}
-use Rattle.sc_machine.proofs.Common.{start, step, stopped, stops_or, suc, sum, sym, true, unwrap_or, ℕ, ◌+◌, ◌<◌, ◌∙◌}
+use Rattle.sc_machine.proofs.Common.{step, stopped, stops_or, suc, sum, sym, true, unwrap_or, ℕ, ◌+◌, ◌<◌, ◌∙◌}
 use Rattle.sc_machine.proofs.Common.{◌∷◌, ◌≡◌}
 use Rattle.sc_event.specs.declared.event.Event.{Event}
 use Rattle.sc_base.specs.declared.stop.Stop.{Stop}
@@ -15,11 +15,11 @@ room_by : (events : ℕ) (trace : List Event) (ended full : Bool) → nat_le eve
     (if ended then Some Ended else if full then Some EventsOut else None) ≡ None → length trace < events
 room_by events trace true full is early = cc early
 room_by events trace false true is early = cc early
-room_by events trace false false is early = leb-false events (length trace) is
+room_by events trace false false is early = leb-false events _ is
 
 pub room_left : (events : ℕ) (trace : List Event) → stopped events trace ≡ None → length trace < events
 unfolding stopped
-room_left events trace early = room_by events trace (is_ended trace) (nat_le events (length trace)) refl early
+room_left events trace early = room_by events trace _ _ refl early
 
 -- the last steps of a run
 module _ (image : ImageParts) (inputs : List ℕ) (events : ℕ) (state : State) where
@@ -35,7 +35,7 @@ module _ (image : ImageParts) (inputs : List ℕ) (events : ℕ) (state : State)
         stop = unwrap_or (stopped events state.trace) StepsOut;
       }
   unfolding run
-  no_steps left none = rw none (no_more (stopped events state.trace))
+  no_steps left none = rw none (no_more _)
 
   -- one of the steps that are left
   pub trapped : (left n : ℕ) (reason : TrapReason) → left ≡ suc n → stopped events state.trace ≡ None →
@@ -59,8 +59,8 @@ module _ (image : ImageParts) (inputs : List ℕ) (events : ℕ) (state : State)
       ap (λ r. fold (λ earlier m. continued (run image inputs events m) earlier) r more)
       (sym (run_more image inputs events m n state)) ∙
       later_calls (n + m) more ∙ ap (λ k. run image inputs events k state)
-      (add_assoc n m (sum more) ∙ ap (λ k. n + k) (sym (sum_by-cons (λ x. x) m more)))
+      (add_assoc n m _ ∙ ap (λ k. n + k) (sym (sum_by-cons _ m more)))
 
 pub any_calls : (image : ImageParts) (inputs : List ℕ) (events first : ℕ) (more : List ℕ) →
     calls image inputs events (first ∷ more) ≡ machine image inputs (first + sum more) events
-any_calls image inputs events first more = later_calls image inputs events (start image) first more
+any_calls image inputs events first more = later_calls image inputs events _ first more

@@ -2,7 +2,7 @@
 use Rattle.sc_machine.proofs.Common.{All, All-cons, All-head, All-nil, All-tail, AreApart, AreBelow, Bool, CompPart}
 use Rattle.sc_machine.proofs.Common.{Filled, HasBytes, HasFewGlobals, ImageParts, IsIn, IsSome, IsWellFormed, List}
 use Rattle.sc_machine.proofs.Common.{Memory, None, Option, Region, Some, [], all_data, ap, ap₂, arith, byte_at, byte_of}
-use Rattle.sc_machine.proofs.Common.{cases_lt, comp_of_data, data_start, data_with, false, filled_with, get_or}
+use Rattle.sc_machine.proofs.Common.{cases_lt, data_start, data_with, false, filled_with, get_or}
 use Rattle.sc_machine.proofs.Common.{get_or_past, if◌then◌else◌, is_in, length, lt-ltb, most_globals, nat_le, nat_lt}
 use Rattle.sc_machine.proofs.Common.{option_and_then, refl, regions_of, slice_get, slice_get-get_or, slice_index}
 use Rattle.sc_machine.proofs.Common.{stack_size, stack_top, stack_tops, start_is, start_memory, stored, stretch, subst}
@@ -25,8 +25,7 @@ one_stored m a x h = sym (written-stored m a (x ∷ []) x (λ k below. byte_is x
 -- The compartments.
 
 pub all_few : (image : ImageParts) → IsWellFormed image → All HasFewGlobals image.comps
-all_few image formed =
-    λ i d within. (formed.comps i (get_or image.comps i d) (slice_get-get_or image.comps i d within)).short_globals
+all_few image formed = λ i d within. (formed.comps i (get_or _ i d) (slice_get-get_or _ i d within)).short_globals
 
 -- Regions one behind the other, from an address on.
 
@@ -39,17 +38,16 @@ starts_from : (regions : List Region) (low i : ℕ) (d : Region) → Ordered low
 starts_from [] low i d order within = absurd (omega (arith, within))
 starts_from (region ∷ regions) low zero d order within = order.0
 starts_from (region ∷ regions) low (suc i) d order within =
-    omega (arith, order.0, starts_from regions (region.start + region.bytes) i d order.1 (omega (arith, within)))
+    omega (arith, order.0, starts_from regions _ i d order.1 (omega (arith, within)))
 
 apart_by : (regions : List Region) (low : ℕ) → Ordered low regions → AreApart regions
 apart_by [] low order i j d before within a one other = absurd (omega (arith, within))
 apart_by (region ∷ regions) low order zero zero d before within a one other = absurd (omega (arith, before))
 apart_by (region ∷ regions) low order zero (suc j) d before within a one other =
-    omega (arith, one.1, other.0, starts_from regions (region.start + region.bytes) j d order.1 (omega (arith, within)))
+    omega (arith, one.1, other.0, starts_from regions _ j d order.1 (omega (arith, within)))
 apart_by (region ∷ regions) low order (suc i) zero d before within a one other = absurd (omega (arith, before))
 apart_by (region ∷ regions) low order (suc i) (suc j) d before within a one other =
-    apart_by regions (region.start + region.bytes) order.1 i j d (omega (arith, before))
-    (omega (arith, within)) a one other
+    apart_by regions _ order.1 i j d (omega (arith, before)) (omega (arith, within)) a one other
 
 -- Those of the compartments.
 
@@ -64,17 +62,16 @@ ordered : (comps : List CompPart) (c low : ℕ) → All HasFewGlobals comps → 
     Ordered low (regions_of (all_data c comps))
 ordered [] c low few from = tt
 ordered (comp ∷ comps) c low few from =
-    let first : length comp.globals ≤ most_globals = All-head HasFewGlobals comp comps few in (
+    let first = All-head HasFewGlobals comp comps few in (
       from,
       (
         omega arith,
-        ordered comps (suc c) (stack_top c + length comp.globals)
-            (All-tail HasFewGlobals comp comps few) (omega (arith, first)),
+        ordered comps _ _ (All-tail HasFewGlobals comp comps few) (omega (arith, first)),
       ),
     )
 
 pub regions_apart : (comps : List CompPart) → All HasFewGlobals comps → AreApart (regions_of (all_data 0 comps))
-regions_apart comps few = apart_by (regions_of (all_data 0 comps)) 0 (ordered comps 0 0 few (omega arith))
+regions_apart comps few = apart_by _ 0 (ordered comps 0 0 few (omega arith))
 
 abbrev IsBelow : Region → Type 0
 IsBelow region = region.start + region.bytes ≤ 2 ^ 32
@@ -83,11 +80,11 @@ below_from : (comps : List CompPart) (c : ℕ) → c + length comps ≤ 32 → A
     AreBelow (regions_of (all_data c comps))
 below_from [] c count few = All-nil IsBelow
 below_from (comp ∷ comps) c count few =
-    let first : length comp.globals ≤ most_globals = All-head HasFewGlobals comp comps few in
-    let rest = regions_of (all_data (suc c) comps) in
+    let first = All-head HasFewGlobals comp comps few in
+    let rest = regions_of _ in
     All-cons IsBelow (stack comp c).region ((globals comp c).region ∷ rest) (omega (arith, count))
     (All-cons IsBelow (globals comp c).region rest (omega (arith, count, first))
-    (below_from comps (suc c) (omega (arith, count)) (All-tail HasFewGlobals comp comps few)))
+    (below_from comps _ (omega (arith, count)) (All-tail HasFewGlobals comp comps few)))
 
 pub regions_below : (comps : List CompPart) → length comps ≤ 32 → All HasFewGlobals comps →
     AreBelow (regions_of (all_data 0 comps))
@@ -99,7 +96,7 @@ pub tops_more : (comps : List CompPart) (c i n : ℕ) → n ≡ c + i → i < le
 tops_more [] c i n place h = absurd (omega arith)
 tops_more (x ∷ xs) c zero n place h = let first : c ≡ n = omega arith in ap (λ k. stack_top k ∷ []) first
 tops_more (x ∷ xs) c (suc i) n place h =
-    ap (λ rest. stack_top c ∷ rest) (tops_more xs (suc c) i n (omega arith) (omega arith))
+    ap (λ rest. stack_top c ∷ rest) (tops_more xs _ i n (omega arith) (omega arith))
 
 -- A memory of zeros with the bytes that regions begin with.
 
@@ -113,18 +110,14 @@ written-inner m m' s bs a same =
 
 filled-inner : (all : List Filled) (m m' : Memory) (a : ℕ) → m' a ≡ m a → filled_with all m' a ≡ filled_with all m a
 filled-inner [] m m' a same = same
-filled-inner (filled ∷ others) m m' a same =
-    filled-inner others (written m filled.region.start filled.bytes) (written m' filled.region.start filled.bytes) a
-    (written-inner m m' filled.region.start filled.bytes a same)
+filled-inner (filled ∷ others) m m' a same = filled-inner others _ _ a (written-inner m m' _ _ a same)
 
 kept_below : (all : List Filled) (m : Memory) (low a : ℕ) → Ordered low (regions_of all) → AreWithin all → a < low →
     filled_with all m a ≡ m a
 kept_below [] m low a order within under = refl
 kept_below (filled ∷ others) m low a order within under =
-    kept_below others (written m filled.region.start filled.bytes)
-    (filled.region.start + filled.region.bytes) a order.1 within.1
-    (omega (arith, order.0, under)) ∙
-    written-apart m filled.region.start filled.bytes a (λ from upto. omega (arith, order.0, under, from))
+    kept_below others _ _ a order.1 within.1 (omega (arith, order.0, under)) ∙
+    written-apart m _ _ a (λ from upto. omega (arith, order.0, under, from))
 
 module _ (filled : Filled) (others : List Filled) (within : length filled.bytes ≤ filled.region.bytes) (a : ℕ) where
   abbrev zero_there : Memory
@@ -136,38 +129,28 @@ module _ (filled : Filled) (others : List Filled) (within : length filled.bytes 
   past_bytes : IsIn filled.region a → filled.region.start + length filled.bytes ≤ a →
       IsHere (written zero_there filled.region.start filled.bytes)
   past_bytes inside past =
-      let none : get_or filled.bytes (a - filled.region.start) 0 ≡ 0 =
+      let none : get_or filled.bytes _ 0 ≡ 0 =
       get_or_past filled.bytes (a - filled.region.start) 0 (omega (arith, past)) in
-      written-apart zero_there filled.region.start filled.bytes a (λ from upto. omega (arith, past, upto)) ∙
+      written-apart zero_there filled.region.start _ a (λ from upto. omega (arith, past, upto)) ∙
       rw (in_true filled.region a inside, none) refl
 
   in_first : IsIn filled.region a → IsHere (written zero_there filled.region.start filled.bytes)
-  in_first inside =
-      ⊎_elim
-      (λ high. written-in zero_there filled.region.start filled.bytes a inside.0 high)
-      (past_bytes inside)
-      (cases_lt a (filled.region.start + length filled.bytes))
+  in_first inside = ⊎_elim (λ high. written-in zero_there _ _ a inside.0 high) (past_bytes inside) (cases_lt a _)
 
   past_first : (IsIn filled.region a → ⊥) →
       written zero_there filled.region.start filled.bytes a ≡ zeros (regions_of others) a
   past_first outside =
-      written-apart zero_there filled.region.start filled.bytes a
-      (λ from upto. outside (from, omega (arith, upto, within))) ∙
+      written-apart zero_there _ filled.bytes a (λ from upto. outside (from, omega (arith, upto, within))) ∙
       rw (in_false filled.region a outside) refl
 
 filled_is : (all : List Filled) (low a : ℕ) → Ordered low (regions_of all) → AreWithin all →
     filled_with all (zeros (regions_of all)) a ≡ byte_at all a
 filled_is [] low a order within = refl
 filled_is (filled ∷ others) low a order within =
-    ⊎_elim
-    (λ inside.
-    kept_below others _ (filled.region.start + filled.region.bytes) a order.1 within.1 inside.1 ∙
-    in_first filled others within.0 a inside ∙ sym (rw (in_true filled.region a inside) refl))
-    (λ outside.
-    filled-inner others (zeros (regions_of others)) _ a (past_first filled others within.0 a outside) ∙
-    filled_is others (filled.region.start + filled.region.bytes) a order.1 within.1 ∙
-    sym (rw (in_false filled.region a outside) refl))
-    (in_cases filled.region a)
+    ⊎_elim (λ inside. kept_below others _ _ a order.1 within.1 inside.1 ∙
+    in_first filled others within.0 a inside ∙ sym (rw (in_true _ a inside) refl)) (λ outside.
+    filled-inner others _ _ a (past_first filled others within.0 a outside) ∙ filled_is others _ a order.1 within.1 ∙
+    sym (rw (in_false _ a outside) refl)) (in_cases _ a)
 
 -- So far of the compartments: one more of them.
 
@@ -175,28 +158,26 @@ filled_is (filled ∷ others) low a order within =
 regions_more : (comps : List CompPart) (c i n : ℕ) (comp : CompPart) → n ≡ c + i → slice_get comps i ≡ Some comp →
     regions_of (all_data c (take (suc i) comps)) ≡
     (regions_of (all_data c (take i comps)) ++ (stack comp n).region ∷ []) ++ (globals comp n).region ∷ []
-regions_more [] c i n comp place is = let never : ◌≡◌ {A = Option CompPart} None (Some comp) = is in cc never
+regions_more [] c i n comp place is = let never = is in cc never
 regions_more (x ∷ xs) c zero n comp place is =
     let first : c ≡ n = omega arith in
     let same : x ≡ comp = cc is in
     ap₂ (λ k (y : CompPart). (stack y k).region ∷ (globals y k).region ∷ []) first same
 regions_more (x ∷ xs) c (suc i) n comp place is =
-    ap (λ (rest : List Region). (stack x c).region ∷ (globals x c).region ∷ rest)
-    (regions_more xs (suc c) i n comp (omega arith) is)
+    ap (λ rest. (stack x c).region ∷ (globals x c).region ∷ rest) (regions_more xs _ i n comp (omega arith) is)
 
 -- its bytes
 filled_more : (comps : List CompPart) (c i n : ℕ) (m : Memory) (comp : CompPart) → n ≡ c + i →
     slice_get comps i ≡ Some comp →
     filled_with (all_data c (take (suc i) comps)) m ≡ written (filled_with (all_data c (take i comps)) m)
     (stack_top n) comp.globals
-filled_more [] c i n m comp place is = let never : ◌≡◌ {A = Option CompPart} None (Some comp) = is in cc never
+filled_more [] c i n m comp place is = let never = is in cc never
 filled_more (x ∷ xs) c zero n m comp place is =
     let first : c ≡ n = omega arith in
     let same : x ≡ comp = cc is in
-    ap (λ (k : Memory). written k (stack_top c) x.globals) (written_nothing m (data_start c)) ∙
+    ap (λ k. written k (stack_top c) x.globals) (written_nothing m (data_start c)) ∙
     ap₂ (λ k (y : CompPart). written m (stack_top k) y.globals) first same
-filled_more (x ∷ xs) c (suc i) n m comp place is =
-    filled_more xs (suc c) i n (written (written m (data_start c) []) (stack_top c) x.globals) comp (omega arith) is
+filled_more (x ∷ xs) c (suc i) n m comp place is = filled_more xs _ i n _ comp (omega arith) is
 
 -- there is memory for them
 some_by : (test : Bool) (x : ℕ) (o : Option ℕ) → IsSome o → IsSome (if test then Some x else o)
@@ -205,10 +186,7 @@ some_by false x o h = h
 
 some_kept : (all : List Filled) (m : Memory) (a : ℕ) → IsSome (m a) → IsSome (filled_with all m a)
 some_kept [] m a h = h
-some_kept (filled ∷ others) m a h =
-    some_kept others (written m filled.region.start filled.bytes) a
-    (some_by (nat_le filled.region.start a && nat_lt a (filled.region.start + length filled.bytes))
-    (slice_index filled.bytes (a - filled.region.start)) (m a) h)
+some_kept (filled ∷ others) m a h = some_kept others _ a (some_by _ _ (m a) h)
 
 zero_is : (comps : List CompPart) (c i n a : ℕ) (comp : CompPart) → n ≡ c + i → slice_get comps i ≡ Some comp →
     stack_top n ≤ a →
@@ -230,9 +208,8 @@ zero_is (x ∷ xs) c (suc i) n a comp place is low high =
 globals_there : (comps : List CompPart) (i k : ℕ) (comp : CompPart) → slice_get comps i ≡ Some comp →
     HasBytes (filled_with (all_data 0 (take k comps)) (zeros (regions_of (all_data 0 comps)))) (stack_top i)
     (length comp.globals)
-globals_there comps i k comp is = λ j below.
-    some_kept (all_data 0 (take k comps)) (zeros (regions_of (all_data 0 comps))) (stack_top i + j)
-    (zero_is comps 0 i i (stack_top i + j) comp (omega arith) is (omega arith) (omega (arith, below)))
+globals_there comps i k comp is = λ j below. some_kept (all_data 0 (take k comps)) (zeros _) (stack_top i + j)
+    (zero_is comps 0 i i _ comp (omega arith) is (omega arith) (omega (arith, below)))
 
 -- the steps of the loops that make them
 item_there : (comps : List CompPart) (i : ℕ) (comp : CompPart) → i < length comps → comp ≡ get_or comps i comp →
@@ -272,7 +249,7 @@ module _ (comps : List CompPart) (i : ℕ) (comp : CompPart) (h : i < length com
 
 within_all : (comps : List CompPart) (c : ℕ) → AreWithin (all_data c comps)
 within_all [] c = tt
-within_all (comp ∷ comps) c = (omega arith, (omega arith, within_all comps (suc c)))
+within_all (comp ∷ comps) c = (omega arith, (omega arith, within_all comps _))
 
 -- an address that isn't in a compartment's stretch
 elsewhere : (comp : CompPart) (comps : List CompPart) (c a : ℕ) → length comp.globals ≤ most_globals →
@@ -289,14 +266,13 @@ none_below : (comps : List CompPart) (c a : ℕ) → All HasFewGlobals comps →
 none_below [] c a few under = refl
 none_below (comp ∷ comps) c a few under =
     elsewhere comp comps c a (All-head HasFewGlobals comp comps few) (λ from upto. omega (arith, under, from)) ∙
-    none_below comps (suc c) a (All-tail HasFewGlobals comp comps few) (omega (arith, under))
+    none_below comps _ a (All-tail HasFewGlobals comp comps few) (omega (arith, under))
 
 -- and one that is
 here : (comp : CompPart) (comps : List CompPart) (c a : ℕ) → All HasFewGlobals comps → a < data_start c + stretch →
     byte_at (all_data c (comp ∷ comps)) a ≡ byte_at (data_with c comp.globals) a
 here comp comps c a few upto =
-    ap (λ (rest : Option ℕ).
-    if is_in (stack comp c).region a then Some (slice_index [] (a - data_start c))
+    ap (λ rest. if is_in (stack comp c).region a then Some (slice_index [] (a - data_start c))
     else if is_in (globals comp c).region a then Some (slice_index comp.globals (a - stack_top c)) else rest)
     (none_below comps (suc c) a few (omega (arith, upto)))
 
@@ -311,21 +287,16 @@ at_comp (comp ∷ comps) c zero n a few place from upto =
     ap (λ k. byte_at (data_with k comp.globals) a) first
 at_comp (comp ∷ comps) c (suc i) n a few place from upto =
     elsewhere comp comps c a (All-head HasFewGlobals comp comps few) (λ low high. omega (arith, place, from, high)) ∙
-    at_comp comps (suc c) i n a (All-tail HasFewGlobals comp comps few) (omega (arith, place)) from upto
+    at_comp comps _ i n a (All-tail HasFewGlobals comp comps few) (omega (arith, place)) from upto
 
 all_is : (image : ImageParts) (a : ℕ) → All HasFewGlobals image.comps →
     byte_at (all_data 0 image.comps) a ≡ start_memory image a
 unfolding start_memory
 all_is image a few =
-    ⊎_elim
-    (λ low. none_below image.comps 0 a few low ∙ sym (start_is a image ∙ rw (lt-ltb a (data_start 0) low) refl))
-    (λ from. at_comp image.comps 0 (comp_of_data a) (comp_of_data a) a few (omega arith) (omega (arith, from))
-    (omega (arith, from)))
-    (cases_lt a (data_start 0))
+    ⊎_elim (λ low. none_below _ 0 a few low ∙ sym (start_is a image ∙ rw (lt-ltb a _ low) refl))
+    (λ from. at_comp _ 0 _ _ a few (omega arith) (omega (arith, from)) (omega (arith, from))) (cases_lt a _)
 
 pub starts : (image : ImageParts) → IsWellFormed image →
     filled_with (all_data 0 image.comps) (zeros (regions_of (all_data 0 image.comps))) ≡ start_memory image
-starts image formed = λ i a.
-    (filled_is (all_data 0 image.comps) 0 a (ordered image.comps 0 0 (all_few image formed) (omega arith))
-    (within_all image.comps 0) ∙
+starts image formed = λ i a. (filled_is _ 0 a (ordered _ 0 0 (all_few image formed) (omega arith)) (within_all _ 0) ∙
     all_is image a (all_few image formed)) i

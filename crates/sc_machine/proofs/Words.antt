@@ -44,5 +44,5 @@ module _ {image : ImageParts} {c : ℕ} {words : List ℕ} {code_from data_from 
       found ≡ slice_get words ((a - code_from) / 4) → OnSome found (a + 4 < 4294967296)
   looked_within a place low None is = tt
   looked_within a place low (Some word) is =
-      let within : (a - code_from) / 4 < length words = slice_get_within words ((a - code_from) / 4) word (sym is) in
+      let within = slice_get_within words _ word (sym is) in
       omega (arith, looked.few_words, looked.code_from_is, place.within, place.formed.few_comps)
