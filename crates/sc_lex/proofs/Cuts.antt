@@ -14,7 +14,7 @@ use Rattle.sc_lex.proofs.Splits.{line_at_end}
 -- a gap begins no token
 pub gap_and_token : {directives : Bool} {text : List ℕ} {kind : TokenKind} {n m : ℕ} → IsGap text n →
     IsToken directives text kind m → ⊥
-gap_and_token {directives} {text} {kind} {m = m} (white_space h) t = white_none text h directives kind m t
+gap_and_token {directives} {text} {kind} {m = m} (white_space h) t = white_none text h _ kind m t
 gap_and_token (block_comment at h low ends first) t = t.no_block_comment h
 gap_and_token (line_comment h) t = t.no_line_comment h
 
@@ -31,7 +31,7 @@ one_piece directives text pieces.Gap (pieces.Token k) n m h g = absurd (gap_and_
 one_piece directives text (pieces.Token k) pieces.Gap n m h g = absurd (gap_and_token g h)
 one_piece directives text (pieces.Token k) (pieces.Token j) n m h g =
     let len : n ≡ m = omega (arith, token_le n m h g, token_le m n g h) in
-    let spelled : kind_of (take m text) ≡ Some k = rw len at h.spelled in
+    let spelled : kind_of _ ≡ Some k = rw len at h.spelled in
     let other = g.spelled in
     let kinds : k ≡ j = cc in
     (ap pieces.Token kinds, len)
@@ -78,10 +78,10 @@ module _ (bytes : List ℕ) where
       PieceAt at p n → Next at to tokens p n
   next_of nothing stop p n h = absurd (stop p n h)
   next_of {at} {to} (gap {tokens = ts} m g c) stop p n h =
-      let same = one_piece (allows_directive bytes at) (drop at bytes) p pieces.Gap n m h g in
+      let same = one_piece _ (drop at bytes) p pieces.Gap n m h g in
       record { rest = ts; is = rw same.0; cuts = subst (λ k. Cuts bytes (at + k) to ts) (sym same.1) c }
   next_of {at} {to} (token {tokens = ts} k m g c) stop p n h =
-      let same = one_piece (allows_directive bytes at) (drop at bytes) p (pieces.Token k) n m h g in
+      let same = one_piece (allows_directive bytes at) _ p (pieces.Token k) n m h g in
       record { rest = ts; is = rw (same.0, same.1); cuts = subst (λ j. Cuts bytes (at + j) to ts) (sym same.1) c }
 
   last_of : {at to : ℕ} {tokens : List Token} → Cuts bytes at to tokens → Stops at →
@@ -104,7 +104,7 @@ module _ (bytes : List ℕ) where
       (same.0, ap (λ ts. token_at bytes at k n ∷ ts) same.1 ∙ sym r.is)
 
   end_stops : Stops (length bytes)
-  end_stops p n h = let fits = piece_fits (allows_directive bytes (length bytes)) (drop (length bytes) bytes) p n h in
+  end_stops p n h = let fits = piece_fits _ _ p n h in
       absurd (omega (arith, fits, length-drop (length bytes) bytes))
 
   stuck_stops : (at : ℕ) → IsStuck bytes at → Stops at
@@ -118,9 +118,8 @@ module _ (bytes : List ℕ) where
       RefusesBytes bytes line other → refusal ≡ other
   one_refusal line refusal other r q =
       let same = (one_way r.front (stuck_stops r.at r.stuck) q.front (stuck_stops q.at q.stuck)).0 in
-      let phases : refusal.phase ≡ other.phase = r.phase ∙ sym q.phase in
-      let lines : refusal.line ≡ other.line = r.line ∙ ap (λ at. line_after line (newlines (take at bytes))) same ∙
-      sym q.line in
+      let phases = r.phase ∙ sym q.phase in
+      let lines = r.line ∙ ap (λ at. line_after line (newlines (take at bytes))) same ∙ sym q.line in
       ap₂ (λ p l. record { phase = p; line = l }) phases lines
 
   -- what the loop keeps: the bytes are cut up to a place
@@ -135,11 +134,10 @@ module _ (bytes : List ℕ) where
   pub progress_on : (at line n : ℕ) (found : List Token) (p : Piece) → Progress at line found → PieceAt at p n →
       Progress (at + n) (line_after line (newlines (take n (drop at bytes)))) (found ++ placed p at n line)
   progress_on at line n found p h q =
-      let fits = piece_fits (allows_directive bytes at) (drop at bytes) p n q in
+      let fits = piece_fits _ _ p n q in
       let len : at + n - at ≡ n = omega arith in
-      let one : Cuts bytes at (at + n) (placed p at n (line_at bytes at)) =
-      subst (λ ts. Cuts bytes at (at + n) ts) (append-nil (placed p at n (line_at bytes at)))
-      (cuts_piece p at n (at + n) [] q nothing) in
+      let one =
+      subst (λ ts. Cuts bytes at (at + n) ts) (append-nil _) (cuts_piece p at n _ [] q nothing) in
       record {
         within = omega (arith, fits, h.within, length-drop at bytes);
         in_line = ap (λ l. line_after l (newlines (take n (drop at bytes)))) h.in_line ∙

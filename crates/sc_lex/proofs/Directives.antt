@@ -1,11 +1,11 @@
 -- What the words of a directive are, one by one.
-use Rattle.sc_lex.proofs.Common.{Bool, List, [], arith, bytes_eq, codes, false, get_or, is_empty, is_export, is_import}
-use Rattle.sc_lex.proofs.Common.{is_name, length, ne_eqb, refl, sym, true, words, ℕ, ◌&&◌, ◌<◌, ◌∷◌, ◌≡◌}
+use Rattle.sc_lex.proofs.Common.{List, [], arith, bytes_eq, codes, false, get_or, is_empty, is_export, is_import}
+use Rattle.sc_lex.proofs.Common.{is_name, length, ne_eqb, refl, sym, words, ℕ, ◌&&◌, ◌<◌, ◌∷◌, ◌≡◌}
 use Rattle.std.proofs.Math.Bool.{and-false, and-true}
 use Rattle.sc_lex.proofs.Wording.{words_full}
 
 not_empty : (word : List ℕ) → 0 < length word → is_empty word ≡ false
-not_empty word h = ne_eqb (length word) 0 (λ none. absurd (omega arith))
+not_empty word h = ne_eqb _ 0 (λ none. absurd (omega arith))
 
 export-words : (ws : List (List ℕ)) → (3 < length ws → 0 < length (get_or ws 3 [])) →
     is_export ws ≡ (bytes_eq (get_or ws 0 []) (codes "#pragma") && bytes_eq (get_or ws 1 []) (codes "export") &&
@@ -15,7 +15,7 @@ export-words [] full = refl
 export-words (a ∷ []) full = simp and-false
 export-words (a ∷ b ∷ []) full = simp and-false
 export-words (a ∷ b ∷ c ∷ []) full = simp and-true
-export-words (a ∷ b ∷ c ∷ d ∷ ws) full = let some : is_empty d ≡ false = not_empty d (full (omega arith)) in
+export-words (a ∷ b ∷ c ∷ d ∷ ws) full = let some = not_empty d (full (omega arith)) in
     rw some (sym (and-false _))
 
 import-words : (ws : List (List ℕ)) → (4 < length ws → 0 < length (get_or ws 4 [])) →
@@ -27,7 +27,7 @@ import-words (a ∷ []) full = simp and-false
 import-words (a ∷ b ∷ []) full = simp and-false
 import-words (a ∷ b ∷ c ∷ []) full = simp and-false
 import-words (a ∷ b ∷ c ∷ d ∷ []) full = simp and-true
-import-words (a ∷ b ∷ c ∷ d ∷ e ∷ ws) full = let some : is_empty e ≡ false = not_empty e (full (omega arith)) in
+import-words (a ∷ b ∷ c ∷ d ∷ e ∷ ws) full = let some = not_empty e (full (omega arith)) in
     rw some (sym (and-false _))
 
 pub is_export-at : (line : List ℕ) → is_export (words line) ≡

@@ -17,11 +17,11 @@ head_of text n h = get_or-take n text 0 0 h
 -- words
 module _ (text : List ℕ) (start : is_name_byte (slice_index text 0) ≡ true) where
   word_kinds : (m : ℕ) → 0 < m → kind_of (take m text) ≡ word_kind (take m text)
-  word_kinds m h = kind_of-word (take m text) (ap is_name_byte (head_of text m h) ∙ start)
+  word_kinds m h = kind_of-word _ (ap is_name_byte (head_of text m h) ∙ start)
 
   word_runs : (m : ℕ) (kind : TokenKind) → 0 < m → kind_of (take m text) ≡ Some kind →
       IsRun is_name_byte (take m text) kind
-  word_runs m kind h e = (word_run (take m text) kind (sym (word_kinds m h) ∙ e)).run
+  word_runs m kind h e = (word_run _ kind (sym (word_kinds m h) ∙ e)).run
 
   no_slash : slice_index text 0 ≡ 47 → ⊥
   no_slash e = false≢true (rw e at start)
@@ -29,9 +29,9 @@ module _ (text : List ℕ) (start : is_name_byte (slice_index text 0) ≡ true) 
   pub word_found : (len : ℕ) (kind : TokenKind) (directives : Bool) → 0 < length text →
       len ≡ prefix_len is_name_byte text → Some kind ≡ word_kind (take len text) → IsToken directives text kind len
   word_found len kind directives some is e =
-      let positive : 0 < len = rw is (run_positive is_name_byte text some start) in
+      let positive : 0 < len = rw is (run_positive _ text some start) in
       let none = (word_run (take len text) kind (sym e)).no_directive in
-      run_token is_name_byte text word_runs len kind directives is positive (word_kinds len positive ∙ sym e)
+      run_token _ text word_runs len kind _ is positive (word_kinds len positive ∙ sym e)
       (λ d. absurd (false≢true (sym none ∙ d))) (λ c. no_slash (star_first text c))
       (λ c. no_slash (slash_first text c))
 
@@ -39,19 +39,19 @@ module _ (text : List ℕ) (start : is_name_byte (slice_index text 0) ≡ true) 
       NoToken text
   word_none len some is e =
       let positive = run_positive is_name_byte text some start in
-      run_none is_name_byte text word_runs (word_kinds (prefix_len is_name_byte text) positive ∙ sym (rw is at e))
+      run_none is_name_byte text word_runs (word_kinds _ positive ∙ sym (rw is at e))
 
 -- directives
 module _ (text : List ℕ) (start : slice_index text 0 ≡ 35) where
   line_kinds : (m : ℕ) → 0 < m → kind_of (take m text) ≡ directive_kind (take m text)
-  line_kinds m h = kind_of-directive (take m text) (head_of text m h ∙ start)
+  line_kinds m h = kind_of-directive _ (head_of text m h ∙ start)
 
   line_runs : (m : ℕ) (kind : TokenKind) → 0 < m → kind_of (take m text) ≡ Some kind →
       IsRun is_inside_line (take m text) kind
-  line_runs m kind h e = (directive_run (take m text) kind (sym (line_kinds m h) ∙ e)).run
+  line_runs m kind h e = (directive_run _ kind (sym (line_kinds m h) ∙ e)).run
 
   line_positive : 0 < length text → 0 < line_len text
-  line_positive some = run_positive is_inside_line text some (ap is_inside_line start)
+  line_positive some = run_positive _ text some (ap is_inside_line start)
 
   whole_line : (len : ℕ) → 0 < len → len ≡ line_len text → directive_kind (take len text) ≡ line_kind (take len text)
   whole_line len positive is =
@@ -64,9 +64,9 @@ module _ (text : List ℕ) (start : slice_index text 0 ≡ 35) where
       Some kind ≡ line_kind (take len text) → IsTrue (is_directive kind) × IsToken true text kind len
   directive_found len kind some is e =
       let positive : 0 < len = rw is (line_positive some) in
-      let directive : directive_kind (take len text) ≡ Some kind = whole_line len positive is ∙ sym e in (
+      let directive = whole_line len positive is ∙ sym e in (
         (directive_run (take len text) kind directive).directive,
-        run_token is_inside_line text line_runs len kind true is positive (line_kinds len positive ∙ directive)
+        run_token _ text line_runs len kind true is positive (line_kinds len positive ∙ directive)
             (λ d. refl) (λ c. absurd (omega (arith, star_first text c)))
             (λ c. absurd (omega (arith, slash_first text c))),
       )
@@ -75,8 +75,7 @@ module _ (text : List ℕ) (start : slice_index text 0 ≡ 35) where
       NoToken text
   directive_none len some is e =
       let positive = line_positive some in
-      run_none is_inside_line text line_runs (line_kinds (line_len text) positive ∙
-      whole_line (line_len text) positive refl ∙ sym (rw is at e))
+      run_none is_inside_line text line_runs (line_kinds _ positive ∙ whole_line _ positive refl ∙ sym (rw is at e))
 
   -- where no directive is allowed, nothing begins with `#`
   pub directive_forbidden : (kind : TokenKind) (len : ℕ) → IsToken false text kind len → ⊥
@@ -92,24 +91,23 @@ stands text len = nat_le len (length text) && is_mark (take len text)
 module _ (text : List ℕ) (some : 0 < length text) (word : is_name_byte (slice_index text 0) ≡ false)
     (line : slice_index text 0 ≡ 35 → ⊥) where
   mark_kinds : (m : ℕ) → 0 < m → kind_of (take m text) ≡ mark_kind (take m text)
-  mark_kinds m h = kind_of-mark (take m text) (omega (arith, length-take m text))
+  mark_kinds m h = kind_of-mark _ (omega (arith, length-take m text))
       (ap is_name_byte (head_of text m h) ∙ word) (λ e. line (sym (head_of text m h) ∙ e))
 
   mark_kinds_none : (m : ℕ) → 0 < m → m ≤ length text → (m ≤ 3 → stands text m ≡ false) → kind_of (take m text) ≡ None
   mark_kinds_none m h within none =
-      mark_kinds m h ∙ no_mark (take m text) (λ is.
-      let low = (mark_is (take m text) is).short in
+      mark_kinds m h ∙ no_mark _ (λ is.
+      let low = (mark_is _ is).short in
       let len = length-take-le m text within in
-      false≢true (sym (none (omega arith)) ∙ and_from (nat_le m (length text)) (is_mark (take m text))
-      (le-leb m (length text) within) is))
+      false≢true (sym (none (omega arith)) ∙ and_from (nat_le m _) _ (le-leb m _ within) is))
 
   mark_token : (n : ℕ) (directives : Bool) → 0 < n → stands text n ≡ true →
       ((m : ℕ) → n < m → m ≤ 3 → stands text m ≡ false) → (IsTrue (begins_block_comment text) → ⊥) →
       (IsTrue (begins_line_comment text) → ⊥) → IsToken directives text Mark n
   mark_token n directives h is longer no_block no_line =
-      let parts = and_parts (nat_le n (length text)) (is_mark (take n text)) is in
+      let parts = and_parts _ _ is in
       record {
-        within = leb-true n (length text) parts.0;
+        within = leb-true n _ parts.0;
         spelled = mark_kinds n h ∙ rw parts.1;
         longest = λ m more inside. mark_kinds_none m (omega arith) inside (λ low. longer m more low);
         apart = λ inside. refl;
@@ -120,12 +118,12 @@ module _ (text : List ℕ) (some : 0 < length text) (word : is_name_byte (slice_
 
   pub mark_three : stands text 3 ≡ true → (IsTrue (begins_block_comment text) → ⊥) →
       (IsTrue (begins_line_comment text) → ⊥) → (directives : Bool) → IsToken directives text Mark 3
-  mark_three three no_block no_line directives = mark_token 3 directives (omega arith) three
+  mark_three three no_block no_line directives = mark_token 3 _ (omega arith) three
       (λ m more low. absurd (omega arith)) no_block no_line
 
   pub mark_two : stands text 3 ≡ false → stands text 2 ≡ true → (IsTrue (begins_block_comment text) → ⊥) →
       (IsTrue (begins_line_comment text) → ⊥) → (directives : Bool) → IsToken directives text Mark 2
-  mark_two three two no_block no_line directives = mark_token 2 directives (omega arith) two
+  mark_two three two no_block no_line directives = mark_token 2 _ (omega arith) two
       (λ m more low. let e : m ≡ 3 = omega arith in rw e three) no_block no_line
 
   pub mark_one : stands text 3 ≡ false → stands text 2 ≡ false → stands text 1 ≡ true →

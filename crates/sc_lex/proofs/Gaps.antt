@@ -2,7 +2,7 @@
 use Rattle.sc_lex.proofs.Common.{IsGap, IsTrue, List, [], ap, arith, begins_block_comment, begins_line_comment}
 use Rattle.sc_lex.proofs.Common.{block_comment, cases_lt, codes, drop, ends_comment, false, false≢true, is_inside_line}
 use Rattle.sc_lex.proofs.Common.{is_white_space, length, length-drop, line_comment, line_len, prefix_len-le-length}
-use Rattle.sc_lex.proofs.Common.{refl, slice_index, sym, true, white_space, ℕ, ⊎_elim, ◌+◌, ◌<◌, ◌∙◌, ◌∷◌, ◌≡◌, ◌≤◌}
+use Rattle.sc_lex.proofs.Common.{refl, slice_index, sym, true, white_space, ℕ, ⊎_elim, ◌+◌, ◌<◌, ◌∙◌, ◌≡◌, ◌≤◌}
 use Rattle.sc_lex.proofs.Runs.{run_positive}
 use Rattle.sc_lex.proofs.Wording.{begins_with, front_byte}
 
@@ -31,7 +31,7 @@ one_gap {text} (white_space h) (block_comment at q low ends first) = absurd (whi
 one_gap {text} (white_space h) (line_comment q) = absurd (white_no_slash text h (slash_first text q))
 one_gap {text} (block_comment at h low ends first) (white_space q) = absurd (white_no_slash text q (star_first text h))
 one_gap {text} (block_comment at h low ends first) (block_comment bt q low' ends' first') =
-    let same : at ≡ bt = ⊎_elim (λ less. absurd (first' at low less ends))
+    let same = ⊎_elim (λ less. absurd (first' at low less ends))
     (λ more. ⊎_elim (λ less. absurd (first bt low' less ends')) (λ le. omega arith) (cases_lt bt at))
     (cases_lt at bt) in
     ap (λ k. k + 2) same
@@ -61,12 +61,12 @@ gap_fits {text} (white_space h) = (omega arith, some text h)
   where
     some : (text : List ℕ) → is_white_space (slice_index text 0) ≡ true → 1 ≤ length text
     some [] h = absurd (false≢true h)
-    some (b ∷ bs) h = omega arith
+    some _ h = omega arith
 gap_fits {text} (block_comment at h low ends first) = (omega arith, ends_within text at ends)
 gap_fits {text} (line_comment h) =
     let long = (begins_with text (codes "//") h).fits in (
-      run_positive is_inside_line text (omega arith) (ap is_inside_line (slash_first text h)),
-      prefix_len-le-length is_inside_line text,
+      run_positive _ text (omega arith) (ap is_inside_line (slash_first text h)),
+      prefix_len-le-length _ text,
     )
 
 pub ruleset gaps = (no_gap, white_gap, line_gap)

@@ -1,7 +1,7 @@
 -- The number that digits stand for.
 use Rattle.sc_lex.proofs.Common.{Bool, List, None, Option, Some, [], and_left, and_right, ap, arith, cond, digit_value}
 use Rattle.sc_lex.proofs.Common.{drop, false, fold, fold-append, fold_more, get_or, is_digit, is_empty, is_number}
-use Rattle.sc_lex.proofs.Common.{le-leb, le-ltb, leb, length, list_all, list_all_at, lt-leb, not, number, refl, sym}
+use Rattle.sc_lex.proofs.Common.{le-leb, le-ltb, length, list_all, list_all_at, lt-leb, not, number, refl, sym}
 use Rattle.sc_lex.proofs.Common.{take, take-append-drop, take_all, true, ℕ, ◌&&◌, ◌*◌, ◌+◌, ◌<◌, ◌∙◌, ◌∷◌, ◌≡◌, ◌≤◌}
 use Rattle.std.proofs.Math.Nat.{mul-le-mul_left}
 
@@ -27,9 +27,9 @@ module _ (base : ℕ) where
       base ≤ d → is_number base greatest digits ≡ false
   unfolding is_number
   no_digit digits i greatest d less is high =
-      let fails : is_digit base (get_or digits i 0) ≡ false =
+      let fails =
       le-ltb (digit_value (get_or digits i 0)) base (rw is at high) in
-      and_left _ _ (and_right _ _ (list_all_at (λ digit. is_digit base digit) digits i 0 less fails))
+      and_left _ _ (and_right _ _ (list_all_at _ digits i 0 less fails))
 
   pub too_great : (digits : List ℕ) (i value greatest d : ℕ) → 1 ≤ base → IsRead digits i value greatest →
       i < length digits → d ≡ digit_value (get_or digits i 0) → greatest < value * base + d →
@@ -39,7 +39,7 @@ module _ (base : ℕ) where
       let step = fold_more (λ value digit. value * base + digit_value digit) 0 digits i 0 less in
       let front : number base (take (i + 1) digits) ≡ value * base + d = step ∙ rw (is, h.value_is) in
       let whole : number base digits ≡ fold (λ value digit. value * base + digit_value digit)
-      (number base (take (i + 1) digits)) (drop (i + 1) digits) =
+      (number base (take _ digits)) (drop (i + 1) digits) =
       ap (number base) (sym (take-append-drop (i + 1) digits)) ∙
       fold-append (λ value digit. value * base + digit_value digit) 0 (take (i + 1) digits) (drop (i + 1) digits) in
       and_right _ _ (lt-leb (number base digits) greatest
@@ -49,11 +49,11 @@ module _ (base : ℕ) where
       is_number base greatest digits ≡ not (is_empty digits)
   unfolding is_number
   all_read digits i value greatest h past =
-      let whole : take i digits ≡ digits = take_all i digits past in
-      let all : list_all (λ digit. is_digit base digit) digits ≡ true = rw whole at h.all in
+      let whole = take_all i digits past in
+      let all : list_all _ digits ≡ true = rw whole at h.all in
       let same : value ≡ number base digits = rw whole at h.value_is in
-      let low : leb (number base digits) greatest ≡ true = le-leb (number base digits) greatest (rw same at h.low) in
-      rw (all, low) (both_true (not (is_empty digits)))
+      let low = le-leb _ _ (rw same at h.low) in
+      rw (all, low) (both_true (not _))
 
   -- the number, where it is one
   abbrev answer : List ℕ → ℕ → Option ℕ
@@ -66,14 +66,14 @@ module _ (base : ℕ) where
   pub empty_stands : (digits : List ℕ) (i value greatest : ℕ) → IsRead digits i value greatest → length digits ≤ i →
       is_empty digits ≡ true → None ≡ answer digits greatest
   empty_stands digits i value greatest h past empty =
-      none_stands digits greatest (all_read digits i value greatest h past ∙ ap (λ b. not b) empty)
+      none_stands digits _ (all_read digits i value _ h past ∙ ap (λ b. not b) empty)
 
   pub some_stands : (digits : List ℕ) (i value greatest : ℕ) → IsRead digits i value greatest → length digits ≤ i →
       is_empty digits ≡ false → Some value ≡ answer digits greatest
   some_stands digits i value greatest h past some =
-      let whole : take i digits ≡ digits = take_all i digits past in
+      let whole = take_all i digits past in
       let same : value ≡ number base digits = rw whole at h.value_is in
       ap (λ k. Some k) same ∙ ap (λ b. cond b (Some (number base digits)) None)
-      (sym (all_read digits i value greatest h past ∙ ap (λ b. not b) some))
+      (sym (all_read digits i value _ h past ∙ ap (λ b. not b) some))
 
 pub ruleset numbers = (product_fits)

@@ -31,9 +31,8 @@ module _ (p : ℕ → Bool) (text : List ℕ) (runs : (m : ℕ) (kind : TokenKin
     IsRun p (take m text) kind) where
   run_longer : (m : ℕ) → prefix_len p text < m → m ≤ length text → list_all p (take m text) ≡ false
   run_longer m h within =
-      let i : prefix_len p text < length (take m text) = omega (arith, length-take-le m text within) in
-      list_all_at p (take m text) (prefix_len p text) 0 i
-      (ap p (get_or-take m text (prefix_len p text) 0 h) ∙ prefix_len_stops p text 0 (omega arith))
+      let i : prefix_len p text < length _ = omega (arith, length-take-le m text within) in
+      list_all_at p _ _ 0 i (ap p (get_or-take m text _ 0 h) ∙ prefix_len_stops p text 0 (omega arith))
 
   pub run_token : (n : ℕ) (kind : TokenKind) (directives : Bool) → n ≡ prefix_len p text → 0 < n →
       kind_of (take n text) ≡ Some kind → (IsTrue (is_directive kind) → IsTrue directives) →
@@ -42,10 +41,10 @@ module _ (p : ℕ → Bool) (text : List ℕ) (runs : (m : ℕ) (kind : TokenKin
   run_token n kind directives is positive spelled allowed block line = record {
     within = omega (arith, prefix_len-le-length p text);
     spelled = spelled;
-    longest = λ m more inside. none_from (kind_of (take m text))
+    longest = λ m more inside. none_from _
         (λ k e. false≢true (sym (run_longer m (rw is at more) inside) ∙ (runs m k (omega arith) e).all));
     apart = λ inside. (runs n kind positive spelled).follow (get_or text n 0) ∙
-        not_from_false (p (get_or text n 0)) (rw is (prefix_len_stops p text 0 (rw is at inside)));
+        not_from_false _ (rw is (prefix_len_stops p text 0 (rw is at inside)));
     allowed = allowed;
     no_block_comment = block;
     no_line_comment = line;
@@ -56,16 +55,14 @@ module _ (p : ℕ → Bool) (text : List ℕ) (runs : (m : ℕ) (kind : TokenKin
       let positive = token_positive m t in
       let run = runs m kind positive t.spelled in
       let inside = prefix_len-le-length p text in
-      ⊎_elim (λ longer. absurd (false≢true (sym (run_longer m longer t.within) ∙ run.all)))
-      (λ low. ⊎_elim
-      (λ less. absurd (false≢true (sym (run.follow (get_or text m 0) ∙
-      not_from_true (p (get_or text m 0)) (prefix_len_passes p text m 0 less)) ∙ t.apart (omega arith))))
-      (λ le. omega arith) (cases_lt m (prefix_len p text)))
-      (cases_lt (prefix_len p text) m)
+      ⊎_elim (λ longer. absurd (false≢true (sym (run_longer m longer t.within) ∙ run.all))) (λ low. ⊎_elim
+      (λ less. absurd (false≢true (sym (run.follow _ ∙
+      not_from_true (p _) (prefix_len_passes p text m 0 less)) ∙ t.apart (omega arith))))
+      (λ le. omega arith) (cases_lt m (prefix_len p text))) (cases_lt (prefix_len p text) m)
 
   -- nothing of this class is a token, where its longest run is none
   pub run_none : kind_of (take (prefix_len p text) text) ≡ None → (directives : Bool) (kind : TokenKind) (m : ℕ) →
       IsToken directives text kind m → ⊥
   run_none none directives kind m t =
-      let len = run_only directives kind m t in
+      let len = run_only _ kind m t in
       none-some kind (sym none ∙ (rw len at t.spelled))

@@ -43,7 +43,7 @@ module _ (bytes : List ℕ) where
       record {
         each = all_cons (λ t. IsSpan bytes t) (token_at bytes at kind n) ts (span_of at kind n h) rest.each;
         apart = pairs_cons (λ t later. t.end ≤ later.start) (token_at bytes at kind n) ts
-            (begin_behind c (at + n) (omega arith)) rest.apart;
+            (begin_behind c _ (omega arith)) rest.apart;
       }
 
   -- what a function over tokens needs of them

@@ -1,21 +1,21 @@
 -- Sections that follow one another, and what the loop over them keeps.
 use Rattle.sc_lex.proofs.Common.{AreSections, IsBadHeading, IsSection, IsTrue, List, NoHeading, [], and_parts, ap}
-use Rattle.sc_lex.proofs.Common.{arith, begins_heading, begins_line, cases_lt, cond, drop, drop-drop, flat_map}
+use Rattle.sc_lex.proofs.Common.{arith, cases_lt, drop, drop-drop, flat_map}
 use Rattle.sc_lex.proofs.Common.{is_heading, length, length-drop, line_after, line_at, min, newlines, none, none-some}
 use Rattle.sc_lex.proofs.Common.{refl, section, slice_range, sum_by-append, sym, take, take_all, ℕ, ⊎_elim, ◌++◌, ◌+◌}
-use Rattle.sc_lex.proofs.Common.{◌-◌, ◌<◌, ◌==◌, ◌∙◌, ◌∷◌, ◌≡◌, ◌≤◌}
+use Rattle.sc_lex.proofs.Common.{◌-◌, ◌<◌, ◌∙◌, ◌∷◌, ◌≡◌, ◌≤◌}
 use Rattle.std.proofs.Math.Seq.{take-add}
 use Rattle.sc_lex.specs.declared.section.Section.{Section}
 use Rattle.sc_lex.proofs.Wording.{heading_fits}
 
 pub heading_within : (text : List ℕ) (at : ℕ) → IsTrue (is_heading text at) → at < length text
 heading_within text at h =
-    let begins = (and_parts (begins_line text at) (begins_heading (drop at text)) h).1 in
+    let begins = (and_parts _ _ h).1 in
     omega (arith, heading_fits (drop at text) begins, length-drop at text)
 
 pub take-range : (text : List ℕ) (a b : ℕ) → a ≤ b → take b text ≡ take a text ++ slice_range text a b
 take-range text a b h = let there : a + (b - a) ≡ b = omega arith in
-    ap (λ n. take n text) (sym there) ∙ take-add a (b - a) text
+    ap (λ n. take n text) (sym there) ∙ take-add a _ text
 
 range-append : (text : List ℕ) (a b c : ℕ) → a ≤ b → b ≤ c →
     slice_range text a c ≡ slice_range text a b ++ slice_range text b c
@@ -23,17 +23,17 @@ range-append text a b c h k =
     let there : a + (b - a) ≡ b = omega arith in
     let far : c - a ≡ (b - a) + (c - b) = omega arith in
     let behind : drop b text ≡ drop (b - a) (drop a text) = rw (drop-drop, there) refl in
-    rw (behind, far) (take-add (b - a) (c - b) (drop a text))
+    rw (behind, far) (take-add _ _ _)
 
 newlines-append : (xs ys : List ℕ) → newlines (xs ++ ys) ≡ newlines xs + newlines ys
-newlines-append xs ys = sum_by-append (λ byte. cond (byte == 10) 1 0) xs ys
+newlines-append xs ys = sum_by-append _ xs ys
 
 pub line_at_end : (text : List ℕ) (at end : ℕ) → at ≤ end →
     line_after (line_at text at) (newlines (slice_range text at end)) ≡ line_at text end
 line_at_end text at end h =
-    let whole : newlines (take end text) ≡ newlines (take at text) + newlines (slice_range text at end) =
+    let whole =
     ap newlines (take-range text at end h) ∙ newlines-append (take at text) (slice_range text at end) in
-    lines (newlines (take at text)) (newlines (slice_range text at end)) (newlines (take end text)) whole
+    lines _ _ _ whole
   where
     lines : (n m k : ℕ) → k ≡ n + m → min (min (1 + n) 4294967295 + m) 4294967295 ≡ min (1 + k) 4294967295
     lines n m k e = omega arith

@@ -2,8 +2,8 @@
 use Rattle.sc_lex.proofs.Common.{Bool, Compartment, Export, Ident, Import, Integer, List, None, Option, Reserved, Some}
 use Rattle.sc_lex.proofs.Common.{TokenKind, [], and_from, and_parts, ap, arith, base_of, bytes_eq, bytes_eq-Decides}
 use Rattle.sc_lex.proofs.Common.{cond, digits_of, directive_kind, drop, drop_all, drop_more, eqb-true, false}
-use Rattle.sc_lex.proofs.Common.{false_from_ne_true, false≢true, get_or, has_suffix, heading_name, is_between, is_digit}
-use Rattle.sc_lex.proofs.Common.{is_directive, is_empty, is_export, is_hexadecimal, is_import, is_inside_line}
+use Rattle.sc_lex.proofs.Common.{false_from_ne_true, false≢true, get_or, has_suffix, is_between, is_digit}
+use Rattle.sc_lex.proofs.Common.{is_directive, is_export, is_hexadecimal, is_import, is_inside_line}
 use Rattle.sc_lex.proofs.Common.{is_integer, is_mark, is_name, is_name_byte, is_nondigit, is_number, is_pragma}
 use Rattle.sc_lex.proofs.Common.{is_reserved, is_some, is_white_space, kind_of, le-leb, leb-true, length, line_kind}
 use Rattle.sc_lex.proofs.Common.{list_all, list_all-append, list_any, ltb-true, mark_kind, marks, may_follow, nat_le}
@@ -18,10 +18,9 @@ table_says : (p : List ℕ → Bool) (table : List (List ℕ)) (text : List ℕ)
     list_any (λ word. bytes_eq text word) table ≡ true → p text ≡ true
 table_says p [] text h q = absurd (false≢true q)
 table_says p (word ∷ table) text h q =
-    let parts = and_parts (p word) (list_all p table) h in
+    let parts = and_parts _ _ h in
     ⊎_elim (λ same. let e : text ≡ word = (bytes_eq-Decides text word).0 same in rw e parts.0)
-    (λ more. table_says p table text parts.1 more)
-    (or_cases (bytes_eq text word) (list_any (λ w. bytes_eq text w) table) q)
+    (λ more. table_says p table text parts.1 more) (or_cases _ _ q)
 
 reserved_is_name : (text : List ℕ) → is_reserved text ≡ true → is_name text ≡ true
 unfolding is_reserved is_name
@@ -61,14 +60,13 @@ digit_is_name_byte base b low h = go (is_between 48 57 b) (is_between 97 102 b) 
 hexadecimal_bytes : (body : List ℕ) → is_hexadecimal body ≡ true → list_all is_name_byte (drop 2 body) ≡ true →
     list_all is_name_byte body ≡ true
 hexadecimal_bytes [] h q = absurd (false≢true h)
-hexadecimal_bytes (a ∷ []) h q = absurd (false≢true (and_parts (a == 48) false h).1)
+hexadecimal_bytes (a ∷ []) h q = absurd (false≢true (and_parts _ false h).1)
 hexadecimal_bytes (a ∷ b ∷ body) h q =
-    let parts = and_parts (a == 48) (b == 120 || b == 88) h in
+    let parts = and_parts _ _ h in
     let zero_is : is_name_byte a ≡ true = rw (eqb-true a 48 parts.0) in
     let x_is : is_name_byte b ≡ true = ⊎_elim (λ e. rw (eqb-true b 120 e)) (λ e. rw (eqb-true b 88 e))
-    (or_cases (b == 120) (b == 88) parts.1) in
-    and_from (is_name_byte a) (list_all is_name_byte (b ∷ body)) zero_is
-    (and_from (is_name_byte b) (list_all is_name_byte body) x_is q)
+    (or_cases _ _ parts.1) in
+    and_from _ _ zero_is (and_from _ _ x_is q)
 
 suffix_bytes : (text : List ℕ) → has_suffix text ≡ true → list_all is_name_byte (take (length text - 1) text) ≡ true →
     list_all is_name_byte text ≡ true
@@ -77,17 +75,16 @@ suffix_bytes (b ∷ bs) h q =
     let text = b ∷ bs in
     let n = length text - 1 in
     let last = get_or text n 0 in
-    let nothing : drop (n + 1) text ≡ [] = drop_all (n + 1) text (omega arith) in
-    let end : drop n text ≡ last ∷ [] = drop_more text n 0 (omega arith) ∙ ap (λ more. last ∷ more) nothing in
+    let nothing = drop_all (n + 1) text (omega arith) in
+    let end = drop_more text n 0 (omega arith) ∙ ap (λ more. last ∷ more) nothing in
     let is : is_name_byte last ≡ true = ⊎_elim (λ e. rw (eqb-true last 117 e)) (λ e. rw (eqb-true last 85 e))
-    (or_cases (last == 117) (last == 85) h) in
+    (or_cases _ _ h) in
     ap (list_all is_name_byte) (sym (take-append-drop n text)) ∙
-    list_all-append is_name_byte (take n text) (drop n text) ∙
-    and_from (list_all is_name_byte (take n text)) (list_all is_name_byte (drop n text)) q
-    (rw end (and_from (is_name_byte last) true is refl))
+    list_all-append is_name_byte (take n text) (drop n text) ∙ and_from _ (list_all _ (drop n text)) q
+    (rw end (and_from _ true is refl))
 
 base_of_low : (body : List ℕ) → base_of body ≤ 16
-base_of_low body = go (is_hexadecimal body) (slice_index body 0 == 48)
+base_of_low body = go _ _
   where
     go : (x y : Bool) → cond x 16 (cond y 8 10) ≤ 16
     go true y = omega arith
@@ -99,11 +96,10 @@ unfolding is_integer is_number
 integer_bytes text h =
     let body = without_suffix text in
     let low = base_of_low body in
-    let digits = (and_parts (not (is_empty (digits_of body))) (list_all (is_digit (base_of body)) (digits_of body))
-    (and_parts (not (is_empty (digits_of body)) && list_all (is_digit (base_of body)) (digits_of body)) _ h).0).1 in
-    let named = list_all_along (is_digit (base_of body)) is_name_byte (λ b q. digit_is_name_byte (base_of body) b low q)
+    let digits = (and_parts (not _) _ (and_parts _ _ h).0).1 in
+    let named = list_all_along (is_digit _) is_name_byte (λ b q. digit_is_name_byte _ b low q)
     (digits_of body) digits in
-    outer (has_suffix text) refl (inner body (is_hexadecimal body) refl named)
+    outer _ refl (inner body _ refl named)
   where
     inner : (body : List ℕ) (x : Bool) → is_hexadecimal body ≡ x →
         list_all is_name_byte (cond x (drop 2 body) body) ≡ true → list_all is_name_byte body ≡ true
@@ -119,10 +115,9 @@ name_bytes : (text : List ℕ) → is_name text ≡ true → list_all is_name_by
 unfolding is_name
 name_bytes [] h = refl
 name_bytes (first ∷ rest) h =
-    let parts = and_parts (is_nondigit first) (list_all is_name_byte rest && nat_lt (length rest) 63) h in
-    let behind = (and_parts (list_all is_name_byte rest) (nat_lt (length rest) 63) parts.1).0 in
-    and_from (is_name_byte first) (list_all is_name_byte rest)
-    (or_left (is_nondigit first) (is_between 48 57 first) parts.0) behind
+    let parts = and_parts (is_nondigit first) _ h in
+    let behind = (and_parts (list_all _ rest) (nat_lt _ 63) parts.1).0 in
+    and_from (is_name_byte first) _ (or_left _ _ parts.0) behind
 
 -- all bytes of a text pass, and a token of this kind may be followed by those that don't
 pub record IsRun (p : ℕ → Bool) (text : List ℕ) (kind : TokenKind) : Type 0 where
@@ -187,7 +182,7 @@ directive_run text kind h = outer (is_pragma text) refl h
     go pragma false false false e = absurd (none-some kind e)
 
     outer : (x : Bool) → is_pragma text ≡ x → cond x (line_kind text) None ≡ Some kind → IsDirective text kind
-    outer true p e = go p (is_some (heading_name text)) (is_export (words text)) (is_import (words text)) e
+    outer true p e = go p (is_some _) (is_export (words text)) (is_import (words text)) e
     outer false p e = absurd (none-some kind e)
 
 pub none_from : (o : Option TokenKind) → ((kind : TokenKind) → o ≡ Some kind → ⊥) → o ≡ None
@@ -207,52 +202,49 @@ pub record IsMark (text : List ℕ) : Type 0 where
 
 pub mark_is : (text : List ℕ) → is_mark text ≡ true → IsMark text
 mark_is text h =
-    let a = and_parts (not (is_name_byte (slice_index text 0)) && not (slice_index text 0 == 35) &&
-    not (is_white_space (slice_index text 0))) (nat_le (length text) 3) (mark_shaped text h) in
-    let b = and_parts (not (is_name_byte (slice_index text 0)) && not (slice_index text 0 == 35))
-    (not (is_white_space (slice_index text 0))) a.0 in
-    let c = and_parts (not (is_name_byte (slice_index text 0))) (not (slice_index text 0 == 35)) b.0 in
+    let a = and_parts _ _ (mark_shaped text h) in
+    let b = and_parts _ _ a.0 in
+    let c = and_parts _ _ b.0 in
     record {
       no_name = not-true _ c.0;
       no_directive = not-true _ c.1;
       no_white_space = not-true _ b.1;
-      short = leb-true (length text) 3 a.1;
+      short = leb-true _ 3 a.1;
     }
 
 pub no_mark : (text : List ℕ) → (is_mark text ≡ true → ⊥) → mark_kind text ≡ None
-no_mark text h = let none = false_from_ne_true (is_mark text) h in rw none
+no_mark text h = let none = false_from_ne_true _ h in rw none
 
 word_starts : (text : List ℕ) (kind : TokenKind) → 0 < length text → word_kind text ≡ Some kind →
     is_name_byte (slice_index text 0) ≡ true
 word_starts [] kind some h = absurd (omega arith)
-word_starts (b ∷ bs) kind some h = (and_parts (is_name_byte b) (list_all is_name_byte bs)
-    (word_run (b ∷ bs) kind h).run.all).0
+word_starts (b ∷ bs) kind some h = (and_parts _ _ (word_run _ kind h).run.all).0
 
 no_word : (text : List ℕ) → 0 < length text → is_name_byte (slice_index text 0) ≡ false → word_kind text ≡ None
-no_word text some h = none_from (word_kind text) (λ kind e. false≢true (sym h ∙ word_starts text kind some e))
+no_word text some h = none_from _ (λ kind e. false≢true (sym h ∙ word_starts text kind some e))
 
 no_line : (text : List ℕ) → (slice_index text 0 ≡ 35 → ⊥) → directive_kind text ≡ None
-no_line text h = none_from (directive_kind text) (λ kind e. h (directive_run text kind e).first)
+no_line text h = none_from _ (λ kind e. h (directive_run text kind e).first)
 
 pub kind_of-word : (text : List ℕ) → is_name_byte (slice_index text 0) ≡ true → kind_of text ≡ word_kind text
 unfolding kind_of
 kind_of-word text h =
     let mark = no_mark text (λ m. false≢true (sym (mark_is text m).no_name ∙ h)) in
     let line = no_line text (λ e. false≢true (rw e at h)) in
-    rw (mark, line) (or_none (word_kind text))
+    rw (mark, line) (or_none _)
 
 pub kind_of-directive : (text : List ℕ) → slice_index text 0 ≡ 35 → kind_of text ≡ directive_kind text
 unfolding kind_of
 kind_of-directive [] h = absurd (omega arith)
 kind_of-directive (b ∷ bs) h =
-    let mark = no_mark (b ∷ bs) (λ m. false≢true (sym (mark_is (b ∷ bs) m).no_directive ∙ rw h)) in
+    let mark = no_mark (b ∷ bs) (λ m. false≢true (sym (mark_is _ m).no_directive ∙ rw h)) in
     let word = no_word (b ∷ bs) (omega arith) (rw h) in
     rw (mark, word)
 
 pub kind_of-mark : (text : List ℕ) → 0 < length text → is_name_byte (slice_index text 0) ≡ false →
     (slice_index text 0 ≡ 35 → ⊥) → kind_of text ≡ mark_kind text
 unfolding kind_of
-kind_of-mark text some h q = rw (no_word text some h, no_line text q) (or_none (mark_kind text))
+kind_of-mark text some h q = rw (no_word text some h, no_line text q) (or_none _)
 
 pub kind_of-nil : kind_of [] ≡ None
 unfolding kind_of word_kind is_reserved is_name is_integer is_number is_mark
@@ -261,12 +253,9 @@ kind_of-nil = refl
 white_space_is : (P : ℕ → Type 0) → P 32 → P 9 → P 11 → P 12 → P 13 → P 10 → (b : ℕ) → is_white_space b ≡ true → P b
 white_space_is P a b c d e f k h =
     let at = λ (n : ℕ) (p : P n) (q : (k == n) ≡ true). subst P (sym (eqb-true k n q)) p in
-    ⊎_elim (λ g. ⊎_elim (λ g. ⊎_elim (λ g. ⊎_elim (λ g. ⊎_elim (at 32 a) (at 9 b)
-    (or_cases (k == 32) (k == 9) g)) (at 11 c)
-    (or_cases (k == 32 || k == 9) (k == 11) g)) (at 12 d)
-    (or_cases (k == 32 || k == 9 || k == 11) (k == 12) g)) (at 13 e)
-    (or_cases (k == 32 || k == 9 || k == 11 || k == 12) (k == 13) g)) (at 10 f)
-    (or_cases (k == 32 || k == 9 || k == 11 || k == 12 || k == 13) (k == 10) h)
+    ⊎_elim (λ g. ⊎_elim (λ g. ⊎_elim (λ g. ⊎_elim (λ g. ⊎_elim (at 32 a) (at 9 b) (or_cases _ _ g)) (at 11 c)
+    (or_cases (k == 32 || k == 9) _ g)) (at 12 d) (or_cases _ _ g)) (at 13 e)
+    (or_cases (k == 32 || k == 9 || k == 11 || k == 12) _ g)) (at 10 f) (or_cases _ _ h)
 
 abbrev NoStart : ℕ → Type 0
 NoStart b = (is_name_byte b ≡ false) × (b ≡ 35 → ⊥)
@@ -276,5 +265,4 @@ kind_of-white_space [] h = absurd (false≢true h)
 kind_of-white_space (b ∷ bs) h =
     let no = white_space_is NoStart (refl, λ e. omega arith) (refl, λ e. omega arith) (refl, λ e. omega arith)
     (refl, λ e. omega arith) (refl, λ e. omega arith) (refl, λ e. omega arith) b h in
-    kind_of-mark (b ∷ bs) (omega arith) no.0 no.1 ∙ no_mark (b ∷ bs)
-    (λ m. false≢true (sym (mark_is (b ∷ bs) m).no_white_space ∙ h))
+    kind_of-mark _ (omega arith) no.0 no.1 ∙ no_mark _ (λ m. false≢true (sym (mark_is _ m).no_white_space ∙ h))

@@ -16,16 +16,15 @@ kept parts = filter (λ part. not (is_empty part)) parts
 
 kept-full : (part : List ℕ) (parts : List (List ℕ)) → 0 < length part → kept (part ∷ parts) ≡ part ∷ kept parts
 kept-full [] parts h = absurd (omega arith)
-kept-full (b ∷ part) parts h = let full : eqb (length (b ∷ part)) 0 ≡ false =
-    ne_eqb (length (b ∷ part)) 0 (λ none. absurd (omega arith)) in rw full
+kept-full (b ∷ part) parts h = let full = ne_eqb (length (b ∷ part)) 0 (λ none. absurd (omega arith)) in rw full
 
 words-blank : (b : ℕ) (line : List ℕ) → is_blank b ≡ true → words (b ∷ line) ≡ words line
 unfolding words
-words-blank b line h = ap kept (slice_split-cons_yes is_blank b line h)
+words-blank b line h = ap kept (slice_split-cons_yes _ b line h)
 
 words-skip : (line : List ℕ) → words (drop (prefix_len is_blank line) line) ≡ words line
 words-skip [] = refl
-words-skip (b ∷ line) = go (words-skip line) (is_blank b) refl
+words-skip (b ∷ line) = go (words-skip line) _ refl
   where
     go : words (drop (prefix_len is_blank line) line) ≡ words line → (t : Bool) → is_blank b ≡ t →
         words (drop (cond t (1 + prefix_len is_blank line) 0) (b ∷ line)) ≡ words (b ∷ line)
@@ -78,13 +77,13 @@ front_nil line (suc n) h = rw h (record { word = refl; behind = refl })
 
 front : (line : List ℕ) (b l : ℕ) → b ≡ prefix_len is_blank line → l ≡ position_or_len is_blank (drop b line) →
     Front (drop b line) l
-front line b l p q = ⊎_elim more (λ past. front_nil (drop b line) l (drop_all b line past)) (cases_lt b (length line))
+front line b l p q = ⊎_elim more (λ past. front_nil (drop b line) l (drop_all b line past)) (cases_lt b _)
   where
     more : b < length line → Front (drop b line) l
     more less =
         let solid : is_blank (get_or line b 0) ≡ false = rw p (prefix_len_stops is_blank line 0 (rw p at less)) in
         let starts : position_or_len is_blank (drop b line) ≡ 1 + position_or_len is_blank (drop (b + 1) line) =
-        ap (position_or_len is_blank) (drop_more line b 0 less) ∙ rw solid in
+        ap (position_or_len _) (drop_more line b 0 less) ∙ rw solid in
         front_some (drop b line) l (words-front (drop b line) l q (omega arith))
 
 pub first_word : (line : List ℕ) (b l : ℕ) → b ≡ prefix_len is_blank line → l ≡ position_or_len is_blank (drop b line) →
@@ -118,7 +117,7 @@ unfolding is_name
 only_name-full [] full = refl
 only_name-full (word ∷ []) full = refl
 only_name-full (word ∷ other ∷ ws) full =
-    let some : eqb (length other) 0 ≡ false = ne_eqb (length other) 0
+    let some : eqb (length other) 0 ≡ false = ne_eqb _ 0
     (λ none. let l : 0 < length other = full (omega arith) in omega arith) in
     rw some
 
@@ -126,8 +125,8 @@ pub only_word : (line : List ℕ) (word other : List ℕ) → word ≡ get_or (w
     other ≡ get_or (drop 1 (words line)) 0 [] → only_name (words line) ≡ cond (is_empty other) (name_of word) None
 unfolding words
 only_word line word other p q =
-    let second : other ≡ get_or (words line) 1 [] = q ∙ get_or-drop 1 (words line) 0 [] in
-    rw (p, second) (only_name-full (words line) (kept_full (slice_split is_blank line) 1))
+    let second = q ∙ get_or-drop 1 (words line) 0 [] in
+    rw (p, second) (only_name-full _ (kept_full (slice_split _ line) 1))
 
 pub ruleset only_words = (only_word)
 
@@ -138,14 +137,12 @@ pub record Begins (text front : List ℕ) : Type 0 where
 
 pub begins_with : (text front : List ℕ) → starts_with nat_eq text front ≡ true → Begins text front
 begins_with text front h =
-    let same : front ≡ take (length front) text = (slice_eq-Decides Decides-eqb front (take (length front) text)
-    (starts_with nat_eq text front) refl).0 h in
+    let same : front ≡ take _ text = (slice_eq-Decides Decides-eqb front _ _ refl).0 h in
     record { is = sym same; fits = omega (arith, length-take (length front) text, ap length same) }
 
 pub front_byte : (text front : List ℕ) (i : ℕ) → starts_with nat_eq text front ≡ true → i < length front →
     get_or text i 0 ≡ get_or front i 0
-front_byte text front i h k = sym (get_or-take (length front) text i 0 k) ∙
-    ap (λ t. get_or t i 0) (begins_with text front h).is
+front_byte text front i h k = sym (get_or-take _ text i 0 k) ∙ ap (λ t. get_or t i 0) (begins_with text front h).is
 
 pub heading_fits : (text : List ℕ) → begins_heading text ≡ true → 20 ≤ length text
 heading_fits text h = (begins_with text (codes "#pragma compartment ") h).fits
@@ -154,10 +151,10 @@ heading_fits text h = (begins_with text (codes "#pragma compartment ") h).fits
 pub word-next : (line rest word : List ℕ) (k : ℕ) → words rest ≡ drop 1 (words line) → word ≡ get_or (words rest) k [] →
     word ≡ get_or (words line) (k + 1) []
 word-next line rest word k h q = let e : k + 1 ≡ 1 + k = omega arith in
-    q ∙ ap (λ ws. get_or ws k []) h ∙ rw e (get_or-drop 1 (words line) k [])
+    q ∙ ap (λ ws. get_or ws k []) h ∙ rw e (get_or-drop 1 _ k [])
 
 pub ruleset later_words = (word-next)
 
 pub words_full : (line : List ℕ) (k : ℕ) → k < length (words line) → 0 < length (get_or (words line) k [])
 unfolding words
-words_full line k h = kept_full (slice_split is_blank line) k h
+words_full line k h = kept_full (slice_split _ line) k h
