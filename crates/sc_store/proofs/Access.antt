@@ -18,28 +18,20 @@ more_at : (m : Memory) (a : ℕ) (bs : List ℕ) (k : ℕ) → k < length bs →
 more_at m a bs k h b =
     let front : length (take k bs) ≡ k = length-take-le k bs (omega arith) in
     let more : length (take (k + 1) bs) ≡ k + 1 = length-take-le (k + 1) bs (omega arith) in
-    ⊎_elim
-    (λ low. written-apart (written m a (take k bs)) (a + k) (get_or bs k 0 ∷ []) b (λ l u. omega arith) ∙ ⊎_elim
+    ⊎_elim (λ low. written-apart (written m a (take k bs)) (a + k) (get_or bs k 0 ∷ []) b (λ l u. omega arith) ∙ ⊎_elim
     (λ before. written-apart m a (take k bs) b (λ l u. omega arith) ∙
-    sym (written-apart m a (take (k + 1) bs) b (λ l u. omega arith)))
-    (λ from.
+    sym (written-apart m a (take (k + 1) bs) b (λ l u. omega arith))) (λ from.
     written-in m a (take k bs) b from (omega arith)
     ∙ ap Some (get_or-take k bs (b - a) 0 (omega arith) ∙ sym (get_or-take (k + 1) bs (b - a) 0 (omega arith)))
-    ∙ sym (written-in m a (take (k + 1) bs) b from (omega arith)))
-    (cases_lt b a))
-    (λ high. ⊎_elim
-    (λ here.
+    ∙ sym (written-in m a (take _ bs) b from (omega arith))) (cases_lt b a)) (λ high. ⊎_elim (λ here.
     written-in (written m a (take k bs)) (a + k) (get_or bs k 0 ∷ []) b (omega arith) (omega arith)
     ∙ ap (λ i. Some (get_or (get_or bs k 0 ∷ []) i 0)) (let z : b - (a + k) ≡ 0 = omega arith in z)
     ∙ ap Some (ap (λ i. get_or bs i 0) (let z : k ≡ b - a = omega arith in z) ∙
     sym (get_or-take (k + 1) bs (b - a) 0 (omega arith)))
-    ∙ sym (written-in m a (take (k + 1) bs) b (omega arith) (omega arith)))
-    (λ other.
+    ∙ sym (written-in m a (take (k + 1) bs) b (omega arith) (omega arith))) (λ other.
     written-apart (written m a (take k bs)) (a + k) (get_or bs k 0 ∷ []) b (λ l u. omega arith)
     ∙ written-apart m a (take k bs) b (λ l u. omega arith)
-    ∙ sym (written-apart m a (take (k + 1) bs) b (λ l u. omega arith)))
-    (cases_eq b (a + k)))
-    (cases_lt b (a + k))
+    ∙ sym (written-apart m a (take (k + 1) bs) b (λ l u. omega arith))) (cases_eq b (a + k))) (cases_lt b (a + k))
 
 pub written_more : (m : Memory) (a : ℕ) (bs : List ℕ) (k : ℕ) → k < length bs →
     written (written m a (take k bs)) (a + k) (get_or bs k 0 ∷ []) ≡ written m a (take (k + 1) bs)
@@ -49,20 +41,18 @@ written_more m a bs k h = λ i b. more_at m a bs k h b i
 pub next_there : (m m' : Memory) (a : ℕ) (bs : List ℕ) (k : ℕ) → m' ≡ written m a (take k bs) → k < length bs →
     HasBytes m a (length bs) → IsSome (m' (a + k))
 next_there m m' a bs k e h has =
-    let front : length (take k bs) ≡ k = length-take-le k bs (omega arith) in
+    let front = length-take-le k bs (omega arith) in
     subst (λ o. IsSome o) (sym (ap (λ f. f (a + k)) e ∙ written-apart m a (take k bs) (a + k) (λ l u. omega arith)))
     (has k h)
 
 stored_at : (m : Memory) (a : ℕ) (bs : List ℕ) (v : ℕ) → ((k : ℕ) → k < length bs → get_or bs k 0 ≡ byte_of v k) →
     (b : ℕ) → written m a bs b ≡ stored m a (length bs) v b
 stored_at m a bs v h b = ⊎_elim
-    (λ low. written-apart m a bs b (λ l u. omega arith) ∙ sym (stored-apart m a (length bs) v b (λ l u. omega arith)))
-    (λ from. ⊎_elim
-    (λ below. written-in m a bs b from below ∙ ap Some (h (b - a) (omega arith)) ∙
-    sym (stored-in m a (length bs) v b from below))
-    (λ above. written-apart m a bs b (λ l u. omega arith) ∙ sym (stored-apart m a (length bs) v b (λ l u. omega arith)))
-    (cases_lt b (a + length bs)))
-    (cases_lt b a)
+    (λ low. written-apart m a bs b (λ l u. omega arith) ∙ sym (stored-apart m a _ v b (λ l u. omega arith)))
+    (λ from. ⊎_elim (λ below. written-in m a bs b from below ∙ ap Some (h _ (omega arith)) ∙
+    sym (stored-in m a _ v b from below))
+    (λ above. written-apart m a bs b (λ l u. omega arith) ∙ sym (stored-apart m a _ v b (λ l u. omega arith)))
+    (cases_lt b _)) (cases_lt b a)
 
 pub written-stored : (m : Memory) (a : ℕ) (bs : List ℕ) (v : ℕ) →
     ((k : ℕ) → k < length bs → get_or bs k 0 ≡ byte_of v k) → written m a bs ≡ stored m a (length bs) v
@@ -78,9 +68,8 @@ byte_place v (suc (suc (suc (suc k)))) h = absurd (omega arith)
 
 pub first_stored : (m : Memory) (a v n : ℕ) → n ≤ 4 → written m a (take n (to_le_bytes w32 v)) ≡ stored m a n v
 first_stored m a v n h =
-    let len : length (take n (to_le_bytes w32 v)) ≡ n = length-take-le n (to_le_bytes w32 v) h in
-    written-stored m a (take n (to_le_bytes w32 v)) v
-    (λ k l. get_or-take n (to_le_bytes w32 v) k 0 (omega arith) ∙ byte_place v k (omega arith))
+    let len = length-take-le n (to_le_bytes w32 v) h in
+    written-stored m a _ v (λ k l. get_or-take n _ k 0 (omega arith) ∙ byte_place v k (omega arith))
     ∙ ap (λ j. stored m a j v) len
 
 pub byte_stored : (m m' : Memory) (a v : ℕ) (bs : List ℕ) → m' ≡ written m a (get_or bs 0 0 ∷ []) →

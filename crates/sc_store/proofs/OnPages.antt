@@ -30,24 +30,20 @@ module _ (table : List (Option ℕ)) (pool pool' : Pages) (number n : ℕ)
     (was_in : IsNone (page_of pool n)) (zeros : page_of pool' n ≡ Some zero_page)
     (others : KeepsOthers pool pool' n) where
   other_page : (k m : ℕ) → get_or table k None ≡ Some m → m ≢ n
-  other_page k m e = λ same. not_both (page_of pool n) (subst (λ i. IsSome (page_of pool i)) same (out k m e)) was_in
+  other_page k m e = λ same. not_both _ (subst (λ i. IsSome (page_of pool i)) same (out k m e)) was_in
 
   at_number : get_or (set table number (Some n)) number None ≡ Some n
-  at_number = get_or-set_same table number (Some n) None there
+  at_number = get_or-set_same table number _ None there
 
   elsewhere : (k : ℕ) → k ≢ number → get_or (set table number (Some n)) k None ≡ get_or table k None
-  elsewhere k h = get_or-set_other table number k (Some n) None h
+  elsewhere k h = get_or-set_other table number k _ None h
 
   pub taken_out : AreOut (set table number (Some n)) pool'
-  taken_out k m e = ⊎_elim
-      (λ same.
-      let is : n ≡ m = same_Some _ _
-      (sym at_number ∙ ap (λ i. get_or (set table number (Some n)) i None) (sym same) ∙ e) in
-      subst (λ i. IsSome (page_of pool' i)) is (subst (λ o. IsSome o) (sym zeros) refl))
-      (λ other.
-      let old : get_or table k None ≡ Some m = sym (elsewhere k other) ∙ e in
-      subst (λ o. IsSome o) (sym (others m (other_page k m old))) (out k m old))
-      (cases_eq k number)
+  taken_out k m e = ⊎_elim (λ same.
+      let is = same_Some _ _ (sym at_number ∙ ap (λ i. get_or (set table number (Some n)) i None) (sym same) ∙ e) in
+      subst (λ i. IsSome (page_of pool' i)) is (subst (λ o. IsSome o) (sym zeros) refl)) (λ other.
+      let old = sym (elsewhere k other) ∙ e in
+      subst (λ o. IsSome o) (sym (others m (other_page k m old))) (out k m old)) (cases_eq k number)
 
   pub taken_distinct : AreDistinct (set table number (Some n))
   taken_distinct j k m e f = ⊎_elim
@@ -65,19 +61,11 @@ module _ (table : List (Option ℕ)) (pool pool' : Pages) (number n : ℕ)
       new i s h = same_Some _ _ (sym at_number ∙ ap (λ z. get_or (set table number (Some n)) z None) (sym s) ∙ h)
 
   same_at : (i : ℕ) → cell (set table number (Some n)) pool' i ≡ cell table pool i
-  same_at i = ⊎_elim
-      (λ same.
-      ap (λ z. byte_at pool' (get_or (set table number (Some n)) z None) (i % 4096)) same
-      ∙ ap (λ o. byte_at pool' o (i % 4096)) at_number
-      ∙ ap (λ o. byte_on o (i % 4096)) zeros
-      ∙ zero_byte (i % 4096)
-      ∙ sym (ap (λ z. byte_at pool (get_or table z None) (i % 4096)) same ∙
-      ap (λ o. byte_at pool o (i % 4096)) free))
-      (λ other.
-      ap (λ o. byte_at pool' o (i % 4096)) (elsewhere (i / 4096) other)
-      ∙ same_byte pool pool' (get_or table (i / 4096) None) (i % 4096)
-      (λ m e. others m (other_page (i / 4096) m e)))
-      (cases_eq (i / 4096) number)
+  same_at i = ⊎_elim (λ same. ap (λ z. byte_at pool' (get_or (set table number (Some n)) z None) (i % 4096)) same
+      ∙ ap (λ o. byte_at pool' o (i % 4096)) at_number ∙ ap (λ o. byte_on o (i % 4096)) zeros ∙ zero_byte (i % 4096)
+      ∙ sym (ap (λ z. byte_at pool (get_or table z None) (i % 4096)) same ∙ ap (λ o. byte_at pool o (i % 4096)) free))
+      (λ other. ap (λ o. byte_at pool' o (i % 4096)) (elsewhere _ other) ∙ same_byte pool pool' _ _
+      (λ m e. others m (other_page _ m e))) (cases_eq (i / 4096) number)
 
   pub taken_same : cell (set table number (Some n)) pool' ≡ cell table pool
   taken_same = λ k i. same_at i k
@@ -87,7 +75,7 @@ fewer : (table : List (Option ℕ)) (number n : ℕ) → number < length table �
     count_by is_none (set table number (Some n)) + 1 ≡ count_by is_none table
 fewer table number n there free =
     let f : Option ℕ → ℕ = λ o. cond (is_none o) 1 0 in
-    let e : f (get_or table number None) ≡ 1 = ap f free in
+    let e : f _ ≡ 1 = ap f free in
     omega (arith, sum_by-set f table number (Some n) None there, e)
 
 pub is_free : (table : List (Option ℕ)) (number : ℕ) (slot : Option ℕ) → slot ≡ get_or table number slot →
@@ -162,10 +150,8 @@ zeros_unwritten table pool a bs free fits zero_bytes = λ j i. at_place i j
         (cases_lt i a)
 
 page_there : (pool : Pages) (n : ℕ) (old : List ℕ) → page_of pool n ≡ Some old → n < length pool.slots
-page_there pool n old e = ⊎_elim
-    (λ below. below)
-    (λ above. absurd (let none : page_of pool n ≡ None = get_or_past pool.slots n None above in cc))
-    (cases_lt n (length pool.slots))
+page_there pool n old e = ⊎_elim (λ below. below) (λ above. absurd (let none = get_or_past _ n None above in cc))
+    (cases_lt n _)
 
 module _ (table : List (Option ℕ)) (pool : Pages) (a n : ℕ) (old bs : List ℕ) (distinct : AreDistinct table)
     (slot : get_or table (a / 4096) None ≡ Some n) (page : page_of pool n ≡ Some old) (size : length old ≡ 4096)
@@ -182,29 +168,20 @@ module _ (table : List (Option ℕ)) (pool : Pages) (a n : ℕ) (old bs : List �
   on_new : (i : ℕ) → i / 4096 ≡ a / 4096 → cell table (with_page pool n page_new) i ≡ get_or page_new (i % 4096) 0
   on_new i same =
       ap (λ z. byte_at (with_page pool n page_new) (get_or table z None) (i % 4096)) same
-      ∙ ap (λ o. byte_at (with_page pool n page_new) o (i % 4096)) slot
-      ∙ ap (λ o. byte_on o (i % 4096))
-      (get_or-set_same pool.slots n (Some page_new) None (page_there pool n old page))
+      ∙ ap (λ o. byte_at (with_page pool n page_new) o (i % 4096)) slot ∙ ap (λ o. byte_on o (i % 4096))
+      (get_or-set_same pool.slots n _ None (page_there pool n old page))
 
   wrote_at : (i : ℕ) → cell table (with_page pool n page_new) i ≡ replaced (cell table pool) a bs i
-  wrote_at i = ⊎_elim
-      (λ same. on_new i same ∙ ⊎_elim
-      (λ low. before (a % 4096) (length bs) (i % 4096) old bs (omega arith) low
-      ∙ sym (replaced-apart (cell table pool) a bs i (λ l u. omega arith) ∙ on_page i same))
-      (λ from. ⊎_elim
-      (λ here. within (a % 4096) (length bs) (i % 4096) old bs (omega arith) refl from here
+  wrote_at i = ⊎_elim (λ same. on_new i same ∙ ⊎_elim (λ low. before _ _ _ old bs (omega arith) low
+      ∙ sym (replaced-apart (cell table pool) a bs i (λ l u. omega arith) ∙ on_page i same)) (λ from. ⊎_elim
+      (λ here. within _ _ _ old bs (omega arith) refl from here
       ∙ ap (λ z. get_or bs z 0) (let z : i % 4096 - a % 4096 ≡ i - a = omega arith in z)
       ∙ sym (replaced-in (cell table pool) a bs i (omega arith) (omega arith)))
-      (λ past. after (a % 4096) (length bs) (i % 4096) old bs (omega arith) refl past
-      ∙ sym (replaced-apart (cell table pool) a bs i (λ l u. omega arith) ∙ on_page i same))
-      (cases_lt (i % 4096) (a % 4096 + length bs)))
-      (cases_lt (i % 4096) (a % 4096)))
-      (λ other.
-      same_byte pool (with_page pool n page_new) (get_or table (i / 4096) None) (i % 4096)
-      (λ m e. get_or-set_other pool.slots n m (Some page_new) None
-      (λ is. other (distinct (i / 4096) (a / 4096) n (e ∙ ap Some is) slot)))
-      ∙ sym (replaced-apart (cell table pool) a bs i (λ l u. other (omega arith))))
-      (cases_eq (i / 4096) (a / 4096))
+      (λ past. after _ _ _ old bs (omega arith) refl past
+      ∙ sym (replaced-apart (cell table pool) a bs i (λ l u. omega arith) ∙ on_page i same)) (cases_lt _ _))
+      (cases_lt _ _)) (λ other. same_byte pool (with_page pool n _) (get_or table _ None) (i % 4096)
+      (λ m e. get_or-set_other _ n m _ None (λ is. other (distinct _ _ n (e ∙ ap Some is) slot)))
+      ∙ sym (replaced-apart (cell table pool) a bs i (λ l u. other (omega arith)))) (cases_eq _ _)
 
   pub wrote : cell table (with_page pool n page_new) ≡ replaced (cell table pool) a bs
   wrote = λ k i. wrote_at i k

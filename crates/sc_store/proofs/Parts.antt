@@ -26,10 +26,10 @@ in_spans a p h = grind (arith, nat_tests)
 
 -- ---- the bytes of one part
 pub piece_in : (p : Part) (a : ℕ) → IsIn (region_of p) a → piece_of p a ≡ Some (get_or p.bytes.items (a - p.start) 0)
-piece_in p a h = rw (in_true (region_of p) a h) refl
+piece_in p a h = rw (in_true _ a h) refl
 
 pub piece_out : (p : Part) (a : ℕ) → (IsIn (region_of p) a → ⊥) → piece_of p a ≡ None
-piece_out p a h = rw (in_false (region_of p) a h) refl
+piece_out p a h = rw (in_false _ a h) refl
 
 -- ---- the bytes of all parts
 tail_apart : (p : Part) (ps : List Part) → AreApart (regions_of (p ∷ ps)) → AreApart (regions_of ps)
@@ -40,7 +40,7 @@ head_apart : (p : Part) (ps : List Part) (i : ℕ) (d : Part) (a : ℕ) → AreA
     IsIn (region_of (get_or ps i d)) a → IsIn (region_of p) a → ⊥
 head_apart p ps i d a apart h inside first =
     apart 0 (suc i) (region_of d) (omega arith) (omega (arith, length-map ps region_of)) a first
-    (subst (λ r. IsIn r a) (sym (get_or-map region_of ps i d (region_of d) h)) inside)
+    (subst (λ r. IsIn r a) (sym (get_or-map _ ps i d _ h)) inside)
 
 pub bytes_of-at : (ps : List Part) (i : ℕ) (d : Part) (a : ℕ) → AreApart (regions_of ps) → i < length ps →
     IsIn (region_of (get_or ps i d)) a → bytes_of ps a ≡ piece_of (get_or ps i d) a
@@ -65,10 +65,8 @@ somewhere (p ∷ ps) d a some = ⊎_elim
 -- what passes at a place is found
 passes : {X : Type 0} (test : X → Bool) (xs : List X) (i : ℕ) (d : X) → i < length xs → test (get_or xs i d) ≡ true →
     IsSome (position test xs)
-passes test xs i d h t = ⊎_elim
-    (λ below. rw (lt-ltb (position_or_len test xs) (length xs) below) refl)
-    (λ above. absurd (let f = fails_before_first test xs i d (omega arith) in cc))
-    (cases_lt (position_or_len test xs) (length xs))
+passes test xs i d h t = ⊎_elim (λ below. rw (lt-ltb (position_or_len test xs) (length xs) below) refl)
+    (λ above. absurd (let f = fails_before_first test xs i d (omega arith) in cc)) (cases_lt _ _)
 
 pub found : (ps : List Part) (a : ℕ) → IsSome (bytes_of ps a) → IsSome (position (spans a 1) ps)
 found [] a some = absurd (cc)
@@ -92,8 +90,8 @@ same_place (p ∷ ps) (suc i) (suc j) d a apart h k one other =
 pub first_spans : (a n : ℕ) (ps : List Part) (i : ℕ) (d : Part) → 0 < n → AreApart (regions_of ps) → i < length ps →
     spans a n (get_or ps i d) ≡ true → position (spans a n) ps ≡ Some i
 first_spans a n ps i d some apart h sp =
-    let f = some_value (position (spans a n) ps) (passes (spans a n) ps i d h sp) in
-    let w = position-Some (spans a n) ps f.0 d f.1 in
+    let f = some_value _ (passes _ ps i d h sp) in
+    let w = position-Some _ ps f.0 d f.1 in
     f.1 ∙ ap Some (same_place ps f.0 i d a apart w.0 h
     (spans_in a n a (get_or ps f.0 d) w.1 (omega arith) (omega arith))
     (spans_in a n a (get_or ps i d) sp (omega arith) (omega arith)))
@@ -124,27 +122,20 @@ elsewhere (q ∷ ps) (suc i) p d b e h out = ap (λ o. option_or (piece_of q b) 
 
 pub regions_of-set : (ps : List Part) (i : ℕ) (p d : Part) → region_of p ≡ region_of (get_or ps i d) →
     regions_of (set ps i p) ≡ regions_of ps
-regions_of-set ps i p d e = map-set_same region_of ps i p d e
+regions_of-set ps i p d e = map-set_same _ ps i p d e
 
 -- a write to the part that has all of its addresses is the same write to all parts
 write_at : (ps : List Part) (i : ℕ) (p d : Part) (a : ℕ) (bs : List ℕ) → AreApart (regions_of ps) → i < length ps →
     region_of p ≡ region_of (get_or ps i d) → spans a (length bs) (get_or ps i d) ≡ true →
     piece_of p ≡ written (piece_of (get_or ps i d)) a bs → (b : ℕ) →
     bytes_of (set ps i p) b ≡ written (bytes_of ps) a bs b
-write_at ps i p d a bs apart h e sp w b = ⊎_elim
-    (λ inside.
-    let same : get_or (set ps i p) i d ≡ p = get_or-set_same ps i p d h in
-    bytes_of-at (set ps i p) i d b (subst AreApart (sym (regions_of-set ps i p d e)) apart)
-    (omega (arith, length-set ps i p))
-    (subst (λ r. IsIn r b) (sym e ∙ sym (ap region_of same)) inside)
-    ∙ ap (λ q. piece_of q b) same
-    ∙ ap (λ m. m b) w
-    ∙ written-same (piece_of (get_or ps i d)) (bytes_of ps) a bs b (sym (bytes_of-at ps i d b apart h inside)))
-    (λ out.
-    elsewhere ps i p d b e h out
-    ∙ sym (written-apart (bytes_of ps) a bs b (λ low high.
-    out (spans_in a (length bs) b (get_or ps i d) sp low high))))
-    (in_cases (region_of (get_or ps i d)) b)
+write_at ps i p d a bs apart h e sp w b = ⊎_elim (λ inside.
+    let same = get_or-set_same ps i p d h in
+    bytes_of-at _ i d b (subst AreApart (sym (regions_of-set ps i p d e)) apart) (omega (arith, length-set ps i p))
+    (subst (λ r. IsIn r b) (sym e ∙ sym (ap region_of same)) inside) ∙ ap (λ q. piece_of q b) same ∙ ap (λ m. m b) w
+    ∙ written-same (piece_of (get_or ps i d)) (bytes_of ps) a bs b (sym (bytes_of-at ps i d b apart h inside))) (λ out.
+    elsewhere ps i p d b e h out ∙ sym (written-apart (bytes_of ps) a bs b (λ low high.
+    out (spans_in a _ b (get_or ps i d) sp low high)))) (in_cases _ b)
 
 pub bytes_of-set : (ps : List Part) (i : ℕ) (p d : Part) (a : ℕ) (bs : List ℕ) → AreApart (regions_of ps) →
     i < length ps → region_of p ≡ region_of (get_or ps i d) → spans a (length bs) (get_or ps i d) ≡ true →
@@ -155,29 +146,21 @@ bytes_of-set ps i p d a bs apart h e sp w = λ k b. write_at ps i p d a bs apart
 pub written_holds : (m : Memory) (a : ℕ) (bs : List ℕ) → HasBytes m a (length bs) → ((k : ℕ) → get_or bs k 0 < 256) →
     HoldsBytes m → HoldsBytes (written m a bs)
 written_holds m a bs has fit holds = λ b x e. ⊎_elim
-    (λ low. holds b x (sym (written-apart m a bs b (λ l u. omega arith)) ∙ e))
-    (λ from. ⊎_elim
-    (λ below.
+    (λ low. holds b x (sym (written-apart m a bs b (λ l u. omega arith)) ∙ e)) (λ from. ⊎_elim (λ below.
     let y = some_value (m b) (subst (λ c. IsSome (m c)) (omega arith) (has (b - a) (omega arith))) in
-    let is : get_or bs (b - a) 0 ≡ x = same_Some _ _ (sym (written-in m a bs b from below) ∙ e) in
+    let is = same_Some _ _ (sym (written-in m a bs b from below) ∙ e) in
     ((holds b y.0 y.1).0, subst (λ z. z < 256) is (fit (b - a))))
-    (λ above. holds b x (sym (written-apart m a bs b (λ l u. omega arith)) ∙ e))
-    (cases_lt b (a + length bs)))
+    (λ above. holds b x (sym (written-apart m a bs b (λ l u. omega arith)) ∙ e)) (cases_lt b (a + length bs)))
     (cases_lt b a)
 
 -- ---- parts of zeros
 zeros_at : (ps : List Part) → All IsZero ps → (b : ℕ) → bytes_of ps b ≡ zeros (regions_of ps) b
 zeros_at [] all b = refl
-zeros_at (p ∷ ps) all b = ⊎_elim
-    (λ inside.
-    ap (λ o. option_or o (bytes_of ps b)) (piece_in p b inside)
-    ∙ ap Some (all 0 p (omega arith) (b - p.start))
-    ∙ sym (ap (λ t. cond t (Some 0) (zeros (regions_of ps) b)) (in_true (region_of p) b inside)))
-    (λ out.
-    ap (λ o. option_or o (bytes_of ps b)) (piece_out p b out)
-    ∙ zeros_at ps (λ k d h. all (suc k) d (omega arith)) b
-    ∙ sym (ap (λ t. cond t (Some 0) (zeros (regions_of ps) b)) (in_false (region_of p) b out)))
-    (in_cases (region_of p) b)
+zeros_at (p ∷ ps) all b = ⊎_elim (λ inside. ap (λ o. option_or o (bytes_of ps b)) (piece_in p b inside)
+    ∙ ap Some (all 0 p (omega arith) _)
+    ∙ sym (ap (λ t. cond t (Some 0) (zeros (regions_of ps) b)) (in_true _ b inside))) (λ out.
+    ap (λ o. option_or o (bytes_of ps b)) (piece_out p b out) ∙ zeros_at ps (λ k d h. all (suc k) d (omega arith)) b
+    ∙ sym (ap (λ t. cond t (Some 0) (zeros (regions_of ps) b)) (in_false _ b out))) (in_cases _ b)
 
 pub zeros_of : (ps : List Part) (rs : List Region) → All IsZero ps → regions_of ps ≡ rs → bytes_of ps ≡ zeros rs
 zeros_of ps rs all e = subst (λ r. bytes_of ps ≡ zeros r) e (λ k b. zeros_at ps all b k)
@@ -187,7 +170,7 @@ zeros_of ps rs all e = subst (λ r. bytes_of ps ≡ zeros r) e (λ k b. zeros_at
 found_part : (a n : ℕ) (ps : List Part) (i : ℕ) (x : Part) → position (spans a n) ps ≡ Some i → x ≡ get_or ps i x →
     (i < length ps) × (spans a n x ≡ true)
 found_part a n ps i x at is =
-    let at_place = position-Some (spans a n) ps i x at in
+    let at_place = position-Some _ ps i x at in
     (at_place.0, subst (λ q. spans a n q ≡ true) (sym is) at_place.1)
 
 -- the found part passes

@@ -23,9 +23,8 @@ map_some f (Some x) = refl
 
 reaches_one : (r : Area) (a : ℕ) → reaches a 1 r ≡ is_in r.region a
 reaches_one r a = ⊎_elim
-    (λ inside. (let t : reaches a 1 r ≡ true = grind (arith, nat_tests) in t) ∙ sym (in_true r.region a inside))
-    (λ out. (let t : reaches a 1 r ≡ false = grind (arith, nat_tests) in t) ∙ sym (in_false r.region a out))
-    (in_cases r.region a)
+    (λ inside. (let t : reaches a 1 r ≡ true = grind (arith, nat_tests) in t) ∙ sym (in_true _ a inside))
+    (λ out. (let t : reaches a 1 r ≡ false = grind (arith, nat_tests) in t) ∙ sym (in_false _ a out)) (in_cases _ a)
 
 pub one_place : (rs : List Area) (a : ℕ) → place_found rs a 1 ≡ place_of rs a
 one_place [] a = refl
@@ -56,7 +55,7 @@ head_apart : (r : Area) (rs : List Area) (a i : ℕ) → AreApart (regions_in (r
 head_apart r rs a i apart e first =
     let w = somewhere rs r a i e in
     apart 0 (suc w.0) r.region (omega arith) (omega (arith, w.1, length-map rs (λ q. q.region))) a first
-    (subst (λ q. IsIn q a) (sym (get_or-map (λ q. q.region) rs w.0 r r.region w.1)) w.2)
+    (subst (λ q. IsIn q a) (sym (get_or-map _ rs w.0 r _ w.1)) w.2)
 
 reached_in : (r : Area) (a size k : ℕ) → reaches a size r ≡ true → k < size →
     IsIn r.region (a + k) × (r.region.start ≤ a)
@@ -98,7 +97,7 @@ later_apart : (r : Area) (rs : List Area) (i : ℕ) (d : Area) (a : ℕ) → Are
     IsIn (get_or rs i d).region a → IsIn r.region a → ⊥
 later_apart r rs i d a apart h inside first =
     apart 0 (suc i) d.region (omega arith) (omega (arith, length-map rs (λ q. q.region))) a first
-    (subst (λ q. IsIn q a) (sym (get_or-map (λ q. q.region) rs i d d.region h)) inside)
+    (subst (λ q. IsIn q a) (sym (get_or-map _ rs i d _ h)) inside)
 
 pub focus_at : (rs : List Area) (i : ℕ) (d : Area) → AreApart (regions_in rs) → i < length rs →
     IsFocus (get_or rs i d) rs
@@ -113,14 +112,14 @@ focus_at (r ∷ rs) (suc i) d apart h = λ a size some t.
 
 pub focus_empty : (r : Area) (rs : List Area) → r.region.bytes ≡ 0 → IsFocus r rs
 focus_empty r rs none = λ a size some t. absurd
-    (let out : reaches a size r ≡ false = not_reached r a size (λ i. omega (arith, i.0, i.1, none)) some in cc)
+    (let out = not_reached r a size (λ i. omega (arith, i.0, i.1, none)) some in cc)
 
 -- the place that was found is on a page
 pub found_page : (rs : List Area) (pages a size i : ℕ) (o : Option ℕ) → AreApart (regions_in rs) →
     ArePlaced rs pages → o ≡ place_found rs a size → o ≡ Some i → 0 < size → i < pages * 4096
 found_page rs pages a size i o apart placed e at some =
     let p = found_places rs a size i apart (sym e ∙ at) 0 some in
-    omega (arith, placed (a + 0) (i + 0) p)
+    omega (arith, placed _ _ p)
 
 pub found_bytes : (rs : List Area) (f : ℕ → ℕ) (a size i : ℕ) (o : Option ℕ) → AreApart (regions_in rs) →
     o ≡ place_found rs a size → o ≡ Some i → (k : ℕ) → k < size → memory_of rs f (a + k) ≡ Some (f (i + k))
@@ -139,7 +138,7 @@ read_first rs f a i x o e at is =
 -- an address has a byte exactly where it has a place
 pub has_place : (rs : List Area) (f : ℕ → ℕ) (a : ℕ) (o : Option ℕ) → o ≡ place_found rs a 1 →
     is_some o ≡ is_some (memory_of rs f a)
-has_place rs f a o e = ap is_some (e ∙ one_place rs a) ∙ sym (map_some f (place_of rs a))
+has_place rs f a o e = ap is_some (e ∙ one_place rs a) ∙ sym (map_some f _)
 
 -- ---- a write
 -- places that a write leaves alone
@@ -178,34 +177,24 @@ pub found_written : (rs : List Area) (f g : ℕ → ℕ) (a i : ℕ) (bs : List 
     AreSingle rs → o ≡ place_found rs a (length bs) → o ≡ Some i → g ≡ replaced f i bs →
     memory_of rs g ≡ written (memory_of rs f) a bs
 found_written rs f g a i bs o apart single e at w =
-    ap (λ h. memory_of rs h) w
-    ∙ (λ k b. written_at rs f a i bs single (found_places rs a (length bs) i apart (sym e ∙ at)) b k)
+    ap (λ h. memory_of rs h) w ∙ (λ k b. written_at rs f a i bs single (found_places rs a _ i apart (sym e ∙ at)) b k)
 
 -- ---- areas one after another
 pushed : (rs : List Area) (r : Area) (a i : ℕ) → place_of (rs ++ r ∷ []) a ≡ Some i →
     (place_of rs a ≡ Some i) ⊎ (IsIn r.region a × (i ≡ place_in a r))
-pushed [] r a i e = ⊎_elim
-    (λ inside. inr (
-      inside,
-      sym (same_Some _ _
-          (sym (ap (λ t. cond t (Some (place_in a r)) (let o : Option ℕ = None in o)) (in_true r.region a inside))
-          ∙ e)),
-    ))
-    (λ out. inl
-    (sym (ap (λ t. cond t (Some (place_in a r)) (let o : Option ℕ = None in o)) (in_false r.region a out)) ∙ e))
-    (in_cases r.region a)
-pushed (q ∷ rs) r a i e = ⊎_elim
-    (λ inside.
+pushed [] r a i e = ⊎_elim (λ inside. inr (
+  inside,
+  sym (same_Some _ _ (sym (ap (λ t. cond t (Some (place_in a r)) (let o = None in o)) (in_true _ a inside)) ∙ e)),
+)) (λ out. inl (sym (ap (λ t. cond t (Some (place_in a r)) (let o = None in o)) (in_false _ a out)) ∙ e))
+    (in_cases _ a)
+pushed (q ∷ rs) r a i e = ⊎_elim (λ inside.
     let test = in_true q.region a inside in
     inl (ap (λ t. cond t (Some (place_in a q)) (place_of rs a)) test
-    ∙ sym (ap (λ t. cond t (Some (place_in a q)) (place_of (rs ++ r ∷ []) a)) test) ∙ e))
-    (λ out.
-    let test = in_false q.region a out in
-    ⊎_elim
-    (λ old. inl (ap (λ t. cond t (Some (place_in a q)) (place_of rs a)) test ∙ old))
-    (λ new. inr new)
+    ∙ sym (ap (λ t. cond t (Some (place_in a q)) (place_of (rs ++ r ∷ []) a)) test) ∙ e)) (λ out.
+    let test = in_false _ a out in
+    ⊎_elim (λ old. inl (ap (λ t. cond t (Some (place_in a q)) (place_of rs a)) test ∙ old)) (λ new. inr new)
     (pushed rs r a i (sym (ap (λ t. cond t (Some (place_in a q)) (place_of (rs ++ r ∷ []) a)) test) ∙ e)))
-    (in_cases q.region a)
+    (in_cases _ a)
 
 pub single_pushed : (rs : List Area) (r : Area) (p : ℕ) → AreSingle rs → ArePlaced rs p → r.first ≡ p →
     AreSingle (rs ++ r ∷ [])
@@ -257,7 +246,7 @@ zeros_at : (rs : List Area) (f : ℕ → ℕ) → ((k : ℕ) → f k ≡ 0) → 
     memory_of rs f a ≡ zeros (regions_in rs) a
 zeros_at [] f zero_cells a = refl
 zeros_at (r ∷ rs) f zero_cells a =
-    map_cond f (is_in r.region a) (place_in a r) (place_of rs a)
+    map_cond f (is_in _ a) (place_in a r) (place_of rs a)
     ∙ ap (λ x. cond (is_in r.region a) (Some x) (option_map f (place_of rs a))) (zero_cells (place_in a r))
     ∙ ap (λ o. cond (is_in r.region a) (Some 0) o) (zeros_at rs f zero_cells a)
 

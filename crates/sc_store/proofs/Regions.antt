@@ -1,6 +1,6 @@
 -- Addresses in regions, and where zeros stand.
 use Rattle.sc_store.proofs.Common.{AreBelow, HoldsBytes, IsIn, List, Region, Some, [], ap, arith, cases_lt, cond, false}
-use Rattle.sc_store.proofs.Common.{inl, inr, is_in, nat_tests, same_Some, suc, sym, true, zeros, ℕ, ⊎_elim, ◌+◌, ◌∙◌}
+use Rattle.sc_store.proofs.Common.{inl, inr, is_in, nat_tests, same_Some, suc, sym, true, zeros, ℕ, ⊎_elim, ◌∙◌}
 use Rattle.sc_store.proofs.Common.{◌∷◌, ◌≡◌, ◌⊎◌}
 
 -- ---- an address in a region: the test says what the fact does
@@ -12,10 +12,8 @@ in_false r a h = grind (arith, nat_tests)
 
 -- the address is in the region or not
 pub in_cases : (r : Region) (a : ℕ) → IsIn r a ⊎ (IsIn r a → ⊥)
-in_cases r a = ⊎_elim
-    (λ low. inr (λ i. omega arith))
-    (λ from. ⊎_elim (λ below. inl (from, below)) (λ above. inr (λ i. omega arith)) (cases_lt a (r.start + r.bytes)))
-    (cases_lt a r.start)
+in_cases r a = ⊎_elim (λ low. inr (λ i. omega arith))
+    (λ from. ⊎_elim (λ below. inl (from, below)) (λ above. inr (λ i. omega arith)) (cases_lt a _)) (cases_lt a r.start)
 
 pub zeros_hold : (rs : List Region) → AreBelow rs → HoldsBytes (zeros rs)
 zeros_hold [] below b x e = absurd (cc)

@@ -19,8 +19,7 @@ pub stored-apart : (m : Memory) (a n v b : ℕ) → (a ≤ b → b < a + n → �
 stored-apart m a n v b h = rw (outside a n b h) refl
 
 pub stored-at : (m : Memory) (a n v k : ℕ) → k < n → stored m a n v (a + k) ≡ Some (byte_of v k)
-stored-at m a n v k h =
-    stored-in m a n v (a + k) (omega arith) (omega arith) ∙ ap (λ i. Some (byte_of v i)) (omega arith)
+stored-at m a n v k h = stored-in m a n v _ (omega arith) (omega arith) ∙ ap (λ i. Some (byte_of v i)) (omega arith)
 
 pow_pos : (k : ℕ) → 0 < 256 ^ k
 pow_pos zero = omega arith
@@ -52,17 +51,13 @@ load_of-same m m' a (suc n) h =
 pub load_of-apart : (m : Memory) (a n v b j : ℕ) → (b + j ≤ a) ⊎ (a + n ≤ b) →
     load_of (stored m a n v) b j ≡ load_of m b j
 load_of-apart m a n v b j h =
-    load_of-same (stored m a n v) m b j (λ k l. stored-apart m a n v (b + k) (λ p q. omega (arith, h)))
+    load_of-same (stored m a n v) m b j (λ k l. stored-apart m a n v _ (λ p q. omega (arith, h)))
 
 pub address_kept : (m : Memory) (a n v b : ℕ) → HasBytes m a n → is_some (stored m a n v b) ≡ is_some (m b)
-address_kept m a n v b has = ⊎_elim
-    (λ low. ap is_some (stored-apart m a n v b (λ p q. omega arith)))
-    (λ from. ⊎_elim
+address_kept m a n v b has = ⊎_elim (λ low. ap is_some (stored-apart m a n v b (λ p q. omega arith))) (λ from. ⊎_elim
     (λ below. ap is_some (stored-in m a n v b from below) ∙
     sym (subst (λ i. is_some (m i) ≡ true) (omega arith) (has (b - a) (omega arith))))
-    (λ above. ap is_some (stored-apart m a n v b (λ p q. omega arith)))
-    (cases_lt b (a + n)))
-    (cases_lt b a)
+    (λ above. ap is_some (stored-apart m a n v b (λ p q. omega arith))) (cases_lt b _)) (cases_lt b a)
 
 pub keeps_addresses : (m : Memory) (a n v b : ℕ) → HasBytes m a n → IsSome (stored m a n v b) ↔ IsSome (m b)
 keeps_addresses m a n v b has =
