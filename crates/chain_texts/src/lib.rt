@@ -1,4 +1,4 @@
-//! Texts of programs, each written from a seed, for the crates that are tests alone.
+//! Texts of programs for the crates that are tests alone: those that several of them run, and others written from a seed.
 #![tactic(auto)]
 
 mod generate;

@@ -1,7 +1,7 @@
 -- Words of which one is bare are no command.
 use Rattle.sc_words.proofs.Common.{Bool, Form, List, None, Option, Setting, Some, Text, [], ap, arith}
 use Rattle.sc_words.proofs.Common.{begins_with_hyphen, bytes_eq, commands, cond, eqb-true, false, find, form_of}
-use Rattle.sc_words.proofs.Common.{has_value, is_among, is_bare, length, list_all, list_any, more, named, named_option}
+use Rattle.sc_words.proofs.Common.{has_value, is_among, is_bare, list_all, list_any, more, named, named_option}
 use Rattle.sc_words.proofs.Common.{not, option_and_then, option_map, options, parsed, refl, same_text, settings, subst}
 use Rattle.sc_words.proofs.Common.{sym, true, true≢false, when_complete, ◌&&◌, ◌==◌, ◌∷◌, ◌≡◌}
 use Rattle.sc_base.proofs.Bools.{and_first}
@@ -32,11 +32,11 @@ abbrev HasNames : Form → Type 0
 HasNames form = (has_value form [] ≡ false) × (is_among form.alone [] ≡ false)
 
 pub names_of_forms : (name : Text) (form : Form) → form_of name ≡ Some form → HasNames form
-names_of_forms = by_command (λ name form. HasNames form) commands
+names_of_forms = by_command _ commands
     ((refl, refl), ((refl, refl), ((refl, refl), ((refl, refl), ((refl, refl), ((refl, refl), ((refl, refl), tt)))))))
 
 hyphen_in_front : (word : Text) → is_bare word ≡ true → begins_with_hyphen word ≡ true
-hyphen_in_front word bare = and_first (begins_with_hyphen word) _ bare
+hyphen_in_front word bare = and_first _ _ bare
 
 nothing_behind : (form : Form) (o : Option (Text × Option Text)) (behind : Option Text → Option (List Setting)) →
     ((waiting : Option Text) → behind waiting ≡ None)
@@ -47,7 +47,7 @@ nothing_behind form (Some (name, Some value)) behind none = go (has_value form n
     go : (b : Bool) → cond b (more name value (behind None)) None ≡ None
     go true = ap (more name value) (none None)
     go false = refl
-nothing_behind form (Some (name, None)) behind none = go (has_value form name) (is_among form.alone name)
+nothing_behind form (Some (name, None)) behind none = go (has_value form name) _
   where
     go : (a b : Bool) → cond a (behind (Some name)) (cond b (more name [] (behind None)) None) ≡ None
     go true b = none (Some name)
@@ -59,23 +59,23 @@ bare_fails : (form : Form) → HasNames form → (word : Text) (behind : Option 
     is_bare word ≡ true
     → named_option form (named word) behind ≡ None
 bare_fails form has [] behind bare = absurd (true≢false (sym bare))
-bare_fails form has (a ∷ []) behind bare = go (a == 45) refl
+bare_fails form has (a ∷ []) behind bare = go _ refl
   where
     go : (b : Bool) → (a == 45) ≡ b → named_option form (named (a ∷ [])) behind ≡ None
     go true e = rw e refl
     go false e = rw e refl
-bare_fails form has (a ∷ b ∷ []) behind bare = go (a == 45) refl (b == 45) refl
+bare_fails form has (a ∷ b ∷ []) behind bare = go _ refl _ refl
   where
     go : (x : Bool) → (a == 45) ≡ x → (y : Bool) → (b == 45) ≡ y → named_option form (named (a ∷ b ∷ [])) behind ≡ None
     go true e true f = rw (e, f, has.0, has.1) refl
     go true e false f = rw (e, f) refl
     go false e y f = rw e refl
-bare_fails form has (a ∷ b ∷ x ∷ xs) behind bare = go (a == 45) refl (b == 45) refl
+bare_fails form has (a ∷ b ∷ x ∷ xs) behind bare = go _ refl _ refl
   where
     go : (y : Bool) → (a == 45) ≡ y → (z : Bool) → (b == 45) ≡ z →
         named_option form (named (a ∷ b ∷ x ∷ xs)) behind ≡ None
     go true e true f =
-        let two : length (a ∷ b ∷ x ∷ xs) ≡ 2 = eqb-true (length (a ∷ b ∷ x ∷ xs)) 2 (rw (e, f) at bare) in
+        let two = eqb-true _ 2 (rw (e, f) at bare) in
         absurd (omega arith)
     go true e false f = rw (e, f) refl
     go false e z f = rw e refl
@@ -103,12 +103,12 @@ no_options form has (word ∷ words) bare waiting = go (is_bare word) refl waiti
 -- no command has a hyphen in front
 no_command : (name : Text) → is_bare name ≡ true → form_of name ≡ None
 no_command [] bare = absurd (true≢false (sym bare))
-no_command (a ∷ xs) bare = go (a == 45) refl
+no_command (a ∷ xs) bare = go _ refl
   where
     go : (b : Bool) → (a == 45) ≡ b → form_of (a ∷ xs) ≡ None
     go true e =
         let is : a ≡ 45 = eqb-true a 45 e in
-        rw is (refl {a = None})
+        rw is (refl)
     go false e = absurd (true≢false (sym (rw e at bare)))
 
 pub bare_words : (words : List Text) → list_any is_bare words ≡ true → parsed words ≡ None

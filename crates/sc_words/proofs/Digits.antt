@@ -15,7 +15,7 @@ use Rattle.std.proofs.lemmas.Str.Parse.{parse_signed_plain, tells_all_ascii_digi
 -- ---- numbers
 
 own : IsNumeralModel (λ ds. all_ascii_digits ds ≡ true) (digits_value 10)
-own = numerals_by_value (λ ds. all_ascii_digits ds ≡ true) tells_all_ascii_digits
+own = numerals_by_value _ tells_all_ascii_digits
 
 -- what a result is, by a test that its condition passes
 by_test : {T E : Type 0} (r : Result T E) (P : Type 0) (v : T) (b : Bool) → OkIff r P v → (P → b ≡ true) →
@@ -41,11 +41,11 @@ parts : (most : ℕ) (text : List ℕ) → test most text ≡ true →
 parts most text e =
     let all = and_parts _ _ e in
     let front = and_parts _ _ all.0 in
-    (front.1, ltb-true 0 (length text) front.0, leb-true (digits_value 10 text) most all.1)
+    (front.1, ltb-true 0 _ front.0, leb-true _ most all.1)
 
 within_by_test : {T : Type 0} (f : ℕ → T) (most : ℕ) (text : List ℕ) →
     cond (test most text) (Some (f (digits_value 10 text))) None ≡ option_map f (number_within 0 most text)
-within_by_test {T} f most text = go (nat_lt 0 (length text) && all_ascii_digits text)
+within_by_test {T} f most text = go (nat_lt 0 _ && all_ascii_digits text)
   where
     step : (low high : Bool) → low ≡ true → cond high (Some (f (digits_value 10 text))) None ≡
         option_map f (cond (low && high) (Some (digits_value 10 text)) None)
@@ -55,8 +55,7 @@ within_by_test {T} f most text = go (nat_lt 0 (length text) && all_ascii_digits 
 
     go : (a : Bool) → cond (a && nat_le (digits_value 10 text) most) (Some (f (digits_value 10 text))) None
         ≡ option_map f (option_and_then (when_within 0 most) (cond a (Some (digits_value 10 text)) None))
-    go true = step (nat_le 0 (digits_value 10 text)) (nat_le (digits_value 10 text) most)
-        (le-leb 0 (digits_value 10 text) (omega arith))
+    go true = step _ (nat_le _ most) (le-leb 0 _ (omega arith))
     go false = refl
 
 -- the digits of a text with no sign in front
@@ -64,16 +63,15 @@ pub digits_read : {E : Type 0} (text : List ℕ) (r : Result ℕ E) → ParsesUn
     (slice_index text 0 == 43) ≡ false
     → result_ok r ≡ number_within 0 4294967295 text
 digits_read text r h plain =
-    let no_plus : get_or text 0 0 ≢ 43 = λ e. true≢false (sym (eq-eqb (get_or text 0 0) 43 e) ∙ plain) in
+    let no_plus : get_or text 0 0 ≢ 43 = λ e. true≢false (sym (eq-eqb _ 43 e) ∙ plain) in
     let settings = parse_plain own 32 text r h no_plus in
-    by_test r _ (digits_value 10 text) (test 4294967295 text) settings
-    (λ p. passes 4294967295 text p.0 p.1 (omega (arith, p.2)))
+    by_test r _ _ _ settings (λ p. passes 4294967295 text p.0 p.1 (omega (arith, p.2)))
     (λ e. let all = parts 4294967295 text e in (all.0, all.1, omega (arith, all.2)))
-    ∙ (within_by_test (λ n. n) 4294967295 text ∙ same (number_within 0 4294967295 text))
+    ∙ (within_by_test _ 4294967295 text ∙ same _)
   where
     same : (o : Option ℕ) → option_map (λ n. n) o ≡ o
     same None = refl
-    same (Some n) = refl
+    same _ = refl
 
 -- an integer with no `+` in front
 pub integer_read : {E : Type 0} (text : List ℕ) (r : Result ℤ E) → ParsesSigned w32 10 text r →
@@ -176,13 +174,13 @@ pub record IsReadUpTo (text : List ℕ) (count : ℕ) (done : List ℤ) (left : 
 -- the pieces that are left
 cut : (left : List ℕ) → ((pieces_behind left ≡ None) × (pieces left ≡ first_piece left ∷ []))
     ⊎ ((behind : List ℕ) × (pieces_behind left ≡ Some behind) × (pieces left ≡ first_piece left ∷ pieces behind))
-cut left = go (list_any is_comma left) refl
+cut left = go _ refl
   where
     go : (b : Bool) → list_any is_comma left ≡ b → ((cond b (Some (after_first is_comma left)) None ≡ None) ×
         (pieces left ≡ first_piece left ∷ []))
         ⊎ ((behind : List ℕ) × (cond b (Some (after_first is_comma left)) None ≡ Some behind) ×
         (pieces left ≡ first_piece left ∷ pieces behind))
-    go true e = inr (after_first is_comma left, refl, more_pieces left e)
+    go true e = inr (after_first _ left, refl, more_pieces left e)
     go false e = inl (refl, one_piece left e)
 
 none_or_not : (b : Bool) (o : Option (List ℤ)) → o ≡ None → cond b o None ≡ None
@@ -210,13 +208,13 @@ pub ends : (text : List ℕ) (count : ℕ) (done : List ℤ) (left : List ℕ) (
 unfolding integers
 ends text count done left last is few good none = elim (cut left) [
   | inl c ↦
-      let one : length (pieces left) ≡ 1 = ap length c.1 in
+      let one = ap length c.1 in
       let within : length (pieces text) ≤ 65536 = omega (arith, is.pieces) in
-      let all : integers (pieces text) ≡ Some (done ++ last ∷ []) =
+      let all =
       is.values ∙ ap (option_map (λ xs. done ++ xs)) (ap integers c.1 ∙ ap (λ x. in_front x (Some [])) good) in
-      rw (le-leb (length (pieces text)) 65536 within) all
+      rw (le-leb _ 65536 within) all
   | inr c ↦
-      let bad : None ≡ Some c.0 = sym none ∙ c.1 in
+      let bad = sym none ∙ c.1 in
       cc
 ]
 
@@ -233,7 +231,7 @@ goes_on text count done left next behind is good some = elim (cut left) [
       let same_some : Some c.0 ≡ Some behind = sym c.1 ∙ some in
       let same : c.0 ≡ behind = cc in
       let parts : pieces left ≡ first_piece left ∷ pieces behind = c.2 ∙ ap (λ x. first_piece left ∷ pieces x) same in
-      let more : length (pieces left) ≡ suc (length (pieces behind)) = ap length parts in
+      let more : length (pieces left) ≡ suc _ = ap length parts in
       record {
         values = is.values ∙ (ap (option_map (λ xs. done ++ xs))
             (ap integers parts ∙ ap (λ o. in_front o (integers (pieces behind))) good)
@@ -245,14 +243,14 @@ goes_on text count done left next behind is good some = elim (cut left) [
     joined : (o : Option (List ℤ)) → option_map (λ xs. done ++ xs) (in_front (Some next) o) ≡
         option_map (λ xs. (done ++ next ∷ []) ++ xs) o
     joined None = refl
-    joined (Some xs) = ap Some (sym (append_assoc done (next ∷ []) xs))
+    joined (Some xs) = ap Some (sym (append_assoc done _ xs))
 
 not_within : (a b : ℕ) → b < a → nat_le a b ≡ false
-not_within a b lt = go (nat_le a b) refl
+not_within a b lt = go _ refl
   where
     go : (x : Bool) → nat_le a b ≡ x → x ≡ false
     go true e =
-        let le : a ≤ b = leb-true a b e in
+        let le = leb-true a b e in
         absurd (omega arith)
     go false e = refl
 
@@ -266,4 +264,4 @@ too_long text count done left is many = elim (cut left) [
     over : {n : ℕ} → length (pieces left) ≡ suc n → integer_list text ≡ None
     over {n} e =
         let more : 65536 < length (pieces text) = omega (arith, is.pieces) in
-        rw (not_within (length (pieces text)) 65536 more) refl
+        rw (not_within _ 65536 more) refl

@@ -43,7 +43,7 @@ module _ (title : Text) (form : Form) where
   faults_next : (w : Walk) (word : Text) (words : List Text) →
       faults w (word ∷ words) ≡ or_else (turn_fault s [] w word) (faults (walked rs [] w word) words)
   unfolding faults walk_fault
-  faults_next w word words = or_else_assoc (turn_fault s [] w word) (walk_fault s [] (walked rs [] w word) words) _
+  faults_next w word words = or_else_assoc (turn_fault s [] w word) (walk_fault s [] _ words) _
 
   ends_next : (w : Walk) (word : Text) (words : List Text) → ends w (word ∷ words) ≡ ends (walked rs [] w word) words
   unfolding ends
@@ -52,7 +52,7 @@ module _ (title : Text) (form : Form) where
   -- a word that fails at once
   stops : (w : Walk) (word : Text) (words : List Text) → (turn_fault s [] w word ≡ [] → ⊥) →
       faults w (word ∷ words) ≡ [] → ⊥
-  stops w word words fails e = first_fails (turn_fault s [] w word) _ fails (sym (faults_next w word words) ∙ e)
+  stops w word words fails e = first_fails _ _ fails (sym (faults_next w word words) ∙ e)
 
   -- what a word `--name` or `--name=value` does, by the rule of its name
   abbrev step_by : Waiting → Text → Option Rule → Option Text → Held → Held × Step
@@ -89,7 +89,7 @@ module _ (title : Text) (form : Form) where
   idle_plain : (h : Held) (word : Text) → begins_with_hyphen word ≡ false →
       turn_fault s [] (at idle h) word ≡ kind.UnknownArgument ∷ []
   idle_plain h [] e = rw (by_index form 1) refl
-  idle_plain h (x ∷ xs) e = go (x == 45) refl
+  idle_plain h (x ∷ xs) e = go _ refl
     where
       go : (b : Bool) → (x == 45) ≡ b → turn_fault s [] (at idle h) (x ∷ xs) ≡ kind.UnknownArgument ∷ []
       go true is = absurd (true≢false (rw is at e))
@@ -124,8 +124,7 @@ module _ (title : Text) (form : Form) where
   accepted_more : (before : List Setting) (name value : Text) (behind : Option (List Setting))
       → accepted before (more name value behind) ≡ accepted (before ++ (name, value) ∷ []) behind
   accepted_more before name value None = refl
-  accepted_more before name value (Some behind) = ap (when_complete form)
-      (sym (append_assoc before ((name, value) ∷ []) behind))
+  accepted_more before name value (Some behind) = ap (when_complete form) (sym (append_assoc before _ behind))
 
   accepted_again : (before : List Setting) (name value : Text) (behind : Option (List Setting)) →
       has_option name before ≡ true
@@ -169,12 +168,11 @@ module _ (title : Text) (form : Form) where
       go true e =
           let taken : accepted before (Some []) ≡ Some before =
           ap (when_complete form) (append-nil before) ∙ rw (once, e) refl in
-          subst (Agrees (or_else [] (end_faults h)) (finished rs h)) (sym taken)
-          (faults_are ∙ (check_is form before ∙ rw e refl), rows_are)
+          subst (Agrees _ _) (sym taken) (faults_are ∙ (check_is form before ∙ rw e refl), rows_are)
       go false e =
           let missing : accepted before (Some []) ≡ None =
           ap (when_complete form) (append-nil before) ∙ rw (once, e) refl in
-          let fails : check form (final form before) ≡ kind.MissingRequiredArgument ∷ [] =
+          let fails : check form _ ≡ kind.MissingRequiredArgument ∷ [] =
           check_is form before ∙ rw e refl in
           subst (Agrees (or_else [] (end_faults h)) (finished rs h)) (sym missing)
           (λ none. not_empty _ _ (sym (faults_are ∙ fails) ∙ none))
@@ -217,8 +215,7 @@ module _ (title : Text) (form : Form) where
       stops (at idle h) word words (by_hyphens (λ w. turn_fault s [] (at idle h) w ≡ [] → ⊥)
       (λ w plain e. not_empty _ _ (sym (idle_plain h w plain) ∙ e))
       (λ x xs e. long_fails idle (45 ∷ 45 ∷ x ∷ xs) (name_and_value (x ∷ xs)).0 (name_and_value (x ∷ xs)).1 h fails
-      (sym (idle_long h x xs) ∙ e))
-      word (first_not (is_bare word) _ all).0)
+      (sym (idle_long h x xs) ∙ e)) word (first_not _ _ all).0)
 
   -- what follows a word `--name` or `--name=value` where nothing waits, by the rule of its name
   abbrev LongAgrees : Held → List Setting → Text → Text → Option Text → List Text → Option Rule → Type 0
@@ -235,7 +232,7 @@ module _ (title : Text) (form : Form) where
   alone_row name has = rw has refl
 
   rows_more : (before : List Setting) (o : Setting) → rows form before ++ row form o ∷ [] ≡ rows form (before ++ o ∷ [])
-  rows_more before o = sym (map-append (row form) before (o ∷ []))
+  rows_more before o = sym (map-append _ before _)
 
   -- one option more, which nothing waits for any longer
   one_more : (h : Held) (before : List Setting) (name value : Text) (words : List Text) (k : Kinds)
@@ -377,7 +374,7 @@ module _ (title : Text) (form : Form) where
     passes_plain : (word : Text) → begins_with_hyphen word ≡ false →
         turn_fault s [] (waiting_for name now skip) word ≡ []
     passes_plain [] e = refl
-    passes_plain (x ∷ xs) e = go (x == 45) refl
+    passes_plain (x ∷ xs) e = go _ refl
       where
         go : (b : Bool) → (x == 45) ≡ b → turn_fault s [] (waiting_for name now skip) (x ∷ xs) ≡ []
         go true is = absurd (true≢false (rw is at e))
@@ -389,7 +386,7 @@ module _ (title : Text) (form : Form) where
         → walked rs [] (waiting_for name now skip) word ≡ at idle (holding name (word ∷ []) now skip)
     unfolding walked
     takes_plain [] e = rw (found_by_id.1, bytes_eq_self name) refl
-    takes_plain (x ∷ xs) e = go (x == 45) refl
+    takes_plain (x ∷ xs) e = go _ refl
       where
         go : (b : Bool) → (x == 45) ≡ b → walked rs [] (waiting_for name now skip) (x ∷ xs) ≡
             at idle (holding name ((x ∷ xs) ∷ []) now skip)
@@ -460,7 +457,7 @@ module _ (title : Text) (form : Form) where
       IdleAgrees words × WaitingAgrees words
   words_agree [] all = (idle_ends, waiting_ends)
   words_agree (word ∷ words) all =
-      let parts = first_not (is_bare word) _ all in
+      let parts = first_not _ _ all in
       let later = words_agree words parts.1 in
       (idle_next word words parts.0 parts.1 later.0 later.1, waiting_next word words parts.0 parts.1 later.0)
 

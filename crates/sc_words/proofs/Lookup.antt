@@ -1,9 +1,9 @@
 -- The arguments of a command as the parse reads them, and the argument of a name.
 use Rattle.sc_words.proofs.Common.{Bool, Form, List, None, Option, Rule, Shape, Some, Text, [], alone_rule, ap, ap₂}
 use Rattle.sc_words.proofs.Common.{arg_by_id, arg_by_index, arg_by_long, bytes_eq, codes, cond, false, find}
-use Rattle.sc_words.proofs.Common.{find-append, has_long, has_value, if◌then◌else◌, is_among, is_some, map, new_shape}
-use Rattle.sc_words.proofs.Common.{not, option_or, or-false, refl, same_text, sym, true, true≢false, valued_rule, ℕ}
-use Rattle.sc_words.proofs.Common.{◌&&◌, ◌++◌, ◌||◌, ◌∙◌, ◌∷◌, ◌≡◌}
+use Rattle.sc_words.proofs.Common.{find-append, has_value, if◌then◌else◌, is_among, map, new_shape}
+use Rattle.sc_words.proofs.Common.{option_or, or-false, refl, same_text, sym, true, true≢false, valued_rule, ℕ}
+use Rattle.sc_words.proofs.Common.{◌++◌, ◌||◌, ◌∙◌, ◌∷◌, ◌≡◌}
 use Rattle.clap.specs.declared.builder.value_parser.ValueParser.TheVariants as vp
 
 -- ---- the arguments as the parse reads them
@@ -73,10 +73,9 @@ searched p form name valued alone =
     ∙ ap₂ option_or (found p (ready_valued true) name (valued true) form.needed)
     (find-append p (map (ready_valued false) form.valued) _
     ∙ ap₂ option_or (found p (ready_valued false) name (valued false) form.valued)
-    (find-append p (map ready_alone form.alone) []
-    ∙ ap (λ o. option_or o None) (found p ready_alone name alone form.alone)))
-    ∙ first_of_three (ready_valued true name) (ready_valued false name) (ready_alone name) (is_among form.needed name)
-    (is_among form.valued name) (is_among form.alone name)
+    (find-append p (map ready_alone _) [] ∙ ap (λ o. option_or o None) (found p _ name alone form.alone)))
+    ∙ first_of_three (ready_valued true name) (ready_valued false name) (ready_alone name) (is_among _ name)
+    (is_among form.valued name) (is_among _ name)
   where
     first_of_three : (x y z : Rule) (a b c : Bool) → option_or (cond a (Some x) None)
         (option_or (cond b (Some y) None) (option_or (cond c (Some z) None) None))
@@ -87,11 +86,10 @@ searched p form name valued alone =
     first_of_three x y z false false false = refl
 
 pub by_long : (form : Form) (name : Text) → arg_by_long (ready_rules form) name ≡ lookup form name
-by_long form name = searched (λ a. not (is_some a.index) && has_long a name) form name
-    (λ r n. or-false (bytes_eq n name)) (λ n. or-false (bytes_eq n name))
+by_long form name = searched _ form name (λ r n. or-false _) (λ n. or-false _)
 
 pub by_id : (form : Form) (name : Text) → arg_by_id (ready_rules form) name ≡ lookup form name
-by_id form name = searched (λ a. bytes_eq a.id name) form name (λ r n. refl) (λ n. refl)
+by_id form name = searched _ form name (λ r n. refl) (λ n. refl)
 
 pub by_index : (form : Form) (i : ℕ) → arg_by_index (ready_rules form) i ≡ None
 by_index form i =
@@ -101,10 +99,9 @@ by_index form i =
 
 pub lookup_valued : (form : Form) (name : Text) → has_value form name ≡ true →
     (r : Bool) × (lookup form name ≡ Some (ready_valued r name))
-lookup_valued form name has = go (is_among form.needed name) (is_among form.valued name) has
+lookup_valued form name has = go _ _ has
   where
-    go : (a b : Bool) → (a || b) ≡ true
-        → (r : Bool) × (cond a (Some (ready_valued true name))
+    go : (a b : Bool) → (a || b) ≡ true → (r : Bool) × (cond a (Some (ready_valued true name))
         (cond b (Some (ready_valued false name)) (alone_or_none form name)) ≡ Some (ready_valued r name))
     go true b e = (true, refl)
     go false true e = (false, refl)
@@ -112,7 +109,7 @@ lookup_valued form name has = go (is_among form.needed name) (is_among form.valu
 
 pub lookup_other : (form : Form) (name : Text) → has_value form name ≡ false →
     lookup form name ≡ alone_or_none form name
-lookup_other form name has = go (is_among form.needed name) (is_among form.valued name) has
+lookup_other form name has = go _ _ has
   where
     go : (a b : Bool) → (a || b) ≡ false
         → cond a (Some (ready_valued true name)) (cond b (Some (ready_valued false name)) (alone_or_none form name)) ≡

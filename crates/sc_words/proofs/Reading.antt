@@ -47,7 +47,7 @@ runs_same : (form : Form) (settings : List Setting) (rows : List Row) → Tells 
     has_value form (codes "in") ≡ true →
     form.alone ≡ [] → run (λ n. first_of n rows) ≡ run (λ n. value_of n settings)
 runs_same form settings rows tells steps events inputs none =
-    run_same (λ n. first_of n rows) (λ n. value_of n settings) (given (codes "steps") steps)
+    run_same (λ n. first_of n rows) (λ n. value_of n settings) (given _ steps)
     (given (codes "events") events) (given (codes "in") inputs) where
       given : (name : Text) → has_value form name ≡ true → first_of name rows ≡ value_of name settings
       given name has = tells.values name has (ap (λ alone. is_among alone name) none)
@@ -87,7 +87,7 @@ pub summary_same : (name : Text) (form : Form) (settings : List Setting) (rows :
     Tells form settings rows → bytes_eq name (codes "make") ≡ true →
     one_of (codes "summary") rows ≡ Some (flag_text (has_option (codes "summary") settings))
 summary_same name form settings rows has tells make =
-    let found : Some make_form ≡ Some form = ap form_of (sym (same_text name (codes "make") make)) ∙ has in
+    let found : Some make_form ≡ Some form = ap form_of (sym (same_text name _ make)) ∙ has in
     let same : form ≡ make_form = cc in
     (subst (λ f. Tells f settings rows) same tells).alone (codes "summary") refl refl
 
@@ -145,18 +145,16 @@ pub commanded : (words : List Text) (m : ArgMatches) (name : Text) (f : Found) �
 unfolding command
 commanded words m name f r named rowed = record {
   summary = has_option (codes "summary") r.read.1;
-  flag = λ make. one_text-rows f (codes "summary") ∙ (ap (one_of (codes "summary")) rows_are
-      ∙ summary_same r.read.0 r.form r.read.1 r.rows r.has r.tells
-      (ap (λ n. bytes_eq n (codes "make")) (sym name_is) ∙ make));
-  is = ap (option_and_then (λ read. command_with read.0 (λ name. value_of name read.1)
-      (has_option (codes "summary") read.1))) r.is
-      ∙ (sym (values_same r.read.0 r.form r.has r.read.1 r.rows (has_option (codes "summary") r.read.1) r.tells)
+  flag = λ make. one_text-rows f _ ∙ (ap (one_of _) rows_are ∙ summary_same r.read.0 r.form _ r.rows r.has r.tells
+      (ap (λ n. bytes_eq n _) (sym name_is) ∙ make));
+  is = ap (option_and_then _) r.is
+      ∙ (sym (values_same r.read.0 r.form r.has _ r.rows (has_option (codes "summary") r.read.1) r.tells)
       ∙ sym (λ i. command_with (name_is i) (λ n. (first_value-rows f n ∙ ap (first_of n) rows_are) i)
       (has_option (codes "summary") r.read.1)));
 }
   where
     both : Some (rows_of f) ≡ Some r.rows
-    both = rowed ∙ ap (option_map (λ p. p.1)) r.found
+    both = rowed ∙ ap (option_map _) r.found
 
     rows_are : rows_of f ≡ r.rows
     rows_are = cc both

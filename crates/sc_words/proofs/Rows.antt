@@ -66,8 +66,7 @@ joins : (name value : Text) (now : List Row) → has_row name now ≡ false → 
     (value ∷ []) (at_row name (λ _. []) [] now) ≡ now ++ plain_row name value ∷ []
 joins name value now none =
     ap (λ rs. with_values name AsWritten CommandLine (value ∷ []) rs)
-    (joined name (λ _. []) [] now none ∙ append-nil now)
-    ∙ joined name (more_values CommandLine (value ∷ [])) (plain_row name value ∷ []) now none
+    (joined name (λ _. []) [] now none ∙ append-nil now) ∙ joined name (more_values CommandLine _) _ now none
 
 pub used_valued : (r : Bool) (name value : Text) (now : List Row) → has_row name now ≡ false
     → used (ready_valued r name) (value ∷ []) now ≡ now ++ plain_row name value ∷ []
@@ -175,26 +174,25 @@ found_final (n ∷ names) now name = go (has_row n now) refl (bytes_eq n name) r
         let here : find (by_name name) (default_row n ∷ []) ≡ cond same (Some (default_row n)) None = rw is refl in
         ap (find (by_name name)) joins ∙ (later (now ++ default_row n ∷ [])
         ∙ (ap (λ o. option_or o (default_of names name))
-        (find-append (by_name name) now (default_row n ∷ []) ∙ ap (option_or (find (by_name name) now)) here)
+        (find-append (by_name name) now (default_row n ∷ []) ∙ ap (option_or (find _ now)) here)
         ∙ chosen (find (by_name name) now) same is))
 
 found_at_end : (form : Form) (all : List Setting) (name : Text)
     → find (by_name name) (final form all) ≡ option_or (option_map (row form) (option_named name all))
     (default_of form.alone name)
 found_at_end form all name =
-    ap (find (by_name name)) (final_is form all) ∙ (found_final form.alone (rows form all) name
-    ∙ ap (λ o. option_or o (default_of form.alone name)) (sym (find-map (by_name name) (row form) all)))
+    ap (find _) (final_is form all) ∙ (found_final form.alone (rows form all) name
+    ∙ ap (λ o. option_or o (default_of form.alone name)) (sym (find-map _ _ all)))
 
 has_is_some : (name : Text) (all : List Setting) → is_some (option_named name all) ≡ has_option name all
-has_is_some name all = found_any (λ o. bytes_eq o.0 name) all
+has_is_some name all = found_any _ all
 
 given_at_end : (form : Form) (all : List Setting) (name : Text) → is_given name (final form all) ≡ has_option name all
 given_at_end form all name =
-    ap (λ o. option_map_or (λ (r : Row). explicit_source r.source) o false) (found_at_end form all name)
-    ∙ (go (option_named name all) (is_among form.alone name) ∙ has_is_some name all)
+    ap (λ o. option_map_or (λ r. explicit_source r.source) o false) (found_at_end form all name)
+    ∙ (go _ (is_among _ name) ∙ has_is_some name all)
   where
-    go : (o : Option Setting) (b : Bool)
-        → option_map_or (λ (r : Row). explicit_source r.source)
+    go : (o : Option Setting) (b : Bool) → option_map_or (λ (r : Row). explicit_source r.source)
         (option_or (option_map (row form) o) (cond b (Some (default_row name)) None)) false ≡ is_some o
     go (Some o) b = refl
     go None true = refl
@@ -202,10 +200,9 @@ given_at_end form all name =
 
 pub tells : (form : Form) (all : List Setting) → Tells form all (final form all)
 tells form all = record {
-  values = λ name has alone. ap (option_and_then (λ (r : Row). slice_get r.values 0)) (found_at_end form all name)
-      ∙ value_at name has alone (option_named name all) refl;
-  alone = λ name has alone. ap (option_and_then row_text) (found_at_end form all name)
-      ∙ (flag_at name has alone (option_named name all) refl ∙ ap (λ b. Some (flag_text b)) (has_is_some name all));
+  values = λ name has alone. ap (option_and_then _) (found_at_end form all name) ∙ value_at name has alone _ refl;
+  alone = λ name has alone. ap (option_and_then _) (found_at_end form all name)
+      ∙ (flag_at name has alone _ refl ∙ ap (λ b. Some (flag_text b)) (has_is_some name all));
 }
   where
     value_at : (name : Text) → has_value form name ≡ true → is_among form.alone name ≡ false → (o : Option Setting) →
@@ -214,8 +211,8 @@ tells form all = record {
         (option_or (option_map (row form) o) (default_of form.alone name)) ≡ option_map (λ x. x.1) o
     value_at name has alone None is = rw alone refl
     value_at name has alone (Some o) is =
-        let same : o.0 ≡ name = same_text o.0 name (find_passes (λ x. bytes_eq x.0 name) all o is) in
-        let valued : has_value form o.0 ≡ true = ap (has_value form) same ∙ has in
+        let same = same_text o.0 name (find_passes _ all o is) in
+        let valued = ap (has_value form) same ∙ has in
         rw valued refl
 
     flag_at : (name : Text) → has_value form name ≡ false → is_among form.alone name ≡ true → (o : Option Setting) →
@@ -224,8 +221,8 @@ tells form all = record {
         Some (flag_text (is_some o))
     flag_at name has alone None is = rw alone refl
     flag_at name has alone (Some o) is =
-        let same : o.0 ≡ name = same_text o.0 name (find_passes (λ x. bytes_eq x.0 name) all o is) in
-        let valued : has_value form o.0 ≡ false = ap (has_value form) same ∙ has in
+        let same = same_text o.0 name (find_passes _ all o is) in
+        let valued = ap (has_value form) same ∙ has in
         rw valued refl
 
 -- ---- the checks at the end
@@ -253,7 +250,7 @@ any_needed : (now : List Row) (all : List Setting) → ((name : Text) → is_giv
 any_needed now all same [] rest none = none
 any_needed now all same (n ∷ names) rest none =
     ap₂ (λ x y. not x || y) (same n) (any_needed now all same names rest none) ∙
-    turned (has_option n all) (list_all (λ name. has_option name all) names)
+    turned (has_option n all) (list_all _ names)
   where
     turned : (a b : Bool) → (not a || not b) ≡ not (a && b)
     turned true b = refl
@@ -265,9 +262,8 @@ pub check_is : (form : Form) (all : List Setting)
 check_is form all =
     let now = final form all in
     let none = any_valued now form.valued _ ∙ any_alone now form.alone in
-    ap (λ b. cond b (kind.MissingRequiredArgument ∷ []) [])
-    (any_needed now all (given_at_end form all) form.needed _ none)
-    ∙ turned (list_all (λ name. has_option name all) form.needed)
+    ap (λ b. cond b (kind.MissingRequiredArgument ∷ []) []) (any_needed now all (given_at_end form all) _ _ none)
+    ∙ turned _
   where
     turned : (b : Bool) → cond (not b) (kind.MissingRequiredArgument ∷ []) [] ≡
         cond b [] (kind.MissingRequiredArgument ∷ [])
@@ -296,14 +292,13 @@ alone_defaults (n ∷ names) now = go (has_row n now) (alone_defaults names _)
     go false e = e
 
 pub no_default_fails : (form : Form) (now : List Row) → defaults_fault now (ready_rules form) ≡ []
-no_default_fails form = valued_defaults true form.needed _
-    (valued_defaults false form.valued _ (alone_defaults form.alone))
+no_default_fails form = valued_defaults true form.needed _ (valued_defaults false form.valued _ (alone_defaults _))
 
 -- ---- options that are given once
 
 has_joined : (name : Text) (before more : List Setting) →
     has_option name (before ++ more) ≡ (has_option name before || has_option name more)
-has_joined name before more = list_any-append (λ o. bytes_eq o.0 name) before more
+has_joined name before more = list_any-append _ before more
 
 pub repeated : (before : List Setting) (name value : Text) (behind : List Setting) → has_option name before ≡ true →
     each_once (before ++ (name, value) ∷ behind) ≡ false

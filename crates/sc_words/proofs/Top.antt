@@ -50,21 +50,20 @@ entry_of name = find (λ c. bytes_eq c.0 name)
 shape_found : (cs : List (Text × Form)) (name : Text)
     → find (λ s. answers_to name (label_of s)) (shapes cs) ≡ option_map (λ c. ready c.0 c.1) (entry_of name cs)
 shape_found cs name =
-    sym (find-map (λ (s : Shape). answers_to name (label_of s)) (λ (c : Text × Form). ready c.0 c.1) cs)
-    ∙ ap (λ p. option_map (λ (c : Text × Form). ready c.0 c.1) (find p cs)) (λ i c. or-false (bytes_eq c.0 name) i)
+    sym (find-map _ _ cs)
+    ∙ ap (λ p. option_map (λ c. ready c.0 c.1) (find p cs)) (λ i c. or-false (bytes_eq c.0 name) i)
 
 abbrev names : Names
 names = names_of app
 
 met_is : (name : Text) → subcommand_met names idle name ≡ option_map (λ c. c.0) (entry_of name commands)
 met_is name =
-    sym (label_first name (shapes commands)) ∙ ap (option_map (λ (s : Shape). s.name)) (shape_found commands name)
-    ∙ go (entry_of name commands)
+    sym (label_first name (shapes commands)) ∙ ap (option_map (λ s. s.name)) (shape_found commands name) ∙ go _
   where
     go : (o : Option (Text × Form)) → option_map (λ (s : Shape). s.name) (option_map (λ c. ready c.0 c.1) o) ≡
         option_map (λ c. c.0) o
     go None = refl
-    go (Some c) = refl
+    go _ = refl
 
 -- ---- the first word
 
@@ -103,7 +102,7 @@ stranger_fails name bare = by_hyphens (λ w. first_fault None w ≡ [] → ⊥) 
             rw (is, short) (λ none. not_empty _ _ none)
 
 command_passes : (n name : Text) → first_fault (Some n) name ≡ []
-command_passes n name = go (bytes_eq n (codes "help"))
+command_passes n name = go _
   where
     go : (b : Bool) → or_else (cond (b && false) (kind.DisplayHelp ∷ kind.InvalidSubcommand ∷ []) []) [] ≡ []
     go true = refl
@@ -115,8 +114,7 @@ fold_stopped : (w : Walk) (p : Text × List Text) (words : List Text)
 unfolding walked
 fold_stopped w p [] = ap (λ ws. record w { stopped = Some (p.0, ws) }) (sym (append-nil p.1))
 fold_stopped w p (word ∷ words) =
-    fold_stopped w (p.0, p.1 ++ word ∷ []) words ∙ ap (λ ws. record w { stopped = Some (p.0, ws) })
-    (append_assoc p.1 (word ∷ []) words)
+    fold_stopped w _ words ∙ ap (λ ws. record w { stopped = Some (p.0, ws) }) (append_assoc p.1 (word ∷ []) words)
 
 -- ---- all the words
 
@@ -136,16 +134,16 @@ known_agrees : (c : Text × Form) (words : List Text) → entry_of c.0 commands 
 unfolding walk_fault defaults_fault
 known_agrees c words found all =
     let turn : turn_fault top names start c.0 ≡ [] = first_turn c.0 ∙
-    (ap (λ o. first_fault (option_map (λ (c : Text × Form). c.0) o) c.0) found ∙ command_passes c.0 c.0) in
+    (ap (λ o. first_fault (option_map (λ c. c.0) o) c.0) found ∙ command_passes c.0 c.0) in
     let walks : walked [] names start c.0 ≡ stopped_at c.0 []
-    = first_walk c.0 ∙ ap (λ o. after_step [] c.0 start (first_step (option_map (λ (c : Text × Form). c.0) o) c.0).0
-    (first_step (option_map (λ (c : Text × Form). c.0) o) c.0).1) found in
+    = first_walk c.0 ∙ ap (λ o. after_step [] c.0 start (first_step (option_map (λ c. c.0) o) c.0).0
+    (first_step (option_map (λ c. c.0) o) c.0).1) found in
     let faults : walk_fault top names start (c.0 ∷ words) ≡ []
     = (λ i. or_else (turn i) (walk_fault top names (walks i) words)) ∙ stopped_fault top names start (c.0, []) words in
     let end : fold (walked [] names) start (c.0 ∷ words) ≡ stopped_at c.0 words
     = ap (λ w. fold (walked [] names) w words) walks ∙ fold_stopped start (c.0, []) words in
     let shape : find (λ s. answers_to c.0 (label_of s)) (shapes commands) ≡ Some (ready c.0 c.1)
-    = shape_found commands c.0 ∙ ap (option_map (λ (c : Text × Form). ready c.0 c.1)) found in
+    = shape_found commands c.0 ∙ ap (option_map (λ c. ready c.0 c.1)) found in
     let form_is : form_of c.0 ≡ Some c.1 = ap (option_map (λ (c : Text × Form). c.1)) found in
     let inner : Kinds = level_fault (ready c.0 c.1) [] nothing_held words false [] in
     let rows : List Row = rows_after (ready_rules c.1) [] words in
@@ -157,7 +155,7 @@ known_agrees c words found all =
     = ap (λ o. option_map (λ settings. (c.0, settings)) (option_and_then (λ form. options form words) o)) form_is in
     subst (λ k. Reads k (subcommand_of application (c.0 ∷ words)) (parsed (c.0 ∷ words))) (sym faults_are)
     (subst (λ entered. Reads (or_else inner []) entered (parsed (c.0 ∷ words))) (sym rows_are)
-    (subst (Reads (or_else inner []) (Some (c.0, rows))) (sym parsed_is)
+    (subst (Reads (or_else inner []) (Some _)) (sym parsed_is)
     (both (options c.1 words) form_is (level_agrees c.0 c.1 words all))))
   where
     level_by : Kinds → Walk → Kinds
