@@ -1,17 +1,17 @@
 -- Each text is read, or fails a phase.
-use Rattle.sc_read.proofs.Common.{AllByRecursion, AllZip, Any, AreSections, Bool, Err, Fails, FailsLex, FailsSyntax}
-use Rattle.sc_read.proofs.Common.{First, HasTokens, HasTree, IsBadHeading, IsCut, IsCutInto, IsParsed, IsRead}
+use Rattle.sc_read.proofs.Common.{AllByRecursion, AllZip, Any, AreSections, Err, Fails, FailsLex}
+use Rattle.sc_read.proofs.Common.{First, HasTokens, HasTree, IsBadHeading, IsCut, IsParsed, IsRead}
 use Rattle.sc_read.proofs.Common.{IsSection, IsSplit, IsTrue, IsUncut, IsUnread, Lexeme, List, NoHeading, None, Ok}
-use Rattle.sc_read.proofs.Common.{Option, Part, PassesLex, Phase, Reads, Refusal, RefusesBytes, RefusesHeading, Section}
-use Rattle.sc_read.proofs.Common.{SectionTree, Some, Token, [], ap, arith, bad_heading, begins_heading, cases_lt, drop}
-use Rattle.sc_read.proofs.Common.{false, here, in_preamble, in_section, inl, inr, is_heading, later, length}
+use Rattle.sc_read.proofs.Common.{Option, Part, PassesLex, Phase, Reads, Section}
+use Rattle.sc_read.proofs.Common.{SectionTree, Some, Token, [], ap, arith, bad_heading, cases_lt}
+use Rattle.sc_read.proofs.Common.{here, in_preamble, in_section, inl, inr, is_heading, later, length}
 use Rattle.sc_read.proofs.Common.{length-take-le, lexemes_of, line_after, line_at, map, name_at, newlines, none}
 use Rattle.sc_read.proofs.Common.{none-some, part_of, parts_of, refl, section, slice_range, subst, suc, sym, take}
-use Rattle.sc_read.proofs.Common.{tree_of, true, uncut, zero, ℕ, ⊎_elim, ◌+◌, ◌-◌, ◌<◌, ◌∙◌, ◌∷◌, ◌≡◌, ◌≤◌, ◌⊎◌}
+use Rattle.sc_read.proofs.Common.{tree_of, uncut, zero, ℕ, ⊎_elim, ◌+◌, ◌-◌, ◌<◌, ◌∙◌, ◌∷◌, ◌≡◌, ◌≤◌, ◌⊎◌}
 use Rattle.sc_lex.specs.declared.refusal.Phase.TheVariants as phase
 use Rattle.sc_lex.specs.declared.fault.TextFault.TheVariants as fault
 use Rattle.sc_parse.proofs.Trees.{parsed, unparsed}
-use Rattle.sc_read.proofs.Pieces.{IsFirst, HoldsNot, find, IsStopped, decide_cut}
+use Rattle.sc_read.proofs.Pieces.{find, decide_cut}
 use Rattle.sc_read.proofs.Steps.{InText, in_text, has_token}
 
 module _ (text : List ℕ) where
@@ -117,7 +117,7 @@ module _ (text : List ℕ) where
       (at < length text → IsTrue (is_heading text at)) → Splits at
   sections_from zero at low high heading = all_split at (omega arith)
   sections_from (suc fuel) at low high heading =
-      ⊎_elim (λ more. sections_here fuel at more high (heading more) (sections_from fuel) (name_at text at) refl)
+      ⊎_elim (λ more. sections_here fuel at more high (heading more) (sections_from fuel) _ refl)
       (λ past. all_split at (omega arith)) (cases_lt at (length text))
 
   abbrev Divided : Type 0
@@ -162,7 +162,7 @@ module _ (text : List ℕ) where
       | inr f ↦ inr (f.0, later c f.1)
     ]
     | inr s ↦ inr (
-      line_after (line_at text part.start) (newlines (take s.to part.bytes)),
+      line_after (line_at text _) (newlines (take s.to _)),
       here (record { at = s.to; tokens = s.tokens; front = s.cuts; stuck = s.stuck; phase = refl; line = refl }),
     )
   ]
@@ -174,14 +174,13 @@ module _ (text : List ℕ) where
     where
       go : (o : Option SectionTree) → tree_of line ts ≡ o →
           ((tree : SectionTree) × IsParsed line ts tree) ⊎ ((tree : SectionTree) → IsParsed line ts tree → ⊥)
-      go None e = inr (unparsed line ts (Err (fault.Refused (record { phase = phase.Syntax; line = 0 }))) e
-          (record { phase = phase.Syntax; line = 0 }) refl)
+      go None e = inr (unparsed line ts (Err (fault.Refused _)) e (record { phase = phase.Syntax; line = 0 }) refl)
       go (Some tree) e = inl (tree, parsed line ts (Ok tree) e)
 
   some_line : (start : ℕ) (tokens : List Token) → 0 < length tokens →
       (line : ℕ) × Any (λ token. line ≡ line_after (line_at text start) (token.line - 1)) tokens
   some_line start [] some = absurd (omega arith)
-  some_line start (t ∷ tokens) some = (line_after (line_at text start) (t.line - 1), (0, t, omega arith, refl, refl))
+  some_line start (t ∷ tokens) some = (line_after _ _, (0, t, omega arith, refl, refl))
 
   read_section : (s : Section) (tokens : List Token) → InText text s → IsCut s.bytes.now tokens →
       ((tree : SectionTree) × IsRead text (part_of s) tree) ⊎ ((line : ℕ) × IsUnread text line (part_of s))
@@ -211,7 +210,7 @@ module _ (text : List ℕ) where
   after_lex : (preamble : List ℕ) (ss : List Section) (before : List Token) (cuts : List (List Token)) →
       IsSplit text preamble ss → IsCut preamble before → AreCutInto (map part_of ss) cuts → Either
   after_lex preamble ss [] cuts split cut each =
-      let passes : PassesLex text [] (map part_of ss) =
+      let passes : PassesLex text [] _ =
       record {
         preamble = preamble;
         found = ss;
@@ -223,33 +222,32 @@ module _ (text : List ℕ) where
       } in
       elim (read_sections ss cuts (in_text split.behind) each) [
         | inl t ↦ inl (t.0, record { sections = map part_of ss; lexed = passes; each = t.1 })
-        | inr f ↦ inr (phase.Syntax, f.0, in_section (map part_of ss) passes f.1)
+        | inr f ↦ inr (phase.Syntax, f.0, in_section _ passes f.1)
       ]
   after_lex preamble ss (t ∷ more) cuts split cut each =
       inr (
         phase.Syntax,
         t.line,
-        in_preamble t more (map part_of ss)
-            (record {
-              preamble = preamble;
-              found = ss;
-              cuts = cuts;
-              split = split;
-              parts = refl;
-              cut = cut;
-              each = each;
-            }) refl,
+        in_preamble t more (map part_of ss) (record {
+          preamble = preamble;
+          found = ss;
+          cuts = cuts;
+          split = split;
+          parts = refl;
+          cut = cut;
+          each = each;
+        }) refl,
       )
 
   after_split : (preamble : List ℕ) (ss : List Section) → IsSplit text preamble ss → Either
   after_split preamble ss split = elim (cut_parts (parts_of preamble ss)) [
     | inl c ↦ all_cut c.0 c.1
-    | inr f ↦ inr (phase.Lex, f.0, uncut preamble ss split f.1)
+    | inr f ↦ inr (phase.Lex, f.0, uncut _ ss split f.1)
   ]
     where
       all_cut : (cuts : List (List Token)) → AreCutInto (parts_of preamble ss) cuts → Either
       all_cut [] h = absurd h
-      all_cut (before ∷ cuts) h = after_lex preamble ss before cuts split h.0 h.1
+      all_cut (before ∷ cuts) h = after_lex _ ss before cuts split h.0 h.1
 
   pub read_or_fails : Either
   read_or_fails = elim split_or_bad [

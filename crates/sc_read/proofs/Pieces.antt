@@ -50,7 +50,7 @@ find_more p from n rest false e = elim rest [
 
 pub find : (p : ℕ → Bool) (from n : ℕ) → ((at : ℕ) × IsFirst p from (from + n) at) ⊎ HoldsNot p from (from + n)
 find p from zero = inr (λ at low high h. omega arith)
-find p from (suc n) = find_more p from n (find p (from + 1) n) (p from) refl
+find p from (suc n) = find_more p from n (find p (from + 1) n) _ refl
 
 -- the last place up to n at which a test holds
 record IsLast (p : ℕ → Bool) (n at : ℕ) : Type 0 where
@@ -93,7 +93,7 @@ last_more p n rest false e = elim rest [
 
 last_of : (p : ℕ → Bool) (n : ℕ) → FoundLast p n
 last_of p zero = last_zero p (p 0) refl
-last_of p (suc n) = last_more p n (last_of p n) (p (suc n)) refl
+last_of p (suc n) = last_more p n (last_of p n) _ refl
 
 -- a comment ends inside the text
 ends_within : (text : List ℕ) (at : ℕ) → IsTrue (ends_comment text at) → at < length text
@@ -152,7 +152,7 @@ module _ (directives : Bool) (text : List ℕ) where
   module _ (len : ℕ) (l : IsLast (spells text) (length text) len) (kind : TokenKind)
       (is : kind_of (take len text) ≡ Some kind) where
     longest : (longer : ℕ) → len < longer → longer ≤ length text → kind_of (take longer text) ≡ None
-    longest longer low high = none_of (kind_of (take longer text)) (l.last longer low high)
+    longest longer low high = none_of _ (l.last longer low high)
 
     same_token : (other : TokenKind) (n : ℕ) → IsToken directives text other n → IsToken directives text kind len
     same_token other n t =
@@ -192,27 +192,25 @@ module _ (directives : Bool) (text : List ℕ) where
         (IsTrue (is_directive kind) → IsTrue directives) → (b : Bool) → begins_block_comment text ≡ b →
         ATokenHere directives text ⊎ NoTokenHere directives text
     no_block apart allowed true e = not_then (λ t. t.no_block_comment e)
-    no_block apart allowed false e = no_line apart allowed (λ h. false≢true (sym e ∙ h)) (begins_line_comment text) refl
+    no_block apart allowed false e = no_line apart allowed (λ h. false≢true (sym e ∙ h)) _ refl
 
     allowing : (len < length text → IsTrue (may_follow kind (slice_index text len))) → (b : Bool) → directives ≡ b →
         (d : Bool) → is_directive kind ≡ d → ATokenHere directives text ⊎ NoTokenHere directives text
-    allowing apart true e d q = no_block apart (λ h. e) (begins_block_comment text) refl
+    allowing apart true e d q = no_block apart (λ h. e) _ refl
     allowing apart false e true q = not_then (λ t. false≢true (sym e ∙ t.allowed q))
-    allowing apart false e false q = no_block apart (λ h. absurd (false≢true (sym q ∙ h)))
-        (begins_block_comment text) refl
+    allowing apart false e false q = no_block apart (λ h. absurd (false≢true (sym q ∙ h))) _ refl
 
     standing : (b : Bool) → may_follow kind (slice_index text len) ≡ b →
         ATokenHere directives text ⊎ NoTokenHere directives text
-    standing true e = allowing (λ h. e) directives refl (is_directive kind) refl
+    standing true e = allowing (λ h. e) _ refl _ refl
     standing false e =
         ⊎_elim (λ less. not_then (λ t. false≢true (sym e ∙ t.apart less)))
-        (λ le. allowing (λ h. absurd (omega arith)) directives refl (is_directive kind) refl)
-        (cases_lt len (length text))
+        (λ le. allowing (λ h. absurd (omega arith)) _ refl _ refl) (cases_lt len (length text))
 
   decide_token : ATokenHere directives text ⊎ NoTokenHere directives text
   decide_token = elim (last_of (spells text) (length text)) [
-    | inl f ↦ let s = some_of (kind_of (take f.0 text)) f.1.holds in
-        standing f.0 f.1 s.0 s.1 (may_follow s.0 (slice_index text f.0)) refl
+    | inl f ↦ let s = some_of (kind_of _) f.1.holds in
+        standing f.0 f.1 s.0 s.1 _ refl
     | inr nowhere ↦ inr (λ kind len t. nowhere len t.within (ap is_some t.spelled))
   ]
 
@@ -252,10 +250,10 @@ module _ (bytes : List ℕ) where
       ((next : ℕ) → next ≤ length bytes → length bytes ≤ next + fuel → Ways next) → Ways at
   ways_here fuel at more high next = elim (decide_gap (drop at bytes)) [
     | inl g ↦ behind_gap at g.0 g.1 (let fits = gap_fits g.1 in let long = length-drop at bytes in
-        next (at + g.0) (omega arith) (omega arith))
-    | inr no_gap ↦ elim (decide_token (allows_directive bytes at) (drop at bytes)) [
+        next _ (omega arith) (omega arith))
+    | inr no_gap ↦ elim (decide_token _ _) [
       | inl t ↦ behind_token at t.0 t.1 t.2 (let some = token_positive t.1 t.2 in let within = t.2.within in
-          let long = length-drop at bytes in next (at + t.1) (omega arith) (omega arith))
+          let long = length-drop at bytes in next _ (omega arith) (omega arith))
       | inr no_token ↦ inr (record {
         to = at;
         tokens = [];

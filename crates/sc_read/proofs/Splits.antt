@@ -1,8 +1,8 @@
 -- A text is split in one way.
-use Rattle.sc_read.proofs.Common.{AreSections, IsBadHeading, IsSection, IsSplit, IsTrue, List, None, Part, Section, []}
-use Rattle.sc_read.proofs.Common.{and_parts, ap, ap₂, arith, begins_heading, begins_line, cases_lt, drop, is_heading}
-use Rattle.sc_read.proofs.Common.{length, length-drop, line_at, map, name_at, none, none-some, part_of, parts_of, refl}
-use Rattle.sc_read.proofs.Common.{section, slice_range, subst, sym, take, ℕ, ⊎_elim, ◌+◌, ◌<◌, ◌∙◌, ◌∷◌, ◌≡◌, ◌≤◌}
+use Rattle.sc_read.proofs.Common.{AreSections, IsBadHeading, IsSection, IsSplit, IsTrue, List, None, Section}
+use Rattle.sc_read.proofs.Common.{ap, ap₂, arith, cases_lt, is_heading}
+use Rattle.sc_read.proofs.Common.{length, map, name_at, none, none-some, part_of, refl}
+use Rattle.sc_read.proofs.Common.{section, slice_range, subst, sym, take, ℕ, ⊎_elim, ◌<◌, ◌∙◌, ◌∷◌, ◌≡◌, ◌≤◌}
 use Rattle.sc_lex.proofs.Splits.{heading_within, sections_rise}
 
 begins : {text : List ℕ} {at end : ℕ} {ss : List Section} → AreSections text at end ss → at < end →
@@ -30,23 +30,20 @@ same_sections none (section first g others) same e e' = absurd (omega (arith, g.
 same_sections (section first g others) none same e e' = absurd (omega (arith, g.within, sections_rise others))
 same_sections {text} (section first g others) (section first' g' others') same e e' =
     let next = same_end g g' same others others' e e' in
-    let starts : first.start ≡ first'.start = g.start ∙ same ∙ sym g'.start in
-    let bytes : first.bytes.now ≡ first'.bytes.now = g.bytes ∙ ap₂ (λ a b. slice_range text a b) same next ∙
-    sym g'.bytes in
-    let part : part_of first ≡ part_of first' = ap₂ (λ a b. record { start = a; bytes = b }) starts bytes in
+    let starts = g.start ∙ same ∙ sym g'.start in
+    let bytes = g.bytes ∙ ap₂ (λ a b. slice_range text a b) same next ∙ sym g'.bytes in
+    let part = ap₂ (λ a b. record { start = a; bytes = b }) starts bytes in
     ap₂ (λ x xs. x ∷ xs) part (same_sections others others' next e e')
 
 -- no compartment line stands before the end of the preamble
 not_before : {text p q : List ℕ} {ss ss' : List Section} → IsSplit text p ss → IsSplit text q ss' →
     length p < length q → ⊥
-not_before {p = p} c d less = d.before (length p) (omega arith) less
-    (begins c.behind (omega (arith, sections_rise d.behind)))
+not_before {p = p} c d less = d.before _ (omega arith) less (begins c.behind (omega (arith, sections_rise d.behind)))
 
 pub same_preamble : {text p q : List ℕ} {ss ss' : List Section} → IsSplit text p ss → IsSplit text q ss' → p ≡ q
 same_preamble {text} {p} {q} c d =
-    let long : length p ≡ length q = ⊎_elim (λ less. absurd (not_before c d less))
-    (λ le. ⊎_elim (λ less. absurd (not_before d c less)) (λ ge. omega arith) (cases_lt (length q) (length p)))
-    (cases_lt (length p) (length q)) in
+    let long = ⊎_elim (λ less. absurd (not_before c d less))
+    (λ le. ⊎_elim (λ less. absurd (not_before d c less)) (λ ge. omega arith) (cases_lt _ _)) (cases_lt _ _) in
     c.front ∙ ap (λ n. take n text) long ∙ sym d.front
 
 pub same_parts : {text p q : List ℕ} {ss ss' : List Section} → IsSplit text p ss → IsSplit text q ss' →

@@ -4,7 +4,7 @@ use Rattle.sc_read.proofs.Common.{First, HasTokens, HasTree, IfOk, IsCut, IsCutI
 use Rattle.sc_read.proofs.Common.{IsParsed, IsRead, IsSplit, IsTreeOf, IsUncut, IsUnread, List, None, Ok, Part}
 use Rattle.sc_read.proofs.Common.{PassesLex, Reads, Refusal, RefusesBytes, RefusesHeading, RefusesTokens, Result}
 use Rattle.sc_read.proofs.Common.{Section, SectionTree, Some, Token, [], and_parts, ap, arith, bad_heading}
-use Rattle.sc_read.proofs.Common.{begins_heading, begins_line, block_comment, codes, drop, false, false≢true}
+use Rattle.sc_read.proofs.Common.{begins_line, block_comment, codes, drop, false, false≢true}
 use Rattle.sc_read.proofs.Common.{front_byte, gap, get_or, get_or-take, here, in_preamble, in_section, is_white_space}
 use Rattle.sc_read.proofs.Common.{later, length, length-drop, length-take-le, lexemes_of, line_after, line_at}
 use Rattle.sc_read.proofs.Common.{line_comment, map, newlines, none, none-some, nothing, part_of, refl, section}
@@ -39,13 +39,12 @@ pub in_text : {text : List ℕ} {at end : ℕ} {ss : List Section} → AreSectio
     AllByRecursion (InText text) ss
 in_text none = tt
 in_text {text} {at} (section {next = next} first g others) =
-    let begins = (and_parts (begins_line text at) (begins_heading (drop at text)) g.heading).1 in
+    let begins = (and_parts (begins_line text at) _ g.heading).1 in
     let sign = front_byte (drop at text) (codes "#pragma compartment ") 0 begins (omega arith) in
     let long = length-drop at text in
     let within = g.within in
     let fits : next - at ≤ length (drop at text) = omega arith in
-    let wide : length (take (next - at) (drop at text)) ≡ next - at = length-take-le (next - at)
-    (drop at text) fits in (
+    let wide = length-take-le _ _ fits in (
       record {
         line = g.line ∙ ap (λ k. line_at text k) (sym g.start);
         first = ap (λ bytes. slice_index bytes 0) g.bytes ∙ get_or-take (next - at) (drop at text) 0 0 (omega arith) ∙
@@ -111,7 +110,7 @@ uncut_at text part line refusal same r = record {
 first_uncut : (text : List ℕ) (refusal : Refusal) {ss : List Section} → AllByRecursion (InText text) ss →
     First IsCuttable (λ s. RefusesBytes s.bytes.now s.line refusal) ss →
     First HasTokens (IsUncut text refusal.line) (map part_of ss)
-first_uncut text refusal i (here {x = s} bad) = here (uncut_at text (part_of s) s.line refusal i.0.line bad)
+first_uncut text refusal i (here {x = s} bad) = here (uncut_at text _ s.line refusal i.0.line bad)
 first_uncut text refusal i (later good f) = later good (first_uncut text refusal i.1 f)
 
 unread_at : (text : List ℕ) (line : ℕ) (s : Section) → InText text s → RefusesTokens line s →
@@ -121,7 +120,7 @@ unread_at text line s i r = record {
   cut = r.cut;
   treeless = λ tree p. r.treeless tree (subst (λ l. IsParsed l (lexemes_of s.bytes.now r.tokens) tree) (sym i.line) p);
   in_line = subst (λ l. Any (λ token. line ≡ line_after l (token.line - 1)) r.tokens) i.line
-      (r.in_line (has_token text s r.tokens i r.cut));
+      (r.in_line (has_token text s _ i r.cut));
 }
 
 first_unread : (text : List ℕ) (line : ℕ) {ss : List Section} → AllByRecursion (InText text) ss →
@@ -167,26 +166,25 @@ module _ (text preamble : List ℕ) (ss : List Section) (divided : IsSplit text 
 
   pub preamble_uncut : (refusal : Refusal) → RefusesBytes preamble 1 refusal → Fails text refusal.phase refusal.line
   preamble_uncut refusal r =
-      fails_lex refusal r.phase (uncut preamble ss divided
+      fails_lex refusal r.phase (uncut _ ss divided
       (here (uncut_at text (record { start = 0; bytes = preamble }) 1 refusal refl r)))
 
   pub section_uncut : (before : List Token) (refusal : Refusal) → IsCut preamble before →
       First IsCuttable (λ s. RefusesBytes s.bytes.now s.line refusal) ss → refusal.phase ≡ phase.Lex →
       Fails text refusal.phase refusal.line
   section_uncut before refusal cut f is = fails_lex refusal is
-      (uncut preamble ss divided (later (before, cut) (first_uncut text refusal (in_text divided.behind) f)))
+      (uncut _ ss divided (later (before, cut) (first_uncut text refusal (in_text divided.behind) f)))
 
   pub preamble_spells : (first : Token) (more : List Token) (cuts : List (List Token)) → IsCut preamble (first ∷ more) →
       AllZip IsCutInto ss cuts → FailsSyntax text first.line
-  preamble_spells first more cuts cut each = in_preamble first more (map part_of ss)
-      (passes (first ∷ more) cuts cut each) refl
+  preamble_spells first more cuts cut each = in_preamble first more (map part_of ss) (passes _ cuts cut each) refl
 
   pub section_unread : (cuts : List (List Token)) (refusal : Refusal) → IsCut preamble [] → AllZip IsCutInto ss cuts →
       First IsParsable (RefusesTokens refusal.line) ss → refusal.phase ≡ phase.Syntax →
       Fails text refusal.phase refusal.line
   section_unread cuts refusal cut each f is =
       fails_syntax refusal is (in_section (map part_of ss) (passes [] cuts cut each)
-      (first_unread text refusal.line (in_text divided.behind) f))
+      (first_unread text _ (in_text divided.behind) f))
 
 -- one more section is good
 pub more_sections : {B : Type 0} (R : Section → B → Type 0) (ss : List Section) (ys : List B) (at : ℕ) (s : Section)
@@ -194,17 +192,17 @@ pub more_sections : {B : Type 0} (R : Section → B → Type 0) (ss : List Secti
     AllZip R (take (at + 1) ss) (ys ++ y ∷ [])
 more_sections R ss ys at s y low is h r =
     subst (λ xs. AllZip R xs (ys ++ y ∷ [])) (ap (λ x. take at ss ++ x ∷ []) is ∙ sym (take_more ss at s low))
-    (zip_push R (take at ss) ys s y h r)
+    (zip_push R _ ys s y h r)
 
 -- behind good sections this one is the first bad one
 pub first_bad : {B : Type 0} {Good Bad : Section → Type 0} (R : Section → B → Type 0) →
     ((s : Section) (y : B) → R s y → Good s) → (ss : List Section) (ys : List B) (at : ℕ) (s : Section) →
     at < length ss → s ≡ get_or ss at s → AllZip R (take at ss) ys → Bad s → First Good Bad ss
 first_bad {Good = Good} {Bad = Bad} R good ss ys at s low is h bad =
-    let split : take at ss ++ s ∷ drop (at + 1) ss ≡ ss =
+    let split =
     ap (λ x. take at ss ++ x ∷ drop (at + 1) ss) is ∙ ap (λ xs. take at ss ++ xs) (sym (drop_more ss at s low)) ∙
     take-append-drop at ss in
-    subst (λ xs. First Good Bad xs) split (first_behind R good (take at ss) ys (s ∷ drop (at + 1) ss) h (here bad))
+    subst (λ xs. First Good Bad xs) split (first_behind R good _ ys _ h (here bad))
 
 -- as many of the one as of the other
 pub as_many : {A B : Type 0} (R : A → B → Type 0) (xs : List A) (ys : List B) → AllZip R xs ys → length xs ≡ length ys
@@ -226,8 +224,7 @@ zip_at R (a ∷ xs) (b ∷ ys) (suc at) x y h low few p q =
 -- as many of the one as of the other from a place on, and so in all
 pub as_many_from : {A B : Type 0} (R : A → B → Type 0) (xs : List A) (ys : List B) (at : ℕ) →
     AllZip R (drop at xs) (drop at ys) → at < length xs → at < length ys
-as_many_from R xs ys at h low =
-    omega (arith, length-drop at xs, length-drop at ys, as_many R (drop at xs) (drop at ys) h)
+as_many_from R xs ys at h low = omega (arith, length-drop at xs, length-drop at ys, as_many R _ _ h)
 
 -- what stands behind a place stays, whatever is put there
 pub zip_behind : {A B : Type 0} (R : A → B → Type 0) (xs : List A) (ys : List B) (at : ℕ) (z : B) →

@@ -1,8 +1,8 @@
 -- Bytes that are cut aren't refused.
-use Rattle.sc_read.proofs.Common.{Bool, Cuts, IsCut, IsGap, IsStuck, IsToken, List, Refusal, RefusesBytes, Some, Token}
-use Rattle.sc_read.proofs.Common.{TokenKind, [], allows_directive, arith, cases_lt, drop, gap, gap_fits, length}
-use Rattle.sc_read.proofs.Common.{length-drop, none-some, nothing, one_gap, refl, subst, sym, take, token}
-use Rattle.sc_read.proofs.Common.{token_positive, ℕ, ⊎_elim, ◌+◌, ◌<◌, ◌∙◌, ◌∷◌, ◌≡◌, ◌≤◌}
+use Rattle.sc_read.proofs.Common.{Bool, Cuts, IsCut, IsGap, IsStuck, IsToken, List, Refusal, RefusesBytes, Token}
+use Rattle.sc_read.proofs.Common.{TokenKind, allows_directive, arith, drop, gap, gap_fits, length}
+use Rattle.sc_read.proofs.Common.{length-drop, nothing, one_gap, refl, subst, sym, token}
+use Rattle.sc_read.proofs.Common.{token_positive, ℕ, ◌≡◌, ◌≤◌}
 use Rattle.sc_lex.proofs.Cuts.{gap_and_token, token_le}
 
 module _ (bytes : List ℕ) where
@@ -26,7 +26,7 @@ module _ (bytes : List ℕ) where
   apart nothing (token kind n t d) same s past = s.no_token kind n (subst (λ k. TokenAt k kind n) (sym same) t)
   apart {at} (gap n h c) nothing same s past = no_gap_behind at (omega arith) h
   apart {at} (gap n h c) (gap m g d) same s past =
-      let long : n ≡ m = one_gap h (subst (λ k. IsGap (drop k bytes) m) (sym same) g) in
+      let long = one_gap h (subst (λ k. IsGap (drop k bytes) m) (sym same) g) in
       apart c d (omega arith) s past
   apart {at} (gap n h c) (token kind m t d) same s past = gap_and_token h (subst (λ k. TokenAt k kind m) (sym same) t)
   apart {at} (token kind n t c) nothing same s past = no_token_behind n at (omega arith) t
@@ -34,8 +34,8 @@ module _ (bytes : List ℕ) where
       gap_and_token (subst (λ k. IsGap (drop k bytes) m) (sym same) g) t
   apart {at} (token kind n t c) (token other m u d) same s past =
       let v = subst (λ k. TokenAt k other m) (sym same) u in
-      let low : n ≤ m = token_le n m t v in
-      let high : m ≤ n = token_le m n v t in
+      let low = token_le n m t v in
+      let high = token_le m n v t in
       apart c d (omega arith) s past
 
   pub cut_refused : (line : ℕ) (refusal : Refusal) → RefusesBytes bytes line refusal → (tokens : List Token) →

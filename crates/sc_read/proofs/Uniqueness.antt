@@ -1,10 +1,10 @@
 -- A text is read or refused in one way.
-use Rattle.sc_read.proofs.Common.{AllZip, Fails, FailsLex, FailsSyntax, First, HasTokens, HasTree, IsBadHeading, IsCut}
+use Rattle.sc_read.proofs.Common.{AllZip, Fails, FailsLex, FailsSyntax, First, HasTokens, HasTree, IsCut}
 use Rattle.sc_read.proofs.Common.{IsParsed, IsRead, IsSplit, IsUncut, IsUnread, Lexeme, List, Part, PassesLex, Phase}
 use Rattle.sc_read.proofs.Common.{Reads, Refusal, RefusesBytes, RefusesHeading, Section, SectionTree, SpellsSection}
-use Rattle.sc_read.proofs.Common.{Token, [], ap, ap₂, arith, bad_heading, cases_lt, drop, here, in_preamble, in_section}
-use Rattle.sc_read.proofs.Common.{later, length, lexemes_of, line_at, map, part_of, parts_of, refl, subst, sym, take}
-use Rattle.sc_read.proofs.Common.{uncut, ℕ, ⊎_elim, ◌++◌, ◌+◌, ◌<◌, ◌∙◌, ◌∷◌, ◌≡◌, ◌≤◌}
+use Rattle.sc_read.proofs.Common.{Token, [], ap, ap₂, arith, bad_heading, cases_lt, here, in_preamble, in_section}
+use Rattle.sc_read.proofs.Common.{later, lexemes_of, line_at, parts_of, refl, subst, sym}
+use Rattle.sc_read.proofs.Common.{uncut, ℕ, ⊎_elim, ◌∙◌, ◌∷◌, ◌≡◌}
 use Rattle.sc_lex.specs.declared.refusal.Phase.TheVariants as phase
 use Rattle.sc_read.proofs.Stuck.{cut_refused}
 use Rattle.sc_read.proofs.Splits.{same_preamble, same_parts, split_good}
@@ -30,7 +30,7 @@ one_first same bad worse (later good f) (later fine g) = one_first same bad wors
 same_bad : {text : List ℕ} {refusal other : Refusal} → RefusesHeading text refusal → RefusesHeading text other →
     refusal.line ≡ other.line
 same_bad {text} r q =
-    let place : r.at ≡ q.at = ⊎_elim (λ less. absurd (q.first r.at less r.bad))
+    let place = ⊎_elim (λ less. absurd (q.first r.at less r.bad))
     (λ le. ⊎_elim (λ less. absurd (r.first q.at less q.bad)) (λ ge. omega arith) (cases_lt q.at r.at))
     (cases_lt r.at q.at) in
     r.line ∙ ap (λ at. line_at text at) place ∙ sym q.line
@@ -38,8 +38,8 @@ same_bad {text} r q =
 parts_agree : {text p q : List ℕ} {ss ss' : List Section} → IsSplit text p ss → IsSplit text q ss' →
     parts_of p ss ≡ parts_of q ss'
 parts_agree {p = p} {q = q} {ss = ss} {ss' = ss'} c d =
-    let front : p ≡ q = same_preamble c d in
-    let behind : map part_of ss ≡ map part_of ss' = same_parts c d in
+    let front = same_preamble c d in
+    let behind = same_parts c d in
     ap₂ (λ b parts. record { start = 0; bytes = b } ∷ parts) front behind
 
 -- a text that passes phase Lex doesn't fail it
@@ -62,18 +62,17 @@ module _ (one_cut : (bytes : List ℕ) (tokens others : List Token) → IsCut by
   preambles_agree : {text : List ℕ} {before more : List Token} {sections others : List Part} →
       PassesLex text before sections → PassesLex text more others → before ≡ more
   preambles_agree {before = before} {more = more} p q =
-      one_cut q.preamble before more (subst (λ b. IsCut b before) (same_preamble p.split q.split) p.cut) q.cut
+      one_cut _ before more (subst (λ b. IsCut b before) (same_preamble p.split q.split) p.cut) q.cut
 
   -- a section that is read isn't refused
   read_or_unread : (text : List ℕ) (line : ℕ) (section : Part) (tree : SectionTree) → IsRead text section tree →
       IsUnread text line section → ⊥
   read_or_unread text line section tree r u =
-      u.treeless tree (subst (λ tokens. IsParsed (line_at text section.start) (lexemes_of section.bytes tokens) tree)
-      (one_cut section.bytes r.tokens u.tokens r.cut u.cut) r.parsed)
+      u.treeless tree (subst (λ tokens. IsParsed _ (lexemes_of _ tokens) tree) (one_cut _ _ _ r.cut u.cut) r.parsed)
 
   pub read_or_refused : (text : List ℕ) (trees : List SectionTree) (which : Phase) (line : ℕ) → Reads text trees →
       Fails text which line → ⊥
-  read_or_refused text trees phase.Lex line r f = lexed_or_fails text [] r.sections line r.lexed f
+  read_or_refused text trees phase.Lex line r f = lexed_or_fails text [] _ line r.lexed f
   read_or_refused text trees phase.Syntax line r (in_preamble first more sections p e) = let same =
       preambles_agree r.lexed p in absurd (cc)
   read_or_refused text trees phase.Syntax line r (in_section sections p f) =
@@ -89,9 +88,8 @@ module _ (one_cut : (bytes : List ℕ) (tokens others : List Token) → IsCut by
     one_tree : (text : List ℕ) (section : Part) (x y : SectionTree) → IsRead text section x → IsRead text section y →
         x ≡ y
     one_tree text section x y r q =
-        let here = subst (λ tokens. IsParsed (line_at text section.start) (lexemes_of section.bytes tokens) x)
-        (one_cut section.bytes r.tokens q.tokens r.cut q.cut) r.parsed in
-        one_section (line_at text section.start) (lexemes_of section.bytes q.tokens) x y here.spelled q.parsed.spelled
+        let here = subst (λ tokens. IsParsed _ (lexemes_of _ tokens) x) (one_cut _ _ _ r.cut q.cut) r.parsed in
+        one_section (line_at text _) (lexemes_of _ _) x y here.spelled q.parsed.spelled
 
     one_list : (text : List ℕ) (sections : List Part) (xs ys : List SectionTree) → AllZip (IsRead text) sections xs →
         AllZip (IsRead text) sections ys → xs ≡ ys
@@ -101,14 +99,14 @@ module _ (one_cut : (bytes : List ℕ) (tokens others : List Token) → IsCut by
     one_list text (s ∷ sections) [] ys r q = absurd r
     one_list text (s ∷ sections) (x ∷ xs) [] r q = absurd q
     one_list text (s ∷ sections) (x ∷ xs) (y ∷ ys) r q =
-        let first : x ≡ y = one_tree text s x y r.0 q.0 in
+        let first = one_tree text s x y r.0 q.0 in
         let more : xs ≡ ys = one_list text sections xs ys r.1 q.1 in
         ap (λ z. z ∷ xs) first ∙ ap (λ zs. y ∷ zs) more
 
     pub one_reading : (text : List ℕ) (trees others : List SectionTree) → Reads text trees → Reads text others →
         trees ≡ others
     one_reading text trees others r q =
-        one_list text q.sections trees others (subst (λ parts. AllZip (IsRead text) parts trees)
+        one_list text _ trees others (subst (λ parts. AllZip (IsRead text) parts trees)
         (sections_agree r.lexed q.lexed) r.each) q.each
 
 module _ (one_refusal : (bytes : List ℕ) (line : ℕ) (refusal other : Refusal) → RefusesBytes bytes line refusal →
@@ -120,11 +118,8 @@ module _ (one_refusal : (bytes : List ℕ) (line : ℕ) (refusal other : Refusal
   one_lex_line text line second (uncut preamble sections split f) (bad_heading r h e) =
       absurd (split_good split h.at h.bad)
   one_lex_line text line second (uncut preamble sections split f) (uncut other others divided g) =
-      one_first (λ part b w. ap (λ r. r.line) (one_refusal part.bytes (line_at text part.start)
-      (record { phase = phase.Lex; line = line }) (record { phase = phase.Lex; line = second }) b w))
-      (λ part good b. cut_refused part.bytes (line_at text part.start)
-      (record { phase = phase.Lex; line = line }) b good.0 good.1)
-      (λ part good w. cut_refused part.bytes (line_at text part.start)
+      one_first (λ part b w. ap (λ r. r.line) (one_refusal _ _ _ _ b w)) (λ part good b. cut_refused _ _
+      _ b good.0 good.1) (λ part good w. cut_refused _ (line_at text _)
       (record { phase = phase.Lex; line = second }) w good.0 good.1)
       f (subst (λ parts. First HasTokens (IsUncut text second) parts) (parts_agree divided split) g)
 
