@@ -68,13 +68,13 @@ i_bits w opcode rd funct3 rs1 bits e ho hd hf h1 = (omega arith, omega arith, om
 pub i_fields : (w opcode rd funct3 rs1 : ℕ) (imm : ℤ) → w ≡ i_word opcode rd funct3 rs1 imm → opcode < 2 ^ 7 →
     IsReg rd → funct3 < 2 ^ 3 → IsReg rs1 → IsImmediate imm → IFields w opcode rd funct3 rs1 imm
 i_fields w opcode rd funct3 rs1 imm e ho hd hf h1 hi =
-    let parts = i_bits w opcode rd funct3 rs1 (residue (2 ^ 12) imm) e ho hd hf h1 in
+    let parts = i_bits w opcode rd funct3 rs1 _ e ho hd hf h1 in
     record {
       opcode_is = parts.0;
       rd_is = parts.1;
       funct3_is = parts.2;
       rs1_is = parts.3;
-      imm_is = signed-residue-12 imm (w / 2 ^ 20) hi parts.4;
+      imm_is = signed-residue-12 imm _ hi parts.4;
     }
 
 s_bits : (w opcode funct3 rs1 rs2 bits : ℕ) → w ≡ opcode + 2 ^ 7 *
@@ -86,13 +86,13 @@ s_bits w opcode funct3 rs1 rs2 bits e ho hf h1 h2 = (omega arith, omega arith, o
 pub s_fields : (w opcode funct3 rs1 rs2 : ℕ) (imm : ℤ) → w ≡ s_word opcode funct3 rs1 rs2 imm → opcode < 2 ^ 7 →
     funct3 < 2 ^ 3 → IsReg rs1 → IsReg rs2 → IsImmediate imm → SFields w opcode funct3 rs1 rs2 imm
 s_fields w opcode funct3 rs1 rs2 imm e ho hf h1 h2 hi =
-    let parts = s_bits w opcode funct3 rs1 rs2 (residue (2 ^ 12) imm) e ho hf h1 h2 in
+    let parts = s_bits w opcode funct3 rs1 rs2 _ e ho hf h1 h2 in
     record {
       opcode_is = parts.0;
       funct3_is = parts.1;
       rs1_is = parts.2;
       rs2_is = parts.3;
-      imm_is = signed-residue-12 imm (2 ^ 5 * (w / 2 ^ 25) + w / 2 ^ 7 % 2 ^ 5) hi parts.4;
+      imm_is = signed-residue-12 imm _ hi parts.4;
     }
 
 -- a number of 13 bits is made of its bits
@@ -175,8 +175,7 @@ i_whole w opcode funct3 bits ho h3 hb = omega arith
 
 pub i_joined : (w opcode funct3 : ℕ) → w < 2 ^ 32 → opcode_of w ≡ opcode → funct3_of w ≡ funct3 →
     w ≡ i_word opcode (rd_of w) funct3 (rs1_of w) (i_imm_of w)
-i_joined w opcode funct3 h ho h3 =
-    i_whole w opcode funct3 (residue (2 ^ 12) (i_imm_of w)) ho h3 (residue-signed-12 (w / 2 ^ 20) (omega arith))
+i_joined w opcode funct3 h ho h3 = i_whole w opcode funct3 _ ho h3 (residue-signed-12 _ (omega arith))
 
 s_whole : (w opcode funct3 bits : ℕ) → opcode_of w ≡ opcode → funct3_of w ≡ funct3 →
     bits ≡ 2 ^ 5 * (w / 2 ^ 25) + w / 2 ^ 7 % 2 ^ 5 →
@@ -186,9 +185,7 @@ s_whole w opcode funct3 bits ho h3 hb = omega arith
 
 pub s_joined : (w opcode funct3 : ℕ) → w < 2 ^ 32 → opcode_of w ≡ opcode → funct3_of w ≡ funct3 →
     w ≡ s_word opcode funct3 (rs1_of w) (rs2_of w) (s_imm_of w)
-s_joined w opcode funct3 h ho h3 =
-    s_whole w opcode funct3 (residue (2 ^ 12) (s_imm_of w)) ho h3
-    (residue-signed-12 (2 ^ 5 * (w / 2 ^ 25) + w / 2 ^ 7 % 2 ^ 5) (omega arith))
+s_joined w opcode funct3 h ho h3 = s_whole w opcode funct3 _ ho h3 (residue-signed-12 _ (omega arith))
 
 -- the bits of a B form's immediate are those of the word
 b_parts : (b11 b4 b10 b12 bits : ℕ) → b11 < 2 → b4 < 2 ^ 4 → b10 < 2 ^ 6 →
@@ -205,13 +202,10 @@ b_whole w opcode funct3 b11 b4 b10 b12 ho h3 h11 h4 h10 h12 = omega arith
 pub b_joined : (w opcode funct3 : ℕ) → w < 2 ^ 32 → opcode_of w ≡ opcode → funct3_of w ≡ funct3 →
     w ≡ b_word opcode funct3 (rs1_of w) (rs2_of w) (b_imm_of w)
 b_joined w opcode funct3 h ho h3 =
-    let bits = residue (2 ^ 13) (b_imm_of w) in
-    let same = residue-signed-13 (2 ^ 12 * (w / 2 ^ 31) + 2 ^ 11 * (w / 2 ^ 7 % 2) + 2 ^ 5 * (w / 2 ^ 25 % 2 ^ 6) + 2 *
-    (w / 2 ^ 8 % 2 ^ 4)) (omega arith) in
-    let parts = b_parts (w / 2 ^ 7 % 2) (w / 2 ^ 8 % 2 ^ 4) (w / 2 ^ 25 % 2 ^ 6) (w / 2 ^ 31) bits (omega arith)
-    (omega arith) (omega arith) same in
-    b_whole w opcode funct3 (bits / 2 ^ 11 % 2) (bits / 2 % 2 ^ 4) (bits / 2 ^ 5 % 2 ^ 6)
-    (bits / 2 ^ 12) ho h3 parts.0 parts.1 parts.2 parts.3
+    let bits = residue _ _ in
+    let same = residue-signed-13 _ (omega arith) in
+    let parts = b_parts _ _ _ _ bits (omega arith) (omega arith) (omega arith) same in
+    b_whole w opcode funct3 _ _ _ _ ho h3 parts.0 parts.1 parts.2 parts.3
 
 pub u_joined : (w opcode : ℕ) → opcode_of w ≡ opcode → w ≡ u_word opcode (rd_of w) (u_imm_of w)
 u_joined w opcode ho = omega arith
@@ -228,10 +222,7 @@ j_whole w opcode b19 b11 b10 b20 ho h19 h11 h10 h20 = omega arith
 
 pub j_joined : (w opcode : ℕ) → w < 2 ^ 32 → opcode_of w ≡ opcode → w ≡ j_word opcode (rd_of w) (j_imm_of w)
 j_joined w opcode h ho =
-    let bits = residue (2 ^ 21) (j_imm_of w) in
-    let same = residue-signed-21 (2 ^ 20 * (w / 2 ^ 31) + 2 ^ 12 * (w / 2 ^ 12 % 2 ^ 8) + 2 ^ 11 *
-    (w / 2 ^ 20 % 2) + 2 * (w / 2 ^ 21 % 2 ^ 10)) (omega arith) in
-    let parts = j_parts (w / 2 ^ 12 % 2 ^ 8) (w / 2 ^ 20 % 2) (w / 2 ^ 21 % 2 ^ 10) (w / 2 ^ 31) bits (omega arith)
-    (omega arith) (omega arith) same in
-    j_whole w opcode (bits / 2 ^ 12 % 2 ^ 8) (bits / 2 ^ 11 % 2) (bits / 2 % 2 ^ 10)
-    (bits / 2 ^ 20) ho parts.0 parts.1 parts.2 parts.3
+    let bits = residue _ _ in
+    let same = residue-signed-21 _ (omega arith) in
+    let parts = j_parts _ _ _ _ bits (omega arith) (omega arith) (omega arith) same in
+    j_whole w opcode _ _ _ _ ho parts.0 parts.1 parts.2 parts.3

@@ -12,56 +12,50 @@ pub signed-high : (half n : ℕ) → half ≤ n → signed half n ≡ negsuc (2 
 signed-high half n h = rw (le-ltb n half h) refl
 
 pub residue-signed-12 : (n : ℕ) → n < 2 ^ 12 → residue (2 ^ 12) (signed (2 ^ 11) n) ≡ n
-residue-signed-12 n h = ⊎_elim
-    (λ low. rw (signed-low (2 ^ 11) n low) (omega arith))
-    (λ high. rw (signed-high (2 ^ 11) n high) (omega arith))
-    (cases_lt n (2 ^ 11))
+residue-signed-12 n h = ⊎_elim (λ low. rw (signed-low (2 ^ 11) n low) (omega arith))
+    (λ high. rw (signed-high (2 ^ 11) n high) (omega arith)) (cases_lt n _)
 
 pub residue-signed-13 : (n : ℕ) → n < 2 ^ 13 → residue (2 ^ 13) (signed (2 ^ 12) n) ≡ n
-residue-signed-13 n h = ⊎_elim
-    (λ low. rw (signed-low (2 ^ 12) n low) (omega arith))
-    (λ high. rw (signed-high (2 ^ 12) n high) (omega arith))
-    (cases_lt n (2 ^ 12))
+residue-signed-13 n h = ⊎_elim (λ low. rw (signed-low (2 ^ 12) n low) (omega arith))
+    (λ high. rw (signed-high (2 ^ 12) n high) (omega arith)) (cases_lt n _)
 
 pub residue-signed-21 : (n : ℕ) → n < 2 ^ 21 → residue (2 ^ 21) (signed (2 ^ 20) n) ≡ n
-residue-signed-21 n h = ⊎_elim
-    (λ low. rw (signed-low (2 ^ 20) n low) (omega arith))
-    (λ high. rw (signed-high (2 ^ 20) n high) (omega arith))
-    (cases_lt n (2 ^ 20))
+residue-signed-21 n h = ⊎_elim (λ low. rw (signed-low (2 ^ 20) n low) (omega arith))
+    (λ high. rw (signed-high (2 ^ 20) n high) (omega arith)) (cases_lt n _)
 
 -- a signed number that fits is the one with its residue
 pub signed-residue-12 : (z : ℤ) (n : ℕ) → IsImmediate z → n ≡ residue (2 ^ 12) z → signed (2 ^ 11) n ≡ z
 signed-residue-12 (pos a) n h e =
     let below : a < 2 ^ 11 = omega (arith, ints, h.greatest) in
     let same : n ≡ a = omega arith in
-    rw same (signed-low (2 ^ 11) a below)
+    rw same (signed-low _ a below)
 signed-residue-12 (negsuc a) n h e =
     let below : a < 2 ^ 11 = omega (arith, ints, h.least) in
     let high : 2 ^ 11 ≤ n = omega arith in
     let same : 2 * 2 ^ 11 - suc n ≡ a = omega arith in
-    signed-high (2 ^ 11) n high ∙ ap negsuc same
+    signed-high _ n high ∙ ap negsuc same
 
 pub signed-residue-13 : (z : ℤ) (n : ℕ) → IsBranchOffset z → n ≡ residue (2 ^ 13) z → signed (2 ^ 12) n ≡ z
 signed-residue-13 (pos a) n h e =
     let below : a < 2 ^ 12 = omega (arith, ints, h.greatest) in
     let same : n ≡ a = omega arith in
-    rw same (signed-low (2 ^ 12) a below)
+    rw same (signed-low _ a below)
 signed-residue-13 (negsuc a) n h e =
     let below : a < 2 ^ 12 = omega (arith, ints, h.least) in
     let high : 2 ^ 12 ≤ n = omega arith in
     let same : 2 * 2 ^ 12 - suc n ≡ a = omega arith in
-    signed-high (2 ^ 12) n high ∙ ap negsuc same
+    signed-high _ n high ∙ ap negsuc same
 
 pub signed-residue-21 : (z : ℤ) (n : ℕ) → IsJumpOffset z → n ≡ residue (2 ^ 21) z → signed (2 ^ 20) n ≡ z
 signed-residue-21 (pos a) n h e =
     let below : a < 2 ^ 20 = omega (arith, ints, h.greatest) in
     let same : n ≡ a = omega arith in
-    rw same (signed-low (2 ^ 20) a below)
+    rw same (signed-low _ a below)
 signed-residue-21 (negsuc a) n h e =
     let below : a < 2 ^ 20 = omega (arith, ints, h.least) in
     let high : 2 ^ 20 ≤ n = omega arith in
     let same : 2 * 2 ^ 20 - suc n ≡ a = omega arith in
-    signed-high (2 ^ 20) n high ∙ ap negsuc same
+    signed-high _ n high ∙ ap negsuc same
 
 -- an even offset has an even residue
 pub residue-even-13 : (z : ℤ) → residue 2 z ≡ 0 → residue (2 ^ 13) z % 2 ≡ 0
@@ -90,32 +84,26 @@ pub IsImmediate-signed : (n : ℕ) → n < 2 ^ 12 → IsImmediate (signed (2 ^ 1
 IsImmediate-signed n h = ⊎_elim
     (λ low. rw (signed-low (2 ^ 11) n low) (record { least = omega (arith, ints); greatest = omega (arith, ints) }))
     (λ high. rw (signed-high (2 ^ 11) n high) (record { least = omega (arith, ints); greatest = omega (arith, ints) }))
-    (cases_lt n (2 ^ 11))
+    (cases_lt n _)
 
 pub IsBranchOffset-signed : (n : ℕ) → n < 2 ^ 13 → n % 2 ≡ 0 → IsBranchOffset (signed (2 ^ 12) n)
-IsBranchOffset-signed n h e = ⊎_elim
-    (λ low. rw (signed-low (2 ^ 12) n low) (record {
-      least = omega (arith, ints);
-      greatest = omega (arith, ints);
-      even = omega arith;
-    }))
-    (λ high. rw (signed-high (2 ^ 12) n high) (record {
-      least = omega (arith, ints);
-      greatest = omega (arith, ints);
-      even = omega arith;
-    }))
-    (cases_lt n (2 ^ 12))
+IsBranchOffset-signed n h e = ⊎_elim (λ low. rw (signed-low (2 ^ 12) n low) (record {
+  least = omega (arith, ints);
+  greatest = omega (arith, ints);
+  even = omega arith;
+})) (λ high. rw (signed-high (2 ^ 12) n high) (record {
+  least = omega (arith, ints);
+  greatest = omega (arith, ints);
+  even = omega arith;
+})) (cases_lt n _)
 
 pub IsJumpOffset-signed : (n : ℕ) → n < 2 ^ 21 → n % 2 ≡ 0 → IsJumpOffset (signed (2 ^ 20) n)
-IsJumpOffset-signed n h e = ⊎_elim
-    (λ low. rw (signed-low (2 ^ 20) n low) (record {
-      least = omega (arith, ints);
-      greatest = omega (arith, ints);
-      even = omega arith;
-    }))
-    (λ high. rw (signed-high (2 ^ 20) n high) (record {
-      least = omega (arith, ints);
-      greatest = omega (arith, ints);
-      even = omega arith;
-    }))
-    (cases_lt n (2 ^ 20))
+IsJumpOffset-signed n h e = ⊎_elim (λ low. rw (signed-low (2 ^ 20) n low) (record {
+  least = omega (arith, ints);
+  greatest = omega (arith, ints);
+  even = omega arith;
+})) (λ high. rw (signed-high (2 ^ 20) n high) (record {
+  least = omega (arith, ints);
+  greatest = omega (arith, ints);
+  even = omega arith;
+})) (cases_lt n _)

@@ -1,9 +1,9 @@
 -- Words and instructions stand for one another.
 use Rattle.rv_code.proofs.Common.{Auipc, Branch, Ebreak, Ecall, Fence, HasWord, IfSome, Instr, IsInstr, IsNone, Jal}
 use Rattle.rv_code.proofs.Common.{Jalr, Load, Lui, None, Op, OpImm, Option, Shift, Some, Store, Upper, arith}
-use Rattle.rv_code.proofs.Common.{branch_funct3, decoded, false, fence_funct3, fence_opcode, jalr_funct3, jalr_opcode}
-use Rattle.rv_code.proofs.Common.{lit<, load_funct3, op_funct3, op_funct7, op_imm_funct3, refl, residue, shift_funct3}
-use Rattle.rv_code.proofs.Common.{shift_funct7, store_funct3, sym, true, word_of, ℕ, ◌%◌, ◌*◌, ◌+◌, ◌/◌, ◌<◌, ◌^◌, ◌∙◌}
+use Rattle.rv_code.proofs.Common.{decoded, fence_funct3, jalr_funct3}
+use Rattle.rv_code.proofs.Common.{lit<, refl, residue}
+use Rattle.rv_code.proofs.Common.{sym, word_of, ℕ, ◌%◌, ◌*◌, ◌+◌, ◌/◌, ◌<◌, ◌^◌, ◌∙◌}
 use Rattle.rv_code.proofs.Common.{◌≡◌}
 use Rattle.rv_code.proofs.Numbers.{residue-below-12, residue-below-13, residue-below-21}
 use Rattle.rv_code.proofs.Ops.{branch_funct3-below, load_funct3-below, store_funct3-below, op_imm_funct3-below}
@@ -18,7 +18,7 @@ HasWord-decoded w i h e = (decoded_has w h).each i e
 -- a word has one instruction at most
 pub one_instr : (w : ℕ) (i j : Instr) → HasWord i w → HasWord j w → i ≡ j
 one_instr w i j h k =
-    let q : ◌≡◌ {A = Option Instr} (Some i) (Some j) = sym (decoded-word i w h) ∙ decoded-word j w k in
+    let q = sym (decoded-word i w h) ∙ decoded-word j w k in
     cc
 
 -- the word of an instruction, by itself
@@ -26,7 +26,7 @@ pub HasWord-own : (i : Instr) → IsInstr i → HasWord i (word_of i)
 HasWord-own i h = record { instr = h; word = refl }
 
 pub decoded-word_of : (i : Instr) → IsInstr i → decoded (word_of i) ≡ Some i
-decoded-word_of i h = decoded-word i (word_of i) (HasWord-own i h)
+decoded-word_of i h = decoded-word i _ (HasWord-own i h)
 
 -- the same for an answer that is what the word is decoded to
 pub found : (w : ℕ) (o : Option Instr) → w < 2 ^ 32 → o ≡ decoded w → IfSome o (λ i. HasWord i w)
@@ -34,8 +34,8 @@ found w None h e = tt
 found w (Some i) h e = HasWord-decoded w i h (sym e)
 
 pub not_found : (w : ℕ) (o : Option Instr) → o ≡ decoded w → IsNone o → (i : Instr) → HasWord i w → ⊥
-not_found w None e n i h = let q : ◌≡◌ {A = Option Instr} None (Some i) = e ∙ decoded-word i w h in cc q
-not_found w (Some j) e n i h = (let q : true ≡ false = n in cc q)
+not_found w None e n i h = let q = e ∙ decoded-word i w h in cc q
+not_found w (Some j) e n i h = (let q = n in cc q)
 
 -- a word has 32 bits
 
@@ -71,22 +71,22 @@ pub word-below : (i : Instr) (w : ℕ) → HasWord i w → w < 2 ^ 32
 unfolding word_of
 word-below (Upper Lui rd imm) w h = u_below w _ rd imm h.word (lit< tt) h.instr.0 h.instr.1.word h.instr.1.low
 word-below (Upper Auipc rd imm) w h = u_below w _ rd imm h.word (lit< tt) h.instr.0 h.instr.1.word h.instr.1.low
-word-below (Jal rd imm) w h = j_below w _ rd (residue (2 ^ 21) imm) h.word (lit< tt) h.instr.0 (residue-below-21 imm)
-word-below (Jalr rd rs1 imm) w h = i_below w jalr_opcode rd jalr_funct3 rs1 (residue (2 ^ 12) imm) h.word
+word-below (Jal rd imm) w h = j_below w _ rd _ h.word (lit< tt) h.instr.0 (residue-below-21 imm)
+word-below (Jalr rd rs1 imm) w h = i_below w _ rd jalr_funct3 rs1 (residue _ imm) h.word
     (lit< tt) h.instr.0 (lit< tt) h.instr.1 (residue-below-12 imm)
-word-below (Branch op rs1 rs2 imm) w h = b_below w _ (branch_funct3 op) rs1 rs2 (residue (2 ^ 13) imm) h.word (lit< tt)
+word-below (Branch op rs1 rs2 imm) w h = b_below w _ _ rs1 rs2 _ h.word (lit< tt)
     (branch_funct3-below op) h.instr.0 h.instr.1 (residue-below-13 imm)
-word-below (Load op rd rs1 imm) w h = i_below w _ rd (load_funct3 op) rs1 (residue (2 ^ 12) imm) h.word
+word-below (Load op rd rs1 imm) w h = i_below w _ rd _ rs1 _ h.word
     (lit< tt) h.instr.0 (load_funct3-below op) h.instr.1 (residue-below-12 imm)
-word-below (Store op rs1 rs2 imm) w h = s_below w _ (store_funct3 op) rs1 rs2 (residue (2 ^ 12) imm) h.word (lit< tt)
+word-below (Store op rs1 rs2 imm) w h = s_below w _ _ rs1 rs2 _ h.word (lit< tt)
     (store_funct3-below op) h.instr.0 h.instr.1 (residue-below-12 imm)
-word-below (OpImm op rd rs1 imm) w h = i_below w _ rd (op_imm_funct3 op) rs1 (residue (2 ^ 12) imm) h.word
+word-below (OpImm op rd rs1 imm) w h = i_below w _ rd _ rs1 _ h.word
     (lit< tt) h.instr.0 (op_imm_funct3-below op) h.instr.1 (residue-below-12 imm)
-word-below (Shift op rd rs1 amount) w h = r_below w _ rd (shift_funct3 op) rs1 amount (shift_funct7 op) h.word
+word-below (Shift op rd rs1 amount) w h = r_below w _ rd _ rs1 amount _ h.word
     (lit< tt) h.instr.0 (shift_funct3-below op) h.instr.1 h.instr.2 (shift_funct7-below op)
-word-below (Op op rd rs1 rs2) w h = r_below w _ rd (op_funct3 op) rs1 rs2 (op_funct7 op) h.word (lit< tt) h.instr.0
+word-below (Op op rd rs1 rs2) w h = r_below w _ rd _ rs1 rs2 _ h.word (lit< tt) h.instr.0
     (op_funct3-below op) h.instr.1 h.instr.2 (op_funct7-below op)
-word-below (Fence imm rs1 rd) w h = i_below w fence_opcode rd fence_funct3 rs1 (residue (2 ^ 12) imm) h.word
+word-below (Fence imm rs1 rd) w h = i_below w _ rd fence_funct3 rs1 (residue _ imm) h.word
     (lit< tt) h.instr.0 (lit< tt) h.instr.1 (residue-below-12 imm)
 word-below Ecall w h = rw h.word (lit< tt)
 word-below Ebreak w h = rw h.word (lit< tt)

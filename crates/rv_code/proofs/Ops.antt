@@ -1,6 +1,6 @@
 -- An operation is found by its own function codes, and what is found has those that were asked for.
 use Rattle.rv_code.proofs.Common.{Add, And, Beq, Bge, Bgeu, Blt, Bltu, Bne, Bool, BranchOp, Div, Divu, Lb, Lbu, Lh, Lhu}
-use Rattle.rv_code.proofs.Common.{List, LoadOp, Lw, Mul, Mulh, Mulhsu, Mulhu, None, OpImmOp, OpOp, Option, Or, Rem}
+use Rattle.rv_code.proofs.Common.{List, LoadOp, Lw, Mul, Mulh, Mulhsu, Mulhu, None, OpImmOp, OpOp, Or, Rem}
 use Rattle.rv_code.proofs.Common.{Remu, Sb, Sh, ShiftOp, Sll, Slli, Slt, Sltu, Some, Sra, Srai, Srl, Srli, StoreOp, Sub}
 use Rattle.rv_code.proofs.Common.{Sw, Xor, [], and_parts, ap, branch_funct3, branch_op_of, branch_ops, cond, eqb-true}
 use Rattle.rv_code.proofs.Common.{false, find, lit<, load_funct3, load_op_of, load_ops, nat_eq, op_funct3, op_funct7}
@@ -11,14 +11,13 @@ use Rattle.rv_code.specs.declared.instr.OpImmOp.TheVariants.{Addi, Slti, Sltiu, 
 
 -- what a search finds passes its test
 find-passes : {A : Type 0} (p : A → Bool) (xs : List A) (x : A) → find p xs ≡ Some x → p x ≡ true
-find-passes {A} p [] x e = let q : ◌≡◌ {A = Option A} None (Some x) = e in cc q
+find-passes {A} p [] x e = let q = e in cc q
 find-passes {A} p (y ∷ ys) x e =
-    let at : (b : Bool) → p y ≡ b → cond b (Some y) (find p ys) ≡ Some x → p x ≡ true =
+    let at : (b : Bool) → p y ≡ b → cond b _ _ ≡ Some x → p x ≡ true =
     λ b. elim b as (λ v. p y ≡ v → cond v (Some y) (find p ys) ≡ Some x → p x ≡ true) [
-      | true ↦ (λ t f. let q : ◌≡◌ {A = Option A} (Some y) (Some x) = f in let s : y ≡ x = cc in ap p (sym s) ∙ t)
+      | true ↦ (λ t f. let q = f in let s : y ≡ x = cc in ap p (sym s) ∙ t)
       | false ↦ (λ t f. find-passes p ys x f)
-    ]
-    in at (p y) refl e
+    ] in at (p y) refl e
 
 pub branch_op_of-own : (op : BranchOp) → branch_op_of (branch_funct3 op) ≡ Some op
 unfolding branch_op_of
@@ -88,36 +87,34 @@ op_op_of-own Remu = refl
 
 pub branch_funct3_of : (n : ℕ) (op : BranchOp) → branch_op_of n ≡ Some op → n ≡ branch_funct3 op
 unfolding branch_op_of
-branch_funct3_of n op e = eqb-true n (branch_funct3 op)
-    (find-passes (λ op. nat_eq n (branch_funct3 op)) branch_ops op e)
+branch_funct3_of n op e = eqb-true n _ (find-passes (λ op. nat_eq n (branch_funct3 op)) branch_ops op e)
 
 pub load_funct3_of : (n : ℕ) (op : LoadOp) → load_op_of n ≡ Some op → n ≡ load_funct3 op
 unfolding load_op_of
-load_funct3_of n op e = eqb-true n (load_funct3 op) (find-passes (λ op. nat_eq n (load_funct3 op)) load_ops op e)
+load_funct3_of n op e = eqb-true n _ (find-passes (λ op. nat_eq n (load_funct3 op)) load_ops op e)
 
 pub store_funct3_of : (n : ℕ) (op : StoreOp) → store_op_of n ≡ Some op → n ≡ store_funct3 op
 unfolding store_op_of
-store_funct3_of n op e = eqb-true n (store_funct3 op) (find-passes (λ op. nat_eq n (store_funct3 op)) store_ops op e)
+store_funct3_of n op e = eqb-true n _ (find-passes (λ op. nat_eq n (store_funct3 op)) store_ops op e)
 
 pub op_imm_funct3_of : (n : ℕ) (op : OpImmOp) → op_imm_op_of n ≡ Some op → n ≡ op_imm_funct3 op
 unfolding op_imm_op_of
-op_imm_funct3_of n op e = eqb-true n (op_imm_funct3 op)
-    (find-passes (λ op. nat_eq n (op_imm_funct3 op)) op_imm_ops op e)
+op_imm_funct3_of n op e = eqb-true n _ (find-passes (λ op. nat_eq n (op_imm_funct3 op)) op_imm_ops op e)
 
 pub shift_functs_of : (m n : ℕ) (op : ShiftOp) → shift_op_of m n ≡ Some op →
     (m ≡ shift_funct7 op) × (n ≡ shift_funct3 op)
 unfolding shift_op_of
 shift_functs_of m n op e =
-    let passed = and_parts (nat_eq m (shift_funct7 op)) (nat_eq n (shift_funct3 op))
+    let passed = and_parts (nat_eq m _) (nat_eq n _)
     (find-passes (λ op. nat_eq m (shift_funct7 op) && nat_eq n (shift_funct3 op)) shift_ops op e) in
-    (eqb-true m (shift_funct7 op) passed.0, eqb-true n (shift_funct3 op) passed.1)
+    (eqb-true m _ passed.0, eqb-true n _ passed.1)
 
 pub op_functs_of : (m n : ℕ) (op : OpOp) → op_op_of m n ≡ Some op → (m ≡ op_funct7 op) × (n ≡ op_funct3 op)
 unfolding op_op_of
 op_functs_of m n op e =
-    let passed = and_parts (nat_eq m (op_funct7 op)) (nat_eq n (op_funct3 op))
+    let passed = and_parts (nat_eq m _) (nat_eq n _)
     (find-passes (λ op. nat_eq m (op_funct7 op) && nat_eq n (op_funct3 op)) op_ops op e) in
-    (eqb-true m (op_funct7 op) passed.0, eqb-true n (op_funct3 op) passed.1)
+    (eqb-true m _ passed.0, eqb-true n _ passed.1)
 
 -- function codes fit their fields
 

@@ -114,32 +114,24 @@ op_read w rd rs1 rs2 op f = decoded-op w f.opcode_is ∙
 -- the word of an instruction is decoded to that instruction
 pub decoded-word : (i : Instr) (w : ℕ) → HasWord i w → decoded w ≡ Some i
 unfolding word_of system_in decoded
-decoded-word (Upper Lui rd imm) w h = lui_read w rd imm
-    (u_fields w (upper_opcode Lui) rd imm h.word (lit< tt) h.instr.0 h.instr.1)
-decoded-word (Upper Auipc rd imm) w h = auipc_read w rd imm
-    (u_fields w (upper_opcode Auipc) rd imm h.word (lit< tt) h.instr.0 h.instr.1)
-decoded-word (Jal rd imm) w h = jal_read w rd imm (j_fields w jal_opcode rd imm h.word (lit< tt) h.instr.0 h.instr.1)
+decoded-word (Upper Lui rd imm) w h = lui_read w rd imm (u_fields w _ rd imm h.word (lit< tt) h.instr.0 h.instr.1)
+decoded-word (Upper Auipc rd imm) w h = auipc_read w rd imm (u_fields w _ rd imm h.word (lit< tt) h.instr.0 h.instr.1)
+decoded-word (Jal rd imm) w h = jal_read w rd imm (j_fields w _ rd imm h.word (lit< tt) h.instr.0 h.instr.1)
 decoded-word (Jalr rd rs1 imm) w h = jalr_read w rd rs1 imm
-    (i_fields w jalr_opcode rd jalr_funct3 rs1 imm h.word (lit< tt) h.instr.0 (lit< tt) h.instr.1 h.instr.2)
-decoded-word (Branch op rs1 rs2 imm) w h = branch_read w rs1 rs2 op imm
-    (b_fields w branch_opcode (branch_funct3 op) rs1 rs2 imm h.word (lit< tt)
+    (i_fields w _ rd _ rs1 imm h.word (lit< tt) h.instr.0 (lit< tt) h.instr.1 h.instr.2)
+decoded-word (Branch op rs1 rs2 imm) w h = branch_read w rs1 rs2 op imm (b_fields w _ _ rs1 rs2 imm h.word (lit< tt)
     (branch_funct3-below op) h.instr.0 h.instr.1 h.instr.2)
-decoded-word (Load op rd rs1 imm) w h = load_read w rd rs1 op imm
-    (i_fields w load_opcode rd (load_funct3 op) rs1 imm h.word (lit< tt) h.instr.0
+decoded-word (Load op rd rs1 imm) w h = load_read w rd rs1 op imm (i_fields w _ rd _ rs1 imm h.word (lit< tt) h.instr.0
     (load_funct3-below op) h.instr.1 h.instr.2)
-decoded-word (Store op rs1 rs2 imm) w h = store_read w rs1 rs2 op imm
-    (s_fields w store_opcode (store_funct3 op) rs1 rs2 imm h.word (lit< tt)
+decoded-word (Store op rs1 rs2 imm) w h = store_read w rs1 rs2 op imm (s_fields w _ _ rs1 rs2 imm h.word (lit< tt)
     (store_funct3-below op) h.instr.0 h.instr.1 h.instr.2)
 decoded-word (OpImm op rd rs1 imm) w h = op_imm_read w rd rs1 op imm
-    (i_fields w op_imm_opcode rd (op_imm_funct3 op) rs1 imm h.word (lit< tt) h.instr.0
-    (op_imm_funct3-below op) h.instr.1 h.instr.2)
+    (i_fields w _ rd _ rs1 imm h.word (lit< tt) h.instr.0 (op_imm_funct3-below op) h.instr.1 h.instr.2)
 decoded-word (Shift op rd rs1 amount) w h = shift_read w rd rs1 amount op
-    (r_fields w op_imm_opcode rd (shift_funct3 op) rs1 amount (shift_funct7 op) h.word (lit< tt) h.instr.0
-    (shift_funct3-below op) h.instr.1 h.instr.2)
-decoded-word (Op op rd rs1 rs2) w h = op_read w rd rs1 rs2 op
-    (r_fields w op_opcode rd (op_funct3 op) rs1 rs2 (op_funct7 op) h.word (lit< tt) h.instr.0
+    (r_fields w _ rd _ rs1 amount _ h.word (lit< tt) h.instr.0 (shift_funct3-below op) h.instr.1 h.instr.2)
+decoded-word (Op op rd rs1 rs2) w h = op_read w rd rs1 rs2 op (r_fields w _ rd _ rs1 rs2 _ h.word (lit< tt) h.instr.0
     (op_funct3-below op) h.instr.1 h.instr.2)
 decoded-word (Fence imm rs1 rd) w h = fence_read w rd rs1 imm
-    (i_fields w fence_opcode rd fence_funct3 rs1 imm h.word (lit< tt) h.instr.0 (lit< tt) h.instr.1 h.instr.2)
+    (i_fields w _ rd _ rs1 imm h.word (lit< tt) h.instr.0 (lit< tt) h.instr.1 h.instr.2)
 decoded-word Ecall w h = rw h.word refl
 decoded-word Ebreak w h = rw h.word refl
