@@ -26,13 +26,13 @@ pub run_is : (p : ℕ → Bool) (text rest : List ℕ) → list_all p text ≡ t
 run_is p [] [] all calm = refl
 run_is p [] (b ∷ rest) all calm = rw calm
 run_is p (x ∷ text) rest all calm =
-    let parts = and_parts (p x) (list_all p text) all in
+    let parts = and_parts (p x) _ all in
     rw (parts.0, run_is p text rest parts.1 calm) (omega arith)
 
 pub starts : (text rest : List ℕ) → 0 < length text → list_all is_name_byte text ≡ true →
     is_name_byte (slice_index (text ++ rest) 0) ≡ true
 starts [] rest some all = absurd (omega (arith, some))
-starts (x ∷ text) rest some all = (and_parts (is_name_byte x) (list_all is_name_byte text) all).0
+starts (x ∷ text) rest some all = (and_parts _ _ all).0
 
 -- identifiers, integers and reserved words
 pub plain_word : (text rest : List ℕ) (k : TokenKind) → 0 < length text → word_kind text ≡ Some k → Calm rest →
@@ -40,11 +40,11 @@ pub plain_word : (text rest : List ℕ) (k : TokenKind) → 0 < length text → 
 plain_word text rest k some is calm =
     let all = (word_run text k is).run.all in
     let long = length-append text rest in
-    let run = run_is is_name_byte text rest all calm in
-    let back : take (length text) (text ++ rest) ≡ text = take-append_seam text rest in
+    let run = run_is _ text rest all calm in
+    let back = take-append_seam text rest in
     record {
       kind = k;
-      token = λ here. word_found (text ++ rest) (starts text rest some all) (length text) k here
+      token = λ here. word_found _ (starts text rest some all) _ k here
           (omega (arith, long, some)) (sym run) (sym is ∙ ap word_kind (sym back));
     }
 
@@ -76,8 +76,8 @@ one_word c rest is name line block comment two three =
     let some : 0 < length (c ∷ rest) = omega arith in
     record {
       kind = kind.Mark;
-      token = λ here. mark_one (c ∷ rest) some name line (one_three c rest three) (one_two c rest two)
-          (and_from (nat_le 1 (length (c ∷ rest))) (is_mark (c ∷ [])) (le-leb 1 (length (c ∷ rest)) (omega arith)) is)
+      token = λ here. mark_one _ some name line (one_three c rest three) (one_two c rest two)
+          (and_from _ _ (le-leb 1 _ (omega arith)) is)
           (λ b. false≢true (sym block ∙ b)) (λ b. false≢true (sym comment ∙ b)) here;
     }
 
@@ -89,10 +89,8 @@ two_word c e rest is name line block comment three =
     let some : 0 < length (c ∷ e ∷ rest) = omega arith in
     record {
       kind = kind.Mark;
-      token = λ here. mark_two (c ∷ e ∷ rest) some name line (two_three c e rest three)
-          (and_from (nat_le 2 (length (c ∷ e ∷ rest))) (is_mark (c ∷ e ∷ []))
-          (le-leb 2 (length (c ∷ e ∷ rest)) (omega arith)) is) (λ b. false≢true (sym block ∙ b))
-          (λ b. false≢true (sym comment ∙ b)) here;
+      token = λ here. mark_two _ some name line (two_three c e rest three) (and_from _ _
+          (le-leb 2 _ (omega arith)) is) (λ b. false≢true (sym block ∙ b)) (λ b. false≢true (sym comment ∙ b)) here;
     }
 
 -- brackets and what else no longer mark begins with
@@ -127,24 +125,24 @@ plus_plus rest = two_word 43 43 rest refl refl (λ e. omega (arith, e)) refl ref
 -- an operator before a blank
 pub binary_word : (op : BinaryOp) (rest : List ℕ) → IsWord (binary_text op) (32 ∷ rest)
 unfolding is_mark
-binary_word binary.OrElse rest = two_word 124 124 (32 ∷ rest) refl refl (λ e. omega (arith, e)) refl refl refl
-binary_word binary.AndAlso rest = two_word 38 38 (32 ∷ rest) refl refl (λ e. omega (arith, e)) refl refl refl
-binary_word binary.BitOr rest = one_word 124 (32 ∷ rest) refl refl (λ e. omega (arith, e)) refl refl refl (λ d. refl)
-binary_word binary.BitXor rest = one_word 94 (32 ∷ rest) refl refl (λ e. omega (arith, e)) refl refl refl (λ d. refl)
-binary_word binary.BitAnd rest = one_word 38 (32 ∷ rest) refl refl (λ e. omega (arith, e)) refl refl refl (λ d. refl)
-binary_word binary.Equal rest = two_word 61 61 (32 ∷ rest) refl refl (λ e. omega (arith, e)) refl refl refl
-binary_word binary.NotEqual rest = two_word 33 61 (32 ∷ rest) refl refl (λ e. omega (arith, e)) refl refl refl
-binary_word binary.Less rest = one_word 60 (32 ∷ rest) refl refl (λ e. omega (arith, e)) refl refl refl (λ d. refl)
-binary_word binary.Greater rest = one_word 62 (32 ∷ rest) refl refl (λ e. omega (arith, e)) refl refl refl (λ d. refl)
-binary_word binary.LessEqual rest = two_word 60 61 (32 ∷ rest) refl refl (λ e. omega (arith, e)) refl refl refl
-binary_word binary.GreaterEqual rest = two_word 62 61 (32 ∷ rest) refl refl (λ e. omega (arith, e)) refl refl refl
-binary_word binary.ShiftLeft rest = two_word 60 60 (32 ∷ rest) refl refl (λ e. omega (arith, e)) refl refl refl
-binary_word binary.ShiftRight rest = two_word 62 62 (32 ∷ rest) refl refl (λ e. omega (arith, e)) refl refl refl
-binary_word binary.Add rest = one_word 43 (32 ∷ rest) refl refl (λ e. omega (arith, e)) refl refl refl (λ d. refl)
-binary_word binary.Sub rest = one_word 45 (32 ∷ rest) refl refl (λ e. omega (arith, e)) refl refl refl (λ d. refl)
-binary_word binary.Mul rest = one_word 42 (32 ∷ rest) refl refl (λ e. omega (arith, e)) refl refl refl (λ d. refl)
-binary_word binary.Div rest = one_word 47 (32 ∷ rest) refl refl (λ e. omega (arith, e)) refl refl refl (λ d. refl)
-binary_word binary.Rem rest = one_word 37 (32 ∷ rest) refl refl (λ e. omega (arith, e)) refl refl refl (λ d. refl)
+binary_word binary.OrElse rest = two_word 124 124 _ refl refl (λ e. omega (arith, e)) refl refl refl
+binary_word binary.AndAlso rest = two_word 38 38 _ refl refl (λ e. omega (arith, e)) refl refl refl
+binary_word binary.BitOr rest = one_word 124 _ refl refl (λ e. omega (arith, e)) refl refl refl (λ d. refl)
+binary_word binary.BitXor rest = one_word 94 _ refl refl (λ e. omega (arith, e)) refl refl refl (λ d. refl)
+binary_word binary.BitAnd rest = one_word 38 _ refl refl (λ e. omega (arith, e)) refl refl refl (λ d. refl)
+binary_word binary.Equal rest = two_word 61 61 _ refl refl (λ e. omega (arith, e)) refl refl refl
+binary_word binary.NotEqual rest = two_word 33 61 _ refl refl (λ e. omega (arith, e)) refl refl refl
+binary_word binary.Less rest = one_word 60 _ refl refl (λ e. omega (arith, e)) refl refl refl (λ d. refl)
+binary_word binary.Greater rest = one_word 62 _ refl refl (λ e. omega (arith, e)) refl refl refl (λ d. refl)
+binary_word binary.LessEqual rest = two_word 60 61 _ refl refl (λ e. omega (arith, e)) refl refl refl
+binary_word binary.GreaterEqual rest = two_word 62 61 _ refl refl (λ e. omega (arith, e)) refl refl refl
+binary_word binary.ShiftLeft rest = two_word 60 60 _ refl refl (λ e. omega (arith, e)) refl refl refl
+binary_word binary.ShiftRight rest = two_word 62 62 _ refl refl (λ e. omega (arith, e)) refl refl refl
+binary_word binary.Add rest = one_word 43 _ refl refl (λ e. omega (arith, e)) refl refl refl (λ d. refl)
+binary_word binary.Sub rest = one_word 45 _ refl refl (λ e. omega (arith, e)) refl refl refl (λ d. refl)
+binary_word binary.Mul rest = one_word 42 _ refl refl (λ e. omega (arith, e)) refl refl refl (λ d. refl)
+binary_word binary.Div rest = one_word 47 _ refl refl (λ e. omega (arith, e)) refl refl refl (λ d. refl)
+binary_word binary.Rem rest = one_word 37 _ refl refl (λ e. omega (arith, e)) refl refl refl (λ d. refl)
 
 -- the bytes that may stand in a mark behind its first
 abbrev pub is_loud : ℕ → Bool
@@ -178,9 +176,8 @@ sign_word : (c : ℕ) (rest : List ℕ) → is_mark (c ∷ []) ≡ true → is_n
     begins_block_comment (c ∷ rest) ≡ false → begins_line_comment (c ∷ rest) ≡ false → Pairs c → Opens (c ∷ []) rest →
     IsWord (c ∷ []) rest
 sign_word c rest is name line block comment pairs (quiet q) =
-    one_word c rest is name line block comment (no_mark c (slice_index rest 0) [] q)
-    (λ d. no_mark c (slice_index rest 0) (d ∷ []) q)
-sign_word c rest is name line block comment pairs (sign s other) = let p = pairs (slice_index rest 0) s other in
+    one_word c rest is name line block comment (no_mark c _ [] q) (λ d. no_mark c _ _ q)
+sign_word c rest is name line block comment pairs (sign s other) = let p = pairs _ s other in
     one_word c rest is name line block comment p.0 p.1
 
 pairs_minus : Pairs 45
@@ -258,7 +255,7 @@ close_curly rest = one_word 125 rest refl refl (λ e. omega (arith, e)) refl ref
 
 pub equal_word : (rest : List ℕ) → IsWord (codes "=") (32 ∷ rest)
 unfolding is_mark
-equal_word rest = one_word 61 (32 ∷ rest) refl refl (λ e. omega (arith, e)) refl refl refl (λ d. refl)
+equal_word rest = one_word 61 _ refl refl (λ e. omega (arith, e)) refl refl refl (λ d. refl)
 
 keyword_some : (w : Keyword) → 0 < length (keyword_text w)
 keyword_some keyword.Break = omega arith
@@ -270,4 +267,4 @@ keyword_kind keyword.Break = refl
 keyword_kind _ = refl
 
 pub keyword_word : (w : Keyword) (rest : List ℕ) → Calm rest → IsWord (keyword_text w) rest
-keyword_word w rest calm = plain_word (keyword_text w) rest kind.Reserved (keyword_some w) (keyword_kind w) calm
+keyword_word w rest calm = plain_word _ rest kind.Reserved (keyword_some w) (keyword_kind w) calm

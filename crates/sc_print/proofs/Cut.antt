@@ -34,7 +34,7 @@ module _ (bytes : List ℕ) where
       bytes ≡ front ++ byte ∷ rest → Found bytes (length (front ++ byte ∷ [])) ss → Found bytes (length front) ss
   skipped byte white front ss rest whole on =
       let behind : drop (length front) bytes ≡ byte ∷ rest =
-      ap (drop (length front)) whole ∙ drop-append_seam front (byte ∷ rest) in
+      ap (drop _) whole ∙ drop-append_seam front (byte ∷ rest) in
       let long = length-append front (byte ∷ []) in
       let is : IsTrue (is_white_space (slice_index (drop (length front) bytes) 0)) = rw behind white in
       record {
@@ -49,41 +49,35 @@ module _ (bytes : List ℕ) where
       ((before : List ℕ) → bytes ≡ before ++ rest → Found bytes (length before) ss) → Found bytes (length front) ss
   indented zero front ss rest whole on = on front whole
   indented (suc count) front ss rest whole on =
-      skipped 32 refl front ss (replicate count 32 ++ rest) whole
-      (indented count (front ++ 32 ∷ []) ss rest (whole ∙
-      sym (append_assoc front (32 ∷ []) (replicate count 32 ++ rest))) on)
+      skipped 32 refl front ss _ whole (indented count _ ss rest (whole ∙ sym (append_assoc front _ _)) on)
 
   pub found_from : {pieces : List Piece} {rest : List ℕ} → Tidy pieces rest → rest ≡ [] → (front : List ℕ) →
       bytes ≡ front ++ text_of pieces → Found bytes (length front) (symbols pieces)
   found_from spacing.none e front whole =
-      let all : length bytes ≡ length front = ap (λ x. length x) (whole ∙ append-nil front) in
+      let all = ap (λ x. length x) (whole ∙ append-nil front) in
       record { tokens = []; cuts = subst (λ n. Cuts bytes (length front) n []) (sym all) nothing; says = refl }
   found_from (spacing.gap {pieces = pieces} t) e front whole =
-      skipped 32 refl front (symbols pieces) (text_of pieces) whole
-      (found_from t e (front ++ 32 ∷ []) (whole ∙ sym (append_assoc front (32 ∷ []) (text_of pieces))))
+      skipped 32 refl front _ _ whole (found_from t e _ (whole ∙ sym (append_assoc front _ _)))
   found_from (spacing.line_end {pieces = pieces} t) e front whole =
-      skipped 10 refl front (symbols pieces) (text_of pieces) whole
-      (found_from t e (front ++ 10 ∷ []) (whole ∙ sym (append_assoc front (10 ∷ []) (text_of pieces))))
+      skipped 10 refl front _ _ whole (found_from t e _ (whole ∙ sym (append_assoc front _ _)))
   found_from (spacing.at_level {pieces = pieces} levels t) e front whole =
-      indented (2 * levels) front (symbols pieces) (text_of pieces) whole (found_from t e)
+      indented (2 * levels) front _ (text_of pieces) whole (found_from t e)
   found_from (spacing.next {text = text} {pieces = pieces} {rest = rest} w t) e front whole =
-      let after : text_of pieces ++ rest ≡ text_of pieces =
-      ap (λ x. text_of pieces ++ x) e ∙ append-nil (text_of pieces) in
-      let behind : drop (length front) bytes ≡ text ++ (text_of pieces ++ rest) =
-      ap (drop (length front)) whole ∙ drop-append_seam front (text ++ text_of pieces) ∙
-      ap (λ x. text ++ x) (sym after) in
-      let on = found_from t e (front ++ text) (whole ∙ sym (append_assoc front text (text_of pieces))) in
+      let after =
+      ap (λ x. text_of pieces ++ x) e ∙ append-nil _ in
+      let behind =
+      ap (drop _) whole ∙ drop-append_seam front _ ∙ ap (λ x. text ++ x) (sym after) in
+      let on = found_from t e (front ++ text) (whole ∙ sym (append_assoc front text _)) in
       let long = length-append front text in
-      let first = token_says front text (text_of pieces ++ rest) w.kind
+      let first = token_says front text _ w.kind
       (whole ∙ ap (λ x. front ++ (text ++ x)) (sym after)) (w.token true).spelled in
       record {
-        tokens = token_at bytes (length front) w.kind (length text) ∷ on.tokens;
-        cuts = token w.kind (length text) (subst (λ x.
-            IsToken (allows_directive bytes (length front)) x w.kind (length text)) (sym behind)
-            (w.token (allows_directive bytes (length front))))
+        tokens = token_at bytes _ w.kind (length text) ∷ on.tokens;
+        cuts = token w.kind _ (subst (λ x.
+            IsToken (allows_directive bytes (length front)) x w.kind (length text)) (sym behind) (w.token _))
             (subst (λ n. Cuts bytes n (length bytes) on.tokens) long on.cuts);
         says = ap₂ (λ s ss. s ∷ ss) first on.says;
       }
 
 pub cut_of : (pieces : List Piece) → Tidy pieces [] → Found (text_of pieces) 0 (symbols pieces)
-cut_of pieces t = found_from (text_of pieces) t refl [] refl
+cut_of pieces t = found_from _ t refl [] refl

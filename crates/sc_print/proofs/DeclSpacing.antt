@@ -1,13 +1,13 @@
 -- The words of declarations stand apart.
 use Rattle.sc_print.proofs.Common.{BaseTree, Bool, Decl, ExprTree, FunctionTree, GlobalTree, HeadTree, InitTree, IsTrue}
 use Rattle.sc_print.proofs.Common.{List, LocalTree, MemberTree, None, Number, Option, ParamTree, Piece, Some, TypeName}
-use Rattle.sc_print.proofs.Common.{TypeTree, [], and_parts, append-nil, append_assoc, are_kept, base_words, blank}
+use Rattle.sc_print.proofs.Common.{TypeTree, [], and_parts, append-nil, append_assoc, base_words, blank}
 use Rattle.sc_print.proofs.Common.{blank_if, codes, comma, const_words, decl_words, declared_words, ended, false}
 use Rattle.sc_print.proofs.Common.{false≢true, fits, flat_map, function_words, global_words, head_of, head_words}
 use Rattle.sc_print.proofs.Common.{init_words, is_ident, is_kept_decl, is_some, join_by, kept_base, kept_const}
 use Rattle.sc_print.proofs.Common.{kept_function, kept_global, kept_head, kept_init, kept_length, kept_local}
 use Rattle.sc_print.proofs.Common.{kept_member, kept_name, kept_param, kept_result, kept_struct, kept_type, kept_value}
-use Rattle.sc_print.proofs.Common.{layouts, leb-true, length_number, length_words, line_of, lines_at, list_all}
+use Rattle.sc_print.proofs.Common.{leb-true, length_words, line_of, list_all}
 use Rattle.sc_print.proofs.Common.{literal_text, local_line, member_line, minus_words, name_words, nat_le, nat_lt}
 use Rattle.sc_print.proofs.Common.{newline, param_words, params_words, refl, result_words, some_kept, star_words}
 use Rattle.sc_print.proofs.Common.{struct_words, subst, suc, sym, text_of, true, value_words, word, zero, ℕ, ◌&&◌, ◌++◌}
@@ -32,8 +32,7 @@ name_tidy name ident rest calm = plain_word name rest kind.Ident (name_some name
 
 literal_tidy : (number : Number) → IsTrue (fits number) → (rest : List ℕ) → Calm rest →
     IsWord (literal_text number) rest
-literal_tidy number k rest calm = plain_word (literal_text number) rest kind.Integer (literal_some number k)
-    (literal_kind number k) calm
+literal_tidy number k rest calm = plain_word _ rest kind.Integer (literal_some number k) (literal_kind number k) calm
 
 base_tidy : (b : BaseTree) → IsTrue (kept_base b) → Sound (base_words b)
 base_tidy base.Int k rest calm = next (keyword_word keyword.Int _ calm) none
@@ -52,28 +51,27 @@ stars_tidy (suc n) rest q = next (star_word _ (quiet (stars_quiet n rest q))) (s
 
 name_first : (name : List ℕ) (more : List Piece) → IsTrue (is_ident name) → (rest : List ℕ) →
     Quiet (text_of (word name ∷ more) ++ rest)
-name_first name more ident rest = subst (λ x. Quiet x) (sym (append_assoc name (text_of more) rest))
+name_first name more ident rest = subst (λ x. Quiet x) (sym (append_assoc name _ rest))
     (word_quiet name (text_of more ++ rest) kind.Ident (name_some name ident) (name_kind name ident))
 
 length_tidy : (name : List ℕ) (len : Option ℕ) → IsTrue (is_ident name) → IsTrue (kept_length len) →
     Sound (word name ∷ length_words len)
 length_tidy name None ident k rest calm = next (name_tidy name ident _ calm) none
 length_tidy name (Some elements) ident k rest calm =
-    let high = leb-true elements 4294967295 (and_parts (nat_le 1 elements) (nat_le elements 4294967295) k).1 in
+    let high = leb-true elements 4294967295 (and_parts (nat_le 1 _) _ k).1 in
     next (name_tidy name ident _ refl) (next (open_square _)
-    (next (literal_tidy (length_number elements) (length_fits elements high) _ refl) (next (close_square _) none)))
+    (next (literal_tidy _ (length_fits _ high) _ refl) (next (close_square _) none)))
 
 declared_tidy : (ty : TypeTree) (name : List ℕ) → IsTrue (kept_type ty) → IsTrue (is_ident name) →
     Sound (declared_words ty name)
 declared_tidy ty name k ident rest calm =
     let parts = and_parts (kept_base ty.base) (kept_length ty.length) k in
     tidy_append (base_words ty.base) _ rest (base_tidy ty.base parts.0 _ refl)
-    (gap (tidy_append (star_words ty.stars) (word name ∷ length_words ty.length) rest
-    (stars_tidy ty.stars _ (name_first name (length_words ty.length) ident rest))
-    (length_tidy name ty.length ident parts.1 rest calm)))
+    (gap (tidy_append (star_words _) (word name ∷ length_words _) rest
+    (stars_tidy _ _ (name_first name (length_words _) ident rest)) (length_tidy name _ ident parts.1 rest calm)))
 
 line_tidy : (depth : ℕ) (pieces : List Piece) → Free pieces → Free (line_of depth pieces)
-line_tidy depth pieces t rest = at_level depth (tidy_append pieces (newline ∷ []) rest (t _) (line_end none))
+line_tidy depth pieces t rest = at_level depth (tidy_append pieces _ rest (t _) (line_end none))
 
 member_tidy : (m : MemberTree) → IsTrue (kept_member m) → Free (member_line m)
 member_tidy m k = let parts = and_parts (kept_type m.ty) (is_ident m.name) k in
@@ -92,10 +90,10 @@ joined_tidy : {A : Type 0} (words : A → List Piece) (kept : A → Bool) →
     ((x : A) → IsTrue (kept x) → (rest : List ℕ) → Calm rest → Quiet rest → Tidy (words x) rest) →
     (x : A) (xs : List A) → IsTrue (kept x) → list_all kept xs ≡ true → (rest : List ℕ) → Calm rest → Quiet rest →
     Tidy (join_by words comma (x ∷ xs)) rest
-joined_tidy words kept t x [] k all rest calm q = tidy_append (words x) [] rest (t x k rest calm q) none
+joined_tidy words kept t x [] k all rest calm q = tidy_append _ [] rest (t x k rest calm q) none
 joined_tidy words kept t x (y ∷ ys) k all rest calm q =
     let parts = and_parts (kept y) (list_all kept ys) all in
-    tidy_append (words x) (word (codes ",") ∷ blank ∷ join_by words comma (y ∷ ys)) rest (t x k _ refl refl)
+    tidy_append (words x) (word _ ∷ blank ∷ join_by words comma (y ∷ ys)) rest (t x k _ refl refl)
     (next (comma_word _) (gap (joined_tidy words kept t y ys parts.0 parts.1 rest calm q)))
 
 struct_tidy : (tree : StructTree) → IsTrue (kept_struct tree) → Free (struct_words tree)
@@ -140,10 +138,9 @@ init_calm (init.Many cs) rest calm = refl
 
 global_tidy : (g : GlobalTree) → IsTrue (kept_global g) → Free (global_words g)
 global_tidy g k rest =
-    let parts = and_parts (kept_type g.ty) (is_ident g.name && kept_init g.init) k in
+    let parts = and_parts (kept_type g.ty) _ k in
     let more = and_parts (is_ident g.name) (kept_init g.init) parts.1 in
-    tidy_append (ended (declared_words g.ty g.name ++ init_words g.init)) (newline ∷ []) rest
-    (ended_tidy _ (both_tidy (declared_words g.ty g.name) (init_words g.init)
+    tidy_append (ended _) (newline ∷ []) rest (ended_tidy _ (both_tidy (declared_words g.ty g.name) (init_words g.init)
     (declared_tidy g.ty g.name parts.0 more.0) (init_tidy g.init more.1) (init_calm g.init)) _) (line_end none)
 
 value_tidy : (v : Option ExprTree) → IsTrue (kept_value v) → Sound (value_words v)
@@ -156,7 +153,7 @@ value_calm (Some e) rest calm = refl
 
 pub local_tidy : (l : LocalTree) → IsTrue (kept_local l) → Free (local_line l)
 local_tidy l k =
-    let parts = and_parts (kept_type l.ty) (is_ident l.name && kept_value l.init) k in
+    let parts = and_parts (kept_type l.ty) _ k in
     let more = and_parts (is_ident l.name) (kept_value l.init) parts.1 in
     line_tidy 1 _ (ended_tidy _ (both_tidy (declared_words l.ty l.name) (value_words l.init)
     (declared_tidy l.ty l.name parts.0 more.0) (value_tidy l.init more.1) (value_calm l.init)))
@@ -164,8 +161,8 @@ local_tidy l k =
 -- a result ends before a name
 result_tidy : (r : Option TypeName) → IsTrue (kept_result r) → (rest : List ℕ) → Quiet rest → Tidy (result_words r) rest
 result_tidy None k rest q = next (keyword_word keyword.Void _ refl) (gap none)
-result_tidy (Some ty) k rest q = tidy_append (base_words ty.base) (blank ∷ star_words ty.stars) rest
-    (base_tidy ty.base k _ refl) (gap (stars_tidy ty.stars rest q))
+result_tidy (Some ty) k rest q = tidy_append (base_words ty.base) (blank ∷ star_words _) rest
+    (base_tidy ty.base k _ refl) (gap (stars_tidy _ rest q))
 
 gap_if : (wanted : Bool) (pieces : List Piece) (rest : List ℕ) → Tidy pieces rest →
     Tidy (blank_if wanted ++ pieces) rest
@@ -180,30 +177,30 @@ calm_if false pieces rest calm = calm
 param_from : (b : BaseTree) (stars : ℕ) (name : Option (List ℕ)) → IsTrue (kept_base b) → IsTrue (kept_name name) →
     (rest : List ℕ) → Calm rest → Quiet rest → Tidy (base_words b ++
     (blank_if (nat_lt 0 stars || is_some name) ++ (star_words stars ++ name_words name))) rest
-param_from b zero None k ident rest calm q = tidy_append (base_words b) [] rest (base_tidy b k rest calm) none
+param_from b zero None k ident rest calm q = tidy_append _ [] rest (base_tidy b k rest calm) none
 param_from b (suc n) None k ident rest calm q =
     let wanted = nat_lt 0 (suc n) || false in
-    let pieces : List Piece = star_words (suc n) ++ [] in
+    let pieces = star_words (suc n) ++ [] in
     tidy_append (base_words b) (blank_if wanted ++ pieces) rest (base_tidy b k _ (calm_if wanted pieces rest refl))
     (gap_if wanted pieces rest (tidy_append (star_words (suc n)) [] rest (stars_tidy (suc n) rest q) none))
 param_from b zero (Some name) k ident rest calm q = tidy_append (base_words b) _ rest (base_tidy b k _ refl)
     (gap (next (name_tidy name ident _ calm) none))
 param_from b (suc n) (Some name) k ident rest calm q =
     let wanted = nat_lt 0 (suc n) || true in
-    let pieces : List Piece = star_words (suc n) ++ word name ∷ [] in
+    let pieces = star_words (suc n) ++ word name ∷ [] in
     tidy_append (base_words b) (blank_if wanted ++ pieces) rest (base_tidy b k _ (calm_if wanted pieces rest refl))
     (gap_if wanted pieces rest (tidy_append (star_words (suc n)) (word name ∷ []) rest
     (stars_tidy (suc n) _ (name_first name [] ident rest)) (next (name_tidy name ident _ calm) none)))
 
 param_tidy : (p : ParamTree) → IsTrue (kept_param p) → (rest : List ℕ) → Calm rest → Quiet rest →
     Tidy (param_words p) rest
-param_tidy p k rest calm q = let parts = and_parts (kept_base p.ty.base) (kept_name p.name) k in
-    param_from p.ty.base p.ty.stars p.name parts.0 parts.1 rest calm q
+param_tidy p k rest calm q = let parts = and_parts _ _ k in
+    param_from _ _ p.name parts.0 parts.1 rest calm q
 
 params_tidy : (ps : List ParamTree) → list_all kept_param ps ≡ true → (rest : List ℕ) → Calm rest → Quiet rest →
     Tidy (params_words ps) rest
 params_tidy [] k rest calm q = next (keyword_word keyword.Void _ calm) none
-params_tidy (p ∷ ps) k rest calm q = let parts = and_parts (kept_param p) (list_all kept_param ps) k in
+params_tidy (p ∷ ps) k rest calm q = let parts = and_parts _ _ k in
     joined_tidy param_words kept_param param_tidy p ps parts.0 parts.1 rest calm q
 
 pub head_tidy : (head : HeadTree) → IsTrue (kept_head head) → Free (head_words head)
@@ -218,20 +215,20 @@ head_tidy head k rest =
 
 function_tidy : (f : FunctionTree) → IsTrue (kept_function f) → Free (function_words f)
 function_tidy f k rest =
-    let parts = and_parts (kept_head (head_of f.head)) (list_all kept_local f.locals && are_kept f.body) k in
-    let more = and_parts (list_all kept_local f.locals) (are_kept f.body) parts.1 in
-    let body = tidy_append (lines_at 1 (layouts f.body)) (word (codes "}") ∷ newline ∷ []) rest
+    let parts = and_parts _ _ k in
+    let more = and_parts _ _ parts.1 in
+    let body = tidy_append _ (word (codes "}") ∷ newline ∷ []) rest
     (stmts_tidy f.body more.1 1 _) (next (close_curly _) (line_end none)) in
     line_end (tidy_append (head_words (head_of f.head)) _ rest (head_tidy (head_of f.head) parts.0 _)
-    (gap (next (open_curly _) (line_end (tidy_append (flat_map local_line f.locals) _ rest
+    (gap (next (open_curly _) (line_end (tidy_append _ _ rest
     (each_tidy local_line kept_local local_tidy f.locals more.0 _) body)))))
 
 pub decl_tidy : (d : Decl) → IsTrue (is_kept_decl d) → Free (decl_words d)
 decl_tidy (decl.Struct tree) k rest = struct_tidy tree k rest
 decl_tidy (decl.Global tree) k rest = global_tidy tree k rest
-decl_tidy (decl.Proto tree) k rest = tidy_append (ended (head_words tree)) (newline ∷ []) rest
-    (ended_tidy (head_words tree) (λ r calm. head_tidy tree k r) _) (line_end none)
+decl_tidy (decl.Proto tree) k rest = tidy_append (ended _) (newline ∷ []) rest
+    (ended_tidy _ (λ r calm. head_tidy tree k r) _) (line_end none)
 decl_tidy (decl.Function tree) k rest = function_tidy tree k rest
 
 pub decls_tidy : (ds : List Decl) → list_all is_kept_decl ds ≡ true → Free (flat_map decl_words ds)
-decls_tidy ds k = each_tidy decl_words is_kept_decl decl_tidy ds k
+decls_tidy ds k = each_tidy _ _ decl_tidy ds k

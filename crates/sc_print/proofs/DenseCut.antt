@@ -9,7 +9,7 @@ use Rattle.sc_print.proofs.Spacing.{Tidy, line_end}
 use Rattle.sc_print.proofs.StmtSpacing.{Free}
 use Rattle.sc_print.proofs.DeclSpacing.{decl_tidy, each_tidy}
 use Rattle.sc_print.proofs.DirectiveWords.{heading_line_is}
-use Rattle.sc_print.proofs.Lined.{Lined, tidy, line, found_lines}
+use Rattle.sc_print.proofs.Lined.{tidy, line, found_lines}
 use Rattle.sc_print.proofs.Whole.{keeps, exports_lined, imports_lined, heading_front}
 
 -- an empty line in front may be left out
@@ -29,20 +29,20 @@ decl_symbols _ = refl
 decls_symbols : (ds : List Decl) → symbols (flat_map dense_decl ds) ≡ symbols (flat_map decl_words ds)
 decls_symbols [] = refl
 decls_symbols (d ∷ ds) =
-    joined_symbols (dense_decl d) (flat_map dense_decl ds) ∙ ap₂ (λ a b. a ++ b) (decl_symbols d) (decls_symbols ds) ∙
-    sym (joined_symbols (decl_words d) (flat_map decl_words ds))
+    joined_symbols (dense_decl d) (flat_map _ ds) ∙ ap₂ (λ a b. a ++ b) (decl_symbols d) (decls_symbols ds) ∙
+    sym (joined_symbols (decl_words d) (flat_map _ ds))
 
 section_symbols : (tree : SectionTree) → symbols (dense_words tree) ≡ symbols (section_words tree)
 section_symbols tree =
-    let exports : List Piece = flat_map export_words tree.exports in
-    let imports : List Piece = flat_map import_words tree.imports in
-    let dense : List Piece = flat_map dense_decl tree.decls in
-    let decls : List Piece = flat_map decl_words tree.decls in
-    let heading : List Piece = heading_words tree.name in
-    let inner : symbols (imports ++ dense) ≡ symbols (imports ++ decls) =
-    joined_symbols imports dense ∙ ap (λ s. symbols imports ++ s) (decls_symbols tree.decls) ∙
+    let exports = flat_map export_words tree.exports in
+    let imports = flat_map import_words tree.imports in
+    let dense = flat_map dense_decl tree.decls in
+    let decls = flat_map decl_words tree.decls in
+    let heading = heading_words _ in
+    let inner =
+    joined_symbols imports dense ∙ ap (λ s. symbols imports ++ s) (decls_symbols _) ∙
     sym (joined_symbols imports decls) in
-    let outer : symbols (exports ++ (imports ++ dense)) ≡ symbols (exports ++ (imports ++ decls)) =
+    let outer =
     joined_symbols exports (imports ++ dense) ∙ ap (λ s. symbols exports ++ s) inner ∙
     sym (joined_symbols exports (imports ++ decls)) in
     joined_symbols heading (exports ++ (imports ++ dense)) ∙ ap (λ s. symbols heading ++ s) outer ∙
@@ -53,9 +53,9 @@ pub dense_cut : (tree : SectionTree) → IsTrue (kept_section tree) →
 dense_cut tree k =
     let kept = keeps tree k in
     let decls = each_tidy dense_decl is_kept_decl dense_tidy tree.decls kept.decls [] in
-    let lined : Lined (dense_words tree) = line (heading_line_is tree.name kept.name)
+    let lined = line (heading_line_is _ kept.name)
     (exports_lined tree.exports kept.exports _ (imports_lined tree.imports kept.imports _ (tidy decls))) in
-    let behind : List Piece = flat_map export_words tree.exports ++
+    let behind = flat_map export_words tree.exports ++
     (flat_map import_words tree.imports ++ flat_map dense_decl tree.decls) in
-    let found = found_lines (dense_text tree) (heading_front tree.name (10 ∷ text_of behind)) lined [] refl refl in
+    let found = found_lines _ (heading_front tree.name (10 ∷ text_of behind)) lined [] refl refl in
     record { tokens = found.tokens; cut = found.cuts; says = found.says ∙ section_symbols tree }

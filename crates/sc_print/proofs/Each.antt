@@ -5,5 +5,5 @@ use Rattle.sc_print.proofs.Common.{◌∷◌, ◌≡◌}
 pub all_at : (stmts : List StmtTree) → all_kept (map is_kept_stmt stmts) ≡ true → list_all is_kept_stmt stmts ≡ true
 all_at [] h = refl
 all_at (s ∷ stmts) h =
-    let parts = and_parts (is_kept_stmt s) (all_kept (map is_kept_stmt stmts)) h in
+    let parts = and_parts _ (all_kept (map _ stmts)) h in
     rw (parts.0, all_at stmts parts.1)

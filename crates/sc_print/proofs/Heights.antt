@@ -42,12 +42,12 @@ kind_same layer.Empty h = search (rules, kinds.the_lemmas, trees.the_lemmas)
 kind_same (layer.Assign place value) h = search (rules, kinds.the_lemmas, trees.the_lemmas)
 kind_same (layer.AssignCall place call) h = search (rules, kinds.the_lemmas, trees.the_lemmas)
 kind_same (layer.Call call) h = search (rules, kinds.the_lemmas, trees.the_lemmas)
-kind_same (layer.If c t e) h = ap kind_height (bare_if c t e) ∙ if_height c (lineless_stmts t) (lineless_stmts e) ∙
+kind_same (layer.If c t e) h = ap kind_height (bare_if c t e) ∙ if_height c _ _ ∙
     ap₂ (λ a b. max (expr_height c) (max a b)) (each_same t h.0) (each_same e h.1) ∙ sym (if_height c t e)
-kind_same (layer.While c b) h = ap kind_height (bare_while c b) ∙ while_height c (lineless_stmts b) ∙
+kind_same (layer.While c b) h = ap kind_height (bare_while c b) ∙ while_height c _ ∙
     ap (λ a. max (expr_height c) a) (each_same b h) ∙ sym (while_height c b)
 kind_same (layer.For f c n b) h =
-    ap kind_height (bare_for f c n b) ∙ for_height (lineless_option f) c (lineless_option n) (lineless_stmts b)
+    ap kind_height (bare_for f c n b) ∙ for_height _ c _ (lineless_stmts b)
     ∙ ap₂ (λ x y. max (max x y) (max (expr_height c) (stmts_height (lineless_stmts b)))) (bare_option f) (bare_option n)
     ∙ ap (λ a. max (max (option_height f) (option_height n)) (max (expr_height c) a)) (each_same b h) ∙
     sym (for_height f c n b)
@@ -58,9 +58,8 @@ kind_same (layer.ReturnValue value) h = search (rules, kinds.the_lemmas, trees.t
 kind_same (layer.ReturnCall call) h = search (rules, kinds.the_lemmas, trees.the_lemmas)
 
 stmt_same : (s : StmtTree) → Same s
-stmt_same = stmt_induction Same (λ line k h. ap stmt_height (bare_stmt line (roll-StmtKind k)) ∙
-    tree_height 0 (lineless_kind (roll-StmtKind k)) ∙ ap (λ n. n + 1) (kind_same k h) ∙
-    sym (tree_height line (roll-StmtKind k)))
+stmt_same = stmt_induction Same (λ line k h. ap stmt_height (bare_stmt line _) ∙
+    tree_height 0 _ ∙ ap (λ n. n + 1) (kind_same k h) ∙ sym (tree_height line _))
 
 locals_same : (locals : List LocalTree) → locals_height (map lineless_local locals) ≡ locals_height locals
 locals_same [] = refl
@@ -70,8 +69,7 @@ decl_same : (d : Decl) → decl_height (lineless_decl d) ≡ decl_height d
 decl_same (decl.Struct tree) = refl
 decl_same (decl.Global tree) = refl
 decl_same (decl.Proto tree) = refl
-decl_same (decl.Function tree) = ap₂ max (locals_same tree.locals)
-    (each_same tree.body (everywhere Same stmt_same tree.body))
+decl_same (decl.Function tree) = ap₂ max (locals_same _) (each_same _ (everywhere Same stmt_same _))
 
 decls_same : (ds : List Decl) → decls_height (map lineless_decl ds) ≡ decls_height ds
 decls_same [] = refl
@@ -79,4 +77,4 @@ decls_same (d ∷ ds) = ap₂ max (decl_same d) (decls_same ds)
 
 -- sections that are the same, lines aside, are of one height
 pub sections_same : (tree other : SectionTree) → SameButLines tree other → section_height tree ≡ section_height other
-sections_same tree other h = sym (decls_same tree.decls) ∙ ap (λ s. section_height s) h ∙ decls_same other.decls
+sections_same tree other h = sym (decls_same _) ∙ ap (λ s. section_height s) h ∙ decls_same _

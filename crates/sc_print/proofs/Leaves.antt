@@ -7,14 +7,14 @@ use Rattle.sc_expr.specs.declared.lexeme.Symbol.TheVariants as symbol
 pub name_says : (name : List ℕ) → IsTrue (is_ident name) → word_symbol name ≡ symbol.Ident name
 unfolding word_symbol kind_of word_kind says
 name_says name h =
-    let parts = and_parts (is_name name) (not (is_reserved name)) h in
+    let parts = and_parts _ (not _) h in
     let free = not-true (is_reserved name) parts.1 in
     simp (free, parts.0) refl
 
 pub name_kind : (name : List ℕ) → IsTrue (is_ident name) → word_kind name ≡ Some kind.Ident
 unfolding word_kind
 name_kind name h =
-    let parts = and_parts (is_name name) (not (is_reserved name)) h in
+    let parts = and_parts _ (not _) h in
     let free = not-true (is_reserved name) parts.1 in
     rw (free, parts.0)
 

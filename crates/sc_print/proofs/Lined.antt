@@ -1,8 +1,8 @@
 -- Lines that are directives, and tidy pieces behind them, are cut into their words.
-use Rattle.sc_print.proofs.Common.{Cuts, IsToken, List, Piece, Some, [], allows_directive, and_from, ap, append_assoc}
+use Rattle.sc_print.proofs.Common.{Cuts, IsToken, List, Piece, [], and_from, ap, append_assoc}
 use Rattle.sc_print.proofs.Common.{ap₂, arith, begins_heading, begins_line, directive_found, drop, drop-append_seam}
-use Rattle.sc_print.proofs.Common.{eq-eqb, get_or-append_seam, is_inside_line, kind_of, length, length-append}
-use Rattle.sc_print.proofs.Common.{line_kind, line_len, newline, or_right, refl, slice_index, subst, sym, symbols, take}
+use Rattle.sc_print.proofs.Common.{eq-eqb, get_or-append_seam, kind_of, length, length-append}
+use Rattle.sc_print.proofs.Common.{line_kind, newline, or_right, refl, slice_index, subst, sym, symbols}
 use Rattle.sc_print.proofs.Common.{take-append_seam, text_of, token, token_at, true, word, ℕ, ◌++◌, ◌-◌, ◌<◌, ◌==◌, ◌∙◌}
 use Rattle.sc_print.proofs.Common.{◌∷◌, ◌≡◌}
 use Rattle.sc_print.proofs.Apart.{run_is}
@@ -23,9 +23,9 @@ first_in (b ∷ text) rest h = h
 line_token : (text rest : List ℕ) (l : IsLine text) → IsToken true (text ++ 10 ∷ rest) l.kind (length text)
 line_token text rest l =
     let some : 0 < length (text ++ 10 ∷ rest) = omega (arith, length-append text (10 ∷ rest)) in
-    let run : line_len (text ++ 10 ∷ rest) ≡ length text = run_is is_inside_line text (10 ∷ rest) l.inside refl in
-    (directive_found (text ++ 10 ∷ rest) (first_in text (10 ∷ rest) l.first) (length text) l.kind some (sym run)
-    (sym l.is ∙ ap line_kind (sym (take-append_seam text (10 ∷ rest))))).1
+    let run = run_is _ text _ l.inside refl in
+    (directive_found _ (first_in text _ l.first) _ l.kind some (sym run)
+    (sym l.is ∙ ap line_kind (sym (take-append_seam text _)))).1
 
 module _ (bytes : List ℕ) (heading : begins_heading bytes ≡ true) where
   -- a line begins behind a newline
@@ -37,30 +37,30 @@ module _ (bytes : List ℕ) (heading : begins_heading bytes ≡ true) where
       ap (λ n. slice_index bytes n) before ∙ ap (λ bs. slice_index bs (length front)) whole ∙
       get_or-append_seam front 10 rest 0 in
       or_right (length (front ++ 10 ∷ []) == 0) (slice_index bytes (length (front ++ 10 ∷ []) - 1) == 10)
-      (eq-eqb (slice_index bytes (length (front ++ 10 ∷ []) - 1)) 10 byte)
+      (eq-eqb (slice_index bytes _) 10 byte)
 
   pub found_lines : {pieces : List Piece} → Lined pieces → (front : List ℕ) → begins_line bytes (length front) ≡ true →
       bytes ≡ front ++ text_of pieces → Found bytes (length front) (symbols pieces)
   found_lines (tidy t) front begins whole = found_from bytes t refl front whole
   found_lines (line {text = text} {pieces = pieces} l more) front begins whole =
       let rest = text_of pieces in
-      let behind : drop (length front) bytes ≡ text ++ 10 ∷ rest =
-      ap (drop (length front)) whole ∙ drop-append_seam front (text ++ 10 ∷ rest) in
-      let past : bytes ≡ (front ++ text) ++ 10 ∷ rest = whole ∙ sym (append_assoc front text (10 ∷ rest)) in
-      let on = found_lines more ((front ++ text) ++ 10 ∷ []) (next_line (front ++ text) rest past)
-      (past ∙ sym (append_assoc (front ++ text) (10 ∷ []) rest)) in
-      let end = skipped bytes 10 refl (front ++ text) (symbols pieces) rest past on in
+      let behind =
+      ap (drop _) whole ∙ drop-append_seam front _ in
+      let past = whole ∙ sym (append_assoc front text _) in
+      let on = found_lines more ((front ++ text) ++ 10 ∷ []) (next_line _ rest past)
+      (past ∙ sym (append_assoc _ _ rest)) in
+      let end = skipped bytes 10 refl (front ++ text) _ rest past on in
       let long = length-append front text in
-      let allowed : allows_directive bytes (length front) ≡ true =
-      and_from (begins_heading bytes) (begins_line bytes (length front)) heading begins in
-      let spelled : kind_of (take (length text) (text ++ 10 ∷ rest)) ≡ Some l.kind =
-      ap kind_of (take-append_seam text (10 ∷ rest)) ∙ kind_of_line text l.kind l.first l.inside l.is in
-      let first = token_says bytes front text (10 ∷ rest) l.kind whole spelled in
-      let here : IsToken (allows_directive bytes (length front)) (drop (length front) bytes) l.kind (length text) =
+      let allowed =
+      and_from _ _ heading begins in
+      let spelled =
+      ap kind_of (take-append_seam text _) ∙ kind_of_line text l.kind l.first l.inside l.is in
+      let first = token_says bytes front text _ l.kind whole spelled in
+      let here =
       subst (λ b. IsToken b (drop (length front) bytes) l.kind (length text)) (sym allowed)
       (subst (λ x. IsToken true x l.kind (length text)) (sym behind) (line_token text rest l)) in
       record {
-        tokens = token_at bytes (length front) l.kind (length text) ∷ end.tokens;
-        cuts = token l.kind (length text) here (subst (λ n. Cuts bytes n (length bytes) end.tokens) long end.cuts);
+        tokens = token_at bytes _ l.kind (length text) ∷ end.tokens;
+        cuts = token l.kind _ here (subst (λ n. Cuts bytes n (length bytes) end.tokens) long end.cuts);
         says = ap₂ (λ s ss. s ∷ ss) first end.says;
       }

@@ -23,7 +23,7 @@ first_of s ss (t ∷ ts) h = record { first = t; rest = ts; whole = refl; is = c
 
 pub none_of : (ts : List Lexeme) → Say [] ts → ts ≡ []
 none_of [] h = refl
-none_of (t ∷ ts) h = let e = none_there t.symbol (map (λ u. u.symbol) ts) (sym h) in absurd (omega (arith, e))
+none_of (t ∷ ts) h = let e = none_there _ _ (sym h) in absurd (omega (arith, e))
 
 -- Two parts.
 pub record Parts (ss us : List Symbol) (ts : List Lexeme) : Type 0 where
@@ -36,7 +36,7 @@ pub record Parts (ss us : List Symbol) (ts : List Lexeme) : Type 0 where
 pub parts_of : (ss us : List Symbol) (ts : List Lexeme) → Say (ss ++ us) ts → Parts ss us ts
 parts_of [] us ts h = record { front = []; back = ts; whole = refl; first = refl; second = h }
 parts_of (s ∷ ss) us ts h =
-    let f = first_of s (ss ++ us) ts h in
+    let f = first_of s _ ts h in
     let p = parts_of ss us f.rest f.others in
     record {
       front = f.first ∷ p.front;

@@ -3,7 +3,7 @@ use Rattle.sc_print.proofs.Common.{Bool, IsTrue, List, Number, Option, Some, [],
 use Rattle.sc_print.proofs.Common.{base_of, bytes_eq, bytes_eq-Decides, codes, digit_value, digits_of, false}
 use Rattle.sc_print.proofs.Common.{false_from_ne_true, false≢true, fits, get_or-append_seam, greatest_of, has_suffix}
 use Rattle.sc_print.proofs.Common.{if◌then◌else◌, integer_of, is_between, is_empty, is_hexadecimal, is_integer, is_name}
-use Rattle.sc_print.proofs.Common.{is_name_byte, is_nondigit, is_number, is_reserved, is_unsigned, kind_of, le-leb}
+use Rattle.sc_print.proofs.Common.{is_name_byte, is_nondigit, is_number, is_reserved, kind_of, le-leb}
 use Rattle.sc_print.proofs.Common.{le-ltb, leb-true, length, length-append, list_all, list_all-append, list_any}
 use Rattle.sc_print.proofs.Common.{literal_text, lt-ltb, nat_le, nat_lt, ne_eqb, not, number, number_of, or_cases, refl}
 use Rattle.sc_print.proofs.Common.{reserved_words, says, slice_index, suc, sym, take-append_seam, true, value_of}
@@ -36,33 +36,30 @@ digit_of d h =
     (value, ap (λ x. nat_lt x 10) value ∙ lt-ltb d 10 h)
 
 pushed : (ds : List ℕ) (d : ℕ) → d < 10 → number 10 (ds ++ (48 + d) ∷ []) ≡ number 10 ds * 10 + d
-pushed ds d h = fold-append (λ value digit. value * 10 + digit_value digit) 0 ds ((48 + d) ∷ []) ∙
-    ap (λ x. number 10 ds * 10 + x) (digit_of d h).0
+pushed ds d h = fold-append _ 0 ds _ ∙ ap (λ x. number 10 ds * 10 + x) (digit_of d h).0
 
 first_kept : (ds es : List ℕ) → 0 < length ds → slice_index (ds ++ es) 0 ≡ slice_index ds 0
 first_kept [] es h = absurd (omega (arith, h))
 first_kept (x ∷ ds) es h = refl
 
 decimal_is : (n : ℕ) → n < 2 ^ 64 → Decimal n (decimal n)
-decimal_is = decimal_by_steps Decimal
-    (λ n h. record {
-      some = omega arith;
-      digits = rw (digit_of n h).1;
-      value = let v = (digit_of n h).0 in let plus : 0 * 10 + digit_value (48 + n) ≡ digit_value (48 + n) =
-          omega arith in plus ∙ v;
-      no_zero = λ positive e. omega (arith, positive, e);
-      low = omega (arith, h);
-      high = omega arith;
-      last = omega (arith, h);
-    })
-    (λ n ds h d.
+decimal_is = decimal_by_steps Decimal (λ n h. record {
+  some = omega arith;
+  digits = rw (digit_of n h).1;
+  value = let v = (digit_of n h).0 in let plus : 0 * 10 + digit_value (48 + n) ≡ digit_value (48 + n) =
+      omega arith in plus ∙ v;
+  no_zero = λ positive e. omega (arith, positive, e);
+  low = omega (arith, h);
+  high = omega arith;
+  last = omega (arith, h);
+}) (λ n ds h d.
     let rest : n % 10 < 10 = omega arith in
     let first = first_kept ds ((48 + n % 10) ∷ []) d.some in
     let whole : n / 10 * 10 + n % 10 ≡ n = omega arith in
-    let long : length (ds ++ (48 + n % 10) ∷ []) ≡ length ds + 1 = length-append ds ((48 + n % 10) ∷ []) in
+    let long = length-append ds ((48 + n % 10) ∷ []) in
     let before : length ds + 1 - 1 ≡ length ds = omega arith in
     let end : slice_index (ds ++ (48 + n % 10) ∷ []) (length (ds ++ (48 + n % 10) ∷ []) - 1) ≡ 48 + n % 10 =
-    rw (long, before) (get_or-append_seam ds (48 + n % 10) [] 0) in
+    rw (long, before) (get_or-append_seam ds _ [] 0) in
     record {
       some = omega (arith, long);
       digits = list_all-append (λ x. is_digit 10 x) ds ((48 + n % 10) ∷ []) ∙ rw (d.digits, (digit_of (n % 10) rest).1);
@@ -78,25 +75,22 @@ pub no_table : (p : List ℕ → Bool) (table : List (List ℕ)) (text : List �
     list_any (λ w. bytes_eq text w) table ≡ false
 no_table p [] text h q = refl
 no_table p (w ∷ table) text h q =
-    let parts = and_parts (p w) (list_all p table) h in
-    let other : bytes_eq text w ≡ false = false_from_ne_true (bytes_eq text w)
+    let parts = and_parts (p w) _ h in
+    let other = false_from_ne_true _
     (λ same. let e : text ≡ w = (bytes_eq-Decides text w).0 same in false≢true (sym q ∙ ap p e ∙ parts.0)) in
     rw (other, no_table p table text parts.1 q)
 
 no_first : (b : ℕ) → b ≤ 57 → is_nondigit b ≡ false
 no_first b h = false_from_ne_true (is_nondigit b) (λ q.
-    ⊎_elim (λ line. let e : b ≡ 95 = grind (arith, line) in omega (arith, h, e))
-    (λ letter. ⊎_elim
+    ⊎_elim (λ line. let e : b ≡ 95 = grind (arith, line) in omega (arith, h, e)) (λ letter. ⊎_elim
     (λ capital. let e = leb-true 65 b (and_parts (nat_le 65 b) (nat_le b 90) capital).0 in omega (arith, h, e))
-    (λ small. let e = leb-true 97 b (and_parts (nat_le 97 b) (nat_le b 122) small).0 in omega (arith, h, e))
-    (or_cases (is_between 65 90 b) (is_between 97 122 b) letter))
-    (or_cases (b == 95) (is_between 65 90 b || is_between 97 122 b) q))
+    (λ small. let e = leb-true 97 b (and_parts _ _ small).0 in omega (arith, h, e))
+    (or_cases _ (is_between 97 122 b) letter)) (or_cases _ (is_between 65 90 b || is_between 97 122 b) q))
 
 -- a constant is no reserved word and no name
 no_reserved : (text : List ℕ) → slice_index text 0 ≤ 57 → is_reserved text ≡ false
 unfolding is_reserved
-no_reserved text h = no_table (λ w. is_nondigit (slice_index w 0)) reserved_words text refl
-    (no_first (slice_index text 0) h)
+no_reserved text h = no_table (λ w. is_nondigit (slice_index w 0)) reserved_words text refl (no_first _ h)
 
 no_name : (text : List ℕ) → slice_index text 0 ≤ 57 → is_name text ≡ false
 unfolding is_name
@@ -112,7 +106,7 @@ made v w a b p q = rw (p, q)
 
 module _ (n : ℕ) (ds : List ℕ) (positive : 0 < n) (d : Decimal n ds) where
   no_48 : (slice_index ds 0 == 48) ≡ false
-  no_48 = ne_eqb (slice_index ds 0) 48 (d.no_zero positive)
+  no_48 = ne_eqb _ 48 (d.no_zero positive)
 
   end_is : slice_index (ds ++ 117 ∷ []) (length (ds ++ 117 ∷ []) - 1) ≡ 117
   end_is =
@@ -121,7 +115,7 @@ module _ (n : ℕ) (ds : List ℕ) (positive : 0 < n) (d : Decimal n ds) where
       rw (long, before) (get_or-append_seam ds 117 [] 0)
 
   no_end : (byte : ℕ) → 57 < byte → (slice_index ds (length ds - 1) == byte) ≡ false
-  no_end byte h = let l = d.last in ne_eqb (slice_index ds (length ds - 1)) byte (λ e. omega (arith, h, l, e))
+  no_end byte h = let l = d.last in ne_eqb _ byte (λ e. omega (arith, h, l, e))
 
   suffix_is : (u : Bool) → has_suffix (ds ++ suffix u) ≡ u
   suffix_is true = rw end_is
@@ -132,7 +126,7 @@ module _ (n : ℕ) (ds : List ℕ) (positive : 0 < n) (d : Decimal n ds) where
       let long = length-append ds (117 ∷ []) in
       let before : length ds + 1 - 1 ≡ length ds = omega arith in
       let has = suffix_is true in
-      rw has (rw (long, before) (take-append_seam ds (117 ∷ [])))
+      rw has (rw (long, before) (take-append_seam ds _))
   body_is false = let has = suffix_is false in rw has (append-nil ds)
 
   no_hex : is_hexadecimal ds ≡ false
@@ -146,7 +140,7 @@ module _ (n : ℕ) (ds : List ℕ) (positive : 0 < n) (d : Decimal n ds) where
 
   in_range : (u : Bool) → IsTrue (fits (record { value = n; unsigned = u })) → nat_le n (greatest_of u 10) ≡ true
   in_range true h = h
-  in_range false h = (and_parts (nat_le n 2147483647) (nat_le n 4294967295) h).0
+  in_range false h = (and_parts _ _ h).0
 
   not_unsigned : (u : Bool) → IsTrue (fits (record { value = n; unsigned = u })) → (u || nat_lt 2147483647 n) ≡ u
   not_unsigned true h = refl
@@ -166,7 +160,7 @@ module _ (n : ℕ) (ds : List ℕ) (positive : 0 < n) (d : Decimal n ds) where
       integer_of (ds ++ suffix u) ≡ Some (record { value = n; unsigned = u })
   unfolding integer_of
   constant_is u h =
-      let e : is_unsigned (ds ++ suffix u) ≡ u = ap (λ x. x || nat_lt 2147483647 (value_of (ds ++ suffix u)))
+      let e = ap (λ x. x || nat_lt 2147483647 (value_of (ds ++ suffix u)))
       (suffix_is u) ∙ ap (λ x. u || nat_lt 2147483647 x) (value_is u) ∙ not_unsigned u h in
       rw (is_constant u h) (made _ _ _ _ (value_is u) e)
 
@@ -204,17 +198,16 @@ value_kind : (n : ℕ) (u : Bool) → IsTrue (fits (record { value = n; unsigned
     word_kind (decimal n ++ suffix u) ≡ Some kind.Integer
 value_kind zero u h = rw (decimal_digit 0 (omega arith)) (zero_kind u)
 value_kind (suc n) u h =
-    let le = leb-true (suc n) 4294967295 (and_parts (u || nat_le (suc n) 2147483647) (nat_le (suc n) 4294967295) h).1 in
+    let le = leb-true (suc n) 4294967295 (and_parts _ _ h).1 in
     let small : suc n < 2 ^ 64 = omega (arith, le) in
-    positive_kind (suc n) (decimal (suc n)) (omega arith) (decimal_is (suc n) small) u h
+    positive_kind (suc n) _ (omega arith) (decimal_is _ small) u h
 
 pub literal_kind : (number : Number) → IsTrue (fits number) → word_kind (literal_text number) ≡ Some kind.Integer
-literal_kind number h = value_kind number.value number.unsigned h
+literal_kind number h = value_kind _ _ h
 
 pub literal_some : (number : Number) → IsTrue (fits number) → 0 < length (literal_text number)
 literal_some number h =
-    let le = leb-true number.value 4294967295 (and_parts (number.unsigned || nat_le number.value 2147483647)
-    (nat_le number.value 4294967295) h).1 in
+    let le = leb-true number.value 4294967295 (and_parts _ _ h).1 in
     let some = (decimal_is number.value (omega (arith, le))).some in
     let long = length-append (decimal number.value) (suffix number.unsigned) in
     omega (arith, some, long)
@@ -228,9 +221,9 @@ value_says : (n : ℕ) (u : Bool) → IsTrue (fits (record { value = n; unsigned
     word_symbol (decimal n ++ suffix u) ≡ symbol.Integer (record { value = n; unsigned = u })
 value_says zero u h = rw (decimal_digit 0 (omega arith)) (zero_says u)
 value_says (suc n) u h =
-    let le = leb-true (suc n) 4294967295 (and_parts (u || nat_le (suc n) 2147483647) (nat_le (suc n) 4294967295) h).1 in
+    let le = leb-true (suc n) 4294967295 (and_parts _ _ h).1 in
     let small : suc n < 2 ^ 64 = omega (arith, le) in
-    positive_says (suc n) (decimal (suc n)) (omega arith) (decimal_is (suc n) small) u h
+    positive_says (suc n) _ (omega arith) (decimal_is _ small) u h
 
 pub literal_says : (number : Number) → IsTrue (fits number) → word_symbol (literal_text number) ≡ symbol.Integer number
-literal_says number h = value_says number.value number.unsigned h
+literal_says number h = value_says _ _ h

@@ -1,17 +1,17 @@
 -- A row of printed words is read back as these words: its lexemes are taken word by word and part by part.
 use Rattle.sc_print.proofs.Common.{Bool, Grouped, IsTrue, Lexeme, List, Piece, Separated, [], and_parts, ap, append-nil}
-use Rattle.sc_print.proofs.Common.{ap₂, blank, codes, comma, flat_map, flat_map-append, indent, join_by, line_of}
-use Rattle.sc_print.proofs.Common.{list_all, map, more, newline, one, piece_symbols, refl, subst, sym, symbols, true}
+use Rattle.sc_print.proofs.Common.{ap₂, blank, comma, flat_map, flat_map-append, indent, join_by, line_of}
+use Rattle.sc_print.proofs.Common.{list_all, map, more, newline, one, refl, subst, sym, symbols, true}
 use Rattle.sc_print.proofs.Common.{word, word_symbol, ℕ, ◌++◌, ◌∙◌, ◌∷◌, ◌≡◌}
 use Rattle.sc_parse.specs.Lists as lists
 use Rattle.sc_print.proofs.Tables as tables
 use Rattle.sc_print.proofs.Lists.{Say, first_of, none_of, parts_of}
 
 pub joined_symbols : (a b : List Piece) → symbols (a ++ b) ≡ symbols a ++ symbols b
-joined_symbols a b = flat_map-append piece_symbols a b
+joined_symbols a b = flat_map-append _ a b
 
 pub line_symbols : (depth : ℕ) (pieces : List Piece) → symbols (line_of depth pieces) ≡ symbols pieces
-line_symbols depth pieces = joined_symbols pieces (newline ∷ []) ∙ append-nil (symbols pieces)
+line_symbols depth pieces = joined_symbols pieces _ ∙ append-nil _
 
 -- P of all lexemes that say what the words among these pieces say
 abbrev pub Reading : List Piece → (List Lexeme → Type 0) → Type 0
@@ -45,17 +45,15 @@ Takes (part pieces ∷ next ∷ items) P = (ts : List Lexeme) → Say (symbols p
 pub reads : (items : List Item) (P : List Lexeme → Type 0) → Takes items P → Reading (pieces_of items) P
 reads [] P take ts h = subst P (sym (none_of ts h)) take
 reads (fixed (word text) ∷ items) P take ts h =
-    let f = first_of (word_symbol text) (symbols (pieces_of items)) ts h in
-    subst P (sym f.whole) (reads items (λ us. P (f.first ∷ us)) (take f.first f.is) f.rest f.others)
+    let f = first_of (word_symbol text) _ ts h in
+    subst P (sym f.whole) (reads items _ (take f.first f.is) f.rest f.others)
 reads (fixed blank ∷ items) P take ts h = reads items P take ts h
 reads (fixed (indent depth) ∷ items) P take ts h = reads items P take ts h
 reads (fixed newline ∷ items) P take ts h = reads items P take ts h
 reads (part pieces ∷ []) P take ts h = take ts h
 reads (part pieces ∷ next ∷ items) P take ts h =
-    let p = parts_of (symbols pieces) (symbols (pieces_of (next ∷ items))) ts
-    (h ∙ joined_symbols pieces (pieces_of (next ∷ items))) in
-    subst P (sym p.whole)
-    (reads (next ∷ items) (λ us. P (p.front ++ us)) (take p.front p.first) p.back p.second)
+    let p = parts_of (symbols pieces) (symbols (pieces_of (next ∷ items))) ts (h ∙ joined_symbols pieces _) in
+    subst P (sym p.whole) (reads (next ∷ items) _ (take p.front p.first) p.back p.second)
 
 -- items with commas between them
 module _ {A : Type 0} (say : A → List Piece) (kept : A → Bool) (Item : List Lexeme → A → Type 0)
@@ -64,9 +62,8 @@ module _ {A : Type 0} (say : A → List Piece) (kept : A → Bool) (Item : List 
       Reading (join_by say comma (x ∷ xs)) (λ ts. Separated Item ts (x ∷ xs))
   separated x [] k all ts h = one (item x k ts (h ∙ ap symbols (append-nil (say x))))
   separated x (y ∷ ys) k all ts h =
-      let parts = and_parts (kept y) (list_all kept ys) all in
-      reads (part (say x) ∷ written (codes ",") ∷ fixed blank ∷ part (join_by say comma (y ∷ ys)) ∷ [])
-      (λ us. Separated Item us (x ∷ y ∷ ys))
+      let parts = and_parts (kept y) _ all in
+      reads (part (say x) ∷ written _ ∷ fixed blank ∷ part _ ∷ []) (λ us. Separated Item us (x ∷ y ∷ ys))
       (λ front said t is back behind. more t (is ∙ tables.comma_mark) (item x k front said)
       (separated y ys parts.0 parts.1 back behind)) ts h
 
@@ -86,12 +83,10 @@ pub record AllAlike {A : Type 0} (Group : List Lexeme → List A → Type 0) (ba
 module _ {A : Type 0} (say : A → List Piece) (kept : A → Bool) (Group : List Lexeme → List A → Type 0)
     (bare : A → A) (item : (x : A) → IsTrue (kept x) → Reading (say x) (λ ts. Alike Group bare ts x)) where
   pub all_alike : (xs : List A) → list_all kept xs ≡ true → Reading (flat_map say xs) (λ ts. AllAlike Group bare ts xs)
-  all_alike [] k = reads [] (λ ts. AllAlike Group bare ts [])
-      (record { others = []; spelled = lists.none; same = refl })
+  all_alike [] k = reads [] _ (record { others = []; spelled = lists.none; same = refl })
   all_alike (x ∷ xs) k =
-      let parts = and_parts (kept x) (list_all kept xs) k in
-      reads (part (say x) ∷ part (flat_map say xs) ∷ []) (λ ts. AllAlike Group bare ts (x ∷ xs))
-      (λ front said back behind.
+      let parts = and_parts (kept x) _ k in
+      reads (part (say x) ∷ part _ ∷ []) _ (λ front said back behind.
       let first = item x parts.0 front said in
       let rest = all_alike xs parts.1 back behind in
       record {

@@ -4,15 +4,15 @@ use Rattle.sc_print.proofs.Common.{Grouped, HeadTree, IsGlobal, IsLocal, IsMembe
 use Rattle.sc_print.proofs.Common.{MemberTree, None, Option, ParamTree, Piece, Some, SpellsDecl, SpellsDeclarator}
 use Rattle.sc_print.proofs.Common.{SpellsHead, SpellsInit, SpellsParam, SpellsParams, SpellsResult, SpellsTypeName}
 use Rattle.sc_print.proofs.Common.{SpellsValue, TypeName, TypeTree, [], and_parts, ap, append-nil, append_assoc}
-use Rattle.sc_print.proofs.Common.{are_kept, base_words, blank, blank_if, codes, decl_words, declared_words, ended}
+use Rattle.sc_print.proofs.Common.{base_words, blank, blank_if, codes, decl_words, declared_words, ended}
 use Rattle.sc_print.proofs.Common.{expr_words, false, false≢true, first_line, flat_map, function_words, global_words}
-use Rattle.sc_print.proofs.Common.{head_of, head_words, init_words, is_ident, is_kept_decl, is_some, kept_base}
-use Rattle.sc_print.proofs.Common.{kept_function, kept_global, kept_head, kept_init, kept_length, kept_local}
-use Rattle.sc_print.proofs.Common.{kept_member, kept_name, kept_param, kept_result, kept_type, kept_value, layouts}
+use Rattle.sc_print.proofs.Common.{head_of, head_words, is_ident, is_kept_decl, kept_base}
+use Rattle.sc_print.proofs.Common.{kept_function, kept_global, kept_head, kept_local}
+use Rattle.sc_print.proofs.Common.{kept_member, kept_name, kept_param, kept_result, kept_type, kept_value}
 use Rattle.sc_print.proofs.Common.{line_of, lineless_decl, lineless_function_head, lineless_local, lineless_stmts}
-use Rattle.sc_print.proofs.Common.{lines_at, list_all, local_line, map, member_line, name_words, nat_lt, newline, one}
+use Rattle.sc_print.proofs.Common.{list_all, local_line, map, member_line, name_words, newline, one}
 use Rattle.sc_print.proofs.Common.{param_words, params_words, refl, result_words, some_kept, star_words, struct_words}
-use Rattle.sc_print.proofs.Common.{subst, symbols, true, type_name, value_words, word, ℕ, ◌&&◌, ◌++◌, ◌||◌, ◌∙◌, ◌∷◌}
+use Rattle.sc_print.proofs.Common.{subst, symbols, true, type_name, value_words, word, ℕ, ◌&&◌, ◌++◌, ◌∙◌, ◌∷◌}
 use Rattle.sc_print.proofs.Common.{◌≡◌}
 use Rattle.sc_ast.specs.declared.section.Decl.TheVariants as decl
 use Rattle.sc_parse.specs.Lists as lists
@@ -36,14 +36,11 @@ single : {A : Type 0} (Item : BaseTree → ℕ → List Lexeme → A → Type 0)
     (λ ts. (line : ℕ) × Declares Item ts (entry line ∷ []))
 single Item depth b behind entry k item ts h =
     reads (part (base_words b) ∷ fixed blank ∷ part behind ∷ written (codes ";") ∷ [])
-    (λ us. (line : ℕ) × Declares Item us (entry line ∷ []))
-    (λ front base back said t is. (
+    (λ us. (line : ℕ) × Declares Item us (entry line ∷ [])) (λ front base back said t is. (
       first_line front,
-      decls.declares t (is ∙ tables.semicolon) (base_reads b k front base)
-          (one (item (first_line front) back said)),
-    )) ts
-    (h ∙ line_symbols depth (ended (base_words b ++ blank ∷ behind)) ∙
-    ap symbols (append_assoc (base_words b) (blank ∷ behind) (word (codes ";") ∷ [])))
+      decls.declares t (is ∙ tables.semicolon) (base_reads b k front base) (one (item _ back said)),
+    )) ts (h ∙ line_symbols depth (ended (base_words b ++ blank ∷ behind)) ∙
+    ap symbols (append_assoc (base_words b) _ _))
 
 -- the same, where something stands behind the declarator
 valued : {A : Type 0} (Item : BaseTree → ℕ → List Lexeme → A → Type 0) (depth : ℕ) (ty : TypeTree) (name : List ℕ)
@@ -54,10 +51,8 @@ valued : {A : Type 0} (Item : BaseTree → ℕ → List Lexeme → A → Type 0)
     Reading (line_of depth (ended (declared_words ty name ++ value)))
     (λ ts. (line : ℕ) × Declares Item ts (entry line ∷ []))
 valued Item depth ty name value entry Value k ident spells item ts h =
-    single Item depth ty.base (declarator_words ty name ++ value) entry
-    (and_parts (kept_base ty.base) (kept_length ty.length) k).0
-    (λ line. reads (part (declarator_words ty name) ∷ part value ∷ []) (λ us. Item ty.base line us (entry line))
-    (λ front said back behind.
+    single Item depth ty.base (declarator_words ty name ++ value) entry (and_parts _ _ k).0
+    (λ line. reads (part (declarator_words ty name) ∷ part value ∷ []) _ (λ front said back behind.
     item front back line (declarator_reads ty name k ident front said) (spells back behind))) ts
     (h ∙ ap (λ pieces. symbols (line_of depth (ended pieces)))
     (append_assoc (base_words ty.base) (blank ∷ declarator_words ty name) value))
@@ -65,18 +60,16 @@ valued Item depth ty name value entry Value k ident spells item ts h =
 member_reads : (m : MemberTree) → IsTrue (kept_member m) →
     Reading (member_line m) (λ ts. Declares IsMember ts (m ∷ []))
 member_reads m k ts h =
-    let parts = and_parts (kept_type m.ty) (is_ident m.name) k in
-    let base = and_parts (kept_base m.ty.base) (kept_length m.ty.length) parts.0 in
-    (single IsMember 1 m.ty.base (declarator_words m.ty m.name) (λ line. m) base.0
-    (λ line. declarator_reads m.ty m.name parts.0 parts.1) ts h).1
+    let parts = and_parts _ _ k in
+    let base = and_parts _ _ parts.0 in
+    (single IsMember 1 _ _ (λ line. m) base.0 (λ line. declarator_reads m.ty m.name parts.0 parts.1) ts h).1
 
 members_read : (ms : List MemberTree) → list_all kept_member ms ≡ true →
     Reading (flat_map member_line ms) (λ ts. Grouped (Declares IsMember) ts ms)
-members_read [] k = reads [] (λ ts. Grouped (Declares IsMember) ts []) lists.none
+members_read [] k = reads [] _ lists.none
 members_read (m ∷ ms) k =
-    let parts = and_parts (kept_member m) (list_all kept_member ms) k in
-    reads (part (member_line m) ∷ part (flat_map member_line ms) ∷ [])
-    (λ ts. Grouped (Declares IsMember) ts (m ∷ ms))
+    let parts = and_parts (kept_member m) (list_all _ ms) k in
+    reads (part (member_line m) ∷ part (flat_map member_line ms) ∷ []) _
     (λ front said back behind. lists.next (member_reads m parts.0 front said) (members_read ms parts.1 back behind))
 
 -- a declaration that is spelled, and is this one, lines aside
@@ -91,60 +84,58 @@ struct_reads name line [] k ts h = absurd (false≢true (and_parts (is_ident nam
 struct_reads name line (m ∷ ms) k ts h =
     let parts = and_parts (is_ident name) (kept_member m && list_all kept_member ms) k in
     let both = and_parts (kept_member m) (list_all kept_member ms) parts.1 in
-    let tail : List Piece = word (codes "}") ∷ word (codes ";") ∷ newline ∷ [] in
+    let tail = word (codes "}") ∷ word (codes ";") ∷ newline ∷ [] in
     reads (written (codes "struct") ∷ written name ∷ written (codes "{") ∷ part (member_line m) ∷
     part (flat_map member_line ms) ∷ written (codes "}") ∷ written (codes ";") ∷ fixed newline ∷ [])
     (λ us. Spelled us (decl.Struct (record { name = name; members = m ∷ ms; line = line })))
     (λ t is u named v opens front said back behind w closes x ends.
     record {
-      other = decl.Struct (record { name = name; members = m ∷ ms; line = t.line });
+      other = decl.Struct _;
       spelled = decls.a_struct (decls.struct t u v w x name (is ∙ tables.keyword_says keyword.Struct)
           (named ∙ name_says name parts.0)
           (opens ∙ tables.open_curly) (closes ∙ tables.close_curly) (ends ∙ tables.semicolon)
           (member_reads m both.0 front said) (members_read ms both.1 back behind));
       same = refl;
-    }) ts
-    (h ∙ ap (λ pieces. symbols (word (codes "struct") ∷ word name ∷ word (codes "{") ∷ pieces))
+    }) ts (h ∙ ap (λ pieces. symbols (word (codes "struct") ∷ word name ∷ word (codes "{") ∷ pieces))
     (append_assoc (member_line m) (flat_map member_line ms) tail))
 
 global_reads : (g : GlobalTree) → IsTrue (kept_global g) → Reading (global_words g) (λ ts. Spelled ts (decl.Global g))
 global_reads g k ts h =
-    let parts = and_parts (kept_type g.ty) (is_ident g.name && kept_init g.init) k in
-    let rest = and_parts (is_ident g.name) (kept_init g.init) parts.1 in
-    let d = valued IsGlobal 0 g.ty g.name (init_words g.init) (λ line. record g { line = line })
+    let parts = and_parts _ _ k in
+    let rest = and_parts _ _ parts.1 in
+    let d = valued IsGlobal 0 g.ty g.name _ (λ line. record g { line = line })
     (λ us. SpellsInit us g.init) parts.0 rest.0 (init_reads g.init rest.1)
     (λ us vs line named value. decls.global named value) ts h in
-    record { other = decl.Global (record g { line = d.0 }); spelled = decls.globals d.1; same = refl }
+    record { other = decl.Global _; spelled = decls.globals d.1; same = refl }
 
 value_reads : (v : Option ExprTree) → IsTrue (kept_value v) → Reading (value_words v) (λ ts. SpellsValue ts v)
-value_reads None k = reads [] (λ ts. SpellsValue ts None) decls.no_value
-value_reads (Some e) k = reads (written (codes "=") ∷ part (expr_words e) ∷ []) (λ ts. SpellsValue ts (Some e))
+value_reads None k = reads [] _ decls.no_value
+value_reads (Some e) k = reads (written _ ∷ part (expr_words e) ∷ []) _
     (λ t is ts said. decls.a_value t (is ∙ tables.equal) (expr_reads e k ts said))
 
 local_reads : (l : LocalTree) → IsTrue (kept_local l) →
     Reading (local_line l) (λ ts. Alike (Declares IsLocal) lineless_local ts l)
 local_reads l k ts h =
-    let parts = and_parts (kept_type l.ty) (is_ident l.name && kept_value l.init) k in
-    let rest = and_parts (is_ident l.name) (kept_value l.init) parts.1 in
-    let d = valued IsLocal 1 l.ty l.name (value_words l.init) (λ line. record l { line = line })
+    let parts = and_parts _ _ k in
+    let rest = and_parts _ _ parts.1 in
+    let d = valued IsLocal 1 l.ty l.name _ (λ line. record l { line = line })
     (λ us. SpellsValue us l.init) parts.0 rest.0 (value_reads l.init rest.1)
     (λ us vs line named value. decls.local named value) ts h in
     record { other = record l { line = d.0 }; spelled = d.1; same = refl }
 
 locals_read : (ls : List LocalTree) → list_all kept_local ls ≡ true →
     Reading (flat_map local_line ls) (λ ts. AllAlike (Declares IsLocal) lineless_local ts ls)
-locals_read = all_alike local_line kept_local (Declares IsLocal) lineless_local local_reads
+locals_read = all_alike local_line _ _ _ local_reads
 
 type_reads : (ty : TypeName) → IsTrue (kept_base ty.base) → (front back : List Lexeme) →
     Say (symbols (base_words ty.base)) front → Say (symbols (star_words ty.stars)) back →
     SpellsTypeName (front ++ back) ty
-type_reads ty k front back base stars = type_name (base_reads ty.base k front base) (stars_read ty.stars back stars)
+type_reads ty k front back base stars = type_name (base_reads ty.base k front base) (stars_read _ back stars)
 
 result_reads : (r : Option TypeName) → IsTrue (kept_result r) → Reading (result_words r) (λ ts. SpellsResult ts r)
-result_reads None k = reads (written (codes "void") ∷ []) (λ ts. SpellsResult ts None)
-    (λ t is. decls.no_result t (is ∙ tables.keyword_says keyword.Void))
+result_reads None k = reads (written _ ∷ []) _ (λ t is. decls.no_result t (is ∙ tables.keyword_says _))
 result_reads (Some ty) k =
-    reads (part (base_words ty.base) ∷ fixed blank ∷ part (star_words ty.stars) ∷ []) (λ ts. SpellsResult ts (Some ty))
+    reads (part (base_words ty.base) ∷ fixed blank ∷ part _ ∷ []) _
     (λ front base back stars. decls.a_result (type_reads ty k front back base stars))
 
 blank_symbols : (wanted : Bool) → symbols (blank_if wanted) ≡ []
@@ -155,34 +146,30 @@ param_from : (ty : TypeName) (name : Option (List ℕ)) (gap : Bool) → IsTrue 
     IsTrue (kept_name name) → Reading (base_words ty.base ++ (blank_if gap ++ (star_words ty.stars ++ name_words name)))
     (λ ts. SpellsParam ts (record { ty = ty; name = name }))
 param_from ty None gap k ident =
-    reads (part (base_words ty.base) ∷ part (blank_if gap ++ (star_words ty.stars ++ [])) ∷ [])
-    (λ us. SpellsParam us (record { ty = ty; name = None }))
+    reads (part (base_words ty.base) ∷ part (blank_if gap ++ (star_words ty.stars ++ [])) ∷ []) _
     (λ front base back said. decls.nameless (type_reads ty k front back base (said ∙
-    joined_symbols (blank_if gap) (star_words ty.stars ++ []) ∙
-    ap (λ x. x ++ symbols (star_words ty.stars ++ [])) (blank_symbols gap) ∙
-    ap symbols (append-nil (star_words ty.stars)))))
+    joined_symbols (blank_if gap) (star_words _ ++ []) ∙
+    ap (λ x. x ++ symbols (star_words ty.stars ++ [])) (blank_symbols gap) ∙ ap symbols (append-nil (star_words _)))))
 param_from ty (Some name) gap k ident =
-    reads (part (base_words ty.base) ∷ part (blank_if gap ++ (star_words ty.stars ++ word name ∷ [])) ∷ [])
-    (λ us. SpellsParam us (record { ty = ty; name = Some name }))
-    (λ front base back said.
-    reads (part (star_words ty.stars) ∷ written name ∷ [])
+    reads (part (base_words ty.base) ∷ part (blank_if gap ++ (star_words _ ++ word name ∷ [])) ∷ []) _
+    (λ front base back said. reads (part (star_words ty.stars) ∷ written name ∷ [])
     (λ us. SpellsParam (front ++ us) (record { ty = ty; name = Some name }))
     (λ middle stars t is. subst (λ us. SpellsParam us (record { ty = ty; name = Some name }))
-    (append_assoc front middle (t ∷ []))
+    (append_assoc front middle _)
     (decls.named t name (is ∙ name_says name ident) (type_reads ty k front middle base stars))) back
-    (said ∙ joined_symbols (blank_if gap) (star_words ty.stars ++ word name ∷ []) ∙
+    (said ∙ joined_symbols (blank_if gap) (star_words _ ++ word name ∷ []) ∙
     ap (λ x. x ++ symbols (star_words ty.stars ++ word name ∷ [])) (blank_symbols gap)))
 
 param_reads : (p : ParamTree) → IsTrue (kept_param p) → Reading (param_words p) (λ ts. SpellsParam ts p)
-param_reads p k = let parts = and_parts (kept_base p.ty.base) (kept_name p.name) k in
-    param_from p.ty p.name (nat_lt 0 p.ty.stars || is_some p.name) parts.0 parts.1
+param_reads p k = let parts = and_parts _ _ k in
+    param_from p.ty p.name _ parts.0 parts.1
 
 params_read : (ps : List ParamTree) → list_all kept_param ps ≡ true →
     Reading (params_words ps) (λ ts. SpellsParams ts ps)
-params_read [] all ts h = reads (written (codes "void") ∷ []) (λ us. SpellsParams us [])
-    (λ t is. decls.no_params t (is ∙ tables.keyword_says keyword.Void)) ts h
-params_read (p ∷ ps) all ts h = let parts = and_parts (kept_param p) (list_all kept_param ps) all in
-    decls.some_params (separated param_words kept_param SpellsParam param_reads p ps parts.0 parts.1 ts h)
+params_read [] all ts h = reads (written _ ∷ []) (λ us. SpellsParams us [])
+    (λ t is. decls.no_params t (is ∙ tables.keyword_says _)) ts h
+params_read (p ∷ ps) all ts h = let parts = and_parts (kept_param p) _ all in
+    decls.some_params (separated param_words _ SpellsParam param_reads p ps parts.0 parts.1 ts h)
 
 -- a head that is spelled, with the line at which it stands
 record Head (ts : List Lexeme) (head : HeadTree) : Type 0 where
@@ -191,16 +178,14 @@ record Head (ts : List Lexeme) (head : HeadTree) : Type 0 where
 
 head_reads : (head : HeadTree) → IsTrue (kept_head head) → Reading (head_words head) (λ ts. Head ts head)
 head_reads head k =
-    let parts = and_parts (kept_result head.result) (is_ident head.name && list_all kept_param head.params) k in
-    let rest = and_parts (is_ident head.name) (list_all kept_param head.params) parts.1 in
-    reads (part (result_words head.result) ∷ written head.name ∷ written (codes "(") ∷ part (params_words head.params) ∷
-    written (codes ")") ∷ []) (λ ts. Head ts head)
-    (λ front result t is u opens back params v closes.
+    let parts = and_parts (kept_result _) _ k in
+    let rest = and_parts (is_ident _) (list_all kept_param head.params) parts.1 in
+    reads (part (result_words _) ∷ written head.name ∷ written (codes "(") ∷ part (params_words _) ∷
+    written (codes ")") ∷ []) (λ ts. Head ts head) (λ front result t is u opens back params v closes.
     record {
       line = first_line front;
-      spelled = decls.head t u v head.name (is ∙ name_says head.name rest.0) (opens ∙ tables.open_paren)
-          (closes ∙ tables.close_paren) (result_reads head.result parts.0 front result)
-          (params_read head.params rest.1 back params);
+      spelled = decls.head t u v _ (is ∙ name_says _ rest.0) (opens ∙ tables.open_paren)
+          (closes ∙ tables.close_paren) (result_reads _ parts.0 front result) (params_read _ rest.1 back params);
     })
 
 proto_reads : (head : HeadTree) → IsTrue (kept_head head) →
@@ -210,7 +195,7 @@ proto_reads head k ts h =
     (λ front said t ends.
     let d = head_reads head k front said in
     record {
-      other = decl.Proto (record head { line = d.line });
+      other = decl.Proto _;
       spelled = decls.prototype t (ends ∙ tables.semicolon) d.spelled;
       same = refl;
     }) ts (h ∙ line_symbols 0 (ended (head_words head)))
@@ -249,21 +234,21 @@ function_with f body kept_h kept_ls read =
 function_reads : (f : FunctionTree) → IsTrue (kept_function f) →
     Reading (function_words f) (λ ts. Spelled ts (decl.Function f))
 function_reads f k =
-    let parts = and_parts (kept_head (head_of f.head)) (list_all kept_local f.locals && are_kept f.body) k in
-    let rest = and_parts (list_all kept_local f.locals) (are_kept f.body) parts.1 in
-    function_with f (lines_at 1 (layouts f.body)) parts.0 rest.0
+    let parts = and_parts _ _ k in
+    let rest = and_parts _ _ parts.1 in
+    function_with f _ parts.0 rest.0
     (λ ts said. lines_read 1 f.body (everywhere f.body) (all_at f.body rest.1) ts said)
 
 pub decl_reads : (d : Decl) → IsTrue (is_kept_decl d) →
     Reading (decl_words d) (λ ts. Alike SpellsDecl lineless_decl ts d)
-decl_reads (decl.Struct tree) k = struct_reads tree.name tree.line tree.members k
+decl_reads (decl.Struct tree) k = struct_reads _ _ _ k
 decl_reads (decl.Global tree) k = global_reads tree k
 decl_reads (decl.Proto tree) k = proto_reads tree k
 decl_reads (decl.Function tree) k = function_reads tree k
 
 pub decls_read : (ds : List Decl) → list_all is_kept_decl ds ≡ true →
     Reading (flat_map decl_words ds) (λ ts. AllAlike SpellsDecl lineless_decl ts ds)
-decls_read = all_alike decl_words is_kept_decl SpellsDecl lineless_decl decl_reads
+decls_read = all_alike _ _ SpellsDecl _ decl_reads
 
 pub decls_spell : (ds : List Decl) → list_all is_kept_decl ds ≡ true → DeclsSpell ds
 decls_spell ds k ts h = let read = decls_read ds k ts h in (read.others, read.spelled, read.same)

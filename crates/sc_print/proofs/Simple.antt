@@ -1,7 +1,7 @@
 -- The words of calls and simple statements spell them.
 use Rattle.sc_print.proofs.Common.{CallTree, ExprTree, IsMark, IsTrue, Lexeme, List, Piece, SimpleKind, Spells}
 use Rattle.sc_print.proofs.Common.{SpellsArgs, SpellsCall, SpellsCondition, SpellsKind, SpellsPlace, [], and_parts}
-use Rattle.sc_print.proofs.Common.{blank, call_words, codes, comma, equals, expr_words, is_ident, is_kept, is_place}
+use Rattle.sc_print.proofs.Common.{blank, call_words, codes, comma, equals, expr_words, is_ident, is_kept}
 use Rattle.sc_print.proofs.Common.{join_by, kept_call, kept_place, kept_simple, list_all, loosest_level, no_args}
 use Rattle.sc_print.proofs.Common.{place_words, simple_words, some_args, symbols, true, word, ◌++◌, ◌∙◌, ◌∷◌, ◌≡◌}
 use Rattle.sc_ast.specs.declared.stmt.SimpleKind.TheVariants as simple
@@ -20,14 +20,13 @@ args_read : (args : List ExprTree) → list_all is_kept args ≡ true →
     Reading (join_by expr_words comma args) (λ ts. SpellsArgs ts args)
 args_read [] all ts h = reads [] (λ us. SpellsArgs us []) no_args ts h
 args_read (e ∷ es) all ts h =
-    let parts = and_parts (is_kept e) (list_all is_kept es) all in
-    some_args (separated expr_words is_kept (Spells loosest_level) expr_reads e es parts.0 parts.1 ts h)
+    let parts = and_parts (is_kept e) _ all in
+    some_args (separated expr_words is_kept _ expr_reads e es parts.0 parts.1 ts h)
 
 pub call_reads : (c : CallTree) → IsTrue (kept_call c) → Reading (call_words c) (λ ts. SpellsCall ts c)
 call_reads c k =
     let parts = and_parts (is_ident c.name) (list_all is_kept c.args) k in
-    reads (written c.name ∷ written (codes "(") ∷ part (join_by expr_words comma c.args) ∷ written (codes ")") ∷ [])
-    (λ ts. SpellsCall ts c)
+    reads (written c.name ∷ written (codes "(") ∷ part (join_by _ comma c.args) ∷ written (codes ")") ∷ []) _
     (λ t is u opens args said v closes. spell.call t u v c.name (is ∙ name_says c.name parts.0)
     (opens ∙ tables.open_paren) (closes ∙ tables.close_paren) (args_read c.args parts.1 args said))
 
@@ -36,19 +35,19 @@ assigned : (place : ExprTree) (value : List Piece) (P : List Lexeme → Type 0) 
     ((ts : List Lexeme) (t : Lexeme) (us : List Lexeme) → SpellsPlace ts place → IsMark mark.Equal t →
     Say (symbols value) us → P (ts ++ t ∷ us)) → Reading (place_words place ++ (equals ++ value)) P
 assigned place value P k take =
-    let parts = and_parts (is_place place) (is_kept place) k in
+    let parts = and_parts _ (is_kept place) k in
     reads (part (place_words place) ∷ fixed blank ∷ written (codes "=") ∷ fixed blank ∷ part value ∷ []) P
     (λ ts said t is us behind.
     take ts t us (spelled_at place parts.1 [] 1 ts said, parts.0) (is ∙ tables.equal) behind)
 
 pub simple_reads : (k : SimpleKind) → IsTrue (kept_simple k) → Reading (simple_words k) (λ ts. SpellsKind ts k)
 simple_reads (simple.Assign place value) k ts h =
-    let parts = and_parts (kept_place place) (is_kept value) k in
-    assigned place (expr_words value) (λ ts. SpellsKind ts (simple.Assign place value)) parts.0
+    let parts = and_parts _ _ k in
+    assigned place _ (λ ts. SpellsKind ts (simple.Assign place value)) parts.0
     (λ us t vs at is said. spell.assign t is at (expr_reads value parts.1 vs said)) ts h
 simple_reads (simple.AssignCall place call) k ts h =
-    let parts = and_parts (kept_place place) (kept_call call) k in
-    assigned place (call_words call) (λ ts. SpellsKind ts (simple.AssignCall place call)) parts.0
+    let parts = and_parts _ _ k in
+    assigned place _ (λ ts. SpellsKind ts (simple.AssignCall place call)) parts.0
     (λ us t vs at is said. spell.assign_call t is at (call_reads call parts.1 vs said)) ts h
 simple_reads (simple.Call call) k ts h = spell.call (call_reads call k ts h)
 
@@ -59,7 +58,6 @@ in_brackets cond = word (codes "(") ∷ (expr_words cond ++ word (codes ")") ∷
 pub condition_reads : (cond : ExprTree) → IsTrue (is_kept cond) →
     Reading (in_brackets cond) (λ ts. SpellsCondition ts cond)
 condition_reads cond k =
-    reads (written (codes "(") ∷ part (expr_words cond) ∷ written (codes ")") ∷ fixed blank ∷ [])
-    (λ ts. SpellsCondition ts cond)
+    reads (written (codes "(") ∷ part (expr_words cond) ∷ written (codes ")") ∷ fixed blank ∷ []) _
     (λ t opens ts said u closes. spell.condition t u (opens ∙ tables.open_paren) (closes ∙ tables.close_paren)
     (expr_reads cond k ts said))

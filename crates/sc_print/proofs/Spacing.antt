@@ -4,7 +4,7 @@ use Rattle.sc_print.proofs.Common.{UnaryOp, Under, [], and_parts, ap, append-nil
 use Rattle.sc_print.proofs.Common.{binary_words, blank, bytes_eq, codes, expr_at, expr_induction, expr_step, false}
 use Rattle.sc_print.proofs.Common.{false≢true, flat_map-append, if◌then◌else◌, in_parens, indent, is_doubled, is_ident}
 use Rattle.sc_print.proofs.Common.{is_kept, is_name_byte, kept_step, length, literal_text, lt-ltb, map-ExprTree, nat_lt}
-use Rattle.sc_print.proofs.Common.{ne_eqb, newline, piece_text, prefix_words, refl, slice_index, subst, sym, text_of}
+use Rattle.sc_print.proofs.Common.{ne_eqb, newline, prefix_words, refl, slice_index, subst, sym, text_of}
 use Rattle.sc_print.proofs.Common.{true, unary_text, word, word_kind, word_run, words_at, ℕ, ◌&&◌, ◌++◌, ◌-◌, ◌<◌, ◌==◌}
 use Rattle.sc_print.proofs.Common.{◌∙◌, ◌∷◌, ◌≡◌, ◌≤◌}
 use Rattle.sc_base.specs.Levels as levels
@@ -28,7 +28,7 @@ pub data Tidy : List Piece → List ℕ → Type 0 where
       Tidy pieces rest → Tidy (word text ∷ pieces) rest
 
 behind : (a b : List Piece) (rest : List ℕ) → text_of (a ++ b) ++ rest ≡ text_of a ++ (text_of b ++ rest)
-behind a b rest = ap (λ x. x ++ rest) (flat_map-append piece_text a b) ∙ append_assoc (text_of a) (text_of b) rest
+behind a b rest = ap (λ x. x ++ rest) (flat_map-append _ a b) ∙ append_assoc _ _ rest
 
 go_on : (b : List Piece) (rest : List ℕ) {a : List Piece} {r : List ℕ} → Tidy a r → r ≡ text_of b ++ rest →
     Tidy b rest → Tidy (a ++ b) rest
@@ -126,8 +126,8 @@ binary_tidy op left right at_left at_right before level rest calm = (
   where
     plain : Sound (left [] (levels.level_of op) ++ blank ∷ word (binary_text op) ∷ blank ∷
         right [] (levels.level_of op - 1))
-    plain r c = tidy_append (left [] (levels.level_of op)) _ r (at_left [] (levels.level_of op) _ refl).0
-        (gap (next (binary_word op _) (gap (at_right [] (levels.level_of op - 1) r c).0)))
+    plain r c = tidy_append (left [] (levels.level_of op)) _ r (at_left [] _ _ refl).0
+        (gap (next (binary_word op _) (gap (at_right [] _ r c).0)))
 
     front : level ≤ 1 → Quiet (text_of (binary_words op left right before level) ++ rest)
     front low =
@@ -144,10 +144,9 @@ behind_tidy : (base : Printed) (more : List Piece) → Fits base →
     Tidy (base [] 0 ++ more) rest × Leads before level (text_of (base [] 0 ++ more) ++ rest)
 behind_tidy base more fit on before level rest calm =
     let o = on rest calm in
-    let b = fit [] 0 (text_of more ++ rest) o.0 in (
-      tidy_append (base [] 0) more rest b.0 o.1,
-      from_quiet before level _
-          (quiet_append (base [] 0) more rest (b.1.0 refl)),
+    let b = fit [] 0 _ o.0 in (
+      tidy_append _ more rest b.0 o.1,
+      from_quiet before level _ (quiet_append (base [] 0) more rest (b.1.0 refl)),
     )
 
 doubled : (c : ℕ) → IsSign c → (before text : List ℕ) → (bytes_eq before (c ∷ []) && is_doubled (c ∷ [])) ≡ false →
@@ -161,7 +160,7 @@ doubled c ampersand before text q = sign ampersand (λ e.
 
 operand : (c : ℕ) (of : Printed) → Fits of → (rest : List ℕ) → Calm rest →
     Tidy (of (c ∷ []) 1) rest × Opens (c ∷ []) (text_of (of (c ∷ []) 1) ++ rest)
-operand c of fit rest calm = let f = fit (c ∷ []) 1 rest calm in (f.0, f.1.1 refl)
+operand c of fit rest calm = let f = fit _ 1 rest calm in (f.0, f.1.1 refl)
 
 unary_tidy : (op : UnaryOp) (of : Printed) → Fits of → Fits (prefix_words (unary_text op) of)
 unary_tidy unary.Minus of fit = prefix_tidy 45 minus_word (doubled 45 minus) of (operand 45 of fit)
@@ -222,4 +221,4 @@ pub tidy_at : (e : ExprTree) → Holds e
 tidy_at = expr_induction Holds (λ t u kept before level rest calm.
     let eq = expr_at expr_step t in
     subst (λ f. Tidy (f before level) rest × Leads before level (text_of (f before level) ++ rest)) (sym eq)
-    (form t u (subst (λ b. IsTrue b) (expr_at kept_step t) kept) before level rest calm))
+    (form t u (subst (λ b. IsTrue b) (expr_at _ t) kept) before level rest calm))

@@ -3,9 +3,9 @@ use Rattle.sc_print.proofs.Common.{BinaryOp, Bool, ExprTree, ExprTree-F, IsTrue,
 use Rattle.sc_print.proofs.Common.{Some, Spells, Under, WordsSpell, [], and_parts, ap, apart, append-nil, arith, arrow}
 use Rattle.sc_print.proofs.Common.{binary_text, binary_words, blank, bytes_eq, codes, expr_at, expr_induction}
 use Rattle.sc_print.proofs.Common.{expr_step, false, if◌then◌else◌, in_parens, index, is_doubled, is_ident, is_kept}
-use Rattle.sc_print.proofs.Common.{joined, kept_step, literal, literal_text, ltb-false, map-ExprTree, member, nat_lt}
+use Rattle.sc_print.proofs.Common.{joined, kept_step, literal, ltb-false, map-ExprTree, member, nat_lt}
 use Rattle.sc_print.proofs.Common.{parenthesised, prefix_of, prefix_words, prefixed, refl, roll-ExprTree, subst, sym}
-use Rattle.sc_print.proofs.Common.{symbols, true, unary_text, variable, word, word_symbol, words_at, «prefix», ℕ, ◌&&◌}
+use Rattle.sc_print.proofs.Common.{symbols, true, variable, word, word_symbol, words_at, «prefix», ℕ, ◌&&◌}
 use Rattle.sc_print.proofs.Common.{◌++◌, ◌-◌, ◌∙◌, ◌∷◌, ◌≡◌, ◌≤◌}
 use Rattle.sc_base.specs.Levels as levels
 use Rattle.sc_ast.specs.declared.expr.ExprTree.TheOpen as term
@@ -66,8 +66,7 @@ binary_at op e f left right inner_left inner_right before level =
     plain : AtLevel (levels.level_of op) (left [] (levels.level_of op) ++ blank ∷ word (binary_text op) ∷ blank ∷
         right [] (levels.level_of op - 1)) (expr.Binary op e f)
     plain = reads (part (left [] (levels.level_of op)) ∷ fixed blank ∷ written (binary_text op) ∷ fixed blank ∷
-        part (right [] (levels.level_of op - 1)) ∷ []) (λ us. Spells (levels.level_of op) us (expr.Binary op e f))
-        (λ ts said t is us behind.
+        part (right [] (levels.level_of op - 1)) ∷ []) _ (λ ts said t is us behind.
         let l = subst (λ n. Spells n ts e) (sym (tables.own_level op)) (inner_left [] (levels.level_of op) ts said) in
         let d = joined t (tables.binary_mark op) op (is ∙ tables.binary_says op) (tables.binary_operator op)
         (tables.above op) l (inner_right [] (levels.level_of op - 1) us behind) in
@@ -76,9 +75,8 @@ binary_at op e f left right inner_left inner_right before level =
 index_at : (e f : ExprTree) (base place : List Piece) → AtLevel 0 base e → AtLevel 11 place f → (level : ℕ) →
     AtLevel level (base ++ word (codes "[") ∷ (place ++ word (codes "]") ∷ [])) (expr.Index e f)
 index_at e f base place at_base at_place level =
-    reads (part base ∷ written (codes "[") ∷ part place ∷ written (codes "]") ∷ [])
-    (λ us. Spells level us (expr.Index e f))
-    (λ ts said t opens us inside u closes. up_to 0 level _ (expr.Index e f) (omega arith)
+    reads (part base ∷ written (codes "[") ∷ part place ∷ written (codes "]") ∷ []) _
+    (λ ts said t opens us inside u closes. up_to 0 level _ _ (omega arith)
     (index t u (opens ∙ tables.open_square) (closes ∙ tables.close_square) (at_base ts said) (at_place us inside)))
 
 -- a base, and behind a mark a name
@@ -86,7 +84,7 @@ named_at : (kind name : List ℕ) (base : List Piece) (e of : ExprTree) → AtLe
     ((ts : List Lexeme) (t u : Lexeme) → t.symbol ≡ word_symbol kind → u.symbol ≡ word_symbol name → Spells 0 ts of →
     Spells 0 (ts ++ t ∷ u ∷ []) e) → (level : ℕ) → AtLevel level (base ++ word kind ∷ word name ∷ []) e
 named_at kind name base e of at_base spells level =
-    reads (part base ∷ written kind ∷ written name ∷ []) (λ us. Spells level us e)
+    reads (part base ∷ written kind ∷ written name ∷ []) _
     (λ ts said t is u named. up_to 0 level _ e (omega arith) (spells ts t u is named (at_base ts said)))
 
 abbrev pub Holds : ExprTree → Type 0
@@ -98,12 +96,12 @@ form : (t : ExprTree-F ExprTree) → Under Holds t → IsTrue (kept_step (map-Ex
     (roll-ExprTree t)
 unfolding roll-ExprTree denote.Hole.Carrier.roll
 form (term.Literal number) u k before level ts h =
-    reads (written (literal_text number) ∷ []) (λ us. Spells level us (expr.Literal number))
-    (λ t is. up_to 0 level _ (expr.Literal number) (omega arith) (literal t number (is ∙ literal_says number k))) ts h
+    reads (written _ ∷ []) (λ us. Spells level us (expr.Literal number))
+    (λ t is. up_to 0 level _ _ (omega arith) (literal t number (is ∙ literal_says number k))) ts h
 form (term.Variable name) u k before level ts h =
     reads (written name ∷ []) (λ us. Spells level us (expr.Variable name))
-    (λ t is. up_to 0 level _ (expr.Variable name) (omega arith) (variable t name (is ∙ name_says name k))) ts h
-form (term.Unary op of) u k before level ts h = prefixed_at (unary_text op) (tables.unary_mark op) (prefix.Operator op)
+    (λ t is. up_to 0 level _ _ (omega arith) (variable t name (is ∙ name_says name k))) ts h
+form (term.Unary op of) u k before level ts h = prefixed_at _ (tables.unary_mark op) (prefix.Operator op)
     (tables.unary_says op) (tables.unary_prefix op) of (words_at of) (u k) before level ts h
 form (term.Binary op left right) u k before level ts h =
     let parts = and_parts (is_kept left) (is_kept right) k in
@@ -113,20 +111,20 @@ form (term.Index base place) u k before level ts h =
     index_at base place (words_at base [] 0) (words_at place [] 11) (u.0 parts.0 [] 0) (u.1 parts.1 [] 11) level ts h
 form (term.Member base name) u k before level ts h =
     let parts = and_parts (is_kept base) (is_ident name) k in
-    named_at (codes ".") name (words_at base [] 0) (expr.Member base name) base (u parts.0 [] 0)
+    named_at (codes ".") name (words_at base [] 0) _ base (u parts.0 [] 0)
     (λ us t v is named d. member t v name (is ∙ tables.dot) (named ∙ name_says name parts.1) d) level ts h
 form (term.Arrow base name) u k before level ts h =
     let parts = and_parts (is_kept base) (is_ident name) k in
-    named_at (codes "->") name (words_at base [] 0) (expr.Arrow base name) base (u parts.0 [] 0)
+    named_at (codes "->") name (words_at base [] 0) _ base (u parts.0 [] 0)
     (λ us t v is named d. arrow t v name (is ∙ tables.arrow) (named ∙ name_says name parts.1) d) level ts h
-form (term.Deref of) u k before level ts h = prefixed_at (codes "*") mark.Star prefix.Dereference tables.star refl of
+form (term.Deref of) u k before level ts h = prefixed_at _ mark.Star prefix.Dereference tables.star refl of
     (words_at of) (u k) before level ts h
-form (term.Address of) u k before level ts h = prefixed_at (codes "&") mark.And prefix.Address tables.ampersand refl of
+form (term.Address of) u k before level ts h = prefixed_at _ mark.And prefix.Address tables.ampersand refl of
     (words_at of) (u k) before level ts h
 
 pub spelled_at : (e : ExprTree) → Holds e
 spelled_at = expr_induction Holds (λ t u kept before level ts h.
-    form t u (subst (λ b. IsTrue b) (expr_at kept_step t) kept) before level ts
+    form t u (subst (λ b. IsTrue b) (expr_at _ t) kept) before level ts
     (h ∙ ap (λ f. symbols (f before level)) (expr_at expr_step t)))
 
 pub words_spell : (e : ExprTree) → IsTrue (is_kept e) → WordsSpell e

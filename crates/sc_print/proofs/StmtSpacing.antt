@@ -4,10 +4,10 @@ use Rattle.sc_print.proofs.Common.{SimpleKind, SimpleTree, Some, StmtKind, StmtK
 use Rattle.sc_print.proofs.Common.{and_parts, append-nil, are_kept, blank, block_words, call_words, chain_words, codes}
 use Rattle.sc_print.proofs.Common.{comma, condition_words, deeper, else_words, ended, equals, expr_words, false}
 use Rattle.sc_print.proofs.Common.{first_words, for_words, if◌then◌else◌, indent, is_chain, is_ident, is_kept}
-use Rattle.sc_print.proofs.Common.{is_kept_stmt, is_place, join_by, kept_call, kept_kind, kept_option, kept_place}
+use Rattle.sc_print.proofs.Common.{is_kept_stmt, join_by, kept_call, kept_kind, kept_option, kept_place}
 use Rattle.sc_print.proofs.Common.{kept_simple, kind_layout, layouts, length, line_of, lines_at, list_all, map}
 use Rattle.sc_print.proofs.Common.{map-StmtKind, newline, next_words, place_words, refl, return_words, roll-StmtKind}
-use Rattle.sc_print.proofs.Common.{simple_words, stmt_at, stmt_induction, stmt_layout, subst, sym, true, word, ℕ, ◌&&◌}
+use Rattle.sc_print.proofs.Common.{simple_words, stmt_at, stmt_induction, stmt_layout, subst, sym, true, word, ℕ}
 use Rattle.sc_print.proofs.Common.{◌++◌, ◌==◌, ◌∷◌, ◌≡◌}
 use Rattle.sc_ast.specs.StmtWords as printing
 use Rattle.sc_ast.specs.declared.stmt.SimpleKind.TheVariants as simple
@@ -29,33 +29,32 @@ pub expr_tidy : (e : ExprTree) → IsTrue (is_kept e) → Sound (expr_words e)
 expr_tidy e k rest calm = (tidy_at e k [] 11 rest calm).0
 
 place_tidy : (e : ExprTree) → IsTrue (kept_place e) → Sound (place_words e)
-place_tidy e k rest calm = (tidy_at e (and_parts (is_place e) (is_kept e) k).1 [] 1 rest calm).0
+place_tidy e k rest calm = (tidy_at e (and_parts _ _ k).1 [] 1 rest calm).0
 
 -- pieces and a word behind them that anything may follow
 pub closing : (pieces : List Piece) (text : List ℕ) → Sound pieces → ((rest : List ℕ) → Calm (text ++ rest)) →
     ((rest : List ℕ) → IsWord text rest) → Free (pieces ++ word text ∷ [])
-closing pieces text t calm w rest = tidy_append pieces (word text ∷ []) rest
+closing pieces text t calm w rest = tidy_append pieces _ rest
     (t _ (subst (λ x. Calm (x ++ rest)) (sym (append-nil text)) (calm rest))) (next (w _) none)
 
 args_from : (e : ExprTree) (es : List ExprTree) → IsTrue (is_kept e) → list_all is_kept es ≡ true →
     Sound (join_by expr_words comma (e ∷ es))
-args_from e [] k all rest calm = tidy_append (expr_words e) [] rest (expr_tidy e k rest calm) none
+args_from e [] k all rest calm = tidy_append _ [] rest (expr_tidy e k rest calm) none
 args_from e (x ∷ xs) k all rest calm =
     let parts = and_parts (is_kept x) (list_all is_kept xs) all in
-    tidy_append (expr_words e) (word (codes ",") ∷ blank ∷ join_by expr_words comma (x ∷ xs)) rest
+    tidy_append (expr_words e) (word _ ∷ blank ∷ join_by expr_words comma (x ∷ xs)) rest
     (expr_tidy e k _ refl) (next (comma_word _) (gap (args_from x xs parts.0 parts.1 rest calm)))
 
 args_tidy : (args : List ExprTree) → list_all is_kept args ≡ true → Sound (join_by expr_words comma args)
 args_tidy [] all rest calm = none
-args_tidy (e ∷ es) all rest calm = let parts = and_parts (is_kept e) (list_all is_kept es) all in
+args_tidy (e ∷ es) all rest calm = let parts = and_parts _ _ all in
     args_from e es parts.0 parts.1 rest calm
 
 pub call_tidy : (c : CallTree) → IsTrue (kept_call c) → Free (call_words c)
 call_tidy c k rest =
     let parts = and_parts (is_ident c.name) (list_all is_kept c.args) k in
     next (plain_word c.name _ kind.Ident (name_some c.name parts.0) (name_kind c.name parts.0) refl)
-    (next (open_paren _) (closing (join_by expr_words comma c.args) (codes ")") (args_tidy c.args parts.1)
-    (λ r. refl) close_paren rest))
+    (next (open_paren _) (closing _ (codes ")") (args_tidy c.args parts.1) (λ r. refl) close_paren rest))
 
 pub assigned_tidy : (place : ExprTree) (value : List Piece) → IsTrue (kept_place place) → Sound value →
     Sound (place_words place ++ (equals ++ value))
@@ -63,14 +62,14 @@ assigned_tidy place value k t rest calm = tidy_append (place_words place) (equal
     (place_tidy place k _ refl) (gap (next (equal_word _) (gap (t rest calm))))
 
 pub simple_tidy : (k : SimpleKind) → IsTrue (kept_simple k) → Sound (simple_words k)
-simple_tidy (simple.Assign place value) k = let parts = and_parts (kept_place place) (is_kept value) k in
-    assigned_tidy place (expr_words value) parts.0 (expr_tidy value parts.1)
-simple_tidy (simple.AssignCall place call) k = let parts = and_parts (kept_place place) (kept_call call) k in
-    assigned_tidy place (call_words call) parts.0 (λ rest calm. call_tidy call parts.1 rest)
+simple_tidy (simple.Assign place value) k = let parts = and_parts _ _ k in
+    assigned_tidy place _ parts.0 (expr_tidy value parts.1)
+simple_tidy (simple.AssignCall place call) k = let parts = and_parts _ _ k in
+    assigned_tidy place _ parts.0 (λ rest calm. call_tidy call parts.1 rest)
 simple_tidy (simple.Call call) k = λ rest calm. call_tidy call k rest
 
 pub ended_tidy : (pieces : List Piece) → Sound pieces → Free (ended pieces)
-ended_tidy pieces t = closing pieces (codes ";") t (λ r. refl) semicolon
+ended_tidy pieces t = closing pieces _ t (λ r. refl) semicolon
 
 pub condition_tidy : (keyword : List ℕ) (cond : ExprTree) → ((rest : List ℕ) → Calm rest → IsWord keyword rest) →
     IsTrue (is_kept cond) → Free (condition_words keyword cond)
@@ -92,12 +91,11 @@ next_tidy (Some s) k rest calm = gap (simple_tidy s.kind k rest calm)
 for_tidy : (f : Option SimpleTree) (c : ExprTree) (n : Option SimpleTree) → IsTrue (kept_option f) →
     IsTrue (is_kept c) → IsTrue (kept_option n) → Free (for_words f c n)
 for_tidy f c n kf kc kn rest =
-    let turn = tidy_append (next_words n) (word (codes ")") ∷ blank ∷ []) rest (next_tidy n kn _ refl)
+    let turn = tidy_append _ (word (codes ")") ∷ blank ∷ []) rest (next_tidy n kn _ refl)
     (next (close_paren _) (gap none)) in
     let test = tidy_append (expr_words c) _ rest (expr_tidy c kc _ refl) (next (semicolon _) turn) in
     next (keyword_word keyword.For _ refl) (gap (next (open_paren _) (tidy_append (first_words f) _ rest
-    (first_tidy f kf _ refl)
-    (next (semicolon _) (gap test)))))
+    (first_tidy f kf _ refl) (next (semicolon _) (gap test)))))
 
 abbrev Holds : StmtTree → Type 0
 Holds s = IsTrue (is_kept_stmt s) → (depth : ℕ) → Free ((stmt_layout s).words depth)
@@ -106,22 +104,22 @@ lines_tidy : (depth : ℕ) (stmts : List StmtTree) → Each Holds stmts → list
     Free (lines_at depth (layouts stmts))
 lines_tidy depth [] each k rest = none
 lines_tidy depth (s ∷ stmts) each k rest =
-    let parts = and_parts (is_kept_stmt s) (list_all is_kept_stmt stmts) k in
-    tidy_append (line_of depth ((stmt_layout s).words depth)) (lines_at depth (layouts stmts)) rest
+    let parts = and_parts (is_kept_stmt s) (list_all _ stmts) k in
+    tidy_append (line_of depth _) (lines_at depth _) rest
     (at_level depth (tidy_append ((stmt_layout s).words depth) (newline ∷ []) _ (each.0 parts.0 depth _)
     (line_end none))) (lines_tidy depth stmts each.1 parts.1 rest)
 
 block_tidy : (depth : ℕ) (stmts : List StmtTree) → Each Holds stmts → list_all is_kept_stmt stmts ≡ true →
     Free (block_words depth (layouts stmts))
 block_tidy depth stmts each k rest = next (open_curly _)
-    (line_end (tidy_append (lines_at (deeper depth) (layouts stmts)) (indent depth ∷ word (codes "}") ∷ []) rest
+    (line_end (tidy_append (lines_at (deeper depth) _) (indent depth ∷ word (codes "}") ∷ []) rest
     (lines_tidy (deeper depth) stmts each k _) (at_level depth (next (close_curly _) none))))
 
 chain_tidy : (depth : ℕ) (stmts : List StmtTree) → Each Holds stmts → list_all is_kept_stmt stmts ≡ true →
     Free (chain_words depth (layouts stmts))
 chain_tidy depth [] each k rest = none
 chain_tidy depth (s ∷ stmts) each k rest =
-    let parts = and_parts (is_kept_stmt s) (list_all is_kept_stmt stmts) k in
+    let parts = and_parts (is_kept_stmt s) (list_all _ stmts) k in
     tidy_append ((stmt_layout s).words depth) (chain_words depth (layouts stmts)) rest (each.0 parts.0 depth _)
     (chain_tidy depth stmts each.1 parts.1 rest)
 
@@ -135,7 +133,7 @@ else_tidy : (depth : ℕ) (stmts : List StmtTree) → Each Holds stmts → list_
 else_tidy depth stmts each k =
     choice_tidy (length (layouts stmts) == 0) [] _ (λ rest. none)
     (λ rest. gap (next (keyword_word keyword.Else _ refl) (gap (choice_tidy (is_chain (layouts stmts))
-    (chain_words depth (layouts stmts)) (block_words depth (layouts stmts)) (chain_tidy depth stmts each k)
+    (chain_words depth (layouts stmts)) (block_words depth _) (chain_tidy depth stmts each k)
     (block_tidy depth stmts each k) rest))))
 
 form : (k : StmtKind-F StmtKind StmtTree) → Inside Holds k →
@@ -147,30 +145,26 @@ form (layer.AssignCall place call) inside k depth rest =
     ended_tidy _ (simple_tidy (simple.AssignCall place call) k) rest
 form (layer.Call call) inside k depth rest = ended_tidy _ (simple_tidy (simple.Call call) k) rest
 form (layer.If cond then_part else_part) inside k depth rest =
-    let parts = and_parts (is_kept cond) (all_kept (map is_kept_stmt then_part) &&
-    all_kept (map is_kept_stmt else_part)) k in
+    let parts = and_parts (is_kept cond) _ k in
     let both = and_parts (all_kept (map is_kept_stmt then_part)) (all_kept (map is_kept_stmt else_part)) parts.1 in
-    tidy_append (condition_words (codes "if") cond) _ rest
-    (condition_tidy (codes "if") cond (keyword_word keyword.If) parts.0 _)
-    (tidy_append (block_words depth (layouts then_part)) (else_words depth (layouts else_part)) rest
-    (block_tidy depth then_part inside.0 (all_at then_part both.0) _)
-    (else_tidy depth else_part inside.1 (all_at else_part both.1) rest))
+    tidy_append (condition_words _ cond) _ rest (condition_tidy _ cond (keyword_word keyword.If) parts.0 _)
+    (tidy_append (block_words depth (layouts _)) (else_words depth (layouts _)) rest
+    (block_tidy depth then_part inside.0 (all_at _ both.0) _)
+    (else_tidy depth else_part inside.1 (all_at _ both.1) rest))
 form (layer.While cond body) inside k depth rest =
-    let parts = and_parts (is_kept cond) (all_kept (map is_kept_stmt body)) k in
-    tidy_append (condition_words (codes "while") cond) _ rest
-    (condition_tidy (codes "while") cond (keyword_word keyword.While) parts.0 _)
+    let parts = and_parts (is_kept cond) (all_kept (map _ body)) k in
+    tidy_append (condition_words _ cond) _ rest (condition_tidy _ cond (keyword_word keyword.While) parts.0 _)
     (block_tidy depth body inside (all_at body parts.1) rest)
 form (layer.For first cond after body) inside k depth rest =
-    let parts = and_parts (kept_option first) (is_kept cond &&
-    (kept_option after && all_kept (map is_kept_stmt body))) k in
-    let more = and_parts (is_kept cond) (kept_option after && all_kept (map is_kept_stmt body)) parts.1 in
-    let last = and_parts (kept_option after) (all_kept (map is_kept_stmt body)) more.1 in
+    let parts = and_parts (kept_option first) _ k in
+    let more = and_parts (is_kept cond) _ parts.1 in
+    let last = and_parts (kept_option after) (all_kept (map _ body)) more.1 in
     tidy_append (for_words first cond after) _ rest (for_tidy first cond after parts.0 more.0 last.0 _)
     (block_tidy depth body inside (all_at body last.1) rest)
 form layer.Break inside k depth rest = next (keyword_word keyword.Break _ refl) (next (semicolon _) none)
 form layer.Continue inside k depth rest = next (keyword_word keyword.Continue _ refl) (next (semicolon _) none)
 form layer.Return inside k depth rest = next (keyword_word keyword.Return _ refl) (next (semicolon _) none)
-form (layer.ReturnValue value) inside k depth rest = return_tidy (expr_words value) (expr_tidy value k) rest
+form (layer.ReturnValue value) inside k depth rest = return_tidy _ (expr_tidy value k) rest
 form (layer.ReturnCall call) inside k depth rest = return_tidy (call_words call) (λ r calm. call_tidy call k r) rest
 
 at_line : (line : ℕ) (k : StmtKind-F StmtKind StmtTree) → Inside Holds k →

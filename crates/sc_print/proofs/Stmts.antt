@@ -68,18 +68,17 @@ same_line line kind s same =
 
 pub lines_read : (depth : ℕ) (stmts : List StmtTree) → Each Holds stmts → list_all is_kept_stmt stmts ≡ true →
     Reading (lines_at depth (layouts stmts)) (λ ts. Lines ts stmts)
-lines_read depth [] each k = reads [] (λ ts. Lines ts []) (record { others = []; spelled = spell.none; same = refl })
+lines_read depth [] each k = reads [] _ (record { others = []; spelled = spell.none; same = refl })
 lines_read depth (s ∷ stmts) each k =
-    let parts = and_parts (is_kept_stmt s) (list_all is_kept_stmt stmts) k in
+    let parts = and_parts (is_kept_stmt s) _ k in
     let words = (stmt_layout s).words depth in
-    reads (part (line_of depth words) ∷ part (lines_at depth (layouts stmts)) ∷ []) (λ ts. Lines ts (s ∷ stmts))
-    (λ front said back behind.
+    reads (part (line_of depth words) ∷ part _ ∷ []) _ (λ front said back behind.
     let first = each.0 parts.0 depth front (said ∙ line_symbols depth words) in
     let rest = lines_read depth stmts each.1 parts.1 back behind in
     record {
       others = record { line = first_line front; kind = first.kind } ∷ rest.others;
       spelled = spell.next first.spelled rest.spelled;
-      same = ap₂ (λ x xs. x ∷ xs) (same_line (first_line front) first.kind s first.same) rest.same;
+      same = ap₂ (λ x xs. x ∷ xs) (same_line _ _ s first.same) rest.same;
     })
 
 record Block (ts : List Lexeme) (stmts : List StmtTree) : Type 0 where
@@ -91,9 +90,8 @@ block_reads : (depth : ℕ) (stmts : List StmtTree) → Each Holds stmts → lis
     Reading (block_words depth (layouts stmts)) (λ ts. Block ts stmts)
 block_reads depth stmts each k =
     reads (written (codes "{") ∷ fixed newline ∷ part (lines_at (deeper depth) (layouts stmts)) ∷
-    fixed (indent depth) ∷ written (codes "}") ∷ []) (λ ts. Block ts stmts)
-    (λ t opens ts said u closes.
-    let inner = lines_read (deeper depth) stmts each k ts said in
+    fixed (indent depth) ∷ written (codes "}") ∷ []) _ (λ t opens ts said u closes.
+    let inner = lines_read _ stmts each k ts said in
     record {
       others = inner.others;
       spelled = spell.block t u (opens ∙ tables.open_curly) (closes ∙ tables.close_curly) inner.spelled;
@@ -117,30 +115,28 @@ chain_reads depth s [] each k q u is vs h =
     let chained = (and_parts (stmt_layout s).is_if true (and_parts true ((stmt_layout s).is_if && true) q).1).0 in
     let inner = each.0 (and_parts (is_kept_stmt s) true k).0 depth vs
     (h ∙ ap symbols (append-nil ((stmt_layout s).words depth))) in
-    else_if u inner.kind is (inner.chained chained)
-    (ap (λ x. x ∷ []) (same_line (first_line vs) inner.kind s inner.same))
+    else_if u inner.kind is (inner.chained chained) (ap (λ x. x ∷ []) (same_line _ _ s inner.same))
 chain_reads depth s (x ∷ xs) each k q u is vs h =
-    let long = eqb-true (length (layouts (s ∷ x ∷ xs))) 1
-    (and_parts (length (layouts (s ∷ x ∷ xs)) == 1) (list_all (λ stmt. stmt.is_if) (layouts (s ∷ x ∷ xs))) q).0 in
+    let long = eqb-true (length (layouts (s ∷ x ∷ xs))) 1 (and_parts _ _ q).0 in
     absurd (omega (arith, long))
 
 else_reads : (depth : ℕ) (stmts : List StmtTree) → Each Holds stmts → list_all is_kept_stmt stmts ≡ true →
     Reading (else_words depth (layouts stmts)) (λ ts. Else stmts ts)
 else_reads depth [] each k ts h = reads [] (λ us. Else [] us) (no_else refl) ts h
 else_reads depth (s ∷ stmts) each k ts h =
-    reads (written (codes "else") ∷ part (behind_else depth (layouts (s ∷ stmts))) ∷ []) (λ us. Else (s ∷ stmts) us)
-    (λ u is vs said. go u is (is_chain (layouts (s ∷ stmts))) refl vs said) ts
+    reads (written _ ∷ part (behind_else depth (layouts (s ∷ stmts))) ∷ []) (λ us. Else (s ∷ stmts) us)
+    (λ u is vs said. go u is _ refl vs said) ts
     (h ∙ ap (λ b. symbols (if b then [] else (blank ∷ word (codes "else") ∷ blank ∷
     behind_else depth (layouts (s ∷ stmts))))) some)
   where
     some : (length (layouts (s ∷ stmts)) == 0) ≡ false
-    some = ne_eqb (length (layouts (s ∷ stmts))) 0 (λ e. omega (arith, e))
+    some = ne_eqb _ 0 (λ e. omega (arith, e))
 
     go : (u : Lexeme) → u.symbol ≡ word_symbol (codes "else") → (chained : Bool) →
         is_chain (layouts (s ∷ stmts)) ≡ chained → Reading (if chained then chain_words depth (layouts (s ∷ stmts))
         else block_words depth (layouts (s ∷ stmts))) (λ vs. Else (s ∷ stmts) (u ∷ vs))
     go u is true q vs said = chain_reads depth s stmts each k q u is vs said
-    go u is false q vs said = else_block u is (block_reads depth (s ∷ stmts) each k vs said)
+    go u is false q vs said = else_block u is (block_reads depth _ each k vs said)
 
 chosen : {ts : List Lexeme} (k kind : StmtKind) → SpellsIf ts kind → lineless_kind kind ≡ lineless_kind k →
     Spelled ts true k
@@ -182,16 +178,13 @@ while_reads : (c : ExprTree) (b : List StmtTree) → IsTrue (is_kept c) → Each
     Reading (condition_words (codes "while") c ++ block_words depth (layouts b))
     (λ ts. Spelled ts false (stmt.While c b))
 while_reads c b kept_c at_b kept_b depth =
-    reads (written (codes "while") ∷ part (in_brackets c) ∷ part (block_words depth (layouts b)) ∷ [])
-    (λ ts. Spelled ts false (stmt.While c b))
-    (λ t is ts cond us block.
+    reads (written _ ∷ part (in_brackets c) ∷ part (block_words depth _) ∷ []) _ (λ t is ts cond us block.
     let body = block_reads depth b at_b kept_b us block in
     record {
       kind = stmt.While c body.others;
-      spelled = spell.while_loop t (is ∙ tables.keyword_says keyword.While)
-          (condition_reads c kept_c ts cond) body.spelled;
+      spelled = spell.while_loop t (is ∙ tables.keyword_says _) (condition_reads c kept_c ts cond) body.spelled;
       chained = λ q. absurd (false≢true q);
-      same = same_while c body.others ∙ ap (λ x. stmt.While c x) body.same ∙ sym (same_while c b);
+      same = same_while c _ ∙ ap (λ x. stmt.While c x) body.same ∙ sym (same_while c b);
     })
 
 -- a statement of a kind that holds no others, and its `;`
@@ -201,7 +194,7 @@ simply k d = record { kind = k; spelled = d; chained = λ q. absurd (false≢tru
 plain_reads : (k : SimpleKind) → IsTrue (kept_simple k) →
     Reading (ended (simple_words k)) (λ ts. SpellsStmtKind ts (kind_of k))
 plain_reads k kept_k =
-    reads (part (simple_words k) ∷ written (codes ";") ∷ []) (λ ts. SpellsStmtKind ts (kind_of k))
+    reads (part (simple_words k) ∷ written (codes ";") ∷ []) _
     (λ ts said t ends. spell.plain t (ends ∙ tables.semicolon) (simple_reads k kept_k ts said))
 
 -- one reserved word and `;`
@@ -209,7 +202,7 @@ two_words : (w : Keyword) (k : StmtKind) →
     ((t u : Lexeme) → IsKeyword w t → IsMark mark.Semicolon u → SpellsStmtKind (t ∷ u ∷ []) k) →
     Reading (ended (word (tables.keyword_text w) ∷ [])) (λ ts. Spelled ts false k)
 two_words w k spells =
-    reads (written (tables.keyword_text w) ∷ written (codes ";") ∷ []) (λ ts. Spelled ts false k)
+    reads (written _ ∷ written _ ∷ []) _
     (λ t is u ends. simply k (spells t u (is ∙ tables.keyword_says w) (ends ∙ tables.semicolon)))
 
 -- `return`, what is returned, and `;`
@@ -217,9 +210,8 @@ returned : (value : List Piece) (k : StmtKind) → ((t : Lexeme) (ts : List Lexe
     IsKeyword keyword.Return t → IsMark mark.Semicolon u → Say (symbols value) ts →
     SpellsStmtKind (t ∷ (ts ++ u ∷ [])) k) → Reading (return_words value) (λ ts. Spelled ts false k)
 returned value k spells =
-    reads (written (codes "return") ∷ part value ∷ written (codes ";") ∷ []) (λ ts. Spelled ts false k)
-    (λ t is ts said u ends. simply k (spells t ts u (is ∙ tables.keyword_says keyword.Return)
-    (ends ∙ tables.semicolon) said))
+    reads (written _ ∷ part value ∷ written _ ∷ []) _
+    (λ t is ts said u ends. simply k (spells t ts u (is ∙ tables.keyword_says _) (ends ∙ tables.semicolon) said))
 
 -- a part of a `for`
 pub record Part (ts : List Lexeme) (part : Option SimpleTree) : Type 0 where
@@ -274,13 +266,11 @@ for_reads : (f : Option SimpleTree) (c : ExprTree) (n : Option SimpleTree) (b : 
     Reading (for_words f c n ++ block_words depth (layouts b)) (λ ts. Spelled ts false (stmt.For f c n b))
 for_reads f c n b kept_f kept_c kept_n at_b kept_b depth ts h =
     let block : List Piece = block_words depth (layouts b) in
-    let closing : List Piece = word (codes ")") ∷ blank ∷ [] in
+    let closing = word (codes ")") ∷ blank ∷ [] in
     let turn : List Piece = word (codes ";") ∷ (next_words n ++ closing) in
-    let joined : (first_words f ++ word (codes ";") ∷ blank ∷ (expr_words c ++ turn)) ++ block ≡
-    first_words f ++ word (codes ";") ∷ blank ∷ (expr_words c ++ word (codes ";") ∷ (next_words n ++
-    (closing ++ block))) =
+    let joined =
     append_assoc (first_words f) (word (codes ";") ∷ blank ∷ (expr_words c ++ turn)) block ∙
-    ap (λ x. first_words f ++ word (codes ";") ∷ blank ∷ x) (append_assoc (expr_words c) turn block ∙
+    ap (λ x. first_words f ++ word (codes ";") ∷ blank ∷ x) (append_assoc _ turn block ∙
     ap (λ x. expr_words c ++ word (codes ";") ∷ x) (append_assoc (next_words n) closing block)) in
     for_with f c n b (next_words n) kept_f kept_c (λ us said. part_reads n kept_n us (said ∙ next_symbols n)) at_b
     kept_b depth ts (h ∙ ap (λ x. symbols (word (codes "for") ∷ blank ∷ word (codes "(") ∷ x)) joined)
@@ -290,36 +280,31 @@ form : (k : StmtKind-F StmtKind StmtTree) → Inside Holds k →
     IsTrue (kept.kind_step (map-StmtKind _ _ _ _ kept_kind is_kept_stmt k)) →
     Reads (printing.kind_step (map-StmtKind _ _ _ _ kind_layout stmt_layout k)) (roll-StmtKind k)
 unfolding roll-StmtKind denote.Hole.Carrier.roll
-form layer.Empty inside k depth ts h = reads (written (codes ";") ∷ []) (λ us. Spelled us false stmt.Empty)
-    (λ t is. simply stmt.Empty (spell.empty t (is ∙ tables.semicolon))) ts h
-form (layer.Assign place value) inside k depth ts h =
-    simply (stmt.Assign place value) (plain_reads (simple.Assign place value) k ts h)
-form (layer.AssignCall place call) inside k depth ts h =
-    simply (stmt.AssignCall place call) (plain_reads (simple.AssignCall place call) k ts h)
-form (layer.Call call) inside k depth ts h = simply (stmt.Call call) (plain_reads (simple.Call call) k ts h)
+form layer.Empty inside k depth ts h = reads (written _ ∷ []) (λ us. Spelled us false stmt.Empty)
+    (λ t is. simply _ (spell.empty t (is ∙ tables.semicolon))) ts h
+form (layer.Assign place value) inside k depth ts h = simply _ (plain_reads (simple.Assign place value) k ts h)
+form (layer.AssignCall place call) inside k depth ts h = simply _ (plain_reads (simple.AssignCall place call) k ts h)
+form (layer.Call call) inside k depth ts h = simply _ (plain_reads (simple.Call call) k ts h)
 form (layer.If cond then_part else_part) inside k depth ts h =
-    let parts = and_parts (is_kept cond) (all_kept (map is_kept_stmt then_part) &&
-    all_kept (map is_kept_stmt else_part)) k in
+    let parts = and_parts _ _ k in
     let both = and_parts (all_kept (map is_kept_stmt then_part)) (all_kept (map is_kept_stmt else_part)) parts.1 in
-    if_reads cond then_part else_part parts.0 inside.0 (all_at then_part both.0) inside.1
-    (all_at else_part both.1) depth ts h
+    if_reads cond _ _ parts.0 inside.0 (all_at _ both.0) inside.1 (all_at _ both.1) depth ts h
 form (layer.While cond body) inside k depth ts h =
-    let parts = and_parts (is_kept cond) (all_kept (map is_kept_stmt body)) k in
+    let parts = and_parts _ _ k in
     while_reads cond body parts.0 inside (all_at body parts.1) depth ts h
 form (layer.For first cond next body) inside k depth ts h =
-    let parts = and_parts (kept_option first) (is_kept cond &&
-    (kept_option next && all_kept (map is_kept_stmt body))) k in
-    let more = and_parts (is_kept cond) (kept_option next && all_kept (map is_kept_stmt body)) parts.1 in
-    let last = and_parts (kept_option next) (all_kept (map is_kept_stmt body)) more.1 in
+    let parts = and_parts _ _ k in
+    let more = and_parts _ _ parts.1 in
+    let last = and_parts _ _ more.1 in
     for_reads first cond next body parts.0 more.0 last.0 inside (all_at body last.1) depth ts h
-form layer.Break inside k depth ts h = two_words keyword.Break stmt.Break spell.«break» ts h
-form layer.Continue inside k depth ts h = two_words keyword.Continue stmt.Continue spell.«continue» ts h
-form layer.Return inside k depth ts h = two_words keyword.Return stmt.Return spell.return_nothing ts h
+form layer.Break inside k depth ts h = two_words _ _ spell.«break» ts h
+form layer.Continue inside k depth ts h = two_words _ _ spell.«continue» ts h
+form layer.Return inside k depth ts h = two_words keyword.Return _ spell.return_nothing ts h
 form (layer.ReturnValue value) inside k depth ts h =
-    returned (expr_words value) (stmt.ReturnValue value)
+    returned (expr_words value) _
     (λ t us u is ends said. spell.return_value t u is ends (expr_reads value k us said)) ts h
 form (layer.ReturnCall call) inside k depth ts h =
-    returned (call_words call) (stmt.ReturnCall call)
+    returned (call_words call) _
     (λ t us u is ends said. spell.return_call t u is ends (call_reads call k us said)) ts h
 
 at_line : (line : ℕ) (k : StmtKind-F StmtKind StmtTree) → Inside Holds k →

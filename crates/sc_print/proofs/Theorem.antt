@@ -1,7 +1,7 @@
 -- What is printed reads back.
 use Rattle.sc_print.proofs.Common.{Decl, DeclsReadAs, ExprTree, IsTrue, List, ReadsAs, SectionReadsAs, SectionTree}
-use Rattle.sc_print.proofs.Common.{StmtTree, StmtsReadAs, Token, [], ap, are_kept, decl_words, decls_text, expr_text}
-use Rattle.sc_print.proofs.Common.{expr_words, flat_map, is_kept, is_kept_decl, kept_section, layouts, lexeme_of}
+use Rattle.sc_print.proofs.Common.{StmtTree, StmtsReadAs, Token, [], ap, are_kept, decls_text, expr_text}
+use Rattle.sc_print.proofs.Common.{flat_map, is_kept, is_kept_decl, kept_section, lexeme_of}
 use Rattle.sc_print.proofs.Common.{lines_at, list_all, map, printed, refl, stmts_text, symbol_of, ℕ, ◌∙◌, ◌∷◌, ◌≡◌}
 use Rattle.sc_print.proofs.Spelling.{words_spell}
 use Rattle.sc_print.proofs.Spacing.{tidy_at}
@@ -19,28 +19,28 @@ said bytes (t ∷ ts) = ap (λ x. symbol_of bytes t ∷ x) (said bytes ts)
 
 pub reads_back : (expr : ExprTree) → IsTrue (is_kept expr) → ReadsAs (expr_text expr) expr
 reads_back expr kept =
-    let found = cut_of (expr_words expr) (tidy_at expr kept [] 11 [] refl).0 in
+    let found = cut_of _ (tidy_at expr kept [] 11 [] refl).0 in
     record {
       tokens = found.tokens;
       cut = found.cuts;
-      spelled = words_spell expr kept _ (said (expr_text expr) found.tokens ∙ found.says);
+      spelled = words_spell expr kept _ (said _ _ ∙ found.says);
     }
 
 pub stmts_read_back : (stmts : List StmtTree) → IsTrue (are_kept stmts) → (depth : ℕ) →
     StmtsReadAs (stmts_text depth stmts) stmts
 stmts_read_back stmts kept depth =
-    let found = cut_of (lines_at depth (layouts stmts)) (stmts_tidy stmts kept depth []) in
-    let spelled = stmts_spell stmts kept depth _ (said (stmts_text depth stmts) found.tokens ∙ found.says) in
+    let found = cut_of (lines_at depth _) (stmts_tidy stmts kept depth []) in
+    let spelled = stmts_spell stmts kept depth _ (said _ _ ∙ found.says) in
     record { tokens = found.tokens; cut = found.cuts; others = spelled.0; spelled = spelled.1; same = spelled.2 }
 
 pub decls_read_back : (ds : List Decl) → IsTrue (list_all is_kept_decl ds) → DeclsReadAs (decls_text ds) ds
 decls_read_back ds kept =
-    let found = cut_of (flat_map decl_words ds) (decls_tidy ds kept []) in
-    let read = decls_read ds kept _ (said (decls_text ds) found.tokens ∙ found.says) in
+    let found = cut_of (flat_map _ ds) (decls_tidy ds kept []) in
+    let read = decls_read ds kept _ (said _ _ ∙ found.says) in
     record { tokens = found.tokens; cut = found.cuts; others = read.others; spelled = read.spelled; same = read.same }
 
 pub section_reads_back : (tree : SectionTree) → IsTrue (kept_section tree) → SectionReadsAs (printed tree) tree
 section_reads_back tree kept =
     let found = section_cut tree kept in
-    let spelled = section_reads tree kept _ (said (printed tree) found.tokens ∙ found.says) in
+    let spelled = section_reads tree kept _ (said _ _ ∙ found.says) in
     record { tokens = found.tokens; cut = found.cuts; other = spelled.0; spelled = spelled.1; same = spelled.2 }

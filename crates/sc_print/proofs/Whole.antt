@@ -4,12 +4,12 @@ use Rattle.sc_print.proofs.Common.{SpellsDecl, SpellsDirectives, SpellsSection, 
 use Rattle.sc_print.proofs.Common.{begins_heading, decl_words, export_words, flat_map, heading_words, import_words}
 use Rattle.sc_print.proofs.Common.{is_kept_decl, is_name, kept_export, kept_import, kept_section, lineless_decl}
 use Rattle.sc_print.proofs.Common.{lineless_export, lineless_import, list_all, map, printed, refl, section_words, sym}
-use Rattle.sc_print.proofs.Common.{symbols, text_of, true, word, ℕ, ◌&&◌, ◌++◌, ◌∙◌, ◌∷◌, ◌≡◌}
+use Rattle.sc_print.proofs.Common.{symbols, text_of, true, word, ℕ, ◌++◌, ◌∙◌, ◌∷◌, ◌≡◌}
 use Rattle.sc_ast.specs.declared.section.ExportLine.{ExportLine}
 use Rattle.sc_ast.specs.declared.section.ImportLine.{ImportLine}
 use Rattle.sc_parse.specs.Sections as spell
 use Rattle.sc_print.proofs.Reading.{AllAlike, Reading, part, written, reads}
-use Rattle.sc_print.proofs.DirectiveWords.{export_text, export_says, export_line_is, import_text, import_says}
+use Rattle.sc_print.proofs.DirectiveWords.{export_says, export_line_is, import_text, import_says}
 use Rattle.sc_print.proofs.DirectiveWords.{import_line_is, heading_text, heading_says, heading_line_is, heading_begins}
 use Rattle.sc_print.proofs.Lined.{Lined, tidy, line, found_lines}
 use Rattle.sc_print.proofs.Cut.{Found}
@@ -27,7 +27,7 @@ record Directed (ts : List Lexeme) (exports : List ExportLine) (imports : List I
 imports_read : (imports : List ImportLine) → list_all kept_import imports ≡ true →
     Reading (flat_map import_words imports) (λ ts. Directed ts [] imports)
 unfolding import_words
-imports_read [] k = reads [] (λ ts. Directed ts [] []) (record {
+imports_read [] k = reads [] _ (record {
   other_exports = [];
   other_imports = [];
   spelled = spell.none;
@@ -54,9 +54,8 @@ exports_read : (exports : List ExportLine) (imports : List ImportLine) → list_
 unfolding export_words
 exports_read [] imports k j = imports_read imports j
 exports_read (l ∷ exports) imports k j =
-    let parts = and_parts (kept_export l) (list_all kept_export exports) k in
-    reads (written (export_text l.name) ∷ part (flat_map export_words exports ++ flat_map import_words imports) ∷ [])
-    (λ ts. Directed ts (l ∷ exports) imports) (λ t is us said.
+    let parts = and_parts (kept_export l) (list_all _ exports) k in
+    reads (written _ ∷ part (flat_map export_words exports ++ flat_map import_words imports) ∷ []) _ (λ t is us said.
     let rest = exports_read exports imports parts.1 j us said in
     record {
       other_exports = record l { line = t.line } ∷ rest.other_exports;
@@ -88,11 +87,9 @@ pub record Keeps (tree : SectionTree) : Type 0 where
 
 pub keeps : (tree : SectionTree) → IsTrue (kept_section tree) → Keeps tree
 keeps tree k =
-    let a = and_parts (is_name tree.name) (list_all kept_export tree.exports &&
-    (list_all kept_import tree.imports && list_all is_kept_decl tree.decls)) k in
-    let b = and_parts (list_all kept_export tree.exports)
-    (list_all kept_import tree.imports && list_all is_kept_decl tree.decls) a.1 in
-    let c = and_parts (list_all kept_import tree.imports) (list_all is_kept_decl tree.decls) b.1 in
+    let a = and_parts _ _ k in
+    let b = and_parts _ _ a.1 in
+    let c = and_parts _ _ b.1 in
     record { name = a.0; exports = b.0; imports = c.0; decls = c.1 }
 
 -- A section, whose declarations may be written in other words than they are printed in.
@@ -119,22 +116,21 @@ section_with tree decls name kept_exports kept_imports read ts h =
     } in (
       other,
       spell.section t tree.name (is ∙ heading_says tree.name name) d.spelled ds.spelled,
-      same_section tree d.other_exports d.other_imports ds.others d.same_exports d.same_imports ds.same,
+      same_section tree d.other_exports _ ds.others d.same_exports d.same_imports ds.same,
     )) ts
     (h ∙ ap (λ pieces. symbols (word (heading_text tree.name) ∷ pieces)) (sym (append_assoc exports imports decls)))
 
 pub section_reads : (tree : SectionTree) → IsTrue (kept_section tree) → SectionSpells tree
 section_reads tree k =
     let kept = keeps tree k in
-    section_with tree (flat_map decl_words tree.decls) kept.name kept.exports kept.imports
-    (λ ts said. decls_read tree.decls kept.decls ts said)
+    section_with tree _ kept.name kept.exports kept.imports (λ ts said. decls_read _ kept.decls ts said)
 
 pub exports_lined : (exports : List ExportLine) → list_all kept_export exports ≡ true → (more : List Piece) →
     Lined more → Lined (flat_map export_words exports ++ more)
 unfolding export_words
 exports_lined [] k more l = l
 exports_lined (x ∷ exports) k more l =
-    let parts = and_parts (kept_export x) (list_all kept_export exports) k in
+    let parts = and_parts (kept_export x) (list_all _ exports) k in
     line (export_line_is x.name parts.0) (exports_lined exports parts.1 more l)
 
 pub imports_lined : (imports : List ImportLine) → list_all kept_import imports ≡ true → (more : List Piece) →
@@ -142,7 +138,7 @@ pub imports_lined : (imports : List ImportLine) → list_all kept_import imports
 unfolding import_words
 imports_lined [] k more l = l
 imports_lined (x ∷ imports) k more l =
-    let parts = and_parts (kept_import x) (list_all kept_import imports) k in
+    let parts = and_parts _ (list_all _ imports) k in
     let names = and_parts (is_name x.comp) (is_name x.name) parts.0 in
     line (import_line_is x.comp x.name names.0 names.1) (imports_lined imports parts.1 more l)
 
@@ -153,9 +149,9 @@ pub section_cut : (tree : SectionTree) → IsTrue (kept_section tree) →
     Found (printed tree) 0 (symbols (section_words tree))
 section_cut tree k =
     let kept = keeps tree k in
-    let lined : Lined (section_words tree) = line (heading_line_is tree.name kept.name)
+    let lined = line (heading_line_is _ kept.name)
     (exports_lined tree.exports kept.exports _ (imports_lined tree.imports kept.imports _
-    (tidy (decls_tidy tree.decls kept.decls [])))) in
-    let behind : List Piece = flat_map export_words tree.exports ++
+    (tidy (decls_tidy _ kept.decls [])))) in
+    let behind = flat_map export_words tree.exports ++
     (flat_map import_words tree.imports ++ flat_map decl_words tree.decls) in
-    found_lines (printed tree) (heading_front tree.name (10 ∷ text_of behind)) lined [] refl refl
+    found_lines _ (heading_front tree.name (10 ∷ text_of behind)) lined [] refl refl
