@@ -139,7 +139,7 @@ module _ (d : ℕ) (Soft : Cause → Type 0) (Turns : Type 0) where
         record {
           computing = λ V line e e' h s s' a. subst (λ x. Below V (computed here line (e (s.memory here.comp)) s)
               (computed here line (e' (x.memory here.comp)) x)) (sym a.state)
-              (computed_below V here line (e (s.memory here.comp)) (e' _) s (h _));
+              (computed_below V here line _ (e' _) s (h _));
           passed = λ V cause line soft s s' a p g. passed _ s refl soft
               (let on = later (richer d s) (last p) (subst (λ x. Grown x (last p)) a.state g.grown) in
               record { events = on.events; frames = on.frames; late = on.late });

@@ -229,12 +229,12 @@ module _ (d : ℕ) (Soft : Cause → Type 0) (Turns : Type 0) (spent : (d ≡ 0)
         row_call number here to index args true s few few' =
             subst (λ x. Below d Soft Turns (Option Value) x
             (and_then (called M b here.comp (Cross to index) args (richer d s)) (λ v. b number here)))
-            (sym (then_then (turn s) (λ _. call_cross L a here.comp to index args) (λ v. a number here)))
+            (sym (then_then (turn s) (λ _. call_cross L a _ to index args) (λ v. a number here)))
             (subst (Below d Soft Turns (Option Value) _)
-            (sym (then_then (turn (richer d s)) (λ _. call_cross M b here.comp to index args) (λ v. b number here)))
+            (sym (then_then (turn _) (λ _. call_cross M b _ to index args) (λ v. b number here)))
             (after_turn (calls_again L a number here to index args) (calls_again M b number here to index args)
             (λ s. then_goes s (call_cross L a _ to index args s) _ (cross_goes L a goes here.comp to index args
-            s) (λ v. goes number here)) (λ s. then_goes s (call_cross M b here.comp to index args s)
+            s) (λ v. goes number here)) (λ s. then_goes s (call_cross M b _ to index args s)
             _ (cross_goes M b goes' here.comp to index args s) (λ v. goes' number here))
             (again_below number here to index args) s (richer d s) (record { state = refl; few = few; few' = few' })))
 

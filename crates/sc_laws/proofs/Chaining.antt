@@ -67,7 +67,7 @@ module _ (L : Library) (obedient : Obedient L) (globals : Memory) (inputs : List
         omega (arith, low, same),
         omega (arith, high, same),
         rises (with link.comp set) (suc link.after) links (λ comp cause line ends.
-            let more : length (behaviour set).trace < length (behaviour (with link.comp set)).trace =
+            let more : length (behaviour set).trace < length (behaviour (with _ set)).trace =
             told_more (behaviour set) (behaviour (with link.comp set)) comp cause line ends
             (passes_blames L obedient globals inputs turns t set (with link.comp set) (within_with set link.comp)
             link.comp link.cause link.line here.blamed here.front (with_has set link.comp)) in

@@ -95,5 +95,5 @@ reentry_chain = (
 pub reentry_suffices : (set : Set) → set 1 ≡ true →
     (performed c_arith (program reentry_interfaces reentry) [] 5 reentry_trace set).trace ≡ reentry_trace
 reentry_suffices set has =
-    (chain_is_least.programs c_arith (program reentry_interfaces reentry) [] 5 reentry_trace (entered_again ∷ []) set
+    (chain_is_least.programs c_arith (program reentry_interfaces reentry) [] 5 _ (entered_again ∷ []) set
     reentry_chain).1 (has, tt)

@@ -93,7 +93,7 @@ module _ (Soft : Cause → Type 0) where
           bind_keeps Value Value _ _ _ _ (h.way _ blocks) (λ v. choose_keeps v _ _ _ _ (alike refl)
           (bind_keeps Value Value _ _ _ _ (k.way _ blocks) (λ w. alike refl)))
       binary_keeps o a a' b b' h k blocks =
-          bind_keeps Value Value _ _ _ _ (h.way want.Value blocks)
+          bind_keeps Value Value _ _ _ _ (h.way _ blocks)
           (λ v. bind_keeps Value Value _ _ _ _ (k.way _ blocks) (λ w. at_types blocks o a.ty a'.ty b.ty b'.ty v
           w h.ty k.ty))
 

@@ -256,7 +256,7 @@ module _ (main : ℕ) (t : List Event) (S' : ℕ → Bool) where
         record {
           computing = λ V line e e' h s s' n. subst
               (λ x. Keeping st V (computed here line (e (s.memory here.comp)) s) (computed here line (e' x) s'))
-              (sym (n.memory here.comp clear)) (equal V line (e _) (e' (s.memory here.comp)) s s' n (h _));
+              (sym (n.memory here.comp clear)) (equal V line (e _) (e' _) s s' n (h _));
           passed = λ V cause line soft s s' n p g. absurd soft;
           stored = λ blocks s s' n. near_blocks st s s' here.comp blocks blocks (λ c. refl) n;
         } where

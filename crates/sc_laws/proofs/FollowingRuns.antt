@@ -382,8 +382,8 @@ module _ (L : Library) (obedient : Obedient L) (globals : Memory) (inputs : List
         (behaviour set).trace ≡ t → Includes set links
     is_needed [] small larger chain tells = tt
     is_needed (link ∷ links) small larger chain tells =
-        by_test (set link.comp) refl (λ has. is_needed links (with link.comp small)
-        (with_link set small link.comp larger has) chain.1 tells) where
+        by_test (set link.comp) refl (λ has. is_needed links (with _ small)
+        (with_link set small _ larger has) chain.1 tells) where
           by_test : (b : Bool) → set link.comp ≡ b → (set link.comp ≡ true → Includes set links) →
               (set link.comp ≡ true) × Includes set links
           by_test true has rest = (has, rest has)
@@ -391,8 +391,7 @@ module _ (L : Library) (obedient : Obedient L) (globals : Memory) (inputs : List
               let equal : behaviour set ≡ behaviour small =
               keeps_blames small set larger link.comp link.cause link.line chain.0.blamed chain.0.front clear in
               absurd (blamed_below t (whole_run small) (behaviour small) link.comp link.cause link.line _ refl
-              chain.0.blamed
-              (ap (λ r. r.trace) (sym equal) ∙ tells))
+              chain.0.blamed (ap (λ r. r.trace) (sym equal) ∙ tells))
 
     is_enough : (links : List Link) (small : Set) → IsWithin small set → IsChain behaviour t small links →
         Includes set links → (behaviour set).trace ≡ t

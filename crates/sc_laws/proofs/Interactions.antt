@@ -67,7 +67,7 @@ played_goes (Gives v) by here go s = stays v s
 played_goes (Blames cause line) by here go s = record { grown = same s; stop = tt }
 played_goes (Reads next) by here go s = played_goes (next (s.memory _)) by here go s
 played_goes (Stores blocks next) by here go s =
-    earlier s (with_memory _ blocks s) (played next by here _) (unseen s) (played_goes next by here go _) where
+    earlier s (with_memory _ blocks s) _ (unseen s) (played_goes next by here go _) where
       unseen : (s : State) → Grown s (with_memory here.comp blocks s)
       unseen s =
           record { events = (same s).events; frames = (same s).frames; late = (same s).late; turns = (same s).turns }
@@ -85,7 +85,7 @@ lasts_most zero (suc m) tree le h = absurd (omega (arith, le))
 lasts_most (suc n) (suc m) (Gives v) le h = tt
 lasts_most (suc n) (suc m) (Blames cause line) le h = tt
 lasts_most (suc n) (suc m) (Reads go) le h = λ blocks. lasts_most (suc n) _ (go blocks) le (h blocks)
-lasts_most (suc n) (suc m) (Stores blocks go) le h = lasts_most (suc n) _ go le h
+lasts_most (suc n) (suc m) (Stores blocks go) le h = lasts_most _ _ go le h
 lasts_most (suc n) (suc m) (Spends go) le h = lasts_most n m go (omega (arith, le)) h
 lasts_most (suc n) (suc m) (Asks target args go) le h = λ v. lasts_most _ (suc m) (go v) le (h v)
 lasts_most (suc n) (suc m) Halts le h = absurd h
@@ -173,15 +173,15 @@ pub plays_computed : {V : Type 0} (here : Here) (line : ℕ) (e : Blocks → Res
     Plays here (λ by s. computed here line (e (s.memory here.comp)) s)
     (λ n. Reads (λ blocks. of_result line (e blocks)))
 plays_computed {V} here line e =
-    record { lasts = lasts; is = λ n by goes s few. is (e (s.memory here.comp)) by s } where
+    record { lasts = lasts; is = λ n by goes s few. is (e (s.memory _)) by s } where
       lasts_result : (n : ℕ) (r : Result V Cause) → Lasts n (of_result line r)
       lasts_result zero r = tt
       lasts_result _ (Ok v) = tt
-      lasts_result (suc n) (Err cause) = tt
+      lasts_result _ (Err cause) = tt
 
       lasts : (n : ℕ) → Lasts n (Reads (λ blocks. of_result line (e blocks)))
       lasts zero = tt
-      lasts (suc n) = λ blocks. lasts_result (suc n) (e blocks)
+      lasts (suc n) = λ blocks. lasts_result (suc n) _
 
       is : (r : Result V Cause) (by : Calls) (s : State) → computed here line r s ≡ played (of_result line r) by here s
       is (Ok v) by s = refl

@@ -4,7 +4,7 @@ use Rattle.sc_laws.proofs.Common.{Here, In, Input, Interfaces, IsStop, Kept, Lib
 use Rattle.sc_laws.proofs.Common.{Obedient, Option, Out, Output, Own, Piece, Property, Proto, Reached, Ret, Roles, Row}
 use Rattle.sc_laws.proofs.Common.{RunEnd, Scalar, Some, Standing, State, Step, Stopped, TurnsOut, Value, Word, [], acts}
 use Rattle.sc_laws.proofs.Common.{and_from, and_parts, and_then, ap, asks, at_start, awaits, back_cross, back_own}
-use Rattle.sc_laws.proofs.Common.{begun, call_cross, call_own, called, calls, crossed, crossing, done, eq-eqb}
+use Rattle.sc_laws.proofs.Common.{begun, call_cross, call_own, called, calls, crossed, crossing, eq-eqb}
 use Rattle.sc_laws.proofs.Common.{export_at, false, first_state, fits_result, found, found_kept}
 use Rattle.sc_laws.proofs.Common.{function, if◌then◌else◌, imports, is_allowed, is_function, is_input, is_legal_from}
 use Rattle.sc_laws.proofs.Common.{is_number, is_output, legal, length, length-map, library_run, map, may_call}
@@ -109,8 +109,8 @@ module _ (interfaces : Interfaces) where
         → (s : State) → IsAt s.trace inner → Kept (standing outer) (run_in library body comp number args back s)
     run_at inner outer comp number args back is b s h =
         found_kept (standing outer) (function library comp number) s (λ f s.
-        and_then (body number _ (begun comp f args s)) _) (h.is_legal, tt) (λ f found_f.
-        then_at inner outer (body number _ _) (λ v t. back v (done comp f _ t))
+        and_then (body number _ _) _) (h.is_legal, tt) (λ f found_f.
+        then_at inner outer (body number _ _) (λ v t. back v _)
         (legal_body number (record { comp = comp; first = length _ }) (begun comp f args s) inner is h)
         (λ v t g. b v _ g))
 

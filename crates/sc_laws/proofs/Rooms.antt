@@ -264,7 +264,7 @@ module _ (base : State) where
                 open_ = told.open_;
               };
         }
-    called_notes from Output args s h = record { after = told_noted rooms (Out from _) s refl h }
+    called_notes from Output args s h = record { after = told_noted rooms _ s refl h }
 
     calls_note : (from : ℕ) (target : CallTarget) (args : List Value) (s : State) → Noted base rooms s →
         Kept (noting base rooms) (calls library body from target args s)

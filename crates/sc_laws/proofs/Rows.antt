@@ -98,7 +98,7 @@ rows_behind main c t u e st own next =
       one_less : {A : Type 0} (n : ℕ) (xs : List A) → drop (suc n) xs ≡ drop 1 (drop n xs)
       one_less zero [] = refl
       one_less zero _ = refl
-      one_less (suc n) [] = refl
+      one_less _ [] = refl
       one_less (suc n) (x ∷ xs) = one_less n xs
 
 -- TRACES

@@ -139,7 +139,7 @@ module _ (library : Library) (leads_on : ExportsLead library) (trace : List Even
         At main trace n inner s → Kept (Kind n outer) (run_in library body comp number args back s)
     run_along inner outer comp number args back here is entered b s at =
         there main trace (Kind n outer) _ s _ is (λ f found_f. then_at main trace n inner outer
-        (body number _ (begun comp f args s)) _ (along number _ (begun comp f args s) inner here is
+        (body number _ (begun comp f args s)) _ (along number _ _ inner here is
         entered (record { few = at.few; stands = at.stands }))
         (λ v t at. b v (done comp f _ t) (record { few = at.few; stands = at.stands })))
 

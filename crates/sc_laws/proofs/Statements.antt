@@ -141,20 +141,19 @@ module _ (Soft : Cause → Type 0) (here : Here) where
         match_then Soft here _ _
         (λ v by s. choose v (block_does ar structs here params by x a s) (block_does ar structs here params by y a s))
         (λ v by s. choose v (block_does br structs here params by x a s) _)
-        (given_matches want.Value _ _ (way_matches cond) line) (λ v. choose_matches v _ _ _ _ (inner x h.0 a)
-        (inner y h.1 a))
+        (given_matches _ _ _ (way_matches cond) line) (λ v. choose_matches v _ _ _ _ (inner x h.0 a) (inner y h.1 a))
     layer_matches line (layer.While cond x) h a =
         looped cond line x h (λ by. leave Next) (λ by. leave Next) (leave_matches Next) a
     layer_matches line (layer.For first cond next x) h a =
         match_follow Soft here in_order (λ by. part_does ar structs here params by first a)
         (λ by. part_does br structs here params by first a) _ _ (part_matches first a)
-        (looped cond line x h (λ by. part_does ar structs here params by next) _ (part_matches next))
+        (looped cond line x h _ _ (part_matches next))
     layer_matches line layer.Break h a = leave_matches Break a
     layer_matches line layer.Continue h a = leave_matches Continue a
     layer_matches line layer.Return h a = leave_matches (Return None) a
     layer_matches line (layer.ReturnValue e) h a =
-        match_then Soft here _ _ (λ v by. leave (Return _) a) (λ v by. leave (Return (Some v)) a)
-        (given_matches want.Value _ _ (way_matches e) line) (λ v. leave_matches (Return _) a)
+        match_then Soft here _ _ (λ v by. leave (Return _) a) (λ v by. leave _ a)
+        (given_matches want.Value _ _ (way_matches e) line) (λ v. leave_matches _ a)
     layer_matches line (layer.ReturnCall c) h a =
         match_then Soft here _ _ (λ result by. leave (Return result) a) (λ result by. leave _ a)
         (called_matches c line) (λ result. leave_matches (Return result) a)

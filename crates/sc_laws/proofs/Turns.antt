@@ -2,7 +2,7 @@
 use Rattle.sc_laws.proofs.Common.{BadType, Blamed, Body, Bool, CallTarget, Cross, Ended, EventsOut, Export, Here}
 use Rattle.sc_laws.proofs.Common.{Input, IsSpent, Kept, Library, List, Main, Memory, None, Obedient, Option, Output}
 use Rattle.sc_laws.proofs.Common.{Own, Piece, Property, Reached, RunEnd, Some, SpendsTurns, State, Stopped, StopsSpent}
-use Rattle.sc_laws.proofs.Common.{TurnsOut, Value, [], and_parts, and_then, ap, arith, back_cross, back_own, begun}
+use Rattle.sc_laws.proofs.Common.{TurnsOut, Value, [], and_parts, and_then, ap, arith, back_cross, back_own}
 use Rattle.sc_laws.proofs.Common.{call_cross, call_own, called, calls, false, first_state, found}
 use Rattle.sc_laws.proofs.Common.{function, if◌then◌else◌, imports, is_some, is_word, leads, length}
 use Rattle.sc_laws.proofs.Common.{list_all, main_call, may_call, refl, run_in, run_step, run_to, subst, suc, sym}
@@ -61,10 +61,8 @@ module _ (library : Library) where
         → ((v : Option Value) (s : State) → s.turns < n → Kept (fewer n) (back v s)) → (s : State) → s.turns < n →
         Kept (fewer n) (run_in library body comp number args back s)
     run_spends comp number args back is b s few =
-        there n (function library comp number) s _ is (λ f found_f.
-        then_kept _ (body number (record { comp = comp; first = length _ }) _) _
-        (spends number (record { comp = comp; first = length (s.memory comp) }) (begun comp f args s) is few)
-        (λ v t few. b v _ few))
+        there n (function library comp number) s _ is (λ f found_f. then_kept _ (body number _ _) _
+        (spends number (record { comp = comp; first = length (s.memory comp) }) _ is few) (λ v t few. b v _ few))
 
     own_spends : (comp number : ℕ) (args : List Value) → is_some (function library comp number) ≡ true → (s : State) →
         s.turns < n → Kept (fewer n) (call_own library body comp number args s)
@@ -123,7 +121,7 @@ module _ (library : Library) where
     step_spends : (n : ℕ) (body : Body) → BodyGoes body → BodySpends n body → BodySpends (suc n) (run_step library body)
     step_spends n body goes spends number here s is few =
         there (suc n) (function library _ number) s (λ f s. f.does _ here s) is (λ f found_f.
-        function_keeps library obedient here.comp number f found_f (fewer _) here (is_kept _ here)
+        function_keeps library obedient here.comp number f found_f _ here (is_kept _ here)
         (calls library body) (calls_go library body goes) (λ target args s few. calls_spend n body spends here.comp
         target args s few) s few)
 

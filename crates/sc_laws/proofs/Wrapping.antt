@@ -56,9 +56,9 @@ binary_fits false op.Add a b = checked_fits _
 binary_fits false op.Sub a b = checked_fits _
 binary_fits false op.Mul a b = checked_fits _
 binary_fits false op.Div a b = guard_fits (b == 0) fault.ZeroDivisor _ _ _ (checked_fits _)
-binary_fits true op.Div a b = guard_fits (b == 0) fault.ZeroDivisor (Ok _) _ (a / b) (alike refl)
+binary_fits true op.Div a b = guard_fits _ _ (Ok _) _ _ (alike refl)
 binary_fits false op.Rem a b = guard_fits (b == 0) fault.ZeroDivisor _ a _ (rem_fits _ _)
-binary_fits true op.Rem a b = guard_fits (b == 0) fault.ZeroDivisor (Ok _) a (a % b) (alike refl)
+binary_fits true op.Rem a b = guard_fits _ _ (Ok _) a _ (alike refl)
 binary_fits false op.ShiftLeft a b =
     shift_fits b _ refl (λ n. if int_lt (signed_of a) (pos 0) then Err fault.Overflow else checked
     (signed_of a *ℤ pos (2 ^ n))) (λ n. word_of (signed_of a *ℤ pos (2 ^ n)))
