@@ -1,8 +1,8 @@
 -- Tables of names give what the names of calls stand for.
 use Rattle.sc_elab.proofs.Common.{Bool, Callees, CallsIn, FunctionTree, HeadTree, Import, ImportLine, List, None}
 use Rattle.sc_elab.proofs.Common.{Option, SectionTree, Some, [], ap, bytes_eq, called, called_head, callees_of}
-use Rattle.sc_elab.proofs.Common.{calling_heads, cond, false, function_named, function_names, functions_in, head_name}
-use Rattle.sc_elab.proofs.Common.{head_named, head_of, heads_in, if◌then◌else◌, import_line_name, import_named}
+use Rattle.sc_elab.proofs.Common.{calling_heads, cond, false, function_named, function_names, head_name}
+use Rattle.sc_elab.proofs.Common.{head_named, head_of, if◌then◌else◌, import_line_name, import_named}
 use Rattle.sc_elab.proofs.Common.{import_of, import_target, imported, imported_target, map, map_twice, option_and_then}
 use Rattle.sc_elab.proofs.Common.{option_map, or_first, or_first_own, position-cons, refl, signature_by, slice_get}
 use Rattle.sc_elab.proofs.Common.{struct_names, suc, sym, target_or, true, ℕ, ◌++◌, ◌==◌, ◌∙◌, ◌∷◌, ◌≡◌}
@@ -20,7 +20,7 @@ same_back a b true false h k = sym ((bytes_eq-Decides b a).1 (sym ((bytes_eq-Dec
 same_back a b false true h k = sym h ∙ (bytes_eq-Decides a b).1 (sym ((bytes_eq-Decides b a).0 k))
 
 turned : (a b : List ℕ) → same a b ≡ bytes_eq b a
-turned a b = same_back a b (same a b) (bytes_eq b a) refl refl
+turned a b = same_back a b _ _ refl refl
 
 after_suc : {A : Type 0} (x : A) (xs : List A) (o : Option ℕ) →
     option_and_then (slice_get (x ∷ xs)) (option_map suc o) ≡ option_and_then (slice_get xs) o
@@ -38,15 +38,14 @@ module _ {A : Type 0} (name_of : A → List ℕ) (name : List ℕ) (find : List 
       ap (option_and_then (slice_get (f x ∷ map f xs))) (position-cons (same name) (name_of x) (map name_of xs))
       ∙ ap (λ b. option_and_then (slice_get (f x ∷ map f xs))
       (cond b (Some 0) (option_map suc (number_of (map name_of xs) name)))) (turned name (name_of x))
-      ∙ by (first_found xs) (bytes_eq (name_of x) name)
-      ∙ ap (option_map f) (sym (find-cons x xs))
+      ∙ by (first_found xs) (bytes_eq (name_of x) name) ∙ ap (option_map f) (sym (find-cons x xs))
     where
       by : option_and_then (slice_get (map f xs)) (number_of (map name_of xs) name) ≡ option_map f (find xs) →
           (b : Bool) → option_and_then (slice_get (f x ∷ map f xs))
           (cond b (Some 0) (option_map suc (number_of (map name_of xs) name))) ≡
           option_map f (if b then Some x else find xs)
       by h true = refl
-      by h false = after_suc (f x) (map f xs) (number_of (map name_of xs) name) ∙ h
+      by h false = after_suc (f x) _ (number_of _ name) ∙ h
 
 module _ (name : List ℕ) where
   -- the first of the heads of functions and of others
@@ -54,7 +53,7 @@ module _ (name : List ℕ) where
       head_named name (map (λ (tree : FunctionTree). head_of tree.head) trees ++ heads) ≡
       or_first (function_named name trees) (head_named name heads)
   head_found [] heads = refl
-  head_found (tree ∷ trees) heads = by (head_found trees heads) (bytes_eq tree.head.name name) where
+  head_found (tree ∷ trees) heads = by (head_found trees heads) _ where
     by : head_named name (map (λ (tree : FunctionTree). head_of tree.head) trees ++ heads) ≡
         or_first (function_named name trees) (head_named name heads) → (b : Bool) →
         (if b then Some (head_of tree.head) else head_named name
@@ -68,21 +67,19 @@ module _ (name : List ℕ) where
       (number_of (map head_name (calling_heads section.decls)) name) ≡
       option_map (signature_by tags) (called_head section name)
   signature_found tags section =
-      first_found head_name name (head_named name) refl (λ x xs. refl) (signature_by tags) (calling_heads section.decls)
-      ∙ ap (option_map (signature_by tags)) (head_found (functions_in section.decls) (heads_in section.decls))
+      first_found _ name (head_named name) refl (λ x xs. refl) _ _ ∙ ap (option_map _) (head_found _ _)
 
   target_found : (sections : List SectionTree) (number : ℕ) (lines : List ImportLine) →
       or_first_own (option_and_then (slice_get (map (λ line. import_target (import_of sections number line)) lines))
       (number_of (map import_line_name lines) name)) ≡ imported_target sections number (import_named name lines)
   target_found sections number lines =
-      ap or_first_own (first_found import_line_name name (import_named name) refl (λ x xs. refl)
-      (λ line. import_target (import_of sections number line)) lines)
+      ap or_first_own (first_found _ name (import_named name) refl (λ x xs. refl) _ lines)
       ∙ by (import_named name lines)
     where
       by : (o : Option ImportLine) → or_first_own (option_map
           (λ line. import_target (import_of sections number line)) o) ≡ imported_target sections number o
       by None = refl
-      by (Some line) = refl
+      by _ = refl
 
 module _ (section : SectionTree) (imports : List Import) (callees : Callees)
     (calls : CallsIn (struct_names section.decls) section imports callees) where
@@ -91,8 +88,7 @@ module _ (section : SectionTree) (imports : List Import) (callees : Callees)
   signature_is name =
       ap (λ s. option_and_then (slice_get s) (number_of callees.heads name)) calls.signatures
       ∙ ap (λ h. option_and_then (slice_get (map (signature_by (struct_names section.decls))
-      (calling_heads section.decls))) (number_of h name)) calls.heads
-      ∙ signature_found name (struct_names section.decls) section
+      (calling_heads section.decls))) (number_of h name)) calls.heads ∙ signature_found name _ section
 
   pub signatures_kept : (called callees).signature ≡ (callees_of [] 0 section).signature
   signatures_kept = λ j name. signature_is name j
@@ -101,8 +97,7 @@ module _ (sections : List SectionTree) (number : ℕ) (section : SectionTree) (i
     (calls : CallsIn (struct_names section.decls) section imports callees)
     (are : imports ≡ map (import_of sections number) section.imports) where
   targets_are : callees.targets ≡ map (λ line. import_target (import_of sections number line)) section.imports
-  targets_are = calls.targets ∙ ap (map import_target) are ∙
-      map_twice import_target (import_of sections number) section.imports
+  targets_are = calls.targets ∙ ap (map _) are ∙ map_twice import_target (import_of _ number) _
 
   target_is : (name : List ℕ) → target_or (number_of callees.functions name) (or_first_own (imported callees name)) ≡
       target_or (number_of (function_names section.decls) name)
@@ -114,8 +109,7 @@ module _ (sections : List SectionTree) (number : ℕ) (section : SectionTree) (i
       ∙ ap (λ i. target_or (number_of (function_names section.decls) name)
       (or_first_own (option_and_then (slice_get (map
       (λ line. import_target (import_of sections number line)) section.imports)) (number_of i name)))) calls.imports
-      ∙ ap (target_or (number_of (function_names section.decls) name))
-      (target_found name sections number section.imports)
+      ∙ ap (target_or (number_of _ name)) (target_found name _ number section.imports)
 
   -- What a section calls by its tables is what its program calls.
   pub called_kept : called callees ≡ callees_of sections number section

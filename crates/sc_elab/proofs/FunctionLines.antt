@@ -3,8 +3,8 @@ use Rattle.sc_elab.proofs.Common.{BrokenLines, ExprTree, FunctionScope, Function
 use Rattle.sc_elab.proofs.Common.{OnOk, Option, Result, SectionScope, SectionTree, Some, Stands, StandsIn, Suits, Ty}
 use Rattle.sc_elab.proofs.Common.{ap, concat, drop, drop-step, drop_all, function_lines, get_or, global_lines}
 use Rattle.sc_elab.proofs.Common.{init_fits, init_goes, init_holds, is_sized, length, local_holds, locals_from, map}
-use Rattle.sc_elab.proofs.Common.{on_ok, refl, result_of, scope_in, stmt_lines, subst, suc, sym, tags, type_of}
-use Rattle.sc_elab.proofs.Common.{typed_init, unless, visible, visible_in, with_lines, with_lines-append}
+use Rattle.sc_elab.proofs.Common.{on_ok, refl, scope_in, stmt_lines, subst, suc, sym, tags, type_of}
+use Rattle.sc_elab.proofs.Common.{typed_init, unless, visible, with_lines, with_lines-append}
 use Rattle.sc_elab.proofs.Common.{with_lines-nil, ℕ, ◌&&◌, ◌++◌, ◌+◌, ◌<◌, ◌∙◌, ◌≡◌, ◌≤◌}
 use Rattle.sc_elab_expr.specs.Calls as calls
 use Rattle.sc_elab.proofs.Functions.{next_place, seen}
@@ -22,7 +22,7 @@ module _ (scope : SectionScope) (section : SectionTree) (stands : Stands scope s
   pub suits : (count : ℕ) (function : FunctionScope) → StandsIn section tree count function →
       Suits (visible scope function) (scope_in section tree)
   suits count function within =
-      subst (λ v. Suits v (scope_in section tree)) (sym (seen scope section stands tree count function within))
+      subst (λ v. Suits v (scope_in section tree)) (sym (seen scope section stands tree count _ within))
       (suiting section tree count)
 
   module _ (callees : calls.Callees) where
@@ -34,8 +34,7 @@ module _ (scope : SectionScope) (section : SectionTree) (stands : Stands scope s
         init_fits (scope_in section tree) t (typed_init section tree i t init)
     begins i function within t None = refl
     begins i function within t (Some init) =
-        ap (λ v. init_goes v (scope_in section tree) t (Some init))
-        (seen scope section stands tree (suc i) function within)
+        ap (λ v. init_goes v (scope_in section tree) t (Some init)) (seen scope section stands tree _ _ within)
 
     pub local_noted : (i : ℕ) (local : LocalTree) (function : FunctionScope) → i < length tree.locals →
         local ≡ get_or tree.locals i local → StandsIn section tree (i + 1) function → (a b whole : BrokenLines) →
@@ -67,7 +66,7 @@ module _ (scope : SectionScope) (section : SectionTree) (stands : Stands scope s
         a ≡ whole
     locals_noted i a whole done so =
         sym (with_lines-nil a) ∙ ap (λ l. with_lines a (locals_from section callees tree i l))
-        (sym (drop_all i tree.locals done)) ∙ so
+        (sym (drop_all i _ done)) ∙ so
 
     pub function_noted : {E T : Type 0} (r : Result T E) (function : FunctionScope) →
         StandsIn section tree (length tree.locals) function → (a b c : BrokenLines) →
@@ -76,9 +75,6 @@ module _ (scope : SectionScope) (section : SectionTree) (stands : Stands scope s
         (scope_in section tree) function.result) tree.body))) →
         OnOk r (c ≡ with_lines a (function_lines section callees tree))
     function_noted r function within a b c first =
-        on_ok r (λ second. then a b c (locals_from section callees tree 0 tree.locals)
-        (concat (map (stmt_lines (visible_in section tree (length tree.locals)) callees (scope_in section tree)
-        (result_of section tree)) tree.body)) first
-        (second ∙ (λ j. with_lines b (concat (map
-        (stmt_lines (seen scope section stands tree (length tree.locals) function within j) callees
+        on_ok r (λ second. then a b c _ _ first (second ∙ (λ j. with_lines b (concat (map
+        (stmt_lines (seen scope section stands tree _ _ within j) callees
         (scope_in section tree) (within.result j)) tree.body)))))

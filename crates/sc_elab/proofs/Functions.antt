@@ -28,20 +28,19 @@ module _ (scope : SectionScope) (section : SectionTree) (stands : Stands scope s
       typed_init section tree place t init
   unfolding value_in
   init_kept place function within t None = refl
-  init_kept place function within t (Some init) =
-      ap (λ v. Some (going_to t (typed v init))) (seen (suc place) function within)
+  init_kept place function within t (Some init) = ap (λ v. Some (going_to t (typed v init))) (seen _ _ within)
 
   pub local_kept : (place : ℕ) (function : FunctionScope) → StandsIn section tree (suc place) function →
       (local : LocalTree) → local_in scope function local ≡ typed_local section tree place local
   local_kept place function within local =
-      ap (λ (t : List (List ℕ)). record {
+      ap (λ t. record {
         name = local.name;
         ty = type_of t local.ty;
         init = option_map (value_in scope function (type_of t local.ty)) local.init;
         line = local.line;
       }) stands.tags
       ∙ ap (λ i. record { name = local.name; ty = type_of (tags section) local.ty; init = i; line = local.line })
-      (init_kept place function within (type_of (tags section) local.ty) local.init)
+      (init_kept place _ within _ _)
 
   pub head_kept : (function : FunctionScope) → function ≡
       record {
@@ -58,8 +57,7 @@ module _ (scope : SectionScope) (section : SectionTree) (stands : Stands scope s
   taken : (i : ℕ) (local : LocalTree) → i < length tree.locals → local ≡ get_or tree.locals i local →
       take (i + 1) tree.locals ≡ take i tree.locals ++ local ∷ []
   taken i local h e =
-      ap (λ n. take n tree.locals) (sym (next_place i))
-      ∙ take-suc tree.locals i local h
+      ap (λ n. take n tree.locals) (sym (next_place i)) ∙ take-suc _ i local h
       ∙ ap (λ x. take i tree.locals ++ x ∷ []) (sym e)
 
   mapped_more : {A B : Type 0} (f : A → B) (xs : List A) (x : A) → map f (xs ++ x ∷ []) ≡ map f xs ++ f x ∷ []
@@ -77,11 +75,9 @@ module _ (scope : SectionScope) (section : SectionTree) (stands : Stands scope s
   more_stands i local function more h e within m = record {
     params = ap (λ f. f.params) m ∙ within.params;
     locals =
-        ap (λ f. f.locals) m
-        ∙ ap (λ l. l ++ local_variable scope.tags local ∷ []) within.locals
+        ap (λ f. f.locals) m ∙ ap (λ l. l ++ local_variable scope.tags local ∷ []) within.locals
         ∙ ap (λ t. map (local_variable (tags section)) (take i tree.locals) ++ local_variable t local ∷ []) stands.tags
-        ∙ sym (mapped_more (local_variable (tags section)) (take i tree.locals) local)
-        ∙ ap (map (local_variable (tags section))) (sym (taken i local h e));
+        ∙ sym (mapped_more (local_variable _) (take i _) local) ∙ ap (map _) (sym (taken i local h e));
     result = ap (λ f. f.result) m ∙ within.result;
   }
 
@@ -119,15 +115,13 @@ module _ (scope : SectionScope) (section : SectionTree) (stands : Stands scope s
           ap (typed_locals section tree i) (drop-step tree.locals i local h e)
           ∙ locals-cons i local (drop (i + 1) tree.locals)
           ∙ ap (λ x. x ∷ typed_locals section tree (suc i) (drop (i + 1) tree.locals))
-          (sym (b ∙ local_kept i function at local))
+          (sym (b ∙ local_kept i _ at local))
           ∙ ap (λ n. built ∷ typed_locals section tree n (drop (i + 1) tree.locals)) (next_place i)
 
   -- all are built
   pub all_built : (i : ℕ) (done whole : List TypedLocal) → drop i tree.locals ≡ [] →
       done ++ typed_locals section tree i (drop i tree.locals) ≡ whole → done ≡ whole
-  all_built i done whole h k =
-      all_done done (typed_locals section tree i (drop i tree.locals)) whole
-      (ap (typed_locals section tree i) h ∙ locals-nil i) k
+  all_built i done whole h k = all_done done _ whole (ap (typed_locals section tree i) h ∙ locals-nil i) k
 
   -- the function over its locals and its body
   pub function_kept : (function : FunctionScope) → StandsIn section tree (length tree.locals) function →
@@ -142,13 +136,11 @@ module _ (scope : SectionScope) (section : SectionTree) (stands : Stands scope s
       built ≡ typed_function section (called scope.callees) tree
   unfolding stmt_in
   function_kept function within built e =
-      e
-      ∙ (λ j. record {
+      e ∙ (λ j. record {
         name = tree.head.name;
         params = within.params j;
         locals = typed_locals section tree 0 tree.locals;
         result = within.result j;
-        body = map (typed_stmt (seen (length tree.locals) function within j) (called scope.callees)
-            (within.result j)) tree.body;
+        body = map (typed_stmt (seen _ _ within j) (called scope.callees) (within.result j)) tree.body;
         close_line = tree.close_line;
       })

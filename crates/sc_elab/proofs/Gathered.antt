@@ -1,5 +1,5 @@
 -- Loops that gather what is made of some items of a list.
-use Rattle.sc_elab.proofs.Common.{List, None, Option, Some, [], ap, append-nil, append_assoc, cons_option, drop}
+use Rattle.sc_elab.proofs.Common.{List, None, Option, [], ap, append-nil, append_assoc, cons_option, drop}
 use Rattle.sc_elab.proofs.Common.{drop-step, drop_all, filter_map, get_or, length, map, refl, sym, ℕ, ◌++◌, ◌+◌, ◌<◌}
 use Rattle.sc_elab.proofs.Common.{◌∙◌, ◌∷◌, ◌≡◌, ◌≤◌}
 
@@ -11,17 +11,15 @@ module _ {A B C : Type 0} (f : A → Option B) (g : B → C) where
   gathered-cons x xs = by (f x) where
     by : (o : Option B) → map g (cons_option o (filter_map f xs)) ≡ map g (cons_option o []) ++ gathered xs
     by None = refl
-    by (Some y) = refl
+    by _ = refl
 
   -- one more item is looked at
   pub gather_more : (xs : List A) (i : ℕ) (x : A) (done more whole : List C) → i < length xs → x ≡ get_or xs i x →
       more ≡ done ++ gathered (x ∷ []) → done ++ gathered (drop i xs) ≡ whole →
       more ++ gathered (drop (i + 1) xs) ≡ whole
   gather_more xs i x done more whole h e m k =
-      ap (λ l. l ++ gathered (drop (i + 1) xs)) m
-      ∙ append_assoc done (gathered (x ∷ [])) (gathered (drop (i + 1) xs))
-      ∙ ap (λ l. done ++ l) (sym (gathered-cons x (drop (i + 1) xs)) ∙ sym (ap gathered (drop-step xs i x h e)))
-      ∙ k
+      ap (λ l. l ++ gathered (drop (i + 1) xs)) m ∙ append_assoc done (gathered (x ∷ [])) (gathered (drop (i + 1) xs))
+      ∙ ap (λ l. done ++ l) (sym (gathered-cons x (drop _ xs)) ∙ sym (ap gathered (drop-step xs i x h e))) ∙ k
 
   -- all are looked at
   pub gather_end : (xs : List A) (i : ℕ) (done whole : List C) → length xs ≤ i → done ++ gathered (drop i xs) ≡ whole →

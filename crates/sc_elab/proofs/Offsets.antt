@@ -1,6 +1,6 @@
 -- Structs and their members, one after another.
-use Rattle.sc_elab.proofs.Common.{Decl, List, None, Option, Some, StructTree, TypedStruct, [], ap, cons_option, drop}
-use Rattle.sc_elab.proofs.Common.{drop-step, drop_all, get_or, length, refl, struct_in, structs_in, sym, typed_struct}
+use Rattle.sc_elab.proofs.Common.{Decl, List, None, Option, StructTree, TypedStruct, [], ap, cons_option, drop}
+use Rattle.sc_elab.proofs.Common.{drop-step, drop_all, get_or, length, refl, structs_in, sym, typed_struct}
 use Rattle.sc_elab.proofs.Common.{typed_structs, ℕ, ◌++◌, ◌+◌, ◌<◌, ◌∙◌, ◌∷◌, ◌≡◌, ◌≤◌}
 
 module _ (tags : List (List ℕ)) where
@@ -17,11 +17,11 @@ module _ (tags : List (List ℕ)) where
       typed_structs tags structs (structs_in (decl ∷ decls)) ≡
       typed_structs tags (typed_structs tags structs (structs_in (decl ∷ []))) (structs_in decls)
   unfolding typed_structs
-  structs-cons structs decl decls = by (struct_in decl) where
+  structs-cons structs decl decls = by _ where
     by : (o : Option StructTree) → typed_structs tags structs (cons_option o (structs_in decls)) ≡
         typed_structs tags (typed_structs tags structs (cons_option o [])) (structs_in decls)
     by None = refl
-    by (Some tree) = refl
+    by _ = refl
 
   -- one more declaration is looked at
   pub structs_more : (decls : List Decl) (i : ℕ) (decl : Decl) (done more whole : List TypedStruct) → i < length decls →

@@ -40,12 +40,11 @@ module _ (sections : List SectionTree) (i : ℕ) (whole : Option ℕ) where
       noted_all next (concat (map lines_in (drop (i + 1) sections))) ≡ whole
   section-next least next x within is noted so =
       ap (λ least. noted_all least (concat (map lines_in (drop (i + 1) sections)))) noted
-      ∙ sym (noted_all-append least (lines_in x) (concat (map lines_in (drop (i + 1) sections))))
+      ∙ sym (noted_all-append least _ _)
       ∙ (λ j. noted_all least (lines_in (is j) ++ concat (map lines_in (drop (add-one i j) sections))))
-      ∙ (λ j. noted_all least (concat (map lines_in (sym (drop-cons sections i x within) j))))
-      ∙ so
+      ∙ (λ j. noted_all least (concat (map lines_in (sym (drop-cons _ i x within) j)))) ∙ so
 
   pub sections-end : (least : Option ℕ) → length sections ≤ i →
       noted_all least (concat (map lines_in (drop i sections))) ≡ whole → least ≡ whole
   sections-end least done so =
-      sym (noted-nil least) ∙ (λ j. noted_all least (concat (map lines_in (sym (drop_all i sections done) j)))) ∙ so
+      sym (noted-nil least) ∙ (λ j. noted_all least (concat (map lines_in (sym (drop_all i _ done) j)))) ∙ so

@@ -31,24 +31,23 @@ module _ (sections : List SectionTree) where
   comps_from : (rest : List SectionTree) (k i : ℕ) → slice_get (interfaces_from sections k rest) i ≡
       option_map (interface_of sections (k + i)) (slice_get rest i)
   comps_from [] k i = refl
-  comps_from (section ∷ rest) k zero = ap (λ n. Some (interface_of sections n section)) (at k) where
+  comps_from (section ∷ rest) k zero = ap (λ n. Some (interface_of _ n section)) (at k) where
     at : (k : ℕ) → k ≡ k + 0
     at k = omega arith
   comps_from (section ∷ rest) k (suc i) =
-      comps_from rest (suc k) i ∙ ap (λ n. option_map (interface_of sections n) (slice_get rest i)) (one_further k i)
+      comps_from rest _ i ∙ ap (λ n. option_map (interface_of sections n) (slice_get rest i)) (one_further k i)
 
   -- the interface of a section, by its number
   pub comp_at : (i : ℕ) (section : SectionTree) → slice_get sections i ≡ Some section →
       slice_get (interfaces_from sections 0 sections) i ≡ Some (interface_of sections i section)
   comp_at i section h =
-      comps_from sections 0 i
-      ∙ ap (λ n. option_map (interface_of sections n) (slice_get sections i)) (from_zero i)
-      ∙ ap (option_map (interface_of sections i)) h
+      comps_from _ 0 i ∙ ap (λ n. option_map (interface_of sections n) (slice_get sections i)) (from_zero i)
+      ∙ ap (option_map (interface_of _ i)) h
 
   module _ (interfaces : Interfaces) (i : ℕ) (section : SectionTree) (are : interfaces ≡ interfaces_of sections)
       (h : slice_get sections i ≡ Some section) where
     stands_at : slice_get interfaces.comps i ≡ Some (interface_of sections i section)
-    stands_at = ap (λ (x : Interfaces). slice_get x.comps i) are ∙ comp_at i section h
+    stands_at = ap (λ x. slice_get x.comps i) are ∙ comp_at i section h
 
     same_some : (a b : Interface) → Some a ≡ Some b → a ≡ b
     same_some a b e = cc e
@@ -56,8 +55,7 @@ module _ (sections : List SectionTree) where
     -- what a section imports, by its number
     pub imports_at : (interface : Interface) → slice_get interfaces.comps i ≡ Some interface →
         interface.imports ≡ map (import_of sections i) section.imports
-    imports_at interface at =
-        ap (λ (x : Interface). x.imports) (same_some interface (interface_of sections i section) (sym at ∙ stands_at))
+    imports_at interface at = ap (λ x. x.imports) (same_some _ _ (sym at ∙ stands_at))
 
     -- a section has an interface, by its number
     pub is_there : IsSome (slice_get interfaces.comps i)
@@ -72,10 +70,7 @@ module _ (sections : List SectionTree) where
       built ++ sections_from sections i (drop i sections) ≡ sections_from sections 0 sections →
       (built ++ it ∷ []) ++ sections_from sections (i + 1) (drop (i + 1) sections) ≡ sections_from sections 0 sections
   built_more built i section it at is before =
-      let rest : List SectionTree = drop (i + 1) sections in
-      append_assoc built (it ∷ []) (sections_from sections (i + 1) rest)
-      ∙ ap (λ (x : TypedSection). built ++ x ∷ sections_from sections (i + 1) rest) is
+      let rest = drop (i + 1) sections in
+      append_assoc built _ _ ∙ ap (λ x. built ++ x ∷ sections_from sections (i + 1) rest) is
       ∙ ap (λ k. built ++ typed_section section (callees_of sections i section) ∷ sections_from sections k rest)
-      (sym (next_number i))
-      ∙ ap (λ xs. built ++ sections_from sections i xs) (sym (left_from sections i section at))
-      ∙ before
+      (sym (next_number i)) ∙ ap (λ xs. built ++ sections_from sections i xs) (sym (left_from _ i section at)) ∙ before

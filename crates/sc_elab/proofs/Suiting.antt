@@ -1,11 +1,11 @@
 -- What a function sees suits the scope that its statements are judged in.
 use Rattle.sc_elab.proofs.Common.{Bool, Found, FunctionTree, GlobalTree, List, None, Option, Scope, SectionTree, Some}
-use Rattle.sc_elab.proofs.Common.{StructTree, Suits, Ty, TypedStruct, Visible, [], ap, arith, base_of, bytes_eq}
-use Rattle.sc_elab.proofs.Common.{end_of_member, false, found_in, global_variable, globals_in, has_member, is_some}
-use Rattle.sc_elab.proofs.Common.{is_type, list_any, local_variable, map, map_twice, members_from, ne_eqb, no_ty}
+use Rattle.sc_elab.proofs.Common.{StructTree, Suits, Ty, TypedStruct, Visible, [], ap, arith, bytes_eq}
+use Rattle.sc_elab.proofs.Common.{end_of_member, false, found_in, globals_in, has_member, is_some}
+use Rattle.sc_elab.proofs.Common.{is_type, list_any, map, map_twice, members_from, ne_eqb, no_ty}
 use Rattle.sc_elab.proofs.Common.{option_and_then, or_else, position, refl, same_base, same_ty, scope_in, slice_get}
-use Rattle.sc_elab.proofs.Common.{slice_get-map, starred, structs_in, suc, sym, take, true, true≢false, type_of}
-use Rattle.sc_elab.proofs.Common.{type_with, typed_param, typed_struct, typed_structs, variable_ty, visible_in, zero, ℕ}
+use Rattle.sc_elab.proofs.Common.{slice_get-map, starred, suc, sym, take, true, true≢false, type_of}
+use Rattle.sc_elab.proofs.Common.{type_with, typed_struct, typed_structs, variable_ty, visible_in, zero, ℕ}
 use Rattle.sc_elab.proofs.Common.{◌&&◌, ◌++◌, ◌+◌, ◌==◌, ◌||◌, ◌∙◌, ◌∷◌, ◌≡◌}
 use Rattle.sc_core.specs.declared.ty.BaseTy.{BaseTy}
 use Rattle.sc_core.specs.declared.section.TypedMember.{TypedMember}
@@ -25,7 +25,7 @@ module _ (tags : List (List ℕ)) where
   starred-some zero base.Int = refl
   starred-some zero base.Unsigned = refl
   starred-some zero (base.Struct n) = refl
-  starred-some (suc stars) b = ap (λ same. same && same_base b base.Int) (ne_eqb (suc stars) 0 (λ e. omega (arith, e)))
+  starred-some (suc stars) b = ap (λ same. same && same_base b base.Int) (ne_eqb _ 0 (λ e. omega (arith, e)))
 
   with-some : (elements : Option ℕ) (stars : ℕ) (b : BaseTy) → same_ty (type_with tags elements stars b) no_ty ≡ false
   with-some None stars b = starred-some stars b
@@ -33,7 +33,7 @@ module _ (tags : List (List ℕ)) where
 
   -- whatever is declared has a type
   type-some : (t : TypeTree) → same_ty (type_of tags t) no_ty ≡ false
-  type-some t = with-some t.length t.stars (base_of tags t.base)
+  type-some t = with-some _ t.stars _
 
   -- no member has the type of what isn't there
 
@@ -44,7 +44,7 @@ module _ (tags : List (List ℕ)) where
       list_any {X = TypedMember} has_none (members_from tags structs offset members) ≡ false
   members-some structs offset [] = refl
   members-some structs offset (m ∷ members) =
-      (λ j. offset == 0 && type-some m.ty j || list_any {X = TypedMember} has_none
+      (λ j. offset == 0 && type-some m.ty j || list_any has_none
       (members_from tags structs (end_of_member tags structs offset m) members))
       ∙ (λ j. and-false (offset == 0) j || members-some structs (end_of_member tags structs offset m) members j)
 
@@ -64,7 +64,7 @@ module _ (tags : List (List ℕ)) where
   structs-some structs [] are = are
   structs-some structs (tree ∷ trees) are =
       structs-some (structs ++ typed_struct tags structs tree ∷ []) trees
-      (one-more structs (typed_struct tags structs tree) are (members-some structs 0 tree.members))
+      (one-more structs _ are (members-some structs 0 tree.members))
 
 -- the variable that is found stands at its place, with its type
 module _ (reference : ℕ → VarRef) (variables : List TypedParam) (name : List ℕ) where
@@ -128,26 +128,22 @@ module _ (section : SectionTree) (tree : FunctionTree) (count : ℕ) where
 
   local-known : (name : List ℕ) (f : Found) → found_in var.Local seen.locals name ≡ Some f → Known f
   local-known name f is =
-      let at = found-place var.Local seen.locals name f is in
-      ap (λ v. is_type (variable_ty scope v) f.ty) at.1 ∙
-      typed-at f (slice_get scope.locals at.0) (take-get
-      (λ local. type_of tags local.ty) count tree.locals at.0 f.ty
-      (ap (λ types. slice_get types at.0) (sym (map_twice (λ variable. variable.ty) (local_variable tags)
-      (take count tree.locals))) ∙ at.2))
+      let at = found-place _ _ name f is in
+      ap (λ v. is_type (variable_ty scope v) f.ty) at.1 ∙ typed-at f (slice_get scope.locals at.0) (take-get
+      (λ local. type_of tags _) count tree.locals at.0 f.ty (ap (λ types. slice_get types at.0) (sym (map_twice _ _
+      _)) ∙ at.2))
 
   param-known : (name : List ℕ) (f : Found) → found_in var.Param seen.params name ≡ Some f → Known f
   param-known name f is =
-      let at = found-place var.Param seen.params name f is in
+      let at = found-place _ _ name f is in
       ap (λ v. is_type (variable_ty scope v) f.ty) at.1 ∙
-      typed-at f (slice_get scope.params at.0) (ap (λ types. slice_get types at.0)
-      (sym (map_twice (λ variable. variable.ty) (typed_param tags) tree.head.params)) ∙ at.2)
+      typed-at f (slice_get scope.params at.0) (ap (λ types. slice_get types at.0) (sym (map_twice _ _ _)) ∙ at.2)
 
   global-known : (name : List ℕ) (f : Found) → found_in var.Global seen.globals name ≡ Some f → Known f
   global-known name f is =
-      let at = found-place var.Global seen.globals name f is in
+      let at = found-place _ _ name f is in
       ap (λ v. is_type (variable_ty scope v) f.ty) at.1 ∙
-      typed-at f (slice_get scope.globals at.0) (ap (λ types. slice_get types at.0)
-      (sym (map_twice (λ variable. variable.ty) (global_variable tags) (globals_in section.decls))) ∙ at.2)
+      typed-at f (slice_get scope.globals at.0) (ap (λ types. slice_get types at.0) (sym (map_twice _ _ _)) ∙ at.2)
 
   either-known : (x y : Option Found) (f : Found) → (x ≡ Some f → Known f) → (y ≡ Some f → Known f) →
       or_else x y ≡ Some f → Known f
@@ -161,11 +157,10 @@ module _ (section : SectionTree) (tree : FunctionTree) (count : ℕ) where
 
   pub suiting : Suits seen scope
   suiting = record {
-    known = λ name f is. either-known (found_in var.Local seen.locals name)
+    known = λ name f is. either-known (found_in _ _ name)
         (or_else (found_in var.Param seen.params name) (found_in var.Global seen.globals name)) f (local-known name f)
-        (either-known (found_in var.Param seen.params name) (found_in var.Global seen.globals name) f
-        (param-known name f) (global-known name f)) is;
+        (either-known (found_in _ _ name) (found_in _ _ name) f (param-known name f) (global-known name f)) is;
     unknown = some-global (globals_in section.decls);
     structs = refl;
-    nothing = structs-some tags [] (structs_in section.decls) (λ n. refl);
+    nothing = structs-some tags [] _ (λ n. refl);
   }
