@@ -13,5 +13,5 @@ module _ (slots more : List Slot) (made : ℕ) (s : Slot) (up : IsRising 0 made 
       laid_out (cells_among slots) made 0 ++ living s.cells ∷ []
   row_more =
       ap (λ ss. laid_out (cells_among ss) (made + 1) 0) is ∙ rw add-one
-      (push_laid (cells_among (slots ++ s ∷ [])) (cells_among slots) made 0 made s.cells (omega arith)
+      (push_laid (cells_among (slots ++ s ∷ [])) _ made 0 made s.cells (omega arith)
       (new_found slots 0 made s up number) (λ n h. old_found slots made s n number h))

@@ -10,14 +10,14 @@ Found = ℕ → Option (List Cell)
 
 pub length_laid : (f : Found) (count from : ℕ) → length (laid_out f count from) ≡ count
 length_laid f zero from = refl
-length_laid f (suc count) from = ap suc (length_laid f count (suc from))
+length_laid f (suc count) from = ap suc (length_laid f count _)
 
 get_laid : (f : Found) (count from at n : ℕ) → at < count → n ≡ from + at →
     slice_get (laid_out f count from) at ≡ Some (block_of (f n))
 get_laid f zero from at n h is = absurd (omega (arith, h))
 get_laid f (suc count) from zero n h is =
     let here : from ≡ n = omega (arith, is) in ap (λ m. Some (block_of (f m))) here
-get_laid f (suc count) from (suc at) n h is = get_laid f count (suc from) at n (omega (arith, h)) (omega (arith, is))
+get_laid f (suc count) from (suc at) n h is = get_laid f count _ at n (omega (arith, h)) (omega (arith, is))
 
 pub lives_at : (f : Found) (made n : ℕ) (cells : List Cell) → n < made → f n ≡ Some cells →
     slice_get (laid_out f made 0) n ≡ Some (living cells)

@@ -11,30 +11,29 @@ rising_down (s ∷ slots) from made low up h = (omega (arith, up.0, h), up.1)
 
 rising_to : (slots : List Slot) (from made : ℕ) → IsRising from made slots → from ≤ made
 rising_to [] from made up = up
-rising_to (s ∷ slots) from made up = omega (arith, up.0, rising_to slots (suc s.number) made up.1)
+rising_to (s ∷ slots) from made up = omega (arith, up.0, rising_to slots _ made up.1)
 
 -- each number is between the two
 pub rising_at : (slots : List Slot) (from made place : ℕ) (slot : Slot) → IsRising from made slots →
     place < length slots → (from ≤ (get_or slots place slot).number) × ((get_or slots place slot).number < made)
 rising_at [] from made place slot up h = absurd (omega (arith, h))
-rising_at (s ∷ slots) from made zero slot up h = (up.0, rising_to slots (suc s.number) made up.1)
+rising_at (s ∷ slots) from made zero slot up h = (up.0, rising_to slots _ made up.1)
 rising_at (s ∷ slots) from made (suc place) slot up h =
-    let later = rising_at slots (suc s.number) made place slot up.1 (omega (arith, h)) in
+    let later = rising_at slots _ made place slot up.1 (omega (arith, h)) in
     (omega (arith, up.0, later.0), later.1)
 
 -- past a block of another number
 pub skipped : (s : Slot) (slots : List Slot) (n : ℕ) → (s.number ≡ n → ⊥) →
     cells_among (s ∷ slots) n ≡ cells_among slots n
-skipped s slots n other = ap (λ b. if b then Some s.cells else cells_among slots n) (ne_eqb s.number n other)
+skipped s slots n other = ap (λ b. if b then Some s.cells else cells_among slots n) (ne_eqb _ n other)
 
 first_is : (s : Slot) (slots : List Slot) (b : Bool) → (s.number == s.number) ≡ b →
     (if b then Some s.cells else cells_among slots s.number) ≡ Some s.cells
 first_is s slots true is = refl
-first_is s slots false is = absurd (eqb-false s.number s.number is refl)
+first_is s slots false is = absurd (eqb-false _ _ is refl)
 
 met : (s : Slot) (slots : List Slot) (n : ℕ) → s.number ≡ n → cells_among (s ∷ slots) n ≡ Some s.cells
-met s slots n is = subst (λ m. cells_among (s ∷ slots) m ≡ Some s.cells) is
-    (first_is s slots (s.number == s.number) refl)
+met s slots n is = subst (λ m. cells_among (s ∷ slots) m ≡ Some s.cells) is (first_is s slots _ refl)
 
 -- the block at a place is the one of its number
 pub found_at : (slots : List Slot) (from made place : ℕ) (slot : Slot) (n : ℕ) → IsRising from made slots →
@@ -43,10 +42,10 @@ found_at [] from made place slot n up h is number = absurd (omega (arith, h))
 found_at (s ∷ slots) from made zero slot n up h is number =
     met s slots n (ap (λ t. t.number) (sym is) ∙ number) ∙ ap (λ t. Some t.cells) (sym is)
 found_at (s ∷ slots) from made (suc place) slot n up h is number =
-    let later = rising_at slots (suc s.number) made place slot up.1 (omega (arith, h)) in
-    let here : slot.number ≡ (get_or slots place slot).number = ap (λ t. t.number) is in
+    let later = rising_at slots _ made place slot up.1 (omega (arith, h)) in
+    let here = ap (λ t. t.number) is in
     skipped s slots n (λ same. absurd (omega (arith, same, here, number, later.0)))
-    ∙ found_at slots (suc s.number) made place slot n up.1 (omega (arith, h)) is number
+    ∙ found_at slots _ made place slot n up.1 (omega (arith, h)) is number
 
 -- where no block has the number
 pub none_found : (slots : List Slot) (n : ℕ) →
@@ -59,7 +58,7 @@ none_found (s ∷ slots) n others =
 pub rising_push : (slots : List Slot) (from made : ℕ) (s : Slot) → IsRising from made slots → s.number ≡ made →
     IsRising from (suc made) (slots ++ s ∷ [])
 rising_push [] from made s up is = (omega (arith, up, is), omega (arith, is))
-rising_push (t ∷ slots) from made s up is = (up.0, rising_push slots (suc t.number) made s up.1 is)
+rising_push (t ∷ slots) from made s up is = (up.0, rising_push slots _ made s up.1 is)
 
 pub old_found : (slots : List Slot) (made : ℕ) (s : Slot) (n : ℕ) → s.number ≡ made → n < made →
     cells_among (slots ++ s ∷ []) n ≡ cells_among slots n
@@ -71,9 +70,8 @@ pub new_found : (slots : List Slot) (from made : ℕ) (s : Slot) → IsRising fr
     cells_among (slots ++ s ∷ []) made ≡ Some s.cells
 new_found [] from made s up is = met s [] made is
 new_found (t ∷ slots) from made s up is =
-    skipped t (slots ++ s ∷ []) made
-    (λ same. absurd (omega (arith, same, rising_to slots (suc t.number) made up.1)))
-    ∙ new_found slots (suc t.number) made s up.1 is
+    skipped t _ made (λ same. absurd (omega (arith, same, rising_to slots _ made up.1)))
+    ∙ new_found slots _ made s up.1 is
 
 -- another block of the same number at a place
 pub rising_set : (slots : List Slot) (from made place : ℕ) (s d : Slot) → IsRising from made slots →
@@ -81,7 +79,7 @@ pub rising_set : (slots : List Slot) (from made place : ℕ) (s d : Slot) → Is
 rising_set [] from made place s d up is = up
 rising_set (t ∷ slots) from made zero s d up is =
     (omega (arith, up.0, is), subst (λ n. IsRising (suc n) made slots) (sym is) up.1)
-rising_set (t ∷ slots) from made (suc place) s d up is = (up.0, rising_set slots (suc t.number) made place s d up.1 is)
+rising_set (t ∷ slots) from made (suc place) s d up is = (up.0, rising_set slots _ made place s d up.1 is)
 
 pub others_found : (slots : List Slot) (place : ℕ) (s d : Slot) (n : ℕ) → s.number ≡ (get_or slots place d).number →
     (n ≡ s.number → ⊥) → cells_among (slice_set slots place s) n ≡ cells_among slots n

@@ -66,6 +66,5 @@ nothing_cleared (suc first) count = refl
 pub none_end : (rows : List Blocks) (comp first count : ℕ) → length rows ≤ comp →
     memory_of rows ≡ with_blocks comp (cleared first count (memory_of rows comp)) (memory_of rows)
 none_end rows comp first count h =
-    (λ i c. same_at (memory_of rows) comp c (c == comp) refl i)
-    ∙ ap (λ bs. with_blocks comp bs (memory_of rows))
+    (λ i c. same_at (memory_of rows) comp c _ refl i) ∙ ap (λ bs. with_blocks comp bs (memory_of rows))
     (no_row rows comp h ∙ sym (nothing_cleared first count) ∙ ap (cleared first count) (sym (no_row rows comp h)))

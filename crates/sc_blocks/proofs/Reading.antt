@@ -23,7 +23,7 @@ pub lost_over : (slots seen : List Slot) (made n : ℕ) → IsRising 0 made slot
     ((from made : ℕ) → IsRising from made seen → cells_among seen n ≡ None) →
     IsOver (slice_get (laid_out (cells_among slots) made 0) n)
 lost_over slots seen made n up same none =
-    over_at (cells_among slots) made n (subst (λ ss. cells_among ss n ≡ None) same
+    over_at _ made n (subst (λ ss. cells_among ss n ≡ None) same
     (none 0 made (subst (λ ss. IsRising 0 made ss) (sym same) up)))
 
 pub over_dangles : (block : Option Block) → IsOver block → live_cells block ≡ Err Dangling

@@ -8,14 +8,14 @@ use Rattle.sc_blocks.proofs.Living.{rising_at, rising_down, skipped}
 
 below : (number : ℕ) (s : Slot) (slots : List Slot) → s.number < number →
     count_below number (s ∷ slots) ≡ suc (count_below number slots)
-below number s slots h = rw (lt-ltb s.number number h) refl
+below number s slots h = rw (lt-ltb _ number h) refl
 
 not_below : (number : ℕ) (s : Slot) (slots : List Slot) → number ≤ s.number → count_below number (s ∷ slots) ≡ 0
-not_below number s slots h = rw (le-ltb s.number number h) refl
+not_below number s slots h = rw (le-ltb _ number h) refl
 
 pub few_below : (slots : List Slot) (number : ℕ) → count_below number slots ≤ length slots
 few_below [] number = omega arith
-few_below (s ∷ slots) number = elim (cases_lt s.number number) [
+few_below (s ∷ slots) number = elim (cases_lt _ number) [
   | inl low ↦ omega (arith, below number s slots low, few_below slots number)
   | inr high ↦ omega (arith, not_below number s slots high)
 ]
@@ -25,7 +25,7 @@ pub at_most : (slots : List Slot) (number place : ℕ) (d : Slot) → place < le
     number ≤ (get_or slots place d).number → count_below number slots ≤ place
 at_most [] number place d h high = omega (arith, h)
 at_most (s ∷ slots) number zero d h high = omega (arith, not_below number s slots high)
-at_most (s ∷ slots) number (suc place) d h high = elim (cases_lt s.number number) [
+at_most (s ∷ slots) number (suc place) d h high = elim (cases_lt _ number) [
   | inl low ↦ omega (arith, below number s slots low, at_most slots number place d (omega (arith, h)) high)
   | inr same ↦ omega (arith, not_below number s slots same)
 ]
@@ -36,22 +36,21 @@ pub at_least : (slots : List Slot) (from made number place : ℕ) (d : Slot) →
 at_least [] from made number place d up h low = absurd (omega (arith, h))
 at_least (s ∷ slots) from made number zero d up h low = omega (arith, below number s slots low)
 at_least (s ∷ slots) from made number (suc place) d up h low =
-    let later = rising_at slots (suc s.number) made place d up.1 (omega (arith, h)) in
+    let later = rising_at slots _ made place d up.1 (omega (arith, h)) in
     omega (
       arith,
       below number s slots (omega (arith, later.0, low)),
-      at_least slots (suc s.number) made number place d up.1 (omega (arith, h)) low,
+      at_least slots _ made number place d up.1 (omega (arith, h)) low,
     )
 
 pub below_order : (slots : List Slot) (first end : ℕ) → first ≤ end → count_below first slots ≤ count_below end slots
 below_order [] first end h = omega arith
-below_order (s ∷ slots) first end h = elim (cases_lt s.number first) [
+below_order (s ∷ slots) first end h = elim (cases_lt _ first) [
   | inl low ↦ omega (
     arith,
     below first s slots low,
     below end s slots (omega (arith, low, h)),
-    below_order slots
-        first end h,
+    below_order slots first end h,
   )
   | inr high ↦ omega (arith, not_below first s slots high)
 ]
@@ -63,34 +62,34 @@ none_below (s ∷ slots) from made number up h = not_below number s slots (omega
 
 kept_low : (first end : ℕ) (s : Slot) (slots : List Slot) → s.number < first →
     without first end (s ∷ slots) ≡ s ∷ without first end slots
-kept_low first end s slots h = rw (lt-ltb s.number first h) refl
+kept_low first end s slots h = rw (lt-ltb _ first h) refl
 
 kept_high : (first end : ℕ) (s : Slot) (slots : List Slot) → first ≤ s.number → end ≤ s.number →
     without first end (s ∷ slots) ≡ s ∷ without first end slots
-kept_high first end s slots h high = rw (le-ltb s.number first h) (rw (le-ltb s.number end high) refl)
+kept_high first end s slots h high = rw (le-ltb _ first h) (rw (le-ltb _ end high) refl)
 
 dropped : (first end : ℕ) (s : Slot) (slots : List Slot) → first ≤ s.number → s.number < end →
     without first end (s ∷ slots) ≡ without first end slots
-dropped first end s slots h high = rw (le-ltb s.number first h) (rw (lt-ltb s.number end high) refl)
+dropped first end s slots h high = rw (le-ltb _ first h) (rw (lt-ltb _ end high) refl)
 
 -- what is taken out by place is what ends by number
 pub removed : (slots : List Slot) (from made first end : ℕ) → first ≤ end → IsRising from made slots →
     remove_range slots (count_below first slots) (count_below end slots) ≡ without first end slots
 removed [] from made first end order up = refl
 removed (s ∷ slots) from made first end order up =
-    let later = removed slots (suc s.number) made first end order up.1 in
+    let later = removed slots (suc _) made first end order up.1 in
     let b = count_below end slots in
     elim (cases_lt s.number first) [
       | inl low ↦ (λ i. remove_range (s ∷ slots) (below first s slots low i)
           (below end s slots (omega (arith, low, order)) i))
           ∙ ap (λ ts. s ∷ ts) later ∙ sym (kept_low first end s slots low)
       | inr h ↦
-          let none = none_below slots (suc s.number) made first up.1 (omega (arith, h)) in
+          let none = none_below slots _ made first up.1 (omega (arith, h)) in
           elim (cases_lt s.number end) [
             | inl inside ↦ (λ i. remove_range (s ∷ slots) (not_below first s slots h i) (below end s slots inside i))
                 ∙ sym (ap (λ n. remove_range slots n b) none) ∙ later ∙ sym (dropped first end s slots h inside)
             | inr high ↦
-                let none_too = none_below slots (suc s.number) made end up.1 (omega (arith, high)) in
+                let none_too = none_below slots _ made end up.1 (omega (arith, high)) in
                 (λ i. remove_range (s ∷ slots) (not_below first s slots h i) (not_below end s slots high i))
                 ∙ ap (λ ts. s ∷ ts) (sym (λ i. remove_range slots (none i) (none_too i)) ∙ later)
                 ∙ sym (kept_high first end s slots h high)
@@ -101,12 +100,11 @@ pub rising_without : (slots : List Slot) (from made first end : ℕ) → IsRisin
     IsRising from made (without first end slots)
 rising_without [] from made first end up = up
 rising_without (s ∷ slots) from made first end up =
-    let later = rising_without slots (suc s.number) made first end up.1 in
-    elim (cases_lt s.number first) [
+    let later = rising_without slots _ made first end up.1 in
+    elim (cases_lt _ first) [
       | inl low ↦ rw (kept_low first end s slots low) (up.0, later)
-      | inr h ↦ elim (cases_lt s.number end) [
-        | inl inside ↦ rw (dropped first end s slots h inside)
-            (rising_down (without first end slots) (suc s.number) made from later (omega (arith, up.0)))
+      | inr h ↦ elim (cases_lt _ end) [
+        | inl inside ↦ rw (dropped first end s slots h inside) (rising_down _ _ made from later (omega (arith, up.0)))
         | inr high ↦ rw (kept_high first end s slots h high) (up.0, later)
       ]
     ]
@@ -118,10 +116,10 @@ ended_found [] first end n low inside = refl
 ended_found (s ∷ slots) first end n low inside =
     let later = ended_found slots first end n low inside in
     let other : (s.number ≡ n → ⊥) → cells_among (s ∷ without first end slots) n ≡ None =
-    λ h. skipped s (without first end slots) n h ∙ later in
-    elim (cases_lt s.number first) [
+    λ h. skipped s _ n h ∙ later in
+    elim (cases_lt _ first) [
       | inl lower ↦ rw (kept_low first end s slots lower) (other (λ same. omega (arith, same, lower, low)))
-      | inr h ↦ elim (cases_lt s.number end) [
+      | inr h ↦ elim (cases_lt _ end) [
         | inl here ↦ rw (dropped first end s slots h here) later
         | inr high ↦ rw (kept_high first end s slots h high) (other (λ same. omega (arith, same, high, inside)))
       ]
@@ -137,13 +135,13 @@ pub rest_found : (slots : List Slot) (first end n : ℕ) → n < first ⊎ end �
 rest_found [] first end n outside = refl
 rest_found (s ∷ slots) first end n outside =
     let later = rest_found slots first end n outside in
-    let kept : cells_among (s ∷ without first end slots) n ≡ cells_among (s ∷ slots) n =
+    let kept =
     ap (λ o. if s.number == n then Some s.cells else o) later in
-    elim (cases_lt s.number first) [
+    elim (cases_lt _ first) [
       | inl lower ↦ rw (kept_low first end s slots lower) kept
-      | inr h ↦ elim (cases_lt s.number end) [
+      | inr h ↦ elim (cases_lt _ end) [
         | inl here ↦ rw (dropped first end s slots h here)
-            (later ∙ sym (skipped s slots n (λ same. outsider n s.number first end outside h here same)))
+            (later ∙ sym (skipped s slots n (λ same. outsider n _ first end outside h here same)))
         | inr high ↦ rw (kept_high first end s slots h high) kept
       ]
     ]
@@ -154,7 +152,7 @@ pub row_without : (slots after : List Slot) (made first count end : ℕ) → aft
     laid_out (cells_among after) made 0 ≡ cleared first count (laid_out (cells_among slots) made 0)
 row_without slots after made first count end is far near =
     ap (λ ss. laid_out (cells_among ss) made 0) is ∙
-    sym (cleared_laid (cells_among slots) (cells_among (without first end slots)) made first count 0 first (omega arith)
+    sym (cleared_laid (cells_among slots) (cells_among _) made first count 0 first (omega arith)
     (λ n a b c d. ended_found slots first end n c (far n (omega (arith, b)) d))
     (λ n a b c. rest_found slots first end n (inl c))
     (λ n a b c. rest_found slots first end n (inr (omega (arith, c, near)))))

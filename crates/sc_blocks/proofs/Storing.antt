@@ -1,6 +1,6 @@
 -- A store into one block of a row.
 use Rattle.sc_blocks.proofs.Common.{Block, Blocks, Cell, Err, IsRising, List, MatchResult, Ok, Result, Slot, Some, ap}
-use Rattle.sc_blocks.proofs.Common.{arith, bind, cause_of, cells_among, cells_at, get_or, get_or-set_same, laid_out}
+use Rattle.sc_blocks.proofs.Common.{arith, bind, cause_of, cells_among, get_or, get_or-set_same, laid_out}
 use Rattle.sc_blocks.proofs.Common.{length, length-set, live_cells, living, put_in, refl, slice_get, slice_set}
 use Rattle.sc_blocks.proofs.Common.{store_cell, stored_in, subst, sym, ℕ, ◌<◌, ◌∙◌, ◌≡◌}
 use Rattle.sc_blocks.proofs.Laying.{set_laid}
@@ -21,13 +21,13 @@ by_block : (bs : Blocks) (k index : ℕ) (cell : Cell) (c : Result (List Cell) C
     bind (bind c (λ cells. bind (put_in cells index cell) (λ cells. Ok (living cells))))
     (λ block. Ok (slice_set bs k block))
 by_block bs k index cell (Err cause) = refl
-by_block bs k index cell (Ok cells) = in_block bs k (put_in cells index cell)
+by_block bs k index cell (Ok cells) = in_block bs k _
 
 -- a store into a row is one into its block
 store_is : (bs : Blocks) (p : Pointer) (cell : Cell) (block : Block) → slice_get bs p.block ≡ Some block →
     store_cell bs (Ptr p) cell ≡ bind (stored_in block p.index cell) (λ block. Ok (slice_set bs p.block block))
 store_is bs p cell block is =
-    by_block bs p.block p.index cell (cells_at bs p.block) ∙
+    by_block bs p.block p.index cell _ ∙
     ap (λ o. bind (bind (live_cells o) (λ cells. bind (put_in cells p.index cell) (λ cells. Ok (living cells))))
     (λ block. Ok (slice_set bs p.block block))) is
 
@@ -53,8 +53,7 @@ module _ (slots : List Slot) (made place n : ℕ) (old new : Slot) (up : IsRisin
       laid_out (cells_among after) made 0
   row_after =
       let between = rising_at slots 0 made place old up within in
-      set_laid (cells_among slots) (cells_among after) made 0 n n new.cells (omega arith)
-      (omega (arith, between.1, ap (λ s. s.number) is, number)) found_new
+      set_laid _ _ made 0 n n _ (omega arith) (omega (arith, between.1, ap (λ s. s.number) is, number)) found_new
       (λ m other. others_found slots place new old m here (λ e. other (e ∙ same ∙ number)))
 
 -- what a store did to the row, by what it did to the block
@@ -66,6 +65,6 @@ pub stored : (bs changed : Blocks) (p : Pointer) (cell : Cell) (old new : List C
     MatchResult r (λ _. store_cell bs (Ptr p) cell ≡ Ok changed)
     (λ fault. store_cell bs (Ptr p) cell ≡ Err (cause_of fault))
 stored bs changed p cell old new found is (Ok done) h =
-    store_is bs p cell (living old) found ∙ ap (λ q. bind q (λ block. Ok (slice_set bs p.block block))) h ∙ ap Ok is
+    store_is bs p cell _ found ∙ ap (λ q. bind q (λ block. Ok (slice_set bs p.block block))) h ∙ ap Ok is
 stored bs changed p cell old new found is (Err fault) h =
-    store_is bs p cell (living old) found ∙ ap (λ q. bind q (λ block. Ok (slice_set bs p.block block))) h
+    store_is bs p cell _ found ∙ ap (λ q. bind q (λ block. Ok (slice_set bs p.block block))) h
