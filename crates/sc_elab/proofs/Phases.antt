@@ -1,13 +1,10 @@
 -- The lines of a text are those of its sections.
 use Rattle.sc_elab.proofs.Common.{BrokenLines, Callees, CallsIn, Decl, Import, List, Option, SectionTree, [], add-one}
 use Rattle.sc_elab.proofs.Common.{ap, called, callees_of, concat, decl_lines, drop, drop-cons, drop_all, get_or, length}
-use Rattle.sc_elab.proofs.Common.{line_of_text, map, noted, noted_all, noted_all-append, refl, section_lines}
+use Rattle.sc_elab.proofs.Common.{line_of_text, map, noted, noted_all, noted_all-append, section_lines}
 use Rattle.sc_elab.proofs.Common.{struct_names, sym, with_lines, ℕ, ◌++◌, ◌+◌, ◌<◌, ◌∙◌, ◌≡◌, ◌≤◌}
 use Rattle.sc_elab.proofs.Calling.{signatures_kept}
-
-noted-nil : (least : Option ℕ) → noted_all least [] ≡ least
-unfolding noted_all
-noted-nil least = refl
+use Rattle.sc_scope.proofs.Noted.{noted-none}
 
 -- the lines of a section, as lines of the text
 abbrev pub lines_in : SectionTree → List ℕ
@@ -47,4 +44,4 @@ module _ (sections : List SectionTree) (i : ℕ) (whole : Option ℕ) where
   pub sections-end : (least : Option ℕ) → length sections ≤ i →
       noted_all least (concat (map lines_in (drop i sections))) ≡ whole → least ≡ whole
   sections-end least done so =
-      sym (noted-nil least) ∙ (λ j. noted_all least (concat (map lines_in (sym (drop_all i _ done) j)))) ∙ so
+      sym (noted-none least) ∙ (λ j. noted_all least (concat (map lines_in (sym (drop_all i _ done) j)))) ∙ so

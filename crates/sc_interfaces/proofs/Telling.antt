@@ -22,6 +22,7 @@ use Rattle.sc_interfaces.proofs.Agreeing.{type_symm}
 use Rattle.sc_interfaces.proofs.Allowing.{same_text, is_numbered-numbered, all_numbered_same, allowed_forbidden}
 use Rattle.sc_interfaces.proofs.Allowing.{allowed_added, allowed_same}
 use Rattle.sc_interfaces.proofs.Steps.{drop_item, drop_past}
+use Rattle.sc_scope.proofs.Noted.{noted-none}
 
 -- two lists hold the same names
 record Same (names others : List Text) : Type 0 where
@@ -395,10 +396,6 @@ lines_told_is sections k mains seen before (section ∷ rest) found same =
     (lines_told_is sections (suc k) (mains || among (table_of section).functions main_name) (numbered seen _)
     (before ++ section ∷ []) rest (mains_more mains before section found) (same_sections seen before section same))
 
-noted_none : (least : Option ℕ) → noted_all least [] ≡ least
-unfolding noted_all
-noted_none least = refl
-
 table_at : (sections : List SectionTree) (tables : List SectionTable) (k : ℕ) (section : SectionTree)
     (table : SectionTable) →
     k < length sections → section ≡ get_or sections k section → tables ≡ map table_of sections →
@@ -478,7 +475,7 @@ pub sections_end : (sections : List SectionTree) (tables : List SectionTable) (k
 sections_end sections tables k mains before least last past all told earlier =
     let none = drop_past _ k past in
     let least_is =
-    sym (noted_none least) ∙ (ap (λ xs. noted_all least (lines_told tables k mains before xs)) (sym none) ∙
+    sym (noted-none least) ∙ (ap (λ xs. noted_all least (lines_told tables k mains before xs)) (sym none) ∙
     earlier.0) in
     let mains_is =
     sym (or-none mains) ∙ (ap (λ xs. mains || list_any defines_main xs) (sym none) ∙ earlier.1) in

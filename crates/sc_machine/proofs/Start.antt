@@ -13,9 +13,6 @@ use Rattle.sc_store.proofs.Parts.{written-in, written-apart}
 
 -- One byte.
 
-pub one_there : (m : Memory) (a : ℕ) → IsSome (m a) → HasBytes m a 1
-one_there m a there = λ k below. subst (λ b. IsSome (m b)) (omega arith) there
-
 byte_is : (x k : ℕ) → x < 256 → k ≡ 0 → get_or (x ∷ []) k 0 ≡ byte_of x k
 byte_is x k h zero_is = rw zero_is (omega arith)
 

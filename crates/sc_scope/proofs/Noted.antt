@@ -1,12 +1,12 @@
 -- The loops over locals, declarations and sections, one step further.
 use Rattle.sc_scope.proofs.Common.{Bool, BrokenLines, Decl, Function, FunctionTree, Global, GlobalTree, HeadTree, List}
-use Rattle.sc_scope.proofs.Common.{LocalTree, Option, Proto, SectionTree, Struct, StructTree, Text, [], add-one, all_in}
-use Rattle.sc_scope.proofs.Common.{ap, append-nil, append_assoc, decl_lines, declared, drop, drop-cons, drop_all, false}
+use Rattle.sc_scope.proofs.Common.{LocalTree, Option, Proto, SectionTree, Struct, StructTree, Text, [], all_in}
+use Rattle.sc_scope.proofs.Common.{ap, append-nil, append_assoc, decl_lines, declared, drop, drop_all, false}
 use Rattle.sc_scope.proofs.Common.{filter_map, function_in, function_lines, function_names, get_or, global_in}
 use Rattle.sc_scope.proofs.Common.{global_names, head_of_known, known, length, line_of_text, lines_from, local_known}
-use Rattle.sc_scope.proofs.Common.{local_names, locals_from, map, map-append, names_broken, noted, noted_all}
+use Rattle.sc_scope.proofs.Common.{local_names, locals_from, map, map-append, names_broken, noted_all}
 use Rattle.sc_scope.proofs.Common.{param_names, proto_in, proto_names, refl, section_lines, stmt_lines, struct_in}
-use Rattle.sc_scope.proofs.Common.{struct_names, suc, sym, take, take_more, unless, with_decl, with_lines, ℕ, ◌++◌, ◌+◌}
+use Rattle.sc_scope.proofs.Common.{struct_names, sym, take, unless, with_decl, with_lines, ℕ, ◌++◌, ◌+◌}
 use Rattle.sc_scope.proofs.Common.{◌<◌, ◌∙◌, ◌∷◌, ◌≡◌, ◌≤◌}
 use Rattle.std.proofs.lemmas.List.Elements.{filter_map-append}
 use Rattle.sc_scope.specs.declared.section_names.SectionNames.{SectionNames}
@@ -147,7 +147,7 @@ decls-noted section decls i old a all le p =
 
 -- Sections.
 
-noted-none : (least : Option ℕ) → noted_all least [] ≡ least
+pub noted-none : (least : Option ℕ) → noted_all least [] ≡ least
 unfolding noted_all
 noted-none least = refl
 

@@ -217,7 +217,7 @@ has_found ps a apart =
         let inside = spans_in a 1 a (get_or (p ∷ ps) i.0 p) w.1 (omega arith) (omega arith) in
         ap is_some (bytes_of-at (p ∷ ps) i.0 p a apart w.0 inside ∙ piece_in (get_or (p ∷ ps) i.0 p) a inside)
 
-one_there : (m : Memory) (a : ℕ) → IsSome (m a) → HasBytes m a 1
+pub one_there : (m : Memory) (a : ℕ) → IsSome (m a) → HasBytes m a 1
 one_there m a h = λ k l. subst (λ b. IsSome (m b)) (let e : a ≡ a + k = omega arith in e) h
 
 one_fits : (x : ℕ) → x < 256 → (k : ℕ) → get_or (x ∷ []) k 0 < 256

@@ -264,7 +264,7 @@ record OfferingFrom (importer : ℕ) (line : ImportLine) (front rest : List Sect
   got : slice_get (front ++ rest) number ≡ Some section
   offers : offers importer line number section ≡ true
 
-length_snoc : {A : Type 0} (xs : List A) (y : A) → length (xs ++ y ∷ []) ≡ suc (length xs)
+pub length_snoc : {A : Type 0} (xs : List A) (y : A) → length (xs ++ y ∷ []) ≡ suc (length xs)
 length_snoc [] y = refl
 length_snoc (x ∷ xs) y = ap suc (length_snoc xs y)
 

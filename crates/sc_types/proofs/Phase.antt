@@ -9,6 +9,7 @@ use Rattle.sc_types.proofs.Common.{ℕ, ◌&&◌, ◌+◌, ◌<◌, ◌∙◌, �
 use Rattle.sc_types.specs.Prelude.{section_lines}
 use Rattle.sc_scope.proofs.Noting.{noted_all-append}
 use Rattle.sc_types.proofs.TypedNodes.{section-nodes}
+use Rattle.sc_scope.proofs.Noted.{noted-none}
 
 pub section-noted : (section : SectionTree) (callees : Callees) (sizes : SectionTree) (short : Bool)
     (old a b c d e f g : BrokenLines) → sizes ≡ section →
@@ -33,10 +34,6 @@ section-noted section callees sizes short old a b c d e f g s h p q r t u v w =
     (w ∙ ap (λ x. with_lines f (concat (map (function_lines x) (functions_in section.decls)))) s))))))
 
 -- The sections.
-
-noted-none : (least : Option ℕ) → noted_all least [] ≡ least
-unfolding noted_all
-noted-none least = refl
 
 noted-first : (line : ℕ) → noted_all None (line ∷ []) ≡ Some line
 unfolding noted_all

@@ -15,6 +15,7 @@ use Rattle.sc_core.specs.declared.ty.BaseTy.TheVariants as base
 use Rattle.sc_core.specs.declared.section.TypedStruct.{TypedStruct}
 use Rattle.sc_types.proofs.Basics.{either}
 use Rattle.sc_types.proofs.Places.{Text, eq_refl, less, at_most, is_at_most, number_within, number_front, number_next}
+use Rattle.sc_types.proofs.Calls.{length_snoc}
 
 -- Tags.
 
@@ -219,10 +220,6 @@ AllSmall structs number [] = Unit {0}
 AllSmall structs number (tree ∷ trees) =
     (nat_le (struct_cells (slice_get structs number)) most_cells ≡ true) × AllSmall structs (suc number) trees
 
-length_next : {A : Type 0} (xs : List A) (y : A) → length (xs ++ y ∷ []) ≡ suc (length xs)
-length_next [] y = refl
-length_next (x ∷ xs) y = ap suc (length_next xs y)
-
 module _ (all : List Text) where
   struct_is : (names after : List Text) (tree : StructTree) (done more structs : List TypedStruct) →
       names ++ tree.name ∷ after ≡ all → length done ≡ length names →
@@ -262,10 +259,10 @@ module _ (all : List Text) where
   rest_fit names (tree ∷ trees) done structs is size whole known small =
       and_from _ _ (struct_is names _ tree done _ structs is size whole known.0 small.0)
       (subst (λ n. structs_fit structs n (rest_of all (done ++ typed_struct all done tree ∷ []) trees) ≡ true)
-      (length_next names tree.name) (rest_fit _ trees
+      (length_snoc names tree.name) (rest_fit _ trees
       (done ++ typed_struct all done tree ∷ []) structs (append_assoc names _ _ ∙ is)
-      (length_next done _ ∙ ap suc size ∙ sym (length_next names _)) (whole ∙ sym (append_assoc done _ _)) known.1
-      (subst (λ n. AllSmall structs n trees) (sym (length_next names _)) small.1)))
+      (length_snoc done _ ∙ ap suc size ∙ sym (length_snoc names _)) (whole ∙ sym (append_assoc done _ _)) known.1
+      (subst (λ n. AllSmall structs n trees) (sym (length_snoc names _)) small.1)))
 
 -- structs that are known and small fit
 pub structs_all_fit : (trees : List StructTree) → AllKnown [] trees →

@@ -25,15 +25,11 @@ use Rattle.sc_types.proofs.Places.{Text, at_most, is_at_most}
 use Rattle.sc_types.proofs.Structs.{AllSmall, structs_all_fit, structs_length}
 use Rattle.sc_types.proofs.Lookups.{each_at, each_function, same_sym, FoundFunction, find_function}
 use Rattle.sc_types.proofs.Facts.{Fresh, fresh_distinct, DeclFacts, FaceFacts, face_facts, decls_hold}
-use Rattle.sc_types.proofs.Calls.{input_signature, get_map, own_signature}
+use Rattle.sc_types.proofs.Calls.{input_signature, get_map, length_snoc, own_signature}
 use Rattle.sc_types.proofs.Callees as called
 use Rattle.sc_types.proofs.Functions.{small_from, functions_are, globals_are, structs_known}
 use Rattle.sc_types.proofs.Sections.{none_beyond, interface_is}
 use Rattle.std.proofs.Math.Bool.{or-false, or_assoc}
-
-length_snoc : {A : Type 0} (xs : List A) (y : A) → length (xs ++ y ∷ []) ≡ suc (length xs)
-length_snoc [] y = refl
-length_snoc (x ∷ xs) y = ap suc (length_snoc xs y)
 
 -- The structs, globals and functions among declarations are no more than these.
 

@@ -1,5 +1,6 @@
 use Rattle.sc_machine.proofs.Common.{ap, arith, get_or, next_there, stored, written_more, ◌+◌, ◌∙◌}
-use Rattle.sc_machine.proofs.Start.{one_there, one_stored}
+use Rattle.sc_store.proofs.Parts.{one_there}
+use Rattle.sc_machine.proofs.Start.{one_stored}
 use Rattle.sc_machine.proofs.loading.fill.Goals as goal
 
 pub store8-requires : goal.store8-requires
