@@ -2,7 +2,7 @@
 use Rattle.sc_expr.proofs.Common.{BinaryOp, Extension, IsIdent, IsMark, Lead, Lexeme, List, Mark, None, Option, Prefix}
 use Rattle.sc_expr.proofs.Common.{Some, Symbol, [], ap, arith, behind, binary_of, cases_lt, cond, cond_some}
 use Rattle.sc_expr.proofs.Common.{extension_at, extension_by, extension_level, extension_of, extension_within, is_mark}
-use Rattle.sc_expr.proofs.Common.{le-leb, lead_by, lead_of, leb, leb-true, level_of, name_at, name_by, none-some}
+use Rattle.sc_expr.proofs.Common.{le-leb, lead_by, lead_of, leb-true, level_of, name_at, name_by, none-some}
 use Rattle.sc_expr.proofs.Common.{option_map, prefix_of, refl, rules, subst, sym, true, within, ℕ, ⊎_elim, ◌<◌, ◌∙◌}
 use Rattle.sc_expr.proofs.Common.{◌∷◌, ◌≡◌, ◌≤◌}
 use Rattle.sc_base.specs.declared.op.BinaryOp.TheVariants as binary
@@ -79,12 +79,11 @@ within_some : (level : ℕ) (us vs : List Lexeme) (ext : Extension) (o : Option 
     within level us o ≡ Some (ext, vs) → (o ≡ Some ext) × (us ≡ vs) × (extension_level ext ≤ level)
 within_some level us vs ext None h = absurd (none-some _ h)
 within_some level us vs ext (Some e) h =
-    let c = cond_some (leb (extension_level e) level) (e, us) (ext, vs) h in
-    let same : e ≡ ext = ap (λ x. x.0) c.1 in (
+    let c = cond_some _ _ _ h in
+    let same = ap (λ x. x.0) c.1 in (
       ap (λ x. Some x) same,
       ap (λ x. x.1) c.1,
-      subst (λ x. extension_level x ≤ level) same
-          (leb-true (extension_level e) level c.0),
+      subst (λ x. extension_level x ≤ level) same (leb-true _ level c.0),
     )
 
 by_mark : (s : Symbol) (ext : Extension) → extension_by s ≡ Some ext →
@@ -96,16 +95,15 @@ pub ahead : (level : ℕ) (ts us : List Lexeme) (ext : Extension) → extension_
     Ahead level ts ext us
 ahead level [] us ext h = absurd (none-some _ h)
 ahead level (t ∷ ts) us ext h =
-    let w = within_some level ts us ext (extension_by t.symbol) h in
-    let b = by_mark t.symbol ext w.0 in
+    let w = within_some level ts us ext _ h in
+    let b = by_mark _ ext w.0 in
     record { first = t; m = b.0; split = ap (λ rest. t ∷ rest) w.1; is = b.1; of = b.2; low = w.2 }
 
 within_none : (level : ℕ) (us : List Lexeme) (ext : Extension) → within level us (Some ext) ≡ None →
     level < extension_level ext
 within_none level us ext h =
     ⊎_elim (λ more. more) (λ low. absurd (none-some _
-    (sym h ∙ ap (λ b. cond b (Some (ext, us)) None) (le-leb (extension_level ext) level low))))
-    (cases_lt level (extension_level ext))
+    (sym h ∙ ap (λ b. cond b (Some (ext, us)) None) (le-leb _ level low)))) (cases_lt level _)
 
 -- where nothing of a level goes on, what does is looser
 pub nothing_within : (level : ℕ) (ts : List Lexeme) → extension_within level ts ≡ None → (ext : Extension) →
@@ -123,8 +121,8 @@ marked m _ h = absurd (none-some {A = ℕ} 0 (ap (λ b. cond b (Some 0) None) h)
 pub behind_mark : (m : Mark) (ts us : List Lexeme) → behind m ts ≡ Some us → (t : Lexeme) × (ts ≡ t ∷ us) × IsMark m t
 behind_mark m [] us h = absurd (none-some us h)
 behind_mark m (t ∷ ts) us h =
-    let c = cond_some (is_mark m t.symbol) ts us h in
-    (t, ap (λ rest. t ∷ rest) c.1, marked m t.symbol c.0)
+    let c = cond_some _ ts us h in
+    (t, ap (λ rest. t ∷ rest) c.1, marked m _ c.0)
 
 named : (s : Symbol) (name : List ℕ) → name_by s ≡ Some name → s ≡ symbol.Ident name
 named (symbol.Ident other) name h = ap (λ x. symbol.Ident x) (same_some h)
@@ -134,9 +132,9 @@ pub name_ahead : (ts us : List Lexeme) (name : List ℕ) → name_at ts ≡ Some
     (t : Lexeme) × (ts ≡ t ∷ us) × IsIdent name t
 name_ahead [] us name h = absurd (none-some _ h)
 name_ahead (t ∷ ts) us name h =
-    let b = bound (λ x. Some (x, ts)) (name_by t.symbol) (name, us) h in
+    let b = bound (λ x. Some _) (name_by _) _ h in
     let same = same_some b.2 in
-    (t, ap (λ x. t ∷ x.1) same, named t.symbol name (b.1 ∙ ap (λ x. Some x.0) same))
+    (t, ap (λ x. t ∷ x.1) same, named _ name (b.1 ∙ ap (λ x. Some x.0) same))
 
 abbrev paren_in : Option Lead → Option ℕ
 paren_in (Some lead.Paren) = Some 0
@@ -156,9 +154,9 @@ prefix_by _ p h = ap prefix_in h
 
 pub paren_lead : (s : Symbol) → lead_of s ≡ Some lead.Paren → s ≡ symbol.Mark mark.OpenParen
 paren_lead (symbol.Mark m) h = ap (λ x. symbol.Mark x) (paren_by m h)
-paren_lead _ h = absurd (none-some lead.Paren h)
+paren_lead _ h = absurd (none-some _ h)
 
 pub prefix_lead : (s : Symbol) (p : Prefix) → lead_of s ≡ Some (lead.Prefix p) →
     (m : Mark) × (s ≡ symbol.Mark m) × (prefix_of m ≡ Some p)
 prefix_lead (symbol.Mark m) p h = (m, refl, prefix_by m p h)
-prefix_lead _ p h = absurd (none-some (lead.Prefix p) h)
+prefix_lead _ p h = absurd (none-some _ h)

@@ -44,21 +44,21 @@ no_prefix_bracket _ p n h = refl
 
 pub plain_binary : (t : Lexeme) (m : Mark) (op : BinaryOp) → t.symbol ≡ symbol.Mark m → binary_of m ≡ Some op →
     IsPlain t
-plain_binary t m op is of n = says t (symbol.Mark m) is n ∙ no_binary_bracket m op n of
+plain_binary t m op is of n = says t _ is n ∙ no_binary_bracket m op n of
 
 pub plain_prefix : (t : Lexeme) (m : Mark) (p : Prefix) → t.symbol ≡ symbol.Mark m → prefix_of m ≡ Some p → IsPlain t
-plain_prefix t m p is of n = says t (symbol.Mark m) is n ∙ no_prefix_bracket m p n of
+plain_prefix t m p is of n = says t _ is n ∙ no_prefix_bracket m p n of
 
 after_append : (n : ℕ) (ts us : List Lexeme) → open_along n (ts ++ us) ≡ open_along (open_along n ts) us
 after_append n [] us = refl
-after_append n (t ∷ ts) us = after_append (open_after t.symbol n) ts us
+after_append n (t ∷ ts) us = after_append (open_after _ n) ts us
 
 after_bracketed : (n : ℕ) (t u : Lexeme) (us : List Lexeme) → Opens t → Closes u → ((k : ℕ) → open_along k us ≡ k) →
     open_along n (t ∷ (us ++ u ∷ [])) ≡ n
 after_bracketed n t u us opens closes even =
     let one_less : n + 1 - 1 ≡ n = omega arith in
     ap (λ k. open_along k (us ++ u ∷ [])) (opens n) ∙ after_append (n + 1) us (u ∷ []) ∙
-    ap (λ k. open_after u.symbol k) (even (n + 1)) ∙ closes (n + 1) ∙ one_less
+    ap (λ k. open_after u.symbol k) (even _) ∙ closes _ ∙ one_less
 
 after_behind : (n : ℕ) (ts us : List Lexeme) → open_along n ts ≡ n → open_along n us ≡ n →
     open_along n (ts ++ us) ≡ n
@@ -66,19 +66,18 @@ after_behind n ts us even too = after_append n ts us ∙ ap (λ k. open_along k 
 
 pub balanced : {level : ℕ} {ts : List Lexeme} {e : ExprTree} → Spells level ts e → (n : ℕ) → open_along n ts ≡ n
 balanced (literal t number is) n = says t (symbol.Integer number) is n
-balanced (variable t name is) n = says t (symbol.Ident name) is n
-balanced (parenthesised {ts = ts} t u o q d) n = after_bracketed n t u ts (says t (symbol.Mark mark.OpenParen) o)
-    (says u (symbol.Mark mark.CloseParen) q) (balanced d)
+balanced (variable t name is) n = says t _ is n
+balanced (parenthesised {ts = ts} t u o q d) n = after_bracketed n t u ts (says t (symbol.Mark _) o)
+    (says u _ q) (balanced d)
 balanced (index {ts = ts} {us = us} t u o q d g) n = after_behind n ts (t ∷ (us ++ u ∷ [])) (balanced d n)
-    (after_bracketed n t u us (says t (symbol.Mark mark.OpenSquare) o) (says u (symbol.Mark mark.CloseSquare) q)
-    (balanced g))
-balanced (member {ts = ts} t u name o is d) n = after_behind n ts (t ∷ u ∷ []) (balanced d n)
-    (ap (λ k. open_after u.symbol k) (says t (symbol.Mark mark.Dot) o n) ∙ says u (symbol.Ident name) is n)
-balanced (arrow {ts = ts} t u name o is d) n = after_behind n ts (t ∷ u ∷ []) (balanced d n)
-    (ap (λ k. open_after u.symbol k) (says t (symbol.Mark mark.Arrow) o n) ∙ says u (symbol.Ident name) is n)
+    (after_bracketed n t u us (says t _ o) (says u (symbol.Mark _) q) (balanced g))
+balanced (member {ts = ts} t u name o is d) n = after_behind n ts _ (balanced d n)
+    (ap (λ k. open_after u.symbol k) (says t _ o n) ∙ says u (symbol.Ident name) is n)
+balanced (arrow {ts = ts} t u name o is d) n = after_behind n ts _ (balanced d n)
+    (ap (λ k. open_after u.symbol k) (says t _ o n) ∙ says u (symbol.Ident name) is n)
 balanced («prefix» {ts = ts} t m p is of d) n = ap (λ k. open_along k ts) (plain_prefix t m p is of n) ∙ balanced d n
 balanced (joined {ts = ts} {us = us} t m op is of at d g) n =
-    after_behind n ts (t ∷ us) (balanced d n) (ap (λ k. open_along k us) (plain_binary t m op is of n) ∙ balanced g n)
+    after_behind n ts _ (balanced d n) (ap (λ k. open_along k us) (plain_binary t m op is of n) ∙ balanced g n)
 balanced (looser d) n = balanced d n
 
 pub open_low : (n : ℕ) (ts : List Lexeme) → n ≤ most_open n ts
@@ -111,6 +110,6 @@ most_bracketed {us = us} n t u rest opens closes d =
 
 pub most_plain : (n : ℕ) (t : Lexeme) (rest : List Lexeme) → IsPlain t → most_open n (t ∷ rest) ≡ most_open n rest
 most_plain n t rest plain =
-    let same : most_open (open_after t.symbol n) rest ≡ most_open n rest = ap (λ k. most_open k rest) (plain n) in
+    let same = ap (λ k. most_open k rest) (plain n) in
     let low = open_low n rest in
     omega arith

@@ -25,12 +25,11 @@ Onward level rest = (ext : Extension) → extension_at rest ≡ Some ext → lev
 quiet_by : (level : ℕ) (us : List Lexeme) (o : Option Extension) →
     ((ext : Extension) → o ≡ Some ext → level < extension_level ext) → within level us o ≡ None
 quiet_by level us None looser_all = refl
-quiet_by level us (Some ext) looser_all = ap (λ b. cond b (Some (ext, us)) None)
-    (lt-leb (extension_level ext) level (looser_all ext refl))
+quiet_by level us (Some ext) looser_all = ap (λ b. cond b (Some (ext, us)) None) (lt-leb _ level (looser_all ext refl))
 
 quiet : (level : ℕ) (rest : List Lexeme) → Onward (suc level) rest → extension_within level rest ≡ None
 quiet level [] may = refl
-quiet level (t ∷ ts) may = quiet_by level ts (extension_by t.symbol) (λ ext at. let more = may ext at in omega arith)
+quiet level (t ∷ ts) may = quiet_by level ts _ (λ ext at. let more = may ext at in omega arith)
 
 -- a lexeme that no expression goes on with
 closing : (t : Lexeme) (rest : List Lexeme) (s : Symbol) (level : ℕ) → t.symbol ≡ s → extension_by s ≡ None →
@@ -41,7 +40,7 @@ next_within : (level : ℕ) (t : Lexeme) (us : List Lexeme) (m : Mark) (ext : Ex
     extension_of m ≡ Some ext → extension_level ext ≤ level → extension_within level (t ∷ us) ≡ Some (ext, us)
 next_within level t us m ext is of low =
     ap (λ s. within level us (extension_by s)) is ∙ ap (λ o. within level us o) of ∙
-    ap (λ b. cond b (Some (ext, us)) None) (le-leb (extension_level ext) level low)
+    ap (λ b. cond b (Some (ext, us)) None) (le-leb _ level low)
 
 prefix_leads : (m : Mark) (p : Prefix) → prefix_of m ≡ Some p → lead_by m ≡ Some (lead.Prefix p)
 prefix_leads mark.OpenParen p h = absurd (none-some p h)
@@ -113,8 +112,7 @@ takes c ts e some on free zero level n rest inside low few may = absurd (omega a
 takes c ts e some on free (suc room) level n rest inside low few may =
     let g = on free room level n rest inside low few (λ ext at. let more = may ext at in omega arith) in
     let enough = g.1 in
-    g.2 ∙ turns_end (read_nested free) (read free room) room level g.0 (found e (expr_height e) rest) (omega arith)
-    (quiet level rest may)
+    g.2 ∙ turns_end _ _ room level g.0 _ (omega arith) (quiet level rest may)
 
 from_operand : (free room level : ℕ) (ts : List Lexeme) (e : ExprTree) (h : ℕ) (rest : List Lexeme) →
     h ≡ expr_height e → 1 ≤ h → operand_with (read_nested free) (read free room) room ts ≡ Some (found e h rest) →
@@ -123,7 +121,7 @@ from_operand free room level ts e h rest same some operand =
     let next : suc room ≡ room + 1 = omega arith in (
       suc room,
       omega arith,
-      read_goes free (suc room) room level (suc room) ts (found e h rest) next refl operand ∙
+      read_goes free _ room level _ ts _ next refl operand ∙
           ap (λ k. go_on (read_nested free) (read free room) room level (suc room) (found e k rest)) same,
     )
 
@@ -138,19 +136,18 @@ from_turn free room level all ts us rest e f ext h g next low more same grows =
     let one : g.0 ≡ g.0 - 1 + 1 = omega arith in (
       g.0 - 1,
       omega arith,
-      g.2 ∙ turns_on (read_nested free) (read free room) room level g.0 (g.0 - 1)
-          (found e (expr_height e) us) (found f h rest) ext ts one next grows ∙
+      g.2 ∙ turns_on _ _ room level g.0 _ _ _ ext ts one next grows ∙
           ap (λ k. go_on (read_nested free) (read free room) room level (g.0 - 1) (found f k rest)) same,
     )
 
 -- the lexemes behind a closing bracket, one behind another
 inside_of : (us rest : List Lexeme) (u : Lexeme) → us ++ u ∷ [] ++ rest ≡ us ++ (u ∷ rest)
-inside_of us rest u = append_assoc us (u ∷ []) rest
+inside_of us rest u = append_assoc us _ rest
 
 -- behind a part, brackets and what they hold
 with_brackets : (ts us rest : List Lexeme) (t u : Lexeme) →
     ts ++ (t ∷ (us ++ u ∷ [])) ++ rest ≡ ts ++ (t ∷ (us ++ (u ∷ rest)))
-with_brackets ts us rest t u = append_assoc ts (t ∷ (us ++ u ∷ [])) rest ∙ ap (λ k. ts ++ (t ∷ k)) (inside_of us rest u)
+with_brackets ts us rest t u = append_assoc ts _ rest ∙ ap (λ k. ts ++ (t ∷ k)) (inside_of us rest u)
 
 -- Reading arrives at all that is spelled.
 pub goes : {c : ℕ} {ts : List Lexeme} {e : ExprTree} (d : Spells c ts e) → GoesOn c ts e
@@ -163,8 +160,7 @@ goes (variable t name is) = λ free room level n rest inside low few may.
     (operand_leaf (read_nested free) (read free room) room t rest (symbol.Ident name)
     (expr.Variable name) is refl refl)
 goes (parenthesised {ts = ts} {e = e} t u is closes d) = λ free room level n rest inside low few may.
-    let most = most_bracketed n t u [] (says t (symbol.Mark mark.OpenParen) is)
-    (says u (symbol.Mark mark.CloseParen) closes) d in
+    let most = most_bracketed n t u [] (says t (symbol.Mark mark.OpenParen) is) (says u (symbol.Mark _) closes) d in
     let opened = open_low (n + 1) ts in
     let fewer : free ≡ free - 1 + 1 = omega arith in
     let inner = takes 11 ts e (positive d) (goes d) (free - 1) (room + 1) 11 (n + 1) (u ∷ rest) (omega arith)

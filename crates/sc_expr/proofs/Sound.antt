@@ -69,9 +69,8 @@ leaf_stands free room t ts _ e is h = absurd (none-some e h)
 leaf_sound : (free room : ℕ) (ts : List Lexeme) (x : Found) → leaf_at ts ≡ Some x → Stands free (room + 1) 0 0 ts x
 leaf_sound free room [] x h = absurd (none-some x h)
 leaf_sound free room (t ∷ ts) x h =
-    let b = bound (λ e. Some (found e 1 ts)) (leaf_of t.symbol) x h in
-    subst (λ y. Stands free (room + 1) 0 0 (t ∷ ts) y) (same_some b.2)
-    (leaf_stands free room t ts t.symbol b.0 refl b.1)
+    let b = bound (λ e. Some _) (leaf_of _) x h in
+    subst (λ y. Stands free (room + 1) 0 0 (t ∷ ts) y) (same_some b.2) (leaf_stands free room t ts _ b.0 refl b.1)
 
 module _ (free room : ℕ) (nested : ℕ → ℕ → Reader) (below : ℕ → Reader)
     (in_brackets : (levels level : ℕ) (ts : List Lexeme) (x : Found) → 0 < level → nested levels level ts ≡ Some x →
@@ -81,13 +80,13 @@ module _ (free room : ℕ) (nested : ℕ → ℕ → Reader) (below : ℕ → Re
   paren_sound : (t : Lexeme) (ts : List Lexeme) (x : Found) → IsMark mark.OpenParen t →
       paren_with nested below room ts ≡ Some x → Stands free (room + 1) 0 0 (t ∷ ts) x
   paren_sound t ts x is h =
-      let b = bound _ (nested (room + 1) 11 ts) x h in
+      let b = bound _ _ x h in
       let y = b.0 in
-      let c = bound _ (behind mark.CloseParen y.rest) x b.2 in
+      let c = bound _ _ x b.2 in
       let u = behind_mark mark.CloseParen y.rest c.0 c.1 in
-      let r = in_brackets (room + 1) 11 ts y (omega arith) b.1 in
+      let r = in_brackets _ 11 ts y (omega arith) b.1 in
       let inner = r.2 in
-      let split : ts ≡ inner.taken ++ u.0 ∷ [] ++ c.0 =
+      let split =
       inner.split ∙ ap (λ rest. inner.taken ++ rest) u.1 ∙ sym (append_assoc inner.taken (u.0 ∷ []) c.0) in
       subst (λ z. Stands free (room + 1) 0 0 (t ∷ ts) z) (same_some c.2) (record {
         taken = t ∷ (inner.taken ++ u.0 ∷ []);
@@ -95,9 +94,8 @@ module _ (free room : ℕ) (nested : ℕ → ℕ → Reader) (below : ℕ → Re
         spelled = parenthesised t u.0 is u.2 inner.spelled;
         measured = inner.measured;
         low = inner.low;
-        few = λ n. let most = most_bracketed n t u.0 [] (says t (symbol.Mark mark.OpenParen) is)
-            (says u.0 (symbol.Mark mark.CloseParen) u.2) inner.spelled in let few = inner.few (n + 1) in let same =
-            r.1 in omega arith;
+        few = λ n. let most = most_bracketed n t u.0 [] (says t _ is)
+            (says u.0 _ u.2) inner.spelled in let few = inner.few (n + 1) in let same = r.1 in omega arith;
         onward = λ ext at. omega arith;
       })
 
@@ -120,16 +118,16 @@ module _ (free room : ℕ) (nested : ℕ → ℕ → Reader) (below : ℕ → Re
 
   lead_sound : (t : Lexeme) (ts : List Lexeme) (x : Found) (o : Option Lead) → lead_of t.symbol ≡ o →
       lead_with nested below room o t ts ≡ Some x → (c : ℕ) × (c ≤ 1) × Stands free (room + 1) c c (t ∷ ts) x
-  lead_sound t ts x (Some lead.Paren) is h = (0, omega arith, paren_sound t ts x (paren_lead t.symbol is) h)
-  lead_sound t ts x (Some (lead.Prefix p)) is h = let q = prefix_lead t.symbol p is in
+  lead_sound t ts x (Some lead.Paren) is h = (0, omega arith, paren_sound t ts x (paren_lead _ is) h)
+  lead_sound t ts x (Some (lead.Prefix p)) is h = let q = prefix_lead _ p is in
       (1, omega arith, prefix_sound t q.0 p ts x q.1 q.2 h)
-  lead_sound t ts x None is h = (0, omega arith, leaf_sound free room (t ∷ ts) x h)
+  lead_sound t ts x None is h = (0, omega arith, leaf_sound free room _ x h)
 
   operand_sound : (ts : List Lexeme) (x : Found) → operand_with nested below room ts ≡ Some x →
       (c : ℕ) × (c ≤ 1) × Stands free (room + 1) c c ts x
   unfolding operand_with
   operand_sound [] x h = absurd (none-some x h)
-  operand_sound (t ∷ ts) x h = lead_sound t ts x (lead_of t.symbol) refl h
+  operand_sound (t ∷ ts) x h = lead_sound t ts x _ refl h
 
   -- what is made with a name behind `.` or `->`
   abbrev NamedBy : (m : Mark) → (ExprTree → List ℕ → ExprTree) → Type 0
@@ -196,7 +194,7 @@ module _ (free room : ℕ) (nested : ℕ → ℕ → Reader) (below : ℕ → Re
       let u = behind_mark mark.CloseSquare z.rest c.0 c.1 in
       let r = in_brackets room 11 us z (omega arith) b.1 in
       let inner = r.2 in
-      let is : IsMark mark.OpenSquare a.first = a.is ∙ ap (λ m. symbol.Mark m) (index_mark a.m a.of) in
+      let is : IsMark _ a.first = a.is ∙ ap (λ m. symbol.Mark m) (index_mark a.m a.of) in
       let inside : us ≡ inner.taken ++ u.0 ∷ [] ++ c.0 =
       inner.split ∙ ap (λ rest. inner.taken ++ rest) u.1 ∙ sym (append_assoc inner.taken (u.0 ∷ []) c.0) in
       subst (λ v. Stands free (room + 1) 0 0 ts v) (same_some c.2) (record {
@@ -208,8 +206,8 @@ module _ (free room : ℕ) (nested : ℕ → ℕ → Reader) (below : ℕ → Re
         low = let less = inner.low in omega arith;
         few = λ n.
             let most = most_behind n (a.first ∷ (inner.taken ++ u.0 ∷ [])) s.spelled in
-            let most_inside = most_bracketed n a.first u.0 [] (says a.first (symbol.Mark mark.OpenSquare) is)
-            (says u.0 (symbol.Mark mark.CloseSquare) u.2) inner.spelled in
+            let most_inside = most_bracketed n a.first u.0 [] (says a.first _ is)
+            (says u.0 (symbol.Mark _) u.2) inner.spelled in
             let left = s.few n in let few = inner.few (n + 1) in let same = r.1 in omega arith;
         onward = λ other at. omega arith;
       })
@@ -226,7 +224,7 @@ module _ (free room : ℕ) (nested : ℕ → ℕ → Reader) (below : ℕ → Re
       (λ e name ts t u is of d. member t u name is of d) (λ e name. member_height e name) (λ n. refl) s a
       (a.is ∙ ap (λ m. symbol.Mark m) (member_mark a.m a.of)) low h
   joined_sound level extension.Arrow ts us x y s a low h =
-      named_sound mark.Arrow extension.Arrow (λ e name. expr.Arrow e name) level ts us x y
+      named_sound mark.Arrow _ (λ e name. expr.Arrow e name) level ts us x y
       (λ e name ts t u is of d. arrow t u name is of d) (λ e name. arrow_height e name) (λ n. refl) s a
       (a.is ∙ ap (λ m. symbol.Mark m) (arrow_mark a.m a.of)) low h
 
@@ -238,9 +236,9 @@ module _ (free room : ℕ) (nested : ℕ → ℕ → Reader) (below : ℕ → Re
   extended_sound level c ext ts us x y s a h =
       let at : extension_at x.rest ≡ Some ext = ap (λ rest. extension_at rest) a.split ∙ ap (λ k. extension_by k) a.is ∙
       a.of in
-      let fits : (leb x.height room ≡ true) × (joined_with nested below room x.tree x.height ext us ≡ Some y) =
-      cond_is (leb x.height room) _ y h in
-      let grown : Stands free (room + 1) (extension_level ext) (extension_level ext) ts x = record {
+      let fits : (leb _ room ≡ true) × (joined_with nested below room x.tree _ ext us ≡ Some y) =
+      cond_is (leb _ room) _ y h in
+      let grown : Stands free (room + 1) (extension_level ext) _ ts x = record {
         taken = s.taken;
         split = s.split;
         spelled = raise (extension_level ext) c s.taken x.tree (s.onward ext at) s.spelled;
@@ -270,25 +268,25 @@ module _ (free room : ℕ) (nested : ℕ → ℕ → Reader) (below : ℕ → Re
       })
   turn_sound level turns c ts x y (Some next) further low s some h =
       let b = bound (λ z. go_on nested below room level turns z)
-      (extended_with nested below room x.tree x.height next.0 next.1) y h in
+      (extended_with nested below room x.tree _ next.0 next.1) y h in
       let a = ahead level x.rest next.1 next.0 some in
-      further (extension_level next.0) b.0 a.low (extended_sound level c next.0 ts next.1 x b.0 s a b.1) b.2
+      further _ b.0 a.low (extended_sound level c next.0 ts next.1 x b.0 s a b.1) b.2
 
   loop_sound : (level turns c : ℕ) (ts : List Lexeme) (x y : Found) → c ≤ level → Stands free (room + 1) c c ts x →
       go_on nested below room level turns x ≡ Some y → Reads free (room + 1) level ts y
   unfolding go_on
   loop_sound level zero c ts x y low s h = absurd (none-some y h)
   loop_sound level (suc turns) c ts x y low s h =
-      turn_sound level turns c ts x y (extension_within level x.rest)
+      turn_sound level turns c ts x y _
       (λ l z under stands q. loop_sound level turns l ts z y under stands q) low s refl h
 
   pub level_sound : (level : ℕ) (ts : List Lexeme) (x : Found) → 0 < level →
       level_with nested below room level ts ≡ Some x → Reads free (room + 1) level ts x
   level_sound level ts x some h =
-      let b = bound _ (operand_with nested below room ts) x h in
+      let b = bound _ _ x h in
       let first = operand_sound ts b.0 b.1 in
       let tight = first.1 in
-      loop_sound level (room + 1) first.0 ts b.0 x (omega arith) first.2 b.2
+      loop_sound level _ first.0 ts b.0 x (omega arith) first.2 b.2
 
 within_sound : (free : ℕ) (nested : ℕ → ℕ → Reader) →
     ((levels level : ℕ) (ts : List Lexeme) (x : Found) → 0 < level → nested levels level ts ≡ Some x →
@@ -299,16 +297,15 @@ unfolding read_within
 within_sound free nested inside zero level ts x some h = absurd (none-some x h)
 within_sound free nested inside (suc room) level ts x some h =
     let next : room + 1 ≡ suc room = omega arith in
-    subst (λ k. Reads free k level ts x) next (level_sound free room nested (read_within nested room) inside
+    subst (λ k. Reads free k level ts x) next (level_sound free room nested _ inside
     (λ l us y p q. within_sound free nested inside room l us y p q) level ts x some h)
 
 -- what is read at a level is spelled at it, within the limits, as far as it goes
 pub read_sound : (free room level : ℕ) (ts : List Lexeme) (x : Found) → 0 < level → read free room level ts ≡ Some x →
     Reads free room level ts x
 unfolding read
-read_sound zero room level ts x some h = within_sound 0 (λ levels l us. None)
+read_sound zero room level ts x some h = within_sound 0 _
     (λ levels l us y p q. absurd (none-some y q)) room level ts x some h
 read_sound (suc free) room level ts x some h =
     let next : suc free ≡ free + 1 = omega arith in
-    within_sound (suc free) (read free) (λ levels l us y p q.
-    (free, next, read_sound free levels l us y p q)) room level ts x some h
+    within_sound _ _ (λ levels l us y p q. (free, next, read_sound free levels l us y p q)) room level ts x some h

@@ -12,7 +12,7 @@ use Rattle.sc_expr.proofs.Complete.{reads_all}
 pub front_sound : (level count : ℕ) (ts : List Lexeme) (x : Found) → 0 < level → count ≤ 1024 →
     read_expr level count ts ≡ Some x → IsFront level count ts x.tree x.rest
 front_sound level count ts x some opened h =
-    let r = read_sound (1024 - count) 256 level ts x some h in
+    let r = read_sound _ 256 level ts x some h in
     record {
       taken = r.taken;
       split = r.split;
@@ -24,7 +24,7 @@ front_sound level count ts x some opened h =
 
 pub height_sound : (level count : ℕ) (ts : List Lexeme) (x : Found) → 0 < level → read_expr level count ts ≡ Some x →
     x.height ≡ expr_height x.tree
-height_sound level count ts x some h = let r = read_sound (1024 - count) 256 level ts x some h in r.measured
+height_sound level count ts x some h = let r = read_sound _ 256 level ts x some h in r.measured
 
 -- a front is read
 pub front_complete : (level count : ℕ) (ts : List Lexeme) (e : ExprTree) (rest : List Lexeme) →
@@ -65,12 +65,12 @@ seen x = found x.0.tree x.0.height x.1.now
 
 pub found_front : (level count : ℕ) (ts : List Lexeme) (answer : Answer) → 0 < level → count ≤ 1024 →
     Agrees seen answer (read_expr level count ts) → IfOk answer (λ x. IsFront level count ts x.0.tree x.1.now)
-found_front level count ts (Ok x) some opened h = front_sound level count ts (seen x) some opened h
+found_front level count ts (Ok x) some opened h = front_sound level count ts _ some opened h
 found_front level count ts (Err fault) some opened h = tt
 
 pub found_height : (level count : ℕ) (ts : List Lexeme) (answer : Answer) → 0 < level →
     Agrees seen answer (read_expr level count ts) → IfOk answer (λ x. x.0.height ≡ expr_height x.0.tree)
-found_height level count ts (Ok x) some h = height_sound level count ts (seen x) some h
+found_height level count ts (Ok x) some h = height_sound level count ts _ some h
 found_height level count ts (Err fault) some h = tt
 
 pub refused_front : (level count : ℕ) (ts : List Lexeme) (answer : Answer) →
