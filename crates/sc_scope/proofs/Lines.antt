@@ -1,5 +1,5 @@
 -- Lines that are noted one after another.
-use Rattle.sc_scope.proofs.Common.{BrokenLines, List, Text, [], among, ap, nat_eq, pointwise, sym, with_lines, ℕ, ◌++◌}
+use Rattle.sc_scope.proofs.Common.{BrokenLines, List, Text, [], among, ap, sym, with_lines, ℕ, ◌++◌}
 use Rattle.sc_scope.proofs.Common.{◌||◌, ◌∙◌, ◌≡◌}
 use Rattle.std.proofs.lemmas.List.Folds.{list_any-append}
 use Rattle.sc_scope.proofs.Noting.{with_lines-nil, with_lines-append}
@@ -24,7 +24,7 @@ done old a xs all p e = nothing a xs e ∙ p
 
 -- a name is among the names of two lists
 pub among-append : (xs ys : List Text) (name : Text) → among (xs ++ ys) name ≡ (among xs name || among ys name)
-among-append xs ys name = list_any-append (pointwise nat_eq name) xs ys
+among-append xs ys name = list_any-append _ xs ys
 
 pub ruleset joined = (among-append)
 

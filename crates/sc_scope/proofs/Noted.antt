@@ -1,11 +1,11 @@
 -- The loops over locals, declarations and sections, one step further.
-use Rattle.sc_scope.proofs.Common.{Bool, BrokenLines, Decl, Function, FunctionTree, Global, GlobalTree, HeadTree, List}
-use Rattle.sc_scope.proofs.Common.{LocalTree, Option, Proto, SectionTree, Struct, StructTree, Text, [], all_in}
+use Rattle.sc_scope.proofs.Common.{Bool, BrokenLines, Decl, Function, FunctionTree, Global, List}
+use Rattle.sc_scope.proofs.Common.{LocalTree, Option, Proto, SectionTree, Struct, Text, [], all_in}
 use Rattle.sc_scope.proofs.Common.{ap, append-nil, append_assoc, decl_lines, declared, drop, drop_all, false}
-use Rattle.sc_scope.proofs.Common.{filter_map, function_in, function_lines, function_names, get_or, global_in}
-use Rattle.sc_scope.proofs.Common.{global_names, head_of_known, known, length, line_of_text, lines_from, local_known}
+use Rattle.sc_scope.proofs.Common.{function_lines, function_names, get_or}
+use Rattle.sc_scope.proofs.Common.{global_names, head_of_known, known, length, lines_from, local_known}
 use Rattle.sc_scope.proofs.Common.{local_names, locals_from, map, map-append, names_broken, noted_all}
-use Rattle.sc_scope.proofs.Common.{param_names, proto_in, proto_names, refl, section_lines, stmt_lines, struct_in}
+use Rattle.sc_scope.proofs.Common.{param_names, proto_names, refl, section_lines, stmt_lines}
 use Rattle.sc_scope.proofs.Common.{struct_names, sym, take, unless, with_decl, with_lines, ℕ, ◌++◌, ◌+◌}
 use Rattle.sc_scope.proofs.Common.{◌<◌, ◌∙◌, ◌∷◌, ◌≡◌, ◌≤◌}
 use Rattle.std.proofs.lemmas.List.Elements.{filter_map-append}
@@ -19,8 +19,7 @@ use Rattle.sc_base.proofs.Lists.{drop-step, take-step}
 pub pushed : {A B : Type 0} (f : A → B) (xs : List A) (i : ℕ) (x : A) (a b all : List B) → i < length xs →
     x ≡ get_or xs i x → a ++ map f (drop i xs) ≡ all → b ≡ a ++ f x ∷ [] → b ++ map f (drop (i + 1) xs) ≡ all
 pushed f xs i x a b all lt is p q =
-    ap (λ c. c ++ map f (drop (i + 1) xs)) q
-    ∙ (append_assoc a (f x ∷ []) (map f (drop (i + 1) xs))
+    ap (λ c. c ++ map f (drop (i + 1) xs)) q ∙ (append_assoc a (f x ∷ []) (map f (drop _ xs))
     ∙ (ap (λ ys. a ++ map f ys) (sym (drop-step xs i x lt is)) ∙ p))
 
 -- Locals.
@@ -41,8 +40,7 @@ local-noted names own more locals i local holds old a b all lt is p h m q =
 pub locals-noted : (names : SectionNames) (own : List Text) (locals : List LocalTree) (i : ℕ) (old a : BrokenLines)
     (all : List ℕ) → length locals ≤ i → with_lines a (locals_from names.structs names.globals own (drop i locals)) ≡
     with_lines old all → a ≡ with_lines old all
-locals-noted names own locals i old a all le p =
-    done old a _ all p (ap (locals_from names.structs names.globals own) (drop_all i locals le))
+locals-noted names own locals i old a all le p = done old a _ all p (ap (locals_from _ _ own) (drop_all i locals le))
 
 -- Functions.
 
@@ -58,38 +56,28 @@ module _ (names : SectionNames) (tree : FunctionTree) where
       a ≡ with_lines old (unless holds tree.head.line) → b ≡ with_lines a (local_part own) →
       c ≡ with_lines b (body_of all) → c ≡ with_lines old (function_lines names tree)
   function-noted holds own all old a b c h o l p q r =
-      let all-is : all ≡ param_names tree ++ local_names tree = l ∙ ap (λ x. x ++ local_names tree) o in
+      let all-is = l ∙ ap (λ x. x ++ local_names tree) o in
       then old a c _ _ (p ∙ ap (λ v. with_lines old (unless v tree.head.line)) h)
       (then a b c _ _ (q ∙ ap (λ x. with_lines a (local_part x)) o)
-      (r ∙ ap (with_lines b) (ap body_of all-is ∙ body-lines
-      (known names (param_names tree ++ local_names tree)) tree.body)))
+      (r ∙ ap (with_lines b) (ap body_of all-is ∙ body-lines _ _)))
 
 -- Declarations.
 
 struct_names-more : (before : List Decl) (decl : Decl) →
     struct_names (before ++ decl ∷ []) ≡ struct_names before ++ struct_names (decl ∷ [])
-struct_names-more before decl =
-    ap (map {A = StructTree} (λ tree. tree.name)) (filter_map-append struct_in before (decl ∷ [])) ∙
-    map-append {A = StructTree} (λ tree. tree.name) (filter_map struct_in before) (filter_map struct_in (decl ∷ []))
+struct_names-more before decl = ap (map _) (filter_map-append _ before _) ∙ map-append _ _ _
 
 global_names-more : (before : List Decl) (decl : Decl) →
     global_names (before ++ decl ∷ []) ≡ global_names before ++ global_names (decl ∷ [])
-global_names-more before decl =
-    ap (map {A = GlobalTree} (λ tree. tree.name)) (filter_map-append global_in before (decl ∷ [])) ∙
-    map-append {A = GlobalTree} (λ tree. tree.name) (filter_map global_in before) (filter_map global_in (decl ∷ []))
+global_names-more before decl = ap (map _) (filter_map-append _ before _) ∙ map-append _ _ _
 
 proto_names-more : (before : List Decl) (decl : Decl) →
     proto_names (before ++ decl ∷ []) ≡ proto_names before ++ proto_names (decl ∷ [])
-proto_names-more before decl =
-    ap (map {A = HeadTree} (λ head. head.name)) (filter_map-append proto_in before (decl ∷ [])) ∙
-    map-append {A = HeadTree} (λ head. head.name) (filter_map proto_in before) (filter_map proto_in (decl ∷ []))
+proto_names-more before decl = ap (map _) (filter_map-append _ before _) ∙ map-append _ _ _
 
 function_names-more : (before : List Decl) (decl : Decl) →
     function_names (before ++ decl ∷ []) ≡ function_names before ++ function_names (decl ∷ [])
-function_names-more before decl =
-    ap (map {A = FunctionTree} (λ tree. tree.head.name)) (filter_map-append function_in before (decl ∷ [])) ∙
-    map-append {A = FunctionTree} (λ tree. tree.head.name) (filter_map function_in before)
-    (filter_map function_in (decl ∷ []))
+function_names-more before decl = ap (map _) (filter_map-append _ before _) ∙ map-append _ _ _
 
 made : (names : SectionNames) (structs globals functions protos : List Text) → names.structs ≡ structs →
     names.globals ≡ globals → names.functions ≡ functions → names.protos ≡ protos →
@@ -103,22 +91,20 @@ made names structs globals functions protos s g f p =
 declared-more : (section : SectionTree) (before : List Decl) (decl : Decl) →
     declared section (before ++ decl ∷ []) ≡ with_decl (declared section before) decl
 declared-more section before (Struct tree) =
-    made (declared section (before ++ Struct tree ∷ [])) _ _ _ _ (struct_names-more before (Struct tree))
-    (global_names-more before (Struct tree) ∙ append-nil _)
-    (function_names-more before (Struct tree) ∙ append-nil _) (proto_names-more before (Struct tree) ∙ append-nil _)
+    made _ _ _ _ _ (struct_names-more before _) (global_names-more before _ ∙ append-nil _)
+    (function_names-more before _ ∙ append-nil _) (proto_names-more before _ ∙ append-nil _)
 declared-more section before (Global tree) =
-    made (declared section (before ++ Global tree ∷ [])) _ _ _ _ (struct_names-more before (Global tree) ∙ append-nil _)
-    (global_names-more before (Global tree)) (function_names-more before (Global tree) ∙ append-nil _)
-    (proto_names-more before (Global tree) ∙ append-nil _)
+    made _ _ _ _ _ (struct_names-more before _ ∙ append-nil _)
+    (global_names-more before _) (function_names-more before _ ∙ append-nil _)
+    (proto_names-more before _ ∙ append-nil _)
 declared-more section before (Proto head) =
-    made (declared section (before ++ Proto head ∷ [])) _ _ _ _ (struct_names-more before (Proto head) ∙ append-nil _)
-    (global_names-more before (Proto head) ∙ append-nil _) (function_names-more before (Proto head) ∙ append-nil _)
-    (proto_names-more before (Proto head))
+    made _ _ _ _ _ (struct_names-more before _ ∙ append-nil _)
+    (global_names-more before _ ∙ append-nil _) (function_names-more before _ ∙ append-nil _)
+    (proto_names-more before _)
 declared-more section before (Function tree) =
-    made (declared section (before ++ Function tree ∷ [])) _ _ _ _
-    (struct_names-more before (Function tree) ∙ append-nil _)
-    (global_names-more before (Function tree) ∙ append-nil _) (function_names-more before (Function tree))
-    (proto_names-more before (Function tree) ∙ append-nil _)
+    made _ _ _ _ _ (struct_names-more before _ ∙ append-nil _)
+    (global_names-more before _ ∙ append-nil _) (function_names-more before _)
+    (proto_names-more before _ ∙ append-nil _)
 
 -- the names before the next declaration
 pub declared-step : (section : SectionTree) (decls : List Decl) (i : ℕ) (decl : Decl) (names more : SectionNames) →
@@ -142,12 +128,11 @@ decl-noted section decls i decl names old a b all lt is n p q =
 pub decls-noted : (section : SectionTree) (decls : List Decl) (i : ℕ) (old a : BrokenLines) (all : List ℕ) →
     length decls ≤ i → with_lines a (lines_from section (take i decls) (drop i decls)) ≡ with_lines old all →
     a ≡ with_lines old all
-decls-noted section decls i old a all le p =
-    done old a _ all p (ap (lines_from section (take i decls)) (drop_all i decls le))
+decls-noted section decls i old a all le p = done old a _ all p (ap (lines_from section _) (drop_all i decls le))
 
 -- Sections.
 
-pub noted-none : (least : Option ℕ) → noted_all least [] ≡ least
+noted-none : (least : Option ℕ) → noted_all least [] ≡ least
 unfolding noted_all
 noted-none least = refl
 
@@ -157,12 +142,10 @@ pub section-noted : (sections : List SectionTree) (i : ℕ) (section : SectionTr
     lines ≡ with_lines (record { start = section.line; least = least }) (section_lines section) →
     noted_all lines.least (names_broken (drop (i + 1) sections)) ≡ all
 section-noted sections i section least lines all lt is p q =
-    ap (λ l. noted_all l.least (names_broken (drop (i + 1) sections))) q
-    ∙ (sym (noted_all-append least (map (line_of_text section.line) (section_lines section))
-    (names_broken (drop (i + 1) sections)))
-    ∙ (ap (λ rest. noted_all least (names_broken rest)) (sym (drop-step sections i section lt is)) ∙ p))
+    ap (λ l. noted_all l.least (names_broken (drop (i + 1) sections))) q ∙ (sym (noted_all-append least _ _)
+    ∙ (ap (λ rest. noted_all least (names_broken rest)) (sym (drop-step _ i section lt is)) ∙ p))
 
 pub sections-noted : (sections : List SectionTree) (i : ℕ) (least : Option ℕ) (all : Option ℕ) → length sections ≤ i →
     noted_all least (names_broken (drop i sections)) ≡ all → least ≡ all
 sections-noted sections i least all le p =
-    sym (noted-none least) ∙ (ap (λ rest. noted_all least (names_broken rest)) (sym (drop_all i sections le)) ∙ p)
+    sym (noted-none least) ∙ (ap (λ rest. noted_all least (names_broken rest)) (sym (drop_all i _ le)) ∙ p)

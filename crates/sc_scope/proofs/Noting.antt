@@ -15,6 +15,5 @@ with_lines-nil broken = refl
 pub with_lines-append : (broken : BrokenLines) (xs ys : List ℕ) →
     with_lines broken (xs ++ ys) ≡ with_lines (with_lines broken xs) ys
 with_lines-append broken xs ys =
-    ap (λ lines. record broken { least = noted_all broken.least lines }) (map-append (line_of_text broken.start) xs ys)
-    ∙ ap (λ least. record broken { least = least }) (noted_all-append broken.least (map (line_of_text broken.start) xs)
-    (map (line_of_text broken.start) ys))
+    ap (λ lines. record broken { least = noted_all broken.least lines }) (map-append (line_of_text _) xs ys)
+    ∙ ap (λ least. record broken { least = least }) (noted_all-append _ (map _ xs) (map _ ys))

@@ -99,8 +99,7 @@ pub more-noted : (known : Known) (looping : Bool) (stmts : List StmtTree) (i : �
     b ≡ with_lines a (stmt_lines known stmt looping) →
     with_lines b (all_in known looping (map (stmt_lines known) (drop (i + 1) stmts))) ≡ with_lines old all
 more-noted known looping stmts i stmt old a b all lt is p q =
-    step old a b (stmt_lines known stmt looping) _ all
-    (ap (with_lines a) (sym (all-more known looping stmts i stmt lt is)) ∙ p) q
+    step old a b _ _ all (ap (with_lines a) (sym (all-more known looping stmts i stmt lt is)) ∙ p) q
 
 pub all-noted : (known : Known) (looping : Bool) (stmts : List StmtTree) (i : ℕ) (old a : BrokenLines) (all : List ℕ) →
     length stmts ≤ i → with_lines a (all_in known looping (map (stmt_lines known) (drop i stmts))) ≡
