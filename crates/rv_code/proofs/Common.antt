@@ -4,13 +4,13 @@ pub use Rattle.std.proofs.Common.{find, le-ltb, lit<, lt-ltb, nat_eq, negsuc, po
 pub use Rattle.std.proofs.Common.{⊎_elim, ◌%◌, ◌&&◌, ◌*◌, ◌+◌, ◌-◌, ◌/◌, ◌<◌, ◌^◌, ◌∙◌, ◌∷◌, ◌≡◌, ◌≤◌}
 pub use Rattle.std.proofs.lemmas.Bool.{and_parts, cases_lt}
 pub use Rattle.rv_code.specs.Prelude.{HasWord, IsBranchOffset, IsImmediate, IsInstr, IsJumpOffset, IsReg, IsUpper}
-pub use Rattle.rv_code.specs.Prelude.{b_imm_of, b_word, branch_funct3, branch_opcode, branch_ops, ebreak_word}
-pub use Rattle.rv_code.specs.Prelude.{ecall_word, fence_funct3, fence_opcode, funct3_of, funct7_of, i_imm_of, i_word}
-pub use Rattle.rv_code.specs.Prelude.{j_imm_of, j_word, jal_opcode, jalr_funct3, jalr_opcode, load_funct3, load_opcode}
-pub use Rattle.rv_code.specs.Prelude.{load_ops, op_funct3, op_funct7, op_imm_funct3, op_imm_opcode, op_imm_ops}
-pub use Rattle.rv_code.specs.Prelude.{op_opcode, op_ops, opcode_of, r_word, rd_of, residue, rs1_of, rs2_of, s_imm_of}
-pub use Rattle.rv_code.specs.Prelude.{s_word, shift_funct3, shift_funct7, shift_ops, signed, store_funct3, store_opcode}
-pub use Rattle.rv_code.specs.Prelude.{store_ops, u_imm_of, u_word, upper_opcode}
+pub use Rattle.rv_code.specs.Prelude.{b_imm_of, b_word, branch_funct3, branch_opcode, branch_ops, fence_funct3}
+pub use Rattle.rv_code.specs.Prelude.{fence_opcode, funct3_of, funct7_of, i_imm_of, i_word, j_imm_of, j_word}
+pub use Rattle.rv_code.specs.Prelude.{jal_opcode, jalr_funct3, jalr_opcode, load_funct3, load_opcode, load_ops}
+pub use Rattle.rv_code.specs.Prelude.{op_funct3, op_funct7, op_imm_funct3, op_imm_opcode, op_imm_ops, op_opcode, op_ops}
+pub use Rattle.rv_code.specs.Prelude.{opcode_of, r_word, rd_of, residue, rs1_of, rs2_of, s_imm_of, s_word, shift_funct3}
+pub use Rattle.rv_code.specs.Prelude.{shift_funct7, shift_ops, signed, store_funct3, store_opcode, store_ops, u_imm_of}
+pub use Rattle.rv_code.specs.Prelude.{u_word, upper_opcode}
 unfoldable pub use Rattle.rv_code.specs.Prelude.{branch_in, branch_op_of, decoded, fence_in, jalr_in, load_in}
 unfoldable pub use Rattle.rv_code.specs.Prelude.{load_op_of, op_imm_in, op_imm_op_of, op_in, op_op_of, shift_in}
 unfoldable pub use Rattle.rv_code.specs.Prelude.{shift_op_of, store_in, store_op_of, system_in, word_of}

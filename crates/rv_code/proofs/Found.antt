@@ -1,15 +1,11 @@
 -- What a word is decoded to has that word.
-use Rattle.rv_code.proofs.Common.{Auipc, Bool, Ebreak, Ecall, Fence, HasWord, Instr, IsBranchOffset}
-use Rattle.rv_code.proofs.Common.{IsImmediate, IsJumpOffset, Jal, Jalr, Lui, None, Option, Some}
-use Rattle.rv_code.proofs.Common.{Upper, arith, b_imm_of, branch_in, branch_opcode}
-use Rattle.rv_code.proofs.Common.{cond, decoded, eqb-true, false, fence_funct3, fence_in}
-use Rattle.rv_code.proofs.Common.{fence_opcode, funct3_of, i_imm_of, j_imm_of, jal_opcode, jalr_funct3}
-use Rattle.rv_code.proofs.Common.{jalr_in, jalr_opcode, load_in, load_opcode, nat_eq}
-use Rattle.rv_code.proofs.Common.{op_imm_in, op_imm_opcode, op_in}
-use Rattle.rv_code.proofs.Common.{op_opcode, opcode_of, rd_of, refl, s_imm_of}
-use Rattle.rv_code.proofs.Common.{shift_in, store_in}
-use Rattle.rv_code.proofs.Common.{store_opcode, subst, system_in, true, u_imm_of, upper_opcode, word_of, ℕ}
-use Rattle.rv_code.proofs.Common.{◌<◌, ◌^◌, ◌≡◌}
+use Rattle.rv_code.proofs.Common.{Auipc, Bool, Ebreak, Ecall, Fence, HasWord, Instr, IsBranchOffset, IsImmediate}
+use Rattle.rv_code.proofs.Common.{IsJumpOffset, Jal, Jalr, Lui, None, Option, Some, Upper, arith, b_imm_of, branch_in}
+use Rattle.rv_code.proofs.Common.{branch_opcode, cond, decoded, eqb-true, false, fence_funct3, fence_in, fence_opcode}
+use Rattle.rv_code.proofs.Common.{funct3_of, i_imm_of, j_imm_of, jal_opcode, jalr_funct3, jalr_in, jalr_opcode, load_in}
+use Rattle.rv_code.proofs.Common.{load_opcode, nat_eq, op_imm_in, op_imm_opcode, op_in, op_opcode, opcode_of, rd_of}
+use Rattle.rv_code.proofs.Common.{refl, s_imm_of, shift_in, store_in, store_opcode, subst, system_in, true, u_imm_of}
+use Rattle.rv_code.proofs.Common.{upper_opcode, word_of, ℕ, ◌<◌, ◌^◌, ◌≡◌}
 use Rattle.std.specs.Option.{option_map, option_or}
 use Rattle.rv_code.specs.declared.instr.UpperOp.{UpperOp}
 use Rattle.rv_code.proofs.Numbers.{IsImmediate-signed, IsBranchOffset-signed, IsJumpOffset-signed}

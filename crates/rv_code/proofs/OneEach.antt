@@ -1,10 +1,8 @@
 -- Words and instructions stand for one another.
 use Rattle.rv_code.proofs.Common.{Auipc, Branch, Ebreak, Ecall, Fence, HasWord, IfSome, Instr, IsInstr, IsNone, Jal}
-use Rattle.rv_code.proofs.Common.{Jalr, Load, Lui, None, Op, OpImm, Option, Shift, Some, Store, Upper, arith}
-use Rattle.rv_code.proofs.Common.{decoded, fence_funct3, jalr_funct3}
-use Rattle.rv_code.proofs.Common.{lit<, refl, residue}
-use Rattle.rv_code.proofs.Common.{sym, word_of, ℕ, ◌%◌, ◌*◌, ◌+◌, ◌/◌, ◌<◌, ◌^◌, ◌∙◌}
-use Rattle.rv_code.proofs.Common.{◌≡◌}
+use Rattle.rv_code.proofs.Common.{Jalr, Load, Lui, None, Op, OpImm, Option, Shift, Some, Store, Upper, arith, decoded}
+use Rattle.rv_code.proofs.Common.{fence_funct3, jalr_funct3, lit<, refl, residue, sym, word_of, ℕ, ◌%◌, ◌*◌, ◌+◌, ◌/◌}
+use Rattle.rv_code.proofs.Common.{◌<◌, ◌^◌, ◌∙◌, ◌≡◌}
 use Rattle.rv_code.proofs.Numbers.{residue-below-12, residue-below-13, residue-below-21}
 use Rattle.rv_code.proofs.Ops.{branch_funct3-below, load_funct3-below, store_funct3-below, op_imm_funct3-below}
 use Rattle.rv_code.proofs.Ops.{shift_funct3-below, op_funct3-below, shift_funct7-below, op_funct7-below}

@@ -1,9 +1,9 @@
 -- An operation is found by its own function codes, and what is found has those that were asked for.
 use Rattle.rv_code.proofs.Common.{Add, And, Beq, Bge, Bgeu, Blt, Bltu, Bne, Bool, BranchOp, Div, Divu, Lb, Lbu, Lh, Lhu}
-use Rattle.rv_code.proofs.Common.{List, LoadOp, Lw, Mul, Mulh, Mulhsu, Mulhu, None, OpImmOp, OpOp, Or, Rem}
-use Rattle.rv_code.proofs.Common.{Remu, Sb, Sh, ShiftOp, Sll, Slli, Slt, Sltu, Some, Sra, Srai, Srl, Srli, StoreOp, Sub}
-use Rattle.rv_code.proofs.Common.{Sw, Xor, [], and_parts, ap, branch_funct3, branch_op_of, branch_ops, cond, eqb-true}
-use Rattle.rv_code.proofs.Common.{false, find, lit<, load_funct3, load_op_of, load_ops, nat_eq, op_funct3, op_funct7}
+use Rattle.rv_code.proofs.Common.{List, LoadOp, Lw, Mul, Mulh, Mulhsu, Mulhu, None, OpImmOp, OpOp, Or, Rem, Remu, Sb}
+use Rattle.rv_code.proofs.Common.{Sh, ShiftOp, Sll, Slli, Slt, Sltu, Some, Sra, Srai, Srl, Srli, StoreOp, Sub, Sw, Xor}
+use Rattle.rv_code.proofs.Common.{[], and_parts, ap, branch_funct3, branch_op_of, branch_ops, cond, eqb-true, false}
+use Rattle.rv_code.proofs.Common.{find, lit<, load_funct3, load_op_of, load_ops, nat_eq, op_funct3, op_funct7}
 use Rattle.rv_code.proofs.Common.{op_imm_funct3, op_imm_op_of, op_imm_ops, op_op_of, op_ops, refl, shift_funct3}
 use Rattle.rv_code.proofs.Common.{shift_funct7, shift_op_of, shift_ops, store_funct3, store_op_of, store_ops, sym, true}
 use Rattle.rv_code.proofs.Common.{ℕ, ◌&&◌, ◌<◌, ◌^◌, ◌∙◌, ◌∷◌, ◌≡◌}

@@ -1,8 +1,8 @@
 -- A store into one block of a row.
 use Rattle.sc_blocks.proofs.Common.{Block, Blocks, Cell, Err, IsRising, List, MatchResult, Ok, Result, Slot, Some, ap}
-use Rattle.sc_blocks.proofs.Common.{arith, bind, cause_of, cells_among, get_or, get_or-set_same, laid_out}
-use Rattle.sc_blocks.proofs.Common.{length, length-set, live_cells, living, put_in, refl, slice_get, slice_set}
-use Rattle.sc_blocks.proofs.Common.{store_cell, stored_in, subst, sym, ℕ, ◌<◌, ◌∙◌, ◌≡◌}
+use Rattle.sc_blocks.proofs.Common.{arith, bind, cause_of, cells_among, get_or, get_or-set_same, laid_out, length}
+use Rattle.sc_blocks.proofs.Common.{length-set, live_cells, living, put_in, refl, slice_get, slice_set, store_cell}
+use Rattle.sc_blocks.proofs.Common.{stored_in, subst, sym, ℕ, ◌<◌, ◌∙◌, ◌≡◌}
 use Rattle.sc_blocks.proofs.Laying.{set_laid}
 use Rattle.sc_blocks.proofs.Living.{found_at, others_found, rising_at, rising_set}
 use Rattle.sc_core.specs.declared.cause.Cause.{Cause}

@@ -1,7 +1,7 @@
 -- The names that several proofs of this crate cite, passed on from one place. Declares nothing.
 pub use Rattle.std.proofs.Common.{Bool, List, None, Ok, Option, Some, [], ap, bytes_eq, codes, false, is_some, length}
-pub use Rattle.std.proofs.Common.{map, max, nat_le, not, refl, slice_get, subst, suc, true, ℕ, ◌&&◌, ◌++◌, ◌+◌, ◌==◌}
-pub use Rattle.std.proofs.Common.{◌∙◌, ◌∷◌, ◌≡◌}
+pub use Rattle.std.proofs.Common.{map, max, nat_le, not, refl, subst, suc, true, ℕ, ◌&&◌, ◌++◌, ◌+◌, ◌==◌, ◌∙◌, ◌∷◌}
+pub use Rattle.std.proofs.Common.{◌≡◌}
 pub use Rattle.std.specs.List.{list_all}
 pub use Rattle.sc_event.specs.declared.interface.Interface.{Interface}
 pub use Rattle.sc_core.specs.Common.{BinaryOp, Call, End, Event, Import, In, Interfaces, Out, Proto, Ret, Scalar}
@@ -16,13 +16,13 @@ pub use Rattle.sc_core.specs.Prelude.{goes_into, has_distinct_names, has_few_com
 pub use Rattle.sc_core.specs.Prelude.{highest, in_order, init_fits, init_height, init_nodes, inits_do, interface_fits}
 pub use Rattle.sc_core.specs.Prelude.{is_scalar, is_well_typed, judged, kind_fits, kind_height, kind_nodes, kind_step}
 pub use Rattle.sc_core.specs.Prelude.{leave, library_of, local_fits, local_nodes, loop, main_name, meaning, meant}
-pub use Rattle.sc_core.specs.Prelude.{meant_step, most_height, most_nodes, most_params, negated_word, nodes}
-pub use Rattle.sc_core.specs.Prelude.{on_all_words, params_fit, result_fits, returned_call_fits, returned_fits}
-pub use Rattle.sc_core.specs.Prelude.{roles_in, run_by, run_of, run_step, scope_of, scripted_depth_by, scripted_meaning}
-pub use Rattle.sc_core.specs.Prelude.{scripted_run_of, scripted_step, section_fits, sections_fit, stmt_does, stmt_fits}
-pub use Rattle.sc_core.specs.Prelude.{stmt_height, stmt_nodes, stmt_step, stopped_at, structs_fit, term_height}
-pub use Rattle.sc_core.specs.Prelude.{term_judged, term_nodes, term_step, test, total, variable_at, variable_fits}
-pub use Rattle.sc_core.specs.Prelude.{variables, ways, wrapped, wrapped_depth, wrapping}
+pub use Rattle.sc_core.specs.Prelude.{most_height, most_nodes, most_params, negated_word, nodes, on_all_words}
+pub use Rattle.sc_core.specs.Prelude.{params_fit, result_fits, returned_call_fits, returned_fits, roles_in, run_by}
+pub use Rattle.sc_core.specs.Prelude.{run_of, run_step, scope_of, scripted_depth_by, scripted_meaning, scripted_run_of}
+pub use Rattle.sc_core.specs.Prelude.{scripted_step, section_fits, sections_fit, stmt_does, stmt_fits, stmt_height}
+pub use Rattle.sc_core.specs.Prelude.{stmt_nodes, stmt_step, stopped_at, structs_fit, term_height, term_judged}
+pub use Rattle.sc_core.specs.Prelude.{term_nodes, term_step, test, total, variable_at, variable_fits, variables, ways}
+pub use Rattle.sc_core.specs.Prelude.{wrapped, wrapped_depth, wrapping}
 pub use Rattle.sc_core.specs.declared.cause.Cause.TheVariants.{BadPointer, BadShift, BadType, Dangling, Indeterminate}
 pub use Rattle.sc_core.specs.declared.cause.Cause.TheVariants.{NoReturn, NullUse, OutOfBounds, Overflow, ZeroDivisor}
 pub use Rattle.sc_core.specs.declared.expr.CallTarget.{CallTarget}

@@ -3,8 +3,8 @@
 use Rattle.sc_core.proofs.Common.{Acts, Arith, BinaryOp, Break, CallTarget, Calls, Continue, Here, List, Meant, Next}
 use Rattle.sc_core.proofs.Common.{None, Option, Return, Some, Ty, TypedExpr, TypedStmt, TypedStruct, UnaryOp, Ways, []}
 use Rattle.sc_core.proofs.Common.{all_do, and_then, ap, assign, assign_call, call, call_alone, choose, evaluated}
-use Rattle.sc_core.proofs.Common.{follow, in_order, kind_step, leave, loop, map, meant, refl, stmt_does}
-use Rattle.sc_core.proofs.Common.{stmt_step, term_step, test, ways, ℕ, ◌∙◌, ◌∷◌, ◌≡◌}
+use Rattle.sc_core.proofs.Common.{follow, in_order, kind_step, leave, loop, map, meant, refl, stmt_does, stmt_step}
+use Rattle.sc_core.proofs.Common.{term_step, test, ways, ℕ, ◌∙◌, ◌∷◌, ◌≡◌}
 use Rattle.sc_core.specs.declared.expr.TypedKind.TheOpen as term
 use Rattle.sc_core.specs.declared.expr.VarRef.{VarRef}
 use Rattle.sc_core.specs.declared.expr.TypedCall.{TypedCall}

@@ -1,12 +1,11 @@
 -- Which programs of plans are well typed.
 use Rattle.sc_core.proofs.Common.{Bool, Callable, Input, Interface, Interfaces, List, None, Option, Own, Scope, Some}
-use Rattle.sc_core.proofs.Common.{Ty, TypedSection, TypedStmt, [], ap, callable_in, decl_count, false}
-use Rattle.sc_core.proofs.Common.{function_fits, global_fits, goes_into, has_distinct_names, has_few_compartments}
-use Rattle.sc_core.proofs.Common.{has_main, has_one_main, init_fits, init_height, interface_fits, is_well_typed, length}
-use Rattle.sc_core.proofs.Common.{list_all, local_fits, map, most_height, most_nodes, most_params, nat_le, nodes}
-use Rattle.sc_core.proofs.Common.{params_fit, refl, result_fits, scope_of, section_fits, sections_fit}
-use Rattle.sc_core.proofs.Common.{stmt_fits, stmt_height, structs_fit, suc, total, true, variable_fits, ℕ, ◌&&◌}
-use Rattle.sc_core.proofs.Common.{◌∙◌, ◌∷◌, ◌≡◌}
+use Rattle.sc_core.proofs.Common.{Ty, TypedSection, TypedStmt, [], ap, callable_in, decl_count, false, function_fits}
+use Rattle.sc_core.proofs.Common.{global_fits, goes_into, has_distinct_names, has_few_compartments, has_main}
+use Rattle.sc_core.proofs.Common.{has_one_main, init_fits, init_height, interface_fits, is_well_typed, length, list_all}
+use Rattle.sc_core.proofs.Common.{local_fits, map, most_height, most_nodes, most_params, nat_le, nodes, params_fit}
+use Rattle.sc_core.proofs.Common.{refl, result_fits, scope_of, section_fits, sections_fit, stmt_fits, stmt_height}
+use Rattle.sc_core.proofs.Common.{structs_fit, suc, total, true, variable_fits, ℕ, ◌&&◌, ◌∙◌, ◌∷◌, ◌≡◌}
 use Rattle.sc_base.specs.Prelude.{all_hold}
 use Rattle.sc_core.proofs.Shapes.{Shape, Lines, stmts, NoLine, BreakLine, CallLine, AssignLine}
 use Rattle.sc_core.proofs.Measures.{shape_height, height_is, lines_high, lines_high_are, judge, judge_is, lines_fit}

@@ -1,11 +1,11 @@
 -- Tables of names give what the names of calls stand for.
 use Rattle.sc_elab.proofs.Common.{Bool, Callees, CallsIn, FunctionTree, HeadTree, Import, ImportLine, List, None}
 use Rattle.sc_elab.proofs.Common.{Option, SectionTree, Some, [], ap, bytes_eq, called, called_head, callees_of}
-use Rattle.sc_elab.proofs.Common.{calling_heads, cond, false, function_named, function_names, head_name}
-use Rattle.sc_elab.proofs.Common.{head_named, head_of, if◌then◌else◌, import_line_name, import_named}
-use Rattle.sc_elab.proofs.Common.{import_of, import_target, imported, imported_target, map, map_twice, option_and_then}
-use Rattle.sc_elab.proofs.Common.{option_map, or_first, or_first_own, position-cons, refl, signature_by, slice_get}
-use Rattle.sc_elab.proofs.Common.{struct_names, suc, sym, target_or, true, ℕ, ◌++◌, ◌==◌, ◌∙◌, ◌∷◌, ◌≡◌}
+use Rattle.sc_elab.proofs.Common.{calling_heads, cond, false, function_named, function_names, head_name, head_named}
+use Rattle.sc_elab.proofs.Common.{head_of, if◌then◌else◌, import_line_name, import_named, import_of, import_target}
+use Rattle.sc_elab.proofs.Common.{imported, imported_target, map, map_twice, option_and_then, option_map, or_first}
+use Rattle.sc_elab.proofs.Common.{or_first_own, position-cons, refl, signature_by, slice_get, struct_names, suc, sym}
+use Rattle.sc_elab.proofs.Common.{target_or, true, ℕ, ◌++◌, ◌==◌, ◌∙◌, ◌∷◌, ◌≡◌}
 use Rattle.sc_base.specs.Prelude.{number_of}
 use Rattle.std.specs.Cmp.Lexicographic.{pointwise}
 use Rattle.std.proofs.lemmas.Slice.Eq.{bytes_eq-Decides}

@@ -3,9 +3,9 @@ use Rattle.sc_elab.proofs.Common.{BrokenLines, ExprTree, FunctionScope, Function
 use Rattle.sc_elab.proofs.Common.{OnOk, Option, Result, SectionScope, SectionTree, Some, Stands, StandsIn, Suits, Ty}
 use Rattle.sc_elab.proofs.Common.{ap, concat, drop, drop-step, drop_all, function_lines, get_or, global_lines}
 use Rattle.sc_elab.proofs.Common.{init_fits, init_goes, init_holds, is_sized, length, local_holds, locals_from, map}
-use Rattle.sc_elab.proofs.Common.{on_ok, refl, scope_in, stmt_lines, subst, suc, sym, tags, type_of}
-use Rattle.sc_elab.proofs.Common.{typed_init, unless, visible, with_lines, with_lines-append}
-use Rattle.sc_elab.proofs.Common.{with_lines-nil, ℕ, ◌&&◌, ◌++◌, ◌+◌, ◌<◌, ◌∙◌, ◌≡◌, ◌≤◌}
+use Rattle.sc_elab.proofs.Common.{on_ok, refl, scope_in, stmt_lines, subst, suc, sym, tags, type_of, typed_init, unless}
+use Rattle.sc_elab.proofs.Common.{visible, with_lines, with_lines-append, with_lines-nil, ℕ, ◌&&◌, ◌++◌, ◌+◌, ◌<◌, ◌∙◌}
+use Rattle.sc_elab.proofs.Common.{◌≡◌, ◌≤◌}
 use Rattle.sc_elab_expr.specs.Calls as calls
 use Rattle.sc_elab.proofs.Functions.{next_place, seen}
 use Rattle.sc_elab.proofs.Suiting.{suiting}

@@ -1,7 +1,7 @@
 -- Loops that gather what is made of some items of a list.
-use Rattle.sc_elab.proofs.Common.{List, None, Option, [], ap, append-nil, append_assoc, cons_option, drop}
-use Rattle.sc_elab.proofs.Common.{drop-step, drop_all, filter_map, get_or, length, map, refl, sym, ℕ, ◌++◌, ◌+◌, ◌<◌}
-use Rattle.sc_elab.proofs.Common.{◌∙◌, ◌∷◌, ◌≡◌, ◌≤◌}
+use Rattle.sc_elab.proofs.Common.{List, None, Option, [], ap, append-nil, append_assoc, cons_option, drop, drop-step}
+use Rattle.sc_elab.proofs.Common.{drop_all, filter_map, get_or, length, map, refl, sym, ℕ, ◌++◌, ◌+◌, ◌<◌, ◌∙◌, ◌∷◌}
+use Rattle.sc_elab.proofs.Common.{◌≡◌, ◌≤◌}
 
 module _ {A B C : Type 0} (f : A → Option B) (g : B → C) where
   abbrev pub gathered : List A → List C

@@ -2,9 +2,8 @@
 use Rattle.sc_expr.proofs.Common.{BinaryOp, Extension, IsIdent, IsMark, Lead, Lexeme, List, Mark, None, Option, Prefix}
 use Rattle.sc_expr.proofs.Common.{Some, Symbol, [], ap, arith, behind, binary_of, cases_lt, cond, cond_some}
 use Rattle.sc_expr.proofs.Common.{extension_at, extension_by, extension_level, extension_of, extension_within, is_mark}
-use Rattle.sc_expr.proofs.Common.{le-leb, lead_by, lead_of, leb-true, level_of, name_at, name_by, none-some}
-use Rattle.sc_expr.proofs.Common.{option_map, prefix_of, refl, rules, subst, sym, true, within, ℕ, ⊎_elim, ◌<◌, ◌∙◌}
-use Rattle.sc_expr.proofs.Common.{◌∷◌, ◌≡◌, ◌≤◌}
+use Rattle.sc_expr.proofs.Common.{le-leb, lead_by, lead_of, leb-true, level_of, name_at, name_by, none-some, option_map}
+use Rattle.sc_expr.proofs.Common.{prefix_of, refl, rules, subst, sym, true, within, ℕ, ⊎_elim, ◌<◌, ◌∙◌, ◌∷◌, ◌≡◌, ◌≤◌}
 use Rattle.sc_base.specs.declared.op.BinaryOp.TheVariants as binary
 use Rattle.sc_expr.specs.contracts.mark.Mark.{the_type}
 use denote.Enum.Bare.{same_true}

@@ -1,10 +1,9 @@
 -- The memory of the start, by the offset of an address in its stretch of data.
 use Rattle.sc_image.proofs.Common.{CompPart, ImageParts, List, Memory, None, Option, Some, [], ap, arith, byte_at}
-use Rattle.sc_image.proofs.Common.{cases_lt, comp_of_data, data_start, data_with, if◌then◌else◌, le-leb, le-ltb}
-use Rattle.sc_image.proofs.Common.{length, lt-leb, lt-ltb, nat_lt, option_and_then, refl, slice_get}
-use Rattle.sc_image.proofs.Common.{slice_get-get_or, slice_get_past, slice_index, stack_size, stack_top, start_memory}
-use Rattle.sc_image.proofs.Common.{stretch, sym, ℕ, ⊎_elim, ◌%◌, ◌+◌, ◌-◌, ◌<◌, ◌∙◌, ◌≡◌}
-use Rattle.sc_image.proofs.Common.{◌≤◌}
+use Rattle.sc_image.proofs.Common.{cases_lt, comp_of_data, data_start, data_with, if◌then◌else◌, le-leb, le-ltb, length}
+use Rattle.sc_image.proofs.Common.{lt-leb, lt-ltb, nat_lt, option_and_then, refl, slice_get, slice_get-get_or}
+use Rattle.sc_image.proofs.Common.{slice_get_past, slice_index, stack_size, stack_top, start_memory, stretch, sym, ℕ}
+use Rattle.sc_image.proofs.Common.{⊎_elim, ◌%◌, ◌+◌, ◌-◌, ◌<◌, ◌∙◌, ◌≡◌, ◌≤◌}
 
 -- the byte of a compartment's data at an offset: a stack of zeros, and then the globals
 abbrev pub data_byte : ℕ → CompPart → Option ℕ

@@ -6,14 +6,13 @@ use Rattle.sc_image.proofs.Common.{Fence, Goes, HasWord, HoldsBytes, Illegal, Im
 use Rattle.sc_image.proofs.Common.{Jal, Jalr, List, Load, LoadOp, Lui, Memory, Misaligned, NoImport, None, Op, OpImm}
 use Rattle.sc_image.proofs.Common.{Option, Outcome, Owner, Shift, ShiftOp, Some, State, Store, StoreOp, TrapReason}
 use Rattle.sc_image.proofs.Common.{Traps, Upper, a7, add_word-lt, ap, are_data, arith, by_owner, called, calls}
-use Rattle.sc_image.proofs.Common.{compares, computed, decoded, execute, execute_by, export_at}
-use Rattle.sc_image.proofs.Common.{export_called, extended, false, gives, if_decoded, if_fetched, if◌then◌else◌}
-use Rattle.sc_image.proofs.Common.{input, is_some, jalr_target, jump, leaves, length, length-set, load_of-same}
-use Rattle.sc_image.proofs.Common.{load_size, loaded, may_call, may_input, may_output, nat_eq, next, not, on_registers}
-use Rattle.sc_image.proofs.Common.{output, params_of, ra, refl, refused, reg, returned, set, shift_on_registers}
-use Rattle.sc_image.proofs.Common.{slice_index, sll_word-lt, sra_word-lt, srl_word-lt, step, step_by, store_size, subst}
-use Rattle.sc_image.proofs.Common.{true, unless, with_pc, with_stored, word_at, word_of-lt, written, ℕ, ◌%◌, ◌+◌}
-use Rattle.sc_image.proofs.Common.{◌<◌, ◌==◌, ◌≡◌}
+use Rattle.sc_image.proofs.Common.{compares, computed, decoded, execute, execute_by, export_at, export_called, extended}
+use Rattle.sc_image.proofs.Common.{false, gives, if_decoded, if_fetched, if◌then◌else◌, input, is_some, jalr_target}
+use Rattle.sc_image.proofs.Common.{jump, leaves, length, length-set, load_of-same, load_size, loaded, may_call}
+use Rattle.sc_image.proofs.Common.{may_input, may_output, nat_eq, next, not, on_registers, output, params_of, ra, refl}
+use Rattle.sc_image.proofs.Common.{refused, reg, returned, set, shift_on_registers, slice_index, sll_word-lt}
+use Rattle.sc_image.proofs.Common.{sra_word-lt, srl_word-lt, step, step_by, store_size, subst, true, unless, with_pc}
+use Rattle.sc_image.proofs.Common.{with_stored, word_at, word_of-lt, written, ℕ, ◌%◌, ◌+◌, ◌<◌, ◌==◌, ◌≡◌}
 use Rattle.sc_word.specs.Prelude.{add_word, word_of}
 use Rattle.rv_code.specs.declared.instr.ShiftOp.TheVariants.{Slli, Srli, Srai}
 use Rattle.rv_code.proofs.OneEach.{HasWord-decoded}

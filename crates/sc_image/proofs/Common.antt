@@ -36,16 +36,14 @@ pub use Rattle.sc_event.specs.Prelude.{Activation, Standing, at_start, awaits, f
 pub use Rattle.sc_event.specs.Prelude.{is_function, is_input, is_legal_from, is_output, may_perform, may_return}
 pub use Rattle.sc_event.specs.Prelude.{performer, resumed, stands_after, stands_behind, takes}
 pub use Rattle.sc_event.specs.declared.interface.Import.{Import}
-pub use Rattle.sc_event.specs.declared.interface.Interface.{Interface}
 pub use Rattle.sc_event.specs.declared.interface.Interfaces.{Interfaces}
 pub use Rattle.sc_event.specs.declared.interface.Proto.{Proto}
-pub use Rattle.sc_event.specs.declared.interface.Scalar.{Scalar}
 pub use Rattle.sc_event.specs.declared.interface.Scalar.TheVariants.{Int}
 pub use Rattle.sc_word.proofs.Below.{add_word-lt, div_word-lt, divu_word-lt, mul_word-lt, mulh_word-lt, mulhsu_word-lt}
 pub use Rattle.sc_word.proofs.Below.{mulhu_word-lt, rem_word-lt, remu_word-lt, sll_word-lt, slt_word-lt, sltu_word-lt}
 pub use Rattle.sc_word.proofs.Below.{sra_word-lt, srl_word-lt, sub_word-lt}
 pub use Rattle.sc_word.proofs.Words.{word_of-lt}
-pub use Rattle.rv_code.specs.Prelude.{HasWord, signed}
+pub use Rattle.rv_code.specs.Prelude.{HasWord}
 unfoldable pub use Rattle.rv_code.specs.Prelude.{branch_in, branch_op_of, decoded, jalr_in, load_in, load_op_of}
 unfoldable pub use Rattle.rv_code.specs.Prelude.{op_imm_in, op_imm_op_of, op_in, op_op_of, store_in, store_op_of}
 unfoldable pub use Rattle.rv_code.specs.Prelude.{system_in}

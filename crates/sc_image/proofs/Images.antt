@@ -1,9 +1,8 @@
 -- What is read is an image with these bytes, and what an image is written as is read as it.
 use Rattle.sc_image.proofs.Common.{BadImage, BadOrImage, BytesNameOneImage, Err, ImageParts, IsImage, IsWellFormed}
-use Rattle.sc_image.proofs.Common.{List, None, Ok, Result, Whole, [], and_parts, ap, append-nil, arith}
-use Rattle.sc_image.proofs.Common.{bad, cause_of, eqb-true, image_bytes, image_in_version, image_of}
-use Rattle.sc_image.proofs.Common.{length, nil_from_length, parts_in_version, refl, subst, sym, version, ℕ}
-use Rattle.sc_image.proofs.Common.{◌++◌, ◌<◌, ◌==◌, ◌^◌, ◌∙◌, ◌≡◌, ◌≤◌}
+use Rattle.sc_image.proofs.Common.{List, None, Ok, Result, Whole, [], and_parts, ap, append-nil, arith, bad, cause_of}
+use Rattle.sc_image.proofs.Common.{eqb-true, image_bytes, image_in_version, image_of, length, nil_from_length}
+use Rattle.sc_image.proofs.Common.{parts_in_version, refl, subst, sym, version, ℕ, ◌++◌, ◌<◌, ◌==◌, ◌^◌, ◌∙◌, ◌≡◌, ◌≤◌}
 use Rattle.sc_image.proofs.Fields.{IsBytes, bytes_fit, bind_ok, good_ok}
 use Rattle.sc_image.proofs.FileFields.{parts_take, parts_again}
 use Rattle.sc_image.proofs.Whole.{whole_is, rules_are_kept, parts_fit}

@@ -1,11 +1,10 @@
 -- Whether the parts keep the rules on a whole image, as it is found out.
 use Rattle.sc_image.proofs.Common.{All, Bool, CompPart, Decides, Decides-and, Decides-like, ExportPart, ImageParts}
-use Rattle.sc_image.proofs.Common.{ImportPart, Int, IsEquivalence, IsWellFormed, List, Some, [], ap}
-use Rattle.sc_image.proofs.Common.{are_distinct, arith, comps_keep, cond, drop, drop_more, false, get_or}
-use Rattle.sc_image.proofs.Common.{hash_set_len-from_list, is_same_import, is_same_name, length, length-map, list_any}
-use Rattle.sc_image.proofs.Common.{map, nat_eq, refl, replicate, slice_get-get_or, suc, sym, take}
-use Rattle.sc_image.proofs.Common.{take-replicate, true, unsigned_Decides, ℕ, ◌&&◌, ◌+◌, ◌<◌, ◌==◌, ◌||◌, ◌∙◌, ◌∷◌, ◌≡◌}
-use Rattle.sc_image.proofs.Common.{◌≤◌}
+use Rattle.sc_image.proofs.Common.{ImportPart, Int, IsEquivalence, IsWellFormed, List, Some, [], ap, are_distinct}
+use Rattle.sc_image.proofs.Common.{arith, comps_keep, cond, drop, drop_more, false, get_or, hash_set_len-from_list}
+use Rattle.sc_image.proofs.Common.{is_same_import, is_same_name, length, length-map, list_any, map, nat_eq, refl}
+use Rattle.sc_image.proofs.Common.{replicate, slice_get-get_or, suc, sym, take, take-replicate, true, unsigned_Decides}
+use Rattle.sc_image.proofs.Common.{ℕ, ◌&&◌, ◌+◌, ◌<◌, ◌==◌, ◌||◌, ◌∙◌, ◌∷◌, ◌≡◌, ◌≤◌}
 use Rattle.std.proofs.Math.ListN.{drop_of_length-le}
 use Rattle.std.specs.HashSet as bag
 use Rattle.std.specs.HashSet.{HashSet, hash_set_len}

@@ -1,8 +1,8 @@
 -- What makes an image of one compartment that takes nothing from others.
 use Rattle.sc_image.proofs.Common.{All, All-nil, CompPart, ImageParts, IsByte, IsComp, IsDistinct, IsExport, IsImport}
-use Rattle.sc_image.proofs.Common.{IsSome, IsTrue, IsWellFormed, IsWord, List, Some, [], arith, codes}
-use Rattle.sc_image.proofs.Common.{is_name, length, lit<, lit≤, map, most_globals, slice_get, stretch, subst, suc}
-use Rattle.sc_image.proofs.Common.{word_at, zero, ℕ, ◌*◌, ◌∷◌, ◌≡◌, ◌≢◌, ◌≤◌}
+use Rattle.sc_image.proofs.Common.{IsSome, IsTrue, IsWellFormed, IsWord, List, Some, [], arith, codes, is_name, length}
+use Rattle.sc_image.proofs.Common.{lit<, lit≤, map, most_globals, slice_get, stretch, subst, suc, word_at, zero, ℕ, ◌*◌}
+use Rattle.sc_image.proofs.Common.{◌∷◌, ◌≡◌, ◌≢◌, ◌≤◌}
 
 abbrev pub only : (entry : ℕ) → CompPart → ImageParts
 only entry comp = record { main = 0; entry = entry; comps = comp ∷ [] }

@@ -1,10 +1,10 @@
 -- A step leaves what belongs to other compartments.
 use Rattle.sc_image.proofs.Common.{Adds, Bool, Call, Crossing, Event, Export, Goes, ImageParts, IsChain, IsSteady}
-use Rattle.sc_image.proofs.Common.{IsWellFormed, LeavesOthers, List, Memory, None, Outcome, Running, Some, State}
-use Rattle.sc_image.proofs.Common.{[], a0, activates, after_outcome, ap, are_data, arguments, arith, called, data_of}
-use Rattle.sc_image.proofs.Common.{drop, drop-append_seam, eq-eqb, false, flat_map, get_or-set_other}
-use Rattle.sc_image.proofs.Common.{has_result, if◌then◌else◌, input_at, kept_by, length, nat_eq, ne_eqb, observation_of}
-use Rattle.sc_image.proofs.Common.{own, params_of, refl, reg, returned, returned_to, saved_sp, shows_entry, sp, step}
+use Rattle.sc_image.proofs.Common.{IsWellFormed, LeavesOthers, List, Memory, None, Outcome, Running, Some, State, []}
+use Rattle.sc_image.proofs.Common.{a0, activates, after_outcome, ap, are_data, arguments, arith, called, data_of, drop}
+use Rattle.sc_image.proofs.Common.{drop-append_seam, eq-eqb, false, flat_map, get_or-set_other, has_result}
+use Rattle.sc_image.proofs.Common.{if◌then◌else◌, input_at, kept_by, length, nat_eq, ne_eqb, observation_of, own}
+use Rattle.sc_image.proofs.Common.{params_of, refl, reg, returned, returned_to, saved_sp, shows_entry, sp, step}
 use Rattle.sc_image.proofs.Common.{store_size, stored, stored-apart, subst, sym, true, written, ℕ, ◌++◌, ◌+◌, ◌<◌, ◌==◌}
 use Rattle.sc_image.proofs.Common.{◌||◌, ◌∙◌, ◌∷◌, ◌≡◌, ◌≢◌, ◌≤◌}
 use Rattle.sc_image.proofs.Cases.{allowed_data, step_of}

@@ -1,17 +1,16 @@
 -- What holds of every state that a run reaches.
-use Rattle.sc_image.proofs.Common.{All, All-cons, All-head, All-nil, All-tail, Bool, Call, CompPart, Crossing}
-use Rattle.sc_image.proofs.Common.{Event, Export, Goes, HoldsBytes, ImageParts, ImportPart, IsChain, IsImport}
-use Rattle.sc_image.proofs.Common.{IsReached, IsSteady, IsWellFormed, IsWord, KeepsWords, List, Memory, None, Option}
-use Rattle.sc_image.proofs.Common.{Outcome, Ret, Run, RunsAreSteady, Some, State, Stop, Traps, [], a0}
-use Rattle.sc_image.proofs.Common.{after, after_outcome, after_step, ap, arith, call_of, called, count_read}
-use Rattle.sc_image.proofs.Common.{eqb-true, export_at, false, gate, get_or_from_slice_get, given_back, has_result}
-use Rattle.sc_image.proofs.Common.{input, input_at, inputs_in, is_argument, is_result, kept, kept_from, length}
-use Rattle.sc_image.proofs.Common.{length-set, list_any, map, may_call, open_after, open_calls, option_map_or, output}
-use Rattle.sc_image.proofs.Common.{params_of, position, ra, refl, reg, replicate, returned, run, saved_sp, slice_get}
-use Rattle.sc_image.proofs.Common.{slice_get_within, slice_index, sp, stack_tops, start, step, stopped}
-use Rattle.sc_image.proofs.Common.{stops_or, store_size, stored, subst, suc, sym, true, unwrap_or, with_pc}
-use Rattle.sc_image.proofs.Common.{without_latest, word_at, written, zero, ℕ, ◌&&◌, ◌++◌, ◌+◌, ◌<◌, ◌==◌, ◌||◌, ◌∙◌}
-use Rattle.sc_image.proofs.Common.{◌∷◌, ◌≡◌, ◌≢◌, ◌≤◌}
+use Rattle.sc_image.proofs.Common.{All, All-cons, All-head, All-nil, All-tail, Bool, Call, CompPart, Crossing, Event}
+use Rattle.sc_image.proofs.Common.{Export, Goes, HoldsBytes, ImageParts, ImportPart, IsChain, IsImport, IsReached}
+use Rattle.sc_image.proofs.Common.{IsSteady, IsWellFormed, IsWord, KeepsWords, List, Memory, None, Option, Outcome, Ret}
+use Rattle.sc_image.proofs.Common.{Run, RunsAreSteady, Some, State, Stop, Traps, [], a0, after, after_outcome}
+use Rattle.sc_image.proofs.Common.{after_step, ap, arith, call_of, called, count_read, eqb-true, export_at, false, gate}
+use Rattle.sc_image.proofs.Common.{get_or_from_slice_get, given_back, has_result, input, input_at, inputs_in}
+use Rattle.sc_image.proofs.Common.{is_argument, is_result, kept, kept_from, length, length-set, list_any, map, may_call}
+use Rattle.sc_image.proofs.Common.{open_after, open_calls, option_map_or, output, params_of, position, ra, refl, reg}
+use Rattle.sc_image.proofs.Common.{replicate, returned, run, saved_sp, slice_get, slice_get_within, slice_index, sp}
+use Rattle.sc_image.proofs.Common.{stack_tops, start, step, stopped, stops_or, store_size, stored, subst, suc, sym}
+use Rattle.sc_image.proofs.Common.{true, unwrap_or, with_pc, without_latest, word_at, written, zero, ℕ, ◌&&◌, ◌++◌, ◌+◌}
+use Rattle.sc_image.proofs.Common.{◌<◌, ◌==◌, ◌||◌, ◌∙◌, ◌∷◌, ◌≡◌, ◌≢◌, ◌≤◌}
 use Rattle.std.proofs.lemmas.List.Sums.{fold-append}
 use Rattle.sc_image.proofs.Words.{AreWords, set_words, written_words, written_zero, kept_words, kept_zero, in_code}
 use Rattle.sc_image.proofs.Words.{code_address, entry_address}

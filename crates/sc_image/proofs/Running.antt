@@ -1,8 +1,8 @@
 -- A run may be cut into pieces: it goes on from the state that it stopped in.
 use Rattle.sc_image.proofs.Common.{Bool, Ended, Event, EventsOut, Goes, ImageParts, List, None, Option, Outcome, Run}
 use Rattle.sc_image.proofs.Common.{Some, State, StepsOut, Stop, Trap, TrapReason, Traps, after, ap, continued, false}
-use Rattle.sc_image.proofs.Common.{if◌then◌else◌, refl, run, step, stopped, stops_or, subst}
-use Rattle.sc_image.proofs.Common.{suc, sym, true, unless_stopped, zero, zero-add, ℕ, ◌+◌, ◌∙◌, ◌≡◌}
+use Rattle.sc_image.proofs.Common.{if◌then◌else◌, refl, run, step, stopped, stops_or, subst, suc, sym, true}
+use Rattle.sc_image.proofs.Common.{unless_stopped, zero, zero-add, ℕ, ◌+◌, ◌∙◌, ◌≡◌}
 use Rattle.std.proofs.Math.Nat.{suc-add}
 
 -- a run that stops before another step doesn't stop for want of steps

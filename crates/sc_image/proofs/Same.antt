@@ -1,14 +1,13 @@
 -- What a compartment does follows from its own parts and the events before.
 use Rattle.sc_image.proofs.Common.{Adds, All, AreSilent, Bool, Call, Crossing, End, Entered, Event, Export}
 use Rattle.sc_image.proofs.Common.{FollowsFromOwn, Goes, GoesOnSame, ImageParts, IsChain, IsSilent, IsSteady}
-use Rattle.sc_image.proofs.Common.{IsWellFormed, IsWord, List, LooksSame, Memory, None, OpenCall, Outcome, Ret}
-use Rattle.sc_image.proofs.Common.{Running, Some, State, Traps, Waits, [], a0, after_outcome, after_step, after_steps}
-use Rattle.sc_image.proofs.Common.{ap, ap₂, are_data, arguments, arith, byte_of, call_of, called, data_of, drop, eq-eqb}
-use Rattle.sc_image.proofs.Common.{false, flat_map, get_or-set_same, given_back, has_result, if◌then◌else◌}
-use Rattle.sc_image.proofs.Common.{inputs_in, kept_by, length, map, nat_eq, nat_le, nat_lt, ne_eqb, observation}
-use Rattle.sc_image.proofs.Common.{observation_of, own, refl, reg, returned, returned_to, saved_sp, sp, step}
-use Rattle.sc_image.proofs.Common.{store_size, stored, subst, suc, sym, true, written, zero, ℕ, ◌&&◌, ◌++◌, ◌+◌, ◌-◌}
-use Rattle.sc_image.proofs.Common.{◌↔◌, ◌∙◌, ◌∷◌, ◌≡◌, ◌≢◌}
+use Rattle.sc_image.proofs.Common.{IsWellFormed, IsWord, List, LooksSame, Memory, None, OpenCall, Outcome, Ret, Running}
+use Rattle.sc_image.proofs.Common.{Some, State, Traps, Waits, [], a0, after_outcome, after_step, after_steps, ap, ap₂}
+use Rattle.sc_image.proofs.Common.{are_data, arguments, arith, byte_of, call_of, called, data_of, drop, eq-eqb, false}
+use Rattle.sc_image.proofs.Common.{flat_map, get_or-set_same, given_back, has_result, if◌then◌else◌, inputs_in, kept_by}
+use Rattle.sc_image.proofs.Common.{length, map, nat_eq, nat_le, nat_lt, ne_eqb, observation, observation_of, own, refl}
+use Rattle.sc_image.proofs.Common.{reg, returned, returned_to, saved_sp, sp, step, store_size, stored, subst, suc, sym}
+use Rattle.sc_image.proofs.Common.{true, written, zero, ℕ, ◌&&◌, ◌++◌, ◌+◌, ◌-◌, ◌↔◌, ◌∙◌, ◌∷◌, ◌≡◌, ◌≢◌}
 use Rattle.sc_image.proofs.Cases.{one, other, Cases, step_both}
 use Rattle.sc_image.proofs.Reached.{called_other, steady_step, SteadyAfter}
 use Rattle.sc_image.proofs.Others.{idle_both}

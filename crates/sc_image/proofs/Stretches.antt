@@ -3,9 +3,9 @@ use Rattle.sc_image.proofs.Common.{Bool, Call, Crossing, End, Ended, Event, Even
 use Rattle.sc_image.proofs.Common.{IsWellFormed, List, None, Option, Out, Outcome, Ret, Run, Some, State, StepsOut}
 use Rattle.sc_image.proofs.Common.{Stop, StretchesCompose, Traps, [], a0, after, ap, append-nil, append_assoc}
 use Rattle.sc_image.proofs.Common.{arguments, arith, false, given_back, has_result, if◌then◌else◌, input_at, is_ended}
-use Rattle.sc_image.proofs.Common.{length, length-append, lt-leb, params_of, refl, reg, returned, run, start}
-use Rattle.sc_image.proofs.Common.{step, stopped, stops_or, subst, suc, suc-add, sym, then_on, true, walk, zero}
-use Rattle.sc_image.proofs.Common.{zero-add, ℕ, ◌++◌, ◌+◌, ◌<◌, ◌∙◌, ◌∷◌, ◌≡◌, ◌≤◌}
+use Rattle.sc_image.proofs.Common.{length, length-append, lt-leb, params_of, refl, reg, returned, run, start, step}
+use Rattle.sc_image.proofs.Common.{stopped, stops_or, subst, suc, suc-add, sym, then_on, true, walk, zero, zero-add, ℕ}
+use Rattle.sc_image.proofs.Common.{◌++◌, ◌+◌, ◌<◌, ◌∙◌, ◌∷◌, ◌≡◌, ◌≤◌}
 use Rattle.sc_image.proofs.Cases.{step_of}
 use Rattle.sc_image.proofs.Running.{run_stopped, run_out, run_goes, run_traps}
 use Rattle.sc_image.proofs.Walking.{walk_one, walk_together}

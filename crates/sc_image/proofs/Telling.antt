@@ -1,13 +1,13 @@
 -- Stretches that tell events, and the steps that tell one.
-use Rattle.sc_image.proofs.Common.{Bool, CompPart, Ended, Event, Goes, ImageParts, IsCall, IsSome, IsWellFormed}
-use Rattle.sc_image.proofs.Common.{List, None, Option, Outcome, Some, State, StepsTell, Stop, TellingComposes, Tells}
-use Rattle.sc_image.proofs.Common.{Traps, Walks, [], ap, append-nil, append_assoc, arith, called, calls, code_of}
-use Rattle.sc_image.proofs.Common.{code_start, comp_of_code, ended, eq-eqb, eqb-true, false, gate, if◌then◌else◌}
-use Rattle.sc_image.proofs.Common.{is_end, is_ended, is_some, jump, leaves, leb-true, length, length-append, list_any}
-use Rattle.sc_image.proofs.Common.{lt-leb, nat_eq, nat_le, option_map_or, or_from, or_parts, params_of, ra, refl}
-use Rattle.sc_image.proofs.Common.{returned, run, slice_get, slice_get_within, step, stopped, subst, suc, suc-add, sym}
-use Rattle.sc_image.proofs.Common.{then_on, true, walk, word_at, zero, zero-add, ℕ, ◌%◌, ◌&&◌, ◌++◌, ◌+◌, ◌-◌, ◌/◌, ◌<◌}
-use Rattle.sc_image.proofs.Common.{◌∙◌, ◌∷◌, ◌≡◌, ◌≢◌, ◌≤◌}
+use Rattle.sc_image.proofs.Common.{Bool, CompPart, Ended, Event, Goes, ImageParts, IsCall, IsSome, IsWellFormed, List}
+use Rattle.sc_image.proofs.Common.{None, Option, Outcome, Some, State, StepsTell, Stop, TellingComposes, Tells, Traps}
+use Rattle.sc_image.proofs.Common.{Walks, [], ap, append-nil, append_assoc, arith, called, calls, code_of, code_start}
+use Rattle.sc_image.proofs.Common.{comp_of_code, ended, eq-eqb, eqb-true, false, gate, if◌then◌else◌, is_end, is_ended}
+use Rattle.sc_image.proofs.Common.{is_some, jump, leaves, leb-true, length, length-append, list_any, lt-leb, nat_eq}
+use Rattle.sc_image.proofs.Common.{nat_le, option_map_or, or_from, or_parts, params_of, ra, refl, returned, run}
+use Rattle.sc_image.proofs.Common.{slice_get, slice_get_within, step, stopped, subst, suc, suc-add, sym, then_on, true}
+use Rattle.sc_image.proofs.Common.{walk, word_at, zero, zero-add, ℕ, ◌%◌, ◌&&◌, ◌++◌, ◌+◌, ◌-◌, ◌/◌, ◌<◌, ◌∙◌, ◌∷◌, ◌≡◌}
+use Rattle.sc_image.proofs.Common.{◌≢◌, ◌≤◌}
 use Rattle.sc_image.proofs.Words.{entry_code}
 use Rattle.sc_image.proofs.Reached.{called_other}
 use Rattle.sc_image.proofs.Traces.{ended_by}

@@ -1,16 +1,15 @@
 -- The trace of a run is one that the image's interfaces allow.
 use Rattle.sc_image.proofs.Common.{Activation, All, Bool, Call, CompPart, Crossing, End, Ended, Entry, Event, EventsOut}
-use Rattle.sc_image.proofs.Common.{Export, ExportPart, Goes, ImageParts, Import, ImportPart, In, Int}
-use Rattle.sc_image.proofs.Common.{Interfaces, IsChain, IsSteady, IsWellFormed, IsWord, List, Main, None, Option}
-use Rattle.sc_image.proofs.Common.{Outcome, Proto, Run, Some, Standing, State, Stop, TracesAreLegal}
-use Rattle.sc_image.proofs.Common.{Traps, [], a0, after, and_from, and_parts, ap, arguments, arith, at_start, cond}
-use Rattle.sc_image.proofs.Common.{drop, eq-eqb, exports_of, false, fits_result, get_or_from_slice_get, given_back}
-use Rattle.sc_image.proofs.Common.{has_result, if◌then◌else◌, import_of, imports, inl, inr, interface_of}
-use Rattle.sc_image.proofs.Common.{interfaces_of, is_allowed, is_end, is_ended, is_function, is_input, is_legal_from}
-use Rattle.sc_image.proofs.Common.{is_output, is_there, length, length-append, length-drop, length-replicate}
-use Rattle.sc_image.proofs.Common.{length-take-le, list_any, ltb, ltb-true, machine, map, may_return}
-use Rattle.sc_image.proofs.Common.{option_and_then, option_map, option_map_or, or_left, or_right, params_of, position}
-use Rattle.sc_image.proofs.Common.{position_or_len, proto_of, refl, reg, resumed, returned, run, slice_get}
+use Rattle.sc_image.proofs.Common.{Export, ExportPart, Goes, ImageParts, Import, ImportPart, In, Int, Interfaces}
+use Rattle.sc_image.proofs.Common.{IsChain, IsSteady, IsWellFormed, IsWord, List, Main, None, Option, Outcome, Proto}
+use Rattle.sc_image.proofs.Common.{Run, Some, Standing, State, Stop, TracesAreLegal, Traps, [], a0, after, and_from}
+use Rattle.sc_image.proofs.Common.{and_parts, ap, arguments, arith, at_start, cond, drop, eq-eqb, exports_of, false}
+use Rattle.sc_image.proofs.Common.{fits_result, get_or_from_slice_get, given_back, has_result, if◌then◌else◌, import_of}
+use Rattle.sc_image.proofs.Common.{imports, inl, inr, interface_of, interfaces_of, is_allowed, is_end, is_ended}
+use Rattle.sc_image.proofs.Common.{is_function, is_input, is_legal_from, is_output, is_there, length, length-append}
+use Rattle.sc_image.proofs.Common.{length-drop, length-replicate, length-take-le, list_any, ltb, ltb-true, machine, map}
+use Rattle.sc_image.proofs.Common.{may_return, option_and_then, option_map, option_map_or, or_left, or_right, params_of}
+use Rattle.sc_image.proofs.Common.{position, position_or_len, proto_of, refl, reg, resumed, returned, run, slice_get}
 use Rattle.sc_image.proofs.Common.{slice_get-map, slice_get_within, stands_after, stands_behind, start, step, stopped}
 use Rattle.sc_image.proofs.Common.{stops_or, subst, suc, sym, takes, true, true≢false, zero, ℕ, ◌&&◌, ◌++◌, ◌-◌, ◌<◌}
 use Rattle.sc_image.proofs.Common.{◌==◌, ◌||◌, ◌∙◌, ◌∷◌, ◌≡◌, ◌≤◌, ◌⊎◌}

@@ -1,12 +1,12 @@
 -- Stretches of a run, steps by their instruction, and what stands in memory at the start.
 use Rattle.sc_image.proofs.Common.{CompPart, Goes, ImageInMemory, ImageParts, Instr, IsAt, IsWellFormed, IsWord, List}
-use Rattle.sc_image.proofs.Common.{Memory, Outcome, Region, Some, State, StepsByInstruction, Traps, Walks}
-use Rattle.sc_image.proofs.Common.{[], and_from, ap, are_data, arith, byte_of, code_of, code_start, comp_of_data}
-use Rattle.sc_image.proofs.Common.{data_regions, data_start, eq-eqb, execute, execute_by, false, flat_map, is_in}
-use Rattle.sc_image.proofs.Common.{le-leb, le-ltb, length, list_any, little_bytes, load_of, lt-ltb, nat_eq, nat_le}
-use Rattle.sc_image.proofs.Common.{nat_lt, or_left, or_right, refl, slice_get, slice_get_within, stack_size, stack_top}
-use Rattle.sc_image.proofs.Common.{start_memory, step, stretch, subst, suc, suc-add, sym, then_on, true, walk, word_at}
-use Rattle.sc_image.proofs.Common.{zero, zero-add, ℕ, ◌%◌, ◌*◌, ◌++◌, ◌+◌, ◌-◌, ◌/◌, ◌<◌, ◌^◌, ◌∙◌, ◌∷◌, ◌≡◌, ◌≤◌}
+use Rattle.sc_image.proofs.Common.{Memory, Outcome, Region, Some, State, StepsByInstruction, Traps, Walks, [], and_from}
+use Rattle.sc_image.proofs.Common.{ap, are_data, arith, byte_of, code_of, code_start, comp_of_data, data_regions}
+use Rattle.sc_image.proofs.Common.{data_start, eq-eqb, execute, execute_by, false, flat_map, is_in, le-leb, le-ltb}
+use Rattle.sc_image.proofs.Common.{length, list_any, little_bytes, load_of, lt-ltb, nat_eq, nat_le, nat_lt, or_left}
+use Rattle.sc_image.proofs.Common.{or_right, refl, slice_get, slice_get_within, stack_size, stack_top, start_memory}
+use Rattle.sc_image.proofs.Common.{step, stretch, subst, suc, suc-add, sym, then_on, true, walk, word_at, zero}
+use Rattle.sc_image.proofs.Common.{zero-add, ℕ, ◌%◌, ◌*◌, ◌++◌, ◌+◌, ◌-◌, ◌/◌, ◌<◌, ◌^◌, ◌∙◌, ◌∷◌, ◌≡◌, ◌≤◌}
 use Rattle.sc_image.proofs.AtStart.{data_byte, start_is}
 use Rattle.sc_image.proofs.Stepping.{step_executes}
 

@@ -4,14 +4,14 @@ use Rattle.sc_image.proofs.Common.{Decides, Decides-and, Decides-like, ExportPar
 use Rattle.sc_image.proofs.Common.{IsComp, IsDistinct, IsDistinct-from_AllPairs, IsDistinct-from_count, IsEquivalence}
 use Rattle.sc_image.proofs.Common.{IsExport, IsImport, IsSomeAnd, IsWellFormed, IsWord, List, None, Option, Some, []}
 use Rattle.sc_image.proofs.Common.{all_by, and_from, and_parts, ap, are_distinct, arith, bytes_decides, code_of}
-use Rattle.sc_image.proofs.Common.{code_start, comps_keep, cond, distinct_count-from_IsDistinct, eq-eqb}
-use Rattle.sc_image.proofs.Common.{eqb-false, eqb-true, exports_keep, false, false_from_ne_true, get_or_default}
-use Rattle.sc_image.proofs.Common.{imports_keep, is_entry, is_import, is_same_import, is_same_name, is_some}
-use Rattle.sc_image.proofs.Common.{keeps_rules, length, list_all, lit≤, lt-ltb, ltb-true, map, nat_lt}
-use Rattle.sc_image.proofs.Common.{ne_eqb, not-true, not_from_Decides, not_from_false, option_map_or}
-use Rattle.sc_image.proofs.Common.{recursion_from_All, refl, same_from_decides, slice_get, slice_get_within, stretch}
-use Rattle.sc_image.proofs.Common.{subst, suc, sym, true, unsigned_Decides, word_at, zero, zero-add, ℕ, ◌&&◌, ◌*◌}
-use Rattle.sc_image.proofs.Common.{◌+◌, ◌-◌, ◌/◌, ◌<◌, ◌==◌, ◌^◌, ◌∙◌, ◌∷◌, ◌≡◌, ◌≤◌}
+use Rattle.sc_image.proofs.Common.{code_start, comps_keep, cond, distinct_count-from_IsDistinct, eq-eqb, eqb-false}
+use Rattle.sc_image.proofs.Common.{eqb-true, exports_keep, false, false_from_ne_true, get_or_default, imports_keep}
+use Rattle.sc_image.proofs.Common.{is_entry, is_import, is_same_import, is_same_name, is_some, keeps_rules, length}
+use Rattle.sc_image.proofs.Common.{list_all, lit≤, lt-ltb, ltb-true, map, nat_lt, ne_eqb, not-true, not_from_Decides}
+use Rattle.sc_image.proofs.Common.{not_from_false, option_map_or, recursion_from_All, refl, same_from_decides}
+use Rattle.sc_image.proofs.Common.{slice_get, slice_get_within, stretch, subst, suc, sym, true, unsigned_Decides}
+use Rattle.sc_image.proofs.Common.{word_at, zero, zero-add, ℕ, ◌&&◌, ◌*◌, ◌+◌, ◌-◌, ◌/◌, ◌<◌, ◌==◌, ◌^◌, ◌∙◌, ◌∷◌, ◌≡◌}
+use Rattle.sc_image.proofs.Common.{◌≤◌}
 use Rattle.sc_image.proofs.Fields.{IsBytes, bytes_fit}
 use Rattle.sc_image.proofs.FileFields.{FitsExport, FitsImport, FitsComp, FitsParts}
 

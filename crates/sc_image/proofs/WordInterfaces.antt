@@ -1,12 +1,13 @@
 -- Legal traces don't depend on the types of scalars.
-use Rattle.sc_image.proofs.Common.{Bool, Call, End, Entry, Event, Export, Import, In, Int, Interface, Interfaces}
-use Rattle.sc_image.proofs.Common.{LegalByWords, List, Main, None, Option, Out, Proto, Ret, Scalar, Some, Standing, []}
-use Rattle.sc_image.proofs.Common.{ap, ap₂, awaits, false, fits_result, imports}
-use Rattle.sc_image.proofs.Common.{is_legal_from, length, length-map, list_any, may_perform, may_return}
-use Rattle.sc_image.proofs.Common.{option_and_then, option_map, option_map_or, performer, refl, slice_get}
-use Rattle.sc_image.proofs.Common.{slice_get-map, stands_after, takes, word_interface, word_interfaces, word_proto, ℕ}
-use Rattle.sc_image.proofs.Common.{◌&&◌, ◌==◌, ◌∙◌, ◌∷◌, ◌≡◌}
+use Rattle.sc_image.proofs.Common.{Bool, Call, End, Entry, Event, Export, Import, In, Int, Interfaces, LegalByWords}
+use Rattle.sc_image.proofs.Common.{List, Main, None, Option, Out, Proto, Ret, Some, Standing, [], ap, ap₂, awaits}
+use Rattle.sc_image.proofs.Common.{false, fits_result, imports, is_legal_from, length, length-map, list_any}
+use Rattle.sc_image.proofs.Common.{may_perform, may_return, option_and_then, option_map, option_map_or, performer, refl}
+use Rattle.sc_image.proofs.Common.{slice_get, slice_get-map, stands_after, takes, word_interface, word_interfaces}
+use Rattle.sc_image.proofs.Common.{word_proto, ℕ, ◌&&◌, ◌==◌, ◌∙◌, ◌∷◌, ◌≡◌}
 use Rattle.sc_event.specs.Prelude.{comp_at, export_at}
+use Rattle.sc_event.specs.declared.interface.Interface.{Interface}
+use Rattle.sc_event.specs.declared.interface.Scalar.{Scalar}
 
 module _ (interfaces : Interfaces) where
   same_comp : (comp : ℕ) →

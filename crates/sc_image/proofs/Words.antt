@@ -5,10 +5,10 @@ use Rattle.sc_image.proofs.Common.{code_of, code_start, computed, div_word-lt, d
 use Rattle.sc_image.proofs.Common.{extended, false, get_or_from_slice_get, if◌then◌else◌, kept_from, leb-true, load_of}
 use Rattle.sc_image.proofs.Common.{load_size, mul_word-lt, mulh_word-lt, mulhsu_word-lt, mulhu_word-lt, nat_le}
 use Rattle.sc_image.proofs.Common.{option_map_or, or_lt, position, position-Some, refl, rem_word-lt, remu_word-lt}
-use Rattle.sc_image.proofs.Common.{slice_get, slice_get_within, slice_index, slice_set, sll_word-lt}
-use Rattle.sc_image.proofs.Common.{slt_word-lt, sltu_word-lt, sra_word-lt, srl_word-lt, sub_word-lt, subst, suc, true}
-use Rattle.sc_image.proofs.Common.{unwrap_or, word_at, word_of-lt, written, xor_lt, zero, ℕ, ◌&&◌, ◌+◌, ◌-◌, ◌/◌}
-use Rattle.sc_image.proofs.Common.{◌<◌, ◌==◌, ◌^◌, ◌∷◌, ◌≡◌, ◌≤◌}
+use Rattle.sc_image.proofs.Common.{slice_get, slice_get_within, slice_index, slice_set, sll_word-lt, slt_word-lt}
+use Rattle.sc_image.proofs.Common.{sltu_word-lt, sra_word-lt, srl_word-lt, sub_word-lt, subst, suc, true, unwrap_or}
+use Rattle.sc_image.proofs.Common.{word_at, word_of-lt, written, xor_lt, zero, ℕ, ◌&&◌, ◌+◌, ◌-◌, ◌/◌, ◌<◌, ◌==◌, ◌^◌}
+use Rattle.sc_image.proofs.Common.{◌∷◌, ◌≡◌, ◌≤◌}
 use Rattle.rv_code.specs.declared.instr.OpOp.TheVariants.{Add, Sub, Sll, Slt, Sltu, Xor, Srl, Sra, Or, And, Mul, Mulh}
 use Rattle.rv_code.specs.declared.instr.OpOp.TheVariants.{Mulhsu, Mulhu, Div, Divu, Rem, Remu}
 use Rattle.rv_code.specs.declared.instr.LoadOp.TheVariants.{Lb, Lh, Lw, Lbu, Lhu}

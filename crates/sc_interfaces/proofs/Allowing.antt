@@ -3,8 +3,8 @@ use Rattle.sc_interfaces.proofs.Common.{Agreements, Bool, HeadTree, List, None, 
 use Rattle.sc_interfaces.proofs.Common.{added_beside, agree, agrees_first, agrees_with, all_added, all_numbered}
 use Rattle.sc_interfaces.proofs.Common.{allowed, among, and-false, and-true, and_assoc, ap, bytes_eq, cond, false}
 use Rattle.sc_interfaces.proofs.Common.{first_by_name, forbidden, if◌then◌else◌, is_numbered, is_some, list_any-append}
-use Rattle.sc_interfaces.proofs.Common.{nat_list_eq_equiv, no_heads, not, numbered, or_assoc, refl, sym}
-use Rattle.sc_interfaces.proofs.Common.{true, with_first, ◌&&◌, ◌++◌, ◌||◌, ◌∙◌, ◌∷◌, ◌≡◌}
+use Rattle.sc_interfaces.proofs.Common.{nat_list_eq_equiv, no_heads, not, numbered, or_assoc, refl, sym, true}
+use Rattle.sc_interfaces.proofs.Common.{with_first, ◌&&◌, ◌++◌, ◌||◌, ◌∙◌, ◌∷◌, ◌≡◌}
 use Rattle.std.proofs.lemmas.Slice.Eq.{bytes_eq-Decides}
 use Rattle.sc_interfaces.proofs.Agreeing.{agree_symm, agree_left}
 

@@ -3,9 +3,8 @@ use Rattle.sc_interfaces.proofs.Common.{Agreements, Bool, Decl, ExportLine, Func
 use Rattle.sc_interfaces.proofs.Common.{ParamTree, Proto, SectionTable, Struct, Text, [], all_added, and_right, ap}
 use Rattle.sc_interfaces.proofs.Common.{arith, decl_told, decls_told, drop, drop-cons, export_fits, exports_told, false}
 use Rattle.sc_interfaces.proofs.Common.{get_or, head_added, head_in, heads_in, import_fits, imports_told, is_offered_by}
-use Rattle.sc_interfaces.proofs.Common.{length, numbered, refl, same_params, same_type, suc, sym, unless}
-use Rattle.sc_interfaces.proofs.Common.{with_lines, with_lines-append, with_lines-nil, ℕ, ◌++◌, ◌+◌, ◌<◌, ◌∙◌}
-use Rattle.sc_interfaces.proofs.Common.{◌∷◌, ◌≡◌, ◌≤◌}
+use Rattle.sc_interfaces.proofs.Common.{length, numbered, refl, same_params, same_type, suc, sym, unless, with_lines}
+use Rattle.sc_interfaces.proofs.Common.{with_lines-append, with_lines-nil, ℕ, ◌++◌, ◌+◌, ◌<◌, ◌∙◌, ◌∷◌, ◌≡◌, ◌≤◌}
 use Rattle.std.proofs.Math.ListN.{drop_of_length-le}
 use Rattle.sc_scope.specs.declared.broken.BrokenLines.{BrokenLines}
 use Rattle.sc_interfaces.specs.declared.imports.Imported.{Imported}

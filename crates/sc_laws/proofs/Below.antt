@@ -1,8 +1,8 @@
 -- Two runs that do the same, where the second may have more turns, and may go on where the first has to stop.
-use Rattle.sc_laws.proofs.Common.{AllFrom, Blamed, Cause, Ended, EventsOut, Front, Goes, Gone, Grown, Here, Ok}
-use Rattle.sc_laws.proofs.Common.{Piece, Reached, Result, RunEnd, State, Stopped, TurnsOut, and_then, ap, arith}
-use Rattle.sc_laws.proofs.Common.{computed, inl, inr, last, length, refl, subst, suc, sym, turn, turn_of, with_blocks}
-use Rattle.sc_laws.proofs.Common.{zero, ℕ, ◌+◌, ◌<◌, ◌∙◌, ◌≡◌, ◌≤◌, ◌⊎◌}
+use Rattle.sc_laws.proofs.Common.{AllFrom, Blamed, Cause, Ended, EventsOut, Front, Goes, Gone, Grown, Here, Ok, Piece}
+use Rattle.sc_laws.proofs.Common.{Reached, Result, RunEnd, State, Stopped, TurnsOut, and_then, ap, arith, computed, inl}
+use Rattle.sc_laws.proofs.Common.{inr, last, length, refl, subst, suc, sym, turn, turn_of, with_blocks, zero, ℕ, ◌+◌}
+use Rattle.sc_laws.proofs.Common.{◌<◌, ◌∙◌, ◌≡◌, ◌≤◌, ◌⊎◌}
 use Rattle.sc_laws.proofs.Growing.{front_same, front_more, then_from, late_more}
 use Rattle.sc_laws.proofs.Twins.{Kept, KeptAt}
 use Rattle.sc_laws.proofs.Expressions.{Keeps, alike, blamed}

@@ -4,9 +4,8 @@ use Rattle.sc_laws.proofs.Common.{Goes, Grown, Here, Input, Interfaces, Library,
 use Rattle.sc_laws.proofs.Common.{Piece, Roles, Row, Some, State, Step, Stopped, TurnsOut, Value, Word, [], acts}
 use Rattle.sc_laws.proofs.Common.{and_then, ap, ap₂, arith, asks, back_cross, back_own, begun, call_cross, call_own}
 use Rattle.sc_laws.proofs.Common.{called, calls, crossed, done, false, found, function, if◌then◌else◌, is_number}
-use Rattle.sc_laws.proofs.Common.{length, map, may_call, performs, refl, run_in, run_step, scripted_step}
-use Rattle.sc_laws.proofs.Common.{subst, suc, sym, tell, true, turn, within, word_in, zero, ℕ, ◌+◌, ◌<◌, ◌∙◌, ◌∷◌, ◌≡◌}
-use Rattle.sc_laws.proofs.Common.{◌≤◌, ◌⊎◌}
+use Rattle.sc_laws.proofs.Common.{length, map, may_call, performs, refl, run_in, run_step, scripted_step, subst, suc}
+use Rattle.sc_laws.proofs.Common.{sym, tell, true, turn, within, word_in, zero, ℕ, ◌+◌, ◌<◌, ◌∙◌, ◌∷◌, ◌≡◌, ◌≤◌, ◌⊎◌}
 use Rattle.sc_event.specs.declared.row.Action.TheVariants as act
 use Rattle.sc_laws.proofs.Growing.{stays, earlier, back_goes, then_goes, BodyGoes, StepGoes, begun_goes, done_goes}
 use Rattle.sc_laws.proofs.Growing.{own_goes, cross_goes, calls_go, performs_go, within_goes, asks_is, asks_go}

@@ -1,13 +1,12 @@
 -- No compartment that performs is blamed, whatever the trace is, and only compartments that there are.
 use Rattle.sc_laws.proofs.Common.{Action, BadType, Blamed, Body, Bool, Call, CallTarget, Cause, Cross, Ended, EventsOut}
-use Rattle.sc_laws.proofs.Common.{Function, Here, Input, Kept, Library, List, Main, Memory, Obedient, Option}
-use Rattle.sc_laws.proofs.Common.{Output, Own, Piece, Property, Reached, Roles, Row, RunEnd, Some, SourceRun, State}
-use Rattle.sc_laws.proofs.Common.{Stopped, TurnsOut, Value, Word, [], acts, arith, asks, back_cross, back_own}
-use Rattle.sc_laws.proofs.Common.{call_cross, call_own, called, calls, false, first_state, found_kept}
-use Rattle.sc_laws.proofs.Common.{function, if◌then◌else◌, length, map, performs, refl}
-use Rattle.sc_laws.proofs.Common.{roles_run, rows_left, run_by, run_in, run_step, run_to, scripted_step, slice_get}
-use Rattle.sc_laws.proofs.Common.{slice_index_or, stopped_at, subst, suc, take, then_kept, true, turn, turn_of}
-use Rattle.sc_laws.proofs.Common.{within, zero, ℕ, ◌<◌, ◌∷◌, ◌≡◌}
+use Rattle.sc_laws.proofs.Common.{Function, Here, Input, Kept, Library, List, Main, Memory, Obedient, Option, Output}
+use Rattle.sc_laws.proofs.Common.{Own, Piece, Property, Reached, Roles, Row, RunEnd, Some, SourceRun, State, Stopped}
+use Rattle.sc_laws.proofs.Common.{TurnsOut, Value, Word, [], acts, arith, asks, back_cross, back_own, call_cross}
+use Rattle.sc_laws.proofs.Common.{call_own, called, calls, false, first_state, found_kept, function, if◌then◌else◌}
+use Rattle.sc_laws.proofs.Common.{length, map, performs, refl, roles_run, rows_left, run_by, run_in, run_step, run_to}
+use Rattle.sc_laws.proofs.Common.{scripted_step, slice_get, slice_index_or, stopped_at, subst, suc, take, then_kept}
+use Rattle.sc_laws.proofs.Common.{true, turn, turn_of, within, zero, ℕ, ◌<◌, ◌∷◌, ◌≡◌}
 use Rattle.sc_event.specs.declared.row.Action.TheVariants as act
 use Rattle.sc_laws.proofs.Growing.{BodyGoes, calls_go, within_goes}
 use Rattle.sc_laws.proofs.Matching.{scripted_goes_on}

@@ -1,11 +1,10 @@
 -- The names that several proofs of this crate cite, passed on from one place. Declares nothing.
 pub use Rattle.std.proofs.Common.{Bool, Err, List, None, Ok, Option, Result, Some, [], ap, append-nil, append_assoc}
 pub use Rattle.std.proofs.Common.{ap₂, arith, bytes_eq, cond, drop, eq-eqb, eqb-true, false, filter, if◌then◌else◌, inl}
-pub use Rattle.std.proofs.Common.{inr, int_div, int_lt, int_rem, is_some, le-leb, le-ltb, leb-false, leb-true, length}
-pub use Rattle.std.proofs.Common.{length-append, lt-ltb, ltb-false, map, max, nat_le, nat_lt, ne_eqb, neg_ℤ, not, pos}
-pub use Rattle.std.proofs.Common.{refl, slice_get, slice_index_or, subst, suc, sym, take, take_all, true, zero, ℕ, ℤ}
-pub use Rattle.std.proofs.Common.{⊎_elim, ◌%◌, ◌&&◌, ◌*ℤ◌, ◌*◌, ◌++◌, ◌+ℤ◌, ◌+◌, ◌-ℤ◌, ◌-◌, ◌/◌, ◌<◌, ◌==◌, ◌^◌, ◌||◌}
-pub use Rattle.std.proofs.Common.{◌∙◌, ◌∷◌, ◌≡◌, ◌≤◌, ◌⊎◌}
+pub use Rattle.std.proofs.Common.{inr, int_lt, is_some, le-leb, le-ltb, leb-false, leb-true, length, length-append}
+pub use Rattle.std.proofs.Common.{lt-ltb, ltb-false, map, max, nat_le, nat_lt, ne_eqb, not, pos, refl, slice_get}
+pub use Rattle.std.proofs.Common.{slice_index_or, subst, suc, sym, take, take_all, true, zero, ℕ, ℤ, ⊎_elim, ◌%◌, ◌&&◌}
+pub use Rattle.std.proofs.Common.{◌*ℤ◌, ◌*◌, ◌++◌, ◌+◌, ◌-◌, ◌/◌, ◌<◌, ◌==◌, ◌^◌, ◌||◌, ◌∙◌, ◌∷◌, ◌≡◌, ◌≤◌, ◌⊎◌}
 pub use Rattle.std.proofs.lemmas.Bool.{and_from, and_parts, both_ways, cases_eq, false≢true, lt-leb}
 pub use Rattle.std.proofs.lemmas.List.{length-map, take-append-le}
 pub use Rattle.std.proofs.lemmas.Option.{same_Some, slice_get-map}
@@ -35,16 +34,16 @@ pub use Rattle.sc_core.specs.Prelude.{block_does, blocks_for, body_does, c_arith
 pub use Rattle.sc_core.specs.Prelude.{call_cross, call_own, called, calls, cause_of, cells_of, choose, closed, computed}
 pub use Rattle.sc_core.specs.Prelude.{crossed, crossing, deepest, depth_in, done, ended, entry_in, evaluated, exit_word}
 pub use Rattle.sc_core.specs.Prelude.{expr_nodes, first_blocks, first_state, first_word, follow, found, frame_bound}
-pub use Rattle.sc_core.specs.Prelude.{function, function_of, functions_in, functions_of, globals_of, in_loop, in_order}
-pub use Rattle.sc_core.specs.Prelude.{init_does, inits_do, is_number, is_pointer, is_true, is_unsigned, is_unsigned_op}
-pub use Rattle.sc_core.specs.Prelude.{is_word, kind_nodes, kind_step, leads, leave, library_of, local_nodes, loop}
-pub use Rattle.sc_core.specs.Prelude.{main_name, may_call, meant, meant_step, moved, negated_word, next_input, nodes}
-pub use Rattle.sc_core.specs.Prelude.{on_all_words, on_words, option_value, or_cause, part_does, part_nodes, performs}
-pub use Rattle.sc_core.specs.Prelude.{place_named, place_of_export, reaches, read_input, roles_in, rounds, rows_left}
-pub use Rattle.sc_core.specs.Prelude.{run_by, run_in, run_of, run_step, run_to, scripted_step, simple_does, stmt_does}
-pub use Rattle.sc_core.specs.Prelude.{stmt_nodes, stmt_step, stopped_at, store, store_at, store_result, stored, tell}
-pub use Rattle.sc_core.specs.Prelude.{term_step, test, total, turn, turn_of, values, variable_at, variables, ways}
-pub use Rattle.sc_core.specs.Prelude.{with_blocks, with_memory, within, word_back, word_in, wrapping}
+pub use Rattle.sc_core.specs.Prelude.{function, function_of, functions_in, globals_of, in_loop, in_order, init_does}
+pub use Rattle.sc_core.specs.Prelude.{inits_do, is_number, is_pointer, is_unsigned, is_word, kind_nodes, kind_step}
+pub use Rattle.sc_core.specs.Prelude.{leads, leave, library_of, local_nodes, loop, main_name, may_call, meant}
+pub use Rattle.sc_core.specs.Prelude.{meant_step, moved, negated_word, next_input, nodes, on_all_words, on_words}
+pub use Rattle.sc_core.specs.Prelude.{option_value, or_cause, part_does, part_nodes, performs, place_named}
+pub use Rattle.sc_core.specs.Prelude.{place_of_export, reaches, read_input, roles_in, rounds, rows_left, run_by, run_in}
+pub use Rattle.sc_core.specs.Prelude.{run_of, run_step, run_to, scripted_step, simple_does, stmt_does, stmt_nodes}
+pub use Rattle.sc_core.specs.Prelude.{stmt_step, stopped_at, store, store_at, store_result, stored, tell, term_step}
+pub use Rattle.sc_core.specs.Prelude.{test, total, turn, turn_of, values, variable_at, variables, ways, with_blocks}
+pub use Rattle.sc_core.specs.Prelude.{with_memory, within, word_back, word_in, wrapping}
 pub use Rattle.sc_core.specs.declared.cause.Cause.TheVariants.{BadType, NoReturn, OutOfBounds}
 pub use Rattle.sc_core.specs.declared.expr.CallTarget.TheVariants.{Cross, Input, Output, Own}
 pub use Rattle.sc_core.specs.declared.expr.TypedExpr.{TypedExpr}

@@ -2,9 +2,8 @@
 use Rattle.sc_laws.proofs.Common.{Arith, BinaryOp, Blocks, Bool, Cause, Err, Here, List, Meant, Null, Ok, Ptr, Result}
 use Rattle.sc_laws.proofs.Common.{TypedExpr, TypedStruct, Under, Value, Want, Ways, Word, [], ap, applied, applied_one}
 use Rattle.sc_laws.proofs.Common.{as_word, at_place, at_pointer, binary, bind, choose, expr_at, expr_induction, false}
-use Rattle.sc_laws.proofs.Common.{if◌then◌else◌, is_pointer, is_unsigned, map, meant, meant_step, moved}
-use Rattle.sc_laws.proofs.Common.{on_words, pos, refl, subst, sym, term_of, term_step, true, typed, values, ways, ℕ}
-use Rattle.sc_laws.proofs.Common.{◌∙◌, ◌∷◌, ◌≡◌}
+use Rattle.sc_laws.proofs.Common.{if◌then◌else◌, is_pointer, is_unsigned, map, meant, meant_step, moved, on_words, pos}
+use Rattle.sc_laws.proofs.Common.{refl, subst, sym, term_of, term_step, true, typed, values, ways, ℕ, ◌∙◌, ◌∷◌, ◌≡◌}
 use Rattle.sc_base.specs.declared.op.UnaryOp.{UnaryOp}
 use Rattle.sc_base.specs.declared.op.UnaryOp.TheVariants as unary
 use Rattle.sc_base.specs.declared.op.BinaryOp.TheVariants as op

@@ -1,16 +1,16 @@
 -- Calls in two runs along one trace, of which the second has more compartments that perform their parts of it.
-use Rattle.sc_laws.proofs.Common.{Action, BadType, Blamed, Body, Bool, Call, CallTarget, Cross, Event, Export}
-use Rattle.sc_laws.proofs.Common.{Front, Function, Goes, Gone, Here, In, Input, IsFixed, Library, List, Meets, None}
-use Rattle.sc_laws.proofs.Common.{Option, Out, Output, Own, Piece, Proto, Reached, Ret, Row, Scalar, Some, Standing}
-use Rattle.sc_laws.proofs.Common.{State, Step, Stopped, TurnsOut, Value, Word, [], action_of, acts, and_from, and_parts}
+use Rattle.sc_laws.proofs.Common.{Action, BadType, Blamed, Body, Bool, Call, CallTarget, Cross, Event, Export, Front}
+use Rattle.sc_laws.proofs.Common.{Function, Goes, Gone, Here, In, Input, IsFixed, Library, List, Meets, None, Option}
+use Rattle.sc_laws.proofs.Common.{Out, Output, Own, Piece, Proto, Reached, Ret, Row, Scalar, Some, Standing, State}
+use Rattle.sc_laws.proofs.Common.{Step, Stopped, TurnsOut, Value, Word, [], action_of, acts, and_from, and_parts}
 use Rattle.sc_laws.proofs.Common.{and_then, ap, ap₂, arith, asks, at_start, back_cross, begun, blocks_for, both_ways}
 use Rattle.sc_laws.proofs.Common.{call_cross, call_own, called, calls, count_of, crossed, crossing, done, drop, ended}
 use Rattle.sc_laws.proofs.Common.{eq-eqb, export_at, false, first_word, found, function, if◌then◌else◌, imports}
-use Rattle.sc_laws.proofs.Common.{is_number, is_output, is_word, last, length, list_all, map, may_call}
-use Rattle.sc_laws.proofs.Common.{next_input, now, option_value, part, performer, performs, read_input, refl, roles_in}
-use Rattle.sc_laws.proofs.Common.{rows_left, run_in, run_step, scripted_step, stands_after, stands_behind, subst, suc}
-use Rattle.sc_laws.proofs.Common.{sym, takes, tell, true, turn, turn_of, with_blocks, within, word_back, word_in, zero}
-use Rattle.sc_laws.proofs.Common.{ℕ, ◌++◌, ◌∙◌, ◌∷◌, ◌≡◌}
+use Rattle.sc_laws.proofs.Common.{is_number, is_output, is_word, last, length, list_all, map, may_call, next_input, now}
+use Rattle.sc_laws.proofs.Common.{option_value, part, performer, performs, read_input, refl, roles_in, rows_left}
+use Rattle.sc_laws.proofs.Common.{run_in, run_step, scripted_step, stands_after, stands_behind, subst, suc, sym, takes}
+use Rattle.sc_laws.proofs.Common.{tell, true, turn, turn_of, with_blocks, within, word_back, word_in, zero, ℕ, ◌++◌}
+use Rattle.sc_laws.proofs.Common.{◌∙◌, ◌∷◌, ◌≡◌}
 use Rattle.sc_event.specs.declared.row.Action.TheVariants as act
 use Rattle.sc_laws.proofs.Growing.{front_same, front_more, more, reached, stays, no_turn, earlier, then_from, then_goes}
 use Rattle.sc_laws.proofs.Growing.{BodyGoes, done_goes, own_goes, cross_goes, back_goes, calls_go, performs_go}

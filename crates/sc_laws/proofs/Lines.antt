@@ -8,15 +8,15 @@ use Rattle.sc_laws.proofs.Common.{TypedStmt-F, TypedStmtKind, TypedStmtKind-F, T
 use Rattle.sc_laws.proofs.Common.{all_do, ap, ap₂, assign, assign_call, at_brace, at_place, block_does, body_does}
 use Rattle.sc_laws.proofs.Common.{bytes_eq, call, call_alone, cells_of, choose, closed, computed, cond, entry_in}
 use Rattle.sc_laws.proofs.Common.{evaluated, everywhere, export_at, expr_nodes, false, first_blocks, fold-TypedStmt}
-use Rattle.sc_laws.proofs.Common.{fold-TypedStmtKind, follow, frame_bound, function_of, functions_in}
-use Rattle.sc_laws.proofs.Common.{globals_of, if◌then◌else◌, in_loop, in_order, init_does, inits_do}
-use Rattle.sc_laws.proofs.Common.{kind_nodes, kind_step, layer_of, leave, length, length-map, library_of, local_nodes}
-use Rattle.sc_laws.proofs.Common.{loop, main_name, map, map-TypedStmtKind, nat_lt, nodes, not, on_line, option_map}
-use Rattle.sc_laws.proofs.Common.{part_does, part_nodes, place_named, place_of_export, position_or_len, refl}
-use Rattle.sc_laws.proofs.Common.{roll-TypedStmtKind, rounds, run_by, run_of, run_step, simple_does, slice_get}
-use Rattle.sc_laws.proofs.Common.{slice_get-map, stmt_at, stmt_does, stmt_induction, stmt_nodes, stmt_step, store}
-use Rattle.sc_laws.proofs.Common.{store_at, store_result, stored, subst, suc, sym, test, total, true, turn}
-use Rattle.sc_laws.proofs.Common.{variable_at, variables, ways, zero, ℕ, ◌++◌, ◌+◌, ◌∙◌, ◌∷◌, ◌≡◌}
+use Rattle.sc_laws.proofs.Common.{fold-TypedStmtKind, follow, frame_bound, function_of, functions_in, globals_of}
+use Rattle.sc_laws.proofs.Common.{if◌then◌else◌, in_loop, in_order, init_does, inits_do, kind_nodes, kind_step}
+use Rattle.sc_laws.proofs.Common.{layer_of, leave, length, length-map, library_of, local_nodes, loop, main_name, map}
+use Rattle.sc_laws.proofs.Common.{map-TypedStmtKind, nat_lt, nodes, not, on_line, option_map, part_does, part_nodes}
+use Rattle.sc_laws.proofs.Common.{place_named, place_of_export, position_or_len, refl, roll-TypedStmtKind, rounds}
+use Rattle.sc_laws.proofs.Common.{run_by, run_of, run_step, simple_does, slice_get, slice_get-map, stmt_at, stmt_does}
+use Rattle.sc_laws.proofs.Common.{stmt_induction, stmt_nodes, stmt_step, store, store_at, store_result, stored, subst}
+use Rattle.sc_laws.proofs.Common.{suc, sym, test, total, true, turn, variable_at, variables, ways, zero, ℕ, ◌++◌, ◌+◌}
+use Rattle.sc_laws.proofs.Common.{◌∙◌, ◌∷◌, ◌≡◌}
 use Rattle.sc_core.specs.Prelude.{Out, take}
 use Rattle.sc_core.specs.declared.stmt.TypedSimpleKind.TheVariants as simple
 use Rattle.sc_core.specs.declared.stmt.TypedStmtKind.TheOpen as layer

@@ -1,9 +1,8 @@
 -- A program under two arithmetics, of which the second gives what the first does or the first blames: what its
 -- functions do matches.
 use Rattle.sc_laws.proofs.Common.{Arith, Cause, FunctionsMatch, LibrariesMatch, List, Meets, Never, Obedient}
-use Rattle.sc_laws.proofs.Common.{ProgramTree, TypedFunction, TypedSection, TypedStruct, [], closed}
-use Rattle.sc_laws.proofs.Common.{function_of, functions_in, library_of, map}
-use Rattle.sc_laws.proofs.Common.{refl, slice_get, slice_index_or, suc, zero, ℕ, ◌∷◌}
+use Rattle.sc_laws.proofs.Common.{ProgramTree, TypedFunction, TypedSection, TypedStruct, [], closed, function_of}
+use Rattle.sc_laws.proofs.Common.{functions_in, library_of, map, refl, slice_get, slice_index_or, suc, zero, ℕ, ◌∷◌}
 use Rattle.sc_laws.proofs.Expressions.{alike, ArithKeeps}
 use Rattle.sc_laws.proofs.Interactions.{match_then}
 use Rattle.sc_laws.proofs.Statements.{body_matches, closed_matches}

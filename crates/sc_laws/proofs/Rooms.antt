@@ -4,13 +4,12 @@ use Rattle.sc_laws.proofs.Common.{Cross, DeepestIsReached, End, Event, FrameChan
 use Rattle.sc_laws.proofs.Common.{KeepsRooms, Kept, LeavesRooms, Library, List, Main, Memory, Obedient, Opened, Option}
 use Rattle.sc_laws.proofs.Common.{Out, Output, Own, Piece, Property, Reached, Ret, Roles, Row, State, Step, Stopped}
 use Rattle.sc_laws.proofs.Common.{TellsNoEnd, TurnsOut, Value, Word, [], acts, and_then, ap, arith, asks, back_cross}
-use Rattle.sc_laws.proofs.Common.{back_own, begun, call_cross, call_own, called, calls, deepest}
-use Rattle.sc_laws.proofs.Common.{done, exit_word, false, first_state, found_kept, function}
-use Rattle.sc_laws.proofs.Common.{has_no_end, if◌then◌else◌, is_end, last, length, length-append, list_any}
-use Rattle.sc_laws.proofs.Common.{lt-ltb, map, max, nat_lt, not, open_room, performs}
-use Rattle.sc_laws.proofs.Common.{refl, room_after, rows_left, run_by, run_in, run_step, run_to, scripted_step, subst}
-use Rattle.sc_laws.proofs.Common.{suc, sym, tell, then_kept, true, turn, turn_of, within, zero, ℕ}
-use Rattle.sc_laws.proofs.Common.{◌&&◌, ◌++◌, ◌+◌, ◌-◌, ◌==◌, ◌||◌, ◌∙◌, ◌∷◌, ◌≡◌, ◌≤◌}
+use Rattle.sc_laws.proofs.Common.{back_own, begun, call_cross, call_own, called, calls, deepest, done, exit_word, false}
+use Rattle.sc_laws.proofs.Common.{first_state, found_kept, function, has_no_end, if◌then◌else◌, is_end, last, length}
+use Rattle.sc_laws.proofs.Common.{length-append, list_any, lt-ltb, map, max, nat_lt, not, open_room, performs, refl}
+use Rattle.sc_laws.proofs.Common.{room_after, rows_left, run_by, run_in, run_step, run_to, scripted_step, subst, suc}
+use Rattle.sc_laws.proofs.Common.{sym, tell, then_kept, true, turn, turn_of, within, zero, ℕ, ◌&&◌, ◌++◌, ◌+◌, ◌-◌}
+use Rattle.sc_laws.proofs.Common.{◌==◌, ◌||◌, ◌∙◌, ◌∷◌, ◌≡◌, ◌≤◌}
 use Rattle.sc_event.specs.declared.row.Action.TheVariants as act
 use Rattle.sc_laws.proofs.Growing.{BodyGoes, StepGoes, calls_go, within_goes}
 use Rattle.sc_laws.proofs.Matching.{run_goes_on, scripted_goes_on}

@@ -5,14 +5,13 @@ use Rattle.sc_laws.proofs.Common.{EventsOut, Export, ExportsLead, Here, In, Inpu
 use Rattle.sc_laws.proofs.Common.{Main, Memory, None, Obedient, Option, Out, Output, Own, Piece, Property, Reached, Ret}
 use Rattle.sc_laws.proofs.Common.{Roles, Row, RunEnd, Set, Some, SpendsAlong, Standing, State, Stopped, TurnsOut, Value}
 use Rattle.sc_laws.proofs.Common.{Word, [], action_of, acts, and_from, and_parts, and_then, ap, arith, at_start}
-use Rattle.sc_laws.proofs.Common.{back_cross, back_own, begun, call_cross, call_own, called, calls, count_of}
-use Rattle.sc_laws.proofs.Common.{done, drop, eq-eqb, eqb-true, false, false≢true, first_state}
-use Rattle.sc_laws.proofs.Common.{found, function, if◌then◌else◌, imports, is_allowed, is_legal_from}
-use Rattle.sc_laws.proofs.Common.{is_number, is_some, is_word, leads, legal, length-map, list_all}
-use Rattle.sc_laws.proofs.Common.{map, may_call, may_perform, part, performer, performs, refl, roles_in}
-use Rattle.sc_laws.proofs.Common.{rows_left, run_in, run_step, same_Some, scripted_call, scripted_step, stands_after}
-use Rattle.sc_laws.proofs.Common.{stands_behind, subst, suc, sym, takes, tell, then_kept, true, turn_of, within}
-use Rattle.sc_laws.proofs.Common.{zero, ℕ, ◌++◌, ◌<◌, ◌∙◌, ◌∷◌, ◌≡◌}
+use Rattle.sc_laws.proofs.Common.{back_cross, back_own, begun, call_cross, call_own, called, calls, count_of, done}
+use Rattle.sc_laws.proofs.Common.{drop, eq-eqb, eqb-true, false, false≢true, first_state, found, function}
+use Rattle.sc_laws.proofs.Common.{if◌then◌else◌, imports, is_allowed, is_legal_from, is_number, is_some, is_word, leads}
+use Rattle.sc_laws.proofs.Common.{legal, length-map, list_all, map, may_call, may_perform, part, performer, performs}
+use Rattle.sc_laws.proofs.Common.{refl, roles_in, rows_left, run_in, run_step, same_Some, scripted_call, scripted_step}
+use Rattle.sc_laws.proofs.Common.{stands_after, stands_behind, subst, suc, sym, takes, tell, then_kept, true, turn_of}
+use Rattle.sc_laws.proofs.Common.{within, zero, ℕ, ◌++◌, ◌<◌, ◌∙◌, ◌∷◌, ◌≡◌}
 use Rattle.sc_event.specs.declared.row.Action.TheVariants as act
 use Rattle.sc_laws.proofs.Growing.{BodyGoes, calls_go, within_goes}
 use Rattle.sc_laws.proofs.Keeping.{IsKept, function_keeps}

@@ -2,12 +2,12 @@
 use Rattle.sc_laws.proofs.Common.{Acts, Arith, Blocks, Bool, Break, CallTarget, Calls, Cause, Continue, Doing, Each}
 use Rattle.sc_laws.proofs.Common.{Err, Exit, Here, Inside, List, Local, Match, Next, NoReturn, None, Ok, Option, Return}
 use Rattle.sc_laws.proofs.Common.{Some, TypedExpr, TypedFunction, TypedLocal, TypedSimple, TypedSimpleKind, TypedStmt}
-use Rattle.sc_laws.proofs.Common.{TypedStmtKind, TypedStmtKind-F, TypedStruct, Value, Want, Ways, [], all_do}
-use Rattle.sc_laws.proofs.Common.{assign, assign_call, at_brace, at_place, block_does, body_does, call, call_alone}
-use Rattle.sc_laws.proofs.Common.{choose, closed, evaluated, everywhere, false, in_order, init_does, inits_do}
-use Rattle.sc_laws.proofs.Common.{kind_step, layer_of, leave, loop, map, on_line, part_does, refl, simple_does, stmt_at}
-use Rattle.sc_laws.proofs.Common.{stmt_does, stmt_induction, stmt_step, store_at, store_result, stored, subst, suc, sym}
-use Rattle.sc_laws.proofs.Common.{test, true, values, variable_at, ways, ℕ, ◌∷◌, ◌≡◌}
+use Rattle.sc_laws.proofs.Common.{TypedStmtKind, TypedStmtKind-F, TypedStruct, Value, Want, Ways, [], all_do, assign}
+use Rattle.sc_laws.proofs.Common.{assign_call, at_brace, at_place, block_does, body_does, call, call_alone, choose}
+use Rattle.sc_laws.proofs.Common.{closed, evaluated, everywhere, false, in_order, init_does, inits_do, kind_step}
+use Rattle.sc_laws.proofs.Common.{layer_of, leave, loop, map, on_line, part_does, refl, simple_does, stmt_at, stmt_does}
+use Rattle.sc_laws.proofs.Common.{stmt_induction, stmt_step, store_at, store_result, stored, subst, suc, sym, test}
+use Rattle.sc_laws.proofs.Common.{true, values, variable_at, ways, ℕ, ◌∷◌, ◌≡◌}
 use Rattle.sc_core.specs.declared.expr.TypedCall.{TypedCall}
 use Rattle.sc_core.specs.declared.stmt.TypedStmtKind.TheOpen as layer
 use Rattle.sc_core.specs.declared.stmt.TypedSimpleKind.TheVariants as simple

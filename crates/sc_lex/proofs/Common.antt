@@ -1,7 +1,7 @@
 -- The names that several proofs of this crate cite, passed on from one place. Declares nothing.
 pub use Rattle.std.proofs.Common.{All, AllPairs, Bool, IfNone, IfSome, IsTrue, List, None, Option, Some, [], ap}
 pub use Rattle.std.proofs.Common.{append-nil, ap₂, arith, bytes_eq, codes, cond, drop, drop-drop, eq-eqb, eqb, eqb-true}
-pub use Rattle.std.proofs.Common.{false, flat_map, fold, get_or, get_or-drop, get_or-take, is_some, le-leb, le-ltb, leb}
+pub use Rattle.std.proofs.Common.{false, flat_map, fold, get_or, get_or-drop, get_or-take, is_some, le-leb, le-ltb}
 pub use Rattle.std.proofs.Common.{leb-true, length, length-drop, length-take, length-take-le, ltb-true, min, nat_eq}
 pub use Rattle.std.proofs.Common.{nat_le, nat_lt, ne_eqb, not, one-add, refl, slice_index, slice_range, subst, suc, sym}
 pub use Rattle.std.proofs.Common.{take, take-append-drop, take_all, true, zero, ℕ, ⊎_elim, ◌&&◌, ◌*◌, ◌++◌, ◌+◌, ◌-◌}
@@ -20,13 +20,13 @@ pub use Rattle.sc_base.specs.Prelude.{is_between, is_name_byte, is_nondigit, nam
 unfoldable pub use Rattle.sc_base.specs.Prelude.{is_name, is_reserved}
 pub use Rattle.sc_lex.specs.Prelude.{AreSections, AreSpans, Cuts, IsBadHeading, IsCut, IsGap, IsPiece, IsSection}
 pub use Rattle.sc_lex.specs.Prelude.{IsSpan, IsStuck, IsToken, Lex, NoHeading, NoPiece, NoToken, Refusal, RefusesBytes}
-pub use Rattle.sc_lex.specs.Prelude.{allows_directive, base_of, begins_block_comment, begins_heading, begins_line}
+pub use Rattle.sc_lex.specs.Prelude.{allows_directive, base_of, begins_block_comment, begins_heading}
 pub use Rattle.sc_lex.specs.Prelude.{begins_line_comment, block_comment, digit_value, digits_of, directive_kind}
-pub use Rattle.sc_lex.specs.Prelude.{ends_comment, gap, has_suffix, heading_name, is_blank, is_digit, is_directive}
-pub use Rattle.sc_lex.specs.Prelude.{is_empty, is_export, is_heading, is_hexadecimal, is_import, is_inside_line}
-pub use Rattle.sc_lex.specs.Prelude.{is_pragma, is_white_space, line_after, line_at, line_comment, line_len, mark_kind}
-pub use Rattle.sc_lex.specs.Prelude.{marks, may_follow, newlines, none, nothing, number, only_name, placed, section}
-pub use Rattle.sc_lex.specs.Prelude.{token, token_at, white_space, without_suffix}
+pub use Rattle.sc_lex.specs.Prelude.{ends_comment, gap, has_suffix, is_blank, is_digit, is_directive, is_empty}
+pub use Rattle.sc_lex.specs.Prelude.{is_export, is_heading, is_hexadecimal, is_import, is_inside_line, is_pragma}
+pub use Rattle.sc_lex.specs.Prelude.{is_white_space, line_after, line_at, line_comment, line_len, mark_kind, marks}
+pub use Rattle.sc_lex.specs.Prelude.{may_follow, newlines, none, nothing, number, only_name, placed, section, token}
+pub use Rattle.sc_lex.specs.Prelude.{token_at, white_space, without_suffix}
 unfoldable pub use Rattle.sc_lex.specs.Prelude.{is_integer, is_mark, is_number, kind_of, line_kind, word_kind, words}
 pub use Rattle.sc_lex.specs.declared.token.Token.{Token}
 pub use Rattle.sc_lex.specs.declared.token.TokenKind.{TokenKind}

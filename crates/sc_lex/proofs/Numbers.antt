@@ -1,8 +1,8 @@
 -- The number that digits stand for.
 use Rattle.sc_lex.proofs.Common.{Bool, List, None, Option, Some, [], and_left, and_right, ap, arith, cond, digit_value}
 use Rattle.sc_lex.proofs.Common.{drop, false, fold, fold-append, fold_more, get_or, is_digit, is_empty, is_number}
-use Rattle.sc_lex.proofs.Common.{le-leb, le-ltb, length, list_all, list_all_at, lt-leb, not, number, refl, sym}
-use Rattle.sc_lex.proofs.Common.{take, take-append-drop, take_all, true, ℕ, ◌&&◌, ◌*◌, ◌+◌, ◌<◌, ◌∙◌, ◌∷◌, ◌≡◌, ◌≤◌}
+use Rattle.sc_lex.proofs.Common.{le-leb, le-ltb, length, list_all, list_all_at, lt-leb, not, number, refl, sym, take}
+use Rattle.sc_lex.proofs.Common.{take-append-drop, take_all, true, ℕ, ◌&&◌, ◌*◌, ◌+◌, ◌<◌, ◌∙◌, ◌∷◌, ◌≡◌, ◌≤◌}
 use Rattle.std.proofs.Math.Nat.{mul-le-mul_left}
 
 pub product_fits : (value base : ℕ) → value ≤ 4294967295 → base ≤ 16 → value * base ≤ 68719476720

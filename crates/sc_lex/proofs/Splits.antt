@@ -1,9 +1,8 @@
 -- Sections that follow one another, and what the loop over them keeps.
 use Rattle.sc_lex.proofs.Common.{AreSections, IsBadHeading, IsSection, IsTrue, List, NoHeading, [], and_parts, ap}
-use Rattle.sc_lex.proofs.Common.{arith, cases_lt, drop, drop-drop, flat_map}
-use Rattle.sc_lex.proofs.Common.{is_heading, length, length-drop, line_after, line_at, min, newlines, none, none-some}
-use Rattle.sc_lex.proofs.Common.{refl, section, slice_range, sum_by-append, sym, take, take_all, ℕ, ⊎_elim, ◌++◌, ◌+◌}
-use Rattle.sc_lex.proofs.Common.{◌-◌, ◌<◌, ◌∙◌, ◌∷◌, ◌≡◌, ◌≤◌}
+use Rattle.sc_lex.proofs.Common.{arith, cases_lt, drop, drop-drop, flat_map, is_heading, length, length-drop}
+use Rattle.sc_lex.proofs.Common.{line_after, line_at, min, newlines, none, none-some, refl, section, slice_range}
+use Rattle.sc_lex.proofs.Common.{sum_by-append, sym, take, take_all, ℕ, ⊎_elim, ◌++◌, ◌+◌, ◌-◌, ◌<◌, ◌∙◌, ◌∷◌, ◌≡◌, ◌≤◌}
 use Rattle.std.proofs.Math.Seq.{take-add}
 use Rattle.sc_lex.specs.declared.section.Section.{Section}
 use Rattle.sc_lex.proofs.Wording.{heading_fits}

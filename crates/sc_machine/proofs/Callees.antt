@@ -1,6 +1,6 @@
 -- Lists of functions that compartments may call.
-use Rattle.sc_machine.proofs.Common.{All, AreCallees, Callee, ImageParts, IsCallee, List, Some, [], arith}
-use Rattle.sc_machine.proofs.Common.{length, slice_get, subst, suc, zero, ℕ, ◌++◌, ◌+◌, ◌∷◌, ◌≡◌}
+use Rattle.sc_machine.proofs.Common.{All, AreCallees, Callee, ImageParts, IsCallee, List, Some, [], arith, length}
+use Rattle.sc_machine.proofs.Common.{slice_get, subst, suc, zero, ℕ, ◌++◌, ◌+◌, ◌∷◌, ◌≡◌}
 
 module _ (image : ImageParts) where
   pub callees_at : (lists : List (List Callee)) (c i n : ℕ) (callees : List Callee) → n ≡ c + i →

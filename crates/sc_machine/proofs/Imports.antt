@@ -1,10 +1,10 @@
 -- What an import leads to is a function that may be called.
 use Rattle.sc_machine.proofs.Common.{Bool, CompPart, ExportPart, ImageParts, IsCallee, IsDistinct, IsEntry, IsExport}
 use Rattle.sc_machine.proofs.Common.{IsSome, IsWellFormed, List, None, Option, Some, ap, arith, cases_lt, code_of}
-use Rattle.sc_machine.proofs.Common.{comp_of_code, eq-eqb, eqb-true, false, get_or, get_or-map}
-use Rattle.sc_machine.proofs.Common.{get_or_from_slice_get, if◌then◌else◌, leb-true, length, length-map, map, may_call}
-use Rattle.sc_machine.proofs.Common.{nat_le, refl, slice_get, slice_get_within, stretch, subst, sym, true}
-use Rattle.sc_machine.proofs.Common.{word_at, ℕ, ⊎_elim, ◌&&◌, ◌*◌, ◌-◌, ◌/◌, ◌<◌, ◌∙◌, ◌≡◌, ◌≤◌}
+use Rattle.sc_machine.proofs.Common.{comp_of_code, eq-eqb, eqb-true, false, get_or, get_or-map, get_or_from_slice_get}
+use Rattle.sc_machine.proofs.Common.{if◌then◌else◌, leb-true, length, length-map, map, may_call, nat_le, refl}
+use Rattle.sc_machine.proofs.Common.{slice_get, slice_get_within, stretch, subst, sym, true, word_at, ℕ, ⊎_elim, ◌&&◌}
+use Rattle.sc_machine.proofs.Common.{◌*◌, ◌-◌, ◌/◌, ◌<◌, ◌∙◌, ◌≡◌, ◌≤◌}
 use Rattle.sc_base.proofs.Lists.{position_of_only}
 use Rattle.sc_image.specs.declared.parts.ImportPart.{ImportPart}
 

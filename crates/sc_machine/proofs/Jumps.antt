@@ -1,7 +1,7 @@
 -- Jumps, by the case of their target.
 use Rattle.sc_machine.proofs.Common.{Goes, ImageParts, List, State, add_word, ap, arith, calls, cases_eq, eq-eqb}
-use Rattle.sc_machine.proofs.Common.{execute, execute_by, gate, jump, leaves, ne_eqb, refl, reg, returned, sym}
-use Rattle.sc_machine.proofs.Common.{word_of, ℕ, ℤ, ⊎_elim, ◌*◌, ◌/◌, ◌≡◌}
+use Rattle.sc_machine.proofs.Common.{execute, execute_by, gate, jump, leaves, ne_eqb, refl, reg, returned, sym, word_of}
+use Rattle.sc_machine.proofs.Common.{ℕ, ℤ, ⊎_elim, ◌*◌, ◌/◌, ◌≡◌}
 use Rattle.rv_code.specs.declared.instr.Instr.TheVariants.{Jalr}
 use Rattle.sc_machine.proofs.Words.{below_code}
 

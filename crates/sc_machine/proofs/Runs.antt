@@ -1,9 +1,8 @@
 -- Runs, step by step and call by call.
 use Rattle.sc_machine.proofs.Common.{Bool, Goes, ImageParts, List, None, Option, Run, Some, State, TrapReason, Traps}
-use Rattle.sc_machine.proofs.Common.{[], add-zero, add_assoc, ap, continued, false, fold, if◌then◌else◌}
-use Rattle.sc_machine.proofs.Common.{leb-false, length, machine, nat_le, refl, run, run_goes, run_more, run_traps}
-use Rattle.sc_machine.proofs.Common.{step, stopped, stops_or, suc, sum, sym, true, unwrap_or, ℕ, ◌+◌, ◌<◌, ◌∙◌}
-use Rattle.sc_machine.proofs.Common.{◌∷◌, ◌≡◌}
+use Rattle.sc_machine.proofs.Common.{[], add-zero, add_assoc, ap, continued, false, fold, if◌then◌else◌, leb-false}
+use Rattle.sc_machine.proofs.Common.{length, machine, nat_le, refl, run, run_goes, run_more, run_traps, step, stopped}
+use Rattle.sc_machine.proofs.Common.{stops_or, suc, sum, sym, true, unwrap_or, ℕ, ◌+◌, ◌<◌, ◌∙◌, ◌∷◌, ◌≡◌}
 use Rattle.sc_event.specs.declared.event.Event.{Event}
 use Rattle.sc_base.specs.declared.stop.Stop.{Stop}
 use Rattle.std.proofs.lemmas.List.Sums.{sum_by-cons}

@@ -2,14 +2,14 @@
 use Rattle.sc_machine.proofs.Common.{All, All-cons, All-head, All-nil, All-tail, AreApart, AreBelow, Bool, CompPart}
 use Rattle.sc_machine.proofs.Common.{Filled, HasBytes, HasFewGlobals, ImageParts, IsIn, IsSome, IsWellFormed, List}
 use Rattle.sc_machine.proofs.Common.{Memory, None, Option, Region, Some, [], all_data, ap, ap₂, arith, byte_at, byte_of}
-use Rattle.sc_machine.proofs.Common.{cases_lt, data_start, data_with, false, filled_with, get_or}
-use Rattle.sc_machine.proofs.Common.{get_or_past, if◌then◌else◌, is_in, length, lt-ltb, most_globals, nat_le, nat_lt}
+use Rattle.sc_machine.proofs.Common.{cases_lt, data_start, data_with, false, filled_with, get_or, get_or_past}
+use Rattle.sc_machine.proofs.Common.{if◌then◌else◌, is_in, length, lt-ltb, most_globals, nat_le, nat_lt}
 use Rattle.sc_machine.proofs.Common.{option_and_then, refl, regions_of, slice_get, slice_get-get_or, slice_index}
 use Rattle.sc_machine.proofs.Common.{stack_size, stack_top, stack_tops, start_is, start_memory, stored, stretch, subst}
-use Rattle.sc_machine.proofs.Common.{suc, sym, take, true, written, written-stored, written_nothing, zero, zeros, ℕ}
-use Rattle.sc_machine.proofs.Common.{⊎_elim, ◌&&◌, ◌++◌, ◌+◌, ◌-◌, ◌<◌, ◌^◌, ◌∙◌, ◌∷◌, ◌≡◌, ◌≤◌}
+use Rattle.sc_machine.proofs.Common.{suc, sym, take, true, written, written-apart, written-in, written-stored}
+use Rattle.sc_machine.proofs.Common.{written_nothing, zero, zeros, ℕ, ⊎_elim, ◌&&◌, ◌++◌, ◌+◌, ◌-◌, ◌<◌, ◌^◌, ◌∙◌, ◌∷◌}
+use Rattle.sc_machine.proofs.Common.{◌≡◌, ◌≤◌}
 use Rattle.sc_store.proofs.Regions.{in_true, in_false, in_cases}
-use Rattle.sc_store.proofs.Parts.{written-in, written-apart}
 
 -- One byte.
 

@@ -3,15 +3,14 @@ use Rattle.sc_parse.proofs.Common.{BaseTree, Declares, ExprTree, FunctionHead, F
 use Rattle.sc_parse.proofs.Common.{HeadTree, IsLocal, IsMark, Lexeme, List, LocalTree, None, Option, ParamTree}
 use Rattle.sc_parse.proofs.Common.{Separated, Some, SpellsBase, SpellsIf, SpellsStmtKind, SpellsStmts, SpellsValue}
 use Rattle.sc_parse.proofs.Common.{StmtKind, StmtTree, [], a_value, alone, ap, append_assoc, arith, behind, behind_mark}
-use Rattle.sc_parse.proofs.Common.{body_behind, bound, choice, declaration_at, declares, empty, expr_at}
-use Rattle.sc_parse.proofs.Common.{false, first_line, for_loop, function_head, function_param, function_tree, grouped}
-use Rattle.sc_parse.proofs.Common.{head_of, init_height, int, is_base, length, local, local_at, local_height}
-use Rattle.sc_parse.proofs.Common.{locals_behind, locals_height, map, max, more, named_head}
-use Rattle.sc_parse.proofs.Common.{named_params, no_base, no_value, none-some, not, option_map_or, otherwise}
-use Rattle.sc_parse.proofs.Common.{otherwise_if, param_of, plain, refl, return_call, return_nothing, return_value}
-use Rattle.sc_parse.proofs.Common.{same_some, signed, signed_int, stmts_height, struct, subst, sym}
-use Rattle.sc_parse.proofs.Common.{true, unsigned, unsigned_int, value_at, while_loop, ℕ, ◌++◌, ◌+◌, ◌>>=◌, ◌∙◌, ◌∷◌}
-use Rattle.sc_parse.proofs.Common.{◌≡◌, ◌≤◌}
+use Rattle.sc_parse.proofs.Common.{body_behind, bound, choice, declaration_at, declares, empty, expr_at, false}
+use Rattle.sc_parse.proofs.Common.{first_line, for_loop, function_head, function_param, function_tree, grouped, head_of}
+use Rattle.sc_parse.proofs.Common.{init_height, int, is_base, length, local, local_at, local_height, locals_behind}
+use Rattle.sc_parse.proofs.Common.{locals_height, map, max, more, named_head, named_params, no_base, no_value}
+use Rattle.sc_parse.proofs.Common.{none-some, not, option_map_or, otherwise, otherwise_if, param_of, plain, refl}
+use Rattle.sc_parse.proofs.Common.{return_call, return_nothing, return_value, same_some, signed, signed_int}
+use Rattle.sc_parse.proofs.Common.{stmts_height, struct, subst, sym, true, unsigned, unsigned_int, value_at, while_loop}
+use Rattle.sc_parse.proofs.Common.{ℕ, ◌++◌, ◌+◌, ◌>>=◌, ◌∙◌, ◌∷◌, ◌≡◌, ◌≤◌}
 use Rattle.sc_expr.specs.declared.mark.Mark.TheVariants as mark
 use Rattle.sc_parse.specs.Lists as lists
 use Rattle.sc_parse.specs.Statements as statements

@@ -1,10 +1,10 @@
 -- Declarations of variables and structs are read exactly as they are spelled.
 use Rattle.sc_parse.proofs.Common.{BaseTree, Declarator, Declares, IsMark, IsMember, Lexeme, List, MemberTree, None}
 use Rattle.sc_parse.proofs.Common.{Option, Reader, Separated, Some, SpellsBase, SpellsDeclarator, TypeTree, [], adds}
-use Rattle.sc_parse.proofs.Common.{all_separated, ap, append_assoc, array, behind, behind_mark, bound}
-use Rattle.sc_parse.proofs.Common.{declaration_at, declarator, declarator_at, declares, first_line, int, member_at}
-use Rattle.sc_parse.proofs.Common.{members_behind, more, one, refl, same_some, signed, signed_int, struct, subst, sym}
-use Rattle.sc_parse.proofs.Common.{type_of, unsigned, unsigned_int, ℕ, ◌++◌, ◌∙◌, ◌∷◌, ◌≡◌}
+use Rattle.sc_parse.proofs.Common.{all_separated, ap, append_assoc, array, behind, behind_mark, bound, declaration_at}
+use Rattle.sc_parse.proofs.Common.{declarator, declarator_at, declares, first_line, int, member_at, members_behind}
+use Rattle.sc_parse.proofs.Common.{more, one, refl, same_some, signed, signed_int, struct, subst, sym, type_of}
+use Rattle.sc_parse.proofs.Common.{unsigned, unsigned_int, ℕ, ◌++◌, ◌∙◌, ◌∷◌, ◌≡◌}
 use Rattle.sc_expr.specs.declared.mark.Mark.TheVariants as mark
 use Rattle.sc_parse.specs.Types.{plain}
 use Rattle.sc_parse.proofs.Exact.{Taken, Added, Exact, ExactAdder, Any, took, glued, separated_exact}

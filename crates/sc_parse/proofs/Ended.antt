@@ -1,14 +1,13 @@
 -- Statements are read exactly as they are spelled.
-use Rattle.sc_parse.proofs.Common.{Bool, IsKeyword, IsMark, Keyword, Lexeme, List, Option, Some}
-use Rattle.sc_parse.proofs.Common.{SpellsIf, SpellsStmtKind}
-use Rattle.sc_parse.proofs.Common.{StmtKind, StmtTree, [], alone, ap, append_assoc, arith}
-use Rattle.sc_parse.proofs.Common.{begins_call, begins_with, behind, behind_mark, bound, break_height, call_at}
-use Rattle.sc_parse.proofs.Common.{choice, cond, continue_height, drop, empty, empty_height, ended_at, expr_at, false}
-use Rattle.sc_parse.proofs.Common.{first_line, for_loop, is_else, keyword_at, kind_height, kind_of, length}
-use Rattle.sc_parse.proofs.Common.{length-append, otherwise, otherwise_if, plain, plain_at, plain_height, refl}
-use Rattle.sc_parse.proofs.Common.{return_call, return_call_height, return_height, return_nothing, return_value}
-use Rattle.sc_parse.proofs.Common.{returned, same_some, simple_at, simple_or_none, stmt_tree, subst, true}
-use Rattle.sc_parse.proofs.Common.{value_height, value_returned, while_loop, ℕ, ◌++◌, ◌<◌, ◌>>=◌, ◌∙◌, ◌∷◌, ◌≡◌, ◌≤◌}
+use Rattle.sc_parse.proofs.Common.{Bool, IsKeyword, IsMark, Keyword, Lexeme, List, Option, Some, SpellsIf}
+use Rattle.sc_parse.proofs.Common.{SpellsStmtKind, StmtKind, StmtTree, [], alone, ap, append_assoc, arith, begins_call}
+use Rattle.sc_parse.proofs.Common.{begins_with, behind, behind_mark, bound, break_height, call_at, choice, cond}
+use Rattle.sc_parse.proofs.Common.{continue_height, drop, empty, empty_height, ended_at, expr_at, false, first_line}
+use Rattle.sc_parse.proofs.Common.{for_loop, is_else, keyword_at, kind_height, kind_of, length, length-append}
+use Rattle.sc_parse.proofs.Common.{otherwise, otherwise_if, plain, plain_at, plain_height, refl, return_call}
+use Rattle.sc_parse.proofs.Common.{return_call_height, return_height, return_nothing, return_value, returned, same_some}
+use Rattle.sc_parse.proofs.Common.{simple_at, simple_or_none, stmt_tree, subst, true, value_height, value_returned}
+use Rattle.sc_parse.proofs.Common.{while_loop, ℕ, ◌++◌, ◌<◌, ◌>>=◌, ◌∙◌, ◌∷◌, ◌≡◌, ◌≤◌}
 use Rattle.sc_ast.specs.declared.stmt.StmtKind.TheVariants as stmt
 use Rattle.sc_expr.specs.declared.mark.Keyword.TheVariants as word
 use Rattle.sc_expr.specs.declared.mark.Mark.TheVariants as mark

@@ -1,7 +1,7 @@
 -- Small texts and the trees that they spell.
 use Rattle.sc_parse.proofs.Common.{Lexeme, List, None, Number, Some, Spells, SpellsBlock, SpellsCondition, SpellsDecl}
-use Rattle.sc_parse.proofs.Common.{SpellsIf, SpellsKind, Symbol, [], codes, false, is_place, looser}
-use Rattle.sc_parse.proofs.Common.{loosest_level, refl, rules, the_lemmas, true, variable, ℕ, ◌∷◌, ◌≡◌}
+use Rattle.sc_parse.proofs.Common.{SpellsIf, SpellsKind, Symbol, [], codes, false, is_place, looser, loosest_level}
+use Rattle.sc_parse.proofs.Common.{refl, rules, the_lemmas, true, variable, ℕ, ◌∷◌, ◌≡◌}
 use Rattle.sc_ast.specs.declared.types.BaseTree.TheVariants as base
 use Rattle.sc_ast.specs.declared.expr.ExprTree.TheVariants as expr
 use Rattle.sc_base.specs.declared.op.BinaryOp.TheVariants as binary

@@ -2,13 +2,12 @@
 use Rattle.sc_parse.proofs.Common.{BinaryOp, Bool, CallTree, ExprTree, Found, IsMark, Lexeme, List, Mark, None, Option}
 use Rattle.sc_parse.proofs.Common.{Prefix, Separated, Some, Spells, SpellsArgs, SpellsCall, Symbol, [], all_separated}
 use Rattle.sc_parse.proofs.Common.{ap, append_assoc, args_at, args_behind, args_in_parens, arith, arrow, begins_call}
-use Rattle.sc_parse.proofs.Common.{begins_with, behind, behind_mark, binary_of, bound, call, call_at, call_height}
-use Rattle.sc_parse.proofs.Common.{cond, expr_at, expr_height, exprs_height, extension_at, false, found}
-use Rattle.sc_parse.proofs.Common.{index, is_mark, is_some, joined, lead_by, literal, looser, loosest_level, member}
-use Rattle.sc_parse.proofs.Common.{more, most_open, name_ahead, no_args, none-some, one, open_after}
-use Rattle.sc_parse.proofs.Common.{open_behind, open_low, parenthesised, prefix, prefix_of, read, read_sound, refl}
-use Rattle.sc_parse.proofs.Common.{same_some, some_args, subst, sym, true, unary_level, variable, ℕ, ◌++◌, ◌∙◌}
-use Rattle.sc_parse.proofs.Common.{◌∷◌, ◌≡◌, ◌≤◌}
+use Rattle.sc_parse.proofs.Common.{begins_with, behind, behind_mark, binary_of, bound, call, call_at, call_height, cond}
+use Rattle.sc_parse.proofs.Common.{expr_at, expr_height, exprs_height, extension_at, false, found, index, is_mark}
+use Rattle.sc_parse.proofs.Common.{is_some, joined, lead_by, literal, looser, loosest_level, member, more, most_open}
+use Rattle.sc_parse.proofs.Common.{name_ahead, no_args, none-some, one, open_after, open_behind, open_low}
+use Rattle.sc_parse.proofs.Common.{parenthesised, prefix, prefix_of, read, read_sound, refl, same_some, some_args}
+use Rattle.sc_parse.proofs.Common.{subst, sym, true, unary_level, variable, ℕ, ◌++◌, ◌∙◌, ◌∷◌, ◌≡◌, ◌≤◌}
 use Rattle.sc_expr.specs.declared.mark.Mark.TheVariants as mark
 use Rattle.sc_expr.specs.declared.lexeme.Symbol.TheVariants as symbol
 use Rattle.sc_expr.proofs.Complete.{reads_all}

@@ -2,10 +2,10 @@
 use Rattle.sc_parse.proofs.Common.{BaseTree, Bool, ConstTree, Decl, Declares, GlobalTree, InitTree, IsGlobal, IsMark}
 use Rattle.sc_parse.proofs.Common.{Lexeme, List, None, Option, Separated, Some, SpellsConst, SpellsInit, [], absent}
 use Rattle.sc_parse.proofs.Common.{all_consts, ap, append_assoc, begins_with, behind, behind_inner_comma, behind_mark}
-use Rattle.sc_parse.proofs.Common.{bound, cond, const_at, consts_at, declaration_at, false, global}
-use Rattle.sc_parse.proofs.Common.{global_at, globals_behind, init_at, init_behind, many, many_comma}
-use Rattle.sc_parse.proofs.Common.{negated, non_empty, one_at, option_map_or, past_comma, refl, same_some, subst, sym}
-use Rattle.sc_parse.proofs.Common.{true, ℕ, ◌++◌, ◌>>=◌, ◌∙◌, ◌∷◌, ◌≡◌}
+use Rattle.sc_parse.proofs.Common.{bound, cond, const_at, consts_at, declaration_at, false, global, global_at}
+use Rattle.sc_parse.proofs.Common.{globals_behind, init_at, init_behind, many, many_comma, negated, non_empty, one_at}
+use Rattle.sc_parse.proofs.Common.{option_map_or, past_comma, refl, same_some, subst, sym, true, ℕ, ◌++◌, ◌>>=◌, ◌∙◌}
+use Rattle.sc_parse.proofs.Common.{◌∷◌, ◌≡◌}
 use Rattle.sc_ast.specs.declared.section.InitTree.TheVariants as init
 use Rattle.sc_ast.specs.declared.section.Decl.TheVariants as decl
 use Rattle.sc_expr.specs.declared.mark.Mark.TheVariants as mark

@@ -3,16 +3,16 @@ use Rattle.sc_parse.proofs.Common.{Bool, ExprTree, Grouped, IsKeyword, IsMark, K
 use Rattle.sc_parse.proofs.Common.{Option, Reader, SimpleKind, SimpleTree, Some, SpellsBlock, SpellsCondition, SpellsIf}
 use Rattle.sc_parse.proofs.Common.{SpellsPart, SpellsStmtKind, SpellsStmts, SpellsTest, StmtKind, StmtTree, [], adds}
 use Rattle.sc_parse.proofs.Common.{alone, ap, append-nil, append_assoc, arith, before_mark, begins_with, behind}
-use Rattle.sc_parse.proofs.Common.{behind_mark, block, block_at, bound, choice, cond, drop}
-use Rattle.sc_parse.proofs.Common.{else_at, else_behind, empty, ended_at, expr_height, false, first_line}
-use Rattle.sc_parse.proofs.Common.{first_part, for_behind, for_head, for_height, for_loop, for_parts, grouped}
-use Rattle.sc_parse.proofs.Common.{if_behind, if_height, is_else, is_if, keyword_at, kind_by, kind_height, kind_of}
-use Rattle.sc_parse.proofs.Common.{last_part, length, loop_of, middle_part, none-some, option_height, otherwise}
-use Rattle.sc_parse.proofs.Common.{otherwise_if, part_at, plain, plain_at, plain_height, refl, return_call}
-use Rattle.sc_parse.proofs.Common.{return_call_height, return_nothing, return_value, returned, same_some, simple_at}
-use Rattle.sc_parse.proofs.Common.{stmt_at, stmt_tree, stmt_within, stmts_at, stmts_height, subst, suc}
-use Rattle.sc_parse.proofs.Common.{sym, test_at, tree_height, true, value_height, while_behind}
-use Rattle.sc_parse.proofs.Common.{while_height, while_loop, zero, ℕ, ◌++◌, ◌+◌, ◌<◌, ◌>>=◌, ◌∙◌, ◌∷◌, ◌≡◌, ◌≤◌}
+use Rattle.sc_parse.proofs.Common.{behind_mark, block, block_at, bound, choice, cond, drop, else_at, else_behind, empty}
+use Rattle.sc_parse.proofs.Common.{ended_at, expr_height, false, first_line, first_part, for_behind, for_head}
+use Rattle.sc_parse.proofs.Common.{for_height, for_loop, for_parts, grouped, if_behind, if_height, is_else, is_if}
+use Rattle.sc_parse.proofs.Common.{keyword_at, kind_by, kind_height, kind_of, last_part, length, loop_of, middle_part}
+use Rattle.sc_parse.proofs.Common.{none-some, option_height, otherwise, otherwise_if, part_at, plain, plain_at}
+use Rattle.sc_parse.proofs.Common.{plain_height, refl, return_call, return_call_height, return_nothing, return_value}
+use Rattle.sc_parse.proofs.Common.{returned, same_some, simple_at, stmt_at, stmt_tree, stmt_within, stmts_at}
+use Rattle.sc_parse.proofs.Common.{stmts_height, subst, suc, sym, test_at, tree_height, true, value_height}
+use Rattle.sc_parse.proofs.Common.{while_behind, while_height, while_loop, zero, ℕ, ◌++◌, ◌+◌, ◌<◌, ◌>>=◌, ◌∙◌, ◌∷◌}
+use Rattle.sc_parse.proofs.Common.{◌≡◌, ◌≤◌}
 use Rattle.sc_ast.specs.declared.stmt.StmtKind.TheVariants as stmt
 use Rattle.sc_expr.specs.declared.mark.Keyword.TheVariants as word
 use Rattle.sc_expr.specs.declared.mark.Mark.TheVariants as mark

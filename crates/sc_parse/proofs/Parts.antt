@@ -1,13 +1,13 @@
 -- Conditions and the parts of a `for` are read exactly as they are spelled.
 use Rattle.sc_parse.proofs.Common.{Bool, CallTree, ExprTree, IsMark, Lexeme, List, Mark, None, Option, SimpleKind}
 use Rattle.sc_parse.proofs.Common.{SimpleTree, Some, Spells, SpellsCall, SpellsCondition, SpellsKind, SpellsPart}
-use Rattle.sc_parse.proofs.Common.{SpellsTest, Symbol, [], a_part, a_test, always, ap}
-use Rattle.sc_parse.proofs.Common.{append_assoc, arith, assign, assign_call, begins_with, behind, behind_mark, bound}
-use Rattle.sc_parse.proofs.Common.{call, compound, cond, cond_is, condition, condition_at, expr_at, expr_height, false}
-use Rattle.sc_parse.proofs.Common.{first_line, is_mark, is_some, keyword_at, keyword_by, le-leb, lead_by, leb, leb-true}
-use Rattle.sc_parse.proofs.Common.{length, length-append, no_part, no_test, option_height, part_at, refl, simple_at}
-use Rattle.sc_parse.proofs.Common.{simple_tree, step_before, step_behind, step_of, sym, test_at, true, ℕ, ◌++◌, ◌-◌}
-use Rattle.sc_parse.proofs.Common.{◌<◌, ◌>>=◌, ◌∙◌, ◌∷◌, ◌≡◌, ◌≤◌}
+use Rattle.sc_parse.proofs.Common.{SpellsTest, Symbol, [], a_part, a_test, always, ap, append_assoc, arith, assign}
+use Rattle.sc_parse.proofs.Common.{assign_call, begins_with, behind, behind_mark, bound, call, compound, cond, cond_is}
+use Rattle.sc_parse.proofs.Common.{condition, condition_at, expr_at, expr_height, false, first_line, is_mark, is_some}
+use Rattle.sc_parse.proofs.Common.{keyword_at, keyword_by, le-leb, lead_by, leb, leb-true, length, length-append}
+use Rattle.sc_parse.proofs.Common.{no_part, no_test, option_height, part_at, refl, simple_at, simple_tree, step_before}
+use Rattle.sc_parse.proofs.Common.{step_behind, step_of, sym, test_at, true, ℕ, ◌++◌, ◌-◌, ◌<◌, ◌>>=◌, ◌∙◌, ◌∷◌, ◌≡◌}
+use Rattle.sc_parse.proofs.Common.{◌≤◌}
 use Rattle.sc_expr.specs.declared.mark.Mark.TheVariants as mark
 use Rattle.sc_expr.specs.declared.lexeme.Symbol.TheVariants as symbol
 use Rattle.sc_parse.specs.Statements as statements

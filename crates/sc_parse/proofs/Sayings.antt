@@ -1,12 +1,11 @@
 -- Tokens say something.
 use Rattle.sc_parse.proofs.Common.{Bool, IsSpan, List, Mark, None, Option, Some, Symbol, Token, [], ap, arith, bytes_eq}
-use Rattle.sc_parse.proofs.Common.{codes, cond, directive_kind, false, get_or, heading_name, ident_in}
-use Rattle.sc_parse.proofs.Common.{import_of, integer_of, is_export, is_import, is_integer, is_name}
-use Rattle.sc_parse.proofs.Common.{is_reserved, is_some, le-leb, leb-false, line_kind, list_any, look_up, map}
-use Rattle.sc_parse.proofs.Common.{mark_kind, mark_of, mark_texts, name_of, nat_le, nat_lt, none-some, number_in}
-use Rattle.sc_parse.proofs.Common.{option_map, option_or, or_unused, refl, same_some, says, slice_range, subst, sym}
-use Rattle.sc_parse.proofs.Common.{symbol_of, third_word, true, word_kind, words, ℕ, ◌&&◌, ◌||◌, ◌∙◌, ◌∷◌}
-use Rattle.sc_parse.proofs.Common.{◌≡◌}
+use Rattle.sc_parse.proofs.Common.{codes, cond, directive_kind, false, get_or, heading_name, ident_in, import_of}
+use Rattle.sc_parse.proofs.Common.{integer_of, is_export, is_import, is_integer, is_name, is_reserved, is_some, le-leb}
+use Rattle.sc_parse.proofs.Common.{leb-false, line_kind, list_any, look_up, map, mark_kind, mark_of, mark_texts}
+use Rattle.sc_parse.proofs.Common.{name_of, nat_le, nat_lt, none-some, number_in, option_map, option_or, or_unused}
+use Rattle.sc_parse.proofs.Common.{refl, same_some, says, slice_range, subst, sym, symbol_of, third_word, true}
+use Rattle.sc_parse.proofs.Common.{word_kind, words, ℕ, ◌&&◌, ◌||◌, ◌∙◌, ◌∷◌, ◌≡◌}
 use Rattle.sc_lex.specs.Prelude.{is_mark, kind_of}
 use Rattle.std.proofs.lemmas.Slice.Eq.{bytes_eq-Decides}
 use Rattle.sc_base.proofs.Bools.{and_first, and_rest}

@@ -4,13 +4,12 @@ use Rattle.sc_parse.proofs.Common.{Prefix, SimpleKind, Some, Spells, SpellsCall,
 use Rattle.sc_parse.proofs.Common.{ap, append_assoc, arith, arrow, assign, assign_call, assignment_at, begins_call}
 use Rattle.sc_parse.proofs.Common.{begins_value, begins_with, bound, call, call_alone, call_at, call_height, change_at}
 use Rattle.sc_parse.proofs.Common.{change_of, changed, compound, compound_of, cond, cond_is, drop, expr_at, expr_height}
-use Rattle.sc_parse.proofs.Common.{false, index, is_place, is_some, joined, lead_by, literal, looser, lt-ltb}
-use Rattle.sc_parse.proofs.Common.{ltb-true, makes_value, mark_at, mark_by, max, member, none-some, operand_behind}
-use Rattle.sc_parse.proofs.Common.{option_map_or, parenthesised, place_at, placed, prefix, prefix_of, prefixed, read}
-use Rattle.sc_parse.proofs.Common.{read_sound, refl, rules, same_some, simple_at, simple_kind_height, step_at}
-use Rattle.sc_parse.proofs.Common.{step_before, step_behind, step_of, stepped, subst, sym, the_lemmas, true}
-use Rattle.sc_parse.proofs.Common.{unary_place, unstepped, updates, value_behind, variable, ℕ, ◌++◌, ◌+◌}
-use Rattle.sc_parse.proofs.Common.{◌-◌, ◌<◌, ◌>>=◌, ◌∙◌, ◌∷◌, ◌≡◌, ◌≤◌}
+use Rattle.sc_parse.proofs.Common.{false, index, is_place, is_some, joined, lead_by, literal, looser, lt-ltb, ltb-true}
+use Rattle.sc_parse.proofs.Common.{makes_value, mark_at, mark_by, max, member, none-some, operand_behind, option_map_or}
+use Rattle.sc_parse.proofs.Common.{parenthesised, place_at, placed, prefix, prefix_of, prefixed, read, read_sound, refl}
+use Rattle.sc_parse.proofs.Common.{rules, same_some, simple_at, simple_kind_height, step_at, step_before, step_behind}
+use Rattle.sc_parse.proofs.Common.{step_of, stepped, subst, sym, the_lemmas, true, unary_place, unstepped, updates}
+use Rattle.sc_parse.proofs.Common.{value_behind, variable, ℕ, ◌++◌, ◌+◌, ◌-◌, ◌<◌, ◌>>=◌, ◌∙◌, ◌∷◌, ◌≡◌, ◌≤◌}
 use Rattle.sc_ast.specs.declared.expr.ExprTree.TheVariants as expr
 use Rattle.sc_base.specs.declared.op.UnaryOp.{UnaryOp}
 use Rattle.sc_ast.specs.declared.stmt.SimpleKind.TheVariants as simple

@@ -1,14 +1,14 @@
 -- Structs, globals and what they begin with are read exactly as they are spelled.
 use Rattle.sc_parse.proofs.Common.{BaseTree, Bool, ConstTree, Declares, Grouped, IsIdent, IsInteger, IsKeyword, IsMark}
 use Rattle.sc_parse.proofs.Common.{IsMember, Lexeme, List, MemberTree, None, Number, Option, Separated, Some}
-use Rattle.sc_parse.proofs.Common.{SpellsBase, SpellsConst, SpellsStruct, StructTree, [], adds, ap}
-use Rattle.sc_parse.proofs.Common.{append_assoc, arith, begins_with, behind, behind_inner_comma, behind_mark, bound}
-use Rattle.sc_parse.proofs.Common.{cond, const_at, const_tree, declaration_at, declares, drop, false, first_line}
-use Rattle.sc_parse.proofs.Common.{grouped, int, keyword_at, length, length-append, literal_at, members_at}
-use Rattle.sc_parse.proofs.Common.{members_behind, members_in_braces, more, name_ahead, name_at, negated, next}
-use Rattle.sc_parse.proofs.Common.{non_empty, none, none-some, option_map_or, refl, same_some, separated, signed}
-use Rattle.sc_parse.proofs.Common.{signed_int, struct_at, struct_tree, subst, sym, true, unsigned, unsigned_int, ℕ}
-use Rattle.sc_parse.proofs.Common.{◌++◌, ◌+◌, ◌<◌, ◌>>=◌, ◌∙◌, ◌∷◌, ◌≡◌}
+use Rattle.sc_parse.proofs.Common.{SpellsBase, SpellsConst, SpellsStruct, StructTree, [], adds, ap, append_assoc, arith}
+use Rattle.sc_parse.proofs.Common.{begins_with, behind, behind_inner_comma, behind_mark, bound, cond, const_at}
+use Rattle.sc_parse.proofs.Common.{const_tree, declaration_at, declares, drop, false, first_line, grouped, int}
+use Rattle.sc_parse.proofs.Common.{keyword_at, length, length-append, literal_at, members_at, members_behind}
+use Rattle.sc_parse.proofs.Common.{members_in_braces, more, name_ahead, name_at, negated, next, non_empty, none}
+use Rattle.sc_parse.proofs.Common.{none-some, option_map_or, refl, same_some, separated, signed, signed_int, struct_at}
+use Rattle.sc_parse.proofs.Common.{struct_tree, subst, sym, true, unsigned, unsigned_int, ℕ, ◌++◌, ◌+◌, ◌<◌, ◌>>=◌, ◌∙◌}
+use Rattle.sc_parse.proofs.Common.{◌∷◌, ◌≡◌}
 use Rattle.sc_expr.specs.declared.mark.Keyword.TheVariants as word
 use Rattle.sc_expr.specs.declared.mark.Mark.TheVariants as mark
 use Rattle.sc_parse.specs.Types as types

@@ -5,8 +5,8 @@ use Rattle.sc_parse.proofs.Common.{SpellsHead, [], a_function, a_struct, adds, a
 use Rattle.sc_parse.proofs.Common.{behind, behind_head, behind_mark, body_behind, bound, cond, decl_at, declaration_at}
 use Rattle.sc_parse.proofs.Common.{declares, decls_height, drop, false, function, function_behind, globals}
 use Rattle.sc_parse.proofs.Common.{globals_behind, head_at, head_of, headed_at, is_struct_word, keyword_at, map, more}
-use Rattle.sc_parse.proofs.Common.{named_head, names_struct, option_map_or, prototype, refl, same_some}
-use Rattle.sc_parse.proofs.Common.{struct_decl_at, subst, sym, true, ℕ, ◌++◌, ◌>>=◌, ◌∙◌, ◌∷◌, ◌≡◌, ◌≤◌}
+use Rattle.sc_parse.proofs.Common.{named_head, names_struct, option_map_or, prototype, refl, same_some, struct_decl_at}
+use Rattle.sc_parse.proofs.Common.{subst, sym, true, ℕ, ◌++◌, ◌>>=◌, ◌∙◌, ◌∷◌, ◌≡◌, ◌≤◌}
 use Rattle.sc_ast.specs.declared.section.Decl.TheVariants as decl
 use Rattle.sc_expr.specs.declared.mark.Keyword.TheVariants as word
 use Rattle.sc_expr.specs.declared.mark.Mark.TheVariants as mark

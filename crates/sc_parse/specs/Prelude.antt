@@ -18,30 +18,28 @@ pub use Rattle.sc_parse.specs.Lists.{Grouped, IsInteger, IsKeyword, Separated, f
 pub use Rattle.sc_parse.specs.Outcomes.{IsExcess, Parses}
 unfoldable pub use Rattle.sc_parse.specs.Outcomes.{tree_of}
 pub use Rattle.sc_parse.specs.Readers.{Adder, all_consts, all_separated, base_by, begins_struct, bracketed_length}
-pub use Rattle.sc_parse.specs.Readers.{const_tree, declarator, elements_at, global_decl, globals_behind, head_tree}
-pub use Rattle.sc_parse.specs.Readers.{is_struct_word, literal_at, members_behind, members_in_braces, names_struct}
-pub use Rattle.sc_parse.specs.Readers.{one_at, param_tree, params_in_parens, past_base, past_comma, past_stars}
-pub use Rattle.sc_parse.specs.Readers.{struct_tree, type_of}
+pub use Rattle.sc_parse.specs.Readers.{const_tree, declarator, elements_at, globals_behind, head_tree, is_struct_word}
+pub use Rattle.sc_parse.specs.Readers.{literal_at, members_behind, members_in_braces, names_struct, one_at, param_tree}
+pub use Rattle.sc_parse.specs.Readers.{params_in_parens, past_base, past_comma, past_stars, struct_tree, type_of}
 unfoldable pub use Rattle.sc_parse.specs.Readers.{adds, base_at, begins_head, const_at, consts_at, declaration_at}
 unfoldable pub use Rattle.sc_parse.specs.Readers.{declarator_at, global_at, grouped, head_at, init_at, init_behind}
 unfoldable pub use Rattle.sc_parse.specs.Readers.{length_at, member_at, members_at, param_at, params_at, result_at}
 unfoldable pub use Rattle.sc_parse.specs.Readers.{separated, struct_at, type_name_at}
 pub use Rattle.sc_parse.specs.SectionReaders.{behind_head, compartment_at, compartment_by, decls_at, directives}
 pub use Rattle.sc_parse.specs.SectionReaders.{directives_at, export_line, function_head, function_param, function_tree}
-pub use Rattle.sc_parse.specs.SectionReaders.{import_line, is_empty, line_at, line_by, local_tree, locals_at}
-pub use Rattle.sc_parse.specs.SectionReaders.{locals_behind, named_head, named_params, no_base, section_at}
-pub use Rattle.sc_parse.specs.SectionReaders.{section_tree, with_line}
+pub use Rattle.sc_parse.specs.SectionReaders.{import_line, is_empty, line_at, line_by, locals_at, locals_behind}
+pub use Rattle.sc_parse.specs.SectionReaders.{named_head, named_params, no_base, section_at, section_tree, with_line}
 unfoldable pub use Rattle.sc_parse.specs.SectionReaders.{body_behind, decl_at, function_behind, headed_at, lines_at}
 unfoldable pub use Rattle.sc_parse.specs.SectionReaders.{local_at, section_within, struct_decl_at, value_at}
 pub use Rattle.sc_parse.specs.Sections.{SpellsDirectives, SpellsSection, export, section}
 pub use Rattle.sc_parse.specs.Statements.{SpellsArgs, SpellsBlock, SpellsCall, SpellsCondition, SpellsIf, SpellsKind}
-pub use Rattle.sc_parse.specs.Statements.{SpellsPart, SpellsPlace, SpellsSimple, SpellsStmtKind, SpellsStmts}
-pub use Rattle.sc_parse.specs.Statements.{SpellsTest, a_part, a_test, alone, assign, assign_call, block, call, choice}
-pub use Rattle.sc_parse.specs.Statements.{compound, compound_of, condition, empty, for_loop, no_args, no_part, no_test}
-pub use Rattle.sc_parse.specs.Statements.{otherwise, otherwise_if, plain, return_call, return_nothing, return_value}
-pub use Rattle.sc_parse.specs.Statements.{some_args, step_before, step_behind, step_of, updates, while_loop}
+pub use Rattle.sc_parse.specs.Statements.{SpellsPart, SpellsPlace, SpellsStmtKind, SpellsStmts, SpellsTest, a_part}
+pub use Rattle.sc_parse.specs.Statements.{a_test, alone, assign, assign_call, block, call, choice, compound}
+pub use Rattle.sc_parse.specs.Statements.{compound_of, condition, empty, for_loop, no_args, no_part, no_test, otherwise}
+pub use Rattle.sc_parse.specs.Statements.{otherwise_if, plain, return_call, return_nothing, return_value, some_args}
+pub use Rattle.sc_parse.specs.Statements.{step_before, step_behind, step_of, updates, while_loop}
 pub use Rattle.sc_parse.specs.StmtReaders.{always, args_behind, args_in_parens, before_mark, begins_value, call_alone}
-pub use Rattle.sc_parse.specs.StmtReaders.{call_tree, change_at, change_of, changed, for_parts, is_if, kind_by, loop_of}
+pub use Rattle.sc_parse.specs.StmtReaders.{change_at, change_of, changed, for_parts, is_if, kind_by, loop_of}
 pub use Rattle.sc_parse.specs.StmtReaders.{makes_value, mark_at, mark_by, placed, simple_or_none, simple_tree, step_at}
 pub use Rattle.sc_parse.specs.StmtReaders.{stmt_tree, stmts_at, unary_place, unstepped, value_returned}
 unfoldable pub use Rattle.sc_parse.specs.StmtReaders.{args_at, assignment_at, block_at, call_at, condition_at, else_at}

@@ -13,7 +13,7 @@ pub use Rattle.std.proofs.lemmas.List.Folds.{list_all-append}
 pub use Rattle.std.proofs.lemmas.Slice.Eq.{bytes_eq-Decides, slice_eq-Decides}
 pub use Rattle.std.specs.List.{filter, flat_map, join_by, list_all, list_any, prefix_len, slice_split}
 pub use Rattle.std.specs.Option.{option_and_then}
-pub use Rattle.sc_base.specs.Prelude.{is_between, is_digit, is_name_byte, is_nondigit, level_of, loosest_level, name_of}
+pub use Rattle.sc_base.specs.Prelude.{is_between, is_name_byte, is_nondigit, level_of, loosest_level, name_of}
 pub use Rattle.sc_base.specs.Prelude.{reserved_words}
 unfoldable pub use Rattle.sc_base.specs.Prelude.{is_name, is_reserved}
 pub use Rattle.sc_base.specs.declared.op.BinaryOp.{BinaryOp}
@@ -22,9 +22,9 @@ pub use Rattle.sc_lex.proofs.Fronts.{directive_found, mark_one, mark_two, word_f
 pub use Rattle.sc_lex.proofs.Texts.{kind_of-directive, word_run}
 pub use Rattle.sc_lex.specs.Prelude.{Cuts, IsToken, allows_directive, base_of, begins_block_comment, begins_heading}
 pub use Rattle.sc_lex.specs.Prelude.{begins_line, begins_line_comment, digit_value, digits_of, gap, greatest_of}
-pub use Rattle.sc_lex.specs.Prelude.{has_suffix, is_blank, is_empty, is_export, is_hexadecimal, is_import}
-pub use Rattle.sc_lex.specs.Prelude.{is_inside_line, is_unsigned, is_white_space, line_len, marks, nothing, number}
-pub use Rattle.sc_lex.specs.Prelude.{only_name, token, token_at, value_of, white_space, without_suffix}
+pub use Rattle.sc_lex.specs.Prelude.{has_suffix, is_blank, is_digit, is_empty, is_export, is_hexadecimal, is_import}
+pub use Rattle.sc_lex.specs.Prelude.{is_inside_line, is_white_space, marks, nothing, number, only_name, token, token_at}
+pub use Rattle.sc_lex.specs.Prelude.{value_of, white_space, without_suffix}
 unfoldable pub use Rattle.sc_lex.specs.Prelude.{heading_name, integer_of, is_integer, is_mark, is_number, kind_of}
 unfoldable pub use Rattle.sc_lex.specs.Prelude.{line_kind, word_kind, words}
 pub use Rattle.sc_lex.specs.declared.token.TokenKind.{TokenKind}
@@ -37,15 +37,15 @@ pub use Rattle.sc_ast.specs.Prelude.{chain_words, comma, condition_words, const_
 pub use Rattle.sc_ast.specs.Prelude.{declared_words, decls_height, deeper, else_words, ended, equals, expr_height}
 pub use Rattle.sc_ast.specs.Prelude.{expr_step, expr_words, first_words, fits, for_words, function_words, global_words}
 pub use Rattle.sc_ast.specs.Prelude.{head_of, head_words, heading_words, if_words, in_parens, indent, init_words}
-pub use Rattle.sc_ast.specs.Prelude.{is_chain, is_doubled, is_ident, is_place, kind_height, kind_layout, layouts}
-pub use Rattle.sc_ast.specs.Prelude.{length_number, length_words, line_of, lineless_decl, lineless_export}
-pub use Rattle.sc_ast.specs.Prelude.{lineless_function_head, lineless_import, lineless_kind, lineless_local}
-pub use Rattle.sc_ast.specs.Prelude.{lineless_option, lineless_stmt, lineless_stmts, lines_at, literal_text}
-pub use Rattle.sc_ast.specs.Prelude.{local_height, local_line, locals_height, member_line, minus_words, name_words}
-pub use Rattle.sc_ast.specs.Prelude.{newline, next_words, number_of, option_height, param_of, param_words, params_words}
-pub use Rattle.sc_ast.specs.Prelude.{piece_text, place_words, prefix_words, printed, result_words, return_words}
-pub use Rattle.sc_ast.specs.Prelude.{section_height, section_words, simple_words, star_words, stmt_height, stmt_layout}
-pub use Rattle.sc_ast.specs.Prelude.{stmts_height, struct_words, text_of, unary_text, value_words, word, words_at}
+pub use Rattle.sc_ast.specs.Prelude.{is_chain, is_doubled, is_ident, kind_height, kind_layout, layouts, length_number}
+pub use Rattle.sc_ast.specs.Prelude.{length_words, line_of, lineless_decl, lineless_export, lineless_function_head}
+pub use Rattle.sc_ast.specs.Prelude.{lineless_import, lineless_kind, lineless_local, lineless_option, lineless_stmt}
+pub use Rattle.sc_ast.specs.Prelude.{lineless_stmts, lines_at, literal_text, local_height, local_line, locals_height}
+pub use Rattle.sc_ast.specs.Prelude.{member_line, minus_words, name_words, newline, next_words, number_of}
+pub use Rattle.sc_ast.specs.Prelude.{option_height, param_of, param_words, params_words, place_words, prefix_words}
+pub use Rattle.sc_ast.specs.Prelude.{printed, result_words, return_words, section_height, section_words, simple_words}
+pub use Rattle.sc_ast.specs.Prelude.{star_words, stmt_height, stmt_layout, stmts_height, struct_words, text_of}
+pub use Rattle.sc_ast.specs.Prelude.{unary_text, value_words, word, words_at}
 unfoldable pub use Rattle.sc_ast.specs.Prelude.{export_words, import_words}
 pub use Rattle.sc_ast.specs.declared.expr.CallTree.{CallTree}
 pub use Rattle.sc_ast.specs.declared.expr.ExprTree.{map-ExprTree}
@@ -84,5 +84,5 @@ pub use Rattle.sc_print.specs.Prelude.{kept_base, kept_call, kept_const, kept_ex
 pub use Rattle.sc_print.specs.Prelude.{kept_head, kept_import, kept_init, kept_kind, kept_length, kept_local}
 pub use Rattle.sc_print.specs.Prelude.{kept_member, kept_name, kept_option, kept_param, kept_place, kept_result}
 pub use Rattle.sc_print.specs.Prelude.{kept_section, kept_simple, kept_step, kept_struct, kept_type, kept_value}
-pub use Rattle.sc_print.specs.Prelude.{piece_symbols, some_kept, stmts_text, symbols}
+pub use Rattle.sc_print.specs.Prelude.{some_kept, stmts_text, symbols}
 unfoldable pub use Rattle.sc_print.specs.Prelude.{word_symbol}

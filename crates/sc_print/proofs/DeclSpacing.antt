@@ -1,17 +1,16 @@
 -- The words of declarations stand apart.
 use Rattle.sc_print.proofs.Common.{BaseTree, Bool, Decl, ExprTree, FunctionTree, GlobalTree, HeadTree, InitTree, IsTrue}
 use Rattle.sc_print.proofs.Common.{List, LocalTree, MemberTree, None, Number, Option, ParamTree, Piece, Some, TypeName}
-use Rattle.sc_print.proofs.Common.{TypeTree, [], and_parts, append-nil, append_assoc, base_words, blank}
-use Rattle.sc_print.proofs.Common.{blank_if, codes, comma, const_words, decl_words, declared_words, ended, false}
-use Rattle.sc_print.proofs.Common.{false≢true, fits, flat_map, function_words, global_words, head_of, head_words}
-use Rattle.sc_print.proofs.Common.{init_words, is_ident, is_kept_decl, is_some, join_by, kept_base, kept_const}
-use Rattle.sc_print.proofs.Common.{kept_function, kept_global, kept_head, kept_init, kept_length, kept_local}
-use Rattle.sc_print.proofs.Common.{kept_member, kept_name, kept_param, kept_result, kept_struct, kept_type, kept_value}
-use Rattle.sc_print.proofs.Common.{leb-true, length_words, line_of, list_all}
-use Rattle.sc_print.proofs.Common.{literal_text, local_line, member_line, minus_words, name_words, nat_le, nat_lt}
-use Rattle.sc_print.proofs.Common.{newline, param_words, params_words, refl, result_words, some_kept, star_words}
-use Rattle.sc_print.proofs.Common.{struct_words, subst, suc, sym, text_of, true, value_words, word, zero, ℕ, ◌&&◌, ◌++◌}
-use Rattle.sc_print.proofs.Common.{◌||◌, ◌∷◌, ◌≡◌}
+use Rattle.sc_print.proofs.Common.{TypeTree, [], and_parts, append-nil, append_assoc, base_words, blank, blank_if}
+use Rattle.sc_print.proofs.Common.{codes, comma, const_words, decl_words, declared_words, ended, false, false≢true}
+use Rattle.sc_print.proofs.Common.{fits, flat_map, function_words, global_words, head_of, head_words, init_words}
+use Rattle.sc_print.proofs.Common.{is_ident, is_kept_decl, is_some, join_by, kept_base, kept_const, kept_function}
+use Rattle.sc_print.proofs.Common.{kept_global, kept_head, kept_init, kept_length, kept_local, kept_member, kept_name}
+use Rattle.sc_print.proofs.Common.{kept_param, kept_result, kept_struct, kept_type, kept_value, leb-true, length_words}
+use Rattle.sc_print.proofs.Common.{line_of, list_all, literal_text, local_line, member_line, minus_words, name_words}
+use Rattle.sc_print.proofs.Common.{nat_le, nat_lt, newline, param_words, params_words, refl, result_words, some_kept}
+use Rattle.sc_print.proofs.Common.{star_words, struct_words, subst, suc, sym, text_of, true, value_words, word, zero, ℕ}
+use Rattle.sc_print.proofs.Common.{◌&&◌, ◌++◌, ◌||◌, ◌∷◌, ◌≡◌}
 use Rattle.sc_ast.specs.declared.section.StructTree.{StructTree}
 use Rattle.sc_ast.specs.declared.types.BaseTree.TheVariants as base
 use Rattle.sc_ast.specs.declared.section.InitTree.TheVariants as init

@@ -3,8 +3,8 @@ use Rattle.sc_print.proofs.Common.{Bool, List, Some, Symbol, TokenKind, [], and_
 use Rattle.sc_print.proofs.Common.{arith, begins_heading, codes, drop, false, false_from_ne_true, false≢true, filter}
 use Rattle.sc_print.proofs.Common.{get_or, heading_name, import_of, is_blank, is_empty, is_export, is_import}
 use Rattle.sc_print.proofs.Common.{is_inside_line, is_name, is_name_byte, is_nondigit, is_some, kind_of}
-use Rattle.sc_print.proofs.Common.{kind_of-directive, length, line_kind, list_all, list_all-append, name_of}
-use Rattle.sc_print.proofs.Common.{ne_eqb, not, not-true, only_name, option_and_then, or_left, or_unused, refl, says}
+use Rattle.sc_print.proofs.Common.{kind_of-directive, length, line_kind, list_all, list_all-append, name_of, ne_eqb}
+use Rattle.sc_print.proofs.Common.{not, not-true, only_name, option_and_then, or_left, or_unused, refl, says}
 use Rattle.sc_print.proofs.Common.{slice_eq-Decides, slice_index, slice_split, suc, sym, take, take-append_seam, true}
 use Rattle.sc_print.proofs.Common.{word_symbol, words, zero, ℕ, ◌++◌, ◌<◌, ◌==◌, ◌∙◌, ◌∷◌, ◌≡◌}
 use Rattle.std.proofs.lemmas.Bool.Decides.{Decides-eqb}

@@ -1,10 +1,9 @@
 -- Lines that are directives, and tidy pieces behind them, are cut into their words.
-use Rattle.sc_print.proofs.Common.{Cuts, IsToken, List, Piece, [], and_from, ap, append_assoc}
-use Rattle.sc_print.proofs.Common.{ap₂, arith, begins_heading, begins_line, directive_found, drop, drop-append_seam}
-use Rattle.sc_print.proofs.Common.{eq-eqb, get_or-append_seam, kind_of, length, length-append}
-use Rattle.sc_print.proofs.Common.{line_kind, newline, or_right, refl, slice_index, subst, sym, symbols}
-use Rattle.sc_print.proofs.Common.{take-append_seam, text_of, token, token_at, true, word, ℕ, ◌++◌, ◌-◌, ◌<◌, ◌==◌, ◌∙◌}
-use Rattle.sc_print.proofs.Common.{◌∷◌, ◌≡◌}
+use Rattle.sc_print.proofs.Common.{Cuts, IsToken, List, Piece, [], and_from, ap, append_assoc, ap₂, arith}
+use Rattle.sc_print.proofs.Common.{begins_heading, begins_line, directive_found, drop, drop-append_seam, eq-eqb}
+use Rattle.sc_print.proofs.Common.{get_or-append_seam, kind_of, length, length-append, line_kind, newline, or_right}
+use Rattle.sc_print.proofs.Common.{refl, slice_index, subst, sym, symbols, take-append_seam, text_of, token, token_at}
+use Rattle.sc_print.proofs.Common.{true, word, ℕ, ◌++◌, ◌-◌, ◌<◌, ◌==◌, ◌∙◌, ◌∷◌, ◌≡◌}
 use Rattle.sc_print.proofs.Apart.{run_is}
 use Rattle.sc_print.proofs.Spacing.{Tidy}
 use Rattle.sc_print.proofs.DirectiveWords.{IsLine, kind_of_line}

@@ -2,14 +2,13 @@
 use Rattle.sc_print.proofs.Common.{Bool, IsTrue, List, Number, Option, Some, [], and_parts, ap, append-nil, arith}
 use Rattle.sc_print.proofs.Common.{base_of, bytes_eq, bytes_eq-Decides, codes, digit_value, digits_of, false}
 use Rattle.sc_print.proofs.Common.{false_from_ne_true, false≢true, fits, get_or-append_seam, greatest_of, has_suffix}
-use Rattle.sc_print.proofs.Common.{if◌then◌else◌, integer_of, is_between, is_empty, is_hexadecimal, is_integer, is_name}
-use Rattle.sc_print.proofs.Common.{is_name_byte, is_nondigit, is_number, is_reserved, kind_of, le-leb}
-use Rattle.sc_print.proofs.Common.{le-ltb, leb-true, length, length-append, list_all, list_all-append, list_any}
+use Rattle.sc_print.proofs.Common.{if◌then◌else◌, integer_of, is_between, is_digit, is_empty, is_hexadecimal}
+use Rattle.sc_print.proofs.Common.{is_integer, is_name, is_name_byte, is_nondigit, is_number, is_reserved, kind_of}
+use Rattle.sc_print.proofs.Common.{le-leb, le-ltb, leb-true, length, length-append, list_all, list_all-append, list_any}
 use Rattle.sc_print.proofs.Common.{literal_text, lt-ltb, nat_le, nat_lt, ne_eqb, not, number, number_of, or_cases, refl}
 use Rattle.sc_print.proofs.Common.{reserved_words, says, slice_index, suc, sym, take-append_seam, true, value_of}
 use Rattle.sc_print.proofs.Common.{without_suffix, word_kind, word_symbol, zero, ℕ, ⊎_elim, ◌%◌, ◌&&◌, ◌*◌, ◌++◌, ◌+◌}
 use Rattle.sc_print.proofs.Common.{◌-◌, ◌/◌, ◌<◌, ◌==◌, ◌^◌, ◌||◌, ◌∙◌, ◌∷◌, ◌≡◌, ◌≤◌}
-use Rattle.sc_lex.specs.Prelude.{is_digit}
 use Rattle.std.specs.Fmt.{decimal}
 use Rattle.std.proofs.lemmas.Fmt.{decimal_by_steps, decimal_digit}
 use Rattle.std.proofs.lemmas.List.Sums.{fold-append}

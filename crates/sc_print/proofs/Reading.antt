@@ -1,8 +1,8 @@
 -- A row of printed words is read back as these words: its lexemes are taken word by word and part by part.
 use Rattle.sc_print.proofs.Common.{Bool, Grouped, IsTrue, Lexeme, List, Piece, Separated, [], and_parts, ap, append-nil}
-use Rattle.sc_print.proofs.Common.{ap₂, blank, comma, flat_map, flat_map-append, indent, join_by, line_of}
-use Rattle.sc_print.proofs.Common.{list_all, map, more, newline, one, refl, subst, sym, symbols, true}
-use Rattle.sc_print.proofs.Common.{word, word_symbol, ℕ, ◌++◌, ◌∙◌, ◌∷◌, ◌≡◌}
+use Rattle.sc_print.proofs.Common.{ap₂, blank, comma, flat_map, flat_map-append, indent, join_by, line_of, list_all}
+use Rattle.sc_print.proofs.Common.{map, more, newline, one, refl, subst, sym, symbols, true, word, word_symbol, ℕ, ◌++◌}
+use Rattle.sc_print.proofs.Common.{◌∙◌, ◌∷◌, ◌≡◌}
 use Rattle.sc_parse.specs.Lists as lists
 use Rattle.sc_print.proofs.Tables as tables
 use Rattle.sc_print.proofs.Lists.{Say, first_of, none_of, parts_of}

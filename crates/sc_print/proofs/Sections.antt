@@ -4,16 +4,14 @@ use Rattle.sc_print.proofs.Common.{Grouped, HeadTree, IsGlobal, IsLocal, IsMembe
 use Rattle.sc_print.proofs.Common.{MemberTree, None, Option, ParamTree, Piece, Some, SpellsDecl, SpellsDeclarator}
 use Rattle.sc_print.proofs.Common.{SpellsHead, SpellsInit, SpellsParam, SpellsParams, SpellsResult, SpellsTypeName}
 use Rattle.sc_print.proofs.Common.{SpellsValue, TypeName, TypeTree, [], and_parts, ap, append-nil, append_assoc}
-use Rattle.sc_print.proofs.Common.{base_words, blank, blank_if, codes, decl_words, declared_words, ended}
-use Rattle.sc_print.proofs.Common.{expr_words, false, false≢true, first_line, flat_map, function_words, global_words}
-use Rattle.sc_print.proofs.Common.{head_of, head_words, is_ident, is_kept_decl, kept_base}
-use Rattle.sc_print.proofs.Common.{kept_function, kept_global, kept_head, kept_local}
-use Rattle.sc_print.proofs.Common.{kept_member, kept_name, kept_param, kept_result, kept_type, kept_value}
+use Rattle.sc_print.proofs.Common.{base_words, blank, blank_if, codes, decl_words, declared_words, ended, expr_words}
+use Rattle.sc_print.proofs.Common.{false, false≢true, first_line, flat_map, function_words, global_words, head_of}
+use Rattle.sc_print.proofs.Common.{head_words, is_ident, is_kept_decl, kept_base, kept_function, kept_global, kept_head}
+use Rattle.sc_print.proofs.Common.{kept_local, kept_member, kept_name, kept_param, kept_result, kept_type, kept_value}
 use Rattle.sc_print.proofs.Common.{line_of, lineless_decl, lineless_function_head, lineless_local, lineless_stmts}
-use Rattle.sc_print.proofs.Common.{list_all, local_line, map, member_line, name_words, newline, one}
-use Rattle.sc_print.proofs.Common.{param_words, params_words, refl, result_words, some_kept, star_words, struct_words}
-use Rattle.sc_print.proofs.Common.{subst, symbols, true, type_name, value_words, word, ℕ, ◌&&◌, ◌++◌, ◌∙◌, ◌∷◌}
-use Rattle.sc_print.proofs.Common.{◌≡◌}
+use Rattle.sc_print.proofs.Common.{list_all, local_line, map, member_line, name_words, newline, one, param_words}
+use Rattle.sc_print.proofs.Common.{params_words, refl, result_words, some_kept, star_words, struct_words, subst}
+use Rattle.sc_print.proofs.Common.{symbols, true, type_name, value_words, word, ℕ, ◌&&◌, ◌++◌, ◌∙◌, ◌∷◌, ◌≡◌}
 use Rattle.sc_ast.specs.declared.section.Decl.TheVariants as decl
 use Rattle.sc_parse.specs.Lists as lists
 use Rattle.sc_parse.specs.Declarations as decls

@@ -1,9 +1,9 @@
 -- The words of calls and simple statements spell them.
 use Rattle.sc_print.proofs.Common.{CallTree, ExprTree, IsMark, IsTrue, Lexeme, List, Piece, SimpleKind, Spells}
 use Rattle.sc_print.proofs.Common.{SpellsArgs, SpellsCall, SpellsCondition, SpellsKind, SpellsPlace, [], and_parts}
-use Rattle.sc_print.proofs.Common.{blank, call_words, codes, comma, equals, expr_words, is_ident, is_kept}
-use Rattle.sc_print.proofs.Common.{join_by, kept_call, kept_place, kept_simple, list_all, loosest_level, no_args}
-use Rattle.sc_print.proofs.Common.{place_words, simple_words, some_args, symbols, true, word, ◌++◌, ◌∙◌, ◌∷◌, ◌≡◌}
+use Rattle.sc_print.proofs.Common.{blank, call_words, codes, comma, equals, expr_words, is_ident, is_kept, join_by}
+use Rattle.sc_print.proofs.Common.{kept_call, kept_place, kept_simple, list_all, loosest_level, no_args, place_words}
+use Rattle.sc_print.proofs.Common.{simple_words, some_args, symbols, true, word, ◌++◌, ◌∙◌, ◌∷◌, ◌≡◌}
 use Rattle.sc_ast.specs.declared.stmt.SimpleKind.TheVariants as simple
 use Rattle.sc_expr.specs.declared.mark.Mark.TheVariants as mark
 use Rattle.sc_parse.specs.Statements as spell

@@ -4,9 +4,9 @@ use Rattle.sc_print.proofs.Common.{UnaryOp, Under, [], and_parts, ap, append-nil
 use Rattle.sc_print.proofs.Common.{binary_words, blank, bytes_eq, codes, expr_at, expr_induction, expr_step, false}
 use Rattle.sc_print.proofs.Common.{false≢true, flat_map-append, if◌then◌else◌, in_parens, indent, is_doubled, is_ident}
 use Rattle.sc_print.proofs.Common.{is_kept, is_name_byte, kept_step, length, literal_text, lt-ltb, map-ExprTree, nat_lt}
-use Rattle.sc_print.proofs.Common.{ne_eqb, newline, prefix_words, refl, slice_index, subst, sym, text_of}
-use Rattle.sc_print.proofs.Common.{true, unary_text, word, word_kind, word_run, words_at, ℕ, ◌&&◌, ◌++◌, ◌-◌, ◌<◌, ◌==◌}
-use Rattle.sc_print.proofs.Common.{◌∙◌, ◌∷◌, ◌≡◌, ◌≤◌}
+use Rattle.sc_print.proofs.Common.{ne_eqb, newline, prefix_words, refl, slice_index, subst, sym, text_of, true}
+use Rattle.sc_print.proofs.Common.{unary_text, word, word_kind, word_run, words_at, ℕ, ◌&&◌, ◌++◌, ◌-◌, ◌<◌, ◌==◌, ◌∙◌}
+use Rattle.sc_print.proofs.Common.{◌∷◌, ◌≡◌, ◌≤◌}
 use Rattle.sc_base.specs.Levels as levels
 use Rattle.sc_base.specs.declared.op.UnaryOp.TheVariants as unary
 use Rattle.sc_ast.specs.declared.expr.ExprTree.TheOpen as term

@@ -3,10 +3,10 @@ use Rattle.sc_print.proofs.Common.{BinaryOp, Bool, ExprTree, ExprTree-F, IsTrue,
 use Rattle.sc_print.proofs.Common.{Some, Spells, Under, WordsSpell, [], and_parts, ap, apart, append-nil, arith, arrow}
 use Rattle.sc_print.proofs.Common.{binary_text, binary_words, blank, bytes_eq, codes, expr_at, expr_induction}
 use Rattle.sc_print.proofs.Common.{expr_step, false, if◌then◌else◌, in_parens, index, is_doubled, is_ident, is_kept}
-use Rattle.sc_print.proofs.Common.{joined, kept_step, literal, ltb-false, map-ExprTree, member, nat_lt}
-use Rattle.sc_print.proofs.Common.{parenthesised, prefix_of, prefix_words, prefixed, refl, roll-ExprTree, subst, sym}
-use Rattle.sc_print.proofs.Common.{symbols, true, variable, word, word_symbol, words_at, «prefix», ℕ, ◌&&◌}
-use Rattle.sc_print.proofs.Common.{◌++◌, ◌-◌, ◌∙◌, ◌∷◌, ◌≡◌, ◌≤◌}
+use Rattle.sc_print.proofs.Common.{joined, kept_step, literal, ltb-false, map-ExprTree, member, nat_lt, parenthesised}
+use Rattle.sc_print.proofs.Common.{prefix_of, prefix_words, prefixed, refl, roll-ExprTree, subst, sym, symbols, true}
+use Rattle.sc_print.proofs.Common.{variable, word, word_symbol, words_at, «prefix», ℕ, ◌&&◌, ◌++◌, ◌-◌, ◌∙◌, ◌∷◌, ◌≡◌}
+use Rattle.sc_print.proofs.Common.{◌≤◌}
 use Rattle.sc_base.specs.Levels as levels
 use Rattle.sc_ast.specs.declared.expr.ExprTree.TheOpen as term
 use Rattle.sc_ast.specs.declared.expr.ExprTree.TheVariants as expr

@@ -4,11 +4,11 @@ use Rattle.sc_print.proofs.Common.{SimpleKind, SimpleTree, Some, StmtKind, StmtK
 use Rattle.sc_print.proofs.Common.{and_parts, append-nil, are_kept, blank, block_words, call_words, chain_words, codes}
 use Rattle.sc_print.proofs.Common.{comma, condition_words, deeper, else_words, ended, equals, expr_words, false}
 use Rattle.sc_print.proofs.Common.{first_words, for_words, if◌then◌else◌, indent, is_chain, is_ident, is_kept}
-use Rattle.sc_print.proofs.Common.{is_kept_stmt, join_by, kept_call, kept_kind, kept_option, kept_place}
-use Rattle.sc_print.proofs.Common.{kept_simple, kind_layout, layouts, length, line_of, lines_at, list_all, map}
-use Rattle.sc_print.proofs.Common.{map-StmtKind, newline, next_words, place_words, refl, return_words, roll-StmtKind}
-use Rattle.sc_print.proofs.Common.{simple_words, stmt_at, stmt_induction, stmt_layout, subst, sym, true, word, ℕ}
-use Rattle.sc_print.proofs.Common.{◌++◌, ◌==◌, ◌∷◌, ◌≡◌}
+use Rattle.sc_print.proofs.Common.{is_kept_stmt, join_by, kept_call, kept_kind, kept_option, kept_place, kept_simple}
+use Rattle.sc_print.proofs.Common.{kind_layout, layouts, length, line_of, lines_at, list_all, map, map-StmtKind}
+use Rattle.sc_print.proofs.Common.{newline, next_words, place_words, refl, return_words, roll-StmtKind, simple_words}
+use Rattle.sc_print.proofs.Common.{stmt_at, stmt_induction, stmt_layout, subst, sym, true, word, ℕ, ◌++◌, ◌==◌, ◌∷◌}
+use Rattle.sc_print.proofs.Common.{◌≡◌}
 use Rattle.sc_ast.specs.StmtWords as printing
 use Rattle.sc_ast.specs.declared.stmt.SimpleKind.TheVariants as simple
 use Rattle.sc_ast.specs.declared.stmt.StmtKind.TheOpen as layer

@@ -1,8 +1,8 @@
 -- What is printed reads back.
 use Rattle.sc_print.proofs.Common.{Decl, DeclsReadAs, ExprTree, IsTrue, List, ReadsAs, SectionReadsAs, SectionTree}
-use Rattle.sc_print.proofs.Common.{StmtTree, StmtsReadAs, Token, [], ap, are_kept, decls_text, expr_text}
-use Rattle.sc_print.proofs.Common.{flat_map, is_kept, is_kept_decl, kept_section, lexeme_of}
-use Rattle.sc_print.proofs.Common.{lines_at, list_all, map, printed, refl, stmts_text, symbol_of, ℕ, ◌∙◌, ◌∷◌, ◌≡◌}
+use Rattle.sc_print.proofs.Common.{StmtTree, StmtsReadAs, Token, [], ap, are_kept, decls_text, expr_text, flat_map}
+use Rattle.sc_print.proofs.Common.{is_kept, is_kept_decl, kept_section, lexeme_of, lines_at, list_all, map, printed}
+use Rattle.sc_print.proofs.Common.{refl, stmts_text, symbol_of, ℕ, ◌∙◌, ◌∷◌, ◌≡◌}
 use Rattle.sc_print.proofs.Spelling.{words_spell}
 use Rattle.sc_print.proofs.Spacing.{tidy_at}
 use Rattle.sc_print.proofs.Sections.{decls_read}

@@ -9,8 +9,8 @@ use Rattle.sc_ast.specs.declared.section.ExportLine.{ExportLine}
 use Rattle.sc_ast.specs.declared.section.ImportLine.{ImportLine}
 use Rattle.sc_parse.specs.Sections as spell
 use Rattle.sc_print.proofs.Reading.{AllAlike, Reading, part, written, reads}
-use Rattle.sc_print.proofs.DirectiveWords.{export_says, export_line_is, import_text, import_says}
-use Rattle.sc_print.proofs.DirectiveWords.{import_line_is, heading_text, heading_says, heading_line_is, heading_begins}
+use Rattle.sc_print.proofs.DirectiveWords.{export_says, export_line_is, import_text, import_says, import_line_is}
+use Rattle.sc_print.proofs.DirectiveWords.{heading_text, heading_says, heading_line_is, heading_begins}
 use Rattle.sc_print.proofs.Lined.{Lined, tidy, line, found_lines}
 use Rattle.sc_print.proofs.Cut.{Found}
 use Rattle.sc_print.proofs.Sections.{decls_read}

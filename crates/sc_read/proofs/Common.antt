@@ -13,10 +13,10 @@ pub use Rattle.sc_lex.proofs.Runs.{token_positive}
 pub use Rattle.sc_lex.proofs.Wording.{begins_with, front_byte}
 pub use Rattle.sc_lex.specs.Prelude.{AreSections, Cuts, IsBadHeading, IsCut, IsGap, IsSection, IsSplit, IsStuck}
 pub use Rattle.sc_lex.specs.Prelude.{IsToken, NoHeading, RefusesBytes, RefusesHeading, allows_directive}
-pub use Rattle.sc_lex.specs.Prelude.{begins_block_comment, begins_heading, begins_line, begins_line_comment}
-pub use Rattle.sc_lex.specs.Prelude.{block_comment, ends_comment, gap, is_directive, is_heading, is_white_space}
-pub use Rattle.sc_lex.specs.Prelude.{kind_of, line_after, line_at, line_comment, line_len, may_follow, name_at}
-pub use Rattle.sc_lex.specs.Prelude.{newlines, none, nothing, section, token, token_at, white_space}
+pub use Rattle.sc_lex.specs.Prelude.{begins_block_comment, begins_line, begins_line_comment, block_comment}
+pub use Rattle.sc_lex.specs.Prelude.{ends_comment, gap, is_directive, is_heading, is_white_space, kind_of, line_after}
+pub use Rattle.sc_lex.specs.Prelude.{line_at, line_comment, line_len, may_follow, name_at, newlines, none, nothing}
+pub use Rattle.sc_lex.specs.Prelude.{section, token, token_at, white_space}
 pub use Rattle.sc_lex.specs.declared.fault.TextFault.TheVariants.{Refused}
 pub use Rattle.sc_lex.specs.declared.refusal.Phase.{Phase}
 pub use Rattle.sc_lex.specs.declared.refusal.Refusal.{Refusal}

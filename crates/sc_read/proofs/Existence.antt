@@ -1,13 +1,12 @@
 -- Each text is read, or fails a phase.
-use Rattle.sc_read.proofs.Common.{AllByRecursion, AllZip, Any, AreSections, Err, Fails, FailsLex}
-use Rattle.sc_read.proofs.Common.{First, HasTokens, HasTree, IsBadHeading, IsCut, IsParsed, IsRead}
-use Rattle.sc_read.proofs.Common.{IsSection, IsSplit, IsTrue, IsUncut, IsUnread, Lexeme, List, NoHeading, None, Ok}
-use Rattle.sc_read.proofs.Common.{Option, Part, PassesLex, Phase, Reads, Section}
-use Rattle.sc_read.proofs.Common.{SectionTree, Some, Token, [], ap, arith, bad_heading, cases_lt}
-use Rattle.sc_read.proofs.Common.{here, in_preamble, in_section, inl, inr, is_heading, later, length}
-use Rattle.sc_read.proofs.Common.{length-take-le, lexemes_of, line_after, line_at, map, name_at, newlines, none}
-use Rattle.sc_read.proofs.Common.{none-some, part_of, parts_of, refl, section, slice_range, subst, suc, sym, take}
-use Rattle.sc_read.proofs.Common.{tree_of, uncut, zero, ℕ, ⊎_elim, ◌+◌, ◌-◌, ◌<◌, ◌∙◌, ◌∷◌, ◌≡◌, ◌≤◌, ◌⊎◌}
+use Rattle.sc_read.proofs.Common.{AllByRecursion, AllZip, Any, AreSections, Err, Fails, FailsLex, First, HasTokens}
+use Rattle.sc_read.proofs.Common.{HasTree, IsBadHeading, IsCut, IsParsed, IsRead, IsSection, IsSplit, IsTrue, IsUncut}
+use Rattle.sc_read.proofs.Common.{IsUnread, Lexeme, List, NoHeading, None, Ok, Option, Part, PassesLex, Phase, Reads}
+use Rattle.sc_read.proofs.Common.{Section, SectionTree, Some, Token, [], ap, arith, bad_heading, cases_lt, here}
+use Rattle.sc_read.proofs.Common.{in_preamble, in_section, inl, inr, is_heading, later, length, length-take-le}
+use Rattle.sc_read.proofs.Common.{lexemes_of, line_after, line_at, map, name_at, newlines, none, none-some, part_of}
+use Rattle.sc_read.proofs.Common.{parts_of, refl, section, slice_range, subst, suc, sym, take, tree_of, uncut, zero, ℕ}
+use Rattle.sc_read.proofs.Common.{⊎_elim, ◌+◌, ◌-◌, ◌<◌, ◌∙◌, ◌∷◌, ◌≡◌, ◌≤◌, ◌⊎◌}
 use Rattle.sc_lex.specs.declared.refusal.Phase.TheVariants as phase
 use Rattle.sc_lex.specs.declared.fault.TextFault.TheVariants as fault
 use Rattle.sc_parse.proofs.Trees.{parsed, unparsed}

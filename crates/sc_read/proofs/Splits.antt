@@ -1,7 +1,6 @@
 -- A text is split in one way.
-use Rattle.sc_read.proofs.Common.{AreSections, IsBadHeading, IsSection, IsSplit, IsTrue, List, None, Section}
-use Rattle.sc_read.proofs.Common.{ap, ap₂, arith, cases_lt, is_heading}
-use Rattle.sc_read.proofs.Common.{length, map, name_at, none, none-some, part_of, refl}
+use Rattle.sc_read.proofs.Common.{AreSections, IsBadHeading, IsSection, IsSplit, IsTrue, List, None, Section, ap, ap₂}
+use Rattle.sc_read.proofs.Common.{arith, cases_lt, is_heading, length, map, name_at, none, none-some, part_of, refl}
 use Rattle.sc_read.proofs.Common.{section, slice_range, subst, sym, take, ℕ, ⊎_elim, ◌<◌, ◌∙◌, ◌∷◌, ◌≡◌, ◌≤◌}
 use Rattle.sc_lex.proofs.Splits.{heading_within, sections_rise}
 

@@ -3,14 +3,13 @@ use Rattle.sc_read.proofs.Common.{AllByRecursion, AllZip, Any, AreSections, Cuts
 use Rattle.sc_read.proofs.Common.{First, HasTokens, HasTree, IfOk, IsCut, IsCutInto, IsCuttable, IsGap, IsParsable}
 use Rattle.sc_read.proofs.Common.{IsParsed, IsRead, IsSplit, IsTreeOf, IsUncut, IsUnread, List, None, Ok, Part}
 use Rattle.sc_read.proofs.Common.{PassesLex, Reads, Refusal, RefusesBytes, RefusesHeading, RefusesTokens, Result}
-use Rattle.sc_read.proofs.Common.{Section, SectionTree, Some, Token, [], and_parts, ap, arith, bad_heading}
-use Rattle.sc_read.proofs.Common.{begins_line, block_comment, codes, drop, false, false≢true}
-use Rattle.sc_read.proofs.Common.{front_byte, gap, get_or, get_or-take, here, in_preamble, in_section, is_white_space}
-use Rattle.sc_read.proofs.Common.{later, length, length-drop, length-take-le, lexemes_of, line_after, line_at}
-use Rattle.sc_read.proofs.Common.{line_comment, map, newlines, none, none-some, nothing, part_of, refl, section}
-use Rattle.sc_read.proofs.Common.{slash_first, slice_get, slice_index, slice_set, star_first, subst, suc, sym, take}
-use Rattle.sc_read.proofs.Common.{take-append-drop, token, true, uncut, white_space, zero, ℕ, ◌++◌, ◌+◌, ◌-◌, ◌<◌, ◌∙◌}
-use Rattle.sc_read.proofs.Common.{◌∷◌, ◌≡◌, ◌≤◌}
+use Rattle.sc_read.proofs.Common.{Section, SectionTree, Some, Token, [], and_parts, ap, arith, bad_heading, begins_line}
+use Rattle.sc_read.proofs.Common.{block_comment, codes, drop, false, false≢true, front_byte, gap, get_or, get_or-take}
+use Rattle.sc_read.proofs.Common.{here, in_preamble, in_section, is_white_space, later, length, length-drop}
+use Rattle.sc_read.proofs.Common.{length-take-le, lexemes_of, line_after, line_at, line_comment, map, newlines, none}
+use Rattle.sc_read.proofs.Common.{none-some, nothing, part_of, refl, section, slash_first, slice_get, slice_index}
+use Rattle.sc_read.proofs.Common.{slice_set, star_first, subst, suc, sym, take, take-append-drop, token, true, uncut}
+use Rattle.sc_read.proofs.Common.{white_space, zero, ℕ, ◌++◌, ◌+◌, ◌-◌, ◌<◌, ◌∙◌, ◌∷◌, ◌≡◌, ◌≤◌}
 use Rattle.std.proofs.lemmas.List.{take_more, drop_more}
 use Rattle.sc_lex.specs.declared.refusal.Phase.TheVariants as phase
 

@@ -1,8 +1,7 @@
 -- Bytes that are cut aren't refused.
 use Rattle.sc_read.proofs.Common.{Bool, Cuts, IsCut, IsGap, IsStuck, IsToken, List, Refusal, RefusesBytes, Token}
-use Rattle.sc_read.proofs.Common.{TokenKind, allows_directive, arith, drop, gap, gap_fits, length}
-use Rattle.sc_read.proofs.Common.{length-drop, nothing, one_gap, refl, subst, sym, token}
-use Rattle.sc_read.proofs.Common.{token_positive, ℕ, ◌≡◌, ◌≤◌}
+use Rattle.sc_read.proofs.Common.{TokenKind, allows_directive, arith, drop, gap, gap_fits, length, length-drop, nothing}
+use Rattle.sc_read.proofs.Common.{one_gap, refl, subst, sym, token, token_positive, ℕ, ◌≡◌, ◌≤◌}
 use Rattle.sc_lex.proofs.Cuts.{gap_and_token, token_le}
 
 module _ (bytes : List ℕ) where

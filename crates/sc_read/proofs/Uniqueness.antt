@@ -1,10 +1,9 @@
 -- A text is read or refused in one way.
-use Rattle.sc_read.proofs.Common.{AllZip, Fails, FailsLex, FailsSyntax, First, HasTokens, HasTree, IsCut}
-use Rattle.sc_read.proofs.Common.{IsParsed, IsRead, IsSplit, IsUncut, IsUnread, Lexeme, List, Part, PassesLex, Phase}
-use Rattle.sc_read.proofs.Common.{Reads, Refusal, RefusesBytes, RefusesHeading, Section, SectionTree, SpellsSection}
-use Rattle.sc_read.proofs.Common.{Token, [], ap, ap₂, arith, bad_heading, cases_lt, here, in_preamble, in_section}
-use Rattle.sc_read.proofs.Common.{later, lexemes_of, line_at, parts_of, refl, subst, sym}
-use Rattle.sc_read.proofs.Common.{uncut, ℕ, ⊎_elim, ◌∙◌, ◌∷◌, ◌≡◌}
+use Rattle.sc_read.proofs.Common.{AllZip, Fails, FailsLex, FailsSyntax, First, HasTokens, HasTree, IsCut, IsParsed}
+use Rattle.sc_read.proofs.Common.{IsRead, IsSplit, IsUncut, IsUnread, Lexeme, List, Part, PassesLex, Phase, Reads}
+use Rattle.sc_read.proofs.Common.{Refusal, RefusesBytes, RefusesHeading, Section, SectionTree, SpellsSection, Token, []}
+use Rattle.sc_read.proofs.Common.{ap, ap₂, arith, bad_heading, cases_lt, here, in_preamble, in_section, later}
+use Rattle.sc_read.proofs.Common.{lexemes_of, line_at, parts_of, refl, subst, sym, uncut, ℕ, ⊎_elim, ◌∙◌, ◌∷◌, ◌≡◌}
 use Rattle.sc_lex.specs.declared.refusal.Phase.TheVariants as phase
 use Rattle.sc_read.proofs.Stuck.{cut_refused}
 use Rattle.sc_read.proofs.Splits.{same_preamble, same_parts, split_good}

@@ -3,8 +3,8 @@ use Rattle.sc_run.proofs.Common.{Begun, Callee, Cell, Frame, List, Main, None, N
 use Rattle.sc_run.proofs.Common.{Seen, Some, Standing, State, TypedGlobal, TypedSection, Value, [], and_then, ap, arith}
 use Rattle.sc_run.proofs.Common.{back_own, begun, bodies, body_acts, c_arith, call_own, entry_in, first_blocks}
 use Rattle.sc_run.proofs.Common.{first_state, found, function, function_of, global_block, globals_of, length, library}
-use Rattle.sc_run.proofs.Common.{map, refl, run_in, run_of, run_step, run_to, seen_of, slice_get, subst}
-use Rattle.sc_run.proofs.Common.{suc, sym, within, ℕ, ◌∙◌, ◌∷◌, ◌≡◌}
+use Rattle.sc_run.proofs.Common.{map, refl, run_in, run_of, run_step, run_to, seen_of, slice_get, subst, suc, sym}
+use Rattle.sc_run.proofs.Common.{within, ℕ, ◌∙◌, ◌∷◌, ◌≡◌}
 use Rattle.sc_run.proofs.Blank.{blank}
 use Rattle.sc_run.proofs.Calling.{frame_at, enter_is, begun_seen, frame_is}
 

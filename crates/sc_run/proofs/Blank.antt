@@ -2,9 +2,9 @@
 use Rattle.sc_run.proofs.Common.{BadType, Blocks, Bool, Cause, Cell, Dangling, Err, List, Memory, None, Null, Ok}
 use Rattle.sc_run.proofs.Common.{Option, OutOfBounds, Pointer, Ptr, Result, Some, Value, Word, [], ap, bind, blocks_for}
 use Rattle.sc_run.proofs.Common.{cell_of, cells_at, cleared, ended, false, given_back, if◌then◌else◌, is_live, length}
-use Rattle.sc_run.proofs.Common.{length-map, live_cells, load, loaded, map, map-append, map-set, refl}
-use Rattle.sc_run.proofs.Common.{replicate, slice_get, slice_set, store, suc, sym, true, with_blocks, with_cell, zero}
-use Rattle.sc_run.proofs.Common.{ℕ, ◌++◌, ◌==◌, ◌∙◌, ◌∷◌, ◌≡◌}
+use Rattle.sc_run.proofs.Common.{length-map, live_cells, load, loaded, map, map-append, map-set, refl, replicate}
+use Rattle.sc_run.proofs.Common.{slice_get, slice_set, store, suc, sym, true, with_blocks, with_cell, zero, ℕ, ◌++◌}
+use Rattle.sc_run.proofs.Common.{◌==◌, ◌∙◌, ◌∷◌, ◌≡◌}
 use Rattle.sc_core.specs.declared.value.Cell.TheVariants as cell
 use Rattle.sc_blocks.specs.Rows.{ended_block}
 

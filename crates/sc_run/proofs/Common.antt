@@ -1,10 +1,10 @@
 -- The names that several proofs of this crate cite, passed on from one place. Declares nothing.
 pub use Rattle.std.proofs.Common.{Bool, Err, List, None, Ok, Option, Result, Some, [], add-one, ap, append-nil}
-pub use Rattle.std.proofs.Common.{append_assoc, arith, bytes_eq, drop, drop-cons, eq-eqb, false, get_or, if◌then◌else◌}
-pub use Rattle.std.proofs.Common.{is_some, le-leb, length, length-append, length-drop, length-take, lt-ltb, map, nat_lt}
-pub use Rattle.std.proofs.Common.{not, pos, refl, replicate, reverse, rules, slice_get, slice_index_or, slice_set}
-pub use Rattle.std.proofs.Common.{subst, suc, sym, take, take_all, true, true≢false, zero, ℕ, ℤ, ◌&&◌, ◌++◌, ◌+ℤ◌, ◌+◌}
-pub use Rattle.std.proofs.Common.{◌-◌, ◌<◌, ◌==◌, ◌∙◌, ◌∷◌, ◌≡◌, ◌≤◌}
+pub use Rattle.std.proofs.Common.{append_assoc, arith, drop, drop-cons, eq-eqb, false, get_or, if◌then◌else◌, is_some}
+pub use Rattle.std.proofs.Common.{le-leb, length, length-append, length-drop, length-take, lt-ltb, map, nat_lt, not}
+pub use Rattle.std.proofs.Common.{pos, refl, replicate, reverse, rules, slice_get, slice_index_or, slice_set, subst}
+pub use Rattle.std.proofs.Common.{suc, sym, take, take_all, true, true≢false, zero, ℕ, ℤ, ◌&&◌, ◌++◌, ◌+ℤ◌, ◌+◌, ◌-◌}
+pub use Rattle.std.proofs.Common.{◌<◌, ◌==◌, ◌∙◌, ◌∷◌, ◌≡◌, ◌≤◌}
 pub use Rattle.std.proofs.lemmas.Bool.{false≢true}
 pub use Rattle.std.proofs.lemmas.List.{drop_all, length-map, map-append, map-set, reverse-append, take-append-le}
 pub use Rattle.std.proofs.lemmas.List.{take-map, take_more}
@@ -24,13 +24,13 @@ pub use Rattle.sc_core.specs.Prelude.{crossed, done, ended, entry_in, evaluated,
 pub use Rattle.sc_core.specs.Prelude.{first_word, follow, found, function, function_of, functions_in, global_block}
 pub use Rattle.sc_core.specs.Prelude.{globals_of, in_loop, in_order, init_does, inits_do, is_array, is_inside, is_live}
 pub use Rattle.sc_core.specs.Prelude.{is_pointer, is_true, is_unsigned, is_unsigned_op, is_word, kind_step, leads}
-pub use Rattle.sc_core.specs.Prelude.{leave, live_cells, load, loaded, loop, main_name, may_call, meaning, meant}
-pub use Rattle.sc_core.specs.Prelude.{meant_step, member_zeros, moved, moved_back, moved_on, next_input, of_bool}
-pub use Rattle.sc_core.specs.Prelude.{on_words, part_does, place_at, read_input, repeated, run_in, run_of, run_step}
-pub use Rattle.sc_core.specs.Prelude.{run_to, same_place, simple_does, stmt_step, stopped_at, store, store_at}
-pub use Rattle.sc_core.specs.Prelude.{store_result, stored, struct_zeros, target_cells, tell, term_step, test, turn}
-pub use Rattle.sc_core.specs.Prelude.{turn_of, values, variable_at, variables, wanted, ways, with_blocks, with_cell}
-pub use Rattle.sc_core.specs.Prelude.{with_words, within, word_in, zeros_of}
+pub use Rattle.sc_core.specs.Prelude.{leave, live_cells, load, loaded, loop, may_call, meaning, meant, meant_step}
+pub use Rattle.sc_core.specs.Prelude.{member_zeros, moved, moved_back, moved_on, next_input, of_bool, on_words}
+pub use Rattle.sc_core.specs.Prelude.{part_does, place_at, read_input, repeated, run_in, run_of, run_step, run_to}
+pub use Rattle.sc_core.specs.Prelude.{same_place, simple_does, stmt_step, stopped_at, store, store_at, store_result}
+pub use Rattle.sc_core.specs.Prelude.{stored, struct_zeros, target_cells, tell, term_step, test, turn, turn_of, values}
+pub use Rattle.sc_core.specs.Prelude.{variable_at, variables, wanted, ways, with_blocks, with_cell, with_words, within}
+pub use Rattle.sc_core.specs.Prelude.{word_in, zeros_of}
 pub use Rattle.sc_core.specs.declared.cause.Cause.{Cause}
 pub use Rattle.sc_core.specs.declared.cause.Cause.TheVariants.{BadPointer, BadType, Dangling, OutOfBounds}
 pub use Rattle.sc_core.specs.declared.expr.CallTarget.TheVariants.{Cross, Input, Output, Own}

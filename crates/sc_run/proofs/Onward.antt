@@ -2,11 +2,11 @@
 use Rattle.sc_run.proofs.Common.{Again, Body as Body', Caller, End, Ended, Event, EventsOut, First, Frame, Front, Goes}
 use Rattle.sc_run.proofs.Common.{Gone, IsStop, Leave, Left, List, None, Now, Option, Piece, ProgramTree, Reached, Rest}
 use Rattle.sc_run.proofs.Common.{Run as Run', RunEnd, Seen, Some, SourceRun, Standing, State, Stopped, Value, Work, []}
-use Rattle.sc_run.proofs.Common.{and_then, ap, arith, back_goes, back_own, back_to, does_now, done, done_goes}
-use Rattle.sc_run.proofs.Common.{earlier, exit_word, follow_goes, front_more, function_in, if◌then◌else◌}
-use Rattle.sc_run.proofs.Common.{in_loop, in_order, le-leb, length, length-append, lt-ltb, next_acts, refl, resume}
-use Rattle.sc_run.proofs.Common.{returned, reverse, run_to, stays, stopped_at, subst, suc, take, take-append-le}
-use Rattle.sc_run.proofs.Common.{then_goes, ℕ, ◌<◌, ◌∙◌, ◌∷◌, ◌≡◌, ◌≤◌}
+use Rattle.sc_run.proofs.Common.{and_then, ap, arith, back_goes, back_own, back_to, does_now, done, done_goes, earlier}
+use Rattle.sc_run.proofs.Common.{exit_word, follow_goes, front_more, function_in, if◌then◌else◌, in_loop, in_order}
+use Rattle.sc_run.proofs.Common.{le-leb, length, length-append, lt-ltb, next_acts, refl, resume, returned, reverse}
+use Rattle.sc_run.proofs.Common.{run_to, stays, stopped_at, subst, suc, take, take-append-le, then_goes, ℕ, ◌<◌, ◌∙◌}
+use Rattle.sc_run.proofs.Common.{◌∷◌, ◌≡◌, ◌≤◌}
 use Rattle.sc_run.proofs.Going.{block_goes, next_goes, loop_goes, closes_goes, result_goes_on}
 
 -- two traces have the same front, as long as the shorter one goes

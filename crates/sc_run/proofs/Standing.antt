@@ -1,8 +1,8 @@
 -- Where a run stands, as pieces come to something and as things are left to wait.
 use Rattle.sc_run.proofs.Common.{Again, Body as Body', Caller, CameTo, Comes, Err, First, Frame, Left, List, Ok, Piece}
 use Rattle.sc_run.proofs.Common.{ProgramTree, Reached, Rest, RunEnd, Seen, SourceRun, Standing, State, Steps, Stop}
-use Rattle.sc_run.proofs.Common.{Stopped, Work, [], and_then, ap, arith, refl, resume, reverse, reverse-append}
-use Rattle.sc_run.proofs.Common.{sym, ℕ, ◌++◌, ◌∙◌, ◌∷◌, ◌≡◌, ◌≤◌}
+use Rattle.sc_run.proofs.Common.{Stopped, Work, [], and_then, ap, arith, refl, resume, reverse, reverse-append, sym, ℕ}
+use Rattle.sc_run.proofs.Common.{◌++◌, ◌∙◌, ◌∷◌, ◌≡◌, ◌≤◌}
 use Rattle.sc_run.proofs.Coming.{then_stops}
 
 abbrev pub Acting : Type 0

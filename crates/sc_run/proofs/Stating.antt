@@ -4,9 +4,8 @@ use Rattle.sc_run.proofs.Common.{ProgramTree, Reached, Rest, Return, Route, Seen
 use Rattle.sc_run.proofs.Common.{TypedExpr, TypedSimple, TypedStmt, TypedStmtKind, TypedStmtKind-F, Work, [], and_then}
 use Rattle.sc_run.proofs.Common.{ap, arith, assign, block_acts, c_arith, calls_in, choose, drop, drop_all, evaluated}
 use Rattle.sc_run.proofs.Common.{follow, get_or, here_of, in_order, kind_step, layer_of, leave, length, length-drop}
-use Rattle.sc_run.proofs.Common.{loop, loop_acts, part_acts, refl, resume, roll-TypedStmtKind, stmt_acts}
-use Rattle.sc_run.proofs.Common.{stmt_at, stmt_step, subst, sym, take, take_all, test, way_in, ℕ, ◌++◌, ◌-◌, ◌∙◌, ◌∷◌}
-use Rattle.sc_run.proofs.Common.{◌≡◌, ◌≤◌}
+use Rattle.sc_run.proofs.Common.{loop, loop_acts, part_acts, refl, resume, roll-TypedStmtKind, stmt_acts, stmt_at}
+use Rattle.sc_run.proofs.Common.{stmt_step, subst, sym, take, take_all, test, way_in, ℕ, ◌++◌, ◌-◌, ◌∙◌, ◌∷◌, ◌≡◌, ◌≤◌}
 use Rattle.sc_core.specs.declared.stmt.TypedStmtKind.TheOpen as layer
 use Rattle.sc_core.specs.declared.value.Want.TheVariants as want
 use Rattle.sc_run.proofs.Standing.{Acting}

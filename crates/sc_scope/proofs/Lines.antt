@@ -1,6 +1,5 @@
 -- Lines that are noted one after another.
-use Rattle.sc_scope.proofs.Common.{BrokenLines, List, Text, [], among, ap, sym, with_lines, ℕ, ◌++◌}
-use Rattle.sc_scope.proofs.Common.{◌||◌, ◌∙◌, ◌≡◌}
+use Rattle.sc_scope.proofs.Common.{BrokenLines, List, Text, [], among, ap, sym, with_lines, ℕ, ◌++◌, ◌||◌, ◌∙◌, ◌≡◌}
 use Rattle.std.proofs.lemmas.List.Folds.{list_any-append}
 use Rattle.sc_scope.proofs.Noting.{with_lines-nil, with_lines-append}
 

@@ -1,13 +1,11 @@
 -- The loops over locals, declarations and sections, one step further.
-use Rattle.sc_scope.proofs.Common.{Bool, BrokenLines, Decl, Function, FunctionTree, Global, List}
-use Rattle.sc_scope.proofs.Common.{LocalTree, Option, Proto, SectionTree, Struct, Text, [], all_in}
-use Rattle.sc_scope.proofs.Common.{ap, append-nil, append_assoc, decl_lines, declared, drop, drop_all, false}
-use Rattle.sc_scope.proofs.Common.{function_lines, function_names, get_or}
-use Rattle.sc_scope.proofs.Common.{global_names, head_of_known, known, length, lines_from, local_known}
-use Rattle.sc_scope.proofs.Common.{local_names, locals_from, map, map-append, names_broken, noted_all}
-use Rattle.sc_scope.proofs.Common.{param_names, proto_names, refl, section_lines, stmt_lines}
-use Rattle.sc_scope.proofs.Common.{struct_names, sym, take, unless, with_decl, with_lines, ℕ, ◌++◌, ◌+◌}
-use Rattle.sc_scope.proofs.Common.{◌<◌, ◌∙◌, ◌∷◌, ◌≡◌, ◌≤◌}
+use Rattle.sc_scope.proofs.Common.{Bool, BrokenLines, Decl, Function, FunctionTree, Global, List, LocalTree, Option}
+use Rattle.sc_scope.proofs.Common.{Proto, SectionTree, Struct, Text, [], all_in, ap, append-nil, append_assoc}
+use Rattle.sc_scope.proofs.Common.{decl_lines, declared, drop, drop_all, false, function_lines, function_names, get_or}
+use Rattle.sc_scope.proofs.Common.{global_names, head_of_known, known, length, lines_from, local_known, local_names}
+use Rattle.sc_scope.proofs.Common.{locals_from, map, map-append, names_broken, noted_all, param_names, proto_names}
+use Rattle.sc_scope.proofs.Common.{refl, section_lines, stmt_lines, struct_names, sym, take, unless, with_decl}
+use Rattle.sc_scope.proofs.Common.{with_lines, ℕ, ◌++◌, ◌+◌, ◌<◌, ◌∙◌, ◌∷◌, ◌≡◌, ◌≤◌}
 use Rattle.std.proofs.lemmas.List.Elements.{filter_map-append}
 use Rattle.sc_scope.specs.declared.section_names.SectionNames.{SectionNames}
 use Rattle.sc_scope.proofs.Lines.{step, done, then}
@@ -132,7 +130,7 @@ decls-noted section decls i old a all le p = done old a _ all p (ap (lines_from 
 
 -- Sections.
 
-noted-none : (least : Option ℕ) → noted_all least [] ≡ least
+pub noted-none : (least : Option ℕ) → noted_all least [] ≡ least
 unfolding noted_all
 noted-none least = refl
 

@@ -4,8 +4,8 @@ pub use Rattle.sc_scope.specs.Broken.{earlier, line_of_text, noted, refused_at, 
 unfoldable pub use Rattle.sc_scope.specs.Broken.{noted_all}
 pub use Rattle.sc_scope.specs.Declarations.{Text, among, are_distinct, export_names, function_in, function_names}
 pub use Rattle.sc_scope.specs.Declarations.{functions_in, global_in, global_names, globals_in, head_in, heads_in}
-pub use Rattle.sc_scope.specs.Declarations.{import_names, is_new, proto_in, proto_names, protos_in, struct_in}
-pub use Rattle.sc_scope.specs.Declarations.{struct_names, structs_in}
+pub use Rattle.sc_scope.specs.Declarations.{import_names, is_new, proto_names, protos_in, struct_in, struct_names}
+pub use Rattle.sc_scope.specs.Declarations.{structs_in}
 pub use Rattle.sc_scope.specs.Interfaces.{base_scalar, defines_main, environment, function_named, import_of}
 pub use Rattle.sc_scope.specs.Interfaces.{interface_of, interfaces_from, interfaces_of, is_environment, main_from}
 pub use Rattle.sc_scope.specs.Interfaces.{main_name, number_or_zero, offered, offering, offers, promised, proto_of}

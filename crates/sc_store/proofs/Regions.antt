@@ -1,7 +1,7 @@
 -- Addresses in regions, and where zeros stand.
 use Rattle.sc_store.proofs.Common.{AreBelow, HoldsBytes, IsIn, List, Region, Some, [], ap, arith, cases_lt, cond, false}
-use Rattle.sc_store.proofs.Common.{inl, inr, is_in, nat_tests, same_Some, suc, sym, true, zeros, ℕ, ⊎_elim, ◌∙◌}
-use Rattle.sc_store.proofs.Common.{◌∷◌, ◌≡◌, ◌⊎◌}
+use Rattle.sc_store.proofs.Common.{inl, inr, is_in, nat_tests, same_Some, suc, sym, true, zeros, ℕ, ⊎_elim, ◌∙◌, ◌∷◌}
+use Rattle.sc_store.proofs.Common.{◌≡◌, ◌⊎◌}
 
 -- ---- an address in a region: the test says what the fact does
 pub in_true : (r : Region) (a : ℕ) → IsIn r a → is_in r a ≡ true

@@ -4,9 +4,10 @@ use Rattle.sc_top.proofs.Common.{IsAccounted, IsAnswer, IsErrOf, IsGood, IsGoodT
 use Rattle.sc_top.proofs.Common.{IsTextOutput, IsTrue, IsUndisturbed, IsUnfit, IsWhole, IsWithin, IsWithinLimit, List}
 use Rattle.sc_top.proofs.Common.{Make, Meaning, None, Option, ProgramTree, Refusal, Refuses, Result, Run, RunOptions}
 use Rattle.sc_top.proofs.Common.{SameAnswer, Says, Some, Status, Takes, Traffic, ap, append-nil, arith, bad}
-use Rattle.sc_top.proofs.Common.{built_image, cause_in, cause_number, cause_of, compiles, false≢true, inl, inr}
-use Rattle.sc_top.proofs.Common.{large_in, length, length-append, limit_of, none-some, option_and_then, refl, status_by}
-use Rattle.sc_top.proofs.Common.{subst, sym, too_large, ℕ, ⊎_elim, ◌++◌, ◌+◌, ◌∙◌, ◌≡◌, ◌≤◌, ◌⊎◌}
+use Rattle.sc_top.proofs.Common.{built_image, cause_in, cause_number, cause_of, compiles, false≢true, inl, inr, length}
+use Rattle.sc_top.proofs.Common.{length-append, limit_of, none-some, option_and_then, refl, status_by, subst, sym}
+use Rattle.sc_top.proofs.Common.{too_large, ℕ, ⊎_elim, ◌++◌, ◌+◌, ◌∙◌, ◌≡◌, ◌≤◌, ◌⊎◌}
+use Rattle.sc_top.specs.Large.{large_in}
 use Rattle.std.specs.Option.{option_map}
 use Rattle.sc_lex.specs.declared.refusal.Phase.{Phase}
 use Rattle.sc_lex.specs.declared.refusal.Phase.TheVariants.{Syntax}

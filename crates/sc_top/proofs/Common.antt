@@ -1,10 +1,10 @@
 -- The names that several proofs of this crate cite, passed on from one place. Declares nothing.
 pub use Rattle.std.proofs.Common.{All, Bool, Err, IfOk, IsErrOf, IsSome, IsTrue, List, None, Ok, OnOk, Option, Result}
 pub use Rattle.std.proofs.Common.{Some, [], ap, append-nil, append_assoc, ap₂, arith, codes, decimal, drop, false}
-pub use Rattle.std.proofs.Common.{flat_map, get_or, if◌then◌else◌, inl, inr, le-ltb, leb-true, length, length-append}
-pub use Rattle.std.proofs.Common.{length-drop, map, nat_le, nat_lt, option_and_then, option_map, refl, rules, slice_get}
-pub use Rattle.std.proofs.Common.{subst, suc, sym, take, take-append-drop, take_all, true, zero, ℕ, ℤ, ⊎_elim, ◌&&◌}
-pub use Rattle.std.proofs.Common.{◌*◌, ◌++◌, ◌+◌, ◌-◌, ◌<◌, ◌==◌, ◌||◌, ◌∙◌, ◌∷◌, ◌≡◌, ◌≤◌, ◌⊎◌}
+pub use Rattle.std.proofs.Common.{flat_map, if◌then◌else◌, inl, inr, le-ltb, leb-true, length, length-append}
+pub use Rattle.std.proofs.Common.{length-drop, map, nat_le, option_and_then, option_map, refl, rules, slice_get, subst}
+pub use Rattle.std.proofs.Common.{suc, sym, take, take-append-drop, take_all, true, zero, ℕ, ℤ, ⊎_elim, ◌&&◌, ◌*◌, ◌++◌}
+pub use Rattle.std.proofs.Common.{◌+◌, ◌-◌, ◌<◌, ◌==◌, ◌||◌, ◌∙◌, ◌∷◌, ◌≡◌, ◌≤◌, ◌⊎◌}
 pub use Rattle.std.proofs.lemmas.Bool.{and_parts, false≢true}
 pub use Rattle.std.proofs.lemmas.List.{length-map, take_rest}
 pub use Rattle.std.proofs.lemmas.List.Elements.{All-from_recursion, All-map, recursion_from_All}
@@ -19,12 +19,12 @@ pub use Rattle.sc_core.specs.declared.section.TypedSection.{TypedSection}
 pub use Rattle.sc_types.specs.Prelude.{Accepts, Fails, IsSource, IsSplitInto, SourceParts}
 pub use Rattle.sc_image.specs.Prelude.{BytesNameOneImage, IsComp, IsExport, IsImage, IsWellFormed, IsWord}
 pub use Rattle.sc_image.specs.Prelude.{TracesAreLegal, bad, bit, cause_number, cause_of, comp_bytes, export_bytes}
-pub use Rattle.sc_image.specs.Prelude.{exports_bytes, flags, globals_bytes, image_bytes, import_bytes, imports_bytes}
-pub use Rattle.sc_image.specs.Prelude.{interface_of, interfaces_of, machine, most_globals, name_bytes, stretch}
+pub use Rattle.sc_image.specs.Prelude.{exports_bytes, globals_bytes, image_bytes, import_bytes, imports_bytes}
+pub use Rattle.sc_image.specs.Prelude.{interfaces_of, machine, most_globals, name_bytes, stretch}
 pub use Rattle.sc_image.specs.declared.parts.ImageParts.{ImageParts}
 pub use Rattle.sc_compile.specs.Prelude.{IsCompiled, above, built_image, code_bytes, data_bytes, first, found_in}
 pub use Rattle.sc_compile.specs.Prelude.{frame_bytes, image_of, large_code, large_data, large_frame, large_frames}
-pub use Rattle.sc_compile.specs.Prelude.{most_frame, too_large, unless_large}
+pub use Rattle.sc_compile.specs.Prelude.{too_large, unless_large}
 pub use Rattle.sc_compile.specs.declared.fault.CompileFault.TheVariants.{CodeTooLarge, DataTooLarge, FrameTooLarge}
 pub use Rattle.sc_compile.specs.declared.fault.CompileFault.TheVariants.{OutOfMemory}
 pub use Rattle.sc_chain.specs.Prelude.{IsChainFrom, IsExplained, IsFault, IsNext, TellsTrace, among, joined, performing}
@@ -42,7 +42,7 @@ pub use Rattle.sc_top.specs.Prelude.{HasImage, IsAccounted, IsAnswer, IsBounded,
 pub use Rattle.sc_top.specs.Prelude.{IsGoodText, IsInput, IsMadeBy, IsMadeText, IsNamed, IsOutput, IsOutputCause}
 pub use Rattle.sc_top.specs.Prelude.{IsSummary, IsTextOutput, IsUndisturbed, IsUnfit, IsWhole, IsWithin, IsWithinLimit}
 pub use Rattle.sc_top.specs.Prelude.{Meaning, Refuses, Run, SameAnswer, Says, Status, Tells, Traffic, Wrote, account}
-pub use Rattle.sc_top.specs.Prelude.{by_name, bytes_of, cause_in, comp_of, compiles, large_in, limit_of, machine_run}
-pub use Rattle.sc_top.specs.Prelude.{machine_text, meant, of_compile_fault, output, own_text, owner_text}
-pub use Rattle.sc_top.specs.Prelude.{replacement_of, status_by, text_after}
+pub use Rattle.sc_top.specs.Prelude.{bytes_of, cause_in, comp_of, compiles, limit_of, machine_run, machine_text, meant}
+pub use Rattle.sc_top.specs.Prelude.{of_compile_fault, output, own_text, owner_text, replacement_of, status_by}
+pub use Rattle.sc_top.specs.Prelude.{text_after}
 pub use Rattle.sc_top.specs.declared.failure.Failure.{Failure}

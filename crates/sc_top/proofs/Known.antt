@@ -2,10 +2,9 @@
 use Rattle.sc_top.proofs.Common.{All, All-map, Err, Event, IfOk, ImageParts, Interfaces, IsCompiled, IsExecuted}
 use Rattle.sc_top.proofs.Common.{IsKnown, IsSome, IsTrue, IsWellFormed, IsWellTyped, IsWord, List, Ok, ProgramTree}
 use Rattle.sc_top.proofs.Common.{Result, RunOptions, TracesAreLegal, TypedSection, [], and_parts, ap, arith, c_arith}
-use Rattle.sc_top.proofs.Common.{comp_at, false≢true, image_bytes, interfaces_of}
-use Rattle.sc_top.proofs.Common.{legal as is_legal, length, length-map, machine_run, machine_text, main_fits, map}
-use Rattle.sc_top.proofs.Common.{meant, refl, run_text, sections_fit, slice_get, subst, suc, sym, true, word_of, zero}
-use Rattle.sc_top.proofs.Common.{ℕ, ℤ, ◌<◌, ◌∙◌, ◌∷◌, ◌≡◌}
+use Rattle.sc_top.proofs.Common.{comp_at, false≢true, image_bytes, interfaces_of, legal as is_legal, length, length-map}
+use Rattle.sc_top.proofs.Common.{machine_run, machine_text, main_fits, map, meant, refl, run_text, sections_fit}
+use Rattle.sc_top.proofs.Common.{slice_get, subst, suc, sym, true, word_of, zero, ℕ, ℤ, ◌<◌, ◌∙◌, ◌∷◌, ◌≡◌}
 use Rattle.sc_laws.specs.Prelude.{TracesAreLegal as SourceTracesAreLegal}
 use Rattle.sc_event.specs.declared.interface.Interface.{Interface}
 use Rattle.sc_event.proofs.Known.{legal_is_known}

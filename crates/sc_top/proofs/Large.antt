@@ -2,11 +2,11 @@
 use Rattle.sc_top.proofs.Common.{AllByRecursion, Bool, CodeTooLarge, CompileFault, DataTooLarge, Err, FrameTooLarge}
 use Rattle.sc_top.proofs.Common.{ImageParts, Interfaces, IsCompiling, IsNamed, IsSome, IsWellTyped, List, None, Ok}
 use Rattle.sc_top.proofs.Common.{Option, OutOfMemory, ProgramTree, Some, TypedFunction, TypedSection, [], above, ap}
-use Rattle.sc_top.proofs.Common.{arith, built_image, code_bytes, comp_at, data_bytes, false, first, flat_map}
-use Rattle.sc_top.proofs.Common.{found_in, frame_bytes, if◌then◌else◌, image_of, inl, inr, large_code, large_data}
-use Rattle.sc_top.proofs.Common.{large_frame, large_frames, length, most_globals, none-some}
-use Rattle.sc_top.proofs.Common.{of_compile_fault, option_and_then, refl, stretch, subst, suc, sym, too_large, true}
-use Rattle.sc_top.proofs.Common.{unless_large, ℕ, ⊎_elim, ◌++◌, ◌+◌, ◌∷◌, ◌≡◌, ◌≤◌, ◌⊎◌}
+use Rattle.sc_top.proofs.Common.{arith, built_image, code_bytes, comp_at, data_bytes, false, first, flat_map, found_in}
+use Rattle.sc_top.proofs.Common.{frame_bytes, if◌then◌else◌, image_of, inl, inr, large_code, large_data, large_frame}
+use Rattle.sc_top.proofs.Common.{large_frames, length, most_globals, none-some, of_compile_fault, option_and_then, refl}
+use Rattle.sc_top.proofs.Common.{stretch, subst, suc, sym, too_large, true, unless_large, ℕ, ⊎_elim, ◌++◌, ◌+◌, ◌∷◌}
+use Rattle.sc_top.proofs.Common.{◌≡◌, ◌≤◌, ◌⊎◌}
 use Rattle.sc_compile.specs.Prelude.{IsFault}
 use Rattle.sc_top.proofs.Known.{sections_are, within}
 

@@ -1,8 +1,8 @@
 -- How many bytes an image has at most.
 use Rattle.sc_top.proofs.Common.{AllByRecursion, ImageParts, IsComp, IsExport, IsWellFormed, List, Some, [], ap, arith}
-use Rattle.sc_top.proofs.Common.{bit, comp_bytes, export_bytes, exports_bytes, flat_map, globals_bytes}
-use Rattle.sc_top.proofs.Common.{image_bytes, import_bytes, imports_bytes, length, length-append, name_bytes}
-use Rattle.sc_top.proofs.Common.{recursion_from_All, refl, slice_get, subst, suc, sym, ℕ, ◌*◌, ◌++◌, ◌+◌, ◌∷◌, ◌≡◌, ◌≤◌}
+use Rattle.sc_top.proofs.Common.{bit, comp_bytes, export_bytes, exports_bytes, flat_map, globals_bytes, image_bytes}
+use Rattle.sc_top.proofs.Common.{import_bytes, imports_bytes, length, length-append, name_bytes, recursion_from_All}
+use Rattle.sc_top.proofs.Common.{refl, slice_get, subst, suc, sym, ℕ, ◌*◌, ◌++◌, ◌+◌, ◌∷◌, ◌≡◌, ◌≤◌}
 use Rattle.sc_image.specs.Prelude.{code_bytes}
 use Rattle.byteorder.specs.Endian.{little_bytes}
 use Rattle.sc_image.specs.declared.parts.CompPart.{CompPart}

@@ -1,12 +1,11 @@
 -- Made programs fit, so that each has an image.
-use Rattle.sc_top.proofs.Common.{Accepts, AllByRecursion, AreSmall, CompileFault, DataTooLarge, Err}
-use Rattle.sc_top.proofs.Common.{Explanation, FrameTooLarge, IfOk, Interfaces, IsAccepted, IsExplained, IsMadeText}
-use Rattle.sc_top.proofs.Common.{IsSmall, IsSource, IsSummary, List, MakeOptions, None, Ok, ProgramTree, Result}
-use Rattle.sc_top.proofs.Common.{SourceParts, TypedFunction, TypedSection, [], above, ap, ap₂, arith, built_image}
-use Rattle.sc_top.proofs.Common.{data_bytes, first, flat_map, found_in, frame_bytes, if◌then◌else◌}
-use Rattle.sc_top.proofs.Common.{image_of, large_code, large_data, large_frame, large_frames, le-ltb}
-use Rattle.sc_top.proofs.Common.{most_globals, recursion_from_All, refl, stretch, subst, suc, summary_text, sym}
-use Rattle.sc_top.proofs.Common.{too_large, unless_large, ℕ, ◌++◌, ◌∙◌, ◌∷◌, ◌≡◌, ◌≤◌}
+use Rattle.sc_top.proofs.Common.{Accepts, AllByRecursion, AreSmall, CompileFault, DataTooLarge, Err, Explanation}
+use Rattle.sc_top.proofs.Common.{FrameTooLarge, IfOk, Interfaces, IsAccepted, IsExplained, IsMadeText, IsSmall}
+use Rattle.sc_top.proofs.Common.{IsSource, IsSummary, List, MakeOptions, None, Ok, ProgramTree, Result, SourceParts}
+use Rattle.sc_top.proofs.Common.{TypedFunction, TypedSection, [], above, ap, ap₂, arith, built_image, data_bytes, first}
+use Rattle.sc_top.proofs.Common.{flat_map, found_in, frame_bytes, if◌then◌else◌, image_of, large_code, large_data}
+use Rattle.sc_top.proofs.Common.{large_frame, large_frames, le-ltb, most_globals, recursion_from_All, refl, stretch}
+use Rattle.sc_top.proofs.Common.{subst, suc, summary_text, sym, too_large, unless_large, ℕ, ◌++◌, ◌∙◌, ◌∷◌, ◌≡◌, ◌≤◌}
 use Rattle.sc_made.specs.Text.{made_text}
 
 none_above : (limit size : ℕ) (fault : CompileFault) → size ≤ limit → above limit size fault ≡ []

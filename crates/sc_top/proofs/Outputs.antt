@@ -1,8 +1,8 @@
 -- What comes of accepted texts: outputs and their causes, and that an output is one.
-use Rattle.sc_top.proofs.Common.{Accepts, Bool, BytesNameOneImage, Command, Failure, HasImage, ImageParts}
-use Rattle.sc_top.proofs.Common.{IsCompiling, IsExecuted, IsMadeBy, IsOutput, IsOutputCause, IsTextOutput, IsTrue, List}
-use Rattle.sc_top.proofs.Common.{MakeOptions, ProgramTree, RunOptions, [], ap, compiles, false}
-use Rattle.sc_top.proofs.Common.{interfaces_of, machine_text, output, refl, subst, sym, true, ℕ, ◌∙◌, ◌≡◌}
+use Rattle.sc_top.proofs.Common.{Accepts, Bool, BytesNameOneImage, Command, Failure, HasImage, ImageParts, IsCompiling}
+use Rattle.sc_top.proofs.Common.{IsExecuted, IsMadeBy, IsOutput, IsOutputCause, IsTextOutput, IsTrue, List, MakeOptions}
+use Rattle.sc_top.proofs.Common.{ProgramTree, RunOptions, [], ap, compiles, false, interfaces_of, machine_text, output}
+use Rattle.sc_top.proofs.Common.{refl, subst, sym, true, ℕ, ◌∙◌, ◌≡◌}
 use Rattle.sc_words.specs.declared.command.Command.TheVariants as commands
 use Rattle.sc_top.specs.declared.failure.Failure.TheVariants as failure
 use Rattle.sc_top.proofs.Chains.{one_account, one_summary}

@@ -12,7 +12,6 @@ pub use Rattle.sc_top.specs.Command.{limit_of}
 pub use Rattle.sc_top.specs.Failure.{IsInputCause, IsOutputCause, of_image_fault, of_read_fault, of_text_fault}
 pub use Rattle.sc_top.specs.Failure.{of_words_fault, status_by, status_of}
 pub use Rattle.sc_top.specs.Fetching.{Fetches}
-pub use Rattle.sc_top.specs.Large.{by_name, large_in}
 pub use Rattle.sc_top.specs.Output.{HasImage, IsAccounted, IsExecuted, IsMade, IsMadeBy, IsMadeText, IsOutput}
 pub use Rattle.sc_top.specs.Output.{IsSummary, IsTextOutput, account, comp_of, compiles, machine_run, machine_text}
 pub use Rattle.sc_top.specs.Output.{meant, output, text_after}

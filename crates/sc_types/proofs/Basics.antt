@@ -1,7 +1,7 @@
 -- Tests that hold, lists that are empty, and the places of names.
 use Rattle.sc_types.proofs.Common.{Bool, List, None, Option, Some, [], and_first, and_rest, ap, arith, concat, cond}
-use Rattle.sc_types.proofs.Common.{false, false≢true, if◌then◌else◌, list_all, map, option_map, position}
-use Rattle.sc_types.proofs.Common.{position_from, refl, suc, true, unless, ℕ, ◌++◌, ◌+◌, ◌||◌, ◌∙◌, ◌∷◌, ◌≡◌}
+use Rattle.sc_types.proofs.Common.{false, false≢true, if◌then◌else◌, list_all, map, option_map, position, position_from}
+use Rattle.sc_types.proofs.Common.{refl, suc, true, unless, ℕ, ◌++◌, ◌+◌, ◌||◌, ◌∙◌, ◌∷◌, ◌≡◌}
 use Rattle.std.proofs.lemmas.Iterator.Adapters.{position_from-zero}
 
 pub either : {C : Type 0} (a b : Bool) → (a || b) ≡ true → (a ≡ true → C) → (a ≡ false → b ≡ true → C) → C

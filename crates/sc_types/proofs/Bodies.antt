@@ -1,16 +1,15 @@
 -- Statements that break no rule of names and of types are well typed.
-use Rattle.sc_types.proofs.Common.{Bool, CallTree, Callable, Callees, ExprTree, Inside, Known, List, None}
-use Rattle.sc_types.proofs.Common.{Option, Scope, SimpleKind, SimpleTree, Some, StmtKind, StmtKind-F, StmtTree, Ty}
-use Rattle.sc_types.proofs.Common.{TypedStmt, TypedStmtKind, TypedStmtKind-F, Visible, []}
-use Rattle.sc_types.proofs.Common.{and_first, and_from, and_rest, ap, args_fit, assign_call_fits, assign_call_holds}
-use Rattle.sc_types.proofs.Common.{call_fits, call_holds, call_known, concat, cond_holds, expr_known}
-use Rattle.sc_types.proofs.Common.{going_to_some, is_callable, is_target, judged, kind_fits, kind_lines, kind_step}
-use Rattle.sc_types.proofs.Common.{layer_of, list_all, map, on_line, option_map, part_fits, part_lines, refl}
-use Rattle.sc_types.proofs.Common.{result_goes, return_call_holds, returned_call_fits, roll-TypedStmtKind, simple_fits}
-use Rattle.sc_types.proofs.Common.{simple_holds, simple_known, stmt_at, stmt_fits, stmt_induction, stmt_lines}
-use Rattle.sc_types.proofs.Common.{stmt_step, sym, target_signature, true, typed_args, typed_call}
-use Rattle.sc_types.proofs.Common.{typed_simple, typed_simple_kind, typed_stmt, typed_value, unless, ℕ, ◌&&◌, ◌++◌, ◌∙◌}
-use Rattle.sc_types.proofs.Common.{◌∷◌, ◌≡◌}
+use Rattle.sc_types.proofs.Common.{Bool, CallTree, Callable, Callees, ExprTree, Inside, Known, List, None, Option}
+use Rattle.sc_types.proofs.Common.{Scope, SimpleKind, SimpleTree, Some, StmtKind, StmtKind-F, StmtTree, Ty, TypedStmt}
+use Rattle.sc_types.proofs.Common.{TypedStmtKind, TypedStmtKind-F, Visible, [], and_first, and_from, and_rest, ap}
+use Rattle.sc_types.proofs.Common.{args_fit, assign_call_fits, assign_call_holds, call_fits, call_holds, call_known}
+use Rattle.sc_types.proofs.Common.{concat, cond_holds, expr_known, going_to_some, is_callable, is_target, judged}
+use Rattle.sc_types.proofs.Common.{kind_fits, kind_lines, kind_step, layer_of, list_all, map, on_line, option_map}
+use Rattle.sc_types.proofs.Common.{part_fits, part_lines, refl, result_goes, return_call_holds, returned_call_fits}
+use Rattle.sc_types.proofs.Common.{roll-TypedStmtKind, simple_fits, simple_holds, simple_known, stmt_at, stmt_fits}
+use Rattle.sc_types.proofs.Common.{stmt_induction, stmt_lines, stmt_step, sym, target_signature, true, typed_args}
+use Rattle.sc_types.proofs.Common.{typed_call, typed_simple, typed_simple_kind, typed_stmt, typed_value, unless, ℕ}
+use Rattle.sc_types.proofs.Common.{◌&&◌, ◌++◌, ◌∙◌, ◌∷◌, ◌≡◌}
 use Rattle.sc_ast.specs.declared.stmt.SimpleKind.TheVariants as simple
 use Rattle.sc_ast.specs.declared.stmt.StmtKind.TheOpen as tree
 use Rattle.sc_ast.proofs.Induction as tree_induction

@@ -35,7 +35,6 @@ pub use Rattle.sc_ast.specs.declared.section.FunctionParam.{FunctionParam}
 pub use Rattle.sc_ast.specs.declared.section.GlobalTree.{GlobalTree}
 pub use Rattle.sc_ast.specs.declared.section.HeadTree.{HeadTree}
 pub use Rattle.sc_ast.specs.declared.section.ImportLine.{ImportLine}
-pub use Rattle.sc_ast.specs.declared.section.MemberTree.{MemberTree}
 pub use Rattle.sc_ast.specs.declared.section.ParamTree.{ParamTree}
 pub use Rattle.sc_ast.specs.declared.section.StructTree.{StructTree}
 pub use Rattle.sc_ast.specs.declared.stmt.SimpleKind.{SimpleKind}
@@ -51,23 +50,22 @@ pub use Rattle.sc_scope.proofs.Lines.{done, nothing, then}
 pub use Rattle.sc_scope.specs.Prelude.{Known, Text, among, base_known, base_scalar, call_known, declared, defines_main}
 pub use Rattle.sc_scope.specs.Prelude.{earlier, environment, export_names, expr_known, function_in, function_named}
 pub use Rattle.sc_scope.specs.Prelude.{function_names, functions_in, global_in, global_names, globals_in, head_in}
-pub use Rattle.sc_scope.specs.Prelude.{head_known, heads_in, import_names, import_of, interface_of, interfaces_from}
-pub use Rattle.sc_scope.specs.Prelude.{interfaces_of, is_callable, is_environment, known_in, line_of_text, main_from}
-pub use Rattle.sc_scope.specs.Prelude.{main_name, member_known, names_broken, number_or_zero, offered, offering, offers}
+pub use Rattle.sc_scope.specs.Prelude.{heads_in, import_names, import_of, interface_of, interfaces_from, interfaces_of}
+pub use Rattle.sc_scope.specs.Prelude.{is_callable, is_environment, known_in, line_of_text, main_from, main_name}
+pub use Rattle.sc_scope.specs.Prelude.{member_known, names_broken, number_or_zero, offered, offering, offers}
 pub use Rattle.sc_scope.specs.Prelude.{param_names, pointed_known, promised, proto_names, proto_of, refused_at}
 pub use Rattle.sc_scope.specs.Prelude.{result_known, scalar_of, simple_known, struct_in, struct_names, structs_in}
 pub use Rattle.sc_scope.specs.Prelude.{unless, with_lines}
 unfoldable pub use Rattle.sc_scope.specs.Prelude.{noted_all}
 pub use Rattle.sc_scope.specs.declared.broken.BrokenLines.{BrokenLines}
 pub use Rattle.sc_interfaces.specs.Prelude.{HasFewExports, HasFewParams, IsWithinCounts, agree, agrees_as, agrees_there}
-pub use Rattle.sc_interfaces.specs.Prelude.{agrees_with, crosses, decls_from, export_holds, exports_from, gives_int}
-pub use Rattle.sc_interfaces.specs.Prelude.{head_crosses, head_fits, head_holds, import_holds, imported_agrees}
-pub use Rattle.sc_interfaces.specs.Prelude.{imports_from, input_name, interface_broken, is_input, is_int, is_offered}
-pub use Rattle.sc_interfaces.specs.Prelude.{is_output, is_plain, main_holds, name_holds, output_name, result_crosses}
-pub use Rattle.sc_interfaces.specs.Prelude.{same_params, same_result, same_type, section_lines, takes_int}
-pub use Rattle.sc_interfaces.specs.Prelude.{takes_nothing}
+pub use Rattle.sc_interfaces.specs.Prelude.{agrees_with, crosses, decls_from, exports_from, gives_int, head_crosses}
+pub use Rattle.sc_interfaces.specs.Prelude.{head_fits, head_holds, imported_agrees, imports_from, input_name}
+pub use Rattle.sc_interfaces.specs.Prelude.{interface_broken, is_input, is_int, is_offered, is_output, is_plain}
+pub use Rattle.sc_interfaces.specs.Prelude.{main_holds, name_holds, output_name, result_crosses, same_params}
+pub use Rattle.sc_interfaces.specs.Prelude.{same_result, same_type, section_lines, takes_int, takes_nothing}
 pub use Rattle.sc_core.proofs.Layers.{expr_at, layer_of, on_line, stmt_at, term_of, typed}
-pub use Rattle.sc_core.specs.Prelude.{Callable, IsWellTyped, Judged, Scope, Signature, allowed, are_distinct, args_fit}
+pub use Rattle.sc_core.specs.Prelude.{Callable, IsWellTyped, Scope, Signature, allowed, are_distinct, args_fit}
 pub use Rattle.sc_core.specs.Prelude.{assign_call_fits, base_cells, base_within, body_fits, call_fits, call_height}
 pub use Rattle.sc_core.specs.Prelude.{callable_in, cells_of, decayed, decl_count, export_fits, export_name, expr_height}
 pub use Rattle.sc_core.specs.Prelude.{function_fits, global_fits, highest, import_fits, import_name, init_height}
@@ -79,12 +77,11 @@ pub use Rattle.sc_core.specs.Prelude.{proto_signature, result_fits, result_goes,
 pub use Rattle.sc_core.specs.Prelude.{same_base, same_import, same_results, same_signature, same_ty, same_types}
 pub use Rattle.sc_core.specs.Prelude.{scalar_ty, scope_of, section_fits, sections_fit, signature_of, simple_fits}
 pub use Rattle.sc_core.specs.Prelude.{simple_height, starred, starred_cells, starred_within, stmt_fits, stmt_height}
-pub use Rattle.sc_core.specs.Prelude.{struct_cells, struct_fits, structs_fit, target_signature, term_height}
-pub use Rattle.sc_core.specs.Prelude.{term_judged, total, truth, type_within, variable_fits, words_fit}
+pub use Rattle.sc_core.specs.Prelude.{struct_cells, struct_fits, structs_fit, target_signature, term_height, total}
+pub use Rattle.sc_core.specs.Prelude.{truth, type_within, variable_fits, words_fit}
 pub use Rattle.sc_core.specs.declared.expr.TypedExpr.{TypedExpr, fold-roll-TypedExpr}
 pub use Rattle.sc_core.specs.declared.expr.TypedKind.{TypedKind, TypedKind-F, the_lemmas}
 unfoldable pub use Rattle.sc_core.specs.declared.expr.TypedKind.{roll-TypedKind}
-pub use Rattle.sc_core.specs.declared.section.TypedFunction.{TypedFunction}
 pub use Rattle.sc_core.specs.declared.section.TypedParam.{TypedParam}
 pub use Rattle.sc_core.specs.declared.section.TypedSection.{TypedSection}
 pub use Rattle.sc_core.specs.declared.stmt.TypedStmt.{TypedStmt}
@@ -95,8 +92,8 @@ pub use Rattle.sc_core.specs.declared.ty.Ty.{Ty}
 pub use Rattle.sc_elab_expr.specs.Prelude.{Callees, Found, Visible, beside, found, going_to, is_zero, step, target_or}
 pub use Rattle.sc_elab_expr.specs.Prelude.{variable_typed}
 pub use Rattle.sc_elab_stmt.specs.Prelude.{assign_call_holds, call_holds, cond_holds, going_to_all, going_to_some}
-pub use Rattle.sc_elab_stmt.specs.Prelude.{kind_lines, kind_step, params_of, part_lines, return_call_holds}
-pub use Rattle.sc_elab_stmt.specs.Prelude.{simple_holds, stmt_lines, stmt_step, typed_args, typed_call, typed_simple}
+pub use Rattle.sc_elab_stmt.specs.Prelude.{kind_lines, kind_step, part_lines, return_call_holds, simple_holds}
+pub use Rattle.sc_elab_stmt.specs.Prelude.{stmt_lines, stmt_step, typed_args, typed_call, typed_simple}
 pub use Rattle.sc_elab_stmt.specs.Prelude.{typed_simple_kind, typed_stmt, typed_value}
 pub use Rattle.sc_elab.specs.Prelude.{base_of, callees_of, cells_from, decl_lines, end_of_member, head_named}
 pub use Rattle.sc_elab.specs.Prelude.{import_named, import_target, imported_target, init_holds, init_words, is_null}

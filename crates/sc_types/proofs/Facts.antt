@@ -1,11 +1,11 @@
 -- What sections keep that break no rule of interfaces.
 use Rattle.sc_types.proofs.Common.{Bool, Decl, ExportLine, Function, Global, ImportLine, List, Proto, SectionTree}
 use Rattle.sc_types.proofs.Common.{Struct, [], agrees_with, among, and_first, and_from, and_rest, ap, bytes_eq}
-use Rattle.sc_types.proofs.Common.{decls_from, export_names, exports_from, false, false≢true}
-use Rattle.sc_types.proofs.Common.{function_names, head_fits, head_holds, head_of, import_names}
-use Rattle.sc_types.proofs.Common.{imported_agrees, imports_from, is_numbered, is_offered, is_plain, main_holds}
-use Rattle.sc_types.proofs.Common.{main_name, map, name_holds, not, not-true, proto_names, refl, same_text}
-use Rattle.sc_types.proofs.Common.{section_lines, sym, true, unless, ℕ, ◌++◌, ◌||◌, ◌∙◌, ◌∷◌, ◌≡◌}
+use Rattle.sc_types.proofs.Common.{decls_from, export_names, exports_from, false, false≢true, function_names, head_fits}
+use Rattle.sc_types.proofs.Common.{head_holds, head_of, import_names, imported_agrees, imports_from, is_numbered}
+use Rattle.sc_types.proofs.Common.{is_offered, is_plain, main_holds, main_name, map, name_holds, not, not-true}
+use Rattle.sc_types.proofs.Common.{proto_names, refl, same_text, section_lines, sym, true, unless, ℕ, ◌++◌, ◌||◌, ◌∙◌}
+use Rattle.sc_types.proofs.Common.{◌∷◌, ◌≡◌}
 use Rattle.sc_scope.specs.Prelude.{are_distinct}
 use Rattle.sc_types.proofs.Basics.{rule_holds, front_empty, back_empty, Each}
 use Rattle.sc_types.proofs.Places.{Text, same_refl, numbered_front}

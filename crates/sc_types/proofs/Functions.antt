@@ -1,23 +1,22 @@
 -- Functions, globals and structs of a section that breaks no rule are well typed.
 use Rattle.sc_types.proofs.Common.{BaseTree, BaseTy, Bool, Callable, Callees, Decl, ExprTree, Function, FunctionParam}
-use Rattle.sc_types.proofs.Common.{FunctionTree, Global, GlobalTree, List, LocalTree, None, Option}
-use Rattle.sc_types.proofs.Common.{ParamTree, Proto, SectionTree, Some, StmtTree, Struct, StructTree, Ty, TypeName}
-use Rattle.sc_types.proofs.Common.{TypeTree, TypedParam, TypedStmt, [], and_first, and_from, and_rest, ap, append-nil}
-use Rattle.sc_types.proofs.Common.{append_assoc, arith, base_known, body_fits, concat, decl_lines, false}
-use Rattle.sc_types.proofs.Common.{false≢true, filter_map-append, function_fits, function_names, functions_in}
-use Rattle.sc_types.proofs.Common.{global_fits, global_names, globals_in, head_of, heads_in, if◌then◌else◌}
-use Rattle.sc_types.proofs.Common.{import_names, init_height, init_holds, init_words, is_array, is_callable, is_null}
-use Rattle.sc_types.proofs.Common.{is_numbered, is_sized, is_small, known_in, length, length-map, list_all, local_fits}
-use Rattle.sc_types.proofs.Common.{local_holds, locals_from, map, map-append, map_twice, max, most_cells}
-use Rattle.sc_types.proofs.Common.{most_height, most_params, nat_eq, nat_le, not, not-true, option_map, param_names}
-use Rattle.sc_types.proofs.Common.{param_of, passed_fits, proto_names, refl, result_fits, result_known, result_of}
-use Rattle.sc_types.proofs.Common.{scope_in, scope_of, slice_get, starred, stmt_height, stmt_lines, struct_cells}
-use Rattle.sc_types.proofs.Common.{struct_lines, struct_names, structs, structs_from, structs_in, subst, suc}
-use Rattle.sc_types.proofs.Common.{sym, tags, target_signature, true, type_of, type_of_name, type_within}
-use Rattle.sc_types.proofs.Common.{typed_function, typed_global, typed_init, typed_local, typed_locals, typed_param}
-use Rattle.sc_types.proofs.Common.{typed_section, typed_stmt, unless, variable_fits, visible_in, visible_of}
-use Rattle.sc_types.proofs.Common.{word_of_const, words_fit, zero, ℕ, ◌%◌, ◌&&◌, ◌++◌, ◌+◌, ◌-◌, ◌<◌, ◌==◌, ◌^◌, ◌∙◌}
-use Rattle.sc_types.proofs.Common.{◌∷◌, ◌≡◌}
+use Rattle.sc_types.proofs.Common.{FunctionTree, Global, GlobalTree, List, LocalTree, None, Option, ParamTree, Proto}
+use Rattle.sc_types.proofs.Common.{SectionTree, Some, StmtTree, Struct, StructTree, Ty, TypeName, TypeTree, TypedParam}
+use Rattle.sc_types.proofs.Common.{TypedStmt, [], and_first, and_from, and_rest, ap, append-nil, append_assoc, arith}
+use Rattle.sc_types.proofs.Common.{base_known, body_fits, concat, decl_lines, false, false≢true, filter_map-append}
+use Rattle.sc_types.proofs.Common.{function_fits, function_names, functions_in, global_fits, global_names, globals_in}
+use Rattle.sc_types.proofs.Common.{head_of, heads_in, if◌then◌else◌, import_names, init_height, init_holds, init_words}
+use Rattle.sc_types.proofs.Common.{is_array, is_callable, is_null, is_numbered, is_sized, is_small, known_in, length}
+use Rattle.sc_types.proofs.Common.{length-map, list_all, local_fits, local_holds, locals_from, map, map-append}
+use Rattle.sc_types.proofs.Common.{map_twice, max, most_cells, most_height, most_params, nat_eq, nat_le, not, not-true}
+use Rattle.sc_types.proofs.Common.{option_map, param_names, param_of, passed_fits, proto_names, refl, result_fits}
+use Rattle.sc_types.proofs.Common.{result_known, result_of, scope_in, scope_of, slice_get, starred, stmt_height}
+use Rattle.sc_types.proofs.Common.{stmt_lines, struct_cells, struct_lines, struct_names, structs, structs_from}
+use Rattle.sc_types.proofs.Common.{structs_in, subst, suc, sym, tags, target_signature, true, type_of, type_of_name}
+use Rattle.sc_types.proofs.Common.{type_within, typed_function, typed_global, typed_init, typed_local, typed_locals}
+use Rattle.sc_types.proofs.Common.{typed_param, typed_section, typed_stmt, unless, variable_fits, visible_in}
+use Rattle.sc_types.proofs.Common.{visible_of, word_of_const, words_fit, zero, ℕ, ◌%◌, ◌&&◌, ◌++◌, ◌+◌, ◌-◌, ◌<◌, ◌==◌}
+use Rattle.sc_types.proofs.Common.{◌^◌, ◌∙◌, ◌∷◌, ◌≡◌}
 use Rattle.sc_scope.specs.Prelude.{are_distinct}
 use Rattle.sc_elab.specs.Prelude.{function_lines}
 use Rattle.std.proofs.Math.Nat.{le-max_left, le-max_right}

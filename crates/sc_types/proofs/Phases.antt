@@ -1,9 +1,8 @@
 -- What the phases give to one another.
-use Rattle.sc_types.proofs.Common.{All, AreLow, Decl, Err, HasFewExports, HasFewParams}
-use Rattle.sc_types.proofs.Common.{IsWellTyped, IsWithinCounts, List, None, Ok, OnOk, Option}
-use Rattle.sc_types.proofs.Common.{ProgramTree, Result, SectionTree, [], ap, arith, callees_of, concat}
-use Rattle.sc_types.proofs.Common.{counts_broken, functions_in, globals_in, head_of, heads_in, interface_broken, length}
-use Rattle.sc_types.proofs.Common.{length-map, line_of_text, map, most_exports, most_nodes}
+use Rattle.sc_types.proofs.Common.{All, AreLow, Decl, Err, HasFewExports, HasFewParams, IsWellTyped, IsWithinCounts}
+use Rattle.sc_types.proofs.Common.{List, None, Ok, OnOk, Option, ProgramTree, Result, SectionTree, [], ap, arith}
+use Rattle.sc_types.proofs.Common.{callees_of, concat, counts_broken, functions_in, globals_in, head_of, heads_in}
+use Rattle.sc_types.proofs.Common.{interface_broken, length, length-map, line_of_text, map, most_exports, most_nodes}
 use Rattle.sc_types.proofs.Common.{most_params, names_broken, nat_le, param_of, program_of, refused_at, structs_in}
 use Rattle.sc_types.proofs.Common.{subst, suc, sym, types_broken, unless, zero, ℕ, ◌&&◌, ◌∙◌, ◌∷◌, ◌≡◌}
 use Rattle.sc_lex.specs.declared.refusal.Phase.TheVariants as phase

@@ -1,8 +1,7 @@
 -- Sections that break a rule are refused, and are those of no program.
 use Rattle.sc_types.proofs.Common.{Accepts, Fails, FailsRules, FailsTyped, IsTyped, List, None, Phase, ProgramTree}
-use Rattle.sc_types.proofs.Common.{Reads, SectionTree, Some, [], ap, earlier}
-use Rattle.sc_types.proofs.Common.{noted_all, program_of, refl, refused_at, same_Some, subst, sym}
-use Rattle.sc_types.proofs.Common.{ℕ, ◌∙◌, ◌∷◌, ◌≡◌}
+use Rattle.sc_types.proofs.Common.{Reads, SectionTree, Some, [], ap, earlier, noted_all, program_of, refl, refused_at}
+use Rattle.sc_types.proofs.Common.{same_Some, subst, sym, ℕ, ◌∙◌, ◌∷◌, ◌≡◌}
 use Rattle.sc_lex.specs.declared.refusal.Phase.TheVariants as phase
 use Rattle.sc_read.specs.Reading as reading
 use Rattle.sc_types.proofs.Basics.{none_some}

@@ -1,20 +1,20 @@
 -- Sections that break no rule are well typed, and have the interfaces of the text.
 use Rattle.sc_types.proofs.Common.{BaseTree, BaseTy, Bool, Callees, Decides-eqb, Decl, ExportLine, Function}
 use Rattle.sc_types.proofs.Common.{FunctionTree, Global, HeadTree, ImportLine, Interface, List, None, Option, ParamTree}
-use Rattle.sc_types.proofs.Common.{Proto, SectionTree, Signature, Some, Struct, Ty, TypeName, TypedFunction}
-use Rattle.sc_types.proofs.Common.{TypedSection, [], agree, and_first, and_from, and_rest, any_passes_from_place, ap}
-use Rattle.sc_types.proofs.Common.{append-nil, append_assoc, are_distinct, arith, bytes_eq, callees_of, export_at}
-use Rattle.sc_types.proofs.Common.{export_fits, export_name, export_names, false, false≢true, filter_map-append}
-use Rattle.sc_types.proofs.Common.{function_named, function_names, functions_in, get_behind, head_crosses}
-use Rattle.sc_types.proofs.Common.{head_fits, head_of, if◌then◌else◌, import_fits, import_name, import_names}
-use Rattle.sc_types.proofs.Common.{import_of, input_name, interface_fits, interface_of, interfaces_of}
-use Rattle.sc_types.proofs.Common.{is_numbered, is_plain_name, is_some, length, length-map, list_all}
-use Rattle.sc_types.proofs.Common.{list_any, main_name, map, map-append, map_twice, most_exports, most_nodes, nat_le}
-use Rattle.sc_types.proofs.Common.{not, not-true, number_or_zero, offered, offering, option_map, or_left, output_name}
-use Rattle.sc_types.proofs.Common.{promised, proto_of, proto_signature, refl, same_base, same_results, same_signature}
-use Rattle.sc_types.proofs.Common.{same_text, same_ty, same_type, same_types, signature_of, slice_get}
-use Rattle.sc_types.proofs.Common.{subst, suc, sym, true, typed_function, typed_section}
-use Rattle.sc_types.proofs.Common.{unless, zero, ℕ, ◌&&◌, ◌++◌, ◌==◌, ◌||◌, ◌∙◌, ◌∷◌, ◌≡◌, ◌≤◌}
+use Rattle.sc_types.proofs.Common.{Proto, SectionTree, Signature, Some, Struct, Ty, TypeName, TypedSection, [], agree}
+use Rattle.sc_types.proofs.Common.{and_first, and_from, and_rest, any_passes_from_place, ap, append-nil, append_assoc}
+use Rattle.sc_types.proofs.Common.{are_distinct, arith, bytes_eq, callees_of, export_at, export_fits, export_name}
+use Rattle.sc_types.proofs.Common.{export_names, false, false≢true, filter_map-append, function_named, function_names}
+use Rattle.sc_types.proofs.Common.{functions_in, get_behind, head_crosses, head_fits, head_of, if◌then◌else◌}
+use Rattle.sc_types.proofs.Common.{import_fits, import_name, import_names, import_of, input_name, interface_fits}
+use Rattle.sc_types.proofs.Common.{interface_of, interfaces_of, is_numbered, is_plain_name, is_some, length, length-map}
+use Rattle.sc_types.proofs.Common.{list_all, list_any, main_name, map, map-append, map_twice, most_exports, most_nodes}
+use Rattle.sc_types.proofs.Common.{nat_le, not, not-true, number_or_zero, offered, offering, option_map, or_left}
+use Rattle.sc_types.proofs.Common.{output_name, promised, proto_of, proto_signature, refl, same_base, same_results}
+use Rattle.sc_types.proofs.Common.{same_signature, same_text, same_ty, same_type, same_types, signature_of, slice_get}
+use Rattle.sc_types.proofs.Common.{subst, suc, sym, true, typed_function, typed_section, unless, zero, ℕ, ◌&&◌, ◌++◌}
+use Rattle.sc_types.proofs.Common.{◌==◌, ◌||◌, ◌∙◌, ◌∷◌, ◌≡◌, ◌≤◌}
+use Rattle.sc_core.specs.declared.section.TypedFunction.{TypedFunction}
 use Rattle.sc_event.specs.declared.interface.Import.TheVariants as import
 use Rattle.sc_event.specs.declared.interface.Proto as event
 use Rattle.sc_ast.specs.declared.types.BaseTree.TheVariants as tree_base

@@ -1,9 +1,9 @@
 -- The parts of a text, by the places at which its sections begin.
-use Rattle.sc_types.proofs.Common.{Accepts, AreStarts, IsKept, IsSource, List, ProgramTree, Section}
-use Rattle.sc_types.proofs.Common.{SectionTree, Some, [], add-one, ap, ap₂, arith, as_many, concat, drop, first_start}
-use Rattle.sc_types.proofs.Common.{flat_map, get_or, interfaces_from, length, length-map, map, map-append, part_of}
-use Rattle.sc_types.proofs.Common.{parts_from, refl, slice_get, slice_range, source_of, start_of, subst, suc, sym, take}
-use Rattle.sc_types.proofs.Common.{take_more, zero, ℕ, ◌++◌, ◌+◌, ◌-◌, ◌<◌, ◌∙◌, ◌∷◌, ◌≡◌, ◌≤◌}
+use Rattle.sc_types.proofs.Common.{Accepts, AreStarts, IsKept, IsSource, List, ProgramTree, Section, SectionTree, Some}
+use Rattle.sc_types.proofs.Common.{[], add-one, ap, ap₂, arith, as_many, concat, drop, first_start, flat_map, get_or}
+use Rattle.sc_types.proofs.Common.{interfaces_from, length, length-map, map, map-append, part_of, parts_from, refl}
+use Rattle.sc_types.proofs.Common.{slice_get, slice_range, source_of, start_of, subst, suc, sym, take, take_more, zero}
+use Rattle.sc_types.proofs.Common.{ℕ, ◌++◌, ◌+◌, ◌-◌, ◌<◌, ◌∙◌, ◌∷◌, ◌≡◌, ◌≤◌}
 use Rattle.sc_lex.specs.Prelude.{AreSections, IsSplit, line_at, none, section}
 use Rattle.sc_lex.proofs.Splits.{progress_joined, sections_rise}
 use Rattle.sc_read.proofs.Splits.{split_good, same_parts}

@@ -1,14 +1,14 @@
 -- Structs whose tags are known and whose sizes are small fit.
-use Rattle.sc_types.proofs.Common.{BaseTree, BaseTy, List, MemberTree, None, Option, Some, StructTree, Ty, TypeName}
-use Rattle.sc_types.proofs.Common.{TypeTree, [], and_first, and_from, and_rest, ap, append-nil, append_assoc, arith}
-use Rattle.sc_types.proofs.Common.{base_cells, base_known, base_of, base_within, bytes_eq, cells_from, cells_of}
-use Rattle.sc_types.proofs.Common.{end_of_member, false, false≢true, get_behind, get_front, is_numbered, is_sized}
-use Rattle.sc_types.proofs.Common.{length, length-map, list_all, ltb-true, map, member_known, members_fit, members_from}
-use Rattle.sc_types.proofs.Common.{most_cells, nat_le, nat_lt, number_of, number_or_zero, option_map_or}
-use Rattle.sc_types.proofs.Common.{pointed_known, refl, same_text, slice_get, starred, starred_cells, starred_within}
-use Rattle.sc_types.proofs.Common.{struct_cells, struct_fits, structs_fit, subst, suc, sym, true, type_of, type_of_name}
-use Rattle.sc_types.proofs.Common.{type_with, type_within, typed_struct, typed_structs, zero, ℕ, ◌*◌, ◌++◌, ◌+◌, ◌<◌}
-use Rattle.sc_types.proofs.Common.{◌==◌, ◌∙◌, ◌∷◌, ◌≡◌, ◌≤◌}
+use Rattle.sc_types.proofs.Common.{BaseTree, BaseTy, List, None, Option, Some, StructTree, Ty, TypeName, TypeTree, []}
+use Rattle.sc_types.proofs.Common.{and_first, and_from, and_rest, ap, append-nil, append_assoc, arith, base_cells}
+use Rattle.sc_types.proofs.Common.{base_known, base_of, base_within, bytes_eq, cells_from, cells_of, end_of_member}
+use Rattle.sc_types.proofs.Common.{false, false≢true, get_behind, get_front, is_numbered, is_sized, length, length-map}
+use Rattle.sc_types.proofs.Common.{list_all, ltb-true, map, member_known, members_fit, members_from, most_cells, nat_le}
+use Rattle.sc_types.proofs.Common.{nat_lt, number_of, number_or_zero, option_map_or, pointed_known, refl, same_text}
+use Rattle.sc_types.proofs.Common.{slice_get, starred, starred_cells, starred_within, struct_cells, struct_fits}
+use Rattle.sc_types.proofs.Common.{structs_fit, subst, suc, sym, true, type_of, type_of_name, type_with, type_within}
+use Rattle.sc_types.proofs.Common.{typed_struct, typed_structs, zero, ℕ, ◌*◌, ◌++◌, ◌+◌, ◌<◌, ◌==◌, ◌∙◌, ◌∷◌, ◌≡◌, ◌≤◌}
+use Rattle.sc_ast.specs.declared.section.MemberTree.{MemberTree}
 use Rattle.sc_ast.specs.declared.types.BaseTree.TheVariants as base_tree
 use Rattle.sc_core.specs.declared.ty.Ty.TheVariants as ty
 use Rattle.sc_core.specs.declared.ty.BaseTy.TheVariants as base

@@ -3,14 +3,13 @@ use Rattle.sc_types.proofs.Common.{BinaryOp, Bool, CallTree, Callees, Each, Expr
 use Rattle.sc_types.proofs.Common.{Inside, List, LocalTree, None, Option, SectionTree, SimpleKind, SimpleTree, Some}
 use Rattle.sc_types.proofs.Common.{StmtKind, StmtKind-F, StmtTree, Ty, TypedExpr, TypedKind, TypedStmt, TypedStmtKind}
 use Rattle.sc_types.proofs.Common.{Under, Visible, [], ap, ap₂, beside, call_nodes, cond, decayed, decls_nodes}
-use Rattle.sc_types.proofs.Common.{expr_induction, expr_nodes, expr_step, false, found, function_nodes}
-use Rattle.sc_types.proofs.Common.{going_to, going_to_all, going_to_some, init_nodes}
-use Rattle.sc_types.proofs.Common.{kind_step as typed_kind_step, length-map, local_nodes, map, map-ExprTree, nodes}
-use Rattle.sc_types.proofs.Common.{option_map, part_nodes, refl, result_of, rules, simple_nodes, step}
-use Rattle.sc_types.proofs.Common.{stmt_induction, stmt_nodes, stmt_step as typed_stmt_step, suc, sym, the_lemmas}
-use Rattle.sc_types.proofs.Common.{total, true, typed_call, typed_function, typed_init, typed_locals, typed_section}
-use Rattle.sc_types.proofs.Common.{typed_simple, typed_simple_kind, typed_stmt, variable_typed, visible_in, visible_of}
-use Rattle.sc_types.proofs.Common.{ℕ, ◌+◌, ◌∙◌, ◌∷◌, ◌≡◌}
+use Rattle.sc_types.proofs.Common.{expr_induction, expr_nodes, expr_step, false, found, function_nodes, going_to}
+use Rattle.sc_types.proofs.Common.{going_to_all, going_to_some, init_nodes, kind_step as typed_kind_step, length-map}
+use Rattle.sc_types.proofs.Common.{local_nodes, map, map-ExprTree, nodes, option_map, part_nodes, refl, result_of}
+use Rattle.sc_types.proofs.Common.{rules, simple_nodes, step, stmt_induction, stmt_nodes, stmt_step as typed_stmt_step}
+use Rattle.sc_types.proofs.Common.{suc, sym, the_lemmas, total, true, typed_call, typed_function, typed_init}
+use Rattle.sc_types.proofs.Common.{typed_locals, typed_section, typed_simple, typed_simple_kind, typed_stmt}
+use Rattle.sc_types.proofs.Common.{variable_typed, visible_in, visible_of, ℕ, ◌+◌, ◌∙◌, ◌∷◌, ◌≡◌}
 use Rattle.sc_elab_expr.specs.Prelude.{typed}
 use Rattle.sc_types.specs.Prelude.{kind_step, stmt_step}
 use Rattle.sc_base.specs.declared.op.BinaryOp.TheVariants as tree_op

@@ -1,19 +1,18 @@
 -- A text that breaks no rule is a well-typed program.
 use Rattle.sc_types.proofs.Common.{AreLow, Bool, Callees, Decl, ExportLine, Function, FunctionTree, Global, ImportLine}
-use Rattle.sc_types.proofs.Common.{Interface, IsWellTyped, List, Proto, SectionTree, Some, Struct}
-use Rattle.sc_types.proofs.Common.{TypedSection, [], and_first, and_from, and_rest, any_passes_from_place, ap}
-use Rattle.sc_types.proofs.Common.{append_assoc, are_distinct, arith, bytes_eq, callees_of, codes, concat}
-use Rattle.sc_types.proofs.Common.{counts_broken, decl_count, defines_main, environment, false, false≢true}
-use Rattle.sc_types.proofs.Common.{functions_in, get_behind, globals_in, head_of, heads_in, if◌then◌else◌}
-use Rattle.sc_types.proofs.Common.{interface_broken, interface_fits, interface_of, interfaces_from, interfaces_of}
-use Rattle.sc_types.proofs.Common.{is_main, is_numbered, is_well_typed, length, length-map, line_of_text, list_any}
-use Rattle.sc_types.proofs.Common.{main_fits, main_from, main_name, mains_in, map, map-append, most_compartments}
-use Rattle.sc_types.proofs.Common.{most_exports, most_nodes, names_broken, nat_le, not, not-true}
-use Rattle.sc_types.proofs.Common.{option_map, program_of, refl, same_Some, same_signature, section_fits}
-use Rattle.sc_types.proofs.Common.{section_height, sections_fit, sections_from, signature_of, slice_get}
-use Rattle.sc_types.proofs.Common.{structs, structs_in, subst, suc, sym, tags, true, truth, typed_function}
-use Rattle.sc_types.proofs.Common.{typed_global, typed_section, types_broken, zero, ℕ, ◌&&◌, ◌++◌, ◌+◌, ◌==◌}
-use Rattle.sc_types.proofs.Common.{◌||◌, ◌∙◌, ◌∷◌, ◌≡◌, ◌≤◌}
+use Rattle.sc_types.proofs.Common.{Interface, IsWellTyped, List, Proto, SectionTree, Some, Struct, TypedSection, []}
+use Rattle.sc_types.proofs.Common.{and_first, and_from, and_rest, any_passes_from_place, ap, append_assoc, are_distinct}
+use Rattle.sc_types.proofs.Common.{arith, bytes_eq, callees_of, codes, concat, counts_broken, decl_count, defines_main}
+use Rattle.sc_types.proofs.Common.{environment, false, false≢true, functions_in, get_behind, globals_in, head_of}
+use Rattle.sc_types.proofs.Common.{heads_in, if◌then◌else◌, interface_broken, interface_fits, interface_of}
+use Rattle.sc_types.proofs.Common.{interfaces_from, interfaces_of, is_main, is_numbered, is_well_typed, length}
+use Rattle.sc_types.proofs.Common.{length-map, line_of_text, list_any, main_fits, main_from, main_name, mains_in, map}
+use Rattle.sc_types.proofs.Common.{map-append, most_compartments, most_exports, most_nodes, names_broken, nat_le, not}
+use Rattle.sc_types.proofs.Common.{not-true, option_map, program_of, refl, same_Some, same_signature, section_fits}
+use Rattle.sc_types.proofs.Common.{section_height, sections_fit, sections_from, signature_of, slice_get, structs}
+use Rattle.sc_types.proofs.Common.{structs_in, subst, suc, sym, tags, true, truth, typed_function, typed_global}
+use Rattle.sc_types.proofs.Common.{typed_section, types_broken, zero, ℕ, ◌&&◌, ◌++◌, ◌+◌, ◌==◌, ◌||◌, ◌∙◌, ◌∷◌, ◌≡◌}
+use Rattle.sc_types.proofs.Common.{◌≤◌}
 use Rattle.sc_core.specs.declared.ty.Ty.TheVariants as ty
 use Rattle.sc_scope.specs.Names as names
 use Rattle.sc_elab.specs.Sections as elab

@@ -14,10 +14,10 @@ pub use Rattle.clap.specs.Lexer.{short_of}
 pub use Rattle.clap.specs.Simple.{App, HasMatchesOf, Shape, entered, is_simple, label_of, names_of, new_shape, rows_at}
 pub use Rattle.clap.specs.Simple.{subcommand_of, subcommand_rows, subcommand_rows_of}
 pub use Rattle.clap.specs.Walk.{Held, Names, Row, Rule, Step, Waiting, Walk, after_flag, after_step, answers_to}
-pub use Rattle.clap.specs.Walk.{arg_by_id, arg_by_index, arg_by_long, at_row, finished, first_of, has_long, has_row}
-pub use Rattle.clap.specs.Walk.{idle, long_met, more_values, nothing_held, one_of, option, reacted, row_text}
-pub use Rattle.clap.specs.Walk.{rows_after, rows_of, settled, subcommand_met, subcommand_or_other, used, used_by_id}
-pub use Rattle.clap.specs.Walk.{walk_from, with_default, with_values}
+pub use Rattle.clap.specs.Walk.{arg_by_id, arg_by_index, arg_by_long, at_row, finished, first_of, has_row, idle}
+pub use Rattle.clap.specs.Walk.{long_met, more_values, nothing_held, one_of, option, reacted, row_text, rows_after}
+pub use Rattle.clap.specs.Walk.{rows_of, settled, subcommand_met, subcommand_or_other, used, used_by_id, walk_from}
+pub use Rattle.clap.specs.Walk.{with_default, with_values}
 unfoldable pub use Rattle.clap.specs.Walk.{walked}
 pub use Rattle.clap.specs.declared.error.kind.ErrorKind.{ErrorKind}
 pub use Rattle.std.proofs.Math.Bool.{and-false, or-false}

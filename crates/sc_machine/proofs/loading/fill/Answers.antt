@@ -1,5 +1,4 @@
-use Rattle.sc_machine.proofs.Common.{ap, arith, get_or, next_there, stored, written_more, ◌+◌, ◌∙◌}
-use Rattle.sc_store.proofs.Parts.{one_there}
+use Rattle.sc_machine.proofs.Common.{ap, arith, get_or, next_there, one_there, stored, written_more, ◌+◌, ◌∙◌}
 use Rattle.sc_machine.proofs.Start.{one_stored}
 use Rattle.sc_machine.proofs.loading.fill.Goals as goal
 
