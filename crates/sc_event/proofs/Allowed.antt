@@ -2,7 +2,7 @@
 use Rattle.sc_event.proofs.Common.{Activation, Bool, Call, End, Event, IfSome, In, Interfaces, List, None, Option, Out}
 use Rattle.sc_event.proofs.Common.{Ret, Some, Standing, StandsBy, [], and_parts, ap, arith, awaits, drop, drop_more}
 use Rattle.sc_event.proofs.Common.{eq-eqb, false, false≢true, get_or, is_allowed, is_end, is_legal_from, legal, length}
-use Rattle.sc_event.proofs.Common.{length-drop, may_perform, may_return, ne_eqb, open_after, option_and_then, performer}
+use Rattle.sc_event.proofs.Common.{length-drop, may_perform, ne_eqb, open_after, option_and_then, performer}
 use Rattle.sc_event.proofs.Common.{refl, resumed, slice_get, slice_get-get_or, stands_after, suc, sym, true, ℕ, ◌&&◌}
 use Rattle.sc_event.proofs.Common.{◌+◌, ◌-◌, ◌<◌, ◌==◌, ◌∙◌, ◌∷◌, ◌≡◌}
 use Rattle.sc_event.proofs.OpenCalls.{standing, standing_next, after_by}
@@ -28,8 +28,7 @@ goes_further : (interfaces : Interfaces) (at : Standing) (event : Event) → may
     is_end event ≡ false →
     (next : Standing) × (stands_after at event ≡ Some next)
 goes_further interfaces at (Call from to index args) may open_end = (_, refl)
-goes_further interfaces at (Ret from to value) may open_end =
-    resumes at.waiting to (and_parts (awaits at.waiting to) (may_return interfaces from at.active.entry value) may).0
+goes_further interfaces at (Ret from to value) may open_end = resumes _ to (and_parts _ _ may).0
 goes_further interfaces at (Out comp value) may open_end = (at, refl)
 goes_further interfaces at (In comp value) may open_end = (at, refl)
 goes_further interfaces at (End comp value) may open_end = absurd (false≢true (sym open_end))
@@ -41,7 +40,7 @@ module _ (interfaces : Interfaces) (trace : List Event) (pending : Option ℕ) (
   splits : legal interfaces trace ≡ (is_allowed interfaces is.at event &&
       is_legal_from interfaces (stands_after is.at event) (drop (place + 1) trace))
   splits =
-      is.left ∙ ap (is_legal_from interfaces (Some is.at)) (drop_more trace place event within) ∙
+      is.left ∙ ap (is_legal_from interfaces _) (drop_more trace place event within) ∙
       ap (λ e. is_legal_from interfaces (Some is.at) (e ∷ drop (place + 1) trace)) (sym here)
 
   module _ (allowed : Bool) (says : (at : Standing) → StandsBy interfaces.main trace pending at →
@@ -60,10 +59,10 @@ module _ (interfaces : Interfaces) (trace : List Event) (pending : Option ℕ) (
         (place + 1 == length trace) ≡ is_legal_from interfaces None later
     nothing_follows [] e =
         let count = length-drop (place + 1) trace in
-        eq-eqb (place + 1) (length trace) (omega (arith, within, count, ap length e))
+        eq-eqb _ _ (omega (arith, within, count, ap length e))
     nothing_follows (next ∷ later) e =
         let count = length-drop (place + 1) trace in
-        ne_eqb (place + 1) (length trace) (λ same. omega (arith, within, count, ap length e, same))
+        ne_eqb _ _ (λ same. omega (arith, within, count, ap length e, same))
 
     after_end : (e : Event) → is_end e ≡ true → stands_after is.at e ≡ None
     after_end (Call from to index args) end = absurd (false≢true end)
@@ -74,7 +73,7 @@ module _ (interfaces : Interfaces) (trace : List Event) (pending : Option ℕ) (
 
     pub ended : allowed ≡ true → is_end event ≡ true → (place + 1 == length trace) ≡ legal interfaces trace
     ended granted end =
-        nothing_follows (drop (place + 1) trace) refl ∙
+        nothing_follows _ refl ∙
         sym (passed granted ∙ ap (λ s. is_legal_from interfaces s (drop (place + 1) trace)) (after_end event end))
 
     pub goes_on : IfSome pending (λ call. call < length trace) → allowed ≡ true → is_end event ≡ false →

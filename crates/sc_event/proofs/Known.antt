@@ -1,7 +1,7 @@
 -- The numbers of a legal trace's events stand for something.
 use Rattle.sc_event.proofs.Common.{Activation, All, Bool, Call, End, Event, In, Interfaces, IsKnown, IsSome, List, None}
-use Rattle.sc_event.proofs.Common.{Option, Out, Ret, Some, Standing, [], and_parts, at_start, awaits, comp_at, eqb-true}
-use Rattle.sc_event.proofs.Common.{export_at, false, false≢true, imports, is_allowed, is_function, is_legal_from, legal}
+use Rattle.sc_event.proofs.Common.{Option, Out, Ret, Some, Standing, [], and_parts, awaits, comp_at, eqb-true}
+use Rattle.sc_event.proofs.Common.{export_at, false, false≢true, imports, is_allowed, is_legal_from, legal}
 use Rattle.sc_event.proofs.Common.{length, may_perform, may_return, option_and_then, option_map_or, performer, refl}
 use Rattle.sc_event.proofs.Common.{resumed, slice_get, stands_after, subst, sym, takes, true, ℕ, ◌==◌, ◌∷◌, ◌≡◌}
 use Rattle.std.proofs.lemmas.List.Elements.{All-from_recursion}
@@ -24,24 +24,23 @@ module _ (interfaces : Interfaces) where
 
   -- an export has a compartment
   has_comp : (comp index : ℕ) → IsSome (export_at interfaces comp index) → IsComp comp
-  has_comp comp index = of (comp_at interfaces comp)
+  has_comp comp index = of _
     where
       of : (found : Option Interface) → IsSome (option_and_then (λ found. slice_get found.exports index) found) →
           IsSome found
       of None is = absurd (false≢true is)
-      of (Some found) is = refl
+      of _ is = refl
 
   awaited : (waiting : List Activation) (to : ℕ) → awaits waiting to ≡ true →
       AllByRecursion (λ a. IsComp a.comp) waiting → IsComp to
   awaited [] to is known = absurd (false≢true is)
-  awaited (latest ∷ earlier) to is known = subst IsComp (eqb-true latest.comp to is) known.0
+  awaited (latest ∷ earlier) to is known = subst IsComp (eqb-true _ to is) known.0
 
   performed : (at : Standing) (event : Event) → may_perform interfaces at event ≡ true → IsAmong at →
       IsComp (performer event) → IsKnown interfaces event
   performed at (Call from to index args) may known mine =
-      let takes_it = (and_parts (imports interfaces from (is_function to index))
-      (takes interfaces to index (length args)) may).1 in
-      let export = there (export_at interfaces to index) (λ found. length found.params == length args) takes_it in
+      let takes_it = (and_parts (imports interfaces from _) (takes interfaces to index _) may).1 in
+      let export = there _ (λ found. length _ == length args) takes_it in
       (mine, has_comp to index export, export)
   performed at (Ret from to value) may known mine = (
     mine,
@@ -55,9 +54,8 @@ module _ (interfaces : Interfaces) where
   known_of : (at : Standing) (event : Event) → is_allowed interfaces at event ≡ true → IsAmong at →
       IsKnown interfaces event
   known_of at event allowed known =
-      let parts = and_parts (performer event == at.active.comp) (may_perform interfaces at event) allowed in
-      performed at event parts.1 known (subst IsComp (sym
-      (eqb-true (performer event) at.active.comp parts.0)) known.active)
+      let parts = and_parts _ _ allowed in
+      performed at event parts.1 known (subst IsComp (sym (eqb-true _ _ parts.0)) known.active)
 
   -- a run that goes on stands among the compartments
   abbrev StandsAmong : Option Standing → Type 0
@@ -67,11 +65,11 @@ module _ (interfaces : Interfaces) where
   among_after : (at : Standing) (event : Event) → IsKnown interfaces event → IsAmong at →
       StandsAmong (stands_after at event)
   among_after at (Call from to index args) is known = record { active = is.1; waiting = (known.active, known.waiting) }
-  among_after at (Ret from to value) is known = resume at.waiting known.waiting
+  among_after at (Ret from to value) is known = resume _ known.waiting
     where
       resume : (waiting : List Activation) → AllByRecursion (λ a. IsComp a.comp) waiting → StandsAmong (resumed waiting)
       resume [] all = tt
-      resume (latest ∷ earlier) all = record { active = all.0; waiting = all.1 }
+      resume _ all = record { active = all.0; waiting = all.1 }
   among_after at (Out comp value) is known = known
   among_after at (In comp value) is known = known
   among_after at (End comp value) is known = tt
@@ -81,13 +79,11 @@ module _ (interfaces : Interfaces) where
   all_known from [] known is = tt
   all_known None (event ∷ later) known is = absurd (false≢true is)
   all_known (Some at) (event ∷ later) known is =
-      let parts = and_parts (is_allowed interfaces at event)
-      (is_legal_from interfaces (stands_after at event) later) is in
+      let parts = and_parts _ _ is in
       let this = known_of at event parts.0 known in
-      (this, all_known (stands_after at event) later (among_after at event this known) parts.1)
+      (this, all_known _ later (among_after at event this known) parts.1)
 
   pub legal_is_known : (trace : List Event) → IsComp interfaces.main → legal interfaces trace ≡ true →
       All (IsKnown interfaces) trace
   legal_is_known trace main is =
-      All-from_recursion (IsKnown interfaces) trace (all_known (at_start interfaces.main) trace
-      (record { active = main; waiting = tt }) is)
+      All-from_recursion (IsKnown interfaces) trace (all_known _ trace (record { active = main; waiting = tt }) is)

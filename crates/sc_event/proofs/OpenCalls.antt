@@ -19,7 +19,7 @@ behind_last : (from : Option Standing) (earlier : List Event) (event : Event) �
 behind_last None [] event = refl
 behind_last (Some at) [] event = refl
 behind_last None (first ∷ earlier) event = refl
-behind_last (Some at) (first ∷ earlier) event = behind_last (stands_after at first) earlier event
+behind_last (Some at) (first ∷ earlier) event = behind_last _ earlier event
 
 event_here : (trace : List Event) (place : ℕ) (event : Event) → place < length trace →
     event ≡ get_or trace place event → slice_get trace place ≡ Some event
@@ -35,11 +35,11 @@ goes_on trace left place returned before event e within is found =
 
 pub few : (event : Event) (returned before : ℕ) → returned_before event returned ≡ Some before → before ≤ suc returned
 few (Call from to index args) zero before is = absurd (none-some before is)
-few (Call from to index args) (suc returned) before is = omega (arith, same_Some returned before is)
-few (Ret from to value) returned before is = omega (arith, same_Some (suc returned) before is)
-few (Out comp value) returned before is = omega (arith, same_Some returned before is)
-few (In comp value) returned before is = omega (arith, same_Some returned before is)
-few (End comp value) returned before is = omega (arith, same_Some returned before is)
+few (Call from to index args) (suc returned) before is = omega (arith, same_Some _ before is)
+few (Ret from to value) returned before is = omega (arith, same_Some _ before is)
+few (Out comp value) returned before is = omega (arith, same_Some _ before is)
+few (In comp value) returned before is = omega (arith, same_Some _ before is)
+few (End comp value) returned before is = omega (arith, same_Some _ before is)
 
 -- where the run stands once so many more calls have returned
 abbrev back : (returned : ℕ) → Standing → Option Standing
@@ -53,7 +53,7 @@ module _ (main : ℕ) (trace : List Event) where
   pub standing_next : (n : ℕ) (event : Event) → slice_get trace n ≡ Some event →
       standing (suc n) ≡ option_and_then (λ at. stands_after at event) (standing n)
   standing_next n event is =
-      ap (stands_behind (at_start main)) (one_more trace n event is) ∙ behind_last (at_start main) (take n trace) event
+      ap (stands_behind _) (one_more trace n event is) ∙ behind_last (at_start main) (take n trace) event
 
   -- the open call behind so many events is found, also after further returns
   abbrev Finds : ℕ → Type 0
@@ -67,14 +67,13 @@ module _ (main : ℕ) (trace : List Event) where
   found_by count (Call from to index args) is again earlier was zero at then_at next up =
       (earlier, was, subst (λ o. HasEntered o earlier then_at) (sym is) (sym (same_Some _ _ (next ∙ up))))
   found_by count (Call from to index args) is again earlier was (suc returned) at then_at next up =
-      again returned earlier then_at was (subst (λ s. back (suc returned) s ≡ Some then_at)
-      (sym (same_Some _ _ next)) up)
+      again _ earlier then_at was (subst (λ s. back (suc returned) s ≡ Some then_at) (sym (same_Some _ _ next)) up)
   found_by count (Ret from to value) is again earlier was returned at then_at next up =
-      again (suc returned) earlier then_at was (ap (option_and_then (back returned)) next ∙ up)
+      again _ earlier then_at was (ap (option_and_then _) next ∙ up)
   found_by count (Out comp value) is again earlier was returned at then_at next up =
-      again returned earlier then_at was (subst (λ s. back returned s ≡ Some then_at) (sym (same_Some _ _ next)) up)
+      again _ earlier then_at was (subst (λ s. back returned s ≡ Some then_at) (sym (same_Some _ _ next)) up)
   found_by count (In comp value) is again earlier was returned at then_at next up =
-      again returned earlier then_at was (subst (λ s. back returned s ≡ Some then_at) (sym (same_Some _ _ next)) up)
+      again _ earlier then_at was (subst (λ s. back returned s ≡ Some then_at) (sym (same_Some _ _ next)) up)
   found_by count (End comp value) is again earlier was returned at then_at next up = absurd (none-some at next)
 
   found_next : (count : ℕ) (event : Event) → slice_get trace count ≡ Some event → Finds count →
@@ -84,7 +83,7 @@ module _ (main : ℕ) (trace : List Event) where
       StandsBy main trace (here_or count (open_call trace count) (returned_before event returned)) then_at
   found_next count event is again None was returned at then_at next up = absurd (none-some at next)
   found_next count event is again (Some earlier) was returned at then_at next up =
-      found_by count event is again earlier was returned at then_at next up
+      found_by count event is again earlier was _ at then_at next up
 
   found_first : (returned : ℕ) (at then_at : Standing) → at_start main ≡ Some at → back returned at ≡ Some then_at →
       StandsBy main trace None then_at
@@ -93,13 +92,13 @@ module _ (main : ℕ) (trace : List Event) where
       absurd (none-some then_at (subst (λ s. back (suc returned) s ≡ Some then_at) (sym (same_Some _ _ is)) up))
 
   pub found : (count : ℕ) → count ≤ length trace → Finds count
-  found zero within = λ returned at then_at is up. found_first returned at then_at is up
+  found zero within = λ returned at then_at is up. found_first _ at then_at is up
   found (suc count) within = λ returned at then_at is up.
       let last = get_or trace count (End 0 0) in
-      let here : slice_get trace count ≡ Some last = slice_get-get_or trace count (End 0 0) (omega (arith, within)) in
+      let here = slice_get-get_or trace count (End 0 0) (omega (arith, within)) in
       subst (λ o. StandsBy main trace (here_or count (open_call trace count)
       (option_map_or (λ event. returned_before event returned) o (Some returned))) then_at) (sym here)
-      (found_next count last here (found count (omega (arith, within))) (standing count) refl returned at then_at
+      (found_next count last here (found count (omega (arith, within))) _ refl _ at then_at
       (sym (standing_next count last here) ∙ is) up)
 
   -- where the run stands by an open call, the latest function that waits stands by the outer one
@@ -120,14 +119,13 @@ module _ (main : ℕ) (trace : List Event) where
         ((earlier : Standing) → StandsBy main trace (open_call trace call 0) earlier → comp ≡ earlier.active.comp) →
         (comp == to) ≡ awaits at.waiting to
     awaited comp to by is =
-        ap (λ c. c == to) (is by.0 (caller by.0 by.1)) ∙
-        ap (λ ws. awaits ws to) (sym (waits_by (slice_get trace call) by.0 by.2))
+        ap (λ c. c == to) (is by.0 (caller by.0 by.1)) ∙ ap (λ ws. awaits ws to) (sym (waits_by _ by.0 by.2))
 
     pub outer_by : (next : Standing) → StandsBy main trace (Some call) at → resumed at.waiting ≡ Some next →
         StandsBy main trace (open_call trace call 0) next
     outer_by next by e =
-        let same : Some by.0 ≡ Some next = sym (ap resumed (waits_by (slice_get trace call) by.0 by.2)) ∙ e in
-        subst (StandsBy main trace (open_call trace call 0)) (same_Some _ _ same) (caller by.0 by.1)
+        let same = sym (ap resumed (waits_by _ by.0 by.2)) ∙ e in
+        subst (StandsBy main trace _) (same_Some _ _ same) (caller by.0 by.1)
 
   -- the run stands by the open call after each event
   pub after_by : (pending : Option ℕ) (place : ℕ) (event : Event) (at next : Standing) →

@@ -37,8 +37,7 @@ module _ (comp : ℕ) (event : Event) (later : List Event) (at : Standing) (own 
       ap (λ n. row_of at n event ∷ rows_from comp (suc n) (stands_after at event) later) none
   behind number (first ∷ earlier) None e = absurd (none-some at e)
   behind number (first ∷ earlier) (Some s) e =
-      split (performer first == comp) (behind (suc number) earlier (stands_after s first) e)
-      (behind number earlier (stands_after s first) e)
+      split (performer first == comp) (behind _ earlier (stands_after s first) e) (behind number earlier _ e)
     where
       split : (mine : Bool) → IsNext (suc number) (count_of comp earlier)
           (rows_from comp (suc number) (stands_after s first) (earlier ++ event ∷ later)) →
@@ -47,11 +46,8 @@ module _ (comp : ℕ) (event : Event) (later : List Event) (at : Standing) (own 
           IsNext number (length (cond mine (first ∷ filter (λ event. performer event == comp) earlier)
           (filter (λ event. performer event == comp) earlier)))
           (if mine then row_of s number first ∷ rows_from comp (suc number) (stands_after s first)
-          (earlier ++ event ∷ later)
-          else rows_from comp number (stands_after s first) (earlier ++ event ∷ later))
-      split true with_it without =
-          one_before number (count_of comp earlier) (row_of s number first)
-          (rows_from comp (suc number) (stands_after s first) (earlier ++ event ∷ later)) with_it
+          (earlier ++ event ∷ later) else rows_from comp number (stands_after s first) (earlier ++ event ∷ later))
+      split true with_it without = one_before number (count_of comp earlier) (row_of s number first) _ with_it
       split false with_it without = without
 
 -- behind its own events so far, the rows of a compartment begin with its next event, and the function that is active
@@ -62,5 +58,5 @@ pub next_row : (main comp : ℕ) (earlier : List Event) (event : Event) (later :
     row_of at (count_of comp earlier) event ∷ rows_from comp (suc (count_of comp earlier)) (stands_after at event) later
 next_row main comp earlier event later at own come =
     let none : 0 + count_of comp earlier ≡ count_of comp earlier = omega arith in
-    behind comp event later at own 0 earlier (at_start main) come ∙
+    behind comp event later at own 0 earlier _ come ∙
     ap (λ n. row_of at n event ∷ rows_from comp (suc n) (stands_after at event) later) none
