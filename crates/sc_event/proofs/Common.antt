@@ -10,9 +10,9 @@ pub use Rattle.std.proofs.lemmas.Option.{slice_get_within}
 pub use Rattle.std.specs.Option.{option_and_then, option_map_or}
 pub use Rattle.sc_event.specs.Prelude.{Activation, HasEntered, IsKnown, Standing, StandsBy, action_of, at_start, awaits}
 pub use Rattle.sc_event.specs.Prelude.{comp_at, count_of, event_line, export_at, here_or, imports, is_allowed, is_end}
-pub use Rattle.sc_event.specs.Prelude.{is_function, is_legal_from, legal, may_perform, may_return, open_after}
-pub use Rattle.sc_event.specs.Prelude.{open_call, part, performer, resumed, returned_before, rows_from, spaced_names}
-pub use Rattle.sc_event.specs.Prelude.{spaced_words, stands_after, stands_behind, takes}
+pub use Rattle.sc_event.specs.Prelude.{is_legal_from, legal, may_perform, may_return, open_after, open_call, part}
+pub use Rattle.sc_event.specs.Prelude.{performer, resumed, returned_before, rows_from, spaced_names, spaced_words}
+pub use Rattle.sc_event.specs.Prelude.{stands_after, stands_behind, takes}
 pub use Rattle.sc_event.specs.declared.event.Event.{Event}
 pub use Rattle.sc_event.specs.declared.event.Event.TheVariants.{Call, End, In, Out, Ret}
 pub use Rattle.sc_event.specs.declared.interface.Interfaces.{Interfaces}
