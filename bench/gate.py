@@ -4,12 +4,14 @@ tests and its edits, the sums, and the longest chain of crates that prove one af
 
 It looks at the processes of the run three times a second, so that what lasts less is missed; times are those of the
 processors, so other work beside it changes them a little. It takes as long as the gate does. The gate's last line is printed last.
+A clone that it made, some 13 GB when the gate has run in it, is removed at the end; the gate's output stays beside it.
 
 usage: bench/gate.py [FOLDER]     FOLDER: a clone that is there, in place of a new one
 """
 import collections
 import os
 import re
+import shutil
 import subprocess
 import sys
 import tempfile
@@ -95,6 +97,8 @@ def main(words):
     print(f"longest chain: {length:.1f} minutes: {' '.join(crates)}")
     print(f"{(time.time() - start) / 60:.0f} minutes in all on {os.cpu_count()} processors; {clone}.log ends:")
     print(open(clone + ".log", encoding="utf-8").read().strip().splitlines()[-1])
+    if not words:
+        shutil.rmtree(clone)
     return gate.returncode
 
 

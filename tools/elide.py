@@ -11,6 +11,7 @@ KEPT is used as there. What comes out is to be laid out by `rt fmt`, and proved 
 import glob
 import os
 import re
+import shutil
 import subprocess
 import sys
 
@@ -235,6 +236,7 @@ def main(words):
             withdraw(files, errors, tries)
     finally:
         open(root, "w", encoding="utf-8").write(code)
+        shutil.rmtree(f"/tmp/elide-{os.getpid()}", ignore_errors=True)
         for file in files:
             file.write(file.text if errors or errors is None else file.edited()[0], False)
 
