@@ -4,8 +4,9 @@ use sc_types::{SourceText, TextFault};
 use std::alloc::Global;
 use std::test::Fail;
 
-/// A text, and the line at which it must be refused; none where it is a program.
-pub type Row = (&'static [u8], Option<u32>);
+/// A text. The line at which it must be refused has an `@` in it, the text's first, which isn't part of it; a text with
+/// none is a program.
+pub type Row = &'static [u8];
 
 /// A row that gives something else than it must.
 #[derive(Clone, Copy, Debug, Drop, PartialEq, Eq)]
@@ -57,6 +58,32 @@ pub fn judge(alloc: Global, text: &[u8]) -> Result<Option<Refusal>, Fail> {
     }
 }
 
+/// The line in which a text ends, from 1.
+fn line_at_end(text: &[u8]) -> u32 {
+    let mut line = 1;
+    for &byte in text {
+        if byte == b'\n' {
+            line = u32::saturating_add(line, 1);
+        }
+    }
+    line
+}
+
+/// The whole text of a row, and the line that is marked in it.
+fn marked(alloc: Global, frame: Frame, row: Row) -> Result<(Vec<u8>, Option<u32>), Fail> {
+    let mut text = frame.before.to_vec(alloc)?;
+    let mut line = None;
+    for &byte in row {
+        if byte == b'@' && line.is_none() {
+            line = Some(line_at_end(text.as_slice()));
+        } else {
+            text.push(byte)?;
+        }
+    }
+    text.extend_from_slice(frame.after)?;
+    Ok((text, line))
+}
+
 /// The rows that aren't refused in this phase at their line, or are no program where they have none.
 pub fn wrong_rows(
     alloc: Global,
@@ -65,15 +92,10 @@ pub fn wrong_rows(
     rows: &[Row],
 ) -> Result<Vec<Wrong>, Fail> {
     let mut wrong = Vec::new(alloc);
-    for (row, (text, line)) in rows.iter().enumerate() {
-        let mut whole = frame.before.to_vec(alloc)?;
-        whole.extend_from_slice(text)?;
-        whole.extend_from_slice(frame.after)?;
-        let answer = judge(alloc, whole.as_slice())?;
-        let want = match *line {
-            None => None,
-            Some(line) => Some(Refusal { phase, line }),
-        };
+    for (row, text) in rows.iter().enumerate() {
+        let (text, line) = marked(alloc, frame, text)?;
+        let want = line.map(|line| Refusal { phase, line });
+        let answer = judge(alloc, text.as_slice())?;
         if answer != want {
             wrong.push(Wrong { row, answer })?;
         }

@@ -6,151 +6,79 @@ use std::test::Fail;
 // Each stands behind a compartment line, and before `main`.
 const IN_A_SECTION: [Row; 34] = [
     // A function has at most 8 parameters, wherever it is declared.
-    (
-        b"int f(int a, int b, int c, int d, int e, int f, int g, int h) { return h; }\n",
-        None,
-    ),
-    (
-        b"int f(int a, int b, int c, int d, int e, int f, int g, int h, int i) { return h; }\n",
-        Some(2),
-    ),
-    (b"int f(int, int, int, int, int, int, int, int *);\n", None),
-    (
-        b"int x;\nint f(int, int, int, int, int, int, int, int, int *);\n",
-        Some(3),
-    ),
-    (
-        b"int f(int a, int b, int c, int d,\n  int e, int f, int g, int h,\n  int i) { return h; }\n",
-        Some(2),
-    ),
-    (
-        b"int f(int, int, int, int, int, int, int, int, int);
+    b"int f(int a, int b, int c, int d, int e, int f, int g, int h) { return h; }\n",
+    b"@int f(int a, int b, int c, int d, int e, int f, int g, int h, int i) { return h; }\n",
+    b"int f(int, int, int, int, int, int, int, int *);\n",
+    b"int x;\n@int f(int, int, int, int, int, int, int, int, int *);\n",
+    b"@int f(int a, int b, int c, int d,\n  int e, int f, int g, int h,\n  int i) { return h; }\n",
+    b"@int f(int, int, int, int, int, int, int, int, int);
 int f(int a, int b, int c, int d, int e, int f, int g, int h, int i) { return h; }
 ",
-        Some(2),
-    ),
-    (
-        b"#pragma export f\nint f(int a, int b, int c, int d, int e, int f, int g, int h) { return h; }\n",
-        None,
-    ),
-    (
-        b"#pragma export f\nint f(int a, int b, int c, int d, int e, int f, int g, int h, int i) { return h; }\n",
-        Some(3),
-    ),
+    b"#pragma export f\nint f(int a, int b, int c, int d, int e, int f, int g, int h) { return h; }\n",
+    b"#pragma export f\n@int f(int a, int b, int c, int d, int e, int f, int g, int h, int i) { return h; }\n",
     // A variable has at most 1048576 cells.
-    (
-        b"int a[1048576];\nint b[1048576];\nint c[1048576], *d[1048576];\n",
-        None,
-    ),
-    (b"int a[1048577];\n", Some(2)),
-    (b"int a[1048576],\n  *b[1048577];\n", Some(2)),
-    (b"int x;\nunsigned int a[2147483647];\n", Some(3)),
-    (b"int a[4294967295u];\n", Some(2)),
-    (
-        b"int f(void) {\n  int a[1048576];\n  int b[1048576];\n  return 0;\n}\n",
-        None,
-    ),
-    (
-        b"int f(void) {\n  int a[1048576];\n  int b, c[1048577];\n  return 0;\n}\n",
-        Some(4),
-    ),
-    (b"struct S { int a, b; };\nstruct S s[524288];\n", None),
-    (b"struct S { int a, b; };\nstruct S s[524289];\n", Some(3)),
-    (b"struct S { int a[3]; };\nstruct S s[349525];\n", None),
-    (b"struct S { int a[3]; };\nstruct S s[349526];\n", Some(3)),
-    (
-        b"struct S { int a, b; };\nint f(void) {\n  struct S s[524289];\n  return 0;\n}\n",
-        Some(4),
-    ),
+    b"int a[1048576];\nint b[1048576];\nint c[1048576], *d[1048576];\n",
+    b"@int a[1048577];\n",
+    b"@int a[1048576],\n  *b[1048577];\n",
+    b"int x;\n@unsigned int a[2147483647];\n",
+    b"@int a[4294967295u];\n",
+    b"int f(void) {\n  int a[1048576];\n  int b[1048576];\n  return 0;\n}\n",
+    b"int f(void) {\n  int a[1048576];\n@  int b, c[1048577];\n  return 0;\n}\n",
+    b"struct S { int a, b; };\nstruct S s[524288];\n",
+    b"struct S { int a, b; };\n@struct S s[524289];\n",
+    b"struct S { int a[3]; };\nstruct S s[349525];\n",
+    b"struct S { int a[3]; };\n@struct S s[349526];\n",
+    b"struct S { int a, b; };\nint f(void) {\n@  struct S s[524289];\n  return 0;\n}\n",
     // A struct has at most as many, also where no variable has its type.
-    (
-        b"struct S { int a[1048576]; };\nstruct S s, *t[1048576];\n",
-        None,
-    ),
-    (b"struct S { int a[1048575], *b; };\nstruct S s[1];\n", None),
-    (b"struct S { int a[1048577]; };\n", Some(2)),
-    (b"struct S { int a[1048576]; int b; };\n", Some(2)),
-    (
-        b"struct S {\n  int a[1048575];\n  struct S *b;\n  int c;\n};\n",
-        Some(2),
-    ),
-    (
-        b"struct S { int a[524288]; };\nstruct T { struct S a, b; };\nstruct U { struct S a[2]; };\n",
-        None,
-    ),
-    (
-        b"struct S { int a[524288]; };\nstruct T { struct S a, b; };\nstruct U { struct S a[2]; int b; };\n",
-        Some(4),
-    ),
-    (
-        b"struct S { int a[524288]; };\nstruct T { struct S a[3]; };\n",
-        Some(3),
-    ),
-    (b"struct S { int a[1048576]; };\nstruct S s[2];\n", Some(3)),
+    b"struct S { int a[1048576]; };\nstruct S s, *t[1048576];\n",
+    b"struct S { int a[1048575], *b; };\nstruct S s[1];\n",
+    b"@struct S { int a[1048577]; };\n",
+    b"@struct S { int a[1048576]; int b; };\n",
+    b"@struct S {\n  int a[1048575];\n  struct S *b;\n  int c;\n};\n",
+    b"struct S { int a[524288]; };\nstruct T { struct S a, b; };\nstruct U { struct S a[2]; };\n",
+    b"struct S { int a[524288]; };\nstruct T { struct S a, b; };\n@struct U { struct S a[2]; int b; };\n",
+    b"struct S { int a[524288]; };\n@struct T { struct S a[3]; };\n",
+    b"struct S { int a[1048576]; };\n@struct S s[2];\n",
     // Sizes don't wrap.
-    (
-        b"struct S { int a[1048576]; };
-struct T { struct S a[4294967295u]; };
+    b"struct S { int a[1048576]; };
+@struct T { struct S a[4294967295u]; };
 struct U { struct T a[4294967295u]; };
 struct U u[4294967295u];
 ",
-        Some(3),
-    ),
-    (
-        b"struct S { int a[65536]; };\nstruct S s[65536];\n",
-        Some(3),
-    ),
-    (
-        b"struct S { int a[2147483648u], b[2147483648u]; };\n",
-        Some(2),
-    ),
+    b"struct S { int a[65536]; };\n@struct S s[65536];\n",
+    b"@struct S { int a[2147483648u], b[2147483648u]; };\n",
     // The first that is beyond a count decides.
-    (
-        b"int a[1048577];\nint f(int, int, int, int, int, int, int, int, int);\n",
-        Some(2),
-    ),
-    (
-        b"int f(int, int, int, int, int, int, int, int, int);\nint a[1048577];\n",
-        Some(2),
-    ),
+    b"@int a[1048577];\nint f(int, int, int, int, int, int, int, int, int);\n",
+    b"@int f(int, int, int, int, int, int, int, int, int);\nint a[1048577];\n",
 ];
 
 // Each text is whole.
 const OF_SECTIONS: [Row; 3] = [
-    (
-        b"#pragma compartment A
+    b"#pragma compartment A
 int a[1048576];
 #pragma compartment Main
 int a[1048576];
 int main(void) { return 0; }
 #pragma compartment C
 
-int a[1048577];
+@int a[1048577];
 #pragma compartment D
 int a[1048577];
 ",
-        Some(8),
-    ),
-    (
-        b"#pragma compartment Main
+    b"#pragma compartment Main
 int main(void) {
-  int a[1048577];
+@  int a[1048577];
   return 0;
 }
 ",
-        Some(3),
-    ),
-    (
-        b"#pragma compartment Main
+    b"#pragma compartment Main
 #pragma import A f
-int f(int, int, int, int, int, int, int, int, int);
+@int f(int, int, int, int, int, int, int, int, int);
 int main(void) { return 0; }
 #pragma compartment A
 #pragma export f
 int f(int a, int b, int c, int d, int e, int f, int g, int h, int i) { return h; }
 ",
-        Some(3),
-    ),
 ];
 
 #[test]

@@ -6,78 +6,59 @@ use std::test::Fail;
 
 // No place begins with an operator other than `*`.
 const OPERATORS_BEFORE_PLACES: [Row; 7] = [
-    (
-        b"#pragma compartment Main
+    b"#pragma compartment Main
 int main(void) {
 int x;
-&
+@&
 x
 =
 1;
 return 0; }
 ",
-        Some(4),
-    ),
-    (
-        b"#pragma compartment Main
+    b"#pragma compartment Main
 int main(void) {
 int x;
--
+@-
 x
 ++;
 return 0; }
 ",
-        Some(4),
-    ),
-    (
-        b"#pragma compartment Main
+    b"#pragma compartment Main
 int main(void) {
 int x;
 ++
-!
+@!
 x;
 return 0; }
 ",
-        Some(5),
-    ),
-    (
-        b"#pragma compartment Main
+    b"#pragma compartment Main
 int main(void) {
 int x;
 for (
-~
+@~
 x
 = 1; ; ) { }
 return 0; }
 ",
-        Some(5),
-    ),
-    (
-        b"#pragma compartment Main
+    b"#pragma compartment Main
 int main(void) {
 int x;
 for (x = 0; x;
-+
+@+
 x
 ) { }
 return 0; }
 ",
-        Some(5),
-    ),
-    (
-        b"#pragma compartment Main
+    b"#pragma compartment Main
 int main(void) {
 int x;
 (
 -
 x)
-= 1;
+@= 1;
 return 0; }
 ",
-        Some(7),
-    ),
-    (
-        b"#pragma compartment Main
+    b"#pragma compartment Main
 int main(void) {
 int x;
 *
@@ -86,8 +67,6 @@ x
 = 1;
 return 0; }
 ",
-        None,
-    ),
 ];
 
 const PROGRAM: &[u8] = b"#pragma compartment Main
