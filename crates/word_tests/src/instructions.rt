@@ -1,18 +1,22 @@
 //! Words that an assembler outside wrote, and words that are no instruction of RV32IM.
 
-use rv_code::{BranchOp, Instr, LoadOp, OpImmOp, OpOp, ShiftOp, StoreOp, UpperOp, decode, encode};
+use rv_code::{Instr, decode, encode};
+use std::alloc::{AllocError, Global};
+use std::test::Fail;
 
-/// A mnemonic, and the operands: the registers first, in the order of `Instr`'s fields, and 0 where
-/// there is none.
-type Row = (&'static str, u8, u8, i32);
+/// The operands: the registers first, in the order of `Instr`'s fields, and 0 where there is none.
+type Operands = (u8, u8, i32);
 
 #[test]
-fn reads_what_an_assembler_wrote(rt: HostRuntime) {
+fn reads_what_an_assembler_wrote(rt: HostRuntime) -> Result<(), Fail> {
     for (word, name, first, second, last) in WRITTEN.iter().copied() {
         let instr = decode(word).expect(&rt, "an instruction");
-        assert!(rt; is_row(&instr, name, first, second, last), "at {word}");
+        let mnemonic = mnemonic(rt.alloc(), &instr)?;
+        assert!(rt; mnemonic.as_str().eq_ignore_ascii_case(name), "at {word}");
+        assert_eq!(rt; operands(&instr), (first, second, last), "at {word}");
         assert_eq!(rt; encode(instr), word);
     }
+    Ok(())
 }
 
 #[test]
@@ -22,132 +26,42 @@ fn reads_nothing_else(rt: HostRuntime) {
     }
 }
 
-fn is_row(instr: &Instr, name: &str, first: u8, second: u8, last: i32) -> bool {
-    let (own_name, own_first, own_second, own_last) = row(instr);
-    own_name == name && own_first == first && own_second == second && own_last == last
+/// The operation's name, with a capital letter.
+fn mnemonic(alloc: Global, instr: &Instr) -> Result<String, AllocError> {
+    match *instr {
+        Instr::Upper { op, .. } => format!(in alloc; "{op:?}"),
+        Instr::Branch { op, .. } => format!(in alloc; "{op:?}"),
+        Instr::Load { op, .. } => format!(in alloc; "{op:?}"),
+        Instr::Store { op, .. } => format!(in alloc; "{op:?}"),
+        Instr::OpImm { op, .. } => format!(in alloc; "{op:?}"),
+        Instr::Shift { op, .. } => format!(in alloc; "{op:?}"),
+        Instr::Op { op, .. } => format!(in alloc; "{op:?}"),
+        Instr::Jal { .. } => String::from_str(alloc, "Jal"),
+        Instr::Jalr { .. } => String::from_str(alloc, "Jalr"),
+        Instr::Fence { .. } => String::from_str(alloc, "Fence"),
+        Instr::Ecall => String::from_str(alloc, "Ecall"),
+        Instr::Ebreak => String::from_str(alloc, "Ebreak"),
+    }
 }
 
-fn row(instr: &Instr) -> Row {
+fn operands(instr: &Instr) -> Operands {
     match *instr {
-        Instr::Upper { op, rd, imm } => {
-            (upper_name(op), rd.number(), 0, imm.value().cast_signed())
-        }
-        Instr::Jal { rd, imm } => ("jal", rd.number(), 0, imm.value()),
-        Instr::Jalr { rd, rs1, imm } => ("jalr", rd.number(), rs1.number(), imm.value()),
-        Instr::Branch { op, rs1, rs2, imm } => {
-            (branch_name(op), rs1.number(), rs2.number(), imm.value())
-        }
-        Instr::Load { op, rd, rs1, imm } => {
-            (load_name(op), rd.number(), rs1.number(), imm.value())
-        }
-        Instr::Store { op, rs1, rs2, imm } => {
-            (store_name(op), rs1.number(), rs2.number(), imm.value())
-        }
-        Instr::OpImm { op, rd, rs1, imm } => {
-            (op_imm_name(op), rd.number(), rs1.number(), imm.value())
-        }
+        Instr::Upper { rd, imm, .. } => (rd.number(), 0, imm.value().cast_signed()),
+        Instr::Jal { rd, imm } => (rd.number(), 0, imm.value()),
+        Instr::Jalr { rd, rs1, imm } => (rd.number(), rs1.number(), imm.value()),
+        Instr::Branch { rs1, rs2, imm, .. } => (rs1.number(), rs2.number(), imm.value()),
+        Instr::Load { rd, rs1, imm, .. } => (rd.number(), rs1.number(), imm.value()),
+        Instr::Store { rs1, rs2, imm, .. } => (rs1.number(), rs2.number(), imm.value()),
+        Instr::OpImm { rd, rs1, imm, .. } => (rd.number(), rs1.number(), imm.value()),
         Instr::Shift {
-            op,
             rd,
             rs1,
             amount,
-        } => {
-            (
-                shift_name(op),
-                rd.number(),
-                rs1.number(),
-                i32::from(amount.bits()),
-            )
-        }
-        Instr::Op { op, rd, rs1, rs2 } => {
-            (
-                op_name(op),
-                rd.number(),
-                rs1.number(),
-                i32::from(rs2.number()),
-            )
-        }
-        Instr::Fence { imm, rs1, rd } => ("fence", rd.number(), rs1.number(), imm.value()),
-        Instr::Ecall => ("ecall", 0, 0, 0),
-        Instr::Ebreak => ("ebreak", 0, 0, 0),
-    }
-}
-
-fn upper_name(op: UpperOp) -> &'static str {
-    match op {
-        UpperOp::Lui => "lui",
-        UpperOp::Auipc => "auipc",
-    }
-}
-
-fn branch_name(op: BranchOp) -> &'static str {
-    match op {
-        BranchOp::Beq => "beq",
-        BranchOp::Bne => "bne",
-        BranchOp::Blt => "blt",
-        BranchOp::Bge => "bge",
-        BranchOp::Bltu => "bltu",
-        BranchOp::Bgeu => "bgeu",
-    }
-}
-
-fn load_name(op: LoadOp) -> &'static str {
-    match op {
-        LoadOp::Lb => "lb",
-        LoadOp::Lh => "lh",
-        LoadOp::Lw => "lw",
-        LoadOp::Lbu => "lbu",
-        LoadOp::Lhu => "lhu",
-    }
-}
-
-fn store_name(op: StoreOp) -> &'static str {
-    match op {
-        StoreOp::Sb => "sb",
-        StoreOp::Sh => "sh",
-        StoreOp::Sw => "sw",
-    }
-}
-
-fn op_imm_name(op: OpImmOp) -> &'static str {
-    match op {
-        OpImmOp::Addi => "addi",
-        OpImmOp::Slti => "slti",
-        OpImmOp::Sltiu => "sltiu",
-        OpImmOp::Xori => "xori",
-        OpImmOp::Ori => "ori",
-        OpImmOp::Andi => "andi",
-    }
-}
-
-fn shift_name(op: ShiftOp) -> &'static str {
-    match op {
-        ShiftOp::Slli => "slli",
-        ShiftOp::Srli => "srli",
-        ShiftOp::Srai => "srai",
-    }
-}
-
-fn op_name(op: OpOp) -> &'static str {
-    match op {
-        OpOp::Add => "add",
-        OpOp::Sub => "sub",
-        OpOp::Sll => "sll",
-        OpOp::Slt => "slt",
-        OpOp::Sltu => "sltu",
-        OpOp::Xor => "xor",
-        OpOp::Srl => "srl",
-        OpOp::Sra => "sra",
-        OpOp::Or => "or",
-        OpOp::And => "and",
-        OpOp::Mul => "mul",
-        OpOp::Mulh => "mulh",
-        OpOp::Mulhsu => "mulhsu",
-        OpOp::Mulhu => "mulhu",
-        OpOp::Div => "div",
-        OpOp::Divu => "divu",
-        OpOp::Rem => "rem",
-        OpOp::Remu => "remu",
+            ..
+        } => (rd.number(), rs1.number(), i32::from(amount.bits())),
+        Instr::Op { rd, rs1, rs2, .. } => (rd.number(), rs1.number(), i32::from(rs2.number())),
+        Instr::Fence { imm, rs1, rd } => (rd.number(), rs1.number(), imm.value()),
+        Instr::Ecall | Instr::Ebreak => (0, 0, 0),
     }
 }
 
