@@ -13,11 +13,12 @@ use Rattle.sc_emit.proofs.Common.{leads_less, leads_none, length, length-append,
 use Rattle.sc_emit.proofs.Common.{low_after, low_append, low_plainly, machine, moved, ne_eqb, not, operand, or_left}
 use Rattle.sc_emit.proofs.Common.{or_right, over, past, plain, plainly, plainly_at, point, pos, read, refl, row}
 use Rattle.sc_emit.proofs.Common.{row_points, seen_from, skipping, sp, subst, suc, sym, take, trail_step, true}
-use Rattle.sc_emit.proofs.Common.{wanted_less, word_at, word_of, zero, ℕ, ℤ, ⊎_elim, ◌%◌, ◌&&◌, ◌*◌, ◌++◌, ◌+◌, ◌==◌}
+use Rattle.sc_emit.proofs.Common.{word_at, word_of, zero, ℕ, ℤ, ⊎_elim, ◌%◌, ◌&&◌, ◌*◌, ◌++◌, ◌+◌, ◌==◌}
 use Rattle.sc_emit.proofs.Common.{◌∙◌, ◌∷◌, ◌≡◌, ◌≤◌}
 use Rattle.sc_select.specs.Prelude.{Piece as Code}
 use Rattle.sc_hart.proofs.Steps.{then_go, branch_taken, branch_not_taken}
 use Rattle.sc_tac.specs.declared.stmt.TacStmt.TheOpen as tac
+use Rattle.sc_relation.proofs.Rounds.{ready_less}
 use Rattle.sc_relation.proofs.Straight.{moves_on}
 use Rattle.sc_emit.proofs.Operands.{ArePlaced, AtHand, first_is, brings, world}
 use Rattle.sc_emit.proofs.Straight.{read_goes, with_kind}
@@ -39,16 +40,6 @@ module _ (T : Setting) (R : Running) (formed : IsWellFormed T.image) (inputs : A
 
   abbrev comp : ℕ
   comp = R.activation.here.comp
-
-  -- less is live
-  pub ready_less : (live less : Set) (temps : Temps) (x : Joint) → ((t : ℕ) → less t ≡ true → live t ≡ true) →
-      Ready T R live temps x → Ready T R less temps x
-  ready_less live less temps x fewer ready = record {
-    settled = ready.settled;
-    frame = ready.frame;
-    held = λ t v on. ready.held t v (wanted_less R.plan.needed less live fewer t on);
-    sp = ready.sp;
-  }
 
   -- a jump past so many lines arrives behind them, and where there are none it is there
   past_arrives : (live : Set) (temps : Temps) (x : Joint) (lines left : ℕ) → Ready T R live temps x →
@@ -246,7 +237,7 @@ module _ (T : Setting) (R : Running) (formed : IsWellFormed T.image) (inputs : A
               let y : Joint = moved x (taken L) after x.bytes in
               comes_after T R lives x y budget rest ends (one temps x.meant) ready.settled
               (leads_less T P x y (length before + 1 + rest) rest budget rest few (omega arith) m.leads)
-              (on y refl refl (ready_less live (live_before fs lives) temps y first_live m.ready))
+              (on y refl refl (ready_less T R live (live_before fs lives) temps y first_live m.ready))
 
           -- it is false: what comes of the second, behind the branch
           second_comes : (rest : ℕ) → length before + 1 + rest ≤ budget → is_true v ≡ false →
@@ -259,7 +250,8 @@ module _ (T : Setting) (R : Running) (formed : IsWellFormed T.image) (inputs : A
               let y : Joint = moved x (L + 4 * length before + 4) after x.bytes in
               comes_after T R lives x y budget rest ends (two temps x.meant) ready.settled
               (leads_less T P x y (length before + 1 + rest) rest budget rest few (omega arith) m.leads)
-              (on y (omega (arith, count_is)) refl (ready_less live (live_before ss lives) temps y second_live m.ready))
+              (on y (omega (arith, count_is)) refl
+              (ready_less T R live (live_before ss lives) temps y second_live m.ready))
 
         -- by what the value is
         does_comes : (rest more : ℕ) → length before + 1 + rest ≤ budget → length before + 1 + more ≤ budget →

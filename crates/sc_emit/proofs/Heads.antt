@@ -25,7 +25,8 @@ use Rattle.sc_core.specs.Prelude.{in_order as one_by_one, take as take_route}
 use Rattle.sc_select.specs.Prelude.{Piece as Code}
 use Rattle.sc_tac.specs.declared.stmt.TacStmt.TheOpen as tac
 use Rattle.std.proofs.Math.Path.{fun_ext}
-use Rattle.sc_emit.proofs.Choices.{Branches, branch_goes, branch_moves, branch_passes, held, ready_less}
+use Rattle.sc_relation.proofs.Rounds.{ready_less}
+use Rattle.sc_emit.proofs.Choices.{Branches, branch_goes, branch_moves, branch_passes, held}
 use Rattle.sc_emit.proofs.Operands.{ArePlaced}
 use Rattle.sc_emit.proofs.Straight.{read_goes}
 
@@ -410,7 +411,7 @@ module _ (T : Setting) (R : Running) (formed : IsWellFormed T.image) (inputs : A
             pc_is = refl;
             leads = leads_then T P x y (at_pc pc) budget (test_size + left) left ready.settled g.leads
                 (tested_leads pc walks);
-            ready = ready_less T R formed inputs cells nodes is placed gapless live less temps' (at_pc pc) fewer
+            ready = ready_less T R live less temps' (at_pc pc) fewer
                 (branch_moves T R formed inputs cells nodes is placed gapless cond back live temps' y g.ready code_here
                 cond_live need v known pc left walks).ready;
           }

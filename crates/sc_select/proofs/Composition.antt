@@ -1,14 +1,14 @@
 -- What the code of statements in order, of choices and of loops is made of, and that the jumps of their parts reach.
-use Rattle.sc_select.proofs.Common.{Bool, Err, Fits, FitsBetween, FitsLoop, FrameTree, IfOk, Instr, Line, List, Ok}
-use Rattle.sc_select.proofs.Common.{OnOk, Other, Piece, Place, Plan, Result, Role, TacFnTree, TacStmt, [], and_first}
-use Rattle.sc_select.proofs.Common.{and_rest, ap, append_assoc, ap₂, arith, as_one, between, choice, choosing, closing}
-use Rattle.sc_select.proofs.Common.{cycle, drop, drop-cons, entrance, everywhere, false, fold-TacStmt}
-use Rattle.sc_select.proofs.Common.{fold-roll-TacStmt, function_lines, get_or, if◌then◌else◌, in_turn, joined, joins}
-use Rattle.sc_select.proofs.Common.{jump_back, jump_over, kind_of_fork, length, length-append, length-map, loop_begins}
-use Rattle.sc_select.proofs.Common.{map, nothing, on_ok_weaker, passes_few, past, plain, plainly, refl, role_before}
-use Rattle.sc_select.proofs.Common.{role_behind, role_first, roll-TacStmt, select, select_all, select_step, skipping}
-use Rattle.sc_select.proofs.Common.{stmt_weight, subst, suc, sym, true, weight, weight_step, with_parts, zero, ℕ, ◌&&◌}
-use Rattle.sc_select.proofs.Common.{◌++◌, ◌+◌, ◌-◌, ◌<◌, ◌==◌, ◌∙◌, ◌∷◌, ◌≡◌, ◌≤◌}
+use Rattle.sc_select.proofs.Common.{Bool, Fits, FitsBetween, FitsLoop, FrameTree, Instr, Line, List, OnOk, Other, Piece}
+use Rattle.sc_select.proofs.Common.{Place, Plan, Result, Role, TacFnTree, TacStmt, [], and_first, and_rest, ap}
+use Rattle.sc_select.proofs.Common.{append_assoc, ap₂, arith, as_one, between, choice, choosing, closing, cycle, drop}
+use Rattle.sc_select.proofs.Common.{drop-cons, entrance, everywhere, false, fold-TacStmt, fold-roll-TacStmt}
+use Rattle.sc_select.proofs.Common.{function_lines, get_or, if◌then◌else◌, in_turn, joined, joins, jump_back, jump_over}
+use Rattle.sc_select.proofs.Common.{kind_of_fork, length, length-append, length-map, loop_begins, map, nothing}
+use Rattle.sc_select.proofs.Common.{on_ok_weaker, passes_few, past, plain, plainly, refl, role_before, role_behind}
+use Rattle.sc_select.proofs.Common.{role_first, roll-TacStmt, select, select_all, select_step, skipping, stmt_weight}
+use Rattle.sc_select.proofs.Common.{subst, suc, sym, true, weight, weight_step, with_parts, zero, ℕ, ◌&&◌, ◌++◌, ◌+◌}
+use Rattle.sc_select.proofs.Common.{◌-◌, ◌<◌, ◌==◌, ◌∙◌, ◌∷◌, ◌≡◌, ◌≤◌}
 use Rattle.sc_tac.specs.declared.stmt.TacStmt.TheOpen as tac
 use Rattle.sc_tac.specs.declared.stmt.TacStmt.TheVariants as emit
 use Rattle.sc_select.proofs.Joining.{drop_map, joined_at, joined_length, none_behind, role_in_is}
@@ -655,8 +655,3 @@ as_written r p q b c new old is h = on_ok_weaker r (λ k. k ∙ ap (λ p. p.line
 pub joined_by : (role same behind : Role) (found : Bool) → role ≡ same → found ≡ joins role behind →
     found ≡ joins same behind
 joined_by role same behind found is h = h ∙ ap (λ r. joins r behind) is
-
--- what is known of a result, by less that is known
-pub if_ok_weaker : {T E : Type 0} (r : Result T E) (P Q : T → Type 0) → ((x : T) → P x → Q x) → IfOk r P → IfOk r Q
-if_ok_weaker (Ok x) P Q f h = f x h
-if_ok_weaker (Err e) P Q f h = tt

@@ -1,11 +1,11 @@
 use Rattle.sc_select.proofs.Common.{arith, code_of, code_of_lines, false, function_lines, plan_of, ◌≡◌}
-use Rattle.sc_select.proofs.Composition.{if_ok_weaker}
+use Rattle.std.proofs.lemmas.Result.{IfOk-weaker}
 use Rattle.sc_select.proofs.Links.{far_code}
 use Rattle.sc_select.proofs.function.chosen.Goals as goal
 
 pub returns-clause-lines : goal.returns-clause-lines
 returns-clause-lines c =
-    if_ok_weaker c.planned-2.result
+    IfOk-weaker c.planned-2.result
     (λ lines. lines ≡ function_lines c.args.frame.now c.args.places.now (plan_of c.args.f.now false) c.args.f.now)
     (λ lines. code_of_lines lines ≡ code_of c.args.f.now c.args.places.now c.args.frame.now)
     (λ lines is. far_code c.args.f.now c.args.places.now c.args.frame.now c.in_ok-lines.lines lines
