@@ -16,7 +16,6 @@ import subprocess
 import sys
 
 LEAST = 6  # characters that an edit has to save
-PROBE = "probe_rules"
 SIGNATURE = re.compile(r"^(\s*)(?:pub )?([^\s(){}\[\];,]+) : ")
 TOKEN = re.compile(r"[^\s(){}\[\];,]+|[(){}\[\];,]|\n")
 KEYWORDS = {"omega", "rw", "simp", "cc", "grind", "search", "first_of", "elim", "let", "in", "as", "record", "where", "hlevel",
@@ -159,8 +158,6 @@ class File:
         self.lemmas = lemmas(self.text)
         self.edits = [edit for lemma in self.lemmas for edit in edits(self.text, lemma)]
         self.edits.sort(key=lambda edit: (edit["at"], -edit["end"]))
-        lines = self.text.split("\n")
-        self.shift = 1 + max((k for k, line in enumerate(lines) if re.match(r"(\w+ )*use ", line)), default=0)
 
     def edited(self):
         """The text with the edits that are in, and where each stands in it."""
@@ -172,28 +169,20 @@ class File:
                 text, at = text + edit["new"], edit["end"]
         return text + self.text[at:], places
 
-    def write(self, text, is_probed):
-        if is_probed:
-            lines = text.rstrip("\n").split("\n")
-            lines.insert(self.shift, "use Rattle.std.proofs.Common.{refl as probe_refl}")
-            text = "\n".join(lines) + f"\n\npub ruleset {PROBE} = (probe_refl)\n"
+    def write(self, text):
         open(self.path, "w", encoding="utf-8").write(text)
 
 
-def check(crate, files, root, code):
+def check(crate, files):
     """The errors that the prover finds in the edited files: file, line, column and message."""
     for file in files:
-        file.write(file.edited()[0], True)
-    names = ", ".join(f"crate::proofs::{os.path.basename(file.path)[:-5]}::{PROBE}" for file in files)
-    brings = "" if re.search("ghost use[^;]*◌≡◌", code) else "ghost use Rattle.std.specs.Prelude.{◌≡◌};\n"
-    probe = f"\n\n{brings}#[tactic(auto, using({names}))]\npub fn probe(a: u32)\n    ensures {{ a ≡ a }}\n{{\n}}\n"
-    open(root, "w", encoding="utf-8").write(code + probe)
-    words = ["python3", "tools/lemmas.py", crate, "probe", "--", "--incremental", f"/tmp/elide-{os.getpid()}"]
+        file.write(file.edited()[0])
+    words = ["python3", "tools/lemmas.py", crate, "--", "--incremental", f"/tmp/elide-{os.getpid()}"]
     said = subprocess.run(words, capture_output=True, text=True)
     by_name = {os.path.basename(file.path)[:-5]: file for file in files}
     if not re.search(r"^fn ", said.stdout + said.stderr, re.M):
         raise SystemExit(said.stdout + said.stderr)
-    return [(by_name[name], int(line) - 1 - (int(line) > by_name[name].shift), int(column) - 1, text)
+    return [(by_name[name], int(line) - 1, int(column) - 1, text)
             for name, line, column, text in FOUND.findall(said.stdout + said.stderr) if name in by_name]
 
 
@@ -223,22 +212,19 @@ def main(words):
     crate, rounds = words[0], int(words[1]) if len(words) > 1 else 60
     paths = [path for path in sorted(glob.glob(f"crates/{crate}/proofs/*.antt"))]
     files = [File(path) for path in paths if os.path.basename(path) not in ("Lib.antt", "Common.antt")]
-    root = f"crates/{crate}/src/lib.rt"
-    code = open(root, encoding="utf-8").read()
     tries, errors = {}, None
     try:
         for number in range(rounds):
-            errors = check(crate, files, root, code)
+            errors = check(crate, files)
             saved = sum(len(file.text) - len(file.edited()[0]) for file in files)
             print(f"{crate}: check {number}, {len(errors)} errors, {saved} characters", flush=True)
             if not errors:
                 break
             withdraw(files, errors, tries)
     finally:
-        open(root, "w", encoding="utf-8").write(code)
         shutil.rmtree(f"/tmp/elide-{os.getpid()}", ignore_errors=True)
         for file in files:
-            file.write(file.text if errors or errors is None else file.edited()[0], False)
+            file.write(file.text if errors or errors is None else file.edited()[0])
 
 
 if __name__ == "__main__":

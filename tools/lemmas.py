@@ -1,16 +1,23 @@
 #!/usr/bin/env python3
 """Checks single functions of a crate, and the lemmas that their answers cite, without proving the crates below.
 
-Usage, at the top of the repository: tools/lemmas.py CRATE FUNCTION [FUNCTION ..] [-- flags of rattle]
+Usage, at the top of the repository: tools/lemmas.py CRATE [FUNCTION ..] [-- flags of rattle]
 
 It runs `rattle check --only` over the sources of the crates below, holes allowed, and prints its errors. Where KEPT names
 a checkout in which a run of `rt ci` built crates with the same files, their libraries are taken from there, which is
-faster. A file of proofs/ is read only if an answer leads to it. Nothing is kept as proved: that is for `rt ci`.
+faster. A file of proofs/ is read only if an answer leads to it; with no FUNCTION all lemma files of the crate are read, in
+a copy, for a function `probe` that names a rule of each. Nothing is kept as proved: that is for `rt ci`.
 """
 import filecmp
+import glob
 import os
+import re
+import shutil
 import subprocess
 import sys
+import tempfile
+
+RULES = "probe_rules"
 
 
 def crates(top):
@@ -41,8 +48,26 @@ def same(one, other):
     return all(same(os.path.join(one, sub), os.path.join(other, sub)) for sub in found.common_dirs)
 
 
+def add_probe(folder):
+    """Adds to a copy of a crate a function whose proof reads each lemma file; no line but a file's first moves."""
+    rules = []
+    for path in sorted(glob.glob(f"{folder}/proofs/*.antt")):
+        name = os.path.basename(path)[:-len(".antt")]
+        text = open(path, encoding="utf-8").read()
+        if name != "Lib" and text.startswith("-- "):
+            text = "use Rattle.std.proofs.Common.{refl as probe_refl}" + text[text.index("\n"):]
+            open(path, "w", encoding="utf-8").write(f"{text}\n\npub ruleset {RULES} = (probe_refl)\n")
+            rules.append(f"crate::proofs::{name}::{RULES}")
+    root = f"{folder}/src/lib.rt"
+    code = open(root, encoding="utf-8").read()
+    brings = "" if re.search("ghost use[^;]*◌≡◌", code) else "ghost use Rattle.std.specs.Prelude.{◌≡◌};\n"
+    uses = ", ".join(rules)
+    probe = f"\n{brings}#[tactic(auto, using({uses}))]\npub fn probe(a: u32)\n    ensures {{ a ≡ a }}\n{{\n}}\n"
+    open(root, "w", encoding="utf-8").write(code + probe)
+
+
 def main(words):
-    if len(words) < 2 or words[0].startswith("-"):
+    if not words or words[0].startswith("-"):
         raise SystemExit(__doc__)
     flags = []
     if "--" in words:
@@ -70,10 +95,14 @@ def main(words):
             command += ["--lib", f"{name}:{names}={top}/crates/{name}/src/lib.rt"]
     command += ["--antt-project", f"{kit}/rattle/logic/antt-project.json", "--logic-built", f"{kit}/logic_built"]
     command += ["--links", f"{crate}=", "--jobs", "2", "--allow-holes"]
-    for function in functions:
+    for function in functions or ["probe"]:
         command += ["--only", function]
-    os.chdir(f"{top}/crates/{crate}")
-    os.execv(command[0], command + flags)
+    with tempfile.TemporaryDirectory() as copied:
+        folder = f"{top}/crates/{crate}"
+        if not functions:
+            folder = shutil.copytree(folder, f"{copied}/{crate}", ignore=shutil.ignore_patterns("out"))
+            add_probe(folder)
+        sys.exit(subprocess.run(command + flags, cwd=folder, check=False).returncode)
 
 
 if __name__ == "__main__":
