@@ -1,14 +1,15 @@
 -- An operator whose second operand is a constant, and a return of its result: it is computed where it is given back.
-use Rattle.sc_emit.proofs.Common.{All, Break, Calls, Cause, CodeAt, Codes, Comes, Constant, Continue, Ends, Exit}
-use Rattle.sc_emit.proofs.Common.{Follows, FrameTree, Goes, Gone, Here, Instr, IsActivation, IsSound, IsWellFormed}
-use Rattle.sc_emit.proofs.Common.{IsWord, Joint, Left, List, Lives, Next, Ok, Piece, Reached, Ready, Result, Return}
-use Rattle.sc_emit.proofs.Common.{Returns, Running, Setting, ShortForm, Some, StandsFor, State as Meant, Stopped, TacOp}
-use Rattle.sc_emit.proofs.Common.{Temps, Trail, Value, [], a0, and_then, ap, arith, code_step, comes_computed}
-use Rattle.sc_emit.proofs.Common.{comes_read, computed, constant_value, ends_of, eq-eqb, false, follow as then_follow}
-use Rattle.sc_emit.proofs.Common.{follow_goes, gets, inl, is_one, leave, length, live_at, operated, read, refl, row}
-use Rattle.sc_emit.proofs.Common.{same_Some, short_form, short_return, straightly, subst, sym, then_then, trail_step}
-use Rattle.sc_emit.proofs.Common.{true, with_temp, word_of_constant, wrapping, ℕ, ◌+◌, ◌==◌, ◌∙◌, ◌∷◌, ◌≡◌}
-use Rattle.sc_core.specs.Prelude.{Does, in_order as one_by_one, take as taken_by}
+use Rattle.sc_emit.proofs.Common.{All, Calls, Cause, CodeAt, Codes, Comes, Constant, Ends, Follows, FrameTree, Goes}
+use Rattle.sc_emit.proofs.Common.{Gone, Here, Instr, IsActivation, IsSound, IsWellFormed, IsWord, Joint, Left, List}
+use Rattle.sc_emit.proofs.Common.{Lives, Next, Ok, Piece, Ready, Result, Return, Returns, Running, Setting, ShortForm}
+use Rattle.sc_emit.proofs.Common.{Some, StandsFor, State as Meant, TacOp, Temps, Trail, Value, [], a0, and_then, ap}
+use Rattle.sc_emit.proofs.Common.{arith, code_step, comes_computed, comes_read, computed, constant_value, ends_of}
+use Rattle.sc_emit.proofs.Common.{eq-eqb, false, follow as then_follow, follow_goes, gets, inl, is_one, leave, length}
+use Rattle.sc_emit.proofs.Common.{live_at, operated, read, refl, row, same_Some, short_form, short_return, straightly}
+use Rattle.sc_emit.proofs.Common.{subst, sym, then_then, trail_step, true, with_temp, word_of_constant, wrapping, ℕ}
+use Rattle.sc_emit.proofs.Common.{◌+◌, ◌==◌, ◌∙◌, ◌∷◌, ◌≡◌}
+use Rattle.sc_core.specs.Prelude.{in_order as one_by_one}
+use Rattle.sc_laws.proofs.Order.{follow_assoc}
 use Rattle.sc_select.specs.Prelude.{Piece as Code}
 use Rattle.sc_tac.specs.declared.stmt.TacStmt.TheOpen as tac
 use Rattle.sc_emit.proofs.Constants.{applies, applies_goes, gives, left_is, left_live, right_is, set, short_into}
@@ -24,22 +25,6 @@ a0_is = record {
   not_sp = λ e. omega (arith, e);
   not_address = λ e. omega (arith, e);
 }
-
--- statements in a row, the first two of which are taken together
-module _ {A : Type 0} where
-  taken_in_turn : (exit : Exit) (a : A) (s : Meant) (next rest : Does A) →
-      then_follow one_by_one (taken_by (one_by_one exit) next a s) rest ≡
-      taken_by (one_by_one exit) (λ a s. then_follow one_by_one (next a s) rest) a s
-  taken_in_turn Next a s next rest = refl
-  taken_in_turn Break a s next rest = refl
-  taken_in_turn Continue a s next rest = refl
-  taken_in_turn (Return v) a s next rest = refl
-
-  pub in_turn_again : (first : Piece (Left A)) (next rest : Does A) →
-      then_follow one_by_one (then_follow one_by_one first next) rest ≡
-      then_follow one_by_one first (λ a s. then_follow one_by_one (next a s) rest)
-  in_turn_again (Reached left s) next rest = taken_in_turn left.exit left.carried s next rest
-  in_turn_again (Stopped end s) next rest = refl
 
 -- what does the same is followed by the same
 pub follows_same : (T : Setting) (R : Running) (one other : Codes) →
@@ -193,6 +178,6 @@ module _ (T : Setting) (R : Running) (formed : IsWellFormed T.image) (inputs : A
       trail_step (tac.Return (Some dest)) ∷ trails))
   three_as_one more trails code F =
       follows_same T R (λ temps s. then_follow one_by_one (gives_back temps s) more) (in_three more)
-      (λ temps s. in_turn_again (operates temps s) returns more) code
+      (λ temps s. follow_assoc (operates temps s) returns more) code
       (row (trail_step (tac.Const dest value) ∷ trail_step (tac.Op dest o left (Some dest)) ∷
       trail_step (tac.Return (Some dest)) ∷ trails)) F

@@ -19,6 +19,7 @@ pub mod Lines
 pub mod Loops
 pub mod Matching
 pub mod More
+pub mod Order
 pub mod ProgramLaws
 pub mod Programs
 pub mod Rooms

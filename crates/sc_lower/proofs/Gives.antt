@@ -7,6 +7,7 @@ use Rattle.sc_lower.proofs.Common.{if◌then◌else◌, in_order, known, leave, 
 use Rattle.sc_lower.proofs.Common.{roll-TacStmt, stmt_does, subst, sym, take, true, with_temp, ℕ, ◌++◌, ◌<◌, ◌∙◌, ◌∷◌}
 use Rattle.sc_lower.proofs.Common.{◌≡◌, ◌≤◌}
 use Rattle.std.proofs.lemmas.Grind.{common_steps}
+use Rattle.sc_laws.proofs.Order.{follow_assoc}
 
 abbrev pub Keeps : ℕ → Temps → Temps → Type 0
 Keeps n t u = (i : ℕ) → i < n → u i ≡ t i
@@ -24,18 +25,6 @@ pub record Got (n at : ℕ) (t : Temps) (s : State) (v : Value) (o : Piece (Left
 
 -- ORDER
 module _ {A : Type 0} where
-  taken_assoc : (exit : Exit) (a : A) (s : State) (f g : Does A) →
-      follow in_order (take (in_order exit) f a s) g ≡ take (in_order exit) (λ a s. follow in_order (f a s) g) a s
-  taken_assoc Next a s f g = refl
-  taken_assoc Break a s f g = refl
-  taken_assoc Continue a s f g = refl
-  taken_assoc (Return v) a s f g = refl
-
-  pub follow_assoc : (o : Piece (Left A)) (f g : Does A) →
-      follow in_order (follow in_order o f) g ≡ follow in_order o (λ a s. follow in_order (f a s) g)
-  follow_assoc (Reached left s) f g = taken_assoc left.exit left.carried s f g
-  follow_assoc (Stopped end s) f g = refl
-
   taken_end : (exit : Exit) (a : A) (s : State) →
       take (in_order exit) (leave Next) a s ≡ Reached (record { exit = exit; carried = a }) s
   taken_end Next a s = refl
