@@ -11,14 +11,13 @@ use Rattle.sc_emit.proofs.Common.{ends_of, eq-eqb, eqb-true, false, first_scratc
 use Rattle.sc_emit.proofs.Common.{in_order, in_parts, inl, inr, is_empty, is_some, is_true, jump_over, kind_of_fork}
 use Rattle.sc_emit.proofs.Common.{leads_less, leads_none, length, length-append, length-map, live_at, live_before, look}
 use Rattle.sc_emit.proofs.Common.{low_after, low_append, low_plainly, machine, moved, ne_eqb, not, operand, or_left}
-use Rattle.sc_emit.proofs.Common.{or_right, over, past, plain, plainly, plainly_at, point, pos, read, refl, row}
-use Rattle.sc_emit.proofs.Common.{row_points, seen_from, skipping, sp, subst, suc, sym, take, trail_step, true}
-use Rattle.sc_emit.proofs.Common.{word_at, word_of, zero, ℕ, ℤ, ⊎_elim, ◌%◌, ◌&&◌, ◌*◌, ◌++◌, ◌+◌, ◌==◌}
-use Rattle.sc_emit.proofs.Common.{◌∙◌, ◌∷◌, ◌≡◌, ◌≤◌}
+use Rattle.sc_emit.proofs.Common.{or_right, over, past, plain, plainly, plainly_at, point, pos, read, ready_less, refl}
+use Rattle.sc_emit.proofs.Common.{row, row_points, seen_from, skipping, sp, subst, suc, sym, take, trail_step, true}
+use Rattle.sc_emit.proofs.Common.{word_at, word_of, zero, ℕ, ℤ, ⊎_elim, ◌%◌, ◌&&◌, ◌*◌, ◌++◌, ◌+◌, ◌==◌, ◌∙◌, ◌∷◌, ◌≡◌}
+use Rattle.sc_emit.proofs.Common.{◌≤◌}
 use Rattle.sc_select.specs.Prelude.{Piece as Code}
 use Rattle.sc_hart.proofs.Steps.{then_go, branch_taken, branch_not_taken}
 use Rattle.sc_tac.specs.declared.stmt.TacStmt.TheOpen as tac
-use Rattle.sc_relation.proofs.Rounds.{ready_less}
 use Rattle.sc_relation.proofs.Straight.{moves_on}
 use Rattle.sc_emit.proofs.Operands.{ArePlaced, AtHand, first_is, brings, world}
 use Rattle.sc_emit.proofs.Straight.{read_goes, with_kind}

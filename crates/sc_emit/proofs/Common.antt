@@ -110,6 +110,7 @@ pub use Rattle.sc_relation.proofs.Lines.{low_plainly, plainly_at}
 pub use Rattle.sc_relation.proofs.Operators.{operator_stands}
 pub use Rattle.sc_relation.proofs.Registers.{HasNoOtherUse, no_other_use, register_there}
 pub use Rattle.sc_relation.proofs.Rotated.{ArrivesLate, HeadComes, HeadFollows, rotated_follows}
+pub use Rattle.sc_relation.proofs.Rounds.{ready_less}
 pub use Rattle.sc_relation.proofs.Settling.{leads_moved, moved, settled_moved}
 pub use Rattle.sc_relation.proofs.Straight.{IsLoaded, MovesOn, across_live, asked, assigned, assigned_at}
 pub use Rattle.sc_relation.proofs.Straight.{assigns_register, assigns_slot, call_from, live_plain, loads, may_store}

@@ -16,16 +16,15 @@ use Rattle.sc_emit.proofs.Common.{jump_back, kind_is, kind_of, known as is_known
 use Rattle.sc_emit.proofs.Common.{leads_then_steps, leave, length, length-map, live_before, load, loop_kind}
 use Rattle.sc_emit.proofs.Common.{low_plainly, lt-ltb, machine, map, map-TacStmt, map-append, moved, neg_ℤ, operand}
 use Rattle.sc_emit.proofs.Common.{operated, or_left, or_right, overflows_with, plain, plain_fork, plainly, plainly_at}
-use Rattle.sc_emit.proofs.Common.{pos, read, read_all, readings, received, refl, roll-TacStmt, rounds, row, row_first}
-use Rattle.sc_emit.proofs.Common.{row_points, second, seen_from, select, shows_after, shows_here, stays, stmt_does}
-use Rattle.sc_emit.proofs.Common.{stmt_induction, store, stored, subst, suc, sym, take, test_stmt, testing, then_from}
-use Rattle.sc_emit.proofs.Common.{trail, trail_step, true, turn, with_memory, with_temp, word_at, word_of, wrapping}
-use Rattle.sc_emit.proofs.Common.{zero, ℕ, ℤ, ⊎_elim, ◌*◌, ◌++◌, ◌+◌, ◌<◌, ◌==◌, ◌∙◌, ◌∷◌, ◌≡◌, ◌≤◌}
+use Rattle.sc_emit.proofs.Common.{pos, read, read_all, readings, ready_less, received, refl, roll-TacStmt, rounds, row}
+use Rattle.sc_emit.proofs.Common.{row_first, row_points, second, seen_from, select, shows_after, shows_here, stays}
+use Rattle.sc_emit.proofs.Common.{stmt_does, stmt_induction, store, stored, subst, suc, sym, take, test_stmt, testing}
+use Rattle.sc_emit.proofs.Common.{then_from, trail, trail_step, true, turn, with_memory, with_temp, word_at, word_of}
+use Rattle.sc_emit.proofs.Common.{wrapping, zero, ℕ, ℤ, ⊎_elim, ◌*◌, ◌++◌, ◌+◌, ◌<◌, ◌==◌, ◌∙◌, ◌∷◌, ◌≡◌, ◌≤◌}
 use Rattle.sc_core.specs.Prelude.{in_order as one_by_one, take as take_route}
 use Rattle.sc_select.specs.Prelude.{Piece as Code}
 use Rattle.sc_tac.specs.declared.stmt.TacStmt.TheOpen as tac
 use Rattle.std.proofs.Math.Path.{fun_ext}
-use Rattle.sc_relation.proofs.Rounds.{ready_less}
 use Rattle.sc_emit.proofs.Choices.{Branches, branch_goes, branch_moves, branch_passes, held}
 use Rattle.sc_emit.proofs.Operands.{ArePlaced}
 use Rattle.sc_emit.proofs.Straight.{read_goes}

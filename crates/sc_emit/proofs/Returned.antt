@@ -8,9 +8,9 @@ use Rattle.sc_emit.proofs.Common.{eq-eqb, false, follow as then_follow, follow_g
 use Rattle.sc_emit.proofs.Common.{live_at, operated, read, refl, row, same_Some, short_form, short_return, straightly}
 use Rattle.sc_emit.proofs.Common.{subst, sym, then_then, trail_step, true, with_temp, word_of_constant, wrapping, ℕ}
 use Rattle.sc_emit.proofs.Common.{◌+◌, ◌==◌, ◌∙◌, ◌∷◌, ◌≡◌}
-use Rattle.sc_core.specs.Prelude.{in_order as one_by_one}
-use Rattle.sc_laws.proofs.Order.{follow_assoc}
+use Rattle.sc_core.specs.Prelude.{in_order as one_by_one, take as taken_by}
 use Rattle.sc_select.specs.Prelude.{Piece as Code}
+use Rattle.sc_laws.proofs.Order.{follow_assoc}
 use Rattle.sc_tac.specs.declared.stmt.TacStmt.TheOpen as tac
 use Rattle.sc_emit.proofs.Constants.{applies, applies_goes, gives, left_is, left_live, right_is, set, short_into}
 use Rattle.sc_emit.proofs.Operands.{ArePlaced, Gives}

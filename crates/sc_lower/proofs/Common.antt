@@ -32,8 +32,8 @@ pub use Rattle.sc_core.proofs.Shapes.{Amp, Arrow, AssignCallLine, AssignLine, At
 pub use Rattle.sc_core.proofs.Shapes.{Dot, EmptyLine, ForLine, IfLine, Lines, Lit, NoLine, One, ReturnCallLine}
 pub use Rattle.sc_core.proofs.Shapes.{ReturnLine, ReturnValueLine, Shape, Star, Two, Var, WhileLine, call_of, expr}
 pub use Rattle.sc_core.proofs.Shapes.{lines_are, lines_do, part, stmts, way, way_is}
-pub use Rattle.sc_core.specs.Prelude.{Acts, Arith, Blocks, Body, Break, Callable, Calls, Continue, Does, Exit, Function}
-pub use Rattle.sc_core.specs.Prelude.{Here, IsWellTyped, Judged, Left, Library, Meant, Next, On, Piece, Reached, Return}
+pub use Rattle.sc_core.specs.Prelude.{Acts, Arith, Blocks, Body, Break, Callable, Calls, Continue, Exit, Function, Here}
+pub use Rattle.sc_core.specs.Prelude.{IsWellTyped, Judged, Left, Library, Meant, Next, On, Piece, Reached, Return}
 pub use Rattle.sc_core.specs.Prelude.{Roles, Route, Scope, Signature, State, Step, Stopped, Ways, acts, all_do}
 pub use Rattle.sc_core.specs.Prelude.{all_go_into, allowed, and_then, applied, applied_one, are_distinct, are_equatable}
 pub use Rattle.sc_core.specs.Prelude.{are_ordered, args_fit, asks, assign_call, assign_call_fits, assign_fits, at_brace}

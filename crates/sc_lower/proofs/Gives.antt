@@ -1,7 +1,7 @@
 -- What a stretch of code gives: a value in a temporary, or a blame.
-use Rattle.sc_lower.proofs.Common.{Arith, Blamed, Bool, Break, Calls, Cause, Codes, Continue, Does, Err, Exit, Here}
-use Rattle.sc_lower.proofs.Common.{Left, List, Next, None, Ok, Piece, Reached, Result, Return, Some, State, Stopped}
-use Rattle.sc_lower.proofs.Common.{TacOp, TacStmt, TacStmt-F, Temps, Value, [], and_then, ap, arith as numbers, bind}
+use Rattle.sc_lower.proofs.Common.{Arith, Blamed, Bool, Break, Calls, Cause, Codes, Continue, Err, Exit, Here, Left}
+use Rattle.sc_lower.proofs.Common.{List, Next, None, Ok, Piece, Reached, Result, Return, Some, State, Stopped, TacOp}
+use Rattle.sc_lower.proofs.Common.{TacStmt, TacStmt-F, Temps, Value, [], and_then, ap, arith as numbers, bind}
 use Rattle.sc_lower.proofs.Common.{code_does, code_step, computed, false, fold-roll-TacStmt, follow, gets}
 use Rattle.sc_lower.proofs.Common.{if◌then◌else◌, in_order, known, leave, map-TacStmt, op_does, operated, read, refl}
 use Rattle.sc_lower.proofs.Common.{roll-TacStmt, stmt_does, subst, sym, take, true, with_temp, ℕ, ◌++◌, ◌<◌, ◌∙◌, ◌∷◌}

@@ -1,13 +1,13 @@
 -- The names that several proofs of this crate cite, passed on from one place. Declares nothing.
-pub use Rattle.std.proofs.Common.{All, AllPairs, Bool, Err, IfOk, IsTrue, List, None, Ok, OnOk, Option, Some, []}
-pub use Rattle.std.proofs.Common.{add-one, ap, append-nil, append_assoc, ap₂, arith, drop, drop-cons, eq-eqb, eqb-true}
-pub use Rattle.std.proofs.Common.{false, get_or, if◌then◌else◌, inl, inr, is_some, le-ltb, length, length-append}
-pub use Rattle.std.proofs.Common.{ltb-true, map, nat_lt, ne_eqb, neg_ℤ, negsuc, not, pos, pred, refl, replicate}
-pub use Rattle.std.proofs.Common.{reverse, slice_get, slice_set, subst, suc, sym, true, zero, ℕ, ⊎_elim, ◌&&◌, ◌*◌}
-pub use Rattle.std.proofs.Common.{◌++◌, ◌+◌, ◌-◌, ◌<◌, ◌==◌, ◌^◌, ◌||◌, ◌∙◌, ◌∷◌, ◌≡◌, ◌≤◌, ◌⊎◌}
+pub use Rattle.std.proofs.Common.{All, AllPairs, Bool, IsTrue, List, None, OnOk, Option, Some, [], add-one, ap}
+pub use Rattle.std.proofs.Common.{append-nil, append_assoc, ap₂, arith, drop, drop-cons, eq-eqb, eqb-true, false}
+pub use Rattle.std.proofs.Common.{get_or, if◌then◌else◌, inl, inr, is_some, le-ltb, length, length-append, ltb-true}
+pub use Rattle.std.proofs.Common.{map, nat_lt, ne_eqb, neg_ℤ, negsuc, not, pos, pred, refl, replicate, reverse}
+pub use Rattle.std.proofs.Common.{slice_get, slice_set, subst, suc, sym, true, zero, ℕ, ⊎_elim, ◌&&◌, ◌*◌, ◌++◌, ◌+◌}
+pub use Rattle.std.proofs.Common.{◌-◌, ◌<◌, ◌==◌, ◌^◌, ◌||◌, ◌∙◌, ◌∷◌, ◌≡◌, ◌≤◌, ◌⊎◌}
 pub use Rattle.std.proofs.lemmas.Bool.{and_from}
 pub use Rattle.std.proofs.lemmas.List.{length-map, length-reverse, reverse-append, reverse-reverse}
-pub use Rattle.std.proofs.lemmas.Result.{on_ok_weaker}
+pub use Rattle.std.proofs.lemmas.Result.{IfOk-weaker, on_ok_weaker}
 pub use Rattle.std.specs.declared.result.Result.{Result}
 pub use Rattle.sc_base.proofs.Bools.{and_first, and_rest}
 pub use Rattle.sc_word.specs.Prelude.{sub_word}

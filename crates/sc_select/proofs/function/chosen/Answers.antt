@@ -1,5 +1,4 @@
-use Rattle.sc_select.proofs.Common.{arith, code_of, code_of_lines, false, function_lines, plan_of, ◌≡◌}
-use Rattle.std.proofs.lemmas.Result.{IfOk-weaker}
+use Rattle.sc_select.proofs.Common.{IfOk-weaker, arith, code_of, code_of_lines, false, function_lines, plan_of, ◌≡◌}
 use Rattle.sc_select.proofs.Links.{far_code}
 use Rattle.sc_select.proofs.function.chosen.Goals as goal
 
