@@ -129,7 +129,7 @@ module _ (image : ImageParts) (inputs : List ℕ) (formed : IsWellFormed image) 
       further : (n : ℕ) (from next : State) → Front from.trace to.trace → length from.trace < events →
           step image inputs from ≡ Goes next → Along n next → Along (suc n) from
       further n from next front short goes rest =
-          let early = not_stopped events from.trace (before from front) short in
+          let early = not_stopped image inputs formed events from.trace (before from front) short in
           let on : (m : ℕ) → run image inputs events (suc m) from ≡ run image inputs events m next =
           λ m. run_goes image inputs events m from next early goes in
           record {

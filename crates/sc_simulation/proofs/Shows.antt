@@ -102,7 +102,7 @@ module _ (image : ImageParts) (inputs : List ℕ) (formed : IsWellFormed image) 
     room more short = way.room more short
 
     early : length reached.trace < events → stopped events reached.trace ≡ None
-    early short = not_stopped events reached.trace (not_over reached.trace place.going) short
+    early short = not_stopped image inputs formed events reached.trace (not_over reached.trace place.going) short
 
     -- the rest of so many steps
     rest_is : (steps : ℕ) → place.steps ≤ steps → place.steps + (steps - place.steps) ≡ steps
