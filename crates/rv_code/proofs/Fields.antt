@@ -45,7 +45,7 @@ pub i_fields : (w opcode rd funct3 rs1 : ℕ) (imm : ℤ) → w ≡ i_word opcod
     Fields w opcode rd funct3 rs1 (rs2_of w) × (i_imm_of w ≡ imm)
 i_fields w opcode rd funct3 rs1 imm e ho hf hd h1 hi =
     let parts = i_bits w opcode rd funct3 rs1 _ e ho hf hd h1 (residue-below _ imm (omega arith)) in
-    (parts.0, signed-residue (2 ^ 11) 2047 2047 imm _ hi.least hi.greatest (omega arith) (omega arith) parts.1)
+    (parts.0, signed-residue _ 2047 2047 imm _ hi.least hi.greatest (omega arith) (omega arith) parts.1)
 
 s_bits : (w opcode funct3 rs1 rs2 bits : ℕ) → w ≡ opcode + 2 ^ 7 *
     (bits % 2 ^ 5) + 2 ^ 12 * funct3 + 2 ^ 15 * rs1 + 2 ^ 20 * rs2 + 2 ^ 25 * (bits / 2 ^ 5) → opcode < 2 ^ 7 →
@@ -65,7 +65,7 @@ pub s_fields : (w opcode funct3 rs1 rs2 : ℕ) (imm : ℤ) → w ≡ s_word opco
     Fields w opcode (rd_of w) funct3 rs1 rs2 × (s_imm_of w ≡ imm)
 s_fields w opcode funct3 rs1 rs2 imm e ho hf h1 h2 hi =
     let parts = s_bits w opcode funct3 rs1 rs2 _ e ho hf h1 h2 (residue-below _ imm (omega arith)) in
-    (parts.0, signed-residue (2 ^ 11) 2047 2047 imm _ hi.least hi.greatest (omega arith) (omega arith) parts.1)
+    (parts.0, signed-residue _ 2047 2047 imm _ hi.least hi.greatest (omega arith) (omega arith) parts.1)
 
 -- a number of 13 bits is made of its bits
 b_cut : (bits : ℕ) → bits < 2 ^ 13 → bits % 2 ≡ 0 → 2 ^ 12 * (bits / 2 ^ 12) + 2 ^ 11 * (bits / 2 ^ 11 % 2) + 2 ^ 5 *
@@ -95,7 +95,7 @@ b_fields w opcode funct3 rs1 rs2 imm e ho hf h1 h2 hi =
     let parts = b_bits w opcode funct3 rs1 rs2 _ _ _ _ e ho hf h1 h2 (omega arith) (omega arith) (omega arith)
         (omega arith) in
     (parts.0, signed-residue (2 ^ 12) 4095 4094 imm _ hi.least hi.greatest (omega arith) (omega arith)
-    (parts.1 ∙ b_cut (residue (2 ^ 13) imm) below (residue-even-13 imm hi.even)))
+    (parts.1 ∙ b_cut (residue _ imm) below (residue-even-13 imm hi.even)))
 
 pub u_fields : (w opcode rd imm : ℕ) → w ≡ u_word opcode rd imm → opcode < 2 ^ 7 → IsReg rd → IsUpper imm →
     Fields w opcode rd (funct3_of w) (rs1_of w) (rs2_of w) × (u_imm_of w ≡ imm)
@@ -133,7 +133,7 @@ j_fields w opcode rd imm e ho hd hi =
     let below = residue-below (2 ^ 21) imm (omega arith) in
     let parts = j_bits w opcode rd _ _ _ _ e ho hd (omega arith) (omega arith) (omega arith) (omega arith) in
     (parts.0, signed-residue (2 ^ 20) 1048575 1048574 imm _ hi.least hi.greatest (omega arith) (omega arith)
-    (parts.1 ∙ j_cut (residue (2 ^ 21) imm) below (residue-even-21 imm hi.even)))
+    (parts.1 ∙ j_cut (residue _ imm) below (residue-even-21 imm hi.even)))
 
 -- A word is made of its fields.
 

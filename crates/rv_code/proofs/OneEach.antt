@@ -115,7 +115,7 @@ module _ (w : ℕ) (h : w < 2 ^ 32) where
   unfolding word_of jalr_in
   jalr_has e = code_has w (funct3_of w) _ _ _ (λ f. record {
     instr = (omega arith, omega arith, i_imm_fits);
-    word = i_joined w _ e h jalr_funct3 f;
+    word = i_joined w _ e h _ f;
   }) tt
 
   branch_has : opcode_of w ≡ branch_opcode → AllHave w (branch_in w)
@@ -160,7 +160,7 @@ module _ (w : ℕ) (h : w < 2 ^ 32) where
   unfolding word_of fence_in
   fence_has e = code_has w (funct3_of w) _ _ _ (λ f. record {
     instr = (omega arith, omega arith, i_imm_fits);
-    word = i_joined w _ e h fence_funct3 f;
+    word = i_joined w _ e h _ f;
   }) tt
 
   system_has : AllHave w (system_in w)

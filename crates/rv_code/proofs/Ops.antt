@@ -21,12 +21,12 @@ find-passes {A} p (y ∷ ys) x e =
 -- so it has the code, or the two codes, that were asked for
 pub by_code : {A : Type 0} (f : A → ℕ) (n : ℕ) (xs : List A) (x : A) → find (λ op. nat_eq n (f op)) xs ≡ Some x →
     n ≡ f x
-by_code f n xs x e = eqb-true n _ (find-passes (λ op. nat_eq n (f op)) xs x e)
+by_code f n xs x e = eqb-true n _ (find-passes _ xs x e)
 
 pub by_codes : {A : Type 0} (f g : A → ℕ) (m n : ℕ) (xs : List A) (x : A) →
     find (λ op. nat_eq m (f op) && nat_eq n (g op)) xs ≡ Some x → (m ≡ f x) × (n ≡ g x)
 by_codes f g m n xs x e =
-    let passed = and_parts (nat_eq m _) _ (find-passes (λ op. nat_eq m (f op) && nat_eq n (g op)) xs x e) in
+    let passed = and_parts (nat_eq m _) _ (find-passes _ xs x e) in
     (eqb-true m _ passed.0, eqb-true n _ passed.1)
 
 -- an operation is found by its own function codes, and they fit their fields
