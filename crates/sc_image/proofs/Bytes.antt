@@ -1,6 +1,6 @@
 -- What a memory holds are bytes, at addresses of 32 bits: at the start, and after a store.
 use Rattle.sc_image.proofs.Common.{Bool, CompPart, HoldsBytes, ImageParts, IsByte, IsWellFormed, Memory, None, Option}
-use Rattle.sc_image.proofs.Common.{Some, are_data, arith, byte_of, comp_of_data, data_start, false}
+use Rattle.sc_image.proofs.Common.{Some, and_parts, are_data, arith, byte_of, comp_of_data, data_start, false}
 use Rattle.sc_image.proofs.Common.{get_or_from_slice_get, globals_of, if◌then◌else◌, leb-true, length, ltb-true}
 use Rattle.sc_image.proofs.Common.{most_globals, nat_le, nat_lt, option_and_then, refl, refused, slice_get}
 use Rattle.sc_image.proofs.Common.{slice_get_cases, slice_get_within, stack_size, start_memory, stored, stretch, subst}
@@ -17,11 +17,6 @@ few_globals image c formed =
 abbrev IsByteAt : ℕ → ℕ → Type 0
 IsByteAt address byte = (address < 2 ^ 32) × (byte < 256)
 
--- the test of an access
-both : (x y : Bool) → (x && y) ≡ true → (x ≡ true) × (y ≡ true)
-both true y h = (refl, h)
-both false y h = let never = h in cc never
-
 digit : (n : ℕ) → n % 256 < 256
 digit n = omega arith
 
@@ -36,7 +31,7 @@ module _ (image : ImageParts) (formed : IsWellFormed image) (c a size word : ℕ
       (if inside then Some (byte_of word (x - a)) else memory x) ≡ Some byte → IsByteAt x byte
   stored_by x byte true is at =
       let same : byte_of word (x - a) ≡ byte = cc at in
-      let tests = both (nat_le a x) _ is in (
+      let tests = and_parts (nat_le a x) _ is in (
         data_below x (leb-true a x tests.0) (ltb-true x _ tests.1),
         subst (λ b. b < 256) same (digit _),
       )

@@ -1,18 +1,19 @@
 -- What belongs to a compartment that a call or a return makes active.
-use Rattle.sc_image.proofs.Common.{Adds, Bool, Call, CompPart, Crossing, Entered, EntersByEvent, Event, Export}
-use Rattle.sc_image.proofs.Common.{ExportPart, Goes, ImageParts, In, IsChain, IsExport, IsSteady, IsWellFormed, Kept}
-use Rattle.sc_image.proofs.Common.{List, None, Option, Out, Outcome, Own, Ret, Some, State, Waits, [], a0, activates}
-use Rattle.sc_image.proofs.Common.{after_outcome, ap, arguments, arith, called, data_of, drop, drop-append_seam}
-use Rattle.sc_image.proofs.Common.{drop-length, eq-eqb, eqb-true, export_at, exports_of, false, flat_map, gate, get_or}
-use Rattle.sc_image.proofs.Common.{get_or-append_right, get_or-drop, get_or-set_other, get_or-take, get_or_append_left}
-use Rattle.sc_image.proofs.Common.{get_or_from_slice_get, given_back, has_result, if◌then◌else◌, input_at, is_argument}
-use Rattle.sc_image.proofs.Common.{is_result, is_some, kept, kept_by, kept_from, length, length-append, length-drop}
-use Rattle.sc_image.proofs.Common.{length-take-le, nat_eq, nat_le, nat_lt, nat_tests, ne_eqb, observation_of}
-use Rattle.sc_image.proofs.Common.{option_map_or, own, params_of, position-Some, ra, refl, reg, replicate, returned}
-use Rattle.sc_image.proofs.Common.{returned_to, saved_sp, slice_get, slice_get-get_or, slice_get_within, sp, step}
-use Rattle.sc_image.proofs.Common.{subst, suc, sym, true, unwrap_or, written, zero, ℕ, ◌&&◌, ◌++◌, ◌+◌, ◌-◌, ◌<◌, ◌==◌}
-use Rattle.sc_image.proofs.Common.{◌∙◌, ◌∷◌, ◌≡◌, ◌≢◌, ◌≤◌}
-use Rattle.sc_image.proofs.Cases.{step_of}
+use Rattle.sc_image.proofs.Common.{Adds, Bool, Call, Crossing, Entered, EntersByEvent, Event, ExportPart, Goes}
+use Rattle.sc_image.proofs.Common.{ImageParts, In, IsChain, IsSteady, IsWellFormed, Kept, List, None, Option, Out}
+use Rattle.sc_image.proofs.Common.{Outcome, Own, Ret, Some, State, Waits, [], a0, activates, after_outcome, ap}
+use Rattle.sc_image.proofs.Common.{arguments, arith, called, data_of, drop, drop-append_seam, drop-length, eq-eqb}
+use Rattle.sc_image.proofs.Common.{eqb-true, export_at, exports_of, false, flat_map, gate, get_or, get_or-append_right}
+use Rattle.sc_image.proofs.Common.{get_or-drop, get_or-set_other, get_or-take, get_or_append_left}
+use Rattle.sc_image.proofs.Common.{get_or_from_slice_get, given_back, has_result, if◌then◌else◌, input_at}
+use Rattle.sc_image.proofs.Common.{is_argument, is_result, is_some, kept, kept_by, kept_from, length, length-append}
+use Rattle.sc_image.proofs.Common.{length-drop, length-take-le, nat_eq, nat_le, nat_lt, nat_tests, ne_eqb}
+use Rattle.sc_image.proofs.Common.{observation_of, option_map_or, own, params_of, position-Some, ra, refl, reg}
+use Rattle.sc_image.proofs.Common.{replicate, returned, returned_to, saved_sp, slice_get, slice_get-get_or}
+use Rattle.sc_image.proofs.Common.{slice_get_within, sp, step, subst, suc, sym, true, unwrap_or, written, zero, ℕ, ◌&&◌}
+use Rattle.sc_image.proofs.Common.{◌++◌, ◌+◌, ◌-◌, ◌<◌, ◌==◌, ◌∙◌, ◌∷◌, ◌≡◌, ◌≢◌, ◌≤◌}
+use Rattle.sc_image.proofs.Cases.{crossing_to, step_of}
+use Rattle.sc_image.proofs.Words.{comp_found}
 
 -- Registers that hold these words from a0 on, of which so many count.
 abbrev from_a0 : (count : ℕ) → List ℕ → List ℕ
@@ -60,7 +61,7 @@ both_facts x y z w h = (grind (arith, nat_tests), grind (arith, nat_tests))
 
 -- The registers in a function that was called.
 
-length-arguments : (params : ℕ) (regs : List ℕ) → params ≤ 8 → length regs ≡ 32 →
+pub length-arguments : (params : ℕ) (regs : List ℕ) → params ≤ 8 → length regs ≡ 32 →
     length (arguments params regs) ≡ params
 length-arguments params regs few same = length-take-le params _ (omega (arith, length-drop 10 regs))
 
@@ -99,23 +100,18 @@ result_same false regs same = kept_same (is_result false) 0 regs (from_a0 1 (0 �
 
 -- The exports of a compartment.
 
-some_or_none : {A : Type 0} (P : A → Type 0) (f : A → ℕ) (x : Option A) → ((a : A) → x ≡ Some a → f a ≤ 8) →
-    option_map_or f x 0 ≤ 8
-some_or_none P f None h = omega arith
-some_or_none P f (Some a) h = h a refl
+few_by : (image : ImageParts) (d index : ℕ) → IsWellFormed image → (found : Option ExportPart) →
+    slice_get (exports_of image d) index ≡ found → option_map_or (λ export. export.params) found 0 ≤ 8
+few_by image d index formed None at = omega arith
+few_by image d index formed (Some export) at =
+    let found = comp_found (λ comp. comp.exports) [] (λ exports. slice_get exports index ≡ Some export)
+        (λ none. cc none) _ at in
+    let within = slice_get_within _ index export found.2 in
+    subst (λ e. e.params ≤ 8) (get_or_from_slice_get _ index export export found.2)
+    ((formed.comps d found.0 found.1).exports index export within).params
 
-few_of : (image : ImageParts) (d index : ℕ) → IsWellFormed image → (comp : Option CompPart) →
-    slice_get image.comps d ≡ comp →
-    option_map_or (λ export. export.params) (slice_get (option_map_or (λ comp. comp.exports) comp []) index) 0 ≤ 8
-few_of image d index formed None is = omega arith
-few_of image d index formed (Some comp) is =
-    some_or_none (λ e. Unit {0}) (λ export. _) (slice_get _ index) (λ export found.
-    let all = (formed.comps d comp is).exports in
-    (subst (IsExport image d) (get_or_from_slice_get _ index export export found)
-    (all index export (slice_get_within _ index export found))).params)
-
-few_params : (image : ImageParts) (d index : ℕ) → IsWellFormed image → params_of image d index ≤ 8
-few_params image d index formed = few_of image d index formed _ refl
+pub few_params : (image : ImageParts) (d index : ℕ) → IsWellFormed image → params_of image d index ≤ 8
+few_params image d index formed = few_by image d index formed _ refl
 
 abbrev entry_of : ImageParts → (c index : ℕ) → ℕ
 entry_of image c index = option_map_or (λ export. export.entry) (slice_get (exports_of image c) index) 0
@@ -177,15 +173,7 @@ module _ (image : ImageParts) (inputs : List ℕ) (state : State) (d : ℕ) (for
   enters_call index target at =
       let params = params_of image d index in
       let after = called state d index params target in
-      let crossing : Crossing = record {
-        caller = state.active;
-        pc = state.pc + 4;
-        sp = reg state sp;
-        callee = d;
-        entry = Export index;
-        saved = saved_sp state d;
-      } in
-      let kept_is : kept_by d crossing ≡ Entered (saved_sp state d) ∷ [] =
+      let kept_is : kept_by d (crossing_to state d index) ≡ Entered (saved_sp state d) ∷ [] =
       rw (ne_eqb state.active d differ, eq-eqb d d refl) refl in
       let calls =
       ap (λ k. k ++ flat_map (kept_by d) state.cross) kept_is in

@@ -8,8 +8,8 @@ use Rattle.sc_image.proofs.Common.{import_at, import_bytes, imports_at, imports_
 use Rattle.sc_image.proofs.Common.{is_name_byte, is_nondigit, is_same_name, le-leb, leb-true, length, list_all}
 use Rattle.sc_image.proofs.Common.{little_bytes, lt-ltb, ltb-true, most_globals, name_at, name_bytes, nat_le, nat_lt}
 use Rattle.sc_image.proofs.Common.{nat_tests, not-true, not_from_false, number_at, parts_in_version, refl, same_text}
-use Rattle.sc_image.proofs.Common.{stretch, suc, sym, true, zero, ℕ, ◌%◌, ◌&&◌, ◌*◌, ◌++◌, ◌+◌, ◌/◌, ◌<◌, ◌==◌, ◌^◌}
-use Rattle.sc_image.proofs.Common.{◌∙◌, ◌∷◌, ◌≡◌, ◌≤◌}
+use Rattle.sc_image.proofs.Common.{stretch, suc, sym, takes, true, zero, ℕ, ◌%◌, ◌&&◌, ◌*◌, ◌++◌, ◌+◌, ◌/◌, ◌<◌, ◌==◌}
+use Rattle.sc_image.proofs.Common.{◌^◌, ◌∙◌, ◌∷◌, ◌≡◌, ◌≤◌}
 use Rattle.sc_image.specs.Reading.{export_at}
 use Rattle.sc_image.proofs.Fits.{short_name}
 use Rattle.sc_image.proofs.Fields.{IsBytes, IsField, restated, made, tested, followed, bytes_field, number_field}
@@ -78,12 +78,7 @@ abbrev export_with : (name : List ℕ) (params result entry : ℕ) → ExportPar
 export_with name params result entry = record { name = name; params = params; result = result == 1; entry = entry }
 
 export_again : (export : ExportPart) → export ≡ export_with export.name export.params (bit export.result) export.entry
-export_again export = ap (λ (b : Bool). record {
-  name = export.name;
-  params = export.params;
-  result = b;
-  entry = export.entry;
-}) (sym (bit_again export.result))
+export_again export = ap (λ (b : Bool). record export { result = b }) (sym (bit_again export.result))
 
 pub export_field : IsField export_at export_bytes FitsExport
 unfolding export_at
@@ -211,23 +206,8 @@ comp_again : (comp : CompPart) → comp ≡ comp_with comp.name
     (flags comp) comp.exports comp.imports comp.code comp.globals
 comp_again comp =
     let h = has_flags comp.input comp.output in
-    ap (λ b. record {
-      name = comp.name;
-      input = b;
-      output = comp.output;
-      exports = comp.exports;
-      imports = comp.imports;
-      code = comp.code;
-      globals = comp.globals;
-    }) (sym h.first) ∙ ap (λ b. record {
-      name = comp.name;
-      input = flags comp % 2 == 1;
-      output = b;
-      exports = comp.exports;
-      imports = comp.imports;
-      code = comp.code;
-      globals = comp.globals;
-    }) (sym h.second)
+    ap (λ (b : Bool). record comp { input = b }) (sym h.first) ∙
+    ap (λ (b : Bool). record comp { input = flags comp % 2 == 1; output = b }) (sym h.second)
 
 grouped : (name exports imports code globals : List ℕ) (f : ℕ) →
     name ++ (f ∷ (exports ++ (imports ++ (code ++ globals)))) ≡ name ++ f ∷ exports ++ imports ++ code ++ globals

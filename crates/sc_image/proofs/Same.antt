@@ -1,15 +1,15 @@
 -- What a compartment does follows from its own parts and the events before.
-use Rattle.sc_image.proofs.Common.{Adds, All, AreSilent, Bool, Call, Crossing, End, Entered, Event, Export}
-use Rattle.sc_image.proofs.Common.{FollowsFromOwn, Goes, GoesOnSame, ImageParts, IsChain, IsSilent, IsSteady}
-use Rattle.sc_image.proofs.Common.{IsWellFormed, IsWord, List, LooksSame, Memory, None, OpenCall, Outcome, Ret, Running}
-use Rattle.sc_image.proofs.Common.{Some, State, Traps, Waits, [], a0, after_outcome, after_step, after_steps, ap, ap₂}
-use Rattle.sc_image.proofs.Common.{are_data, arguments, arith, byte_of, call_of, called, data_of, drop, eq-eqb, false}
-use Rattle.sc_image.proofs.Common.{flat_map, get_or-set_same, given_back, has_result, if◌then◌else◌, inputs_in, kept_by}
-use Rattle.sc_image.proofs.Common.{length, map, nat_eq, nat_le, nat_lt, ne_eqb, observation, observation_of, own, refl}
-use Rattle.sc_image.proofs.Common.{reg, returned, returned_to, saved_sp, sp, step, store_size, stored, subst, suc, sym}
-use Rattle.sc_image.proofs.Common.{true, written, zero, ℕ, ◌&&◌, ◌++◌, ◌+◌, ◌-◌, ◌↔◌, ◌∙◌, ◌∷◌, ◌≡◌, ◌≢◌}
-use Rattle.sc_image.proofs.Cases.{one, other, Cases, step_both}
-use Rattle.sc_image.proofs.Reached.{called_other, steady_step, SteadyAfter}
+use Rattle.sc_image.proofs.Common.{Adds, All, AreSilent, Bool, Call, Crossing, End, Entered, Event, FollowsFromOwn}
+use Rattle.sc_image.proofs.Common.{Goes, GoesOnSame, ImageParts, IsChain, IsSilent, IsSteady, IsWellFormed, IsWord}
+use Rattle.sc_image.proofs.Common.{List, LooksSame, Memory, None, OpenCall, Outcome, Ret, Running, Some, State, Waits}
+use Rattle.sc_image.proofs.Common.{[], a0, after_outcome, after_step, after_steps, ap, ap₂, are_data, arguments, arith}
+use Rattle.sc_image.proofs.Common.{byte_of, call_of, called, data_of, drop, eq-eqb, false, flat_map, get_or-set_same}
+use Rattle.sc_image.proofs.Common.{given_back, has_result, if◌then◌else◌, inputs_in, kept_by, length, map, nat_eq}
+use Rattle.sc_image.proofs.Common.{nat_le, nat_lt, ne_eqb, observation, observation_of, own, refl, reg, returned}
+use Rattle.sc_image.proofs.Common.{returned_to, saved_sp, sp, step, store_size, stored, subst, suc, sym, true, zero, ℕ}
+use Rattle.sc_image.proofs.Common.{◌&&◌, ◌++◌, ◌+◌, ◌-◌, ◌↔◌, ◌∙◌, ◌∷◌, ◌≡◌, ◌≢◌}
+use Rattle.sc_image.proofs.Cases.{one, other, Cases, crossing_to, step_both}
+use Rattle.sc_image.proofs.Reached.{called_other, step_steady}
 use Rattle.sc_image.proofs.Others.{idle_both}
 
 -- Lists.
@@ -83,26 +83,8 @@ module _ (image : ImageParts) (inputs : List ℕ) (formed : IsWellFormed image) 
     on : (regs' : List ℕ) (pc' place' : ℕ) (more : List Event) (bytes : Memory → Memory) →
         data_of image c (bytes memory) ≡ data_of image c (bytes memory') →
         Follow
-        (Goes (record {
-          regs = regs';
-          pc = pc';
-          active = c;
-          saved = saved;
-          memory = bytes memory;
-          cross = cross;
-          input = place';
-          trace = more;
-        }))
-        (Goes (record {
-          regs = regs';
-          pc = pc';
-          active = c;
-          saved = saved';
-          memory = bytes memory';
-          cross = cross';
-          input = place';
-          trace = more;
-        }))
+        (Goes (record left { regs = regs'; pc = pc'; memory = bytes memory; input = place'; trace = more }))
+        (Goes (record right { regs = regs'; pc = pc'; memory = bytes memory'; input = place'; trace = more }))
     on regs' pc' place' more bytes same = record {
       shows = refl;
       parts = λ i. record {
@@ -127,25 +109,9 @@ module _ (image : ImageParts) (inputs : List ℕ) (formed : IsWellFormed image) 
         Follow (Goes (called left to index params target)) (Goes (called right to index params target))
     calls_on to index params target differ =
         let to_other : to ≢ c = λ same. differ (sym same) in
-        let mine : Crossing = record {
-          caller = c;
-          pc = pc + 4;
-          sp = reg left sp;
-          callee = to;
-          entry = Export index;
-          saved = saved_sp left to;
-        } in
-        let theirs : Crossing = record {
-          caller = c;
-          pc = pc + 4;
-          sp = reg left sp;
-          callee = to;
-          entry = Export index;
-          saved = saved_sp right to;
-        } in
         let kept =
-        ap₂ (λ k ks. k ++ ks) (kept_of_caller to mine refl to_other ∙
-        sym (kept_of_caller to theirs refl to_other)) calls_same in
+        ap₂ (λ k ks. k ++ ks) (kept_of_caller to (crossing_to left to index) refl to_other ∙
+        sym (kept_of_caller to (crossing_to right to index) refl to_other)) calls_same in
         let sps =
         get_or-set_same saved c _ 0 (omega (arith, h.left_steady.saved, h.left_steady.active)) ∙
         sym (get_or-set_same saved' c _ 0 (omega (arith, h.right_steady.saved, h.right_steady.active))) in
@@ -266,28 +232,16 @@ module _ (image : ImageParts) (inputs : List ℕ) (formed : IsWellFormed image) 
     first = record s { active = c }
 
     abbrev second : State
-    second = record {
-      regs = s.regs;
-      pc = s.pc;
-      active = c;
-      saved = t.saved;
-      memory = t.memory;
-      cross = t.cross;
-      input = s.input;
-      trace = s.trace;
-    }
+    second = record t { regs = s.regs; pc = s.pc; active = c; input = s.input; trace = s.trace }
 
     first_is : s ≡ first
     first_is = λ i. record s { active = h.one_active i }
 
     second_is : t ≡ second
-    second_is = λ i. record {
+    second_is = λ i. record t {
       regs = sym (ap (λ r. r.regs) running_same) i;
       pc = sym (ap (λ r. r.pc) running_same) i;
       active = h.other_active i;
-      saved = t.saved;
-      memory = t.memory;
-      cross = t.cross;
       input = sym input_same i;
       trace = sym h.trace i;
     }
@@ -307,21 +261,14 @@ module _ (image : ImageParts) (inputs : List ℕ) (formed : IsWellFormed image) 
     next_same = subst (λ x. Next image inputs c x t) (sym first_is)
         (subst (λ x. Next image inputs c first x) (sym second_is) next_written)
 
-  steady_after : (s : State) (outcome : Outcome) → IsSteady image s → SteadyAfter image outcome →
-      IsSteady image (after_outcome s outcome)
-  steady_after s (Goes next) h k = k
-  steady_after s (Traps reason) h k = h
-
   alike_after : (s t : State) → LooksSame image c s t → IsSilent image inputs s →
       LooksSame image c (after_step image inputs s) (after_step image inputs t)
   alike_after s t h silent =
       let n = next_same s t h in
       let stays = n.stays silent in
       record {
-        one_steady = steady_after s (step image inputs s) h.one_steady
-            (steady_step image inputs formed all s h.one_steady);
-        other_steady = steady_after t (step image inputs t) h.other_steady
-            (steady_step image inputs formed all t h.other_steady);
+        one_steady = step_steady image inputs s formed all h.one_steady;
+        other_steady = step_steady image inputs t formed all h.other_steady;
         trace = n.traces;
         one_active = stays.0;
         other_active = stays.1;

@@ -1,11 +1,10 @@
 -- What an import leads to is a function that may be called.
-use Rattle.sc_machine.proofs.Common.{Bool, CompPart, ExportPart, ImageParts, IsCallee, IsDistinct, IsEntry, IsExport}
-use Rattle.sc_machine.proofs.Common.{IsSome, IsWellFormed, List, None, Option, Some, ap, arith, cases_lt, code_of}
-use Rattle.sc_machine.proofs.Common.{comp_of_code, eq-eqb, eqb-true, false, get_or, get_or-map, get_or_from_slice_get}
-use Rattle.sc_machine.proofs.Common.{if◌then◌else◌, leb-true, length, length-map, map, may_call, nat_le, refl}
-use Rattle.sc_machine.proofs.Common.{slice_get, slice_get_within, stretch, subst, sym, true, word_at, ℕ, ⊎_elim, ◌&&◌}
-use Rattle.sc_machine.proofs.Common.{◌*◌, ◌-◌, ◌/◌, ◌<◌, ◌∙◌, ◌≡◌, ◌≤◌}
+use Rattle.sc_machine.proofs.Common.{CompPart, ExportPart, ImageParts, IsCallee, IsDistinct, IsEntry, IsExport}
+use Rattle.sc_machine.proofs.Common.{IsWellFormed, List, Some, ap, arith, cases_lt, comp_of_code, eq-eqb, eqb-true}
+use Rattle.sc_machine.proofs.Common.{get_or, get_or-map, get_or_from_slice_get, length, length-map, map, may_call, refl}
+use Rattle.sc_machine.proofs.Common.{rules, slice_get, slice_get_within, subst, sym, true, ℕ, ⊎_elim, ◌<◌, ◌∙◌, ◌≡◌}
 use Rattle.sc_base.proofs.Lists.{position_of_only}
+use Rattle.sc_image.proofs.Words.{in_code, some_is}
 use Rattle.sc_image.specs.declared.parts.ImportPart.{ImportPart}
 
 -- The first export at an entry is the one whose entry it is, since no two have the same.
@@ -29,29 +28,9 @@ one_entry exports distinct j k d inside within same =
         (at i (omega (arith, before, h)) ∙ e ∙ sym (at l h))
 
 -- an entry lies in the stretch of its compartment's code
-has_word : (code : List ℕ) (k : ℕ) (word : Option ℕ) → slice_get code k ≡ word → IsSome word → k < length code
-has_word code k None at some = let never = some in cc never
-has_word code k (Some word) at some = slice_get_within code k word at
-
-lies_by : (aligned low : Bool) (begin entry : ℕ) (code : List ℕ) → (low ≡ true → begin ≤ entry) →
-    IsSome (if aligned && low then slice_get code ((entry - begin) / 4) else None) →
-    (begin ≤ entry) × ((entry - begin) / 4 < length code)
-lies_by true true begin entry code from some = (
-  from refl,
-  has_word code ((entry - begin) / 4) (slice_get code ((entry - begin) / 4)) refl some,
-)
-lies_by true false begin entry code from some = let never : false ≡ true = some in cc never
-lies_by false low begin entry code from some = let never : false ≡ true = some in cc never
-
-low_is : (x y : ℕ) → nat_le x y ≡ true → x ≤ y
-low_is x y h = leb-true x y h
-
-home_of : (image : ImageParts) (c entry : ℕ) → 4 * length (code_of image c) ≤ stretch → IsEntry image c entry →
-    c ≡ comp_of_code entry
-unfolding word_at
-home_of image c entry short is =
-    let lies = lies_by _ _ _ entry _ (low_is _ entry) is in
-    omega (arith, short, lies.0, lies.1)
+home_of : (image : ImageParts) (c entry : ℕ) → IsWellFormed image → IsEntry image c entry → c ≡ comp_of_code entry
+home_of image c entry formed is =
+    let word = some_is _ is in sym (in_code image formed c entry word.0 word.1).comp
 
 pub imported : (image : ImageParts) (caller : ℕ) (import : ImportPart) (comp : CompPart) (export : ExportPart) →
     IsWellFormed image →
@@ -69,11 +48,10 @@ imported image caller import comp export formed may at found =
     let is =
     get_or_from_slice_get comp.exports _ export export found in
     let keeps : IsExport image _ export = subst (IsExport image _) is (rules.exports _ export within) in
-    let short : 4 * length _ ≤ stretch = rw at rules.short_code in
     let entry_is : (get_or comp.exports import.index export).entry ≡ export.entry =
     ap (λ e. e.entry) is in
     record {
-      comp = home_of image import.comp _ short keeps.entry;
+      comp = home_of image import.comp _ formed keeps.entry;
       within = slice_get_within _ import.comp comp at;
       index = rw at (position_of_only _ comp.exports _ export within (eq-eqb _ _ entry_is)
           (λ j inside same. one_entry _ rules.export_entries j _ export inside within
