@@ -5,15 +5,15 @@ use Rattle.sc_image.proofs.Common.{Outcome, Own, Ret, Some, State, Waits, [], a0
 use Rattle.sc_image.proofs.Common.{arguments, arith, called, data_of, drop, drop-append_seam, drop-length, eq-eqb}
 use Rattle.sc_image.proofs.Common.{eqb-true, export_at, exports_of, false, flat_map, gate, get_or, get_or-append_right}
 use Rattle.sc_image.proofs.Common.{get_or-drop, get_or-set_other, get_or-take, get_or_append_left}
-use Rattle.sc_image.proofs.Common.{get_or_from_slice_get, given_back, has_result, if◌then◌else◌, input_at}
-use Rattle.sc_image.proofs.Common.{is_argument, is_result, is_some, kept, kept_by, kept_from, length, length-append}
-use Rattle.sc_image.proofs.Common.{length-drop, length-take-le, nat_eq, nat_le, nat_lt, nat_tests, ne_eqb}
-use Rattle.sc_image.proofs.Common.{observation_of, option_map_or, own, params_of, position-Some, ra, refl, reg}
-use Rattle.sc_image.proofs.Common.{replicate, returned, returned_to, saved_sp, slice_get, slice_get-get_or}
-use Rattle.sc_image.proofs.Common.{slice_get_within, sp, step, subst, suc, sym, true, unwrap_or, written, zero, ℕ, ◌&&◌}
-use Rattle.sc_image.proofs.Common.{◌++◌, ◌+◌, ◌-◌, ◌<◌, ◌==◌, ◌∙◌, ◌∷◌, ◌≡◌, ◌≢◌, ◌≤◌}
+use Rattle.sc_image.proofs.Common.{get_or_from_slice_get, given_back, has_result, if◌then◌else◌, input_at, is_argument}
+use Rattle.sc_image.proofs.Common.{is_result, is_some, kept, kept_by, kept_from, length, length-append, length-drop}
+use Rattle.sc_image.proofs.Common.{length-take-le, nat_eq, nat_le, nat_lt, nat_tests, ne_eqb, observation_of}
+use Rattle.sc_image.proofs.Common.{option_map_or, own, params_of, position-Some, ra, refl, reg, replicate, returned}
+use Rattle.sc_image.proofs.Common.{returned_to, saved_sp, slice_get, slice_get-get_or, slice_get_within, sp, step}
+use Rattle.sc_image.proofs.Common.{subst, suc, sym, true, unwrap_or, written, zero, ℕ, ◌&&◌, ◌++◌, ◌+◌, ◌-◌, ◌<◌, ◌==◌}
+use Rattle.sc_image.proofs.Common.{◌∙◌, ◌∷◌, ◌≡◌, ◌≢◌, ◌≤◌}
 use Rattle.sc_image.proofs.Cases.{crossing_to, step_of}
-use Rattle.sc_image.proofs.Words.{comp_found}
+use Rattle.sc_image.proofs.Words.{comp_found, no_export}
 
 -- Registers that hold these words from a0 on, of which so many count.
 abbrev from_a0 : (count : ℕ) → List ℕ → List ℕ
@@ -116,9 +116,6 @@ few_params image d index formed = few_by image d index formed _ refl
 abbrev entry_of : ImageParts → (c index : ℕ) → ℕ
 entry_of image c index = option_map_or (λ export. export.entry) (slice_get (exports_of image c) index) 0
 
-abbrev no_export : ExportPart
-no_export = record { name = []; params = 0; result = false; entry = 0 }
-
 entry_is : (image : ImageParts) (c target index : ℕ) → export_at image c target ≡ Some index →
     entry_of image c index ≡ target
 entry_is image c target index at =
@@ -154,9 +151,9 @@ entered image d before _ = before
 
 -- the last event
 last_same : (trace : List Event) (one other : Event) → trace ++ one ∷ [] ≡ trace ++ other ∷ [] → one ≡ other
-last_same [] one other h = cc h
-last_same (event ∷ trace) one other h = let rest : trace ++ one ∷ [] ≡ trace ++ other ∷ [] = cc h in
-    last_same trace one other rest
+last_same trace one other h =
+    let same = sym (drop-append_seam trace (one ∷ [])) ∙ ap (drop (length trace)) h ∙ drop-append_seam trace _ in
+    cc same
 
 module _ (image : ImageParts) (inputs : List ℕ) (state : State) (d : ℕ) (formed : IsWellFormed image)
     (h : IsSteady image state) (differ : state.active ≢ d) where

@@ -3,25 +3,19 @@ use Rattle.sc_image.proofs.Common.{Adds, All, AreSilent, Bool, Call, Crossing, E
 use Rattle.sc_image.proofs.Common.{Goes, GoesOnSame, ImageParts, IsChain, IsSilent, IsSteady, IsWellFormed, IsWord}
 use Rattle.sc_image.proofs.Common.{List, LooksSame, Memory, None, OpenCall, Outcome, Ret, Running, Some, State, Waits}
 use Rattle.sc_image.proofs.Common.{[], a0, after_outcome, after_step, after_steps, ap, ap₂, are_data, arguments, arith}
-use Rattle.sc_image.proofs.Common.{byte_of, call_of, called, data_of, drop, eq-eqb, false, flat_map, get_or-set_same}
-use Rattle.sc_image.proofs.Common.{given_back, has_result, if◌then◌else◌, inputs_in, kept_by, length, map, nat_eq}
-use Rattle.sc_image.proofs.Common.{nat_le, nat_lt, ne_eqb, observation, observation_of, own, refl, reg, returned}
-use Rattle.sc_image.proofs.Common.{returned_to, saved_sp, sp, step, store_size, stored, subst, suc, sym, true, zero, ℕ}
-use Rattle.sc_image.proofs.Common.{◌&&◌, ◌++◌, ◌+◌, ◌-◌, ◌↔◌, ◌∙◌, ◌∷◌, ◌≡◌, ◌≢◌}
+use Rattle.sc_image.proofs.Common.{byte_of, call_of, called, data_of, drop, drop-append_seam, eq-eqb, false, flat_map}
+use Rattle.sc_image.proofs.Common.{get_or-set_same, given_back, has_result, if◌then◌else◌, inputs_in, kept_by, length}
+use Rattle.sc_image.proofs.Common.{map, nat_eq, nat_le, nat_lt, ne_eqb, observation, observation_of, own, refl, reg}
+use Rattle.sc_image.proofs.Common.{returned, returned_to, saved_sp, sp, step, store_size, stored, subst, suc, sym, true}
+use Rattle.sc_image.proofs.Common.{zero, ℕ, ◌&&◌, ◌++◌, ◌+◌, ◌-◌, ◌↔◌, ◌∙◌, ◌∷◌, ◌≡◌, ◌≢◌}
 use Rattle.sc_image.proofs.Cases.{one, other, Cases, crossing_to, step_both}
 use Rattle.sc_image.proofs.Reached.{called_other, step_steady}
 use Rattle.sc_image.proofs.Others.{idle_both}
 
--- Lists.
-
-drop_front : {A : Type 0} (xs ys : List A) → drop (length xs) (xs ++ ys) ≡ ys
-drop_front [] ys = refl
-drop_front (x ∷ xs) ys = drop_front xs ys
-
 -- an event is no silence
 loud : (trace : List Event) (event : Event) → Adds (drop (length trace) (trace ++ event ∷ [])) ≡ Adds [] → ⊥
 loud trace event silent =
-    let some = ap Adds (sym (drop_front trace _)) ∙ silent in cc some
+    let some = ap Adds (sym (drop-append_seam trace _)) ∙ silent in cc some
 
 -- The bytes of one compartment.
 

@@ -3,12 +3,13 @@ use Rattle.sc_image.proofs.Common.{Bool, Crossing, Ended, Event, EventsOut, Goes
 use Rattle.sc_image.proofs.Common.{List, None, Option, Outcome, Some, State, StepsOut, Stop, StretchesCompose, Traps}
 use Rattle.sc_image.proofs.Common.{[], ap, append-nil, append_assoc, arith, false, if◌then◌else◌, is_end, is_ended}
 use Rattle.sc_image.proofs.Common.{length, length-append, list_any, lt-leb, nat_tests, or_from, or_parts, refl}
-use Rattle.sc_image.proofs.Common.{returned, run, start, step, stopped, stops_or, subst, suc, suc-add, sym, then_on}
-use Rattle.sc_image.proofs.Common.{true, walk, zero, zero-add, ℕ, ◌++◌, ◌+◌, ◌<◌, ◌∙◌, ◌∷◌, ◌≡◌, ◌≤◌}
+use Rattle.sc_image.proofs.Common.{returned, run, start, step, stopped, stops_or, subst, suc, suc-add, sym, true, walk}
+use Rattle.sc_image.proofs.Common.{zero, zero-add, ℕ, ◌++◌, ◌+◌, ◌<◌, ◌∙◌, ◌∷◌, ◌≡◌, ◌≤◌}
 use Rattle.sc_image.proofs.Cases.{AtNext, step_of}
 use Rattle.sc_image.proofs.Traces.{ended_by}
+use Rattle.std.proofs.lemmas.List.Folds.{list_any-append}
 use Rattle.sc_image.proofs.Running.{run_stopped, run_out, run_goes, run_traps, run_keeps}
-use Rattle.sc_image.proofs.Walking.{walk_one, walk_together}
+use Rattle.sc_image.proofs.Walking.{first_step, walk_one, walk_together}
 
 -- A step adds events at the end of the trace.
 
@@ -85,20 +86,11 @@ not_stopped events trace going below = rw (going, lt-leb events _ below) refl
 
 pub none_in_both : (first second : List Event) → list_any is_end first ≡ false → list_any is_end second ≡ false →
     list_any is_end (first ++ second) ≡ false
-none_in_both [] second none later = later
-none_in_both (event ∷ first) second none later =
-    let parts = or_parts (is_end event) _ none in
-    or_from _ _ parts.0 (none_in_both first second parts.1 later)
+none_in_both first second none later = list_any-append is_end first second ∙ or_from _ _ none later
 
-none_behind : (first second : List Event) → list_any is_end (first ++ second) ≡ false → list_any is_end second ≡ false
-none_behind [] second none = none
-none_behind (event ∷ first) second none = none_behind first second (or_parts _ _ none).1
-
-none_in_front : (first second : List Event) → list_any is_end (first ++ second) ≡ false → list_any is_end first ≡ false
-none_in_front [] second none = refl
-none_in_front (event ∷ first) second none =
-    let parts = or_parts (is_end event) _ none in
-    or_from _ _ parts.0 (none_in_front first second parts.1)
+none_in_each : (first second : List Event) → list_any is_end (first ++ second) ≡ false →
+    (list_any is_end first ≡ false) × (list_any is_end second ≡ false)
+none_in_each first second none = or_parts _ _ (sym (list_any-append is_end first second) ∙ none)
 
 -- so a trace that hadn't ended hasn't with them
 pub still_open : (trace told : List Event) → is_ended trace ≡ false → list_any is_end told ≡ false →
@@ -121,43 +113,14 @@ module _ (image : ImageParts) (inputs : List ℕ) (formed : IsWellFormed image) 
   goes_adds state next goes =
       let more = step_to image inputs formed state next goes in (more.0, more.1)
 
-  walked_adds : (n : ℕ) (state to : State) (outcome : Outcome) → step image inputs state ≡ outcome →
-      then_on outcome (walk image inputs n) ≡ Goes to →
-      ((next : State) → walk image inputs n next ≡ Goes to → IsFront next.trace to.trace) → IsFront state.trace to.trace
-  walked_adds n state to (Goes next) is goes later = front_on _ next.trace _ (goes_adds state next is)
-      (later next goes)
-  walked_adds n state to (Traps reason) is goes later = let never = goes in cc never
-
   pub walk_adds : (n : ℕ) (state to : State) → walk image inputs n state ≡ Goes to → IsFront state.trace to.trace
   walk_adds zero state to goes = let same : state ≡ to = cc goes in
       subst (λ t. IsFront state.trace t.trace) same (front_self _)
-  walk_adds (suc n) state to goes = walked_adds n state to _ refl goes (λ next. walk_adds n next to)
+  walk_adds (suc n) state to goes =
+      let first = first_step (walk image inputs n) to _ goes in
+      front_on _ first.0.trace _ (goes_adds state first.0 first.1) (walk_adds n first.0 to first.2)
 
   module _ (events more : ℕ) where
-    along : (n : ℕ) (told : List Event) (from to : State) (outcome : Outcome) → step image inputs from ≡ outcome →
-        then_on outcome (walk image inputs n) ≡ Goes to → to.trace ≡ from.trace ++ told → list_any is_end told ≡ false →
-        is_ended from.trace ≡ false → length to.trace < events →
-        ((told : List Event) (next : State) → walk image inputs n next ≡ Goes to → to.trace ≡ next.trace ++ told →
-        list_any is_end told ≡ false → is_ended next.trace ≡ false →
-        run image inputs events (n + more) next ≡ run image inputs events more to) →
-        run image inputs events (suc (n + more)) from ≡ run image inputs events more to
-    along n told from to (Goes next) is goes trace none going below later =
-        let first : IsFront _ _ = goes_adds from next is in
-        let last = walk_adds n next to goes in
-        let parts : first.0 ++ last.0 ≡ told =
-        behind _ first.0 told last.0 (ap (λ t. t ++ last.0) first.1 ∙ last.1 ∙ trace) in
-        let all =
-        subst (λ t. list_any is_end t ≡ false) (sym parts) none in
-        let short : length from.trace < events =
-        omega (arith, below, sym (ap length trace) ∙ refl, length-append from.trace told) in
-        let still =
-        subst (λ t. is_ended t ≡ false) first.1
-        (still_open from.trace first.0 going (none_in_front first.0 last.0 all)) in
-        run_goes image inputs events (n + more) from next (not_stopped events _ going short) is ∙
-        later last.0 next goes (sym last.1) (none_behind first.0 last.0 all) still
-    along n told from to (Traps reason) is goes trace none going below later =
-        let never : Traps reason ≡ Goes to = goes in cc never
-
     pub run_along : (n : ℕ) (told : List Event) (from to : State) → walk image inputs n from ≡ Goes to →
         to.trace ≡ from.trace ++ told → list_any is_end told ≡ false → is_ended from.trace ≡ false →
         length to.trace < events → run image inputs events (n + more) from ≡ run image inputs events more to
@@ -165,9 +128,18 @@ module _ (image : ImageParts) (inputs : List ℕ) (formed : IsWellFormed image) 
         let same : from ≡ to = cc goes in
         ap (λ k. run image inputs events k from) (zero-add more) ∙ ap (run image inputs events more) same
     run_along (suc n) told from to goes trace none going below =
+        let one = first_step (walk image inputs n) to _ goes in
+        let first : IsFront from.trace one.0.trace = goes_adds from one.0 one.1 in
+        let last = walk_adds n one.0 to one.2 in
+        let parts : first.0 ++ last.0 ≡ told =
+        behind _ first.0 told last.0 (ap (λ t. t ++ last.0) first.1 ∙ last.1 ∙ trace) in
+        let each = none_in_each first.0 last.0 (subst (λ t. list_any is_end t ≡ false) (sym parts) none) in
+        let short : length from.trace < events =
+        omega (arith, below, ap length trace, length-append from.trace told) in
+        let still = subst (λ t. is_ended t ≡ false) first.1 (still_open from.trace first.0 going each.0) in
         ap (λ k. run image inputs events k from) (suc-add n more) ∙
-        along n told from to _ refl goes trace none going below
-        (λ told next goes trace none going. run_along n told next to goes trace none going below)
+        run_goes image inputs events (n + more) from one.0 (not_stopped events _ going short) one.1 ∙
+        run_along n last.0 one.0 to one.2 (sym last.1) each.1 still below
 
   -- The states that runs reach.
 

@@ -3,20 +3,21 @@ use Rattle.sc_image.proofs.Common.{Activation, All, Bool, Call, CompPart, Crossi
 use Rattle.sc_image.proofs.Common.{Export, ExportPart, ImageParts, Import, In, Int, Interfaces, IsChain, IsSteady}
 use Rattle.sc_image.proofs.Common.{IsWellFormed, IsWord, List, Main, Memory, None, Option, Proto, Some, Standing, State}
 use Rattle.sc_image.proofs.Common.{TracesAreLegal, [], a0, and_from, and_parts, ap, arguments, arith, at_start, awaits}
-use Rattle.sc_image.proofs.Common.{cond, eq-eqb, exports_of, false, fits_result, given_back}
-use Rattle.sc_image.proofs.Common.{has_result, if◌then◌else◌, import_of, imports, inl, inr, interface_of}
-use Rattle.sc_image.proofs.Common.{interfaces_of, is_allowed, is_end, is_ended, is_function, is_input, is_legal_from}
-use Rattle.sc_image.proofs.Common.{is_output, is_there, length, length-append, length-replicate, list_any, ltb}
-use Rattle.sc_image.proofs.Common.{ltb-true, machine, map, may_call, may_input, may_output, may_return, option_and_then}
-use Rattle.sc_image.proofs.Common.{option_map, option_map_or, or_right, params_of, position, position_or_len}
-use Rattle.sc_image.proofs.Common.{proto_of, refl, reg, resumed, returned, run, slice_get, slice_get-map, stands_after}
-use Rattle.sc_image.proofs.Common.{stands_behind, start, step, stopped, subst, sym, takes, true, true≢false, ℕ, ◌&&◌}
-use Rattle.sc_image.proofs.Common.{◌++◌, ◌-◌, ◌<◌, ◌==◌, ◌||◌, ◌∙◌, ◌∷◌, ◌≡◌, ◌⊎◌}
+use Rattle.sc_image.proofs.Common.{comp_at, eq-eqb, export_at, exports_of, false, fits_result, given_back, has_result}
+use Rattle.sc_image.proofs.Common.{if◌then◌else◌, import_of, imports, inl, inr, interface_of, interfaces_of, is_allowed}
+use Rattle.sc_image.proofs.Common.{is_end, is_ended, is_function, is_input, is_legal_from, is_output, is_there, length}
+use Rattle.sc_image.proofs.Common.{length-append, length-replicate, list_any, machine, map, may_call, may_input}
+use Rattle.sc_image.proofs.Common.{may_output, may_return, option_and_then, option_map, option_map_or, or_right}
+use Rattle.sc_image.proofs.Common.{params_of, position, position-Some, proto_of, refl, reg, resumed, returned, run}
+use Rattle.sc_image.proofs.Common.{slice_get, slice_get-map, stands_after, stands_behind, start, step, stopped, subst}
+use Rattle.sc_image.proofs.Common.{sym, takes, true, true≢false, ℕ, ◌&&◌, ◌++◌, ◌-◌, ◌<◌, ◌==◌, ◌||◌, ◌∙◌, ◌∷◌, ◌≡◌}
+use Rattle.sc_image.proofs.Common.{◌⊎◌}
 use Rattle.sc_event.specs.declared.interface.Import.TheVariants.{Input, Output}
 use Rattle.sc_event.specs.Lookup as lookup
 use Rattle.sc_event.specs.Legal as law
 use Rattle.sc_image.proofs.Cases.{AtNext, step_of}
-use Rattle.sc_image.proofs.Words.{comp_found}
+use Rattle.sc_image.proofs.Words.{comp_found, no_export}
+use Rattle.std.proofs.lemmas.List.Folds.{list_any-append}
 use Rattle.sc_image.proofs.Running.{run_keeps}
 use Rattle.sc_image.proofs.Enters.{few_params, length-arguments}
 use Rattle.sc_image.proofs.Reached.{steady_start, steady_step}
@@ -61,8 +62,7 @@ any_map test f (x ∷ xs) = ap (λ later. test (f x) || later) (any_map test f x
 
 any_behind : {A : Type 0} (test : A → Bool) (xs ys : List A) → list_any test ys ≡ true →
     list_any test (xs ++ ys) ≡ true
-any_behind test [] ys some = some
-any_behind test (x ∷ xs) ys some = or_right (test x) _ (any_behind test xs ys some)
+any_behind test xs ys some = list_any-append test xs ys ∙ or_right (list_any test xs) _ some
 
 module _ (image : ImageParts) where
   abbrev said : Interfaces
@@ -163,13 +163,7 @@ IsTold image state = IsTraced image state ⊎ IsOver image state
 
 position_within : (test : ExportPart → Bool) (exports : List ExportPart) (index : ℕ) →
     position test exports ≡ Some index → index < length exports
-position_within test exports index is = by_test _ refl is
-  where
-    by_test : (found : Bool) → ltb (position_or_len test exports) (length exports) ≡ found →
-        cond found (Some (position_or_len test exports)) None ≡ Some index → index < length exports
-    by_test true at is = let same : position_or_len test exports ≡ index = cc is in
-        subst (λ k. k < length exports) same (ltb-true _ _ at)
-    by_test false at is = let never = is in cc never
+position_within test exports index is = (position-Some test exports index no_export is).0
 
 module _ (image : ImageParts) (inputs : List ℕ) (formed : IsWellFormed image) (all : All IsWord inputs) (state : State)
     (h : IsTraced image state) where

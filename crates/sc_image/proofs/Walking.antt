@@ -16,23 +16,22 @@ pub walk_one : (image : ImageParts) (inputs : List ℕ) (from to : State) → st
     Walks image inputs 1 from to
 walk_one image inputs from to goes = record { by = ap (λ o. then_on o (walk image inputs 0)) goes }
 
-module _ (image : ImageParts) (inputs : List ℕ) where
-  -- the first of some steps
-  walked_first : (m n : ℕ) (outcome : Outcome) (middle : State) → then_on outcome (walk image inputs m) ≡ Goes middle →
-      ((state : State) → walk image inputs m state ≡ Goes middle →
-      walk image inputs (m + n) state ≡ walk image inputs n middle) →
-      then_on outcome (walk image inputs (m + n)) ≡ walk image inputs n middle
-  walked_first m n (Goes state) middle goes later = later state goes
-  walked_first m n (Traps reason) middle goes later = let never = goes in cc never
+-- the first of some steps
+pub first_step : (later : State → Outcome) (to : State) (outcome : Outcome) → then_on outcome later ≡ Goes to →
+    (next : State) × (outcome ≡ Goes next) × (later next ≡ Goes to)
+first_step later to (Goes next) goes = (next, refl, goes)
+first_step later to (Traps reason) goes = let never = goes in cc never
 
+module _ (image : ImageParts) (inputs : List ℕ) where
   walk_on : (m n : ℕ) (from middle : State) → walk image inputs m from ≡ Goes middle →
       walk image inputs (m + n) from ≡ walk image inputs n middle
   walk_on zero n from middle goes =
       let same : from ≡ middle = cc goes in ap (λ k. walk image inputs k from) (zero-add n) ∙
       ap (walk image inputs n) same
   walk_on (suc m) n from middle goes =
-      ap (λ k. walk image inputs k from) (suc-add m n) ∙
-      walked_first m n _ middle goes (λ state. walk_on m n state middle)
+      let first = first_step (walk image inputs m) middle _ goes in
+      ap (λ k. walk image inputs k from) (suc-add m n) ∙ ap (λ o. then_on o (walk image inputs (m + n))) first.1 ∙
+      walk_on m n first.0 middle first.2
 
 pub walk_together : (image : ImageParts) (inputs : List ℕ) (m n : ℕ) (from middle to : State) →
     Walks image inputs m from middle → Walks image inputs n middle to → Walks image inputs (m + n) from to

@@ -173,7 +173,7 @@ pub code_address : (image : ImageParts) → IsWellFormed image → (c address : 
 code_address image formed c address some =
     let word = some_is _ some in omega (arith, (in_code image formed c address word.0 word.1).next)
 
-abbrev no_export : ExportPart
+abbrev pub no_export : ExportPart
 no_export = record { name = []; params = 0; result = false; entry = 0 }
 
 pub entry_code : (image : ImageParts) → IsWellFormed image → (c target index : ℕ) →
