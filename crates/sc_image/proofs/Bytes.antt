@@ -38,8 +38,7 @@ module _ (image : ImageParts) (formed : IsWellFormed image) (c a size word : ℕ
   stored_by x byte false is at = bytes x byte at
 
 pub stored_bytes : (image : ImageParts) → IsWellFormed image → (c a size word : ℕ) (memory : Memory) →
-    c < length image.comps → refused image c size a ≡ None →
-    HoldsBytes memory → HoldsBytes (stored memory a size word)
+    c < length image.comps → refused image c size a ≡ None → HoldsBytes memory → HoldsBytes (stored memory a size word)
 stored_bytes image formed c a size word memory active allowed bytes x byte at =
     stored_by image formed c a size word memory active (allowed_data image c size a allowed) bytes x byte _ refl at
 
@@ -65,9 +64,8 @@ module _ (image : ImageParts) (formed : IsWellFormed image) (a b : ℕ) where
         byte_by _ comp is _ _ at,
       )
 
-  below_by : (below : Bool) → (if below then None else
-      option_and_then (data_byte ((a - data_start 0) % stretch)) (slice_get image.comps (comp_of_data a))) ≡ Some b →
-      IsByteAt a b
+  below_by : (below : Bool) → (if below then None else option_and_then (data_byte ((a - data_start 0) % stretch))
+      (slice_get image.comps (comp_of_data a))) ≡ Some b → IsByteAt a b
   below_by true at = let never = at in cc never
   below_by false at = start_by _ refl at
 

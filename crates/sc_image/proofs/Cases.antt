@@ -153,8 +153,7 @@ module _ (image : ImageParts) (inputs : List ℕ) (formed : IsWellFormed image) 
 
     jump_both : (rd target : ℕ) (x x' : Outcome) → P x x' →
         P (jump image one rd target x) (jump image other rd target x')
-    jump_both rd target x x' elsewhere =
-        either (not (target % 4 == 0)) _ _ _ _ (h.traps Misaligned)
+    jump_both rd target x x' elsewhere = either (not (target % 4 == 0)) _ _ _ _ (h.traps Misaligned)
         (where_true (is_some (word_at image c target)) _ _ _ _ (λ some. h.quiet _ target
         (moves_with rd _ target (λ here w bytes. here) (λ here. code_address image formed c target some))) elsewhere)
 
@@ -176,16 +175,14 @@ module _ (image : ImageParts) (inputs : List ℕ) (formed : IsWellFormed image) 
     leaves_both rd target = either _ _ _ _ _ h.returns (calls_both rd target)
 
     loaded_same : (op : LoadOp) (a : ℕ) → refused image c (load_size op) a ≡ None → loaded one op a ≡ loaded other op a
-    loaded_same op a allowed =
-        ap (extended op) (load_of-same memory memory' a _ (λ k within. h.same _ (one_of image c a _ k
-        (allowed_data image c _ a allowed) within)))
+    loaded_same op a allowed = ap (extended op) (load_of-same memory memory' a _
+        (λ k within. h.same _ (one_of image c a _ k (allowed_data image c _ a allowed) within)))
 
     load_both : (op : LoadOp) (rd a : ℕ) (why : Option TrapReason) → refused image c (load_size op) a ≡ why →
         P (unless why (gives one rd (loaded one op a))) (unless why (gives other rd (loaded other op a)))
     load_both op rd a (Some reason) is = h.traps reason
-    load_both op rd a None is =
-        subst (λ word. P (gives one rd (loaded one op a)) (gives other rd word)) (loaded_same op a is)
-        (gives_both rd _ (λ here w bytes. loaded_word memory op a bytes))
+    load_both op rd a None is = subst (λ word. P (gives one rd (loaded one op a)) (gives other rd word))
+        (loaded_same op a is) (gives_both rd _ (λ here w bytes. loaded_word memory op a bytes))
 
     store_both : (op : StoreOp) (a word : ℕ) (why : Option TrapReason) → refused image c (store_size op) a ≡ why →
         P (unless why (next (with_stored one op a word))) (unless why (next (with_stored other op a word)))
@@ -203,18 +200,15 @@ module _ (image : ImageParts) (inputs : List ℕ) (formed : IsWellFormed image) 
         either (compares op _ _) _ _ _ _ (jump_both 0 _ _ _ (h.traps BadJump)) next_both
     execute_both (Load op rd rs1 imm) word has = load_both op rd _ _ refl
     execute_both (Store op rs1 rs2 imm) word has = store_both op _ _ _ refl
-    execute_both (OpImm op rd rs1 imm) word has =
-        gives_both rd (computed (on_registers op) (reg one rs1) (word_of imm))
+    execute_both (OpImm op rd rs1 imm) word has = gives_both rd (computed (on_registers op) (reg one rs1) (word_of imm))
         (λ here w bytes. computed_word (on_registers op) (reg one rs1) (word_of imm) (w rs1) (word_of-lt imm))
-    execute_both (Shift op rd rs1 amount) word has =
-        gives_both rd (computed (shift_on_registers op) (reg one rs1) amount)
-        (λ here w bytes. shifted_word op _ amount (w rs1))
+    execute_both (Shift op rd rs1 amount) word has = gives_both rd
+        (computed (shift_on_registers op) (reg one rs1) amount) (λ here w bytes. shifted_word op _ amount (w rs1))
     execute_both (Op op rd rs1 rs2) word has = gives_both rd _ (λ here w bytes. computed_word op _ _ (w rs1) (w rs2))
     execute_both (Fence imm rs1 rd) word has = next_both
-    execute_both Ecall word has =
-        either (nat_eq (reg one a7) 1) _ _ _ _ (where_true _ _ _ _ _ h.reads (h.traps NoImport))
-        (either (nat_eq _ 2) _ _ _ _ (where_true (may_output image c) _ _ _ _ h.outputs (h.traps NoImport))
-        (h.traps BadCall))
+    execute_both Ecall word has = either (nat_eq (reg one a7) 1) _ _ _ _
+        (where_true _ _ _ _ _ h.reads (h.traps NoImport)) (either (nat_eq _ 2) _ _ _ _
+        (where_true (may_output image c) _ _ _ _ h.outputs (h.traps NoImport)) (h.traps BadCall))
     execute_both Ebreak word has = h.traps Breakpoint
 
     decoded_both : (word : ℕ) (instr : Option Instr) → IsWord word → decoded word ≡ instr →
@@ -236,8 +230,7 @@ module _ (image : ImageParts) (inputs : List ℕ) (formed : IsWellFormed image) 
 module _ (image : ImageParts) (inputs : List ℕ) (formed : IsWellFormed image) (state : State)
     (P : Outcome → Type 0) where
   abbrev pub OneCases : Type 0
-  OneCases =
-      Cases image inputs formed state.regs state.pc state.active state.input state.trace state.saved state.saved
+  OneCases = Cases image inputs formed state.regs state.pc state.active state.input state.trace state.saved state.saved
       state.memory state.memory state.cross state.cross (λ x y. P x)
 
   pub step_of : OneCases → P (step image inputs state)

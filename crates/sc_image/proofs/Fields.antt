@@ -107,11 +107,9 @@ tested {A} {f} {t} {F} h cause passes = record {
 
 -- a field and then another, whose value holds that of the first
 pub followed : {A B : Type 0} {f : List ℕ → Read A} {t : A → List ℕ} {F : A → Type 0} {g : A → List ℕ → Read B} {u : A →
-    B → List ℕ} {G : A → B → Type 0} →
-    IsField f t F → (first : B → A) → ((a : A) → F a → IsField (g a) (u a) (G a)) →
-    ((a : A) (y : B) → F a → G a y → first y ≡ a) →
-    IsField (λ bytes. f bytes >>= (λ x. g x.0 x.1)) (λ y. t (first y) ++ u (first y) y)
-    (λ y. F (first y) × G (first y) y)
+    B → List ℕ} {G : A → B → Type 0} → IsField f t F → (first : B → A) → ((a : A) → F a → IsField (g a) (u a) (G a)) →
+    ((a : A) (y : B) → F a → G a y → first y ≡ a) → IsField (λ bytes. f bytes >>= (λ x. g x.0 x.1))
+    (λ y. t (first y) ++ u (first y) y) (λ y. F (first y) × G (first y) y)
 followed {A} {B} {f} {t} {F} {g} {u} {G} h first k keeps = record {
   takes = λ bytes y rest fits e.
       let a = bind_ok _ _ _ e in
@@ -122,8 +120,7 @@ followed {A} {B} {f} {t} {F} {g} {u} {G} h first k keeps = record {
   again = λ y rest fits.
       let b = first y in
       let regrouped = append_assoc (t b) (u b y) rest in
-      let one =
-      ap f regrouped ∙ h.again b _ fits.0 in
+      let one = ap f regrouped ∙ h.again b _ fits.0 in
       ap (λ r. r >>= (λ x. g x.0 x.1)) one ∙ (k b fits.0).again y rest fits.1;
 }
 
@@ -221,10 +218,8 @@ module _ {A : Type 0} (f : List ℕ → Read A) (t : A → List ℕ) (F : A → 
       let one = h.takes bytes a.0.0 a.0.1 fits a.1 in
       let two = many_takes count a.0.1 b.0.0 b.0.1 one.0.rest_fits b.1 in
       let both = Takes-then bytes _ a.0.1 _ b.0.1 one.0 two.0 in
-      let p =
-      ok_is _ _ b.2 in
-      let whole =
-      subst (λ text. Takes bytes text b.0.1) (sym (flat_map-cons t a.0.0 b.0.0)) both in
+      let p = ok_is _ _ b.2 in
+      let whole = subst (λ text. Takes bytes text b.0.1) (sym (flat_map-cons t a.0.0 b.0.0)) both in
       subst (λ q. Takes bytes (flat_map t q.0) q.1 ×
       ((length q.0 ≡ suc count) × AllByRecursion F q.0)) p (whole, (ap suc two.1.0, (one.1, two.1.1)))
 
@@ -233,10 +228,8 @@ module _ {A : Type 0} (f : List ℕ → Read A) (t : A → List ℕ) (F : A → 
   unfolding fields_at
   many_again [] rest all = refl
   many_again (x ∷ xs) rest all =
-      let regrouped =
-      ap (λ text. text ++ rest) (flat_map-cons t x xs) ∙ append_assoc (t x) (flat_map t xs) rest in
-      let one =
-      ap f regrouped ∙ h.again x _ all.0 in
+      let regrouped = ap (λ text. text ++ rest) (flat_map-cons t x xs) ∙ append_assoc (t x) (flat_map t xs) rest in
+      let one = ap f regrouped ∙ h.again x _ all.0 in
       ap (λ r. r >>= (λ y. fields_at f (length xs) y.1 >>= (λ others. Ok (y.0 ∷ others.0, others.1)))) one ∙
       ap (λ r. r >>= (λ others. Ok (x ∷ others.0, others.1))) (many_again xs rest all.1)
 

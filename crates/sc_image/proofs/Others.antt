@@ -21,16 +21,14 @@ apart image c d a size x formed differ mine others from upto =
     omega (arith, m.0, m.1, o.0, o.1, few_globals image c formed, few_globals image d formed)
 
 byte_kept : (image : ImageParts) (c d a size word x : ℕ) (memory : Memory) → IsWellFormed image → c ≢ d →
-    are_data image c a size ≡ true →
-    (others : Bool) → are_data image d x 1 ≡ others →
+    are_data image c a size ≡ true → (others : Bool) → are_data image d x 1 ≡ others →
     (if others then stored memory a size word x else None) ≡ (if others then memory x else None)
 byte_kept image c d a size word x memory formed differ mine true is =
     stored-apart memory a size word x (apart image c d a size x formed differ mine is)
 byte_kept image c d a size word x memory formed differ mine false is = refl
 
 pub data_kept : (image : ImageParts) (c d a size word : ℕ) (memory : Memory) → IsWellFormed image → c ≢ d →
-    are_data image c a size ≡ true →
-    data_of image d (stored memory a size word) ≡ data_of image d memory
+    are_data image c a size ≡ true → data_of image d (stored memory a size word) ≡ data_of image d memory
 data_kept image c d a size word memory formed differ mine =
     λ i x. byte_kept image c d a size word x memory formed differ mine _ refl i
 

@@ -42,7 +42,7 @@ pub called_there : (image : ImageParts) (to target index : ℕ) → export_at im
     to < length image.comps
 called_there image to target index at =
     let found = comp_found (λ comp. comp.exports) []
-        (λ exports. position (λ export. export.entry == target) exports ≡ Some index) (λ none. cc none) _ at in
+    (λ exports. position (λ export. export.entry == target) exports ≡ Some index) (λ none. cc none) _ at in
     slice_get_within _ to found.0 found.1
 
 to_own_by : (image : ImageParts) (c to index : ℕ) (import : ImportPart) (rest : Bool) → import.comp ≢ c →
@@ -62,8 +62,8 @@ pub called_other : (image : ImageParts) (c to index : ℕ) → IsWellFormed imag
     c ≢ to
 called_other image c to index formed may =
     let found = comp_found (λ comp. comp.imports) []
-        (λ imports. list_any (λ import. import.comp == to && import.index == index) imports ≡ true) (λ none. cc none)
-        _ may in
+    (λ imports. list_any (λ import. import.comp == to && import.index == index) imports ≡ true) (λ none. cc none)
+    _ may in
     none_to_own image c to index _ (formed.comps c found.0 found.1).imports found.2
 
 -- One more step.
@@ -149,8 +149,7 @@ module _ (image : ImageParts) (inputs : List ℕ) (formed : IsWellFormed image) 
         let cleared = kept keeps _ in
         record {
           regs = length-written _ sp _ ∙ length-written cleared ra gate ∙ length-kept keeps 0 _ ∙ h.regs;
-          words =
-              written_words _ sp _
+          words = written_words _ sp _
               (written_words cleared ra gate (kept_words keeps 0 _ h.words) (omega arith)) (h.saved_words to);
           zero = written_zero (written cleared ra gate) sp (saved_sp state to)
               (written_zero cleared ra gate (kept_zero keeps 0 _ h.zero));

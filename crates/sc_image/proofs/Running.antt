@@ -56,20 +56,18 @@ module _ (image : ImageParts) (inputs : List ℕ) (events n : ℕ) where
 
   -- with one step more, of which the outcome is given
   one_more : (m : ℕ) (state : State) (outcome : Outcome) →
-      ((next : State) → run image inputs events (m + n) next ≡
-      continued (run image inputs events n) (run image inputs events m next)) →
-      after state outcome (run image inputs events (m + n)) ≡
-      continued (run image inputs events n) (after state outcome (run image inputs events m))
+      ((next : State) → run image inputs events (m + n) next ≡ continued (run image inputs events n)
+      (run image inputs events m next)) → after state outcome (run image inputs events (m + n)) ≡ continued
+      (run image inputs events n) (after state outcome (run image inputs events m))
   one_more m state (Goes next) later = later next
   one_more m state (Traps reason) later = refl
 
   -- and the stop before it
   one_first : (m : ℕ) (state : State) (early : Option Stop) → stopped events state.trace ≡ early →
-      ((next : State) → run image inputs events (m + n) next ≡
-      continued (run image inputs events n) (run image inputs events m next)) →
-      stops_or early state (after state (step image inputs state) (run image inputs events (m + n))) ≡
-      continued (run image inputs events n) (stops_or early state
-      (after state (step image inputs state) (run image inputs events m)))
+      ((next : State) → run image inputs events (m + n) next ≡ continued (run image inputs events n)
+      (run image inputs events m next)) → stops_or early state
+      (after state (step image inputs state) (run image inputs events (m + n))) ≡ continued (run image inputs events n)
+      (stops_or early state (after state (step image inputs state) (run image inputs events m)))
   one_first m state None h later = one_more m state _ later
   one_first m state (Some stop) h later = sym (stays events _ stop _ _ h)
 

@@ -24,9 +24,8 @@ same_at : (image : ImageParts) (c a : ℕ) (memory memory' : Memory) → data_of
 same_at image c a memory memory' same owned = rw owned at (ap (λ bytes. bytes a) same)
 
 stored_at : (image : ImageParts) (c a size word x : ℕ) (memory memory' : Memory) →
-    ((b : ℕ) → are_data image c b 1 ≡ true → memory b ≡ memory' b) →
-    (owned : Bool) → are_data image c x 1 ≡ owned → (if owned then stored memory a size word x else None) ≡
-    (if owned then stored memory' a size word x else None)
+    ((b : ℕ) → are_data image c b 1 ≡ true → memory b ≡ memory' b) → (owned : Bool) → are_data image c x 1 ≡ owned →
+    (if owned then stored memory a size word x else None) ≡ (if owned then stored memory' a size word x else None)
 stored_at image c a size word x memory memory' same true is =
     ap (λ before. if nat_le a x && nat_lt x (a + size) then Some (byte_of word (x - a)) else before) (same x is)
 stored_at image c a size word x memory memory' same false is = refl
@@ -76,8 +75,7 @@ module _ (image : ImageParts) (inputs : List ℕ) (formed : IsWellFormed image) 
     -- the same registers and pc, and perhaps one event more, with the compartment still active
     on : (regs' : List ℕ) (pc' place' : ℕ) (more : List Event) (bytes : Memory → Memory) →
         data_of image c (bytes memory) ≡ data_of image c (bytes memory') →
-        Follow
-        (Goes (record left { regs = regs'; pc = pc'; memory = bytes memory; input = place'; trace = more }))
+        Follow (Goes (record left { regs = regs'; pc = pc'; memory = bytes memory; input = place'; trace = more }))
         (Goes (record right { regs = regs'; pc = pc'; memory = bytes memory'; input = place'; trace = more }))
     on regs' pc' place' more bytes same = record {
       shows = refl;
@@ -103,11 +101,9 @@ module _ (image : ImageParts) (inputs : List ℕ) (formed : IsWellFormed image) 
         Follow (Goes (called left to index params target)) (Goes (called right to index params target))
     calls_on to index params target differ =
         let to_other : to ≢ c = λ same. differ (sym same) in
-        let kept =
-        ap₂ (λ k ks. k ++ ks) (kept_of_caller to (crossing_to left to index) refl to_other ∙
+        let kept = ap₂ (λ k ks. k ++ ks) (kept_of_caller to (crossing_to left to index) refl to_other ∙
         sym (kept_of_caller to (crossing_to right to index) refl to_other)) calls_same in
-        let sps =
-        get_or-set_same saved c _ 0 (omega (arith, h.left_steady.saved, h.left_steady.active)) ∙
+        let sps = get_or-set_same saved c _ 0 (omega (arith, h.left_steady.saved, h.left_steady.active)) ∙
         sym (get_or-set_same saved' c _ 0 (omega (arith, h.right_steady.saved, h.right_steady.active))) in
         let event = Call c to index (arguments params regs) in
         record {
@@ -116,8 +112,7 @@ module _ (image : ImageParts) (inputs : List ℕ) (formed : IsWellFormed image) 
             bytes = bytes_same i;
             saved = sps i;
             calls = kept i;
-            running =
-                idle_both to to c (record { regs = (called left to index params target).regs; pc = target })
+            running = idle_both to to c (record { regs = (called left to index params target).regs; pc = target })
                 (record { regs = (called right to index params target).regs; pc = target }) to_other to_other i;
           };
           traces = refl;
@@ -213,8 +208,7 @@ module _ (image : ImageParts) (inputs : List ℕ) (formed : IsWellFormed image) 
   module _ (s t : State) (h : LooksSame image c s t) where
     running_same : running s ≡ running t
     running_same =
-        let both : Some (running s) ≡ Some _ =
-        sym (running_of c _ _ h.one_active) ∙ ap (λ o. o.running) h.own_parts ∙
+        let both : Some (running s) ≡ Some _ = sym (running_of c _ _ h.one_active) ∙ ap (λ o. o.running) h.own_parts ∙
         running_of c t.active (running t) h.other_active in
         cc both
 
@@ -270,10 +264,8 @@ module _ (image : ImageParts) (inputs : List ℕ) (formed : IsWellFormed image) 
       }
 
   abbrev Goal : ℕ → State → State → Type 0
-  Goal steps s t =
-      (AreSilent image inputs steps s ↔ AreSilent image inputs steps t) ×
-      (AreSilent image inputs steps s → GoesOnSame image inputs c (after_steps image inputs steps s)
-      (after_steps image inputs steps t))
+  Goal steps s t = (AreSilent image inputs steps s ↔ AreSilent image inputs steps t) × (AreSilent image inputs steps s →
+      GoesOnSame image inputs c (after_steps image inputs steps s) (after_steps image inputs steps t))
 
   goes_on : (steps : ℕ) (s t : State) → LooksSame image c s t → Goal steps s t
   goes_on zero s t h =

@@ -134,8 +134,7 @@ module _ (image : ImageParts) (inputs : List ℕ) (formed : IsWellFormed image) 
         let parts : first.0 ++ last.0 ≡ told =
         behind _ first.0 told last.0 (ap (λ t. t ++ last.0) first.1 ∙ last.1 ∙ trace) in
         let each = none_in_each first.0 last.0 (subst (λ t. list_any is_end t ≡ false) (sym parts) none) in
-        let short : length from.trace < events =
-        omega (arith, below, ap length trace, length-append from.trace told) in
+        let short : length from.trace < events = omega (arith, below, ap length trace, length-append from.trace told) in
         let still = subst (λ t. is_ended t ≡ false) first.1 (still_open from.trace first.0 going each.0) in
         ap (λ k. run image inputs events k from) (suc-add n more) ∙
         run_goes image inputs events (n + more) from one.0 (not_stopped events _ going short) one.1 ∙
@@ -152,8 +151,7 @@ module _ (image : ImageParts) (inputs : List ℕ) (formed : IsWellFormed image) 
   -- one step more
   walk_more : (n : ℕ) (from middle to : State) → OpenWalk n from middle → is_ended middle.trace ≡ false →
       step image inputs middle ≡ Goes to → OpenWalk (suc n) from to
-  walk_more zero from middle to same going goes =
-      subst (λ m. (is_ended m.trace ≡ false) ×
+  walk_more zero from middle to same going goes = subst (λ m. (is_ended m.trace ≡ false) ×
       ((next : State) × ((step image inputs m ≡ Goes next) × (next ≡ to)))) (sym same) (going, (to, (goes, refl)))
   walk_more (suc n) from middle to h going goes = (
     h.0,

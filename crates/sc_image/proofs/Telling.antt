@@ -37,17 +37,15 @@ together image inputs m n first second from middle to one two = record {
 along_told : (image : ImageParts) (inputs : List ℕ) (events steps more : ℕ) (told : List Event) (from to : State) →
     IsWellFormed image → Tells image inputs steps told from to → stopped events from.trace ≡ None →
     length to.trace < events → run image inputs events (steps + more) from ≡ run image inputs events more to
-along_told image inputs events steps more told from to formed tells early below =
-    run_along image inputs formed events more steps told from to tells.walks.by tells.trace tells.no_end
-    (goes_on events _ early) below
+along_told image inputs events steps more told from to formed tells early below = run_along image inputs formed events
+    more steps told from to tells.walks.by tells.trace tells.no_end (goes_on events _ early) below
 
 to_stop : (image : ImageParts) (inputs : List ℕ) (events steps more : ℕ) (told : List Event) (from last to : State)
     (stop : Stop) → IsWellFormed image → Tells image inputs steps told from last → stopped events from.trace ≡ None →
     length last.trace < events → step image inputs last ≡ Goes to → stopped events to.trace ≡ Some stop →
     run image inputs events (steps + suc more) from ≡ record { state = to; stop = stop }
 to_stop image inputs events steps more told from last to stop formed tells early below goes stops =
-    let going =
-    subst (λ t. is_ended t ≡ false) (sym tells.trace)
+    let going = subst (λ t. is_ended t ≡ false) (sym tells.trace)
     (still_open from.trace told (goes_on events _ early) tells.no_end) in
     along_told image inputs events steps _ told from last formed tells early below ∙
     run_goes image inputs events more last to (not_stopped events _ going below) goes ∙

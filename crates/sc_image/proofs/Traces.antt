@@ -26,8 +26,7 @@ use Rattle.sc_image.proofs.Reached.{steady_start, steady_step}
 
 legal_more : (interfaces : Interfaces) (at : Option Standing) (trace : List Event) (event : Event) (now : Standing) →
     is_legal_from interfaces at trace ≡ true → stands_behind at trace ≡ Some now →
-    is_allowed interfaces now event ≡ true →
-    is_legal_from interfaces at (trace ++ event ∷ []) ≡ true
+    is_allowed interfaces now event ≡ true → is_legal_from interfaces at (trace ++ event ∷ []) ≡ true
 legal_more interfaces at [] event now legal stands allowed = rw stands (and_from _ true allowed refl)
 legal_more interfaces None (first ∷ later) event now legal stands allowed = let never = legal in cc never
 legal_more interfaces (Some at) (first ∷ later) event now legal stands allowed =
@@ -35,8 +34,7 @@ legal_more interfaces (Some at) (first ∷ later) event now legal stands allowed
     and_from _ _ both.0 (legal_more interfaces _ later event now both.1 stands allowed)
 
 stands_more : (at : Option Standing) (trace : List Event) (event : Event) (now : Standing) →
-    stands_behind at trace ≡ Some now →
-    stands_behind at (trace ++ event ∷ []) ≡ stands_after now event
+    stands_behind at trace ≡ Some now → stands_behind at (trace ++ event ∷ []) ≡ stands_after now event
 stands_more at [] event now stands = rw stands refl
 stands_more None (first ∷ later) event now stands = let never = stands in cc never
 stands_more (Some at) (first ∷ later) event now stands = stands_more _ later event now stands
@@ -60,8 +58,7 @@ any_map : {A B : Type 0} (test : B → Bool) (f : A → B) (xs : List A) →
 any_map test f [] = refl
 any_map test f (x ∷ xs) = ap (λ later. test (f x) || later) (any_map test f xs)
 
-any_behind : {A : Type 0} (test : A → Bool) (xs ys : List A) → list_any test ys ≡ true →
-    list_any test (xs ++ ys) ≡ true
+any_behind : {A : Type 0} (test : A → Bool) (xs ys : List A) → list_any test ys ≡ true → list_any test (xs ++ ys) ≡ true
 any_behind test xs ys some = list_any-append test xs ys ∙ or_right (list_any test xs) _ some
 
 module _ (image : ImageParts) where
@@ -97,8 +94,8 @@ module _ (image : ImageParts) where
   function_said : (c to index : ℕ) → may_call image c to index ≡ true → imports said c (is_function to index) ≡ true
   function_said c to index may =
       let found = comp_found (λ comp. comp.imports) []
-          (λ imports. list_any (λ import. import.comp == to && import.index == index) imports ≡ true)
-          (λ never. cc never) _ may in
+      (λ imports. list_any (λ import. import.comp == to && import.index == index) imports ≡ true)
+      (λ never. cc never) _ may in
       let is_it = is_function to index in
       let others = map import_of found.0.imports in
       imports_said c found.0 is_it found.1 ∙ any_behind is_it (of_input found.0) (of_output found.0 ++ others)
@@ -113,7 +110,7 @@ module _ (image : ImageParts) where
   said_at c index within =
       let there = is_there _ index within in
       let found = comp_found (λ comp. comp.exports) [] (λ exports. slice_get exports index ≡ Some there.0)
-          (λ never. cc never) _ there.1 in (
+      (λ never. cc never) _ there.1 in (
         there.0,
         record {
           there = there.1;
@@ -169,8 +166,7 @@ module _ (image : ImageParts) (inputs : List ℕ) (formed : IsWellFormed image) 
     (h : IsTraced image state) where
   -- a state after an event that is allowed, where the run goes on
   goes_on : (event : Event) (next : State) → IsSteady image next → AreOfExports image next.cross →
-      next.trace ≡ state.trace ++ event ∷ [] →
-      is_allowed (interfaces_of image) (standing_of state) event ≡ true →
+      next.trace ≡ state.trace ++ event ∷ [] → is_allowed (interfaces_of image) (standing_of state) event ≡ true →
       stands_after (standing_of state) event ≡ Some (standing_of next) → IsTold image next
   goes_on event next steady exports trace allowed stands = inl (record {
     steady = steady;
@@ -196,8 +192,7 @@ module _ (image : ImageParts) (inputs : List ℕ) (formed : IsWellFormed image) 
       IsTold image (returned image state cross)
   told_return [] is steady =
       let event = End state.active (reg state a0) in
-      let outermost =
-      and_from (state.active == state.active) _ (eq-eqb _ _ refl)
+      let outermost = and_from (state.active == state.active) _ (eq-eqb _ _ refl)
       (ap (λ cross. law.is_outermost (waiting_of cross)) is) in
       inr (record {
         legal = legal_more (interfaces_of image) (at_start _) state.trace event
@@ -205,24 +200,19 @@ module _ (image : ImageParts) (inputs : List ℕ) (formed : IsWellFormed image) 
         over = ended_by state.trace event;
       })
   told_return (x ∷ xs) is steady =
-      let chain =
-      subst (IsChain _ _) is h.steady.chain in
+      let chain = subst (IsChain _ _) is h.steady.chain in
       let exports = subst (AreOfExports image) is h.exports in
       let index = exports.0.0 in
       let said = said_at image x.callee index exports.0.1.1 in
       let value = given_back (has_result image x.callee x.entry) state in
-      let value_is =
-      ap (λ entry. given_back (has_result image x.callee entry) state) exports.0.1.0 ∙
+      let value_is = ap (λ entry. given_back (has_result image x.callee entry) state) exports.0.1.0 ∙
       ap (λ found. given_back (option_map_or (λ e. e.result) found false) state) said.1.there in
-      let returns =
-      ap (λ entry. may_return (interfaces_of image) x.callee entry value) exports.0.1.0 ∙
+      let returns = ap (λ entry. may_return (interfaces_of image) x.callee entry value) exports.0.1.0 ∙
       (ap (λ found. option_map_or (λ p. fits_result p.result value) found false) said.1.said_so ∙
       (ap (fits_result (if said.0.result then Some Int else None)) value_is ∙ fits_given said.0.result)) in
-      let here =
-      subst (λ cross. may_return (interfaces_of image) state.active (entry_of cross) value ≡ true) (sym is)
+      let here = subst (λ cross. may_return (interfaces_of image) state.active (entry_of cross) value ≡ true) (sym is)
       (subst (λ c. may_return (interfaces_of image) c x.entry value ≡ true) chain.0 returns) in
-      let awaited =
-      subst (λ cross. law.awaits (waiting_of cross) x.caller ≡ true) (sym is) (eq-eqb x.caller _ refl) in
+      let awaited = subst (λ cross. law.awaits (waiting_of cross) x.caller ≡ true) (sym is) (eq-eqb x.caller _ refl) in
       goes_on _ _ steady exports.1 refl (and_from (state.active == state.active) _ (eq-eqb _ _ refl)
       (and_from _ _ awaited here)) (ap (λ cross. resumed (waiting_of cross)) is)
 
@@ -242,8 +232,7 @@ module _ (image : ImageParts) (inputs : List ℕ) (formed : IsWellFormed image) 
             ap (λ (found : Option ExportPart). option_map_or (λ e. e.params) found 0) said.1.there in
             let count : length args ≡ said.0.params =
             length-arguments _ state.regs (few_params image to index formed) h.steady.regs ∙ params_is in
-            let taken : takes (interfaces_of image) to index _ ≡ true =
-            ap (λ found. option_map_or (λ (p : Proto).
+            let taken : takes (interfaces_of image) to index _ ≡ true = ap (λ found. option_map_or (λ (p : Proto).
             length p.params == length args) found false) said.1.said_so ∙ eq-eqb (length _) (length args)
             (length-replicate said.0.params Int ∙ sym count) in
             goes_on (Call _ to index args) _ steady (
@@ -253,11 +242,9 @@ module _ (image : ImageParts) (inputs : List ℕ) (formed : IsWellFormed image) 
             (function_said image _ to index may) taken)) refl;
         returns = λ steady. told_return state.cross refl steady;
         outputs = λ may steady. goes_on _ _ steady h.exports refl
-            (and_from (state.active == state.active) _ (eq-eqb state.active _ refl)
-            (output_said image _ may)) refl;
+            (and_from (state.active == state.active) _ (eq-eqb state.active _ refl) (output_said image _ may)) refl;
         reads = λ may steady. goes_on (In state.active _) _ steady h.exports refl
-            (and_from (state.active == state.active) _ (eq-eqb _ _ refl)
-            (input_said image state.active may)) refl;
+            (and_from (state.active == state.active) _ (eq-eqb _ _ refl) (input_said image state.active may)) refl;
       }) (steady_step image inputs formed all state h.steady)
 
 -- Runs.
@@ -288,6 +275,5 @@ told_legal image state (inl traced) = traced.legal
 told_legal image state (inr over) = over.legal
 
 pub all_traces_legal : TracesAreLegal
-all_traces_legal image inputs steps events formed all =
-    told_legal image (machine image inputs steps events).state
+all_traces_legal image inputs steps events formed all = told_legal image (machine image inputs steps events).state
     (told_run image inputs formed all events steps _ (told_start image formed))

@@ -102,8 +102,7 @@ globals_placed image c comp k formed found below =
     let high : nat_lt (stack_size + k) stack_size ≡ false = le-ltb _ _ (omega arith) in
     let place : stack_size + k - stack_size ≡ k = omega arith in
     ap (start_memory image) at ∙ data_placed image c comp found (stack_size + k)
-    (omega (arith, below, (formed.comps c comp found).short_globals)) ∙
-    rw (high, place) refl
+    (omega (arith, below, (formed.comps c comp found).short_globals)) ∙ rw (high, place) refl
 
 -- The bytes of words, one after the other.
 
@@ -135,17 +134,20 @@ four_bytes word below = omega (arith, below)
 -- the number that four bytes in memory make
 pub load_is : (memory : Memory) (a word : ℕ) → word < 2 ^ 32 →
     ((j : ℕ) → j < 4 → memory (a + j) ≡ Some (byte_of word j)) → load_of memory a 4 ≡ word
-load_is memory a word below bytes =
-    rw (bytes 0 (omega arith), bytes 1 (omega arith), bytes 2 (omega arith), bytes 3 (omega arith))
-    (four_bytes word below)
+load_is memory a word below bytes = rw (
+  bytes 0 (omega arith),
+  bytes 1 (omega arith),
+  bytes 2 (omega arith),
+  bytes 3
+      (omega arith),
+) (four_bytes word below)
 
 words_placed : (image : ImageParts) (c : ℕ) (comp : CompPart) (words : List ℕ) (k word : ℕ) → IsWellFormed image →
     slice_get image.comps c ≡ Some comp → comp.globals ≡ flat_map (little_bytes 4) words →
     slice_get words k ≡ Some word → IsWord word → load_of (start_memory image) (stack_top c + 4 * k) 4 ≡ word
 words_placed image c comp words k word formed found bytes at below =
     load_is (start_memory image) _ word below (λ j within.
-    let byte : slice_get _ (4 * k + j) ≡ Some (byte_of word j) =
-    rw bytes (word_byte words k j word within at) in
+    let byte : slice_get _ (4 * k + j) ≡ Some (byte_of word j) = rw bytes (word_byte words k j word within at) in
     let place : stack_top c + 4 * k + j ≡ stack_top c + (4 * k + j) = omega arith in
     ap (start_memory image) place ∙ globals_placed image c comp _ formed found (slice_get_within _ _ _ byte) ∙ byte)
 

@@ -95,8 +95,7 @@ test_by_import image c import is =
 -- Lists.
 
 all_by_tests : {A : Type 0} (test : A → Bool) (F P : A → Type 0) → ((x : A) → F x → test x ≡ true → P x) →
-    (xs : List A) →
-    AllByRecursion F xs → list_all test xs ≡ true → AllByRecursion P xs
+    (xs : List A) → AllByRecursion F xs → list_all test xs ≡ true → AllByRecursion P xs
 all_by_tests test F P each [] fits is = tt
 all_by_tests test F P each (x ∷ xs) fits is =
     let tests = and_parts _ _ is in
@@ -111,16 +110,14 @@ tests_by_all test P each (x ∷ xs) all = and_from _ _ (each x all.0) (tests_by_
 
 exports_are : (image : ImageParts) (c : ℕ) (exports : List ExportPart) → AllByRecursion FitsExport exports →
     list_all (λ export. is_entry image c export.entry) exports ≡ true → All (IsExport image c) exports
-exports_are image c exports fits is =
-    All-from_recursion (IsExport image c) exports (all_by_tests _ FitsExport _
+exports_are image c exports fits is = All-from_recursion (IsExport image c) exports (all_by_tests _ FitsExport _
     (λ export h entry. record { name = h.name; params = h.params; entry = entry }) exports fits is)
 
 imports_are : (image : ImageParts) (c comps : ℕ) (imports : List ImportPart) →
     AllByRecursion (FitsImport comps) imports →
     list_all (is_import image c) imports ≡ true → All (IsImport image c) imports
-imports_are image c comps imports fits is =
-    All-from_recursion (IsImport image c) imports (all_by_tests _ _ _
-    (λ import h test. import_by_test image c import test) imports fits is)
+imports_are image c comps imports fits is = All-from_recursion (IsImport image c) imports
+    (all_by_tests _ _ _ (λ import h test. import_by_test image c import test) imports fits is)
 
 abbrev pub keeps : ImageParts → ℕ → CompPart → Bool
 keeps image c comp = exports_keep image c comp.exports && imports_keep image c comp.imports
@@ -157,8 +154,7 @@ kept_at image c [] is i comp at = let never : ◌≡◌ None _ = at in cc never
 kept_at image c (first ∷ comps) is zero comp at =
     let same : first ≡ comp = cc at in
     let c-is : c + 0 ≡ c = omega arith in
-    let first_keeps : keeps image (c + 0) first ≡ true =
-    rw c-is (and_parts (keeps image c first) _ is).0 in
+    let first_keeps : keeps image (c + 0) first ≡ true = rw c-is (and_parts (keeps image c first) _ is).0 in
     subst (λ x. keeps image (c + 0) x ≡ true) same first_keeps
 kept_at image c (first ∷ comps) is (suc i) comp at =
     let next : suc c + i ≡ c + suc i = omega arith in
@@ -219,8 +215,7 @@ module _ (image : ImageParts) (formed : IsWellFormed image) where
       entry_is_short image c entry (omega (arith, within, formed.few_comps)) (code_is_short c _ refl) is
 
   import_comp : (index c : ℕ) (found : Option CompPart) → slice_get image.comps c ≡ found →
-      IsSomeAnd found (λ comp. index < length comp.exports) →
-      (c < length image.comps) × (index < 2 ^ 16)
+      IsSomeAnd found (λ comp. index < length comp.exports) → (c < length image.comps) × (index < 2 ^ 16)
   import_comp index c None at is = absurd is
   import_comp index c (Some comp) at is = (
     slice_get_within image.comps c comp at,

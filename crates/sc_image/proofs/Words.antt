@@ -155,7 +155,7 @@ in_code image formed c address word at =
     let tests = and_parts (nat_eq (address % 4) 0) _ inside.0 in
     let from : code_start c ≤ address = leb-true _ address tests.1 in
     let found = comp_found (λ comp. comp.code) []
-        (λ code. slice_get code ((address - code_start c) / 4) ≡ Some word) (λ none. cc none) _ inside.1 in
+    (λ code. slice_get code ((address - code_start c) / 4) ≡ Some word) (λ none. cc none) _ inside.1 in
     let well = formed.comps c found.0 found.1 in
     let within = slice_get_within found.0.code ((address - code_start c) / 4) word found.2 in
     record {
@@ -180,7 +180,7 @@ pub entry_code : (image : ImageParts) → IsWellFormed image → (c target index
     export_at image c target ≡ Some index → IsSome (word_at image c target)
 entry_code image formed c target index at =
     let found = comp_found (λ comp. comp.exports) []
-        (λ exports. position (λ export. export.entry == target) exports ≡ Some index) (λ none. cc none) _ at in
+    (λ exports. position (λ export. export.entry == target) exports ≡ Some index) (λ none. cc none) _ at in
     let first = position-Some _ found.0.exports index no_export found.2 in
     let entry = ((formed.comps c found.0 found.1).exports index no_export first.0).entry in
     subst (λ address. IsSome (word_at image c address)) (eqb-true _ _ first.1) entry
