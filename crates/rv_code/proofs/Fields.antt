@@ -47,10 +47,9 @@ i_fields w opcode rd funct3 rs1 imm e ho hf hd h1 hi =
     let parts = i_bits w opcode rd funct3 rs1 _ e ho hf hd h1 (residue-below _ imm (omega arith)) in
     (parts.0, signed-residue _ 2047 2047 imm _ hi.least hi.greatest (omega arith) (omega arith) parts.1)
 
-s_bits : (w opcode funct3 rs1 rs2 bits : ℕ) → w ≡ opcode + 2 ^ 7 *
-    (bits % 2 ^ 5) + 2 ^ 12 * funct3 + 2 ^ 15 * rs1 + 2 ^ 20 * rs2 + 2 ^ 25 * (bits / 2 ^ 5) → opcode < 2 ^ 7 →
-    funct3 < 2 ^ 3 → IsReg rs1 → IsReg rs2 → bits < 2 ^ 12 → Fields w opcode (rd_of w) funct3 rs1 rs2 ×
-    (2 ^ 5 * (w / 2 ^ 25) + w / 2 ^ 7 % 2 ^ 5 ≡ bits)
+s_bits : (w opcode funct3 rs1 rs2 bits : ℕ) → w ≡ opcode + 2 ^ 7 * (bits % 2 ^ 5) + 2 ^ 12 * funct3 + 2 ^ 15 * rs1 + 2 ^
+    20 * rs2 + 2 ^ 25 * (bits / 2 ^ 5) → opcode < 2 ^ 7 → funct3 < 2 ^ 3 → IsReg rs1 → IsReg rs2 → bits < 2 ^ 12 →
+    Fields w opcode (rd_of w) funct3 rs1 rs2 × (2 ^ 5 * (w / 2 ^ 25) + w / 2 ^ 7 % 2 ^ 5 ≡ bits)
 s_bits w opcode funct3 rs1 rs2 bits e ho hf h1 h2 hb = (record {
   below = omega arith;
   opcode_is = omega arith;

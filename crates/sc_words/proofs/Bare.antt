@@ -39,8 +39,7 @@ hyphen_in_front : (word : Text) → is_bare word ≡ true → begins_with_hyphen
 hyphen_in_front word bare = and_first _ _ bare
 
 nothing_behind : (form : Form) (o : Option (Text × Option Text)) (behind : Option Text → Option (List Setting)) →
-    ((waiting : Option Text) → behind waiting ≡ None)
-    → named_option form o behind ≡ None
+    ((waiting : Option Text) → behind waiting ≡ None) → named_option form o behind ≡ None
 nothing_behind form None behind none = refl
 nothing_behind form (Some (name, Some value)) behind none = go (has_value form name)
   where
@@ -56,8 +55,7 @@ nothing_behind form (Some (name, None)) behind none = go (has_value form name) _
 
 -- a bare word names no option
 bare_fails : (form : Form) → HasNames form → (word : Text) (behind : Option Text → Option (List Setting)) →
-    is_bare word ≡ true
-    → named_option form (named word) behind ≡ None
+    is_bare word ≡ true → named_option form (named word) behind ≡ None
 bare_fails form has [] behind bare = absurd (true≢false (sym bare))
 bare_fails form has (a ∷ []) behind bare = go _ refl
   where
@@ -122,10 +120,9 @@ bare_words (name ∷ words) bare = go (is_bare name) refl (form_of name) refl
     go true e (Some form) is =
         let none : form_of name ≡ None = no_command name e in
         cc
-    go false e (Some form) is =
-        ap (λ o. option_map {U = Text × List Setting} (λ settings. (name, settings))
-        (option_and_then (when_complete form) o))
-        (no_options form (names_of_forms name form is) words (rw e at bare) None)
+    go false e (Some form) is = ap (λ o. option_map {U = Text × List Setting} (λ settings. (name, settings))
+        (option_and_then (when_complete form) o)) (no_options form (names_of_forms name form is) words
+        (rw e at bare) None)
 
 pub none_bare : (words : List Text) → list_any is_bare words ≡ false →
     list_all (λ word. not (is_bare word)) words ≡ true

@@ -3,10 +3,11 @@ use Rattle.sc_words.proofs.Common.{Bool, Form, Kinds, List, None, Option, Row, R
 use Rattle.sc_words.proofs.Common.{and-false, ap, append-nil, ap₂, at_row, bytes_eq, codes, cond, defaults_fault}
 use Rattle.sc_words.proofs.Common.{each_once, false, find, find-append, find-map, find_passes, flag_text, fold}
 use Rattle.sc_words.proofs.Common.{has_option, has_row, has_value, if◌then◌else◌, is_among, is_some, list_all, list_any}
-use Rattle.sc_words.proofs.Common.{list_any-append, map, more, more_values, not, option_and_then, option_map}
-use Rattle.sc_words.proofs.Common.{option_map_or, option_or, or_else, refl, row_text, same_either_way, same_text}
-use Rattle.sc_words.proofs.Common.{slice_get, sym, true, true≢false, use_fault, used, with_default, with_values, ◌&&◌}
-use Rattle.sc_words.proofs.Common.{◌++◌, ◌||◌, ◌∙◌, ◌∷◌, ◌≡◌}
+use Rattle.sc_words.proofs.Common.{list_any-append, map, more_values, not, option_and_then, option_map, option_map_or}
+use Rattle.sc_words.proofs.Common.{option_or, or_else, refl, row_text, same_either_way, same_text, slice_get, sym, true}
+use Rattle.sc_words.proofs.Common.{true≢false, use_fault, used, with_default, with_values, ◌&&◌, ◌++◌, ◌||◌, ◌∙◌, ◌∷◌}
+use Rattle.sc_words.proofs.Common.{◌≡◌}
+use Rattle.std.proofs.Math.Bool.{or-true}
 use Rattle.clap.specs.Facts.{explicit_source}
 use Rattle.clap.specs.Takes.{is_given}
 use Rattle.clap.specs.declared.builder.value_parser.Reading.TheVariants.{AsWritten}
@@ -56,16 +57,14 @@ joined name change missing [] none = refl
 joined name change missing (r ∷ now) none = go (bytes_eq r.id name) refl (joined name change missing now)
   where
     go : (b : Bool) → bytes_eq r.id name ≡ b → (has_row name now ≡ false →
-        at_row name change missing now ≡ now ++ missing)
-        → at_row name change missing (r ∷ now) ≡ r ∷ (now ++ missing)
+        at_row name change missing now ≡ now ++ missing) → at_row name change missing (r ∷ now) ≡ r ∷ (now ++ missing)
     go true e later = absurd (true≢false (rw e at none))
     go false e later = rw e (ap (λ rs. r ∷ rs) (later (rw e at none)))
 
 -- one use of an option
 joins : (name value : Text) (now : List Row) → has_row name now ≡ false → with_values name AsWritten CommandLine
     (value ∷ []) (at_row name (λ _. []) [] now) ≡ now ++ plain_row name value ∷ []
-joins name value now none =
-    ap (λ rs. with_values name AsWritten CommandLine (value ∷ []) rs)
+joins name value now none = ap (λ rs. with_values name AsWritten CommandLine (value ∷ []) rs)
     (joined name (λ _. []) [] now none ∙ append-nil now) ∙ joined name (more_values CommandLine _) _ now none
 
 pub used_valued : (r : Bool) (name value : Text) (now : List Row) → has_row name now ≡ false
@@ -180,17 +179,15 @@ found_final (n ∷ names) now name = go (has_row n now) refl (bytes_eq n name) r
 found_at_end : (form : Form) (all : List Setting) (name : Text)
     → find (by_name name) (final form all) ≡ option_or (option_map (row form) (option_named name all))
     (default_of form.alone name)
-found_at_end form all name =
-    ap (find _) (final_is form all) ∙ (found_final form.alone (rows form all) name
+found_at_end form all name = ap (find _) (final_is form all) ∙ (found_final form.alone (rows form all) name
     ∙ ap (λ o. option_or o (default_of form.alone name)) (sym (find-map _ _ all)))
 
 has_is_some : (name : Text) (all : List Setting) → is_some (option_named name all) ≡ has_option name all
 has_is_some name all = found_any _ all
 
 given_at_end : (form : Form) (all : List Setting) (name : Text) → is_given name (final form all) ≡ has_option name all
-given_at_end form all name =
-    ap (λ o. option_map_or (λ r. explicit_source r.source) o false) (found_at_end form all name)
-    ∙ (go _ (is_among _ name) ∙ has_is_some name all)
+given_at_end form all name = ap (λ o. option_map_or (λ r. explicit_source r.source) o false)
+    (found_at_end form all name) ∙ (go _ (is_among _ name) ∙ has_is_some name all)
   where
     go : (o : Option Setting) (b : Bool) → option_map_or (λ (r : Row). explicit_source r.source)
         (option_or (option_map (row form) o) (cond b (Some (default_row name)) None)) false ≡ is_some o
@@ -206,8 +203,7 @@ tells form all = record {
 }
   where
     value_at : (name : Text) → has_value form name ≡ true → is_among form.alone name ≡ false → (o : Option Setting) →
-        option_named name all ≡ o
-        → option_and_then (λ (r : Row). slice_get r.values 0)
+        option_named name all ≡ o → option_and_then (λ (r : Row). slice_get r.values 0)
         (option_or (option_map (row form) o) (default_of form.alone name)) ≡ option_map (λ x. x.1) o
     value_at name has alone None is = rw alone refl
     value_at name has alone (Some o) is =
@@ -216,9 +212,8 @@ tells form all = record {
         rw valued refl
 
     flag_at : (name : Text) → has_value form name ≡ false → is_among form.alone name ≡ true → (o : Option Setting) →
-        option_named name all ≡ o
-        → option_and_then row_text (option_or (option_map (row form) o) (default_of form.alone name)) ≡
-        Some (flag_text (is_some o))
+        option_named name all ≡ o → option_and_then row_text (option_or (option_map (row form) o)
+        (default_of form.alone name)) ≡ Some (flag_text (is_some o))
     flag_at name has alone None is = rw alone refl
     flag_at name has alone (Some o) is =
         let same = same_text o.0 name (find_passes _ all o is) in
@@ -243,14 +238,12 @@ any_alone now [] = refl
 any_alone now (n ∷ names) = any_alone now names
 
 any_needed : (now : List Row) (all : List Setting) → ((name : Text) → is_given name now ≡ has_option name all) →
-    (names : List Text) (rest : List Rule)
-    → list_any (λ a. a.required && not (is_given a.id now)) rest ≡ false
-    → list_any (λ a. a.required && not (is_given a.id now)) (map (ready_valued true) names ++ rest) ≡
-    not (list_all (λ name. has_option name all) names)
+    (names : List Text) (rest : List Rule) → list_any (λ a. a.required && not (is_given a.id now)) rest ≡ false →
+    list_any (λ a. a.required && not (is_given a.id now)) (map (ready_valued true) names ++ rest) ≡ not
+    (list_all (λ name. has_option name all) names)
 any_needed now all same [] rest none = none
-any_needed now all same (n ∷ names) rest none =
-    ap₂ (λ x y. not x || y) (same n) (any_needed now all same names rest none) ∙
-    turned (has_option n all) (list_all _ names)
+any_needed now all same (n ∷ names) rest none = ap₂ (λ x y. not x || y) (same n)
+    (any_needed now all same names rest none) ∙ turned (has_option n all) (list_all _ names)
   where
     turned : (a b : Bool) → (not a || not b) ≡ not (a && b)
     turned true b = refl
@@ -296,19 +289,11 @@ no_default_fails form = valued_defaults true form.needed _ (valued_defaults fals
 
 -- ---- options that are given once
 
-has_joined : (name : Text) (before more : List Setting) →
-    has_option name (before ++ more) ≡ (has_option name before || has_option name more)
-has_joined name before more = list_any-append _ before more
-
 pub repeated : (before : List Setting) (name value : Text) (behind : List Setting) → has_option name before ≡ true →
     each_once (before ++ (name, value) ∷ behind) ≡ false
 repeated [] name value behind has = absurd (true≢false (sym has))
 repeated (o ∷ before) name value behind has = go (bytes_eq o.0 name) refl (repeated before name value behind)
   where
-    or_true : (b : Bool) → (b || true) ≡ true
-    or_true true = refl
-    or_true false = refl
-
     go : (b : Bool) → bytes_eq o.0 name ≡ b → (has_option name before ≡ true →
         each_once (before ++ (name, value) ∷ behind) ≡ false)
         → (not (has_option o.0 (before ++ (name, value) ∷ behind)) && each_once (before ++ (name, value) ∷ behind)) ≡
@@ -316,9 +301,8 @@ repeated (o ∷ before) name value behind has = go (bytes_eq o.0 name) refl (rep
     go true e later =
         let turned : bytes_eq name o.0 ≡ true = same_either_way name o.0 ∙ e in
         let there : has_option o.0 (before ++ (name, value) ∷ behind) ≡ true
-        = has_joined o.0 before ((name, value) ∷ behind) ∙
-        (ap (λ b. has_option o.0 before || (b || has_option o.0 behind)) turned ∙
-        or_true (has_option o.0 before)) in
+        = list_any-append _ before ((name, value) ∷ behind) ∙
+        (ap (λ b. has_option o.0 before || (b || has_option o.0 behind)) turned ∙ or-true (has_option o.0 before)) in
         ap (λ b. not b && each_once (before ++ (name, value) ∷ behind)) there
     go false e later =
         ap (λ b. not (has_option o.0 (before ++ (name, value) ∷ behind)) && b) (later (rw e at has)) ∙ and-false _
@@ -337,5 +321,5 @@ once_more (o ∷ before) name value once has =
     go false e false f later =
         let turned : bytes_eq name o.0 ≡ false = same_either_way name o.0 ∙ e in
         let there : has_option o.0 (before ++ (name, value) ∷ []) ≡ false
-        = has_joined o.0 before ((name, value) ∷ []) ∙ ap₂ (λ a b. a || (b || false)) f turned in
+        = list_any-append _ before ((name, value) ∷ []) ∙ ap₂ (λ a b. a || (b || false)) f turned in
         ap₂ (λ a b. not a && b) there (later (rw f at once) (rw e at has))
