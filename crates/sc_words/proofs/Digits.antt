@@ -8,7 +8,7 @@ use Rattle.sc_words.proofs.Common.{position_or_len, refl, slice_index, suc, sym,
 use Rattle.sc_words.proofs.Common.{when_within, ℕ, ℤ, ◌&&◌, ◌++◌, ◌+◌, ◌<◌, ◌==◌, ◌||◌, ◌∙◌, ◌∷◌, ◌≡◌, ◌≢◌, ◌≤◌, ◌⊎◌}
 use Rattle.std.specs.Result.{result_ok}
 use Rattle.std.specs.Str.Parse.{ParsesSigned, ParsesUnsigned, digits_value}
-use Rattle.std.proofs.lemmas.Bool.{and_parts, lt-leb}
+use Rattle.std.proofs.lemmas.Bool.{and_parts, lt-leb, or_parts}
 use Rattle.std.proofs.lemmas.Str.Parse.{IsNumeralModel, numerals_by_value, parse_plain, parse_signed_minus}
 use Rattle.std.proofs.lemmas.Str.Parse.{parse_signed_plain, tells_all_ascii_digits}
 
@@ -132,14 +132,10 @@ no_comma text e = sym (ap (λ b. cond b (Some (after_first is_comma text)) None)
 one_piece : (text : List ℕ) → list_any is_comma text ≡ false → pieces text ≡ first_piece text ∷ []
 unfolding pieces
 one_piece [] e = refl
-one_piece (b ∷ rest) e = go (is_comma b) refl (one_piece rest)
-  where
-    go : (x : Bool) → is_comma b ≡ x → (list_any is_comma rest ≡ false → pieces rest ≡ first_piece rest ∷ []) →
-        pieces (b ∷ rest) ≡ first_piece (b ∷ rest) ∷ []
-    go true is later = absurd (true≢false (rw is at e))
-    go false is later =
-        let step : pieces (b ∷ rest) ≡ onto_first b (pieces rest) = rw is refl in
-        step ∙ (ap (onto_first b) (later (rw is at e)) ∙ ap (λ x. x ∷ []) (sym (first_past b rest is)))
+one_piece (b ∷ rest) e =
+    let parts = or_parts (is_comma b) _ e in
+    let step : pieces (b ∷ rest) ≡ onto_first b (pieces rest) = rw parts.0 refl in
+    step ∙ (ap (onto_first b) (one_piece rest parts.1) ∙ ap (λ x. x ∷ []) (sym (first_past b rest parts.0)))
 
 more_pieces : (text : List ℕ) → list_any is_comma text ≡ true →
     pieces text ≡ first_piece text ∷ pieces (after_first is_comma text)

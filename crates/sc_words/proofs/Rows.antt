@@ -8,12 +8,13 @@ use Rattle.sc_words.proofs.Common.{option_or, or_else, refl, row_text, same_eith
 use Rattle.sc_words.proofs.Common.{true≢false, use_fault, used, with_default, with_values, ◌&&◌, ◌++◌, ◌||◌, ◌∙◌, ◌∷◌}
 use Rattle.sc_words.proofs.Common.{◌≡◌}
 use Rattle.std.proofs.Math.Bool.{or-true}
+use Rattle.std.proofs.lemmas.Bool.{or_parts}
 use Rattle.clap.specs.Facts.{explicit_source}
 use Rattle.clap.specs.Takes.{is_given}
 use Rattle.clap.specs.declared.builder.value_parser.Reading.TheVariants.{AsWritten}
 use Rattle.clap.specs.declared.error.kind.ErrorKind.TheVariants as kind
 use Rattle.clap.specs.declared.parser.matches.ValueSource.TheVariants.{DefaultValue, CommandLine}
-use Rattle.sc_words.proofs.Basics.{not_empty}
+use Rattle.sc_words.proofs.Basics.{first_not, not_empty}
 use Rattle.sc_words.proofs.Lookup.{ready_alone, ready_rules, ready_valued}
 
 -- ---- the rows of the options that are given
@@ -54,12 +55,9 @@ has_row_rows form name (o ∷ all) = ap (λ b. bytes_eq o.0 name || b) (has_row_
 joined : (name : Text) (change : Row → List Row) (missing : List Row) (now : List Row) → has_row name now ≡ false →
     at_row name change missing now ≡ now ++ missing
 joined name change missing [] none = refl
-joined name change missing (r ∷ now) none = go (bytes_eq r.id name) refl (joined name change missing now)
-  where
-    go : (b : Bool) → bytes_eq r.id name ≡ b → (has_row name now ≡ false →
-        at_row name change missing now ≡ now ++ missing) → at_row name change missing (r ∷ now) ≡ r ∷ (now ++ missing)
-    go true e later = absurd (true≢false (rw e at none))
-    go false e later = rw e (ap (λ rs. r ∷ rs) (later (rw e at none)))
+joined name change missing (r ∷ now) none =
+    let parts = or_parts (bytes_eq r.id name) _ none in
+    rw parts.0 (ap (λ rs. r ∷ rs) (joined name change missing now parts.1))
 
 -- one use of an option
 joins : (name value : Text) (now : List Row) → has_row name now ≡ false → with_values name AsWritten CommandLine
@@ -311,15 +309,9 @@ pub once_more : (before : List Setting) (name value : Text) → each_once before
     each_once (before ++ (name, value) ∷ []) ≡ true
 once_more [] name value once has = refl
 once_more (o ∷ before) name value once has =
-    go (bytes_eq o.0 name) refl (has_option o.0 before) refl (once_more before name value)
-  where
-    go : (b : Bool) → bytes_eq o.0 name ≡ b → (d : Bool) → has_option o.0 before ≡ d
-        → (each_once before ≡ true → has_option name before ≡ false → each_once (before ++ (name, value) ∷ []) ≡ true)
-        → (not (has_option o.0 (before ++ (name, value) ∷ [])) && each_once (before ++ (name, value) ∷ [])) ≡ true
-    go true e d f later = absurd (true≢false (rw e at has))
-    go false e true f later = absurd (true≢false (sym (rw f at once)))
-    go false e false f later =
-        let turned : bytes_eq name o.0 ≡ false = same_either_way name o.0 ∙ e in
-        let there : has_option o.0 (before ++ (name, value) ∷ []) ≡ false
-        = list_any-append _ before ((name, value) ∷ []) ∙ ap₂ (λ a b. a || (b || false)) f turned in
-        ap₂ (λ a b. not a && b) there (later (rw f at once) (rw e at has))
+    let own = first_not (has_option o.0 before) _ once in
+    let others = or_parts (bytes_eq o.0 name) _ has in
+    let turned : bytes_eq name o.0 ≡ false = same_either_way name o.0 ∙ others.0 in
+    let there : has_option o.0 (before ++ (name, value) ∷ []) ≡ false =
+    list_any-append _ before ((name, value) ∷ []) ∙ ap₂ (λ a b. a || (b || false)) own.0 turned in
+    ap₂ (λ a b. not a && b) there (once_more before name value own.1 others.1)
