@@ -19,26 +19,32 @@ pub record Fields (w opcode rd funct3 rs1 rs2 : ℕ) : Type 0 where
 pub r_fields : (w opcode rd funct3 rs1 rs2 funct7 : ℕ) → w ≡ r_word opcode rd funct3 rs1 rs2 funct7 → opcode < 2 ^ 7 →
     funct3 < 2 ^ 3 → IsReg rd → IsReg rs1 → rs2 < 2 ^ 5 → funct7 < 2 ^ 7 →
     Fields w opcode rd funct3 rs1 rs2 × (funct7_of w ≡ funct7)
-r_fields w opcode rd funct3 rs1 rs2 funct7 e ho hf hd h1 h2 h7 = (record {
-  below = omega arith;
-  opcode_is = omega arith;
-  rd_is = omega arith;
-  funct3_is = omega arith;
-  rs1_is = omega arith;
-  rs2_is = omega arith;
-}, omega arith)
+r_fields w opcode rd funct3 rs1 rs2 funct7 e ho hf hd h1 h2 h7 = (
+  record {
+    below = omega arith;
+    opcode_is = omega arith;
+    rd_is = omega arith;
+    funct3_is = omega arith;
+    rs1_is = omega arith;
+    rs2_is = omega arith;
+  },
+  omega arith,
+)
 
 i_bits : (w opcode rd funct3 rs1 bits : ℕ) → w ≡ opcode + 2 ^ 7 * rd + 2 ^ 12 * funct3 + 2 ^ 15 * rs1 + 2 ^ 20 * bits →
     opcode < 2 ^ 7 → funct3 < 2 ^ 3 → IsReg rd → IsReg rs1 → bits < 2 ^ 12 →
     Fields w opcode rd funct3 rs1 (rs2_of w) × (w / 2 ^ 20 ≡ bits)
-i_bits w opcode rd funct3 rs1 bits e ho hf hd h1 hb = (record {
-  below = omega arith;
-  opcode_is = omega arith;
-  rd_is = omega arith;
-  funct3_is = omega arith;
-  rs1_is = omega arith;
-  rs2_is = refl;
-}, omega arith)
+i_bits w opcode rd funct3 rs1 bits e ho hf hd h1 hb = (
+  record {
+    below = omega arith;
+    opcode_is = omega arith;
+    rd_is = omega arith;
+    funct3_is = omega arith;
+    rs1_is = omega arith;
+    rs2_is = refl;
+  },
+  omega arith,
+)
 
 pub i_fields : (w opcode rd funct3 rs1 : ℕ) (imm : ℤ) → w ≡ i_word opcode rd funct3 rs1 imm → opcode < 2 ^ 7 →
     funct3 < 2 ^ 3 → IsReg rd → IsReg rs1 → IsImmediate imm →
@@ -50,14 +56,17 @@ i_fields w opcode rd funct3 rs1 imm e ho hf hd h1 hi =
 s_bits : (w opcode funct3 rs1 rs2 bits : ℕ) → w ≡ opcode + 2 ^ 7 * (bits % 2 ^ 5) + 2 ^ 12 * funct3 + 2 ^ 15 * rs1 + 2 ^
     20 * rs2 + 2 ^ 25 * (bits / 2 ^ 5) → opcode < 2 ^ 7 → funct3 < 2 ^ 3 → IsReg rs1 → IsReg rs2 → bits < 2 ^ 12 →
     Fields w opcode (rd_of w) funct3 rs1 rs2 × (2 ^ 5 * (w / 2 ^ 25) + w / 2 ^ 7 % 2 ^ 5 ≡ bits)
-s_bits w opcode funct3 rs1 rs2 bits e ho hf h1 h2 hb = (record {
-  below = omega arith;
-  opcode_is = omega arith;
-  rd_is = refl;
-  funct3_is = omega arith;
-  rs1_is = omega arith;
-  rs2_is = omega arith;
-}, omega arith)
+s_bits w opcode funct3 rs1 rs2 bits e ho hf h1 h2 hb = (
+  record {
+    below = omega arith;
+    opcode_is = omega arith;
+    rd_is = refl;
+    funct3_is = omega arith;
+    rs1_is = omega arith;
+    rs2_is = omega arith;
+  },
+  omega arith,
+)
 
 pub s_fields : (w opcode funct3 rs1 rs2 : ℕ) (imm : ℤ) → w ≡ s_word opcode funct3 rs1 rs2 imm → opcode < 2 ^ 7 →
     funct3 < 2 ^ 3 → IsReg rs1 → IsReg rs2 → IsImmediate imm →
@@ -77,14 +86,17 @@ b_bits : (w opcode funct3 rs1 rs2 b11 b4 b10 b12 : ℕ) →
     Fields w opcode (rd_of w) funct3 rs1 rs2 ×
     (2 ^ 12 * (w / 2 ^ 31) + 2 ^ 11 * (w / 2 ^ 7 % 2) + 2 ^ 5 * (w / 2 ^ 25 % 2 ^ 6) + 2 * (w / 2 ^ 8 % 2 ^ 4) ≡
     2 ^ 12 * b12 + 2 ^ 11 * b11 + 2 ^ 5 * b10 + 2 * b4)
-b_bits w opcode funct3 rs1 rs2 b11 b4 b10 b12 e ho hf h1 h2 h11 h4 h10 h12 = (record {
-  below = omega arith;
-  opcode_is = omega arith;
-  rd_is = refl;
-  funct3_is = omega arith;
-  rs1_is = omega arith;
-  rs2_is = omega arith;
-}, omega arith)
+b_bits w opcode funct3 rs1 rs2 b11 b4 b10 b12 e ho hf h1 h2 h11 h4 h10 h12 = (
+  record {
+    below = omega arith;
+    opcode_is = omega arith;
+    rd_is = refl;
+    funct3_is = omega arith;
+    rs1_is = omega arith;
+    rs2_is = omega arith;
+  },
+  omega arith,
+)
 
 pub b_fields : (w opcode funct3 rs1 rs2 : ℕ) (imm : ℤ) → w ≡ b_word opcode funct3 rs1 rs2 imm → opcode < 2 ^ 7 →
     funct3 < 2 ^ 3 → IsReg rs1 → IsReg rs2 → IsBranchOffset imm →
@@ -92,20 +104,25 @@ pub b_fields : (w opcode funct3 rs1 rs2 : ℕ) (imm : ℤ) → w ≡ b_word opco
 b_fields w opcode funct3 rs1 rs2 imm e ho hf h1 h2 hi =
     let below = residue-below (2 ^ 13) imm (omega arith) in
     let parts = b_bits w opcode funct3 rs1 rs2 _ _ _ _ e ho hf h1 h2 (omega arith) (omega arith) (omega arith)
-        (omega arith) in
-    (parts.0, signed-residue (2 ^ 12) 4095 4094 imm _ hi.least hi.greatest (omega arith) (omega arith)
-    (parts.1 ∙ b_cut (residue _ imm) below (residue-even-13 imm hi.even)))
+    (omega arith) in (
+      parts.0,
+      signed-residue (2 ^ 12) 4095 4094 imm _ hi.least hi.greatest (omega arith) (omega arith)
+          (parts.1 ∙ b_cut (residue _ imm) below (residue-even-13 imm hi.even)),
+    )
 
 pub u_fields : (w opcode rd imm : ℕ) → w ≡ u_word opcode rd imm → opcode < 2 ^ 7 → IsReg rd → IsUpper imm →
     Fields w opcode rd (funct3_of w) (rs1_of w) (rs2_of w) × (u_imm_of w ≡ imm)
-u_fields w opcode rd imm e ho hd hi = (record {
-  below = omega arith;
-  opcode_is = omega arith;
-  rd_is = omega arith;
-  funct3_is = refl;
-  rs1_is = refl;
-  rs2_is = refl;
-}, omega arith)
+u_fields w opcode rd imm e ho hd hi = (
+  record {
+    below = omega arith;
+    opcode_is = omega arith;
+    rd_is = omega arith;
+    funct3_is = refl;
+    rs1_is = refl;
+    rs2_is = refl;
+  },
+  omega arith,
+)
 
 -- a number of 21 bits is made of its bits
 j_cut : (bits : ℕ) → bits < 2 ^ 21 → bits % 2 ≡ 0 → 2 ^ 20 * (bits / 2 ^ 20) + 2 ^ 12 *
@@ -117,22 +134,27 @@ j_bits : (w opcode rd b19 b11 b10 b20 : ℕ) → w ≡ opcode + 2 ^ 7 * rd + 2 ^
     Fields w opcode rd (funct3_of w) (rs1_of w) (rs2_of w) ×
     (2 ^ 20 * (w / 2 ^ 31) + 2 ^ 12 * (w / 2 ^ 12 % 2 ^ 8) + 2 ^ 11 * (w / 2 ^ 20 % 2) + 2 * (w / 2 ^ 21 % 2 ^ 10) ≡
     2 ^ 20 * b20 + 2 ^ 12 * b19 + 2 ^ 11 * b11 + 2 * b10)
-j_bits w opcode rd b19 b11 b10 b20 e ho hd h19 h11 h10 h20 = (record {
-  below = omega arith;
-  opcode_is = omega arith;
-  rd_is = omega arith;
-  funct3_is = refl;
-  rs1_is = refl;
-  rs2_is = refl;
-}, omega arith)
+j_bits w opcode rd b19 b11 b10 b20 e ho hd h19 h11 h10 h20 = (
+  record {
+    below = omega arith;
+    opcode_is = omega arith;
+    rd_is = omega arith;
+    funct3_is = refl;
+    rs1_is = refl;
+    rs2_is = refl;
+  },
+  omega arith,
+)
 
 pub j_fields : (w opcode rd : ℕ) (imm : ℤ) → w ≡ j_word opcode rd imm → opcode < 2 ^ 7 → IsReg rd → IsJumpOffset imm →
     Fields w opcode rd (funct3_of w) (rs1_of w) (rs2_of w) × (j_imm_of w ≡ imm)
 j_fields w opcode rd imm e ho hd hi =
     let below = residue-below (2 ^ 21) imm (omega arith) in
-    let parts = j_bits w opcode rd _ _ _ _ e ho hd (omega arith) (omega arith) (omega arith) (omega arith) in
-    (parts.0, signed-residue (2 ^ 20) 1048575 1048574 imm _ hi.least hi.greatest (omega arith) (omega arith)
-    (parts.1 ∙ j_cut (residue _ imm) below (residue-even-21 imm hi.even)))
+    let parts = j_bits w opcode rd _ _ _ _ e ho hd (omega arith) (omega arith) (omega arith) (omega arith) in (
+      parts.0,
+      signed-residue (2 ^ 20) 1048575 1048574 imm _ hi.least hi.greatest (omega arith) (omega arith)
+          (parts.1 ∙ j_cut (residue _ imm) below (residue-even-21 imm hi.even)),
+    )
 
 -- A word is made of its fields.
 
