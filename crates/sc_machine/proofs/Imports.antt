@@ -13,8 +13,7 @@ use Rattle.sc_image.specs.declared.parts.ImportPart.{ImportPart}
 one_entry : (exports : List ExportPart) → IsDistinct (map (λ export. export.entry) exports) →
     (j k : ℕ) (d : ExportPart) → j < length exports → k < length exports →
     (get_or exports j d).entry ≡ (get_or exports k d).entry → j ≡ k
-one_entry exports distinct j k d inside within same =
-    ⊎_elim (λ before. absurd (apart j k before within same))
+one_entry exports distinct j k d inside within same = ⊎_elim (λ before. absurd (apart j k before within same))
     (λ rest. ⊎_elim (λ after. absurd (apart k j after inside (sym same)))
     (λ other. let both : j ≡ k = omega (arith, rest, other) in both) (cases_lt k j)) (cases_lt j k)
   where
@@ -23,8 +22,7 @@ one_entry exports distinct j k d inside within same =
     at i h = get_or-map _ exports i d d.entry h
 
     apart : (i l : ℕ) → i < l → l < length exports → (get_or exports i d).entry ≡ (get_or exports l d).entry → ⊥
-    apart i l before h e =
-        distinct i l d.entry before (omega (arith, h, length-map exports (λ export. export.entry)))
+    apart i l before h e = distinct i l d.entry before (omega (arith, h, length-map exports (λ export. export.entry)))
         (at i (omega (arith, before, h)) ∙ e ∙ sym (at l h))
 
 -- an entry lies in the stretch of its compartment's code
@@ -45,11 +43,9 @@ pub imported : (image : ImageParts) (caller : ℕ) (import : ImportPart) (comp :
 imported image caller import comp export formed may at found =
     let rules = formed.comps import.comp comp at in
     let within = slice_get_within _ import.index export found in
-    let is =
-    get_or_from_slice_get comp.exports _ export export found in
+    let is = get_or_from_slice_get comp.exports _ export export found in
     let keeps : IsExport image _ export = subst (IsExport image _) is (rules.exports _ export within) in
-    let entry_is : (get_or comp.exports import.index export).entry ≡ export.entry =
-    ap (λ e. e.entry) is in
+    let entry_is : (get_or comp.exports import.index export).entry ≡ export.entry = ap (λ e. e.entry) is in
     record {
       comp = home_of image import.comp _ formed keeps.entry;
       within = slice_get_within _ import.comp comp at;

@@ -22,8 +22,7 @@ room_left events trace early = room_by events trace _ _ refl early
 
 -- the last steps of a run
 module _ (image : ImageParts) (inputs : List ℕ) (events : ℕ) (state : State) where
-  no_more : (early : Option Stop) →
-      ◌≡◌ {A = Run} (stops_or early state (record { state = state; stop = StepsOut }))
+  no_more : (early : Option Stop) → ◌≡◌ {A = Run} (stops_or early state (record { state = state; stop = StepsOut }))
       (record { state = state; stop = unwrap_or early StepsOut })
   no_more None = refl
   no_more (Some stop) = refl
@@ -43,22 +42,18 @@ module _ (image : ImageParts) (inputs : List ℕ) (events : ℕ) (state : State)
   trapped left n reason more early is = rw more (run_traps image inputs events n state reason early (sym is))
 
   pub gone : (left n : ℕ) (next : State) → left ≡ suc n → stopped events state.trace ≡ None →
-      Goes next ≡ step image inputs state →
-      run image inputs events left state ≡ run image inputs events n next
+      Goes next ≡ step image inputs state → run image inputs events left state ≡ run image inputs events n next
   gone left n next more early is = rw more (run_goes image inputs events n state next early (sym is))
 
 -- Calls.
 
 module _ (image : ImageParts) (inputs : List ℕ) (events : ℕ) (state : State) where
-  later_calls : (n : ℕ) (more : List ℕ) →
-      fold (λ earlier m. continued (run image inputs events m) earlier) (run image inputs events n state) more ≡
-      run image inputs events (n + sum more) state
+  later_calls : (n : ℕ) (more : List ℕ) → fold (λ earlier m. continued (run image inputs events m) earlier)
+      (run image inputs events n state) more ≡ run image inputs events (n + sum more) state
   later_calls n [] = ap (λ k. run image inputs events k state) (sym (add-zero n))
-  later_calls n (m ∷ more) =
-      ap (λ r. fold (λ earlier m. continued (run image inputs events m) earlier) r more)
-      (sym (run_more image inputs events m n state)) ∙
-      later_calls (n + m) more ∙ ap (λ k. run image inputs events k state)
-      (add_assoc n m _ ∙ ap (λ k. n + k) (sym (sum_by-cons _ m more)))
+  later_calls n (m ∷ more) = ap (λ r. fold (λ earlier m. continued (run image inputs events m) earlier) r more)
+      (sym (run_more image inputs events m n state)) ∙ later_calls (n + m) more ∙
+      ap (λ k. run image inputs events k state) (add_assoc n m _ ∙ ap (λ k. n + k) (sym (sum_by-cons _ m more)))
 
 pub any_calls : (image : ImageParts) (inputs : List ℕ) (events first : ℕ) (more : List ℕ) →
     calls image inputs events (first ∷ more) ≡ machine image inputs (first + sum more) events
