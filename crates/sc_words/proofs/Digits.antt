@@ -8,6 +8,7 @@ use Rattle.sc_words.proofs.Common.{position_or_len, refl, slice_index, suc, sym,
 use Rattle.sc_words.proofs.Common.{when_within, ℕ, ℤ, ◌&&◌, ◌++◌, ◌+◌, ◌<◌, ◌==◌, ◌||◌, ◌∙◌, ◌∷◌, ◌≡◌, ◌≢◌, ◌≤◌, ◌⊎◌}
 use Rattle.std.specs.Result.{result_ok}
 use Rattle.std.specs.Str.Parse.{ParsesSigned, ParsesUnsigned, digits_value}
+use Rattle.std.proofs.lemmas.Iterator.Adapters.{option_map_id}
 use Rattle.std.proofs.lemmas.Bool.{and_parts, lt-leb, or_parts}
 use Rattle.std.proofs.lemmas.Str.Parse.{IsNumeralModel, numerals_by_value, parse_plain, parse_signed_minus}
 use Rattle.std.proofs.lemmas.Str.Parse.{parse_signed_plain, tells_all_ascii_digits}
@@ -65,11 +66,7 @@ digits_read text r h plain =
     let settings = parse_plain own 32 text r h no_plus in
     by_test r _ _ _ settings (λ p. passes 4294967295 text p.0 p.1 (omega (arith, p.2)))
     (λ e. let all = parts 4294967295 text e in (all.0, all.1, omega (arith, all.2)))
-    ∙ (within_by_test _ 4294967295 text ∙ same _)
-  where
-    same : (o : Option ℕ) → option_map (λ n. n) o ≡ o
-    same None = refl
-    same _ = refl
+    ∙ (within_by_test _ 4294967295 text ∙ option_map_id _)
 
 -- an integer with no `+` in front
 pub integer_read : {E : Type 0} (text : List ℕ) (r : Result ℤ E) → ParsesSigned w32 10 text r →

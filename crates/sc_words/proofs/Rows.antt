@@ -261,26 +261,22 @@ check_is form all =
     turned true = refl
     turned false = refl
 
+nothing_first : (b : Bool) {k : Kinds} → k ≡ [] → or_else (if b then [] else []) k ≡ []
+nothing_first true e = e
+nothing_first false e = e
+
 -- no default fails
 valued_defaults : (r : Bool) (names : List Text) (rest : List Rule) →
     ((now : List Row) → defaults_fault now rest ≡ []) → (now : List Row)
     → defaults_fault now (map (ready_valued r) names ++ rest) ≡ []
 unfolding defaults_fault
 valued_defaults r [] rest none now = none now
-valued_defaults r (n ∷ names) rest none now = go (has_row n now) (valued_defaults r names rest none _)
-  where
-    go : (b : Bool) {k : Kinds} → k ≡ [] → or_else (if b || true then [] else []) k ≡ []
-    go true e = e
-    go false e = e
+valued_defaults r (n ∷ names) rest none now = nothing_first (has_row n now || true) (valued_defaults r names rest none _)
 
 alone_defaults : (names : List Text) (now : List Row) → defaults_fault now (map ready_alone names ++ []) ≡ []
 unfolding defaults_fault
 alone_defaults [] now = refl
-alone_defaults (n ∷ names) now = go (has_row n now) (alone_defaults names _)
-  where
-    go : (b : Bool) {k : Kinds} → k ≡ [] → or_else (if b || false then [] else []) k ≡ []
-    go true e = e
-    go false e = e
+alone_defaults (n ∷ names) now = nothing_first (has_row n now || false) (alone_defaults names _)
 
 pub no_default_fails : (form : Form) (now : List Row) → defaults_fault now (ready_rules form) ≡ []
 no_default_fails form = valued_defaults true form.needed _ (valued_defaults false form.valued _ (alone_defaults _))
