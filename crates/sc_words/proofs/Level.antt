@@ -67,14 +67,14 @@ module _ (title : Text) (form : Form) where
   idle_long h x xs = ap (λ a. fault_by idle (45 ∷ 45 ∷ x ∷ xs) a (name_and_value (x ∷ xs)).1 h)
       (by_long form (name_and_value (x ∷ xs)).0)
 
-  idle_walks : (h : Held) (x : ℕ) (xs : Text) → walked rs [] (at idle h) (45 ∷ 45 ∷ x ∷ xs) ≡ after_step rs
-      (45 ∷ 45 ∷ x ∷ xs) (at idle h) (step_by idle (45 ∷ 45 ∷ x ∷ xs) (lookup form (name_and_value (x ∷ xs)).0)
-      (name_and_value (x ∷ xs)).1 h).0 (step_by idle (45 ∷ 45 ∷ x ∷ xs) (lookup form (name_and_value (x ∷ xs)).0)
-      (name_and_value (x ∷ xs)).1 h).1
+  abbrev walk_by : Held → Text → Option Rule → Option Text → Walk
+  walk_by h word a v = after_step rs word (at idle h) (step_by idle word a v h).0 (step_by idle word a v h).1
+
+  idle_walks : (h : Held) (x : ℕ) (xs : Text) → walked rs [] (at idle h) (45 ∷ 45 ∷ x ∷ xs) ≡
+      walk_by h (45 ∷ 45 ∷ x ∷ xs) (lookup form (name_and_value (x ∷ xs)).0) (name_and_value (x ∷ xs)).1
   unfolding walked
-  idle_walks h x xs = ap (λ a. after_step rs (45 ∷ 45 ∷ x ∷ xs) (at idle h)
-      (step_by idle (45 ∷ 45 ∷ x ∷ xs) a (name_and_value (x ∷ xs)).1 h).0
-      (step_by idle (45 ∷ 45 ∷ x ∷ xs) a (name_and_value (x ∷ xs)).1 h).1) (by_long form (name_and_value (x ∷ xs)).0)
+  idle_walks h x xs = ap (λ a. walk_by h (45 ∷ 45 ∷ x ∷ xs) a (name_and_value (x ∷ xs)).1)
+      (by_long form (name_and_value (x ∷ xs)).0)
 
   waiting_long : (n : Text) (h : Held) (x : ℕ) (xs : Text) → turn_fault s [] (at (option n) h) (45 ∷ 45 ∷ x ∷ xs)
       ≡ fault_by (option n) (45 ∷ 45 ∷ x ∷ xs) (lookup form (name_and_value (x ∷ xs)).0) (name_and_value (x ∷ xs)).1 h
@@ -204,11 +204,14 @@ module _ (title : Text) (form : Form) where
       (sym (idle_long h x xs) ∙ e)) word (first_not _ _ all).0)
 
   -- what follows a word `--name` or `--name=value` where nothing waits, by the rule of its name
+  abbrev GoesBy : Held → List Setting → Text → List Text → Option Rule → Option Text → Option (List Setting) → Type 0
+  GoesBy h before word words a v o =
+      Agrees (or_else (fault_by idle word a v h) (faults (walk_by h word a v) words)) (ends (walk_by h word a v) words)
+      (accepted before o)
+
   abbrev LongAgrees : Held → List Setting → Text → Text → Option Text → List Text → Option Rule → Type 0
-  LongAgrees h before word name v words a = Agrees (or_else (fault_by idle word a v h)
-      (faults (after_step rs word (at idle h) (step_by idle word a v h).0 (step_by idle word a v h).1) words))
-      (ends (after_step rs word (at idle h) (step_by idle word a v h).0 (step_by idle word a v h).1) words)
-      (accepted before (named_option form (Some (name, v)) (λ waiting. settings form waiting words)))
+  LongAgrees h before word name v words a =
+      GoesBy h before word words a v (named_option form (Some (name, v)) (λ waiting. settings form waiting words))
 
   valued_row : (name value : Text) → has_value form name ≡ true → row form (name, value) ≡ plain_row name value
   valued_row name value has = rw has refl
@@ -242,16 +245,11 @@ module _ (title : Text) (form : Form) where
     has_now : has_row name (settled rs h).rows ≡ has_option name before
     has_now = ap (has_row name) now ∙ has_row_rows form name before
 
-    abbrev walk_by : Option Rule → Option Text → Walk
-    walk_by a v = after_step rs word (at idle h) (step_by idle word a v h).0 (step_by idle word a v h).1
-
     -- the definition's side, computed
     by_option : (a : Option Rule) (v : Option Text) (o : Option (List Setting)) →
         named_option form (Some (name, v)) (λ waiting. settings form waiting words) ≡ o →
-        Agrees (or_else (fault_by idle word a v h) (faults (walk_by a v) words)) (ends (walk_by a v) words)
-        (accepted before o) → LongAgrees h before word name v words a
-    by_option a v o is agrees = subst (λ x. Agrees (or_else (fault_by idle word a v h) (faults (walk_by a v) words))
-        (ends (walk_by a v) words) (accepted before x)) (sym is) agrees
+        GoesBy h before word words a v o → LongAgrees h before word name v words a
+    by_option a v o is agrees = subst (GoesBy h before word words a v) (sym is) agrees
 
     valued_agrees : has_value form name ≡ true → (r : Bool) (v : Option Text) →
         LongAgrees h before word name v words (Some (ready_valued r name))
