@@ -1,10 +1,9 @@
 -- Residues and the signed numbers that they stand for.
 use Rattle.rv_code.proofs.Common.{IsBranchOffset, IsImmediate, IsJumpOffset, ap, arith, cases_lt, le-ltb, lt-ltb}
 use Rattle.rv_code.proofs.Common.{negsuc, pos, refl, residue, signed, suc, ℕ, ℤ, ⊎_elim, ◌%◌, ◌*◌, ◌-◌, ◌<◌, ◌^◌, ◌∙◌}
-use Rattle.rv_code.proofs.Common.{◌≡◌, ◌≤◌}
+use Rattle.rv_code.proofs.Common.{◌≡◌, ◌≤ℤ◌, ◌≤◌}
 use Rattle.std.proofs.Math.Nat.{mod-eq_of_lt, mod-lt}
 use Rattle.std.proofs.lemmas.Int.{ints}
-use Rattle.std.specs.Prelude.{◌≤ℤ◌}
 
 -- what `signed` gives in the lower half and in the upper one
 signed-low : (half n : ℕ) → n < half → signed half n ≡ pos n

@@ -1,7 +1,7 @@
 -- Words and instructions stand for one another.
-use Rattle.rv_code.proofs.Common.{Auipc, Bool, Branch, Ebreak, Ecall, Fence, HasWord, IfSome, Instr, IsImmediate}
-use Rattle.rv_code.proofs.Common.{IsInstr, IsNone, Jal, Jalr, Load, Lui, None, Op, OpImm, Option, Shift, Some, Store}
-use Rattle.rv_code.proofs.Common.{Upper, arith, branch_funct3, branch_in, branch_op_of, branch_opcode, branch_ops, cond}
+use Rattle.rv_code.proofs.Common.{Auipc, Bool, Branch, Ebreak, Ecall, Fence, HasWord, IfSome, IsImmediate, IsInstr}
+use Rattle.rv_code.proofs.Common.{IsNone, Jal, Jalr, Load, Lui, None, Op, OpImm, Option, Shift, Some, Store, Upper}
+use Rattle.rv_code.proofs.Common.{arith, branch_funct3, branch_in, branch_op_of, branch_opcode, branch_ops, cond}
 use Rattle.rv_code.proofs.Common.{decoded, eqb-true, false, fence_funct3, fence_in, fence_opcode, funct3_of, i_imm_of}
 use Rattle.rv_code.proofs.Common.{j_imm_of, jal_opcode, jalr_funct3, jalr_in, jalr_opcode, lit<, load_funct3, load_in}
 use Rattle.rv_code.proofs.Common.{load_op_of, load_opcode, load_ops, nat_eq, op_funct3, op_funct7, op_imm_funct3}
@@ -9,6 +9,7 @@ use Rattle.rv_code.proofs.Common.{op_imm_in, op_imm_op_of, op_imm_opcode, op_imm
 use Rattle.rv_code.proofs.Common.{op_ops, opcode_of, rd_of, refl, shift_funct3, shift_funct7, shift_in, shift_op_of}
 use Rattle.rv_code.proofs.Common.{shift_ops, store_funct3, store_in, store_op_of, store_opcode, store_ops, subst, sym}
 use Rattle.rv_code.proofs.Common.{system_in, true, u_imm_of, upper_opcode, word_of, ℕ, ◌<◌, ◌^◌, ◌∙◌, ◌≡◌}
+use Rattle.rv_code.specs.declared.instr.Instr.{Instr}
 use Rattle.rv_code.specs.declared.instr.UpperOp.{UpperOp}
 use Rattle.std.specs.Option.{option_map, option_or}
 use Rattle.rv_code.proofs.Numbers.{IsImmediate-signed, IsBranchOffset-signed, IsJumpOffset-signed}
@@ -109,7 +110,8 @@ module _ (w : ℕ) (h : w < 2 ^ 32) where
 
   jal_has : opcode_of w ≡ jal_opcode → HasWord (Jal (rd_of w) (j_imm_of w)) w
   unfolding word_of
-  jal_has e = record { instr = (omega arith, IsJumpOffset-signed _ (omega arith) (omega arith)); word = j_joined w _ e h }
+  jal_has e =
+      record { instr = (omega arith, IsJumpOffset-signed _ (omega arith) (omega arith)); word = j_joined w _ e h }
 
   jalr_has : opcode_of w ≡ jalr_opcode → AllHave w (jalr_in w)
   unfolding word_of jalr_in

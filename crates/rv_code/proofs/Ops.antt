@@ -1,11 +1,16 @@
 -- An operation is found by its own function codes, and what is found has those that were asked for.
-use Rattle.rv_code.proofs.Common.{Add, And, Beq, Bge, Bgeu, Blt, Bltu, Bne, Bool, BranchOp, Div, Divu, Lb, Lbu, Lh, Lhu}
-use Rattle.rv_code.proofs.Common.{List, LoadOp, Lw, Mul, Mulh, Mulhsu, Mulhu, None, OpImmOp, OpOp, Or, Rem, Remu, Sb}
-use Rattle.rv_code.proofs.Common.{Sh, ShiftOp, Sll, Slli, Slt, Sltu, Some, Sra, Srai, Srl, Srli, StoreOp, Sub, Sw, Xor}
-use Rattle.rv_code.proofs.Common.{[], and_parts, ap, branch_funct3, branch_op_of, cond, eqb-true, false, find, lit<}
-use Rattle.rv_code.proofs.Common.{load_funct3, load_op_of, nat_eq, op_funct3, op_funct7, op_imm_funct3, op_imm_op_of}
-use Rattle.rv_code.proofs.Common.{op_op_of, refl, shift_funct3, shift_funct7, shift_op_of, store_funct3, store_op_of}
-use Rattle.rv_code.proofs.Common.{sym, true, ℕ, ◌&&◌, ◌<◌, ◌^◌, ◌∙◌, ◌∷◌, ◌≡◌}
+use Rattle.rv_code.proofs.Common.{Add, And, Beq, Bge, Bgeu, Blt, Bltu, Bne, Bool, Div, Divu, Lb, Lbu, Lh, Lhu, List, Lw}
+use Rattle.rv_code.proofs.Common.{Mul, Mulh, Mulhsu, Mulhu, None, Or, Rem, Remu, Sb, Sh, Sll, Slli, Slt, Sltu, Some}
+use Rattle.rv_code.proofs.Common.{Sra, Srai, Srl, Srli, Sub, Sw, Xor, [], and_parts, ap, branch_funct3, branch_op_of}
+use Rattle.rv_code.proofs.Common.{cond, eqb-true, false, find, lit<, load_funct3, load_op_of, nat_eq, op_funct3}
+use Rattle.rv_code.proofs.Common.{op_funct7, op_imm_funct3, op_imm_op_of, op_op_of, refl, shift_funct3, shift_funct7}
+use Rattle.rv_code.proofs.Common.{shift_op_of, store_funct3, store_op_of, sym, true, ℕ, ◌&&◌, ◌<◌, ◌^◌, ◌∙◌, ◌∷◌, ◌≡◌}
+use Rattle.rv_code.specs.declared.instr.BranchOp.{BranchOp}
+use Rattle.rv_code.specs.declared.instr.LoadOp.{LoadOp}
+use Rattle.rv_code.specs.declared.instr.OpImmOp.{OpImmOp}
+use Rattle.rv_code.specs.declared.instr.OpOp.{OpOp}
+use Rattle.rv_code.specs.declared.instr.ShiftOp.{ShiftOp}
+use Rattle.rv_code.specs.declared.instr.StoreOp.{StoreOp}
 use Rattle.rv_code.specs.declared.instr.OpImmOp.TheVariants.{Addi, Slti, Sltiu, Xori, Ori, Andi}
 
 -- what a search finds passes its test

@@ -1,12 +1,11 @@
 -- What taking a page and a write to it make of the bytes at their places.
 use Rattle.sc_store.proofs.Common.{AreDistinct, AreOut, IfSome, IsNone, IsSome, List, None, OnSome, Option, Some, ap}
 use Rattle.sc_store.proofs.Common.{arith, byte_at, byte_on, cases_eq, cases_lt, cell, cond, count_by, false, get_or}
-use Rattle.sc_store.proofs.Common.{get_or-replicate, get_or-set_other, get_or-set_same, get_or_past, is_none, is_some}
-use Rattle.sc_store.proofs.Common.{length, length-replicate, nat_le, nat_lt, nat_tests, put_mid, refl, replaced}
-use Rattle.sc_store.proofs.Common.{replicate, same_Some, set, subst, sum_by-set, sym, true, ℕ, ⊎_elim, ◌%◌, ◌&&◌}
-use Rattle.sc_store.proofs.Common.{◌+◌, ◌-◌, ◌/◌, ◌<◌, ◌↔◌, ◌∙◌, ◌≡◌, ◌≢◌, ◌≤◌}
+use Rattle.sc_store.proofs.Common.{get_or-replicate, get_or-set_other, get_or-set_same, get_or_default, get_or_past}
+use Rattle.sc_store.proofs.Common.{is_none, is_some, length, length-replicate, nat_le, nat_lt, nat_tests, put_mid, refl}
+use Rattle.sc_store.proofs.Common.{replaced, replicate, same_Some, set, subst, sum_by-set, sym, true, ℕ, ⊎_elim, ◌%◌}
+use Rattle.sc_store.proofs.Common.{◌&&◌, ◌+◌, ◌-◌, ◌/◌, ◌<◌, ◌↔◌, ◌∙◌, ◌≡◌, ◌≢◌, ◌≤◌}
 use Rattle.sc_pool.specs.Pages.{KeepsOthers, Pages, page_of, with_page, zero_page}
-use Rattle.std.proofs.lemmas.List.{get_or_default}
 use Rattle.sc_store.proofs.Regions.{by_access}
 use Rattle.sc_store.proofs.Pieces.{before, within, after}
 

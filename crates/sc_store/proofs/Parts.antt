@@ -66,8 +66,10 @@ same_place : (ps : List Part) (i j : ℕ) (d : Part) (a : ℕ) → AreApart (reg
     j < length ps → IsIn (region_of (get_or ps i d)) a → IsIn (region_of (get_or ps j d)) a → i ≡ j
 same_place [] i j d a apart h k one other = absurd (omega arith)
 same_place (p ∷ ps) zero zero d a apart h k one other = refl
-same_place (p ∷ ps) zero (suc j) d a apart h k one other = absurd (head_apart region_of p ps j d a apart (omega arith) other one)
-same_place (p ∷ ps) (suc i) zero d a apart h k one other = absurd (head_apart region_of p ps i d a apart (omega arith) one other)
+same_place (p ∷ ps) zero (suc j) d a apart h k one other =
+    absurd (head_apart region_of p ps j d a apart (omega arith) other one)
+same_place (p ∷ ps) (suc i) zero d a apart h k one other =
+    absurd (head_apart region_of p ps i d a apart (omega arith) one other)
 same_place (p ∷ ps) (suc i) (suc j) d a apart h k one other =
     ap suc (same_place ps i j d a (tail_apart (region_of p) _ apart) (omega arith) (omega arith) one other)
 

@@ -89,7 +89,8 @@ focus_at (r ∷ rs) zero d apart h = λ a size some t.
     ap (λ b. option_map (place_in a) (cond b (Some r) (find (reaches a size) rs))) t
 focus_at (r ∷ rs) (suc i) d apart h = λ a size some t. ap (λ b.
     option_map (place_in a) (cond b (Some r) (find (reaches a size) rs)))
-    (not_reached r a size (head_apart (λ q. q.region) r rs i d a apart (omega arith) (first_in (get_or rs i d) a size t some)) some) ∙
+    (not_reached r a size (head_apart (λ q. q.region) r rs i d a apart (omega arith)
+    (first_in (get_or rs i d) a size t some)) some) ∙
     focus_at rs i d (tail_apart r.region _ apart) (omega arith) a size some t
 
 pub focus_empty : (r : Area) (rs : List Area) → r.region.bytes ≡ 0 → IsFocus r rs

@@ -1,9 +1,8 @@
 -- Addresses in regions, and where zeros stand.
 use Rattle.sc_store.proofs.Common.{AreApart, AreBelow, HoldsBytes, IsIn, List, Region, Some, [], ap, arith, cases_lt}
-use Rattle.sc_store.proofs.Common.{cond, false, get_or, get_or-map, inl, inr, is_in, length, length-map, nat_tests}
+use Rattle.sc_store.proofs.Common.{cond, false, get_or, get_or-map, inl, inr, is_in, length, length-map, map, nat_tests}
 use Rattle.sc_store.proofs.Common.{same_Some, subst, suc, sym, true, zeros, ℕ, ⊎_elim, ◌+◌, ◌<◌, ◌∙◌, ◌∷◌, ◌≡◌, ◌≤◌}
 use Rattle.sc_store.proofs.Common.{◌⊎◌}
-use Rattle.std.proofs.Common.{map}
 
 -- ---- an address that is apart from an access, or within it
 pub by_access : {P : Type 0} (a n b : ℕ) → ((a ≤ b → b < a + n → ⊥) → P) → (a ≤ b → b < a + n → P) → P

@@ -1,10 +1,9 @@
 -- Words of which one is bare are no command.
-use Rattle.sc_words.proofs.Common.{Bool, Form, List, None, Option, Setting, Some, Text, [], ap, arith}
+use Rattle.sc_words.proofs.Common.{Bool, Form, List, None, Option, Setting, Some, Text, [], and_from, ap, arith}
 use Rattle.sc_words.proofs.Common.{begins_with_hyphen, bytes_eq, commands, cond, eqb-true, false, find, form_of}
 use Rattle.sc_words.proofs.Common.{has_value, is_among, is_bare, list_all, list_any, more, named, named_option, not}
-use Rattle.sc_words.proofs.Common.{option_and_then, option_map, options, parsed, refl, same_text, settings, subst, sym}
-use Rattle.sc_words.proofs.Common.{true, true≢false, when_complete, ◌==◌, ◌∷◌, ◌≡◌}
-use Rattle.std.proofs.lemmas.Bool.{and_from, or_parts}
+use Rattle.sc_words.proofs.Common.{option_and_then, option_map, options, or_parts, parsed, refl, same_text, settings}
+use Rattle.sc_words.proofs.Common.{subst, sym, true, true≢false, when_complete, ◌==◌, ◌∷◌, ◌≡◌}
 use Rattle.sc_base.proofs.Bools.{and_first}
 
 -- ---- what holds of each command holds of the command of a name

@@ -1,7 +1,6 @@
 -- Booleans and kinds of faults, and words by their hyphens.
-use Rattle.sc_words.proofs.Common.{Bool, ErrorKind, Kinds, Text, [], begins_with_hyphen, eqb-true, false, is_bare, not}
-use Rattle.sc_words.proofs.Common.{or_else, refl, sym, true, true≢false, ℕ, ◌&&◌, ◌==◌, ◌∙◌, ◌∷◌, ◌≡◌}
-use Rattle.std.proofs.Math.Bool.{and-true}
+use Rattle.sc_words.proofs.Common.{Bool, ErrorKind, Kinds, Text, [], and-true, begins_with_hyphen, eqb-true, false}
+use Rattle.sc_words.proofs.Common.{is_bare, not, or_else, refl, sym, true, true≢false, ℕ, ◌&&◌, ◌==◌, ◌∙◌, ◌∷◌, ◌≡◌}
 
 -- ---- booleans
 

@@ -1,15 +1,15 @@
 -- Numbers as `parse` reads them, and lists cut at their commas.
 use Rattle.sc_words.proofs.Common.{Bool, Err, List, None, Ok, OkIff, Option, Result, Some, [], after_first}
-use Rattle.sc_words.proofs.Common.{all_ascii_digits, ap, append_assoc, ap₂, arith, cond, eq-eqb, eqb-true, false}
-use Rattle.sc_words.proofs.Common.{first_piece, get_or, in_front, inl, inr, integer, integer_list, integers, is_comma}
-use Rattle.sc_words.proofs.Common.{le-leb, leb-true, length, list_any, lt-ltb, ltb-true, nat_le, nat_lt, neg_ℤ}
-use Rattle.sc_words.proofs.Common.{number_within, onto_first, option_and_then, option_map, pieces, pieces_behind, pos}
-use Rattle.sc_words.proofs.Common.{position_or_len, refl, slice_index, suc, sym, true, true≢false, w32}
-use Rattle.sc_words.proofs.Common.{when_within, ℕ, ℤ, ◌&&◌, ◌++◌, ◌+◌, ◌<◌, ◌==◌, ◌||◌, ◌∙◌, ◌∷◌, ◌≡◌, ◌≢◌, ◌≤◌, ◌⊎◌}
+use Rattle.sc_words.proofs.Common.{all_ascii_digits, and_parts, ap, append_assoc, ap₂, arith, cond, eq-eqb, eqb-true}
+use Rattle.sc_words.proofs.Common.{false, first_piece, get_or, in_front, inl, inr, integer, integer_list, integers}
+use Rattle.sc_words.proofs.Common.{is_comma, le-leb, leb-true, length, list_any, lt-leb, lt-ltb, ltb-true, nat_le}
+use Rattle.sc_words.proofs.Common.{nat_lt, neg_ℤ, number_within, onto_first, option_and_then, option_map, or_parts}
+use Rattle.sc_words.proofs.Common.{pieces, pieces_behind, pos, position_or_len, refl, slice_index, suc, sym, true}
+use Rattle.sc_words.proofs.Common.{true≢false, w32, when_within, ℕ, ℤ, ◌&&◌, ◌++◌, ◌+◌, ◌<◌, ◌==◌, ◌||◌, ◌∙◌, ◌∷◌, ◌≡◌}
+use Rattle.sc_words.proofs.Common.{◌≢◌, ◌≤◌, ◌⊎◌}
 use Rattle.std.specs.Result.{result_ok}
 use Rattle.std.specs.Str.Parse.{ParsesSigned, ParsesUnsigned, digits_value}
 use Rattle.std.proofs.lemmas.Iterator.Adapters.{option_map_id}
-use Rattle.std.proofs.lemmas.Bool.{and_parts, lt-leb, or_parts}
 use Rattle.std.proofs.lemmas.Str.Parse.{IsNumeralModel, numerals_by_value, parse_plain, parse_signed_minus}
 use Rattle.std.proofs.lemmas.Str.Parse.{parse_signed_plain, tells_all_ascii_digits}
 

@@ -4,11 +4,9 @@ use Rattle.sc_words.proofs.Common.{and-false, ap, append-nil, ap₂, at_row, byt
 use Rattle.sc_words.proofs.Common.{each_once, false, find, find-append, find-map, find_passes, flag_text, fold}
 use Rattle.sc_words.proofs.Common.{has_option, has_row, has_value, if◌then◌else◌, is_among, is_some, list_all, list_any}
 use Rattle.sc_words.proofs.Common.{list_any-append, map, more_values, not, option_and_then, option_map, option_map_or}
-use Rattle.sc_words.proofs.Common.{option_or, or_else, refl, row_text, same_either_way, same_text, slice_get, sym, true}
-use Rattle.sc_words.proofs.Common.{true≢false, use_fault, used, with_default, with_values, ◌&&◌, ◌++◌, ◌||◌, ◌∙◌, ◌∷◌}
-use Rattle.sc_words.proofs.Common.{◌≡◌}
-use Rattle.std.proofs.Math.Bool.{or-true}
-use Rattle.std.proofs.lemmas.Bool.{or_parts}
+use Rattle.sc_words.proofs.Common.{option_or, or-true, or_else, or_parts, refl, row_text, same_either_way, same_text}
+use Rattle.sc_words.proofs.Common.{slice_get, sym, true, true≢false, use_fault, used, with_default, with_values, ◌&&◌}
+use Rattle.sc_words.proofs.Common.{◌++◌, ◌||◌, ◌∙◌, ◌∷◌, ◌≡◌}
 use Rattle.clap.specs.Facts.{explicit_source}
 use Rattle.clap.specs.Takes.{is_given}
 use Rattle.clap.specs.declared.builder.value_parser.Reading.TheVariants.{AsWritten}
@@ -271,7 +269,8 @@ valued_defaults : (r : Bool) (names : List Text) (rest : List Rule) →
     → defaults_fault now (map (ready_valued r) names ++ rest) ≡ []
 unfolding defaults_fault
 valued_defaults r [] rest none now = none now
-valued_defaults r (n ∷ names) rest none now = nothing_first (has_row n now || true) (valued_defaults r names rest none _)
+valued_defaults r (n ∷ names) rest none now =
+    nothing_first (has_row n now || true) (valued_defaults r names rest none _)
 
 alone_defaults : (names : List Text) (now : List Row) → defaults_fault now (map ready_alone names ++ []) ≡ []
 unfolding defaults_fault

@@ -6,9 +6,9 @@ use Rattle.sc_words.proofs.Common.{defaults_fault, entered, entered_fault, false
 use Rattle.sc_words.proofs.Common.{finished, fold, form_of, idle, is_bare, is_simple, is_simple_and_free, is_some}
 use Rattle.sc_words.proofs.Common.{label_of, level_fault, list_all, map, names_of, new_shape, not, nothing_held}
 use Rattle.sc_words.proofs.Common.{option_and_then, option_map, option_map_or, options, or-false, or_else, other_fault}
-use Rattle.sc_words.proofs.Common.{parsed, refl, rows_after, rows_at, same_text, settle_fault, settled}
-use Rattle.sc_words.proofs.Common.{short_of, step_fault, subcommand_met, subcommand_of, subcommand_or_other, subst, sym}
-use Rattle.sc_words.proofs.Common.{true, turn_fault, walk_fault, walk_from, walked, ◌&&◌, ◌++◌, ◌∙◌, ◌∷◌, ◌≡◌}
+use Rattle.sc_words.proofs.Common.{parsed, refl, rows_after, rows_at, same_text, settle_fault, settled, short_of}
+use Rattle.sc_words.proofs.Common.{step_fault, subcommand_met, subcommand_of, subcommand_or_other, subst, sym, true}
+use Rattle.sc_words.proofs.Common.{turn_fault, walk_fault, walk_from, walked, ◌&&◌, ◌++◌, ◌∙◌, ◌∷◌, ◌≡◌}
 use Rattle.clap.proofs.FaultLemmas.{stopped_fault}
 use Rattle.clap.proofs.SimpleLemmas.{label_first}
 use Rattle.clap.specs.declared.error.kind.ErrorKind.TheVariants as kind
