@@ -148,7 +148,7 @@ entered image d before _ = before
 -- the last event
 last_same : (trace : List Event) (one other : Event) → trace ++ one ∷ [] ≡ trace ++ other ∷ [] → one ≡ other
 last_same trace one other h =
-    let same = sym (drop-append_seam trace (one ∷ [])) ∙ ap (drop (length trace)) h ∙ drop-append_seam trace _ in
+    let same = sym (drop-append_seam trace _) ∙ ap (drop (length trace)) h ∙ drop-append_seam trace _ in
     cc same
 
 module _ (image : ImageParts) (inputs : List ℕ) (state : State) (d : ℕ) (formed : IsWellFormed image)

@@ -129,9 +129,9 @@ pub bytes_field : (cause : BadImage) (size : ℕ) → IsField (bytes_at cause si
     (λ x. (length x ≡ size) × IsBytes x)
 bytes_field cause size = record {
   takes = λ bytes x rest fits e.
-      let g = good_ok cause (nat_le size (length bytes)) (take size bytes, drop size bytes) (x, rest) e in
-      let long : size ≤ length bytes = leb-true _ _ g.0 in
-      let parts : Takes bytes (take size bytes) (drop size bytes) =
+      let g = good_ok cause (nat_le size _) _ _ e in
+      let long = leb-true _ _ g.0 in
+      let parts : Takes bytes (take size bytes) _ =
       record { parts = sym (take-append-drop size bytes); rest_fits = IsBytes-drop size bytes fits } in
       let len : length (take size bytes) ≡ size = omega (arith, length-take size bytes) in
       subst (λ p. Takes bytes p.0 p.1 × ((length p.0 ≡ size) × IsBytes p.0)) g.1
@@ -158,16 +158,16 @@ pub number_field : (cause : BadImage) (size : ℕ) → IsWide size →
     IsField (number_at cause size) (little_bytes size) (λ n. n < 256 ^ size)
 number_field cause size wide = record {
   takes = λ bytes n rest fits e.
-      let g = good_ok cause (nat_le size (length bytes)) (little_number size bytes, drop size bytes) (n, rest) e in
-      let long : size ≤ length bytes = leb-true _ _ g.0 in
+      let g = good_ok cause (nat_le size (length bytes)) _ _ e in
+      let long = leb-true _ _ g.0 in
       let len : length (take size bytes) ≡ size = omega (arith, length-take size bytes) in
-      let same : little_number size (take size bytes) ≡ little_number size bytes =
+      let same =
       little_from-take 0 size size bytes (omega arith) in
-      let front : little_bytes size (little_number size bytes) ≡ take size bytes =
-      ap (little_bytes size) (sym same) ∙ wide.back (take size bytes) len (IsBytes-take size bytes fits) in
-      let parts : Takes bytes (little_bytes size (little_number size bytes)) (drop size bytes) =
+      let front =
+      ap (little_bytes size) (sym same) ∙ wide.back _ len (IsBytes-take size bytes fits) in
+      let parts : Takes bytes (little_bytes size _) _ =
       record {
-        parts = sym (take-append-drop size bytes) ∙ ap (λ (t : List ℕ). t ++ drop size bytes) (sym front);
+        parts = sym (take-append-drop size bytes) ∙ ap (λ t. t ++ drop size bytes) (sym front);
         rest_fits = IsBytes-drop size bytes fits;
       } in
       subst (λ p. Takes bytes (little_bytes size p.0) p.1 × (p.0 < 256 ^ size)) g.1
@@ -176,7 +176,7 @@ number_field cause size wide = record {
       let len = length-bytes_low_first 0 size n in
       let long : nat_le size (length (little_bytes size n ++ rest)) ≡ true =
       le-leb _ _ (omega (arith, length-append (little_bytes size n) rest, len)) in
-      rw (long, little_number-reads_back size n rest lt, drop_at (little_bytes size n) rest size len) refl;
+      rw (long, little_number-reads_back size n rest lt, drop_at _ rest size len) refl;
 }
 
 -- one byte

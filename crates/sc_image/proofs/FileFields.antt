@@ -34,7 +34,7 @@ name_is_bytes [] named = absurd cc
 name_is_bytes (first ∷ rest) named = by_place
   where
     tests : (is_nondigit first ≡ true) × ((list_all is_name_byte rest && nat_lt (length rest) 63) ≡ true)
-    tests = and_parts (is_nondigit first) _ named
+    tests = and_parts _ _ named
 
     by_place : (i : ℕ) → get_or (first ∷ rest) i 0 < 256
     by_place zero = nondigit_is_small first tests.0
@@ -76,7 +76,7 @@ abbrev export_with : (name : List ℕ) (params result entry : ℕ) → ExportPar
 export_with name params result entry = record { name = name; params = params; result = result == 1; entry = entry }
 
 export_again : (export : ExportPart) → export ≡ export_with export.name export.params (bit export.result) export.entry
-export_again export = ap (λ (b : Bool). record export { result = b }) (sym (bit_again export.result))
+export_again export = ap (λ (b : Bool). record export { result = b }) (sym (bit_again _))
 
 pub export_field : IsField export_at export_bytes FitsExport
 unfolding export_at
@@ -126,10 +126,10 @@ pub record FitsCode (code : List ℕ) : Type 0 where
 
 code_size : (size k : ℕ) → (size % 4 == 0 && nat_le size stretch) ≡ true → k ≡ size / 4 → 4 * k ≡ size
 code_size size k passes is = let whole =
-    eqb-true _ _ (and_parts _ (nat_le size stretch) passes).0 in omega (arith, whole, is)
+    eqb-true _ _ (and_parts _ (nat_le size _) passes).0 in omega (arith, whole, is)
 
 code_passes : (k : ℕ) → 4 * k ≤ stretch → (4 * k % 4 == 0 && nat_le (4 * k) stretch) ≡ true
-code_passes k short = and_from (4 * k % 4 == 0) _ (eq-eqb _ 0 (omega arith)) (le-leb _ stretch short)
+code_passes k short = and_from (4 * k % 4 == 0) _ (eq-eqb _ 0 (omega arith)) (le-leb _ _ short)
 
 code_short : (size k : ℕ) → (4 * k % 4 == 0 && nat_le (4 * k) stretch) ≡ true → 4 * k ≤ stretch
 code_short size k passes = leb-true _ _ (and_parts _ _ passes).1
@@ -200,7 +200,7 @@ comp_again : (comp : CompPart) → comp ≡ comp_with comp.name
 comp_again comp =
     let h = has_flags comp.input comp.output in
     ap (λ (b : Bool). record comp { input = b }) (sym h.first) ∙
-    ap (λ (b : Bool). record comp { input = flags comp % 2 == 1; output = b }) (sym h.second)
+    ap (λ b. record comp { input = flags comp % 2 == 1; output = b }) (sym h.second)
 
 grouped : (name exports imports code globals : List ℕ) (f : ℕ) →
     name ++ (f ∷ (exports ++ (imports ++ (code ++ globals)))) ≡ name ++ f ∷ exports ++ imports ++ code ++ globals
@@ -312,8 +312,8 @@ pub parts_take : (version : ℕ) → version < 2 ^ 16 → (bytes : List ℕ) (pa
     IsBytes bytes → parts_in_version version bytes ≡ Ok (parts, rest) →
     (bytes ≡ bytes_in_version version parts ++ rest) × FitsParts parts
 parts_take version low bytes parts rest fits e =
-    let took = (parts_field version low).takes bytes parts rest fits e in (took.0.parts, took.1)
+    let took = (parts_field _ low).takes bytes parts rest fits e in (took.0.parts, took.1)
 
 pub parts_again : (version : ℕ) → version < 2 ^ 16 → (parts : ImageParts) (rest : List ℕ) → FitsParts parts →
     parts_in_version version (bytes_in_version version parts ++ rest) ≡ Ok (parts, rest)
-parts_again version low parts rest fits = (parts_field version low).again parts rest fits
+parts_again version low parts rest fits = (parts_field _ low).again parts rest fits

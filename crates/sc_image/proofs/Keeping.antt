@@ -55,13 +55,13 @@ pub export_names_count : {S : Type 0} (exports : List ExportPart) (set : HashSet
     bag.IsFromIterResult is_same_name (map (λ export. export.name) exports) set → len ≡ hash_set_len set →
     nat_eq len (length exports) ≡ are_distinct is_same_name (map (λ export. export.name) exports)
 export_names_count exports set len made len-is =
-    count_tells _ (equivalence _ names_decide) _ set len _ made len-is (sym (length-map exports _))
+    count_tells _ (equivalence _ names_decide) _ set len _ made len-is (sym (length-map _ _))
 
 pub entries_count : {S : Type 0} (exports : List ExportPart) (set : HashSet ℕ S) (len : ℕ) →
     bag.IsFromIterResult ◌==◌ (map (λ export. export.entry) exports) set → len ≡ hash_set_len set →
     nat_eq len (length exports) ≡ are_distinct ◌==◌ (map (λ export. export.entry) exports)
 entries_count exports set len made len-is =
-    count_tells ◌==◌ (equivalence ◌==◌ entries_decide) _ set len _ made len-is (sym (length-map exports _))
+    count_tells ◌==◌ (equivalence ◌==◌ entries_decide) _ set len _ made len-is (sym (length-map _ _))
 
 -- imports are told apart by their numbers
 
@@ -97,7 +97,7 @@ pub imports_count : {S : Type 0} (imports : List ImportPart) (set : HashSet (ℕ
     bag.IsFromIterResult is_same_pair (map (λ import. (import.comp, import.index)) imports) set →
     len ≡ hash_set_len set → nat_eq len (length imports) ≡ are_distinct is_same_import imports
 imports_count imports set len made len-is = count_tells _ (equivalence _ pairs_decide) _ set len _ made len-is
-    (sym (length-map imports numbers)) ∙ (ap (λ n. n == length (map numbers imports)) (as_many imports) ∙
+    (sym (length-map imports _)) ∙ (ap (λ n. n == length (map numbers imports)) (as_many imports) ∙
     ap (λ n. distinct_count is_same_import imports == n) (length-map imports numbers))
 
 pub ruleset counted = (comp_names_count, export_names_count, entries_count, imports_count)

@@ -58,7 +58,7 @@ module _ (image : ImageParts) (inputs : List ℕ) (state : State) (d : ℕ) (for
     bytes = bytes i;
     saved = saved i;
     calls = calls i;
-    running = idle_both next.active state.active d (record { regs = next.regs; pc = next.pc })
+    running = idle_both next.active _ d (record { regs = next.regs; pc = next.pc })
         (record { regs = state.regs; pc = state.pc }) other differ i;
   }
 
@@ -114,8 +114,8 @@ module _ (image : ImageParts) (inputs : List ℕ) (state : State) (d : ℕ) (for
     quiet = λ regs pc moves none. differ;
     stores = λ op a word allowed none. differ;
     calls = λ to index target at may none. entry_by to d
-        (one_event (Call state.active to index (arguments (params_of image to index) state.regs)) none);
-    returns = return_elsewhere state.cross;
+        (one_event _ none);
+    returns = return_elsewhere _;
     outputs = λ may none. differ;
     reads = λ may none. differ;
   })

@@ -41,7 +41,7 @@ length-stack_tops c (comp ∷ comps) = ap suc (length-stack_tops _ comps)
 pub called_there : (image : ImageParts) (to target index : ℕ) → export_at image to target ≡ Some index →
     to < length image.comps
 called_there image to target index at =
-    let found = comp_found (λ comp. comp.exports) []
+    let found = comp_found (λ comp. _) []
     (λ exports. position (λ export. export.entry == target) exports ≡ Some index) (λ none. cc none) _ at in
     slice_get_within _ to found.0 found.1
 
@@ -56,12 +56,12 @@ none_to_own : (image : ImageParts) (c to index : ℕ) (imports : List ImportPart
 none_to_own image c to index [] all some = λ same. let never = some in cc never
 none_to_own image c to index (import ∷ imports) all some =
     to_own_by image c to index import (list_any _ imports) (All-head (IsImport image c) import imports all).other
-    (none_to_own image c to index imports (All-tail (IsImport image c) import imports all)) _ refl some
+    (none_to_own image c to index imports (All-tail (IsImport image c) import _ all)) _ refl some
 
 pub called_other : (image : ImageParts) (c to index : ℕ) → IsWellFormed image → may_call image c to index ≡ true →
     c ≢ to
 called_other image c to index formed may =
-    let found = comp_found (λ comp. comp.imports) []
+    let found = comp_found (λ comp. _) []
     (λ imports. list_any (λ import. import.comp == to && import.index == index) imports ≡ true) (λ none. cc none)
     _ may in
     none_to_own image c to index _ (formed.comps c found.0 found.1).imports found.2

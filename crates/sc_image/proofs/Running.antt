@@ -19,7 +19,7 @@ stays_by false false stop earlier later h = cc h
 stays : (events : ℕ) (trace : List Event) (stop : Stop) (earlier later : Run) →
     stopped events trace ≡ Some stop → unless_stopped stop earlier later ≡ earlier
 unfolding stopped
-stays events trace stop earlier later h = stays_by _ _ stop earlier later h
+stays events trace stop earlier later h = stays_by _ _ stop _ later h
 
 -- it stops with any number of steps
 pub run_stopped : (image : ImageParts) (inputs : List ℕ) (events n : ℕ) (state : State) (stop : Stop) →

@@ -34,7 +34,7 @@ stored_same : (image : ImageParts) (c a size word : ℕ) (memory memory' : Memor
     ((b : ℕ) → are_data image c b 1 ≡ true → memory b ≡ memory' b) →
     data_of image c (stored memory a size word) ≡ data_of image c (stored memory' a size word)
 stored_same image c a size word memory memory' same =
-    λ i x. stored_at image c a size word x memory memory' same _ refl i
+    λ i x. stored_at image c a size word x memory _ same _ refl i
 
 -- The two states, as the compartment can't tell them apart.
 
@@ -93,8 +93,8 @@ module _ (image : ImageParts) (inputs : List ℕ) (formed : IsWellFormed image) 
     kept_of_caller : (to : ℕ) (crossing : Crossing) → crossing.caller ≡ c → crossing.callee ≢ c →
         kept_by c crossing ≡ Waits crossing.pc crossing.sp ∷ []
     kept_of_caller to crossing caller callee = rw (
-      eq-eqb crossing.caller c caller,
-      ne_eqb crossing.callee c callee,
+      eq-eqb _ c caller,
+      ne_eqb _ c callee,
     ) refl
 
     calls_on : (to index params target : ℕ) → c ≢ to →
@@ -180,12 +180,12 @@ module _ (image : ImageParts) (inputs : List ℕ) (formed : IsWellFormed image) 
           (stored_same image c a _ word memory memory' (λ b owned. same_at image c b memory memory' bytes_same owned));
       calls = λ to index target at may. calls_on to index _ target (called_other image c to index formed may);
       returns = returns_both cross cross' refl refl;
-      outputs = λ may. on regs (pc + 4) place _ (λ m. m) bytes_same;
+      outputs = λ may. on regs _ place _ (λ m. m) bytes_same;
       reads = λ may. on _ _ _ _ (λ m. m) bytes_same;
     }
 
     pub follow : Follow (step image inputs left) (step image inputs right)
-    follow = step_both image inputs formed regs pc c place trace saved saved' memory memory' cross cross' Follow cases
+    follow = step_both image inputs formed regs pc c place trace saved saved' memory _ cross cross' Follow cases
 
 -- Any two states.
 
@@ -208,7 +208,7 @@ module _ (image : ImageParts) (inputs : List ℕ) (formed : IsWellFormed image) 
   module _ (s t : State) (h : LooksSame image c s t) where
     running_same : running s ≡ running t
     running_same =
-        let both : Some (running s) ≡ Some _ = sym (running_of c _ _ h.one_active) ∙ ap (λ o. o.running) h.own_parts ∙
+        let both : Some _ ≡ Some _ = sym (running_of c _ _ h.one_active) ∙ ap (λ o. o.running) h.own_parts ∙
         running_of c t.active (running t) h.other_active in
         cc both
 

@@ -35,8 +35,8 @@ one_more trace event = (event ∷ [], refl, omega arith)
 
 return_adds : (image : ImageParts) (state : State) (cross : List Crossing) →
     AddsOne state.trace (returned image state cross)
-return_adds image state [] = one_more state.trace _
-return_adds image state (x ∷ xs) = one_more state.trace _
+return_adds image state [] = one_more _ _
+return_adds image state (x ∷ xs) = one_more _ _
 
 step_adds : (image : ImageParts) (inputs : List ℕ) (state : State) → IsWellFormed image →
     AtNext (AddsOne state.trace) (step image inputs state)
@@ -53,7 +53,7 @@ step_adds image inputs state formed = step_of image inputs formed state (AtNext 
 
 step_to : (image : ImageParts) (inputs : List ℕ) → IsWellFormed image → (state next : State) →
     step image inputs state ≡ Goes next → AddsOne state.trace next
-step_to image inputs formed state next goes = subst (AtNext (AddsOne _)) goes (step_adds image inputs state formed)
+step_to image inputs formed state next goes = subst (AtNext _) goes (step_adds image inputs state formed)
 
 pub goes_one : (image : ImageParts) (inputs : List ℕ) → IsWellFormed image → (state next : State) →
     step image inputs state ≡ Goes next → length next.trace ≤ suc (length state.trace)

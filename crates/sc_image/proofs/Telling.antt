@@ -67,7 +67,7 @@ not_others : (image : ImageParts) → IsWellFormed image → (c d address : ℕ)
     (word : Option ℕ) → word_at image c address ≡ word → is_some (word_at image c address) ≡ false
 not_others image formed c d address other of None at = ap is_some at
 not_others image formed c d address other of (Some word) at =
-    absurd (other (sym (in_code image formed c address word at).comp ∙ of))
+    absurd (other (sym (in_code image formed c _ word at).comp ∙ of))
 
 -- Jumps out of the own code.
 

@@ -59,7 +59,7 @@ any_map test f [] = refl
 any_map test f (x ∷ xs) = ap (λ later. test (f x) || later) (any_map test f xs)
 
 any_behind : {A : Type 0} (test : A → Bool) (xs ys : List A) → list_any test ys ≡ true → list_any test (xs ++ ys) ≡ true
-any_behind test xs ys some = list_any-append test xs ys ∙ or_right (list_any test xs) _ some
+any_behind test xs ys some = list_any-append test xs ys ∙ or_right _ _ some
 
 module _ (image : ImageParts) where
   abbrev said : Interfaces
@@ -82,7 +82,7 @@ module _ (image : ImageParts) where
 
   input_said : (c : ℕ) → may_input image c ≡ true → imports said c is_input ≡ true
   input_said c may =
-      let found = comp_found (λ comp. comp.input) false (λ input. input ≡ true) (λ never. cc never) _ may in
+      let found = comp_found _ false (λ input. input ≡ true) (λ never. cc never) _ may in
       imports_said c found.0 _ found.1 ∙ rw found.2 refl
 
   output_said : (c : ℕ) → may_output image c ≡ true → imports said c is_output ≡ true
@@ -171,11 +171,11 @@ module _ (image : ImageParts) (inputs : List ℕ) (formed : IsWellFormed image) 
   goes_on event next steady exports trace allowed stands = inl (record {
     steady = steady;
     exports = exports;
-    legal = ap (law.legal (interfaces_of image)) trace ∙
-        legal_more (interfaces_of image) (at_start image.main) state.trace event
+    legal = ap (law.legal _) trace ∙
+        legal_more (interfaces_of image) (at_start _) state.trace event
         (standing_of state) h.legal h.stands allowed;
-    stands = ap (stands_behind (at_start image.main)) trace ∙
-        (stands_more (at_start image.main) state.trace event (standing_of state) h.stands ∙ stands);
+    stands = ap (stands_behind _) trace ∙
+        (stands_more (at_start _) state.trace event _ h.stands ∙ stands);
   })
 
   silent : (regs : List ℕ) (pc : ℕ) (memory : Memory) →

@@ -54,8 +54,8 @@ steps_by_instruction = record {
   branch_taken = λ image inputs state op rs1 rs2 imm target at taken same. by_instr image inputs state _ at ∙
       rw (taken, same) refl;
   branch_not_taken = λ image inputs state op rs1 rs2 imm at taken. by_instr image inputs state _ at ∙ rw taken refl;
-  loads = λ image inputs state op rd rs1 imm address at same. by_instr image inputs state _ at ∙ rw same refl;
-  stores = λ image inputs state op rs1 rs2 imm address at same. by_instr image inputs state _ at ∙ rw same refl;
+  loads = λ image inputs state op rd rs1 imm _ at same. by_instr image inputs state _ at ∙ rw same refl;
+  stores = λ image inputs state op rs1 rs2 imm _ at same. by_instr image inputs state _ at ∙ rw same refl;
   op_imm = λ image inputs state op rd rs1 imm at. by_instr image inputs state _ at;
   shift = λ image inputs state op rd rs1 amount at. by_instr image inputs state _ at;
   op = λ image inputs state op rd rs1 rs2 at. by_instr image inputs state _ at;
@@ -160,7 +160,7 @@ any_in (first ∷ regions) zero address region at within =
     let same : first ≡ region = cc at in
     or_left (is_in first address) _ (subst (λ r. is_in r address ≡ true) (sym same) within)
 any_in (first ∷ regions) (suc number) address region at within =
-    or_right (is_in first address) _ (any_in regions number address region at within)
+    or_right (is_in first address) _ (any_in regions number _ region at within)
 
 within_region : (region : Region) (address : ℕ) → region.start ≤ address → address + 1 ≤ region.start + region.bytes →
     is_in region address ≡ true

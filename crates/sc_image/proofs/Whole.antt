@@ -44,7 +44,7 @@ entries_decide a b = unsigned_Decides a b
 pub imports_decide : (a b : ImportPart) → Decides (is_same_import a b) (a ≡ b)
 imports_decide a b =
     Decides-like _ (λ both. rejoin a b both.0 both.1) (λ same. (ap (λ i. i.comp) same, ap (λ i. i.index) same))
-    (Decides-and (a.comp == b.comp) _ (unsigned_Decides a.comp b.comp) (unsigned_Decides a.index b.index))
+    (Decides-and (a.comp == b.comp) _ (unsigned_Decides a.comp b.comp) (unsigned_Decides _ _))
   where
     rejoin : (a b : ImportPart) → a.comp ≡ b.comp → a.index ≡ b.index → a ≡ b
     rejoin a b comp index = ap (λ c. record { comp = c; index = a.index }) comp ∙
@@ -111,13 +111,13 @@ tests_by_all test P each (x ∷ xs) all = and_from _ _ (each x all.0) (tests_by_
 exports_are : (image : ImageParts) (c : ℕ) (exports : List ExportPart) → AllByRecursion FitsExport exports →
     list_all (λ export. is_entry image c export.entry) exports ≡ true → All (IsExport image c) exports
 exports_are image c exports fits is = All-from_recursion (IsExport image c) exports (all_by_tests _ FitsExport _
-    (λ export h entry. record { name = h.name; params = h.params; entry = entry }) exports fits is)
+    (λ export h entry. record { name = h.name; params = h.params; entry = entry }) _ fits is)
 
 imports_are : (image : ImageParts) (c comps : ℕ) (imports : List ImportPart) →
     AllByRecursion (FitsImport comps) imports →
     list_all (is_import image c) imports ≡ true → All (IsImport image c) imports
 imports_are image c comps imports fits is = All-from_recursion (IsImport image c) imports
-    (all_by_tests _ _ _ (λ import h test. import_by_test image c import test) imports fits is)
+    (all_by_tests _ _ _ (λ import h test. import_by_test image c import test) _ fits is)
 
 abbrev pub keeps : ImageParts → ℕ → CompPart → Bool
 keeps image c comp = exports_keep image c comp.exports && imports_keep image c comp.imports
@@ -218,7 +218,7 @@ module _ (image : ImageParts) (formed : IsWellFormed image) where
       IsSomeAnd found (λ comp. index < length comp.exports) → (c < length image.comps) × (index < 2 ^ 16)
   import_comp index c None at is = absurd is
   import_comp index c (Some comp) at is = (
-    slice_get_within image.comps c comp at,
+    slice_get_within _ c comp at,
     omega (arith, is, (formed.comps c comp at).few_exports),
   )
 

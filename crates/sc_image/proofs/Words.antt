@@ -171,7 +171,7 @@ in_code image formed c address word at =
 pub code_address : (image : ImageParts) → IsWellFormed image → (c address : ℕ) → IsSome (word_at image c address) →
     IsWord address
 code_address image formed c address some =
-    let word = some_is _ some in omega (arith, (in_code image formed c address word.0 word.1).next)
+    let word = some_is _ some in omega (arith, (in_code image formed c _ word.0 word.1).next)
 
 abbrev pub no_export : ExportPart
 no_export = record { name = []; params = 0; result = false; entry = 0 }
