@@ -161,10 +161,8 @@ number_field cause size wide = record {
       let g = good_ok cause (nat_le size (length bytes)) _ _ e in
       let long = leb-true _ _ g.0 in
       let len : length (take size bytes) ≡ size = omega (arith, length-take size bytes) in
-      let same =
-      little_from-take 0 size size bytes (omega arith) in
-      let front =
-      ap (little_bytes size) (sym same) ∙ wide.back _ len (IsBytes-take size bytes fits) in
+      let same = little_from-take 0 size size bytes (omega arith) in
+      let front = ap (little_bytes size) (sym same) ∙ wide.back _ len (IsBytes-take size bytes fits) in
       let parts : Takes bytes (little_bytes size _) _ =
       record {
         parts = sym (take-append-drop size bytes) ∙ ap (λ t. t ++ drop size bytes) (sym front);

@@ -125,8 +125,7 @@ pub record FitsCode (code : List ℕ) : Type 0 where
   pub each : AllByRecursion (λ word. word < 2 ^ 32) code
 
 code_size : (size k : ℕ) → (size % 4 == 0 && nat_le size stretch) ≡ true → k ≡ size / 4 → 4 * k ≡ size
-code_size size k passes is = let whole =
-    eqb-true _ _ (and_parts _ (nat_le size _) passes).0 in omega (arith, whole, is)
+code_size size k passes is = let whole = eqb-true _ _ (and_parts _ (nat_le size _) passes).0 in omega (arith, whole, is)
 
 code_passes : (k : ℕ) → 4 * k ≤ stretch → (4 * k % 4 == 0 && nat_le (4 * k) stretch) ≡ true
 code_passes k short = and_from (4 * k % 4 == 0) _ (eq-eqb _ 0 (omega arith)) (le-leb _ _ short)

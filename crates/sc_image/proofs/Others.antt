@@ -113,8 +113,7 @@ module _ (image : ImageParts) (inputs : List ℕ) (state : State) (d : ℕ) (for
     traps = λ reason none. differ;
     quiet = λ regs pc moves none. differ;
     stores = λ op a word allowed none. differ;
-    calls = λ to index target at may none. entry_by to d
-        (one_event _ none);
+    calls = λ to index target at may none. entry_by to d (one_event _ none);
     returns = return_elsewhere _;
     outputs = λ may none. differ;
     reads = λ may none. differ;

@@ -91,8 +91,8 @@ module _ (image : ImageParts) (inputs : List ℕ) (formed : IsWellFormed image) 
 
   -- the same calls, with the registers, the pc, the inputs, the bytes and the events that a step leads to
   steady_on : (regs : List ℕ) (pc place : ℕ) (memory : Memory) (trace : List Event) → length regs ≡ 32 →
-      AreWords regs → slice_index regs 0 ≡ 0 → IsWord pc → HoldsBytes memory → map call_of state.cross ≡ open_calls trace →
-      place ≡ inputs_in trace →
+      AreWords regs → slice_index regs 0 ≡ 0 → IsWord pc → HoldsBytes memory →
+      map call_of state.cross ≡ open_calls trace → place ≡ inputs_in trace →
       IsSteady image (record state { regs = regs; pc = pc; memory = memory; input = place; trace = trace })
   steady_on regs pc place memory trace count words stays here bytes calls input = record {
     regs = count;

@@ -33,8 +33,7 @@ stored_at image c a size word x memory memory' same false is = refl
 stored_same : (image : ImageParts) (c a size word : ℕ) (memory memory' : Memory) →
     ((b : ℕ) → are_data image c b 1 ≡ true → memory b ≡ memory' b) →
     data_of image c (stored memory a size word) ≡ data_of image c (stored memory' a size word)
-stored_same image c a size word memory memory' same =
-    λ i x. stored_at image c a size word x memory _ same _ refl i
+stored_same image c a size word memory memory' same = λ i x. stored_at image c a size word x memory _ same _ refl i
 
 -- The two states, as the compartment can't tell them apart.
 

@@ -2,12 +2,11 @@
 use Rattle.sc_image.proofs.Common.{Bool, Crossing, Ended, Event, EventsOut, Goes, ImageParts, IsReached, IsWellFormed}
 use Rattle.sc_image.proofs.Common.{List, None, Option, Outcome, Some, State, StepsOut, Stop, StretchesCompose, Traps}
 use Rattle.sc_image.proofs.Common.{[], ap, append-nil, append_assoc, arith, false, if◌then◌else◌, is_end, is_ended}
-use Rattle.sc_image.proofs.Common.{length, length-append, list_any, lt-leb, nat_tests, or_from, or_parts, refl}
-use Rattle.sc_image.proofs.Common.{returned, run, start, step, stopped, stops_or, subst, suc, suc-add, sym, true, walk}
-use Rattle.sc_image.proofs.Common.{zero, zero-add, ℕ, ◌++◌, ◌+◌, ◌<◌, ◌∙◌, ◌∷◌, ◌≡◌, ◌≤◌}
+use Rattle.sc_image.proofs.Common.{length, length-append, list_any, list_any-append, lt-leb, nat_tests, or_from}
+use Rattle.sc_image.proofs.Common.{or_parts, refl, returned, run, start, step, stopped, stops_or, subst, suc, suc-add}
+use Rattle.sc_image.proofs.Common.{sym, true, walk, zero, zero-add, ℕ, ◌++◌, ◌+◌, ◌<◌, ◌∙◌, ◌∷◌, ◌≡◌, ◌≤◌}
 use Rattle.sc_image.proofs.Cases.{AtNext, step_of}
 use Rattle.sc_image.proofs.Traces.{ended_by}
-use Rattle.std.proofs.lemmas.List.Folds.{list_any-append}
 use Rattle.sc_image.proofs.Running.{run_stopped, run_out, run_goes, run_traps, run_keeps}
 use Rattle.sc_image.proofs.Walking.{first_step, walk_one, walk_together}
 
@@ -73,7 +72,7 @@ pub goes_on : (events : ℕ) (trace : List Event) → stopped events trace ≡ N
 unfolding stopped
 goes_on events trace is = (not_ended trace _ _ refl is).0
 
-has_room : (events : ℕ) (trace : List Event) → stopped events trace ≡ None → length trace < events
+pub has_room : (events : ℕ) (trace : List Event) → stopped events trace ≡ None → length trace < events
 unfolding stopped
 has_room events trace is = let room = (not_ended trace _ _ refl is).1 in grind (arith, nat_tests)
 

@@ -6,18 +6,17 @@ use Rattle.sc_image.proofs.Common.{TracesAreLegal, [], a0, and_from, and_parts, 
 use Rattle.sc_image.proofs.Common.{comp_at, eq-eqb, export_at, exports_of, false, fits_result, given_back, has_result}
 use Rattle.sc_image.proofs.Common.{if◌then◌else◌, import_of, imports, inl, inr, interface_of, interfaces_of, is_allowed}
 use Rattle.sc_image.proofs.Common.{is_end, is_ended, is_function, is_input, is_legal_from, is_output, is_there, length}
-use Rattle.sc_image.proofs.Common.{length-append, length-replicate, list_any, machine, map, may_call, may_input}
-use Rattle.sc_image.proofs.Common.{may_output, may_return, option_and_then, option_map, option_map_or, or_right}
-use Rattle.sc_image.proofs.Common.{params_of, position, position-Some, proto_of, refl, reg, resumed, returned, run}
-use Rattle.sc_image.proofs.Common.{slice_get, slice_get-map, stands_after, stands_behind, start, step, stopped, subst}
-use Rattle.sc_image.proofs.Common.{sym, takes, true, true≢false, ℕ, ◌&&◌, ◌++◌, ◌-◌, ◌<◌, ◌==◌, ◌||◌, ◌∙◌, ◌∷◌, ◌≡◌}
-use Rattle.sc_image.proofs.Common.{◌⊎◌}
+use Rattle.sc_image.proofs.Common.{length-append, length-replicate, list_any, list_any-append, machine, map, may_call}
+use Rattle.sc_image.proofs.Common.{may_input, may_output, may_return, option_and_then, option_map, option_map_or}
+use Rattle.sc_image.proofs.Common.{or_right, params_of, position, position-Some, proto_of, refl, reg, resumed, returned}
+use Rattle.sc_image.proofs.Common.{run, slice_get, slice_get-map, stands_after, stands_behind, start, step, stopped}
+use Rattle.sc_image.proofs.Common.{subst, sym, takes, true, true≢false, ℕ, ◌&&◌, ◌++◌, ◌-◌, ◌<◌, ◌==◌, ◌||◌, ◌∙◌, ◌∷◌}
+use Rattle.sc_image.proofs.Common.{◌≡◌, ◌⊎◌}
 use Rattle.sc_event.specs.declared.interface.Import.TheVariants.{Input, Output}
 use Rattle.sc_event.specs.Lookup as lookup
 use Rattle.sc_event.specs.Legal as law
 use Rattle.sc_image.proofs.Cases.{AtNext, step_of}
 use Rattle.sc_image.proofs.Words.{comp_found, no_export}
-use Rattle.std.proofs.lemmas.List.Folds.{list_any-append}
 use Rattle.sc_image.proofs.Running.{run_keeps}
 use Rattle.sc_image.proofs.Enters.{few_params, length-arguments}
 use Rattle.sc_image.proofs.Reached.{steady_start, steady_step}
@@ -171,11 +170,9 @@ module _ (image : ImageParts) (inputs : List ℕ) (formed : IsWellFormed image) 
   goes_on event next steady exports trace allowed stands = inl (record {
     steady = steady;
     exports = exports;
-    legal = ap (law.legal _) trace ∙
-        legal_more (interfaces_of image) (at_start _) state.trace event
+    legal = ap (law.legal _) trace ∙ legal_more (interfaces_of image) (at_start _) state.trace event
         (standing_of state) h.legal h.stands allowed;
-    stands = ap (stands_behind _) trace ∙
-        (stands_more (at_start _) state.trace event _ h.stands ∙ stands);
+    stands = ap (stands_behind _) trace ∙ (stands_more (at_start _) state.trace event _ h.stands ∙ stands);
   })
 
   silent : (regs : List ℕ) (pc : ℕ) (memory : Memory) →

@@ -138,8 +138,7 @@ load_is memory a word below bytes = rw (
   bytes 0 (omega arith),
   bytes 1 (omega arith),
   bytes 2 (omega arith),
-  bytes 3
-      (omega arith),
+  bytes 3 (omega arith),
 ) (four_bytes word below)
 
 words_placed : (image : ImageParts) (c : ℕ) (comp : CompPart) (words : List ℕ) (k word : ℕ) → IsWellFormed image →

@@ -162,7 +162,7 @@ in_code image formed c address word at =
       aligned = eqb-true _ _ tests.0;
       comp = omega (arith, within, well.short_code, from);
       next =
-          omega (arith, within, well.short_code, from, slice_get_within image.comps c found.0 found.1, formed.few_comps);
+          omega (arith, within, well.short_code, from, slice_get_within _ c found.0 found.1, formed.few_comps);
       bits = subst IsWord (get_or_from_slice_get found.0.code _ word word found.2) (well.words _ word within);
     }
 
