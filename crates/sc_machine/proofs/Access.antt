@@ -101,5 +101,3 @@ module _ (image : ImageParts) (state : State) where
   store_goes op a size word is allows =
       let allowed = sym (subst (λ n. None ≡ refused image state.active n a) is allows) in
       rw allowed refl
-
--- One byte.

@@ -1,13 +1,12 @@
 -- Calls of other compartments and returns, by what was found.
 use Rattle.sc_machine.proofs.Common.{Callee, CompPart, ExportPart, Goes, ImageParts, IsCallee, IsWellFormed, None, Some}
-use Rattle.sc_machine.proofs.Common.{State, Traps, [], ap, arith, called, calls, comp_of_code, eq-eqb, export_at}
-use Rattle.sc_machine.proofs.Common.{export_called, exports_of, false, get_or, length, may_call, params_of, position}
-use Rattle.sc_machine.proofs.Common.{ra, refl, slice_get, slice_get-get_or, slice_get_within, sym, true, ℕ, ◌<◌, ◌==◌}
-use Rattle.sc_machine.proofs.Common.{◌∙◌, ◌≡◌, ◌≤◌}
+use Rattle.sc_machine.proofs.Common.{State, Traps, [], ap, arith, called, calls, comp_found, comp_of_code, eq-eqb}
+use Rattle.sc_machine.proofs.Common.{export_at, export_called, exports_of, false, get_or, length, may_call, no_export}
+use Rattle.sc_machine.proofs.Common.{params_of, position, ra, refl, slice_get, slice_get-get_or, slice_get_within, sym}
+use Rattle.sc_machine.proofs.Common.{true, ℕ, ◌<◌, ◌==◌, ◌∙◌, ◌≡◌, ◌≤◌}
 use Rattle.sc_base.specs.declared.stop.TrapReason.TheVariants.{BadJump, NoImport}
 use Rattle.std.proofs.lemmas.List.Quantifiers.{position-Some}
 use Rattle.sc_image.proofs.Enters.{few_params}
-use Rattle.sc_image.proofs.Words.{comp_found, no_export}
 
 module _ (image : ImageParts) (state : State) (target : ℕ) where
   linked : (rd : ℕ) → rd ≡ ra → calls image state rd target ≡

@@ -1,10 +1,10 @@
 -- What an import leads to is a function that may be called.
 use Rattle.sc_machine.proofs.Common.{CompPart, ExportPart, ImageParts, IsCallee, IsDistinct, IsEntry, IsExport}
 use Rattle.sc_machine.proofs.Common.{IsWellFormed, List, Some, ap, arith, cases_lt, comp_of_code, eq-eqb, eqb-true}
-use Rattle.sc_machine.proofs.Common.{get_or, get_or-map, get_or_from_slice_get, length, length-map, map, may_call, refl}
-use Rattle.sc_machine.proofs.Common.{rules, slice_get, slice_get_within, subst, sym, true, ℕ, ⊎_elim, ◌<◌, ◌∙◌, ◌≡◌}
+use Rattle.sc_machine.proofs.Common.{get_or, get_or-map, get_or_from_slice_get, in_code, length, length-map, map}
+use Rattle.sc_machine.proofs.Common.{may_call, refl, rules, slice_get, slice_get_within, some_is, subst, sym, true, ℕ}
+use Rattle.sc_machine.proofs.Common.{⊎_elim, ◌<◌, ◌∙◌, ◌≡◌}
 use Rattle.sc_base.proofs.Lists.{position_of_only}
-use Rattle.sc_image.proofs.Words.{in_code, some_is}
 use Rattle.sc_image.specs.declared.parts.ImportPart.{ImportPart}
 
 -- The first export at an entry is the one whose entry it is, since no two have the same.

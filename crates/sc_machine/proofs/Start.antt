@@ -3,12 +3,12 @@ use Rattle.sc_machine.proofs.Common.{All, All-cons, All-head, All-nil, All-tail,
 use Rattle.sc_machine.proofs.Common.{Filled, HasBytes, HasFewGlobals, ImageParts, IsIn, IsSome, IsWellFormed, List}
 use Rattle.sc_machine.proofs.Common.{Memory, None, Option, Region, Some, [], all_data, ap, ap₂, arith, byte_at, byte_of}
 use Rattle.sc_machine.proofs.Common.{cases_lt, data_start, data_with, false, filled_with, get_or, get_or_past}
-use Rattle.sc_machine.proofs.Common.{if◌then◌else◌, is_in, length, lt-ltb, most_globals, nat_le, nat_lt}
-use Rattle.sc_machine.proofs.Common.{option_and_then, refl, regions_of, slice_get, slice_get-get_or, slice_index}
-use Rattle.sc_machine.proofs.Common.{stack_size, stack_top, stack_tops, start_is, start_memory, stored, stretch, subst}
-use Rattle.sc_machine.proofs.Common.{suc, sym, take, true, written, written-apart, written-in, written-stored}
-use Rattle.sc_machine.proofs.Common.{written_nothing, zero, zeros, ℕ, ⊎_elim, ◌&&◌, ◌++◌, ◌+◌, ◌-◌, ◌<◌, ◌^◌, ◌∙◌, ◌∷◌}
-use Rattle.sc_machine.proofs.Common.{◌≡◌, ◌≤◌}
+use Rattle.sc_machine.proofs.Common.{if◌then◌else◌, is_in, length, lt-ltb, most_globals, nat_le, nat_lt, refl}
+use Rattle.sc_machine.proofs.Common.{regions_of, slice_get, slice_get-get_or, slice_index, stack_size, stack_top}
+use Rattle.sc_machine.proofs.Common.{stack_tops, start_is, start_memory, stored, stretch, subst, suc, sym, take, true}
+use Rattle.sc_machine.proofs.Common.{written, written-apart, written-in, written-stored, written_nothing, zero, zeros}
+use Rattle.sc_machine.proofs.Common.{ℕ, ⊎_elim, ◌&&◌, ◌++◌, ◌+◌, ◌-◌, ◌<◌, ◌^◌, ◌∙◌, ◌∷◌, ◌≡◌, ◌≤◌}
+use Rattle.std.specs.Option.{option_and_then}
 use Rattle.sc_store.proofs.Regions.{in_true, in_false, in_cases}
 
 -- One byte.
@@ -185,12 +185,10 @@ zero_is : (comps : List CompPart) (c i n a : ℕ) (comp : CompPart) → n ≡ c 
     stack_top n ≤ a → a < stack_top n + length comp.globals → IsSome (zeros (regions_of (all_data c comps)) a)
 zero_is [] c i n a comp place is low high = let never : ◌≡◌ {A = Option CompPart} None (Some comp) = is in cc never
 zero_is (x ∷ xs) c zero n a comp place is low high =
-    let first : n ≡ c = omega arith in
-    let same : comp ≡ x = sym (cc is) in
-    let upto : a < stack_top c + length x.globals = subst (λ (y : CompPart). a < stack_top c + length y.globals) same
-    (subst (λ k. a < stack_top k + length comp.globals) first high) in
+    let first : c ≡ n = omega arith in
+    let same : x ≡ comp = cc is in
     let inside : is_in (globals x c).region a ≡ true =
-    in_true (globals x c).region a (subst (λ k. stack_top k ≤ a) first low, upto) in
+    rw (first, same) (in_true (globals comp n).region a (low, high)) in
     some_by (is_in (stack x c).region a) 0 _ (rw inside refl)
 zero_is (x ∷ xs) c (suc i) n a comp place is low high = some_by (is_in (stack x c).region a) 0 _
     (some_by (is_in (globals x c).region a) 0 _ (zero_is xs (suc c) i n a comp (omega arith) is low high))
