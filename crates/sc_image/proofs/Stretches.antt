@@ -76,11 +76,6 @@ pub has_room : (events : ℕ) (trace : List Event) → stopped events trace ≡ 
 unfolding stopped
 has_room events trace is = let room = (not_ended trace _ _ refl is).1 in grind (arith, nat_tests)
 
-pub not_stopped : (events : ℕ) (trace : List Event) → is_ended trace ≡ false → length trace < events →
-    stopped events trace ≡ None
-unfolding stopped
-not_stopped events trace going below = rw (going, lt-leb events _ below) refl
-
 -- No end among some events, and so none among the first and the last of them.
 
 pub none_in_both : (first second : List Event) → list_any is_end first ≡ false → list_any is_end second ≡ false →
@@ -108,6 +103,11 @@ behind (event ∷ trace) first told rest same = behind trace first told rest (cc
 -- Along a stretch.
 
 module _ (image : ImageParts) (inputs : List ℕ) (formed : IsWellFormed image) where
+  pub not_stopped : (events : ℕ) (trace : List Event) → is_ended trace ≡ false → length trace < events →
+      stopped events trace ≡ None
+  unfolding stopped
+  not_stopped events trace going below = rw (going, lt-leb events _ below) refl
+
   pub goes_adds : (state next : State) → step image inputs state ≡ Goes next → IsFront state.trace next.trace
   goes_adds state next goes =
       let more = step_to image inputs formed state next goes in (more.0, more.1)

@@ -48,7 +48,7 @@ to_stop image inputs events steps more told from last to stop formed tells early
     let going = subst (λ t. is_ended t ≡ false) (sym tells.trace)
     (still_open from.trace told (goes_on events _ early) tells.no_end) in
     along_told image inputs events steps _ told from last formed tells early below ∙
-    run_goes image inputs events more last to (not_stopped events _ going below) goes ∙
+    run_goes image inputs events more last to (not_stopped image inputs formed events _ going below) goes ∙
     run_stopped image inputs events more to stop stops
 
 pub telling_composes : TellingComposes
