@@ -205,9 +205,8 @@ module _ (title : Text) (form : Form) where
 
   -- what follows a word `--name` or `--name=value` where nothing waits, by the rule of its name
   abbrev GoesBy : Held → List Setting → Text → List Text → Option Rule → Option Text → Option (List Setting) → Type 0
-  GoesBy h before word words a v o =
-      Agrees (or_else (fault_by idle word a v h) (faults (walk_by h word a v) words)) (ends (walk_by h word a v) words)
-      (accepted before o)
+  GoesBy h before word words a v o = Agrees (or_else (fault_by idle word a v h) (faults (walk_by h word a v) words))
+      (ends (walk_by h word a v) words) (accepted before o)
 
   abbrev LongAgrees : Held → List Setting → Text → Text → Option Text → List Text → Option Rule → Type 0
   LongAgrees h before word name v words a =
