@@ -1,7 +1,7 @@
 -- The names that several proofs of this crate cite, passed on from one place. Declares nothing.
 pub use Rattle.std.proofs.Common.{Bool, IfSome, IsNone, List, None, Option, Some, [], ap, arith, cond, eqb-true, false}
 pub use Rattle.std.proofs.Common.{find, le-ltb, lit<, lt-ltb, nat_eq, negsuc, pos, refl, subst, suc, sym, true, ℕ, ℤ}
-pub use Rattle.std.proofs.Common.{⊎_elim, ◌%◌, ◌&&◌, ◌*◌, ◌+◌, ◌-◌, ◌/◌, ◌<◌, ◌^◌, ◌∙◌, ◌∷◌, ◌≡◌, ◌≤◌}
+pub use Rattle.std.proofs.Common.{⊎_elim, ◌%◌, ◌&&◌, ◌*◌, ◌+◌, ◌-◌, ◌/◌, ◌<◌, ◌^◌, ◌∙◌, ◌∷◌, ◌≡◌, ◌≤ℤ◌, ◌≤◌}
 pub use Rattle.std.proofs.lemmas.Bool.{and_parts, cases_lt}
 pub use Rattle.rv_code.specs.Prelude.{HasWord, IsBranchOffset, IsImmediate, IsInstr, IsJumpOffset, IsReg, IsUpper}
 pub use Rattle.rv_code.specs.Prelude.{b_imm_of, b_word, branch_funct3, branch_opcode, branch_ops, fence_funct3}
@@ -14,19 +14,12 @@ pub use Rattle.rv_code.specs.Prelude.{u_word, upper_opcode}
 unfoldable pub use Rattle.rv_code.specs.Prelude.{branch_in, branch_op_of, decoded, fence_in, jalr_in, load_in}
 unfoldable pub use Rattle.rv_code.specs.Prelude.{load_op_of, op_imm_in, op_imm_op_of, op_in, op_op_of, shift_in}
 unfoldable pub use Rattle.rv_code.specs.Prelude.{shift_op_of, store_in, store_op_of, system_in, word_of}
-pub use Rattle.rv_code.specs.declared.instr.BranchOp.{BranchOp}
 pub use Rattle.rv_code.specs.declared.instr.BranchOp.TheVariants.{Beq, Bge, Bgeu, Blt, Bltu, Bne}
-pub use Rattle.rv_code.specs.declared.instr.Instr.{Instr}
 pub use Rattle.rv_code.specs.declared.instr.Instr.TheVariants.{Branch, Ebreak, Ecall, Fence, Jal, Jalr, Load, Op, OpImm}
 pub use Rattle.rv_code.specs.declared.instr.Instr.TheVariants.{Shift, Store, Upper}
-pub use Rattle.rv_code.specs.declared.instr.LoadOp.{LoadOp}
 pub use Rattle.rv_code.specs.declared.instr.LoadOp.TheVariants.{Lb, Lbu, Lh, Lhu, Lw}
-pub use Rattle.rv_code.specs.declared.instr.OpImmOp.{OpImmOp}
-pub use Rattle.rv_code.specs.declared.instr.OpOp.{OpOp}
 pub use Rattle.rv_code.specs.declared.instr.OpOp.TheVariants.{Add, And, Div, Divu, Mul, Mulh, Mulhsu, Mulhu, Or, Rem}
 pub use Rattle.rv_code.specs.declared.instr.OpOp.TheVariants.{Remu, Sll, Slt, Sltu, Sra, Srl, Sub, Xor}
-pub use Rattle.rv_code.specs.declared.instr.ShiftOp.{ShiftOp}
 pub use Rattle.rv_code.specs.declared.instr.ShiftOp.TheVariants.{Slli, Srai, Srli}
-pub use Rattle.rv_code.specs.declared.instr.StoreOp.{StoreOp}
 pub use Rattle.rv_code.specs.declared.instr.StoreOp.TheVariants.{Sb, Sh, Sw}
 pub use Rattle.rv_code.specs.declared.instr.UpperOp.TheVariants.{Auipc, Lui}

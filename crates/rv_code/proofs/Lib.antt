@@ -3,6 +3,4 @@ mod Known
 pub mod Numbers
 pub mod Fields
 pub mod Ops
-pub mod Read
-pub mod Found
 pub mod OneEach

@@ -30,15 +30,13 @@ keeps_from keeps r (x ∷ xs) (suc n) k is h stays = ap (λ rest. (if keeps r th
 
 -- the next register, by whether it is kept
 pub next_cleared : (keeps : ℕ → Bool) (n : ℕ) (regs now : List ℕ) → n < length regs → keeps n ≡ false →
-    now ≡ cleared_first keeps n regs →
-    set now n 0 ≡ cleared_first keeps (n + 1) regs
+    now ≡ cleared_first keeps n regs → set now n 0 ≡ cleared_first keeps (n + 1) regs
 next_cleared keeps n regs now h out is =
     let more : n + 1 ≡ suc n = omega arith in
     rw (is, more) (sym (clears_from keeps 0 regs n n (omega arith) h out))
 
 pub next_kept : (keeps : ℕ → Bool) (n : ℕ) (regs now : List ℕ) → n < length regs → keeps n ≡ true →
-    now ≡ cleared_first keeps n regs →
-    now ≡ cleared_first keeps (n + 1) regs
+    now ≡ cleared_first keeps n regs → now ≡ cleared_first keeps (n + 1) regs
 next_kept keeps n regs now h stays is =
     let more : n + 1 ≡ suc n = omega arith in
     rw more (is ∙ sym (keeps_from keeps 0 regs n n (omega arith) h stays))

@@ -10,9 +10,8 @@ abbrev pub data_byte : ℕ → CompPart → Option ℕ
 data_byte offset comp = if nat_lt offset stack_size then Some 0 else slice_get comp.globals (offset - stack_size)
 
 abbrev pub byte_by_offset : ImageParts → Memory
-byte_by_offset image address =
-    if nat_lt address (data_start 0) then None
-    else option_and_then (data_byte ((address - data_start 0) % stretch)) (slice_get image.comps (comp_of_data address))
+byte_by_offset image address = if nat_lt address (data_start 0) then None else option_and_then
+    (data_byte ((address - data_start 0) % stretch)) (slice_get image.comps (comp_of_data address))
 
 empty : (k : ℕ) → slice_index [] k ≡ 0
 empty k = refl
@@ -45,17 +44,15 @@ module _ (c a : ℕ) (globals : List ℕ) where
 
 module _ (c a : ℕ) (comp : CompPart) (from : data_start c ≤ a) where
   in_stack_is : a < stack_top c → byte_at (data_with c comp.globals) a ≡ data_byte (a - data_start c) comp
-  in_stack_is high =
-      in_stack c a comp.globals from high ∙
-      sym (rw (lt-ltb (a - data_start c) stack_size (omega (arith, from, high))) refl)
+  in_stack_is high = in_stack c a comp.globals from high ∙ sym
+      (rw (lt-ltb (a - data_start c) stack_size (omega (arith, from, high))) refl)
 
   place : a - data_start c - stack_size ≡ a - stack_top c
   place = omega arith
 
   in_globals_is : stack_top c ≤ a → a < stack_top c + length comp.globals →
       byte_at (data_with c comp.globals) a ≡ data_byte (a - data_start c) comp
-  in_globals_is low high =
-      in_globals c a comp.globals low high ∙
+  in_globals_is low high = in_globals c a comp.globals low high ∙
       sym (rw (le-ltb (a - data_start c) stack_size (omega (arith, low)), place) refl)
 
   past_data_is : stack_top c + length comp.globals ≤ a →
@@ -65,8 +62,7 @@ module _ (c a : ℕ) (comp : CompPart) (from : data_start c ≤ a) where
       (slice_get_past comp.globals _ (omega (arith, low))))
 
   data_is : byte_at (data_with c comp.globals) a ≡ data_byte (a - data_start c) comp
-  data_is =
-      ⊎_elim in_stack_is
+  data_is = ⊎_elim in_stack_is
       (λ top. ⊎_elim (in_globals_is top) past_data_is (cases_lt a (stack_top c + length comp.globals)))
       (cases_lt a (stack_top c))
 
@@ -86,6 +82,5 @@ module _ (a : ℕ) where
 
   pub start_is : (image : ImageParts) → start_memory image a ≡ byte_by_offset image a
   unfolding start_memory
-  start_is image =
-      ⊎_elim (λ low. low_by _ _ low ∙ sym (rw (lt-ltb a _ low) refl)) (λ from. from_by _ _ refl from ∙
+  start_is image = ⊎_elim (λ low. low_by _ _ low ∙ sym (rw (lt-ltb a _ low) refl)) (λ from. from_by _ _ refl from ∙
       sym (rw (le-ltb a _ from) refl)) (cases_lt a _)

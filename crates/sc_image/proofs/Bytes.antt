@@ -1,6 +1,6 @@
 -- What a memory holds are bytes, at addresses of 32 bits: at the start, and after a store.
 use Rattle.sc_image.proofs.Common.{Bool, CompPart, HoldsBytes, ImageParts, IsByte, IsWellFormed, Memory, None, Option}
-use Rattle.sc_image.proofs.Common.{Some, are_data, arith, byte_of, comp_of_data, data_start, false}
+use Rattle.sc_image.proofs.Common.{Some, and_parts, are_data, arith, byte_of, comp_of_data, data_start, false}
 use Rattle.sc_image.proofs.Common.{get_or_from_slice_get, globals_of, if◌then◌else◌, leb-true, length, ltb-true}
 use Rattle.sc_image.proofs.Common.{most_globals, nat_le, nat_lt, option_and_then, refl, refused, slice_get}
 use Rattle.sc_image.proofs.Common.{slice_get_cases, slice_get_within, stack_size, start_memory, stored, stretch, subst}
@@ -17,11 +17,6 @@ few_globals image c formed =
 abbrev IsByteAt : ℕ → ℕ → Type 0
 IsByteAt address byte = (address < 2 ^ 32) × (byte < 256)
 
--- the test of an access
-both : (x y : Bool) → (x && y) ≡ true → (x ≡ true) × (y ≡ true)
-both true y h = (refl, h)
-both false y h = let never = h in cc never
-
 digit : (n : ℕ) → n % 256 < 256
 digit n = omega arith
 
@@ -36,15 +31,14 @@ module _ (image : ImageParts) (formed : IsWellFormed image) (c a size word : ℕ
       (if inside then Some (byte_of word (x - a)) else memory x) ≡ Some byte → IsByteAt x byte
   stored_by x byte true is at =
       let same : byte_of word (x - a) ≡ byte = cc at in
-      let tests = both (nat_le a x) _ is in (
+      let tests = and_parts (nat_le a x) _ is in (
         data_below x (leb-true a x tests.0) (ltb-true x _ tests.1),
         subst (λ b. b < 256) same (digit _),
       )
   stored_by x byte false is at = bytes x byte at
 
 pub stored_bytes : (image : ImageParts) → IsWellFormed image → (c a size word : ℕ) (memory : Memory) →
-    c < length image.comps → refused image c size a ≡ None →
-    HoldsBytes memory → HoldsBytes (stored memory a size word)
+    c < length image.comps → refused image c size a ≡ None → HoldsBytes memory → HoldsBytes (stored memory a size word)
 stored_bytes image formed c a size word memory active allowed bytes x byte at =
     stored_by image formed c a size word memory active (allowed_data image c size a allowed) bytes x byte _ refl at
 
@@ -70,9 +64,8 @@ module _ (image : ImageParts) (formed : IsWellFormed image) (a b : ℕ) where
         byte_by _ comp is _ _ at,
       )
 
-  below_by : (below : Bool) → (if below then None else
-      option_and_then (data_byte ((a - data_start 0) % stretch)) (slice_get image.comps (comp_of_data a))) ≡ Some b →
-      IsByteAt a b
+  below_by : (below : Bool) → (if below then None else option_and_then (data_byte ((a - data_start 0) % stretch))
+      (slice_get image.comps (comp_of_data a))) ≡ Some b → IsByteAt a b
   below_by true at = let never = at in cc never
   below_by false at = start_by _ refl at
 

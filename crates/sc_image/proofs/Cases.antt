@@ -2,17 +2,18 @@
 -- and events, and the same bytes at its addresses. A relation between the outcomes holds if it holds of each kind of
 -- outcome.
 use Rattle.sc_image.proofs.Common.{Auipc, BadCall, BadJump, Bool, Branch, Breakpoint, Crossing, Ebreak, Ecall, Event}
-use Rattle.sc_image.proofs.Common.{Fence, Goes, HasWord, HoldsBytes, Illegal, ImageParts, Instr, IsWellFormed, IsWord}
-use Rattle.sc_image.proofs.Common.{Jal, Jalr, List, Load, LoadOp, Lui, Memory, Misaligned, NoImport, None, Op, OpImm}
-use Rattle.sc_image.proofs.Common.{Option, Outcome, Owner, Shift, ShiftOp, Some, State, Store, StoreOp, TrapReason}
-use Rattle.sc_image.proofs.Common.{Traps, Upper, a7, add_word-lt, ap, are_data, arith, by_owner, called, calls}
-use Rattle.sc_image.proofs.Common.{compares, computed, decoded, execute, execute_by, export_at, export_called, extended}
-use Rattle.sc_image.proofs.Common.{false, gives, if_decoded, if_fetched, if◌then◌else◌, input, is_some, jalr_target}
-use Rattle.sc_image.proofs.Common.{jump, leaves, length, length-set, load_of-same, load_size, loaded, may_call}
-use Rattle.sc_image.proofs.Common.{may_input, may_output, nat_eq, next, not, on_registers, output, params_of, ra, refl}
-use Rattle.sc_image.proofs.Common.{refused, reg, returned, set, shift_on_registers, slice_index, sll_word-lt}
-use Rattle.sc_image.proofs.Common.{sra_word-lt, srl_word-lt, step, step_by, store_size, subst, true, unless, with_pc}
-use Rattle.sc_image.proofs.Common.{with_stored, word_at, word_of-lt, written, ℕ, ◌%◌, ◌+◌, ◌<◌, ◌==◌, ◌≡◌}
+use Rattle.sc_image.proofs.Common.{Export, Fence, Goes, HasWord, HoldsBytes, Illegal, ImageParts, Instr, IsWellFormed}
+use Rattle.sc_image.proofs.Common.{IsWord, Jal, Jalr, List, Load, LoadOp, Lui, Memory, Misaligned, NoImport, None, Op}
+use Rattle.sc_image.proofs.Common.{OpImm, Option, Outcome, Owner, Shift, ShiftOp, Some, State, Store, StoreOp}
+use Rattle.sc_image.proofs.Common.{TrapReason, Traps, Upper, a7, add_word-lt, ap, are_data, arith, by_owner, called}
+use Rattle.sc_image.proofs.Common.{calls, compares, computed, decoded, execute, execute_by, export_at, export_called}
+use Rattle.sc_image.proofs.Common.{extended, false, gives, if_decoded, if_fetched, if◌then◌else◌, input, is_some}
+use Rattle.sc_image.proofs.Common.{jalr_target, jump, leaves, length, length-set, load_of-same, load_size, loaded}
+use Rattle.sc_image.proofs.Common.{may_call, may_input, may_output, nat_eq, next, not, on_registers, output, params_of}
+use Rattle.sc_image.proofs.Common.{ra, refl, refused, reg, returned, saved_sp, set, shift_on_registers, slice_index}
+use Rattle.sc_image.proofs.Common.{sll_word-lt, sp, sra_word-lt, srl_word-lt, step, step_by, store_size, subst, true}
+use Rattle.sc_image.proofs.Common.{unless, with_pc, with_stored, word_at, word_of-lt, written, ℕ, ◌%◌, ◌+◌, ◌<◌, ◌==◌}
+use Rattle.sc_image.proofs.Common.{◌≡◌}
 use Rattle.sc_word.specs.Prelude.{add_word, word_of}
 use Rattle.rv_code.specs.declared.instr.ShiftOp.TheVariants.{Slli, Srli, Srai}
 use Rattle.rv_code.proofs.OneEach.{HasWord-decoded}
@@ -49,6 +50,22 @@ shifted_word : (op : ShiftOp) (a amount : ℕ) → IsWord a → IsWord (computed
 shifted_word Slli a amount h = sll_word-lt a amount
 shifted_word Srli a amount h = srl_word-lt a amount h
 shifted_word Srai a amount h = sra_word-lt a amount
+
+-- the crossing that a call opens
+abbrev pub crossing_to : State → (to index : ℕ) → Crossing
+crossing_to state to index = record {
+  caller = state.active;
+  pc = state.pc + 4;
+  sp = reg state sp;
+  callee = to;
+  entry = Export index;
+  saved = saved_sp state to;
+}
+
+-- a property of the state, if any, that a step leads to
+abbrev pub AtNext : (State → Type 0) → Outcome → Type 0
+AtNext P (Goes next) = P next
+AtNext P (Traps reason) = Unit {0}
 
 -- The two states.
 
@@ -136,8 +153,7 @@ module _ (image : ImageParts) (inputs : List ℕ) (formed : IsWellFormed image) 
 
     jump_both : (rd target : ℕ) (x x' : Outcome) → P x x' →
         P (jump image one rd target x) (jump image other rd target x')
-    jump_both rd target x x' elsewhere =
-        either (not (target % 4 == 0)) _ _ _ _ (h.traps Misaligned)
+    jump_both rd target x x' elsewhere = either (not (target % 4 == 0)) _ _ _ _ (h.traps Misaligned)
         (where_true (is_some (word_at image c target)) _ _ _ _ (λ some. h.quiet _ target
         (moves_with rd _ target (λ here w bytes. here) (λ here. code_address image formed c target some))) elsewhere)
 
@@ -159,70 +175,46 @@ module _ (image : ImageParts) (inputs : List ℕ) (formed : IsWellFormed image) 
     leaves_both rd target = either _ _ _ _ _ h.returns (calls_both rd target)
 
     loaded_same : (op : LoadOp) (a : ℕ) → refused image c (load_size op) a ≡ None → loaded one op a ≡ loaded other op a
-    loaded_same op a allowed =
-        ap (extended op) (load_of-same memory memory' a _ (λ k within. h.same _ (one_of image c a _ k
-        (allowed_data image c _ a allowed) within)))
+    loaded_same op a allowed = ap (extended op) (load_of-same memory memory' a _
+        (λ k within. h.same _ (one_of image c a _ k (allowed_data image c _ a allowed) within)))
 
     load_both : (op : LoadOp) (rd a : ℕ) (why : Option TrapReason) → refused image c (load_size op) a ≡ why →
         P (unless why (gives one rd (loaded one op a))) (unless why (gives other rd (loaded other op a)))
     load_both op rd a (Some reason) is = h.traps reason
-    load_both op rd a None is =
-        subst (λ word. P (gives one rd (loaded one op a)) (gives other rd word)) (loaded_same op a is)
-        (gives_both rd _ (λ here w bytes. loaded_word memory op a bytes))
+    load_both op rd a None is = subst (λ word. P (gives one rd (loaded one op a)) (gives other rd word))
+        (loaded_same op a is) (gives_both rd _ (λ here w bytes. loaded_word memory op a bytes))
 
     store_both : (op : StoreOp) (a word : ℕ) (why : Option TrapReason) → refused image c (store_size op) a ≡ why →
         P (unless why (next (with_stored one op a word))) (unless why (next (with_stored other op a word)))
     store_both op a word (Some reason) is = h.traps reason
     store_both op a word None is = h.stores op a word is
 
-    -- where an instruction holds a word of its own, it has 32 bits
-    abbrev Fits : Instr → Type 0
-    Fits (Upper op rd imm) = IsWord imm
-    Fits _ = Unit {0}
-
-    execute_both : (instr : Instr) → Fits instr → P (execute image inputs one instr) (execute image inputs other instr)
+    execute_both : (instr : Instr) (word : ℕ) → HasWord instr word →
+        P (execute image inputs one instr) (execute image inputs other instr)
     unfolding execute_by
-    execute_both (Upper Lui rd imm) fits = gives_both rd imm (λ here w bytes. fits)
-    execute_both (Upper Auipc rd imm) fits = gives_both rd (add_word pc imm) (λ here w bytes. add_word-lt pc imm)
-    execute_both (Jal rd imm) fits = jump_both rd _ _ _ (calls_both rd _)
-    execute_both (Jalr rd rs1 imm) fits = jump_both rd _ _ _ (leaves_both rd (jalr_target _ imm))
-    execute_both (Branch op rs1 rs2 imm) fits =
+    execute_both (Upper Lui rd imm) word has = gives_both rd imm (λ here w bytes. has.instr.1.word)
+    execute_both (Upper Auipc rd imm) word has = gives_both rd (add_word pc imm) (λ here w bytes. add_word-lt pc imm)
+    execute_both (Jal rd imm) word has = jump_both rd _ _ _ (calls_both rd _)
+    execute_both (Jalr rd rs1 imm) word has = jump_both rd _ _ _ (leaves_both rd (jalr_target _ imm))
+    execute_both (Branch op rs1 rs2 imm) word has =
         either (compares op _ _) _ _ _ _ (jump_both 0 _ _ _ (h.traps BadJump)) next_both
-    execute_both (Load op rd rs1 imm) fits = load_both op rd _ _ refl
-    execute_both (Store op rs1 rs2 imm) fits = store_both op _ _ _ refl
-    execute_both (OpImm op rd rs1 imm) fits =
-        gives_both rd (computed (on_registers op) (reg one rs1) (word_of imm))
+    execute_both (Load op rd rs1 imm) word has = load_both op rd _ _ refl
+    execute_both (Store op rs1 rs2 imm) word has = store_both op _ _ _ refl
+    execute_both (OpImm op rd rs1 imm) word has = gives_both rd (computed (on_registers op) (reg one rs1) (word_of imm))
         (λ here w bytes. computed_word (on_registers op) (reg one rs1) (word_of imm) (w rs1) (word_of-lt imm))
-    execute_both (Shift op rd rs1 amount) fits =
-        gives_both rd (computed (shift_on_registers op) (reg one rs1) amount)
-        (λ here w bytes. shifted_word op _ amount (w rs1))
-    execute_both (Op op rd rs1 rs2) fits = gives_both rd _ (λ here w bytes. computed_word op _ _ (w rs1) (w rs2))
-    execute_both (Fence imm rs1 rd) fits = next_both
-    execute_both Ecall fits =
-        either (nat_eq (reg one a7) 1) _ _ _ _ (where_true _ _ _ _ _ h.reads (h.traps NoImport))
-        (either (nat_eq _ 2) _ _ _ _ (where_true (may_output image c) _ _ _ _ h.outputs (h.traps NoImport))
-        (h.traps BadCall))
-    execute_both Ebreak fits = h.traps Breakpoint
-
-    fits_decoded : (instr : Instr) (word : ℕ) → HasWord instr word → Fits instr
-    fits_decoded (Upper op rd imm) word has = has.instr.1.word
-    fits_decoded (Jal rd imm) word has = tt
-    fits_decoded (Jalr rd rs1 imm) word has = tt
-    fits_decoded (Branch op rs1 rs2 imm) word has = tt
-    fits_decoded (Load op rd rs1 imm) word has = tt
-    fits_decoded (Store op rs1 rs2 imm) word has = tt
-    fits_decoded (OpImm op rd rs1 imm) word has = tt
-    fits_decoded (Shift op rd rs1 amount) word has = tt
-    fits_decoded (Op op rd rs1 rs2) word has = tt
-    fits_decoded (Fence imm rs1 rd) word has = tt
-    fits_decoded Ecall word has = tt
-    fits_decoded Ebreak word has = tt
+    execute_both (Shift op rd rs1 amount) word has = gives_both rd
+        (computed (shift_on_registers op) (reg one rs1) amount) (λ here w bytes. shifted_word op _ amount (w rs1))
+    execute_both (Op op rd rs1 rs2) word has = gives_both rd _ (λ here w bytes. computed_word op _ _ (w rs1) (w rs2))
+    execute_both (Fence imm rs1 rd) word has = next_both
+    execute_both Ecall word has = either (nat_eq (reg one a7) 1) _ _ _ _
+        (where_true _ _ _ _ _ h.reads (h.traps NoImport)) (either (nat_eq _ 2) _ _ _ _
+        (where_true (may_output image c) _ _ _ _ h.outputs (h.traps NoImport)) (h.traps BadCall))
+    execute_both Ebreak word has = h.traps Breakpoint
 
     decoded_both : (word : ℕ) (instr : Option Instr) → IsWord word → decoded word ≡ instr →
         P (if_decoded (by_owner image inputs) one instr) (if_decoded (by_owner image inputs) other instr)
     decoded_both word None bits is = h.traps Illegal
-    decoded_both word (Some instr) bits is = execute_both instr
-        (fits_decoded instr word (HasWord-decoded word instr bits is))
+    decoded_both word (Some instr) bits is = execute_both instr word (HasWord-decoded word instr bits is)
 
     fetched_both : (word : Option ℕ) → word_at image c pc ≡ word →
         P (if_fetched (by_owner image inputs) one word) (if_fetched (by_owner image inputs) other word)
@@ -238,8 +230,7 @@ module _ (image : ImageParts) (inputs : List ℕ) (formed : IsWellFormed image) 
 module _ (image : ImageParts) (inputs : List ℕ) (formed : IsWellFormed image) (state : State)
     (P : Outcome → Type 0) where
   abbrev pub OneCases : Type 0
-  OneCases =
-      Cases image inputs formed state.regs state.pc state.active state.input state.trace state.saved state.saved
+  OneCases = Cases image inputs formed state.regs state.pc state.active state.input state.trace state.saved state.saved
       state.memory state.memory state.cross state.cross (λ x y. P x)
 
   pub step_of : OneCases → P (step image inputs state)

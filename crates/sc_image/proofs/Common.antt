@@ -3,11 +3,11 @@ pub use Rattle.std.proofs.Common.{All, Bool, Err, IsSome, IsTrue, List, None, Ok
 pub use Rattle.std.proofs.Common.{append-nil, append_assoc, ap₂, arith, codes, cond, drop, drop_at, eq-eqb, eqb-true}
 pub use Rattle.std.proofs.Common.{false, flat_map, get_or, get_or-drop, get_or-set_other, get_or-set_same, get_or-take}
 pub use Rattle.std.proofs.Common.{if◌then◌else◌, inl, inr, is_some, le-leb, le-ltb, leb-true, length, length-append}
-pub use Rattle.std.proofs.Common.{length-drop, length-set, length-take, length-take-le, lit<, lit≤, lt-ltb, ltb}
-pub use Rattle.std.proofs.Common.{ltb-true, map, nat_eq, nat_le, nat_lt, ne_eqb, not, position, refl, replicate, set}
-pub use Rattle.std.proofs.Common.{slice_index, slice_set, subst, suc, suc-add, sym, take, take-append-drop, take_at}
-pub use Rattle.std.proofs.Common.{true, true≢false, unwrap_or, zero, zero-add, ℕ, ⊎_elim, ◌%◌, ◌&&◌, ◌*◌, ◌++◌, ◌+◌}
-pub use Rattle.std.proofs.Common.{◌-◌, ◌/◌, ◌<◌, ◌==◌, ◌^◌, ◌||◌, ◌↔◌, ◌∙◌, ◌∷◌, ◌≡◌, ◌≢◌, ◌≤◌, ◌⊎◌}
+pub use Rattle.std.proofs.Common.{length-drop, length-set, length-take, length-take-le, lit<, lit≤, lt-ltb, ltb-true}
+pub use Rattle.std.proofs.Common.{map, nat_eq, nat_le, nat_lt, ne_eqb, not, position, refl, replicate, set, slice_index}
+pub use Rattle.std.proofs.Common.{slice_set, subst, suc, suc-add, sym, take, take-append-drop, take_at, true}
+pub use Rattle.std.proofs.Common.{true≢false, unwrap_or, zero, zero-add, ℕ, ⊎_elim, ◌%◌, ◌&&◌, ◌*◌, ◌++◌, ◌+◌, ◌-◌, ◌/◌}
+pub use Rattle.std.proofs.Common.{◌<◌, ◌==◌, ◌^◌, ◌||◌, ◌↔◌, ◌∙◌, ◌∷◌, ◌≡◌, ◌≢◌, ◌≤◌, ◌⊎◌}
 pub use Rattle.std.proofs.Math.Seq.{drop-append_seam, drop-length}
 pub use Rattle.std.proofs.lemmas.Bool.{and_from, and_parts, cases_lt, eqb-false, false_from_ne_true, lt-leb, not-true}
 pub use Rattle.std.proofs.lemmas.Bool.{not_from_false, or_from, or_left, or_parts, or_right}
@@ -17,6 +17,7 @@ pub use Rattle.std.proofs.lemmas.List.{drop_more, get_or-append_right, get_or_ap
 pub use Rattle.std.proofs.lemmas.List.{length-map, length-replicate, nil_from_length, take-replicate}
 pub use Rattle.std.proofs.lemmas.List.Elements.{All-cons, All-from_recursion, All-head, All-nil, All-tail}
 pub use Rattle.std.proofs.lemmas.List.Elements.{recursion_from_All}
+pub use Rattle.std.proofs.lemmas.List.Folds.{list_any-append}
 pub use Rattle.std.proofs.lemmas.List.Quantifiers.{position-Some}
 pub use Rattle.std.proofs.lemmas.Map.Made.{AllPairs-from_IsDistinct, IsDistinct-from_AllPairs, IsDistinct-from_count}
 pub use Rattle.std.proofs.lemmas.Map.Made.{distinct_count-from_IsDistinct, hash_set_len-from_list}
@@ -27,7 +28,7 @@ pub use Rattle.std.proofs.lemmas.Result.{err_from_is_err_and}
 pub use Rattle.std.specs.Bool.{Decides}
 pub use Rattle.std.specs.Cmp.{IsEquivalence, unsigned_Decides}
 pub use Rattle.std.specs.Cmp.Lexicographic.{bytes_decides, same_text}
-pub use Rattle.std.specs.List.{AllByRecursion, list_all, list_any, position_or_len, range_with_len, slice_get}
+pub use Rattle.std.specs.List.{AllByRecursion, list_all, list_any, range_with_len, slice_get}
 pub use Rattle.std.specs.Option.{IsSomeAnd, option_and_then, option_map, option_map_or}
 pub use Rattle.sc_base.proofs.Lists.{all_by, is_there}
 pub use Rattle.sc_base.specs.Prelude.{is_between, is_name_byte, is_nondigit}

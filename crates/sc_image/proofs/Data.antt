@@ -12,19 +12,16 @@ first_is : (low high a : ℕ) → (nat_le low (a + 0) && nat_le (a + 0 + 1) high
 first_is low high a = grind (arith, nat_tests)
 
 next_is : (low high a k : ℕ) → ((nat_le low a && nat_le (a + suc k) high) &&
-    (nat_le low (a + suc k) && nat_le (a + suc k + 1) high)) ≡
-    (nat_le low a && nat_le (a + suc (suc k)) high)
+    (nat_le low (a + suc k) && nat_le (a + suc k + 1) high)) ≡ (nat_le low a && nat_le (a + suc (suc k)) high)
 next_is low high a k = grind (arith, nat_tests)
 
 -- so the first and the last of some bytes tell of all
-pub data_range : (image : ImageParts) (c a k : ℕ) →
-    are_data image c a (suc k) ≡ (nat_le (data_start c) a &&
-    nat_le (a + suc k) (stack_top c + length (globals_of image c)))
+pub data_range : (image : ImageParts) (c a k : ℕ) → are_data image c a
+    (suc k) ≡ (nat_le (data_start c) a && nat_le (a + suc k) (stack_top c + length (globals_of image c)))
 unfolding are_data
 data_range image c a zero = byte_is _ _ _ (a + 0) ∙ first_is _ _ a
-data_range image c a (suc k) =
-    ap₂ (λ (x y : Bool). x && y) (data_range image c a k) (byte_is _ stack_size (length _) (a + suc k)) ∙
-    next_is _ _ a k
+data_range image c a (suc k) = ap₂ (λ (x y : Bool). x && y) (data_range image c a k)
+    (byte_is _ stack_size (length _) (a + suc k)) ∙ next_is _ _ a k
 
 pub range_of : (image : ImageParts) (c a size : ℕ) → 0 < size →
     are_data image c a size ≡ (nat_le (data_start c) a && nat_le (a + size) (stack_top c + length (globals_of image c)))
@@ -42,6 +39,5 @@ pub data_bounds : (image : ImageParts) (c a size : ℕ) → 0 < size → are_dat
 data_bounds image c a size some all = facts _ a _ _ (sym (range_of image c a size some) ∙ all)
 
 pub within_data : (image : ImageParts) (c a size : ℕ) → 0 < size → data_start c ≤ a →
-    a + size ≤ stack_top c + length (globals_of image c) →
-    are_data image c a size ≡ true
+    a + size ≤ stack_top c + length (globals_of image c) → are_data image c a size ≡ true
 within_data image c a size some low high = range_of image c a size some ∙ holds _ a _ _ low high

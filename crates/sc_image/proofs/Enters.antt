@@ -1,10 +1,10 @@
 -- What belongs to a compartment that a call or a return makes active.
-use Rattle.sc_image.proofs.Common.{Adds, Bool, Call, CompPart, Crossing, Entered, EntersByEvent, Event, Export}
-use Rattle.sc_image.proofs.Common.{ExportPart, Goes, ImageParts, In, IsChain, IsExport, IsSteady, IsWellFormed, Kept}
-use Rattle.sc_image.proofs.Common.{List, None, Option, Out, Outcome, Own, Ret, Some, State, Waits, [], a0, activates}
-use Rattle.sc_image.proofs.Common.{after_outcome, ap, arguments, arith, called, data_of, drop, drop-append_seam}
-use Rattle.sc_image.proofs.Common.{drop-length, eq-eqb, eqb-true, export_at, exports_of, false, flat_map, gate, get_or}
-use Rattle.sc_image.proofs.Common.{get_or-append_right, get_or-drop, get_or-set_other, get_or-take, get_or_append_left}
+use Rattle.sc_image.proofs.Common.{Adds, Bool, Call, Crossing, Entered, EntersByEvent, Event, ExportPart, Goes}
+use Rattle.sc_image.proofs.Common.{ImageParts, In, IsChain, IsSteady, IsWellFormed, Kept, List, None, Option, Out}
+use Rattle.sc_image.proofs.Common.{Outcome, Own, Ret, Some, State, Waits, [], a0, activates, after_outcome, ap}
+use Rattle.sc_image.proofs.Common.{arguments, arith, called, data_of, drop, drop-append_seam, drop-length, eq-eqb}
+use Rattle.sc_image.proofs.Common.{eqb-true, export_at, exports_of, false, flat_map, gate, get_or, get_or-append_right}
+use Rattle.sc_image.proofs.Common.{get_or-drop, get_or-set_other, get_or-take, get_or_append_left}
 use Rattle.sc_image.proofs.Common.{get_or_from_slice_get, given_back, has_result, if◌then◌else◌, input_at, is_argument}
 use Rattle.sc_image.proofs.Common.{is_result, is_some, kept, kept_by, kept_from, length, length-append, length-drop}
 use Rattle.sc_image.proofs.Common.{length-take-le, nat_eq, nat_le, nat_lt, nat_tests, ne_eqb, observation_of}
@@ -12,7 +12,8 @@ use Rattle.sc_image.proofs.Common.{option_map_or, own, params_of, position-Some,
 use Rattle.sc_image.proofs.Common.{returned_to, saved_sp, slice_get, slice_get-get_or, slice_get_within, sp, step}
 use Rattle.sc_image.proofs.Common.{subst, suc, sym, true, unwrap_or, written, zero, ℕ, ◌&&◌, ◌++◌, ◌+◌, ◌-◌, ◌<◌, ◌==◌}
 use Rattle.sc_image.proofs.Common.{◌∙◌, ◌∷◌, ◌≡◌, ◌≢◌, ◌≤◌}
-use Rattle.sc_image.proofs.Cases.{step_of}
+use Rattle.sc_image.proofs.Cases.{crossing_to, step_of}
+use Rattle.sc_image.proofs.Words.{comp_found, no_export}
 
 -- Registers that hold these words from a0 on, of which so many count.
 abbrev from_a0 : (count : ℕ) → List ℕ → List ℕ
@@ -24,15 +25,13 @@ if_same false x y h = refl
 
 -- only the registers that are kept matter
 kept_same : (keeps : ℕ → Bool) (r : ℕ) (xs ys : List ℕ) → length xs ≡ length ys →
-    ((i : ℕ) → keeps (r + i) ≡ true → get_or xs i 0 ≡ get_or ys i 0) →
-    kept_from keeps r xs ≡ kept_from keeps r ys
+    ((i : ℕ) → keeps (r + i) ≡ true → get_or xs i 0 ≡ get_or ys i 0) → kept_from keeps r xs ≡ kept_from keeps r ys
 kept_same keeps r [] [] same h = refl
 kept_same keeps r [] (y ∷ ys) same h = absurd (omega arith)
 kept_same keeps r (x ∷ xs) [] same h = absurd (omega arith)
 kept_same keeps r (x ∷ xs) (y ∷ ys) same h =
     let here : r + 0 ≡ r = omega arith in
-    let first =
-    if_same _ x y (λ e. h 0 (ap keeps here ∙ e)) in
+    let first = if_same _ x y (λ e. h 0 (ap keeps here ∙ e)) in
     let later = kept_same keeps (suc r) xs ys (omega arith)
     (λ i e. h (suc i) (let next : r + suc i ≡ suc r + i = omega arith in ap keeps next ∙ e)) in
     λ i. first i ∷ later i
@@ -60,7 +59,7 @@ both_facts x y z w h = (grind (arith, nat_tests), grind (arith, nat_tests))
 
 -- The registers in a function that was called.
 
-length-arguments : (params : ℕ) (regs : List ℕ) → params ≤ 8 → length regs ≡ 32 →
+pub length-arguments : (params : ℕ) (regs : List ℕ) → params ≤ 8 → length regs ≡ 32 →
     length (arguments params regs) ≡ params
 length-arguments params regs few same = length-take-le params _ (omega (arith, length-drop 10 regs))
 
@@ -70,13 +69,11 @@ argument_same params i regs few same is =
     let place = both_facts 10 i i _ is in
     let at : 10 + (i - 10) ≡ i = omega (arith, place.0) in
     sym (get-from_a0 params i _ (length-arguments params regs few same) place.0 place.1 ∙
-    get_or-take params _ _ 0 (omega (arith, place.0, place.1)) ∙ get_or-drop 10 regs _ 0 ∙
-    ap (λ k. get_or regs k 0) at)
+    get_or-take params _ _ 0 (omega (arith, place.0, place.1)) ∙ get_or-drop 10 regs _ 0 ∙ ap (λ k. get_or regs k 0) at)
 
 arguments_same : (params : ℕ) (regs : List ℕ) → params ≤ 8 → length regs ≡ 32 →
     kept (is_argument params) regs ≡ kept (is_argument params) (from_a0 params (arguments params regs))
-arguments_same params regs few same =
-    kept_same _ 0 regs (from_a0 params _)
+arguments_same params regs few same = kept_same _ 0 regs (from_a0 params _)
     (same ∙ sym (length-from_a0 params _ few (length-arguments params regs few same)))
     (λ i e. argument_same params i regs few same (let here : 0 + i ≡ i = omega arith in
     sym (ap (is_argument params) here) ∙ e))
@@ -99,29 +96,21 @@ result_same false regs same = kept_same (is_result false) 0 regs (from_a0 1 (0 �
 
 -- The exports of a compartment.
 
-some_or_none : {A : Type 0} (P : A → Type 0) (f : A → ℕ) (x : Option A) → ((a : A) → x ≡ Some a → f a ≤ 8) →
-    option_map_or f x 0 ≤ 8
-some_or_none P f None h = omega arith
-some_or_none P f (Some a) h = h a refl
+few_by : (image : ImageParts) (d index : ℕ) → IsWellFormed image → (found : Option ExportPart) →
+    slice_get (exports_of image d) index ≡ found → option_map_or (λ export. export.params) found 0 ≤ 8
+few_by image d index formed None at = omega arith
+few_by image d index formed (Some export) at =
+    let found = comp_found (λ comp. comp.exports) [] (λ exports. slice_get exports index ≡ Some export)
+    (λ none. cc none) _ at in
+    let within = slice_get_within _ index export found.2 in
+    subst (λ e. e.params ≤ 8) (get_or_from_slice_get _ index export export found.2)
+    ((formed.comps d found.0 found.1).exports index export within).params
 
-few_of : (image : ImageParts) (d index : ℕ) → IsWellFormed image → (comp : Option CompPart) →
-    slice_get image.comps d ≡ comp →
-    option_map_or (λ export. export.params) (slice_get (option_map_or (λ comp. comp.exports) comp []) index) 0 ≤ 8
-few_of image d index formed None is = omega arith
-few_of image d index formed (Some comp) is =
-    some_or_none (λ e. Unit {0}) (λ export. _) (slice_get _ index) (λ export found.
-    let all = (formed.comps d comp is).exports in
-    (subst (IsExport image d) (get_or_from_slice_get _ index export export found)
-    (all index export (slice_get_within _ index export found))).params)
-
-few_params : (image : ImageParts) (d index : ℕ) → IsWellFormed image → params_of image d index ≤ 8
-few_params image d index formed = few_of image d index formed _ refl
+pub few_params : (image : ImageParts) (d index : ℕ) → IsWellFormed image → params_of image d index ≤ 8
+few_params image d index formed = few_by image d index formed _ refl
 
 abbrev entry_of : ImageParts → (c index : ℕ) → ℕ
 entry_of image c index = option_map_or (λ export. export.entry) (slice_get (exports_of image c) index) 0
-
-abbrev no_export : ExportPart
-no_export = record { name = []; params = 0; result = false; entry = 0 }
 
 entry_is : (image : ImageParts) (c target index : ℕ) → export_at image c target ≡ Some index →
     entry_of image c index ≡ target
@@ -158,15 +147,14 @@ entered image d before _ = before
 
 -- the last event
 last_same : (trace : List Event) (one other : Event) → trace ++ one ∷ [] ≡ trace ++ other ∷ [] → one ≡ other
-last_same [] one other h = cc h
-last_same (event ∷ trace) one other h = let rest : trace ++ one ∷ [] ≡ trace ++ other ∷ [] = cc h in
-    last_same trace one other rest
+last_same trace one other h =
+    let same = sym (drop-append_seam trace _) ∙ ap (drop (length trace)) h ∙ drop-append_seam trace _ in
+    cc same
 
 module _ (image : ImageParts) (inputs : List ℕ) (state : State) (d : ℕ) (formed : IsWellFormed image)
     (h : IsSteady image state) (differ : state.active ≢ d) where
   abbrev Enters : Outcome → Type 0
-  Enters outcome =
-      (after_outcome state outcome).active ≡ d → (event : Event) →
+  Enters outcome = (after_outcome state outcome).active ≡ d → (event : Event) →
       (after_outcome state outcome).trace ≡ state.trace ++ event ∷ [] →
       own image (after_outcome state outcome) d ≡ entered image d (own image state d) event
 
@@ -177,23 +165,12 @@ module _ (image : ImageParts) (inputs : List ℕ) (state : State) (d : ℕ) (for
   enters_call index target at =
       let params = params_of image d index in
       let after = called state d index params target in
-      let crossing : Crossing = record {
-        caller = state.active;
-        pc = state.pc + 4;
-        sp = reg state sp;
-        callee = d;
-        entry = Export index;
-        saved = saved_sp state d;
-      } in
-      let kept_is : kept_by d crossing ≡ Entered (saved_sp state d) ∷ [] =
+      let kept_is : kept_by d (crossing_to state d index) ≡ Entered (saved_sp state d) ∷ [] =
       rw (ne_eqb state.active d differ, eq-eqb d d refl) refl in
-      let calls =
-      ap (λ k. k ++ flat_map (kept_by d) state.cross) kept_is in
-      let saved =
-      get_or-set_other _ _ d _ 0 (λ same. differ (sym same)) in
+      let calls = ap (λ k. k ++ flat_map (kept_by d) state.cross) kept_is in
+      let saved = get_or-set_other _ _ d _ 0 (λ same. differ (sym same)) in
       let regs = arguments_same params _ (few_params image d index formed) h.regs in
-      let runs : (if nat_eq d d then Some _ else None) ≡
-      Some _ =
+      let runs : (if nat_eq d d then Some _ else None) ≡ Some _ =
       rw (eq-eqb d d refl) (λ i. Some (record {
         regs = written (written (regs i) ra gate) sp (saved_sp state d);
         pc = sym (entry_is image d target index at) i;
@@ -204,26 +181,20 @@ module _ (image : ImageParts) (inputs : List ℕ) (state : State) (d : ℕ) (for
   enters_return : (cross : List Crossing) → state.cross ≡ cross → Enters (Goes (returned image state cross))
   enters_return [] is = λ active event same. absurd (differ active)
   enters_return (x ∷ xs) is = λ active event same.
-      let chain : IsChain (length _) _ (x ∷ xs) =
-      subst (IsChain _ state.active) is h.chain in
+      let chain : IsChain (length _) _ (x ∷ xs) = subst (IsChain _ state.active) is h.chain in
       let callee : x.callee ≢ d = λ e. differ (sym chain.0 ∙ e) in
       let result = has_result image x.callee x.entry in
       let after = returned_to result state x xs in
       let kept_is : kept_by d x ≡ Waits x.pc x.sp ∷ [] = rw (eq-eqb x.caller d active, ne_eqb x.callee d callee) refl in
-      let calls =
-      ap (flat_map (kept_by d)) is ∙ ap (λ k. k ++ flat_map (kept_by d) xs) kept_is in
-      let saved =
-      get_or-set_other state.saved state.active d x.saved 0 (λ e. differ (sym e)) in
-      let regs : kept _ _ ≡ result_of _ =
-      result_same result _ h.regs in
+      let calls = ap (flat_map (kept_by d)) is ∙ ap (λ k. k ++ flat_map (kept_by d) xs) kept_is in
+      let saved = get_or-set_other state.saved state.active d x.saved 0 (λ e. differ (sym e)) in
+      let regs : kept _ _ ≡ result_of _ = result_same result _ h.regs in
       let runs : (if nat_eq x.caller d then Some _ else None) ≡
       Some (record { regs = written (result_of (given_back result state)) sp x.sp; pc = x.pc }) =
       rw (eq-eqb x.caller d active) (λ i. Some (record { regs = written (regs i) sp x.sp; pc = x.pc })) in
       let is_event = last_same state.trace _ event same in
-      let before =
-      ap (by_return (own image state d) _) (sym calls) in
-      let first : own image after d ≡ by_return (own image state d) _
-      (Waits x.pc x.sp ∷ flat_map _ xs) =
+      let before = ap (by_return (own image state d) _) (sym calls) in
+      let first : own image after d ≡ by_return (own image state d) _ (Waits x.pc x.sp ∷ flat_map _ xs) =
       λ i. record {
         bytes = data_of image d state.memory;
         saved = saved i;
@@ -238,13 +209,11 @@ module _ (image : ImageParts) (inputs : List ℕ) (state : State) (d : ℕ) (for
     traps = λ reason active event same. absurd (differ active);
     quiet = λ regs pc len active event same. absurd (differ active);
     stores = λ op a word allowed active event same. absurd (differ active);
-    calls = λ to index target at may active event same.
-        subst (λ k. export_at image k target ≡ Some index →
+    calls = λ to index target at may active event same. subst (λ k. export_at image k target ≡ Some index →
         state.trace ++ Call state.active k index (arguments (params_of image k index) state.regs) ∷ [] ≡ state.trace ++
         event ∷ [] →
         own image (called state k index (params_of image k index) target) d ≡ entered image d (own image state d) event)
-        (sym active)
-        (λ at same. subst (λ e. own image (called state d index (params_of image d index) target) d ≡
+        (sym active) (λ at same. subst (λ e. own image (called state d index (params_of image d index) target) d ≡
         entered image d (own image state d) e)
         (last_same state.trace (Call state.active d index (arguments (params_of image d index) state.regs)) event same)
         (enters_call index target at)) at same;

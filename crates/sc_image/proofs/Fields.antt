@@ -107,11 +107,9 @@ tested {A} {f} {t} {F} h cause passes = record {
 
 -- a field and then another, whose value holds that of the first
 pub followed : {A B : Type 0} {f : List ℕ → Read A} {t : A → List ℕ} {F : A → Type 0} {g : A → List ℕ → Read B} {u : A →
-    B → List ℕ} {G : A → B → Type 0} →
-    IsField f t F → (first : B → A) → ((a : A) → F a → IsField (g a) (u a) (G a)) →
-    ((a : A) (y : B) → F a → G a y → first y ≡ a) →
-    IsField (λ bytes. f bytes >>= (λ x. g x.0 x.1)) (λ y. t (first y) ++ u (first y) y)
-    (λ y. F (first y) × G (first y) y)
+    B → List ℕ} {G : A → B → Type 0} → IsField f t F → (first : B → A) → ((a : A) → F a → IsField (g a) (u a) (G a)) →
+    ((a : A) (y : B) → F a → G a y → first y ≡ a) → IsField (λ bytes. f bytes >>= (λ x. g x.0 x.1))
+    (λ y. t (first y) ++ u (first y) y) (λ y. F (first y) × G (first y) y)
 followed {A} {B} {f} {t} {F} {g} {u} {G} h first k keeps = record {
   takes = λ bytes y rest fits e.
       let a = bind_ok _ _ _ e in
@@ -122,8 +120,7 @@ followed {A} {B} {f} {t} {F} {g} {u} {G} h first k keeps = record {
   again = λ y rest fits.
       let b = first y in
       let regrouped = append_assoc (t b) (u b y) rest in
-      let one =
-      ap f regrouped ∙ h.again b _ fits.0 in
+      let one = ap f regrouped ∙ h.again b _ fits.0 in
       ap (λ r. r >>= (λ x. g x.0 x.1)) one ∙ (k b fits.0).again y rest fits.1;
 }
 
@@ -132,9 +129,9 @@ pub bytes_field : (cause : BadImage) (size : ℕ) → IsField (bytes_at cause si
     (λ x. (length x ≡ size) × IsBytes x)
 bytes_field cause size = record {
   takes = λ bytes x rest fits e.
-      let g = good_ok cause (nat_le size (length bytes)) (take size bytes, drop size bytes) (x, rest) e in
-      let long : size ≤ length bytes = leb-true _ _ g.0 in
-      let parts : Takes bytes (take size bytes) (drop size bytes) =
+      let g = good_ok cause (nat_le size _) _ _ e in
+      let long = leb-true _ _ g.0 in
+      let parts : Takes bytes (take size bytes) _ =
       record { parts = sym (take-append-drop size bytes); rest_fits = IsBytes-drop size bytes fits } in
       let len : length (take size bytes) ≡ size = omega (arith, length-take size bytes) in
       subst (λ p. Takes bytes p.0 p.1 × ((length p.0 ≡ size) × IsBytes p.0)) g.1
@@ -161,16 +158,14 @@ pub number_field : (cause : BadImage) (size : ℕ) → IsWide size →
     IsField (number_at cause size) (little_bytes size) (λ n. n < 256 ^ size)
 number_field cause size wide = record {
   takes = λ bytes n rest fits e.
-      let g = good_ok cause (nat_le size (length bytes)) (little_number size bytes, drop size bytes) (n, rest) e in
-      let long : size ≤ length bytes = leb-true _ _ g.0 in
+      let g = good_ok cause (nat_le size (length bytes)) _ _ e in
+      let long = leb-true _ _ g.0 in
       let len : length (take size bytes) ≡ size = omega (arith, length-take size bytes) in
-      let same : little_number size (take size bytes) ≡ little_number size bytes =
-      little_from-take 0 size size bytes (omega arith) in
-      let front : little_bytes size (little_number size bytes) ≡ take size bytes =
-      ap (little_bytes size) (sym same) ∙ wide.back (take size bytes) len (IsBytes-take size bytes fits) in
-      let parts : Takes bytes (little_bytes size (little_number size bytes)) (drop size bytes) =
+      let same = little_from-take 0 size size bytes (omega arith) in
+      let front = ap (little_bytes size) (sym same) ∙ wide.back _ len (IsBytes-take size bytes fits) in
+      let parts : Takes bytes (little_bytes size _) _ =
       record {
-        parts = sym (take-append-drop size bytes) ∙ ap (λ (t : List ℕ). t ++ drop size bytes) (sym front);
+        parts = sym (take-append-drop size bytes) ∙ ap (λ t. t ++ drop size bytes) (sym front);
         rest_fits = IsBytes-drop size bytes fits;
       } in
       subst (λ p. Takes bytes (little_bytes size p.0) p.1 × (p.0 < 256 ^ size)) g.1
@@ -179,7 +174,7 @@ number_field cause size wide = record {
       let len = length-bytes_low_first 0 size n in
       let long : nat_le size (length (little_bytes size n ++ rest)) ≡ true =
       le-leb _ _ (omega (arith, length-append (little_bytes size n) rest, len)) in
-      rw (long, little_number-reads_back size n rest lt, drop_at (little_bytes size n) rest size len) refl;
+      rw (long, little_number-reads_back size n rest lt, drop_at _ rest size len) refl;
 }
 
 -- one byte
@@ -221,10 +216,8 @@ module _ {A : Type 0} (f : List ℕ → Read A) (t : A → List ℕ) (F : A → 
       let one = h.takes bytes a.0.0 a.0.1 fits a.1 in
       let two = many_takes count a.0.1 b.0.0 b.0.1 one.0.rest_fits b.1 in
       let both = Takes-then bytes _ a.0.1 _ b.0.1 one.0 two.0 in
-      let p =
-      ok_is _ _ b.2 in
-      let whole =
-      subst (λ text. Takes bytes text b.0.1) (sym (flat_map-cons t a.0.0 b.0.0)) both in
+      let p = ok_is _ _ b.2 in
+      let whole = subst (λ text. Takes bytes text b.0.1) (sym (flat_map-cons t a.0.0 b.0.0)) both in
       subst (λ q. Takes bytes (flat_map t q.0) q.1 ×
       ((length q.0 ≡ suc count) × AllByRecursion F q.0)) p (whole, (ap suc two.1.0, (one.1, two.1.1)))
 
@@ -233,10 +226,8 @@ module _ {A : Type 0} (f : List ℕ → Read A) (t : A → List ℕ) (F : A → 
   unfolding fields_at
   many_again [] rest all = refl
   many_again (x ∷ xs) rest all =
-      let regrouped =
-      ap (λ text. text ++ rest) (flat_map-cons t x xs) ∙ append_assoc (t x) (flat_map t xs) rest in
-      let one =
-      ap f regrouped ∙ h.again x _ all.0 in
+      let regrouped = ap (λ text. text ++ rest) (flat_map-cons t x xs) ∙ append_assoc (t x) (flat_map t xs) rest in
+      let one = ap f regrouped ∙ h.again x _ all.0 in
       ap (λ r. r >>= (λ y. fields_at f (length xs) y.1 >>= (λ others. Ok (y.0 ∷ others.0, others.1)))) one ∙
       ap (λ r. r >>= (λ others. Ok (x ∷ others.0, others.1))) (many_again xs rest all.1)
 

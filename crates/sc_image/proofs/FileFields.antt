@@ -8,8 +8,8 @@ use Rattle.sc_image.proofs.Common.{import_at, import_bytes, imports_at, imports_
 use Rattle.sc_image.proofs.Common.{is_name_byte, is_nondigit, is_same_name, le-leb, leb-true, length, list_all}
 use Rattle.sc_image.proofs.Common.{little_bytes, lt-ltb, ltb-true, most_globals, name_at, name_bytes, nat_le, nat_lt}
 use Rattle.sc_image.proofs.Common.{nat_tests, not-true, not_from_false, number_at, parts_in_version, refl, same_text}
-use Rattle.sc_image.proofs.Common.{stretch, suc, sym, true, zero, ℕ, ◌%◌, ◌&&◌, ◌*◌, ◌++◌, ◌+◌, ◌/◌, ◌<◌, ◌==◌, ◌^◌}
-use Rattle.sc_image.proofs.Common.{◌∙◌, ◌∷◌, ◌≡◌, ◌≤◌}
+use Rattle.sc_image.proofs.Common.{stretch, suc, sym, takes, true, zero, ℕ, ◌%◌, ◌&&◌, ◌*◌, ◌++◌, ◌+◌, ◌/◌, ◌<◌, ◌==◌}
+use Rattle.sc_image.proofs.Common.{◌^◌, ◌∙◌, ◌∷◌, ◌≡◌, ◌≤◌}
 use Rattle.sc_image.specs.Reading.{export_at}
 use Rattle.sc_image.proofs.Fits.{short_name}
 use Rattle.sc_image.proofs.Fields.{IsBytes, IsField, restated, made, tested, followed, bytes_field, number_field}
@@ -34,7 +34,7 @@ name_is_bytes [] named = absurd cc
 name_is_bytes (first ∷ rest) named = by_place
   where
     tests : (is_nondigit first ≡ true) × ((list_all is_name_byte rest && nat_lt (length rest) 63) ≡ true)
-    tests = and_parts (is_nondigit first) _ named
+    tests = and_parts _ _ named
 
     by_place : (i : ℕ) → get_or (first ∷ rest) i 0 < 256
     by_place zero = nondigit_is_small first tests.0
@@ -42,16 +42,14 @@ name_is_bytes (first ∷ rest) named = by_place
 
 name_field : (cause : BadImage) → IsField (name_at cause) name_bytes (λ name. is_name name ≡ true)
 unfolding name_at
-name_field cause =
-    restated (followed (byte_field cause) _
-    (λ size ok. tested (bytes_field cause size) cause is_name) (λ size name a b. b.0.0))
-    (λ name h. refl) (λ name h. h.1.1) (λ name h. (omega (arith, short_name name h), ((refl, name_is_bytes name h), h)))
+name_field cause = restated (followed (byte_field cause) _ (λ size ok. tested (bytes_field cause size) cause is_name)
+    (λ size name a b. b.0.0)) (λ name h. refl) (λ name h. h.1.1)
+    (λ name h. (omega (arith, short_name name h), ((refl, name_is_bytes name h), h)))
 
 comp_name_field : IsField comp_name_at name_bytes (λ name. (is_name name ≡ true) ×
     (is_same_name name (codes "Env") ≡ false))
 unfolding comp_name_at
-comp_name_field =
-    restated (tested (name_field Compartment) Compartment _) (λ name h. refl)
+comp_name_field = restated (tested (name_field Compartment) Compartment _) (λ name h. refl)
     (λ name h. (h.0, not-true _ h.1)) (λ name h. (h.0, not_from_false _ h.1))
 
 -- exports
@@ -78,17 +76,11 @@ abbrev export_with : (name : List ℕ) (params result entry : ℕ) → ExportPar
 export_with name params result entry = record { name = name; params = params; result = result == 1; entry = entry }
 
 export_again : (export : ExportPart) → export ≡ export_with export.name export.params (bit export.result) export.entry
-export_again export = ap (λ (b : Bool). record {
-  name = export.name;
-  params = export.params;
-  result = b;
-  entry = export.entry;
-}) (sym (bit_again export.result))
+export_again export = ap (λ (b : Bool). record export { result = b }) (sym (bit_again _))
 
 pub export_field : IsField export_at export_bytes FitsExport
 unfolding export_at
-export_field =
-    restated (followed (name_field Exports) (λ (export : ExportPart). export.name) (λ name ok.
+export_field = restated (followed (name_field Exports) (λ (export : ExportPart). export.name) (λ name ok.
     followed (tested (byte_field Exports) Exports (λ n. nat_le n 8)) (λ (export : ExportPart). export.params)
     (λ params ok.
     followed (tested (byte_field Exports) Exports (λ n. nat_le n 1)) (λ (export : ExportPart). bit export.result)
@@ -111,8 +103,7 @@ pub record FitsExports (exports : List ExportPart) : Type 0 where
 
 pub exports_field : IsField exports_at exports_bytes FitsExports
 unfolding exports_at
-exports_field =
-    restated (followed (tested (number_field Exports 2 two_wide) Exports _) _
+exports_field = restated (followed (tested (number_field Exports 2 two_wide) Exports _) _
     (λ count ok. many_field _ export_bytes FitsExport export_field count) (λ count exports a b. b.0))
     (λ exports h. refl) (λ exports h. record { few = leb-true _ _ h.0.1; each = h.1.1 })
     (λ exports h. ((omega (arith, h.few), le-leb _ _ h.few), (refl, h.each)))
@@ -134,24 +125,21 @@ pub record FitsCode (code : List ℕ) : Type 0 where
   pub each : AllByRecursion (λ word. word < 2 ^ 32) code
 
 code_size : (size k : ℕ) → (size % 4 == 0 && nat_le size stretch) ≡ true → k ≡ size / 4 → 4 * k ≡ size
-code_size size k passes is = let whole =
-    eqb-true _ _ (and_parts _ (nat_le size stretch) passes).0 in omega (arith, whole, is)
+code_size size k passes is = let whole = eqb-true _ _ (and_parts _ (nat_le size _) passes).0 in omega (arith, whole, is)
 
 code_passes : (k : ℕ) → 4 * k ≤ stretch → (4 * k % 4 == 0 && nat_le (4 * k) stretch) ≡ true
-code_passes k short = and_from (4 * k % 4 == 0) _ (eq-eqb _ 0 (omega arith)) (le-leb _ stretch short)
+code_passes k short = and_from (4 * k % 4 == 0) _ (eq-eqb _ 0 (omega arith)) (le-leb _ _ short)
 
 code_short : (size k : ℕ) → (4 * k % 4 == 0 && nat_le (4 * k) stretch) ≡ true → 4 * k ≤ stretch
 code_short size k passes = leb-true _ _ (and_parts _ _ passes).1
 
 pub code_field : IsField code_at code_bytes FitsCode
 unfolding code_at
-code_field =
-    restated
+code_field = restated
     (followed (tested (number_field Contents 4 four_wide) Contents (λ n. n % 4 == 0 && nat_le n stretch))
     (λ (code : List ℕ). 4 * length code)
     (λ size ok. many_field (number_at Contents 4) (little_bytes 4) (λ word. word < 2 ^ 32)
-    (number_field Contents 4 four_wide) (size / 4))
-    (λ size code a b. code_size size (length code) a.1 b.0))
+    (number_field Contents 4 four_wide) (size / 4)) (λ size code a b. code_size size (length code) a.1 b.0))
     (λ code h. refl) (λ code h. record { short = code_short 0 (length code) h.0.1; each = h.1.1 })
     (λ code h. ((omega (arith, h.short), code_passes (length code) h.short), (omega arith, h.each)))
 
@@ -161,8 +149,7 @@ pub record FitsGlobals (globals : List ℕ) : Type 0 where
 
 pub globals_field : IsField globals_at globals_bytes FitsGlobals
 unfolding globals_at
-globals_field =
-    restated (followed (tested (number_field Contents 4 four_wide) Contents _) _
+globals_field = restated (followed (tested (number_field Contents 4 four_wide) Contents _) _
     (λ size ok. bytes_field Contents size) (λ size globals a b. b.0))
     (λ globals h. refl) (λ globals h. record { short = leb-true _ _ h.0.1; bytes = h.1.1 })
     (λ globals h. ((omega (arith, h.short), le-leb _ _ h.short), (refl, h.bytes)))
@@ -211,23 +198,8 @@ comp_again : (comp : CompPart) → comp ≡ comp_with comp.name
     (flags comp) comp.exports comp.imports comp.code comp.globals
 comp_again comp =
     let h = has_flags comp.input comp.output in
-    ap (λ b. record {
-      name = comp.name;
-      input = b;
-      output = comp.output;
-      exports = comp.exports;
-      imports = comp.imports;
-      code = comp.code;
-      globals = comp.globals;
-    }) (sym h.first) ∙ ap (λ b. record {
-      name = comp.name;
-      input = flags comp % 2 == 1;
-      output = b;
-      exports = comp.exports;
-      imports = comp.imports;
-      code = comp.code;
-      globals = comp.globals;
-    }) (sym h.second)
+    ap (λ (b : Bool). record comp { input = b }) (sym h.first) ∙
+    ap (λ b. record comp { input = flags comp % 2 == 1; output = b }) (sym h.second)
 
 grouped : (name exports imports code globals : List ℕ) (f : ℕ) →
     name ++ (f ∷ (exports ++ (imports ++ (code ++ globals)))) ≡ name ++ f ∷ exports ++ imports ++ code ++ globals
@@ -237,8 +209,7 @@ grouped name exports imports code globals f = simp append_assoc
 module _ (comps : ℕ) (few : comps ≤ 32) where
   import_field : IsField (import_at comps) import_bytes (FitsImport comps)
   unfolding import_at
-  import_field =
-      restated
+  import_field = restated
       (followed (tested (byte_field Imports) Imports (λ c. nat_lt c comps)) (λ (import : ImportPart). import.comp)
       (λ comp ok. made (number_field Imports 2 two_wide) _
       (λ import. import.index) (λ index. refl)) (λ comp y a b. ap (λ (i : ImportPart). i.comp) b.1))
@@ -247,16 +218,14 @@ module _ (comps : ℕ) (few : comps ≤ 32) where
 
   pub imports_field : IsField (imports_at comps) imports_bytes (FitsImports comps)
   unfolding imports_at
-  imports_field =
-      restated (followed (tested (number_field Imports 2 two_wide) Imports _) _
+  imports_field = restated (followed (tested (number_field Imports 2 two_wide) Imports _) _
       (λ count ok. many_field _ import_bytes _ import_field count) (λ count imports a b. b.0))
       (λ imports h. refl) (λ imports h. record { few = leb-true _ _ h.0.1; each = h.1.1 })
       (λ imports h. ((omega (arith, h.few), le-leb _ _ h.few), (refl, h.each)))
 
   pub comp_field : IsField (comp_at comps) comp_bytes (FitsComp comps)
   unfolding comp_at
-  comp_field =
-      restated (followed comp_name_field (λ (comp : CompPart). comp.name) (λ name ok.
+  comp_field = restated (followed comp_name_field (λ (comp : CompPart). comp.name) (λ name ok.
       followed (tested (byte_field Compartment) Compartment (λ f. nat_le f 3)) (λ (comp : CompPart). flags comp)
       (λ f ok. followed exports_field (λ (comp : CompPart). comp.exports) (λ exports ok.
       followed imports_field (λ (comp : CompPart). comp.imports) (λ imports ok.
@@ -304,8 +273,7 @@ mark_is_bytes = name_is_bytes (codes "SCIM") refl
 
 parts_field : (version : ℕ) → version < 2 ^ 16 → IsField (parts_in_version version) (bytes_in_version version) FitsParts
 unfolding parts_in_version
-parts_field version low =
-    restated
+parts_field version low = restated
     (followed (tested (bytes_field Mark 4) Mark (λ mark. is_same_name mark (codes "SCIM")))
     (λ (parts : ImageParts). codes "SCIM") (λ mark ok.
     followed (tested (number_field Version 2 two_wide) Version (λ v. v == version)) (λ (parts : ImageParts). version)
@@ -317,12 +285,9 @@ parts_field version low =
     followed (number_field Start 4 four_wide) (λ (parts : ImageParts). parts.entry) (λ entry ok_entry.
     made (many_field (comp_at count) comp_bytes (FitsComp count) (comp_field count (count_within count ok.1).1) count)
     (λ comps. record { main = main; entry = entry; comps = comps }) (λ (parts : ImageParts). parts.comps)
-    (λ comps. refl))
-    (λ entry y a b. ap (λ (p : ImageParts). p.entry) b.1))
-    (λ main y a b. ap (λ (p : ImageParts). p.main) b.1.1))
-    (λ count y a b. b.1.1.0.0))
-    (λ same y a b. sym (eqb-true _ _ a.1)))
-    (λ mark y a b. sym (same_text mark (codes "SCIM") (sym a.1))))
+    (λ comps. refl)) (λ entry y a b. ap (λ (p : ImageParts). p.entry) b.1))
+    (λ main y a b. ap (λ (p : ImageParts). p.main) b.1.1)) (λ count y a b. b.1.1.0.0))
+    (λ same y a b. sym (eqb-true _ _ a.1))) (λ mark y a b. sym (same_text mark (codes "SCIM") (sym a.1))))
     (λ parts h. refl)
     (λ parts h. record {
       some = (count_within (length parts.comps) h.1.1.0.1).0;
@@ -343,12 +308,11 @@ parts_field version low =
     ))
 
 pub parts_take : (version : ℕ) → version < 2 ^ 16 → (bytes : List ℕ) (parts : ImageParts) (rest : List ℕ) →
-    IsBytes bytes →
-    parts_in_version version bytes ≡ Ok (parts, rest) →
+    IsBytes bytes → parts_in_version version bytes ≡ Ok (parts, rest) →
     (bytes ≡ bytes_in_version version parts ++ rest) × FitsParts parts
 parts_take version low bytes parts rest fits e =
-    let took = (parts_field version low).takes bytes parts rest fits e in (took.0.parts, took.1)
+    let took = (parts_field _ low).takes bytes parts rest fits e in (took.0.parts, took.1)
 
 pub parts_again : (version : ℕ) → version < 2 ^ 16 → (parts : ImageParts) (rest : List ℕ) → FitsParts parts →
     parts_in_version version (bytes_in_version version parts ++ rest) ≡ Ok (parts, rest)
-parts_again version low parts rest fits = (parts_field version low).again parts rest fits
+parts_again version low parts rest fits = (parts_field _ low).again parts rest fits

@@ -23,8 +23,7 @@ module _ (image : ImageParts) (comps : List CompPart) (c : ℕ) where
       ap (λ k. keeps image c comp && comps_keep image k (drop (c + 1) comps)) next)
 
   pub refused_by : (comp : CompPart) (total keep : Bool) → total ≡ comps_keep image c (drop c comps) →
-      c < length comps → comp ≡ get_or comps c comp →
-      keep ≡ keeps image c comp → keep ≡ false → false ≡ total
+      c < length comps → comp ≡ get_or comps c comp → keep ≡ keeps image c comp → keep ≡ false → false ≡ total
   refused_by comp total keep so_far within here is denied =
       sym (so_far ∙ (keep_at comp within here ∙ ap (λ b. b && comps_keep image (c + 1) (drop (c + 1) comps))
       (sym is ∙ denied)))
@@ -32,9 +31,8 @@ module _ (image : ImageParts) (comps : List CompPart) (c : ℕ) where
   pub goes_further : (comp : CompPart) (total keep : Bool) → total ≡ comps_keep image c (drop c comps) →
       c < length comps → comp ≡ get_or comps c comp →
       keep ≡ keeps image c comp → keep ≡ true → total ≡ comps_keep image (c + 1) (drop (c + 1) comps)
-  goes_further comp total keep so_far within here is granted =
-      so_far ∙ (keep_at comp within here ∙ ap (λ b. b && comps_keep image (c + 1) (drop (c + 1) comps))
-      (sym is ∙ granted))
+  goes_further comp total keep so_far within here is granted = so_far ∙
+      (keep_at comp within here ∙ ap (λ b. b && comps_keep image (c + 1) (drop (c + 1) comps)) (sym is ∙ granted))
 
   pub all_kept : (total : Bool) → total ≡ comps_keep image c (drop c comps) → length comps ≤ c → true ≡ total
   all_kept total so_far past = sym (so_far ∙ ap (comps_keep image c) (drop_of_length-le comps past))
@@ -57,13 +55,13 @@ pub export_names_count : {S : Type 0} (exports : List ExportPart) (set : HashSet
     bag.IsFromIterResult is_same_name (map (λ export. export.name) exports) set → len ≡ hash_set_len set →
     nat_eq len (length exports) ≡ are_distinct is_same_name (map (λ export. export.name) exports)
 export_names_count exports set len made len-is =
-    count_tells _ (equivalence _ names_decide) _ set len _ made len-is (sym (length-map exports _))
+    count_tells _ (equivalence _ names_decide) _ set len _ made len-is (sym (length-map _ _))
 
 pub entries_count : {S : Type 0} (exports : List ExportPart) (set : HashSet ℕ S) (len : ℕ) →
     bag.IsFromIterResult ◌==◌ (map (λ export. export.entry) exports) set → len ≡ hash_set_len set →
     nat_eq len (length exports) ≡ are_distinct ◌==◌ (map (λ export. export.entry) exports)
 entries_count exports set len made len-is =
-    count_tells ◌==◌ (equivalence ◌==◌ entries_decide) _ set len _ made len-is (sym (length-map exports _))
+    count_tells ◌==◌ (equivalence ◌==◌ entries_decide) _ set len _ made len-is (sym (length-map _ _))
 
 -- imports are told apart by their numbers
 
@@ -79,32 +77,27 @@ one_of_many x [] = refl
 one_of_many x (y ∷ imports) = ap (λ later. is_same_import x y || later) (one_of_many x imports)
 
 unless_there : (there : Bool) (pairs : List (ℕ × ℕ)) (imports : List ImportPart) (p : ℕ × ℕ) (i : ImportPart) →
-    length pairs ≡ length imports →
-    length (cond there pairs (p ∷ pairs)) ≡ length (cond there imports (i ∷ imports))
+    length pairs ≡ length imports → length (cond there pairs (p ∷ pairs)) ≡ length (cond there imports (i ∷ imports))
 unless_there true pairs imports p i same = same
 unless_there false pairs imports p i same = ap suc same
 
 as_many : (imports : List ImportPart) → distinct_count is_same_pair (map numbers imports) ≡
     distinct_count is_same_import imports
 as_many [] = refl
-as_many (x ∷ imports) =
-    ap (λ there. length (cond there (unique_keys is_same_pair (map numbers imports))
+as_many (x ∷ imports) = ap (λ there. length (cond there (unique_keys is_same_pair (map numbers imports))
     (numbers x ∷ unique_keys is_same_pair (map numbers imports)))) (one_of_many x imports) ∙ unless_there _ _
     _ (numbers x) x (as_many imports)
 
 pairs_decide : (a b : ℕ × ℕ) → Decides (is_same_pair a b) (a ≡ b)
-pairs_decide a b =
-    Decides-like _ (λ both. ap (λ n. (n, a.1)) both.0 ∙ ap (λ n. (b.0, n)) both.1)
+pairs_decide a b = Decides-like _ (λ both. ap (λ n. (n, a.1)) both.0 ∙ ap (λ n. (b.0, n)) both.1)
     (λ same. (ap (λ p. p.0) same, ap (λ p. p.1) same))
     (Decides-and (a.0 == b.0) _ (unsigned_Decides a.0 b.0) (unsigned_Decides a.1 b.1))
 
 pub imports_count : {S : Type 0} (imports : List ImportPart) (set : HashSet (ℕ × ℕ) S) (len : ℕ) →
     bag.IsFromIterResult is_same_pair (map (λ import. (import.comp, import.index)) imports) set →
-    len ≡ hash_set_len set →
-    nat_eq len (length imports) ≡ are_distinct is_same_import imports
-imports_count imports set len made len-is =
-    count_tells _ (equivalence _ pairs_decide) _ set len _ made len-is (sym (length-map imports numbers)) ∙
-    (ap (λ n. n == length (map numbers imports)) (as_many imports) ∙
+    len ≡ hash_set_len set → nat_eq len (length imports) ≡ are_distinct is_same_import imports
+imports_count imports set len made len-is = count_tells _ (equivalence _ pairs_decide) _ set len _ made len-is
+    (sym (length-map imports _)) ∙ (ap (λ n. n == length (map numbers imports)) (as_many imports) ∙
     ap (λ n. distinct_count is_same_import imports == n) (length-map imports numbers))
 
 pub ruleset counted = (comp_names_count, export_names_count, entries_count, imports_count)
@@ -117,8 +110,7 @@ ints_taken n m few is =
     rw (is, eight) (take-replicate n 8 Int few)
 
 pub few_params : (image : ImageParts) → IsWellFormed image → (c : ℕ) (comp : CompPart) → c < length image.comps →
-    comp ≡ get_or image.comps c comp →
-    All (λ export. export.params ≤ 8) comp.exports
+    comp ≡ get_or image.comps c comp → All (λ export. export.params ≤ 8) comp.exports
 few_params image formed c comp within here k d there =
     let at = slice_get-get_or _ c comp within ∙ ap (λ x. Some x) (sym here) in
     ((formed.comps c comp at).exports k d there).params

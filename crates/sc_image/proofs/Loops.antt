@@ -22,20 +22,16 @@ module _ {A : Type 0} (field : List ℕ → Read A) (count : ℕ) where
   begins bytes = let all : count - 0 ≡ count = omega arith in rw all (alone _)
 
   pub goes_on : (front : List A) (i : ℕ) (bytes : List ℕ) (x : A) (after : List ℕ) (total : Read (List A)) → i < count →
-      field bytes ≡ Ok (x, after) →
-      with_front front (fields_at field (count - i) bytes) ≡ total →
+      field bytes ≡ Ok (x, after) → with_front front (fields_at field (count - i) bytes) ≡ total →
       with_front (front ++ x ∷ []) (fields_at field (count - (i + 1)) after) ≡ total
   unfolding fields_at
   goes_on front i bytes x after total lt read so_far =
       let k : count - i ≡ suc (count - (i + 1)) = omega (arith, lt) in
-      let one : with_front front _ ≡
-      with_front _ _ =
-      rw (k, read) (regroup front x _) in
+      let one : with_front front _ ≡ with_front _ _ = rw (k, read) (regroup front x _) in
       sym one ∙ so_far
 
   pub ends : (fault : ImageFault) (front : List A) (i : ℕ) (bytes : List ℕ) (total : Read (List A)) → i < count →
-      Fails fault (field bytes) →
-      with_front front (fields_at field (count - i) bytes) ≡ total → Fails fault total
+      Fails fault (field bytes) → with_front front (fields_at field (count - i) bytes) ≡ total → Fails fault total
   unfolding fields_at
   ends faults.OutOfMemory front i bytes total lt read so_far = tt
   ends (faults.Bad cause) front i bytes total lt read so_far =
@@ -48,6 +44,5 @@ module _ {A : Type 0} (field : List ℕ → Read A) (count : ℕ) where
   unfolding fields_at
   is_done front i bytes total le so_far =
       let k : count - i ≡ 0 = omega (arith, le) in
-      let one : with_front front _ ≡ Ok _ =
-      rw k (ap (λ xs. Ok (xs, bytes)) (append-nil front)) in
+      let one : with_front front _ ≡ Ok _ = rw k (ap (λ xs. Ok (xs, bytes)) (append-nil front)) in
       sym so_far ∙ one

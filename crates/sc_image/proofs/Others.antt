@@ -1,13 +1,13 @@
 -- A step leaves what belongs to other compartments.
-use Rattle.sc_image.proofs.Common.{Adds, Bool, Call, Crossing, Event, Export, Goes, ImageParts, IsChain, IsSteady}
-use Rattle.sc_image.proofs.Common.{IsWellFormed, LeavesOthers, List, Memory, None, Outcome, Running, Some, State, []}
-use Rattle.sc_image.proofs.Common.{a0, activates, after_outcome, ap, are_data, arguments, arith, called, data_of, drop}
-use Rattle.sc_image.proofs.Common.{drop-append_seam, eq-eqb, false, flat_map, get_or-set_other, has_result}
-use Rattle.sc_image.proofs.Common.{if◌then◌else◌, input_at, kept_by, length, nat_eq, ne_eqb, observation_of, own}
-use Rattle.sc_image.proofs.Common.{params_of, refl, reg, returned, returned_to, saved_sp, shows_entry, sp, step}
-use Rattle.sc_image.proofs.Common.{store_size, stored, stored-apart, subst, sym, true, written, ℕ, ◌++◌, ◌+◌, ◌<◌, ◌==◌}
-use Rattle.sc_image.proofs.Common.{◌||◌, ◌∙◌, ◌∷◌, ◌≡◌, ◌≢◌, ◌≤◌}
-use Rattle.sc_image.proofs.Cases.{allowed_data, step_of}
+use Rattle.sc_image.proofs.Common.{Adds, Bool, Call, Crossing, Event, Goes, ImageParts, IsChain, IsSteady, IsWellFormed}
+use Rattle.sc_image.proofs.Common.{LeavesOthers, List, Memory, None, Outcome, Running, Some, State, [], activates}
+use Rattle.sc_image.proofs.Common.{after_outcome, ap, are_data, arguments, arith, called, data_of, drop}
+use Rattle.sc_image.proofs.Common.{drop-append_seam, eq-eqb, false, flat_map, get_or-set_other, if◌then◌else◌, input}
+use Rattle.sc_image.proofs.Common.{kept_by, length, nat_eq, ne_eqb, observation_of, output, own, params_of, refl, reg}
+use Rattle.sc_image.proofs.Common.{returned, saved_sp, shows_entry, sp, step, store_size, stored, stored-apart, subst}
+use Rattle.sc_image.proofs.Common.{sym, true, with_pc, with_stored, ℕ, ◌++◌, ◌+◌, ◌<◌, ◌==◌, ◌||◌, ◌∙◌, ◌∷◌, ◌≡◌, ◌≢◌}
+use Rattle.sc_image.proofs.Common.{◌≤◌}
+use Rattle.sc_image.proofs.Cases.{allowed_data, crossing_to, step_of}
 use Rattle.sc_image.proofs.Data.{data_bounds}
 use Rattle.sc_image.proofs.Bytes.{few_globals}
 
@@ -21,16 +21,14 @@ apart image c d a size x formed differ mine others from upto =
     omega (arith, m.0, m.1, o.0, o.1, few_globals image c formed, few_globals image d formed)
 
 byte_kept : (image : ImageParts) (c d a size word x : ℕ) (memory : Memory) → IsWellFormed image → c ≢ d →
-    are_data image c a size ≡ true →
-    (others : Bool) → are_data image d x 1 ≡ others →
+    are_data image c a size ≡ true → (others : Bool) → are_data image d x 1 ≡ others →
     (if others then stored memory a size word x else None) ≡ (if others then memory x else None)
 byte_kept image c d a size word x memory formed differ mine true is =
     stored-apart memory a size word x (apart image c d a size x formed differ mine is)
 byte_kept image c d a size word x memory formed differ mine false is = refl
 
 pub data_kept : (image : ImageParts) (c d a size word : ℕ) (memory : Memory) → IsWellFormed image → c ≢ d →
-    are_data image c a size ≡ true →
-    data_of image d (stored memory a size word) ≡ data_of image d memory
+    are_data image c a size ≡ true → data_of image d (stored memory a size word) ≡ data_of image d memory
 data_kept image c d a size word memory formed differ mine =
     λ i x. byte_kept image c d a size word x memory formed differ mine _ refl i
 
@@ -52,90 +50,42 @@ module _ (image : ImageParts) (inputs : List ℕ) (state : State) (d : ℕ) (for
   Kept_after outcome = ((after_outcome state outcome).active ≢ d) →
       own image (after_outcome state outcome) d ≡ own image state d
 
-  return_keeps : (cross : List Crossing) → state.cross ≡ cross → Kept_after (Goes (returned image state cross))
-  return_keeps [] is = λ next i. record {
-    bytes = data_of image d state.memory;
-    saved = saved_sp state d;
-    calls = flat_map (kept_by d) state.cross;
-    running = idle_both _ _ d
-        (record { regs = state.regs; pc = state.pc }) (record { regs = state.regs; pc = state.pc }) differ differ i;
+  -- the own parts of d after a step to a state in which they are the same
+  own_kept : (next : State) → next.active ≢ d → data_of image d next.memory ≡ data_of image d state.memory →
+      saved_sp next d ≡ saved_sp state d → flat_map (kept_by d) next.cross ≡ flat_map (kept_by d) state.cross →
+      own image next d ≡ own image state d
+  own_kept next other bytes saved calls = λ i. record {
+    bytes = bytes i;
+    saved = saved i;
+    calls = calls i;
+    running = idle_both next.active _ d (record { regs = next.regs; pc = next.pc })
+        (record { regs = state.regs; pc = state.pc }) other differ i;
   }
+
+  return_keeps : (cross : List Crossing) → state.cross ≡ cross → Kept_after (Goes (returned image state cross))
+  return_keeps [] is = λ next. own_kept (returned image state []) next refl refl refl
   return_keeps (x ∷ xs) is = λ next.
       let chain : IsChain (length image.comps) state.active (x ∷ xs) =
       subst (IsChain (length image.comps) state.active) is h.chain in
       let callee : x.callee ≢ d = λ same. differ (sym chain.0 ∙ same) in
-      let after = returned_to (has_result image x.callee x.entry) state x xs in
-      let calls : flat_map (kept_by d) xs ≡ flat_map (kept_by d) state.cross =
-      sym (ap (flat_map (kept_by d)) is ∙ ap (λ kept. kept ++ flat_map (kept_by d) xs) (not_in d x next callee)) in
-      let saved : saved_sp after d ≡ saved_sp state d =
-      get_or-set_other state.saved state.active d x.saved 0 (λ same. differ (sym same)) in
-      λ i. record {
-        bytes = data_of image d state.memory;
-        saved = saved i;
-        calls = calls i;
-        running = idle_both x.caller state.active d (record { regs = after.regs; pc = after.pc })
-            (record { regs = state.regs; pc = state.pc }) next differ i;
-      }
+      own_kept (returned image state (x ∷ xs)) next refl
+      (get_or-set_other state.saved state.active d x.saved 0 (λ same. differ (sym same)))
+      (sym (ap (flat_map (kept_by d)) is ∙ ap (λ kept. kept ++ flat_map (kept_by d) xs) (not_in d x next callee)))
 
   pub step_keeps : Kept_after (step image inputs state)
   step_keeps = step_of image inputs formed state Kept_after (record {
     same = λ a owned. refl;
     traps = λ reason next. refl;
-    quiet = λ regs pc same next i. record {
-      bytes = data_of image d state.memory;
-      saved = saved_sp state d;
-      calls = flat_map (kept_by d) state.cross;
-      running = idle_both state.active state.active d (record { regs = regs; pc = pc })
-          (record { regs = state.regs; pc = state.pc }) differ differ i;
-    };
-    stores = λ op a word allowed next i. record {
-      bytes = data_kept image state.active d a (store_size op) word state.memory formed differ
-          (allowed_data image state.active (store_size op) a allowed) i;
-      saved = saved_sp state d;
-      calls = flat_map (kept_by d) state.cross;
-      running = idle_both state.active state.active d (record { regs = state.regs; pc = state.pc + 4 })
-          (record { regs = state.regs; pc = state.pc }) differ differ i;
-    };
-    calls = λ to index target at may next.
-        let after = called state to index (params_of image to index) target in
-        let crossing : Crossing = record {
-          caller = state.active;
-          pc = state.pc + 4;
-          sp = reg state sp;
-          callee = to;
-          entry = Export index;
-          saved = saved_sp state to;
-        } in
-        let calls : kept_by d crossing ++ flat_map (kept_by d) state.cross ≡ flat_map (kept_by d) state.cross =
-        ap (λ kept. kept ++ flat_map (kept_by d) state.cross) (not_in d crossing differ next) in
-        let saved : saved_sp after d ≡ saved_sp state d =
-        get_or-set_other state.saved state.active d (reg state sp) 0 (λ same. differ (sym same)) in
-        λ i. record {
-          bytes = data_of image d state.memory;
-          saved = saved i;
-          calls = calls i;
-          running = idle_both to state.active d (record { regs = after.regs; pc = after.pc })
-              (record { regs = state.regs; pc = state.pc }) next differ i;
-        };
+    quiet = λ regs pc same next. own_kept (record state { regs = regs; pc = pc }) next refl refl refl;
+    stores = λ op a word allowed next. own_kept (with_pc (with_stored state op a word) (state.pc + 4)) next
+        (data_kept image state.active d a (store_size op) word state.memory formed differ
+        (allowed_data image state.active (store_size op) a allowed)) refl refl;
+    calls = λ to index target at may next. own_kept (called state to index (params_of image to index) target) next refl
+        (get_or-set_other state.saved state.active d (reg state sp) 0 (λ same. differ (sym same)))
+        (ap (λ kept. kept ++ flat_map (kept_by d) state.cross) (not_in d (crossing_to state to index) differ next));
     returns = return_keeps state.cross refl;
-    outputs = λ may next i. record {
-      bytes = data_of image d state.memory;
-      saved = saved_sp state d;
-      calls = flat_map (kept_by d) state.cross;
-      running = idle_both state.active state.active d (record { regs = state.regs; pc = state.pc + 4 })
-          (record { regs = state.regs; pc = state.pc }) differ differ i;
-    };
-    reads = λ may next i. record {
-      bytes = data_of image d state.memory;
-      saved = saved_sp state d;
-      calls = flat_map (kept_by d) state.cross;
-      running =
-          idle_both state.active state.active d (record {
-            regs = written state.regs a0 (input_at inputs state.input);
-            pc = state.pc + 4;
-          })
-          (record { regs = state.regs; pc = state.pc }) differ differ i;
-    };
+    outputs = λ may next. own_kept (with_pc (output state) (state.pc + 4)) next refl refl refl;
+    reads = λ may next. own_kept (with_pc (input inputs state) (state.pc + 4)) next refl refl refl;
   })
 
 -- Who is active after a step that shows no entry of d.
@@ -163,9 +113,8 @@ module _ (image : ImageParts) (inputs : List ℕ) (state : State) (d : ℕ) (for
     traps = λ reason none. differ;
     quiet = λ regs pc moves none. differ;
     stores = λ op a word allowed none. differ;
-    calls = λ to index target at may none. entry_by to d
-        (one_event (Call state.active to index (arguments (params_of image to index) state.regs)) none);
-    returns = return_elsewhere state.cross;
+    calls = λ to index target at may none. entry_by to d (one_event _ none);
+    returns = return_elsewhere _;
     outputs = λ may none. differ;
     reads = λ may none. differ;
   })

@@ -1,22 +1,22 @@
 -- What holds of every state that a run reaches.
-use Rattle.sc_image.proofs.Common.{All, All-cons, All-head, All-nil, All-tail, Bool, Call, CompPart, Crossing, Event}
-use Rattle.sc_image.proofs.Common.{Export, Goes, HoldsBytes, ImageParts, ImportPart, IsChain, IsImport, IsReached}
-use Rattle.sc_image.proofs.Common.{IsSteady, IsWellFormed, IsWord, KeepsWords, List, Memory, None, Option, Outcome, Ret}
-use Rattle.sc_image.proofs.Common.{Run, RunsAreSteady, Some, State, Stop, Traps, [], a0, after, after_outcome}
-use Rattle.sc_image.proofs.Common.{after_step, ap, arith, call_of, called, count_read, eqb-true, export_at, false, gate}
-use Rattle.sc_image.proofs.Common.{get_or_from_slice_get, given_back, has_result, input, input_at, inputs_in}
-use Rattle.sc_image.proofs.Common.{is_argument, is_result, kept, kept_from, length, length-set, list_any, map, may_call}
-use Rattle.sc_image.proofs.Common.{open_after, open_calls, option_map_or, output, params_of, position, ra, refl, reg}
-use Rattle.sc_image.proofs.Common.{replicate, returned, run, saved_sp, slice_get, slice_get_within, slice_index, sp}
-use Rattle.sc_image.proofs.Common.{stack_tops, start, step, stopped, stops_or, store_size, stored, subst, suc, sym}
-use Rattle.sc_image.proofs.Common.{true, unwrap_or, with_pc, without_latest, word_at, written, zero, ℕ, ◌&&◌, ◌++◌, ◌+◌}
-use Rattle.sc_image.proofs.Common.{◌<◌, ◌==◌, ◌||◌, ◌∙◌, ◌∷◌, ◌≡◌, ◌≢◌, ◌≤◌}
+use Rattle.sc_image.proofs.Common.{All, All-cons, All-head, All-nil, All-tail, Bool, Call, CompPart, Crossing, End}
+use Rattle.sc_image.proofs.Common.{Event, Export, HoldsBytes, ImageParts, ImportPart, In, IsChain, IsImport, IsReached}
+use Rattle.sc_image.proofs.Common.{IsSteady, IsWellFormed, IsWord, KeepsWords, List, Memory, None, Option, Out, Ret}
+use Rattle.sc_image.proofs.Common.{RunsAreSteady, Some, State, [], a0, after_step, ap, arith, call_of, called}
+use Rattle.sc_image.proofs.Common.{count_read, eqb-true, export_at, false, gate, get_or_from_slice_get, given_back}
+use Rattle.sc_image.proofs.Common.{has_result, input, input_at, inputs_in, is_argument, is_result, kept, kept_from}
+use Rattle.sc_image.proofs.Common.{length, length-set, list_any, map, may_call, open_after, open_calls, params_of}
+use Rattle.sc_image.proofs.Common.{position, ra, refl, replicate, returned, saved_sp, slice_get, slice_get_within}
+use Rattle.sc_image.proofs.Common.{slice_index, sp, stack_tops, start, step, store_size, subst, suc, sym, true}
+use Rattle.sc_image.proofs.Common.{unwrap_or, without_latest, word_at, written, zero, ℕ, ◌&&◌, ◌++◌, ◌+◌, ◌<◌, ◌==◌}
+use Rattle.sc_image.proofs.Common.{◌||◌, ◌∙◌, ◌∷◌, ◌≡◌, ◌≢◌, ◌≤◌}
 use Rattle.std.proofs.lemmas.List.Sums.{fold-append}
 use Rattle.sc_image.proofs.Words.{AreWords, set_words, written_words, written_zero, kept_words, kept_zero, in_code}
-use Rattle.sc_image.proofs.Words.{code_address, entry_address}
+use Rattle.sc_image.proofs.Words.{code_address, comp_found, entry_address}
 use Rattle.sc_image.proofs.Bytes.{stored_bytes, start_bytes}
 use Rattle.sc_image.proofs.Stepping.{step_nowhere}
-use Rattle.sc_image.proofs.Cases.{length-written, step_of}
+use Rattle.sc_image.proofs.Cases.{AtNext, length-written, step_of}
+use Rattle.sc_image.proofs.Running.{after_keeps, run_keeps}
 
 -- One more event.
 
@@ -38,15 +38,12 @@ length-stack_tops c (comp ∷ comps) = ap suc (length-stack_tops _ comps)
 
 -- A call goes to another compartment of the image.
 
-some_export : (image : ImageParts) (to target index : ℕ) (comp : Option CompPart) → slice_get image.comps to ≡ comp →
-    position (λ export. export.entry == target) (option_map_or (λ comp. comp.exports) comp []) ≡ Some index →
-    to < length image.comps
-some_export image to target index None is at = let never = at in cc never
-some_export image to target index (Some comp) is at = slice_get_within _ to comp is
-
 pub called_there : (image : ImageParts) (to target index : ℕ) → export_at image to target ≡ Some index →
     to < length image.comps
-called_there image to target index at = some_export image to target index _ refl at
+called_there image to target index at =
+    let found = comp_found (λ comp. _) []
+    (λ exports. position (λ export. export.entry == target) exports ≡ Some index) (λ none. cc none) _ at in
+    slice_get_within _ to found.0 found.1
 
 to_own_by : (image : ImageParts) (c to index : ℕ) (import : ImportPart) (rest : Bool) → import.comp ≢ c →
     (rest ≡ true → c ≢ to) →
@@ -59,25 +56,17 @@ none_to_own : (image : ImageParts) (c to index : ℕ) (imports : List ImportPart
 none_to_own image c to index [] all some = λ same. let never = some in cc never
 none_to_own image c to index (import ∷ imports) all some =
     to_own_by image c to index import (list_any _ imports) (All-head (IsImport image c) import imports all).other
-    (none_to_own image c to index imports (All-tail (IsImport image c) import imports all)) _ refl some
-
-imports_other : (image : ImageParts) (c to index : ℕ) → IsWellFormed image → (comp : Option CompPart) →
-    slice_get image.comps c ≡ comp →
-    list_any (λ import. import.comp == to && import.index == index) (option_map_or (λ comp. comp.imports) comp []) ≡
-    true → c ≢ to
-imports_other image c to index formed None is some = none_to_own image c to index [] (All-nil _) some
-imports_other image c to index formed (Some comp) is some =
-    none_to_own image c to index _ (formed.comps c comp is).imports some
+    (none_to_own image c to index imports (All-tail (IsImport image c) import _ all)) _ refl some
 
 pub called_other : (image : ImageParts) (c to index : ℕ) → IsWellFormed image → may_call image c to index ≡ true →
     c ≢ to
-called_other image c to index formed may = imports_other image c to index formed _ refl may
+called_other image c to index formed may =
+    let found = comp_found (λ comp. _) []
+    (λ imports. list_any (λ import. import.comp == to && import.index == index) imports ≡ true) (λ none. cc none)
+    _ may in
+    none_to_own image c to index _ (formed.comps c found.0 found.1).imports found.2
 
 -- One more step.
-
-abbrev pub SteadyAfter : ImageParts → Outcome → Type 0
-SteadyAfter image (Goes next) = IsSteady image next
-SteadyAfter image (Traps reason) = Unit {0}
 
 -- an input is a word
 input_by : (inputs : List ℕ) (k : ℕ) → All IsWord inputs → (found : Option ℕ) → slice_get inputs k ≡ found →
@@ -100,21 +89,29 @@ module _ (image : ImageParts) (inputs : List ℕ) (formed : IsWellFormed image) 
       state.input ≡ inputs_in (state.trace ++ event ∷ [])
   same_input event same = h.input ∙ sym (read_more state.trace event ∙ same)
 
-  steady_return : (cross : List Crossing) → state.cross ≡ cross → IsSteady image (returned image state cross)
-  steady_return [] is = record {
-    regs = h.regs;
-    words = h.words;
-    zero = h.zero;
-    pc = h.pc;
+  -- the same calls, with the registers, the pc, the inputs, the bytes and the events that a step leads to
+  steady_on : (regs : List ℕ) (pc place : ℕ) (memory : Memory) (trace : List Event) → length regs ≡ 32 →
+      AreWords regs → slice_index regs 0 ≡ 0 → IsWord pc → HoldsBytes memory →
+      map call_of state.cross ≡ open_calls trace → place ≡ inputs_in trace →
+      IsSteady image (record state { regs = regs; pc = pc; memory = memory; input = place; trace = trace })
+  steady_on regs pc place memory trace count words stays here bytes calls input = record {
+    regs = count;
+    words = words;
+    zero = stays;
+    pc = here;
     active = h.active;
     saved = h.saved;
     saved_words = h.saved_words;
-    bytes = h.bytes;
+    bytes = bytes;
     chain = h.chain;
     kept = h.kept;
-    calls = same_calls _ refl;
-    input = same_input _ refl;
+    calls = calls;
+    input = input;
   }
+
+  steady_return : (cross : List Crossing) → state.cross ≡ cross → IsSteady image (returned image state cross)
+  steady_return [] is =
+      steady_on _ _ _ _ _ h.regs h.words h.zero h.pc h.bytes (same_calls (End _ _) refl) (same_input (End _ _) refl)
   steady_return (x ∷ xs) is =
       let chain : IsChain (length image.comps) state.active (x ∷ xs) =
       subst (IsChain (length image.comps) state.active) is h.chain in
@@ -150,18 +147,9 @@ module _ (image : ImageParts) (inputs : List ℕ) (formed : IsWellFormed image) 
         let event = Call _ to index _ in
         let keeps = is_argument _ in
         let cleared = kept keeps _ in
-        let crossing : Crossing = record {
-          caller = state.active;
-          pc = state.pc + 4;
-          sp = reg state sp;
-          callee = to;
-          entry = Export index;
-          saved = saved_sp state to;
-        } in
         record {
           regs = length-written _ sp _ ∙ length-written cleared ra gate ∙ length-kept keeps 0 _ ∙ h.regs;
-          words =
-              written_words _ sp _
+          words = written_words _ sp _
               (written_words cleared ra gate (kept_words keeps 0 _ h.words) (omega arith)) (h.saved_words to);
           zero = written_zero (written cleared ra gate) sp (saved_sp state to)
               (written_zero cleared ra gate (kept_zero keeps 0 _ h.zero));
@@ -177,120 +165,33 @@ module _ (image : ImageParts) (inputs : List ℕ) (formed : IsWellFormed image) 
           input = same_input event refl;
         }
 
-    -- with the registers and the pc that a step leads to
-    steady_move : (regs : List ℕ) (pc : ℕ) → length regs ≡ length state.regs → AreWords regs → slice_index regs 0 ≡ 0 →
-        IsWord pc → IsSteady image (record state { regs = regs; pc = pc })
-    steady_move regs pc count words stays place = record {
-      regs = count ∙ h.regs;
-      words = words;
-      zero = stays;
-      pc = place;
-      active = h.active;
-      saved = h.saved;
-      saved_words = h.saved_words;
-      bytes = h.bytes;
-      chain = h.chain;
-      kept = h.kept;
-      calls = h.calls;
-      input = h.input;
-    }
-
-    steady_store : (memory : Memory) → HoldsBytes memory →
-        IsSteady image (record state { pc = state.pc + 4; memory = memory })
-    steady_store memory bytes = record {
-      regs = h.regs;
-      words = h.words;
-      zero = h.zero;
-      pc = here;
-      active = h.active;
-      saved = h.saved;
-      saved_words = h.saved_words;
-      bytes = bytes;
-      chain = h.chain;
-      kept = h.kept;
-      calls = h.calls;
-      input = h.input;
-    }
-
-    steady_output : IsSteady image (with_pc (output state) (state.pc + 4))
-    steady_output = record {
-      regs = h.regs;
-      words = h.words;
-      zero = h.zero;
-      pc = here;
-      active = h.active;
-      saved = h.saved;
-      saved_words = h.saved_words;
-      bytes = h.bytes;
-      chain = h.chain;
-      kept = h.kept;
-      calls = same_calls _ refl;
-      input = same_input _ refl;
-    }
-
-    steady_input : IsSteady image (with_pc (input inputs state) (state.pc + 4))
-    steady_input =
-        let word = input_at inputs _ in
-        record {
-          regs = length-written _ a0 word ∙ h.regs;
-          words = written_words _ a0 word h.words (input_word inputs _ all);
-          zero = written_zero state.regs a0 word h.zero;
-          pc = here;
-          active = h.active;
-          saved = h.saved;
-          saved_words = h.saved_words;
-          bytes = h.bytes;
-          chain = h.chain;
-          kept = h.kept;
-          calls = same_calls _ refl;
-          input = ap suc h.input ∙ sym (read_more state.trace _);
-        }
-
-    steady_next : SteadyAfter image (step image inputs state)
-    steady_next = step_of image inputs formed state (SteadyAfter image) (record {
+    steady_next : AtNext (IsSteady image) (step image inputs state)
+    steady_next = step_of image inputs formed state (AtNext (IsSteady image)) (record {
       same = λ a owned. refl;
       traps = λ reason. tt;
-      quiet = λ regs pc moves. steady_move regs pc moves.count (moves.words here h.words h.bytes) (moves.zero h.zero)
-          (moves.goes here);
-      stores = λ op a word allowed. steady_store (stored state.memory a (store_size op) word)
-          (stored_bytes image formed state.active a (store_size op) word state.memory h.active allowed h.bytes);
+      quiet = λ regs pc moves. steady_on regs pc _ _ _ (moves.count ∙ h.regs) (moves.words here h.words h.bytes)
+          (moves.zero h.zero) (moves.goes here) h.bytes h.calls h.input;
+      stores = λ op a word allowed. steady_on _ _ _ _ _ h.regs h.words h.zero here
+          (stored_bytes image formed state.active a (store_size op) word state.memory h.active allowed h.bytes)
+          h.calls h.input;
       calls = steady_call;
       returns = steady_return state.cross refl;
-      outputs = λ may. steady_output;
-      reads = λ may. steady_input;
+      outputs = λ may. steady_on _ _ _ _ _ h.regs h.words h.zero here h.bytes (same_calls (Out _ _) refl)
+          (same_input (Out _ _) refl);
+      reads = λ may.
+          let word = input_at inputs state.input in
+          steady_on _ _ _ _ _ (length-written _ a0 word ∙ h.regs)
+          (written_words _ a0 word h.words (input_word inputs state.input all)) (written_zero state.regs a0 word h.zero)
+          here h.bytes (same_calls (In _ _) refl) (ap suc h.input ∙ sym (read_more state.trace (In _ _)));
     })
 
   by_fetch : (word : Option ℕ) → word_at image state.active state.pc ≡ word →
-      SteadyAfter image (step image inputs state)
-  by_fetch None at = subst (SteadyAfter image) (sym (step_nowhere image inputs state at)) tt
+      AtNext (IsSteady image) (step image inputs state)
+  by_fetch None at = subst (AtNext (IsSteady image)) (sym (step_nowhere image inputs state at)) tt
   by_fetch (Some word) at = steady_next (in_code image formed _ _ word at).next
 
-  pub steady_step : SteadyAfter image (step image inputs state)
+  pub steady_step : AtNext (IsSteady image) (step image inputs state)
   steady_step = by_fetch _ refl
-
--- Runs.
-
-module _ (image : ImageParts) (inputs : List ℕ) (formed : IsWellFormed image) (all : All IsWord inputs)
-    (events : ℕ) where
-  steady_by : (early : Option Stop) (state : State) (later : Run) → IsSteady image state → IsSteady image later.state →
-      IsSteady image (stops_or early state later).state
-  steady_by None state later h k = k
-  steady_by (Some stop) state later h k = h
-
-  steady_after : (state : State) (outcome : Outcome) (go : State → Run) → IsSteady image state →
-      SteadyAfter image outcome →
-      ((next : State) → IsSteady image next → IsSteady image (go next).state) →
-      IsSteady image (after state outcome go).state
-  steady_after state (Goes next) go h k later = later next k
-  steady_after state (Traps reason) go h k later = h
-
-  steady_run : (steps : ℕ) (state : State) → IsSteady image state →
-      IsSteady image (run image inputs events steps state).state
-  unfolding run
-  steady_run zero state h = steady_by _ state _ h h
-  steady_run (suc steps) state h =
-      steady_by (stopped events _) state _ h (steady_after state _ _ h
-      (steady_step image inputs formed all state h) (steady_run steps))
 
 -- The start.
 
@@ -329,17 +230,13 @@ steady_start image formed = record {
 pub reached_steady : (image : ImageParts) (inputs : List ℕ) (state : State) → IsWellFormed image → All IsWord inputs →
     IsReached image inputs state → IsSteady image state
 reached_steady image inputs state formed all reached =
-    subst (IsSteady image) reached.1.1 (steady_run image inputs formed all _ _ _ (steady_start image formed))
-
-step_steady_by : (image : ImageParts) (state : State) (outcome : Outcome) → IsSteady image state →
-    SteadyAfter image outcome → IsSteady image (after_outcome state outcome)
-step_steady_by image state (Goes next) h k = k
-step_steady_by image state (Traps reason) h k = h
+    subst (IsSteady image) reached.1.1 (run_keeps image inputs _ (IsSteady image)
+    (λ s h early. steady_step image inputs formed all s h) _ _ (steady_start image formed))
 
 pub step_steady : (image : ImageParts) (inputs : List ℕ) (state : State) → IsWellFormed image → All IsWord inputs →
     IsSteady image state → IsSteady image (after_step image inputs state)
-step_steady image inputs state formed all h = step_steady_by image state (step image inputs state) h
-    (steady_step image inputs formed all state h)
+step_steady image inputs state formed all h =
+    after_keeps (IsSteady image) state (step image inputs state) h (steady_step image inputs formed all state h)
 
 pub runs_are_steady : RunsAreSteady
 runs_are_steady = record { first = steady_start; step = step_steady; reached = reached_steady }

@@ -1,9 +1,10 @@
 -- A run may be cut into pieces: it goes on from the state that it stopped in.
 use Rattle.sc_image.proofs.Common.{Bool, Ended, Event, EventsOut, Goes, ImageParts, List, None, Option, Outcome, Run}
-use Rattle.sc_image.proofs.Common.{Some, State, StepsOut, Stop, Trap, TrapReason, Traps, after, ap, continued, false}
-use Rattle.sc_image.proofs.Common.{if◌then◌else◌, refl, run, step, stopped, stops_or, subst, suc, sym, true}
-use Rattle.sc_image.proofs.Common.{unless_stopped, zero, zero-add, ℕ, ◌+◌, ◌∙◌, ◌≡◌}
+use Rattle.sc_image.proofs.Common.{Some, State, StepsOut, Stop, Trap, TrapReason, Traps, after, after_outcome, ap}
+use Rattle.sc_image.proofs.Common.{continued, false, if◌then◌else◌, refl, run, step, stopped, stops_or, subst, suc, sym}
+use Rattle.sc_image.proofs.Common.{true, unless_stopped, zero, zero-add, ℕ, ◌+◌, ◌∙◌, ◌≡◌}
 use Rattle.std.proofs.Math.Nat.{suc-add}
+use Rattle.sc_image.proofs.Cases.{AtNext}
 
 -- a run that stops before another step doesn't stop for want of steps
 stays_by : (ended full : Bool) (stop : Stop) (earlier later : Run) →
@@ -18,7 +19,7 @@ stays_by false false stop earlier later h = cc h
 stays : (events : ℕ) (trace : List Event) (stop : Stop) (earlier later : Run) →
     stopped events trace ≡ Some stop → unless_stopped stop earlier later ≡ earlier
 unfolding stopped
-stays events trace stop earlier later h = stays_by _ _ stop earlier later h
+stays events trace stop earlier later h = stays_by _ _ stop _ later h
 
 -- it stops with any number of steps
 pub run_stopped : (image : ImageParts) (inputs : List ℕ) (events n : ℕ) (state : State) (stop : Stop) →
@@ -55,20 +56,18 @@ module _ (image : ImageParts) (inputs : List ℕ) (events n : ℕ) where
 
   -- with one step more, of which the outcome is given
   one_more : (m : ℕ) (state : State) (outcome : Outcome) →
-      ((next : State) → run image inputs events (m + n) next ≡
-      continued (run image inputs events n) (run image inputs events m next)) →
-      after state outcome (run image inputs events (m + n)) ≡
-      continued (run image inputs events n) (after state outcome (run image inputs events m))
+      ((next : State) → run image inputs events (m + n) next ≡ continued (run image inputs events n)
+      (run image inputs events m next)) → after state outcome (run image inputs events (m + n)) ≡ continued
+      (run image inputs events n) (after state outcome (run image inputs events m))
   one_more m state (Goes next) later = later next
   one_more m state (Traps reason) later = refl
 
   -- and the stop before it
   one_first : (m : ℕ) (state : State) (early : Option Stop) → stopped events state.trace ≡ early →
-      ((next : State) → run image inputs events (m + n) next ≡
-      continued (run image inputs events n) (run image inputs events m next)) →
-      stops_or early state (after state (step image inputs state) (run image inputs events (m + n))) ≡
-      continued (run image inputs events n) (stops_or early state
-      (after state (step image inputs state) (run image inputs events m)))
+      ((next : State) → run image inputs events (m + n) next ≡ continued (run image inputs events n)
+      (run image inputs events m next)) → stops_or early state
+      (after state (step image inputs state) (run image inputs events (m + n))) ≡ continued (run image inputs events n)
+      (stops_or early state (after state (step image inputs state) (run image inputs events m)))
   one_first m state None h later = one_more m state _ later
   one_first m state (Some stop) h later = sym (stays events _ stop _ _ h)
 
@@ -79,3 +78,28 @@ module _ (image : ImageParts) (inputs : List ℕ) (events n : ℕ) where
   run_more zero state = ap (λ k. run image inputs events k state) (zero-add n) ∙ none_first state _ refl
   run_more (suc m) state =
       ap (λ k. run image inputs events k state) (suc-add m n) ∙ one_first m state _ refl (run_more m)
+
+-- What each step keeps, a run keeps.
+
+pub after_keeps : (P : State → Type 0) (state : State) (outcome : Outcome) → P state → AtNext P outcome →
+    P (after_outcome state outcome)
+after_keeps P state (Goes next) h k = k
+after_keeps P state (Traps reason) h k = h
+
+module _ (image : ImageParts) (inputs : List ℕ) (events : ℕ) (P : State → Type 0)
+    (each : (state : State) → P state → stopped events state.trace ≡ None → AtNext P (step image inputs state)) where
+  stop_keeps : (early : Option Stop) (state : State) (later : Run) → P state → (early ≡ None → P later.state) →
+      P (stops_or early state later).state
+  stop_keeps None state later h k = k refl
+  stop_keeps (Some stop) state later h k = h
+
+  go_keeps : (state : State) (outcome : Outcome) (go : State → Run) → P state → AtNext P outcome →
+      ((next : State) → P next → P (go next).state) → P (after state outcome go).state
+  go_keeps state (Goes next) go h k later = later next k
+  go_keeps state (Traps reason) go h k later = h
+
+  pub run_keeps : (steps : ℕ) (state : State) → P state → P (run image inputs events steps state).state
+  unfolding run
+  run_keeps zero state h = stop_keeps (stopped events _) state _ h (λ early. h)
+  run_keeps (suc steps) state h = stop_keeps (stopped events _) state _ h
+      (λ early. go_keeps state _ _ h (each state h early) (run_keeps steps))

@@ -1,27 +1,21 @@
 -- What a compartment does follows from its own parts and the events before.
-use Rattle.sc_image.proofs.Common.{Adds, All, AreSilent, Bool, Call, Crossing, End, Entered, Event, Export}
-use Rattle.sc_image.proofs.Common.{FollowsFromOwn, Goes, GoesOnSame, ImageParts, IsChain, IsSilent, IsSteady}
-use Rattle.sc_image.proofs.Common.{IsWellFormed, IsWord, List, LooksSame, Memory, None, OpenCall, Outcome, Ret, Running}
-use Rattle.sc_image.proofs.Common.{Some, State, Traps, Waits, [], a0, after_outcome, after_step, after_steps, ap, ap₂}
-use Rattle.sc_image.proofs.Common.{are_data, arguments, arith, byte_of, call_of, called, data_of, drop, eq-eqb, false}
-use Rattle.sc_image.proofs.Common.{flat_map, get_or-set_same, given_back, has_result, if◌then◌else◌, inputs_in, kept_by}
-use Rattle.sc_image.proofs.Common.{length, map, nat_eq, nat_le, nat_lt, ne_eqb, observation, observation_of, own, refl}
-use Rattle.sc_image.proofs.Common.{reg, returned, returned_to, saved_sp, sp, step, store_size, stored, subst, suc, sym}
-use Rattle.sc_image.proofs.Common.{true, written, zero, ℕ, ◌&&◌, ◌++◌, ◌+◌, ◌-◌, ◌↔◌, ◌∙◌, ◌∷◌, ◌≡◌, ◌≢◌}
-use Rattle.sc_image.proofs.Cases.{one, other, Cases, step_both}
-use Rattle.sc_image.proofs.Reached.{called_other, steady_step, SteadyAfter}
+use Rattle.sc_image.proofs.Common.{Adds, All, AreSilent, Bool, Call, Crossing, End, Entered, Event, FollowsFromOwn}
+use Rattle.sc_image.proofs.Common.{Goes, GoesOnSame, ImageParts, IsChain, IsSilent, IsSteady, IsWellFormed, IsWord}
+use Rattle.sc_image.proofs.Common.{List, LooksSame, Memory, None, OpenCall, Outcome, Ret, Running, Some, State, Waits}
+use Rattle.sc_image.proofs.Common.{[], a0, after_outcome, after_step, after_steps, ap, ap₂, are_data, arguments, arith}
+use Rattle.sc_image.proofs.Common.{byte_of, call_of, called, data_of, drop, drop-append_seam, eq-eqb, false, flat_map}
+use Rattle.sc_image.proofs.Common.{get_or-set_same, given_back, has_result, if◌then◌else◌, inputs_in, kept_by, length}
+use Rattle.sc_image.proofs.Common.{map, nat_eq, nat_le, nat_lt, ne_eqb, observation, observation_of, own, refl, reg}
+use Rattle.sc_image.proofs.Common.{returned, returned_to, saved_sp, sp, step, store_size, stored, subst, suc, sym, true}
+use Rattle.sc_image.proofs.Common.{zero, ℕ, ◌&&◌, ◌++◌, ◌+◌, ◌-◌, ◌↔◌, ◌∙◌, ◌∷◌, ◌≡◌, ◌≢◌}
+use Rattle.sc_image.proofs.Cases.{one, other, Cases, crossing_to, step_both}
+use Rattle.sc_image.proofs.Reached.{called_other, step_steady}
 use Rattle.sc_image.proofs.Others.{idle_both}
-
--- Lists.
-
-drop_front : {A : Type 0} (xs ys : List A) → drop (length xs) (xs ++ ys) ≡ ys
-drop_front [] ys = refl
-drop_front (x ∷ xs) ys = drop_front xs ys
 
 -- an event is no silence
 loud : (trace : List Event) (event : Event) → Adds (drop (length trace) (trace ++ event ∷ [])) ≡ Adds [] → ⊥
 loud trace event silent =
-    let some = ap Adds (sym (drop_front trace _)) ∙ silent in cc some
+    let some = ap Adds (sym (drop-append_seam trace _)) ∙ silent in cc some
 
 -- The bytes of one compartment.
 
@@ -30,9 +24,8 @@ same_at : (image : ImageParts) (c a : ℕ) (memory memory' : Memory) → data_of
 same_at image c a memory memory' same owned = rw owned at (ap (λ bytes. bytes a) same)
 
 stored_at : (image : ImageParts) (c a size word x : ℕ) (memory memory' : Memory) →
-    ((b : ℕ) → are_data image c b 1 ≡ true → memory b ≡ memory' b) →
-    (owned : Bool) → are_data image c x 1 ≡ owned → (if owned then stored memory a size word x else None) ≡
-    (if owned then stored memory' a size word x else None)
+    ((b : ℕ) → are_data image c b 1 ≡ true → memory b ≡ memory' b) → (owned : Bool) → are_data image c x 1 ≡ owned →
+    (if owned then stored memory a size word x else None) ≡ (if owned then stored memory' a size word x else None)
 stored_at image c a size word x memory memory' same true is =
     ap (λ before. if nat_le a x && nat_lt x (a + size) then Some (byte_of word (x - a)) else before) (same x is)
 stored_at image c a size word x memory memory' same false is = refl
@@ -40,8 +33,7 @@ stored_at image c a size word x memory memory' same false is = refl
 stored_same : (image : ImageParts) (c a size word : ℕ) (memory memory' : Memory) →
     ((b : ℕ) → are_data image c b 1 ≡ true → memory b ≡ memory' b) →
     data_of image c (stored memory a size word) ≡ data_of image c (stored memory' a size word)
-stored_same image c a size word memory memory' same =
-    λ i x. stored_at image c a size word x memory memory' same _ refl i
+stored_same image c a size word memory memory' same = λ i x. stored_at image c a size word x memory _ same _ refl i
 
 -- The two states, as the compartment can't tell them apart.
 
@@ -82,27 +74,8 @@ module _ (image : ImageParts) (inputs : List ℕ) (formed : IsWellFormed image) 
     -- the same registers and pc, and perhaps one event more, with the compartment still active
     on : (regs' : List ℕ) (pc' place' : ℕ) (more : List Event) (bytes : Memory → Memory) →
         data_of image c (bytes memory) ≡ data_of image c (bytes memory') →
-        Follow
-        (Goes (record {
-          regs = regs';
-          pc = pc';
-          active = c;
-          saved = saved;
-          memory = bytes memory;
-          cross = cross;
-          input = place';
-          trace = more;
-        }))
-        (Goes (record {
-          regs = regs';
-          pc = pc';
-          active = c;
-          saved = saved';
-          memory = bytes memory';
-          cross = cross';
-          input = place';
-          trace = more;
-        }))
+        Follow (Goes (record left { regs = regs'; pc = pc'; memory = bytes memory; input = place'; trace = more }))
+        (Goes (record right { regs = regs'; pc = pc'; memory = bytes memory'; input = place'; trace = more }))
     on regs' pc' place' more bytes same = record {
       shows = refl;
       parts = λ i. record {
@@ -119,35 +92,17 @@ module _ (image : ImageParts) (inputs : List ℕ) (formed : IsWellFormed image) 
     kept_of_caller : (to : ℕ) (crossing : Crossing) → crossing.caller ≡ c → crossing.callee ≢ c →
         kept_by c crossing ≡ Waits crossing.pc crossing.sp ∷ []
     kept_of_caller to crossing caller callee = rw (
-      eq-eqb crossing.caller c caller,
-      ne_eqb crossing.callee c callee,
+      eq-eqb _ c caller,
+      ne_eqb _ c callee,
     ) refl
 
     calls_on : (to index params target : ℕ) → c ≢ to →
         Follow (Goes (called left to index params target)) (Goes (called right to index params target))
     calls_on to index params target differ =
         let to_other : to ≢ c = λ same. differ (sym same) in
-        let mine : Crossing = record {
-          caller = c;
-          pc = pc + 4;
-          sp = reg left sp;
-          callee = to;
-          entry = Export index;
-          saved = saved_sp left to;
-        } in
-        let theirs : Crossing = record {
-          caller = c;
-          pc = pc + 4;
-          sp = reg left sp;
-          callee = to;
-          entry = Export index;
-          saved = saved_sp right to;
-        } in
-        let kept =
-        ap₂ (λ k ks. k ++ ks) (kept_of_caller to mine refl to_other ∙
-        sym (kept_of_caller to theirs refl to_other)) calls_same in
-        let sps =
-        get_or-set_same saved c _ 0 (omega (arith, h.left_steady.saved, h.left_steady.active)) ∙
+        let kept = ap₂ (λ k ks. k ++ ks) (kept_of_caller to (crossing_to left to index) refl to_other ∙
+        sym (kept_of_caller to (crossing_to right to index) refl to_other)) calls_same in
+        let sps = get_or-set_same saved c _ 0 (omega (arith, h.left_steady.saved, h.left_steady.active)) ∙
         sym (get_or-set_same saved' c _ 0 (omega (arith, h.right_steady.saved, h.right_steady.active))) in
         let event = Call c to index (arguments params regs) in
         record {
@@ -156,8 +111,7 @@ module _ (image : ImageParts) (inputs : List ℕ) (formed : IsWellFormed image) 
             bytes = bytes_same i;
             saved = sps i;
             calls = kept i;
-            running =
-                idle_both to to c (record { regs = (called left to index params target).regs; pc = target })
+            running = idle_both to to c (record { regs = (called left to index params target).regs; pc = target })
                 (record { regs = (called right to index params target).regs; pc = target }) to_other to_other i;
           };
           traces = refl;
@@ -225,12 +179,12 @@ module _ (image : ImageParts) (inputs : List ℕ) (formed : IsWellFormed image) 
           (stored_same image c a _ word memory memory' (λ b owned. same_at image c b memory memory' bytes_same owned));
       calls = λ to index target at may. calls_on to index _ target (called_other image c to index formed may);
       returns = returns_both cross cross' refl refl;
-      outputs = λ may. on regs (pc + 4) place _ (λ m. m) bytes_same;
+      outputs = λ may. on regs _ place _ (λ m. m) bytes_same;
       reads = λ may. on _ _ _ _ (λ m. m) bytes_same;
     }
 
     pub follow : Follow (step image inputs left) (step image inputs right)
-    follow = step_both image inputs formed regs pc c place trace saved saved' memory memory' cross cross' Follow cases
+    follow = step_both image inputs formed regs pc c place trace saved saved' memory _ cross cross' Follow cases
 
 -- Any two states.
 
@@ -253,8 +207,7 @@ module _ (image : ImageParts) (inputs : List ℕ) (formed : IsWellFormed image) 
   module _ (s t : State) (h : LooksSame image c s t) where
     running_same : running s ≡ running t
     running_same =
-        let both : Some (running s) ≡ Some _ =
-        sym (running_of c _ _ h.one_active) ∙ ap (λ o. o.running) h.own_parts ∙
+        let both : Some _ ≡ Some _ = sym (running_of c _ _ h.one_active) ∙ ap (λ o. o.running) h.own_parts ∙
         running_of c t.active (running t) h.other_active in
         cc both
 
@@ -266,28 +219,16 @@ module _ (image : ImageParts) (inputs : List ℕ) (formed : IsWellFormed image) 
     first = record s { active = c }
 
     abbrev second : State
-    second = record {
-      regs = s.regs;
-      pc = s.pc;
-      active = c;
-      saved = t.saved;
-      memory = t.memory;
-      cross = t.cross;
-      input = s.input;
-      trace = s.trace;
-    }
+    second = record t { regs = s.regs; pc = s.pc; active = c; input = s.input; trace = s.trace }
 
     first_is : s ≡ first
     first_is = λ i. record s { active = h.one_active i }
 
     second_is : t ≡ second
-    second_is = λ i. record {
+    second_is = λ i. record t {
       regs = sym (ap (λ r. r.regs) running_same) i;
       pc = sym (ap (λ r. r.pc) running_same) i;
       active = h.other_active i;
-      saved = t.saved;
-      memory = t.memory;
-      cross = t.cross;
       input = sym input_same i;
       trace = sym h.trace i;
     }
@@ -307,21 +248,14 @@ module _ (image : ImageParts) (inputs : List ℕ) (formed : IsWellFormed image) 
     next_same = subst (λ x. Next image inputs c x t) (sym first_is)
         (subst (λ x. Next image inputs c first x) (sym second_is) next_written)
 
-  steady_after : (s : State) (outcome : Outcome) → IsSteady image s → SteadyAfter image outcome →
-      IsSteady image (after_outcome s outcome)
-  steady_after s (Goes next) h k = k
-  steady_after s (Traps reason) h k = h
-
   alike_after : (s t : State) → LooksSame image c s t → IsSilent image inputs s →
       LooksSame image c (after_step image inputs s) (after_step image inputs t)
   alike_after s t h silent =
       let n = next_same s t h in
       let stays = n.stays silent in
       record {
-        one_steady = steady_after s (step image inputs s) h.one_steady
-            (steady_step image inputs formed all s h.one_steady);
-        other_steady = steady_after t (step image inputs t) h.other_steady
-            (steady_step image inputs formed all t h.other_steady);
+        one_steady = step_steady image inputs s formed all h.one_steady;
+        other_steady = step_steady image inputs t formed all h.other_steady;
         trace = n.traces;
         one_active = stays.0;
         other_active = stays.1;
@@ -329,10 +263,8 @@ module _ (image : ImageParts) (inputs : List ℕ) (formed : IsWellFormed image) 
       }
 
   abbrev Goal : ℕ → State → State → Type 0
-  Goal steps s t =
-      (AreSilent image inputs steps s ↔ AreSilent image inputs steps t) ×
-      (AreSilent image inputs steps s → GoesOnSame image inputs c (after_steps image inputs steps s)
-      (after_steps image inputs steps t))
+  Goal steps s t = (AreSilent image inputs steps s ↔ AreSilent image inputs steps t) × (AreSilent image inputs steps s →
+      GoesOnSame image inputs c (after_steps image inputs steps s) (after_steps image inputs steps t))
 
   goes_on : (steps : ℕ) (s t : State) → LooksSame image c s t → Goal steps s t
   goes_on zero s t h =

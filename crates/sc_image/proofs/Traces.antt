@@ -1,30 +1,31 @@
 -- The trace of a run is one that the image's interfaces allow.
 use Rattle.sc_image.proofs.Common.{Activation, All, Bool, Call, CompPart, Crossing, End, Ended, Entry, Event, EventsOut}
-use Rattle.sc_image.proofs.Common.{Export, ExportPart, Goes, ImageParts, Import, ImportPart, In, Int, Interfaces}
-use Rattle.sc_image.proofs.Common.{IsChain, IsSteady, IsWellFormed, IsWord, List, Main, None, Option, Outcome, Proto}
-use Rattle.sc_image.proofs.Common.{Run, Some, Standing, State, Stop, TracesAreLegal, Traps, [], a0, after, and_from}
-use Rattle.sc_image.proofs.Common.{and_parts, ap, arguments, arith, at_start, cond, drop, eq-eqb, exports_of, false}
-use Rattle.sc_image.proofs.Common.{fits_result, get_or_from_slice_get, given_back, has_result, if◌then◌else◌, import_of}
-use Rattle.sc_image.proofs.Common.{imports, inl, inr, interface_of, interfaces_of, is_allowed, is_end, is_ended}
-use Rattle.sc_image.proofs.Common.{is_function, is_input, is_legal_from, is_output, is_there, length, length-append}
-use Rattle.sc_image.proofs.Common.{length-drop, length-replicate, length-take-le, list_any, ltb, ltb-true, machine, map}
-use Rattle.sc_image.proofs.Common.{may_return, option_and_then, option_map, option_map_or, or_left, or_right, params_of}
-use Rattle.sc_image.proofs.Common.{position, position_or_len, proto_of, refl, reg, resumed, returned, run, slice_get}
-use Rattle.sc_image.proofs.Common.{slice_get-map, slice_get_within, stands_after, stands_behind, start, step, stopped}
-use Rattle.sc_image.proofs.Common.{stops_or, subst, suc, sym, takes, true, true≢false, zero, ℕ, ◌&&◌, ◌++◌, ◌-◌, ◌<◌}
-use Rattle.sc_image.proofs.Common.{◌==◌, ◌||◌, ◌∙◌, ◌∷◌, ◌≡◌, ◌≤◌, ◌⊎◌}
+use Rattle.sc_image.proofs.Common.{Export, ExportPart, ImageParts, Import, In, Int, Interfaces, IsChain, IsSteady}
+use Rattle.sc_image.proofs.Common.{IsWellFormed, IsWord, List, Main, Memory, None, Option, Proto, Some, Standing, State}
+use Rattle.sc_image.proofs.Common.{TracesAreLegal, [], a0, and_from, and_parts, ap, arguments, arith, at_start, awaits}
+use Rattle.sc_image.proofs.Common.{comp_at, eq-eqb, export_at, exports_of, false, fits_result, given_back, has_result}
+use Rattle.sc_image.proofs.Common.{if◌then◌else◌, import_of, imports, inl, inr, interface_of, interfaces_of, is_allowed}
+use Rattle.sc_image.proofs.Common.{is_end, is_ended, is_function, is_input, is_legal_from, is_output, is_there, length}
+use Rattle.sc_image.proofs.Common.{length-append, length-replicate, list_any, list_any-append, machine, map, may_call}
+use Rattle.sc_image.proofs.Common.{may_input, may_output, may_return, option_and_then, option_map, option_map_or}
+use Rattle.sc_image.proofs.Common.{or_right, params_of, position, position-Some, proto_of, refl, reg, resumed, returned}
+use Rattle.sc_image.proofs.Common.{run, slice_get, slice_get-map, stands_after, stands_behind, start, step, stopped}
+use Rattle.sc_image.proofs.Common.{subst, sym, takes, true, true≢false, ℕ, ◌&&◌, ◌++◌, ◌-◌, ◌<◌, ◌==◌, ◌||◌, ◌∙◌, ◌∷◌}
+use Rattle.sc_image.proofs.Common.{◌≡◌, ◌⊎◌}
 use Rattle.sc_event.specs.declared.interface.Import.TheVariants.{Input, Output}
 use Rattle.sc_event.specs.Lookup as lookup
 use Rattle.sc_event.specs.Legal as law
-use Rattle.sc_image.proofs.Cases.{step_of}
-use Rattle.sc_image.proofs.Reached.{SteadyAfter, steady_start, steady_step}
+use Rattle.sc_image.proofs.Cases.{AtNext, step_of}
+use Rattle.sc_image.proofs.Words.{comp_found, no_export}
+use Rattle.sc_image.proofs.Running.{run_keeps}
+use Rattle.sc_image.proofs.Enters.{few_params, length-arguments}
+use Rattle.sc_image.proofs.Reached.{steady_start, steady_step}
 
 -- One more event.
 
 legal_more : (interfaces : Interfaces) (at : Option Standing) (trace : List Event) (event : Event) (now : Standing) →
     is_legal_from interfaces at trace ≡ true → stands_behind at trace ≡ Some now →
-    is_allowed interfaces now event ≡ true →
-    is_legal_from interfaces at (trace ++ event ∷ []) ≡ true
+    is_allowed interfaces now event ≡ true → is_legal_from interfaces at (trace ++ event ∷ []) ≡ true
 legal_more interfaces at [] event now legal stands allowed = rw stands (and_from _ true allowed refl)
 legal_more interfaces None (first ∷ later) event now legal stands allowed = let never = legal in cc never
 legal_more interfaces (Some at) (first ∷ later) event now legal stands allowed =
@@ -32,11 +33,9 @@ legal_more interfaces (Some at) (first ∷ later) event now legal stands allowed
     and_from _ _ both.0 (legal_more interfaces _ later event now both.1 stands allowed)
 
 stands_more : (at : Option Standing) (trace : List Event) (event : Event) (now : Standing) →
-    stands_behind at trace ≡ Some now →
-    stands_behind at (trace ++ event ∷ []) ≡ stands_after now event
+    stands_behind at trace ≡ Some now → stands_behind at (trace ++ event ∷ []) ≡ stands_after now event
 stands_more at [] event now stands = rw stands refl
-stands_more None (first ∷ later) event now stands = let never = stands in
-    cc never
+stands_more None (first ∷ later) event now stands = let never = stands in cc never
 stands_more (Some at) (first ∷ later) event now stands = stands_more _ later event now stands
 
 -- the event at the end
@@ -58,29 +57,8 @@ any_map : {A B : Type 0} (test : B → Bool) (f : A → B) (xs : List A) →
 any_map test f [] = refl
 any_map test f (x ∷ xs) = ap (λ later. test (f x) || later) (any_map test f xs)
 
--- what the imports of a compartment allow
-abbrev allowed_by : Bool → Bool → List ImportPart → (Import → Bool) → Bool
-allowed_by input output others is_it =
-    list_any is_it ((if input then Input ∷ [] else []) ++
-    ((if output then Output ∷ [] else []) ++ map import_of others))
-
-allowed_input : (output : Bool) (others : List ImportPart) (is_it : Import → Bool) → is_it Input ≡ true →
-    allowed_by true output others is_it ≡ true
-allowed_input output others is_it is = or_left _ _ is
-
-allowed_output : (input : Bool) (others : List ImportPart) (is_it : Import → Bool) → is_it Output ≡ true →
-    allowed_by input true others is_it ≡ true
-allowed_output true others is_it is = or_right (is_it Input) _ (or_left _ _ is)
-allowed_output false others is_it is = or_left _ _ is
-
-allowed_function : (input output : Bool) (others : List ImportPart) (is_it : Import → Bool) →
-    list_any (λ import. is_it (import_of import)) others ≡ true →
-    allowed_by input output others is_it ≡ true
-allowed_function true true others is_it is = or_right (is_it Input) _
-    (or_right (is_it Output) _ (any_map is_it _ others ∙ is))
-allowed_function true false others is_it is = or_right (is_it Input) _ (any_map is_it _ others ∙ is)
-allowed_function false true others is_it is = or_right (is_it Output) _ (any_map is_it _ others ∙ is)
-allowed_function false false others is_it is = any_map is_it _ others ∙ is
+any_behind : {A : Type 0} (test : A → Bool) (xs ys : List A) → list_any test ys ≡ true → list_any test (xs ++ ys) ≡ true
+any_behind test xs ys some = list_any-append test xs ys ∙ or_right _ _ some
 
 module _ (image : ImageParts) where
   abbrev said : Interfaces
@@ -90,59 +68,55 @@ module _ (image : ImageParts) where
       lookup.comp_at said c ≡ option_map interface_of comp
   comp_said c comp at = slice_get-map _ _ c ∙ ap (option_map _) at
 
+  abbrev of_input : CompPart → List Import
+  of_input comp = if comp.input then Input ∷ [] else []
+
+  abbrev of_output : CompPart → List Import
+  of_output comp = if comp.output then Output ∷ [] else []
+
   imports_said : (c : ℕ) (comp : CompPart) (is_it : Import → Bool) → slice_get image.comps c ≡ Some comp →
-      imports said c is_it ≡ allowed_by comp.input comp.output comp.imports is_it
+      imports said c is_it ≡ list_any is_it (of_input comp ++ (of_output comp ++ map import_of comp.imports))
   imports_said c comp is_it at =
       ap (λ found. list_any is_it (option_map_or (λ i. i.imports) found [])) (comp_said c _ at)
 
-  input_said : (c : ℕ) (comp : Option CompPart) → slice_get image.comps c ≡ comp →
-      option_map_or (λ (x : CompPart). x.input) comp false ≡ true → imports said c is_input ≡ true
-  input_said c None at may = let never = may in cc never
-  input_said c (Some comp) at may =
-      imports_said c comp _ at ∙ subst (λ input. allowed_by input comp.output comp.imports is_input ≡
-      true) (sym may) (allowed_input comp.output comp.imports is_input refl)
+  input_said : (c : ℕ) → may_input image c ≡ true → imports said c is_input ≡ true
+  input_said c may =
+      let found = comp_found _ false (λ input. input ≡ true) (λ never. cc never) _ may in
+      imports_said c found.0 _ found.1 ∙ rw found.2 refl
 
-  output_said : (c : ℕ) (comp : Option CompPart) → slice_get image.comps c ≡ comp →
-      option_map_or (λ (x : CompPart). x.output) comp false ≡ true → imports said c is_output ≡ true
-  output_said c None at may = let never = may in cc never
-  output_said c (Some comp) at may =
-      imports_said c comp _ at ∙ subst (λ output. allowed_by comp.input output comp.imports is_output ≡
-      true) (sym may) (allowed_output comp.input comp.imports is_output refl)
+  output_said : (c : ℕ) → may_output image c ≡ true → imports said c is_output ≡ true
+  output_said c may =
+      let found = comp_found (λ comp. comp.output) false (λ output. output ≡ true) (λ never. cc never) _ may in
+      imports_said c found.0 _ found.1 ∙ any_behind is_output (of_input found.0)
+      (of_output found.0 ++ map import_of found.0.imports) (rw found.2 refl)
 
-  function_said : (c to index : ℕ) (comp : Option CompPart) → slice_get image.comps c ≡ comp →
-      list_any (λ import. import.comp == to && import.index == index)
-      (option_map_or (λ (x : CompPart). x.imports) comp []) ≡ true → imports said c (is_function to index) ≡ true
-  function_said c to index None at may = let never = may in cc never
-  function_said c to index (Some comp) at may = imports_said c comp _ at ∙ allowed_function comp.input _ _ _ may
+  function_said : (c to index : ℕ) → may_call image c to index ≡ true → imports said c (is_function to index) ≡ true
+  function_said c to index may =
+      let found = comp_found (λ comp. comp.imports) []
+      (λ imports. list_any (λ import. import.comp == to && import.index == index) imports ≡ true)
+      (λ never. cc never) _ may in
+      let is_it = is_function to index in
+      let others = map import_of found.0.imports in
+      imports_said c found.0 is_it found.1 ∙ any_behind is_it (of_input found.0) (of_output found.0 ++ others)
+      (any_behind is_it (of_output found.0) others (any_map is_it import_of found.0.imports ∙ found.2))
 
   -- an export of the image, as its interfaces say it
   record IsSaid (c index : ℕ) (export : ExportPart) : Type 0 where
     there : slice_get (exports_of image c) index ≡ Some export
     said_so : lookup.export_at said c index ≡ Some (proto_of export)
 
-  export_of : (c index : ℕ) (comp : Option CompPart) → slice_get image.comps c ≡ comp → (export : ExportPart) →
-      slice_get (option_map_or (λ (x : CompPart). x.exports) comp []) index ≡ Some export →
-      lookup.export_at said c index ≡ Some (proto_of export)
-  export_of c index None at export is = let never = is in cc never
-  export_of c index (Some comp) at export is =
-      ap (λ found. option_and_then (λ i. slice_get i.exports index) found) (comp_said c _ at) ∙
-      (slice_get-map proto_of comp.exports index ∙ ap (option_map _) is)
-
   said_at : (c index : ℕ) → index < length (exports_of image c) → (export : ExportPart) × IsSaid c index export
   said_at c index within =
-      let found = is_there _ index within in
-      (found.0, record { there = found.1; said_so = export_of c index _ refl found.0 found.1 })
-
-  module _ (formed : IsWellFormed image) where
-    few_by : (c index : ℕ) (comp : Option CompPart) → slice_get image.comps c ≡ comp → (export : ExportPart) →
-        slice_get (option_map_or (λ (x : CompPart). x.exports) comp []) index ≡ Some export → export.params ≤ 8
-    few_by c index None at export is = let never = is in cc never
-    few_by c index (Some comp) at export is =
-        let all = (formed.comps c comp at).exports index export (slice_get_within _ index export is) in
-        subst (λ e. e.params ≤ 8) (get_or_from_slice_get _ index export export is) all.params
-
-    few_params : (c index : ℕ) (export : ExportPart) → IsSaid c index export → export.params ≤ 8
-    few_params c index export is = few_by c index _ refl export is.there
+      let there = is_there _ index within in
+      let found = comp_found (λ comp. comp.exports) [] (λ exports. slice_get exports index ≡ Some there.0)
+      (λ never. cc never) _ there.1 in (
+        there.0,
+        record {
+          there = there.1;
+          said_so = ap (λ found. option_and_then (λ i. slice_get i.exports index) found) (comp_said c _ found.1) ∙
+              (slice_get-map proto_of found.0.exports index ∙ ap (option_map _) found.2);
+        },
+      )
 
 -- Where a run stands, by its cross stack.
 
@@ -183,36 +157,29 @@ record IsOver (image : ImageParts) (state : State) : Type 0 where
 abbrev IsTold : ImageParts → State → Type 0
 IsTold image state = IsTraced image state ⊎ IsOver image state
 
-abbrev ToldAfter : ImageParts → Outcome → Type 0
-ToldAfter image (Goes next) = IsTold image next
-ToldAfter image (Traps reason) = Unit {0}
-
 position_within : (test : ExportPart → Bool) (exports : List ExportPart) (index : ℕ) →
     position test exports ≡ Some index → index < length exports
-position_within test exports index is = by_test _ refl is
-  where
-    by_test : (found : Bool) → ltb (position_or_len test exports) (length exports) ≡ found →
-        cond found (Some (position_or_len test exports)) None ≡ Some index → index < length exports
-    by_test true at is = let same : position_or_len test exports ≡ index = cc is in
-        subst (λ k. k < length exports) same (ltb-true _ _ at)
-    by_test false at is = let never = is in cc never
+position_within test exports index is = (position-Some test exports index no_export is).0
 
 module _ (image : ImageParts) (inputs : List ℕ) (formed : IsWellFormed image) (all : All IsWord inputs) (state : State)
     (h : IsTraced image state) where
   -- a state after an event that is allowed, where the run goes on
   goes_on : (event : Event) (next : State) → IsSteady image next → AreOfExports image next.cross →
-      next.trace ≡ state.trace ++ event ∷ [] →
-      is_allowed (interfaces_of image) (standing_of state) event ≡ true →
+      next.trace ≡ state.trace ++ event ∷ [] → is_allowed (interfaces_of image) (standing_of state) event ≡ true →
       stands_after (standing_of state) event ≡ Some (standing_of next) → IsTold image next
   goes_on event next steady exports trace allowed stands = inl (record {
     steady = steady;
     exports = exports;
-    legal = ap (law.legal (interfaces_of image)) trace ∙
-        legal_more (interfaces_of image) (at_start image.main) state.trace event
+    legal = ap (law.legal _) trace ∙ legal_more (interfaces_of image) (at_start _) state.trace event
         (standing_of state) h.legal h.stands allowed;
-    stands = ap (stands_behind (at_start image.main)) trace ∙
-        (stands_more (at_start image.main) state.trace event (standing_of state) h.stands ∙ stands);
+    stands = ap (stands_behind _) trace ∙ (stands_more (at_start _) state.trace event _ h.stands ∙ stands);
   })
+
+  silent : (regs : List ℕ) (pc : ℕ) (memory : Memory) →
+      IsSteady image (record state { regs = regs; pc = pc; memory = memory }) →
+      IsTold image (record state { regs = regs; pc = pc; memory = memory })
+  silent regs pc memory steady =
+      inl (record { steady = steady; exports = h.exports; legal = h.legal; stands = h.stands })
 
   fits_given : (result : Bool) → fits_result (if result then Some Int else None) (given_back result state) ≡ true
   fits_given true = refl
@@ -222,8 +189,7 @@ module _ (image : ImageParts) (inputs : List ℕ) (formed : IsWellFormed image) 
       IsTold image (returned image state cross)
   told_return [] is steady =
       let event = End state.active (reg state a0) in
-      let outermost =
-      and_from (state.active == state.active) _ (eq-eqb _ _ refl)
+      let outermost = and_from (state.active == state.active) _ (eq-eqb _ _ refl)
       (ap (λ cross. law.is_outermost (waiting_of cross)) is) in
       inr (record {
         legal = legal_more (interfaces_of image) (at_start _) state.trace event
@@ -231,76 +197,56 @@ module _ (image : ImageParts) (inputs : List ℕ) (formed : IsWellFormed image) 
         over = ended_by state.trace event;
       })
   told_return (x ∷ xs) is steady =
-      let chain =
-      subst (IsChain _ _) is h.steady.chain in
+      let chain = subst (IsChain _ _) is h.steady.chain in
       let exports = subst (AreOfExports image) is h.exports in
       let index = exports.0.0 in
       let said = said_at image x.callee index exports.0.1.1 in
       let value = given_back (has_result image x.callee x.entry) state in
-      let value_is =
-      ap (λ entry. given_back (has_result image x.callee entry) state) exports.0.1.0 ∙
+      let value_is = ap (λ entry. given_back (has_result image x.callee entry) state) exports.0.1.0 ∙
       ap (λ found. given_back (option_map_or (λ e. e.result) found false) state) said.1.there in
-      let returns =
-      ap (λ entry. may_return (interfaces_of image) x.callee entry value) exports.0.1.0 ∙
+      let returns = ap (λ entry. may_return (interfaces_of image) x.callee entry value) exports.0.1.0 ∙
       (ap (λ found. option_map_or (λ p. fits_result p.result value) found false) said.1.said_so ∙
       (ap (fits_result (if said.0.result then Some Int else None)) value_is ∙ fits_given said.0.result)) in
-      let here =
-      subst (λ cross. may_return (interfaces_of image) state.active (entry_of cross) value ≡ true) (sym is)
+      let here = subst (λ cross. may_return (interfaces_of image) state.active (entry_of cross) value ≡ true) (sym is)
       (subst (λ c. may_return (interfaces_of image) c x.entry value ≡ true) chain.0 returns) in
-      let awaited =
-      subst (λ cross. law.awaits (waiting_of cross) x.caller ≡ true) (sym is) (eq-eqb x.caller _ refl) in
+      let awaited = subst (λ cross. law.awaits (waiting_of cross) x.caller ≡ true) (sym is) (eq-eqb x.caller _ refl) in
       goes_on _ _ steady exports.1 refl (and_from (state.active == state.active) _ (eq-eqb _ _ refl)
       (and_from _ _ awaited here)) (ap (λ cross. resumed (waiting_of cross)) is)
 
-  told_step : ToldAfter image (step image inputs state)
-  told_step = step_of image inputs formed state (λ outcome. SteadyAfter image outcome → ToldAfter image outcome)
+  told_step : AtNext (IsTold image) (step image inputs state)
+  told_step = step_of image inputs formed state
+      (λ outcome. AtNext (IsSteady image) outcome → AtNext (IsTold image) outcome)
       (record {
         same = λ a owned. refl;
         traps = λ reason steady. tt;
-        quiet = λ regs pc same steady. inl (record {
-          steady = steady;
-          exports = h.exports;
-          legal = h.legal;
-          stands = h.stands;
-        });
-        stores = λ op a word allowed steady. inl (record {
-          steady = steady;
-          exports = h.exports;
-          legal = h.legal;
-          stands = h.stands;
-        });
+        quiet = λ regs pc same steady. silent regs pc _ steady;
+        stores = λ op a word allowed steady. silent _ _ _ steady;
         calls = λ to index target at may steady.
             let said = said_at image to index (position_within (λ export. export.entry == target)
             (exports_of image to) index at) in
-            let few = few_params image formed to index said.0 said.1 in
+            let args = arguments (params_of image to index) state.regs in
             let params_is : params_of image to index ≡ said.0.params =
             ap (λ (found : Option ExportPart). option_map_or (λ e. e.params) found 0) said.1.there in
-            let args = arguments (params_of image to index) state.regs in
             let count : length args ≡ said.0.params =
-            length-take-le (params_of image to index) (drop a0 state.regs)
-            (omega (arith, few, params_is, length-drop a0 state.regs, h.steady.regs)) ∙ params_is in
-            let taken : takes (interfaces_of image) to index _ ≡ true =
-            ap (λ found. option_map_or (λ (p : Proto).
+            length-arguments _ state.regs (few_params image to index formed) h.steady.regs ∙ params_is in
+            let taken : takes (interfaces_of image) to index _ ≡ true = ap (λ found. option_map_or (λ (p : Proto).
             length p.params == length args) found false) said.1.said_so ∙ eq-eqb (length _) (length args)
             (length-replicate said.0.params Int ∙ sym count) in
             goes_on (Call _ to index args) _ steady (
               (index, (refl, position_within (λ export. _ == target) (exports_of image to) index at)),
               h.exports,
             ) refl (and_from (state.active == state.active) _ (eq-eqb _ _ refl) (and_from _ _
-            (function_said image _ to index _ refl may) taken)) refl;
+            (function_said image _ to index may) taken)) refl;
         returns = λ steady. told_return state.cross refl steady;
         outputs = λ may steady. goes_on _ _ steady h.exports refl
-            (and_from (state.active == state.active) _ (eq-eqb state.active _ refl)
-            (output_said image _ _ refl may)) refl;
+            (and_from (state.active == state.active) _ (eq-eqb state.active _ refl) (output_said image _ may)) refl;
         reads = λ may steady. goes_on (In state.active _) _ steady h.exports refl
-            (and_from (state.active == state.active) _ (eq-eqb _ _ refl)
-            (input_said image state.active _ refl may)) refl;
+            (and_from (state.active == state.active) _ (eq-eqb _ _ refl) (input_said image state.active may)) refl;
       }) (steady_step image inputs formed all state h.steady)
 
 -- Runs.
 
-module _ (image : ImageParts) (inputs : List ℕ) (formed : IsWellFormed image) (all : All IsWord inputs)
-    (events : ℕ) where
+module _ (image : ImageParts) (events : ℕ) where
   -- a run that has ended stops
   not_over : (ended full : Bool) → (if ended then Some Ended else if full then Some EventsOut else None) ≡ None →
       ended ≡ false
@@ -312,23 +258,10 @@ module _ (image : ImageParts) (inputs : List ℕ) (formed : IsWellFormed image) 
   goes state (inl traced) is = traced
   goes state (inr over) is = absurd (true≢false (sym over.over ∙ not_over _ _ is))
 
-  told_by : (early : Option Stop) (state : State) (later : Run) → stopped events state.trace ≡ early →
-      IsTold image state →
-      (stopped events state.trace ≡ None → IsTold image later.state) → IsTold image (stops_or early state later).state
-  told_by None state later is h k = k is
-  told_by (Some stop) state later is h k = h
-
-  told_after : (state : State) (outcome : Outcome) (go : State → Run) → IsTold image state → ToldAfter image outcome →
-      ((next : State) → IsTold image next → IsTold image (go next).state) → IsTold image (after state outcome go).state
-  told_after state (Goes next) go h k later = later next k
-  told_after state (Traps reason) go h k later = h
-
-  told_run : (steps : ℕ) (state : State) → IsTold image state → IsTold image (run image inputs events steps state).state
-  unfolding run
-  told_run zero state h = told_by _ state _ refl h (λ is. h)
-  told_run (suc steps) state h =
-      told_by _ state _ refl h (λ is. told_after state (step image inputs state) (run image inputs events steps) h
-      (told_step image inputs formed all state (goes state h is)) (told_run steps))
+told_run : (image : ImageParts) (inputs : List ℕ) → IsWellFormed image → All IsWord inputs → (events steps : ℕ)
+    (state : State) → IsTold image state → IsTold image (run image inputs events steps state).state
+told_run image inputs formed all events = run_keeps image inputs events (IsTold image)
+    (λ state h early. told_step image inputs formed all state (goes image events state h early))
 
 told_start : (image : ImageParts) → IsWellFormed image → IsTold image (start image)
 told_start image formed = inl (record { steady = steady_start image formed; exports = tt; legal = refl; stands = refl })
@@ -339,6 +272,5 @@ told_legal image state (inl traced) = traced.legal
 told_legal image state (inr over) = over.legal
 
 pub all_traces_legal : TracesAreLegal
-all_traces_legal image inputs steps events formed all =
-    told_legal image (machine image inputs steps events).state
+all_traces_legal image inputs steps events formed all = told_legal image (machine image inputs steps events).state
     (told_run image inputs formed all events steps _ (told_start image formed))

@@ -16,23 +16,22 @@ pub walk_one : (image : ImageParts) (inputs : List ℕ) (from to : State) → st
     Walks image inputs 1 from to
 walk_one image inputs from to goes = record { by = ap (λ o. then_on o (walk image inputs 0)) goes }
 
-module _ (image : ImageParts) (inputs : List ℕ) where
-  -- the first of some steps
-  walked_first : (m n : ℕ) (outcome : Outcome) (middle : State) → then_on outcome (walk image inputs m) ≡ Goes middle →
-      ((state : State) → walk image inputs m state ≡ Goes middle →
-      walk image inputs (m + n) state ≡ walk image inputs n middle) →
-      then_on outcome (walk image inputs (m + n)) ≡ walk image inputs n middle
-  walked_first m n (Goes state) middle goes later = later state goes
-  walked_first m n (Traps reason) middle goes later = let never = goes in cc never
+-- the first of some steps
+pub first_step : (later : State → Outcome) (to : State) (outcome : Outcome) → then_on outcome later ≡ Goes to →
+    (next : State) × (outcome ≡ Goes next) × (later next ≡ Goes to)
+first_step later to (Goes next) goes = (next, refl, goes)
+first_step later to (Traps reason) goes = let never = goes in cc never
 
+module _ (image : ImageParts) (inputs : List ℕ) where
   walk_on : (m n : ℕ) (from middle : State) → walk image inputs m from ≡ Goes middle →
       walk image inputs (m + n) from ≡ walk image inputs n middle
   walk_on zero n from middle goes =
       let same : from ≡ middle = cc goes in ap (λ k. walk image inputs k from) (zero-add n) ∙
       ap (walk image inputs n) same
   walk_on (suc m) n from middle goes =
-      ap (λ k. walk image inputs k from) (suc-add m n) ∙
-      walked_first m n _ middle goes (λ state. walk_on m n state middle)
+      let first = first_step (walk image inputs m) middle _ goes in
+      ap (λ k. walk image inputs k from) (suc-add m n) ∙ ap (λ o. then_on o (walk image inputs (m + n))) first.1 ∙
+      walk_on m n first.0 middle first.2
 
 pub walk_together : (image : ImageParts) (inputs : List ℕ) (m n : ℕ) (from middle to : State) →
     Walks image inputs m from middle → Walks image inputs n middle to → Walks image inputs (m + n) from to
@@ -55,8 +54,8 @@ steps_by_instruction = record {
   branch_taken = λ image inputs state op rs1 rs2 imm target at taken same. by_instr image inputs state _ at ∙
       rw (taken, same) refl;
   branch_not_taken = λ image inputs state op rs1 rs2 imm at taken. by_instr image inputs state _ at ∙ rw taken refl;
-  loads = λ image inputs state op rd rs1 imm address at same. by_instr image inputs state _ at ∙ rw same refl;
-  stores = λ image inputs state op rs1 rs2 imm address at same. by_instr image inputs state _ at ∙ rw same refl;
+  loads = λ image inputs state op rd rs1 imm _ at same. by_instr image inputs state _ at ∙ rw same refl;
+  stores = λ image inputs state op rs1 rs2 imm _ at same. by_instr image inputs state _ at ∙ rw same refl;
   op_imm = λ image inputs state op rd rs1 imm at. by_instr image inputs state _ at;
   shift = λ image inputs state op rd rs1 amount at. by_instr image inputs state _ at;
   op = λ image inputs state op rd rs1 rs2 at. by_instr image inputs state _ at;
@@ -103,8 +102,7 @@ globals_placed image c comp k formed found below =
     let high : nat_lt (stack_size + k) stack_size ≡ false = le-ltb _ _ (omega arith) in
     let place : stack_size + k - stack_size ≡ k = omega arith in
     ap (start_memory image) at ∙ data_placed image c comp found (stack_size + k)
-    (omega (arith, below, (formed.comps c comp found).short_globals)) ∙
-    rw (high, place) refl
+    (omega (arith, below, (formed.comps c comp found).short_globals)) ∙ rw (high, place) refl
 
 -- The bytes of words, one after the other.
 
@@ -136,17 +134,19 @@ four_bytes word below = omega (arith, below)
 -- the number that four bytes in memory make
 pub load_is : (memory : Memory) (a word : ℕ) → word < 2 ^ 32 →
     ((j : ℕ) → j < 4 → memory (a + j) ≡ Some (byte_of word j)) → load_of memory a 4 ≡ word
-load_is memory a word below bytes =
-    rw (bytes 0 (omega arith), bytes 1 (omega arith), bytes 2 (omega arith), bytes 3 (omega arith))
-    (four_bytes word below)
+load_is memory a word below bytes = rw (
+  bytes 0 (omega arith),
+  bytes 1 (omega arith),
+  bytes 2 (omega arith),
+  bytes 3 (omega arith),
+) (four_bytes word below)
 
 words_placed : (image : ImageParts) (c : ℕ) (comp : CompPart) (words : List ℕ) (k word : ℕ) → IsWellFormed image →
     slice_get image.comps c ≡ Some comp → comp.globals ≡ flat_map (little_bytes 4) words →
     slice_get words k ≡ Some word → IsWord word → load_of (start_memory image) (stack_top c + 4 * k) 4 ≡ word
 words_placed image c comp words k word formed found bytes at below =
     load_is (start_memory image) _ word below (λ j within.
-    let byte : slice_get _ (4 * k + j) ≡ Some (byte_of word j) =
-    rw bytes (word_byte words k j word within at) in
+    let byte : slice_get _ (4 * k + j) ≡ Some (byte_of word j) = rw bytes (word_byte words k j word within at) in
     let place : stack_top c + 4 * k + j ≡ stack_top c + (4 * k + j) = omega arith in
     ap (start_memory image) place ∙ globals_placed image c comp _ formed found (slice_get_within _ _ _ byte) ∙ byte)
 
@@ -159,7 +159,7 @@ any_in (first ∷ regions) zero address region at within =
     let same : first ≡ region = cc at in
     or_left (is_in first address) _ (subst (λ r. is_in r address ≡ true) (sym same) within)
 any_in (first ∷ regions) (suc number) address region at within =
-    or_right (is_in first address) _ (any_in regions number address region at within)
+    or_right (is_in first address) _ (any_in regions number _ region at within)
 
 within_region : (region : Region) (address : ℕ) → region.start ≤ address → address + 1 ≤ region.start + region.bytes →
     is_in region address ≡ true

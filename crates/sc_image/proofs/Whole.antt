@@ -5,14 +5,15 @@ use Rattle.sc_image.proofs.Common.{IsComp, IsDistinct, IsDistinct-from_AllPairs,
 use Rattle.sc_image.proofs.Common.{IsExport, IsImport, IsSomeAnd, IsWellFormed, IsWord, List, None, Option, Some, []}
 use Rattle.sc_image.proofs.Common.{all_by, and_from, and_parts, ap, are_distinct, arith, bytes_decides, code_of}
 use Rattle.sc_image.proofs.Common.{code_start, comps_keep, cond, distinct_count-from_IsDistinct, eq-eqb, eqb-false}
-use Rattle.sc_image.proofs.Common.{eqb-true, exports_keep, false, false_from_ne_true, get_or_default, imports_keep}
-use Rattle.sc_image.proofs.Common.{is_entry, is_import, is_same_import, is_same_name, is_some, keeps_rules, length}
-use Rattle.sc_image.proofs.Common.{list_all, lit≤, lt-ltb, ltb-true, map, nat_lt, ne_eqb, not-true, not_from_Decides}
-use Rattle.sc_image.proofs.Common.{not_from_false, option_map_or, recursion_from_All, refl, same_from_decides}
-use Rattle.sc_image.proofs.Common.{slice_get, slice_get_within, stretch, subst, suc, sym, true, unsigned_Decides}
-use Rattle.sc_image.proofs.Common.{word_at, zero, zero-add, ℕ, ◌&&◌, ◌*◌, ◌+◌, ◌-◌, ◌/◌, ◌<◌, ◌==◌, ◌^◌, ◌∙◌, ◌∷◌, ◌≡◌}
-use Rattle.sc_image.proofs.Common.{◌≤◌}
+use Rattle.sc_image.proofs.Common.{eqb-true, exports_keep, false, false_from_ne_true, get_or_default}
+use Rattle.sc_image.proofs.Common.{get_or_from_slice_get, imports_keep, is_entry, is_import, is_same_import}
+use Rattle.sc_image.proofs.Common.{is_same_name, is_some, keeps_rules, length, list_all, lit≤, lt-ltb, ltb-true, map}
+use Rattle.sc_image.proofs.Common.{nat_lt, ne_eqb, not-true, not_from_Decides, not_from_false, option_map_or}
+use Rattle.sc_image.proofs.Common.{recursion_from_All, refl, same_from_decides, slice_get, slice_get_within, stretch}
+use Rattle.sc_image.proofs.Common.{subst, suc, sym, true, unsigned_Decides, word_at, zero, zero-add, ℕ, ◌&&◌, ◌*◌, ◌+◌}
+use Rattle.sc_image.proofs.Common.{◌-◌, ◌/◌, ◌<◌, ◌==◌, ◌^◌, ◌∙◌, ◌∷◌, ◌≡◌, ◌≤◌}
 use Rattle.sc_image.proofs.Fields.{IsBytes, bytes_fit}
+use Rattle.sc_image.proofs.Words.{some_is}
 use Rattle.sc_image.proofs.FileFields.{FitsExport, FitsImport, FitsComp, FitsParts}
 
 -- Distinct things.
@@ -43,7 +44,7 @@ entries_decide a b = unsigned_Decides a b
 pub imports_decide : (a b : ImportPart) → Decides (is_same_import a b) (a ≡ b)
 imports_decide a b =
     Decides-like _ (λ both. rejoin a b both.0 both.1) (λ same. (ap (λ i. i.comp) same, ap (λ i. i.index) same))
-    (Decides-and (a.comp == b.comp) _ (unsigned_Decides a.comp b.comp) (unsigned_Decides a.index b.index))
+    (Decides-and (a.comp == b.comp) _ (unsigned_Decides a.comp b.comp) (unsigned_Decides _ _))
   where
     rejoin : (a b : ImportPart) → a.comp ≡ b.comp → a.index ≡ b.index → a ≡ b
     rejoin a b comp index = ap (λ c. record { comp = c; index = a.index }) comp ∙
@@ -51,15 +52,10 @@ imports_decide a b =
 
 -- Entries.
 
-some_within : (words : List ℕ) (k : ℕ) (found : Option ℕ) → slice_get words k ≡ found → is_some found ≡ true →
-    k < length words
-some_within words k None at some = let never = some in cc never
-some_within words k (Some word) at some = slice_get_within words k word at
-
 entry_by : (image : ImageParts) (c entry : ℕ) (whole : Bool) →
     is_some (cond whole (slice_get (code_of image c) ((entry - code_start c) / 4)) None) ≡ true →
     (entry - code_start c) / 4 < length (code_of image c)
-entry_by image c entry true some = some_within _ _ _ refl some
+entry_by image c entry true some = let word = some_is _ some in slice_get_within _ _ word.0 word.1
 entry_by image c entry false some = let never = some in cc never
 
 entry_is_short : (image : ImageParts) (c entry : ℕ) → c < 32 → 4 * length (code_of image c) ≤ stretch →
@@ -99,8 +95,7 @@ test_by_import image c import is =
 -- Lists.
 
 all_by_tests : {A : Type 0} (test : A → Bool) (F P : A → Type 0) → ((x : A) → F x → test x ≡ true → P x) →
-    (xs : List A) →
-    AllByRecursion F xs → list_all test xs ≡ true → AllByRecursion P xs
+    (xs : List A) → AllByRecursion F xs → list_all test xs ≡ true → AllByRecursion P xs
 all_by_tests test F P each [] fits is = tt
 all_by_tests test F P each (x ∷ xs) fits is =
     let tests = and_parts _ _ is in
@@ -111,25 +106,18 @@ tests_by_all : {A : Type 0} (test : A → Bool) (P : A → Type 0) → ((x : A) 
 tests_by_all test P each [] all = refl
 tests_by_all test P each (x ∷ xs) all = and_from _ _ (each x all.0) (tests_by_all test P each xs all.1)
 
-weaker : {A : Type 0} (P Q : A → Type 0) → ((x : A) → P x → Q x) → (xs : List A) → AllByRecursion P xs →
-    AllByRecursion Q xs
-weaker P Q each [] all = tt
-weaker P Q each (x ∷ xs) all = (each x all.0, weaker P Q each xs all.1)
-
 -- A compartment.
 
 exports_are : (image : ImageParts) (c : ℕ) (exports : List ExportPart) → AllByRecursion FitsExport exports →
     list_all (λ export. is_entry image c export.entry) exports ≡ true → All (IsExport image c) exports
-exports_are image c exports fits is =
-    All-from_recursion (IsExport image c) exports (all_by_tests _ FitsExport _
-    (λ export h entry. record { name = h.name; params = h.params; entry = entry }) exports fits is)
+exports_are image c exports fits is = All-from_recursion (IsExport image c) exports (all_by_tests _ FitsExport _
+    (λ export h entry. record { name = h.name; params = h.params; entry = entry }) _ fits is)
 
 imports_are : (image : ImageParts) (c comps : ℕ) (imports : List ImportPart) →
     AllByRecursion (FitsImport comps) imports →
     list_all (is_import image c) imports ≡ true → All (IsImport image c) imports
-imports_are image c comps imports fits is =
-    All-from_recursion (IsImport image c) imports (all_by_tests _ _ _
-    (λ import h test. import_by_test image c import test) imports fits is)
+imports_are image c comps imports fits is = All-from_recursion (IsImport image c) imports
+    (all_by_tests _ _ _ (λ import h test. import_by_test image c import test) _ fits is)
 
 abbrev pub keeps : ImageParts → ℕ → CompPart → Bool
 keeps image c comp = exports_keep image c comp.exports && imports_keep image c comp.imports
@@ -166,8 +154,7 @@ kept_at image c [] is i comp at = let never : ◌≡◌ None _ = at in cc never
 kept_at image c (first ∷ comps) is zero comp at =
     let same : first ≡ comp = cc at in
     let c-is : c + 0 ≡ c = omega arith in
-    let first_keeps : keeps image (c + 0) first ≡ true =
-    rw c-is (and_parts (keeps image c first) _ is).0 in
+    let first_keeps : keeps image (c + 0) first ≡ true = rw c-is (and_parts (keeps image c first) _ is).0 in
     subst (λ x. keeps image (c + 0) x ≡ true) same first_keeps
 kept_at image c (first ∷ comps) is (suc i) comp at =
     let next : suc c + i ≡ c + suc i = omega arith in
@@ -185,12 +172,6 @@ keep_by image c (first ∷ comps) each =
 
 -- The whole.
 
-at_place : {A : Type 0} (P : A → Type 0) (xs : List A) → AllByRecursion P xs → (i : ℕ) (x : A) →
-    slice_get xs i ≡ Some x → P x
-at_place {A} P [] all i x at = let never = at in cc never
-at_place {A} P (y ∷ xs) all zero x at = let same : y ≡ x = cc at in subst P same all.0
-at_place {A} P (y ∷ xs) all (suc i) x at = at_place P xs all.1 i x at
-
 pub whole_is : (image : ImageParts) → FitsParts image → keeps_rules image ≡ true → IsWellFormed image
 whole_is image fits is =
     let names = and_parts _ _ is in
@@ -199,7 +180,9 @@ whole_is image fits is =
       few_comps = fits.few;
       main = fits.main;
       entry = rest.0;
-      comps = λ c comp at. comp_is image (length image.comps) c comp (at_place _ _ fits.comps c comp at)
+      comps = λ c comp at. comp_is image (length image.comps) c comp
+          (subst (FitsComp _) (get_or_from_slice_get _ c comp comp at)
+          (All-from_recursion (FitsComp _) _ fits.comps c comp (slice_get_within _ c comp at)))
           (subst (λ k. keeps image k comp ≡ true) (zero-add c) (kept_at image 0 _ rest.1 c comp at));
       names = distinct_by_test _ names_decide _ names.0;
     }
@@ -231,12 +214,11 @@ module _ (image : ImageParts) (formed : IsWellFormed image) where
   entry_fits c entry within is =
       entry_is_short image c entry (omega (arith, within, formed.few_comps)) (code_is_short c _ refl) is
 
-  import_comp : (index : ℕ) (c : ℕ) (found : Option CompPart) → slice_get image.comps c ≡ found →
-      IsSomeAnd found (λ comp. index < length comp.exports) →
-      (c < length image.comps) × (index < 2 ^ 16)
+  import_comp : (index c : ℕ) (found : Option CompPart) → slice_get image.comps c ≡ found →
+      IsSomeAnd found (λ comp. index < length comp.exports) → (c < length image.comps) × (index < 2 ^ 16)
   import_comp index c None at is = absurd is
   import_comp index c (Some comp) at is = (
-    slice_get_within image.comps c comp at,
+    slice_get_within _ c comp at,
     omega (arith, is, (formed.comps c comp at).few_exports),
   )
 
@@ -253,15 +235,15 @@ module _ (image : ImageParts) (formed : IsWellFormed image) where
         no_environment = false_from_ne_true _ (λ same. h.no_environment ((names_decide _ _).0 same));
         exports = record {
           few = h.few_exports;
-          each = weaker (IsExport image c) FitsExport (λ export e. record {
+          each = recursion_from_All FitsExport _ (λ i d within. let e = h.exports i d within in record {
             name = e.name;
             params = e.params;
             entry = entry_fits c _ (slice_get_within _ c comp at) e.entry;
-          }) _ (recursion_from_All _ _ h.exports);
+          });
         };
         imports = record {
           few = h.few_imports;
-          each = weaker _ _ (import_fits c) _ (recursion_from_All _ _ h.imports);
+          each = recursion_from_All _ _ (λ i d within. import_fits c _ (h.imports i d within));
         };
         code = record { short = h.short_code; each = recursion_from_All IsWord _ h.words };
         globals = record { short = h.short_globals; bytes = bytes_fit _ h.bytes };

@@ -23,8 +23,7 @@ module _ (interfaces : Interfaces) where
 
   same_imports : (comp : ℕ) (is_it : Import → Bool) →
       imports (word_interfaces interfaces) comp is_it ≡ imports interfaces comp is_it
-  same_imports comp is_it =
-      ap (list_any is_it) (ap (λ found. option_map_or (λ i. i.imports) found [])
+  same_imports comp is_it = ap (list_any is_it) (ap (λ found. option_map_or (λ i. i.imports) found [])
       (same_comp comp) ∙ imports_by (comp_at interfaces comp))
 
   -- exports
@@ -40,16 +39,14 @@ module _ (interfaces : Interfaces) where
   same_export comp index =
       ap (λ found. option_and_then (λ i. slice_get i.exports index) found) (same_comp comp) ∙ export_by index _
 
-  takes_by : (count : ℕ) (found : Option Proto) →
-      option_map_or (λ (p : Proto). length p.params == count) (option_map word_proto found) false ≡
-      option_map_or (λ (p : Proto). length p.params == count) found false
+  takes_by : (count : ℕ) (found : Option Proto) → option_map_or (λ (p : Proto). length p.params == count)
+      (option_map word_proto found) false ≡ option_map_or (λ (p : Proto). length p.params == count) found false
   takes_by count None = refl
   takes_by count (Some proto) = ap (λ n. n == count) (length-map _ _)
 
   same_takes : (comp index count : ℕ) →
       takes (word_interfaces interfaces) comp index count ≡ takes interfaces comp index count
-  same_takes comp index count =
-      ap (λ found. option_map_or (λ p. length p.params == count) found false)
+  same_takes comp index count = ap (λ found. option_map_or (λ p. length p.params == count) found false)
       (same_export comp index) ∙ takes_by count _
 
   fits_by : (result : Option Scalar) (value : Option ℕ) →
@@ -68,8 +65,7 @@ module _ (interfaces : Interfaces) where
   same_return : (comp : ℕ) (entry : Entry) (value : Option ℕ) →
       may_return (word_interfaces interfaces) comp entry value ≡ may_return interfaces comp entry value
   same_return comp Main value = refl
-  same_return comp (Export index) value =
-      ap (λ found. option_map_or (λ p. fits_result p.result value) found false)
+  same_return comp (Export index) value = ap (λ found. option_map_or (λ p. fits_result p.result value) found false)
       (same_export comp index) ∙ result_by value _
 
   -- events
@@ -86,8 +82,7 @@ module _ (interfaces : Interfaces) where
       is_legal_from (word_interfaces interfaces) at trace ≡ is_legal_from interfaces at trace
   same_from at [] = refl
   same_from None (event ∷ later) = refl
-  same_from (Some at) (event ∷ later) =
-      ap₂ (λ x y. (performer event == at.active.comp && x) && y) (same_event at event)
+  same_from (Some at) (event ∷ later) = ap₂ (λ x y. (performer event == at.active.comp && x) && y) (same_event at event)
       (same_from (stands_after at event) later)
 
 pub legal_by_words : LegalByWords

@@ -1,17 +1,34 @@
 -- What a state holds are words, and a step computes words from words.
 use Rattle.sc_image.proofs.Common.{Bool, CompPart, ExportPart, HoldsBytes, ImageParts, IsSome, IsWellFormed, IsWord}
-use Rattle.sc_image.proofs.Common.{List, LoadOp, Memory, None, OpOp, Option, Some, [], add_word-lt, and_le_l, arith}
-use Rattle.sc_image.proofs.Common.{code_of, code_start, computed, div_word-lt, divu_word-lt, eqb-true, export_at}
-use Rattle.sc_image.proofs.Common.{extended, false, get_or_from_slice_get, if◌then◌else◌, kept_from, leb-true, load_of}
-use Rattle.sc_image.proofs.Common.{load_size, mul_word-lt, mulh_word-lt, mulhsu_word-lt, mulhu_word-lt, nat_le}
-use Rattle.sc_image.proofs.Common.{option_map_or, or_lt, position, position-Some, refl, rem_word-lt, remu_word-lt}
-use Rattle.sc_image.proofs.Common.{slice_get, slice_get_within, slice_index, slice_set, sll_word-lt, slt_word-lt}
-use Rattle.sc_image.proofs.Common.{sltu_word-lt, sra_word-lt, srl_word-lt, sub_word-lt, subst, suc, true, unwrap_or}
-use Rattle.sc_image.proofs.Common.{word_at, word_of-lt, written, xor_lt, zero, ℕ, ◌&&◌, ◌+◌, ◌-◌, ◌/◌, ◌<◌, ◌==◌, ◌^◌}
-use Rattle.sc_image.proofs.Common.{◌∷◌, ◌≡◌, ◌≤◌}
+use Rattle.sc_image.proofs.Common.{List, LoadOp, Memory, None, OpOp, Option, Some, [], add_word-lt, and_le_l, and_parts}
+use Rattle.sc_image.proofs.Common.{arith, code_start, comp_of_code, computed, div_word-lt, divu_word-lt, eqb-true}
+use Rattle.sc_image.proofs.Common.{export_at, extended, false, get_or_from_slice_get, if◌then◌else◌, kept_from}
+use Rattle.sc_image.proofs.Common.{leb-true, load_of, load_size, mul_word-lt, mulh_word-lt, mulhsu_word-lt}
+use Rattle.sc_image.proofs.Common.{mulhu_word-lt, nat_eq, option_map_or, or_lt, position, position-Some, refl}
+use Rattle.sc_image.proofs.Common.{rem_word-lt, remu_word-lt, slice_get, slice_get_within, slice_index, slice_set}
+use Rattle.sc_image.proofs.Common.{sll_word-lt, slt_word-lt, sltu_word-lt, sra_word-lt, srl_word-lt, sub_word-lt, subst}
+use Rattle.sc_image.proofs.Common.{suc, true, unwrap_or, word_at, word_of-lt, written, xor_lt, zero, ℕ, ◌%◌, ◌+◌, ◌-◌}
+use Rattle.sc_image.proofs.Common.{◌/◌, ◌<◌, ◌==◌, ◌^◌, ◌∷◌, ◌≡◌, ◌≤◌}
 use Rattle.rv_code.specs.declared.instr.OpOp.TheVariants.{Add, Sub, Sll, Slt, Sltu, Xor, Srl, Sra, Or, And, Mul, Mulh}
 use Rattle.rv_code.specs.declared.instr.OpOp.TheVariants.{Mulhsu, Mulhu, Div, Divu, Rem, Remu}
 use Rattle.rv_code.specs.declared.instr.LoadOp.TheVariants.{Lb, Lh, Lw, Lbu, Lhu}
+
+-- What is found by a test, what there is, and what a compartment has of which no compartment has any.
+
+pub if_some : {A : Type 0} (b : Bool) (x : Option A) (y : A) → (if b then x else None) ≡ Some y →
+    (b ≡ true) × (x ≡ Some y)
+if_some true x y is = (refl, is)
+if_some false x y is = let none = is in cc none
+
+pub some_is : {A : Type 0} (found : Option A) → IsSome found → (a : A) × (found ≡ Some a)
+some_is None some = let never = some in cc never
+some_is (Some a) some = (a, refl)
+
+pub comp_found : {B : Type 0} (part : CompPart → B) (default : B) (P : B → Type 0) → (P default → ⊥) →
+    (found : Option CompPart) → P (option_map_or part found default) →
+    (comp : CompPart) × (found ≡ Some comp) × P (part comp)
+comp_found part default P never None has = absurd (never has)
+comp_found part default P never (Some comp) has = (comp, refl, has)
 
 -- each place of a list holds a word
 abbrev pub AreWords : List ℕ → Type 0
@@ -124,61 +141,49 @@ loaded_word memory Lhu a h = omega (arith, two_bytes memory a h)
 
 -- a place in the code
 
-pub record IsInCode (address word : ℕ) : Type 0 where
+pub record IsInCode (c address word : ℕ) : Type 0 where
+  pub aligned : address % 4 ≡ 0
+  pub comp : comp_of_code address ≡ c
   pub next : address + 4 < 2 ^ 32
   pub bits : IsWord word
 
-module _ (image : ImageParts) (formed : IsWellFormed image) (c address word : ℕ) where
-  comp_by : (comp : Option CompPart) → slice_get image.comps c ≡ comp →
-      slice_get (option_map_or (λ comp. comp.code) comp []) ((address - code_start c) / 4) ≡ Some word →
-      code_start c ≤ address → IsInCode address word
-  comp_by None is at from = let none = at in cc none
-  comp_by (Some comp) is at from =
-      let well = formed.comps c comp is in
-      let within = slice_get_within _ ((address - code_start c) / 4) word at in
-      record {
-        next = omega (arith, within, well.short_code, from, slice_get_within image.comps c comp is, formed.few_comps);
-        bits = subst IsWord (get_or_from_slice_get comp.code _ word word at) (well.words _ word within);
-      }
-
-  where_true : (aligned from : Bool) → nat_le (code_start c) address ≡ from →
-      (if aligned && from then slice_get (code_of image c) ((address - code_start c) / 4) else None) ≡ Some word →
-      IsInCode address word
-  where_true true true is at = comp_by _ refl at (leb-true _ address is)
-  where_true true false is at = let none = at in cc none
-  where_true false from is at = let none = at in cc none
-
-  pub in_code : word_at image c address ≡ Some word → IsInCode address word
-  unfolding word_at
-  in_code at = where_true _ _ refl at
+pub in_code : (image : ImageParts) → IsWellFormed image → (c address word : ℕ) →
+    word_at image c address ≡ Some word → IsInCode c address word
+unfolding word_at
+in_code image formed c address word at =
+    let inside = if_some _ _ word at in
+    let tests = and_parts (nat_eq (address % 4) 0) _ inside.0 in
+    let from : code_start c ≤ address = leb-true _ address tests.1 in
+    let found = comp_found (λ comp. comp.code) []
+    (λ code. slice_get code ((address - code_start c) / 4) ≡ Some word) (λ none. cc none) _ inside.1 in
+    let well = formed.comps c found.0 found.1 in
+    let within = slice_get_within found.0.code ((address - code_start c) / 4) word found.2 in
+    record {
+      aligned = eqb-true _ _ tests.0;
+      comp = omega (arith, within, well.short_code, from);
+      next =
+          omega (arith, within, well.short_code, from, slice_get_within _ c found.0 found.1, formed.few_comps);
+      bits = subst IsWord (get_or_from_slice_get found.0.code _ word word found.2) (well.words _ word within);
+    }
 
 -- an address where there is a word of code, and where an export begins
 
-is_some_at : (image : ImageParts) → IsWellFormed image → (c address : ℕ) → (word : Option ℕ) →
-    word_at image c address ≡ word → IsSome word → IsWord address
-is_some_at image formed c address None at some = let never = some in cc never
-is_some_at image formed c address (Some word) at some = omega (arith, (in_code image formed c address word at).next)
-
 pub code_address : (image : ImageParts) → IsWellFormed image → (c address : ℕ) → IsSome (word_at image c address) →
     IsWord address
-code_address image formed c address some = is_some_at image formed c address _ refl some
+code_address image formed c address some =
+    let word = some_is _ some in omega (arith, (in_code image formed c _ word.0 word.1).next)
 
-abbrev no_export : ExportPart
+abbrev pub no_export : ExportPart
 no_export = record { name = []; params = 0; result = false; entry = 0 }
-
-entry_by : (image : ImageParts) → IsWellFormed image → (c target index : ℕ) (comp : Option CompPart) →
-    slice_get image.comps c ≡ comp →
-    position (λ export. export.entry == target) (option_map_or (λ (x : CompPart). x.exports) comp []) ≡ Some index →
-    IsSome (word_at image c target)
-entry_by image formed c target index None is at = let none = at in cc none
-entry_by image formed c target index (Some comp) is at =
-    let first = position-Some _ _ index no_export at in
-    let entry = ((formed.comps c comp is).exports index no_export first.0).entry in
-    subst (λ address. IsSome (word_at image c address)) (eqb-true _ _ first.1) entry
 
 pub entry_code : (image : ImageParts) → IsWellFormed image → (c target index : ℕ) →
     export_at image c target ≡ Some index → IsSome (word_at image c target)
-entry_code image formed c target index at = entry_by image formed c target index _ refl at
+entry_code image formed c target index at =
+    let found = comp_found (λ comp. comp.exports) []
+    (λ exports. position (λ export. export.entry == target) exports ≡ Some index) (λ none. cc none) _ at in
+    let first = position-Some _ found.0.exports index no_export found.2 in
+    let entry = ((formed.comps c found.0 found.1).exports index no_export first.0).entry in
+    subst (λ address. IsSome (word_at image c address)) (eqb-true _ _ first.1) entry
 
 pub entry_address : (image : ImageParts) → IsWellFormed image → (c target index : ℕ) →
     export_at image c target ≡ Some index → IsWord target

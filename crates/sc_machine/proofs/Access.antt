@@ -21,8 +21,7 @@ moved_test : (a low n size : ℕ) → low ≤ a → size ≤ n → nat_le (a - l
 moved_test a low n size h k = grind (arith, nat_tests)
 
 pub from_data : (image : ImageParts) (c a size n : ℕ) → 0 < size → n ≡ length (globals_of image c) → data_start c ≤ a →
-    size ≤ stack_size + n →
-    nat_le (a - data_start c) (stack_size + n - size) ≡ are_data image c a size
+    size ≤ stack_size + n → nat_le (a - data_start c) (stack_size + n - size) ≡ are_data image c a size
 from_data image c a size n some is low few =
     let top : data_start c + (stack_size + n) ≡ stack_top c + length (globals_of image c) = omega arith in
     rw (range_of image c a size some, le-leb _ a low) (moved_test a _ _ size low few ∙ ap (nat_le _) top)
@@ -33,8 +32,7 @@ there_by : (offset : ℕ) (comp : CompPart) (in_stack : Bool) → nat_lt offset 
     offset < stack_size + length comp.globals →
     is_some (if in_stack then Some 0 else slice_get comp.globals (offset - stack_size)) ≡ true
 there_by offset comp true is h = refl
-there_by offset comp false is h =
-    ⊎_elim (λ found. rw found.2 refl)
+there_by offset comp false is h = ⊎_elim (λ found. rw found.2 refl)
     (λ none. absurd (let from : stack_size ≤ offset = grind (arith, nat_tests) in omega (arith, none.0)))
     (slice_get_cases comp.globals (offset - stack_size)).1
 
@@ -49,13 +47,11 @@ start_there image c a comp found few low high =
     (there_by (a - data_start c) comp (nat_lt _ _) refl (omega arith))
 
 found_there : (image : ImageParts) (c a size : ℕ) (comp : CompPart) → slice_get image.comps c ≡ Some comp →
-    length comp.globals ≤ most_globals →
-    are_data image c a size ≡ true → HasBytes (start_memory image) a size
+    length comp.globals ≤ most_globals → are_data image c a size ≡ true → HasBytes (start_memory image) a size
 found_there image c a size comp found few h = λ k below.
     let same : globals_of image c ≡ comp.globals = rw found refl in
     let bounds = data_bounds image c a size (omega (arith, below)) h in
-    let high =
-    subst (λ globals. a + size ≤ stack_top c + length globals) same bounds.1 in
+    let high = subst (λ globals. a + size ≤ stack_top c + length globals) same bounds.1 in
     start_there image c _ comp found few (omega (arith, bounds.0)) (omega (arith, high, below))
 
 pub data_there : (image : ImageParts) (c a size : ℕ) → IsPlace image c → are_data image c a size ≡ true →
@@ -72,8 +68,7 @@ module _ {image : ImageParts} {c : ℕ} {words : List ℕ} {code_from data_from 
 
   pub looked_data : (a size : ℕ) → 0 < size → data_from ≤ a → size ≤ 4 →
       nat_le (a - data_from) (bytes - size) ≡ are_data image c a size
-  looked_data a size some low few =
-      rw (looked.data_from_is, looked.bytes_are)
+  looked_data a size some low few = rw (looked.data_from_is, looked.bytes_are)
       (from_data image c a size _ some refl (rw looked.data_from_is at low) (omega arith))
 
   pub looked_there : (a size : ℕ) → 0 < size → IsPlace image c → data_from ≤ a → size ≤ 4 →
@@ -98,15 +93,11 @@ module _ (image : ImageParts) (state : State) where
   pub load_goes : (op : LoadOp) (rd a size word : ℕ) → size ≡ load_size op → None ≡ refused image state.active size a →
       word ≡ extended op (load_of state.memory a (load_size op)) → gives state rd word ≡ load image state op rd a
   load_goes op rd a size word is allows loads =
-      let allowed =
-      sym (subst (λ n. None ≡ refused image state.active n a) is allows) in
+      let allowed = sym (subst (λ n. None ≡ refused image state.active n a) is allows) in
       rw (allowed, loads) refl
 
   pub store_goes : (op : StoreOp) (a size word : ℕ) → size ≡ store_size op → None ≡ refused image state.active size a →
       next (with_stored state op a word) ≡ store image state op a word
   store_goes op a size word is allows =
-      let allowed =
-      sym (subst (λ n. None ≡ refused image state.active n a) is allows) in
+      let allowed = sym (subst (λ n. None ≡ refused image state.active n a) is allows) in
       rw allowed refl
-
--- One byte.

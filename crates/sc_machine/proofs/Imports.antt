@@ -1,10 +1,9 @@
 -- What an import leads to is a function that may be called.
-use Rattle.sc_machine.proofs.Common.{Bool, CompPart, ExportPart, ImageParts, IsCallee, IsDistinct, IsEntry, IsExport}
-use Rattle.sc_machine.proofs.Common.{IsSome, IsWellFormed, List, None, Option, Some, ap, arith, cases_lt, code_of}
-use Rattle.sc_machine.proofs.Common.{comp_of_code, eq-eqb, eqb-true, false, get_or, get_or-map, get_or_from_slice_get}
-use Rattle.sc_machine.proofs.Common.{if◌then◌else◌, leb-true, length, length-map, map, may_call, nat_le, refl}
-use Rattle.sc_machine.proofs.Common.{slice_get, slice_get_within, stretch, subst, sym, true, word_at, ℕ, ⊎_elim, ◌&&◌}
-use Rattle.sc_machine.proofs.Common.{◌*◌, ◌-◌, ◌/◌, ◌<◌, ◌∙◌, ◌≡◌, ◌≤◌}
+use Rattle.sc_machine.proofs.Common.{CompPart, ExportPart, ImageParts, IsCallee, IsDistinct, IsEntry, IsExport}
+use Rattle.sc_machine.proofs.Common.{IsWellFormed, List, Some, ap, arith, cases_lt, comp_of_code, eq-eqb, eqb-true}
+use Rattle.sc_machine.proofs.Common.{get_or, get_or-map, get_or_from_slice_get, in_code, length, length-map, map}
+use Rattle.sc_machine.proofs.Common.{may_call, refl, rules, slice_get, slice_get_within, some_is, subst, sym, true, ℕ}
+use Rattle.sc_machine.proofs.Common.{⊎_elim, ◌<◌, ◌∙◌, ◌≡◌}
 use Rattle.sc_base.proofs.Lists.{position_of_only}
 use Rattle.sc_image.specs.declared.parts.ImportPart.{ImportPart}
 
@@ -14,8 +13,7 @@ use Rattle.sc_image.specs.declared.parts.ImportPart.{ImportPart}
 one_entry : (exports : List ExportPart) → IsDistinct (map (λ export. export.entry) exports) →
     (j k : ℕ) (d : ExportPart) → j < length exports → k < length exports →
     (get_or exports j d).entry ≡ (get_or exports k d).entry → j ≡ k
-one_entry exports distinct j k d inside within same =
-    ⊎_elim (λ before. absurd (apart j k before within same))
+one_entry exports distinct j k d inside within same = ⊎_elim (λ before. absurd (apart j k before within same))
     (λ rest. ⊎_elim (λ after. absurd (apart k j after inside (sym same)))
     (λ other. let both : j ≡ k = omega (arith, rest, other) in both) (cases_lt k j)) (cases_lt j k)
   where
@@ -24,34 +22,13 @@ one_entry exports distinct j k d inside within same =
     at i h = get_or-map _ exports i d d.entry h
 
     apart : (i l : ℕ) → i < l → l < length exports → (get_or exports i d).entry ≡ (get_or exports l d).entry → ⊥
-    apart i l before h e =
-        distinct i l d.entry before (omega (arith, h, length-map exports (λ export. export.entry)))
+    apart i l before h e = distinct i l d.entry before (omega (arith, h, length-map exports (λ export. export.entry)))
         (at i (omega (arith, before, h)) ∙ e ∙ sym (at l h))
 
 -- an entry lies in the stretch of its compartment's code
-has_word : (code : List ℕ) (k : ℕ) (word : Option ℕ) → slice_get code k ≡ word → IsSome word → k < length code
-has_word code k None at some = let never = some in cc never
-has_word code k (Some word) at some = slice_get_within code k word at
-
-lies_by : (aligned low : Bool) (begin entry : ℕ) (code : List ℕ) → (low ≡ true → begin ≤ entry) →
-    IsSome (if aligned && low then slice_get code ((entry - begin) / 4) else None) →
-    (begin ≤ entry) × ((entry - begin) / 4 < length code)
-lies_by true true begin entry code from some = (
-  from refl,
-  has_word code ((entry - begin) / 4) (slice_get code ((entry - begin) / 4)) refl some,
-)
-lies_by true false begin entry code from some = let never : false ≡ true = some in cc never
-lies_by false low begin entry code from some = let never : false ≡ true = some in cc never
-
-low_is : (x y : ℕ) → nat_le x y ≡ true → x ≤ y
-low_is x y h = leb-true x y h
-
-home_of : (image : ImageParts) (c entry : ℕ) → 4 * length (code_of image c) ≤ stretch → IsEntry image c entry →
-    c ≡ comp_of_code entry
-unfolding word_at
-home_of image c entry short is =
-    let lies = lies_by _ _ _ entry _ (low_is _ entry) is in
-    omega (arith, short, lies.0, lies.1)
+home_of : (image : ImageParts) (c entry : ℕ) → IsWellFormed image → IsEntry image c entry → c ≡ comp_of_code entry
+home_of image c entry formed is =
+    let word = some_is _ is in sym (in_code image formed c entry word.0 word.1).comp
 
 pub imported : (image : ImageParts) (caller : ℕ) (import : ImportPart) (comp : CompPart) (export : ExportPart) →
     IsWellFormed image →
@@ -66,14 +43,11 @@ pub imported : (image : ImageParts) (caller : ℕ) (import : ImportPart) (comp :
 imported image caller import comp export formed may at found =
     let rules = formed.comps import.comp comp at in
     let within = slice_get_within _ import.index export found in
-    let is =
-    get_or_from_slice_get comp.exports _ export export found in
+    let is = get_or_from_slice_get comp.exports _ export export found in
     let keeps : IsExport image _ export = subst (IsExport image _) is (rules.exports _ export within) in
-    let short : 4 * length _ ≤ stretch = rw at rules.short_code in
-    let entry_is : (get_or comp.exports import.index export).entry ≡ export.entry =
-    ap (λ e. e.entry) is in
+    let entry_is : (get_or comp.exports import.index export).entry ≡ export.entry = ap (λ e. e.entry) is in
     record {
-      comp = home_of image import.comp _ short keeps.entry;
+      comp = home_of image import.comp _ formed keeps.entry;
       within = slice_get_within _ import.comp comp at;
       index = rw at (position_of_only _ comp.exports _ export within (eq-eqb _ _ entry_is)
           (λ j inside same. one_entry _ rules.export_entries j _ export inside within

@@ -1,29 +1,22 @@
 -- Runs, step by step and call by call.
-use Rattle.sc_machine.proofs.Common.{Bool, Goes, ImageParts, List, None, Option, Run, Some, State, TrapReason, Traps}
-use Rattle.sc_machine.proofs.Common.{[], add-zero, add_assoc, ap, continued, false, fold, if◌then◌else◌, leb-false}
-use Rattle.sc_machine.proofs.Common.{length, machine, nat_le, refl, run, run_goes, run_more, run_traps, step, stopped}
-use Rattle.sc_machine.proofs.Common.{stops_or, suc, sum, sym, true, unwrap_or, ℕ, ◌+◌, ◌<◌, ◌∙◌, ◌∷◌, ◌≡◌}
+use Rattle.sc_machine.proofs.Common.{Goes, ImageParts, List, None, Option, Run, Some, State, TrapReason, Traps, []}
+use Rattle.sc_machine.proofs.Common.{add-zero, add_assoc, ap, continued, fold, length, machine, refl, run, run_goes}
+use Rattle.sc_machine.proofs.Common.{run_more, run_traps, step, stopped, stops_or, suc, sum, sym, unwrap_or, ℕ, ◌+◌}
+use Rattle.sc_machine.proofs.Common.{◌<◌, ◌∙◌, ◌∷◌, ◌≡◌}
 use Rattle.sc_event.specs.declared.event.Event.{Event}
 use Rattle.sc_base.specs.declared.stop.Stop.{Stop}
 use Rattle.std.proofs.lemmas.List.Sums.{sum_by-cons}
-use Rattle.sc_base.specs.declared.stop.Stop.TheVariants.{Ended, EventsOut, StepsOut, Trap}
+use Rattle.sc_base.specs.declared.stop.Stop.TheVariants.{StepsOut, Trap}
 use Rattle.sc_machine.specs.Calls.{calls}
+use Rattle.sc_image.proofs.Stretches.{has_room}
 
 -- a run that isn't stopped has room for another event
-room_by : (events : ℕ) (trace : List Event) (ended full : Bool) → nat_le events (length trace) ≡ full →
-    (if ended then Some Ended else if full then Some EventsOut else None) ≡ None → length trace < events
-room_by events trace true full is early = cc early
-room_by events trace false true is early = cc early
-room_by events trace false false is early = leb-false events _ is
-
 pub room_left : (events : ℕ) (trace : List Event) → stopped events trace ≡ None → length trace < events
-unfolding stopped
-room_left events trace early = room_by events trace _ _ refl early
+room_left events trace early = has_room events trace early
 
 -- the last steps of a run
 module _ (image : ImageParts) (inputs : List ℕ) (events : ℕ) (state : State) where
-  no_more : (early : Option Stop) →
-      ◌≡◌ {A = Run} (stops_or early state (record { state = state; stop = StepsOut }))
+  no_more : (early : Option Stop) → ◌≡◌ {A = Run} (stops_or early state (record { state = state; stop = StepsOut }))
       (record { state = state; stop = unwrap_or early StepsOut })
   no_more None = refl
   no_more (Some stop) = refl
@@ -43,22 +36,18 @@ module _ (image : ImageParts) (inputs : List ℕ) (events : ℕ) (state : State)
   trapped left n reason more early is = rw more (run_traps image inputs events n state reason early (sym is))
 
   pub gone : (left n : ℕ) (next : State) → left ≡ suc n → stopped events state.trace ≡ None →
-      Goes next ≡ step image inputs state →
-      run image inputs events left state ≡ run image inputs events n next
+      Goes next ≡ step image inputs state → run image inputs events left state ≡ run image inputs events n next
   gone left n next more early is = rw more (run_goes image inputs events n state next early (sym is))
 
 -- Calls.
 
 module _ (image : ImageParts) (inputs : List ℕ) (events : ℕ) (state : State) where
-  later_calls : (n : ℕ) (more : List ℕ) →
-      fold (λ earlier m. continued (run image inputs events m) earlier) (run image inputs events n state) more ≡
-      run image inputs events (n + sum more) state
+  later_calls : (n : ℕ) (more : List ℕ) → fold (λ earlier m. continued (run image inputs events m) earlier)
+      (run image inputs events n state) more ≡ run image inputs events (n + sum more) state
   later_calls n [] = ap (λ k. run image inputs events k state) (sym (add-zero n))
-  later_calls n (m ∷ more) =
-      ap (λ r. fold (λ earlier m. continued (run image inputs events m) earlier) r more)
-      (sym (run_more image inputs events m n state)) ∙
-      later_calls (n + m) more ∙ ap (λ k. run image inputs events k state)
-      (add_assoc n m _ ∙ ap (λ k. n + k) (sym (sum_by-cons _ m more)))
+  later_calls n (m ∷ more) = ap (λ r. fold (λ earlier m. continued (run image inputs events m) earlier) r more)
+      (sym (run_more image inputs events m n state)) ∙ later_calls (n + m) more ∙
+      ap (λ k. run image inputs events k state) (add_assoc n m _ ∙ ap (λ k. n + k) (sym (sum_by-cons _ m more)))
 
 pub any_calls : (image : ImageParts) (inputs : List ℕ) (events first : ℕ) (more : List ℕ) →
     calls image inputs events (first ∷ more) ≡ machine image inputs (first + sum more) events

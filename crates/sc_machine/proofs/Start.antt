@@ -3,12 +3,12 @@ use Rattle.sc_machine.proofs.Common.{All, All-cons, All-head, All-nil, All-tail,
 use Rattle.sc_machine.proofs.Common.{Filled, HasBytes, HasFewGlobals, ImageParts, IsIn, IsSome, IsWellFormed, List}
 use Rattle.sc_machine.proofs.Common.{Memory, None, Option, Region, Some, [], all_data, ap, ap₂, arith, byte_at, byte_of}
 use Rattle.sc_machine.proofs.Common.{cases_lt, data_start, data_with, false, filled_with, get_or, get_or_past}
-use Rattle.sc_machine.proofs.Common.{if◌then◌else◌, is_in, length, lt-ltb, most_globals, nat_le, nat_lt}
-use Rattle.sc_machine.proofs.Common.{option_and_then, refl, regions_of, slice_get, slice_get-get_or, slice_index}
-use Rattle.sc_machine.proofs.Common.{stack_size, stack_top, stack_tops, start_is, start_memory, stored, stretch, subst}
-use Rattle.sc_machine.proofs.Common.{suc, sym, take, true, written, written-apart, written-in, written-stored}
-use Rattle.sc_machine.proofs.Common.{written_nothing, zero, zeros, ℕ, ⊎_elim, ◌&&◌, ◌++◌, ◌+◌, ◌-◌, ◌<◌, ◌^◌, ◌∙◌, ◌∷◌}
-use Rattle.sc_machine.proofs.Common.{◌≡◌, ◌≤◌}
+use Rattle.sc_machine.proofs.Common.{if◌then◌else◌, is_in, length, lt-ltb, most_globals, nat_le, nat_lt, refl}
+use Rattle.sc_machine.proofs.Common.{regions_of, slice_get, slice_get-get_or, slice_index, stack_size, stack_top}
+use Rattle.sc_machine.proofs.Common.{stack_tops, start_is, start_memory, stored, stretch, subst, suc, sym, take, true}
+use Rattle.sc_machine.proofs.Common.{written, written-apart, written-in, written-stored, written_nothing, zero, zeros}
+use Rattle.sc_machine.proofs.Common.{ℕ, ⊎_elim, ◌&&◌, ◌++◌, ◌+◌, ◌-◌, ◌<◌, ◌^◌, ◌∙◌, ◌∷◌, ◌≡◌, ◌≤◌}
+use Rattle.std.specs.Option.{option_and_then}
 use Rattle.sc_store.proofs.Regions.{in_true, in_false, in_cases}
 
 -- One byte.
@@ -112,9 +112,8 @@ filled-inner (filled ∷ others) m m' a same = filled-inner others _ _ a (writte
 kept_below : (all : List Filled) (m : Memory) (low a : ℕ) → Ordered low (regions_of all) → AreWithin all → a < low →
     filled_with all m a ≡ m a
 kept_below [] m low a order within under = refl
-kept_below (filled ∷ others) m low a order within under =
-    kept_below others _ _ a order.1 within.1 (omega (arith, order.0, under)) ∙
-    written-apart m _ _ a (λ from upto. omega (arith, order.0, under, from))
+kept_below (filled ∷ others) m low a order within under = kept_below others _ _ a order.1 within.1
+    (omega (arith, order.0, under)) ∙ written-apart m _ _ a (λ from upto. omega (arith, order.0, under, from))
 
 module _ (filled : Filled) (others : List Filled) (within : length filled.bytes ≤ filled.region.bytes) (a : ℕ) where
   abbrev zero_there : Memory
@@ -136,15 +135,13 @@ module _ (filled : Filled) (others : List Filled) (within : length filled.bytes 
 
   past_first : (IsIn filled.region a → ⊥) →
       written zero_there filled.region.start filled.bytes a ≡ zeros (regions_of others) a
-  past_first outside =
-      written-apart zero_there _ filled.bytes a (λ from upto. outside (from, omega (arith, upto, within))) ∙
-      rw (in_false filled.region a outside) refl
+  past_first outside = written-apart zero_there _ filled.bytes a
+      (λ from upto. outside (from, omega (arith, upto, within))) ∙ rw (in_false filled.region a outside) refl
 
 filled_is : (all : List Filled) (low a : ℕ) → Ordered low (regions_of all) → AreWithin all →
     filled_with all (zeros (regions_of all)) a ≡ byte_at all a
 filled_is [] low a order within = refl
-filled_is (filled ∷ others) low a order within =
-    ⊎_elim (λ inside. kept_below others _ _ a order.1 within.1 inside.1 ∙
+filled_is (filled ∷ others) low a order within = ⊎_elim (λ inside. kept_below others _ _ a order.1 within.1 inside.1 ∙
     in_first filled others within.0 a inside ∙ sym (rw (in_true _ a inside) refl)) (λ outside.
     filled-inner others _ _ a (past_first filled others within.0 a outside) ∙ filled_is others _ a order.1 within.1 ∙
     sym (rw (in_false _ a outside) refl)) (in_cases _ a)
@@ -165,9 +162,8 @@ regions_more (x ∷ xs) c (suc i) n comp place is =
 
 -- its bytes
 filled_more : (comps : List CompPart) (c i n : ℕ) (m : Memory) (comp : CompPart) → n ≡ c + i →
-    slice_get comps i ≡ Some comp →
-    filled_with (all_data c (take (suc i) comps)) m ≡ written (filled_with (all_data c (take i comps)) m)
-    (stack_top n) comp.globals
+    slice_get comps i ≡ Some comp → filled_with (all_data c (take (suc i) comps)) m ≡ written
+    (filled_with (all_data c (take i comps)) m) (stack_top n) comp.globals
 filled_more [] c i n m comp place is = let never = is in cc never
 filled_more (x ∷ xs) c zero n m comp place is =
     let first : c ≡ n = omega arith in
@@ -186,20 +182,15 @@ some_kept [] m a h = h
 some_kept (filled ∷ others) m a h = some_kept others _ a (some_by _ _ (m a) h)
 
 zero_is : (comps : List CompPart) (c i n a : ℕ) (comp : CompPart) → n ≡ c + i → slice_get comps i ≡ Some comp →
-    stack_top n ≤ a →
-    a < stack_top n + length comp.globals → IsSome (zeros (regions_of (all_data c comps)) a)
+    stack_top n ≤ a → a < stack_top n + length comp.globals → IsSome (zeros (regions_of (all_data c comps)) a)
 zero_is [] c i n a comp place is low high = let never : ◌≡◌ {A = Option CompPart} None (Some comp) = is in cc never
 zero_is (x ∷ xs) c zero n a comp place is low high =
-    let first : n ≡ c = omega arith in
-    let same : comp ≡ x = sym (cc is) in
-    let upto : a < stack_top c + length x.globals =
-    subst (λ (y : CompPart). a < stack_top c + length y.globals) same
-    (subst (λ k. a < stack_top k + length comp.globals) first high) in
+    let first : c ≡ n = omega arith in
+    let same : x ≡ comp = cc is in
     let inside : is_in (globals x c).region a ≡ true =
-    in_true (globals x c).region a (subst (λ k. stack_top k ≤ a) first low, upto) in
+    rw (first, same) (in_true (globals comp n).region a (low, high)) in
     some_by (is_in (stack x c).region a) 0 _ (rw inside refl)
-zero_is (x ∷ xs) c (suc i) n a comp place is low high =
-    some_by (is_in (stack x c).region a) 0 _
+zero_is (x ∷ xs) c (suc i) n a comp place is low high = some_by (is_in (stack x c).region a) 0 _
     (some_by (is_in (globals x c).region a) 0 _ (zero_is xs (suc c) i n a comp (omega arith) is low high))
 
 globals_there : (comps : List CompPart) (i k : ℕ) (comp : CompPart) → slice_get comps i ≡ Some comp →
@@ -213,18 +204,16 @@ item_there : (comps : List CompPart) (i : ℕ) (comp : CompPart) → i < length 
     slice_get comps i ≡ Some comp
 item_there comps i comp h is = slice_get-get_or comps i comp h ∙ ap Some (sym is)
 
-pub next_regions : (comps : List CompPart) (i : ℕ) (comp : CompPart) (regions : List Region)
-    (first second : Region) → i < length comps →
-    comp ≡ get_or comps i comp → regions ≡ regions_of (all_data 0 (take i comps)) → first ≡ (stack comp i).region →
-    second ≡ (globals comp i).region →
+pub next_regions : (comps : List CompPart) (i : ℕ) (comp : CompPart) (regions : List Region) (first second : Region) →
+    i < length comps → comp ≡ get_or comps i comp → regions ≡ regions_of (all_data 0 (take i comps)) →
+    first ≡ (stack comp i).region → second ≡ (globals comp i).region →
     (regions ++ first ∷ []) ++ second ∷ [] ≡ regions_of (all_data 0 (take (i + 1) comps))
 next_regions comps i comp regions first second h item so_far one two =
     let more : i + 1 ≡ suc i = omega arith in
     rw (so_far, one, two, more) (sym (regions_more comps 0 i i comp (omega arith) (item_there comps i comp h item)))
 
 pub next_top : (comps : List CompPart) (i : ℕ) (tops : List ℕ) (top : ℕ) → i < length comps →
-    tops ≡ stack_tops 0 (take i comps) → top ≡ stack_top i →
-    tops ++ top ∷ [] ≡ stack_tops 0 (take (i + 1) comps)
+    tops ≡ stack_tops 0 (take i comps) → top ≡ stack_top i → tops ++ top ∷ [] ≡ stack_tops 0 (take (i + 1) comps)
 next_top comps i tops top h so_far is =
     let more : i + 1 ≡ suc i = omega arith in
     rw (so_far, is, more) (sym (tops_more comps 0 i i (omega arith) h))
@@ -268,15 +257,13 @@ none_below (comp ∷ comps) c a few under =
 -- and one that is
 here : (comp : CompPart) (comps : List CompPart) (c a : ℕ) → All HasFewGlobals comps → a < data_start c + stretch →
     byte_at (all_data c (comp ∷ comps)) a ≡ byte_at (data_with c comp.globals) a
-here comp comps c a few upto =
-    ap (λ rest. if is_in (stack comp c).region a then Some (slice_index [] (a - data_start c))
-    else if is_in (globals comp c).region a then Some (slice_index comp.globals (a - stack_top c)) else rest)
-    (none_below comps (suc c) a few (omega (arith, upto)))
+here comp comps c a few upto = ap (λ rest. if is_in (stack comp c).region a then Some
+    (slice_index [] (a - data_start c)) else if is_in (globals comp c).region a then Some
+    (slice_index comp.globals (a - stack_top c)) else rest) (none_below comps (suc c) a few (omega (arith, upto)))
 
 at_comp : (comps : List CompPart) (c i n a : ℕ) → All HasFewGlobals comps → n ≡ c + i → data_start n ≤ a →
-    a < data_start n + stretch →
-    byte_at (all_data c comps) a ≡ option_and_then (λ (comp : CompPart). byte_at (data_with n comp.globals) a)
-    (slice_get comps i)
+    a < data_start n + stretch → byte_at (all_data c comps) a ≡ option_and_then
+    (λ (comp : CompPart). byte_at (data_with n comp.globals) a) (slice_get comps i)
 at_comp [] c i n a few place from upto = refl
 at_comp (comp ∷ comps) c zero n a few place from upto =
     let first : c ≡ n = omega arith in
@@ -289,8 +276,7 @@ at_comp (comp ∷ comps) c (suc i) n a few place from upto =
 all_is : (image : ImageParts) (a : ℕ) → All HasFewGlobals image.comps →
     byte_at (all_data 0 image.comps) a ≡ start_memory image a
 unfolding start_memory
-all_is image a few =
-    ⊎_elim (λ low. none_below _ 0 a few low ∙ sym (start_is a image ∙ rw (lt-ltb a _ low) refl))
+all_is image a few = ⊎_elim (λ low. none_below _ 0 a few low ∙ sym (start_is a image ∙ rw (lt-ltb a _ low) refl))
     (λ from. at_comp _ 0 _ _ a few (omega arith) (omega (arith, from)) (omega (arith, from))) (cases_lt a _)
 
 pub starts : (image : ImageParts) → IsWellFormed image →

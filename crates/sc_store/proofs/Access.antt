@@ -3,6 +3,7 @@ use Rattle.sc_store.proofs.Common.{HasBytes, IsSome, List, Memory, Some, [], ap,
 use Rattle.sc_store.proofs.Common.{get_or, get_or-take, length, length-take-le, refl, stored, subst, suc, sym, take}
 use Rattle.sc_store.proofs.Common.{written, zero, ℕ, ⊎_elim, ◌+◌, ◌-◌, ◌<◌, ◌∙◌, ◌∷◌, ◌≡◌, ◌≤◌}
 use Rattle.std.specs.Int.{w32, to_le_bytes}
+use Rattle.sc_store.proofs.Regions.{by_access}
 use Rattle.sc_store.proofs.Words.{stored-in, stored-apart}
 use Rattle.sc_store.proofs.Parts.{written-in, written-apart}
 
@@ -47,12 +48,9 @@ next_there m m' a bs k e h has =
 
 stored_at : (m : Memory) (a : ℕ) (bs : List ℕ) (v : ℕ) → ((k : ℕ) → k < length bs → get_or bs k 0 ≡ byte_of v k) →
     (b : ℕ) → written m a bs b ≡ stored m a (length bs) v b
-stored_at m a bs v h b = ⊎_elim
-    (λ low. written-apart m a bs b (λ l u. omega arith) ∙ sym (stored-apart m a _ v b (λ l u. omega arith)))
-    (λ from. ⊎_elim (λ below. written-in m a bs b from below ∙ ap Some (h _ (omega arith)) ∙
-    sym (stored-in m a _ v b from below))
-    (λ above. written-apart m a bs b (λ l u. omega arith) ∙ sym (stored-apart m a _ v b (λ l u. omega arith)))
-    (cases_lt b _)) (cases_lt b a)
+stored_at m a bs v h b = by_access a (length bs) b
+    (λ out. written-apart m a bs b out ∙ sym (stored-apart m a _ v b out))
+    (λ from below. written-in m a bs b from below ∙ ap Some (h _ (omega arith)) ∙ sym (stored-in m a _ v b from below))
 
 pub written-stored : (m : Memory) (a : ℕ) (bs : List ℕ) (v : ℕ) →
     ((k : ℕ) → k < length bs → get_or bs k 0 ≡ byte_of v k) → written m a bs ≡ stored m a (length bs) v
@@ -74,8 +72,7 @@ first_stored m a v n h =
 
 pub byte_stored : (m m' : Memory) (a v : ℕ) (bs : List ℕ) → m' ≡ written m a (get_or bs 0 0 ∷ []) →
     bs ≡ to_le_bytes w32 v → m' ≡ stored m a 1 v
-byte_stored m m' a v bs w e =
-    w ∙ ap (λ b. written m a (get_or b 0 0 ∷ [])) e ∙ first_stored m a v 1 (omega arith)
+byte_stored m m' a v bs w e = w ∙ ap (λ b. written m a (get_or b 0 0 ∷ [])) e ∙ first_stored m a v 1 (omega arith)
 
 pub store_written : (m m' : Memory) (a v n : ℕ) (bs : List ℕ) → n ≤ 4 → m' ≡ written m a (take n bs) →
     bs ≡ to_le_bytes w32 v → m' ≡ stored m a n v

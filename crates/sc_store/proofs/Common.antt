@@ -2,13 +2,13 @@
 pub use Rattle.std.proofs.Common.{Bool, IfSome, IsNone, IsSome, IsTrue, List, None, OnSome, Option, Some, [], ap, arith}
 pub use Rattle.std.proofs.Common.{cond, count_by, drop, false, get_or, get_or-drop, get_or-set_other, get_or-set_same}
 pub use Rattle.std.proofs.Common.{get_or-take, inl, inr, is_none, is_some, length, length-append, length-drop}
-pub use Rattle.std.proofs.Common.{length-set, length-take-le, lt-ltb, nat_le, nat_lt, not, refl, replicate, set, subst}
-pub use Rattle.std.proofs.Common.{suc, sym, take, take_at, true, unwrap_or, zero, ℕ, ⊎_elim, ◌%◌, ◌&&◌, ◌*◌, ◌++◌, ◌+◌}
-pub use Rattle.std.proofs.Common.{◌-◌, ◌/◌, ◌<◌, ◌^◌, ◌↔◌, ◌∙◌, ◌∷◌, ◌≡◌, ◌≢◌, ◌≤◌, ◌⊎◌}
+pub use Rattle.std.proofs.Common.{length-set, length-take-le, lt-ltb, map, nat_le, nat_lt, not, refl, replicate, set}
+pub use Rattle.std.proofs.Common.{subst, suc, sym, take, take_at, true, unwrap_or, zero, ℕ, ⊎_elim, ◌%◌, ◌&&◌, ◌*◌}
+pub use Rattle.std.proofs.Common.{◌++◌, ◌+◌, ◌-◌, ◌/◌, ◌<◌, ◌^◌, ◌↔◌, ◌∙◌, ◌∷◌, ◌≡◌, ◌≢◌, ◌≤◌, ◌⊎◌}
 pub use Rattle.std.proofs.lemmas.Bool.{cases_eq, cases_lt}
 pub use Rattle.std.proofs.lemmas.Bool.Decides.{nat_tests}
 pub use Rattle.std.proofs.lemmas.List.{get_or-append_right, get_or-map, get_or-replicate, get_or_append_left}
-pub use Rattle.std.proofs.lemmas.List.{get_or_past, length-map, length-replicate, take_more}
+pub use Rattle.std.proofs.lemmas.List.{get_or_default, get_or_past, length-map, length-replicate, take_more}
 pub use Rattle.std.proofs.lemmas.List.Sums.{fails_before_first, sum_by-set}
 pub use Rattle.std.proofs.lemmas.Option.{same_Some}
 pub use Rattle.std.specs.List.{All, find, position, position_or_len}

@@ -1,11 +1,12 @@
 -- What taking a page and a write to it make of the bytes at their places.
-use Rattle.sc_store.proofs.Common.{AreDistinct, AreOut, IfSome, IsNone, IsSome, List, None, OnSome, Option, Some, []}
-use Rattle.sc_store.proofs.Common.{ap, arith, byte_at, byte_on, cases_eq, cases_lt, cell, cond, count_by, false, get_or}
-use Rattle.sc_store.proofs.Common.{get_or-replicate, get_or-set_other, get_or-set_same, get_or_past, is_none, is_some}
-use Rattle.sc_store.proofs.Common.{length, length-replicate, nat_le, nat_lt, nat_tests, put_mid, refl, replaced}
-use Rattle.sc_store.proofs.Common.{replicate, same_Some, set, subst, suc, sum_by-set, sym, true, zero, ℕ, ⊎_elim, ◌%◌}
-use Rattle.sc_store.proofs.Common.{◌&&◌, ◌+◌, ◌-◌, ◌/◌, ◌<◌, ◌↔◌, ◌∙◌, ◌∷◌, ◌≡◌, ◌≢◌, ◌≤◌}
+use Rattle.sc_store.proofs.Common.{AreDistinct, AreOut, IfSome, IsNone, IsSome, List, None, OnSome, Option, Some, ap}
+use Rattle.sc_store.proofs.Common.{arith, byte_at, byte_on, cases_eq, cases_lt, cell, cond, count_by, false, get_or}
+use Rattle.sc_store.proofs.Common.{get_or-replicate, get_or-set_other, get_or-set_same, get_or_default, get_or_past}
+use Rattle.sc_store.proofs.Common.{is_none, is_some, length, length-replicate, nat_le, nat_lt, nat_tests, put_mid, refl}
+use Rattle.sc_store.proofs.Common.{replaced, replicate, same_Some, set, subst, sum_by-set, sym, true, ℕ, ⊎_elim, ◌%◌}
+use Rattle.sc_store.proofs.Common.{◌&&◌, ◌+◌, ◌-◌, ◌/◌, ◌<◌, ◌↔◌, ◌∙◌, ◌≡◌, ◌≢◌, ◌≤◌}
 use Rattle.sc_pool.specs.Pages.{KeepsOthers, Pages, page_of, with_page, zero_page}
+use Rattle.sc_store.proofs.Regions.{by_access}
 use Rattle.sc_store.proofs.Pieces.{before, within, after}
 
 -- ---- a page is taken
@@ -19,56 +20,52 @@ not_both : (o : Option (List ℕ)) → IsSome o → IsNone o → ⊥
 not_both o s n = cc
 
 zero_byte : (x : ℕ) → get_or zero_page x 0 ≡ 0
-zero_byte x = ⊎_elim
-    (λ below. get_or-replicate 4096 x 0 0 below)
-    (λ above. get_or_past (replicate 4096 0) x 0 (omega (arith, length-replicate {A = ℕ} 4096 0)))
-    (cases_lt x 4096)
+zero_byte x = ⊎_elim (λ below. get_or-replicate 4096 x 0 0 below)
+    (λ above. get_or_past (replicate 4096 0) x 0 (omega (arith, length-replicate {A = ℕ} 4096 0))) (cases_lt x 4096)
 
 module _ (table : List (Option ℕ)) (pool pool' : Pages) (number n : ℕ)
     (there : number < length table) (free : get_or table number None ≡ None)
     (out : AreOut table pool) (distinct : AreDistinct table)
     (was_in : IsNone (page_of pool n)) (zeros : page_of pool' n ≡ Some zero_page)
     (others : KeepsOthers pool pool' n) where
+  abbrev now : List (Option ℕ)
+  now = set table number (Some n)
+
   other_page : (k m : ℕ) → get_or table k None ≡ Some m → m ≢ n
   other_page k m e = λ same. not_both _ (subst (λ i. IsSome (page_of pool i)) same (out k m e)) was_in
 
-  at_number : get_or (set table number (Some n)) number None ≡ Some n
+  at_number : get_or now number None ≡ Some n
   at_number = get_or-set_same table number _ None there
 
-  elsewhere : (k : ℕ) → k ≢ number → get_or (set table number (Some n)) k None ≡ get_or table k None
+  elsewhere : (k : ℕ) → k ≢ number → get_or now k None ≡ get_or table k None
   elsewhere k h = get_or-set_other table number k _ None h
 
-  pub taken_out : AreOut (set table number (Some n)) pool'
+  taken_out : AreOut now pool'
   taken_out k m e = ⊎_elim (λ same.
-      let is = same_Some _ _ (sym at_number ∙ ap (λ i. get_or (set table number (Some n)) i None) (sym same) ∙ e) in
+      let is = same_Some _ _ (sym at_number ∙ ap (λ i. get_or now i None) (sym same) ∙ e) in
       subst (λ i. IsSome (page_of pool' i)) is (subst (λ o. IsSome o) (sym zeros) refl)) (λ other.
       let old = sym (elsewhere k other) ∙ e in
       subst (λ o. IsSome o) (sym (others m (other_page k m old))) (out k m old)) (cases_eq k number)
 
-  pub taken_distinct : AreDistinct (set table number (Some n))
-  taken_distinct j k m e f = ⊎_elim
-      (λ js. ⊎_elim
-      (λ ks. js ∙ sym ks)
-      (λ ko. absurd (other_page k m (sym (elsewhere k ko) ∙ f) (sym (new j js e))))
-      (cases_eq k number))
-      (λ jo. ⊎_elim
+  taken_distinct : AreDistinct now
+  taken_distinct j k m e f = ⊎_elim (λ js. ⊎_elim (λ ks. js ∙ sym ks)
+      (λ ko. absurd (other_page k m (sym (elsewhere k ko) ∙ f) (sym (new j js e)))) (cases_eq k number)) (λ jo. ⊎_elim
       (λ ks. absurd (other_page j m (sym (elsewhere j jo) ∙ e) (sym (new k ks f))))
-      (λ ko. distinct j k m (sym (elsewhere j jo) ∙ e) (sym (elsewhere k ko) ∙ f))
-      (cases_eq k number))
+      (λ ko. distinct j k m (sym (elsewhere j jo) ∙ e) (sym (elsewhere k ko) ∙ f)) (cases_eq k number))
       (cases_eq j number)
     where
-      new : (i : ℕ) → i ≡ number → get_or (set table number (Some n)) i None ≡ Some m → n ≡ m
-      new i s h = same_Some _ _ (sym at_number ∙ ap (λ z. get_or (set table number (Some n)) z None) (sym s) ∙ h)
+      new : (i : ℕ) → i ≡ number → get_or now i None ≡ Some m → n ≡ m
+      new i s h = same_Some _ _ (sym at_number ∙ ap (λ z. get_or now z None) (sym s) ∙ h)
 
-  same_at : (i : ℕ) → cell (set table number (Some n)) pool' i ≡ cell table pool i
-  same_at i = ⊎_elim (λ same. ap (λ z. byte_at pool' (get_or (set table number (Some n)) z None) (i % 4096)) same
+  same_at : (i : ℕ) → cell now pool' i ≡ cell table pool i
+  same_at i = ⊎_elim (λ same. ap (λ z. byte_at pool' (get_or now z None) (i % 4096)) same
       ∙ ap (λ o. byte_at pool' o (i % 4096)) at_number ∙ ap (λ o. byte_on o (i % 4096)) zeros ∙ zero_byte (i % 4096)
       ∙ sym (ap (λ z. byte_at pool (get_or table z None) (i % 4096)) same ∙ ap (λ o. byte_at pool o (i % 4096)) free))
       (λ other. ap (λ o. byte_at pool' o (i % 4096)) (elsewhere _ other) ∙ same_byte pool pool' _ _
       (λ m e. others m (other_page _ m e))) (cases_eq (i / 4096) number)
 
-  pub taken_same : cell (set table number (Some n)) pool' ≡ cell table pool
-  taken_same = λ k i. same_at i k
+  taken : AreOut now pool' × AreDistinct now × (cell now pool' ≡ cell table pool)
+  taken = (taken_out, taken_distinct, λ k i. same_at i k)
 
 -- one page fewer isn't taken
 fewer : (table : List (Option ℕ)) (number n : ℕ) → number < length table → get_or table number None ≡ None →
@@ -83,14 +80,9 @@ pub is_free : (table : List (Option ℕ)) (number : ℕ) (slot : Option ℕ) →
 is_free table number None e t = sym e
 is_free table number (Some m) e t = absurd (cc)
 
-same_default : (xs : List (Option ℕ)) (i : ℕ) (d e : Option ℕ) → i < length xs → get_or xs i d ≡ get_or xs i e
-same_default [] i d e h = absurd (omega arith)
-same_default (x ∷ xs) zero d e h = refl
-same_default (x ∷ xs) (suc i) d e h = same_default xs i d e (omega arith)
-
 pub slot_is : (table : List (Option ℕ)) (number n : ℕ) (slot : Option ℕ) → number < length table →
     slot ≡ get_or table number slot → slot ≡ Some n → get_or table number None ≡ Some n
-slot_is table number n slot h e is = same_default table number None slot h ∙ sym e ∙ is
+slot_is table number n slot h e is = get_or_default table number None slot h ∙ sym e ∙ is
 
 -- the pool's answer is put into the table
 pub record Took (table : List (Option ℕ)) (pool pool' : Pages) (number : ℕ) (r : Option ℕ) : Type 0 where
@@ -106,12 +98,9 @@ pub took : (table : List (Option ℕ)) (pool pool' : Pages) (number : ℕ) (r : 
     IfSome r (λ n. KeepsOthers pool pool' n) → OnSome r (pool'.spare + 1 ≡ pool.spare) → Took table pool pool' number r
 took table pool pool' number None there free out distinct enough none was zeros others spare =
     absurd (omega (arith, fewer table number 0 there free, none.0 refl))
-took table pool pool' number (Some n) there free out distinct enough none was zeros others spare = record {
-  out = taken_out table pool pool' number n there free out distinct was zeros others;
-  distinct = taken_distinct table pool pool' number n there free out distinct was zeros others;
-  enough = omega (arith, fewer table number n there free);
-  same = taken_same table pool pool' number n there free out distinct was zeros others;
-}
+took table pool pool' number (Some n) there free out distinct enough none was zeros others spare =
+    let new = taken table pool pool' number n there free out distinct was zeros others in
+    record { out = new.0; distinct = new.1; enough = omega (arith, fewer table number n there free); same = new.2 }
 
 -- ---- a write to a page
 pub replaced-in : (f : ℕ → ℕ) (a : ℕ) (bs : List ℕ) (k : ℕ) → a ≤ k → k < a + length bs →
@@ -135,19 +124,13 @@ zeros_unwritten table pool a bs free fits zero_bytes = λ j i. at_place i j
     no_number (Some n) h = absurd (cc)
 
     zero_there : (i : ℕ) → i / 4096 ≡ a / 4096 → cell table pool i ≡ 0
-    zero_there i same =
-        ap (λ z. byte_at pool (get_or table z None) (i % 4096)) same
-        ∙ ap (λ o. byte_at pool o (i % 4096)) (no_number (get_or table (a / 4096) None) free)
+    zero_there i same = ap (λ z. byte_at pool (get_or table z None) (i % 4096)) same ∙
+        ap (λ o. byte_at pool o (i % 4096)) (no_number (get_or table (a / 4096) None) free)
 
     at_place : (i : ℕ) → cell table pool i ≡ replaced (cell table pool) a bs i
-    at_place i = ⊎_elim
-        (λ low. sym (replaced-apart (cell table pool) a bs i (λ l u. omega arith)))
-        (λ from. ⊎_elim
-        (λ here. zero_there i (omega arith)
-        ∙ sym (replaced-in (cell table pool) a bs i from here ∙ zero_bytes (i - a) (omega arith)))
-        (λ past. sym (replaced-apart (cell table pool) a bs i (λ l u. omega arith)))
-        (cases_lt i (a + length bs)))
-        (cases_lt i a)
+    at_place i = by_access a (length bs) i (λ out. sym (replaced-apart (cell table pool) a bs i out))
+        (λ from here. zero_there i (omega arith) ∙
+        sym (replaced-in (cell table pool) a bs i from here ∙ zero_bytes (i - a) (omega arith)))
 
 page_there : (pool : Pages) (n : ℕ) (old : List ℕ) → page_of pool n ≡ Some old → n < length pool.slots
 page_there pool n old e = ⊎_elim (λ below. below) (λ above. absurd (let none = get_or_past _ n None above in cc))
@@ -160,16 +143,13 @@ module _ (table : List (Option ℕ)) (pool : Pages) (a n : ℕ) (old bs : List �
   page_new = put_mid (a % 4096) (length bs) old bs
 
   on_page : (i : ℕ) → i / 4096 ≡ a / 4096 → cell table pool i ≡ get_or old (i % 4096) 0
-  on_page i same =
-      ap (λ z. byte_at pool (get_or table z None) (i % 4096)) same
-      ∙ ap (λ o. byte_at pool o (i % 4096)) slot
-      ∙ ap (λ o. byte_on o (i % 4096)) page
+  on_page i same = ap (λ z. byte_at pool (get_or table z None) (i % 4096)) same ∙
+      ap (λ o. byte_at pool o (i % 4096)) slot ∙ ap (λ o. byte_on o (i % 4096)) page
 
   on_new : (i : ℕ) → i / 4096 ≡ a / 4096 → cell table (with_page pool n page_new) i ≡ get_or page_new (i % 4096) 0
-  on_new i same =
-      ap (λ z. byte_at (with_page pool n page_new) (get_or table z None) (i % 4096)) same
-      ∙ ap (λ o. byte_at (with_page pool n page_new) o (i % 4096)) slot ∙ ap (λ o. byte_on o (i % 4096))
-      (get_or-set_same pool.slots n _ None (page_there pool n old page))
+  on_new i same = ap (λ z. byte_at (with_page pool n page_new) (get_or table z None) (i % 4096)) same ∙
+      ap (λ o. byte_at (with_page pool n page_new) o (i % 4096)) slot ∙
+      ap (λ o. byte_on o (i % 4096)) (get_or-set_same pool.slots n _ None (page_there pool n old page))
 
   wrote_at : (i : ℕ) → cell table (with_page pool n page_new) i ≡ replaced (cell table pool) a bs i
   wrote_at i = ⊎_elim (λ same. on_new i same ∙ ⊎_elim (λ low. before _ _ _ old bs (omega arith) low
@@ -191,8 +171,7 @@ pub wrote_page : (table : List (Option ℕ)) (pool : Pages) (f : ℕ → ℕ) (a
     AreDistinct table → get_or table (a / 4096) None ≡ Some n → page_of pool n ≡ Some old → length old ≡ 4096 →
     a % 4096 + length bs ≤ 4096 → cell table pool ≡ f → ys ≡ bs → k ≡ length bs →
     cell table (with_page pool n (put_mid (a % 4096) k old ys)) ≡ replaced f a bs
-wrote_page table pool f a n k old bs ys distinct slot page size fits same e count =
-    ap (λ z. cell table (with_page pool n (put_mid (a % 4096) k old z))) e
-    ∙ ap (λ z. cell table (with_page pool n (put_mid (a % 4096) z old bs))) count
-    ∙ wrote table pool a n old bs distinct slot page size fits
-    ∙ ap (λ g. replaced g a bs) same
+wrote_page table pool f a n k old bs ys distinct slot page size fits same e count = ap
+    (λ z. cell table (with_page pool n (put_mid (a % 4096) k old z))) e ∙
+    ap (λ z. cell table (with_page pool n (put_mid (a % 4096) z old bs))) count ∙
+    wrote table pool a n old bs distinct slot page size fits ∙ ap (λ g. replaced g a bs) same

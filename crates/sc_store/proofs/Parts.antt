@@ -1,14 +1,14 @@
 -- Where the bytes of the parts stand, and what a write to one part leaves of all.
 use Rattle.sc_store.proofs.Common.{All, AreApart, Bool, HasBytes, HoldsBytes, IsIn, IsSome, IsZero, List, Memory, None}
 use Rattle.sc_store.proofs.Common.{Option, Region, Some, [], ap, arith, bytes_of, cases_lt, cond, fails_before_first}
-use Rattle.sc_store.proofs.Common.{false, get_or, get_or-map, get_or-set_same, is_some, length, length-map, length-set}
-use Rattle.sc_store.proofs.Common.{lt-ltb, nat_le, nat_lt, nat_tests, option_or, piece_of, position, position_or_len}
-use Rattle.sc_store.proofs.Common.{refl, region_of, regions_of, same_Some, set, spans, subst, suc, sym, true, written}
-use Rattle.sc_store.proofs.Common.{zero, zeros, ℕ, ⊎_elim, ◌&&◌, ◌+◌, ◌-◌, ◌<◌, ◌↔◌, ◌∙◌, ◌∷◌, ◌≡◌, ◌≤◌}
+use Rattle.sc_store.proofs.Common.{false, get_or, get_or-set_same, is_some, length, length-set, lt-ltb, nat_le, nat_lt}
+use Rattle.sc_store.proofs.Common.{nat_tests, option_or, piece_of, position, position_or_len, refl, region_of}
+use Rattle.sc_store.proofs.Common.{regions_of, same_Some, set, spans, subst, suc, sym, true, written, zero, zeros, ℕ}
+use Rattle.sc_store.proofs.Common.{⊎_elim, ◌&&◌, ◌+◌, ◌-◌, ◌<◌, ◌↔◌, ◌∙◌, ◌∷◌, ◌≡◌, ◌≤◌}
 use Rattle.std.proofs.lemmas.List.Quantifiers.{position-Some}
 use Rattle.std.proofs.Math.Seq.{map-set_same}
 use Rattle.sc_store.specs.declared.part.Part.{Part}
-use Rattle.sc_store.proofs.Regions.{in_true, in_false, in_cases}
+use Rattle.sc_store.proofs.Regions.{by_access, head_apart, in_cases, in_false, in_true, tail_apart}
 use Rattle.sc_base.proofs.Bools.{some_value}
 
 -- ---- a part that has the addresses of an access
@@ -32,35 +32,22 @@ pub piece_out : (p : Part) (a : ℕ) → (IsIn (region_of p) a → ⊥) → piec
 piece_out p a h = rw (in_false _ a h) refl
 
 -- ---- the bytes of all parts
-tail_apart : (p : Part) (ps : List Part) → AreApart (regions_of (p ∷ ps)) → AreApart (regions_of ps)
-tail_apart p ps apart = λ i j d l h. apart (suc i) (suc j) d (omega arith) (omega arith)
-
--- an address in a later part isn't in the first
-head_apart : (p : Part) (ps : List Part) (i : ℕ) (d : Part) (a : ℕ) → AreApart (regions_of (p ∷ ps)) → i < length ps →
-    IsIn (region_of (get_or ps i d)) a → IsIn (region_of p) a → ⊥
-head_apart p ps i d a apart h inside first =
-    apart 0 (suc i) (region_of d) (omega arith) (omega (arith, length-map ps region_of)) a first
-    (subst (λ r. IsIn r a) (sym (get_or-map _ ps i d _ h)) inside)
-
 pub bytes_of-at : (ps : List Part) (i : ℕ) (d : Part) (a : ℕ) → AreApart (regions_of ps) → i < length ps →
     IsIn (region_of (get_or ps i d)) a → bytes_of ps a ≡ piece_of (get_or ps i d) a
 bytes_of-at [] i d a apart h inside = absurd (omega arith)
 bytes_of-at (p ∷ ps) zero d a apart h inside =
     ap (λ o. option_or o (bytes_of ps a)) (piece_in p a inside) ∙ sym (piece_in p a inside)
 bytes_of-at (p ∷ ps) (suc i) d a apart h inside =
-    ap (λ o. option_or o (bytes_of ps a)) (piece_out p a (head_apart p ps i d a apart (omega arith) inside))
-    ∙ bytes_of-at ps i d a (tail_apart p ps apart) (omega arith) inside
+    ap (λ o. option_or o (bytes_of ps a)) (piece_out p a (head_apart region_of p ps i d a apart (omega arith) inside))
+    ∙ bytes_of-at ps i d a (tail_apart (region_of p) _ apart) (omega arith) inside
 
 -- where there is a byte, there is a part with its address
 somewhere : (ps : List Part) (d : Part) (a : ℕ) → IsSome (bytes_of ps a) →
     (i : ℕ) × (i < length ps) × IsIn (region_of (get_or ps i d)) a
 somewhere [] d a some = absurd (cc)
-somewhere (p ∷ ps) d a some = ⊎_elim
-    (λ inside. (0, omega arith, inside))
-    (λ out.
+somewhere (p ∷ ps) d a some = ⊎_elim (λ inside. (0, omega arith, inside)) (λ out.
     let w = somewhere ps d a (subst (λ o. is_some (option_or o (bytes_of ps a)) ≡ true) (piece_out p a out) some) in
-    (suc w.0, omega arith, w.2))
-    (in_cases (region_of p) a)
+    (suc w.0, omega arith, w.2)) (in_cases (region_of p) a)
 
 -- what passes at a place is found
 passes : {X : Type 0} (test : X → Bool) (xs : List X) (i : ℕ) (d : X) → i < length xs → test (get_or xs i d) ≡ true →
@@ -80,11 +67,11 @@ same_place : (ps : List Part) (i j : ℕ) (d : Part) (a : ℕ) → AreApart (reg
 same_place [] i j d a apart h k one other = absurd (omega arith)
 same_place (p ∷ ps) zero zero d a apart h k one other = refl
 same_place (p ∷ ps) zero (suc j) d a apart h k one other =
-    absurd (head_apart p ps j d a apart (omega arith) other one)
+    absurd (head_apart region_of p ps j d a apart (omega arith) other one)
 same_place (p ∷ ps) (suc i) zero d a apart h k one other =
-    absurd (head_apart p ps i d a apart (omega arith) one other)
+    absurd (head_apart region_of p ps i d a apart (omega arith) one other)
 same_place (p ∷ ps) (suc i) (suc j) d a apart h k one other =
-    ap suc (same_place ps i j d a (tail_apart p ps apart) (omega arith) (omega arith) one other)
+    ap suc (same_place ps i j d a (tail_apart (region_of p) _ apart) (omega arith) (omega arith) one other)
 
 -- the part that has all the addresses of an access is the one that a search finds
 pub first_spans : (a n : ℕ) (ps : List Part) (i : ℕ) (d : Part) → 0 < n → AreApart (regions_of ps) → i < length ps →
@@ -114,9 +101,8 @@ written-same m m' a bs b e = ap (λ o. cond (nat_le a b && nat_lt b (a + length 
 elsewhere : (ps : List Part) (i : ℕ) (p d : Part) (b : ℕ) → region_of p ≡ region_of (get_or ps i d) → i < length ps →
     (IsIn (region_of (get_or ps i d)) b → ⊥) → bytes_of (set ps i p) b ≡ bytes_of ps b
 elsewhere [] i p d b e h out = absurd (omega arith)
-elsewhere (q ∷ ps) zero p d b e h out =
-    ap (λ o. option_or o (bytes_of ps b)) (piece_out p b (subst (λ r. IsIn r b → ⊥) (sym e) out) ∙
-    sym (piece_out q b out))
+elsewhere (q ∷ ps) zero p d b e h out = ap (λ o. option_or o (bytes_of ps b))
+    (piece_out p b (subst (λ r. IsIn r b → ⊥) (sym e) out) ∙ sym (piece_out q b out))
 elsewhere (q ∷ ps) (suc i) p d b e h out = ap (λ o. option_or (piece_of q b) o)
     (elsewhere ps i p d b e (omega arith) out)
 
@@ -145,13 +131,11 @@ bytes_of-set ps i p d a bs apart h e sp w = λ k b. write_at ps i p d a bs apart
 -- bytes written where memory is leave bytes of memory
 pub written_holds : (m : Memory) (a : ℕ) (bs : List ℕ) → HasBytes m a (length bs) → ((k : ℕ) → get_or bs k 0 < 256) →
     HoldsBytes m → HoldsBytes (written m a bs)
-written_holds m a bs has fit holds = λ b x e. ⊎_elim
-    (λ low. holds b x (sym (written-apart m a bs b (λ l u. omega arith)) ∙ e)) (λ from. ⊎_elim (λ below.
+written_holds m a bs has fit holds = λ b x e. by_access a (length bs) b
+    (λ out. holds b x (sym (written-apart m a bs b out) ∙ e)) (λ from below.
     let y = some_value (m b) (subst (λ c. IsSome (m c)) (omega arith) (has (b - a) (omega arith))) in
     let is = same_Some _ _ (sym (written-in m a bs b from below) ∙ e) in
     ((holds b y.0 y.1).0, subst (λ z. z < 256) is (fit (b - a))))
-    (λ above. holds b x (sym (written-apart m a bs b (λ l u. omega arith)) ∙ e)) (cases_lt b (a + length bs)))
-    (cases_lt b a)
 
 -- ---- parts of zeros
 zeros_at : (ps : List Part) → All IsZero ps → (b : ℕ) → bytes_of ps b ≡ zeros (regions_of ps) b
@@ -200,14 +184,12 @@ found_written a bs ps o i x y apart e at is same w =
 -- and it leaves the regions as they are
 pub found_regions : (a n : ℕ) (ps : List Part) (i : ℕ) (x y : Part) → x ≡ get_or ps i x → region_of y ≡ region_of x →
     AreApart (regions_of ps) → AreApart (regions_of (set ps i y))
-found_regions a n ps i x y is same apart =
-    subst AreApart (sym (regions_of-set ps i y x (same ∙ ap region_of is))) apart
+found_regions a n ps i x y is same apart = subst AreApart (sym (regions_of-set ps i y x (same ∙ ap region_of is))) apart
 
 -- an address has a byte exactly where a part with it is found
 pub has_found : (ps : List Part) (a : ℕ) → AreApart (regions_of ps) →
     IsSome (position (spans a 1) ps) ↔ IsSome (bytes_of ps a)
-has_found ps a apart =
-    (λ some. by_place ps apart some, λ some. found ps a some)
+has_found ps a apart = (λ some. by_place ps apart some, λ some. found ps a some)
   where
     by_place : (ps : List Part) → AreApart (regions_of ps) → IsSome (position (spans a 1) ps) → IsSome (bytes_of ps a)
     by_place [] apart some = absurd (cc)

@@ -1,8 +1,9 @@
 -- What a store changes, and what a load gives after it.
-use Rattle.sc_store.proofs.Common.{HasBytes, IsSome, Memory, Some, ap, arith, byte_of, cases_lt, false, is_some}
-use Rattle.sc_store.proofs.Common.{load_of, nat_le, nat_lt, nat_tests, refl, stored, subst, suc, sym, true, unwrap_or}
-use Rattle.sc_store.proofs.Common.{zero, ℕ, ⊎_elim, ◌%◌, ◌&&◌, ◌*◌, ◌+◌, ◌-◌, ◌<◌, ◌^◌, ◌↔◌, ◌∙◌, ◌≡◌, ◌≤◌, ◌⊎◌}
+use Rattle.sc_store.proofs.Common.{HasBytes, IsSome, Memory, Some, ap, arith, byte_of, false, is_some, load_of, nat_le}
+use Rattle.sc_store.proofs.Common.{nat_lt, nat_tests, refl, stored, subst, suc, sym, true, unwrap_or, zero, ℕ, ◌%◌}
+use Rattle.sc_store.proofs.Common.{◌&&◌, ◌*◌, ◌+◌, ◌-◌, ◌<◌, ◌^◌, ◌↔◌, ◌∙◌, ◌≡◌, ◌≤◌, ◌⊎◌}
 use Rattle.std.proofs.Math.Arith.{mod-mul}
+use Rattle.sc_store.proofs.Regions.{by_access}
 use Rattle.std.proofs.Math.Nat.{pow-suc, pow-succ'}
 
 -- an address within the access, and one apart from it
@@ -32,10 +33,9 @@ cut_more v k = rw (pow-succ' 256 k) (omega (arith, mod-mul v {m = 256} {c = 256 
 -- a front of what was stored
 front_stored : (m : Memory) (a n v k : ℕ) → k ≤ n → load_of (stored m a n v) a k ≡ v % 256 ^ k
 front_stored m a n v zero h = omega arith
-front_stored m a n v (suc k) h =
-    ap (λ w. w + unwrap_or (stored m a n v (a + k)) 0 * 256 ^ k) (front_stored m a n v k (omega arith))
-    ∙ ap (λ o. v % 256 ^ k + unwrap_or o 0 * 256 ^ k) (stored-at m a n v k (omega arith))
-    ∙ cut_more v k
+front_stored m a n v (suc k) h = ap (λ w. w + unwrap_or (stored m a n v (a + k)) 0 * 256 ^ k)
+    (front_stored m a n v k (omega arith)) ∙ ap (λ o. v % 256 ^ k + unwrap_or o 0 * 256 ^ k)
+    (stored-at m a n v k (omega arith)) ∙ cut_more v k
 
 pub load_of-stored : (m : Memory) (a n v : ℕ) → load_of (stored m a n v) a n ≡ v % 256 ^ n
 load_of-stored m a n v = front_stored m a n v n (omega arith)
@@ -54,11 +54,9 @@ load_of-apart m a n v b j h =
     load_of-same (stored m a n v) m b j (λ k l. stored-apart m a n v _ (λ p q. omega (arith, h)))
 
 pub address_kept : (m : Memory) (a n v b : ℕ) → HasBytes m a n → is_some (stored m a n v b) ≡ is_some (m b)
-address_kept m a n v b has = ⊎_elim (λ low. ap is_some (stored-apart m a n v b (λ p q. omega arith))) (λ from. ⊎_elim
-    (λ below. ap is_some (stored-in m a n v b from below) ∙
+address_kept m a n v b has = by_access a n b (λ out. ap is_some (stored-apart m a n v b out)) (λ from below.
+    ap is_some (stored-in m a n v b from below) ∙
     sym (subst (λ i. is_some (m i) ≡ true) (omega arith) (has (b - a) (omega arith))))
-    (λ above. ap is_some (stored-apart m a n v b (λ p q. omega arith))) (cases_lt b _)) (cases_lt b a)
 
 pub keeps_addresses : (m : Memory) (a n v b : ℕ) → HasBytes m a n → IsSome (stored m a n v b) ↔ IsSome (m b)
-keeps_addresses m a n v b has =
-    (λ p. sym (address_kept m a n v b has) ∙ p, λ p. address_kept m a n v b has ∙ p)
+keeps_addresses m a n v b has = (λ p. sym (address_kept m a n v b has) ∙ p, λ p. address_kept m a n v b has ∙ p)

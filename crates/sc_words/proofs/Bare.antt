@@ -1,9 +1,9 @@
 -- Words of which one is bare are no command.
-use Rattle.sc_words.proofs.Common.{Bool, Form, List, None, Option, Setting, Some, Text, [], ap, arith}
+use Rattle.sc_words.proofs.Common.{Bool, Form, List, None, Option, Setting, Some, Text, [], and_from, ap, arith}
 use Rattle.sc_words.proofs.Common.{begins_with_hyphen, bytes_eq, commands, cond, eqb-true, false, find, form_of}
 use Rattle.sc_words.proofs.Common.{has_value, is_among, is_bare, list_all, list_any, more, named, named_option, not}
-use Rattle.sc_words.proofs.Common.{option_and_then, option_map, options, parsed, refl, same_text, settings, subst, sym}
-use Rattle.sc_words.proofs.Common.{true, true≢false, when_complete, ◌&&◌, ◌==◌, ◌∷◌, ◌≡◌}
+use Rattle.sc_words.proofs.Common.{option_and_then, option_map, options, or_parts, parsed, refl, same_text, settings}
+use Rattle.sc_words.proofs.Common.{subst, sym, true, true≢false, when_complete, ◌==◌, ◌∷◌, ◌≡◌}
 use Rattle.sc_base.proofs.Bools.{and_first}
 
 -- ---- what holds of each command holds of the command of a name
@@ -35,12 +35,8 @@ pub names_of_forms : (name : Text) (form : Form) → form_of name ≡ Some form 
 names_of_forms = by_command _ commands
     ((refl, refl), ((refl, refl), ((refl, refl), ((refl, refl), ((refl, refl), ((refl, refl), ((refl, refl), tt)))))))
 
-hyphen_in_front : (word : Text) → is_bare word ≡ true → begins_with_hyphen word ≡ true
-hyphen_in_front word bare = and_first _ _ bare
-
 nothing_behind : (form : Form) (o : Option (Text × Option Text)) (behind : Option Text → Option (List Setting)) →
-    ((waiting : Option Text) → behind waiting ≡ None)
-    → named_option form o behind ≡ None
+    ((waiting : Option Text) → behind waiting ≡ None) → named_option form o behind ≡ None
 nothing_behind form None behind none = refl
 nothing_behind form (Some (name, Some value)) behind none = go (has_value form name)
   where
@@ -56,8 +52,7 @@ nothing_behind form (Some (name, None)) behind none = go (has_value form name) _
 
 -- a bare word names no option
 bare_fails : (form : Form) → HasNames form → (word : Text) (behind : Option Text → Option (List Setting)) →
-    is_bare word ≡ true
-    → named_option form (named word) behind ≡ None
+    is_bare word ≡ true → named_option form (named word) behind ≡ None
 bare_fails form has [] behind bare = absurd (true≢false (sym bare))
 bare_fails form has (a ∷ []) behind bare = go _ refl
   where
@@ -95,7 +90,7 @@ no_options form has (word ∷ words) bare waiting = go (is_bare word) refl waiti
         → (list_any is_bare words ≡ true → (waiting : Option Text) → settings form waiting words ≡ None) →
         settings form waiting (word ∷ words) ≡ None
     go true e None later = bare_fails form has word (λ waiting. settings form waiting words) e
-    go true e (Some name) later = rw (hyphen_in_front word e) refl
+    go true e (Some name) later = rw (and_first (begins_with_hyphen word) _ e) refl
     go false e None later = nothing_behind form (named word) (λ waiting. settings form waiting words)
         (later (rw e at bare))
     go false e (Some name) later = waits (begins_with_hyphen word) name (later (rw e at bare) None)
@@ -122,18 +117,12 @@ bare_words (name ∷ words) bare = go (is_bare name) refl (form_of name) refl
     go true e (Some form) is =
         let none : form_of name ≡ None = no_command name e in
         cc
-    go false e (Some form) is =
-        ap (λ o. option_map {U = Text × List Setting} (λ settings. (name, settings))
-        (option_and_then (when_complete form) o))
-        (no_options form (names_of_forms name form is) words (rw e at bare) None)
+    go false e (Some form) is = ap (λ o. option_map {U = Text × List Setting} (λ settings. (name, settings))
+        (option_and_then (when_complete form) o)) (no_options form (names_of_forms name form is) words
+        (rw e at bare) None)
 
 pub none_bare : (words : List Text) → list_any is_bare words ≡ false →
     list_all (λ word. not (is_bare word)) words ≡ true
 none_bare [] e = refl
-none_bare (word ∷ words) e = go (is_bare word) refl (none_bare words)
-  where
-    go : (b : Bool) → is_bare word ≡ b → (list_any is_bare words ≡ false →
-        list_all (λ word. not (is_bare word)) words ≡ true)
-        → (not (is_bare word) && list_all (λ word. not (is_bare word)) words) ≡ true
-    go true is later = absurd (true≢false (rw is at e))
-    go false is later = rw is (later (rw is at e))
+none_bare (word ∷ words) e =
+    let parts = or_parts (is_bare word) _ e in and_from _ _ (ap not parts.0) (none_bare words parts.1)

@@ -1,6 +1,6 @@
 -- Booleans and kinds of faults, and words by their hyphens.
-use Rattle.sc_words.proofs.Common.{Bool, ErrorKind, Kinds, Text, [], begins_with_hyphen, eqb-true, false, is_bare, not}
-use Rattle.sc_words.proofs.Common.{or_else, refl, sym, true, true≢false, ℕ, ◌&&◌, ◌==◌, ◌∷◌, ◌≡◌}
+use Rattle.sc_words.proofs.Common.{Bool, ErrorKind, Kinds, Text, [], and-true, begins_with_hyphen, eqb-true, false}
+use Rattle.sc_words.proofs.Common.{is_bare, not, or_else, refl, sym, true, true≢false, ℕ, ◌&&◌, ◌==◌, ◌∙◌, ◌∷◌, ◌≡◌}
 
 -- ---- booleans
 
@@ -27,10 +27,12 @@ first_fails (k ∷ ks) b fails e = not_empty k ks e
 
 -- ---- words by their hyphens
 
+pub first_plain : (x : ℕ) (xs : Text) → begins_with_hyphen (x ∷ xs) ≡ false → (x == 45) ≡ false
+first_plain x xs e = sym (and-true (x == 45)) ∙ e
+
 -- a word that is not bare has no hyphen in front, or names an option
 pub by_hyphens : (P : Text → Type 0) → ((word : Text) → begins_with_hyphen word ≡ false → P word) →
-    ((x : ℕ) (xs : Text) → P (45 ∷ 45 ∷ x ∷ xs))
-    → (word : Text) → is_bare word ≡ false → P word
+    ((x : ℕ) (xs : Text) → P (45 ∷ 45 ∷ x ∷ xs)) → (word : Text) → is_bare word ≡ false → P word
 by_hyphens P plain long [] bare = plain [] refl
 by_hyphens P plain long (a ∷ []) bare = go (a == 45) refl
   where

@@ -20,7 +20,8 @@ pub use Rattle.clap.specs.Walk.{rows_of, settled, subcommand_met, subcommand_or_
 pub use Rattle.clap.specs.Walk.{with_default, with_values}
 unfoldable pub use Rattle.clap.specs.Walk.{walked}
 pub use Rattle.clap.specs.declared.error.kind.ErrorKind.{ErrorKind}
-pub use Rattle.std.proofs.Math.Bool.{and-false, or-false}
+pub use Rattle.std.proofs.Math.Bool.{and-false, and-true, or-false, or-true}
+pub use Rattle.std.proofs.lemmas.Bool.{and_from, and_parts, lt-leb, or_parts}
 pub use Rattle.std.proofs.lemmas.List.Folds.{find-append, list_any-append}
 pub use Rattle.std.proofs.lemmas.Result.{IfOk-weaker}
 pub use Rattle.std.specs.List.{after_first, list_all, list_any, position_or_len}

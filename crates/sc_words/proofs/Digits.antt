@@ -1,14 +1,15 @@
 -- Numbers as `parse` reads them, and lists cut at their commas.
 use Rattle.sc_words.proofs.Common.{Bool, Err, List, None, Ok, OkIff, Option, Result, Some, [], after_first}
-use Rattle.sc_words.proofs.Common.{all_ascii_digits, ap, append_assoc, ap₂, arith, cond, eq-eqb, eqb-true, false}
-use Rattle.sc_words.proofs.Common.{first_piece, get_or, in_front, inl, inr, integer, integer_list, integers, is_comma}
-use Rattle.sc_words.proofs.Common.{le-leb, leb-true, length, list_any, lt-ltb, ltb-true, nat_le, nat_lt, neg_ℤ}
-use Rattle.sc_words.proofs.Common.{number_within, onto_first, option_and_then, option_map, pieces, pieces_behind, pos}
-use Rattle.sc_words.proofs.Common.{position_or_len, refl, slice_index, suc, sym, true, true≢false, w32, when_within, ℕ}
-use Rattle.sc_words.proofs.Common.{ℤ, ◌&&◌, ◌++◌, ◌+◌, ◌<◌, ◌==◌, ◌||◌, ◌∙◌, ◌∷◌, ◌≡◌, ◌≢◌, ◌≤◌, ◌⊎◌}
+use Rattle.sc_words.proofs.Common.{all_ascii_digits, and_parts, ap, append_assoc, ap₂, arith, cond, eq-eqb, eqb-true}
+use Rattle.sc_words.proofs.Common.{false, first_piece, get_or, in_front, inl, inr, integer, integer_list, integers}
+use Rattle.sc_words.proofs.Common.{is_comma, le-leb, leb-true, length, list_any, lt-leb, lt-ltb, ltb-true, nat_le}
+use Rattle.sc_words.proofs.Common.{nat_lt, neg_ℤ, number_within, onto_first, option_and_then, option_map, or_parts}
+use Rattle.sc_words.proofs.Common.{pieces, pieces_behind, pos, position_or_len, refl, slice_index, suc, sym, true}
+use Rattle.sc_words.proofs.Common.{true≢false, w32, when_within, ℕ, ℤ, ◌&&◌, ◌++◌, ◌+◌, ◌<◌, ◌==◌, ◌||◌, ◌∙◌, ◌∷◌, ◌≡◌}
+use Rattle.sc_words.proofs.Common.{◌≢◌, ◌≤◌, ◌⊎◌}
 use Rattle.std.specs.Result.{result_ok}
 use Rattle.std.specs.Str.Parse.{ParsesSigned, ParsesUnsigned, digits_value}
-use Rattle.std.proofs.lemmas.Bool.{and_parts}
+use Rattle.std.proofs.lemmas.Iterator.Adapters.{option_map_id}
 use Rattle.std.proofs.lemmas.Str.Parse.{IsNumeralModel, numerals_by_value, parse_plain, parse_signed_minus}
 use Rattle.std.proofs.lemmas.Str.Parse.{parse_signed_plain, tells_all_ascii_digits}
 
@@ -19,8 +20,7 @@ own = numerals_by_value _ tells_all_ascii_digits
 
 -- what a result is, by a test that its condition passes
 by_test : {T E : Type 0} (r : Result T E) (P : Type 0) (v : T) (b : Bool) → OkIff r P v → (P → b ≡ true) →
-    (b ≡ true → P)
-    → result_ok r ≡ cond b (Some v) None
+    (b ≡ true → P) → result_ok r ≡ cond b (Some v) None
 by_test (Ok x) P v b h to from = rw (to h.0) (ap Some h.1)
 by_test (Err e) P v true h to from = absurd (h (from refl))
 by_test (Err e) P v false h to from = refl
@@ -60,36 +60,27 @@ within_by_test {T} f most text = go (nat_lt 0 _ && all_ascii_digits text)
 
 -- the digits of a text with no sign in front
 pub digits_read : {E : Type 0} (text : List ℕ) (r : Result ℕ E) → ParsesUnsigned 32 10 text r →
-    (slice_index text 0 == 43) ≡ false
-    → result_ok r ≡ number_within 0 4294967295 text
+    (slice_index text 0 == 43) ≡ false → result_ok r ≡ number_within 0 4294967295 text
 digits_read text r h plain =
     let no_plus : get_or text 0 0 ≢ 43 = λ e. true≢false (sym (eq-eqb _ 43 e) ∙ plain) in
     let settings = parse_plain own 32 text r h no_plus in
     by_test r _ _ _ settings (λ p. passes 4294967295 text p.0 p.1 (omega (arith, p.2)))
     (λ e. let all = parts 4294967295 text e in (all.0, all.1, omega (arith, all.2)))
-    ∙ (within_by_test _ 4294967295 text ∙ same _)
-  where
-    same : (o : Option ℕ) → option_map (λ n. n) o ≡ o
-    same None = refl
-    same _ = refl
+    ∙ (within_by_test _ 4294967295 text ∙ option_map_id _)
 
 -- an integer with no `+` in front
 pub integer_read : {E : Type 0} (text : List ℕ) (r : Result ℤ E) → ParsesSigned w32 10 text r →
-    (slice_index text 0 == 43) ≡ false
-    → result_ok r ≡ integer text
+    (slice_index text 0 == 43) ≡ false → result_ok r ≡ integer text
 integer_read [] r h plain = by_test r _ _ false (parse_signed_plain own w32 [] r h (λ e. absurd (omega arith))
-    (λ e. absurd (omega arith)))
-    (λ p. absurd (omega (arith, p.1))) (λ e. absurd (true≢false (sym e)))
+    (λ e. absurd (omega arith))) (λ p. absurd (omega (arith, p.1))) (λ e. absurd (true≢false (sym e)))
 integer_read (c ∷ cs) r h plain = go (c == 45) refl
   where
-    go : (b : Bool) → (c == 45) ≡ b
-        → result_ok r ≡ cond b (option_map (λ n. neg_ℤ (pos n)) (number_within 0 2147483648 cs))
-        (option_map pos (number_within 0 2147483647 (c ∷ cs)))
+    go : (b : Bool) → (c == 45) ≡ b → result_ok r ≡ cond b (option_map (λ n. neg_ℤ (pos n))
+        (number_within 0 2147483648 cs)) (option_map pos (number_within 0 2147483647 (c ∷ cs)))
     go true e =
         let settings = parse_signed_minus own w32 (c ∷ cs) r h (eqb-true c 45 e) in
         by_test r _ (neg_ℤ (pos (digits_value 10 cs))) (test 2147483648 cs) settings
-        (λ p. passes 2147483648 cs p.0 p.1 p.2)
-        (λ e. let all = parts 2147483648 cs e in (all.0, all.1, all.2))
+        (λ p. passes 2147483648 cs p.0 p.1 p.2) (λ e. let all = parts 2147483648 cs e in (all.0, all.1, all.2))
         ∙ within_by_test (λ n. neg_ℤ (pos n)) 2147483648 cs
     go false e =
         let no_minus : c ≢ 45 = λ is. true≢false (sym (eq-eqb c 45 is) ∙ e) in
@@ -138,14 +129,10 @@ no_comma text e = sym (ap (λ b. cond b (Some (after_first is_comma text)) None)
 one_piece : (text : List ℕ) → list_any is_comma text ≡ false → pieces text ≡ first_piece text ∷ []
 unfolding pieces
 one_piece [] e = refl
-one_piece (b ∷ rest) e = go (is_comma b) refl (one_piece rest)
-  where
-    go : (x : Bool) → is_comma b ≡ x → (list_any is_comma rest ≡ false → pieces rest ≡ first_piece rest ∷ []) →
-        pieces (b ∷ rest) ≡ first_piece (b ∷ rest) ∷ []
-    go true is later = absurd (true≢false (rw is at e))
-    go false is later =
-        let step : pieces (b ∷ rest) ≡ onto_first b (pieces rest) = rw is refl in
-        step ∙ (ap (onto_first b) (later (rw is at e)) ∙ ap (λ x. x ∷ []) (sym (first_past b rest is)))
+one_piece (b ∷ rest) e =
+    let parts = or_parts (is_comma b) _ e in
+    let step : pieces (b ∷ rest) ≡ onto_first b (pieces rest) = rw parts.0 refl in
+    step ∙ (ap (onto_first b) (one_piece rest parts.1) ∙ ap (λ x. x ∷ []) (sym (first_past b rest parts.0)))
 
 more_pieces : (text : List ℕ) → list_any is_comma text ≡ true →
     pieces text ≡ first_piece text ∷ pieces (after_first is_comma text)
@@ -188,8 +175,7 @@ none_or_not true o e = e
 none_or_not false o e = refl
 
 pub refused : (text : List ℕ) (count : ℕ) (done : List ℤ) (left : List ℕ) → IsReadUpTo text count done left →
-    integer (first_piece left) ≡ None
-    → integer_list text ≡ None
+    integer (first_piece left) ≡ None → integer_list text ≡ None
 unfolding integers
 refused text count done left is bad = none_or_not _ _ (is.values ∙ ap (option_map (λ xs. done ++ xs)) none)
   where
@@ -219,8 +205,7 @@ ends text count done left last is few good none = elim (cut left) [
 ]
 
 pub goes_on : (text : List ℕ) (count : ℕ) (done : List ℤ) (left : List ℕ) (next : ℤ) (behind : List ℕ) →
-    IsReadUpTo text count done left
-    → integer (first_piece left) ≡ Some next → pieces_behind left ≡ Some behind →
+    IsReadUpTo text count done left → integer (first_piece left) ≡ Some next → pieces_behind left ≡ Some behind →
     IsReadUpTo text (count + 1) (done ++ next ∷ []) behind
 unfolding integers
 goes_on text count done left next behind is good some = elim (cut left) [
@@ -245,15 +230,6 @@ goes_on text count done left next behind is good some = elim (cut left) [
     joined None = refl
     joined (Some xs) = ap Some (sym (append_assoc done _ xs))
 
-not_within : (a b : ℕ) → b < a → nat_le a b ≡ false
-not_within a b lt = go _ refl
-  where
-    go : (x : Bool) → nat_le a b ≡ x → x ≡ false
-    go true e =
-        let le = leb-true a b e in
-        absurd (omega arith)
-    go false e = refl
-
 pub too_long : (text : List ℕ) (count : ℕ) (done : List ℤ) (left : List ℕ) → IsReadUpTo text count done left →
     65536 ≤ count → integer_list text ≡ None
 too_long text count done left is many = elim (cut left) [
@@ -264,4 +240,4 @@ too_long text count done left is many = elim (cut left) [
     over : {n : ℕ} → length (pieces left) ≡ suc n → integer_list text ≡ None
     over {n} e =
         let more : 65536 < length (pieces text) = omega (arith, is.pieces) in
-        rw (not_within _ 65536 more) refl
+        rw (lt-leb _ 65536 more) refl

@@ -6,12 +6,12 @@ use Rattle.sc_words.proofs.Common.{defaults_fault, each_once, false, finished, f
 use Rattle.sc_words.proofs.Common.{idle, is_among, is_bare, level_fault, list_all, long_fault, long_met, more}
 use Rattle.sc_words.proofs.Common.{name_and_value, named, named_option, not, nothing_held, option, option_and_then}
 use Rattle.sc_words.proofs.Common.{option_map_or, options, or_else, reacted, refl, rows_after, settings, settle_fault}
-use Rattle.sc_words.proofs.Common.{settled, short_of, step_fault, subst, sym, true, true≢false, turn_fault, use_fault}
-use Rattle.sc_words.proofs.Common.{used, used_by_id, walk_fault, walked, when_complete, with_default, ℕ, ◌++◌, ◌==◌}
-use Rattle.sc_words.proofs.Common.{◌∙◌, ◌∷◌, ◌≡◌}
+use Rattle.sc_words.proofs.Common.{settled, short_of, step_fault, subst, sym, true, turn_fault, use_fault, used}
+use Rattle.sc_words.proofs.Common.{used_by_id, walk_fault, walked, when_complete, with_default, ℕ, ◌++◌, ◌∙◌, ◌∷◌, ◌≡◌}
 use Rattle.std.proofs.lemmas.List.{map-append}
 use Rattle.clap.specs.declared.error.kind.ErrorKind.TheVariants as kind
-use Rattle.sc_words.proofs.Basics.{by_hyphens, first_fails, first_not, not_empty, or_else_assoc, second_fails}
+use Rattle.sc_words.proofs.Basics.{by_hyphens, first_fails, first_plain, first_not, not_empty, or_else_assoc}
+use Rattle.sc_words.proofs.Basics.{second_fails}
 use Rattle.sc_words.proofs.Lookup.{by_id, by_index, by_long, lookup, lookup_other, lookup_valued, ready, ready_alone}
 use Rattle.sc_words.proofs.Lookup.{ready_rules, ready_valued}
 use Rattle.sc_words.proofs.Rows.{again_alone, again_valued, check, check_is, final, has_row_rows, new_alone, new_valued}
@@ -62,25 +62,21 @@ module _ (title : Text) (form : Form) where
   fault_by waiting word a v h =
       or_else (long_fault rs false a v h) (step_fault s 1 (step_by waiting word a v h).0 (step_by waiting word a v h).1)
 
-  idle_long : (h : Held) (x : ℕ) (xs : Text)
-      → turn_fault s [] (at idle h) (45 ∷ 45 ∷ x ∷ xs)
-      ≡ fault_by idle (45 ∷ 45 ∷ x ∷ xs) (lookup form (name_and_value (x ∷ xs)).0) (name_and_value (x ∷ xs)).1 h
+  idle_long : (h : Held) (x : ℕ) (xs : Text) → turn_fault s [] (at idle h) (45 ∷ 45 ∷ x ∷ xs) ≡ fault_by idle
+      (45 ∷ 45 ∷ x ∷ xs) (lookup form (name_and_value (x ∷ xs)).0) (name_and_value (x ∷ xs)).1 h
   idle_long h x xs = ap (λ a. fault_by idle (45 ∷ 45 ∷ x ∷ xs) a (name_and_value (x ∷ xs)).1 h)
       (by_long form (name_and_value (x ∷ xs)).0)
 
-  idle_walks : (h : Held) (x : ℕ) (xs : Text)
-      → walked rs [] (at idle h) (45 ∷ 45 ∷ x ∷ xs)
-      ≡ after_step rs (45 ∷ 45 ∷ x ∷ xs) (at idle h) (step_by idle (45 ∷ 45 ∷ x ∷ xs)
-      (lookup form (name_and_value (x ∷ xs)).0) (name_and_value (x ∷ xs)).1 h).0
-      (step_by idle (45 ∷ 45 ∷ x ∷ xs) (lookup form (name_and_value (x ∷ xs)).0) (name_and_value (x ∷ xs)).1 h).1
-  unfolding walked
-  idle_walks h x xs =
-      ap (λ a. after_step rs (45 ∷ 45 ∷ x ∷ xs) (at idle h)
-      (step_by idle (45 ∷ 45 ∷ x ∷ xs) a (name_and_value (x ∷ xs)).1 h).0
-      (step_by idle (45 ∷ 45 ∷ x ∷ xs) a (name_and_value (x ∷ xs)).1 h).1) (by_long form (name_and_value (x ∷ xs)).0)
+  abbrev walk_by : Held → Text → Option Rule → Option Text → Walk
+  walk_by h word a v = after_step rs word (at idle h) (step_by idle word a v h).0 (step_by idle word a v h).1
 
-  waiting_long : (n : Text) (h : Held) (x : ℕ) (xs : Text)
-      → turn_fault s [] (at (option n) h) (45 ∷ 45 ∷ x ∷ xs)
+  idle_walks : (h : Held) (x : ℕ) (xs : Text) → walked rs [] (at idle h) (45 ∷ 45 ∷ x ∷ xs) ≡
+      walk_by h (45 ∷ 45 ∷ x ∷ xs) (lookup form (name_and_value (x ∷ xs)).0) (name_and_value (x ∷ xs)).1
+  unfolding walked
+  idle_walks h x xs = ap (λ a. walk_by h (45 ∷ 45 ∷ x ∷ xs) a (name_and_value (x ∷ xs)).1)
+      (by_long form (name_and_value (x ∷ xs)).0)
+
+  waiting_long : (n : Text) (h : Held) (x : ℕ) (xs : Text) → turn_fault s [] (at (option n) h) (45 ∷ 45 ∷ x ∷ xs)
       ≡ fault_by (option n) (45 ∷ 45 ∷ x ∷ xs) (lookup form (name_and_value (x ∷ xs)).0) (name_and_value (x ∷ xs)).1 h
   waiting_long n h x xs = ap (λ a. fault_by (option n) (45 ∷ 45 ∷ x ∷ xs) a (name_and_value (x ∷ xs)).1 h)
       (by_long form (name_and_value (x ∷ xs)).0)
@@ -89,13 +85,9 @@ module _ (title : Text) (form : Form) where
   idle_plain : (h : Held) (word : Text) → begins_with_hyphen word ≡ false →
       turn_fault s [] (at idle h) word ≡ kind.UnknownArgument ∷ []
   idle_plain h [] e = rw (by_index form 1) refl
-  idle_plain h (x ∷ xs) e = go _ refl
-    where
-      go : (b : Bool) → (x == 45) ≡ b → turn_fault s [] (at idle h) (x ∷ xs) ≡ kind.UnknownArgument ∷ []
-      go true is = absurd (true≢false (rw is at e))
-      go false is =
-          let short : short_of (x ∷ xs) ≡ None = rw is refl in
-          rw (is, short, by_index form 1) refl
+  idle_plain h (x ∷ xs) e =
+      let is = first_plain x xs e in
+      let short : short_of (x ∷ xs) ≡ None = rw is refl in rw (is, short, by_index form 1) refl
 
   -- ---- what the words come to, where `before` is given already
 
@@ -113,10 +105,8 @@ module _ (title : Text) (form : Form) where
   -- a word, and then the others
   goes_on : (w next : Walk) (word : Text) (words : List Text) (k : Kinds) (o : Option (List Setting)) →
       turn_fault s [] w word ≡ k → walked rs [] w word ≡ next →
-      Agrees (or_else k (faults next words)) (ends next words) o
-      → GoesAs w (word ∷ words) o
-  goes_on w next word words k o turns walks agrees =
-      subst (λ k. Agrees k (ends w (word ∷ words)) o)
+      Agrees (or_else k (faults next words)) (ends next words) o → GoesAs w (word ∷ words) o
+  goes_on w next word words k o turns walks agrees = subst (λ k. Agrees k (ends w (word ∷ words)) o)
       (sym (faults_next w word words ∙ ap₂ (λ k w. or_else k (faults w words)) turns walks))
       (subst (λ rows. Agrees (or_else k (faults next words)) rows o)
       (sym (ends_next w word words ∙ ap (λ w. ends w words) walks)) agrees)
@@ -127,8 +117,7 @@ module _ (title : Text) (form : Form) where
   accepted_more before name value (Some behind) = ap (when_complete form) (sym (append_assoc before _ behind))
 
   accepted_again : (before : List Setting) (name value : Text) (behind : Option (List Setting)) →
-      has_option name before ≡ true
-      → accepted before (more name value behind) ≡ None
+      has_option name before ≡ true → accepted before (more name value behind) ≡ None
   accepted_again before name value None has = refl
   accepted_again before name value (Some behind) has = rw (repeated before name value behind has) refl
 
@@ -148,9 +137,8 @@ module _ (title : Text) (form : Form) where
 
   abbrev WaitingAgrees : List Text → Type 0
   WaitingAgrees words = (name : Text) (now : List Row) (skip : ℕ) (before : List Setting) → has_value form name ≡ true →
-      now ≡ rows form before
-      → each_once before ≡ true
-      → GoesAs (waiting_for name now skip) words (accepted before (settings form (Some name) words))
+      now ≡ rows form before → each_once before ≡ true →
+      GoesAs (waiting_for name now skip) words (accepted before (settings form (Some name) words))
 
   idle_ends : IdleAgrees []
   unfolding faults ends settings walk_fault
@@ -172,8 +160,7 @@ module _ (title : Text) (form : Form) where
       go false e =
           let missing : accepted before (Some []) ≡ None =
           ap (when_complete form) (append-nil before) ∙ rw (once, e) refl in
-          let fails : check form _ ≡ kind.MissingRequiredArgument ∷ [] =
-          check_is form before ∙ rw e refl in
+          let fails : check form _ ≡ kind.MissingRequiredArgument ∷ [] = check_is form before ∙ rw e refl in
           subst (Agrees (or_else [] (end_faults h)) (finished rs h)) (sym missing)
           (λ none. not_empty _ _ (sym (faults_are ∙ fails) ∙ none))
 
@@ -195,9 +182,8 @@ module _ (title : Text) (form : Form) where
   -- where what is held fails, a named word fails with it
   long_fails : (waiting : Waiting) (word name : Text) (v : Option Text) (h : Held) → (settle_fault rs false h ≡ [] → ⊥)
       → fault_by waiting word (lookup form name) v h ≡ [] → ⊥
-  long_fails waiting word name v h fails =
-      lookup_cases (λ a. fault_by waiting word a v h ≡ [] → ⊥) name (λ has r. valued r v) (λ has alone. flag v)
-      (λ has alone e. not_empty _ _ e)
+  long_fails waiting word name v h fails = lookup_cases (λ a. fault_by waiting word a v h ≡ [] → ⊥) name
+      (λ has r. valued r v) (λ has alone. flag v) (λ has alone e. not_empty _ _ e)
     where
       valued : (r : Bool) (v : Option Text) → fault_by waiting word (Some (ready_valued r name)) v h ≡ [] → ⊥
       valued r (Some value) = first_fails (or_else (settle_fault rs false h) _) _
@@ -218,12 +204,13 @@ module _ (title : Text) (form : Form) where
       (sym (idle_long h x xs) ∙ e)) word (first_not _ _ all).0)
 
   -- what follows a word `--name` or `--name=value` where nothing waits, by the rule of its name
+  abbrev GoesBy : Held → List Setting → Text → List Text → Option Rule → Option Text → Option (List Setting) → Type 0
+  GoesBy h before word words a v o = Agrees (or_else (fault_by idle word a v h) (faults (walk_by h word a v) words))
+      (ends (walk_by h word a v) words) (accepted before o)
+
   abbrev LongAgrees : Held → List Setting → Text → Text → Option Text → List Text → Option Rule → Type 0
   LongAgrees h before word name v words a =
-      Agrees (or_else (fault_by idle word a v h) (faults
-      (after_step rs word (at idle h) (step_by idle word a v h).0 (step_by idle word a v h).1) words))
-      (ends (after_step rs word (at idle h) (step_by idle word a v h).0 (step_by idle word a v h).1) words)
-      (accepted before (named_option form (Some (name, v)) (λ waiting. settings form waiting words)))
+      GoesBy h before word words a v (named_option form (Some (name, v)) (λ waiting. settings form waiting words))
 
   valued_row : (name value : Text) → has_value form name ≡ true → row form (name, value) ≡ plain_row name value
   valued_row name value has = rw has refl
@@ -236,20 +223,17 @@ module _ (title : Text) (form : Form) where
 
   -- one option more, which nothing waits for any longer
   one_more : (h : Held) (before : List Setting) (name value : Text) (words : List Text) (k : Kinds)
-      (behind : Option (List Setting))
-      → (has_option name before ≡ true → k ≡ [] → ⊥) → (has_option name before ≡ false → k ≡ []) →
-      each_once before ≡ true
-      → (has_option name before ≡ false → each_once (before ++ (name, value) ∷ []) ≡ true
-      → GoesAs (at idle h) words (accepted (before ++ (name, value) ∷ []) behind))
-      → Agrees (or_else k (faults (at idle h) words)) (ends (at idle h) words)
-      (accepted before (more name value behind))
+      (behind : Option (List Setting)) → (has_option name before ≡ true → k ≡ [] → ⊥) →
+      (has_option name before ≡ false → k ≡ []) → each_once before ≡ true →
+      (has_option name before ≡ false → each_once (before ++ (name, value) ∷ []) ≡ true →
+      GoesAs (at idle h) words (accepted (before ++ (name, value) ∷ []) behind)) →
+      Agrees (or_else k (faults (at idle h) words)) (ends (at idle h) words) (accepted before (more name value behind))
   one_more h before name value words k behind again new once later = go (has_option name before) refl
     where
       go : (b : Bool) → has_option name before ≡ b → Agrees (or_else k (faults (at idle h) words))
           (ends (at idle h) words) (accepted before (more name value behind))
       go true e = subst (Agrees _ _) (sym (accepted_again before name value behind e)) (first_fails k _ (again e))
-      go false e =
-          subst (λ x. Agrees (or_else x (faults (at idle h) words)) (ends (at idle h) words)
+      go false e = subst (λ x. Agrees (or_else x (faults (at idle h) words)) (ends (at idle h) words)
           (accepted before (more name value behind))) (sym (new e)) (subst (GoesAs (at idle h) words)
           (sym (accepted_more before name value behind)) (later e (once_more before name value once e)))
 
@@ -260,18 +244,11 @@ module _ (title : Text) (form : Form) where
     has_now : has_row name (settled rs h).rows ≡ has_option name before
     has_now = ap (has_row name) now ∙ has_row_rows form name before
 
-    abbrev walk_by : Option Rule → Option Text → Walk
-    walk_by a v = after_step rs word (at idle h) (step_by idle word a v h).0 (step_by idle word a v h).1
-
     -- the definition's side, computed
     by_option : (a : Option Rule) (v : Option Text) (o : Option (List Setting)) →
-        named_option form (Some (name, v)) (λ waiting. settings form waiting words) ≡ o
-        → Agrees (or_else (fault_by idle word a v h) (faults (walk_by a v) words)) (ends (walk_by a v) words)
-        (accepted before o)
-        → LongAgrees h before word name v words a
-    by_option a v o is agrees =
-        subst (λ x. Agrees (or_else (fault_by idle word a v h) (faults (walk_by a v) words)) (ends (walk_by a v) words)
-        (accepted before x)) (sym is) agrees
+        named_option form (Some (name, v)) (λ waiting. settings form waiting words) ≡ o →
+        GoesBy h before word words a v o → LongAgrees h before word name v words a
+    by_option a v o is agrees = subst (GoesBy h before word words a v) (sym is) agrees
 
     valued_agrees : has_value form name ≡ true → (r : Bool) (v : Option Text) →
         LongAgrees h before word name v words (Some (ready_valued r name))
@@ -284,8 +261,7 @@ module _ (title : Text) (form : Form) where
         (λ some. first_fails _ [] (second_fails (settle_fault rs false h) _
         (again_valued r name value (settled rs h).rows (has_now ∙ some))))
         (λ none. λ i. or_else (or_else (settles i) (new_valued r name value (settled rs h).rows (has_now ∙ none) i)) [])
-        once
-        (λ none once_now. idles next (before ++ (name, value) ∷ []) refl
+        once (λ none once_now. idles next (before ++ (name, value) ∷ []) refl
         (used_valued r name value (settled rs h).rows (has_now ∙ none)
         ∙ (ap₂ (λ x y. x ++ y ∷ []) now (sym (valued_row name value has)) ∙ rows_more before (name, value))) once_now))
     valued_agrees has r None =
@@ -307,8 +283,7 @@ module _ (title : Text) (form : Form) where
         (one_more next before name [] words fault (settings form None words)
         (λ some. first_fails _ [] (second_fails (settle_fault rs false h) _
         (again_alone name (settled rs h).rows (has_now ∙ some))))
-        (λ none. λ i. or_else (or_else (settles i) (new_alone name (settled rs h).rows (has_now ∙ none) i)) [])
-        once
+        (λ none. λ i. or_else (or_else (settles i) (new_alone name (settled rs h).rows (has_now ∙ none) i)) []) once
         (λ none once_now. idles next (before ++ (name, []) ∷ []) refl
         (used_alone name (settled rs h).rows (has_now ∙ none)
         ∙ (ap₂ (λ x y. x ++ y ∷ []) now (sym (alone_row name has)) ∙ rows_more before (name, []))) once_now))
@@ -320,8 +295,7 @@ module _ (title : Text) (form : Form) where
 
     long_agrees : (v : Option Text) → LongAgrees h before word name v words (lookup form name)
     long_agrees v = lookup_cases (LongAgrees h before word name v words) name (λ has r. valued_agrees has r v)
-        (λ has alone. alone_agrees has alone v)
-        (λ has alone. none_agrees has alone v)
+        (λ has alone. alone_agrees has alone v) (λ has alone. none_agrees has alone v)
 
   idle_next : (word : Text) (words : List Text) → is_bare word ≡ false →
       list_all (λ word. not (is_bare word)) words ≡ true
@@ -332,24 +306,17 @@ module _ (title : Text) (form : Form) where
     where
       no_name : (w : Text) → begins_with_hyphen w ≡ false → named w ≡ None
       no_name [] e = refl
-      no_name (x ∷ xs) e = go (x == 45) refl
-        where
-          go : (b : Bool) → (x == 45) ≡ b → named (x ∷ xs) ≡ None
-          go true is = absurd (true≢false (rw is at e))
-          go false is = rw is refl
+      no_name (x ∷ xs) e = rw (first_plain x xs e) refl
 
       given : Option (Text × Option Text) → Option (List Setting)
       given name = accepted before (named_option form name (λ waiting. settings form waiting words))
 
       plain : (w : Text) → begins_with_hyphen w ≡ false → GoesAs (at idle h) (w ∷ words) (given (named w))
-      plain w e =
-          subst (λ o. GoesAs (at idle h) (w ∷ words) (given o)) (sym (no_name w e))
+      plain w e = subst (λ o. GoesAs (at idle h) (w ∷ words) (given o)) (sym (no_name w e))
           (stops (at idle h) w words (λ none. not_empty _ _ (sym (idle_plain h w e) ∙ none)))
 
-      long : (x : ℕ) (xs : Text) →
-          GoesAs (at idle h) ((45 ∷ 45 ∷ x ∷ xs) ∷ words) (given (named (45 ∷ 45 ∷ x ∷ xs)))
-      long x xs =
-          goes_on (at idle h) _ (45 ∷ 45 ∷ x ∷ xs) words _ _ (idle_long h x xs) (idle_walks h x xs)
+      long : (x : ℕ) (xs : Text) → GoesAs (at idle h) ((45 ∷ 45 ∷ x ∷ xs) ∷ words) (given (named (45 ∷ 45 ∷ x ∷ xs)))
+      long x xs = goes_on (at idle h) _ (45 ∷ 45 ∷ x ∷ xs) words _ _ (idle_long h x xs) (idle_walks h x xs)
           (long_agrees h before (45 ∷ 45 ∷ x ∷ xs) (name_and_value (x ∷ xs)).0 words settles now once idles waits
           (name_and_value (x ∷ xs)).1)
 
@@ -374,38 +341,27 @@ module _ (title : Text) (form : Form) where
     passes_plain : (word : Text) → begins_with_hyphen word ≡ false →
         turn_fault s [] (waiting_for name now skip) word ≡ []
     passes_plain [] e = refl
-    passes_plain (x ∷ xs) e = go _ refl
-      where
-        go : (b : Bool) → (x == 45) ≡ b → turn_fault s [] (waiting_for name now skip) (x ∷ xs) ≡ []
-        go true is = absurd (true≢false (rw is at e))
-        go false is =
-            let short : short_of (x ∷ xs) ≡ None = rw is refl in
-            rw (is, short) refl
+    passes_plain (x ∷ xs) e =
+        let is = first_plain x xs e in
+        let short : short_of (x ∷ xs) ≡ None = rw is refl in rw (is, short) refl
 
     takes_plain : (word : Text) → begins_with_hyphen word ≡ false
         → walked rs [] (waiting_for name now skip) word ≡ at idle (holding name (word ∷ []) now skip)
     unfolding walked
     takes_plain [] e = rw (found_by_id.1, bytes_eq_self name) refl
-    takes_plain (x ∷ xs) e = go _ refl
-      where
-        go : (b : Bool) → (x == 45) ≡ b → walked rs [] (waiting_for name now skip) (x ∷ xs) ≡
-            at idle (holding name ((x ∷ xs) ∷ []) now skip)
-        go true is = absurd (true≢false (rw is at e))
-        go false is =
-            let short : short_of (x ∷ xs) ≡ None = rw is refl in
-            rw (is, short, found_by_id.1, bytes_eq_self name) refl
+    takes_plain (x ∷ xs) e =
+        let is = first_plain x xs e in
+        let short : short_of (x ∷ xs) ≡ None = rw is refl in rw (is, short, found_by_id.1, bytes_eq_self name) refl
 
   waiting_ends : WaitingAgrees []
   unfolding faults ends settings walk_fault
   waiting_ends name now skip before has is once = first_fails _ _ (no_value name now skip has)
 
   waiting_next : (word : Text) (words : List Text) → is_bare word ≡ false →
-      list_all (λ word. not (is_bare word)) words ≡ true
-      → IdleAgrees words → WaitingAgrees (word ∷ words)
+      list_all (λ word. not (is_bare word)) words ≡ true → IdleAgrees words → WaitingAgrees (word ∷ words)
   unfolding settings
-  waiting_next word words bare all idles name now skip before has is once =
-      by_hyphens (λ w. GoesAs (waiting_for name now skip) (w ∷ words) (given w (begins_with_hyphen w))) plain long word
-      bare
+  waiting_next word words bare all idles name now skip before has is once = by_hyphens
+      (λ w. GoesAs (waiting_for name now skip) (w ∷ words) (given w (begins_with_hyphen w))) plain long word bare
     where
       r : Bool
       r = (found_by_id name now skip has).0
@@ -421,13 +377,11 @@ module _ (title : Text) (form : Form) where
 
       value_taken : (w : Text) (b : Bool) → has_option name before ≡ b
           → GoesAs (at idle (holding name (w ∷ []) now skip)) words (accepted before (taken w))
-      value_taken w true some =
-          subst (GoesAs (at idle (holding name (w ∷ []) now skip)) words)
+      value_taken w true some = subst (GoesAs (at idle (holding name (w ∷ []) now skip)) words)
           (sym (accepted_again before name w (settings form None words) some))
           (idle_fails words all (holding name (w ∷ []) now skip)
           (λ none. again_valued r name w now (has_now ∙ some) (sym (fault_held name now skip has w) ∙ none)))
-      value_taken w false none =
-          subst (GoesAs (at idle (holding name (w ∷ []) now skip)) words)
+      value_taken w false none = subst (GoesAs (at idle (holding name (w ∷ []) now skip)) words)
           (sym (accepted_more before name w (settings form None words)))
           (idles (holding name (w ∷ []) now skip) (before ++ (name, w) ∷ [])
           (fault_held name now skip has w ∙ new_valued r name w now (has_now ∙ none))
@@ -437,19 +391,17 @@ module _ (title : Text) (form : Form) where
 
       plain : (w : Text) → begins_with_hyphen w ≡ false →
           GoesAs (waiting_for name now skip) (w ∷ words) (given w (begins_with_hyphen w))
-      plain w e =
-          goes_on (waiting_for name now skip) (at idle (holding name (w ∷ []) now skip)) w words [] _
+      plain w e = goes_on (waiting_for name now skip) (at idle (holding name (w ∷ []) now skip)) w words [] _
           (passes_plain name now skip has w e) (takes_plain name now skip has w e)
           (subst (λ b. GoesAs (at idle (holding name (w ∷ []) now skip)) words (given w b)) (sym e)
           (value_taken w (has_option name before) refl))
 
       long : (x : ℕ) (xs : Text) → GoesAs (waiting_for name now skip) ((45 ∷ 45 ∷ x ∷ xs) ∷ words)
           (given (45 ∷ 45 ∷ x ∷ xs) (begins_with_hyphen (45 ∷ 45 ∷ x ∷ xs)))
-      long x xs =
-          stops (waiting_for name now skip) (45 ∷ 45 ∷ x ∷ xs) words
+      long x xs = stops (waiting_for name now skip) (45 ∷ 45 ∷ x ∷ xs) words
           (λ none. long_fails (option name) (45 ∷ 45 ∷ x ∷ xs) (name_and_value (x ∷ xs)).0 (name_and_value (x ∷ xs)).1
-          (holding name [] now skip)
-          (no_value name now skip has) (sym (waiting_long name (holding name [] now skip) x xs) ∙ none))
+          (holding name [] now skip) (no_value name now skip has)
+          (sym (waiting_long name (holding name [] now skip) x xs) ∙ none))
 
   -- ---- all the words
 

@@ -50,8 +50,7 @@ found p rule name same (n ∷ names) = go (bytes_eq n name) refl (found p rule n
 
 -- no rule answers to a test that none passes
 none_found : (p : Rule → Bool) (rule : Text → Rule) → ((n : Text) → p (rule n) ≡ false) →
-    (names : List Text) (rest : List Rule)
-    → find p (map rule names ++ rest) ≡ find p rest
+    (names : List Text) (rest : List Rule) → find p (map rule names ++ rest) ≡ find p rest
 none_found p rule misses [] rest = refl
 none_found p rule misses (n ∷ names) rest = rw (misses n) (none_found p rule misses names rest)
 
@@ -60,20 +59,18 @@ abbrev alone_or_none : Form → Text → Option Rule
 alone_or_none form name = if is_among form.alone name then Some (ready_alone name) else None
 
 abbrev pub lookup : Form → Text → Option Rule
-lookup form name =
-    if is_among form.needed name then Some (ready_valued true name)
-    else (if is_among form.valued name then Some (ready_valued false name) else alone_or_none form name)
+lookup form name = if is_among form.needed name then Some (ready_valued true name) else
+    (if is_among form.valued name then Some (ready_valued false name) else alone_or_none form name)
 
 searched : (p : Rule → Bool) (form : Form) (name : Text) →
     ((r : Bool) (n : Text) → p (ready_valued r n) ≡ bytes_eq n name)
     → ((n : Text) → p (ready_alone n) ≡ bytes_eq n name) → find p (ready_rules form) ≡ lookup form name
-searched p form name valued alone =
-    find-append p (map (ready_valued true) form.needed) _
-    ∙ ap₂ option_or (found p (ready_valued true) name (valued true) form.needed)
-    (find-append p (map (ready_valued false) form.valued) _
-    ∙ ap₂ option_or (found p (ready_valued false) name (valued false) form.valued)
-    (find-append p (map ready_alone _) [] ∙ ap (λ o. option_or o None) (found p _ name alone form.alone)))
-    ∙ first_of_three (ready_valued true name) (ready_valued false name) (ready_alone name) (is_among _ name)
+searched p form name valued alone = find-append p (map (ready_valued true) form.needed) _ ∙
+    ap₂ option_or (found p (ready_valued true) name (valued true) form.needed)
+    (find-append p (map (ready_valued false) form.valued) _ ∙
+    ap₂ option_or (found p (ready_valued false) name (valued false) form.valued)
+    (find-append p (map ready_alone _) [] ∙ ap (λ o. option_or o None) (found p _ name alone form.alone))) ∙
+    first_of_three (ready_valued true name) (ready_valued false name) (ready_alone name) (is_among _ name)
     (is_among form.valued name) (is_among _ name)
   where
     first_of_three : (x y z : Rule) (a b c : Bool) → option_or (cond a (Some x) None)
@@ -91,10 +88,8 @@ pub by_id : (form : Form) (name : Text) → arg_by_id (ready_rules form) name �
 by_id form name = searched _ form name (λ r n. refl) (λ n. refl)
 
 pub by_index : (form : Form) (i : ℕ) → arg_by_index (ready_rules form) i ≡ None
-by_index form i =
-    none_found _ (ready_valued true) (λ n. refl) form.needed _ ∙
-    none_found _ (ready_valued false) (λ n. refl) form.valued _
-    ∙ none_found _ ready_alone (λ n. refl) form.alone []
+by_index form i = none_found _ (ready_valued true) (λ n. refl) form.needed _ ∙
+    none_found _ (ready_valued false) (λ n. refl) form.valued _ ∙ none_found _ ready_alone (λ n. refl) form.alone []
 
 pub lookup_valued : (form : Form) (name : Text) → has_value form name ≡ true →
     (r : Bool) × (lookup form name ≡ Some (ready_valued r name))
@@ -110,9 +105,8 @@ pub lookup_other : (form : Form) (name : Text) → has_value form name ≡ false
     lookup form name ≡ alone_or_none form name
 lookup_other form name has = go _ _ has
   where
-    go : (a b : Bool) → (a || b) ≡ false
-        → cond a (Some (ready_valued true name)) (cond b (Some (ready_valued false name)) (alone_or_none form name)) ≡
-        alone_or_none form name
+    go : (a b : Bool) → (a || b) ≡ false → cond a (Some (ready_valued true name))
+        (cond b (Some (ready_valued false name)) (alone_or_none form name)) ≡ alone_or_none form name
     go true b e = absurd (true≢false e)
     go false true e = absurd (true≢false e)
     go false false e = refl

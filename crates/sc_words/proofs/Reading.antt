@@ -21,21 +21,18 @@ use Rattle.sc_words.proofs.Top.{Reads, has_matches, words_agree}
 meaning_same : (v w : Values) → v (codes "turns") ≡ w (codes "turns") → v (codes "events") ≡ w (codes "events") →
     v (codes "in") ≡ w (codes "in") → meaning v ≡ meaning w
 meaning_same v w a b c = λ i. option_and_then (λ turns. option_and_then (λ events. option_map (λ inputs.
-    record { turns = turns; events = events; inputs = inputs })
-    (inputs (c i))) (events (b i))) (limit (a i))
+    record { turns = turns; events = events; inputs = inputs }) (inputs (c i))) (events (b i))) (limit (a i))
 
 run_same : (v w : Values) → v (codes "steps") ≡ w (codes "steps") → v (codes "events") ≡ w (codes "events") →
     v (codes "in") ≡ w (codes "in") → run v ≡ run w
 run_same v w a b c = λ i. option_and_then (λ steps. option_and_then (λ events. option_map (λ inputs.
-    record { steps = steps; events = events; inputs = inputs })
-    (inputs (c i))) (events (b i))) (limit (a i))
+    record { steps = steps; events = events; inputs = inputs }) (inputs (c i))) (events (b i))) (limit (a i))
 
 make_same : (v w : Values) (summary : Bool) → v (codes "size") ≡ w (codes "size") →
     v (codes "seed") ≡ w (codes "seed") → make v summary ≡ make w summary
 make_same v w summary a b = λ i. option_and_then (λ size.
     option_map (λ seed. record { size = size; seed = seed; summary = summary })
-    (option_and_then (number_within 0 4294967295) (b i)))
-    (option_and_then (number_within 1 1000) (a i))
+    (option_and_then (number_within 0 4294967295) (b i))) (option_and_then (number_within 1 1000) (a i))
 
 abbrev Same : Text → Form → Type 0
 Same name form = (settings : List Setting) (rows : List Row) (summary : Bool) → Tells form settings rows
@@ -44,8 +41,7 @@ Same name form = (settings : List Setting) (rows : List Row) (summary : Bool) �
 -- a command with the options of `run`
 runs_same : (form : Form) (settings : List Setting) (rows : List Row) → Tells form settings rows →
     has_value form (codes "steps") ≡ true → has_value form (codes "events") ≡ true →
-    has_value form (codes "in") ≡ true →
-    form.alone ≡ [] → run (λ n. first_of n rows) ≡ run (λ n. value_of n settings)
+    has_value form (codes "in") ≡ true → form.alone ≡ [] → run (λ n. first_of n rows) ≡ run (λ n. value_of n settings)
 runs_same form settings rows tells steps events inputs none =
     run_same (λ n. first_of n rows) (λ n. value_of n settings) (given _ steps)
     (given (codes "events") events) (given (codes "in") inputs) where
@@ -72,8 +68,7 @@ values_same = by_command Same commands (
             (
               (λ settings rows summary tells. ap (option_map Make)
                   (make_same (λ n. first_of n rows) (λ n. value_of n settings) summary
-                  (tells.values (codes "size") refl refl)
-                  (tells.values (codes "seed") refl refl))),
+                  (tells.values (codes "size") refl refl) (tells.values (codes "seed") refl refl))),
               tt,
             ),
           ),
@@ -94,8 +89,7 @@ summary_same name form settings rows has tells make =
 -- ---- what the parse gives
 
 pub reading : (words : List Text) (a : App) (m : ArgMatches) → a ≡ application → list_any is_bare words ≡ false →
-    HasMatchesOf a words m → fault_of a words ≡ []
-    → IsReading words m
+    HasMatchesOf a words m → fault_of a words ≡ [] → IsReading words m
 reading words a m is bare matches passes = go (parsed words) refl (words_agree words (none_bare words bare))
   where
     entered : subcommand_rows_of m ≡ subcommand_of application words

@@ -3,8 +3,8 @@ use Rattle.sc_words.proofs.Common.{Bool, Form, Kinds, List, None, Option, Row, R
 use Rattle.sc_words.proofs.Common.{and-false, ap, append-nil, ap₂, at_row, bytes_eq, codes, cond, defaults_fault}
 use Rattle.sc_words.proofs.Common.{each_once, false, find, find-append, find-map, find_passes, flag_text, fold}
 use Rattle.sc_words.proofs.Common.{has_option, has_row, has_value, if◌then◌else◌, is_among, is_some, list_all, list_any}
-use Rattle.sc_words.proofs.Common.{list_any-append, map, more, more_values, not, option_and_then, option_map}
-use Rattle.sc_words.proofs.Common.{option_map_or, option_or, or_else, refl, row_text, same_either_way, same_text}
+use Rattle.sc_words.proofs.Common.{list_any-append, map, more_values, not, option_and_then, option_map, option_map_or}
+use Rattle.sc_words.proofs.Common.{option_or, or-true, or_else, or_parts, refl, row_text, same_either_way, same_text}
 use Rattle.sc_words.proofs.Common.{slice_get, sym, true, true≢false, use_fault, used, with_default, with_values, ◌&&◌}
 use Rattle.sc_words.proofs.Common.{◌++◌, ◌||◌, ◌∙◌, ◌∷◌, ◌≡◌}
 use Rattle.clap.specs.Facts.{explicit_source}
@@ -12,7 +12,7 @@ use Rattle.clap.specs.Takes.{is_given}
 use Rattle.clap.specs.declared.builder.value_parser.Reading.TheVariants.{AsWritten}
 use Rattle.clap.specs.declared.error.kind.ErrorKind.TheVariants as kind
 use Rattle.clap.specs.declared.parser.matches.ValueSource.TheVariants.{DefaultValue, CommandLine}
-use Rattle.sc_words.proofs.Basics.{not_empty}
+use Rattle.sc_words.proofs.Basics.{first_not, not_empty}
 use Rattle.sc_words.proofs.Lookup.{ready_alone, ready_rules, ready_valued}
 
 -- ---- the rows of the options that are given
@@ -53,19 +53,14 @@ has_row_rows form name (o ∷ all) = ap (λ b. bytes_eq o.0 name || b) (has_row_
 joined : (name : Text) (change : Row → List Row) (missing : List Row) (now : List Row) → has_row name now ≡ false →
     at_row name change missing now ≡ now ++ missing
 joined name change missing [] none = refl
-joined name change missing (r ∷ now) none = go (bytes_eq r.id name) refl (joined name change missing now)
-  where
-    go : (b : Bool) → bytes_eq r.id name ≡ b → (has_row name now ≡ false →
-        at_row name change missing now ≡ now ++ missing)
-        → at_row name change missing (r ∷ now) ≡ r ∷ (now ++ missing)
-    go true e later = absurd (true≢false (rw e at none))
-    go false e later = rw e (ap (λ rs. r ∷ rs) (later (rw e at none)))
+joined name change missing (r ∷ now) none =
+    let parts = or_parts (bytes_eq r.id name) _ none in
+    rw parts.0 (ap (λ rs. r ∷ rs) (joined name change missing now parts.1))
 
 -- one use of an option
 joins : (name value : Text) (now : List Row) → has_row name now ≡ false → with_values name AsWritten CommandLine
     (value ∷ []) (at_row name (λ _. []) [] now) ≡ now ++ plain_row name value ∷ []
-joins name value now none =
-    ap (λ rs. with_values name AsWritten CommandLine (value ∷ []) rs)
+joins name value now none = ap (λ rs. with_values name AsWritten CommandLine (value ∷ []) rs)
     (joined name (λ _. []) [] now none ∙ append-nil now) ∙ joined name (more_values CommandLine _) _ now none
 
 pub used_valued : (r : Bool) (name value : Text) (now : List Row) → has_row name now ≡ false
@@ -180,17 +175,15 @@ found_final (n ∷ names) now name = go (has_row n now) refl (bytes_eq n name) r
 found_at_end : (form : Form) (all : List Setting) (name : Text)
     → find (by_name name) (final form all) ≡ option_or (option_map (row form) (option_named name all))
     (default_of form.alone name)
-found_at_end form all name =
-    ap (find _) (final_is form all) ∙ (found_final form.alone (rows form all) name
+found_at_end form all name = ap (find _) (final_is form all) ∙ (found_final form.alone (rows form all) name
     ∙ ap (λ o. option_or o (default_of form.alone name)) (sym (find-map _ _ all)))
 
 has_is_some : (name : Text) (all : List Setting) → is_some (option_named name all) ≡ has_option name all
 has_is_some name all = found_any _ all
 
 given_at_end : (form : Form) (all : List Setting) (name : Text) → is_given name (final form all) ≡ has_option name all
-given_at_end form all name =
-    ap (λ o. option_map_or (λ r. explicit_source r.source) o false) (found_at_end form all name)
-    ∙ (go _ (is_among _ name) ∙ has_is_some name all)
+given_at_end form all name = ap (λ o. option_map_or (λ r. explicit_source r.source) o false)
+    (found_at_end form all name) ∙ (go _ (is_among _ name) ∙ has_is_some name all)
   where
     go : (o : Option Setting) (b : Bool) → option_map_or (λ (r : Row). explicit_source r.source)
         (option_or (option_map (row form) o) (cond b (Some (default_row name)) None)) false ≡ is_some o
@@ -206,8 +199,7 @@ tells form all = record {
 }
   where
     value_at : (name : Text) → has_value form name ≡ true → is_among form.alone name ≡ false → (o : Option Setting) →
-        option_named name all ≡ o
-        → option_and_then (λ (r : Row). slice_get r.values 0)
+        option_named name all ≡ o → option_and_then (λ (r : Row). slice_get r.values 0)
         (option_or (option_map (row form) o) (default_of form.alone name)) ≡ option_map (λ x. x.1) o
     value_at name has alone None is = rw alone refl
     value_at name has alone (Some o) is =
@@ -216,9 +208,8 @@ tells form all = record {
         rw valued refl
 
     flag_at : (name : Text) → has_value form name ≡ false → is_among form.alone name ≡ true → (o : Option Setting) →
-        option_named name all ≡ o
-        → option_and_then row_text (option_or (option_map (row form) o) (default_of form.alone name)) ≡
-        Some (flag_text (is_some o))
+        option_named name all ≡ o → option_and_then row_text (option_or (option_map (row form) o)
+        (default_of form.alone name)) ≡ Some (flag_text (is_some o))
     flag_at name has alone None is = rw alone refl
     flag_at name has alone (Some o) is =
         let same = same_text o.0 name (find_passes _ all o is) in
@@ -243,14 +234,12 @@ any_alone now [] = refl
 any_alone now (n ∷ names) = any_alone now names
 
 any_needed : (now : List Row) (all : List Setting) → ((name : Text) → is_given name now ≡ has_option name all) →
-    (names : List Text) (rest : List Rule)
-    → list_any (λ a. a.required && not (is_given a.id now)) rest ≡ false
-    → list_any (λ a. a.required && not (is_given a.id now)) (map (ready_valued true) names ++ rest) ≡
-    not (list_all (λ name. has_option name all) names)
+    (names : List Text) (rest : List Rule) → list_any (λ a. a.required && not (is_given a.id now)) rest ≡ false →
+    list_any (λ a. a.required && not (is_given a.id now)) (map (ready_valued true) names ++ rest) ≡ not
+    (list_all (λ name. has_option name all) names)
 any_needed now all same [] rest none = none
-any_needed now all same (n ∷ names) rest none =
-    ap₂ (λ x y. not x || y) (same n) (any_needed now all same names rest none) ∙
-    turned (has_option n all) (list_all _ names)
+any_needed now all same (n ∷ names) rest none = ap₂ (λ x y. not x || y) (same n)
+    (any_needed now all same names rest none) ∙ turned (has_option n all) (list_all _ names)
   where
     turned : (a b : Bool) → (not a || not b) ≡ not (a && b)
     turned true b = refl
@@ -270,45 +259,34 @@ check_is form all =
     turned true = refl
     turned false = refl
 
+nothing_first : (b : Bool) {k : Kinds} → k ≡ [] → or_else (if b then [] else []) k ≡ []
+nothing_first true e = e
+nothing_first false e = e
+
 -- no default fails
 valued_defaults : (r : Bool) (names : List Text) (rest : List Rule) →
     ((now : List Row) → defaults_fault now rest ≡ []) → (now : List Row)
     → defaults_fault now (map (ready_valued r) names ++ rest) ≡ []
 unfolding defaults_fault
 valued_defaults r [] rest none now = none now
-valued_defaults r (n ∷ names) rest none now = go (has_row n now) (valued_defaults r names rest none _)
-  where
-    go : (b : Bool) {k : Kinds} → k ≡ [] → or_else (if b || true then [] else []) k ≡ []
-    go true e = e
-    go false e = e
+valued_defaults r (n ∷ names) rest none now =
+    nothing_first (has_row n now || true) (valued_defaults r names rest none _)
 
 alone_defaults : (names : List Text) (now : List Row) → defaults_fault now (map ready_alone names ++ []) ≡ []
 unfolding defaults_fault
 alone_defaults [] now = refl
-alone_defaults (n ∷ names) now = go (has_row n now) (alone_defaults names _)
-  where
-    go : (b : Bool) {k : Kinds} → k ≡ [] → or_else (if b || false then [] else []) k ≡ []
-    go true e = e
-    go false e = e
+alone_defaults (n ∷ names) now = nothing_first (has_row n now || false) (alone_defaults names _)
 
 pub no_default_fails : (form : Form) (now : List Row) → defaults_fault now (ready_rules form) ≡ []
 no_default_fails form = valued_defaults true form.needed _ (valued_defaults false form.valued _ (alone_defaults _))
 
 -- ---- options that are given once
 
-has_joined : (name : Text) (before more : List Setting) →
-    has_option name (before ++ more) ≡ (has_option name before || has_option name more)
-has_joined name before more = list_any-append _ before more
-
 pub repeated : (before : List Setting) (name value : Text) (behind : List Setting) → has_option name before ≡ true →
     each_once (before ++ (name, value) ∷ behind) ≡ false
 repeated [] name value behind has = absurd (true≢false (sym has))
 repeated (o ∷ before) name value behind has = go (bytes_eq o.0 name) refl (repeated before name value behind)
   where
-    or_true : (b : Bool) → (b || true) ≡ true
-    or_true true = refl
-    or_true false = refl
-
     go : (b : Bool) → bytes_eq o.0 name ≡ b → (has_option name before ≡ true →
         each_once (before ++ (name, value) ∷ behind) ≡ false)
         → (not (has_option o.0 (before ++ (name, value) ∷ behind)) && each_once (before ++ (name, value) ∷ behind)) ≡
@@ -316,9 +294,8 @@ repeated (o ∷ before) name value behind has = go (bytes_eq o.0 name) refl (rep
     go true e later =
         let turned : bytes_eq name o.0 ≡ true = same_either_way name o.0 ∙ e in
         let there : has_option o.0 (before ++ (name, value) ∷ behind) ≡ true
-        = has_joined o.0 before ((name, value) ∷ behind) ∙
-        (ap (λ b. has_option o.0 before || (b || has_option o.0 behind)) turned ∙
-        or_true (has_option o.0 before)) in
+        = list_any-append _ before ((name, value) ∷ behind) ∙
+        (ap (λ b. has_option o.0 before || (b || has_option o.0 behind)) turned ∙ or-true (has_option o.0 before)) in
         ap (λ b. not b && each_once (before ++ (name, value) ∷ behind)) there
     go false e later =
         ap (λ b. not (has_option o.0 (before ++ (name, value) ∷ behind)) && b) (later (rw e at has)) ∙ and-false _
@@ -327,15 +304,9 @@ pub once_more : (before : List Setting) (name value : Text) → each_once before
     each_once (before ++ (name, value) ∷ []) ≡ true
 once_more [] name value once has = refl
 once_more (o ∷ before) name value once has =
-    go (bytes_eq o.0 name) refl (has_option o.0 before) refl (once_more before name value)
-  where
-    go : (b : Bool) → bytes_eq o.0 name ≡ b → (d : Bool) → has_option o.0 before ≡ d
-        → (each_once before ≡ true → has_option name before ≡ false → each_once (before ++ (name, value) ∷ []) ≡ true)
-        → (not (has_option o.0 (before ++ (name, value) ∷ [])) && each_once (before ++ (name, value) ∷ [])) ≡ true
-    go true e d f later = absurd (true≢false (rw e at has))
-    go false e true f later = absurd (true≢false (sym (rw f at once)))
-    go false e false f later =
-        let turned : bytes_eq name o.0 ≡ false = same_either_way name o.0 ∙ e in
-        let there : has_option o.0 (before ++ (name, value) ∷ []) ≡ false
-        = has_joined o.0 before ((name, value) ∷ []) ∙ ap₂ (λ a b. a || (b || false)) f turned in
-        ap₂ (λ a b. not a && b) there (later (rw f at once) (rw e at has))
+    let own = first_not (has_option o.0 before) _ once in
+    let others = or_parts (bytes_eq o.0 name) _ has in
+    let turned : bytes_eq name o.0 ≡ false = same_either_way name o.0 ∙ others.0 in
+    let there : has_option o.0 (before ++ (name, value) ∷ []) ≡ false =
+    list_any-append _ before ((name, value) ∷ []) ∙ ap₂ (λ a b. a || (b || false)) own.0 turned in
+    ap₂ (λ a b. not a && b) there (once_more before name value own.1 others.1)

@@ -8,12 +8,11 @@ use Rattle.sc_words.proofs.Common.{label_of, level_fault, list_all, map, names_o
 use Rattle.sc_words.proofs.Common.{option_and_then, option_map, option_map_or, options, or-false, or_else, other_fault}
 use Rattle.sc_words.proofs.Common.{parsed, refl, rows_after, rows_at, same_text, settle_fault, settled, short_of}
 use Rattle.sc_words.proofs.Common.{step_fault, subcommand_met, subcommand_of, subcommand_or_other, subst, sym, true}
-use Rattle.sc_words.proofs.Common.{true≢false, turn_fault, walk_fault, walk_from, walked, ◌&&◌, ◌++◌, ◌==◌, ◌∙◌, ◌∷◌}
-use Rattle.sc_words.proofs.Common.{◌≡◌}
+use Rattle.sc_words.proofs.Common.{turn_fault, walk_fault, walk_from, walked, ◌&&◌, ◌++◌, ◌∙◌, ◌∷◌, ◌≡◌}
 use Rattle.clap.proofs.FaultLemmas.{stopped_fault}
 use Rattle.clap.proofs.SimpleLemmas.{label_first}
 use Rattle.clap.specs.declared.error.kind.ErrorKind.TheVariants as kind
-use Rattle.sc_words.proofs.Basics.{by_hyphens, first_fails, first_not, not_empty}
+use Rattle.sc_words.proofs.Basics.{by_hyphens, first_fails, first_plain, first_not, not_empty}
 use Rattle.sc_words.proofs.Lookup.{ready, ready_rules}
 use Rattle.sc_words.proofs.Rows.{tells}
 use Rattle.sc_words.proofs.Level.{Agrees, level_agrees}
@@ -49,9 +48,8 @@ entry_of name = find (λ c. bytes_eq c.0 name)
 
 shape_found : (cs : List (Text × Form)) (name : Text)
     → find (λ s. answers_to name (label_of s)) (shapes cs) ≡ option_map (λ c. ready c.0 c.1) (entry_of name cs)
-shape_found cs name =
-    sym (find-map _ _ cs)
-    ∙ ap (λ p. option_map (λ c. ready c.0 c.1) (find p cs)) (λ i c. or-false (bytes_eq c.0 name) i)
+shape_found cs name = sym (find-map _ _ cs) ∙ ap (λ p. option_map (λ c. ready c.0 c.1) (find p cs))
+    (λ i c. or-false (bytes_eq c.0 name) i)
 
 abbrev names : Names
 names = names_of app
@@ -93,13 +91,9 @@ stranger_fails name bare = by_hyphens (λ w. first_fault None w ≡ [] → ⊥) 
   where
     plain : (w : Text) → begins_with_hyphen w ≡ false → first_fault None w ≡ [] → ⊥
     plain [] e = λ none. not_empty _ _ none
-    plain (x ∷ xs) e = go (x == 45) refl
-      where
-        go : (b : Bool) → (x == 45) ≡ b → first_fault None (x ∷ xs) ≡ [] → ⊥
-        go true is = absurd (true≢false (rw is at e))
-        go false is =
-            let short : short_of (x ∷ xs) ≡ None = rw is refl in
-            rw (is, short) (λ none. not_empty _ _ none)
+    plain (x ∷ xs) e =
+        let is = first_plain x xs e in
+        let short : short_of (x ∷ xs) ≡ None = rw is refl in rw (is, short) (λ none. not_empty _ _ none)
 
 command_passes : (n name : Text) → first_fault (Some n) name ≡ []
 command_passes n name = go _
@@ -121,8 +115,7 @@ fold_stopped w p (word ∷ words) =
 -- the parse fails where the definition gives nothing, and else finds what it gives
 abbrev pub Reads : Kinds → Option (Text × List Row) → Option (Text × List Setting) → Type 0
 Reads faults entered None = faults ≡ [] → ⊥
-Reads faults entered (Some read) = (faults ≡ [])
-    × ((form : Form) × (form_of read.0 ≡ Some form) ×
+Reads faults entered (Some read) = (faults ≡ []) × ((form : Form) × (form_of read.0 ≡ Some form) ×
     ((rows : List Row) × (entered ≡ Some (read.0, rows)) × Tells form read.1 rows))
 
 abbrev stopped_at : Text → List Text → Walk
@@ -209,5 +202,4 @@ words_agree (name ∷ words) all = go (entry_of name commands) refl
     go (Some c) found =
         let same : c.0 ≡ name = same_text c.0 name (find_passes (λ c. bytes_eq c.0 name) commands c found) in
         subst (λ n. Reads (fault_of application (n ∷ words)) (subcommand_of application (n ∷ words))
-        (parsed (n ∷ words))) same
-        (known_agrees c words (ap (λ n. entry_of n commands) same ∙ found) parts.1)
+        (parsed (n ∷ words))) same (known_agrees c words (ap (λ n. entry_of n commands) same ∙ found) parts.1)

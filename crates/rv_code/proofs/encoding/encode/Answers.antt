@@ -1,4 +1,4 @@
-use Rattle.rv_code.proofs.Read.{decoded-word}
+use Rattle.rv_code.proofs.OneEach.{decoded-word}
 use Rattle.rv_code.proofs.encoding.encode.Goals as goal
 
 pub returns-clause-has_word : goal.returns-clause-has_word

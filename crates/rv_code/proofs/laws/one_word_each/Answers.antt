@@ -1,5 +1,4 @@
-use Rattle.rv_code.proofs.Read.{decoded-word}
-use Rattle.rv_code.proofs.OneEach.{HasWord-decoded, one_instr, word-below}
+use Rattle.rv_code.proofs.OneEach.{HasWord-decoded, decoded-word, one_instr, word-below}
 use Rattle.rv_code.proofs.laws.one_word_each.Goals as goal
 
 pub returns-clause-exact : goal.returns-clause-exact
