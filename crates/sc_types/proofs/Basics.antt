@@ -1,12 +1,17 @@
 -- Tests that hold, lists that are empty, and the places of names.
 use Rattle.sc_types.proofs.Common.{Bool, List, None, Option, Some, [], and_first, and_rest, ap, arith, concat, cond}
-use Rattle.sc_types.proofs.Common.{false, false≢true, if◌then◌else◌, list_all, map, option_map, position, position_from}
+use Rattle.sc_types.proofs.Common.{false, false≢true, if◌then◌else◌, list_all, map, not, option_map, position, position_from}
 use Rattle.sc_types.proofs.Common.{refl, suc, true, unless, ℕ, ◌++◌, ◌+◌, ◌||◌, ◌∙◌, ◌∷◌, ◌≡◌}
 use Rattle.std.proofs.lemmas.Iterator.Adapters.{position_from-zero}
 
 pub either : {C : Type 0} (a b : Bool) → (a || b) ≡ true → (a ≡ true → C) → (a ≡ false → b ≡ true → C) → C
 either true b h f g = f refl
 either false b h f g = g refl h
+
+pub or_not : (a b : Bool) → (a || not b) ≡ true → b ≡ true → a ≡ true
+or_not true b h q = refl
+or_not false true h q = h
+or_not false false h q = absurd (false≢true q)
 
 abbrev pub is_empty : {A : Type 0} → List A → Bool
 is_empty [] = true

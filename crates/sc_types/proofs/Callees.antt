@@ -14,12 +14,14 @@ use Rattle.sc_types.proofs.Common.{◌∙◌, ◌∷◌, ◌≡◌}
 use Rattle.sc_event.specs.declared.interface.Import.{Import}
 use Rattle.sc_event.specs.declared.interface.Import.TheVariants as import
 use Rattle.sc_core.specs.declared.ty.Ty.TheVariants as ty
-use Rattle.sc_types.proofs.Basics.{each_passes}
+use Rattle.std.proofs.lemmas.List.Folds.{list_any-append}
+use Rattle.std.proofs.lemmas.Option.{slice_get-map}
+use Rattle.sc_types.proofs.Basics.{or_not, each_passes}
 use Rattle.sc_types.proofs.Places.{Text, same_refl, eq_refl}
 use Rattle.sc_types.proofs.Lookups.{each_at, FoundFunction, find_function, no_function, no_place, heads_of_functions}
 use Rattle.sc_types.proofs.Lookups.{FoundHead, find_head}
 use Rattle.sc_types.proofs.Facts.{ExportFacts, ImportFacts, DeclFacts, FaceFacts}
-use Rattle.sc_types.proofs.Calls.{agreed_signature, input_signature, output_signature, FoundBy, found_by, get_map}
+use Rattle.sc_types.proofs.Calls.{agreed_signature, input_signature, output_signature, FoundBy, found_by}
 use Rattle.sc_types.proofs.Calls.{own_at, FoundImport, find_import, Offering, find_offering, export_is}
 
 same_import_refl : (i : Import) → same_import i i ≡ true
@@ -27,20 +29,9 @@ same_import_refl import.Input = refl
 same_import_refl import.Output = refl
 same_import_refl (import.Function comp index) = λ i. eq_refl comp i && eq_refl index i
 
-or_not : (a b : Bool) → (a || not b) ≡ true → b ≡ true → a ≡ true
-or_not true b h q = refl
-or_not false true h q = h
-or_not false false h q = absurd (false≢true q)
-
 names_append : (a b : List Text) (name : Text) → is_numbered (a ++ b) name ≡ true → is_numbered a name ≡ false →
     is_numbered b name ≡ true
-names_append [] b name h q = h
-names_append (x ∷ a) b name h q = by_case _ h q (names_append a b name) where
-  by_case : (c : Bool) → (c || is_numbered (a ++ b) name) ≡ true → (c || is_numbered a name) ≡ false →
-      (is_numbered (a ++ b) name ≡ true → is_numbered a name ≡ false → is_numbered b name ≡ true) →
-      is_numbered b name ≡ true
-  by_case true h q f = absurd (false≢true (sym q))
-  by_case false h q f = f h q
+names_append a b name h q = ap (λ c. c || is_numbered b name) (sym q) ∙ sym (list_any-append _ a b) ∙ h
 
 module _ (sections : List SectionTree) (hold : (j : ℕ) (s : SectionTree) → slice_get sections j ≡ Some s →
     FaceFacts sections j s) (number : ℕ) (section : SectionTree)
@@ -59,7 +50,7 @@ module _ (sections : List SectionTree) (hold : (j : ℕ) (s : SectionTree) → s
       list_any (same_import (import_of sections number line)) callable.imports ≡ true
   imported at line got =
       any_passes_from_place (same_import (import_of _ number line)) (map (import_of _ number) section.imports) at
-      (import_of sections number line) (get_map (import_of _ number) section.imports at ∙
+      (import_of sections number line) (slice_get-map (import_of _ number) section.imports at ∙
       ap (option_map _) got) (same_import_refl (import_of _ number line))
 
   module _ (name : Text) (f : FoundImport (ImportFacts sections number section) name section.imports)
@@ -165,7 +156,7 @@ module _ (sections : List SectionTree) (hold : (j : ℕ) (s : SectionTree) → s
 
       there_name : is_numbered (import_names section) head.name ≡ true
       there_name =
-          any_passes_from_place (bytes_eq _) (import_names section) f.at line.name (get_map _ _ f.at ∙
+          any_passes_from_place (bytes_eq _) (import_names section) f.at line.name (slice_get-map _ _ f.at ∙
           ap (option_map _) f.got) (subst (λ n. bytes_eq n _ ≡ true) same_name (same_refl line.name))
 
       head_is : head_crosses head ≡ true

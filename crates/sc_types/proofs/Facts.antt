@@ -6,7 +6,11 @@ use Rattle.sc_types.proofs.Common.{head_holds, head_of, import_names, imported_a
 use Rattle.sc_types.proofs.Common.{is_offered, is_plain, main_holds, main_name, map, name_holds, not, not-true}
 use Rattle.sc_types.proofs.Common.{proto_names, refl, same_text, section_lines, sym, true, unless, ℕ, ◌++◌, ◌||◌, ◌∙◌}
 use Rattle.sc_types.proofs.Common.{◌∷◌, ◌≡◌}
+use Rattle.sc_types.proofs.Common.{Callees, concat, functions_in, globals_in, heads_in, length, most_exports, most_nodes}
+use Rattle.sc_types.proofs.Common.{nat_le, or_right, structs_in, ◌&&◌}
+use Rattle.std.proofs.lemmas.List.Folds.{list_any-append}
 use Rattle.sc_scope.specs.Prelude.{are_distinct}
+use Rattle.sc_types.specs.Counts as counts
 use Rattle.sc_types.proofs.Basics.{rule_holds, front_empty, back_empty, Each}
 use Rattle.sc_types.proofs.Places.{Text, same_refl, numbered_front}
 
@@ -18,12 +22,7 @@ Fresh before (name ∷ names) = (is_numbered before name ≡ false) × Fresh (be
 
 last_there : (before : List Text) (name : Text) → bytes_eq name name ≡ true →
     is_numbered (before ++ name ∷ []) name ≡ true
-last_there [] name h = ap (λ b. b || false) h
-last_there (x ∷ before) name h = by_case _ (last_there before name h) where
-  by_case : (b : Bool) → is_numbered (before ++ name ∷ []) name ≡ true →
-      (b || is_numbered (before ++ name ∷ []) name) ≡ true
-  by_case true k = refl
-  by_case false k = k
+last_there before name h = list_any-append _ before _ ∙ or_right _ _ (ap (λ b. b || false) h)
 
 not_again_at : (name : Text) (before : List Text) (x : Text) (names : List Text) (b : Bool) → bytes_eq name x ≡ b →
     is_numbered before x ≡ false → is_numbered before name ≡ true → is_numbered names name ≡ false →
@@ -176,3 +175,31 @@ module _ (sections : List SectionTree) (number : ℕ) (section : SectionTree) wh
   decls_hold mains before h =
       decls_each mains [] _ (back_empty (imports_from sections number section [] section.imports) _
       (back_empty (exports_from sections number section [] _) _ (back_empty _ _ h)))
+
+-- what a section keeps that is within the counts
+pub record CountFacts (section : SectionTree) (callees : Callees) : Type 0 where
+  pub nodes : (nat_le (counts.section_nodes section callees) most_nodes && nat_le (length section.decls) most_nodes) ≡
+      true
+  pub exports : counts.line_beyond {A = ExportLine} (λ line. line.line) most_exports section.exports ≡ []
+  pub imports : counts.line_beyond {A = ImportLine} (λ line. line.line) most_exports section.imports ≡ []
+  pub structs : counts.structs_from section 0 (structs_in section.decls) ≡ []
+  pub globals : concat (map (counts.global_lines section) (globals_in section.decls)) ≡ []
+  pub heads : concat (map (counts.head_lines section) (heads_in section.decls)) ≡ []
+  pub functions : concat (map (counts.function_lines section) (functions_in section.decls)) ≡ []
+
+seven : (a b c d e f g : List ℕ) → a ++ (b ++ (c ++ (d ++ (e ++ (f ++ g))))) ≡ [] →
+    (a ≡ []) × (b ≡ []) × (c ≡ []) × (d ≡ []) × (e ≡ []) × (f ≡ []) × (g ≡ [])
+seven a b c d e f g h =
+    let h1 = back_empty a _ h in
+    let h2 = back_empty b _ h1 in
+    let h3 = back_empty c _ h2 in
+    let h4 = back_empty d _ h3 in
+    let h5 = back_empty e _ h4 in
+    (front_empty a _ h, front_empty b _ h1, front_empty c _ h2, front_empty d _ h3, front_empty e _ h4,
+    front_empty f g h5, back_empty f g h5)
+
+pub count_facts : (section : SectionTree) (callees : Callees) → counts.section_lines section callees ≡ [] →
+    CountFacts section callees
+count_facts section callees h =
+    let p = seven _ _ _ _ _ _ _ h in
+    record { nodes = rule_holds _ 1 p.0; exports = p.1; imports = p.2; structs = p.3; globals = p.4; heads = p.5; functions = p.6 }

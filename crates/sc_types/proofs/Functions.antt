@@ -240,6 +240,21 @@ module _ (section : SectionTree) where
       (locals_are callees before decls whole globals (own ++ local.name ∷ []) tree _ locals (back_empty _ _ holds)
       (back_empty _ _ known) (back_empty _ _ small) (low_right _ _ 256 low))
 
+  -- All declarations, those before one after another.
+
+  pub record Behind (callees : Callees) (before decls : List Decl) : Type 0 where
+    pub whole : before ++ decls ≡ section.decls
+    pub in_names : names.lines_from section before decls ≡ []
+    pub holds : concat (map (decl_lines section callees) decls) ≡ []
+
+  next : {callees : Callees} {before : List Decl} {decl : Decl} {decls : List Decl} →
+      Behind callees before (decl ∷ decls) → Behind callees (before ++ decl ∷ []) decls
+  next {callees} {before} {decl} {decls} b = record {
+    whole = append_assoc before _ decls ∙ b.whole;
+    in_names = back_empty (names.decl_lines (names.declared section before) decl) _ b.in_names;
+    holds = back_empty (decl_lines section callees decl) _ b.holds;
+  }
+
   -- Bodies.
 
   module _ (callees : Callees) (callable : Callable) (same : (before : List Decl) (tree : FunctionTree) (name : Text) →
@@ -308,72 +323,41 @@ module _ (section : SectionTree) where
         (param_names tree) tree.locals) _ behind_head) (back_empty _ _ holds))) (body_low tree tree.body (low_right _
         _ 256 low))))))
 
-    -- All declarations, those before one after another.
-
-    next_whole : (before : List Decl) (decl : Decl) (decls : List Decl) → before ++ decl ∷ decls ≡ section.decls →
-        (before ++ decl ∷ []) ++ decls ≡ section.decls
-    next_whole before decl decls whole = append_assoc before _ decls ∙ whole
-
     pub functions_are : AllSmall (structs section) 0 (structs_in section.decls) → (before decls : List Decl) →
-        before ++ decls ≡ section.decls → names.lines_from section before decls ≡ [] →
-        concat (map (decl_lines section callees) decls) ≡ [] →
-        concat (map (counts.head_lines section) (heads_in decls)) ≡ [] →
+        Behind callees before decls → concat (map (counts.head_lines section) (heads_in decls)) ≡ [] →
         concat (map (counts.function_lines section) (functions_in decls)) ≡ [] →
         nat_le (surface.decls_height decls) 256 ≡ true →
         list_all (function_fits callable (typed_section section callees))
         (map (typed_function section callees) (functions_in decls)) ≡ true
-    functions_are small before [] whole in_names holds heads sizes low = refl
-    functions_are small before (Struct tree ∷ decls) whole in_names holds heads sizes low =
-        functions_are small (before ++ Struct tree ∷ []) decls (next_whole before _ decls whole)
-        (back_empty (names.decl_lines (names.declared section before) (Struct tree)) _ in_names)
-        (back_empty _ _ holds) heads sizes (low_right 0 _ 256 low)
-    functions_are small before (Global tree ∷ decls) whole in_names holds heads sizes low =
-        functions_are small (before ++ Global tree ∷ []) decls (next_whole before _ decls whole)
-        (back_empty (names.decl_lines (names.declared section before) (Global tree)) _ in_names)
-        (back_empty _ _ holds) heads sizes (low_right 0 _ 256 low)
-    functions_are small before (Proto head ∷ decls) whole in_names holds heads sizes low =
-        functions_are small (before ++ Proto head ∷ []) decls (next_whole before _ decls whole)
-        (back_empty (names.decl_lines (names.declared section before) (Proto head)) _ in_names)
-        (back_empty (decl_lines section callees (Proto head)) _ holds) (back_empty _ _ heads) sizes
-        (low_right 0 _ 256 low)
-    functions_are small before (Function tree ∷ decls) whole in_names holds heads sizes low =
-        and_from _ _ (function_is before _ whole small tree (front_empty _ _ in_names)
-        (front_empty _ _ holds) (front_empty _ _ sizes) (front_empty _ _ heads) (low_left _ _ 256 low))
-        (functions_are small (before ++ Function tree ∷ []) decls (next_whole before _ decls whole)
-        (back_empty (names.decl_lines (names.declared section before) (Function tree)) _ in_names)
-        (back_empty _ _ holds) (back_empty _ _ heads) (back_empty _ _ sizes) (low_right _ _ 256 low))
+    functions_are small before [] b heads sizes low = refl
+    functions_are small before (Struct tree ∷ decls) b heads sizes low =
+        functions_are small _ decls (next b) heads sizes (low_right 0 _ 256 low)
+    functions_are small before (Global tree ∷ decls) b heads sizes low =
+        functions_are small _ decls (next b) heads sizes (low_right 0 _ 256 low)
+    functions_are small before (Proto head ∷ decls) b heads sizes low =
+        functions_are small _ decls (next b) (back_empty _ _ heads) sizes (low_right 0 _ 256 low)
+    functions_are small before (Function tree ∷ decls) b heads sizes low =
+        and_from _ _ (function_is before _ b.whole small tree (front_empty _ _ b.in_names) (front_empty _ _ b.holds)
+        (front_empty _ _ sizes) (front_empty _ _ heads) (low_left _ _ 256 low))
+        (functions_are small _ decls (next b) (back_empty _ _ heads) (back_empty _ _ sizes) (low_right _ _ 256 low))
 
   module _ (callees : Callees) where
-    pub globals_are : (before decls : List Decl) → before ++ decls ≡ section.decls →
-        names.lines_from section before decls ≡ [] → concat (map (decl_lines section callees) decls) ≡ [] →
+    pub globals_are : (before decls : List Decl) → Behind callees before decls →
         concat (map (counts.global_lines section) (globals_in decls)) ≡ [] →
         list_all (global_fits (structs section)) (map (typed_global (tags section)) (globals_in decls)) ≡ true
-    globals_are before [] whole in_names holds sizes = refl
-    globals_are before (Struct tree ∷ decls) whole in_names holds sizes =
-        globals_are (before ++ Struct tree ∷ []) decls (append_assoc before _ decls ∙ whole)
-        (back_empty (names.decl_lines (names.declared section before) (Struct tree)) _ in_names)
-        (back_empty _ _ holds) sizes
-    globals_are before (Global tree ∷ decls) whole in_names holds sizes =
-        let known =
-        rule_holds _ tree.line (front_empty _ _ in_names) in
-        let tag =
-        and_rest (not (is_numbered (import_names section) tree.name)) _
+    globals_are before [] b sizes = refl
+    globals_are before (Struct tree ∷ decls) b sizes = globals_are _ decls (next b) sizes
+    globals_are before (Global tree ∷ decls) b sizes =
+        let known = rule_holds _ tree.line (front_empty _ _ b.in_names) in
+        let tag = and_rest (not (is_numbered (import_names section) tree.name)) _
         (and_rest (not (is_numbered (proto_names before) tree.name)) _
         (and_rest (not (is_numbered (function_names before) tree.name)) _
         (and_rest (not (is_numbered (global_names before) tree.name)) _ known))) in
-        and_from _ _ (global_is tree (known_whole before _ whole _ tag)
-        (rule_holds _ tree.line (front_empty _ _ holds)) (rule_holds _ tree.line (front_empty _ _ sizes)))
-        (globals_are (before ++ Global tree ∷ []) decls (append_assoc before _ decls ∙ whole)
-        (back_empty (names.decl_lines (names.declared section before) (Global tree)) _ in_names) (back_empty _ _ holds)
-        (back_empty _ _ sizes))
-    globals_are before (Proto head ∷ decls) whole in_names holds sizes =
-        globals_are (before ++ Proto head ∷ []) decls (append_assoc before _ decls ∙ whole)
-        (back_empty (names.decl_lines (names.declared section before) (Proto head)) _ in_names)
-        (back_empty (decl_lines section callees (Proto head)) _ holds) sizes
-    globals_are before (Function tree ∷ decls) whole in_names holds sizes =
-        globals_are (before ++ Function tree ∷ []) decls (append_assoc before _ decls ∙ whole)
-        (back_empty (names.decl_lines (names.declared section before) (Function tree)) _ in_names)
-        (back_empty _ _ holds) sizes
+        and_from _ _ (global_is tree (known_whole before _ b.whole _ tag)
+        (rule_holds _ tree.line (front_empty _ _ b.holds)) (rule_holds _ tree.line (front_empty _ _ sizes)))
+        (globals_are _ decls (next b) (back_empty _ _ sizes))
+    globals_are before (Proto head ∷ decls) b sizes = globals_are _ decls (next b) sizes
+    globals_are before (Function tree ∷ decls) b sizes = globals_are _ decls (next b) sizes
 
     struct_is : (before : List Decl) (tree : StructTree) →
         names.decl_lines (names.declared section before) (Struct tree) ≡ [] → struct_lines section tree ≡ [] →
@@ -390,32 +374,21 @@ module _ (section : SectionTree) where
           some = and_first _ _ shape;
         }
 
-    same_names : (before : List Decl) (decl : Decl) → struct_names (decl ∷ []) ≡ [] →
-        struct_names (before ++ decl ∷ []) ≡ struct_names before
-    same_names before decl h = struct_names_append before _ ∙ ap (λ more. struct_names before ++ more) h ∙ append-nil _
+    same_names : (before : List Decl) (decl : Decl) (decls : List Decl) → struct_names (decl ∷ []) ≡ [] →
+        AllKnown (struct_names (before ++ decl ∷ [])) (structs_in decls) →
+        AllKnown (struct_names before) (structs_in decls)
+    same_names before decl decls h = subst (λ all. AllKnown all (structs_in decls))
+        (struct_names_append before _ ∙ ap (λ more. struct_names before ++ more) h ∙ append-nil _)
 
-    pub structs_known : (before decls : List Decl) → names.lines_from section before decls ≡ [] →
-        concat (map (decl_lines section callees) decls) ≡ [] → AllKnown (struct_names before) (structs_in decls)
-    structs_known before [] in_names holds = tt
-    structs_known before (Struct tree ∷ decls) in_names holds = (
-      struct_is before tree (front_empty _ _ in_names) (front_empty _ _ holds),
+    pub structs_known : (before decls : List Decl) → Behind callees before decls →
+        AllKnown (struct_names before) (structs_in decls)
+    structs_known before [] b = tt
+    structs_known before (Struct tree ∷ decls) b = (
+      struct_is before tree (front_empty _ _ b.in_names) (front_empty _ _ b.holds),
       subst (λ all. AllKnown all (structs_in decls)) (struct_names_append before (Struct tree ∷ []))
-          (structs_known (before ++ Struct tree ∷ []) decls
-          (back_empty (names.decl_lines (names.declared section before) (Struct tree)) _ in_names)
-          (back_empty (decl_lines section callees (Struct tree)) _ holds)),
+          (structs_known _ decls (next b)),
     )
-    structs_known before (Global tree ∷ decls) in_names holds =
-        subst (λ all. AllKnown all (structs_in decls)) (same_names before (Global tree) refl)
-        (structs_known (before ++ Global tree ∷ []) decls
-        (back_empty (names.decl_lines (names.declared section before) (Global tree)) _ in_names)
-        (back_empty (decl_lines section callees (Global tree)) _ holds))
-    structs_known before (Proto head ∷ decls) in_names holds =
-        subst (λ all. AllKnown all (structs_in decls)) (same_names before (Proto head) refl)
-        (structs_known (before ++ Proto head ∷ []) decls
-        (back_empty (names.decl_lines (names.declared section before) (Proto head)) _ in_names)
-        (back_empty (decl_lines section callees (Proto head)) _ holds))
-    structs_known before (Function tree ∷ decls) in_names holds =
-        subst (λ all. AllKnown all (structs_in decls)) (same_names before (Function tree) refl)
-        (structs_known (before ++ Function tree ∷ []) decls
-        (back_empty (names.decl_lines (names.declared section before) (Function tree)) _ in_names)
-        (back_empty (decl_lines section callees (Function tree)) _ holds))
+    structs_known before (Global tree ∷ decls) b = same_names before (Global tree) decls refl (structs_known _ decls (next b))
+    structs_known before (Proto head ∷ decls) b = same_names before (Proto head) decls refl (structs_known _ decls (next b))
+    structs_known before (Function tree ∷ decls) b =
+        same_names before (Function tree) decls refl (structs_known _ decls (next b))

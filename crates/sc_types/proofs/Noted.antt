@@ -50,52 +50,43 @@ module _ {A : Type 0} (pick : Decl → Option A) (part : A → List ℕ) where
       ap (λ zs. concat (map part zs)) (filter_map-append pick xs ys) ∙ (ap concat (map-append part _ _) ∙
       concat-append (map part _) (map part _))
 
-  kind-noted : (decls : List Decl) (i : ℕ) (decl : Decl) (old a b : BrokenLines) (all : List ℕ) → i < length decls →
+  -- one declaration further, and behind the last one
+  abbrev KindNoted : Type 0
+  KindNoted =
+      (decls : List Decl) (i : ℕ) (decl : Decl) (old a b : BrokenLines) (all : List ℕ) → i < length decls →
       decl ≡ get_or decls i decl → with_lines a (lines_of (drop i decls)) ≡ with_lines old all →
       b ≡ with_lines a (lines_of (decl ∷ [])) → with_lines b (lines_of (drop (i + 1) decls)) ≡ with_lines old all
+
+  abbrev KindDone : Type 0
+  KindDone =
+      (decls : List Decl) (i : ℕ) (old a : BrokenLines) (all : List ℕ) → length decls ≤ i →
+      with_lines a (lines_of (drop i decls)) ≡ with_lines old all → a ≡ with_lines old all
+
+  kind-noted : KindNoted
   kind-noted decls i decl old a b all lt is p q =
       step old a b _ _ all (ap (with_lines a) (sym (ap lines_of (drop-step decls i decl lt is) ∙
       lines-append (decl ∷ []) (drop _ decls))) ∙ p) q
 
-  kind-done : (decls : List Decl) (i : ℕ) (old a : BrokenLines) (all : List ℕ) → length decls ≤ i →
-      with_lines a (lines_of (drop i decls)) ≡ with_lines old all → a ≡ with_lines old all
+  kind-done : KindDone
   kind-done decls i old a all le p = done old a _ all p (ap lines_of (drop_all i decls le))
 
 module _ (section : SectionTree) where
-  pub globals-noted : (decls : List Decl) (i : ℕ) (decl : Decl) (old a b : BrokenLines) (all : List ℕ) →
-      i < length decls → decl ≡ get_or decls i decl →
-      with_lines a (lines_of global_in (global_lines section) (drop i decls)) ≡ with_lines old all →
-      b ≡ with_lines a (lines_of global_in (global_lines section) (decl ∷ [])) →
-      with_lines b (lines_of global_in (global_lines section) (drop (i + 1) decls)) ≡ with_lines old all
+  pub globals-noted : KindNoted global_in (global_lines section)
   globals-noted = kind-noted _ _
 
-  pub globals-done : (decls : List Decl) (i : ℕ) (old a : BrokenLines) (all : List ℕ) → length decls ≤ i →
-      with_lines a (lines_of global_in (global_lines section) (drop i decls)) ≡ with_lines old all →
-      a ≡ with_lines old all
+  pub globals-done : KindDone global_in (global_lines section)
   globals-done = kind-done _ _
 
-  pub heads-noted : (decls : List Decl) (i : ℕ) (decl : Decl) (old a b : BrokenLines) (all : List ℕ) →
-      i < length decls → decl ≡ get_or decls i decl →
-      with_lines a (lines_of head_in (head_lines section) (drop i decls)) ≡ with_lines old all →
-      b ≡ with_lines a (lines_of head_in (head_lines section) (decl ∷ [])) →
-      with_lines b (lines_of head_in (head_lines section) (drop (i + 1) decls)) ≡ with_lines old all
+  pub heads-noted : KindNoted head_in (head_lines section)
   heads-noted = kind-noted head_in _
 
-  pub heads-done : (decls : List Decl) (i : ℕ) (old a : BrokenLines) (all : List ℕ) → length decls ≤ i →
-      with_lines a (lines_of head_in (head_lines section) (drop i decls)) ≡ with_lines old all →
-      a ≡ with_lines old all
+  pub heads-done : KindDone head_in (head_lines section)
   heads-done = kind-done head_in _
 
-  pub functions-noted : (decls : List Decl) (i : ℕ) (decl : Decl) (old a b : BrokenLines) (all : List ℕ) →
-      i < length decls → decl ≡ get_or decls i decl →
-      with_lines a (lines_of function_in (function_lines section) (drop i decls)) ≡ with_lines old all →
-      b ≡ with_lines a (lines_of function_in (function_lines section) (decl ∷ [])) →
-      with_lines b (lines_of function_in (function_lines section) (drop (i + 1) decls)) ≡ with_lines old all
+  pub functions-noted : KindNoted function_in (function_lines section)
   functions-noted = kind-noted _ _
 
-  pub functions-done : (decls : List Decl) (i : ℕ) (old a : BrokenLines) (all : List ℕ) → length decls ≤ i →
-      with_lines a (lines_of function_in (function_lines section) (drop i decls)) ≡ with_lines old all →
-      a ≡ with_lines old all
+  pub functions-done : KindDone function_in (function_lines section)
   functions-done = kind-done _ _
 
   pub global-absent : (decl : Decl) (old : BrokenLines) → ((tree : GlobalTree) → decl ≡ Global tree → ⊥) →

@@ -9,6 +9,7 @@ use Rattle.sc_lex.specs.declared.refusal.Phase.TheVariants as phase
 use Rattle.sc_ast.specs.declared.section.Decl.TheVariants as decl
 use Rattle.sc_types.specs.Counts as counts
 use Rattle.sc_types.proofs.Basics.{Each, rule_holds, front_empty, back_empty, map_empty}
+use Rattle.sc_types.proofs.Facts.{count_facts}
 use Rattle.sc_types.proofs.Places.{is_at_most}
 use Rattle.sc_types.proofs.Sections.{none_beyond}
 use Rattle.sc_types.proofs.Refusals.{no_line}
@@ -57,16 +58,9 @@ Params section = All HasFewParams (functions_in section.decls)
 section_counts : (sections : List SectionTree) (k : ℕ) (section : SectionTree) →
     counts.section_lines section (callees_of sections k section) ≡ [] → HasFewExports section × Params section
 section_counts sections k section h =
-    let behind =
-    back_empty (unless (nat_le (counts.section_nodes section (callees_of _ k section)) most_nodes &&
-    nat_le (length section.decls) most_nodes) 1) _ h in
-    let heads =
-    back_empty (concat (map (counts.global_lines section) (globals_in section.decls))) _
-    (back_empty (counts.structs_from section 0 (structs_in section.decls)) _
-    (back_empty (counts.line_beyond (λ line. line.line) most_exports section.imports) _ (back_empty (counts.line_beyond
-    (λ line. _) most_exports section.exports) _ behind))) in (
-      is_at_most _ _ (none_beyond (λ line. line.line) _ _ (front_empty _ _ behind)),
-      all_of HasFewParams _ (few_params section section.decls (front_empty _ _ heads)),
+    let f = count_facts section (callees_of sections k section) h in (
+      is_at_most _ _ (none_beyond (λ line. line.line) _ _ f.exports),
+      all_of HasFewParams _ (few_params section section.decls f.heads),
     )
 
 all_counts : (sections : List SectionTree) (k : ℕ) (rest : List SectionTree) → counts.lines_from sections k rest ≡ [] →

@@ -14,6 +14,9 @@ use Rattle.sc_types.proofs.Common.{output_name, promised, proto_of, proto_signat
 use Rattle.sc_types.proofs.Common.{same_signature, same_text, same_ty, same_type, same_types, signature_of, slice_get}
 use Rattle.sc_types.proofs.Common.{subst, suc, sym, true, typed_function, typed_section, unless, zero, ℕ, ◌&&◌, ◌++◌}
 use Rattle.sc_types.proofs.Common.{◌==◌, ◌||◌, ◌∙◌, ◌∷◌, ◌≡◌, ◌≤◌}
+use Rattle.std.proofs.lemmas.Bool.{or_from}
+use Rattle.std.proofs.lemmas.Option.{slice_get-map}
+use Rattle.std.proofs.lemmas.List.Folds.{list_any-append}
 use Rattle.sc_core.specs.declared.section.TypedFunction.{TypedFunction}
 use Rattle.sc_event.specs.declared.interface.Import.TheVariants as import
 use Rattle.sc_event.specs.declared.interface.Proto as event
@@ -24,11 +27,11 @@ use Rattle.sc_scope.specs.Declarations as decls
 use Rattle.sc_scope.specs.Names as names
 use Rattle.sc_interfaces.specs.Faces as faces
 use Rattle.sc_types.specs.Counts as counts
-use Rattle.sc_types.proofs.Basics.{rule_holds, front_empty, back_empty, Each, none_some, some_item}
+use Rattle.sc_types.proofs.Basics.{or_not, rule_holds, front_empty, back_empty, Each, none_some, some_item}
 use Rattle.sc_types.proofs.Places.{Text, same_refl, eq_refl, at_most}
 use Rattle.sc_types.proofs.Lookups.{each_at, each_function, FoundFunction, find_function}
-use Rattle.sc_types.proofs.Facts.{Fresh, fresh_distinct, ExportFacts, ImportFacts, DeclFacts, FaceFacts}
-use Rattle.sc_types.proofs.Calls.{agreed_signature, found_by, get_map, own_signature, Offering, find_offering}
+use Rattle.sc_types.proofs.Facts.{Fresh, fresh_distinct, ExportFacts, ImportFacts, DeclFacts, FaceFacts, CountFacts}
+use Rattle.sc_types.proofs.Calls.{agreed_signature, found_by, own_signature, Offering, find_offering}
 use Rattle.sc_types.proofs.Calls.{export_is}
 
 -- Signatures are the same as themselves.
@@ -94,17 +97,9 @@ none_beyond line_of most items h = by_item line_of most items _ refl h
 
 -- Names that a list doesn't have are distinct from its own.
 
-none_there : (a b : Bool) → (a || b) ≡ false → (a ≡ false) × (b ≡ false)
-none_there true b h = absurd (false≢true (sym h))
-none_there false b h = (refl, h)
-
 pub not_in_append : (name : Text) (xs ys : List Text) → is_numbered xs name ≡ false → is_numbered ys name ≡ false →
     is_numbered (xs ++ ys) name ≡ false
-not_in_append name [] ys h k = k
-not_in_append name (x ∷ xs) ys h k =
-    let parts =
-    none_there _ _ h in
-    ap (λ b. b || is_numbered (xs ++ ys) name) parts.0 ∙ not_in_append name xs ys parts.1 k
+not_in_append name xs ys h k = list_any-append _ xs ys ∙ or_from _ _ h k
 
 pub both_distinct : (xs ys : List Text) → decls.are_distinct xs ≡ true → Each (λ x. is_numbered ys x ≡ false) xs →
     decls.are_distinct ys ≡ true → decls.are_distinct (xs ++ ys) ≡ true
@@ -228,11 +223,6 @@ module _ (sections : List SectionTree) (hold : (j : ℕ) (s : SectionTree) → s
       subst (λ all. are_distinct all ≡ true) (sym (exports_named _))
       (fresh_distinct [] (export_names section) facts.fresh_exports)
 
-  or_not : (a b : Bool) → (a || not b) ≡ true → b ≡ true → a ≡ true
-  or_not true b h q = refl
-  or_not false true h q = h
-  or_not false false h q = absurd (false≢true q)
-
   -- an export line at its place
   module _ (at : ℕ) (line : ExportLine) (got : slice_get section.exports at ≡ Some line)
       (f : ExportFacts sections number section line) where
@@ -241,7 +231,7 @@ module _ (sections : List SectionTree) (hold : (j : ℕ) (s : SectionTree) → s
 
     exported : is_numbered (export_names section) g.tree.head.name ≡ true
     exported =
-        any_passes_from_place (bytes_eq _) (export_names section) at line.name (get_map _ _ at ∙
+        any_passes_from_place (bytes_eq _) (export_names section) at line.name (slice_get-map _ _ at ∙
         ap (option_map _) got) g.named
 
     fits : head_fits sections number section (head_of g.tree.head) ≡ true
@@ -265,7 +255,7 @@ module _ (sections : List SectionTree) (hold : (j : ℕ) (s : SectionTree) → s
     is_function =
         any_passes_from_place (λ f. bytes_eq f.name (proto_of section line).name &&
         same_signature (signature_of f) (proto_signature (proto_of section line))) typed.functions g.at
-        (typed_function section callees g.tree) (get_map _ _ g.at ∙ ap (option_map _) g.got)
+        (typed_function section callees g.tree) (slice_get-map _ _ g.at ∙ ap (option_map _) g.got)
         (and_from _ _ (ap (bytes_eq g.tree.head.name)
         (promised_name _ (function_named line.name (functions_in section.decls))) ∙ g.named)
         (ap (λ s. same_signature s (proto_signature (proto_of section line))) signatures ∙
@@ -317,15 +307,11 @@ module _ (sections : List SectionTree) (hold : (j : ℕ) (s : SectionTree) → s
 
   -- Counts.
 
-  pub interface_is : names.section_lines section ≡ [] → counts.section_lines section callees ≡ [] →
+  pub interface_is : names.section_lines section ≡ [] → CountFacts section callees →
       interface_fits (interfaces_of sections) number interface typed ≡ true
-  interface_is in_names count =
-      let behind =
-      back_empty (unless (nat_le (counts.section_nodes section callees) most_nodes &&
-      nat_le (length _) most_nodes) 1) _ count in
+  interface_is in_names f =
       and_from _ _ (all_distinct in_names) (and_from _ _ exports_distinct
       (and_from _ _ (exports_are [] _ refl facts.exports) (and_from _ _ (imports_are section.imports facts.imports)
-      (and_from _ _ (ap (λ n. nat_le n most_exports) (length-map _ _) ∙
-      none_beyond (λ line. _) most_exports section.exports (front_empty _ _ behind))
+      (and_from _ _ (ap (λ n. nat_le n most_exports) (length-map _ _) ∙ none_beyond {A = ExportLine} (λ line. line.line) most_exports section.exports f.exports)
       (ap (λ n. nat_le n most_exports) (length-map _ (import_of _ number)) ∙
-      none_beyond (λ line. line.line) most_exports section.imports (front_empty _ _ (back_empty _ _ behind)))))))
+      none_beyond {A = ImportLine} (λ line. line.line) most_exports section.imports f.imports)))))
