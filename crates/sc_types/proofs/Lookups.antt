@@ -1,10 +1,10 @@
 -- What is found by a name among a section's declarations.
-use Rattle.sc_types.proofs.Common.{Bool, Decl, Function, FunctionTree, Global, HeadTree, List, None, Proto, Some}
-use Rattle.sc_types.proofs.Common.{Struct, [], and_first, and_rest, ap, bytes_eq, bytes_eq-Decides, false, false≢true}
-use Rattle.sc_types.proofs.Common.{function_named, function_names, or_parts, functions_in, head_named, head_of, heads_in}
-use Rattle.sc_types.proofs.Common.{if◌then◌else◌, is_numbered, list_all, list_any, map, number_of, option_map}
-use Rattle.sc_types.proofs.Common.{proto_names, refl, same_Some, same_text, slice_get, subst, suc, sym, true, zero, ℕ}
-use Rattle.sc_types.proofs.Common.{◌||◌, ◌∙◌, ◌∷◌, ◌≡◌}
+use Rattle.sc_types.proofs.Common.{Bool, Decl, Function, FunctionTree, HeadTree, List, None, Proto, Some, [], and_first}
+use Rattle.sc_types.proofs.Common.{and_rest, ap, bytes_eq, false, false≢true, function_named, function_names}
+use Rattle.sc_types.proofs.Common.{functions_in, head_named, head_of, heads_in, if◌then◌else◌, is_numbered, list_all}
+use Rattle.sc_types.proofs.Common.{list_any, map, number_of, option_map, or_parts, proto_names, refl, same_Some}
+use Rattle.sc_types.proofs.Common.{slice_get, subst, suc, sym, true, zero, ℕ, ◌||◌, ◌∙◌, ◌∷◌, ◌≡◌}
+use Rattle.std.proofs.lemmas.Cmp.{nat_list_eq_equiv}
 use Rattle.sc_types.proofs.Basics.{Each, none_some, find}
 use Rattle.sc_types.proofs.Places.{Text, first_of, any_found, number_is}
 
@@ -15,13 +15,7 @@ each_at P (y ∷ xs) (suc i) x h got = each_at P xs i x h.1 got
 
 -- names are the same either way round
 pub same_sym : (a b : Text) → bytes_eq a b ≡ bytes_eq b a
-same_sym a b = by_cases (bytes_eq a b) refl where
-  by_cases : (c : Bool) → bytes_eq a b ≡ c → c ≡ bytes_eq b a
-  by_cases true q = sym ((bytes_eq-Decides b a).1 (sym (same_text a b q)))
-  by_cases false q = other (bytes_eq b a) refl where
-    other : (d : Bool) → bytes_eq b a ≡ d → false ≡ d
-    other false p = refl
-    other true p = absurd (false≢true (sym q ∙ (bytes_eq-Decides a b).1 (sym (same_text b a p))))
+same_sym a b = nat_list_eq_equiv.symm a b
 
 -- A function of a name.
 pub record FoundFunction (name : Text) (trees : List FunctionTree) : Type 0 where
@@ -90,19 +84,16 @@ no_place names name h = number_is names name ∙ no_number _ names h
 pub each_function : (P : Decl → Type 0) (decls : List Decl) → Each P decls →
     Each (λ tree. P (Function tree)) (functions_in decls)
 each_function P [] h = tt
-each_function P (Struct tree ∷ decls) h = each_function P decls h.1
-each_function P (Global tree ∷ decls) h = each_function P decls h.1
-each_function P (Proto head ∷ decls) h = each_function P decls h.1
 each_function P (Function tree ∷ decls) h = (h.0, each_function P decls h.1)
+each_function P (_ ∷ decls) h = each_function P decls h.1
 
 -- a test that all heads pass, functions' heads pass
 pub heads_of_functions : (p : HeadTree → Bool) (decls : List Decl) → list_all p (heads_in decls) ≡ true →
     Each (λ tree. p (head_of tree.head) ≡ true) (functions_in decls)
 heads_of_functions p [] h = tt
-heads_of_functions p (Struct tree ∷ decls) h = heads_of_functions p decls h
-heads_of_functions p (Global tree ∷ decls) h = heads_of_functions p decls h
 heads_of_functions p (Proto head ∷ decls) h = heads_of_functions p decls (and_rest _ _ h)
 heads_of_functions p (Function tree ∷ decls) h = (and_first _ _ h, heads_of_functions p decls (and_rest _ _ h))
+heads_of_functions p (_ ∷ decls) h = heads_of_functions p decls h
 
 -- the first head of a name that no function has, which is a prototype's
 pub record FoundHead (P : Decl → Type 0) (name : Text) (decls : List Decl) : Type 0 where
@@ -121,8 +112,7 @@ module _ (P : Decl → Type 0) (name : Text) where
   -- a declaration is passed over that the name's first head isn't
   over : {decls : List Decl} (more : List Decl) (rest : FoundHead P name decls) →
       head_named name (heads_in more) ≡ head_named name (heads_in decls) → FoundHead P name more
-  over more rest is =
-      record { head = rest.head; first = is ∙ rest.first; named = rest.named; holds = rest.holds }
+  over more rest is = record { head = rest.head; first = is ∙ rest.first; named = rest.named; holds = rest.holds }
 
   head_at : (head : HeadTree) (decls : List Decl) (b : Bool) → bytes_eq name head.name ≡ b → P (Proto head) →
       (some_proto name decls ≡ true → FoundHead P name decls) → (b || some_proto name decls) ≡ true →
@@ -139,10 +129,9 @@ module _ (P : Decl → Type 0) (name : Text) where
   pub find_head : (decls : List Decl) → Each P decls → some_proto name decls ≡ true → some_function name decls ≡ false →
       FoundHead P name decls
   find_head [] each h none = absurd (false≢true h)
-  find_head (Struct tree ∷ decls) each h none = over (Struct tree ∷ decls) (find_head decls each.1 h none) refl
-  find_head (Global tree ∷ decls) each h none = over (Global tree ∷ decls) (find_head decls each.1 h none) refl
   find_head (Proto head ∷ decls) each h none = head_at head decls _ refl each.0 (λ k. find_head decls each.1 k none) h
   find_head (Function tree ∷ decls) each h none =
       let other = or_parts (bytes_eq name tree.head.name) _ none in
       over (Function tree ∷ decls) (find_head decls each.1 h other.1)
       (ap (λ c. if c then Some (head_of tree.head) else head_named name (heads_in decls)) (same_sym _ name ∙ other.0))
+  find_head (decl ∷ decls) each h none = over (decl ∷ decls) (find_head decls each.1 h none) refl

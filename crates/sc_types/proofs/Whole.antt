@@ -1,18 +1,17 @@
 -- A text that breaks no rule is a well-typed program.
-use Rattle.sc_types.proofs.Common.{AreLow, Bool, Callees, Decl, ExportLine, Function, FunctionTree, Global, ImportLine}
-use Rattle.sc_types.proofs.Common.{Interface, IsWellTyped, List, Proto, SectionTree, Some, Struct, TypedSection, []}
-use Rattle.sc_types.proofs.Common.{and_first, and_from, and_rest, any_passes_from_place, ap, append_assoc, are_distinct}
-use Rattle.sc_types.proofs.Common.{arith, bytes_eq, callees_of, codes, concat, counts_broken, decl_count, defines_main}
-use Rattle.sc_types.proofs.Common.{environment, false, false≢true, functions_in, get_behind, globals_in, head_of}
-use Rattle.sc_types.proofs.Common.{heads_in, if◌then◌else◌, interface_broken, interface_fits, interface_of}
-use Rattle.sc_types.proofs.Common.{interfaces_from, interfaces_of, is_main, is_numbered, is_well_typed, length}
-use Rattle.sc_types.proofs.Common.{length-map, line_of_text, list_any, main_fits, main_from, main_name, mains_in, map}
-use Rattle.sc_types.proofs.Common.{map-append, most_compartments, most_exports, most_nodes, names_broken, nat_le, not}
-use Rattle.sc_types.proofs.Common.{not-true, option_map, program_of, refl, same_Some, same_signature, section_fits}
-use Rattle.sc_types.proofs.Common.{section_height, sections_fit, sections_from, signature_of, slice_get, structs}
-use Rattle.sc_types.proofs.Common.{structs_in, subst, suc, sym, tags, true, truth, typed_function, typed_global}
-use Rattle.sc_types.proofs.Common.{typed_section, types_broken, zero, ℕ, ◌&&◌, ◌++◌, ◌+◌, ◌==◌, ◌||◌, ◌∙◌, ◌∷◌, ◌≡◌}
-use Rattle.sc_types.proofs.Common.{◌≤◌}
+use Rattle.sc_types.proofs.Common.{AreLow, Bool, Callees, Decl, Function, FunctionTree, Global, Interface, IsWellTyped}
+use Rattle.sc_types.proofs.Common.{List, None, Option, Proto, SectionTree, Some, Struct, TypedSection, [], and_first}
+use Rattle.sc_types.proofs.Common.{and_from, and_rest, any_passes_from_place, ap, append_assoc, are_distinct, arith}
+use Rattle.sc_types.proofs.Common.{bytes_eq, callees_of, codes, counts_broken, decl_count, defines_main, environment}
+use Rattle.sc_types.proofs.Common.{false, false≢true, functions_in, get_behind, globals_in, head_of, if◌then◌else◌}
+use Rattle.sc_types.proofs.Common.{interface_broken, interface_fits, interface_of, interfaces_from, interfaces_of}
+use Rattle.sc_types.proofs.Common.{is_main, is_numbered, is_well_typed, length, length-map, line_of_text, list_any}
+use Rattle.sc_types.proofs.Common.{main_fits, main_from, main_name, mains_in, map, map-append, most_compartments}
+use Rattle.sc_types.proofs.Common.{most_nodes, names_broken, nat_le, not, not-true, option_map, option_map_or}
+use Rattle.sc_types.proofs.Common.{program_of, refl, same_Some, same_signature, section_fits, section_height}
+use Rattle.sc_types.proofs.Common.{sections_fit, sections_from, signature_of, slice_get, structs, structs_in, subst}
+use Rattle.sc_types.proofs.Common.{suc, sym, tags, true, truth, typed_function, typed_global, typed_section}
+use Rattle.sc_types.proofs.Common.{types_broken, zero, ℕ, ◌&&◌, ◌++◌, ◌+◌, ◌==◌, ◌||◌, ◌∙◌, ◌∷◌, ◌≡◌, ◌≤◌}
 use Rattle.sc_core.specs.declared.ty.Ty.TheVariants as ty
 use Rattle.sc_scope.specs.Names as names
 use Rattle.sc_elab.specs.Sections as elab
@@ -20,11 +19,11 @@ use Rattle.sc_interfaces.specs.Faces as faces
 use Rattle.sc_types.specs.Counts as counts
 use Rattle.sc_types.proofs.Basics.{rule_holds, front_empty, back_empty, map_empty, Each, each_empty, each_passes}
 use Rattle.sc_types.proofs.Basics.{none_some, find}
-use Rattle.sc_types.proofs.Common.{None, Option, option_map_or}
 use Rattle.sc_types.proofs.Places.{Text, any_found, at_most, is_at_most}
 use Rattle.sc_types.proofs.Structs.{AllSmall, structs_all_fit, structs_length}
 use Rattle.sc_types.proofs.Lookups.{each_at, each_function, same_sym, FoundFunction, find_function}
-use Rattle.sc_types.proofs.Facts.{Fresh, fresh_distinct, DeclFacts, FaceFacts, face_facts, decls_hold, CountFacts, count_facts}
+use Rattle.sc_types.proofs.Facts.{Fresh, fresh_distinct, DeclFacts, FaceFacts, face_facts, decls_hold, CountFacts}
+use Rattle.sc_types.proofs.Facts.{count_facts}
 use Rattle.sc_types.proofs.Calls.{input_signature, length_snoc, own_signature, plus_none, plus_zero}
 use Rattle.sc_types.proofs.Callees as called
 use Rattle.sc_types.proofs.Functions.{small_from, Behind, functions_are, globals_are, structs_known}
@@ -63,18 +62,15 @@ within_more a b c h k = omega (arith, h, k)
 
 decl_count_is : (section : SectionTree) (callees : Callees) → decl_count (typed_section section callees) ≡
     length (structs_in section.decls) + (length (globals_in section.decls) + length (functions_in section.decls))
-decl_count_is section callees = λ i.
-    structs_are i + (length-map (globals_in section.decls) (typed_global (tags section)) i +
-    length-map (functions_in section.decls) (typed_function section callees) i)
-  where
-    structs_are : length (structs section) ≡ length (structs_in section.decls)
-    structs_are = structs_length _ ∙ length-map _ _
+decl_count_is section callees = λ i. structs_are i + (length-map (globals_in section.decls)
+    (typed_global (tags section)) i + length-map (functions_in section.decls) (typed_function section callees) i) where
+      structs_are : length (structs section) ≡ length (structs_in section.decls)
+      structs_are = structs_length _ ∙ length-map _ _
 
 few_kept : (section : SectionTree) (callees : Callees) → nat_le (length section.decls) most_nodes ≡ true →
     nat_le (decl_count (typed_section section callees)) most_nodes ≡ true
-few_kept section callees few =
-    ap (λ n. nat_le n most_nodes) (decl_count_is section callees) ∙ at_most kept most_nodes
-    (within_more kept (length _) most_nodes (kept_in _) (is_at_most (length _) most_nodes few))
+few_kept section callees few = ap (λ n. nat_le n most_nodes) (decl_count_is section callees) ∙
+    at_most kept most_nodes (within_more kept (length _) most_nodes (kept_in _) (is_at_most (length _) most_nodes few))
   where
     kept : ℕ
     kept = length (structs_in section.decls) + (length (globals_in section.decls) + length (functions_in section.decls))
@@ -92,8 +88,7 @@ EachFrom P k (x ∷ xs) = P k x × EachFrom P (suc k) xs
 each_from : {A : Type 0} (P : ℕ → A → Type 0) (k : ℕ) (xs : List A) (j : ℕ) (x : A) → EachFrom P k xs →
     slice_get xs j ≡ Some x → P (k + j) x
 each_from P k [] j x each got = none_some x got
-each_from P k (y ∷ xs) zero x each got =
-    subst (λ n. P n x) (plus_zero k) (subst (P k) (same_Some y x got) each.0)
+each_from P k (y ∷ xs) zero x each got = subst (λ n. P n x) (plus_zero k) (subst (P k) (same_Some y x got) each.0)
 each_from P k (y ∷ xs) (suc j) x each got = subst (λ n. P n x) (plus_one k j) (each_from P _ xs j x each.1 got) where
   plus_one : (n m : ℕ) → suc n + m ≡ n + suc m
   plus_one n m = omega arith
@@ -136,15 +131,12 @@ module _ (sections : List SectionTree) where
     -- The section of a number.
     module _ (number : ℕ) (section : SectionTree) (there : slice_get sections number ≡ Some section) where
       names_at : names.section_lines section ≡ []
-      names_at =
-          map_empty _ _ (each_at (λ section. map (line_of_text _) (names.section_lines section) ≡
-          []) _ number section (each_empty _ _ in_names) there)
+      names_at = map_empty _ _ (each_at (λ section. map (line_of_text _)
+          (names.section_lines section) ≡ []) _ number section (each_empty _ _ in_names) there)
 
       types_at : elab.section_lines section (callees_of sections number section) ≡ []
-      types_at =
-          map_empty _ _ (each_at (λ section. map (line_of_text section.line)
-          (elab.section_lines section (callees_of sections 0 section)) ≡ []) _ number section
-          (each_empty _ _ in_types) there)
+      types_at = map_empty _ _ (each_at (λ section. map (line_of_text section.line) (elab.section_lines section
+          (callees_of sections 0 section)) ≡ []) _ number section (each_empty _ _ in_types) there)
 
       counted : counts.section_lines section (callees_of sections number section) ≡ []
       counted = count_at counts_of number section there
@@ -168,12 +160,10 @@ module _ (sections : List SectionTree) where
       all = record { whole = refl; in_names = names_at; holds = types_at }
 
       section_is : section_fits (interfaces_of sections) number (interface_of sections number section) typed ≡ true
-      section_is =
-          and_from _ _ (structs_all_fit _ (structs_known section callees [] _ all) small)
-          (and_from _ _ (globals_are section callees [] _ all facts.globals) (and_from _ _
-          (functions_are section callees (called.callable _ (hold in_faces) number section there)
-          (called.same_signature_called _ (hold in_faces) number section there) small [] _ all facts.heads
-          facts.functions low_at)
+      section_is = and_from _ _ (structs_all_fit _ (structs_known section callees [] _ all) small) (and_from _ _
+          (globals_are section callees [] _ all facts.globals) (and_from _ _ (functions_are section callees
+          (called.callable _ (hold in_faces) number section there) (called.same_signature_called _
+          (hold in_faces) number section there) small [] _ all facts.heads facts.functions low_at)
           (and_from _ _ (and_first _ _ facts.nodes) (few_kept section callees (and_rest (nat_le _ _) _ facts.nodes)))))
 
       faces_is : interface_fits (interfaces_of sections) number (interface_of sections number section) typed ≡ true
@@ -185,12 +175,11 @@ module _ (sections : List SectionTree) where
         (sections_from sections (length front) rest) ≡ true
     sections_are front [] whole = refl
     sections_are front (section ∷ rest) whole =
-        let there =
-        ap (λ list. slice_get list (length front)) (sym whole) ∙ get_behind front section rest in
-        and_from _ _ (section_is _ section there) (and_from _ _ (faces_is _ section there)
-        (subst (λ n. sections_fit (interfaces_of sections) n (interfaces_from sections n rest)
-        (sections_from sections n rest) ≡ true) (length_snoc front section)
-        (sections_are (front ++ section ∷ []) rest (append_assoc front _ rest ∙ whole))))
+        let there = ap (λ list. slice_get list (length front)) (sym whole) ∙ get_behind front section rest in
+        and_from _ _ (section_is _ section there)
+        (and_from _ _ (faces_is _ section there) (subst (λ n. sections_fit (interfaces_of sections) n
+        (interfaces_from sections n rest) (sections_from sections n rest) ≡ true)
+        (length_snoc front section) (sections_are (front ++ section ∷ []) rest (append_assoc front _ rest ∙ whole))))
 
     -- Names of compartments.
     compartments : (k : ℕ) (before rest : List SectionTree) → faces.lines_from sections k before rest ≡ [] →
@@ -198,10 +187,8 @@ module _ (sections : List SectionTree) where
         Each (λ name. bytes_eq name environment ≡ false) (map name_of rest)
     compartments k before [] h = (tt, tt)
     compartments k before (section ∷ rest) h =
-        let holds =
-        rule_holds _ 1 (front_empty _ _ (map_empty _ _ (front_empty _ _ h))) in
-        let next =
-        compartments (suc k) (before ++ section ∷ []) rest (back_empty _ _ h) in (
+        let holds = rule_holds _ 1 (front_empty _ _ (map_empty _ _ (front_empty _ _ h))) in
+        let next = compartments (suc k) (before ++ section ∷ []) rest (back_empty _ _ h) in (
           (
             not-true _ (and_first _ _ holds),
             subst (λ all. Fresh all (map name_of rest)) (map-append name_of before (section ∷ [])) next.0,
@@ -233,8 +220,7 @@ module _ (sections : List SectionTree) where
         list_any is_main (map (typed_function section of) trees) ≡
         is_numbered (map {A = FunctionTree} (λ tree. tree.head.name) trees) main_name
     mains_same section of [] = refl
-    mains_same section of (tree ∷ trees) =
-        λ i. same_sym tree.head.name main_name i || mains_same section of trees i
+    mains_same section of (tree ∷ trees) = λ i. same_sym tree.head.name main_name i || mains_same section of trees i
 
     section_mains : (section : SectionTree) (callees : Callees) →
         list_any is_main (typed_section section callees).functions ≡ defines_main section
@@ -247,8 +233,7 @@ module _ (sections : List SectionTree) where
       main_found = find_function _ _ has
 
       main_rule : faces.main_holds mains (head_of main_found.tree.head) ≡ true
-      main_rule =
-          (each_at (λ tree. DeclFacts sections k section mains (Function tree))
+      main_rule = (each_at (λ tree. DeclFacts sections k section mains (Function tree))
           (functions_in section.decls) main_found.at main_found.tree (each_function _ _ each) main_found.got).1
 
       main_alone : (not mains && faces.is_main (head_of main_found.tree.head)) ≡ true
@@ -262,13 +247,10 @@ module _ (sections : List SectionTree) where
         main_fits (Some (typed_section section (callees_of sections k section))) ≡ true
     main_typed k section got has =
         let facts = hold in_faces k section got in
-        let g =
-        main_found k section facts.mains facts.decls has in
-        let is =
-        and_rest (not facts.mains) _ (main_alone k section facts.mains facts.decls has) in
-        any_passes_from_place (λ f. is_main f &&
-        same_signature (signature_of f) (record { params = []; result = Some ty.Int }))
-        (typed_section section (callees_of _ k section)).functions g.at
+        let g = main_found k section facts.mains facts.decls has in
+        let is = and_rest (not facts.mains) _ (main_alone k section facts.mains facts.decls has) in
+        any_passes_from_place (λ f. is_main f && same_signature (signature_of f)
+        (record { params = []; result = Some ty.Int })) (typed_section section (callees_of _ k section)).functions g.at
         (typed_function section (callees_of _ k section) g.tree) (slice_get-map _ _ g.at ∙ ap (option_map _) g.got)
         (and_from _ _ g.named (ap (λ s. same_signature s (record { params = []; result = Some ty.Int }))
         (own_signature section (callees_of sections k section) g.tree ∙ input_signature _ (head_of g.tree.head) is)))
@@ -293,10 +275,9 @@ module _ (sections : List SectionTree) where
         mains_in (sections_from sections k rest) ≡ (if list_any defines_main before then 0 else
         truth (list_any defines_main rest))
     mains_count k before [] h = none_more _
-    mains_count k before (section ∷ rest) h =
-        ap (λ b. truth b + mains_in (sections_from sections (suc k) rest))
-        (section_mains section (callees_of _ k section)) ∙ count_by _ (defines_main section) (list_any _ rest)
-        (mains_in _) (λ has. and_first _ _ (main_alone k section _ (decls_hold _ k section _ before
+    mains_count k before (section ∷ rest) h = ap (λ b. truth b + mains_in (sections_from sections (suc k) rest))
+        (section_mains section (callees_of _ k section)) ∙ count_by _ (defines_main section)
+        (list_any _ rest) (mains_in _) (λ has. and_first _ _ (main_alone k section _ (decls_hold _ k section _ before
         (map_empty _ _ (front_empty _ _ h))) has)) (mains_count (suc k) (before ++ section ∷ []) rest
         (back_empty _ _ h) ∙ ap (λ b. if b then 0 else truth (list_any defines_main rest)) (any_append before section))
 
@@ -320,24 +301,20 @@ module _ (sections : List SectionTree) where
           by_case false (Some j) m h = h ∙ omega arith
 
     typed_from : (k : ℕ) (rest : List SectionTree) (j : ℕ) (section : SectionTree) → slice_get rest j ≡ Some section →
-        slice_get (sections_from sections k rest) j ≡
-        Some (typed_section section (callees_of sections (k + j) section))
+        slice_get (sections_from sections k rest) j ≡ Some (typed_section section (callees_of sections (k + j) section))
     typed_from k [] j section got = none_some section got
-    typed_from k (s ∷ rest) zero section got =
-        ap (λ t. Some (typed_section t (callees_of sections k t))) (same_Some s section got) ∙
-        ap (λ n. Some (typed_section section (callees_of sections n section))) (omega arith)
-    typed_from k (s ∷ rest) (suc j) section got =
-        typed_from _ rest j section got ∙ ap (λ n. Some (typed_section section (callees_of sections n section)))
-        (omega arith)
+    typed_from k (s ∷ rest) zero section got = ap (λ t. Some (typed_section t (callees_of sections k t)))
+        (same_Some s section got) ∙ ap (λ n. Some (typed_section section (callees_of sections n section))) (omega arith)
+    typed_from k (s ∷ rest) (suc j) section got = typed_from _ rest j section got
+        ∙ ap (λ n. Some (typed_section section (callees_of sections n section))) (omega arith)
 
     main_is : main_fits (slice_get (sections_from sections 0 sections) (interfaces_of sections).main) ≡ true
     main_is =
         let m = any_found defines_main sections has_main in
         ap (λ n. main_fits (slice_get (sections_from sections 0 sections) n))
-        (main_place 0 sections ∙ ap (λ o. option_map_or (λ j. 0 + j) o 0) m.is ∙ plus_none m.at) ∙
-        ap main_fits (typed_from 0 _ m.at _ m.got) ∙
-        ap (λ n. main_fits (Some (typed_section m.item (callees_of sections n m.item)))) (plus_none m.at) ∙
-        main_typed m.at _ m.got m.passes
+        (main_place 0 sections ∙ ap (λ o. option_map_or (λ j. 0 + j) o 0) m.is ∙ plus_none m.at) ∙ ap main_fits
+        (typed_from 0 _ m.at _ m.got) ∙ ap (λ n. main_fits (Some (typed_section m.item (callees_of sections n m.item))))
+        (plus_none m.at) ∙ main_typed m.at _ m.got m.passes
 
     -- The whole.
 
@@ -346,14 +323,12 @@ module _ (sections : List SectionTree) where
     typed_length k (section ∷ rest) = ap suc (typed_length _ rest)
 
     few : nat_le (length (sections_from sections 0 sections)) most_compartments ≡ true
-    few =
-        ap (λ n. nat_le n most_compartments) (typed_length 0 _) ∙
-        none_beyond (λ section. line_of_text section.line 1) most_compartments sections (front_empty _ _ in_counts)
+    few = ap (λ n. nat_le n most_compartments) (typed_length 0 _)
+        ∙ none_beyond (λ section. line_of_text section.line 1) most_compartments sections (front_empty _ _ in_counts)
 
     is_typed : is_well_typed (program_of sections) ≡ true
-    is_typed =
-        and_from _ _ few (and_from _ _ names_distinct
-        (and_from _ _ (sections_are [] _ refl) (and_from _ _ main_is one_main)))
+    is_typed = and_from _ _ few
+        (and_from _ _ names_distinct (and_from _ _ (sections_are [] _ refl) (and_from _ _ main_is one_main)))
 
 -- trees that break no rule are those of a well-typed program
 pub well_typed : (sections : List SectionTree) → AreLow sections → names_broken sections ≡ [] →
