@@ -3,24 +3,14 @@ use Rattle.sc_elab.proofs.Common.{Bool, Callees, CallsIn, FunctionTree, HeadTree
 use Rattle.sc_elab.proofs.Common.{Option, SectionTree, Some, [], ap, bytes_eq, called, called_head, callees_of}
 use Rattle.sc_elab.proofs.Common.{calling_heads, cond, false, function_named, function_names, head_name, head_named}
 use Rattle.sc_elab.proofs.Common.{head_of, if◌then◌else◌, import_line_name, import_named, import_of, import_target}
-use Rattle.sc_elab.proofs.Common.{imported, imported_target, map, map_twice, option_and_then, option_map, or_first}
-use Rattle.sc_elab.proofs.Common.{or_first_own, position-cons, refl, signature_by, slice_get, struct_names, suc, sym}
-use Rattle.sc_elab.proofs.Common.{target_or, true, ℕ, ◌++◌, ◌==◌, ◌∙◌, ◌∷◌, ◌≡◌}
+use Rattle.sc_elab.proofs.Common.{imported, imported_target, map, map_twice, nat_list_eq_equiv, option_and_then}
+use Rattle.sc_elab.proofs.Common.{option_map, or_first, or_first_own, position-cons, refl, signature_by, slice_get}
+use Rattle.sc_elab.proofs.Common.{struct_names, suc, sym, target_or, true, ℕ, ◌++◌, ◌==◌, ◌∙◌, ◌∷◌, ◌≡◌}
 use Rattle.sc_base.specs.Prelude.{number_of}
 use Rattle.std.specs.Cmp.Lexicographic.{pointwise}
-use Rattle.std.proofs.lemmas.Slice.Eq.{bytes_eq-Decides}
 
 abbrev same : List ℕ → List ℕ → Bool
 same = pointwise ◌==◌
-
-same_back : (a b : List ℕ) (x y : Bool) → same a b ≡ x → bytes_eq b a ≡ y → x ≡ y
-same_back a b true true h k = refl
-same_back a b false false h k = refl
-same_back a b true false h k = sym ((bytes_eq-Decides b a).1 (sym ((bytes_eq-Decides a b).0 h))) ∙ k
-same_back a b false true h k = sym h ∙ (bytes_eq-Decides a b).1 (sym ((bytes_eq-Decides b a).0 k))
-
-turned : (a b : List ℕ) → same a b ≡ bytes_eq b a
-turned a b = same_back a b _ _ refl refl
 
 after_suc : {A : Type 0} (x : A) (xs : List A) (o : Option ℕ) →
     option_and_then (slice_get (x ∷ xs)) (option_map suc o) ≡ option_and_then (slice_get xs) o
@@ -34,18 +24,15 @@ module _ {A : Type 0} (name_of : A → List ℕ) (name : List ℕ) (find : List 
   pub first_found : (xs : List A) → option_and_then (slice_get (map f xs)) (number_of (map name_of xs) name) ≡
       option_map f (find xs)
   first_found [] = ap (option_map f) (sym find-nil)
-  first_found (x ∷ xs) =
-      ap (option_and_then (slice_get (f x ∷ map f xs))) (position-cons (same name) (name_of x) (map name_of xs))
-      ∙ ap (λ b. option_and_then (slice_get (f x ∷ map f xs))
-      (cond b (Some 0) (option_map suc (number_of (map name_of xs) name)))) (turned name (name_of x))
-      ∙ by (first_found xs) (bytes_eq (name_of x) name) ∙ ap (option_map f) (sym (find-cons x xs))
-    where
-      by : option_and_then (slice_get (map f xs)) (number_of (map name_of xs) name) ≡ option_map f (find xs) →
-          (b : Bool) → option_and_then (slice_get (f x ∷ map f xs))
-          (cond b (Some 0) (option_map suc (number_of (map name_of xs) name))) ≡
-          option_map f (if b then Some x else find xs)
-      by h true = refl
-      by h false = after_suc (f x) _ (number_of _ name) ∙ h
+  first_found (x ∷ xs) = ap (option_and_then (slice_get (f x ∷ map f xs)))
+      (position-cons (same name) (name_of x) (map name_of xs)) ∙ ap (λ b. option_and_then (slice_get (f x ∷ map f xs))
+      (cond b (Some 0) (option_map suc (number_of (map name_of xs) name)))) (nat_list_eq_equiv.symm name (name_of x))
+      ∙ by (first_found xs) (bytes_eq (name_of x) name) ∙ ap (option_map f) (sym (find-cons x xs)) where
+        by : option_and_then (slice_get (map f xs)) (number_of (map name_of xs) name) ≡ option_map f (find xs) →
+            (b : Bool) → option_and_then (slice_get (f x ∷ map f xs)) (cond b
+            (Some 0) (option_map suc (number_of (map name_of xs) name))) ≡ option_map f (if b then Some x else find xs)
+        by h true = refl
+        by h false = after_suc (f x) _ (number_of _ name) ∙ h
 
 module _ (name : List ℕ) where
   -- the first of the heads of functions and of others
@@ -63,30 +50,26 @@ module _ (name : List ℕ) where
     by h false = h
 
   signature_found : (tags : List (List ℕ)) (section : SectionTree) →
-      option_and_then (slice_get (map (signature_by tags) (calling_heads section.decls)))
-      (number_of (map head_name (calling_heads section.decls)) name) ≡
-      option_map (signature_by tags) (called_head section name)
+      option_and_then (slice_get (map (signature_by tags) (calling_heads section.decls))) (number_of (map head_name
+      (calling_heads section.decls)) name) ≡ option_map (signature_by tags) (called_head section name)
   signature_found tags section =
       first_found _ name (head_named name) refl (λ x xs. refl) _ _ ∙ ap (option_map _) (head_found _ _)
 
   target_found : (sections : List SectionTree) (number : ℕ) (lines : List ImportLine) →
       or_first_own (option_and_then (slice_get (map (λ line. import_target (import_of sections number line)) lines))
       (number_of (map import_line_name lines) name)) ≡ imported_target sections number (import_named name lines)
-  target_found sections number lines =
-      ap or_first_own (first_found _ name (import_named name) refl (λ x xs. refl) _ lines)
-      ∙ by (import_named name lines)
-    where
-      by : (o : Option ImportLine) → or_first_own (option_map
-          (λ line. import_target (import_of sections number line)) o) ≡ imported_target sections number o
-      by None = refl
-      by _ = refl
+  target_found sections number lines = ap or_first_own
+      (first_found _ name (import_named name) refl (λ x xs. refl) _ lines) ∙ by (import_named name lines) where
+        by : (o : Option ImportLine) → or_first_own (option_map
+            (λ line. import_target (import_of sections number line)) o) ≡ imported_target sections number o
+        by None = refl
+        by _ = refl
 
 module _ (section : SectionTree) (imports : List Import) (callees : Callees)
     (calls : CallsIn (struct_names section.decls) section imports callees) where
   signature_is : (name : List ℕ) → option_and_then (slice_get callees.signatures) (number_of callees.heads name) ≡
       option_map (signature_by (struct_names section.decls)) (called_head section name)
-  signature_is name =
-      ap (λ s. option_and_then (slice_get s) (number_of callees.heads name)) calls.signatures
+  signature_is name = ap (λ s. option_and_then (slice_get s) (number_of callees.heads name)) calls.signatures
       ∙ ap (λ h. option_and_then (slice_get (map (signature_by (struct_names section.decls))
       (calling_heads section.decls))) (number_of h name)) calls.heads ∙ signature_found name _ section
 

@@ -5,11 +5,14 @@ pub use Rattle.std.proofs.Common.{get_or, if◌then◌else◌, is_some, length, 
 pub use Rattle.std.proofs.Common.{position, refl, slice_get, subst, suc, sym, take, true, true≢false, zero, ℕ, ◌&&◌}
 pub use Rattle.std.proofs.Common.{◌++◌, ◌+◌, ◌<◌, ◌==◌, ◌||◌, ◌∙◌, ◌∷◌, ◌≡◌, ◌≤◌}
 pub use Rattle.std.proofs.Math.Seq.{drop-cons, take-suc}
-pub use Rattle.std.proofs.lemmas.List.{drop_all}
-pub use Rattle.std.proofs.lemmas.Option.{get_or_from_slice_get, slice_get-get_or, slice_get-map, slice_get_within}
+pub use Rattle.std.proofs.lemmas.Cmp.{nat_list_eq_equiv}
+pub use Rattle.std.proofs.lemmas.List.{drop_all, map-append}
+pub use Rattle.std.proofs.lemmas.List.Elements.{filter_map-append}
+pub use Rattle.std.proofs.lemmas.Option.{get_or_from_slice_get, same_Some, slice_get-get_or, slice_get-map}
+pub use Rattle.std.proofs.lemmas.Option.{slice_get_within}
 pub use Rattle.std.specs.List.{concat, cons_option, list_any}
 pub use Rattle.std.specs.Option.{option_and_then}
-pub use Rattle.sc_base.proofs.Lists.{drop-step, map_twice, position-cons}
+pub use Rattle.sc_base.proofs.Lists.{drop-step, map_twice, position-cons, take-step}
 pub use Rattle.sc_ast.specs.Prelude.{head_of, param_of}
 pub use Rattle.sc_ast.specs.declared.expr.ExprTree.{ExprTree}
 pub use Rattle.sc_ast.specs.declared.section.GlobalTree.{GlobalTree}

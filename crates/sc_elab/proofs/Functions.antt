@@ -1,83 +1,67 @@
 -- What stands for a function while it is built gives its typed form.
 use Rattle.sc_elab.proofs.Common.{ExprTree, FunctionScope, FunctionTree, List, LocalTree, None, Option, SectionScope}
-use Rattle.sc_elab.proofs.Common.{SectionTree, Some, Stands, StandsIn, Ty, TypedLocal, [], ap, arith, called, drop}
-use Rattle.sc_elab.proofs.Common.{drop-step, get_or, going_to, length, local_in, local_variable, map, refl, stmt_in}
-use Rattle.sc_elab.proofs.Common.{suc, sym, tags, take, take-suc, type_of, type_of_name, typed, typed_function}
-use Rattle.sc_elab.proofs.Common.{typed_init, typed_local, typed_locals, typed_param, typed_stmt, value_in, visible}
-use Rattle.sc_elab.proofs.Common.{visible_in, ℕ, ◌++◌, ◌+◌, ◌<◌, ◌∙◌, ◌∷◌, ◌≡◌}
+use Rattle.sc_elab.proofs.Common.{SectionTree, Some, Stands, StandsIn, Ty, TypedLocal, [], add-one, ap, called, drop}
+use Rattle.sc_elab.proofs.Common.{drop-step, get_or, going_to, length, local_in, local_variable, map, map-append, refl}
+use Rattle.sc_elab.proofs.Common.{stmt_in, suc, sym, tags, take, take-step, type_of, type_of_name, typed}
+use Rattle.sc_elab.proofs.Common.{typed_function, typed_init, typed_local, typed_locals, typed_param, typed_stmt}
+use Rattle.sc_elab.proofs.Common.{value_in, visible, visible_in, ℕ, ◌++◌, ◌+◌, ◌<◌, ◌∙◌, ◌∷◌, ◌≡◌}
 use Rattle.std.specs.Option.{option_map}
 use Rattle.sc_core.specs.declared.section.TypedFunction.{TypedFunction}
 use Rattle.sc_elab_stmt.proofs.Loops.{one_more, all_done}
 
-pub next_place : (i : ℕ) → suc i ≡ i + 1
-next_place i = omega arith
-
 module _ (scope : SectionScope) (section : SectionTree) (stands : Stands scope section) (tree : FunctionTree) where
   pub seen : (count : ℕ) (function : FunctionScope) → StandsIn section tree count function →
       visible scope function ≡ visible_in section tree count
-  seen count function within =
-      λ j. record {
-        structs = stands.structs j;
-        globals = stands.globals j;
-        params = within.params j;
-        locals = within.locals j;
-      }
+  seen count function within = λ j. record {
+    structs = stands.structs j;
+    globals = stands.globals j;
+    params = within.params j;
+    locals = within.locals j;
+  }
 
-  init_kept : (place : ℕ) (function : FunctionScope) → StandsIn section tree (suc place) function →
-      (t : Ty) (init : Option ExprTree) → option_map (value_in scope function t) init ≡
-      typed_init section tree place t init
+  init_kept : (place : ℕ) (function : FunctionScope) → StandsIn section tree (suc place) function → (t : Ty)
+      (init : Option ExprTree) → option_map (value_in scope function t) init ≡ typed_init section tree place t init
   unfolding value_in
   init_kept place function within t None = refl
   init_kept place function within t (Some init) = ap (λ v. Some (going_to t (typed v init))) (seen _ _ within)
 
   pub local_kept : (place : ℕ) (function : FunctionScope) → StandsIn section tree (suc place) function →
       (local : LocalTree) → local_in scope function local ≡ typed_local section tree place local
-  local_kept place function within local =
-      ap (λ t. record {
-        name = local.name;
-        ty = type_of t local.ty;
-        init = option_map (value_in scope function (type_of t local.ty)) local.init;
-        line = local.line;
-      }) stands.tags
-      ∙ ap (λ i. record { name = local.name; ty = type_of (tags section) local.ty; init = i; line = local.line })
-      (init_kept place _ within _ _)
+  local_kept place function within local = ap (λ t. record {
+    name = local.name;
+    ty = type_of t local.ty;
+    init = option_map (value_in scope function (type_of t local.ty)) local.init;
+    line = local.line;
+  }) stands.tags ∙ ap (λ i. record {
+    name = local.name;
+    ty = type_of (tags section) local.ty;
+    init = i;
+    line = local.line;
+  }) (init_kept place _ within _ _)
 
-  pub head_kept : (function : FunctionScope) → function ≡
-      record {
-        params = map (typed_param scope.tags) tree.head.params;
-        locals = [];
-        result = option_map (type_of_name scope.tags) tree.head.result;
-      } → StandsIn section tree 0 function
+  pub head_kept : (function : FunctionScope) → function ≡ record {
+    params = map (typed_param scope.tags) tree.head.params;
+    locals = [];
+    result = option_map (type_of_name scope.tags) tree.head.result;
+  } → StandsIn section tree 0 function
   head_kept function e = record {
     params = ap (λ f. f.params) e ∙ ap (λ t. map (typed_param t) tree.head.params) stands.tags;
     locals = ap (λ f. f.locals) e;
     result = ap (λ f. f.result) e ∙ ap (λ t. option_map (type_of_name t) tree.head.result) stands.tags;
   }
 
-  taken : (i : ℕ) (local : LocalTree) → i < length tree.locals → local ≡ get_or tree.locals i local →
-      take (i + 1) tree.locals ≡ take i tree.locals ++ local ∷ []
-  taken i local h e =
-      ap (λ n. take n tree.locals) (sym (next_place i)) ∙ take-suc _ i local h
-      ∙ ap (λ x. take i tree.locals ++ x ∷ []) (sym e)
-
-  mapped_more : {A B : Type 0} (f : A → B) (xs : List A) (x : A) → map f (xs ++ x ∷ []) ≡ map f xs ++ f x ∷ []
-  mapped_more f [] x = refl
-  mapped_more f (y ∷ xs) x = ap (λ l. f y ∷ l) (mapped_more f xs x)
-
   -- one more local stands there
-  pub more_stands : (i : ℕ) (local : LocalTree) (function more : FunctionScope) → i < length tree.locals →
-      local ≡ get_or tree.locals i local → StandsIn section tree i function →
-      more ≡ record {
+  pub more_stands : (i : ℕ) (local : LocalTree) (function more : FunctionScope) →
+      i < length tree.locals → local ≡ get_or tree.locals i local → StandsIn section tree i function → more ≡ record {
         params = function.params;
         locals = function.locals ++ local_variable scope.tags local ∷ [];
         result = function.result;
       } → StandsIn section tree (i + 1) more
   more_stands i local function more h e within m = record {
     params = ap (λ f. f.params) m ∙ within.params;
-    locals =
-        ap (λ f. f.locals) m ∙ ap (λ l. l ++ local_variable scope.tags local ∷ []) within.locals
+    locals = ap (λ f. f.locals) m ∙ ap (λ l. l ++ local_variable scope.tags local ∷ []) within.locals
         ∙ ap (λ t. map (local_variable (tags section)) (take i tree.locals) ++ local_variable t local ∷ []) stands.tags
-        ∙ sym (mapped_more (local_variable _) (take i _) local) ∙ ap (map _) (sym (taken i local h e));
+        ∙ sym (map-append (local_variable _) (take i _) (local ∷ [])) ∙ ap (map _) (sym (take-step _ i local h e));
     result = ap (λ f. f.result) m ∙ within.result;
   }
 
@@ -85,9 +69,8 @@ module _ (scope : SectionScope) (section : SectionTree) (stands : Stands scope s
   unfolding typed_locals
   locals-nil place = refl
 
-  locals-cons : (place : ℕ) (local : LocalTree) (locals : List LocalTree) →
-      typed_locals section tree place (local ∷ locals) ≡ typed_local section tree place local ∷
-      typed_locals section tree (suc place) locals
+  locals-cons : (place : ℕ) (local : LocalTree) (locals : List LocalTree) → typed_locals section tree place
+      (local ∷ locals) ≡ typed_local section tree place local ∷ typed_locals section tree (suc place) locals
   unfolding typed_locals
   locals-cons place local locals = refl
 
@@ -97,26 +80,21 @@ module _ (scope : SectionScope) (section : SectionTree) (stands : Stands scope s
       StandsIn section tree (i + 1) function → built ≡ local_in scope function local → more ≡ done ++ built ∷ [] →
       done ++ typed_locals section tree i (drop i tree.locals) ≡ whole →
       more ++ typed_locals section tree (i + 1) (drop (i + 1) tree.locals) ≡ whole
-  more_built i local function done more whole built h e within b m k =
-      one_more done more (typed_locals section tree i (drop i tree.locals))
-      (typed_locals section tree (i + 1) (drop (i + 1) tree.locals)) whole built m step k
-    where
-      at : StandsIn section tree (suc i) function
-      at = record {
-        params = within.params;
-        locals = within.locals ∙
-            ap (λ n. map (local_variable (tags section)) (take n tree.locals)) (sym (next_place i));
-        result = within.result;
-      }
+  more_built i local function done more whole built h e within b m k = one_more done more (typed_locals section tree i
+      (drop i tree.locals)) (typed_locals section tree (i + 1) (drop (i + 1) tree.locals)) whole built m step k where
+        at : StandsIn section tree (suc i) function
+        at = record {
+          params = within.params;
+          locals = within.locals ∙ ap (λ n. map (local_variable (tags section)) (take n tree.locals)) (add-one i);
+          result = within.result;
+        }
 
-      step : typed_locals section tree i (drop i tree.locals) ≡ built ∷
-          typed_locals section tree (i + 1) (drop (i + 1) tree.locals)
-      step =
-          ap (typed_locals section tree i) (drop-step tree.locals i local h e)
-          ∙ locals-cons i local (drop (i + 1) tree.locals)
-          ∙ ap (λ x. x ∷ typed_locals section tree (suc i) (drop (i + 1) tree.locals))
-          (sym (b ∙ local_kept i _ at local))
-          ∙ ap (λ n. built ∷ typed_locals section tree n (drop (i + 1) tree.locals)) (next_place i)
+        step : typed_locals section tree i (drop i tree.locals) ≡ built ∷
+            typed_locals section tree (i + 1) (drop (i + 1) tree.locals)
+        step = ap (typed_locals section tree i)
+            (drop-step tree.locals i local h e) ∙ locals-cons i local (drop (i + 1) tree.locals) ∙
+            ap (λ x. x ∷ typed_locals section tree (suc i) (drop (i + 1) tree.locals))
+            (sym (b ∙ local_kept i _ at local)) ∙ ap (λ n. built ∷ typed_locals section tree n (drop (i + 1) tree.locals)) (sym (add-one i))
 
   -- all are built
   pub all_built : (i : ℕ) (done whole : List TypedLocal) → drop i tree.locals ≡ [] →
@@ -135,12 +113,11 @@ module _ (scope : SectionScope) (section : SectionTree) (stands : Stands scope s
       } →
       built ≡ typed_function section (called scope.callees) tree
   unfolding stmt_in
-  function_kept function within built e =
-      e ∙ (λ j. record {
-        name = tree.head.name;
-        params = within.params j;
-        locals = typed_locals section tree 0 tree.locals;
-        result = within.result j;
-        body = map (typed_stmt (seen _ _ within j) (called scope.callees) (within.result j)) tree.body;
-        close_line = tree.close_line;
-      })
+  function_kept function within built e = e ∙ (λ j. record {
+    name = tree.head.name;
+    params = within.params j;
+    locals = typed_locals section tree 0 tree.locals;
+    result = within.result j;
+    body = map (typed_stmt (seen _ _ within j) (called scope.callees) (within.result j)) tree.body;
+    close_line = tree.close_line;
+  })

@@ -1,17 +1,14 @@
 -- Loops that gather what is made of some items of a list.
-use Rattle.sc_elab.proofs.Common.{List, None, Option, [], ap, append-nil, append_assoc, cons_option, drop, drop-step}
-use Rattle.sc_elab.proofs.Common.{drop_all, filter_map, get_or, length, map, refl, sym, ℕ, ◌++◌, ◌+◌, ◌<◌, ◌∙◌, ◌∷◌}
-use Rattle.sc_elab.proofs.Common.{◌≡◌, ◌≤◌}
+use Rattle.sc_elab.proofs.Common.{List, Option, [], ap, append-nil, append_assoc, drop, drop-step, drop_all, filter_map}
+use Rattle.sc_elab.proofs.Common.{filter_map-append, get_or, length, map, map-append, refl, sym, ℕ, ◌++◌, ◌+◌, ◌<◌, ◌∙◌}
+use Rattle.sc_elab.proofs.Common.{◌∷◌, ◌≡◌, ◌≤◌}
 
 module _ {A B C : Type 0} (f : A → Option B) (g : B → C) where
   abbrev pub gathered : List A → List C
   gathered xs = map g (filter_map f xs)
 
   gathered-cons : (x : A) (xs : List A) → gathered (x ∷ xs) ≡ gathered (x ∷ []) ++ gathered xs
-  gathered-cons x xs = by (f x) where
-    by : (o : Option B) → map g (cons_option o (filter_map f xs)) ≡ map g (cons_option o []) ++ gathered xs
-    by None = refl
-    by _ = refl
+  gathered-cons x xs = ap (map g) (filter_map-append f (x ∷ []) xs) ∙ map-append g _ _
 
   -- one more item is looked at
   pub gather_more : (xs : List A) (i : ℕ) (x : A) (done more whole : List C) → i < length xs → x ≡ get_or xs i x →
@@ -24,8 +21,7 @@ module _ {A B C : Type 0} (f : A → Option B) (g : B → C) where
   -- all are looked at
   pub gather_end : (xs : List A) (i : ℕ) (done whole : List C) → length xs ≤ i → done ++ gathered (drop i xs) ≡ whole →
       done ≡ whole
-  gather_end xs i done whole h k =
-      sym (append-nil done) ∙ ap (λ l. done ++ l) (sym (ap gathered (drop_all i xs h))) ∙ k
+  gather_end xs i done whole h k = sym (append-nil done) ∙ ap (λ l. done ++ l) (sym (ap gathered (drop_all i xs h))) ∙ k
 
 -- what is made of the items of two lists, the first made of others
 pub made_of_both : {A B C : Type 0} (g : B → C) (h : A → B) (xs : List A) (ys : List B) →

@@ -25,14 +25,11 @@ module _ (tags : List (List ℕ)) where
 
   -- one more declaration is looked at
   pub structs_more : (decls : List Decl) (i : ℕ) (decl : Decl) (done more whole : List TypedStruct) → i < length decls →
-      decl ≡ get_or decls i decl → more ≡ typed_structs tags done (structs_in (decl ∷ [])) →
-      typed_structs tags done (structs_in (drop i decls)) ≡ whole →
-      typed_structs tags more (structs_in (drop (i + 1) decls)) ≡ whole
+      decl ≡ get_or decls i decl → more ≡ typed_structs tags done (structs_in (decl ∷ [])) → typed_structs tags done
+      (structs_in (drop i decls)) ≡ whole → typed_structs tags more (structs_in (drop (i + 1) decls)) ≡ whole
   structs_more decls i decl done more whole h e m k =
-      ap (λ s. typed_structs tags s (structs_in (drop (i + 1) decls))) m
-      ∙ sym (structs-cons done decl (drop (i + 1) decls))
-      ∙ sym (ap (λ l. typed_structs tags done (structs_in l)) (drop-step decls i decl h e))
-      ∙ k
+      ap (λ s. typed_structs tags s (structs_in (drop (i + 1) decls))) m ∙ sym (structs-cons done decl
+      (drop (i + 1) decls)) ∙ sym (ap (λ l. typed_structs tags done (structs_in l)) (drop-step decls i decl h e)) ∙ k
 
   -- all are looked at
   pub structs_end : (decls : List Decl) (i : ℕ) (done whole : List TypedStruct) → length decls ≤ i →

@@ -14,30 +14,25 @@ lines_in section = map (line_of_text section.line) (section_lines section (calle
 same_lines : (section : SectionTree) (imports : List Import) (callees : Callees) →
     CallsIn (struct_names section.decls) section imports callees →
     section_lines section (called callees) ≡ section_lines section (callees_of [] 0 section)
-same_lines section imports callees calls =
-    λ j. section_lines section (record {
-      signature = signatures_kept section imports callees calls j;
-      target = (called callees).target;
-    })
+same_lines section imports callees calls = λ j. section_lines section (record {
+  signature = signatures_kept section imports callees calls j;
+  target = (called callees).target;
+})
 
 pub section-noted : (section : SectionTree) (imports : List Import) (callees : Callees) →
     CallsIn (struct_names section.decls) section imports callees → (decls : List Decl) → decls ≡ section.decls →
-    (least : Option ℕ) (lines : BrokenLines) → lines ≡
-    with_lines (record { start = section.line; least = least })
+    (least : Option ℕ) (lines : BrokenLines) → lines ≡ with_lines (record { start = section.line; least = least })
     (concat (map (decl_lines section (called callees)) decls)) → lines.least ≡ noted_all least (lines_in section)
-section-noted section imports callees calls decls same least lines is =
-    ap (λ x. x.least) is
-    ∙ ap (λ d. noted_all least (map (line_of_text section.line)
-    (concat (map (decl_lines section (called callees)) d)))) same
+section-noted section imports callees calls decls same least lines is = ap (λ x. x.least) is ∙ ap (λ d. noted_all least
+    (map (line_of_text section.line) (concat (map (decl_lines section (called callees)) d)))) same
     ∙ ap (λ l. noted_all least (map (line_of_text section.line) l)) (same_lines section imports callees calls)
 
 module _ (sections : List SectionTree) (i : ℕ) (whole : Option ℕ) where
   pub section-next : (least next : Option ℕ) (x : SectionTree) → i < length sections → x ≡ get_or sections i x →
       next ≡ noted_all least (lines_in x) → noted_all least (concat (map lines_in (drop i sections))) ≡ whole →
       noted_all next (concat (map lines_in (drop (i + 1) sections))) ≡ whole
-  section-next least next x within is noted so =
-      ap (λ least. noted_all least (concat (map lines_in (drop (i + 1) sections)))) noted
-      ∙ sym (noted_all-append least _ _)
+  section-next least next x within is noted so = ap (λ least. noted_all least
+      (concat (map lines_in (drop (i + 1) sections)))) noted ∙ sym (noted_all-append least _ _)
       ∙ (λ j. noted_all least (lines_in (is j) ++ concat (map lines_in (drop (add-one i j) sections))))
       ∙ (λ j. noted_all least (concat (map lines_in (sym (drop-cons _ i x within) j)))) ∙ so
 

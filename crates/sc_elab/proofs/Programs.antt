@@ -1,9 +1,9 @@
 -- Sections and their interfaces, one after another.
-use Rattle.sc_elab.proofs.Common.{IsSome, List, SectionTree, Some, [], ap, append_assoc, arith, callees_of, drop}
-use Rattle.sc_elab.proofs.Common.{drop-step, get_or, get_or_from_slice_get, import_of, interface_of, interfaces_from}
-use Rattle.sc_elab.proofs.Common.{interfaces_of, length, map, option_map, refl, sections_from, slice_get}
-use Rattle.sc_elab.proofs.Common.{slice_get-get_or, slice_get_within, suc, sym, typed_section, zero, ℕ, ◌++◌, ◌+◌, ◌<◌}
-use Rattle.sc_elab.proofs.Common.{◌∙◌, ◌∷◌, ◌≡◌}
+use Rattle.sc_elab.proofs.Common.{IsSome, List, SectionTree, Some, [], add-one, ap, append_assoc, arith, callees_of}
+use Rattle.sc_elab.proofs.Common.{drop, drop-step, get_or, get_or_from_slice_get, import_of, interface_of}
+use Rattle.sc_elab.proofs.Common.{interfaces_from, interfaces_of, length, map, option_map, refl, same_Some}
+use Rattle.sc_elab.proofs.Common.{sections_from, slice_get, slice_get-get_or, slice_get_within, suc, sym, typed_section}
+use Rattle.sc_elab.proofs.Common.{zero, ℕ, ◌++◌, ◌+◌, ◌<◌, ◌∙◌, ◌∷◌, ◌≡◌}
 use Rattle.sc_core.specs.declared.section.TypedSection.{TypedSection}
 use Rattle.sc_event.specs.declared.interface.Interface.{Interface}
 use Rattle.sc_event.specs.declared.interface.Interfaces.{Interfaces}
@@ -21,48 +21,33 @@ at_front (y ∷ xs) (suc i) x h = at_front xs i x h
 pub left_from : {A : Type 0} (xs : List A) (i : ℕ) (x : A) → slice_get xs i ≡ Some x → drop i xs ≡ x ∷ drop (i + 1) xs
 left_from xs i x h = drop-step xs i x (slice_get_within xs i x h) (sym (get_or_from_slice_get xs i x x h))
 
-from_zero : (i : ℕ) → 0 + i ≡ i
-from_zero i = omega arith
-
-one_further : (k i : ℕ) → suc k + i ≡ k + suc i
-one_further k i = omega arith
-
 module _ (sections : List SectionTree) where
   comps_from : (rest : List SectionTree) (k i : ℕ) → slice_get (interfaces_from sections k rest) i ≡
       option_map (interface_of sections (k + i)) (slice_get rest i)
   comps_from [] k i = refl
-  comps_from (section ∷ rest) k zero = ap (λ n. Some (interface_of _ n section)) (at k) where
-    at : (k : ℕ) → k ≡ k + 0
-    at k = omega arith
+  comps_from (section ∷ rest) k zero = ap (λ n. Some (interface_of sections n section)) (omega arith)
   comps_from (section ∷ rest) k (suc i) =
-      comps_from rest _ i ∙ ap (λ n. option_map (interface_of sections n) (slice_get rest i)) (one_further k i)
+      comps_from rest _ i ∙ ap (λ n. option_map (interface_of sections n) (slice_get rest i)) (omega arith)
 
   -- the interface of a section, by its number
   pub comp_at : (i : ℕ) (section : SectionTree) → slice_get sections i ≡ Some section →
       slice_get (interfaces_from sections 0 sections) i ≡ Some (interface_of sections i section)
-  comp_at i section h =
-      comps_from _ 0 i ∙ ap (λ n. option_map (interface_of sections n) (slice_get sections i)) (from_zero i)
-      ∙ ap (option_map (interface_of _ i)) h
+  comp_at i section h = comps_from _ 0 i ∙ ap (λ n. option_map (interface_of sections n) (slice_get sections i))
+      (omega arith) ∙ ap (option_map (interface_of _ i)) h
 
   module _ (interfaces : Interfaces) (i : ℕ) (section : SectionTree) (are : interfaces ≡ interfaces_of sections)
       (h : slice_get sections i ≡ Some section) where
     stands_at : slice_get interfaces.comps i ≡ Some (interface_of sections i section)
     stands_at = ap (λ x. slice_get x.comps i) are ∙ comp_at i section h
 
-    same_some : (a b : Interface) → Some a ≡ Some b → a ≡ b
-    same_some a b e = cc e
-
     -- what a section imports, by its number
     pub imports_at : (interface : Interface) → slice_get interfaces.comps i ≡ Some interface →
         interface.imports ≡ map (import_of sections i) section.imports
-    imports_at interface at = ap (λ x. x.imports) (same_some _ _ (sym at ∙ stands_at))
+    imports_at interface at = ap (λ x. x.imports) (same_Some _ _ (sym at ∙ stands_at))
 
     -- a section has an interface, by its number
     pub is_there : IsSome (slice_get interfaces.comps i)
     is_there = rw stands_at refl
-
-  next_number : (k : ℕ) → suc k ≡ k + 1
-  next_number k = omega arith
 
   -- one more section is built
   pub built_more : (built : List TypedSection) (i : ℕ) (section : SectionTree) (it : TypedSection) →
@@ -73,4 +58,4 @@ module _ (sections : List SectionTree) where
       let rest = drop (i + 1) sections in
       append_assoc built _ _ ∙ ap (λ x. built ++ x ∷ sections_from sections (i + 1) rest) is
       ∙ ap (λ k. built ++ typed_section section (callees_of sections i section) ∷ sections_from sections k rest)
-      (sym (next_number i)) ∙ ap (λ xs. built ++ sections_from sections i xs) (sym (left_from _ i section at)) ∙ before
+      (add-one i) ∙ ap (λ xs. built ++ sections_from sections i xs) (sym (left_from _ i section at)) ∙ before

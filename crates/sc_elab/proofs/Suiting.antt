@@ -5,7 +5,7 @@ use Rattle.sc_elab.proofs.Common.{false, found_in, globals_in, has_member, is_so
 use Rattle.sc_elab.proofs.Common.{members_from, ne_eqb, no_ty, option_and_then, or_else, position, refl, same_base}
 use Rattle.sc_elab.proofs.Common.{same_ty, scope_in, slice_get, slice_get-map, starred, suc, sym, take, true}
 use Rattle.sc_elab.proofs.Common.{true≢false, type_of, type_with, typed_struct, typed_structs, variable_ty, visible_in}
-use Rattle.sc_elab.proofs.Common.{zero, ℕ, ◌&&◌, ◌++◌, ◌+◌, ◌==◌, ◌||◌, ◌∙◌, ◌∷◌, ◌≡◌}
+use Rattle.sc_elab.proofs.Common.{zero, ℕ, ◌&&◌, ◌++◌, ◌==◌, ◌||◌, ◌∙◌, ◌∷◌, ◌≡◌}
 use Rattle.sc_core.specs.declared.ty.BaseTy.{BaseTy}
 use Rattle.sc_core.specs.declared.section.TypedMember.{TypedMember}
 use Rattle.sc_core.specs.declared.section.TypedParam.{TypedParam}
@@ -42,9 +42,8 @@ module _ (tags : List (List ℕ)) where
   members-some : (structs : List TypedStruct) (offset : ℕ) (members : List MemberTree) →
       list_any {X = TypedMember} has_none (members_from tags structs offset members) ≡ false
   members-some structs offset [] = refl
-  members-some structs offset (m ∷ members) =
-      (λ j. offset == 0 && type-some m.ty j || list_any has_none
-      (members_from tags structs (end_of_member tags structs offset m) members))
+  members-some structs offset (m ∷ members) = (λ j. offset == 0 &&
+      type-some m.ty j || list_any has_none (members_from tags structs (end_of_member tags structs offset m) members))
       ∙ (λ j. and-false (offset == 0) j || members-some structs (end_of_member tags structs offset m) members j)
 
   abbrev AreSome : List TypedStruct → Type 0
@@ -61,8 +60,7 @@ module _ (tags : List (List ℕ)) where
       AreSome (typed_structs tags structs trees)
   unfolding typed_structs
   structs-some structs [] are = are
-  structs-some structs (tree ∷ trees) are =
-      structs-some (structs ++ typed_struct tags structs tree ∷ []) trees
+  structs-some structs (tree ∷ trees) are = structs-some (structs ++ typed_struct tags structs tree ∷ []) trees
       (one-more structs _ are (members-some structs 0 tree.members))
 
 -- the variable that is found stands at its place, with its type

@@ -1,12 +1,12 @@
 -- What is judged of an expression by its parts is what is judged of the whole.
 use Rattle.sc_elab_expr.proofs.Common.{Bool, Err, Found, Global, IfOk, Judged, List, None, Ok, Option, Result, Scope}
-use Rattle.sc_elab_expr.proofs.Common.{Some, Suits, Ty, TypedExpr, TypedMember, TypedStruct, VarRef, Visible, [], ap}
-use Rattle.sc_elab_expr.proofs.Common.{binary_fits, bytes_eq, decayed, eq-eqb, false, found, has_member, if◌then◌else◌}
-use Rattle.sc_elab_expr.proofs.Common.{is_address, is_int, is_pointer, is_some, is_type, is_zero, judged, literal_fits}
+use Rattle.sc_elab_expr.proofs.Common.{Some, Suits, Ty, TypedExpr, TypedMember, TypedStruct, Visible, [], ap}
+use Rattle.sc_elab_expr.proofs.Common.{binary_fits, bytes_eq, decayed, eq-eqb, false, found, has_member, is_address}
+use Rattle.sc_elab_expr.proofs.Common.{is_int, is_pointer, is_some, is_type, is_zero, judged, literal_fits}
 use Rattle.sc_elab_expr.proofs.Common.{member_named, member_of, member_offset, member_ty, no_ty, option_and_then}
 use Rattle.sc_elab_expr.proofs.Common.{pointer_to, position, refl, same_base, same_ty, slice_get, struct_of, subst, suc}
-use Rattle.sc_elab_expr.proofs.Common.{sym, target, term_judged, true, true≢false, unary_fits, variable_ty}
-use Rattle.sc_elab_expr.proofs.Common.{variable_typed, zero, zero_step, ℕ, ◌&&◌, ◌==◌, ◌||◌, ◌∙◌, ◌∷◌, ◌≡◌}
+use Rattle.sc_elab_expr.proofs.Common.{sym, target, term_judged, true, true≢false, unary_fits, variable_typed, zero}
+use Rattle.sc_elab_expr.proofs.Common.{zero_step, ℕ, ◌&&◌, ◌==◌, ◌||◌, ◌∙◌, ◌∷◌, ◌≡◌}
 use Rattle.sc_core.specs.declared.ty.BaseTy.{BaseTy}
 use Rattle.sc_core.proofs.Judged.{judged_ty}
 use Rattle.std.specs.List.{list_any}
@@ -26,16 +26,14 @@ use Rattle.sc_core.proofs.Layers as layers
 use Rattle.sc_elab_expr.specs.declared.expr.Built.{Built}
 
 same_base-refl : (b : BaseTy) → same_base b b ≡ true
-same_base-refl base.Int = refl
-same_base-refl base.Unsigned = refl
 same_base-refl (base.Struct n) = eq-eqb n n refl
+same_base-refl _ = refl
 
 pub same_ty-refl : (t : Ty) → same_ty t t ≡ true
-same_ty-refl ty.Int = refl
-same_ty-refl ty.Unsigned = refl
 same_ty-refl (ty.Struct n) = eq-eqb n n refl
 same_ty-refl (ty.Pointer s b) = λ j. eq-eqb s s refl j && same_base-refl b j
 same_ty-refl (ty.Array s b k) = λ j. eq-eqb s s refl j && (same_base-refl b j && eq-eqb k k refl j)
+same_ty-refl _ = refl
 
 -- the member of a name is one of the struct's members
 has_named : (xs : List TypedMember) (i : ℕ) (m : TypedMember) → slice_get xs i ≡ Some m →
@@ -59,11 +57,11 @@ has_named (x ∷ xs) (suc i) m is = ap (λ b. (x.offset == m.offset && same_ty x
 has_found : (name : List ℕ) (s : Option TypedStruct) (m : TypedMember) → member_named name s ≡ Some m →
     has_member s m.offset m.ty ≡ true
 has_found name None m is = absurd (true≢false (sym (ap is_some is)))
-has_found name (Some s) m is = at (position (λ member. bytes_eq name member.name) s.members) is where
+has_found name (Some s) m is = at (position (λ member. bytes_eq name _) s.members) is where
   at : (place : Option ℕ) → option_and_then (slice_get s.members) place ≡ Some m →
       has_member (Some s) m.offset m.ty ≡ true
   at None is = absurd (true≢false (sym (ap is_some is)))
-  at (Some i) is = has_named s.members i m is
+  at (Some i) is = has_named _ i m is
 
 abbrev pub value : Ty → Bool → Judged
 value t fits = record { ty = t; fits = fits; place = false; null = false }
@@ -75,11 +73,11 @@ module _ (scope : Scope) where
   -- an expression of this type, by its layer
   at : (t : Ty) (k : TypedKind-F TypedKind.TypedKind TypedExpr) →
       judged scope (typed_as t k) ≡ layers.term_of (Ty → Judged) Judged (term_judged scope) (λ e. e.kind e.ty) k t
-  at t k = layers.expr_at (Ty → Judged) Judged (term_judged scope) (λ e. e.kind e.ty) t k
+  at t k = layers.expr_at _ Judged _ _ t k
 
   zero_at : (t : Ty) (k : TypedKind-F TypedKind.TypedKind TypedExpr) →
       is_zero (typed_as t k) ≡ layers.term_of Bool Bool zero_step (λ e. e.kind) k
-  zero_at t k = layers.expr_at Bool Bool zero_step (λ e. e.kind) t k
+  zero_at t k = layers.expr_at Bool Bool _ _ t k
 
   as_kind : (t : Ty) (kind : TypedKind.TypedKind) (k : TypedKind-F TypedKind.TypedKind TypedExpr) →
       roll-TypedKind k ≡ kind → judged scope (record { ty = t; kind = kind }) ≡
@@ -108,69 +106,55 @@ module _ (scope : Scope) where
   pub index_judged : (a b : TypedExpr) (j k : Judged) (t : Ty) → j ≡ judged scope a → k ≡ judged scope b →
       place t (is_address j && (is_int k && is_type (target (decayed a.ty)) t)) ≡
       judged scope (record { ty = t; kind = TypedKind.Index a b })
-  index_judged a b j k t first second =
-      (λ i. place t (is_address (first i) && (is_int (second i) && is_type
-      (target (decayed (sym (judged_ty scope a) i))) t)))
-      ∙ sym (as_kind t _ (term.Index a b) (rolls-Index _ _))
+  index_judged a b j k t first second = (λ i. place t (is_address (first i) && (is_int (second i) &&
+      is_type (target (decayed (sym (judged_ty scope a) i))) t))) ∙ sym (as_kind t _ (term.Index a b) (rolls-Index _ _))
 
-  pub deref_judged : (a : TypedExpr) (j : Judged) (t : Ty) → j ≡ judged scope a →
-      place t (is_address j && is_type (target (decayed a.ty)) t) ≡
-      judged scope (record { ty = t; kind = TypedKind.Deref a })
-  deref_judged a j t is =
-      (λ i. place t (is_address (is i) && is_type (target (decayed (sym (judged_ty scope a) i))) t))
+  pub deref_judged : (a : TypedExpr) (j : Judged) (t : Ty) → j ≡ judged scope a → place t
+      (is_address j && is_type (target (decayed a.ty)) t) ≡ judged scope (record { ty = t; kind = TypedKind.Deref a })
+  deref_judged a j t is = (λ i. place t (is_address (is i) && is_type (target (decayed (sym (judged_ty scope a) i))) t))
       ∙ sym (as_kind t _ (term.Deref a) (rolls-Deref _))
 
-  pub address_judged : (a : TypedExpr) (j : Judged) (t : Ty) → j ≡ judged scope a →
-      value t (j.fits && (j.place && is_type (pointer_to a.ty) t)) ≡
-      judged scope (record { ty = t; kind = TypedKind.Address a })
-  address_judged a j t is =
-      (λ i. value t ((is i).fits && ((is i).place && is_type (pointer_to (sym (judged_ty scope a) i)) t)))
-      ∙ sym (as_kind t _ (term.Address a) (rolls-Address _))
+  pub address_judged : (a : TypedExpr) (j : Judged) (t : Ty) → j ≡ judged scope a → value t (j.fits &&
+      (j.place && is_type (pointer_to a.ty) t)) ≡ judged scope (record { ty = t; kind = TypedKind.Address a })
+  address_judged a j t is = (λ i. value t ((is i).fits && ((is i).place &&
+      is_type (pointer_to (sym (judged_ty scope a) i)) t))) ∙ sym (as_kind t _ (term.Address a) (rolls-Address _))
 
   -- Null pointers.
 
   null_at : (k : TypedKind-F TypedKind.TypedKind TypedExpr) (t u : Ty) → is_zero (typed_as u k) ≡ true →
       judged scope (typed_as t k) ≡ record { ty = t; fits = literal_fits 0 t; place = false; null = is_pointer t }
   null_at (term.Literal zero) t u h = at t (term.Literal zero)
-  null_at (term.Literal (suc n)) t u h = absurd (true≢false (sym h ∙ zero_at u (term.Literal (suc n))))
-  null_at (term.Variable v) t u h = absurd (true≢false (sym h ∙ zero_at u (term.Variable v)))
-  null_at (term.Unary o a) t u h = absurd (true≢false (sym h ∙ zero_at u (term.Unary o a)))
-  null_at (term.Binary o a b) t u h = absurd (true≢false (sym h ∙ zero_at u (term.Binary o a b)))
-  null_at (term.Index a b) t u h = absurd (true≢false (sym h ∙ zero_at u (term.Index a b)))
-  null_at (term.Member a n) t u h = absurd (true≢false (sym h ∙ zero_at u (term.Member a n)))
-  null_at (term.Arrow a n) t u h = absurd (true≢false (sym h ∙ zero_at u (term.Arrow a n)))
-  null_at (term.Deref a) t u h = absurd (true≢false (sym h ∙ zero_at u (term.Deref a)))
-  null_at (term.Address a) t u h = absurd (true≢false (sym h ∙ zero_at u (term.Address a)))
+  null_at k t u h = absurd (true≢false (sym h ∙ zero_at u k))
 
-  null_is : (e : TypedExpr) (t : Ty) → is_zero e ≡ true →
-      judged scope (record { ty = t; kind = e.kind }) ≡
-      record { ty = t; fits = literal_fits 0 t; place = false; null = is_pointer t }
-  null_is e t h =
-      ap (λ k. judged scope (record { ty = t; kind = k })) (sym (roll-out-TypedKind e.kind))
-      ∙ null_at (out-TypedKind e.kind) t e.ty (ap (λ k. is_zero (record { ty = e.ty; kind = k }))
-      (roll-out-TypedKind e.kind) ∙ h)
+  null_is : (e : TypedExpr) (t : Ty) → is_zero e ≡ true → judged scope (record {
+    ty = t;
+    kind = e.kind;
+  }) ≡ record { ty = t; fits = literal_fits 0 t; place = false; null = is_pointer t }
+  null_is e t h = ap (λ k. judged scope (record { ty = t; kind = k }))
+      (sym (roll-out-TypedKind e.kind)) ∙ null_at (out-TypedKind e.kind) t e.ty
+      (ap (λ k. is_zero (record { ty = e.ty; kind = k })) (roll-out-TypedKind e.kind) ∙ h)
 
-  pub null_judged : (t : Ty) (e : TypedExpr) → is_pointer t ≡ true → is_zero e ≡ true →
-      record { ty = decayed t; fits = true; place = false; null = true } ≡
-      judged scope (record { ty = decayed t; kind = e.kind })
-  null_judged ty.Int e h is = absurd (true≢false (sym h))
-  null_judged ty.Unsigned e h is = absurd (true≢false (sym h))
-  null_judged (ty.Struct n) e h is = absurd (true≢false (sym h))
-  null_judged (ty.Pointer s b) e h is = sym (null_is e (ty.Pointer s b) is)
-  null_judged (ty.Array s b k) e h is = sym (null_is e (ty.Pointer (suc s) b) is)
+  pub null_judged : (t : Ty) (e : TypedExpr) → is_pointer t ≡ true → is_zero e ≡ true → record {
+    ty = decayed t;
+    fits = true;
+    place = false;
+    null = true;
+  } ≡ judged scope (record { ty = decayed t; kind = e.kind })
+  null_judged (ty.Pointer s b) e h is = sym (null_is e _ is)
+  null_judged (ty.Array s b k) e h is = sym (null_is e _ is)
+  null_judged _ e h is = absurd (true≢false (sym h))
 
   -- Names.
   module _ (visible : Visible) (suits : Suits visible scope) where
     pub variable_judged : (name : List ℕ) → place (variable_typed (found visible name)).ty
         (is_some (found visible name)) ≡ judged scope (variable_typed (found visible name))
-    variable_judged name = by (found visible name) refl where
+    variable_judged name = by _ refl where
       by : (f : Option Found) → found visible name ≡ f →
           place (variable_typed f).ty (is_some f) ≡ judged scope (variable_typed f)
       by None is = (λ i. place no_ty (sym suits.unknown i)) ∙
           sym (as_kind no_ty _ (term.Variable (Global 0)) (rolls-Variable _))
       by (Some f) is =
-          (λ i. place f.ty (sym (suits.known name f is) i)) ∙
-          sym (as_kind f.ty _ (term.Variable f.variable) (rolls-Variable _))
+          (λ i. place f.ty (sym (suits.known name f is) i)) ∙ sym (as_kind f.ty _ (term.Variable _) (rolls-Variable _))
 
     abbrev named : List ℕ → Option Ty → Option TypedMember
     named name t = member_named name (struct_of visible.structs t)
@@ -178,49 +162,37 @@ module _ (scope : Scope) where
     -- a member is one that the struct has
     member_is : (name : List ℕ) (t : Option Ty) → is_some (named name t) ≡
         member_of scope t (member_offset (named name t)) (member_ty (named name t))
-    member_is name None = refl
-    member_is name (Some ty.Int) = refl
-    member_is name (Some ty.Unsigned) = refl
-    member_is name (Some (ty.Pointer s b)) = refl
-    member_is name (Some (ty.Array s b k)) = refl
     member_is name (Some (ty.Struct n)) =
-        by (named name (Some (ty.Struct n))) refl
-        ∙ (λ i. has_member (slice_get (sym suits.structs i) n) (member_offset (named name (Some (ty.Struct n))))
-        (member_ty (named name (Some (ty.Struct n))))) where
+        by (named name (Some (ty.Struct n))) refl ∙ (λ i. has_member (slice_get (sym suits.structs i) n)
+        (member_offset (named name (Some (ty.Struct n)))) (member_ty (named name (Some (ty.Struct n))))) where
           by : (m : Option TypedMember) → named name (Some (ty.Struct n)) ≡ m →
               is_some m ≡ has_member (slice_get visible.structs n) (member_offset m) (member_ty m)
           by None is = sym (suits.nothing n)
           by (Some m) is = sym (has_found name (slice_get visible.structs n) m is)
+    member_is name _ = refl
 
-    pub member_judged : (name : List ℕ) (a : TypedExpr) (j : Judged) → j ≡ judged scope a →
-        place (member_ty (named name (Some a.ty))) (j.fits && (j.place && is_some (named name (Some a.ty)))) ≡
-        judged scope (record {
+    pub member_judged : (name : List ℕ) (a : TypedExpr) (j : Judged) → j ≡ judged scope a → place (member_ty (named name
+        (Some a.ty))) (j.fits && (j.place && is_some (named name (Some a.ty)))) ≡ judged scope (record {
           ty = member_ty (named name (Some a.ty));
           kind = TypedKind.Member a (member_offset (named name (Some a.ty)));
         })
-    member_judged name a j is =
-        (λ i. place (member_ty (named name (Some a.ty)))
-        ((is i).fits && ((is i).place && member_is name (Some a.ty) i)))
-        ∙ (λ i. place (member_ty (named name (Some a.ty)))
-        ((judged scope a).fits && ((judged scope a).place &&
-        member_of scope (Some (sym (judged_ty scope a) i)) (member_offset (named name (Some a.ty)))
-        (member_ty (named name (Some a.ty))))))
+    member_judged name a j is = (λ i. place (member_ty (named name (Some a.ty))) ((is i).fits &&
+        ((is i).place && member_is name (Some a.ty) i))) ∙ (λ i. place (member_ty (named name (Some a.ty)))
+        ((judged scope a).fits && ((judged scope a).place && member_of scope (Some (sym (judged_ty scope a) i))
+        (member_offset (named name (Some a.ty))) (member_ty (named name (Some a.ty))))))
         ∙ sym (as_kind _ _ (term.Member a (member_offset (named name (Some a.ty)))) (rolls-Member _ _))
 
-    pub arrow_judged : (name : List ℕ) (a : TypedExpr) (j : Judged) → j ≡ judged scope a →
-        place (member_ty (named name (target (decayed a.ty))))
-        (is_address j && is_some (named name (target (decayed a.ty)))) ≡
-        judged scope (record {
+    pub arrow_judged : (name : List ℕ) (a : TypedExpr) (j : Judged) →
+        j ≡ judged scope a → place (member_ty (named name (target (decayed a.ty))))
+        (is_address j && is_some (named name (target (decayed a.ty)))) ≡ judged scope (record {
           ty = member_ty (named name (target (decayed a.ty)));
           kind = TypedKind.Arrow a (member_offset (named name (target (decayed a.ty))));
         })
-    arrow_judged name a j is =
-        (λ i. place (member_ty (named name (target (decayed a.ty))))
-        (is_address (is i) && member_is name (target (decayed a.ty)) i))
-        ∙ (λ i. place (member_ty (named name (target (decayed a.ty))))
+    arrow_judged name a j is = (λ i. place (member_ty (named name (target (decayed a.ty)))) (is_address (is i) &&
+        member_is name (target (decayed a.ty)) i)) ∙ (λ i. place (member_ty (named name (target (decayed a.ty))))
         (is_address (judged scope a) && member_of scope (target (decayed (sym (judged_ty scope a) i)))
         (member_offset (named name (target (decayed a.ty)))) (member_ty (named name (target (decayed a.ty))))))
-        ∙ sym (as_kind _ _ (term.Arrow a (member_offset (named name (target (decayed a.ty))))) (rolls-Arrow _ _))
+        ∙ sym (as_kind _ _ (term.Arrow a (member_offset (named name _))) (rolls-Arrow _ _))
 
 -- what holds of a result that is there, by what else holds of it
 pub if_ok : {A E : Type 0} (P Q R : A → Type 0) (r : Result A E) → ((x : A) → P x → Q x → R x) → IfOk r P → IfOk r Q →
@@ -233,44 +205,32 @@ pub variable_built : (scope : Scope) (visible : Visible) → Suits visible scope
     (b : Built) → f ≡ found visible name → b.expr ≡ variable_typed f →
     b.judged ≡ place (variable_typed f).ty (is_some f) → b.judged ≡ judged scope b.expr
 variable_built scope visible suits name f b is typed told =
-    told
-    ∙ (λ i. place (variable_typed (is i)).ty (is_some (is i)))
-    ∙ variable_judged scope visible suits name
-    ∙ (λ i. judged scope (variable_typed (sym is i)))
-    ∙ (λ i. judged scope (sym typed i))
+    told ∙ (λ i. place (variable_typed (is i)).ty (is_some (is i))) ∙ variable_judged scope visible suits name
+    ∙ (λ i. judged scope (variable_typed (sym is i))) ∙ (λ i. judged scope (sym typed i))
 
 module _ (scope : Scope) (visible : Visible) (suits : Suits visible scope) (name : List ℕ) (a : TypedExpr) (j : Judged)
     (m : Option TypedMember) {E : Type 0} (r : Result Built E) (is : j ≡ judged scope a) where
-  pub member_built : m ≡ member_named name (struct_of visible.structs (Some a.ty)) →
-      IfOk r (λ b. b.expr ≡ record { ty = member_ty m; kind = TypedKind.Member a (member_offset m) }) →
-      IfOk r (λ b. b.judged ≡ place (member_ty m) (j.fits && (j.place && is_some m))) →
-      IfOk r (λ b. b.judged ≡ judged scope b.expr)
-  member_built found =
-      if_ok (λ b. b.expr ≡ record { ty = member_ty m; kind = TypedKind.Member a (member_offset m) })
-      (λ b. b.judged ≡ place (member_ty m) (j.fits && (j.place && is_some m)))
-      (λ b. b.judged ≡ judged scope b.expr) r
-      (λ b e p. p
-      ∙ (λ i. place (member_ty (found i)) (j.fits && (j.place && is_some (found i))))
-      ∙ member_judged scope visible suits name a j is
-      ∙ (λ i. judged scope (record {
+  pub member_built : m ≡ member_named name (struct_of visible.structs (Some a.ty)) → IfOk r (λ b. b.expr ≡ record {
+    ty = member_ty m;
+    kind = TypedKind.Member a (member_offset m);
+  }) → IfOk r (λ b. b.judged ≡ place (member_ty m)
+      (j.fits && (j.place && is_some m))) → IfOk r (λ b. b.judged ≡ judged scope b.expr)
+  member_built found = if_ok (λ b. b.expr ≡ record { ty = member_ty m; kind = TypedKind.Member a (member_offset m) })
+      (λ b. b.judged ≡ place _ _) _ r (λ b e p. p ∙ (λ i. place (member_ty (found i)) (j.fits &&
+      (j.place && is_some (found i)))) ∙ member_judged scope _ suits name a j is ∙ (λ i. judged scope (record {
         ty = member_ty (sym found i);
         kind = TypedKind.Member a (member_offset (sym found i));
       }))
       ∙ (λ i. judged scope (sym e i)))
 
   pub arrow_built : (t : Option Ty) → t ≡ target (decayed a.ty) → m ≡ member_named name (struct_of visible.structs t) →
-      IfOk r (λ b. b.expr ≡ record { ty = member_ty m; kind = TypedKind.Arrow a (member_offset m) }) →
-      IfOk r (λ b. b.judged ≡ place (member_ty m) (is_address j && is_some m)) →
-      IfOk r (λ b. b.judged ≡ judged scope b.expr)
+      IfOk r (λ b. b.expr ≡ record { ty = member_ty m; kind = TypedKind.Arrow a (member_offset m) }) → IfOk r
+      (λ b. b.judged ≡ place (member_ty m) (is_address j && is_some m)) → IfOk r (λ b. b.judged ≡ judged scope b.expr)
   arrow_built t points is_found =
       let found : m ≡ member_named name (struct_of visible.structs (target (decayed a.ty))) =
       is_found ∙ (λ i. member_named name (struct_of visible.structs (points i))) in
-      if_ok (λ b. b.expr ≡ record { ty = member_ty m; kind = TypedKind.Arrow a (member_offset m) })
-      (λ b. b.judged ≡ place (member_ty m) (is_address j && is_some m)) (λ b. b.judged ≡ judged scope b.expr) r
-      (λ b e p. p
-      ∙ (λ i. place (member_ty (found i)) (is_address j && is_some (found i)))
-      ∙ arrow_judged scope visible suits name a j is
-      ∙ (λ i. judged scope (record {
+      if_ok _ _ _ r (λ b e p. p ∙ (λ i. place (member_ty (found i)) (is_address j && is_some (found i)))
+      ∙ arrow_judged scope _ suits name a j is ∙ (λ i. judged scope (record {
         ty = member_ty (sym found i);
         kind = TypedKind.Arrow a (member_offset (sym found i));
       }))

@@ -30,35 +30,23 @@ module _ (section : SectionScope) (function : FunctionScope) where
       built ≡ expr_in section function arg → param ≡ first_of types → going ≡ going_to_some param built →
       rest ≡ rest_of types → args_in section function types (drop i args) ≡ going ∷
       args_in section function rest (drop (i + 1) args)
-  args_next types args i arg built param going rest h at e f g r =
-      ap (args_in section function types) (drop-step args i arg h at)
-      ∙ args_cons types arg (drop (i + 1) args)
-      ∙ ap (λ x. x ∷ args_in section function (rest_of types) (drop (i + 1) args))
-      (sym (g ∙ ap (λ p. going_to_some p built) f ∙ ap (going_to_some (first_of types)) e))
-      ∙ ap (λ l. going ∷ args_in section function l (drop (i + 1) args)) (sym r)
+  args_next types args i arg built param going rest h at e f g r = ap (args_in section function types)
+      (drop-step args i arg h at) ∙ args_cons types arg (drop (i + 1) args) ∙ ap (λ x. x ∷ args_in section function
+      (rest_of types) (drop (i + 1) args)) (sym (g ∙ ap (λ p. going_to_some p built) f ∙
+      ap (going_to_some (first_of types)) e)) ∙ ap (λ l. going ∷ args_in section function l (drop (i + 1) args)) (sym r)
 
 module _ (visible : Visible) where
   by_layer : (t : ExprTree-F ExprTree) → tree_place.is_place (roll-ExprTree t) ≡
       place.is_place (typed visible (roll-ExprTree t))
   by_layer (tree.Literal number) = search (rules, the_lemmas, exprs.the_lemmas, kinds.the_lemmas)
-  by_layer (tree.Variable name) = search (rules, the_lemmas, exprs.the_lemmas, kinds.the_lemmas)
-  by_layer (tree.Unary o e) = search (rules, the_lemmas, exprs.the_lemmas, kinds.the_lemmas)
-  by_layer (tree.Binary o a b) = search (rules, the_lemmas, exprs.the_lemmas, kinds.the_lemmas)
-  by_layer (tree.Index a b) = search (rules, the_lemmas, exprs.the_lemmas, kinds.the_lemmas)
-  by_layer (tree.Member a name) = search (rules, the_lemmas, exprs.the_lemmas, kinds.the_lemmas)
-  by_layer (tree.Arrow a name) = search (rules, the_lemmas, exprs.the_lemmas, kinds.the_lemmas)
-  by_layer (tree.Deref e) = search (rules, the_lemmas, exprs.the_lemmas, kinds.the_lemmas)
-  by_layer (tree.Address e) = search (rules, the_lemmas, exprs.the_lemmas, kinds.the_lemmas)
+  by_layer _ = search (rules, the_lemmas, exprs.the_lemmas, kinds.the_lemmas)
 
   same_place : (e : ExprTree) → tree_place.is_place e ≡ place.is_place (typed visible e)
   same_place e = subst (λ e. tree_place.is_place e ≡ place.is_place (typed visible e)) (roll-out-ExprTree e)
       (by_layer (out-ExprTree e))
 
-  is_kept : (e : ExprTree) → IsTrue (tree_place.is_place e) → IsTrue (place.is_place (typed visible e))
-  is_kept e h = subst IsTrue (same_place e) h
-
 module _ (section : SectionScope) (function : FunctionScope) where
   pub place_kept : (e : ExprTree) → IsTrue (tree_place.is_place e) →
       IsTrue (place.is_place (expr_in section function e))
   unfolding expr_in
-  place_kept e h = is_kept (visible section function) e h
+  place_kept e h = subst IsTrue (same_place (visible section function) e) h

@@ -1,5 +1,5 @@
 -- Loops that push what is made of each item of a list.
-use Rattle.sc_elab_stmt.proofs.Common.{List, [], ap, append-nil, append_assoc, sym, ◌++◌, ◌+◌, ◌∙◌, ◌∷◌, ◌≡◌}
+use Rattle.sc_elab_stmt.proofs.Common.{List, [], ap, append-nil, append_assoc, sym, ◌++◌, ◌∙◌, ◌∷◌, ◌≡◌}
 
 -- one more item is done
 pub one_more : {B : Type 0} (done more left rest whole : List B) (x : B) → more ≡ done ++ x ∷ [] → left ≡ x ∷ rest →

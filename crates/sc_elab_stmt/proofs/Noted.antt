@@ -1,8 +1,9 @@
 -- What the lines of a statement's parts are.
+use Rattle.sc_base.proofs.Lists.{drop-step}
 use Rattle.sc_elab_stmt.proofs.Common.{Bool, CallTree, Callees, Err, ExprTree, List, Ok, OnOk, Option, Result, Scope}
-use Rattle.sc_elab_stmt.proofs.Common.{SimpleTree, StmtKind, StmtTree, Ty, Visible, [], add-one, ap, assign_call_holds}
-use Rattle.sc_elab_stmt.proofs.Common.{assign_holds, call_holds, concat, cond_holds, drop, drop-cons, drop_all, get_or}
-use Rattle.sc_elab_stmt.proofs.Common.{length, lines_at, map, part_lines, return_call_holds, return_value_holds, rules}
+use Rattle.sc_elab_stmt.proofs.Common.{SimpleTree, StmtKind, StmtTree, Ty, Visible, [], ap, assign_call_holds}
+use Rattle.sc_elab_stmt.proofs.Common.{assign_holds, call_holds, concat, cond_holds, drop, drop_all, get_or, length}
+use Rattle.sc_elab_stmt.proofs.Common.{lines_at, map, part_lines, return_call_holds, return_value_holds, rules}
 use Rattle.sc_elab_stmt.proofs.Common.{stmt_lines, sym, unless, with_lines, ℕ, ◌++◌, ◌+◌, ◌<◌, ◌∙◌, ◌≡◌, ◌≤◌}
 use Rattle.sc_scope.specs.declared.broken.BrokenLines.{BrokenLines}
 use Rattle.sc_scope.proofs.Noting.{with_lines-append, with_lines-nil}
@@ -67,8 +68,7 @@ module _ (visible : Visible) (callees : Callees) (scope : Scope) (result : Optio
         c ≡ with_lines b (all xs) → d ≡ with_lines c (all ys) → d ≡ with_lines a here
     noted-if a b c d cond xs ys holds is tested first second third =
         then a b d (unless (cond_is cond) line) _ (first ∙ ap (λ h. with_lines a (unless h line)) tested)
-        (then b c d _ _ second third)
-        ∙ ap (with_lines a) (sym (kind-if cond xs ys line) ∙ ap (λ k. at k line) (sym is))
+        (then b c d _ _ second third) ∙ ap (with_lines a) (sym (kind-if cond xs ys line) ∙ ap (λ k. at k line) (sym is))
 
     pub noted-while : (a b c : BrokenLines) (cond : ExprTree) (xs : List StmtTree) (holds : Bool) →
         kind ≡ tree.While cond xs → holds ≡ cond_is cond → b ≡ with_lines a (unless holds line) →
@@ -86,29 +86,25 @@ module _ (visible : Visible) (callees : Callees) (scope : Scope) (result : Optio
         (second ∙ ap (λ h. with_lines b (unless h line)) tested) (then c d e _ _ third fourth))
         ∙ ap (with_lines a) (sym (kind-for begin cond next xs line) ∙ ap (λ k. at k line) (sym is))
 
-    quiet : (a : BrokenLines) → here ≡ [] → a ≡ with_lines a here
-    quiet a none = sym (with_lines-nil a) ∙ ap (with_lines a) (sym none)
+    quiet : (a : BrokenLines) (k : StmtKind) → kind ≡ k → at k line ≡ [] → a ≡ with_lines a here
+    quiet a k is none = sym (with_lines-nil a) ∙ ap (with_lines a) (sym (ap (λ k. at k line) is ∙ none))
 
     pub noted-empty : (a : BrokenLines) → kind ≡ tree.Empty → a ≡ with_lines a here
-    noted-empty a is = quiet a (ap (λ k. at k line) is ∙ (search (rules, tree.the_lemmas)))
+    noted-empty a is = quiet a _ is (search (rules, tree.the_lemmas))
 
     pub noted-break : (a : BrokenLines) → kind ≡ tree.Break → a ≡ with_lines a here
-    noted-break a is = quiet a (ap (λ k. at k line) is ∙ (search (rules, tree.the_lemmas)))
+    noted-break a is = quiet a _ is (search (rules, tree.the_lemmas))
 
     pub noted-continue : (a : BrokenLines) → kind ≡ tree.Continue → a ≡ with_lines a here
-    noted-continue a is = quiet a (ap (λ k. at k line) is ∙ (search (rules, tree.the_lemmas)))
+    noted-continue a is = quiet a _ is (search (rules, tree.the_lemmas))
 
 -- The lines of a list, each item's in turn.
 module _ {A : Type 0} (f : A → List ℕ) (items : List A) (i : ℕ) (whole : BrokenLines) where
   pub noted-next : (a b : BrokenLines) (x : A) → i < length items → x ≡ get_or items i x → b ≡ with_lines a (f x) →
-      with_lines a (concat (map f (drop i items))) ≡ whole →
-      with_lines b (concat (map f (drop (i + 1) items))) ≡ whole
-  noted-next a b x within is noted so =
-      ap (λ b. with_lines b (concat (map f (drop (i + 1) items)))) noted
+      with_lines a (concat (map f (drop i items))) ≡ whole → with_lines b (concat (map f (drop (i + 1) items))) ≡ whole
+  noted-next a b x within is noted so = ap (λ b. with_lines b (concat (map f (drop (i + 1) items)))) noted
       ∙ sym (with_lines-append a (f x) (concat (map f (drop (i + 1) items))))
-      ∙ (λ j. with_lines a (f (is j) ++ concat (map f (drop (add-one i j) items))))
-      ∙ (λ j. with_lines a (concat (map f (sym (drop-cons items i x within) j))))
-      ∙ so
+      ∙ ap (λ xs. with_lines a (concat (map f xs))) (sym (drop-step items i x within is)) ∙ so
 
   pub noted-all : (a : BrokenLines) → length items ≤ i → with_lines a (concat (map f (drop i items))) ≡ whole →
       a ≡ whole

@@ -1,9 +1,9 @@
 -- Arguments and parameters, one after another.
-use Rattle.sc_elab_stmt.proofs.Common.{Bool, Err, ExprTree, IfOk, Judged, List, None, Ok, Option, Result, Scope}
-use Rattle.sc_elab_stmt.proofs.Common.{Signature, Some, Ty, TypedExpr, Visible, [], add-one, all_go, all_go_into, ap}
-use Rattle.sc_elab_stmt.proofs.Common.{args_fit, assign_fits, drop, drop-cons, false, get_or, goes_in, goes_into}
-use Rattle.sc_elab_stmt.proofs.Common.{going_to, going_to_all, is_target, judged, length, map, params_of, refl, suc}
-use Rattle.sc_elab_stmt.proofs.Common.{sym, true, typed, ℕ, ◌&&◌, ◌+◌, ◌<◌, ◌∙◌, ◌∷◌, ◌≡◌, ◌≢◌}
+use Rattle.sc_elab_stmt.proofs.Common.{Bool, Err, ExprTree, IfOk, Judged, List, Ok, Option, Result, Scope, Signature}
+use Rattle.sc_elab_stmt.proofs.Common.{Some, Ty, TypedExpr, Visible, [], add-one, all_go, all_go_into, ap, args_fit}
+use Rattle.sc_elab_stmt.proofs.Common.{assign_fits, drop, drop-cons, false, get_or, goes_in, goes_into, going_to_all}
+use Rattle.sc_elab_stmt.proofs.Common.{is_target, judged, length, map, params_of, refl, suc, sym, true, typed, ℕ, ◌&&◌}
+use Rattle.sc_elab_stmt.proofs.Common.{◌+◌, ◌<◌, ◌∙◌, ◌∷◌, ◌≡◌, ◌≢◌}
 use Rattle.std.proofs.Math.Bool.{and-false}
 use Rattle.sc_core.proofs.Judged.{judged_ty}
 
@@ -24,9 +24,8 @@ module _ (goes : Ty → ExprTree → Bool) where
     -- the arguments from a place on: the one there, and the rest
     all_go-at : all_go goes (drop i types) (drop i args) ≡ (goes (get_or types i t) x && rest)
     all_go-at =
-        (λ j. all_go goes (drop-cons types i t within j) (drop-cons args i x with j))
-        ∙ (λ j. goes (get_or types i t) (sym is j) &&
-        all_go goes (drop (sym (add-one i) j) types) (drop (sym (add-one i) j) args))
+        (λ j. all_go goes (drop-cons types i t within j) (drop-cons args i x with j)) ∙ (λ j. goes (get_or types i t)
+        (sym is j) && all_go goes (drop (sym (add-one i) j) types) (drop (sym (add-one i) j) args))
 
     pub all_go-not : (whole holds : Bool) → holds ≡ goes (get_or types i t) x → holds ≡ false →
         all_go goes (drop i types) (drop i args) ≡ whole → false ≡ whole
@@ -39,8 +38,7 @@ module _ (goes : Ty → ExprTree → Bool) where
 pub ruleset arguments = (all_go-lengths)
 
 module _ (visible : Visible) (scope : Scope) where
-  all_go-is : (types : List Ty) (args : List ExprTree) →
-      all_go (goes_in visible scope) types args ≡ all_go_into types
+  all_go-is : (types : List Ty) (args : List ExprTree) → all_go (goes_in visible scope) types args ≡ all_go_into types
       (map (judged scope) (going_to_all types (map (typed visible) args)))
   all_go-is [] [] = refl
   all_go-is [] (arg ∷ args) = refl
@@ -51,19 +49,15 @@ module _ (visible : Visible) (scope : Scope) where
       gone ≡ all_go (goes_in visible scope) types args → (signature : Signature) → s ≡ Some signature →
       types ≡ signature.params → gone ≡ args_fit s (map (judged scope)
       (going_to_all (params_of s) (map (typed visible) args)))
-  args_go s types args gone is signature there same =
-      is
-      ∙ (λ j. all_go (goes_in visible scope) (same j) args)
-      ∙ all_go-is signature.params args
-      ∙ (λ j. args_fit (sym there j) (map (judged scope)
-      (going_to_all (params_of (sym there j)) (map (typed visible) args))))
+  args_go s types args gone is signature there same = is ∙ (λ j. all_go (goes_in visible scope) (same j) args)
+      ∙ all_go-is signature.params args ∙ (λ j. args_fit (sym there j)
+      (map (judged scope) (going_to_all (params_of (sym there j)) (map (typed visible) args))))
 
   -- what a place takes
   pub takes_is : (p : TypedExpr) (j : Judged) (goes holds : Bool) (value : Judged) → j ≡ judged scope p →
       goes ≡ goes_into p.ty value → holds ≡ (is_target j && goes) → holds ≡ assign_fits (judged scope p) value
-  takes_is p j goes holds value is told so =
-      so ∙ (λ i. is_target (is i) && told i) ∙ (λ i. is_target (judged scope p) &&
-      goes_into (sym (judged_ty scope p) i) value)
+  takes_is p j goes holds value is told so = so ∙ (λ i. is_target (is i) && told i)
+      ∙ (λ i. is_target (judged scope p) && goes_into (sym (judged_ty scope p) i) value)
 
   pub takes_call_is : (p e : TypedExpr) (j : Judged) (gives holds : Bool) (fits : Bool) (result : Ty → Bool) →
       j ≡ judged scope p → p ≡ e → gives ≡ (fits && result p.ty) → holds ≡ (is_target j && gives) →

@@ -9,11 +9,10 @@ use Rattle.sc_core.specs.declared.stmt.TypedSimpleKind.TheVariants as simple
 use Rattle.sc_core.specs.declared.stmt.TypedStmtKind as typed
 
 module _ (section : SectionScope) (function : FunctionScope) where
-  pub call_is : (call : CallTree) → call_in section function call ≡
-      record {
-        target = (called section.callees).target call.name;
-        args = args_in section function (params_of ((called section.callees).signature call.name)) call.args;
-      }
+  pub call_is : (call : CallTree) → call_in section function call ≡ record {
+    target = (called section.callees).target call.name;
+    args = args_in section function (params_of ((called section.callees).signature call.name)) call.args;
+  }
   unfolding call_in args_in
   call_is call = refl
 
@@ -58,9 +57,8 @@ module _ (section : SectionScope) (function : FunctionScope) where
   unfolding kind_in expr_in value_in
   kind_assign place value = search (rules, tree.the_lemmas, trees.the_lemmas)
 
-  pub kind_assign_call : (place : ExprTree) (call : CallTree) →
-      kind_in section function (tree.AssignCall place call) ≡
-      typed.AssignCall (expr_in section function place) (call_in section function call)
+  pub kind_assign_call : (place : ExprTree) (call : CallTree) → kind_in section function
+      (tree.AssignCall place call) ≡ typed.AssignCall (expr_in section function place) (call_in section function call)
   unfolding kind_in expr_in call_in
   kind_assign_call place call = search (rules, tree.the_lemmas, trees.the_lemmas)
 
@@ -70,22 +68,19 @@ module _ (section : SectionScope) (function : FunctionScope) where
   kind_call call = search (rules, tree.the_lemmas, trees.the_lemmas)
 
   pub kind_if : (cond : ExprTree) (first second : List StmtTree) →
-      kind_in section function (tree.If cond first second) ≡
-      typed.If (expr_in section function cond) (map (stmt_in section function) first)
-      (map (stmt_in section function) second)
+      kind_in section function (tree.If cond first second) ≡ typed.If (expr_in section function cond)
+      (map (stmt_in section function) first) (map (stmt_in section function) second)
   unfolding kind_in expr_in stmt_in
   kind_if cond first second = search (rules, tree.the_lemmas, trees.the_lemmas)
 
-  pub kind_while : (cond : ExprTree) (body : List StmtTree) →
-      kind_in section function (tree.While cond body) ≡
-      typed.While (expr_in section function cond) (map (stmt_in section function) body)
+  pub kind_while : (cond : ExprTree) (body : List StmtTree) → kind_in section function
+      (tree.While cond body) ≡ typed.While (expr_in section function cond) (map (stmt_in section function) body)
   unfolding kind_in expr_in stmt_in
   kind_while cond body = search (rules, tree.the_lemmas, trees.the_lemmas)
 
   pub kind_for : (first : Option SimpleTree) (cond : ExprTree) (next : Option SimpleTree) (body : List StmtTree) →
-      kind_in section function (tree.For first cond next body) ≡
-      typed.For (part_in section function first) (expr_in section function cond) (part_in section function next)
-      (map (stmt_in section function) body)
+      kind_in section function (tree.For first cond next body) ≡ typed.For (part_in section function first)
+      (expr_in section function cond) (part_in section function next) (map (stmt_in section function) body)
   unfolding kind_in expr_in part_in stmt_in
   kind_for first cond next body = search (rules, tree.the_lemmas, trees.the_lemmas)
 

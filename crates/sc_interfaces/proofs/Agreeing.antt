@@ -1,39 +1,25 @@
 -- Agreement of heads is symmetric, and heads that agree agree with the same heads.
 use Rattle.sc_interfaces.proofs.Common.{HeadTree, List, None, Option, ParamTree, Some, TypeName, [], agree, and_parts}
 use Rattle.sc_interfaces.proofs.Common.{ap, ap₂, eqb-true, nat_eq, nat_eq_equiv, nat_list_eq_equiv, refl, same_base}
-use Rattle.sc_interfaces.proofs.Common.{same_params, same_result, same_type, true, ℕ, ◌&&◌, ◌∷◌, ◌≡◌}
+use Rattle.sc_interfaces.proofs.Common.{same_params, same_result, same_type, true, ◌&&◌, ◌∷◌, ◌≡◌}
 use Rattle.sc_ast.specs.declared.types.BaseTree.{BaseTree}
 use Rattle.sc_ast.specs.declared.types.BaseTree.TheVariants as base
 
 base_symm : (a b : BaseTree) → same_base a b ≡ same_base b a
-base_symm base.Int base.Int = refl
-base_symm base.Int base.Unsigned = refl
-base_symm base.Int (base.Struct other) = refl
-base_symm base.Unsigned base.Int = refl
-base_symm base.Unsigned base.Unsigned = refl
-base_symm base.Unsigned (base.Struct other) = refl
-base_symm (base.Struct tag) base.Int = refl
-base_symm (base.Struct tag) base.Unsigned = refl
 base_symm (base.Struct tag) (base.Struct other) = nat_list_eq_equiv.symm tag other
+base_symm base.Int base.Int = refl
+base_symm base.Unsigned base.Int = refl
+base_symm _ _ = refl
 
 base_left : (a b c : BaseTree) → same_base a b ≡ true → same_base a c ≡ same_base b c
 base_left base.Int base.Int c h = refl
-base_left base.Int base.Unsigned c h = cc
-base_left base.Int (base.Struct other) c h = cc
-base_left base.Unsigned base.Int c h = cc
 base_left base.Unsigned base.Unsigned c h = refl
-base_left base.Unsigned (base.Struct other) c h = cc
-base_left (base.Struct tag) base.Int c h = cc
-base_left (base.Struct tag) base.Unsigned c h = cc
-base_left (base.Struct tag) (base.Struct other) base.Int h = refl
-base_left (base.Struct tag) (base.Struct other) base.Unsigned h = refl
 base_left (base.Struct tag) (base.Struct other) (base.Struct third) h = nat_list_eq_equiv.congr tag other third h
+base_left (base.Struct tag) (base.Struct other) _ h = refl
+base_left _ _ c h = cc
 
 pub type_symm : (a b : TypeName) → same_type a b ≡ same_type b a
-type_symm a b = ap₂ (λ x y. x && y) (stars_symm a.stars b.stars) (base_symm a.base b.base)
-  where
-    stars_symm : (m n : ℕ) → nat_eq m n ≡ nat_eq n m
-    stars_symm m n = nat_eq_equiv.symm m n
+type_symm a b = ap₂ (λ x y. x && y) (nat_eq_equiv.symm a.stars b.stars) (base_symm a.base b.base)
 
 type_left : (a b c : TypeName) → same_type a b ≡ true → same_type a c ≡ same_type b c
 type_left a b c h =
@@ -42,32 +28,28 @@ type_left a b c h =
     (base_left a.base b.base c.base parts.1)
 
 result_symm : (a b : Option TypeName) → same_result a b ≡ same_result b a
-result_symm None None = refl
-result_symm None (Some b) = refl
-result_symm (Some a) None = refl
 result_symm (Some a) (Some b) = type_symm a b
+result_symm None None = refl
+result_symm _ _ = refl
 
 result_left : (a b c : Option TypeName) → same_result a b ≡ true → same_result a c ≡ same_result b c
 result_left None None c h = refl
-result_left None (Some b) c h = cc
-result_left (Some a) None c h = cc
 result_left (Some a) (Some b) None h = refl
 result_left (Some a) (Some b) (Some c) h = type_left a b c h
+result_left _ _ c h = cc
 
 params_symm : (xs ys : List ParamTree) → same_params xs ys ≡ same_params ys xs
-params_symm [] [] = refl
-params_symm [] (b ∷ ys) = refl
-params_symm (a ∷ xs) [] = refl
 params_symm (a ∷ xs) (b ∷ ys) = ap₂ (λ x y. x && y) (type_symm a.ty b.ty) (params_symm xs ys)
+params_symm [] [] = refl
+params_symm _ _ = refl
 
 params_left : (xs ys zs : List ParamTree) → same_params xs ys ≡ true → same_params xs zs ≡ same_params ys zs
 params_left [] [] zs h = refl
-params_left [] (b ∷ ys) zs h = cc
-params_left (a ∷ xs) [] zs h = cc
 params_left (a ∷ xs) (b ∷ ys) [] h = refl
 params_left (a ∷ xs) (b ∷ ys) (c ∷ zs) h =
     let parts = and_parts (same_type a.ty b.ty) (same_params xs ys) h in
     ap₂ (λ x y. x && y) (type_left a.ty b.ty c.ty parts.0) (params_left xs ys zs parts.1)
+params_left _ _ zs h = cc
 
 pub agree_symm : (a b : HeadTree) → agree a b ≡ agree b a
 agree_symm a b = ap₂ (λ x y. x && y) (result_symm a.result b.result) (params_symm a.params b.params)

@@ -3,19 +3,11 @@ use Rattle.sc_interfaces.proofs.Common.{Agreements, Bool, HeadTree, List, None, 
 use Rattle.sc_interfaces.proofs.Common.{added_beside, agree, agrees_first, agrees_with, all_added, all_numbered}
 use Rattle.sc_interfaces.proofs.Common.{allowed, among, and-false, and-true, and_assoc, ap, bytes_eq, cond, false}
 use Rattle.sc_interfaces.proofs.Common.{first_by_name, forbidden, if◌then◌else◌, is_numbered, is_some, list_any-append}
-use Rattle.sc_interfaces.proofs.Common.{nat_list_eq_equiv, no_heads, not, numbered, or_assoc, refl, sym, true}
-use Rattle.sc_interfaces.proofs.Common.{with_first, ◌&&◌, ◌++◌, ◌||◌, ◌∙◌, ◌∷◌, ◌≡◌}
-use Rattle.std.proofs.lemmas.Slice.Eq.{bytes_eq-Decides}
+use Rattle.sc_interfaces.proofs.Common.{nat_list_eq_equiv, no_heads, not, numbered, or-false, or_assoc, refl, same_text}
+use Rattle.sc_interfaces.proofs.Common.{sym, true, with_first, ◌&&◌, ◌++◌, ◌||◌, ◌∙◌, ◌∷◌, ◌≡◌}
 use Rattle.sc_interfaces.proofs.Agreeing.{agree_symm, agree_left}
 
 -- Names.
-
-pub same_text : (a b : Text) → bytes_eq a b ≡ true → a ≡ b
-same_text a b h = (bytes_eq-Decides a b).0 h
-
-or-false : (a : Bool) → (a || false) ≡ a
-or-false true = refl
-or-false false = refl
 
 or_absorbed : (a e : Bool) → (e ≡ true → a ≡ true) → a ≡ (a || e)
 or_absorbed true e h = refl
@@ -36,9 +28,8 @@ is_numbered-numbered names name k = numbered_by names name k _ refl
 all_numbered_from : (names known : List Text) (k : Text) →
     is_numbered (all_numbered known names) k ≡ (is_numbered known k || is_numbered names k)
 all_numbered_from [] known k = sym (or-false _)
-all_numbered_from (name ∷ names) known k =
-    all_numbered_from names _ k ∙ (ap (λ first. first || is_numbered names k) (is_numbered-numbered known name k) ∙
-    or_assoc (is_numbered known k) (bytes_eq k name) (is_numbered names k))
+all_numbered_from (name ∷ names) known k = all_numbered_from names _ k ∙ (ap (λ first. first || is_numbered names k)
+    (is_numbered-numbered known name k) ∙ or_assoc (is_numbered known k) (bytes_eq k name) (is_numbered names k))
 
 pub all_numbered_same : (names : List Text) (k : Text) → among (all_numbered [] names) k ≡ among names k
 all_numbered_same names k = all_numbered_from names [] k
@@ -49,42 +40,34 @@ forbidden_bools : (there same other agrees : Bool) → other ≡ same →
     (not (there || same) && agrees) ≡ ((not there && agrees) && not other)
 forbidden_bools true same other agrees h = refl
 forbidden_bools false true true agrees h = cc (and-false agrees)
-forbidden_bools false true false agrees h = cc
-forbidden_bools false false true agrees h = cc
 forbidden_bools false false false agrees h = sym (and-true agrees)
+forbidden_bools _ _ _ agrees h = cc
 
 pub allowed_forbidden : (known : Agreements) (name : Text) (head : HeadTree) →
     allowed (forbidden known name) head ≡ (allowed known head && not (bytes_eq name head.name))
-allowed_forbidden known name head =
-    ap (λ there. not there && agrees_first (first_by_name known.firsts head.name) head)
-    (is_numbered-numbered _ name _) ∙
-    forbidden_bools (among known.conflicts head.name) (bytes_eq head.name name) (bytes_eq name head.name)
-    (agrees_first (first_by_name known.firsts head.name) head) (nat_list_eq_equiv.symm name _)
+allowed_forbidden known name head = ap (λ there. not there && agrees_first (first_by_name known.firsts head.name) head)
+    (is_numbered-numbered _ name _) ∙ forbidden_bools (among known.conflicts head.name) (bytes_eq head.name name)
+    (bytes_eq name head.name) (agrees_first (first_by_name known.firsts head.name) head) (nat_list_eq_equiv.symm name _)
 
-abbrev or_last : Option HeadTree → Bool → HeadTree → Option HeadTree
-or_last (Some first) same head = Some first
-or_last None same head = cond same (Some head) None
+abbrev pub first_or : {A : Type 0} → Option A → Option A → Option A
+first_or None later = later
+first_or (Some first) later = Some first
 
-abbrev entry_or : Bool → HeadTree → Option HeadTree → Option HeadTree
-entry_or same head later = cond same (Some head) later
-
-first_by_name-last : (firsts : List (Text × HeadTree)) (name k : Text) (head : HeadTree) →
-    first_by_name (firsts ++ (name, head) ∷ []) k ≡ or_last (first_by_name firsts k) (bytes_eq k name) head
-first_by_name-last [] name k head = refl
-first_by_name-last (e ∷ firsts) name k head = at (bytes_eq k e.0) (first_by_name-last firsts name k head)
-  where
-    at : (same : Bool) → first_by_name (firsts ++ (name, head) ∷ []) k ≡
-        or_last (first_by_name firsts k) (bytes_eq k name) head →
-        entry_or same e.1 (first_by_name (firsts ++ (name, head) ∷ []) k) ≡
-        or_last (entry_or same e.1 (first_by_name firsts k)) (bytes_eq k name) head
-    at true rest = refl
-    at false rest = rest
+pub first_by_name-last : {A : Type 0} (firsts : List (Text × A)) (name k : Text) (x : A) → first_by_name (firsts ++
+    (name, x) ∷ []) k ≡ first_or (first_by_name firsts k) (cond (bytes_eq k name) (Some x) None)
+first_by_name-last [] name k x = refl
+first_by_name-last (e ∷ firsts) name k x = at (bytes_eq k e.0) (first_by_name-last firsts name k x) where
+  at : (same : Bool) → first_by_name (firsts ++ (name, x) ∷ []) k ≡ first_or (first_by_name firsts k)
+      (cond (bytes_eq k name) (Some x) None) → cond same (Some e.1) (first_by_name (firsts ++ (
+        name,
+        x,
+      ) ∷ []) k) ≡ first_or (cond same (Some e.1) (first_by_name firsts k)) (cond (bytes_eq k name) (Some x) None)
+  at true rest = refl
+  at false rest = rest
 
 new_bools : (there same other agrees : Bool) → other ≡ same → (first : Option HeadTree) → (head added : HeadTree) →
-    agree added head ≡ agrees →
-    (same ≡ true → first ≡ None) →
-    (not there && agrees_first (or_last first same added) head) ≡
-    ((not there && agrees_first first head) && (not other || agrees))
+    agree added head ≡ agrees → (same ≡ true → first ≡ None) → (not there && agrees_first (first_or first
+    (cond same (Some added) None)) head) ≡ ((not there && agrees_first first head) && (not other || agrees))
 new_bools true same other agrees o first head added a absent = refl
 new_bools false true true agrees o None head added a absent = a
 new_bools false true true agrees o (Some f) head added a absent = cc (absent refl)
@@ -110,13 +93,11 @@ allowed_first : (known : Agreements) (name : Text) (first head : HeadTree) →
     first_by_name known.firsts name ≡ Some first → bytes_eq name head.name ≡ true →
     allowed known head ≡ true → agree first head ≡ true
 allowed_first known name first head there same holds =
-    second (among known.conflicts head.name) _
-    (ap (λ found. not (among known.conflicts head.name) && agrees_first found head)
-    (sym there ∙ ap (first_by_name _) (same_text name _ same)) ∙ holds)
-  where
-    second : (a b : Bool) → (not a && b) ≡ true → b ≡ true
-    second true b h = cc
-    second false b h = h
+    second (among known.conflicts head.name) _ (ap (λ found. not (among known.conflicts head.name) &&
+    agrees_first found head) (sym there ∙ ap (first_by_name _) (same_text name _ same)) ∙ holds) where
+      second : (a b : Bool) → (not a && b) ≡ true → b ≡ true
+      second true b h = cc
+      second false b h = h
 
 with_first_last : (firsts : List (Text × HeadTree)) (name : Text) (head : HeadTree) →
     first_by_name firsts name ≡ None → with_first firsts name head ≡ firsts ++ (name, head) ∷ []
@@ -127,25 +108,19 @@ beside : (known : Agreements) (name : Text) (added head : HeadTree) (first : Opt
     first_by_name known.firsts name ≡ first →
     allowed (added_beside known name added first) head ≡
     (allowed known head && (not (bytes_eq name head.name) || agree added head))
-beside known name added head None absent =
-    ap (λ firsts. not (among known.conflicts head.name) && agrees_first (first_by_name firsts head.name) head)
-    (with_first_last _ name added absent) ∙
-    ap (λ found. not (among known.conflicts head.name) && agrees_first found head)
-    (first_by_name-last known.firsts name head.name added) ∙
-    new_bools (among known.conflicts head.name) _ (bytes_eq name head.name) _ (nat_list_eq_equiv.symm name _)
-    (first_by_name known.firsts head.name) head added refl
+beside known name added head None absent = ap (λ firsts. not (among known.conflicts head.name) &&
+    agrees_first (first_by_name firsts head.name) head) (with_first_last _ name added absent)
+    ∙ ap (λ found. not (among known.conflicts head.name) && agrees_first found head)
+    (first_by_name-last known.firsts name head.name added) ∙ new_bools (among known.conflicts head.name) _
+    (bytes_eq name head.name) _ (nat_list_eq_equiv.symm name _) (first_by_name known.firsts head.name) head added refl
     (λ same. ap (first_by_name _) (same_text _ name same) ∙ absent)
-beside known name added head (Some first) there = at (agree first added) refl
-  where
-    at : (agrees : Bool) → agree first added ≡ agrees → allowed (if agrees then known else forbidden known name) head ≡
-        (allowed known head && (not (bytes_eq name head.name) || agree added head))
-    at true both =
-        old_bools _ (bytes_eq name head.name) _
-        (λ same holds. sym (agree_left first added head both) ∙ allowed_first known name first head there same holds)
-    at false apart =
-        allowed_forbidden known name head ∙ conflict_bools _ (bytes_eq name _) _
-        (λ same holds agrees. clash same holds agrees)
-      where
+beside known name added head (Some first) there = at (agree first added) refl where
+  at : (agrees : Bool) → agree first added ≡ agrees → allowed (if agrees then known else forbidden known name) head ≡
+      (allowed known head && (not (bytes_eq name head.name) || agree added head))
+  at true both = old_bools _ (bytes_eq name head.name) _
+      (λ same holds. sym (agree_left first added head both) ∙ allowed_first known name first head there same holds)
+  at false apart = allowed_forbidden known name head
+      ∙ conflict_bools _ (bytes_eq name _) _ (λ same holds agrees. clash same holds agrees) where
         clash : bytes_eq name head.name ≡ true → allowed known head ≡ true → agree added head ≡ true → ⊥
         clash same holds agrees =
             let first_agrees = allowed_first known name first head there same holds in
@@ -161,10 +136,9 @@ allowed_added known name added_head head = beside known name _ head _ refl
 pub allowed_all : (known : Agreements) (heads : List HeadTree) (head : HeadTree) →
     allowed (all_added known heads) head ≡ (allowed known head && agrees_with heads head)
 allowed_all known [] head = sym (and-true _)
-allowed_all known (x ∷ heads) head =
-    allowed_all (added known x.name x) heads head ∙
-    (ap (λ first. first && agrees_with heads head) (allowed_added known x.name x head) ∙
-    and_assoc (allowed known head) (not _ || agree x head) (agrees_with heads head))
+allowed_all known (x ∷ heads) head = allowed_all (added known x.name x) heads head
+    ∙ (ap (λ first. first && agrees_with heads head) (allowed_added known x.name x head)
+    ∙ and_assoc (allowed known head) (not _ || agree x head) (agrees_with heads head))
 
 -- a table of heads allows those that agree with all of them
 pub allowed_same : (heads : List HeadTree) (head : HeadTree) →

@@ -3,17 +3,18 @@ pub use Rattle.std.proofs.Common.{All, Bool, IfNone, List, None, Option, Some, [
 pub use Rattle.std.proofs.Common.{cond, drop, drop-cons, eqb-true, false, get_or, if◌then◌else◌, inl, inr, is_some}
 pub use Rattle.std.proofs.Common.{length, length-take-le, map, min, nat_eq, not, refl, slice_get, subst, suc, sym, take}
 pub use Rattle.std.proofs.Common.{true, ℕ, ◌&&◌, ◌++◌, ◌+◌, ◌<◌, ◌==◌, ◌||◌, ◌∙◌, ◌∷◌, ◌≡◌, ◌≤◌, ◌⊎◌}
-pub use Rattle.std.proofs.Math.Bool.{and-false, and-true, and_assoc, or_assoc}
+pub use Rattle.std.proofs.Math.Bool.{and-false, and-true, and_assoc, or-false, or_assoc}
 pub use Rattle.std.proofs.lemmas.Bool.{and_parts, and_right}
 pub use Rattle.std.proofs.lemmas.Cmp.{nat_eq_equiv, nat_list_eq_equiv}
-pub use Rattle.std.proofs.lemmas.List.{length-map, take-map}
-pub use Rattle.std.proofs.lemmas.List.Elements.{All-cons, All-get_or, All-head, All-nil, All-tail}
+pub use Rattle.std.proofs.lemmas.List.{drop_all, length-map, map-append, take-map}
+pub use Rattle.std.proofs.lemmas.List.Elements.{All-cons, All-get_or, All-head, All-nil, All-tail, filter_map-append}
 pub use Rattle.std.proofs.lemmas.List.Folds.{list_all-append, list_any-append}
 pub use Rattle.std.proofs.lemmas.Option.{get_or_from_slice_get, slice_get-map, slice_get_read, slice_get_within}
 pub use Rattle.std.specs.Cmp.Lexicographic.{pointwise}
 pub use Rattle.std.specs.List.{list_all, list_any}
 pub use Rattle.std.specs.Option.{option_and_then, option_map}
-pub use Rattle.sc_base.proofs.Lists.{position-cons, take_all}
+pub use Rattle.sc_base.proofs.Lists.{drop-step, position-cons, take_all}
+pub use Rattle.sc_base.proofs.Texts.{same_text}
 pub use Rattle.sc_base.specs.Prelude.{first_by_name, is_numbered, number_of, numbered, with_first}
 pub use Rattle.sc_ast.specs.Prelude.{head_of, param_of}
 pub use Rattle.sc_ast.specs.declared.section.Decl.TheVariants.{Global, Struct}

@@ -10,9 +10,9 @@ use Rattle.sc_interfaces.proofs.Common.{interface_of, interfaces_by, interfaces_
 use Rattle.sc_interfaces.proofs.Common.{is_some, length, length-map, main_by, main_from, main_name, map, min}
 use Rattle.sc_interfaces.proofs.Common.{nat_list_eq_equiv, number_of, number_or_zero, offered, offered_by, offering}
 use Rattle.sc_interfaces.proofs.Common.{option_and_then, option_map, pointwise, position-cons, promised, promised_by}
-use Rattle.sc_interfaces.proofs.Common.{proto_of, refl, scalar_of, slice_get, slice_get-map, slice_get_within, subst}
-use Rattle.sc_interfaces.proofs.Common.{suc, sym, table_of, take_all, true, with_first, ℕ, ◌++◌, ◌+◌, ◌<◌, ◌==◌, ◌∙◌}
-use Rattle.sc_interfaces.proofs.Common.{◌∷◌, ◌≡◌, ◌≤◌, ◌⊎◌}
+use Rattle.sc_interfaces.proofs.Common.{proto_of, refl, same_text, scalar_of, slice_get, slice_get-map}
+use Rattle.sc_interfaces.proofs.Common.{slice_get_within, subst, suc, sym, table_of, take_all, true, with_first, ℕ}
+use Rattle.sc_interfaces.proofs.Common.{◌++◌, ◌+◌, ◌<◌, ◌==◌, ◌∙◌, ◌∷◌, ◌≡◌, ◌≤◌, ◌⊎◌}
 use Rattle.sc_event.specs.declared.interface.Scalar.{Scalar}
 use Rattle.sc_event.specs.declared.interface.Proto.{Proto}
 use Rattle.sc_event.specs.declared.interface.Import.{Import}
@@ -21,7 +21,7 @@ use Rattle.sc_event.specs.declared.interface.Interface.{Interface}
 use Rattle.sc_event.specs.declared.interface.Interfaces.{Interfaces}
 use Rattle.sc_ast.specs.declared.section.FunctionTree.{FunctionTree}
 use Rattle.sc_ast.specs.declared.section.Decl.TheVariants as declared
-use Rattle.sc_interfaces.proofs.Allowing.{same_text, all_numbered_same}
+use Rattle.sc_interfaces.proofs.Allowing.{all_numbered_same, first_or, first_by_name-last}
 use Rattle.sc_interfaces.proofs.Telling.{Stands, number_in, offering_number_is, offering_stands}
 
 -- Places.
@@ -36,28 +36,8 @@ abbrev first_place : Text → List (Option Text) → Option ℕ
 first_place name [] = None
 first_place name (item ∷ items) = cond (comes name item) (Some 0) (option_map suc (first_place name items))
 
-abbrev first_or : Option ℕ → Option ℕ → Option ℕ
-first_or None later = later
-first_or (Some place) later = Some place
-
 abbrev moved : ℕ → Option ℕ → Option ℕ
 moved k place = option_map (λ n. k + n) place
-
-abbrev entry_or : Bool → ℕ → Option ℕ → Option ℕ
-entry_or same place later = cond same (Some place) later
-
-first_by_name-last : (known : Placed) (other name : Text) (k : ℕ) →
-    first_by_name (known ++ (other, k) ∷ []) name ≡ first_or (first_by_name known name)
-    (cond (pointwise ◌==◌ name other) (Some k) None)
-first_by_name-last [] other name k = refl
-first_by_name-last (e ∷ known) other name k = at (pointwise ◌==◌ name e.0) (first_by_name-last known other name k)
-  where
-    at : (same : Bool) → first_by_name (known ++ (other, k) ∷ []) name ≡
-        first_or (first_by_name known name) (cond (pointwise ◌==◌ name other) (Some k) None) →
-        entry_or same e.1 (first_by_name (known ++ (other, k) ∷ []) name) ≡
-        first_or (entry_or same e.1 (first_by_name known name)) (cond (pointwise ◌==◌ name other) (Some k) None)
-    at true rest = refl
-    at false rest = rest
 
 kept : (place : Option ℕ) (same : Bool) (k : ℕ) → (same ≡ true → is_some place ≡ true) →
     place ≡ first_or place (cond same (Some k) None)
@@ -68,52 +48,37 @@ kept None false k h = refl
 first_by_name-placed : (known : Placed) (other name : Text) (k : ℕ) →
     first_by_name (with_first known other k) name ≡ first_or (first_by_name known name)
     (cond (pointwise ◌==◌ name other) (Some k) None)
-first_by_name-placed known other name k = at (is_some (first_by_name known other)) refl
-  where
-    at : (there : Bool) → is_some (first_by_name known other) ≡ there →
-        first_by_name (if there then known else known ++ (other, k) ∷ []) name ≡
-        first_or (first_by_name known name) (cond (pointwise ◌==◌ name other) (Some k) None)
-    at true there = kept (first_by_name known name) (pointwise ◌==◌ name other) k
-        (λ same. ap (λ text. is_some (first_by_name known text)) (same_text name other same) ∙ there)
-    at false absent = first_by_name-last known other name k
+first_by_name-placed known other name k = at (is_some (first_by_name known other)) refl where
+  at : (there : Bool) → is_some (first_by_name known other) ≡ there → first_by_name (if there then known else known ++
+      (other, k) ∷ []) name ≡ first_or (first_by_name known name) (cond (pointwise ◌==◌ name other) (Some k) None)
+  at true there = kept (first_by_name known name) (pointwise ◌==◌ name other) k
+      (λ same. ap (λ text. is_some (first_by_name known text)) (same_text name other same) ∙ there)
+  at false absent = first_by_name-last known other name k
 
 first_or_none : (place : Option ℕ) → first_or place None ≡ place
 first_or_none None = refl
 first_or_none (Some n) = refl
 
-placed_turn : (item : Bool) (here : Option ℕ) (k : ℕ) (later : Option ℕ) →
-    first_or (first_or here (cond item (Some k) None)) (moved (suc k) later) ≡
-    first_or here (moved k (cond item (Some 0) (option_map suc later)))
-placed_turn true None k later = ap (λ n. Some n) (zero_more k)
-  where
-    zero_more : (n : ℕ) → n ≡ n + 0
-    zero_more n = omega arith
+placed_turn : (item : Bool) (here : Option ℕ) (k : ℕ) (later : Option ℕ) → first_or (first_or here (cond item
+    (Some k) None)) (moved (suc k) later) ≡ first_or here (moved k (cond item (Some 0) (option_map suc later)))
+placed_turn true None k later = ap Some (omega arith)
 placed_turn true (Some n) k later = refl
 placed_turn false (Some n) k later = refl
 placed_turn false None k None = refl
-placed_turn false None k (Some n) = ap (λ m. Some m) (suc_moved k n)
-  where
-    suc_moved : (a b : ℕ) → suc a + b ≡ a + suc b
-    suc_moved a b = omega arith
+placed_turn false None k (Some n) = ap Some (omega arith)
 
 all_placed_is : (items : List (Option Text)) (known : Placed) (k : ℕ) (name : Text) →
     first_by_name (all_placed known k items) name ≡ first_or (first_by_name known name)
     (moved k (first_place name items))
 all_placed_is [] known k name = sym (first_or_none _)
-all_placed_is (None ∷ items) known k name =
-    all_placed_is items known _ name ∙ (ap (λ first. first_or first (moved (suc k) (first_place name items)))
-    (sym (first_or_none _)) ∙ placed_turn false _ k _)
-all_placed_is (Some other ∷ items) known k name =
-    all_placed_is items _ _ name ∙
-    (ap (λ first. first_or first (moved (suc k) (first_place name items))) (first_by_name-placed known other name k) ∙
-    placed_turn _ _ k _)
+all_placed_is (None ∷ items) known k name = all_placed_is items known _ name ∙ (ap (λ first. first_or first
+    (moved (suc k) (first_place name items))) (sym (first_or_none _)) ∙ placed_turn false _ k _)
+all_placed_is (Some other ∷ items) known k name = all_placed_is items _ _ name ∙ (ap (λ first. first_or first
+    (moved (suc k) (first_place name items))) (first_by_name-placed known other name k) ∙ placed_turn _ _ k _)
 
 moved_zero : (place : Option ℕ) → moved 0 place ≡ place
 moved_zero None = refl
-moved_zero (Some n) = ap (λ m. Some m) (zero_first n)
-  where
-    zero_first : (m : ℕ) → 0 + m ≡ m
-    zero_first m = omega arith
+moved_zero (Some n) = ap Some (omega arith)
 
 place_is : (items : List (Option Text)) (name : Text) →
     first_by_name (all_placed [] 0 items) name ≡ first_place name items
@@ -124,9 +89,8 @@ place_is items name = all_placed_is items [] 0 name ∙ moved_zero _
 number_is : (lines : List ExportLine) (name : Text) →
     first_place name (map export_name lines) ≡ number_of (map {A = ExportLine} (λ line. line.name) lines) name
 number_is [] name = refl
-number_is (line ∷ lines) name =
-    ap (λ later. cond (pointwise ◌==◌ name line.name) (Some 0) (option_map suc later)) (number_is lines name) ∙
-    sym (position-cons (pointwise ◌==◌ name) line.name (map _ lines))
+number_is (line ∷ lines) name = ap (λ later. cond (pointwise ◌==◌ name line.name) (Some 0) (option_map suc later))
+    (number_is lines name) ∙ sym (position-cons (pointwise ◌==◌ name) line.name (map _ lines))
 
 -- a place is one of the list
 abbrev IsPlace : ℕ → Option ℕ → Type 0
@@ -149,29 +113,25 @@ first_place_within (item ∷ items) name = within_turn _ _ _ (first_place_within
 abbrev function_there : List Decl → ℕ → Option FunctionTree
 function_there decls place = option_and_then function_in (slice_get decls place)
 
-moved_on : (decl : Decl) (decls : List Decl) (place : Option ℕ) →
-    option_and_then (function_there (decl ∷ decls)) (option_map suc place) ≡
-    option_and_then (function_there decls) place
+moved_on : (decl : Decl) (decls : List Decl) (place : Option ℕ) → option_and_then (function_there (decl ∷ decls))
+    (option_map suc place) ≡ option_and_then (function_there decls) place
 moved_on decl decls None = refl
 moved_on decl decls (Some n) = refl
 
 function_is : (decls : List Decl) (name : Text) → option_and_then (function_there decls)
     (first_place name (map function_name decls)) ≡ function_named name (functions_in decls)
 function_is [] name = refl
-function_is (declared.Struct tree ∷ decls) name = moved_on _ decls _ ∙ function_is decls name
-function_is (declared.Global tree ∷ decls) name = moved_on _ decls _ ∙ function_is decls name
-function_is (declared.Proto head ∷ decls) name = moved_on _ decls _ ∙ function_is decls name
 function_is (declared.Function tree ∷ decls) name =
     ap (λ same. option_and_then (function_there (declared.Function tree ∷ decls))
     (cond same (Some 0) (option_map suc (first_place name (map function_name decls)))))
-    (nat_list_eq_equiv.symm name tree.head.name) ∙ at (pointwise ◌==◌ _ name) (function_is decls name)
-  where
-    at : (same : Bool) → option_and_then (function_there decls) (first_place name (map function_name decls)) ≡
-        function_named name (functions_in decls) → option_and_then (function_there (declared.Function tree ∷ decls))
-        (cond same (Some 0) (option_map suc (first_place name (map function_name decls)))) ≡
-        (if same then Some tree else function_named name (functions_in decls))
-    at true rest = refl
-    at false rest = moved_on _ decls _ ∙ rest
+    (nat_list_eq_equiv.symm name tree.head.name) ∙ at (pointwise ◌==◌ _ name) (function_is decls name) where
+      at : (same : Bool) → option_and_then (function_there decls) (first_place name (map function_name decls)) ≡
+          function_named name (functions_in decls) → option_and_then (function_there (declared.Function tree ∷ decls))
+          (cond same (Some 0) (option_map suc (first_place name (map function_name decls)))) ≡
+          (if same then Some tree else function_named name (functions_in decls))
+      at true rest = refl
+      at false rest = moved_on _ decls _ ∙ rest
+function_is (decl ∷ decls) name = moved_on decl decls _ ∙ function_is decls name
 
 function_at_is : (decls : List Decl) (name : Text) → function_at decls (function_places decls) name ≡
     function_named name (functions_in decls)
@@ -189,27 +149,23 @@ few_or false tree later h k = k
 
 named_few : (trees : List FunctionTree) (name : Text) → All HasFewParams trees → IsFew (function_named name trees)
 named_few [] name h = tt
-named_few (tree ∷ trees) name h =
-    few_or (pointwise ◌==◌ _ name) tree (function_named name trees) (All-head HasFewParams tree trees h)
-    (named_few trees name (All-tail HasFewParams tree trees h))
+named_few (tree ∷ trees) name h = few_or (pointwise ◌==◌ _ name) tree (function_named name trees)
+    (All-head HasFewParams tree trees h) (named_few trees name (All-tail HasFewParams tree trees h))
 
 promised_is : (name : Text) (found : Option FunctionTree) → IsFew found → promised_by name found ≡ promised name found
 promised_is name None h = refl
-promised_is name (Some tree) h =
-    ap (λ (params : List Scalar). record {
-      name = name;
-      params = params;
-      result = option_map scalar_of tree.head.result;
-    }) (take_all 8 _ within)
-  where
-    within : length (map {A = FunctionParam} (λ param. scalar_of param.ty) tree.head.params) ≤ 8
-    within = omega (arith, length-map {A = FunctionParam} tree.head.params (λ param. scalar_of param.ty))
+promised_is name (Some tree) h = ap (λ (params : List Scalar). record {
+  name = name;
+  params = params;
+  result = option_map scalar_of tree.head.result;
+}) (take_all 8 _ within) where
+  within : length (map {A = FunctionParam} (λ param. scalar_of param.ty) tree.head.params) ≤ 8
+  within = omega (arith, length-map {A = FunctionParam} tree.head.params (λ param. scalar_of param.ty))
 
 export_is : (section : SectionTree) (line : ExportLine) → All HasFewParams (functions_in section.decls) →
     export_by section.decls (function_places section.decls) line ≡ proto_of section line
-export_is section line few =
-    ap (promised_by line.name) (function_at_is section.decls line.name) ∙
-    promised_is line.name (function_named line.name (functions_in section.decls)) (named_few _ line.name few)
+export_is section line few = ap (promised_by line.name) (function_at_is section.decls line.name)
+    ∙ promised_is line.name (function_named line.name (functions_in section.decls)) (named_few _ line.name few)
 
 map_same : {A B : Type 0} (f g : A → B) (xs : List A) → ((x : A) → f x ≡ g x) → map f xs ≡ map g xs
 map_same f g [] h = refl
@@ -232,43 +188,37 @@ export_place_is section name = place_is (map export_name section.exports) name �
 export_place_small : (section : SectionTree) (name : Text) → HasFewExports section →
     number_or_zero (number_of (export_names section) name) ≤ 65535
 export_place_small section name few =
-    subst (λ place. number_or_zero place ≤ 65535) (number_is _ name)
-    (small_place _ (first_place name (map export_name section.exports))
-    (first_place_within (map export_name section.exports) name) count)
-  where
-    count : length (map export_name section.exports) ≤ 65536
-    count = omega (arith, length-map section.exports export_name, few)
+    subst (λ place. number_or_zero place ≤ 65535) (number_is _ name) (small_place _ (first_place name
+    (map export_name section.exports)) (first_place_within (map export_name section.exports) name) count) where
+      count : length (map export_name section.exports) ≤ 65536
+      count = omega (arith, length-map section.exports export_name, few)
 
 offered_is : (sections : List SectionTree) (line : ImportLine) (found : Option (ℕ × SectionTree)) →
     Stands 0 sections found → length sections ≤ 32 → All HasFewExports sections →
     offered_by (map export_places sections) line (number_in found) ≡ offered line found
 offered_is sections line None h count few = refl
-offered_is sections line (Some found) h count few =
-    ap₂ (λ comp index. import.Function comp index) (min_within found.0 31 small_comp)
-    (ap (λ place. min (number_or_zero place) 65535) place_there ∙
-    min_within (number_or_zero (number_of (export_names found.1) line.name)) 65535 small_index)
-  where
-    is_place : found.0 ≡ h.0
-    is_place = omega arith
+offered_is sections line (Some found) h count few = ap₂ (λ comp index. import.Function comp index)
+    (min_within found.0 31 small_comp) (ap (λ place. min (number_or_zero place) 65535) place_there
+    ∙ min_within (number_or_zero (number_of (export_names found.1) line.name)) 65535 small_index) where
+      is_place : found.0 ≡ h.0
+      is_place = omega arith
 
-    small_comp : found.0 ≤ 31
-    small_comp = omega (arith, is_place, slice_get_within sections h.0 found.1 h.2)
+      small_comp : found.0 ≤ 31
+      small_comp = omega (arith, is_place, slice_get_within sections h.0 found.1 h.2)
 
-    few_here : HasFewExports found.1
-    few_here = subst HasFewExports (get_or_from_slice_get sections h.0 found.1 found.1 h.2)
-        (All-get_or HasFewExports sections h.0 found.1 (slice_get_within sections h.0 found.1 h.2) few)
+      few_here : HasFewExports found.1
+      few_here = subst HasFewExports (get_or_from_slice_get sections h.0 found.1 found.1 h.2)
+          (All-get_or HasFewExports sections h.0 found.1 (slice_get_within sections h.0 found.1 h.2) few)
 
-    small_index : number_or_zero (number_of (export_names found.1) line.name) ≤ 65535
-    small_index = export_place_small found.1 line.name few_here
+      small_index : number_or_zero (number_of (export_names found.1) line.name) ≤ 65535
+      small_index = export_place_small found.1 line.name few_here
 
-    place_there : option_and_then (λ known. first_by_name known line.name)
-        (slice_get (map export_places sections) found.0) ≡ number_of (export_names found.1) line.name
-    place_there =
-        ap (λ k. option_and_then (λ known. first_by_name known line.name)
-        (slice_get (map export_places sections) k)) is_place ∙
-        (ap (option_and_then (λ known. first_by_name known line.name))
-        (slice_get-map export_places sections h.0 ∙ ap (option_map export_places) h.2) ∙
-        export_place_is found.1 line.name)
+      place_there : option_and_then (λ known. first_by_name known line.name)
+          (slice_get (map export_places sections) found.0) ≡ number_of (export_names found.1) line.name
+      place_there = ap (λ k. option_and_then (λ known. first_by_name known line.name)
+          (slice_get (map export_places sections) k)) is_place
+          ∙ (ap (option_and_then (λ known. first_by_name known line.name)) (slice_get-map export_places sections h.0
+          ∙ ap (option_map export_places) h.2) ∙ export_place_is found.1 line.name)
 
 module _ (sections : List SectionTree) (count : length sections ≤ 32) (few : All HasFewExports sections) where
   import_is : (number : ℕ) (line : ImportLine) → import_by (map table_of sections)
@@ -281,54 +231,49 @@ module _ (sections : List SectionTree) (count : length sections ≤ 32) (few : A
   interface_is : (number : ℕ) (section : SectionTree) → All HasFewParams (functions_in section.decls) →
       interface_by (map table_of sections) (map export_places sections) number section ≡
       interface_of sections number section
-  interface_is number section few_params =
-      ap₂ (λ (exports : List Proto) (imports : List Import).
-      record { name = section.name; exports = exports; imports = imports })
-      (map_same (export_by section.decls (function_places section.decls)) (proto_of section) section.exports
-      (λ line. export_is section line few_params))
-      (map_same (import_by (map table_of sections) (map export_places sections) number)
-      (import_of sections number) section.imports (import_is number))
+  interface_is number section few_params = ap₂ (λ (exports : List Proto) (imports : List Import). record {
+    name = section.name;
+    exports = exports;
+    imports = imports;
+  }) (map_same (export_by section.decls (function_places section.decls)) (proto_of section) section.exports
+      (λ line. export_is section line few_params)) (map_same (import_by (map table_of sections)
+      (map export_places sections) number) (import_of sections number) section.imports (import_is number))
 
   interfaces_are : (k : ℕ) (rest : List SectionTree) →
       All (λ section. All HasFewParams (functions_in section.decls)) rest →
       interfaces_by (map table_of sections) (map export_places sections) k rest ≡ interfaces_from sections k rest
   interfaces_are k [] few_params = refl
-  interfaces_are k (section ∷ rest) few_params =
-      ap₂ (λ first others. first ∷ others) (interface_is k section (All-head
-      (λ other. All HasFewParams (functions_in other.decls)) section rest few_params)) (interfaces_are _ rest (All-tail
-      (λ other. All HasFewParams (functions_in other.decls)) section rest few_params))
+  interfaces_are k (section ∷ rest) few_params = ap₂ (λ first others. first ∷ others)
+      (interface_is k section (All-head (λ other. All HasFewParams (functions_in other.decls)) section rest few_params))
+      (interfaces_are _ rest (All-tail (λ other. All HasFewParams (functions_in other.decls)) section rest few_params))
 
 -- The main compartment.
 
 main_is : (k : ℕ) (sections : List SectionTree) → main_by k (map table_of sections) ≡ main_from k sections
 main_is k [] = refl
-main_is k (section ∷ sections) =
-    ap₂ (λ here later. if here then k else later) (all_numbered_same (function_names section.decls) main_name)
-    (main_is (suc k) sections)
+main_is k (section ∷ sections) = ap₂ (λ here later. if here then k else later)
+    (all_numbered_same (function_names section.decls) main_name) (main_is (suc k) sections)
 
 main_within : (k : ℕ) (sections : List SectionTree) →
     (main_from k sections < k + length sections) ⊎ (main_from k sections ≡ 0)
 main_within k [] = inr refl
-main_within k (section ∷ sections) = at (defines_main section) (main_within (suc k) sections)
-  where
-    at : (here : Bool) → (main_from (suc k) sections < suc k + length sections) ⊎ (main_from (suc k) sections ≡ 0) →
-        ((if here then k else main_from (suc k) sections) < k + suc (length sections)) ⊎
-        ((if here then k else main_from (suc k) sections) ≡ 0)
-    at true rest = inl (omega arith)
-    at false (inl h) = inl (omega arith)
-    at false (inr h) = inr h
+main_within k (section ∷ sections) = at (defines_main section) (main_within (suc k) sections) where
+  at : (here : Bool) → (main_from (suc k) sections < suc k + length sections) ⊎ (main_from (suc k) sections ≡ 0) →
+      ((if here then k else main_from (suc k) sections) < k + suc (length sections)) ⊎
+      ((if here then k else main_from (suc k) sections) ≡ 0)
+  at true rest = inl (omega arith)
+  at false (inl h) = inl (omega arith)
+  at false (inr h) = inr h
 
 main_small : (sections : List SectionTree) → length sections ≤ 32 → main_from 0 sections ≤ 31
-main_small sections count = at (main_within 0 _)
-  where
-    at : (main_from 0 sections < 0 + length sections) ⊎ (main_from 0 sections ≡ 0) → main_from 0 sections ≤ 31
-    at (inl h) = omega arith
-    at (inr h) = omega arith
+main_small sections count = at (main_within 0 _) where
+  at : (main_from 0 sections < 0 + length sections) ⊎ (main_from 0 sections ≡ 0) → main_from 0 sections ≤ 31
+  at (inl h) = omega arith
+  at (inr h) = omega arith
 
 -- what is built by tables
 pub built : (sections : List SectionTree) (tables : List SectionTable) (places : List Placed) (comps : List Interface)
-    (main : ℕ) → IsWithinCounts sections →
-    tables ≡ map table_of sections → places ≡ map export_places sections →
+    (main : ℕ) → IsWithinCounts sections → tables ≡ map table_of sections → places ≡ map export_places sections →
     comps ≡ interfaces_by tables places 0 sections → main ≡ min (main_by 0 tables) 31 →
     ◌≡◌ {A = Interfaces} (record { comps = comps; main = main }) (interfaces_of sections)
 built sections tables places comps main counts tables_are places_are comps_are main_is_min =

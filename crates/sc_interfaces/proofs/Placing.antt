@@ -4,25 +4,21 @@ use Rattle.sc_interfaces.proofs.Common.{length-take-le, map, sym, take, take-map
 
 pub front_done : {A B : Type 0} (f : A → B) (xs : List A) (ys : List B) (i : ℕ) → ys ≡ map f (take i xs) →
     length xs ≤ i → i ≤ 8 → ys ≡ take 8 (map f xs)
-front_done f xs ys i is past few = is ∙ (ap (map f) (take_all i xs past) ∙ sym (take_all 8 _ within))
-  where
-    within : length (map f xs) ≤ 8
-    within = omega (arith, length-map xs f)
+front_done f xs ys i is past few = is ∙ (ap (map f) (take_all i xs past) ∙ sym (take_all 8 _ within)) where
+  within : length (map f xs) ≤ 8
+  within = omega (arith, length-map xs f)
 
 pub front_full : {A B : Type 0} (f : A → B) (xs : List A) (ys : List B) (i : ℕ) → ys ≡ map f (take i xs) →
     i < length xs → i ≤ 8 → 8 ≤ length ys → ys ≡ take 8 (map f xs)
-front_full f xs ys i is within few full =
-    is ∙ (ap (λ n. map f (take n xs)) eight ∙ sym (take-map f 8 xs))
-  where
-    eight : i ≡ 8
-    eight = omega (arith, ap length is, length-map (take i xs) f, length-take-le i xs (omega arith))
+front_full f xs ys i is within few full = is ∙ (ap (λ n. map f (take n xs)) eight ∙ sym (take-map f 8 xs)) where
+  eight : i ≡ 8
+  eight = omega (arith, ap length is, length-map (take i xs) f, length-take-le i xs (omega arith))
 
 push_full : (r : Option (Unit {0})) (n : ℕ) (P : Type 0) → is_some r ≡ false → (n < 8 → is_some r ≡ true) → IfNone r P →
     (8 ≤ n) × P
-push_full None n P none room h = (omega (arith, at), h)
-  where
-    at : n < 8 → ⊥
-    at few = cc (room few)
+push_full None n P none room h = (omega (arith, at), h) where
+  at : n < 8 → ⊥
+  at few = cc (room few)
 push_full (Some u) n P none room h = cc
 
 pub front_stopped : {A B : Type 0} (f : A → B) (xs : List A) (ys now : List B) (i : ℕ) (r : Option (Unit {0})) →

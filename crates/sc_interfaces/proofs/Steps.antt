@@ -1,11 +1,10 @@
 -- One turn of a loop.
-use Rattle.sc_interfaces.proofs.Common.{Agreements, Bool, Decl, ExportLine, Function, Global, ImportLine, List}
-use Rattle.sc_interfaces.proofs.Common.{ParamTree, Proto, SectionTable, Struct, Text, [], all_added, and_right, ap}
-use Rattle.sc_interfaces.proofs.Common.{arith, decl_told, decls_told, drop, drop-cons, export_fits, exports_told, false}
-use Rattle.sc_interfaces.proofs.Common.{get_or, head_added, head_in, heads_in, import_fits, imports_told, is_offered_by}
-use Rattle.sc_interfaces.proofs.Common.{length, numbered, refl, same_params, same_type, suc, sym, unless, with_lines}
-use Rattle.sc_interfaces.proofs.Common.{with_lines-append, with_lines-nil, ℕ, ◌++◌, ◌+◌, ◌<◌, ◌∙◌, ◌∷◌, ◌≡◌, ◌≤◌}
-use Rattle.std.proofs.Math.ListN.{drop_of_length-le}
+use Rattle.sc_interfaces.proofs.Common.{Agreements, Bool, Decl, ExportLine, ImportLine, List, ParamTree, SectionTable}
+use Rattle.sc_interfaces.proofs.Common.{Struct, Text, [], all_added, and_right, ap, decl_told, decls_told, drop}
+use Rattle.sc_interfaces.proofs.Common.{drop-step, drop_all, export_fits, exports_told, false, get_or, head_added}
+use Rattle.sc_interfaces.proofs.Common.{head_in, heads_in, import_fits, imports_told, is_offered_by, length, numbered}
+use Rattle.sc_interfaces.proofs.Common.{refl, same_params, same_type, suc, sym, unless, with_lines, with_lines-append}
+use Rattle.sc_interfaces.proofs.Common.{with_lines-nil, ℕ, ◌++◌, ◌+◌, ◌<◌, ◌∙◌, ◌∷◌, ◌≡◌, ◌≤◌}
 use Rattle.sc_scope.specs.declared.broken.BrokenLines.{BrokenLines}
 use Rattle.sc_interfaces.specs.declared.imports.Imported.{Imported}
 
@@ -13,39 +12,25 @@ pub told_back : (broken : BrokenLines) (xs ys : List ℕ) →
     with_lines (with_lines broken xs) ys ≡ with_lines broken (xs ++ ys)
 told_back broken xs ys = sym (with_lines-append broken xs ys)
 
-pub drop_item : {A : Type 0} → (xs : List A) (i : ℕ) (x : A) → i < length xs → x ≡ get_or xs i x →
-    drop i xs ≡ x ∷ drop (i + 1) xs
-drop_item xs i x within is = drop-cons xs i x within ∙
-    (ap (λ y. y ∷ drop (suc i) xs) (sym is) ∙ ap (λ n. x ∷ drop n xs) (suc_one i))
-  where
-    suc_one : (n : ℕ) → suc n ≡ n + 1
-    suc_one n = omega arith
-
 -- first these lines, then the others
-pub told_turn : (lines now total : BrokenLines) (these others whole : List ℕ) →
-    now ≡ with_lines lines these → whole ≡ these ++ others → with_lines lines whole ≡ total →
-    with_lines now others ≡ total
-told_turn lines now total these others whole first cut last =
-    ap (λ later. with_lines later others) first ∙ (told_back lines these others ∙
-    (ap (with_lines lines) (sym cut) ∙ last))
+pub told_turn : (lines now total : BrokenLines) (these others whole : List ℕ) → now ≡ with_lines lines these →
+    whole ≡ these ++ others → with_lines lines whole ≡ total → with_lines now others ≡ total
+told_turn lines now total these others whole first cut last = ap (λ later. with_lines later others) first
+    ∙ (told_back lines these others ∙ (ap (with_lines lines) (sym cut) ∙ last))
 
-pub exports_turn : (functions before after : List Text) (xs : List ExportLine) (i : ℕ) (x : ExportLine) (holds : Bool)
-    (lines now total : BrokenLines) →
-    i < length xs → x ≡ get_or xs i x → holds ≡ export_fits functions before x →
-    now ≡ with_lines lines (unless holds x.line) → after ≡ numbered before x.name →
-    with_lines lines (exports_told functions before (drop i xs)) ≡ total →
+pub exports_turn : (functions before after : List Text)
+    (xs : List ExportLine) (i : ℕ) (x : ExportLine) (holds : Bool) (lines now total : BrokenLines) → i < length xs →
+    x ≡ get_or xs i x → holds ≡ export_fits functions before x → now ≡ with_lines lines (unless holds x.line) →
+    after ≡ numbered before x.name → with_lines lines (exports_told functions before (drop i xs)) ≡ total →
     with_lines now (exports_told functions after (drop (i + 1) xs)) ≡ total
 exports_turn functions before after xs i x holds lines now total within is fits told added earlier =
-    ap (λ names. with_lines now (exports_told functions names (drop (i + 1) xs))) added ∙
-    told_turn lines now total (unless (export_fits _ before x) x.line)
-    (exports_told functions (numbered before x.name) (drop _ xs)) _
-    (told ∙ ap (λ b. with_lines lines (unless b x.line)) fits)
-    (ap (exports_told _ before) (drop_item xs i x within is)) earlier
+    ap (λ names. with_lines now (exports_told functions names (drop (i + 1) xs))) added ∙ told_turn lines now total
+    (unless (export_fits _ before x) x.line) (exports_told functions (numbered before x.name) (drop _ xs)) _ (told ∙
+    ap (λ b. with_lines lines (unless b x.line)) fits) (ap (exports_told _ before) (drop-step xs i x within is)) earlier
 
 pub imports_turn : (tables : List SectionTable) (importer : ℕ) (functions protos before after : List Text)
-    (xs : List ImportLine) (i : ℕ) (x : ImportLine) (holds : Bool) (lines now total : BrokenLines) →
-    i < length xs → x ≡ get_or xs i x → holds ≡ import_fits (is_offered_by tables importer x) functions
-    protos before x →
+    (xs : List ImportLine) (i : ℕ) (x : ImportLine) (holds : Bool) (lines now total : BrokenLines) → i < length xs →
+    x ≡ get_or xs i x → holds ≡ import_fits (is_offered_by tables importer x) functions protos before x →
     now ≡ with_lines lines (unless holds x.line) → after ≡ numbered before x.name →
     with_lines lines (imports_told tables importer functions protos before (drop i xs)) ≡ total →
     with_lines now (imports_told tables importer functions protos after (drop (i + 1) xs)) ≡ total
@@ -55,18 +40,17 @@ imports_turn tables importer functions protos before after xs i x holds lines no
     told_turn lines now total (unless (import_fits _ _ protos before x) x.line)
     (imports_told tables importer functions protos (numbered before x.name) (drop _ xs)) _
     (told ∙ ap (λ b. with_lines lines (unless b x.line)) fits)
-    (ap (imports_told tables _ _ protos before) (drop_item xs i x within is)) earlier
+    (ap (imports_told tables _ _ protos before) (drop-step xs i x within is)) earlier
 
-pub decls_turn : (table : SectionTable) (imported : Imported) (mains : Bool) (known after : Agreements) (xs : List Decl)
-    (i : ℕ) (x : Decl) (lines now total : BrokenLines) →
-    i < length xs → x ≡ get_or xs i x → now ≡ with_lines lines (decl_told table imported mains known x) →
-    after ≡ head_added known (head_in x) →
+pub decls_turn : (table : SectionTable) (imported : Imported) (mains : Bool) (known after : Agreements)
+    (xs : List Decl) (i : ℕ) (x : Decl) (lines now total : BrokenLines) → i < length xs → x ≡ get_or xs i x →
+    now ≡ with_lines lines (decl_told table imported mains known x) → after ≡ head_added known (head_in x) →
     with_lines lines (decls_told table imported mains known (drop i xs)) ≡ total →
     with_lines now (decls_told table imported mains after (drop (i + 1) xs)) ≡ total
 decls_turn table imported mains known after xs i x lines now total within is told added earlier =
     ap (λ heads. with_lines now (decls_told table imported mains heads (drop (i + 1) xs))) added ∙
     told_turn lines now total _ (decls_told table imported mains (head_added known _) (drop _ xs)) _ told
-    (ap (decls_told table _ mains known) (drop_item xs i x within is)) earlier
+    (ap (decls_told table _ mains known) (drop-step xs i x within is)) earlier
 
 -- nothing is left
 pub told_end : (lines total : BrokenLines) (others : List ℕ) → others ≡ [] → with_lines lines others ≡ total →
@@ -74,14 +58,12 @@ pub told_end : (lines total : BrokenLines) (others : List ℕ) → others ≡ []
 told_end lines total others none last = sym (with_lines-nil lines) ∙ (ap (with_lines lines) (sym none) ∙ last)
 
 pub drop_past : {A : Type 0} → (xs : List A) (i : ℕ) → length xs ≤ i → drop i xs ≡ []
-drop_past xs i past = drop_of_length-le xs past
+drop_past xs i past = drop_all i xs past
 
 pub all_added_one : (known : Agreements) (decl : Decl) (decls : List Decl) →
     all_added known (heads_in (decl ∷ decls)) ≡ all_added (head_added known (head_in decl)) (heads_in decls)
 all_added_one known (Struct tree) decls = refl
-all_added_one known (Global tree) decls = refl
-all_added_one known (Proto head) decls = refl
-all_added_one known (Function tree) decls = refl
+all_added_one known _ decls = refl
 
 -- as many parameters
 pub same_params_lengths : (params others : List ParamTree) → (length params ≡ length others → ⊥) →
@@ -89,9 +71,8 @@ pub same_params_lengths : (params others : List ParamTree) → (length params �
 same_params_lengths [] [] differ = absurd (differ refl)
 same_params_lengths [] (b ∷ others) differ = refl
 same_params_lengths (a ∷ params) [] differ = refl
-same_params_lengths (a ∷ params) (b ∷ others) differ =
-    and_right (same_type a.ty b.ty) (same_params params others)
-    (same_params_lengths params others (λ same. differ (ap (λ n. suc n) same)))
+same_params_lengths (a ∷ params) (b ∷ others) differ = and_right (same_type a.ty b.ty)
+    (same_params params others) (same_params_lengths params others (λ same. differ (ap (λ n. suc n) same)))
 
 pub told_none : (broken : BrokenLines) → with_lines broken [] ≡ broken
 told_none broken = with_lines-nil broken

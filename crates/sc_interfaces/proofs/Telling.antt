@@ -2,26 +2,28 @@
 use Rattle.sc_interfaces.proofs.Common.{Agreements, Bool, Decl, ExportLine, Function, Global, HeadTree, ImportLine}
 use Rattle.sc_interfaces.proofs.Common.{List, None, Option, ParamTree, Proto, SectionTable, SectionTree, Some, Struct}
 use Rattle.sc_interfaces.proofs.Common.{Text, TypeName, [], added, agree, agrees_first, agrees_with, all_added}
-use Rattle.sc_interfaces.proofs.Common.{all_numbered, allowed, among, and-true, and_assoc, ap, ap₂, arith, bytes_eq}
-use Rattle.sc_interfaces.proofs.Common.{decl_told, decls_told, defines_main, drop, environment, environment_added}
-use Rattle.sc_interfaces.proofs.Common.{export_names, exports_told, false, first_added, first_by_name, forbidden}
-use Rattle.sc_interfaces.proofs.Common.{function_names, get_or, gives_int, head_added, head_crosses, head_fits_by}
-use Rattle.sc_interfaces.proofs.Common.{head_in, head_of, heads_in, if◌then◌else◌, import_added, import_names}
-use Rattle.sc_interfaces.proofs.Common.{imported_by, imports_added, imports_told, input_head, input_name, int_type}
-use Rattle.sc_interfaces.proofs.Common.{is_environment, is_input, is_offered_by, is_output, is_plain, is_some, length}
-use Rattle.sc_interfaces.proofs.Common.{length-map, line_of_text, lines_told, list_all, list_all-append, list_any}
-use Rattle.sc_interfaces.proofs.Common.{list_any-append, main_holds, main_name, map, no_heads, not, noted_all}
-use Rattle.sc_interfaces.proofs.Common.{noted_all-append, numbered, offering, offering_number, offering_table, offers}
-use Rattle.sc_interfaces.proofs.Common.{option_and_then, option_map, or_assoc, others_added, output_head, output_name}
-use Rattle.sc_interfaces.proofs.Common.{proto_names, refl, refused_at, same_params, same_result, section_told}
-use Rattle.sc_interfaces.proofs.Common.{slice_get, slice_get-map, slice_get_read, suc, sym, table_of, takes_int}
-use Rattle.sc_interfaces.proofs.Common.{takes_nothing, true, unless, ℕ, ◌&&◌, ◌++◌, ◌+◌, ◌<◌, ◌==◌, ◌||◌, ◌∙◌, ◌∷◌, ◌≡◌}
-use Rattle.sc_interfaces.proofs.Common.{◌≤◌}
+use Rattle.sc_interfaces.proofs.Common.{all_numbered, allowed, among, and-false, and-true, and_assoc, ap, ap₂, arith}
+use Rattle.sc_interfaces.proofs.Common.{bytes_eq, decl_told, decls_told, defines_main, drop, drop-step, environment}
+use Rattle.sc_interfaces.proofs.Common.{environment_added, export_names, exports_told, false, filter_map-append}
+use Rattle.sc_interfaces.proofs.Common.{first_added, first_by_name, forbidden, function_names, get_or, gives_int}
+use Rattle.sc_interfaces.proofs.Common.{head_added, head_crosses, head_fits_by, head_in, head_of, heads_in}
+use Rattle.sc_interfaces.proofs.Common.{if◌then◌else◌, import_added, import_names, imported_by, imports_added}
+use Rattle.sc_interfaces.proofs.Common.{imports_told, input_head, input_name, int_type, is_environment, is_input}
+use Rattle.sc_interfaces.proofs.Common.{is_offered_by, is_output, is_plain, is_some, length, length-map, line_of_text}
+use Rattle.sc_interfaces.proofs.Common.{lines_told, list_all, list_all-append, list_any, list_any-append, main_holds}
+use Rattle.sc_interfaces.proofs.Common.{main_name, map, map-append, no_heads, not, noted_all, noted_all-append}
+use Rattle.sc_interfaces.proofs.Common.{numbered, offering, offering_number, offering_table, offers, option_and_then}
+use Rattle.sc_interfaces.proofs.Common.{option_map, or-false, or_assoc, others_added, output_head, output_name}
+use Rattle.sc_interfaces.proofs.Common.{proto_names, refl, refused_at, same_params, same_result, same_text}
+use Rattle.sc_interfaces.proofs.Common.{section_told, slice_get, slice_get-map, slice_get_read, suc, sym, table_of}
+use Rattle.sc_interfaces.proofs.Common.{takes_int, takes_nothing, true, unless, ℕ, ◌&&◌, ◌++◌, ◌+◌, ◌<◌, ◌==◌, ◌||◌}
+use Rattle.sc_interfaces.proofs.Common.{◌∙◌, ◌∷◌, ◌≡◌, ◌≤◌}
 use Rattle.sc_interfaces.specs.Faces
 use Rattle.sc_interfaces.proofs.Agreeing.{type_symm}
-use Rattle.sc_interfaces.proofs.Allowing.{same_text, is_numbered-numbered, all_numbered_same, allowed_forbidden}
-use Rattle.sc_interfaces.proofs.Allowing.{allowed_added, allowed_same}
-use Rattle.sc_interfaces.proofs.Steps.{drop_item, drop_past}
+use Rattle.sc_interfaces.proofs.Allowing.{is_numbered-numbered, all_numbered_same, allowed_forbidden, allowed_added}
+use Rattle.sc_interfaces.proofs.Allowing.{allowed_same}
+use Rattle.std.proofs.Common.{add-one}
+use Rattle.sc_interfaces.proofs.Steps.{drop_past}
 use Rattle.sc_scope.proofs.Noted.{noted-none}
 
 -- two lists hold the same names
@@ -34,10 +36,6 @@ same_numbered names others name same = record {
   at = λ k. is_numbered-numbered names name k ∙ (ap (λ first. first || bytes_eq k name) (same.at k) ∙
       (ap (λ last. among others k || last) (sym (or-false _)) ∙ sym (list_any-append _ others _)));
 }
-  where
-    or-false : (a : Bool) → (a || false) ≡ a
-    or-false true = refl
-    or-false false = refl
 
 same_all : (names : List Text) → Same (all_numbered [] names) names
 same_all names = record { at = all_numbered_same names }
@@ -53,19 +51,17 @@ module _ (sections : List SectionTree) (number : ℕ) (section : SectionTree) wh
       exports_told functions seen lines ≡ Faces.exports_from sections number section before lines
   exports_told_is functions seen before [] known same = refl
   exports_told_is functions seen before (line ∷ lines) known same =
-      ap₂ (λ these others. these ++ others) (ap (λ holds. unless holds line.line)
-      (ap₂ (λ defined twice. defined && (not twice && (not (bytes_eq line.name main_name) && is_plain line.name)))
-      (known.at _) (same.at _))) (exports_told_is _ (numbered seen _) (before ++ line.name ∷ []) lines known
-      (same_numbered seen before _ same))
+      ap₂ (λ these others. these ++ others) (ap (λ holds. unless holds line.line) (ap₂ (λ defined twice. defined &&
+      (not twice && (not (bytes_eq line.name main_name) && is_plain line.name))) (known.at _) (same.at _)))
+      (exports_told_is _ (numbered seen _) (before ++ line.name ∷ []) lines known (same_numbered seen before _ same))
 
 -- Who offers an import.
 
 offers_is : (importer : ℕ) (line : ImportLine) (k : ℕ) (section : SectionTree) →
     (bytes_eq (table_of section).name line.comp && (not (k == importer) &&
     among (table_of section).exports line.name)) ≡ offers importer line k section
-offers_is importer line k section =
-    ap (λ exported. bytes_eq section.name line.comp && (not (k == importer) && exported))
-    (all_numbered_same (export_names section) line.name)
+offers_is importer line k section = ap (λ exported. bytes_eq section.name line.comp &&
+    (not (k == importer) && exported)) (all_numbered_same (export_names section) line.name)
 
 abbrev pub number_in : Option (ℕ × SectionTree) → Option ℕ
 number_in None = None
@@ -81,14 +77,13 @@ offering_number_is importer line k [] = refl
 offering_number_is importer line k (section ∷ sections) =
     ap (λ here. if here then Some k else offering_number importer line (suc k) (map table_of sections))
     (offers_is _ line k section) ∙
-    at (offers importer line k section) (offering_number_is importer line (suc k) sections)
-  where
-    at : (here : Bool) → offering_number importer line (suc k) (map table_of sections) ≡
-        number_in (offering importer line (suc k) sections) →
-        (if here then Some k else offering_number importer line (suc k) (map table_of sections)) ≡
-        number_in (if here then Some (k, section) else offering importer line (suc k) sections)
-    at true rest = refl
-    at false rest = rest
+    at (offers importer line k section) (offering_number_is importer line (suc k) sections) where
+      at : (here : Bool) → offering_number importer line (suc k) (map table_of sections) ≡
+          number_in (offering importer line (suc k) sections) →
+          (if here then Some k else offering_number importer line (suc k) (map table_of sections)) ≡
+          number_in (if here then Some (k, section) else offering importer line (suc k) sections)
+      at true rest = refl
+      at false rest = rest
 
 -- where it is found, from number k on
 abbrev pub Stands : (k : ℕ) → List SectionTree → Option (ℕ × SectionTree) → Type 0
@@ -104,21 +99,19 @@ pub offering_stands : (importer : ℕ) (line : ImportLine) (k : ℕ) (sections :
     Stands k sections (offering importer line k sections)
 offering_stands importer line k [] = tt
 offering_stands importer line k (section ∷ sections) =
-    at (offers importer line k section) (offering_stands importer line (suc k) sections)
-  where
-    at : (here : Bool) → Stands (suc k) sections (offering importer line (suc k) sections) →
-        Stands k (section ∷ sections) (if here then Some (k, section) else offering importer line (suc k) sections)
-    at true rest = (0, omega arith, refl)
-    at false rest = further k section sections (offering importer line (suc k) sections) rest
+    at (offers importer line k section) (offering_stands importer line (suc k) sections) where
+      at : (here : Bool) → Stands (suc k) sections (offering importer line (suc k) sections) →
+          Stands k (section ∷ sections) (if here then Some (k, section) else offering importer line (suc k) sections)
+      at true rest = (0, omega arith, refl)
+      at false rest = further k section sections (offering importer line (suc k) sections) rest
 
 found_table : (sections : List SectionTree) (found : Option (ℕ × SectionTree)) → Stands 0 sections found →
     option_and_then (slice_get (map table_of sections)) (number_in found) ≡ option_map table_of (section_in found)
 found_table sections None h = refl
 found_table sections (Some found) h =
-    ap (slice_get _) zero_first ∙ (slice_get-map table_of sections h.0 ∙ ap (option_map _) h.2)
-  where
-    zero_first : found.0 ≡ h.0
-    zero_first = omega arith
+    ap (slice_get _) zero_first ∙ (slice_get-map table_of sections h.0 ∙ ap (option_map _) h.2) where
+      zero_first : found.0 ≡ h.0
+      zero_first = omega arith
 
 offering_table_is : (sections : List SectionTree) (importer : ℕ) (line : ImportLine) →
     offering_table (map table_of sections) importer line ≡
@@ -142,31 +135,25 @@ or_free false e = refl
 
 -- the environment's heads
 input_agrees : (head : HeadTree) → agree input_head head ≡ is_input head
-input_agrees head = ap₂ (λ x y. x && y) (gives head.result) (takes head.params)
-  where
-    gives : (ty : Option TypeName) → same_result (Some int_type) ty ≡ gives_int ty
-    gives None = refl
-    gives (Some ty) = type_symm int_type ty
+input_agrees head = ap₂ (λ x y. x && y) (gives head.result) (takes head.params) where
+  gives : (ty : Option TypeName) → same_result (Some int_type) ty ≡ gives_int ty
+  gives None = refl
+  gives (Some ty) = type_symm int_type ty
 
-    takes : (params : List ParamTree) → same_params [] params ≡ takes_nothing params
-    takes [] = refl
-    takes _ = refl
+  takes : (params : List ParamTree) → same_params [] params ≡ takes_nothing params
+  takes [] = refl
+  takes _ = refl
 
 output_agrees : (head : HeadTree) → agree output_head head ≡ is_output head
-output_agrees head = ap₂ (λ x y. x && y) (gives head.result) (takes head.params)
-  where
-    gives : (ty : Option TypeName) → same_result None ty ≡ not (is_some ty)
-    gives None = refl
-    gives (Some ty) = refl
+output_agrees head = ap₂ (λ x y. x && y) (gives head.result) (takes head.params) where
+  gives : (ty : Option TypeName) → same_result None ty ≡ not (is_some ty)
+  gives None = refl
+  gives (Some ty) = refl
 
-    takes : (params : List ParamTree) → same_params output_head.params params ≡ takes_int params
-    takes [] = refl
-    takes (param ∷ []) = and-true (Faces.same_type int_type param.ty) ∙ type_symm int_type param.ty
-    takes (param ∷ (other ∷ params)) = and_no (Faces.same_type int_type param.ty)
-      where
-        and_no : (a : Bool) → (a && false) ≡ false
-        and_no true = refl
-        and_no false = refl
+  takes : (params : List ParamTree) → same_params output_head.params params ≡ takes_int params
+  takes [] = refl
+  takes (param ∷ []) = and-true (Faces.same_type int_type param.ty) ∙ type_symm int_type param.ty
+  takes (param ∷ (other ∷ params)) = and-false (Faces.same_type int_type param.ty)
 
 -- what the environment asks of a name
 abbrev environment_asks : Text → HeadTree → Bool
@@ -180,11 +167,9 @@ guarded false x y h = refl
 environment_added_allows : (known : Agreements) (name : Text) (head : HeadTree) →
     allowed (environment_added known name) head ≡ (allowed known head &&
     (not (bytes_eq name head.name) || environment_asks head.name head))
-environment_added_allows known name head =
-    first (bytes_eq name input_name) (bytes_eq name output_name) ∙
-    ap (λ holds. allowed known head && holds)
-    (guarded (bytes_eq name head.name) (environment_asks name head) (environment_asks head.name head)
-    (λ same. ap (λ text. environment_asks text head) (same_text name head.name same)))
+environment_added_allows known name head = first (bytes_eq name input_name) (bytes_eq name output_name)
+    ∙ ap (λ holds. allowed known head && holds) (guarded (bytes_eq name head.name) (environment_asks name head)
+    (environment_asks head.name head) (λ same. ap (λ text. environment_asks text head) (same_text name head.name same)))
   where
     first : (input output : Bool) →
         allowed (if input then added known name input_head else if output then added known name output_head else
@@ -205,18 +190,16 @@ no_conflict false same x agrees h = cc
 
 -- what a table of heads asks of a name
 table_asks : (heads : Agreements) (known : Agreements) (name : Text) (head : HeadTree) →
-    allowed (if among heads.conflicts name then forbidden known name else
-    first_added known name (first_by_name heads.firsts name)) head ≡
-    (allowed known head && (not (bytes_eq name head.name) ||
+    allowed (if among heads.conflicts name then forbidden known name else first_added known name
+    (first_by_name heads.firsts name)) head ≡ (allowed known head && (not (bytes_eq name head.name) ||
     (not (among heads.conflicts name) && agrees_first (first_by_name heads.firsts name) head)))
-table_asks heads known name head = at (among _ name) _
-  where
-    at : (conflict : Bool) (found : Option HeadTree) →
-        allowed (if conflict then forbidden known name else first_added known name found) head ≡
-        (allowed known head && (not (bytes_eq name head.name) || (not conflict && agrees_first found head)))
-    at true found = allowed_forbidden known name head ∙ no_conflict true _ _ (agrees_first found head) refl
-    at false None = or_free _ _
-    at false (Some first) = allowed_added known name first head
+table_asks heads known name head = at (among _ name) _ where
+  at : (conflict : Bool) (found : Option HeadTree) →
+      allowed (if conflict then forbidden known name else first_added known name found) head ≡
+      (allowed known head && (not (bytes_eq name head.name) || (not conflict && agrees_first found head)))
+  at true found = allowed_forbidden known name head ∙ no_conflict true _ _ (agrees_first found head) refl
+  at false None = or_free _ _
+  at false (Some first) = allowed_added known name first head
 
 abbrev heads_of : SectionTree → Agreements
 heads_of section = all_added no_heads (heads_in section.decls)
@@ -244,38 +227,33 @@ module _ (sections : List SectionTree) (number : ℕ) (section : SectionTree) wh
       Faces.imports_from sections number section before lines
   imports_told_is functions protos seen before [] defined declared same = refl
   imports_told_is functions protos seen before (line ∷ lines) defined declared same =
-      ap₂ (λ these others. these ++ others) (ap (λ holds. unless holds line.line)
-      (ap₂ (λ offered rest. offered && rest) (is_offered_is line) (ap₂ (λ twice rest. not twice && rest) (same.at _)
-      (ap₂ (λ here declares. not here && (declares && is_plain line.name)) (defined.at _) (declared.at _)))))
-      (imports_told_is _ protos (numbered seen _) (before ++ line.name ∷ []) lines defined declared
-      (same_numbered seen before _ same))
+      ap₂ (λ these others. these ++ others) (ap (λ holds. unless holds line.line) (ap₂ (λ offered rest. offered && rest)
+      (is_offered_is line) (ap₂ (λ twice rest. not twice && rest) (same.at _) (ap₂ (λ here declares. not here &&
+      (declares && is_plain line.name)) (defined.at _) (declared.at _))))) (imports_told_is _ protos
+      (numbered seen _) (before ++ line.name ∷ []) lines defined declared (same_numbered seen before _ same))
 
   import_added_allows : (known : Agreements) (line : ImportLine) (head : HeadTree) →
       allowed (import_added (map table_of sections) number known line) head ≡
       (allowed known head && (not (bytes_eq line.name head.name) || Faces.agrees_as sections number section head line))
-  import_added_allows known line head = at (is_environment line)
-    where
-      at : (env : Bool) →
-          allowed (if env then environment_added known line.name else
-          others_added known line.name (offering_table (map table_of sections) number line)) head ≡
-          (allowed known head && (not (bytes_eq line.name head.name) ||
-          (if env then environment_asks head.name head else
-          Faces.agrees_there sections number section head (offering number line 0 sections))))
-      at true = environment_added_allows known line.name head
-      at false =
-          ap (λ table. allowed (others_added known line.name table) head) (offering_table_is sections number line) ∙
-          others_added_allows number known line.name head sections section (offering number line 0 sections)
+  import_added_allows known line head = at (is_environment line) where
+    at : (env : Bool) → allowed (if env then environment_added known line.name else others_added known line.name
+        (offering_table (map table_of sections) number line)) head ≡ (allowed known head &&
+        (not (bytes_eq line.name head.name) ||
+        (if env then environment_asks head.name head else Faces.agrees_there sections number section head
+        (offering number line 0 sections))))
+    at true = environment_added_allows known line.name head
+    at false = ap (λ table. allowed (others_added known line.name table) head) (offering_table_is sections number line)
+        ∙ others_added_allows number known line.name head sections section (offering number line 0 sections)
 
   imports_added_allows : (known : Agreements) (lines : List ImportLine) (head : HeadTree) →
       allowed (imports_added (map table_of sections) number known lines) head ≡
       (allowed known head && list_all {X = ImportLine}
       (λ line. not (bytes_eq line.name head.name) || Faces.agrees_as sections number section head line) lines)
   imports_added_allows known [] head = and_end _
-  imports_added_allows known (line ∷ lines) head =
-      imports_added_allows (import_added _ number known line) lines head ∙ (ap (λ first. first && list_all
-      (λ other. not (bytes_eq other.name head.name) || Faces.agrees_as sections number section head other) lines)
-      (import_added_allows known line head) ∙ and_assoc (allowed known head) (not _ ||
-      Faces.agrees_as _ number section head line) (list_all _ lines))
+  imports_added_allows known (line ∷ lines) head = imports_added_allows (import_added _ number known line) lines head
+      ∙ (ap (λ first. first && list_all (λ other. not (bytes_eq other.name head.name) ||
+      Faces.agrees_as sections number section head other) lines) (import_added_allows known line head)
+      ∙ and_assoc (allowed known head) (not _ || Faces.agrees_as _ number section head line) (list_all _ lines))
 
   -- what the section imports, by its table, is what it imports
   imported_agrees_is : (head : HeadTree) → allowed (imported_by (map table_of sections) number section).heads head ≡
@@ -283,13 +261,6 @@ module _ (sections : List SectionTree) (number : ℕ) (section : SectionTree) wh
   imported_agrees_is head = imports_added_allows no_heads section.imports head
 
 -- Declarations.
-
-heads_in-append : (xs ys : List Decl) → heads_in (xs ++ ys) ≡ heads_in xs ++ heads_in ys
-heads_in-append [] ys = refl
-heads_in-append (Struct tree ∷ xs) ys = heads_in-append xs ys
-heads_in-append (Global tree ∷ xs) ys = heads_in-append xs ys
-heads_in-append (Proto head ∷ xs) ys = ap (λ rest. head ∷ rest) (heads_in-append xs ys)
-heads_in-append (Function tree ∷ xs) ys = ap (λ rest. head_of tree.head ∷ rest) (heads_in-append xs ys)
 
 -- a table of heads allows what agrees with the declarations
 record Allows (known : Agreements) (decls : List Decl) : Type 0 where
@@ -307,10 +278,9 @@ head_added_allows known (Function tree) head =
 allows_more : (known : Agreements) (before : List Decl) (decl : Decl) → Allows known before →
     Allows (head_added known (head_in decl)) (before ++ decl ∷ [])
 allows_more known before decl allows = record {
-  at = λ head. head_added_allows known decl head ∙
-      (ap (λ first. first && agrees_with (heads_in (decl ∷ [])) head) (allows.at head) ∙
-      (sym (list_all-append (λ other. not _ || agree other head) (heads_in before) (heads_in (decl ∷ []))) ∙
-      ap (λ heads. agrees_with heads head) (sym (heads_in-append before _))));
+  at = λ head. head_added_allows known decl head ∙ (ap (λ first. first && agrees_with (heads_in (decl ∷ [])) head)
+      (allows.at head) ∙ (sym (list_all-append (λ other. not _ || agree other head) (heads_in before)
+      (heads_in (decl ∷ []))) ∙ ap (λ heads. agrees_with heads head) (sym (filter_map-append head_in before _))));
 }
 
 allows_none : Allows no_heads []
@@ -320,22 +290,19 @@ module _ (sections : List SectionTree) (number : ℕ) (section : SectionTree) (m
   head_holds_is : (known : Agreements) (before : List Decl) (head : HeadTree) → Allows known before →
       head_fits_by (table_of section) (imported_by (map table_of sections) number section) known head ≡
       Faces.head_holds sections number section before head
-  head_holds_is known before head allows =
-      ap₂ (λ agrees fits. agrees && (head_crosses head || not fits)) (allows.at head)
-      (ap₂ (λ exported imported. exported || imported) (all_numbered_same (export_names section) _)
-      (all_numbered_same (import_names section) head.name))
+  head_holds_is known before head allows = ap₂ (λ agrees fits. agrees && (head_crosses head || not fits))
+      (allows.at head) (ap₂ (λ exported imported. exported || imported)
+      (all_numbered_same (export_names section) _) (all_numbered_same (import_names section) head.name))
 
   decl_told_is : (known : Agreements) (before : List Decl) (decl : Decl) → Allows known before →
       decl_told (table_of section) (imported_by (map table_of sections) number section) mains known decl ≡
       Faces.decl_lines sections number section mains before decl
   decl_told_is known before (Struct tree) allows = refl
   decl_told_is known before (Global tree) allows = refl
-  decl_told_is known before (Proto head) allows =
-      ap (λ holds. unless holds head.line)
+  decl_told_is known before (Proto head) allows = ap (λ holds. unless holds head.line)
       (ap₂ (λ x y. x && y) (head_holds_is known before head allows) (imported_agrees_is _ number section head))
-  decl_told_is known before (Function tree) allows =
-      ap (λ holds. unless (holds && main_holds mains (head_of tree.head)) tree.head.line)
-      (head_holds_is known before (head_of _) allows)
+  decl_told_is known before (Function tree) allows = ap (λ holds. unless (holds &&
+      main_holds mains (head_of tree.head)) tree.head.line) (head_holds_is known before (head_of _) allows)
 
   decls_told_is : (known : Agreements) (before decls : List Decl) → Allows known before →
       decls_told (table_of section) (imported_by (map table_of sections) number section) mains known decls ≡
@@ -346,43 +313,28 @@ module _ (sections : List SectionTree) (number : ℕ) (section : SectionTree) (m
       (decls_told_is (head_added known _) _ decls (allows_more known before decl allows))
 
   section_told_is : (seen : List Text) (before : List SectionTree) →
-      Same seen (map {A = SectionTree} (λ other. other.name) before) →
-      section_told (map table_of sections) number (table_of section) mains seen section ≡
-      Faces.section_lines sections number section mains before
-  section_told_is seen before same =
-      ap₂ (λ these others. these ++ others)
-      (ap (λ twice. unless (not twice && not (bytes_eq section.name environment)) 1) (same.at section.name))
-      (ap₂ (λ these others. these ++ others)
+      Same seen (map {A = SectionTree} (λ other. other.name) before) → section_told (map table_of sections) number
+      (table_of section) mains seen section ≡ Faces.section_lines sections number section mains before
+  section_told_is seen before same = ap₂ (λ these others. these ++ others) (ap (λ twice. unless (not twice &&
+      not (bytes_eq section.name environment)) 1) (same.at section.name)) (ap₂ (λ these others. these ++ others)
       (exports_told_is sections number section (all_numbered [] (function_names section.decls)) [] [] section.exports
-      (same_all _) same_none) (ap₂ (λ these others. these ++ others)
-      (imports_told_is sections number section (all_numbered [] (function_names section.decls))
-      (all_numbered [] (proto_names section.decls)) [] [] section.imports (same_all _) (same_all _) same_none)
-      (decls_told_is no_heads [] section.decls allows_none)))
+      (same_all _) same_none) (ap₂ (λ these others. these ++ others) (imports_told_is sections number section
+      (all_numbered [] (function_names section.decls)) (all_numbered [] (proto_names section.decls))
+      [] [] section.imports (same_all _) (same_all _) same_none) (decls_told_is no_heads [] section.decls allows_none)))
 
 -- Sections.
-
-map_one : (before : List SectionTree) (section : SectionTree) →
-    map {A = SectionTree} (λ other. other.name) (before ++ section ∷ []) ≡
-    map {A = SectionTree} (λ other. other.name) before ++ section.name ∷ []
-map_one [] section = refl
-map_one (other ∷ before) section = ap (λ rest. other.name ∷ rest) (map_one before section)
 
 same_sections : (seen : List Text) (before : List SectionTree) (section : SectionTree) →
     Same seen (map {A = SectionTree} (λ other. other.name) before) →
     Same (numbered seen section.name) (map {A = SectionTree} (λ other. other.name) (before ++ section ∷ []))
 same_sections seen before section same = record {
-  at = λ k. (same_numbered seen _ _ same).at k ∙ ap (λ names. among names k) (sym (map_one before section));
+  at = λ k. (same_numbered seen _ _ same).at k ∙ ap (λ names. among names k) (sym (map-append _ before _));
 }
 
 mains_more : (mains : Bool) (before : List SectionTree) (section : SectionTree) → mains ≡ list_any defines_main before →
     (mains || among (table_of section).functions main_name) ≡ list_any defines_main (before ++ section ∷ [])
-mains_more mains before section same =
-    ap₂ (λ x y. x || y) same (all_numbered_same (function_names section.decls) main_name ∙ sym (or-false _)) ∙
-    sym (list_any-append _ before _)
-  where
-    or-false : (a : Bool) → (a || false) ≡ a
-    or-false true = refl
-    or-false false = refl
+mains_more mains before section same = ap₂ (λ x y. x || y) same
+    (all_numbered_same (function_names section.decls) main_name ∙ sym (or-false _)) ∙ sym (list_any-append _ before _)
 
 lines_told_is : (sections : List SectionTree) (k : ℕ) (mains : Bool) (seen : List Text)
     (before rest : List SectionTree) → mains ≡ list_any defines_main before →
@@ -396,10 +348,9 @@ lines_told_is sections k mains seen before (section ∷ rest) found same =
     (lines_told_is sections (suc k) (mains || among (table_of section).functions main_name) (numbered seen _)
     (before ++ section ∷ []) rest (mains_more mains before section found) (same_sections seen before section same))
 
-table_at : (sections : List SectionTree) (tables : List SectionTable) (k : ℕ) (section : SectionTree)
-    (table : SectionTable) →
-    k < length sections → section ≡ get_or sections k section → tables ≡ map table_of sections →
-    table ≡ get_or tables k table → table ≡ table_of section
+table_at : (sections : List SectionTree) (tables : List SectionTable)
+    (k : ℕ) (section : SectionTree) (table : SectionTable) → k < length sections → section ≡ get_or sections k section →
+    tables ≡ map table_of sections → table ≡ get_or tables k table → table ≡ table_of section
 table_at sections tables k section table within is all its =
     let there : slice_get sections k ≡ Some section =
     slice_get_read sections (length sections) k section refl within is in
@@ -409,44 +360,35 @@ table_at sections tables k section table within is all its =
     ap (λ xs. slice_get xs k) all ∙ (slice_get-map table_of sections k ∙ ap (option_map table_of) there) in
     cc
 
-turn_lines : (sections : List SectionTree) (tables : List SectionTable) (k : ℕ) (mains : Bool) (before : List Text)
-    (section : SectionTree) (least : Option ℕ) →
-    k < length sections → section ≡ get_or sections k section →
-    noted_all (noted_all least (map (line_of_text section.line)
-    (section_told tables k (table_of section) mains before section)))
+turn_lines : (sections : List SectionTree) (tables : List SectionTable)
+    (k : ℕ) (mains : Bool) (before : List Text) (section : SectionTree) (least : Option ℕ) →
+    k < length sections → section ≡ get_or sections k section → noted_all (noted_all least
+    (map (line_of_text section.line) (section_told tables k (table_of section) mains before section)))
     (lines_told tables (k + 1) (mains || among (table_of section).functions main_name) (numbered before section.name)
-    (drop (k + 1) sections)) ≡
-    noted_all least (lines_told tables k mains before (drop k sections))
+    (drop (k + 1) sections)) ≡ noted_all least (lines_told tables k mains before (drop k sections))
 turn_lines sections tables k mains before section least within is =
     sym (noted_all-append least _ _) ∙ (ap (λ n. noted_all least (map (line_of_text section.line)
-    (section_told tables k (table_of section) mains before section) ++
-    lines_told tables n (mains || among (table_of section).functions main_name) (numbered before section.name)
-    (drop (k + 1) sections))) one_more ∙
-    ap (λ xs. noted_all least (lines_told tables k mains before xs)) (sym (drop_item _ k section within is)))
-  where
-    one_more : k + 1 ≡ suc k
-    one_more = omega arith
+    (section_told tables k (table_of section) mains before section) ++ lines_told tables n (mains ||
+    among (table_of section).functions main_name) (numbered before section.name) (drop (k + 1) sections))) (add-one k)
+    ∙ ap (λ xs. noted_all least (lines_told tables k mains before xs)) (sym (drop-step _ k section within is)))
 
 turn_mains : (sections : List SectionTree) (k : ℕ) (mains : Bool) (section : SectionTree) → k < length sections →
-    section ≡ get_or sections k section →
-    ((mains || among (table_of section).functions main_name) || list_any defines_main (drop (k + 1) sections)) ≡
-    (mains || list_any defines_main (drop k sections))
-turn_mains sections k mains section within is =
-    or_assoc mains _ _ ∙ (ap (λ here. mains || (here || list_any defines_main (drop (k + 1) sections)))
-    (all_numbered_same (function_names section.decls) main_name) ∙
-    ap (λ xs. mains || list_any defines_main xs) (sym (drop_item _ k section within is)))
+    section ≡ get_or sections k section → ((mains || among (table_of section).functions main_name) ||
+    list_any defines_main (drop (k + 1) sections)) ≡ (mains || list_any defines_main (drop k sections))
+turn_mains sections k mains section within is = or_assoc mains _ _ ∙ (ap (λ here. mains || (here ||
+    list_any defines_main (drop (k + 1) sections))) (all_numbered_same (function_names section.decls) main_name)
+    ∙ ap (λ xs. mains || list_any defines_main xs) (sym (drop-step _ k section within is)))
 
 -- one section more
-pub sections_turn : (sections : List SectionTree) (tables : List SectionTable) (k : ℕ) (mains more : Bool)
-    (before after : List Text) (section : SectionTree) (table : SectionTable)
-    (least later total : Option ℕ) (whole : Bool) → k < length sections → section ≡ get_or sections k section →
-    tables ≡ map table_of sections → table ≡ get_or tables k table →
+pub sections_turn : (sections : List SectionTree)
+    (tables : List SectionTable) (k : ℕ) (mains more : Bool) (before after : List Text)
+    (section : SectionTree) (table : SectionTable) (least later total : Option ℕ) (whole : Bool) → k < length sections →
+    section ≡ get_or sections k section → tables ≡ map table_of sections → table ≡ get_or tables k table →
     later ≡ noted_all least (map (line_of_text section.line) (section_told tables k table mains before section)) →
     more ≡ (mains || among table.functions main_name) → after ≡ numbered before section.name →
-    (noted_all least (lines_told tables k mains before (drop k sections)) ≡ total) ×
-    ((mains || list_any defines_main (drop k sections)) ≡ whole) →
-    (noted_all later (lines_told tables (k + 1) more after (drop (k + 1) sections)) ≡ total) ×
-    ((more || list_any defines_main (drop (k + 1) sections)) ≡ whole)
+    (noted_all least (lines_told tables k mains before (drop k sections)) ≡ total) × ((mains ||
+    list_any defines_main (drop k sections)) ≡ whole) → (noted_all later (lines_told tables (k + 1) more after
+    (drop (k + 1) sections)) ≡ total) × ((more || list_any defines_main (drop (k + 1) sections)) ≡ whole)
 sections_turn sections tables k mains more before after section table least later total whole within is all its told
     found added earlier =
     let table_is = table_at _ tables k section table within is all its in
@@ -465,26 +407,17 @@ sections_turn sections tables k mains more before after section table least late
     )
 
 -- no section is left
-pub sections_end : (sections : List SectionTree) (tables : List SectionTable) (k : ℕ) (mains : Bool)
-    (before : List Text) (least last : Option ℕ) →
-    length sections ≤ k → tables ≡ map table_of sections → last ≡ noted_all least (unless mains 0) →
-    (noted_all least (lines_told tables k mains before (drop k sections)) ≡
-    noted_all None (lines_told tables 0 false [] sections)) ×
-    ((mains || list_any defines_main (drop k sections)) ≡ list_any defines_main sections) →
-    last ≡ refused_at (Faces.interface_broken sections)
+pub sections_end : (sections : List SectionTree) (tables : List SectionTable) (k : ℕ)
+    (mains : Bool) (before : List Text) (least last : Option ℕ) → length sections ≤ k → tables ≡ map table_of sections →
+    last ≡ noted_all least (unless mains 0) → (noted_all least (lines_told tables k mains before
+    (drop k sections)) ≡ noted_all None (lines_told tables 0 false [] sections)) × ((mains || list_any defines_main
+    (drop k sections)) ≡ list_any defines_main sections) → last ≡ refused_at (Faces.interface_broken sections)
 sections_end sections tables k mains before least last past all told earlier =
     let none = drop_past _ k past in
-    let least_is =
-    sym (noted-none least) ∙ (ap (λ xs. noted_all least (lines_told tables k mains before xs)) (sym none) ∙
-    earlier.0) in
-    let mains_is =
-    sym (or-none mains) ∙ (ap (λ xs. mains || list_any defines_main xs) (sym none) ∙ earlier.1) in
-    let lines_are =
-    ap (λ all_tables. lines_told all_tables 0 false [] sections) all ∙
-    lines_told_is sections 0 false [] [] sections refl same_none in
-    told ∙ (ap₂ (λ l m. noted_all l (unless m 0)) (least_is ∙ ap (noted_all None) lines_are) mains_is ∙
-    sym (noted_all-append None (Faces.lines_from sections 0 [] sections) (unless (list_any defines_main sections) 0)))
-  where
-    or-none : (a : Bool) → (a || false) ≡ a
-    or-none true = refl
-    or-none false = refl
+    let least_is = sym (noted-none least)
+    ∙ (ap (λ xs. noted_all least (lines_told tables k mains before xs)) (sym none) ∙ earlier.0) in
+    let mains_is = sym (or-false mains) ∙ (ap (λ xs. mains || list_any defines_main xs) (sym none) ∙ earlier.1) in
+    let lines_are = ap (λ all_tables. lines_told all_tables 0 false [] sections) all
+    ∙ lines_told_is sections 0 false [] [] sections refl same_none in
+    told ∙ (ap₂ (λ l m. noted_all l (unless m 0)) (least_is ∙ ap (noted_all None) lines_are) mains_is
+    ∙ sym (noted_all-append None (Faces.lines_from sections 0 [] sections) (unless (list_any defines_main sections) 0)))

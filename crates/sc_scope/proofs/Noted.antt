@@ -1,12 +1,12 @@
 -- The loops over locals, declarations and sections, one step further.
 use Rattle.sc_scope.proofs.Common.{Bool, BrokenLines, Decl, Function, FunctionTree, Global, List, LocalTree, Option}
 use Rattle.sc_scope.proofs.Common.{Proto, SectionTree, Struct, Text, [], all_in, ap, append-nil, append_assoc}
-use Rattle.sc_scope.proofs.Common.{decl_lines, declared, drop, drop_all, false, function_lines, function_names, get_or}
-use Rattle.sc_scope.proofs.Common.{global_names, head_of_known, known, length, lines_from, local_known, local_names}
-use Rattle.sc_scope.proofs.Common.{locals_from, map, map-append, names_broken, noted_all, param_names, proto_names}
-use Rattle.sc_scope.proofs.Common.{refl, section_lines, stmt_lines, struct_names, sym, take, unless, with_decl}
-use Rattle.sc_scope.proofs.Common.{with_lines, ℕ, ◌++◌, ◌+◌, ◌<◌, ◌∙◌, ◌∷◌, ◌≡◌, ◌≤◌}
+use Rattle.sc_scope.proofs.Common.{decl_lines, declared, drop, drop_all, false, function_lines, get_or, head_of_known}
+use Rattle.sc_scope.proofs.Common.{known, length, lines_from, local_known, local_names, locals_from, map, map-append}
+use Rattle.sc_scope.proofs.Common.{names_broken, noted_all, param_names, refl, section_lines, stmt_lines, sym, take}
+use Rattle.sc_scope.proofs.Common.{unless, with_decl, with_lines, ℕ, ◌++◌, ◌+◌, ◌<◌, ◌∙◌, ◌∷◌, ◌≡◌, ◌≤◌}
 use Rattle.std.proofs.lemmas.List.Elements.{filter_map-append}
+use Rattle.std.specs.List.{filter_map}
 use Rattle.sc_scope.specs.declared.section_names.SectionNames.{SectionNames}
 use Rattle.sc_scope.proofs.Lines.{step, done, then}
 use Rattle.sc_scope.proofs.Statements.{body-lines}
@@ -16,9 +16,8 @@ use Rattle.sc_base.proofs.Lists.{drop-step, take-step}
 -- what is there and what is left to add, one item further
 pub pushed : {A B : Type 0} (f : A → B) (xs : List A) (i : ℕ) (x : A) (a b all : List B) → i < length xs →
     x ≡ get_or xs i x → a ++ map f (drop i xs) ≡ all → b ≡ a ++ f x ∷ [] → b ++ map f (drop (i + 1) xs) ≡ all
-pushed f xs i x a b all lt is p q =
-    ap (λ c. c ++ map f (drop (i + 1) xs)) q ∙ (append_assoc a (f x ∷ []) (map f (drop _ xs))
-    ∙ (ap (λ ys. a ++ map f ys) (sym (drop-step xs i x lt is)) ∙ p))
+pushed f xs i x a b all lt is p q = ap (λ c. c ++ map f (drop (i + 1) xs)) q
+    ∙ (append_assoc a (f x ∷ []) (map f (drop _ xs)) ∙ (ap (λ ys. a ++ map f ys) (sym (drop-step xs i x lt is)) ∙ p))
 
 -- Locals.
 
@@ -32,8 +31,7 @@ local-noted names own more locals i local holds old a b all lt is p h m q =
     ap (λ o. with_lines b (locals_from names.structs names.globals o (drop (i + 1) locals))) m
     ∙ step old a b (unless (local_known names.structs names.globals own local) local.line) _ all
     (ap (λ rest. with_lines a (locals_from names.structs names.globals own rest))
-    (sym (drop-step locals i local lt is)) ∙ p)
-    (q ∙ ap (λ v. with_lines a (unless v local.line)) h)
+    (sym (drop-step locals i local lt is)) ∙ p) (q ∙ ap (λ v. with_lines a (unless v local.line)) h)
 
 pub locals-noted : (names : SectionNames) (own : List Text) (locals : List LocalTree) (i : ℕ) (old a : BrokenLines)
     (all : List ℕ) → length locals ≤ i → with_lines a (locals_from names.structs names.globals own (drop i locals)) ≡
@@ -55,62 +53,39 @@ module _ (names : SectionNames) (tree : FunctionTree) where
       c ≡ with_lines b (body_of all) → c ≡ with_lines old (function_lines names tree)
   function-noted holds own all old a b c h o l p q r =
       let all-is = l ∙ ap (λ x. x ++ local_names tree) o in
-      then old a c _ _ (p ∙ ap (λ v. with_lines old (unless v tree.head.line)) h)
-      (then a b c _ _ (q ∙ ap (λ x. with_lines a (local_part x)) o)
-      (r ∙ ap (with_lines b) (ap body_of all-is ∙ body-lines _ _)))
+      then old a c _ _ (p ∙ ap (λ v. with_lines old (unless v tree.head.line)) h) (then a b c _ _
+      (q ∙ ap (λ x. with_lines a (local_part x)) o) (r ∙ ap (with_lines b) (ap body_of all-is ∙ body-lines _ _)))
 
 -- Declarations.
 
-struct_names-more : (before : List Decl) (decl : Decl) →
-    struct_names (before ++ decl ∷ []) ≡ struct_names before ++ struct_names (decl ∷ [])
-struct_names-more before decl = ap (map _) (filter_map-append _ before _) ∙ map-append _ _ _
-
-global_names-more : (before : List Decl) (decl : Decl) →
-    global_names (before ++ decl ∷ []) ≡ global_names before ++ global_names (decl ∷ [])
-global_names-more before decl = ap (map _) (filter_map-append _ before _) ∙ map-append _ _ _
-
-proto_names-more : (before : List Decl) (decl : Decl) →
-    proto_names (before ++ decl ∷ []) ≡ proto_names before ++ proto_names (decl ∷ [])
-proto_names-more before decl = ap (map _) (filter_map-append _ before _) ∙ map-append _ _ _
-
-function_names-more : (before : List Decl) (decl : Decl) →
-    function_names (before ++ decl ∷ []) ≡ function_names before ++ function_names (decl ∷ [])
-function_names-more before decl = ap (map _) (filter_map-append _ before _) ∙ map-append _ _ _
+names-more : {A : Type 0} (pick : Decl → Option A) (name_in : A → Text) (before : List Decl) (decl : Decl) →
+    map name_in (filter_map pick (before ++ decl ∷ [])) ≡
+    map name_in (filter_map pick before) ++ map name_in (filter_map pick (decl ∷ []))
+names-more pick name_in before decl = ap (map _) (filter_map-append _ before _) ∙ map-append _ _ _
 
 made : (names : SectionNames) (structs globals functions protos : List Text) → names.structs ≡ structs →
     names.globals ≡ globals → names.functions ≡ functions → names.protos ≡ protos →
     names ≡ record names { structs = structs; globals = globals; functions = functions; protos = protos }
 made names structs globals functions protos s g f p =
-    ap (λ x. record names { structs = x }) s
-    ∙ (ap (λ x. record names { structs = structs; globals = x }) g
-    ∙ (ap (λ x. record names { structs = structs; globals = globals; functions = x }) f
-    ∙ ap (λ x. record names { structs = structs; globals = globals; functions = functions; protos = x }) p))
+    λ i. record names { structs = s i; globals = g i; functions = f i; protos = p i }
 
 declared-more : (section : SectionTree) (before : List Decl) (decl : Decl) →
     declared section (before ++ decl ∷ []) ≡ with_decl (declared section before) decl
-declared-more section before (Struct tree) =
-    made _ _ _ _ _ (struct_names-more before _) (global_names-more before _ ∙ append-nil _)
-    (function_names-more before _ ∙ append-nil _) (proto_names-more before _ ∙ append-nil _)
-declared-more section before (Global tree) =
-    made _ _ _ _ _ (struct_names-more before _ ∙ append-nil _)
-    (global_names-more before _) (function_names-more before _ ∙ append-nil _)
-    (proto_names-more before _ ∙ append-nil _)
-declared-more section before (Proto head) =
-    made _ _ _ _ _ (struct_names-more before _ ∙ append-nil _)
-    (global_names-more before _ ∙ append-nil _) (function_names-more before _ ∙ append-nil _)
-    (proto_names-more before _)
-declared-more section before (Function tree) =
-    made _ _ _ _ _ (struct_names-more before _ ∙ append-nil _)
-    (global_names-more before _ ∙ append-nil _) (function_names-more before _)
-    (proto_names-more before _ ∙ append-nil _)
+declared-more section before (Struct tree) = made _ _ _ _ _ (names-more _ _ before _) (names-more _ _ before _
+    ∙ append-nil _) (names-more _ _ before _ ∙ append-nil _) (names-more _ _ before _ ∙ append-nil _)
+declared-more section before (Global tree) = made _ _ _ _ _ (names-more _ _ before _ ∙ append-nil _)
+    (names-more _ _ before _) (names-more _ _ before _ ∙ append-nil _) (names-more _ _ before _ ∙ append-nil _)
+declared-more section before (Proto head) = made _ _ _ _ _ (names-more _ _ before _ ∙ append-nil _)
+    (names-more _ _ before _ ∙ append-nil _) (names-more _ _ before _ ∙ append-nil _) (names-more _ _ before _)
+declared-more section before (Function tree) = made _ _ _ _ _ (names-more _ _ before _ ∙ append-nil _)
+    (names-more _ _ before _ ∙ append-nil _) (names-more _ _ before _) (names-more _ _ before _ ∙ append-nil _)
 
 -- the names before the next declaration
 pub declared-step : (section : SectionTree) (decls : List Decl) (i : ℕ) (decl : Decl) (names more : SectionNames) →
     i < length decls → decl ≡ get_or decls i decl → names ≡ declared section (take i decls) →
     more ≡ with_decl names decl → more ≡ declared section (take (i + 1) decls)
-declared-step section decls i decl names more lt is n m =
-    m ∙ (ap (λ x. with_decl x decl) n ∙ (sym (declared-more section (take i decls) decl) ∙
-    ap (declared section) (sym (take-step decls i decl lt is))))
+declared-step section decls i decl names more lt is n m = m ∙ (ap (λ x. with_decl x decl) n
+    ∙ (sym (declared-more section (take i decls) decl) ∙ ap (declared section) (sym (take-step decls i decl lt is))))
 
 pub decl-noted : (section : SectionTree) (decls : List Decl) (i : ℕ) (decl : Decl) (names : SectionNames)
     (old a b : BrokenLines) (all : List ℕ) → i < length decls → decl ≡ get_or decls i decl →
@@ -118,10 +93,9 @@ pub decl-noted : (section : SectionTree) (decls : List Decl) (i : ℕ) (decl : D
     with_lines old all → b ≡ with_lines a (decl_lines names decl) →
     with_lines b (lines_from section (take (i + 1) decls) (drop (i + 1) decls)) ≡ with_lines old all
 decl-noted section decls i decl names old a b all lt is n p q =
-    ap (λ before. with_lines b (lines_from section before (drop (i + 1) decls))) (take-step decls i decl lt is)
-    ∙ step old a b (decl_lines (declared section (take i decls)) decl) _ all
-    (ap (λ rest. with_lines a (lines_from section (take i decls) rest)) (sym (drop-step decls i decl lt is)) ∙ p)
-    (q ∙ ap (λ x. with_lines a (decl_lines x decl)) n)
+    ap (λ before. with_lines b (lines_from section before (drop (i + 1) decls))) (take-step decls i decl lt is) ∙
+    step old a b (decl_lines (declared section (take i decls)) decl) _ all (ap (λ rest. with_lines a (lines_from section
+    (take i decls) rest)) (sym (drop-step decls i decl lt is)) ∙ p) (q ∙ ap (λ x. with_lines a (decl_lines x decl)) n)
 
 pub decls-noted : (section : SectionTree) (decls : List Decl) (i : ℕ) (old a : BrokenLines) (all : List ℕ) →
     length decls ≤ i → with_lines a (lines_from section (take i decls) (drop i decls)) ≡ with_lines old all →
@@ -135,10 +109,9 @@ unfolding noted_all
 noted-none least = refl
 
 pub section-noted : (sections : List SectionTree) (i : ℕ) (section : SectionTree) (least : Option ℕ)
-    (lines : BrokenLines) (all : Option ℕ) → i < length sections → section ≡ get_or sections i section →
-    noted_all least (names_broken (drop i sections)) ≡ all →
-    lines ≡ with_lines (record { start = section.line; least = least }) (section_lines section) →
-    noted_all lines.least (names_broken (drop (i + 1) sections)) ≡ all
+    (lines : BrokenLines) (all : Option ℕ) → i < length sections → section ≡ get_or sections i section → noted_all least
+    (names_broken (drop i sections)) ≡ all → lines ≡ with_lines (record { start = section.line; least = least })
+    (section_lines section) → noted_all lines.least (names_broken (drop (i + 1) sections)) ≡ all
 section-noted sections i section least lines all lt is p q =
     ap (λ l. noted_all l.least (names_broken (drop (i + 1) sections))) q ∙ (sym (noted_all-append least _ _)
     ∙ (ap (λ rest. noted_all least (names_broken rest)) (sym (drop-step _ i section lt is)) ∙ p))

@@ -15,11 +15,10 @@ regroup false false d b = refl
 pub distinct-more : (names : List Text) (name : Text) →
     are_distinct (names ++ name ∷ []) ≡ (are_distinct names && not (among names name))
 distinct-more [] name = refl
-distinct-more (first ∷ names) name =
-    ap (λ rest. not (among (names ++ name ∷ []) first) && rest) (distinct-more names name)
-    ∙ (ap (λ b. not b && (are_distinct names && not (among names name))) (among-append names (name ∷ []) first)
-    ∙ (ap (λ e. not (among names first || (e || false)) && (are_distinct names && not (among names name)))
-    (nat_list_eq_equiv.symm first name)
+distinct-more (first ∷ names) name = ap (λ rest. not (among (names ++ name ∷ []) first) && rest)
+    (distinct-more names name) ∙ (ap (λ b. not b && (are_distinct names && not (among names name)))
+    (among-append names (name ∷ []) first) ∙ (ap (λ e. not (among names first || (e || false)) &&
+    (are_distinct names && not (among names name))) (nat_list_eq_equiv.symm first name)
     ∙ regroup (among names first) (pointwise nat_eq name first) (are_distinct names) (among names name)))
 
 pub ruleset more = (distinct-more)

@@ -15,10 +15,9 @@ module _ (known : Known) (looping : Bool) (line : ℕ) where
   pub return-at : stmt_lines known (record { line = line; kind = kinds.Return }) looping ≡ []
   return-at = search (rules, the_lemmas)
 
-  pub if-at : (cond : ExprTree) (first second : List StmtTree) →
-      stmt_lines known (record { line = line; kind = kinds.If cond first second }) looping ≡
-      unless (expr_known known cond) line ++ (all_in known looping (map (stmt_lines known) first) ++
-      all_in known looping (map (stmt_lines known) second))
+  pub if-at : (cond : ExprTree) (first second : List StmtTree) → stmt_lines known
+      (record { line = line; kind = kinds.If cond first second }) looping ≡ unless (expr_known known cond) line ++
+      (all_in known looping (map (stmt_lines known) first) ++ all_in known looping (map (stmt_lines known) second))
   if-at cond first second = search (rules, the_lemmas)
 
   pub while-at : (cond : ExprTree) (body : List StmtTree) →
@@ -37,8 +36,7 @@ module _ (known : Known) (looping : Bool) (line : ℕ) where
 pub all-more : (known : Known) (looping : Bool) (stmts : List StmtTree) (i : ℕ) (stmt : StmtTree) → i < length stmts →
     stmt ≡ get_or stmts i stmt → all_in known looping (map (stmt_lines known) (drop i stmts)) ≡
     stmt_lines known stmt looping ++ all_in known looping (map (stmt_lines known) (drop (i + 1) stmts))
-all-more known looping stmts i stmt lt is =
-    rw (add-one, drop-cons stmts i stmt) (ap (λ s. stmt_lines known s looping ++
+all-more known looping stmts i stmt lt is = rw (add-one, drop-cons stmts i stmt) (ap (λ s. stmt_lines known s looping ++
     all_in known looping (map (stmt_lines known) (drop (suc i) stmts))) (sym is))
 
 -- no loop is round the body of a function
@@ -58,39 +56,30 @@ module _ (known : Known) (looping : Bool) (s : StmtTree) (old : BrokenLines) whe
 
   pub if-noted : (cond : ExprTree) (first second : List StmtTree) (holds : Bool) (a b c : BrokenLines) →
       s.kind ≡ kinds.If cond first second → holds ≡ expr_known known cond → a ≡ with_lines old (unless holds s.line) →
-      b ≡ with_lines a (all_in known looping (map (stmt_lines known) first)) →
-      c ≡ with_lines b (all_in known looping (map (stmt_lines known) second)) →
-      c ≡ with_lines old (stmt_lines known s looping)
-  if-noted cond first second holds a b c e h p q r =
-      then old a c _ _ p (then a b c _ _ q r)
-      ∙ ap (with_lines old) (ap (λ t. unless t s.line ++
-      (all_in known looping (map (stmt_lines known) first) ++
-      all_in known looping (map (stmt_lines known) second))) h ∙
-      sym (ap (λ kind. stmt_lines known (record { line = s.line; kind = kind }) looping) e ∙
-      if-at known looping s.line cond first second))
+      b ≡ with_lines a (all_in known looping (map (stmt_lines known) first)) → c ≡ with_lines b
+      (all_in known looping (map (stmt_lines known) second)) → c ≡ with_lines old (stmt_lines known s looping)
+  if-noted cond first second holds a b c e h p q r = then old a c _ _ p (then a b c _ _ q r) ∙ ap (with_lines old)
+      (ap (λ t. unless t s.line ++ (all_in known looping (map (stmt_lines known) first) ++ all_in known looping
+      (map (stmt_lines known) second))) h ∙ sym (ap (λ kind. stmt_lines known
+      (record { line = s.line; kind = kind }) looping) e ∙ if-at known looping s.line cond first second))
 
   pub while-noted : (cond : ExprTree) (body : List StmtTree) (holds : Bool) (a b : BrokenLines) →
       s.kind ≡ kinds.While cond body → holds ≡ expr_known known cond → a ≡ with_lines old (unless holds s.line) →
       b ≡ with_lines a (all_in known true (map (stmt_lines known) body)) →
       b ≡ with_lines old (stmt_lines known s looping)
-  while-noted cond body holds a b e h p q =
-      then old a b _ _ p q
-      ∙ ap (with_lines old) (ap (λ t. unless t s.line ++ all_in known true (map (stmt_lines known) body)) h ∙
-      sym (ap (λ kind. stmt_lines known (record { line = s.line; kind = kind }) looping) e ∙
-      while-at known looping s.line cond body))
+  while-noted cond body holds a b e h p q = then old a b _ _ p q ∙ ap (with_lines old) (ap (λ t. unless t s.line ++
+      all_in known true (map (stmt_lines known) body)) h ∙ sym (ap (λ kind. stmt_lines known
+      (record { line = s.line; kind = kind }) looping) e ∙ while-at known looping s.line cond body))
 
   pub for-noted : (first : Option SimpleTree) (cond : ExprTree) (next : Option SimpleTree) (body : List StmtTree)
-      (holds : Bool) (a b c d : BrokenLines) → s.kind ≡ kinds.For first cond next body →
-      holds ≡ expr_known known cond → a ≡ with_lines old (part_lines known first) →
-      b ≡ with_lines a (unless holds s.line) → c ≡ with_lines b (part_lines known next) →
-      d ≡ with_lines c (all_in known true (map (stmt_lines known) body)) →
+      (holds : Bool) (a b c d : BrokenLines) → s.kind ≡ kinds.For first cond next body → holds ≡ expr_known known cond →
+      a ≡ with_lines old (part_lines known first) → b ≡ with_lines a (unless holds s.line) →
+      c ≡ with_lines b (part_lines known next) → d ≡ with_lines c (all_in known true (map (stmt_lines known) body)) →
       d ≡ with_lines old (stmt_lines known s looping)
-  for-noted first cond next body holds a b c d e h p q r t =
-      then old a d _ _ p (then a b d _ _ q (then b c d _ _ r t))
-      ∙ ap (with_lines old) (ap (λ v. part_lines known first ++
-      (unless v s.line ++ (part_lines known next ++ all_in known true (map (stmt_lines known) body)))) h ∙
-      sym (ap (λ kind. stmt_lines known (record { line = s.line; kind = kind }) looping) e ∙
-      for-at known looping s.line first cond next body))
+  for-noted first cond next body holds a b c d e h p q r t = then old a d _ _ p (then a b d _ _ q (then b c d _ _ r t))
+      ∙ ap (with_lines old) (ap (λ v. part_lines known first ++ (unless v s.line ++
+      (part_lines known next ++ all_in known true (map (stmt_lines known) body)))) h ∙ sym (ap (λ kind. stmt_lines known
+      (record { line = s.line; kind = kind }) looping) e ∙ for-at known looping s.line first cond next body))
 
 -- one statement more of a list
 pub more-noted : (known : Known) (looping : Bool) (stmts : List StmtTree) (i : ℕ) (stmt : StmtTree)

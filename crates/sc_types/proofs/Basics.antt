@@ -1,12 +1,17 @@
 -- Tests that hold, lists that are empty, and the places of names.
 use Rattle.sc_types.proofs.Common.{Bool, List, None, Option, Some, [], and_first, and_rest, ap, arith, concat, cond}
-use Rattle.sc_types.proofs.Common.{false, false≢true, if◌then◌else◌, list_all, map, option_map, position, position_from}
-use Rattle.sc_types.proofs.Common.{refl, suc, true, unless, ℕ, ◌++◌, ◌+◌, ◌||◌, ◌∙◌, ◌∷◌, ◌≡◌}
+use Rattle.sc_types.proofs.Common.{false, false≢true, if◌then◌else◌, list_all, map, not, option_map, position}
+use Rattle.sc_types.proofs.Common.{position_from, refl, suc, true, unless, ℕ, ◌++◌, ◌+◌, ◌||◌, ◌∙◌, ◌∷◌, ◌≡◌}
 use Rattle.std.proofs.lemmas.Iterator.Adapters.{position_from-zero}
 
 pub either : {C : Type 0} (a b : Bool) → (a || b) ≡ true → (a ≡ true → C) → (a ≡ false → b ≡ true → C) → C
 either true b h f g = f refl
 either false b h f g = g refl h
+
+pub or_not : (a b : Bool) → (a || not b) ≡ true → b ≡ true → a ≡ true
+or_not true b h q = refl
+or_not false true h q = h
+or_not false false h q = absurd (false≢true q)
 
 abbrev pub is_empty : {A : Type 0} → List A → Bool
 is_empty [] = true
@@ -39,10 +44,8 @@ Each P (x ∷ xs) = P x × Each P xs
 
 pub each_empty : {A : Type 0} (f : A → List ℕ) (xs : List A) → concat (map f xs) ≡ [] → Each (λ x. f x ≡ []) xs
 each_empty f [] h = tt
-each_empty f (x ∷ xs) h = (
-  front_empty (f x) (concat (map f xs)) h,
-  each_empty f xs (back_empty (f x) (concat (map f xs)) h),
-)
+each_empty f (x ∷ xs) h =
+    (front_empty (f x) (concat (map f xs)) h, each_empty f xs (back_empty (f x) (concat (map f xs)) h))
 
 pub each_passes : {A : Type 0} (p : A → Bool) (xs : List A) → list_all p xs ≡ true → Each (λ x. p x ≡ true) xs
 each_passes p [] h = tt
@@ -65,9 +68,8 @@ shift i None = refl
 shift i (Some k) = ap Some (omega arith)
 
 find_at : {A : Type 0} (p : A → Bool) (i : ℕ) (xs : List A) (b : Bool) →
-    position_from p (i + 1) xs ≡ option_map (λ k. k + (i + 1)) (find p xs) →
-    cond b (Some i) (position_from p (i + 1) xs) ≡ option_map (λ k. k + i)
-    (if b then Some 0 else option_map suc (find p xs))
+    position_from p (i + 1) xs ≡ option_map (λ k. k + (i + 1)) (find p xs) → cond b
+    (Some i) (position_from p (i + 1) xs) ≡ option_map (λ k. k + i) (if b then Some 0 else option_map suc (find p xs))
 find_at p i xs true h = ap Some (omega arith)
 find_at p i xs false h = h ∙ shift i _
 

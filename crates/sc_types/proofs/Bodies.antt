@@ -29,9 +29,8 @@ module _ (known : Known) (visible : Visible) (callees : Callees) (scope : Scope)
   call_is : (call : CallTree) → call_known known call ≡ true → call_holds visible callees scope result call ≡ true →
       call_fits callable (typed_call visible callees call).target
       (map (judged scope) (typed_call visible callees call).args) ≡ true
-  call_is call in_names holds =
-      ap (λ signature. args_fit signature (map (judged scope) (typed_args visible callees call)))
-      (same call.name (and_first _ _ in_names)) ∙ holds
+  call_is call in_names holds = ap (λ signature. args_fit signature
+      (map (judged scope) (typed_args visible callees call))) (same call.name (and_first _ _ in_names)) ∙ holds
 
   assign_call_is : (place : ExprTree) (call : CallTree) → (expr_known known place && call_known known call) ≡ true →
       assign_call_holds visible callees scope result place call ≡ true →
@@ -39,27 +38,23 @@ module _ (known : Known) (visible : Visible) (callees : Callees) (scope : Scope)
       (map (judged scope) (typed_call visible callees call).args) ≡ true
   assign_call_is place call in_names holds =
       let called : call_known known call ≡ true = and_rest (expr_known known place) (call_known known call) in_names in
-      let rest : (call_holds visible callees scope result call &&
-      result_goes (callees.signature call.name) (elab.typed visible place).ty) ≡ true =
-      and_rest (is_target (judged scope _)) _ holds in
+      let rest : (call_holds visible callees scope result call && result_goes (callees.signature call.name)
+      (elab.typed visible place).ty) ≡ true = and_rest (is_target (judged scope _)) _ holds in
       let goes : result_goes (target_signature callable (callees.target call.name))
-      (judged scope (elab.typed visible place)).ty ≡
-      result_goes (callees.signature call.name) (elab.typed visible place).ty =
-      λ i. result_goes (same call.name (and_first (is_callable known _) _ called) i)
+      (judged scope (elab.typed visible place)).ty ≡ result_goes (callees.signature call.name)
+      (elab.typed visible place).ty = λ i. result_goes (same call.name (and_first (is_callable known _) _ called) i)
       (judged_ty scope (elab.typed visible place) i) in
-      and_from (is_target (judged scope (elab.typed visible place))) _ (and_first (is_target (judged scope _)) _ holds)
-      (and_from _ _ (call_is call called (and_first _ _ rest))
+      and_from (is_target (judged scope (elab.typed visible place))) _
+      (and_first (is_target (judged scope _)) _ holds) (and_from _ _ (call_is call called (and_first _ _ rest))
       (goes ∙ and_rest (call_holds visible callees scope result call) _ rest))
 
   return_call_is : (present : Option Ty) (call : CallTree) → call_known known call ≡ true →
-      return_call_holds visible callees scope result present call ≡ true →
-      returned_call_fits callable present (typed_call visible callees call).target
-      (map (judged scope) (typed_call visible callees call).args) ≡ true
+      return_call_holds visible callees scope result present call ≡ true → returned_call_fits callable present
+      (typed_call visible callees call).target (map (judged scope) (typed_call visible callees call).args) ≡ true
   return_call_is None call in_names holds = holds
   return_call_is (Some t) call in_names holds =
-      and_from _ _ (call_is call in_names (and_first _ _ holds))
-      (ap (λ signature. result_goes signature t) (same call.name (and_first _ _ in_names)) ∙
-      and_rest (call_holds visible callees scope result call) _ holds)
+      and_from _ _ (call_is call in_names (and_first _ _ holds)) (ap (λ signature. result_goes signature t)
+      (same call.name (and_first _ _ in_names)) ∙ and_rest (call_holds visible callees scope result call) _ holds)
 
   -- Statements.
 
@@ -76,16 +71,14 @@ module _ (known : Known) (visible : Visible) (callees : Callees) (scope : Scope)
   part_is (Some s) in_names holds = simple_is s.kind (rule_holds _ s.line in_names) (rule_holds _ s.line holds)
 
   abbrev Fits : StmtTree → Type 0
-  Fits s =
-      (looping : Bool) → names.stmt_lines known s looping ≡ [] → stmt_lines visible callees scope result s ≡ [] →
+  Fits s = (looping : Bool) → names.stmt_lines known s looping ≡ [] → stmt_lines visible callees scope result s ≡ [] →
       stmt_fits scope callable result (typed_stmt visible callees result s) looping ≡ true
 
   -- statements in order, where each fits
-  all_fit : (looping : Bool) (stmts : List StmtTree) → tree_induction.Each Fits stmts →
-      names.all_in known looping (map (names.stmt_lines known) stmts) ≡ [] →
-      concat (map (stmt_lines visible callees scope result) stmts) ≡ [] →
-      list_all {X = Bool → Bool} (λ s. s looping) (map (stmt_fits scope callable result)
-      (map (typed_stmt visible callees result) stmts)) ≡ true
+  all_fit : (looping : Bool) (stmts : List StmtTree) →
+      tree_induction.Each Fits stmts → names.all_in known looping (map (names.stmt_lines known) stmts) ≡ [] →
+      concat (map (stmt_lines visible callees scope result) stmts) ≡ [] → list_all {X = Bool → Bool}
+      (λ s. s looping) (map (stmt_fits scope callable result) (map (typed_stmt visible callees result) stmts)) ≡ true
   all_fit looping [] each in_names holds = refl
   all_fit looping (s ∷ stmts) each in_names holds =
       and_from _ _ (each.0 looping (front_empty _ _ in_names) (front_empty _ _ holds))
@@ -114,8 +107,7 @@ module _ (known : Known) (visible : Visible) (callees : Callees) (scope : Scope)
     fits_at = ap (λ fits. fits looping) (stmt_at _ _ (kind_fits scope callable result) (λ s. s.kind) line k)
 
   by_kind : (line : ℕ) (k : Layer) → Inside Fits k → (looping : Bool) → in_names_at k line looping ≡ [] →
-      lines_at k line ≡ [] → stmt_fits scope callable result (record { line = line; kind = typed_at k }) looping ≡
-      true
+      lines_at k line ≡ [] → stmt_fits scope callable result (record { line = line; kind = typed_at k }) looping ≡ true
   unfolding roll-TypedStmtKind denote.Hole.Carrier.roll
   by_kind line tree.Empty under looping in_names holds = fits_at line layer.Empty looping
   by_kind line (tree.Assign place value) under looping in_names holds =
@@ -129,11 +121,10 @@ module _ (known : Known) (visible : Visible) (callees : Callees) (scope : Scope)
       call_is call (rule_holds _ line in_names) (rule_holds _ line holds)
   by_kind line (tree.If cond first second) under looping in_names holds =
       fits_at line (layer.If (elab.typed visible cond) (map (typed_stmt visible callees result) first)
-      (map (typed_stmt visible callees result) second)) looping ∙ and_from _ _ (rule_holds _ line (front_empty (unless
-      _ line) _ holds))
-      (and_from _ _ (all_fit looping first under.0 (front_empty _ _ names_inside) (front_empty _ _ inside))
-      (all_fit looping second under.1 (back_empty (names.all_in known looping (map _ first)) _ names_inside)
-      (back_empty (concat (map _ first)) _ inside))) where
+      (map (typed_stmt visible callees result) second)) looping ∙ and_from _ _ (rule_holds _ line
+      (front_empty (unless _ line) _ holds)) (and_from _ _ (all_fit looping first under.0 (front_empty _ _ names_inside)
+      (front_empty _ _ inside)) (all_fit looping second under.1 (back_empty (names.all_in known looping
+      (map _ first)) _ names_inside) (back_empty (concat (map _ first)) _ inside))) where
         names_inside : names.all_in known looping (map (names.stmt_lines known) first) ++
             names.all_in known looping (map (names.stmt_lines known) second) ≡ []
         names_inside = back_empty (unless (expr_known known cond) line) _ in_names
@@ -152,9 +143,8 @@ module _ (known : Known) (visible : Visible) (callees : Callees) (scope : Scope)
       ∙ and_from _ _ (part_is first (front_empty (names.part_lines known first) _ in_names)
       (front_empty (part_lines visible callees scope result first) _ holds))
       (and_from _ _ (rule_holds _ line (front_empty (unless _ line) _ behind_first))
-      (and_from _ _ (part_is next (front_empty _ _ names_behind) (front_empty _ _ behind))
-      (all_fit true body under (back_empty (names.part_lines known next) _ names_behind)
-      (back_empty _ _ behind)))) where
+      (and_from _ _ (part_is next (front_empty _ _ names_behind) (front_empty _ _ behind)) (all_fit true body under
+      (back_empty (names.part_lines known next) _ names_behind) (back_empty _ _ behind)))) where
         names_behind : names.part_lines known next ++ names.all_in known true (map (names.stmt_lines known) body) ≡ []
         names_behind = back_empty (unless (expr_known known cond) line) _
             (back_empty (names.part_lines known first) _ in_names)
@@ -172,17 +162,14 @@ module _ (known : Known) (visible : Visible) (callees : Callees) (scope : Scope)
   by_kind line tree.Continue under looping in_names holds =
       fits_at line layer.Continue looping ∙ rule_holds looping line in_names
   by_kind line tree.Return under looping in_names holds = fits_at line layer.Return looping ∙ rule_holds _ line holds
-  by_kind line (tree.ReturnValue value) under looping in_names holds =
-      fits_at line (layer.ReturnValue (going_to_some result (elab.typed visible value))) looping ∙
-      rule_holds _ line holds
+  by_kind line (tree.ReturnValue value) under looping in_names holds = fits_at line
+      (layer.ReturnValue (going_to_some result (elab.typed visible value))) looping ∙ rule_holds _ line holds
   by_kind line (tree.ReturnCall call) under looping in_names holds =
       fits_at line (layer.ReturnCall (typed_call visible callees call)) looping ∙
       return_call_is result call (rule_holds _ line in_names) (rule_holds _ line holds)
 
   pub fits : (s : StmtTree) → Fits s
-  fits =
-      stmt_induction Fits (λ line k under looping in_names holds. ap (λ s. stmt_fits scope callable result s looping)
-      (tree_layers.stmt_at _ _ _ (stmt_step visible callees result) line k) ∙
-      by_kind line k under looping (sym (ap (λ lines. lines looping)
-      (tree_layers.stmt_at _ _ (names.kind_lines known) (λ s. s.kind s.line) line k)) ∙ in_names)
-      (sym (tree_layers.stmt_at _ _ _ _ line k) ∙ holds))
+  fits = stmt_induction Fits (λ line k under looping in_names holds. ap (λ s. stmt_fits scope callable result s looping)
+      (tree_layers.stmt_at _ _ _ (stmt_step visible callees result) line k) ∙ by_kind line k under looping
+      (sym (ap (λ lines. lines looping) (tree_layers.stmt_at _ _ (names.kind_lines known) (λ s. s.kind s.line) line k))
+      ∙ in_names) (sym (tree_layers.stmt_at _ _ _ _ line k) ∙ holds))

@@ -14,33 +14,24 @@ use Rattle.sc_types.proofs.Common.{◌∙◌, ◌∷◌, ◌≡◌}
 use Rattle.sc_event.specs.declared.interface.Import.{Import}
 use Rattle.sc_event.specs.declared.interface.Import.TheVariants as import
 use Rattle.sc_core.specs.declared.ty.Ty.TheVariants as ty
-use Rattle.sc_types.proofs.Basics.{each_passes}
+use Rattle.std.proofs.lemmas.List.Folds.{list_any-append}
+use Rattle.std.proofs.lemmas.Option.{slice_get-map}
+use Rattle.sc_types.proofs.Basics.{or_not, each_passes}
 use Rattle.sc_types.proofs.Places.{Text, same_refl, eq_refl}
 use Rattle.sc_types.proofs.Lookups.{each_at, FoundFunction, find_function, no_function, no_place, heads_of_functions}
 use Rattle.sc_types.proofs.Lookups.{FoundHead, find_head}
 use Rattle.sc_types.proofs.Facts.{ExportFacts, ImportFacts, DeclFacts, FaceFacts}
-use Rattle.sc_types.proofs.Calls.{agreed_signature, input_signature, output_signature, FoundBy, found_by, get_map}
-use Rattle.sc_types.proofs.Calls.{own_at, FoundImport, find_import, Offering, find_offering, export_is}
+use Rattle.sc_types.proofs.Calls.{agreed_signature, input_signature, output_signature, FoundBy, found_by, own_at}
+use Rattle.sc_types.proofs.Calls.{FoundImport, find_import, Offering, find_offering, export_is}
 
 same_import_refl : (i : Import) → same_import i i ≡ true
 same_import_refl import.Input = refl
 same_import_refl import.Output = refl
 same_import_refl (import.Function comp index) = λ i. eq_refl comp i && eq_refl index i
 
-or_not : (a b : Bool) → (a || not b) ≡ true → b ≡ true → a ≡ true
-or_not true b h q = refl
-or_not false true h q = h
-or_not false false h q = absurd (false≢true q)
-
 names_append : (a b : List Text) (name : Text) → is_numbered (a ++ b) name ≡ true → is_numbered a name ≡ false →
     is_numbered b name ≡ true
-names_append [] b name h q = h
-names_append (x ∷ a) b name h q = by_case _ h q (names_append a b name) where
-  by_case : (c : Bool) → (c || is_numbered (a ++ b) name) ≡ true → (c || is_numbered a name) ≡ false →
-      (is_numbered (a ++ b) name ≡ true → is_numbered a name ≡ false → is_numbered b name ≡ true) →
-      is_numbered b name ≡ true
-  by_case true h q f = absurd (false≢true (sym q))
-  by_case false h q f = f h q
+names_append a b name h q = ap (λ c. c || is_numbered b name) (sym q) ∙ sym (list_any-append _ a b) ∙ h
 
 module _ (sections : List SectionTree) (hold : (j : ℕ) (s : SectionTree) → slice_get sections j ≡ Some s →
     FaceFacts sections j s) (number : ℕ) (section : SectionTree)
@@ -59,7 +50,7 @@ module _ (sections : List SectionTree) (hold : (j : ℕ) (s : SectionTree) → s
       list_any (same_import (import_of sections number line)) callable.imports ≡ true
   imported at line got =
       any_passes_from_place (same_import (import_of _ number line)) (map (import_of _ number) section.imports) at
-      (import_of sections number line) (get_map (import_of _ number) section.imports at ∙
+      (import_of sections number line) (slice_get-map (import_of _ number) section.imports at ∙
       ap (option_map _) got) (same_import_refl (import_of _ number line))
 
   module _ (name : Text) (f : FoundImport (ImportFacts sections number section) name section.imports)
@@ -74,26 +65,23 @@ module _ (sections : List SectionTree) (hold : (j : ℕ) (s : SectionTree) → s
     same_name = same_text _ name f.named ∙ sym (same_text _ name h.named)
 
     as_line : agrees_as sections number section head line ≡ true
-    as_line =
-        implied (bytes_eq line.name head.name) _ (each_at (λ line. (not _ || agrees_as _ number section head line) ≡
-        true) _ f.at line (each_passes _ _ h.holds.1) f.got)
-        (subst (λ n. bytes_eq _ n ≡ true) same_name (same_refl line.name))
+    as_line = implied (bytes_eq line.name head.name) _
+        (each_at (λ line. (not _ || agrees_as _ number section head line) ≡ true) _ f.at line
+        (each_passes _ _ h.holds.1) f.got) (subst (λ n. bytes_eq _ n ≡ true) same_name (same_refl line.name))
 
     abbrev Goal : Import → Type 0
     Goal i = target_signature callable (import_target i) ≡ Some (signature_by (tags section) head)
 
     -- the environment's
     input_goal : import_of sections number line ≡ import.Input → is_input head ≡ true → Goal import.Input
-    input_goal is agrees =
-        ap (λ b. allowed b (Some (record { params = []; result = Some ty.Int })))
-        (subst (λ i. list_any (same_import i) callable.imports ≡ true) is (imported f.at line f.got)) ∙
-        ap Some (sym (input_signature _ head agrees))
+    input_goal is agrees = ap (λ b. allowed b (Some (record { params = []; result = Some ty.Int })))
+        (subst (λ i. list_any (same_import i) callable.imports ≡ true) is (imported f.at line f.got))
+        ∙ ap Some (sym (input_signature _ head agrees))
 
     output_goal : import_of sections number line ≡ import.Output → is_output head ≡ true → Goal import.Output
-    output_goal is agrees =
-        ap (λ b. allowed b (Some (record { params = ty.Int ∷ []; result = None })))
-        (subst (λ i. list_any (same_import i) callable.imports ≡ true) is (imported f.at line f.got)) ∙
-        ap Some (sym (output_signature _ head agrees))
+    output_goal is agrees = ap (λ b. allowed b (Some (record { params = ty.Int ∷ []; result = None })))
+        (subst (λ i. list_any (same_import i) callable.imports ≡ true) is (imported f.at line f.got))
+        ∙ ap Some (sym (output_signature _ head agrees))
 
     abbrev import_by : Bool → Bool → Import
     import_by env input =
@@ -147,14 +135,12 @@ module _ (sections : List SectionTree) (hold : (j : ℕ) (s : SectionTree) → s
       g = find_function _ _ defined
 
       import_is : import_of sections number line ≡ import.Function o.number export.at
-      import_is =
-          ap (λ b. import_by b (bytes_eq line.name input_name)) env ∙ ap (offered line) o.is ∙
-          ap (λ n. import.Function o.number (number_or_zero n)) export.place
+      import_is = ap (λ b. import_by b (bytes_eq line.name input_name)) env
+          ∙ ap (offered line) o.is ∙ ap (λ n. import.Function o.number (number_or_zero n)) export.place
 
       with_all : agrees_with (heads_in other.decls) head ≡ true
-      with_all =
-          sym (ap (agrees_there sections number section head) o.is) ∙
-          sym (ap (λ b. agrees_by b (bytes_eq head.name input_name) (bytes_eq head.name output_name)) env) ∙ as_line
+      with_all = sym (ap (agrees_there sections number section head) o.is)
+          ∙ sym (ap (λ b. agrees_by b (bytes_eq head.name input_name) (bytes_eq head.name output_name)) env) ∙ as_line
 
       agrees : agree (head_of g.tree.head) head ≡ true
       agrees =
@@ -164,36 +150,30 @@ module _ (sections : List SectionTree) (hold : (j : ℕ) (s : SectionTree) → s
           (subst (λ n. bytes_eq g.tree.head.name n ≡ true) (sym export_name ∙ same_name) g.named)
 
       there_name : is_numbered (import_names section) head.name ≡ true
-      there_name =
-          any_passes_from_place (bytes_eq _) (import_names section) f.at line.name (get_map _ _ f.at ∙
-          ap (option_map _) f.got) (subst (λ n. bytes_eq n _ ≡ true) same_name (same_refl line.name))
+      there_name = any_passes_from_place (bytes_eq _) (import_names section) f.at line.name (slice_get-map _ _ f.at
+          ∙ ap (option_map _) f.got) (subst (λ n. bytes_eq n _ ≡ true) same_name (same_refl line.name))
 
       head_is : head_crosses head ≡ true
       head_is = or_not _ _ h.holds.0 (or_right _ _ there_name)
 
       proto_is : export_at (interfaces_of sections) o.number export.at ≡ Some (promised export_line.name (Some g.tree))
-      proto_is =
-          export_is sections o.number other export.at export_line o.got export.got ∙
-          ap (λ t. Some (promised export_line.name t)) g.first
+      proto_is = export_is sections o.number other export.at export_line o.got export.got
+          ∙ ap (λ t. Some (promised export_line.name t)) g.first
 
       other_goal : Goal (import_of sections number line)
-      other_goal =
-          subst Goal (sym import_is) (ap (λ b. allowed b
+      other_goal = subst Goal (sym import_is) (ap (λ b. allowed b
           (option_signature proto_signature (export_at (interfaces_of sections) o.number export.at)))
-          (subst (λ i. list_any (same_import i) callable.imports ≡ true) import_is (imported f.at line f.got)) ∙
-          ap (option_signature proto_signature) proto_is ∙
-          ap Some (agreed_signature _ export_line.name g.tree head agrees head_is))
+          (subst (λ i. list_any (same_import i) callable.imports ≡ true) import_is (imported f.at line f.got))
+          ∙ ap (option_signature proto_signature) proto_is
+          ∙ ap Some (agreed_signature _ export_line.name g.tree head agrees head_is))
 
     offered_line : is_offered sections number section line ≡ true
     offered_line = f.holds.offered
 
     import_goal : Goal (import_of sections number line)
-    import_goal =
-        env_goal _ _ _ refl refl refl offered_line
-        (ap (λ n. agrees_by (is_environment line) (bytes_eq n _) (bytes_eq n _)) same_name ∙
-        as_line) (λ env. other_goal (find_offering number line _
-        (sym (ap (λ b. offered_by b (bytes_eq line.name input_name) (bytes_eq line.name output_name)) env) ∙
-        offered_line)) env)
+    import_goal = env_goal _ _ _ refl refl refl offered_line (ap (λ n. agrees_by (is_environment line) (bytes_eq n _)
+        (bytes_eq n _)) same_name ∙ as_line) (λ env. other_goal (find_offering number line _ (sym (ap (λ b. offered_by b
+        (bytes_eq line.name input_name) (bytes_eq line.name output_name)) env) ∙ offered_line)) env)
 
   -- by the name
   own_goal : (name : Text) → is_numbered (function_names section.decls) name ≡ true →
@@ -209,16 +189,14 @@ module _ (sections : List SectionTree) (hold : (j : ℕ) (s : SectionTree) → s
       is_numbered (import_names section) name ≡ true →
       target_signature callable (callees.target name) ≡ callees.signature name
   import_case name none h =
-      let f : FoundImport _ name _ =
-      find_import _ name section.imports facts.imports h in
+      let f : FoundImport _ name _ = find_import _ name section.imports facts.imports h in
       let named = same_text f.line.name name f.named in
-      let head =
-      find_head (DeclFacts _ number section _) name _ facts.decls
+      let head = find_head (DeclFacts _ number section _) name _ facts.decls
       (subst (λ n. is_numbered (proto_names section.decls) n ≡ true) named f.holds.declared) none in
-      ap (λ n. target_signature callable (target_or n
-      (imported_target sections number (import_named name section.imports)))) (no_place _ name none) ∙
-      ap (λ l. target_signature callable (imported_target sections number l)) f.first ∙ import_goal name f head ∙
-      sym (λ i. option_map (signature_by (tags section)) (or_first (no_function name _ none i) (head.first i)))
+      ap (λ n. target_signature callable
+      (target_or n (imported_target sections number (import_named name section.imports)))) (no_place _ name none)
+      ∙ ap (λ l. target_signature callable (imported_target sections number l)) f.first ∙ import_goal name f head
+      ∙ sym (λ i. option_map (signature_by (tags section)) (or_first (no_function name _ none i) (head.first i)))
 
   by_name : (name : Text) (b : Bool) → is_numbered (function_names section.decls) name ≡ b →
       is_numbered (function_names section.decls ++ import_names section) name ≡ true →

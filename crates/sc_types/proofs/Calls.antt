@@ -1,22 +1,23 @@
 -- A call by its name in a section is the call of its target in the program.
 use Rattle.sc_types.proofs.Common.{BaseTree, Bool, Callees, Decides-eqb, ExportLine, FunctionParam, FunctionTree}
 use Rattle.sc_types.proofs.Common.{HeadTree, ImportLine, List, None, Option, ParamTree, SectionTree, Some, TypeName}
-use Rattle.sc_types.proofs.Common.{TypedParam, [], agree, and_first, and_rest, ap, append_assoc, arith, base_of}
-use Rattle.sc_types.proofs.Common.{base_scalar, bytes_eq, comp_at, crosses, export_at, false, false≢true, functions_in}
-use Rattle.sc_types.proofs.Common.{get_behind, gives_int, head_crosses, head_of, if◌then◌else◌, import_named}
-use Rattle.sc_types.proofs.Common.{interface_of, interfaces_from, interfaces_of, is_input, is_int, is_numbered}
-use Rattle.sc_types.proofs.Common.{is_output, is_some, length, list_all, list_any, map, nat_eq, not, number_of}
-use Rattle.sc_types.proofs.Common.{offering, offers, option_and_then, option_map, param_of, param_ty, promised}
-use Rattle.sc_types.proofs.Common.{proto_of, proto_signature, refl, result_crosses, result_of, result_ty, same_Some}
-use Rattle.sc_types.proofs.Common.{same_params, same_result, same_type, scalar_of, scalar_ty, signature_by}
+use Rattle.sc_types.proofs.Common.{TypedParam, [], agree, and_first, and_rest, ap, arith, base_of, base_scalar}
+use Rattle.sc_types.proofs.Common.{bytes_eq, comp_at, crosses, export_at, false, false≢true, functions_in, gives_int}
+use Rattle.sc_types.proofs.Common.{head_crosses, head_of, if◌then◌else◌, import_named, interface_of, interfaces_of}
+use Rattle.sc_types.proofs.Common.{is_input, is_int, is_numbered, is_output, is_some, length, list_all, list_any, map}
+use Rattle.sc_types.proofs.Common.{nat_eq, not, number_of, offering, offers, option_and_then, option_map, param_of}
+use Rattle.sc_types.proofs.Common.{param_ty, promised, proto_of, proto_signature, refl, result_crosses, result_of}
+use Rattle.sc_types.proofs.Common.{result_ty, same_params, same_result, same_type, scalar_of, scalar_ty, signature_by}
 use Rattle.sc_types.proofs.Common.{signature_of, slice_get, starred, suc, sym, tags, takes_int, takes_nothing, true}
-use Rattle.sc_types.proofs.Common.{type_of_name, typed_function, typed_param, zero, ℕ, ◌++◌, ◌+◌, ◌||◌, ◌∙◌, ◌∷◌, ◌≡◌}
+use Rattle.sc_types.proofs.Common.{type_of_name, typed_function, typed_param, ℕ, ◌++◌, ◌+◌, ◌||◌, ◌∙◌, ◌∷◌, ◌≡◌}
+use Rattle.std.proofs.lemmas.Option.{slice_get-map}
+use Rattle.sc_elab.proofs.Programs.{comp_at as elab_comp_at}
 use Rattle.sc_interfaces.specs.Prelude.{same_base}
 use Rattle.sc_ast.specs.declared.types.BaseTree.TheVariants as base_tree
 use Rattle.sc_core.specs.declared.ty.Ty.TheVariants as ty
-use Rattle.sc_types.proofs.Basics.{Each, none_some, find}
-use Rattle.sc_types.proofs.Places.{Text, number_is}
-use Rattle.sc_types.proofs.Lookups.{same_sym, FoundFunction}
+use Rattle.sc_types.proofs.Basics.{Each}
+use Rattle.sc_types.proofs.Places.{Text, first_of, any_found, number_is}
+use Rattle.sc_types.proofs.Lookups.{each_at, same_sym, FoundFunction, find_names, any_names}
 
 -- Types that cross.
 
@@ -30,41 +31,34 @@ crossing_base tags base_tree.Unsigned h = refl
 crossing_base tags (base_tree.Struct tag) h = absurd (false≢true h)
 
 pub crossing_ty : (tags : List Text) (t : TypeName) → crosses t ≡ true → type_of_name tags t ≡ scalar_ty (scalar_of t)
-crossing_ty tags t h =
-    ap (λ stars. starred stars (base_of tags t.base)) (zero_is t.stars (and_first _ _ h)) ∙
-    crossing_base tags t.base (and_rest _ _ h)
+crossing_ty tags t h = ap (λ stars. starred stars (base_of tags t.base))
+    (zero_is t.stars (and_first _ _ h)) ∙ crossing_base tags t.base (and_rest _ _ h)
 
 same_scalar : (a b : BaseTree) → same_base a b ≡ true → base_scalar a ≡ base_scalar b
 same_scalar base_tree.Int base_tree.Int h = refl
-same_scalar base_tree.Int base_tree.Unsigned h = absurd (false≢true h)
 same_scalar base_tree.Int (base_tree.Struct tag) h = refl
-same_scalar base_tree.Unsigned base_tree.Int h = absurd (false≢true h)
 same_scalar base_tree.Unsigned base_tree.Unsigned h = refl
-same_scalar base_tree.Unsigned (base_tree.Struct tag) h = absurd (false≢true h)
 same_scalar (base_tree.Struct tag) base_tree.Int h = refl
-same_scalar (base_tree.Struct tag) base_tree.Unsigned h = absurd (false≢true h)
 same_scalar (base_tree.Struct tag) (base_tree.Struct other) h = refl
+same_scalar _ _ h = absurd (false≢true h)
 
 -- a type that crosses and agrees with another
 agreed_ty : (tags : List Text) (a b : TypeName) → same_type a b ≡ true → crosses b ≡ true →
     type_of_name tags b ≡ scalar_ty (scalar_of a)
 agreed_ty tags a b same h = crossing_ty tags b h ∙ ap scalar_ty (sym (same_scalar a.base b.base (and_rest _ _ same)))
 
-agreed_params : (tags : List Text) (a b : List ParamTree) → same_params a b ≡ true →
-    list_all {X = ParamTree} (λ param. crosses param.ty) b ≡ true →
-    map (param_ty tags) b ≡ map scalar_ty (map (λ param. scalar_of param.ty) a)
+agreed_params : (tags : List Text) (a b : List ParamTree) → same_params a b ≡ true → list_all {X = ParamTree}
+    (λ param. crosses param.ty) b ≡ true → map (param_ty tags) b ≡ map scalar_ty (map (λ param. scalar_of param.ty) a)
 agreed_params tags [] [] same h = refl
-agreed_params tags [] (p ∷ b) same h = absurd (false≢true same)
-agreed_params tags (p ∷ a) [] same h = absurd (false≢true same)
 agreed_params tags (p ∷ a) (q ∷ b) same h = λ i. agreed_ty tags p.ty q.ty (and_first _ _ same) (and_first _ _ h) i ∷
     agreed_params tags a b (and_rest _ _ same) (and_rest _ _ h) i
+agreed_params tags _ _ same h = absurd (false≢true same)
 
 agreed_result : (tags : List Text) (a b : Option TypeName) → same_result a b ≡ true → result_crosses b ≡ true →
     option_map (type_of_name tags) b ≡ result_ty (option_map scalar_of a)
 agreed_result tags None None same h = refl
-agreed_result tags None (Some t) same h = absurd (false≢true same)
-agreed_result tags (Some t) None same h = absurd (false≢true same)
 agreed_result tags (Some t) (Some u) same h = ap Some (agreed_ty tags t u same h)
+agreed_result tags _ _ same h = absurd (false≢true same)
 
 scalars_of : (params : List FunctionParam) → map {A = ParamTree} (λ param. scalar_of param.ty) (map param_of params) ≡
     map {A = FunctionParam} (λ param. scalar_of param.ty) params
@@ -75,18 +69,16 @@ scalars_of (p ∷ params) = ap (λ rest. scalar_of p.ty ∷ rest) (scalars_of pa
 pub agreed_signature : (tags : List Text) (name : Text) (tree : FunctionTree) (head : HeadTree) →
     agree (head_of tree.head) head ≡ true → head_crosses head ≡ true →
     proto_signature (promised name (Some tree)) ≡ signature_by tags head
-agreed_signature tags name tree head same h = λ i.
-    record {
-      params = sym (agreed_params tags (map _ _) head.params (and_rest _ _ same) (and_rest _ _ h) ∙
-          ap (map _) (scalars_of _)) i;
-      result = sym (agreed_result tags tree.head.result head.result (and_first _ _ same) (and_first _ _ h)) i;
-    }
+agreed_signature tags name tree head same h = λ i. record {
+  params = sym (agreed_params tags (map _ _) head.params (and_rest _ _ same) (and_rest _ _ h) ∙
+      ap (map _) (scalars_of _)) i;
+  result = sym (agreed_result tags tree.head.result head.result (and_first _ _ same) (and_first _ _ h)) i;
+}
 
 int_by : (tags : List Text) (stars : ℕ) (b : BaseTree) → nat_eq stars 0 ≡ true → same_base b base_tree.Int ≡ true →
     starred stars (base_of tags b) ≡ ty.Int
 int_by tags stars base_tree.Int h k = ap (λ n. starred n (base_of tags base_tree.Int)) (zero_is stars h)
-int_by tags stars base_tree.Unsigned h k = absurd (false≢true k)
-int_by tags stars (base_tree.Struct tag) h k = absurd (false≢true k)
+int_by tags stars _ h k = absurd (false≢true k)
 
 pub int_ty : (tags : List Text) (t : TypeName) → is_int t ≡ true → type_of_name tags t ≡ ty.Int
 int_ty tags t h = int_by tags t.stars t.base (and_first _ _ h) (and_rest _ _ h)
@@ -107,25 +99,22 @@ no_params tags (p ∷ params) h = absurd (false≢true h)
 
 int_params : (tags : List Text) (params : List ParamTree) → takes_int params ≡ true →
     map (param_ty tags) params ≡ ty.Int ∷ []
-int_params tags [] h = absurd (false≢true h)
 int_params tags (p ∷ []) h = ap (λ t. t ∷ []) (int_ty tags p.ty h)
-int_params tags (p ∷ q ∷ params) h = absurd (false≢true h)
+int_params tags _ h = absurd (false≢true h)
 
 pub input_signature : (tags : List Text) (head : HeadTree) → is_input head ≡ true →
     signature_by tags head ≡ record { params = []; result = Some ty.Int }
-input_signature tags head h = λ i.
-    record {
-      params = no_params tags head.params (and_rest _ _ h) i;
-      result = int_result tags head.result (and_first _ _ h) i;
-    }
+input_signature tags head h = λ i. record {
+  params = no_params tags head.params (and_rest _ _ h) i;
+  result = int_result tags head.result (and_first _ _ h) i;
+}
 
 pub output_signature : (tags : List Text) (head : HeadTree) → is_output head ≡ true →
     signature_by tags head ≡ record { params = ty.Int ∷ []; result = None }
-output_signature tags head h = λ i.
-    record {
-      params = int_params tags head.params (and_rest _ _ h) i;
-      result = no_result tags head.result (and_first _ _ h) i;
-    }
+output_signature tags head h = λ i. record {
+  params = int_params tags head.params (and_rest _ _ h) i;
+  result = no_result tags head.result (and_first _ _ h) i;
+}
 
 -- Lists of what is named.
 
@@ -137,55 +126,17 @@ pub record FoundBy {A : Type 0} (name_in : A → Text) (name : Text) (xs : List 
   pub got : slice_get xs at ≡ Some item
   pub named : bytes_eq name (name_in item) ≡ true
 
-module _ {A : Type 0} (name_in : A → Text) (name : Text) where
-  record FindBy (xs : List A) : Type 0 where
-    at : ℕ
-    item : A
-    place : find (bytes_eq name) (map name_in xs) ≡ Some at
-    got : slice_get xs at ≡ Some item
-    named : bytes_eq name (name_in item) ≡ true
-
-  by_at : (x : A) (xs : List A) (b : Bool) → bytes_eq name (name_in x) ≡ b →
-      (list_any (bytes_eq name) (map name_in xs) ≡ true → FindBy xs) →
-      (b || list_any (bytes_eq name) (map name_in xs)) ≡ true → FindBy (x ∷ xs)
-  by_at x xs true q f h =
-      record {
-        at = 0;
-        item = x;
-        place = ap (λ c. if c then Some 0 else option_map suc (find (bytes_eq name) (map name_in xs))) q;
-        got = refl;
-        named = q;
-      }
-  by_at x xs false q f h =
-      let rest = f h in
-      record {
-        at = suc rest.at;
-        item = rest.item;
-        place = ap (λ c. if c then Some 0 else option_map suc (find (bytes_eq name) (map name_in xs))) q ∙
-            ap (option_map suc) rest.place;
-        got = rest.got;
-        named = rest.named;
-      }
-
-  find_by : (xs : List A) → list_any (bytes_eq name) (map name_in xs) ≡ true → FindBy xs
-  find_by [] h = absurd (false≢true h)
-  find_by (x ∷ xs) h = by_at x xs _ refl (find_by xs) h
-
-  pub found_by : (xs : List A) → is_numbered (map name_in xs) name ≡ true → FoundBy name_in name xs
-  found_by xs h =
-      let f = find_by xs h in
-      record {
-        at = f.at;
-        item = f.item;
-        place = number_is _ name ∙ f.place;
-        got = f.got;
-        named = f.named;
-      }
-
-pub get_map : {A B : Type 0} (f : A → B) (xs : List A) (i : ℕ) → slice_get (map f xs) i ≡ option_map f (slice_get xs i)
-get_map f [] i = refl
-get_map f (x ∷ xs) zero = refl
-get_map f (x ∷ xs) (suc i) = get_map f xs i
+pub found_by : {A : Type 0} (name_in : A → Text) (name : Text) (xs : List A) →
+    is_numbered (map name_in xs) name ≡ true → FoundBy name_in name xs
+found_by name_in name xs h =
+    let f = any_found (λ x. bytes_eq name (name_in x)) xs (sym (any_names (bytes_eq name) _ _ (λ x. refl) xs) ∙ h) in
+    record {
+      at = f.at;
+      item = f.item;
+      place = number_is _ name ∙ find_names _ _ _ (λ x. refl) xs ∙ f.is;
+      got = f.got;
+      named = f.passes;
+    }
 
 -- Own functions.
 
@@ -206,9 +157,8 @@ module _ (section : SectionTree) (callees : Callees) where
   pub own_at : (name : Text) (f : FoundFunction name (functions_in section.decls)) →
       slice_get (map signature_of (map (typed_function section callees) (functions_in section.decls))) f.at ≡
       Some (signature_by (tags section) (head_of f.tree.head))
-  own_at name f =
-      get_map _ _ f.at ∙ ap (option_map _) (get_map _ _ f.at ∙ ap (option_map _) f.got)
-      ∙ ap Some (own_signature f.tree)
+  own_at name f = slice_get-map _ _ f.at
+      ∙ ap (option_map _) (slice_get-map _ _ f.at ∙ ap (option_map _) f.got) ∙ ap Some (own_signature f.tree)
 
 -- Imports.
 
@@ -220,33 +170,23 @@ pub record FoundImport (P : ImportLine → Type 0) (name : Text) (lines : List I
   pub named : bytes_eq line.name name ≡ true
   pub holds : P line
 
-module _ (P : ImportLine → Type 0) (name : Text) where
-  import_at : (line : ImportLine) (lines : List ImportLine) (b : Bool) → bytes_eq name line.name ≡ b → P line →
-      (list_any (bytes_eq name) (map {A = ImportLine} (λ line. line.name) lines) ≡ true → FoundImport P name lines) →
-      (b || list_any (bytes_eq name) (map {A = ImportLine} (λ line. line.name) lines)) ≡ true →
-      FoundImport P name (line ∷ lines)
-  import_at line lines true q holds f h = record {
-    at = 0;
-    line = line;
-    first = ap (λ c. if c then Some line else import_named name lines) (same_sym _ name ∙ q);
-    got = refl;
-    named = same_sym _ name ∙ q;
-    holds = holds;
-  }
-  import_at line lines false q holds f h =
-      let rest : FoundImport P name lines = f h in record {
-        at = suc rest.at;
-        line = rest.line;
-        first = ap (λ c. if c then Some line else import_named name lines) (same_sym line.name name ∙ q) ∙ rest.first;
-        got = rest.got;
-        named = rest.named;
-        holds = rest.holds;
-      }
+import_first : (name : Text) (lines : List ImportLine) →
+    import_named name lines ≡ first_of (λ line. bytes_eq line.name name) lines
+import_first name [] = refl
+import_first name (line ∷ lines) = ap (λ o. if bytes_eq line.name name then Some line else o) (import_first name lines)
 
-  pub find_import : (lines : List ImportLine) → Each P lines →
-      list_any (bytes_eq name) (map {A = ImportLine} (λ line. line.name) lines) ≡ true → FoundImport P name lines
-  find_import [] each h = absurd (false≢true h)
-  find_import (line ∷ lines) each h = import_at line lines _ refl each.0 (find_import lines each.1) h
+pub find_import : (P : ImportLine → Type 0) (name : Text) (lines : List ImportLine) → Each P lines →
+    list_any (bytes_eq name) (map {A = ImportLine} (λ line. line.name) lines) ≡ true → FoundImport P name lines
+find_import P name lines each h =
+    let f = any_found _ lines (sym (any_names (bytes_eq name) (λ line. line.name) _ (λ line. same_sym name _) _) ∙ h) in
+    record {
+      at = f.at;
+      line = f.item;
+      first = import_first name lines ∙ f.first;
+      got = f.got;
+      named = f.passes;
+      holds = each_at P lines f.at f.item each f.got;
+    }
 
 -- The section that offers what is imported.
 
@@ -257,77 +197,75 @@ pub record Offering (importer : ℕ) (line : ImportLine) (sections : List Sectio
   pub got : slice_get sections number ≡ Some section
   pub offers : offers importer line number section ≡ true
 
-record OfferingFrom (importer : ℕ) (line : ImportLine) (front rest : List SectionTree) : Type 0 where
-  number : ℕ
-  section : SectionTree
-  is : offering importer line (length front) rest ≡ Some (number, section)
-  got : slice_get (front ++ rest) number ≡ Some section
-  offers : offers importer line number section ≡ true
-
 pub length_snoc : {A : Type 0} (xs : List A) (y : A) → length (xs ++ y ∷ []) ≡ suc (length xs)
 length_snoc [] y = refl
 length_snoc (x ∷ xs) y = ap suc (length_snoc xs y)
 
+pub plus_none : (n : ℕ) → 0 + n ≡ n
+plus_none n = omega arith
+
+pub plus_zero : (n : ℕ) → n ≡ n + 0
+plus_zero n = omega arith
+
 module _ (importer : ℕ) (line : ImportLine) where
+  record OfferingFrom (k : ℕ) (sections : List SectionTree) : Type 0 where
+    at : ℕ
+    number : ℕ
+    section : SectionTree
+    counted : number ≡ k + at
+    is : offering importer line k sections ≡ Some (number, section)
+    got : slice_get sections at ≡ Some section
+    offers : offers importer line number section ≡ true
+
   abbrev pick : Bool → ℕ → SectionTree → List SectionTree → Option (ℕ × SectionTree)
   pick b k section rest = if b then Some (k, section) else offering importer line (suc k) rest
 
-  offering_at : (front : List SectionTree) (section : SectionTree) (rest : List SectionTree) (b : Bool) →
-      offers importer line (length front) section ≡ b →
-      (is_some (offering importer line (length (front ++ section ∷ [])) rest) ≡ true →
-      OfferingFrom importer line (front ++ section ∷ []) rest) → is_some (pick b (length front) section rest) ≡ true →
-      OfferingFrom importer line front (section ∷ rest)
-  offering_at front section rest true q f h =
-      record {
-        number = length front;
-        section = section;
-        is = ap (λ b. pick b (length front) section rest) q;
-        got = get_behind front section rest;
-        offers = q;
-      }
-  offering_at front section rest false q f h =
-      let next =
-      f (ap (λ k. is_some (offering importer line k rest)) (length_snoc front section) ∙ h) in record {
-        number = next.number;
-        section = next.section;
-        is = ap (λ b. pick b (length front) section rest) q ∙
-            ap (λ k. offering importer line k rest) (sym (length_snoc front section)) ∙ next.is;
-        got = ap (λ list. slice_get list next.number) (sym (append_assoc front _ rest)) ∙ next.got;
-        offers = next.offers;
-      }
+  offering_at : (k : ℕ) (section : SectionTree) (rest : List SectionTree) (b : Bool) →
+      offers importer line k section ≡ b → (is_some (offering importer line (suc k) rest) ≡ true →
+      OfferingFrom (suc k) rest) → is_some (pick b k section rest) ≡ true → OfferingFrom k (section ∷ rest)
+  offering_at k section rest true q f h = record {
+    at = 0;
+    number = k;
+    section = section;
+    counted = plus_zero k;
+    is = ap (λ b. pick b k section rest) q;
+    got = refl;
+    offers = q;
+  }
+  offering_at k section rest false q f h = let next = f h in record {
+    at = suc next.at;
+    number = next.number;
+    section = next.section;
+    counted = next.counted ∙ omega arith;
+    is = ap (λ b. pick b k section rest) q ∙ next.is;
+    got = next.got;
+    offers = next.offers;
+  }
 
-  offering_from : (front rest : List SectionTree) → is_some (offering importer line (length front) rest) ≡ true →
-      OfferingFrom importer line front rest
-  offering_from front [] h = absurd (false≢true h)
-  offering_from front (section ∷ rest) h = offering_at front section rest _ refl (offering_from _ rest) h
+  offering_from : (k : ℕ) (sections : List SectionTree) → is_some (offering importer line k sections) ≡ true →
+      OfferingFrom k sections
+  offering_from k [] h = absurd (false≢true h)
+  offering_from k (section ∷ rest) h = offering_at k section rest _ refl (offering_from _ rest) h
 
   pub find_offering : (sections : List SectionTree) → is_some (offering importer line 0 sections) ≡ true →
       Offering importer line sections
-  find_offering sections h =
-      let f = offering_from [] _ h in
-      record { number = f.number; section = f.section; is = f.is; got = f.got; offers = f.offers }
+  find_offering sections h = let f = offering_from 0 _ h in record {
+    number = f.number;
+    section = f.section;
+    is = f.is;
+    got = ap (slice_get sections) (f.counted ∙ plus_none f.at) ∙ f.got;
+    offers = f.offers;
+  }
 
 -- Interfaces by their numbers.
 
 module _ (sections : List SectionTree) where
-  interface_from : (k : ℕ) (rest : List SectionTree) (j : ℕ) (section : SectionTree) → slice_get rest j ≡ Some section →
-      slice_get (interfaces_from sections k rest) j ≡ Some (interface_of sections (k + j) section)
-  interface_from k [] j section got = none_some section got
-  interface_from k (s ∷ rest) zero section got =
-      λ i. Some (interface_of sections (plus_zero k i) (same_Some s section got i)) where
-        plus_zero : (n : ℕ) → n ≡ n + 0
-        plus_zero n = omega arith
-  interface_from k (s ∷ rest) (suc j) section got =
-      interface_from _ rest j section got ∙ ap (λ n. Some (interface_of sections n section)) (omega arith)
-
   pub comp_is : (j : ℕ) (section : SectionTree) → slice_get sections j ≡ Some section →
       comp_at (interfaces_of sections) j ≡ Some (interface_of sections j section)
-  comp_is j section got = interface_from 0 _ j section got ∙
-      ap (λ n. Some (interface_of sections n section)) (omega arith)
+  comp_is j section got = elab_comp_at sections j section got
 
   pub export_is : (j : ℕ) (section : SectionTree) (index : ℕ) (line : ExportLine) →
       slice_get sections j ≡ Some section → slice_get section.exports index ≡ Some line →
       export_at (interfaces_of sections) j index ≡ Some (proto_of section line)
-  export_is j section index line got there =
-      ap (option_and_then _) (comp_is j section got) ∙ get_map (proto_of section) section.exports index
-      ∙ ap (option_map _) there
+  export_is j section index line got there = ap (option_and_then _)
+      (comp_is j section got) ∙ slice_get-map (proto_of section) section.exports index ∙ ap (option_map _) there

@@ -49,39 +49,29 @@ pub struct_names_append : (before decls : List Decl) →
 struct_names_append before decls = ap (map _) (filter_map-append _ before decls) ∙ map-append _ _ _
 
 known_front : (some more : List Text) (b : BaseTree) → base_known some b ≡ true → base_known (some ++ more) b ≡ true
-known_front some more base_tree.Int h = refl
-known_front some more base_tree.Unsigned h = refl
 known_front some more (base_tree.Struct tag) h = numbered_front some more tag h
+known_front some more _ h = refl
 
 module _ (section : SectionTree) where
   -- what is known among the first declarations is known in the section
   known_whole : (before decls : List Decl) → before ++ decls ≡ section.decls → (b : BaseTree) →
       base_known (struct_names before) b ≡ true → base_known (tags section) b ≡ true
-  known_whole before decls whole b h =
-      subst (λ names. base_known names b ≡ true) (sym (struct_names_append before decls) ∙ ap struct_names whole)
-      (known_front _ (struct_names decls) b h)
+  known_whole before decls whole b h = subst (λ names. base_known names b ≡ true)
+      (sym (struct_names_append before decls) ∙ ap struct_names whole) (known_front _ (struct_names decls) b h)
 
   count_is : length (structs section) ≡ length (tags section)
   count_is = structs_length _
 
-  within_is : (t : Ty) → type_within (length (tags section)) (length (tags section)) t ≡ true →
-      is_small section t ≡ true → variable_fits (structs section) t ≡ true
+  abbrev Within : Ty → Type 0
+  Within t = type_within (length (tags section)) (length (tags section)) t ≡ true
+
+  within_is : (t : Ty) → Within t → is_small section t ≡ true → variable_fits (structs section) t ≡ true
   within_is t h small = and_from _ _ (subst (λ n. type_within n n t ≡ true) (sym count_is) h) small
 
-  pub tree_fits : (t : TypeTree) → is_sized t ≡ true → base_known (tags section) t.base ≡ true →
-      is_small section (type_of (tags section) t) ≡ true →
-      variable_fits (structs section) (type_of (tags section) t) ≡ true
-  tree_fits t sized known small =
-      within_is _ (subst (λ all. type_within (length (tags section)) (length (tags section)) (type_of all t) ≡ true)
-      (append-nil _) (type_is_within _ [] t sized known)) small
-
-  pub name_fits : (t : TypeName) → base_known (tags section) t.base ≡ true →
-      is_small section (type_of_name (tags section) t) ≡ true →
-      variable_fits (structs section) (type_of_name (tags section) t) ≡ true
-  name_fits t known small =
-      within_is _ (subst
-      (λ all. type_within (length (tags section)) (length (tags section)) (type_of_name all t) ≡ true)
-      (append-nil _) (name_is_within _ [] t known)) small
+  pub tree_fits : (t : TypeTree) → is_sized t ≡ true → base_known (tags section) t.base ≡ true → is_small section
+      (type_of (tags section) t) ≡ true → variable_fits (structs section) (type_of (tags section) t) ≡ true
+  tree_fits t sized known small = within_is _ (subst (λ all. type_within (length (tags section))
+      (length (tags section)) (type_of all t) ≡ true) (append-nil _) (type_is_within _ [] t sized known)) small
 
   -- Structs are small.
 
@@ -90,8 +80,7 @@ module _ (section : SectionTree) where
   small_from k [] h = tt
   small_from k (tree ∷ trees) h = (
     rule_holds _ tree.line (front_empty _ _ h),
-    small_from (suc k) trees
-        (back_empty (unless (is_small section (ty.Struct k)) tree.line) _ h),
+    small_from (suc k) trees (back_empty (unless (is_small section (ty.Struct k)) tree.line) _ h),
   )
 
   small_at : (k : ℕ) (trees : List StructTree) (n : ℕ) → AllSmall (structs section) k trees → n < length trees →
@@ -99,36 +88,29 @@ module _ (section : SectionTree) where
   small_at k [] n h less = absurd (omega (arith, less))
   small_at k (tree ∷ trees) zero h less = ap (λ m. nat_le (struct_cells (slice_get (structs section) m)) most_cells)
       (omega arith) ∙ h.0
-  small_at k (tree ∷ trees) (suc n) h less =
-      ap (λ m. nat_le (struct_cells (slice_get (structs section) m)) most_cells) (omega arith) ∙
-      small_at (suc k) trees n h.1 (omega (arith, less))
+  small_at k (tree ∷ trees) (suc n) h less = ap (λ m. nat_le (struct_cells (slice_get (structs section) m)) most_cells)
+      (omega arith) ∙ small_at (suc k) trees n h.1 (omega (arith, less))
 
   module _ (small : AllSmall (structs section) 0 (structs_in section.decls)) where
     small_struct : (n : ℕ) → n < length (tags section) → is_small section (ty.Struct n) ≡ true
-    small_struct n less =
-        ap (λ m. nat_le (struct_cells (slice_get (structs section) m)) most_cells) (omega arith) ∙ small_at 0 _ n small
-        (subst (λ m. n < m) (length-map _ _) less)
+    small_struct n less = ap (λ m. nat_le (struct_cells (slice_get (structs section) m)) most_cells)
+        (omega arith) ∙ small_at 0 _ n small (subst (λ m. n < m) (length-map _ _) less)
 
-    small_starred : (stars : ℕ) (b : BaseTy) → type_within (length (tags section)) (length (tags section))
-        (starred stars b) ≡ true → is_small section (starred stars b) ≡ true
-    small_starred zero base.Int h = refl
-    small_starred zero base.Unsigned h = refl
+    small_starred : (stars : ℕ) (b : BaseTy) → Within (starred stars b) → is_small section (starred stars b) ≡ true
     small_starred zero (base.Struct n) h = small_struct n (is_less n _ h)
-    small_starred (suc stars) b h = refl
+    small_starred _ _ h = refl
 
     -- a type name over known tags
     named_fits : (t : TypeName) → base_known (tags section) t.base ≡ true →
         variable_fits (structs section) (type_of_name (tags section) t) ≡ true
     named_fits t known =
-        name_fits t known (small_starred t.stars _
-        (subst (λ all. type_within (length (tags section)) (length (tags section)) (type_of_name all t) ≡ true)
-        (append-nil _) (name_is_within _ [] t known)))
+        let within : Within (type_of_name (tags section) t) = subst (λ all. type_within (length (tags section))
+        (length (tags section)) (type_of_name all t) ≡ true) (append-nil _) (name_is_within _ [] t known) in
+        within_is _ within (small_starred t.stars _ within)
 
     no_array : (stars : ℕ) (b : BaseTy) → is_array (starred stars b) ≡ false
     no_array zero base.Int = refl
-    no_array zero base.Unsigned = refl
-    no_array zero (base.Struct n) = refl
-    no_array (suc stars) b = refl
+    no_array _ _ = refl
 
     pub passed : (t : TypeName) → base_known (tags section) t.base ≡ true →
         passed_fits (structs section) (type_of_name (tags section) t) ≡ true
@@ -139,10 +121,9 @@ module _ (section : SectionTree) where
     result_passed None known = refl
     result_passed (Some t) known = passed t known
 
-    pub params_passed : (params : List FunctionParam) →
-        list_all {X = ParamTree} (λ param. base_known (tags section) param.ty.base) (map param_of params) ≡ true →
-        list_all {X = TypedParam} (λ p. passed_fits (structs section) p.ty)
-        (map (typed_param (tags section)) params) ≡ true
+    pub params_passed : (params : List FunctionParam) → list_all {X = ParamTree}
+        (λ param. base_known (tags section) param.ty.base) (map param_of params) ≡ true → list_all {X = TypedParam}
+        (λ p. passed_fits (structs section) p.ty) (map (typed_param (tags section)) params) ≡ true
     params_passed [] known = refl
     params_passed (p ∷ params) known = and_from _ _ (passed p.ty (and_first _ _ known))
         (params_passed params (and_rest _ _ known))
@@ -157,44 +138,26 @@ module _ (section : SectionTree) where
     by_sign false value h = h
 
   words_are : (t : Ty) (init : InitTree) → init_holds t init ≡ true → words_fit t (init_words init) ≡ true
-  words_are ty.Int Absent h = refl
   words_are ty.Int (One const) h = refl
-  words_are ty.Int (Many consts) h = absurd (false≢true h)
-  words_are ty.Unsigned Absent h = refl
   words_are ty.Unsigned (One const) h = refl
-  words_are ty.Unsigned (Many consts) h = absurd (false≢true h)
-  words_are (ty.Struct n) Absent h = refl
-  words_are (ty.Struct n) (One const) h = absurd (false≢true h)
-  words_are (ty.Struct n) (Many consts) h = absurd (false≢true h)
-  words_are (ty.Pointer stars b) Absent h = refl
   words_are (ty.Pointer stars b) (One const) h = ap (λ c. c && true) (first_null const h)
-  words_are (ty.Pointer stars b) (Many consts) h = absurd (false≢true h)
   words_are (ty.Array zero base.Int count) Absent h = at_most 0 count (omega arith)
-  words_are (ty.Array zero base.Int count) (One const) h = absurd (false≢true h)
   words_are (ty.Array zero base.Int count) (Many consts) h = ap (λ n. nat_le n count) (length-map consts _) ∙ h
   words_are (ty.Array zero base.Unsigned count) Absent h = at_most 0 count (omega arith)
-  words_are (ty.Array zero base.Unsigned count) (One const) h = absurd (false≢true h)
   words_are (ty.Array zero base.Unsigned count) (Many consts) h = ap (λ n. nat_le n count) (length-map consts _) ∙ h
-  words_are (ty.Array zero (base.Struct n) count) Absent h = refl
-  words_are (ty.Array zero (base.Struct n) count) (One const) h = absurd (false≢true h)
-  words_are (ty.Array zero (base.Struct n) count) (Many consts) h = absurd (false≢true h)
-  words_are (ty.Array (suc stars) b count) Absent h = refl
-  words_are (ty.Array (suc stars) b count) (One const) h = absurd (false≢true h)
-  words_are (ty.Array (suc stars) b count) (Many consts) h = absurd (false≢true h)
+  words_are _ Absent h = refl
+  words_are _ _ h = absurd (false≢true h)
 
   pub global_is : (tree : GlobalTree) → base_known (tags section) tree.ty.base ≡ true →
-      (is_sized tree.ty && init_holds (type_of (tags section) tree.ty) tree.init) ≡ true →
-      is_small section (type_of (tags section) tree.ty) ≡ true →
-      global_fits (structs section) (typed_global (tags section) tree) ≡ true
-  global_is tree known holds small =
-      and_from _ _ (tree_fits tree.ty (and_first _ _ holds) known small)
+      (is_sized tree.ty && init_holds (type_of (tags section) tree.ty) tree.init) ≡ true → is_small section
+      (type_of (tags section) tree.ty) ≡ true → global_fits (structs section) (typed_global (tags section) tree) ≡ true
+  global_is tree known holds small = and_from _ _ (tree_fits tree.ty (and_first _ _ holds) known small)
       (words_are (type_of _ tree.ty) tree.init (and_rest _ _ holds))
 
   -- A function's variables.
 
-  local_types : (tree : FunctionTree) (place : ℕ) (locals : List LocalTree) →
-      map {A = TypedLocal} (λ l. l.ty) (typed_locals section tree place locals) ≡
-      map {A = LocalTree} (λ local. type_of (tags section) local.ty) locals
+  local_types : (tree : FunctionTree) (place : ℕ) (locals : List LocalTree) → map {A = TypedLocal} (λ l. l.ty)
+      (typed_locals section tree place locals) ≡ map {A = LocalTree} (λ local. type_of (tags section) local.ty) locals
   unfolding typed_locals
   local_types tree place [] = refl
   local_types tree place (local ∷ locals) = ap (λ rest. type_of (tags section) local.ty ∷ rest)
@@ -232,13 +195,27 @@ module _ (section : SectionTree) where
   unfolding typed_locals
   locals_are callees before decls whole globals own tree place [] holds known small low = refl
   locals_are callees before decls whole globals own tree place (local ∷ locals) holds known small low =
-      let in_names =
-      rule_holds _ local.line (front_empty _ _ known) in
+      let in_names = rule_holds _ local.line (front_empty _ _ known) in
       and_from _ _ (local_is callees tree place local (rule_holds _ local.line (front_empty _ _ holds))
       (known_whole before decls whole _ (and_first _ _ (and_rest (not _) _ in_names)))
       (rule_holds _ local.line (front_empty _ _ small)) (low_left _ _ 256 low))
-      (locals_are callees before decls whole globals (own ++ local.name ∷ []) tree _ locals (back_empty _ _ holds)
-      (back_empty _ _ known) (back_empty _ _ small) (low_right _ _ 256 low))
+      (locals_are callees before decls whole globals (own ++ local.name ∷ []) tree _ locals
+      (back_empty _ _ holds) (back_empty _ _ known) (back_empty _ _ small) (low_right _ _ 256 low))
+
+  -- All declarations, those before one after another.
+
+  pub record Behind (callees : Callees) (before decls : List Decl) : Type 0 where
+    pub whole : before ++ decls ≡ section.decls
+    pub in_names : names.lines_from section before decls ≡ []
+    pub holds : concat (map (decl_lines section callees) decls) ≡ []
+
+  next : {callees : Callees} {before : List Decl} {decl : Decl} {decls : List Decl} →
+      Behind callees before (decl ∷ decls) → Behind callees (before ++ decl ∷ []) decls
+  next {callees} {before} {decl} {decls} b = record {
+    whole = append_assoc before _ decls ∙ b.whole;
+    in_names = back_empty (names.decl_lines (names.declared section before) decl) _ b.in_names;
+    holds = back_empty (decl_lines section callees decl) _ b.holds;
+  }
 
   -- Bodies.
 
@@ -273,9 +250,8 @@ module _ (section : SectionTree) where
         list_all {X = ParamTree} (λ param. base_known (struct_names before) param.ty.base) params ≡ true →
         list_all {X = ParamTree} (λ param. base_known (tags section) param.ty.base) params ≡ true
     params_whole before decls whole [] h = refl
-    params_whole before decls whole (p ∷ params) h =
-        and_from _ _ (known_whole before decls whole _ (and_first _ _ h))
-        (params_whole before decls whole params (and_rest _ _ h))
+    params_whole before decls whole (p ∷ params) h = and_from _ _
+        (known_whole before decls whole _ (and_first _ _ h)) (params_whole before decls whole params (and_rest _ _ h))
 
     function_is : (before decls : List Decl) → before ++ decls ≡ section.decls →
         AllSmall (structs section) 0 (structs_in section.decls) → (tree : FunctionTree) →
@@ -284,104 +260,62 @@ module _ (section : SectionTree) where
         nat_le (surface.function_height tree) 256 ≡ true →
         function_fits callable (typed_section section callees) (typed_function section callees tree) ≡ true
     function_is before decls whole small tree in_names holds sizes count low =
-        let head =
-        rule_holds _ tree.head.line (front_empty _ _ in_names) in
+        let head = rule_holds _ tree.head.line (front_empty _ _ in_names) in
         let behind_head =
         back_empty (unless (names.head_of_known (names.declared section before) tree) tree.head.line) _ in_names in
-        let tags_known =
-        and_first _ _ (and_rest (not (is_numbered (function_names before) tree.head.name)) _
+        let tags_known = and_first _ _ (and_rest (not (is_numbered (function_names before) tree.head.name)) _
         (and_rest (not (is_numbered (global_names before) tree.head.name)) _ head)) in
-        and_from _ _ (ap (λ n. nat_le n most_params) (length-map tree.head.params (typed_param _) ∙
-        sym (length-map _ _)) ∙ rule_holds _ _ count) (and_from _ _ (params_passed small tree.head.params
-        (params_whole before decls whole (map param_of tree.head.params)
-        (and_rest (result_known (struct_names before) tree.head.result) _ tags_known)))
-        (and_from _ _ (result_passed small tree.head.result
-        (result_whole before decls whole _ (and_first _ _ tags_known)))
+        and_from _ _ (ap (λ n. nat_le n most_params)
+        (length-map tree.head.params (typed_param _) ∙ sym (length-map _ _)) ∙ rule_holds _ _ count) (and_from _ _
+        (params_passed small tree.head.params (params_whole before decls whole (map param_of tree.head.params)
+        (and_rest (result_known (struct_names before) tree.head.result) _ tags_known))) (and_from _ _
+        (result_passed small tree.head.result (result_whole before decls whole _ (and_first _ _ tags_known)))
         (and_from _ _ (subst (λ scope. list_all (local_fits scope) (typed_locals section tree 0 tree.locals) ≡ true)
         (sym (scope_is callees tree)) (locals_are callees before decls whole (global_names before)
         (param_names tree) tree 0 tree.locals (front_empty _ _ holds) (front_empty _ _ behind_head)
-        (back_empty _ _ sizes) (low_left _ _ 256 low)))
-        (and_from _ _ (subst (λ scope. body_fits scope callable (result_of section tree)
-        (map (typed_stmt (visible_of section tree) callees (result_of section tree)) tree.body) ≡ true)
-        (sym (scope_is callees tree)) (body_is before tree tree.body
-        (back_empty (names.locals_from (struct_names before) (global_names before)
-        (param_names tree) tree.locals) _ behind_head) (back_empty _ _ holds))) (body_low tree tree.body (low_right _
-        _ 256 low))))))
-
-    -- All declarations, those before one after another.
-
-    next_whole : (before : List Decl) (decl : Decl) (decls : List Decl) → before ++ decl ∷ decls ≡ section.decls →
-        (before ++ decl ∷ []) ++ decls ≡ section.decls
-    next_whole before decl decls whole = append_assoc before _ decls ∙ whole
+        (back_empty _ _ sizes) (low_left _ _ 256 low))) (and_from _ _ (subst (λ scope. body_fits scope callable
+        (result_of section tree) (map (typed_stmt (visible_of section tree) callees
+        (result_of section tree)) tree.body) ≡ true) (sym (scope_is callees tree))
+        (body_is before tree tree.body (back_empty (names.locals_from (struct_names before)
+        (global_names before) (param_names tree) tree.locals) _ behind_head) (back_empty _ _ holds)))
+        (body_low tree tree.body (low_right _ _ 256 low))))))
 
     pub functions_are : AllSmall (structs section) 0 (structs_in section.decls) → (before decls : List Decl) →
-        before ++ decls ≡ section.decls → names.lines_from section before decls ≡ [] →
-        concat (map (decl_lines section callees) decls) ≡ [] →
-        concat (map (counts.head_lines section) (heads_in decls)) ≡ [] →
+        Behind callees before decls → concat (map (counts.head_lines section) (heads_in decls)) ≡ [] →
         concat (map (counts.function_lines section) (functions_in decls)) ≡ [] →
-        nat_le (surface.decls_height decls) 256 ≡ true →
-        list_all (function_fits callable (typed_section section callees))
-        (map (typed_function section callees) (functions_in decls)) ≡ true
-    functions_are small before [] whole in_names holds heads sizes low = refl
-    functions_are small before (Struct tree ∷ decls) whole in_names holds heads sizes low =
-        functions_are small (before ++ Struct tree ∷ []) decls (next_whole before _ decls whole)
-        (back_empty (names.decl_lines (names.declared section before) (Struct tree)) _ in_names)
-        (back_empty _ _ holds) heads sizes (low_right 0 _ 256 low)
-    functions_are small before (Global tree ∷ decls) whole in_names holds heads sizes low =
-        functions_are small (before ++ Global tree ∷ []) decls (next_whole before _ decls whole)
-        (back_empty (names.decl_lines (names.declared section before) (Global tree)) _ in_names)
-        (back_empty _ _ holds) heads sizes (low_right 0 _ 256 low)
-    functions_are small before (Proto head ∷ decls) whole in_names holds heads sizes low =
-        functions_are small (before ++ Proto head ∷ []) decls (next_whole before _ decls whole)
-        (back_empty (names.decl_lines (names.declared section before) (Proto head)) _ in_names)
-        (back_empty (decl_lines section callees (Proto head)) _ holds) (back_empty _ _ heads) sizes
-        (low_right 0 _ 256 low)
-    functions_are small before (Function tree ∷ decls) whole in_names holds heads sizes low =
-        and_from _ _ (function_is before _ whole small tree (front_empty _ _ in_names)
-        (front_empty _ _ holds) (front_empty _ _ sizes) (front_empty _ _ heads) (low_left _ _ 256 low))
-        (functions_are small (before ++ Function tree ∷ []) decls (next_whole before _ decls whole)
-        (back_empty (names.decl_lines (names.declared section before) (Function tree)) _ in_names)
-        (back_empty _ _ holds) (back_empty _ _ heads) (back_empty _ _ sizes) (low_right _ _ 256 low))
+        nat_le (surface.decls_height decls) 256 ≡ true → list_all (function_fits callable
+        (typed_section section callees)) (map (typed_function section callees) (functions_in decls)) ≡ true
+    functions_are small before [] b heads sizes low = refl
+    functions_are small before (Proto head ∷ decls) b heads sizes low =
+        functions_are small _ decls (next b) (back_empty _ _ heads) sizes (low_right 0 _ 256 low)
+    functions_are small before (Function tree ∷ decls) b heads sizes low =
+        and_from _ _ (function_is before _ b.whole small tree (front_empty _ _ b.in_names) (front_empty _ _ b.holds)
+        (front_empty _ _ sizes) (front_empty _ _ heads) (low_left _ _ 256 low))
+        (functions_are small _ decls (next b) (back_empty _ _ heads) (back_empty _ _ sizes) (low_right _ _ 256 low))
+    functions_are small before (_ ∷ decls) b heads sizes low =
+        functions_are small _ decls (next b) heads sizes (low_right 0 _ 256 low)
 
   module _ (callees : Callees) where
-    pub globals_are : (before decls : List Decl) → before ++ decls ≡ section.decls →
-        names.lines_from section before decls ≡ [] → concat (map (decl_lines section callees) decls) ≡ [] →
+    pub globals_are : (before decls : List Decl) → Behind callees before decls →
         concat (map (counts.global_lines section) (globals_in decls)) ≡ [] →
         list_all (global_fits (structs section)) (map (typed_global (tags section)) (globals_in decls)) ≡ true
-    globals_are before [] whole in_names holds sizes = refl
-    globals_are before (Struct tree ∷ decls) whole in_names holds sizes =
-        globals_are (before ++ Struct tree ∷ []) decls (append_assoc before _ decls ∙ whole)
-        (back_empty (names.decl_lines (names.declared section before) (Struct tree)) _ in_names)
-        (back_empty _ _ holds) sizes
-    globals_are before (Global tree ∷ decls) whole in_names holds sizes =
-        let known =
-        rule_holds _ tree.line (front_empty _ _ in_names) in
-        let tag =
-        and_rest (not (is_numbered (import_names section) tree.name)) _
+    globals_are before [] b sizes = refl
+    globals_are before (Global tree ∷ decls) b sizes =
+        let known = rule_holds _ tree.line (front_empty _ _ b.in_names) in
+        let tag = and_rest (not (is_numbered (import_names section) tree.name)) _
         (and_rest (not (is_numbered (proto_names before) tree.name)) _
         (and_rest (not (is_numbered (function_names before) tree.name)) _
         (and_rest (not (is_numbered (global_names before) tree.name)) _ known))) in
-        and_from _ _ (global_is tree (known_whole before _ whole _ tag)
-        (rule_holds _ tree.line (front_empty _ _ holds)) (rule_holds _ tree.line (front_empty _ _ sizes)))
-        (globals_are (before ++ Global tree ∷ []) decls (append_assoc before _ decls ∙ whole)
-        (back_empty (names.decl_lines (names.declared section before) (Global tree)) _ in_names) (back_empty _ _ holds)
-        (back_empty _ _ sizes))
-    globals_are before (Proto head ∷ decls) whole in_names holds sizes =
-        globals_are (before ++ Proto head ∷ []) decls (append_assoc before _ decls ∙ whole)
-        (back_empty (names.decl_lines (names.declared section before) (Proto head)) _ in_names)
-        (back_empty (decl_lines section callees (Proto head)) _ holds) sizes
-    globals_are before (Function tree ∷ decls) whole in_names holds sizes =
-        globals_are (before ++ Function tree ∷ []) decls (append_assoc before _ decls ∙ whole)
-        (back_empty (names.decl_lines (names.declared section before) (Function tree)) _ in_names)
-        (back_empty _ _ holds) sizes
+        and_from _ _ (global_is tree (known_whole before _ b.whole _ tag)
+        (rule_holds _ tree.line (front_empty _ _ b.holds)) (rule_holds _ tree.line (front_empty _ _ sizes)))
+        (globals_are _ decls (next b) (back_empty _ _ sizes))
+    globals_are before (_ ∷ decls) b sizes = globals_are _ decls (next b) sizes
 
-    struct_is : (before : List Decl) (tree : StructTree) →
-        names.decl_lines (names.declared section before) (Struct tree) ≡ [] → struct_lines section tree ≡ [] →
-        Known (struct_names before) tree
+    struct_is : (before : List Decl) (tree : StructTree) → names.decl_lines (names.declared section before)
+        (Struct tree) ≡ [] → struct_lines section tree ≡ [] → Known (struct_names before) tree
     struct_is before tree in_names holds =
         let known = rule_holds _ tree.line in_names in
-        let shape =
-        rule_holds _ _ holds in
+        let shape = rule_holds _ _ holds in
         record {
           new = not-true _ (and_first _ _ known);
           members = and_rest (are_distinct (map (λ member. member.name) tree.members)) _
@@ -390,32 +324,18 @@ module _ (section : SectionTree) where
           some = and_first _ _ shape;
         }
 
-    same_names : (before : List Decl) (decl : Decl) → struct_names (decl ∷ []) ≡ [] →
-        struct_names (before ++ decl ∷ []) ≡ struct_names before
-    same_names before decl h = struct_names_append before _ ∙ ap (λ more. struct_names before ++ more) h ∙ append-nil _
+    same_names : (before : List Decl) (decl : Decl) (decls : List Decl) → struct_names (decl ∷ []) ≡ [] →
+        AllKnown (struct_names (before ++ decl ∷ [])) (structs_in decls) →
+        AllKnown (struct_names before) (structs_in decls)
+    same_names before decl decls h = subst (λ all. AllKnown all (structs_in decls))
+        (struct_names_append before _ ∙ ap (λ more. struct_names before ++ more) h ∙ append-nil _)
 
-    pub structs_known : (before decls : List Decl) → names.lines_from section before decls ≡ [] →
-        concat (map (decl_lines section callees) decls) ≡ [] → AllKnown (struct_names before) (structs_in decls)
-    structs_known before [] in_names holds = tt
-    structs_known before (Struct tree ∷ decls) in_names holds = (
-      struct_is before tree (front_empty _ _ in_names) (front_empty _ _ holds),
-      subst (λ all. AllKnown all (structs_in decls)) (struct_names_append before (Struct tree ∷ []))
-          (structs_known (before ++ Struct tree ∷ []) decls
-          (back_empty (names.decl_lines (names.declared section before) (Struct tree)) _ in_names)
-          (back_empty (decl_lines section callees (Struct tree)) _ holds)),
+    pub structs_known : (before decls : List Decl) → Behind callees before decls →
+        AllKnown (struct_names before) (structs_in decls)
+    structs_known before [] b = tt
+    structs_known before (Struct tree ∷ decls) b = (
+      struct_is before tree (front_empty _ _ b.in_names) (front_empty _ _ b.holds),
+      subst (λ all. AllKnown all
+          (structs_in decls)) (struct_names_append before (Struct tree ∷ [])) (structs_known _ decls (next b)),
     )
-    structs_known before (Global tree ∷ decls) in_names holds =
-        subst (λ all. AllKnown all (structs_in decls)) (same_names before (Global tree) refl)
-        (structs_known (before ++ Global tree ∷ []) decls
-        (back_empty (names.decl_lines (names.declared section before) (Global tree)) _ in_names)
-        (back_empty (decl_lines section callees (Global tree)) _ holds))
-    structs_known before (Proto head ∷ decls) in_names holds =
-        subst (λ all. AllKnown all (structs_in decls)) (same_names before (Proto head) refl)
-        (structs_known (before ++ Proto head ∷ []) decls
-        (back_empty (names.decl_lines (names.declared section before) (Proto head)) _ in_names)
-        (back_empty (decl_lines section callees (Proto head)) _ holds))
-    structs_known before (Function tree ∷ decls) in_names holds =
-        subst (λ all. AllKnown all (structs_in decls)) (same_names before (Function tree) refl)
-        (structs_known (before ++ Function tree ∷ []) decls
-        (back_empty (names.decl_lines (names.declared section before) (Function tree)) _ in_names)
-        (back_empty (decl_lines section callees (Function tree)) _ holds))
+    structs_known before (decl ∷ decls) b = same_names before decl decls refl (structs_known _ decls (next b))

@@ -40,22 +40,7 @@ going_height place e = going_by (is_pointer place && is_zero e) _ e
 beside_height : (o : BinaryOp) (other : Ty) (e : TypedExpr) → expr_height (beside o other e) ≡ expr_height e
 beside_height tree_op.Equal other e = going_height other e
 beside_height tree_op.NotEqual other e = going_height other e
-beside_height tree_op.OrElse other e = refl
-beside_height tree_op.AndAlso other e = refl
-beside_height tree_op.BitOr other e = refl
-beside_height tree_op.BitXor other e = refl
-beside_height tree_op.BitAnd other e = refl
-beside_height tree_op.Less other e = refl
-beside_height tree_op.Greater other e = refl
-beside_height tree_op.LessEqual other e = refl
-beside_height tree_op.GreaterEqual other e = refl
-beside_height tree_op.ShiftLeft other e = refl
-beside_height tree_op.ShiftRight other e = refl
-beside_height tree_op.Add other e = refl
-beside_height tree_op.Sub other e = refl
-beside_height tree_op.Mul other e = refl
-beside_height tree_op.Div other e = refl
-beside_height tree_op.Rem other e = refl
+beside_height o other e = refl
 
 -- an expression of this layer
 height_at : (t : Ty) (k : TypedKind-F TypedKind TypedExpr) →
@@ -72,15 +57,13 @@ module _ (visible : Visible) where
   variable_height (Some f) = height_at _ (term.Variable _)
 
   -- by the layer of the tree
-  by_term : (t : ExprTree-F ExprTree) → Under Same t →
-      expr_height (elab.step visible (map-ExprTree _ _ (elab.typed visible) t)) ≡
-      surface.expr_step (map-ExprTree _ _ surface.expr_height t)
+  by_term : (t : ExprTree-F ExprTree) → Under Same t → expr_height (elab.step visible
+      (map-ExprTree _ _ (elab.typed visible) t)) ≡ surface.expr_step (map-ExprTree _ _ surface.expr_height t)
   unfolding roll-TypedKind denote.Hole.Carrier.roll
   by_term (tree_term.Literal number) under = height_at _ (term.Literal _)
   by_term (tree_term.Variable name) under = variable_height (found visible name)
   by_term (tree_term.Unary o e) under = height_at _ (term.Unary o _) ∙ ap suc under ∙ one_more _
-  by_term (tree_term.Binary o a b) under =
-      height_at _ (term.Binary o _ _)
+  by_term (tree_term.Binary o a b) under = height_at _ (term.Binary o _ _)
       ∙ (λ i. suc (max ((beside_height o (elab.typed visible b).ty (elab.typed visible a) ∙ under.0) i)
       ((beside_height o (elab.typed visible a).ty (elab.typed visible b) ∙ under.1) i))) ∙ one_more _
   by_term (tree_term.Index a b) under =
@@ -91,14 +74,12 @@ module _ (visible : Visible) where
   by_term (tree_term.Address e) under = height_at _ (term.Address _) ∙ ap suc under ∙ one_more _
 
   pub typed_height : (e : ExprTree) → Same e
-  typed_height =
-      expr_induction Same (λ t under. ap expr_height (tree_layers.expr_at _ t) ∙ by_term t under ∙
-      sym (tree_layers.expr_at _ t))
+  typed_height = expr_induction Same
+      (λ t under. ap expr_height (tree_layers.expr_at _ t) ∙ by_term t under ∙ sym (tree_layers.expr_at _ t))
 
   module _ (callees : Callees) where
-    args_height : (types : List Ty) (args : List ExprTree) →
-        highest (map expr_height (going_to_all types (map (elab.typed visible) args))) ≡
-        surface.highest (map surface.expr_height args)
+    args_height : (types : List Ty) (args : List ExprTree) → highest (map expr_height
+        (going_to_all types (map (elab.typed visible) args))) ≡ surface.highest (map surface.expr_height args)
     args_height [] [] = refl
     args_height [] (e ∷ args) = λ i. max (typed_height e i) (args_height [] args i)
     args_height (t ∷ types) [] = refl
@@ -129,9 +110,8 @@ module _ (visible : Visible) where
       abbrev SameStmt : StmtTree → Type 0
       SameStmt s = stmt_height (typed_stmt visible callees result s) ≡ surface.stmt_height s
 
-      all_heights : (stmts : List StmtTree) → tree_induction.Each SameStmt stmts →
-          highest (map stmt_height (map (typed_stmt visible callees result) stmts)) ≡
-          surface.highest (map surface.stmt_height stmts)
+      all_heights : (stmts : List StmtTree) → tree_induction.Each SameStmt stmts → highest (map stmt_height
+          (map (typed_stmt visible callees result) stmts)) ≡ surface.highest (map surface.stmt_height stmts)
       all_heights [] each = refl
       all_heights (s ∷ stmts) each = λ i. max (each.0 i) (all_heights stmts each.1 i)
 
@@ -159,9 +139,8 @@ module _ (visible : Visible) where
       by_kind line (tree.AssignCall place call) inside =
           stmt_of line (layer.AssignCall _ _) ∙ (λ i. suc (max (typed_height place i) (call_is call i)))
       by_kind line (tree.Call call) inside = stmt_of line (layer.Call _) ∙ ap suc (call_is call)
-      by_kind line (tree.If cond first second) inside =
-          stmt_of line (layer.If _ _ _) ∙ (λ i. suc (max (typed_height cond i) (max (all_heights first inside.0 i)
-          (all_heights second inside.1 i))))
+      by_kind line (tree.If cond first second) inside = stmt_of line (layer.If _ _ _)
+          ∙ (λ i. suc (max (typed_height cond i) (max (all_heights first inside.0 i) (all_heights second inside.1 i))))
       by_kind line (tree.While cond body) inside =
           stmt_of line (layer.While _ _) ∙ (λ i. suc (max (typed_height cond i) (all_heights body inside i)))
       by_kind line (tree.For first cond next body) inside =
@@ -175,6 +154,5 @@ module _ (visible : Visible) where
       by_kind line (tree.ReturnCall call) inside = stmt_of line (layer.ReturnCall _) ∙ ap suc (call_is call)
 
       pub stmt_is : (s : StmtTree) → SameStmt s
-      stmt_is =
-          stmt_induction SameStmt (λ line k inside. ap stmt_height (tree_layers.stmt_at _ _ _ _ line k) ∙
-          by_kind line k inside ∙ one_more _ ∙ sym (tree_layers.stmt_at _ _ _ _ line k))
+      stmt_is = stmt_induction SameStmt (λ line k inside. ap stmt_height (tree_layers.stmt_at _ _ _ _ line k)
+          ∙ by_kind line k inside ∙ one_more _ ∙ sym (tree_layers.stmt_at _ _ _ _ line k))

@@ -1,12 +1,12 @@
 -- What is found by a name among a section's declarations.
-use Rattle.sc_types.proofs.Common.{Bool, Decl, Function, FunctionTree, Global, HeadTree, List, None, Proto, Some}
-use Rattle.sc_types.proofs.Common.{Struct, [], and_first, and_rest, ap, bytes_eq, bytes_eq-Decides, false, false≢true}
-use Rattle.sc_types.proofs.Common.{function_named, function_names, functions_in, head_named, head_of, heads_in}
-use Rattle.sc_types.proofs.Common.{if◌then◌else◌, is_numbered, list_all, list_any, map, number_of, option_map}
-use Rattle.sc_types.proofs.Common.{proto_names, refl, same_Some, same_text, slice_get, subst, suc, sym, true, zero, ℕ}
-use Rattle.sc_types.proofs.Common.{◌||◌, ◌∙◌, ◌∷◌, ◌≡◌}
+use Rattle.sc_types.proofs.Common.{Bool, Decl, Function, FunctionTree, HeadTree, List, None, Proto, Some, [], and_first}
+use Rattle.sc_types.proofs.Common.{and_rest, ap, bytes_eq, false, false≢true, function_named, function_names}
+use Rattle.sc_types.proofs.Common.{functions_in, head_named, head_of, heads_in, if◌then◌else◌, is_numbered, list_all}
+use Rattle.sc_types.proofs.Common.{list_any, map, number_of, option_map, or_parts, proto_names, refl, same_Some}
+use Rattle.sc_types.proofs.Common.{slice_get, subst, suc, sym, true, zero, ℕ, ◌||◌, ◌∙◌, ◌∷◌, ◌≡◌}
+use Rattle.std.proofs.lemmas.Cmp.{nat_list_eq_equiv}
 use Rattle.sc_types.proofs.Basics.{Each, none_some, find}
-use Rattle.sc_types.proofs.Places.{Text, number_is}
+use Rattle.sc_types.proofs.Places.{Text, first_of, any_found, number_is}
 
 pub each_at : {A : Type 0} (P : A → Type 0) (xs : List A) (i : ℕ) (x : A) → Each P xs → slice_get xs i ≡ Some x → P x
 each_at P [] i x h got = none_some x got
@@ -15,13 +15,7 @@ each_at P (y ∷ xs) (suc i) x h got = each_at P xs i x h.1 got
 
 -- names are the same either way round
 pub same_sym : (a b : Text) → bytes_eq a b ≡ bytes_eq b a
-same_sym a b = by_cases (bytes_eq a b) refl where
-  by_cases : (c : Bool) → bytes_eq a b ≡ c → c ≡ bytes_eq b a
-  by_cases true q = sym ((bytes_eq-Decides b a).1 (sym (same_text a b q)))
-  by_cases false q = other (bytes_eq b a) refl where
-    other : (d : Bool) → bytes_eq b a ≡ d → false ≡ d
-    other false p = refl
-    other true p = absurd (false≢true (sym q ∙ (bytes_eq-Decides a b).1 (sym (same_text b a p))))
+same_sym a b = nat_list_eq_equiv.symm a b
 
 -- A function of a name.
 pub record FoundFunction (name : Text) (trees : List FunctionTree) : Type 0 where
@@ -35,77 +29,51 @@ pub record FoundFunction (name : Text) (trees : List FunctionTree) : Type 0 wher
 abbrev pub names_of : List FunctionTree → List Text
 names_of trees = map {A = FunctionTree} (λ tree. tree.head.name) trees
 
-pub record FoundPlace (name : Text) (trees : List FunctionTree) : Type 0 where
-  pub at : ℕ
-  pub tree : FunctionTree
-  pub place : find (bytes_eq name) (names_of trees) ≡ Some at
-  pub got : slice_get trees at ≡ Some tree
-  pub first : function_named name trees ≡ Some tree
-  pub named : bytes_eq tree.head.name name ≡ true
+-- what passes among names, where they are got from items
+module _ {A : Type 0} (p : Text → Bool) (name_in : A → Text) (q : A → Bool) (same : (x : A) → p (name_in x) ≡ q x) where
+  pub find_names : (xs : List A) → find p (map name_in xs) ≡ find q xs
+  find_names [] = refl
+  find_names (x ∷ xs) = λ i. if same x i then Some 0 else option_map suc (find_names xs i)
 
-place_at : (name : Text) (tree : FunctionTree) (trees : List FunctionTree) (b : Bool) →
-    bytes_eq name tree.head.name ≡ b → (list_any (bytes_eq name) (names_of trees) ≡ true → FoundPlace name trees) →
-    (b || list_any (bytes_eq name) (names_of trees)) ≡ true → FoundPlace name (tree ∷ trees)
-place_at name tree trees true q f h = record {
-  at = 0;
-  tree = tree;
-  place = ap (λ c. if c then Some 0 else option_map suc (find (bytes_eq name) (names_of trees))) q;
-  got = refl;
-  first = ap (λ c. if c then Some tree else function_named name trees) (same_sym _ name ∙ q);
-  named = same_sym _ name ∙ q;
-}
-place_at name tree trees false q f h =
-    let rest : FoundPlace name trees = f h in record {
-      at = suc rest.at;
-      tree = rest.tree;
-      place = ap (λ c. if c then Some 0 else option_map suc (find (bytes_eq name) (names_of trees))) q ∙
-          ap (option_map suc) rest.place;
-      got = rest.got;
-      first = ap (λ c. if c then Some tree else function_named name trees) (same_sym tree.head.name name ∙ q) ∙
-          rest.first;
-      named = rest.named;
-    }
+  pub any_names : (xs : List A) → list_any p (map name_in xs) ≡ list_any q xs
+  any_names [] = refl
+  any_names (x ∷ xs) = λ i. same x i || any_names xs i
 
-find_place : (name : Text) (trees : List FunctionTree) → list_any (bytes_eq name) (names_of trees) ≡ true →
-    FoundPlace name trees
-find_place name [] h = absurd (false≢true h)
-find_place name (tree ∷ trees) h = place_at name tree trees _ refl (find_place name trees) h
+function_first : (name : Text) (trees : List FunctionTree) →
+    function_named name trees ≡ first_of (λ tree. bytes_eq tree.head.name name) trees
+function_first name [] = refl
+function_first name (tree ∷ trees) =
+    ap (λ o. if bytes_eq tree.head.name name then Some tree else o) (function_first name trees)
 
 pub find_function : (name : Text) (trees : List FunctionTree) → is_numbered (names_of trees) name ≡ true →
     FoundFunction name trees
 find_function name trees h =
-    let f = find_place name trees h in
+    let f = any_found _ trees (sym (any_names (bytes_eq name) (λ tree. tree.head.name) _ (λ tree. same_sym name _) _) ∙
+    h) in
     record {
       at = f.at;
-      tree = f.tree;
-      number = number_is _ name ∙ f.place;
+      tree = f.item;
+      number = number_is _ name ∙ find_names _ _ _ (λ tree. same_sym name tree.head.name) trees ∙ f.is;
       got = f.got;
-      first = f.first;
-      named = f.named;
+      first = function_first name trees ∙ f.first;
+      named = f.passes;
     }
 
--- no function of a name
-no_function_at : (name : Text) (tree : FunctionTree) (trees : List FunctionTree) (b : Bool) →
-    bytes_eq name tree.head.name ≡ b → (list_any (bytes_eq name) (names_of trees) ≡ false →
-    function_named name trees ≡ None) → (b || list_any (bytes_eq name) (names_of trees)) ≡ false →
-    function_named name (tree ∷ trees) ≡ None
-no_function_at name tree trees true q f h = absurd (false≢true (sym h))
-no_function_at name tree trees false q f h =
-    ap (λ c. if c then Some tree else function_named name trees) (same_sym _ name ∙ q) ∙ f h
+-- a name that isn't numbered is found nowhere
+module _ {A : Type 0} (p : A → Bool) where
+  no_number : (xs : List A) → list_any p xs ≡ false → find p xs ≡ None
+  no_number [] h = refl
+  no_number (x ∷ xs) h = λ i. if (or_parts (p x) _ h).0 i then Some 0 else
+      option_map suc (no_number xs (or_parts (p x) _ h).1 i)
+
+  none_first : (xs : List A) → list_any p xs ≡ false → first_of p xs ≡ None
+  none_first [] h = refl
+  none_first (x ∷ xs) h = λ i. if (or_parts (p x) _ h).0 i then Some x else none_first xs (or_parts (p x) _ h).1 i
 
 pub no_function : (name : Text) (trees : List FunctionTree) → is_numbered (names_of trees) name ≡ false →
     function_named name trees ≡ None
-no_function name [] h = refl
-no_function name (tree ∷ trees) h = no_function_at name tree trees _ refl (no_function name trees) h
-
--- a name that isn't numbered is found nowhere
-pub no_number : {A : Type 0} (p : A → Bool) (xs : List A) → list_any p xs ≡ false → find p xs ≡ None
-no_number p [] h = refl
-no_number p (x ∷ xs) h = by_case (p x) h (no_number p xs) where
-  by_case : (b : Bool) → (b || list_any p xs) ≡ false → (list_any p xs ≡ false → find p xs ≡ None) →
-      (if b then Some 0 else option_map suc (find p xs)) ≡ None
-  by_case true h f = absurd (false≢true (sym h))
-  by_case false h f = ap (option_map suc) (f h)
+no_function name trees h = function_first name trees ∙
+    none_first _ trees (sym (any_names (bytes_eq name) (λ tree. tree.head.name) _ (λ tree. same_sym name _) _) ∙ h)
 
 pub no_place : (names : List Text) (name : Text) → is_numbered names name ≡ false → number_of names name ≡ None
 no_place names name h = number_is names name ∙ no_number _ names h
@@ -116,19 +84,16 @@ no_place names name h = number_is names name ∙ no_number _ names h
 pub each_function : (P : Decl → Type 0) (decls : List Decl) → Each P decls →
     Each (λ tree. P (Function tree)) (functions_in decls)
 each_function P [] h = tt
-each_function P (Struct tree ∷ decls) h = each_function P decls h.1
-each_function P (Global tree ∷ decls) h = each_function P decls h.1
-each_function P (Proto head ∷ decls) h = each_function P decls h.1
 each_function P (Function tree ∷ decls) h = (h.0, each_function P decls h.1)
+each_function P (_ ∷ decls) h = each_function P decls h.1
 
 -- a test that all heads pass, functions' heads pass
 pub heads_of_functions : (p : HeadTree → Bool) (decls : List Decl) → list_all p (heads_in decls) ≡ true →
     Each (λ tree. p (head_of tree.head) ≡ true) (functions_in decls)
 heads_of_functions p [] h = tt
-heads_of_functions p (Struct tree ∷ decls) h = heads_of_functions p decls h
-heads_of_functions p (Global tree ∷ decls) h = heads_of_functions p decls h
 heads_of_functions p (Proto head ∷ decls) h = heads_of_functions p decls (and_rest _ _ h)
 heads_of_functions p (Function tree ∷ decls) h = (and_first _ _ h, heads_of_functions p decls (and_rest _ _ h))
+heads_of_functions p (_ ∷ decls) h = heads_of_functions p decls h
 
 -- the first head of a name that no function has, which is a prototype's
 pub record FoundHead (P : Decl → Type 0) (name : Text) (decls : List Decl) : Type 0 where
@@ -144,6 +109,11 @@ abbrev some_function : Text → List Decl → Bool
 some_function name decls = list_any (bytes_eq name) (function_names decls)
 
 module _ (P : Decl → Type 0) (name : Text) where
+  -- a declaration is passed over that the name's first head isn't
+  over : {decls : List Decl} (more : List Decl) (rest : FoundHead P name decls) →
+      head_named name (heads_in more) ≡ head_named name (heads_in decls) → FoundHead P name more
+  over more rest is = record { head = rest.head; first = is ∙ rest.first; named = rest.named; holds = rest.holds }
+
   head_at : (head : HeadTree) (decls : List Decl) (b : Bool) → bytes_eq name head.name ≡ b → P (Proto head) →
       (some_proto name decls ≡ true → FoundHead P name decls) → (b || some_proto name decls) ≡ true →
       FoundHead P name (Proto head ∷ decls)
@@ -153,37 +123,15 @@ module _ (P : Decl → Type 0) (name : Text) where
     named = same_sym _ name ∙ q;
     holds = holds;
   }
-  head_at head decls false q holds f h =
-      let rest : FoundHead P name decls = f h in record {
-        head = rest.head;
-        first = ap (λ c. if c then Some head else head_named name (heads_in decls)) (same_sym head.name name ∙ q) ∙
-            rest.first;
-        named = rest.named;
-        holds = rest.holds;
-      }
-
-  -- a function of another name is passed over
-  over_at : (tree : FunctionTree) (decls : List Decl) (b : Bool) → bytes_eq name tree.head.name ≡ b →
-      (b || some_function name decls) ≡ false → (some_function name decls ≡ false → FoundHead P name decls) →
-      FoundHead P name (Function tree ∷ decls)
-  over_at tree decls true q h f = absurd (false≢true (sym h))
-  over_at tree decls false q h f =
-      let rest = f h in record {
-        head = rest.head;
-        first = ap (λ c. if c then Some (head_of tree.head) else head_named name (heads_in decls))
-            (same_sym _ name ∙ q) ∙ rest.first;
-        named = rest.named;
-        holds = rest.holds;
-      }
+  head_at head decls false q holds f h = over (Proto head ∷ decls) (f h)
+      (ap (λ c. if c then Some head else head_named name (heads_in decls)) (same_sym head.name name ∙ q))
 
   pub find_head : (decls : List Decl) → Each P decls → some_proto name decls ≡ true → some_function name decls ≡ false →
       FoundHead P name decls
   find_head [] each h none = absurd (false≢true h)
-  find_head (Struct tree ∷ decls) each h none =
-      let rest = find_head decls each.1 h none in
-      record { head = rest.head; first = rest.first; named = rest.named; holds = rest.holds }
-  find_head (Global tree ∷ decls) each h none =
-      let rest = find_head decls each.1 h none in
-      record { head = rest.head; first = rest.first; named = rest.named; holds = rest.holds }
   find_head (Proto head ∷ decls) each h none = head_at head decls _ refl each.0 (λ k. find_head decls each.1 k none) h
-  find_head (Function tree ∷ decls) each h none = over_at tree decls _ refl none (λ k. find_head decls each.1 h k)
+  find_head (Function tree ∷ decls) each h none =
+      let other = or_parts (bytes_eq name tree.head.name) _ none in
+      over (Function tree ∷ decls) (find_head decls each.1 h other.1)
+      (ap (λ c. if c then Some (head_of tree.head) else head_named name (heads_in decls)) (same_sym _ name ∙ other.0))
+  find_head (decl ∷ decls) each h none = over (decl ∷ decls) (find_head decls each.1 h none) refl

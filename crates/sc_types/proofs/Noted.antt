@@ -1,4 +1,5 @@
 -- The loops over declarations, locals and sections, one step further.
+use Rattle.std.proofs.lemmas.List.Folds.{concat-append}
 use Rattle.sc_types.proofs.Common.{Bool, BrokenLines, Decl, Function, FunctionParam, FunctionTree, Global, GlobalTree}
 use Rattle.sc_types.proofs.Common.{HeadTree, List, LocalTree, None, Option, Proto, SectionTree, Some, Struct}
 use Rattle.sc_types.proofs.Common.{StructTree, [], ap, append_assoc, arith, concat, done, drop, drop-step, drop_all}
@@ -10,10 +11,6 @@ use Rattle.sc_types.proofs.Common.{type_in, unless, with_lines, ℕ, ◌++◌, �
 use Rattle.sc_core.specs.declared.ty.Ty.TheVariants as ty
 use Rattle.sc_types.proofs.Measures.{no-struct}
 use Rattle.sc_scope.proofs.Lines.{step}
-
-concat-append : (xs ys : List (List ℕ)) → concat (xs ++ ys) ≡ concat xs ++ concat ys
-concat-append [] ys = refl
-concat-append (x ∷ xs) ys = ap (λ rest. x ++ rest) (concat-append xs ys) ∙ sym (append_assoc x _ _)
 
 -- the item beyond a count, where there is one
 pub none-beyond : {A : Type 0} (line_of : A → ℕ) (most : ℕ) (items : List A) (old : BrokenLines) →
@@ -46,56 +43,43 @@ module _ {A : Type 0} (pick : Decl → Option A) (part : A → List ℕ) where
   lines_of decls = concat (map part (filter_map pick decls))
 
   lines-append : (xs ys : List Decl) → lines_of (xs ++ ys) ≡ lines_of xs ++ lines_of ys
-  lines-append xs ys =
-      ap (λ zs. concat (map part zs)) (filter_map-append pick xs ys) ∙ (ap concat (map-append part _ _) ∙
-      concat-append (map part _) (map part _))
+  lines-append xs ys = ap (λ zs. concat (map part zs))
+      (filter_map-append pick xs ys) ∙ (ap concat (map-append part _ _) ∙ concat-append (map part _) (map part _))
 
-  kind-noted : (decls : List Decl) (i : ℕ) (decl : Decl) (old a b : BrokenLines) (all : List ℕ) → i < length decls →
-      decl ≡ get_or decls i decl → with_lines a (lines_of (drop i decls)) ≡ with_lines old all →
+  -- one declaration further, and behind the last one
+  abbrev KindNoted : Type 0
+  KindNoted = (decls : List Decl) (i : ℕ) (decl : Decl) (old a b : BrokenLines) (all : List ℕ) →
+      i < length decls → decl ≡ get_or decls i decl → with_lines a (lines_of (drop i decls)) ≡ with_lines old all →
       b ≡ with_lines a (lines_of (decl ∷ [])) → with_lines b (lines_of (drop (i + 1) decls)) ≡ with_lines old all
-  kind-noted decls i decl old a b all lt is p q =
-      step old a b _ _ all (ap (with_lines a) (sym (ap lines_of (drop-step decls i decl lt is) ∙
-      lines-append (decl ∷ []) (drop _ decls))) ∙ p) q
 
-  kind-done : (decls : List Decl) (i : ℕ) (old a : BrokenLines) (all : List ℕ) → length decls ≤ i →
-      with_lines a (lines_of (drop i decls)) ≡ with_lines old all → a ≡ with_lines old all
+  abbrev KindDone : Type 0
+  KindDone = (decls : List Decl) (i : ℕ) (old a : BrokenLines) (all : List ℕ) →
+      length decls ≤ i → with_lines a (lines_of (drop i decls)) ≡ with_lines old all → a ≡ with_lines old all
+
+  kind-noted : KindNoted
+  kind-noted decls i decl old a b all lt is p q = step old a b _ _ all (ap (with_lines a)
+      (sym (ap lines_of (drop-step decls i decl lt is) ∙ lines-append (decl ∷ []) (drop _ decls))) ∙ p) q
+
+  kind-done : KindDone
   kind-done decls i old a all le p = done old a _ all p (ap lines_of (drop_all i decls le))
 
 module _ (section : SectionTree) where
-  pub globals-noted : (decls : List Decl) (i : ℕ) (decl : Decl) (old a b : BrokenLines) (all : List ℕ) →
-      i < length decls → decl ≡ get_or decls i decl →
-      with_lines a (lines_of global_in (global_lines section) (drop i decls)) ≡ with_lines old all →
-      b ≡ with_lines a (lines_of global_in (global_lines section) (decl ∷ [])) →
-      with_lines b (lines_of global_in (global_lines section) (drop (i + 1) decls)) ≡ with_lines old all
+  pub globals-noted : KindNoted global_in (global_lines section)
   globals-noted = kind-noted _ _
 
-  pub globals-done : (decls : List Decl) (i : ℕ) (old a : BrokenLines) (all : List ℕ) → length decls ≤ i →
-      with_lines a (lines_of global_in (global_lines section) (drop i decls)) ≡ with_lines old all →
-      a ≡ with_lines old all
+  pub globals-done : KindDone global_in (global_lines section)
   globals-done = kind-done _ _
 
-  pub heads-noted : (decls : List Decl) (i : ℕ) (decl : Decl) (old a b : BrokenLines) (all : List ℕ) →
-      i < length decls → decl ≡ get_or decls i decl →
-      with_lines a (lines_of head_in (head_lines section) (drop i decls)) ≡ with_lines old all →
-      b ≡ with_lines a (lines_of head_in (head_lines section) (decl ∷ [])) →
-      with_lines b (lines_of head_in (head_lines section) (drop (i + 1) decls)) ≡ with_lines old all
+  pub heads-noted : KindNoted head_in (head_lines section)
   heads-noted = kind-noted head_in _
 
-  pub heads-done : (decls : List Decl) (i : ℕ) (old a : BrokenLines) (all : List ℕ) → length decls ≤ i →
-      with_lines a (lines_of head_in (head_lines section) (drop i decls)) ≡ with_lines old all →
-      a ≡ with_lines old all
+  pub heads-done : KindDone head_in (head_lines section)
   heads-done = kind-done head_in _
 
-  pub functions-noted : (decls : List Decl) (i : ℕ) (decl : Decl) (old a b : BrokenLines) (all : List ℕ) →
-      i < length decls → decl ≡ get_or decls i decl →
-      with_lines a (lines_of function_in (function_lines section) (drop i decls)) ≡ with_lines old all →
-      b ≡ with_lines a (lines_of function_in (function_lines section) (decl ∷ [])) →
-      with_lines b (lines_of function_in (function_lines section) (drop (i + 1) decls)) ≡ with_lines old all
+  pub functions-noted : KindNoted function_in (function_lines section)
   functions-noted = kind-noted _ _
 
-  pub functions-done : (decls : List Decl) (i : ℕ) (old a : BrokenLines) (all : List ℕ) → length decls ≤ i →
-      with_lines a (lines_of function_in (function_lines section) (drop i decls)) ≡ with_lines old all →
-      a ≡ with_lines old all
+  pub functions-done : KindDone function_in (function_lines section)
   functions-done = kind-done _ _
 
   pub global-absent : (decl : Decl) (old : BrokenLines) → ((tree : GlobalTree) → decl ≡ Global tree → ⊥) →
@@ -113,9 +97,8 @@ module _ (section : SectionTree) where
 
   pub function-noted : (tree : FunctionTree) (params : List FunctionParam) (holds : Bool) (old a b : BrokenLines) →
       params ≡ tree.head.params → holds ≡ list_all (param_small section) params →
-      a ≡ with_lines old (unless holds tree.head.line) →
-      b ≡ with_lines a (concat (map (local_lines section) tree.locals)) →
-      b ≡ with_lines old (function_lines section tree)
+      a ≡ with_lines old (unless holds tree.head.line) → b ≡ with_lines a
+      (concat (map (local_lines section) tree.locals)) → b ≡ with_lines old (function_lines section tree)
   function-noted tree params holds old a b s h p q =
       then old a b _ _ (p ∙ ap (λ v. with_lines old (unless v tree.head.line)) (h ∙ ap (list_all _) s)) q
 
@@ -136,16 +119,14 @@ module _ (section : SectionTree) where
   structs-append : (k : ℕ) (xs ys : List StructTree) →
       structs_from section k (xs ++ ys) ≡ structs_from section k xs ++ structs_from section (k + length xs) ys
   structs-append k [] ys = let e : k ≡ k + 0 = omega arith in ap (λ n. structs_from section n ys) e
-  structs-append k (x ∷ xs) ys =
-      ap (λ rest. unless (is_small section (ty.Struct k)) x.line ++ rest) (structs-append (suc k) xs ys)
-      ∙ (ap (λ n. unless (is_small section (ty.Struct k)) x.line ++
+  structs-append k (x ∷ xs) ys = ap (λ rest. unless (is_small section (ty.Struct k)) x.line ++ rest)
+      (structs-append (suc k) xs ys) ∙ (ap (λ n. unless (is_small section (ty.Struct k)) x.line ++
       (structs_from section (suc k) xs ++ structs_from section n ys)) (next-number k (length xs))
       ∙ sym (append_assoc (unless _ x.line) (structs_from section _ xs) (structs_from section _ ys)))
 
   pub structs-noted : (decls : List Decl) (i : ℕ) (decl : Decl) (number next : ℕ) (old a b : BrokenLines)
-      (all : List ℕ) → i < length decls → decl ≡ get_or decls i decl →
-      with_lines a (structs_from section number (structs_in (drop i decls))) ≡ with_lines old all →
-      next ≡ number + length (structs_in (decl ∷ [])) →
+      (all : List ℕ) → i < length decls → decl ≡ get_or decls i decl → with_lines a (structs_from section number
+      (structs_in (drop i decls))) ≡ with_lines old all → next ≡ number + length (structs_in (decl ∷ [])) →
       b ≡ with_lines a (structs_from section number (structs_in (decl ∷ []))) →
       with_lines b (structs_from section next (structs_in (drop (i + 1) decls))) ≡ with_lines old all
   structs-noted decls i decl number next old a b all lt is p n q =
@@ -167,8 +148,7 @@ module _ (section : SectionTree) where
       with_lines a (concat (map (local_lines section) (drop i locals))) ≡ with_lines old all →
       holds ≡ is_small section (type_in section local.ty) → b ≡ with_lines a (unless holds local.line) →
       with_lines b (concat (map (local_lines section) (drop (i + 1) locals))) ≡ with_lines old all
-  local-noted locals i local holds old a b all lt is p h q =
-      step old a b (local_lines section local) _ all
+  local-noted locals i local holds old a b all lt is p h q = step old a b (local_lines section local) _ all
       (ap (λ rest. with_lines a (concat (map (local_lines section) rest))) (sym (drop-step locals i local lt is)) ∙ p)
       (q ∙ ap (λ v. with_lines a (unless v local.line)) h)
 

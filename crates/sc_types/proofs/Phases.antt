@@ -1,14 +1,14 @@
 -- What the phases give to one another.
 use Rattle.sc_types.proofs.Common.{All, AreLow, Decl, Err, HasFewExports, HasFewParams, IsWellTyped, IsWithinCounts}
 use Rattle.sc_types.proofs.Common.{List, None, Ok, OnOk, Option, ProgramTree, Result, SectionTree, [], ap, arith}
-use Rattle.sc_types.proofs.Common.{callees_of, concat, counts_broken, functions_in, globals_in, head_of, heads_in}
-use Rattle.sc_types.proofs.Common.{interface_broken, length, length-map, line_of_text, map, most_exports, most_nodes}
-use Rattle.sc_types.proofs.Common.{most_params, names_broken, nat_le, param_of, program_of, refused_at, structs_in}
-use Rattle.sc_types.proofs.Common.{subst, suc, sym, types_broken, unless, zero, ℕ, ◌&&◌, ◌∙◌, ◌∷◌, ◌≡◌}
+use Rattle.sc_types.proofs.Common.{callees_of, concat, counts_broken, functions_in, head_of, heads_in, interface_broken}
+use Rattle.sc_types.proofs.Common.{length, length-map, line_of_text, map, most_params, names_broken, nat_le, param_of}
+use Rattle.sc_types.proofs.Common.{program_of, refused_at, subst, suc, sym, types_broken, zero, ℕ, ◌∙◌, ◌∷◌, ◌≡◌}
 use Rattle.sc_lex.specs.declared.refusal.Phase.TheVariants as phase
 use Rattle.sc_ast.specs.declared.section.Decl.TheVariants as decl
 use Rattle.sc_types.specs.Counts as counts
 use Rattle.sc_types.proofs.Basics.{Each, rule_holds, front_empty, back_empty, map_empty}
+use Rattle.sc_types.proofs.Facts.{count_facts}
 use Rattle.sc_types.proofs.Places.{is_at_most}
 use Rattle.sc_types.proofs.Sections.{none_beyond}
 use Rattle.sc_types.proofs.Refusals.{no_line}
@@ -41,50 +41,35 @@ all_of P (x ∷ xs) h (suc k) d less = all_of P xs h.1 k d (omega (arith, less))
 few_params : (section : SectionTree) (decls : List Decl) →
     concat (map (counts.head_lines section) (heads_in decls)) ≡ [] → Each HasFewParams (functions_in decls)
 few_params section [] h = tt
-few_params section (decl.Struct tree ∷ decls) h = few_params section decls h
-few_params section (decl.Global tree ∷ decls) h = few_params section decls h
 few_params section (decl.Proto head ∷ decls) h = few_params section decls (back_empty _ _ h)
 few_params section (decl.Function tree ∷ decls) h = (
-  is_at_most (length tree.head.params) most_params
-      (ap (λ n. nat_le n most_params) (sym (length-map tree.head.params param_of)) ∙
-      rule_holds _ tree.head.line (front_empty _ _ h)),
+  is_at_most (length tree.head.params) most_params (ap (λ n. nat_le n most_params)
+      (sym (length-map tree.head.params param_of)) ∙ rule_holds _ tree.head.line (front_empty _ _ h)),
   few_params section decls (back_empty (counts.head_lines section (head_of tree.head)) _ h),
 )
+few_params section (_ ∷ decls) h = few_params section decls h
 
 abbrev Params : SectionTree → Type 0
 Params section = All HasFewParams (functions_in section.decls)
 
 section_counts : (sections : List SectionTree) (k : ℕ) (section : SectionTree) →
     counts.section_lines section (callees_of sections k section) ≡ [] → HasFewExports section × Params section
-section_counts sections k section h =
-    let behind =
-    back_empty (unless (nat_le (counts.section_nodes section (callees_of _ k section)) most_nodes &&
-    nat_le (length section.decls) most_nodes) 1) _ h in
-    let heads =
-    back_empty (concat (map (counts.global_lines section) (globals_in section.decls))) _
-    (back_empty (counts.structs_from section 0 (structs_in section.decls)) _
-    (back_empty (counts.line_beyond (λ line. line.line) most_exports section.imports) _ (back_empty (counts.line_beyond
-    (λ line. _) most_exports section.exports) _ behind))) in (
-      is_at_most _ _ (none_beyond (λ line. line.line) _ _ (front_empty _ _ behind)),
-      all_of HasFewParams _ (few_params section section.decls (front_empty _ _ heads)),
-    )
+section_counts sections k section h = let f = count_facts section (callees_of sections k section) h in (
+  is_at_most _ _ (none_beyond (λ line. line.line) _ _ f.exports),
+  all_of HasFewParams _ (few_params section section.decls f.heads),
+)
 
 all_counts : (sections : List SectionTree) (k : ℕ) (rest : List SectionTree) → counts.lines_from sections k rest ≡ [] →
     Each HasFewExports rest × Each Params rest
 all_counts sections k [] h = (tt, tt)
 all_counts sections k (section ∷ rest) h =
-    let here =
-    section_counts sections k section (map_empty _ _ (front_empty _ _ h)) in
-    let later =
-    all_counts sections (suc k) rest (back_empty _ _ h) in
+    let here = section_counts sections k section (map_empty _ _ (front_empty _ _ h)) in
+    let later = all_counts sections (suc k) rest (back_empty _ _ h) in
     ((here.0, later.0), (here.1, later.1))
 
 pub within_counts : (sections : List SectionTree) → counts_broken sections ≡ [] → IsWithinCounts sections
-within_counts sections h =
-    let c =
-    all_counts sections 0 _ (back_empty _ _ h) in
-    record {
-      sections = is_at_most _ _ (none_beyond (λ section. line_of_text _ 1) _ _ (front_empty _ _ h));
-      exports = all_of HasFewExports _ c.0;
-      params = all_of Params _ c.1;
-    }
+within_counts sections h = let c = all_counts sections 0 _ (back_empty _ _ h) in record {
+  sections = is_at_most _ _ (none_beyond (λ section. line_of_text _ 1) _ _ (front_empty _ _ h));
+  exports = all_of HasFewExports _ c.0;
+  params = all_of Params _ c.1;
+}

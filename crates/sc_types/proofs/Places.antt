@@ -1,8 +1,10 @@
 -- The places of names in lists of names.
-use Rattle.sc_types.proofs.Common.{Bool, Decides-eqb, List, Option, Some, [], ap, arith, bytes_eq, bytes_eq-Decides}
-use Rattle.sc_types.proofs.Common.{false, false≢true, if◌then◌else◌, is_numbered, le-leb, leb-true, length, list_any}
-use Rattle.sc_types.proofs.Common.{lt-ltb, nat_le, nat_lt, number_of, number_or_zero, option_map, or_parts, refl}
-use Rattle.sc_types.proofs.Common.{slice_get, subst, suc, sym, true, ℕ, ◌++◌, ◌<◌, ◌==◌, ◌||◌, ◌∙◌, ◌∷◌, ◌≡◌, ◌≤◌}
+use Rattle.sc_types.proofs.Common.{Bool, Decides-eqb, List, None, Option, Some, [], ap, arith, bytes_eq}
+use Rattle.sc_types.proofs.Common.{bytes_eq-Decides, false, false≢true, if◌then◌else◌, is_numbered, le-leb, leb-true}
+use Rattle.sc_types.proofs.Common.{length, list_any, lt-ltb, nat_le, nat_lt, number_of, number_or_zero, option_map}
+use Rattle.sc_types.proofs.Common.{or_left, or_parts, refl, slice_get, subst, suc, sym, true, ℕ, ◌++◌, ◌<◌, ◌==◌, ◌||◌}
+use Rattle.sc_types.proofs.Common.{◌∙◌, ◌∷◌, ◌≡◌, ◌≤◌}
+use Rattle.std.proofs.lemmas.List.Folds.{list_any-append}
 use Rattle.sc_types.proofs.Basics.{find, position_is}
 
 abbrev pub Text : Type 0
@@ -29,11 +31,16 @@ pub record Placed (names : List Text) (name : Text) : Type 0 where
   pub is : number_of names name ≡ Some at
   pub within : at < length names
 
--- the same of any test
+-- the first item that passes a test, and where it stands
+abbrev pub first_of : {A : Type 0} → (A → Bool) → List A → Option A
+first_of p [] = None
+first_of p (x ∷ xs) = if p x then Some x else first_of p xs
+
 pub record Found {A : Type 0} (p : A → Bool) (xs : List A) : Type 0 where
   pub at : ℕ
   pub item : A
   pub is : find p xs ≡ Some at
+  pub first : first_of p xs ≡ Some item
   pub within : at < length xs
   pub got : slice_get xs at ≡ Some item
   pub passes : p item ≡ true
@@ -41,25 +48,24 @@ pub record Found {A : Type 0} (p : A → Bool) (xs : List A) : Type 0 where
 module _ {A : Type 0} (p : A → Bool) where
   found_at : (x : A) (xs : List A) (b : Bool) → p x ≡ b → (list_any p xs ≡ true → Found p xs) →
       (b || list_any p xs) ≡ true → Found p (x ∷ xs)
-  found_at x xs true q f h =
-      record {
-        at = 0;
-        item = x;
-        is = ap (λ c. if c then Some 0 else option_map suc (find p xs)) q;
-        within = omega arith;
-        got = refl;
-        passes = q;
-      }
-  found_at x xs false q f h =
-      let rest = f h in
-      record {
-        at = suc rest.at;
-        item = rest.item;
-        is = ap (λ c. if c then Some 0 else option_map suc (find p xs)) q ∙ ap (option_map suc) rest.is;
-        within = omega (arith, rest.within);
-        got = rest.got;
-        passes = rest.passes;
-      }
+  found_at x xs true q f h = record {
+    at = 0;
+    item = x;
+    is = ap (λ c. if c then Some 0 else option_map suc (find p xs)) q;
+    first = ap (λ c. if c then Some x else first_of p xs) q;
+    within = omega arith;
+    got = refl;
+    passes = q;
+  }
+  found_at x xs false q f h = let rest = f h in record {
+    at = suc rest.at;
+    item = rest.item;
+    is = ap (λ c. if c then Some 0 else option_map suc (find p xs)) q ∙ ap (option_map suc) rest.is;
+    first = ap (λ c. if c then Some x else first_of p xs) q ∙ rest.first;
+    within = omega (arith, rest.within);
+    got = rest.got;
+    passes = rest.passes;
+  }
 
   pub any_found : (xs : List A) → list_any p xs ≡ true → Found p xs
   any_found [] h = absurd (false≢true h)
@@ -110,14 +116,6 @@ pub number_next : (names : List Text) (name : Text) (more : List Text) → is_nu
     number_of (names ++ name ∷ more) name ≡ Some (length names)
 number_next names name more h = number_is _ name ∙ find_next _ names name more h (same_refl name)
 
-list_any-append : {A : Type 0} (p : A → Bool) (xs ys : List A) → list_any p xs ≡ true → list_any p (xs ++ ys) ≡ true
-list_any-append p [] ys h = absurd (false≢true h)
-list_any-append p (x ∷ xs) ys h = either_way (p x) h (list_any-append p xs ys) where
-  either_way : (b : Bool) → (b || list_any p xs) ≡ true → (list_any p xs ≡ true → list_any p (xs ++ ys) ≡ true) →
-      (b || list_any p (xs ++ ys)) ≡ true
-  either_way true h f = refl
-  either_way false h f = f h
-
 pub numbered_front : (names more : List Text) (name : Text) → is_numbered names name ≡ true →
     is_numbered (names ++ more) name ≡ true
-numbered_front names more name h = list_any-append _ names more h
+numbered_front names more name h = list_any-append _ names more ∙ or_left _ _ h

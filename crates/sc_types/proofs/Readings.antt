@@ -25,20 +25,14 @@ pub unread_fails : (text : List ℕ) (in_phase : Phase) (line : ℕ) → reading
     Fails text in_phase line
 unread_fails text phase.Lex line f = f
 unread_fails text phase.Syntax line f = f
-unread_fails text phase.Names line f = absurd f
-unread_fails text phase.Types line f = absurd f
-unread_fails text phase.Interface line f = absurd f
-unread_fails text phase.Count line f = absurd f
+unread_fails text _ line f = absurd f
 
 -- a text whose trees break a rule fails
 pub untyped_fails : (text : List ℕ) (trees : List SectionTree) (in_phase : Phase) (line : ℕ) → Reads text trees →
     FailsRules trees in_phase line → Fails text in_phase line
 untyped_fails text trees phase.Lex line r f = absurd f
 untyped_fails text trees phase.Syntax line r f = absurd f
-untyped_fails text trees phase.Names line r f = record { sections = trees; reads = r; fails = f }
-untyped_fails text trees phase.Types line r f = record { sections = trees; reads = r; fails = f }
-untyped_fails text trees phase.Interface line r f = record { sections = trees; reads = r; fails = f }
-untyped_fails text trees phase.Count line r f = record { sections = trees; reads = r; fails = f }
+untyped_fails text trees _ line r f = record { sections = trees; reads = r; fails = f }
 
 -- a text whose trees have their types is accepted
 pub typed_accepted : {E : Type 0} (text : List ℕ) (trees : List SectionTree) (r : Result ProgramTree E) →
@@ -51,11 +45,10 @@ abbrev Decided : List ℕ → Type 0
 Decided lines = (lines ≡ []) ⊎ ((line : ℕ) × (refused_at lines ≡ Some line))
 
 decide : (lines : List ℕ) → Decided lines
-decide lines = go _ refl
-  where
-    go : (found : Option ℕ) → refused_at lines ≡ found → Decided lines
-    go None h = inl (no_line lines h)
-    go (Some line) h = inr (line, h)
+decide lines = go _ refl where
+  go : (found : Option ℕ) → refused_at lines ≡ found → Decided lines
+  go None h = inl (no_line lines h)
+  go (Some line) h = inr (line, h)
 
 abbrev Judged : List SectionTree → Type 0
 Judged trees = IsTyped trees (program_of trees) ⊎ ((in_phase : Phase) × (line : ℕ) × FailsRules trees in_phase line)

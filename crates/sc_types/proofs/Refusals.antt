@@ -37,26 +37,17 @@ pub one_refusal : (sections : List SectionTree) (p q : Phase) (line other : ℕ)
     FailsRules sections q other → (p ≡ q) × (line ≡ other)
 one_refusal sections phase.Lex q line other f g = absurd f
 one_refusal sections phase.Syntax q line other f g = absurd f
-one_refusal sections phase.Names phase.Lex line other f g = absurd g
-one_refusal sections phase.Names phase.Syntax line other f g = absurd g
+one_refusal sections p phase.Lex line other f g = absurd g
+one_refusal sections p phase.Syntax line other f g = absurd g
 one_refusal sections phase.Names phase.Names line other f g = (refl, same_Some line other (sym f ∙ g))
-one_refusal sections phase.Names phase.Types line other f g = none_refused _ line g.0 f
-one_refusal sections phase.Names phase.Interface line other f g = none_refused _ line g.0 f
-one_refusal sections phase.Names phase.Count line other f g = none_refused _ line g.0 f
-one_refusal sections phase.Types phase.Lex line other f g = absurd g
-one_refusal sections phase.Types phase.Syntax line other f g = absurd g
+one_refusal sections phase.Names q line other f g = none_refused _ line g.0 f
 one_refusal sections phase.Types phase.Names line other f g = none_refused _ other f.0 g
 one_refusal sections phase.Types phase.Types line other f g = (refl, same_Some line other (sym f.1 ∙ g.1))
-one_refusal sections phase.Types phase.Interface line other f g = none_refused _ line g.1 f.1
-one_refusal sections phase.Types phase.Count line other f g = none_refused _ line g.1 f.1
-one_refusal sections phase.Interface phase.Lex line other f g = absurd g
-one_refusal sections phase.Interface phase.Syntax line other f g = absurd g
+one_refusal sections phase.Types q line other f g = none_refused _ line g.1 f.1
 one_refusal sections phase.Interface phase.Names line other f g = none_refused _ other f.0 g
 one_refusal sections phase.Interface phase.Types line other f g = none_refused _ other f.1 g.1
 one_refusal sections phase.Interface phase.Interface line other f g = (refl, same_Some line other (sym f.2 ∙ g.2))
 one_refusal sections phase.Interface phase.Count line other f g = none_refused _ line g.2 f.2
-one_refusal sections phase.Count phase.Lex line other f g = absurd g
-one_refusal sections phase.Count phase.Syntax line other f g = absurd g
 one_refusal sections phase.Count phase.Names line other f g = none_refused _ other f.0 g
 one_refusal sections phase.Count phase.Types line other f g = none_refused _ other f.1 g.1
 one_refusal sections phase.Count phase.Interface line other f g = none_refused _ other f.2 g.2
@@ -73,8 +64,7 @@ module _ (one_reading : (text : List ℕ) (trees others : List SectionTree) → 
 
   pub accepted_of : (text : List ℕ) (program : ProgramTree) (in_phase : Phase) (line : ℕ) → Accepts text program →
       FailsTyped text in_phase line → ⊥
-  accepted_of text program in_phase line a f =
-      typed_passes _ program in_phase line a.typed
+  accepted_of text program in_phase line a f = typed_passes _ program in_phase line a.typed
       (subst (λ s. FailsRules s _ line) (one_reading text _ _ f.reads a.reads) f.fails)
 
   module _ (read_or_refused : (text : List ℕ) (trees : List SectionTree) (in_phase : Phase) (line : ℕ) →
@@ -83,7 +73,4 @@ module _ (one_reading : (text : List ℕ) (trees others : List SectionTree) → 
         Accepts text program → Fails text in_phase line → ⊥
     accepted_or_refused_of text program phase.Lex line a f = read_or_refused text _ phase.Lex line a.reads f
     accepted_or_refused_of text program phase.Syntax line a f = read_or_refused text _ phase.Syntax line a.reads f
-    accepted_or_refused_of text program phase.Names line a f = accepted_of text program _ line a f
-    accepted_or_refused_of text program phase.Types line a f = accepted_of text program _ line a f
-    accepted_or_refused_of text program phase.Interface line a f = accepted_of text program _ line a f
-    accepted_or_refused_of text program phase.Count line a f = accepted_of text program _ line a f
+    accepted_or_refused_of text program in_phase line a f = accepted_of text program in_phase line a f

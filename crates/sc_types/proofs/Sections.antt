@@ -1,19 +1,22 @@
 -- Sections that break no rule are well typed, and have the interfaces of the text.
-use Rattle.sc_types.proofs.Common.{BaseTree, BaseTy, Bool, Callees, Decides-eqb, Decl, ExportLine, Function}
-use Rattle.sc_types.proofs.Common.{FunctionTree, Global, HeadTree, ImportLine, Interface, List, None, Option, ParamTree}
-use Rattle.sc_types.proofs.Common.{Proto, SectionTree, Signature, Some, Struct, Ty, TypeName, TypedSection, [], agree}
-use Rattle.sc_types.proofs.Common.{and_first, and_from, and_rest, any_passes_from_place, ap, append-nil, append_assoc}
-use Rattle.sc_types.proofs.Common.{are_distinct, arith, bytes_eq, callees_of, export_at, export_fits, export_name}
-use Rattle.sc_types.proofs.Common.{export_names, false, false≢true, filter_map-append, function_named, function_names}
-use Rattle.sc_types.proofs.Common.{functions_in, get_behind, head_crosses, head_fits, head_of, if◌then◌else◌}
-use Rattle.sc_types.proofs.Common.{import_fits, import_name, import_names, import_of, input_name, interface_fits}
-use Rattle.sc_types.proofs.Common.{interface_of, interfaces_of, is_numbered, is_plain_name, is_some, length, length-map}
-use Rattle.sc_types.proofs.Common.{list_all, list_any, main_name, map, map-append, map_twice, most_exports, most_nodes}
-use Rattle.sc_types.proofs.Common.{nat_le, not, not-true, number_or_zero, offered, offering, option_map, or_left}
-use Rattle.sc_types.proofs.Common.{output_name, promised, proto_of, proto_signature, refl, same_base, same_results}
-use Rattle.sc_types.proofs.Common.{same_signature, same_text, same_ty, same_type, same_types, signature_of, slice_get}
-use Rattle.sc_types.proofs.Common.{subst, suc, sym, true, typed_function, typed_section, unless, zero, ℕ, ◌&&◌, ◌++◌}
-use Rattle.sc_types.proofs.Common.{◌==◌, ◌||◌, ◌∙◌, ◌∷◌, ◌≡◌, ◌≤◌}
+use Rattle.sc_types.proofs.Common.{BaseTree, Bool, Callees, Decides-eqb, Decl, ExportLine, Function, FunctionTree}
+use Rattle.sc_types.proofs.Common.{HeadTree, ImportLine, Interface, List, None, Option, ParamTree, Proto, SectionTree}
+use Rattle.sc_types.proofs.Common.{Signature, Some, Struct, Ty, TypeName, TypedSection, [], agree, and_first, and_from}
+use Rattle.sc_types.proofs.Common.{and_rest, any_passes_from_place, ap, append-nil, append_assoc, are_distinct, arith}
+use Rattle.sc_types.proofs.Common.{bytes_eq, callees_of, export_at, export_fits, export_name, export_names, false}
+use Rattle.sc_types.proofs.Common.{false≢true, filter_map-append, function_named, function_names, functions_in}
+use Rattle.sc_types.proofs.Common.{get_behind, head_crosses, head_fits, head_of, if◌then◌else◌, import_fits}
+use Rattle.sc_types.proofs.Common.{import_name, import_names, import_of, input_name, interface_fits, interface_of}
+use Rattle.sc_types.proofs.Common.{interfaces_of, is_numbered, is_plain_name, is_some, length, length-map, list_all}
+use Rattle.sc_types.proofs.Common.{list_any, main_name, map, map-append, map_twice, most_exports, nat_le, not, not-true}
+use Rattle.sc_types.proofs.Common.{number_or_zero, offered, offering, option_map, or_left, output_name, promised}
+use Rattle.sc_types.proofs.Common.{proto_of, proto_signature, refl, same_base, same_results, same_signature, same_text}
+use Rattle.sc_types.proofs.Common.{same_type, same_types, signature_of, slice_get, subst, suc, sym, true}
+use Rattle.sc_types.proofs.Common.{typed_function, typed_section, zero, ℕ, ◌&&◌, ◌++◌, ◌==◌, ◌||◌, ◌∙◌, ◌∷◌, ◌≡◌, ◌≤◌}
+use Rattle.std.proofs.lemmas.Bool.{or_from}
+use Rattle.sc_elab_expr.proofs.Parts.{same_ty-refl}
+use Rattle.std.proofs.lemmas.Option.{slice_get-map}
+use Rattle.std.proofs.lemmas.List.Folds.{list_any-append}
 use Rattle.sc_core.specs.declared.section.TypedFunction.{TypedFunction}
 use Rattle.sc_event.specs.declared.interface.Import.TheVariants as import
 use Rattle.sc_event.specs.declared.interface.Proto as event
@@ -24,35 +27,21 @@ use Rattle.sc_scope.specs.Declarations as decls
 use Rattle.sc_scope.specs.Names as names
 use Rattle.sc_interfaces.specs.Faces as faces
 use Rattle.sc_types.specs.Counts as counts
-use Rattle.sc_types.proofs.Basics.{rule_holds, front_empty, back_empty, Each, none_some, some_item}
-use Rattle.sc_types.proofs.Places.{Text, same_refl, eq_refl, at_most}
+use Rattle.sc_types.proofs.Basics.{or_not, rule_holds, front_empty, back_empty, Each, none_some, some_item}
+use Rattle.sc_types.proofs.Places.{Text, same_refl, at_most}
 use Rattle.sc_types.proofs.Lookups.{each_at, each_function, FoundFunction, find_function}
-use Rattle.sc_types.proofs.Facts.{Fresh, fresh_distinct, ExportFacts, ImportFacts, DeclFacts, FaceFacts}
-use Rattle.sc_types.proofs.Calls.{agreed_signature, found_by, get_map, own_signature, Offering, find_offering}
-use Rattle.sc_types.proofs.Calls.{export_is}
+use Rattle.sc_types.proofs.Facts.{Fresh, fresh_distinct, ExportFacts, ImportFacts, DeclFacts, FaceFacts, CountFacts}
+use Rattle.sc_types.proofs.Calls.{agreed_signature, found_by, own_signature, Offering, find_offering, export_is}
 
 -- Signatures are the same as themselves.
 
-base_refl : (b : BaseTy) → same_base b b ≡ true
-base_refl base.Int = refl
-base_refl base.Unsigned = refl
-base_refl (base.Struct n) = eq_refl n
-
-ty_refl : (t : Ty) → same_ty t t ≡ true
-ty_refl ty.Int = refl
-ty_refl ty.Unsigned = refl
-ty_refl (ty.Struct n) = eq_refl n
-ty_refl (ty.Pointer stars b) = and_from (stars == stars) (same_base b b) (eq_refl stars) (base_refl b)
-ty_refl (ty.Array stars b count) = and_from (stars == stars) _ (eq_refl stars)
-    (and_from _ _ (base_refl b) (eq_refl count))
-
 types_refl : (types : List Ty) → same_types types types ≡ true
 types_refl [] = refl
-types_refl (t ∷ types) = and_from _ _ (ty_refl t) (types_refl types)
+types_refl (t ∷ types) = and_from _ _ (same_ty-refl t) (types_refl types)
 
 result_refl : (result : Option Ty) → same_results result result ≡ true
 result_refl None = refl
-result_refl (Some t) = ty_refl t
+result_refl (Some t) = same_ty-refl t
 
 pub signature_refl : (s : Signature) → same_signature s s ≡ true
 signature_refl s = and_from _ _ (types_refl s.params) (result_refl s.result)
@@ -60,9 +49,8 @@ signature_refl s = and_from _ _ (types_refl s.params) (result_refl s.result)
 -- Heads agree with themselves.
 
 base_agrees : (a : BaseTree) → faces.same_base a a ≡ true
-base_agrees tree_base.Int = refl
-base_agrees tree_base.Unsigned = refl
 base_agrees (tree_base.Struct tag) = same_refl tag
+base_agrees _ = refl
 
 type_agrees : (t : TypeName) → same_type t t ≡ true
 type_agrees t = and_from _ _ ((Decides-eqb t.stars t.stars).1 refl) (base_agrees t.base)
@@ -94,23 +82,14 @@ none_beyond line_of most items h = by_item line_of most items _ refl h
 
 -- Names that a list doesn't have are distinct from its own.
 
-none_there : (a b : Bool) → (a || b) ≡ false → (a ≡ false) × (b ≡ false)
-none_there true b h = absurd (false≢true (sym h))
-none_there false b h = (refl, h)
-
 pub not_in_append : (name : Text) (xs ys : List Text) → is_numbered xs name ≡ false → is_numbered ys name ≡ false →
     is_numbered (xs ++ ys) name ≡ false
-not_in_append name [] ys h k = k
-not_in_append name (x ∷ xs) ys h k =
-    let parts =
-    none_there _ _ h in
-    ap (λ b. b || is_numbered (xs ++ ys) name) parts.0 ∙ not_in_append name xs ys parts.1 k
+not_in_append name xs ys h k = list_any-append _ xs ys ∙ or_from _ _ h k
 
 pub both_distinct : (xs ys : List Text) → decls.are_distinct xs ≡ true → Each (λ x. is_numbered ys x ≡ false) xs →
     decls.are_distinct ys ≡ true → decls.are_distinct (xs ++ ys) ≡ true
 both_distinct [] ys h none k = k
-both_distinct (x ∷ xs) ys h none k =
-    and_from _ _ (ap not (not_in_append x xs ys (not-true _ (and_first _ _ h)) none.0))
+both_distinct (x ∷ xs) ys h none k = and_from _ _ (ap not (not_in_append x xs ys (not-true _ (and_first _ _ h)) none.0))
     (both_distinct xs ys (and_rest _ _ h) none.1 k)
 
 -- Functions are distinct.
@@ -126,22 +105,14 @@ names_same before decl h = names_append before _ ∙ ap (λ more. function_names
 pub functions_fresh : (section : SectionTree) (before rest : List Decl) → names.lines_from section before rest ≡ [] →
     Fresh (function_names before) (function_names rest)
 functions_fresh section before [] h = tt
-functions_fresh section before (Struct tree ∷ rest) h =
-    subst (λ all. Fresh all (function_names rest)) (names_same before (Struct tree) refl)
-    (functions_fresh section (before ++ Struct tree ∷ []) rest (back_empty _ _ h))
-functions_fresh section before (Global tree ∷ rest) h =
-    subst (λ all. Fresh all (function_names rest)) (names_same before (Global tree) refl)
-    (functions_fresh section (before ++ Global tree ∷ []) rest (back_empty _ _ h))
-functions_fresh section before (Proto head ∷ rest) h =
-    subst (λ all. Fresh all (function_names rest)) (names_same before (Proto head) refl)
-    (functions_fresh section (before ++ Proto head ∷ []) rest (back_empty _ _ h))
 functions_fresh section before (Function tree ∷ rest) h =
-    let known =
-    rule_holds _ tree.head.line (front_empty _ _ (front_empty _ _ h)) in (
+    let known = rule_holds _ tree.head.line (front_empty _ _ (front_empty _ _ h)) in (
       not-true _ (and_first _ _ (and_rest _ _ known)),
       subst (λ all. Fresh all (function_names rest)) (names_append before (Function tree ∷ []))
           (functions_fresh section (before ++ Function tree ∷ []) rest (back_empty _ _ h)),
     )
+functions_fresh section before (decl ∷ rest) h = subst (λ all. Fresh all (function_names rest))
+    (names_same before decl refl) (functions_fresh section (before ++ decl ∷ []) rest (back_empty _ _ h))
 
 -- the name of what is promised under a name
 pub promised_name : (name : Text) (found : Option FunctionTree) → (promised name found).name ≡ name
@@ -168,14 +139,12 @@ module _ (sections : List SectionTree) (hold : (j : ℕ) (s : SectionTree) → s
   other_name : (line : ImportLine) → Offering number line sections →
       import_name (interfaces_of sections) (offered line (offering number line 0 sections)) ≡ line.name
   other_name line o =
-      let export =
-      found_by (λ line. line.name) line.name o.section.exports
+      let export = found_by (λ line. line.name) line.name o.section.exports
       (and_rest (not (o.number == number)) _ (and_rest (bytes_eq o.section.name line.comp) _ o.offers)) in
       ap (λ found. import_name (interfaces_of sections) (offered line found)) o.is
       ∙ ap (λ index. export_name (export_at (interfaces_of sections) o.number (number_or_zero index))) export.place
-      ∙ ap export_name (export_is sections o.number _ export.at export.item o.got export.got)
-      ∙ promised_name _ (function_named export.item.name (functions_in o.section.decls))
-      ∙ sym (same_text _ _ export.named)
+      ∙ ap export_name (export_is sections o.number _ export.at export.item o.got export.got) ∙ promised_name _
+      (function_named export.item.name (functions_in o.section.decls)) ∙ sym (same_text _ _ export.named)
 
   name_by : (line : ImportLine) (env input output : Bool) → bytes_eq line.name input_name ≡ input →
       bytes_eq line.name output_name ≡ output → (if env then input || output else
@@ -224,14 +193,8 @@ module _ (sections : List SectionTree) (hold : (j : ℕ) (s : SectionTree) → s
       λ i. promised_name line.name (function_named line.name (functions_in section.decls)) i ∷ exports_named lines i
 
   exports_distinct : are_distinct (map {A = event.Proto} (λ p. p.name) interface.exports) ≡ true
-  exports_distinct =
-      subst (λ all. are_distinct all ≡ true) (sym (exports_named _))
-      (fresh_distinct [] (export_names section) facts.fresh_exports)
-
-  or_not : (a b : Bool) → (a || not b) ≡ true → b ≡ true → a ≡ true
-  or_not true b h q = refl
-  or_not false true h q = h
-  or_not false false h q = absurd (false≢true q)
+  exports_distinct = subst (λ all. are_distinct all ≡ true)
+      (sym (exports_named _)) (fresh_distinct [] (export_names section) facts.fresh_exports)
 
   -- an export line at its place
   module _ (at : ℕ) (line : ExportLine) (got : slice_get section.exports at ≡ Some line)
@@ -240,14 +203,12 @@ module _ (sections : List SectionTree) (hold : (j : ℕ) (s : SectionTree) → s
     g = find_function _ _ f.defined
 
     exported : is_numbered (export_names section) g.tree.head.name ≡ true
-    exported =
-        any_passes_from_place (bytes_eq _) (export_names section) at line.name (get_map _ _ at ∙
-        ap (option_map _) got) g.named
+    exported = any_passes_from_place (bytes_eq _)
+        (export_names section) at line.name (slice_get-map _ _ at ∙ ap (option_map _) got) g.named
 
     fits : head_fits sections number section (head_of g.tree.head) ≡ true
-    fits =
-        (each_at (λ tree. DeclFacts sections number section facts.mains (Function tree)) _ g.at g.tree (each_function
-        (DeclFacts _ number section _) section.decls facts.decls) g.got).0
+    fits = (each_at (λ tree. DeclFacts sections number section facts.mains (Function tree)) _ g.at g.tree
+        (each_function (DeclFacts _ number section _) section.decls facts.decls) g.got).0
 
     pub crossing : head_crosses (head_of g.tree.head) ≡ true
     crossing = or_not _ _ fits (or_left _ _ exported)
@@ -256,34 +217,28 @@ module _ (sections : List SectionTree) (hold : (j : ℕ) (s : SectionTree) → s
     promise = ap (promised _) g.first
 
     signatures : signature_of (typed_function section callees g.tree) ≡ proto_signature (proto_of section line)
-    signatures =
-        own_signature section callees g.tree ∙ sym (agreed_signature _ line.name g.tree
+    signatures = own_signature section callees g.tree ∙ sym (agreed_signature _ line.name g.tree
         (head_of g.tree.head) (agrees (head_of g.tree.head)) crossing) ∙ ap proto_signature (sym promise)
 
     is_function : list_any {X = TypedFunction} (λ f. bytes_eq f.name (proto_of section line).name &&
         same_signature (signature_of f) (proto_signature (proto_of section line))) typed.functions ≡ true
-    is_function =
-        any_passes_from_place (λ f. bytes_eq f.name (proto_of section line).name &&
+    is_function = any_passes_from_place (λ f. bytes_eq f.name (proto_of section line).name &&
         same_signature (signature_of f) (proto_signature (proto_of section line))) typed.functions g.at
-        (typed_function section callees g.tree) (get_map _ _ g.at ∙ ap (option_map _) g.got)
-        (and_from _ _ (ap (bytes_eq g.tree.head.name)
-        (promised_name _ (function_named line.name (functions_in section.decls))) ∙ g.named)
-        (ap (λ s. same_signature s (proto_signature (proto_of section line))) signatures ∙
-        signature_refl (proto_signature (proto_of section line))))
+        (typed_function section callees g.tree) (slice_get-map _ _ g.at ∙ ap (option_map _) g.got) (and_from _ _
+        (ap (bytes_eq g.tree.head.name) (promised_name _ (function_named line.name (functions_in section.decls)))
+        ∙ g.named) (ap (λ s. same_signature s (proto_signature (proto_of section line))) signatures
+        ∙ signature_refl (proto_signature (proto_of section line))))
 
     export_is_function : export_fits typed.functions (proto_of section line) ≡ true
-    export_is_function =
-        and_from _ _ (ap is_plain_name (promised_name _
-        (function_named line.name (functions_in section.decls))) ∙ f.plain)
-        (and_from _ _ (ap not (ap (λ n. bytes_eq n main_name)
+    export_is_function = and_from _ _ (ap is_plain_name (promised_name _ (function_named line.name
+        (functions_in section.decls))) ∙ f.plain) (and_from _ _ (ap not (ap (λ n. bytes_eq n main_name)
         (promised_name _ (function_named line.name (functions_in section.decls))) ∙ f.no_main)) is_function)
 
   exports_are : (before lines : List ExportLine) → before ++ lines ≡ section.exports →
       Each (ExportFacts sections number section) lines →
       list_all (export_fits typed.functions) (map (proto_of section) lines) ≡ true
   exports_are before [] whole each = refl
-  exports_are before (line ∷ lines) whole each =
-      and_from _ _ (export_is_function (length before) line
+  exports_are before (line ∷ lines) whole each = and_from _ _ (export_is_function (length before) line
       (ap (λ list. slice_get list (length before)) (sym whole) ∙ get_behind before line lines) each.0)
       (exports_are (before ++ line ∷ []) lines (append_assoc before _ lines ∙ whole) each.1)
 
@@ -292,8 +247,7 @@ module _ (sections : List SectionTree) (hold : (j : ℕ) (s : SectionTree) → s
   other_fits : (line : ImportLine) → Offering number line sections →
       import_fits (interfaces_of sections) number (offered line (offering number line 0 sections)) ≡ true
   other_fits line o =
-      let export =
-      found_by (λ line. line.name) line.name o.section.exports
+      let export = found_by (λ line. line.name) line.name o.section.exports
       (and_rest (not (o.number == number)) _ (and_rest (bytes_eq o.section.name line.comp) _ o.offers)) in
       ap (λ found. import_fits (interfaces_of sections) number (offered line found)) o.is
       ∙ ap (λ index. import_fits (interfaces_of sections) number
@@ -317,15 +271,12 @@ module _ (sections : List SectionTree) (hold : (j : ℕ) (s : SectionTree) → s
 
   -- Counts.
 
-  pub interface_is : names.section_lines section ≡ [] → counts.section_lines section callees ≡ [] →
+  pub interface_is : names.section_lines section ≡ [] → CountFacts section callees →
       interface_fits (interfaces_of sections) number interface typed ≡ true
-  interface_is in_names count =
-      let behind =
-      back_empty (unless (nat_le (counts.section_nodes section callees) most_nodes &&
-      nat_le (length _) most_nodes) 1) _ count in
+  interface_is in_names f =
       and_from _ _ (all_distinct in_names) (and_from _ _ exports_distinct
       (and_from _ _ (exports_are [] _ refl facts.exports) (and_from _ _ (imports_are section.imports facts.imports)
       (and_from _ _ (ap (λ n. nat_le n most_exports) (length-map _ _) ∙
-      none_beyond (λ line. _) most_exports section.exports (front_empty _ _ behind))
+      none_beyond {A = ExportLine} (λ line. line.line) most_exports section.exports f.exports)
       (ap (λ n. nat_le n most_exports) (length-map _ (import_of _ number)) ∙
-      none_beyond (λ line. line.line) most_exports section.imports (front_empty _ _ (back_empty _ _ behind)))))))
+      none_beyond {A = ImportLine} (λ line. line.line) most_exports section.imports f.imports)))))

@@ -22,27 +22,23 @@ use Rattle.sc_types.proofs.Calls.{length_snoc}
 -- a base that is known among the first tags has a number below theirs
 pub base_is_within : (tags more : List Text) (b : BaseTree) → base_known tags b ≡ true →
     base_within (length tags) (base_of (tags ++ more) b) ≡ true
-base_is_within tags more base_tree.Int h = refl
-base_is_within tags more base_tree.Unsigned h = refl
-base_is_within tags more (base_tree.Struct tag) h =
-    less _ _
+base_is_within tags more (base_tree.Struct tag) h = less _ _
     (subst (λ o. number_or_zero o < length tags) (sym (number_front tags more tag h)) (number_within tags tag h))
+base_is_within tags more _ h = refl
 
 pub is_less : (i n : ℕ) → nat_lt i n ≡ true → i < n
 is_less i n h = ltb-true i n h
 
 more_within : (n m : ℕ) (b : BaseTy) → n ≤ m → base_within n b ≡ true → base_within m b ≡ true
-more_within n m base.Int h k = refl
-more_within n m base.Unsigned h k = refl
 more_within n m (base.Struct i) h k = less i m (omega (arith, h, is_less i n k))
+more_within n m _ h k = refl
 
 -- Types by their parts.
 
 starred_within_is : (whole pointed stars : ℕ) (b : BaseTy) → starred_within whole pointed stars b ≡ true →
     type_within whole pointed (starred stars b) ≡ true
-starred_within_is whole pointed zero base.Int h = refl
-starred_within_is whole pointed zero base.Unsigned h = refl
 starred_within_is whole pointed zero (base.Struct n) h = h
+starred_within_is whole pointed zero _ h = refl
 starred_within_is whole pointed (suc stars) b h = and_from _ _ (at_most 1 _ (omega arith)) h
 
 with_within : (tags : List Text) (whole pointed : ℕ) (size : Option ℕ) (stars : ℕ) (b : BaseTy) →
@@ -58,9 +54,8 @@ all_within n (suc stars) b h = h
 -- a type over tags that are all known
 pub type_is_within : (tags more : List Text) (t : TypeTree) → is_sized t ≡ true → base_known tags t.base ≡ true →
     type_within (length tags) (length tags) (type_of (tags ++ more) t) ≡ true
-type_is_within tags more t sized h =
-    with_within (tags ++ more) (length tags) (length tags) t.length t.stars (base_of _ t.base) sized
-    (all_within _ t.stars _ (base_is_within tags more t.base h))
+type_is_within tags more t sized h = with_within (tags ++ more) (length tags)
+    (length tags) t.length t.stars (base_of _ t.base) sized (all_within _ t.stars _ (base_is_within tags more t.base h))
 
 pub name_is_within : (tags more : List Text) (t : TypeName) → base_known tags t.base ≡ true →
     type_within (length tags) (length tags) (type_of_name (tags ++ more) t) ≡ true
@@ -87,10 +82,9 @@ module _ (names : List Text) (self : Text) (more : List Text) (new : is_numbered
 
   pointed_within : (stars : ℕ) (b : BaseTree) → pointed_known self stars b ≡ true →
       starred_within k (suc k) stars (base_of tags b) ≡ true
-  pointed_within stars base_tree.Int h = absurd (false≢true h)
-  pointed_within stars base_tree.Unsigned h = absurd (false≢true h)
   pointed_within zero (base_tree.Struct tag) h = absurd (false≢true (and_rest _ false h))
   pointed_within (suc stars) (base_tree.Struct tag) h = less _ _ (omega (arith, self_number tag (and_first _ _ h)))
+  pointed_within stars _ h = absurd (false≢true h)
 
   member_starred : (m : MemberTree) → member_known names self m ≡ true →
       starred_within k (suc k) m.ty.stars (base_of tags m.ty.base) ≡ true
@@ -106,9 +100,8 @@ module _ (names : List Text) (self : Text) (more : List Text) (new : is_numbered
 
 module _ (done more : List TypedStruct) (n : ℕ) (size : length done ≡ n) where
   base_cells_same : (b : BaseTy) → base_within n b ≡ true → base_cells (done ++ more) b ≡ base_cells done b
-  base_cells_same base.Int h = refl
-  base_cells_same base.Unsigned h = refl
   base_cells_same (base.Struct i) h = ap struct_cells (get_front done more i (omega (arith, size, is_less i n h)))
+  base_cells_same _ h = refl
 
   starred_cells_same : (pointed stars : ℕ) (b : BaseTy) → starred_within n pointed stars b ≡ true →
       starred_cells (done ++ more) stars b ≡ starred_cells done stars b
@@ -116,12 +109,10 @@ module _ (done more : List TypedStruct) (n : ℕ) (size : length done ≡ n) whe
   starred_cells_same pointed (suc stars) b h = refl
 
   pub cells_same : (pointed : ℕ) (t : Ty) → type_within n pointed t ≡ true → cells_of (done ++ more) t ≡ cells_of done t
-  cells_same pointed ty.Int h = refl
-  cells_same pointed ty.Unsigned h = refl
   cells_same pointed (ty.Struct i) h = ap struct_cells (get_front done more i (omega (arith, size, is_less i n h)))
-  cells_same pointed (ty.Pointer stars b) h = refl
   cells_same pointed (ty.Array stars b count) h =
       ap (λ cells. count * cells) (starred_cells_same pointed stars b (and_rest _ _ h))
+  cells_same pointed _ h = refl
 
 -- A struct over those before it.
 
@@ -138,9 +129,8 @@ module _ (names : List Text) (self : Text) (after : List Text) (new : is_numbere
   every = names ++ self ∷ after
 
   abbrev Fits : ℕ → List MemberTree → Type 0
-  Fits offset members =
-      members_fit (done ++ more) (length names) offset (members_from every done offset members)
-      (cells_from every done offset members) ≡ true
+  Fits offset members = members_fit (done ++ more)
+      (length names) offset (members_from every done offset members) (cells_from every done offset members) ≡ true
 
   -- the offset behind a member
   abbrev end : ℕ → MemberTree → ℕ
@@ -152,27 +142,21 @@ module _ (names : List Text) (self : Text) (after : List Text) (new : is_numbere
   below : (offset : ℕ) (members : List MemberTree) → offset ≤ 4294967295 → offset ≤ cells_from every done offset members
   below offset [] within = omega arith
   below offset (m ∷ members) within =
-      let behind =
-      below (end offset m) members (end_within offset m) in
+      let behind = below (end offset m) members (end_within offset m) in
       omega (arith, within, behind)
 
   -- in a small struct no offset stops
-  exact : (offset : ℕ) (m : MemberTree) (members : List MemberTree) →
-      cells_from every done (end offset m) members ≤ 1048576 →
-      end offset m ≡ offset + cells_of done (type_of every m.ty)
-  exact offset m members small =
-      let behind =
-      below _ members (end_within offset m) in
-      omega (arith, small, behind)
+  exact : (offset : ℕ) (m : MemberTree) (members : List MemberTree) → cells_from every done
+      (end offset m) members ≤ 1048576 → end offset m ≡ offset + cells_of done (type_of every m.ty)
+  exact offset m members small = let behind = below _ members (end_within offset m) in omega (arith, small, behind)
 
   member_is : (offset : ℕ) (m : MemberTree) (members : List MemberTree) → member_known names self m ≡ true →
       is_sized m.ty ≡ true → end offset m ≡ offset + cells_of done (type_of every m.ty) →
       Fits (end offset m) members → Fits offset (m ∷ members)
   member_is offset m members known sized same rest =
-      let within =
-      member_within names self after new m known sized in
-      and_from (offset == offset) _ (eq_refl offset) (and_from _ _ within
-      (subst (λ start. members_fit (done ++ more) (length names) start
+      let within = member_within names self after new m known sized in
+      and_from (offset == offset) _
+      (eq_refl offset) (and_from _ _ within (subst (λ start. members_fit (done ++ more) (length names) start
       (members_from every done (end offset m) members) (cells_from every done (end offset m) members) ≡ true)
       (same ∙ ap (λ cells. offset + cells) (sym (cells_same done more _ size _ _ within))) rest))
 
@@ -181,9 +165,8 @@ module _ (names : List Text) (self : Text) (after : List Text) (new : is_numbere
       cells_from every done offset members ≤ 1048576 → Fits offset members
   members_are offset [] known sized small = eq_refl offset
   members_are offset (m ∷ members) known sized small =
-      member_is offset m members (and_first _ _ known) (and_first _ _ sized)
-      (exact offset m members small) (members_are (end offset m) members (and_rest _ _ known)
-      (and_rest _ _ sized) small)
+      member_is offset m members (and_first _ _ known) (and_first _ _ sized) (exact offset m members small)
+      (members_are (end offset m) members (and_rest _ _ known) (and_rest _ _ sized) small)
 
 members_length : (all : List Text) (structs : List TypedStruct) (offset : ℕ) (members : List MemberTree) →
     length (members_from all structs offset members) ≡ length members
@@ -221,18 +204,16 @@ AllSmall structs number (tree ∷ trees) =
     (nat_le (struct_cells (slice_get structs number)) most_cells ≡ true) × AllSmall structs (suc number) trees
 
 module _ (all : List Text) where
-  struct_is : (names after : List Text) (tree : StructTree) (done more structs : List TypedStruct) →
-      names ++ tree.name ∷ after ≡ all → length done ≡ length names →
-      structs ≡ done ++ (typed_struct all done tree ∷ more) → Known names tree →
-      nat_le (struct_cells (slice_get structs (length names))) most_cells ≡ true →
+  struct_is : (names after : List Text) (tree : StructTree) (done more structs : List TypedStruct) → names ++
+      tree.name ∷ after ≡ all → length done ≡ length names → structs ≡ done ++ (typed_struct all done tree ∷ more) →
+      Known names tree → nat_le (struct_cells (slice_get structs (length names))) most_cells ≡ true →
       struct_fits structs (length names) (typed_struct all done tree) ≡ true
   struct_is names after tree done more structs is size whole known small =
       and_from _ _ (ap (nat_le 1) (members_length all done 0 tree.members) ∙ known.some)
       (and_from _ _ members (subst (λ o. nat_le (struct_cells o) most_cells ≡ true) got small)) where
         got : slice_get structs (length names) ≡ Some (typed_struct all done tree)
-        got = ap (λ s. slice_get s (length names)) whole ∙
-            ap (slice_get (done ++ typed_struct all done tree ∷ more)) (sym size) ∙
-            get_behind done (typed_struct all done tree) more
+        got = ap (λ s. slice_get s (length names)) whole ∙ ap (slice_get (done ++ typed_struct all done tree ∷ more))
+            (sym size) ∙ get_behind done (typed_struct all done tree) more
 
         whole_cells : nat_le (cells_from all done 0 tree.members) most_cells ≡ true
         whole_cells = subst (λ o. nat_le (struct_cells o) most_cells ≡ true) got small
@@ -243,12 +224,10 @@ module _ (all : List Text) where
 
         members : members_fit structs (length names) 0 (members_from all done 0 tree.members)
             (cells_from all done 0 tree.members) ≡ true
-        members =
-            subst (λ s. members_fit s (length names) 0 (members_from all done 0 tree.members)
-            (cells_from all done 0 tree.members) ≡ true) (sym whole)
-            (subst (λ a. members_fit (done ++ typed_struct all done tree ∷ more) (length names) 0
-            (members_from a done 0 tree.members) (cells_from a done 0 tree.members) ≡ true) is
-            (members_are names tree.name after known.new done
+        members = subst (λ s. members_fit s (length names) 0 (members_from all done 0 tree.members)
+            (cells_from all done 0 tree.members) ≡ true) (sym whole) (subst (λ a. members_fit (done ++
+            typed_struct all done tree ∷ more) (length names) 0 (members_from a done 0 tree.members)
+            (cells_from a done 0 tree.members) ≡ true) is (members_are names tree.name after known.new done
             (typed_struct all done tree ∷ more) size 0 tree.members known.members known.sized within))
 
   rest_fit : (names : List Text) (trees : List StructTree) (done structs : List TypedStruct) →
@@ -259,17 +238,15 @@ module _ (all : List Text) where
   rest_fit names (tree ∷ trees) done structs is size whole known small =
       and_from _ _ (struct_is names _ tree done _ structs is size whole known.0 small.0)
       (subst (λ n. structs_fit structs n (rest_of all (done ++ typed_struct all done tree ∷ []) trees) ≡ true)
-      (length_snoc names tree.name) (rest_fit _ trees
-      (done ++ typed_struct all done tree ∷ []) structs (append_assoc names _ _ ∙ is)
-      (length_snoc done _ ∙ ap suc size ∙ sym (length_snoc names _)) (whole ∙ sym (append_assoc done _ _)) known.1
-      (subst (λ n. AllSmall structs n trees) (sym (length_snoc names _)) small.1)))
+      (length_snoc names tree.name) (rest_fit _ trees (done ++ typed_struct all done tree ∷ []) structs
+      (append_assoc names _ _ ∙ is) (length_snoc done _ ∙ ap suc size ∙ sym (length_snoc names _)) (whole ∙
+      sym (append_assoc done _ _)) known.1 (subst (λ n. AllSmall structs n trees) (sym (length_snoc names _)) small.1)))
 
 -- structs that are known and small fit
 pub structs_all_fit : (trees : List StructTree) → AllKnown [] trees →
     AllSmall (typed_structs (tags_of trees) [] trees) 0 trees →
     structs_fit (typed_structs (tags_of trees) [] trees) 0 (typed_structs (tags_of trees) [] trees) ≡ true
-structs_all_fit trees known small =
-    subst (λ s. structs_fit (typed_structs (tags_of trees) [] trees) 0 s ≡ true)
+structs_all_fit trees known small = subst (λ s. structs_fit (typed_structs (tags_of trees) [] trees) 0 s ≡ true)
     (sym (structs_are _ [] trees)) (rest_fit _ [] trees [] _ refl refl (structs_are _ [] trees) known small)
 
 -- there are as many as tags

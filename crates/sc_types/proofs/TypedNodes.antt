@@ -61,6 +61,11 @@ going-all [] exprs = refl
 going-all (t ∷ types) [] = refl
 going-all (t ∷ types) (e ∷ exprs) = ap₂ (λ a b. a + b) (going t e) (going-all types exprs)
 
+total-same : {A B : Type 0} (f : B → ℕ) (g : A → B) (h : A → ℕ) → ((x : A) → f (g x) ≡ h x) → (xs : List A) →
+    total (map f (map g xs)) ≡ total (map h xs)
+total-same f g h same [] = refl
+total-same f g h same (x ∷ xs) = λ i. same x i + total-same f g h same xs i
+
 beside-nodes : (o : BinaryOp) (other : Ty) (e : TypedExpr) → core.expr_nodes (beside o other e) ≡ core.expr_nodes e
 beside-nodes tree_op.Equal other e = going other e
 beside-nodes tree_op.NotEqual other e = going other e
@@ -80,29 +85,21 @@ module _ (visible : Visible) where
   step-nodes (tree.Variable name) h = variable-nodes (found visible name)
   step-nodes (tree.Unary o a) h = node-at _ _ (open_term.Unary o _) (rolls-Unary _ _) ∙ ap suc h
   step-nodes (tree.Binary o a b) h =
-      node-at _ _ (open_term.Binary o _ _) (rolls-Binary _ _ _)
-      ∙ ap₂ (λ m n. suc (m + n)) (beside-nodes o (typed visible b).ty (typed visible a) ∙ h.0)
-      (beside-nodes o (typed visible a).ty (typed visible b) ∙ h.1)
-  step-nodes (tree.Index a b) h =
-      node-at _ _ (open_term.Index _ _) (rolls-Index _ _) ∙ ap₂ (λ m n. suc (m + n)) h.0 h.1
+      node-at _ _ (open_term.Binary o _ _) (rolls-Binary _ _ _) ∙ ap₂ (λ m n. suc (m + n)) (beside-nodes o
+      (typed visible b).ty (typed visible a) ∙ h.0) (beside-nodes o (typed visible a).ty (typed visible b) ∙ h.1)
+  step-nodes (tree.Index a b) h = node-at _ _ (open_term.Index _ _) (rolls-Index _ _) ∙ ap₂ (λ m n. suc (m + n)) h.0 h.1
   step-nodes (tree.Member a name) h = node-at _ _ (open_term.Member _ _) (rolls-Member _ _) ∙ ap suc h
   step-nodes (tree.Arrow a name) h = node-at _ _ (open_term.Arrow _ _) (rolls-Arrow _ _) ∙ ap suc h
   step-nodes (tree.Deref a) h = node-at _ _ (open_term.Deref _) (rolls-Deref _) ∙ ap suc h
   step-nodes (tree.Address a) h = node-at _ _ (open_term.Address _) (rolls-Address _) ∙ ap suc h
 
   pub typed-nodes : (e : ExprTree) → core.expr_nodes (typed visible e) ≡ expr_nodes e
-  typed-nodes =
-      expr_induction AsTree (λ t h. ap core.expr_nodes (layers.expr_at _ t) ∙
-      (step-nodes t h ∙ sym (layers.expr_at _ t)))
-
-  exprs-nodes : (exprs : List ExprTree) → total (map core.expr_nodes (map (typed visible) exprs)) ≡
-      total (map expr_nodes exprs)
-  exprs-nodes [] = refl
-  exprs-nodes (e ∷ exprs) = ap₂ (λ a b. a + b) (typed-nodes e) (exprs-nodes exprs)
+  typed-nodes = expr_induction AsTree
+      (λ t h. ap core.expr_nodes (layers.expr_at _ t) ∙ (step-nodes t h ∙ sym (layers.expr_at _ t)))
 
   module _ (callees : Callees) where
     call-nodes : (call : CallTree) → core.call_nodes (typed_call visible callees call) ≡ call_nodes call
-    call-nodes call = going-all _ _ ∙ exprs-nodes _
+    call-nodes call = going-all _ _ ∙ total-same core.expr_nodes (typed visible) expr_nodes typed-nodes _
 
     value-nodes : (place value : ExprTree) → core.expr_nodes (going_to (typed visible place).ty (typed visible value)) ≡
         expr_nodes value
@@ -127,9 +124,6 @@ stmt-node-at : (line : ℕ) (x : TypedStmtKind) (k : kind.TypedStmtKind-F TypedS
 stmt-node-at line x k is = ap (λ x. core.stmt_nodes (record { line = line; kind = x })) (sym is) ∙
     core_layers.stmt_at ℕ ℕ core.kind_nodes (λ s. s.kind) line k
 
-four : (a b c d a' b' c' d' : ℕ) → a ≡ a' → b ≡ b' → c ≡ c' → d ≡ d' → suc (a + b + c + d) ≡ suc (a' + b' + c' + d')
-four a b c d a' b' c' d' p q r s = ap₂ (λ x y. suc (x + y)) (ap₂ (λ x y. x + y) (ap₂ (λ x y. x + y) p q) r) s
-
 module _ (visible : Visible) (callees : Callees) (result : Option Ty) where
   abbrev StmtAsTree : StmtTree → Type 0
   StmtAsTree s = core.stmt_nodes (typed_stmt visible callees result s) ≡ stmt_nodes s
@@ -146,31 +140,26 @@ module _ (visible : Visible) (callees : Callees) (result : Option Ty) where
   layer-nodes : (line : ℕ) (k : StmtKind-F StmtKind StmtTree) → Inside StmtAsTree k →
       core.stmt_nodes (record { line = line; kind = typed_layer k }) ≡ layers.layer_of ℕ ℕ kind_step stmt_step k
   layer-nodes line layer.Empty h = stmt-node-at line _ open_kind.Empty rolls-Empty
-  layer-nodes line (layer.Assign place value) h =
-      stmt-node-at line _ (open_kind.Assign _ _) (rolls-Assign _ _) ∙ ap₂ (λ a b. suc (a + b))
-      (typed-nodes visible place) (value-nodes visible callees place value)
-  layer-nodes line (layer.AssignCall place call) h =
-      stmt-node-at line _ (open_kind.AssignCall _ _) (rolls-AssignCall _ _) ∙
-      ap₂ (λ a b. suc (a + b)) (typed-nodes visible place) (call-nodes visible callees call)
+  layer-nodes line (layer.Assign place value) h = stmt-node-at line _ (open_kind.Assign _ _) (rolls-Assign _ _)
+      ∙ ap₂ (λ a b. suc (a + b)) (typed-nodes visible place) (value-nodes visible callees place value)
+  layer-nodes line (layer.AssignCall place call) h = stmt-node-at line _ (open_kind.AssignCall _ _)
+      (rolls-AssignCall _ _) ∙ ap₂ (λ a b. suc (a + b)) (typed-nodes visible place) (call-nodes visible callees call)
   layer-nodes line (layer.Call call) h =
       stmt-node-at line _ (open_kind.Call _) (rolls-Call _) ∙ ap suc (call-nodes visible callees call)
   layer-nodes line (layer.If c first second) h =
-      stmt-node-at line _ (open_kind.If _ _ _) (rolls-If _ _ _) ∙
-      ap₂ (λ a b. suc (a + b)) (ap₂ (λ a b. a + b) (typed-nodes visible c) (each-nodes first h.0))
-      (each-nodes second h.1)
-  layer-nodes line (layer.While c body) h =
-      stmt-node-at line _ (open_kind.While _ _) (rolls-While _ _) ∙
-      ap₂ (λ a b. suc (a + b)) (typed-nodes visible c) (each-nodes body h)
+      stmt-node-at line _ (open_kind.If _ _ _) (rolls-If _ _ _) ∙ ap₂ (λ a b. suc (a + b))
+      (ap₂ (λ a b. a + b) (typed-nodes visible c) (each-nodes first h.0)) (each-nodes second h.1)
+  layer-nodes line (layer.While c body) h = stmt-node-at line _
+      (open_kind.While _ _) (rolls-While _ _) ∙ ap₂ (λ a b. suc (a + b)) (typed-nodes visible c) (each-nodes body h)
   layer-nodes line (layer.For first c next body) h =
       stmt-node-at line _ (open_kind.For _ _ _ _) (rolls-For _ _ _ _) ∙
-      four _ _ _ _ _ _ _ _ (part-nodes visible callees first) (typed-nodes visible c)
-      (part-nodes visible callees next) (each-nodes body h)
+      (λ i. suc (part-nodes visible callees first i + typed-nodes visible c i + part-nodes visible callees next i +
+      each-nodes body h i))
   layer-nodes line layer.Break h = stmt-node-at line _ open_kind.Break rolls-Break
   layer-nodes line layer.Continue h = stmt-node-at line _ open_kind.Continue rolls-Continue
   layer-nodes line layer.Return h = stmt-node-at line _ open_kind.Return rolls-Return
-  layer-nodes line (layer.ReturnValue value) h =
-      stmt-node-at line _ (open_kind.ReturnValue _) (rolls-ReturnValue _) ∙
-      ap suc (going-some result _ ∙ typed-nodes visible value)
+  layer-nodes line (layer.ReturnValue value) h = stmt-node-at line _
+      (open_kind.ReturnValue _) (rolls-ReturnValue _) ∙ ap suc (going-some result _ ∙ typed-nodes visible value)
   layer-nodes line (layer.ReturnCall call) h =
       stmt-node-at line _ (open_kind.ReturnCall _) (rolls-ReturnCall _) ∙ ap suc (call-nodes visible callees call)
 
@@ -178,11 +167,6 @@ module _ (visible : Visible) (callees : Callees) (result : Option Ty) where
   stmt-nodes =
       stmt_induction StmtAsTree (λ line k h. ap core.stmt_nodes (layers.stmt_at TypedStmtKind TypedStmt _ _ line k)
       ∙ (layer-nodes line k h ∙ sym (layers.stmt_at ℕ ℕ _ _ line k)))
-
-  stmts-nodes : (stmts : List StmtTree) → total (map core.stmt_nodes (map (typed_stmt visible callees result) stmts)) ≡
-      total (map stmt_nodes stmts)
-  stmts-nodes [] = refl
-  stmts-nodes (s ∷ stmts) = ap₂ (λ a b. a + b) (stmt-nodes s) (stmts-nodes stmts)
 
 -- Functions and sections.
 
@@ -203,13 +187,9 @@ module _ (section : SectionTree) where
     pub function-nodes : (tree : FunctionTree) → nodes (typed_function section callees tree) ≡ function_nodes tree
     function-nodes tree =
         ap₂ (λ a b. a + b) (ap₂ (λ a b. suc a + b) (length-map _ _) (locals-nodes tree 0 _))
-        (stmts-nodes (visible_of section tree) callees (result_of section tree) tree.body)
-
-    functions-nodes : (trees : List FunctionTree) → total (map nodes (map (typed_function section callees) trees)) ≡
-        total (map function_nodes trees)
-    functions-nodes [] = refl
-    functions-nodes (tree ∷ trees) = ap₂ (λ a b. a + b) (function-nodes tree) (functions-nodes trees)
+        (total-same core.stmt_nodes _ stmt_nodes
+        (stmt-nodes (visible_of section tree) callees (result_of section tree)) _)
 
     -- the nodes of a section's typed functions are those of its trees, whoever is called
     pub section-nodes : total (map nodes (typed_section section callees).functions) ≡ decls_nodes section.decls
-    section-nodes = functions-nodes _
+    section-nodes = total-same nodes (typed_function section callees) function_nodes function-nodes _

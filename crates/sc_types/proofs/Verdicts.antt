@@ -7,9 +7,8 @@ use Rattle.sc_types.proofs.Refusals.{one_refusal}
 -- one phase fails, and phases other than Syntax in one line
 module _ (one_reading : (text : List ℕ) (trees others : List SectionTree) → Reads text trees → Reads text others →
     trees ≡ others) (read_or_refused : (text : List ℕ) (trees : List SectionTree) (p : Phase) (line : ℕ) →
-    Reads text trees → reading.Fails text p line → ⊥)
-    (one_phase : (text : List ℕ) (p q : Phase) (line other : ℕ) → reading.Fails text p line →
-    reading.Fails text q other → (p ≡ q) × (p ≡ phase.Lex → line ≡ other)) where
+    Reads text trees → reading.Fails text p line → ⊥) (one_phase : (text : List ℕ) (p q : Phase) (line other : ℕ) →
+    reading.Fails text p line → reading.Fails text q other → (p ≡ q) × (p ≡ phase.Lex → line ≡ other)) where
   both_typed : (text : List ℕ) (p q : Phase) (line other : ℕ) → FailsTyped text p line → FailsTyped text q other →
       (p ≡ q) × ((p ≡ phase.Syntax → ⊥) → line ≡ other)
   both_typed text p q line other f g =
@@ -29,37 +28,24 @@ module _ (one_reading : (text : List ℕ) (trees others : List SectionTree) → 
       (phase.Lex ≡ q) × ((phase.Lex ≡ phase.Syntax → ⊥) → line ≡ other)
   lex_first text phase.Lex line other f g = let one = one_phase text _ phase.Lex line other f g in
       (refl, λ _. one.1 refl)
-  lex_first text phase.Syntax line other f g = let one = one_phase text _ _ line other f g in
-      (one.0, λ _. one.1 refl)
-  lex_first text phase.Names line other f g = lex_typed text _ line other f g
-  lex_first text phase.Types line other f g = lex_typed text _ line other f g
-  lex_first text phase.Interface line other f g = lex_typed text _ line other f g
-  lex_first text phase.Count line other f g = lex_typed text _ line other f g
+  lex_first text phase.Syntax line other f g = let one = one_phase text _ _ line other f g in (one.0, λ _. one.1 refl)
+  lex_first text q line other f g = lex_typed text q line other f g
 
   syntax_first : (text : List ℕ) (q : Phase) (line other : ℕ) → reading.Fails text phase.Syntax line →
       Fails text q other → (phase.Syntax ≡ q) × ((phase.Syntax ≡ phase.Syntax → ⊥) → line ≡ other)
   syntax_first text phase.Lex line other f g = let one = one_phase text _ _ line other f g in
       (one.0, λ no. absurd (no refl))
   syntax_first text phase.Syntax line other f g = (refl, λ no. absurd (no refl))
-  syntax_first text phase.Names line other f g = syntax_typed text _ line other f g
-  syntax_first text phase.Types line other f g = syntax_typed text _ line other f g
-  syntax_first text phase.Interface line other f g = syntax_typed text _ line other f g
-  syntax_first text phase.Count line other f g = syntax_typed text _ line other f g
+  syntax_first text q line other f g = syntax_typed text q line other f g
 
   typed_first : (text : List ℕ) (p q : Phase) (line other : ℕ) → FailsTyped text p line → Fails text q other →
       (p ≡ q) × ((p ≡ phase.Syntax → ⊥) → line ≡ other)
   typed_first text p phase.Lex line other f g = lex_typed text p other line g f
   typed_first text p phase.Syntax line other f g = syntax_typed text p other line g f
-  typed_first text p phase.Names line other f g = both_typed text p _ line other f g
-  typed_first text p phase.Types line other f g = both_typed text p _ line other f g
-  typed_first text p phase.Interface line other f g = both_typed text p _ line other f g
-  typed_first text p phase.Count line other f g = both_typed text p _ line other f g
+  typed_first text p q line other f g = both_typed text p q line other f g
 
   pub one_phase_of : (text : List ℕ) (p q : Phase) (line other : ℕ) → Fails text p line → Fails text q other →
       (p ≡ q) × ((p ≡ phase.Syntax → ⊥) → line ≡ other)
   one_phase_of text phase.Lex q line other f g = lex_first text q line other f g
   one_phase_of text phase.Syntax q line other f g = syntax_first text q line other f g
-  one_phase_of text phase.Names q line other f g = typed_first text _ q line other f g
-  one_phase_of text phase.Types q line other f g = typed_first text _ q line other f g
-  one_phase_of text phase.Interface q line other f g = typed_first text _ q line other f g
-  one_phase_of text phase.Count q line other f g = typed_first text _ q line other f g
+  one_phase_of text p q line other f g = typed_first text p q line other f g

@@ -1,34 +1,36 @@
 -- A text that breaks no rule is a well-typed program.
-use Rattle.sc_types.proofs.Common.{AreLow, Bool, Callees, Decl, ExportLine, Function, FunctionTree, Global, ImportLine}
-use Rattle.sc_types.proofs.Common.{Interface, IsWellTyped, List, Proto, SectionTree, Some, Struct, TypedSection, []}
-use Rattle.sc_types.proofs.Common.{and_first, and_from, and_rest, any_passes_from_place, ap, append_assoc, are_distinct}
-use Rattle.sc_types.proofs.Common.{arith, bytes_eq, callees_of, codes, concat, counts_broken, decl_count, defines_main}
-use Rattle.sc_types.proofs.Common.{environment, false, false≢true, functions_in, get_behind, globals_in, head_of}
-use Rattle.sc_types.proofs.Common.{heads_in, if◌then◌else◌, interface_broken, interface_fits, interface_of}
-use Rattle.sc_types.proofs.Common.{interfaces_from, interfaces_of, is_main, is_numbered, is_well_typed, length}
-use Rattle.sc_types.proofs.Common.{length-map, line_of_text, list_any, main_fits, main_from, main_name, mains_in, map}
-use Rattle.sc_types.proofs.Common.{map-append, most_compartments, most_exports, most_nodes, names_broken, nat_le, not}
-use Rattle.sc_types.proofs.Common.{not-true, option_map, program_of, refl, same_Some, same_signature, section_fits}
-use Rattle.sc_types.proofs.Common.{section_height, sections_fit, sections_from, signature_of, slice_get, structs}
-use Rattle.sc_types.proofs.Common.{structs_in, subst, suc, sym, tags, true, truth, typed_function, typed_global}
-use Rattle.sc_types.proofs.Common.{typed_section, types_broken, zero, ℕ, ◌&&◌, ◌++◌, ◌+◌, ◌==◌, ◌||◌, ◌∙◌, ◌∷◌, ◌≡◌}
-use Rattle.sc_types.proofs.Common.{◌≤◌}
+use Rattle.sc_types.proofs.Common.{AreLow, Bool, Callees, Decl, Function, FunctionTree, Global, Interface, IsWellTyped}
+use Rattle.sc_types.proofs.Common.{List, None, Option, Proto, SectionTree, Some, Struct, TypedSection, [], and_first}
+use Rattle.sc_types.proofs.Common.{and_from, and_rest, any_passes_from_place, ap, append_assoc, are_distinct, arith}
+use Rattle.sc_types.proofs.Common.{bytes_eq, callees_of, codes, counts_broken, decl_count, defines_main, environment}
+use Rattle.sc_types.proofs.Common.{false, false≢true, functions_in, get_behind, globals_in, head_of, if◌then◌else◌}
+use Rattle.sc_types.proofs.Common.{interface_broken, interface_fits, interface_of, interfaces_from, interfaces_of}
+use Rattle.sc_types.proofs.Common.{is_main, is_numbered, is_well_typed, length, length-map, line_of_text, list_any}
+use Rattle.sc_types.proofs.Common.{main_fits, main_from, main_name, mains_in, map, map-append, most_compartments}
+use Rattle.sc_types.proofs.Common.{most_nodes, names_broken, nat_le, not, not-true, option_map, option_map_or}
+use Rattle.sc_types.proofs.Common.{program_of, refl, same_Some, same_signature, section_fits, section_height}
+use Rattle.sc_types.proofs.Common.{sections_fit, sections_from, signature_of, slice_get, structs, structs_in, subst}
+use Rattle.sc_types.proofs.Common.{suc, sym, tags, true, truth, typed_function, typed_global, typed_section}
+use Rattle.sc_types.proofs.Common.{types_broken, zero, ℕ, ◌&&◌, ◌++◌, ◌+◌, ◌==◌, ◌||◌, ◌∙◌, ◌∷◌, ◌≡◌, ◌≤◌}
 use Rattle.sc_core.specs.declared.ty.Ty.TheVariants as ty
 use Rattle.sc_scope.specs.Names as names
 use Rattle.sc_elab.specs.Sections as elab
 use Rattle.sc_interfaces.specs.Faces as faces
 use Rattle.sc_types.specs.Counts as counts
 use Rattle.sc_types.proofs.Basics.{rule_holds, front_empty, back_empty, map_empty, Each, each_empty, each_passes}
-use Rattle.sc_types.proofs.Basics.{none_some}
-use Rattle.sc_types.proofs.Places.{Text, at_most, is_at_most}
+use Rattle.sc_types.proofs.Basics.{none_some, find}
+use Rattle.sc_types.proofs.Places.{Text, any_found, at_most, is_at_most}
 use Rattle.sc_types.proofs.Structs.{AllSmall, structs_all_fit, structs_length}
 use Rattle.sc_types.proofs.Lookups.{each_at, each_function, same_sym, FoundFunction, find_function}
-use Rattle.sc_types.proofs.Facts.{Fresh, fresh_distinct, DeclFacts, FaceFacts, face_facts, decls_hold}
-use Rattle.sc_types.proofs.Calls.{input_signature, get_map, length_snoc, own_signature}
+use Rattle.sc_types.proofs.Facts.{Fresh, fresh_distinct, DeclFacts, FaceFacts, face_facts, decls_hold, CountFacts}
+use Rattle.sc_types.proofs.Facts.{count_facts}
+use Rattle.sc_types.proofs.Calls.{input_signature, length_snoc, own_signature, plus_none, plus_zero}
 use Rattle.sc_types.proofs.Callees as called
-use Rattle.sc_types.proofs.Functions.{small_from, functions_are, globals_are, structs_known}
+use Rattle.sc_types.proofs.Functions.{small_from, Behind, functions_are, globals_are, structs_known}
 use Rattle.sc_types.proofs.Sections.{none_beyond, interface_is}
-use Rattle.std.proofs.Math.Bool.{or-false, or_assoc}
+use Rattle.std.proofs.Math.Bool.{or-false}
+use Rattle.std.proofs.lemmas.List.Folds.{list_any-append}
+use Rattle.std.proofs.lemmas.Option.{slice_get-map}
 
 -- The structs, globals and functions among declarations are no more than these.
 
@@ -60,18 +62,15 @@ within_more a b c h k = omega (arith, h, k)
 
 decl_count_is : (section : SectionTree) (callees : Callees) → decl_count (typed_section section callees) ≡
     length (structs_in section.decls) + (length (globals_in section.decls) + length (functions_in section.decls))
-decl_count_is section callees = λ i.
-    structs_are i + (length-map (globals_in section.decls) (typed_global (tags section)) i +
-    length-map (functions_in section.decls) (typed_function section callees) i)
-  where
-    structs_are : length (structs section) ≡ length (structs_in section.decls)
-    structs_are = structs_length _ ∙ length-map _ _
+decl_count_is section callees = λ i. structs_are i + (length-map (globals_in section.decls)
+    (typed_global (tags section)) i + length-map (functions_in section.decls) (typed_function section callees) i) where
+      structs_are : length (structs section) ≡ length (structs_in section.decls)
+      structs_are = structs_length _ ∙ length-map _ _
 
 few_kept : (section : SectionTree) (callees : Callees) → nat_le (length section.decls) most_nodes ≡ true →
     nat_le (decl_count (typed_section section callees)) most_nodes ≡ true
-few_kept section callees few =
-    ap (λ n. nat_le n most_nodes) (decl_count_is section callees) ∙ at_most kept most_nodes
-    (within_more kept (length _) most_nodes (kept_in _) (is_at_most (length _) most_nodes few))
+few_kept section callees few = ap (λ n. nat_le n most_nodes) (decl_count_is section callees) ∙
+    at_most kept most_nodes (within_more kept (length _) most_nodes (kept_in _) (is_at_most (length _) most_nodes few))
   where
     kept : ℕ
     kept = length (structs_in section.decls) + (length (globals_in section.decls) + length (functions_in section.decls))
@@ -81,54 +80,48 @@ few_kept section callees few =
 abbrev name_of : SectionTree → Text
 name_of section = section.name
 
+-- what holds of each item and its number, counted from one on
+abbrev EachFrom : {A : Type 0} → (ℕ → A → Type 0) → ℕ → List A → Type 0
+EachFrom P k [] = Unit {0}
+EachFrom P k (x ∷ xs) = P k x × EachFrom P (suc k) xs
+
+each_from : {A : Type 0} (P : ℕ → A → Type 0) (k : ℕ) (xs : List A) (j : ℕ) (x : A) → EachFrom P k xs →
+    slice_get xs j ≡ Some x → P (k + j) x
+each_from P k [] j x each got = none_some x got
+each_from P k (y ∷ xs) zero x each got = subst (λ n. P n x) (plus_zero k) (subst (P k) (same_Some y x got) each.0)
+each_from P k (y ∷ xs) (suc j) x each got = subst (λ n. P n x) (plus_one k j) (each_from P _ xs j x each.1 got) where
+  plus_one : (n m : ℕ) → suc n + m ≡ n + suc m
+  plus_one n m = omega arith
+
+each_here : {A : Type 0} (P : ℕ → A → Type 0) (xs : List A) (j : ℕ) (x : A) → EachFrom P 0 xs →
+    slice_get xs j ≡ Some x → P j x
+each_here P xs j x each got = subst (λ n. P n x) (plus_none j) (each_from P 0 xs j x each got)
+
 module _ (sections : List SectionTree) where
   -- the rules of interfaces, by the section's number
-  face_from : (k : ℕ) (before rest : List SectionTree) (j : ℕ) (section : SectionTree) →
-      faces.lines_from sections k before rest ≡ [] → slice_get rest j ≡ Some section →
-      FaceFacts sections (k + j) section
-  face_from k before [] j section h got = none_some section got
-  face_from k before (s ∷ rest) zero section h got =
-      subst (λ n. FaceFacts sections n section) (plus_zero k)
-      (subst (λ t. FaceFacts sections k t) (same_Some s section got)
-      (face_facts _ k s (list_any defines_main before) before (map_empty _ _ (front_empty _ _ h)))) where
-        plus_zero : (n : ℕ) → n ≡ n + 0
-        plus_zero n = omega arith
-  face_from k before (s ∷ rest) (suc j) section h got =
-      subst (λ n. FaceFacts sections n section) (plus_one k j) (face_from _ (before ++ s ∷ []) rest j section
-      (back_empty _ _ h) got) where
-        plus_one : (n m : ℕ) → suc n + m ≡ n + suc m
-        plus_one n m = omega arith
-
-  plus_none : (n : ℕ) → 0 + n ≡ n
-  plus_none n = omega arith
+  faces_each : (k : ℕ) (before rest : List SectionTree) → faces.lines_from sections k before rest ≡ [] →
+      EachFrom (FaceFacts sections) k rest
+  faces_each k before [] h = tt
+  faces_each k before (s ∷ rest) h = (
+    face_facts _ k s (list_any defines_main before) before (map_empty _ _ (front_empty _ _ h)),
+    faces_each (suc k) (before ++ s ∷ []) rest (back_empty _ _ h),
+  )
 
   pub hold : interface_broken sections ≡ [] → (j : ℕ) (section : SectionTree) → slice_get sections j ≡ Some section →
       FaceFacts sections j section
-  hold h j section got =
-      subst (λ n. FaceFacts sections n section) (plus_none j) (face_from 0 [] _ j section (front_empty _ _ h) got)
+  hold h j section got = each_here (FaceFacts sections) _ j section (faces_each 0 [] _ (front_empty _ _ h)) got
 
   -- the rules of counts, by the section's number
-  count_from : (k : ℕ) (rest : List SectionTree) (j : ℕ) (section : SectionTree) →
-      counts.lines_from sections k rest ≡ [] → slice_get rest j ≡ Some section →
-      counts.section_lines section (callees_of sections (k + j) section) ≡ []
-  count_from k [] j section h got = none_some section got
-  count_from k (s ∷ rest) zero section h got =
-      subst (λ n. counts.section_lines section (callees_of sections n section) ≡ []) (plus_zero k)
-      (subst (λ t. counts.section_lines t (callees_of sections k t) ≡ []) (same_Some s section got)
-      (map_empty _ _ (front_empty _ _ h))) where
-        plus_zero : (n : ℕ) → n ≡ n + 0
-        plus_zero n = omega arith
-  count_from k (s ∷ rest) (suc j) section h got =
-      subst (λ n. counts.section_lines section (callees_of sections n section) ≡ []) (plus_one k j)
-      (count_from (suc k) rest j section (back_empty _ _ h) got) where
-        plus_one : (n m : ℕ) → suc n + m ≡ n + suc m
-        plus_one n m = omega arith
+  abbrev Counted : ℕ → SectionTree → Type 0
+  Counted n section = counts.section_lines section (callees_of sections n section) ≡ []
+
+  counts_each : (k : ℕ) (rest : List SectionTree) → counts.lines_from sections k rest ≡ [] → EachFrom Counted k rest
+  counts_each k [] h = tt
+  counts_each k (s ∷ rest) h = (map_empty _ _ (front_empty _ _ h), counts_each (suc k) rest (back_empty _ _ h))
 
   pub count_at : counts.lines_from sections 0 sections ≡ [] → (j : ℕ) (section : SectionTree) →
       slice_get sections j ≡ Some section → counts.section_lines section (callees_of sections j section) ≡ []
-  count_at h j section got =
-      subst (λ n. counts.section_lines section (callees_of sections n section) ≡ []) (plus_none j)
-      (count_from 0 _ j section h got)
+  count_at h j section got = each_here Counted _ j section (counts_each 0 _ h) got
 
   module _ (low : AreLow sections) (in_names : names_broken sections ≡ []) (in_types : types_broken sections ≡ [])
       (in_faces : interface_broken sections ≡ []) (in_counts : counts_broken sections ≡ []) where
@@ -138,15 +131,12 @@ module _ (sections : List SectionTree) where
     -- The section of a number.
     module _ (number : ℕ) (section : SectionTree) (there : slice_get sections number ≡ Some section) where
       names_at : names.section_lines section ≡ []
-      names_at =
-          map_empty _ _ (each_at (λ section. map (line_of_text _) (names.section_lines section) ≡
-          []) _ number section (each_empty _ _ in_names) there)
+      names_at = map_empty _ _ (each_at (λ section. map (line_of_text _)
+          (names.section_lines section) ≡ []) _ number section (each_empty _ _ in_names) there)
 
       types_at : elab.section_lines section (callees_of sections number section) ≡ []
-      types_at =
-          map_empty _ _ (each_at (λ section. map (line_of_text section.line)
-          (elab.section_lines section (callees_of sections 0 section)) ≡ []) _ number section
-          (each_empty _ _ in_types) there)
+      types_at = map_empty _ _ (each_at (λ section. map (line_of_text section.line) (elab.section_lines section
+          (callees_of sections 0 section)) ≡ []) _ number section (each_empty _ _ in_types) there)
 
       counted : counts.section_lines section (callees_of sections number section) ≡ []
       counted = count_at counts_of number section there
@@ -160,52 +150,24 @@ module _ (sections : List SectionTree) where
       abbrev callees : Callees
       callees = callees_of sections number section
 
-      behind_nodes : counts.line_beyond {A = ExportLine} (λ line. line.line) most_exports section.exports ++
-          (counts.line_beyond {A = ImportLine} (λ line. line.line) most_exports section.imports ++
-          (counts.structs_from section 0 (structs_in section.decls) ++
-          (concat (map (counts.global_lines section) (globals_in section.decls)) ++
-          (concat (map (counts.head_lines section) (heads_in section.decls)) ++
-          concat (map (counts.function_lines section) (functions_in section.decls)))))) ≡ []
-      behind_nodes = back_empty _ _ counted
-
-      behind_imports : counts.structs_from section 0 (structs_in section.decls) ++
-          (concat (map (counts.global_lines section) (globals_in section.decls)) ++
-          (concat (map (counts.head_lines section) (heads_in section.decls)) ++
-          concat (map (counts.function_lines section) (functions_in section.decls)))) ≡ []
-      behind_imports =
-          back_empty (counts.line_beyond (λ line. line.line) most_exports section.imports) _
-          (back_empty (counts.line_beyond (λ line. _) most_exports section.exports) _ behind_nodes)
-
-      behind_structs : concat (map (counts.global_lines section) (globals_in section.decls)) ++
-          (concat (map (counts.head_lines section) (heads_in section.decls)) ++
-          concat (map (counts.function_lines section) (functions_in section.decls))) ≡ []
-      behind_structs = back_empty (counts.structs_from section 0 _) _ behind_imports
-
-      behind_globals : concat (map (counts.head_lines section) (heads_in section.decls)) ++
-          concat (map (counts.function_lines section) (functions_in section.decls)) ≡ []
-      behind_globals = back_empty (concat (map (counts.global_lines section)
-          (globals_in section.decls))) _ behind_structs
+      abbrev facts : CountFacts section callees
+      facts = count_facts section callees counted
 
       small : AllSmall (structs section) 0 (structs_in section.decls)
-      small = small_from section 0 _ (front_empty _ _ behind_imports)
+      small = small_from section 0 _ facts.structs
 
-      few_nodes : (nat_le (counts.section_nodes section callees) most_nodes &&
-          nat_le (length section.decls) most_nodes) ≡ true
-      few_nodes = rule_holds _ 1 (front_empty _ _ counted)
+      all : Behind section callees [] section.decls
+      all = record { whole = refl; in_names = names_at; holds = types_at }
 
       section_is : section_fits (interfaces_of sections) number (interface_of sections number section) typed ≡ true
-      section_is =
-          and_from _ _ (structs_all_fit _ (structs_known section callees [] section.decls names_at types_at) small)
-          (and_from _ _ (globals_are section callees [] _ refl names_at types_at
-          (front_empty _ _ behind_structs)) (and_from _ _
-          (functions_are section callees (called.callable _ (hold in_faces) number section there)
-          (called.same_signature_called _ (hold in_faces) number section there) small [] _ refl
-          names_at types_at (front_empty _ _ behind_globals)
-          (back_empty (concat (map (counts.head_lines section) (heads_in section.decls))) _ behind_globals) low_at)
-          (and_from _ _ (and_first _ _ few_nodes) (few_kept section callees (and_rest (nat_le _ _) _ few_nodes)))))
+      section_is = and_from _ _ (structs_all_fit _ (structs_known section callees [] _ all) small) (and_from _ _
+          (globals_are section callees [] _ all facts.globals) (and_from _ _ (functions_are section callees
+          (called.callable _ (hold in_faces) number section there) (called.same_signature_called _
+          (hold in_faces) number section there) small [] _ all facts.heads facts.functions low_at)
+          (and_from _ _ (and_first _ _ facts.nodes) (few_kept section callees (and_rest (nat_le _ _) _ facts.nodes)))))
 
       faces_is : interface_fits (interfaces_of sections) number (interface_of sections number section) typed ≡ true
-      faces_is = interface_is _ (hold in_faces) number section there names_at counted
+      faces_is = interface_is _ (hold in_faces) number section there names_at facts
 
     -- All sections.
     sections_are : (front rest : List SectionTree) → front ++ rest ≡ sections →
@@ -213,12 +175,11 @@ module _ (sections : List SectionTree) where
         (sections_from sections (length front) rest) ≡ true
     sections_are front [] whole = refl
     sections_are front (section ∷ rest) whole =
-        let there =
-        ap (λ list. slice_get list (length front)) (sym whole) ∙ get_behind front section rest in
-        and_from _ _ (section_is _ section there) (and_from _ _ (faces_is _ section there)
-        (subst (λ n. sections_fit (interfaces_of sections) n (interfaces_from sections n rest)
-        (sections_from sections n rest) ≡ true) (length_snoc front section)
-        (sections_are (front ++ section ∷ []) rest (append_assoc front _ rest ∙ whole))))
+        let there = ap (λ list. slice_get list (length front)) (sym whole) ∙ get_behind front section rest in
+        and_from _ _ (section_is _ section there)
+        (and_from _ _ (faces_is _ section there) (subst (λ n. sections_fit (interfaces_of sections) n
+        (interfaces_from sections n rest) (sections_from sections n rest) ≡ true)
+        (length_snoc front section) (sections_are (front ++ section ∷ []) rest (append_assoc front _ rest ∙ whole))))
 
     -- Names of compartments.
     compartments : (k : ℕ) (before rest : List SectionTree) → faces.lines_from sections k before rest ≡ [] →
@@ -226,10 +187,8 @@ module _ (sections : List SectionTree) where
         Each (λ name. bytes_eq name environment ≡ false) (map name_of rest)
     compartments k before [] h = (tt, tt)
     compartments k before (section ∷ rest) h =
-        let holds =
-        rule_holds _ 1 (front_empty _ _ (map_empty _ _ (front_empty _ _ h))) in
-        let next =
-        compartments (suc k) (before ++ section ∷ []) rest (back_empty _ _ h) in (
+        let holds = rule_holds _ 1 (front_empty _ _ (map_empty _ _ (front_empty _ _ h))) in
+        let next = compartments (suc k) (before ++ section ∷ []) rest (back_empty _ _ h) in (
           (
             not-true _ (and_first _ _ holds),
             subst (λ all. Fresh all (map name_of rest)) (map-append name_of before (section ∷ [])) next.0,
@@ -261,8 +220,7 @@ module _ (sections : List SectionTree) where
         list_any is_main (map (typed_function section of) trees) ≡
         is_numbered (map {A = FunctionTree} (λ tree. tree.head.name) trees) main_name
     mains_same section of [] = refl
-    mains_same section of (tree ∷ trees) =
-        λ i. same_sym tree.head.name main_name i || mains_same section of trees i
+    mains_same section of (tree ∷ trees) = λ i. same_sym tree.head.name main_name i || mains_same section of trees i
 
     section_mains : (section : SectionTree) (callees : Callees) →
         list_any is_main (typed_section section callees).functions ≡ defines_main section
@@ -275,8 +233,7 @@ module _ (sections : List SectionTree) where
       main_found = find_function _ _ has
 
       main_rule : faces.main_holds mains (head_of main_found.tree.head) ≡ true
-      main_rule =
-          (each_at (λ tree. DeclFacts sections k section mains (Function tree))
+      main_rule = (each_at (λ tree. DeclFacts sections k section mains (Function tree))
           (functions_in section.decls) main_found.at main_found.tree (each_function _ _ each) main_found.got).1
 
       main_alone : (not mains && faces.is_main (head_of main_found.tree.head)) ≡ true
@@ -290,23 +247,18 @@ module _ (sections : List SectionTree) where
         main_fits (Some (typed_section section (callees_of sections k section))) ≡ true
     main_typed k section got has =
         let facts = hold in_faces k section got in
-        let g =
-        main_found k section facts.mains facts.decls has in
-        let is =
-        and_rest (not facts.mains) _ (main_alone k section facts.mains facts.decls has) in
-        any_passes_from_place (λ f. is_main f &&
-        same_signature (signature_of f) (record { params = []; result = Some ty.Int }))
-        (typed_section section (callees_of _ k section)).functions g.at
-        (typed_function section (callees_of _ k section) g.tree) (get_map _ _ g.at ∙ ap (option_map _) g.got)
+        let g = main_found k section facts.mains facts.decls has in
+        let is = and_rest (not facts.mains) _ (main_alone k section facts.mains facts.decls has) in
+        any_passes_from_place (λ f. is_main f && same_signature (signature_of f)
+        (record { params = []; result = Some ty.Int })) (typed_section section (callees_of _ k section)).functions g.at
+        (typed_function section (callees_of _ k section) g.tree) (slice_get-map _ _ g.at ∙ ap (option_map _) g.got)
         (and_from _ _ g.named (ap (λ s. same_signature s (record { params = []; result = Some ty.Int }))
         (own_signature section (callees_of sections k section) g.tree ∙ input_signature _ (head_of g.tree.head) is)))
 
     any_append : (before : List SectionTree) (section : SectionTree) →
         list_any defines_main (before ++ section ∷ []) ≡ (list_any defines_main before || defines_main section)
-    any_append [] section = or-false _
-    any_append (s ∷ before) section =
-        ap (λ b. defines_main s || b) (any_append before section) ∙
-        sym (or_assoc (defines_main s) (list_any _ before) (defines_main section))
+    any_append before section =
+        list_any-append _ before _ ∙ ap (λ b. list_any defines_main before || b) (or-false (defines_main section))
 
     count_by : (b d more : Bool) (n : ℕ) → (d ≡ true → not b ≡ true) → n ≡ (if b || d then 0 else truth more) →
         truth d + n ≡ (if b then 0 else truth (d || more))
@@ -323,10 +275,9 @@ module _ (sections : List SectionTree) where
         mains_in (sections_from sections k rest) ≡ (if list_any defines_main before then 0 else
         truth (list_any defines_main rest))
     mains_count k before [] h = none_more _
-    mains_count k before (section ∷ rest) h =
-        ap (λ b. truth b + mains_in (sections_from sections (suc k) rest))
-        (section_mains section (callees_of _ k section)) ∙ count_by _ (defines_main section) (list_any _ rest)
-        (mains_in _) (λ has. and_first _ _ (main_alone k section _ (decls_hold _ k section _ before
+    mains_count k before (section ∷ rest) h = ap (λ b. truth b + mains_in (sections_from sections (suc k) rest))
+        (section_mains section (callees_of _ k section)) ∙ count_by _ (defines_main section)
+        (list_any _ rest) (mains_in _) (λ has. and_first _ _ (main_alone k section _ (decls_hold _ k section _ before
         (map_empty _ _ (front_empty _ _ h))) has)) (mains_count (suc k) (before ++ section ∷ []) rest
         (back_empty _ _ h) ∙ ap (λ b. if b then 0 else truth (list_any defines_main rest)) (any_append before section))
 
@@ -338,56 +289,32 @@ module _ (sections : List SectionTree) where
 
     -- The section of `main`.
 
-    record MainAt (k : ℕ) (rest : List SectionTree) : Type 0 where
-      at : ℕ
-      section : SectionTree
-      is : main_from k rest ≡ k + at
-      got : slice_get rest at ≡ Some section
-      has : defines_main section ≡ true
-
-    main_by : (k : ℕ) (section : SectionTree) (rest : List SectionTree) (b : Bool) → defines_main section ≡ b →
-        (list_any defines_main rest ≡ true → MainAt (suc k) rest) → (b || list_any defines_main rest) ≡ true →
-        MainAt k (section ∷ rest)
-    main_by k section rest true q f h =
-        record {
-          at = 0;
-          section = section;
-          is = ap (λ b. if b then k else main_from (suc k) rest) q ∙ omega arith;
-          got = refl;
-          has = q;
-        }
-    main_by k section rest false q f h =
-        let next : MainAt (suc k) rest = f h in
-        record {
-          at = suc next.at;
-          section = next.section;
-          is = ap (λ b. if b then k else main_from (suc k) rest) q ∙ next.is ∙ omega arith;
-          got = next.got;
-          has = next.has;
-        }
-
-    main_at : (k : ℕ) (rest : List SectionTree) → list_any defines_main rest ≡ true → MainAt k rest
-    main_at k [] h = absurd (false≢true h)
-    main_at k (section ∷ rest) h = main_by k section rest _ refl (main_at _ rest) h
+    main_place : (k : ℕ) (rest : List SectionTree) →
+        main_from k rest ≡ option_map_or (λ j. k + j) (find defines_main rest) 0
+    main_place k [] = refl
+    main_place k (section ∷ rest) =
+        by_case (defines_main section) (find defines_main rest) _ (main_place (suc k) rest) where
+          by_case : (b : Bool) (o : Option ℕ) (m : ℕ) → m ≡ option_map_or (λ j. suc k + j) o 0 →
+              (if b then k else m) ≡ option_map_or (λ j. k + j) (if b then Some 0 else option_map suc o) 0
+          by_case true o m h = plus_zero k
+          by_case false None m h = h
+          by_case false (Some j) m h = h ∙ omega arith
 
     typed_from : (k : ℕ) (rest : List SectionTree) (j : ℕ) (section : SectionTree) → slice_get rest j ≡ Some section →
-        slice_get (sections_from sections k rest) j ≡
-        Some (typed_section section (callees_of sections (k + j) section))
+        slice_get (sections_from sections k rest) j ≡ Some (typed_section section (callees_of sections (k + j) section))
     typed_from k [] j section got = none_some section got
-    typed_from k (s ∷ rest) zero section got =
-        ap (λ t. Some (typed_section t (callees_of sections k t))) (same_Some s section got) ∙
-        ap (λ n. Some (typed_section section (callees_of sections n section))) (omega arith)
-    typed_from k (s ∷ rest) (suc j) section got =
-        typed_from _ rest j section got ∙ ap (λ n. Some (typed_section section (callees_of sections n section)))
-        (omega arith)
+    typed_from k (s ∷ rest) zero section got = ap (λ t. Some (typed_section t (callees_of sections k t)))
+        (same_Some s section got) ∙ ap (λ n. Some (typed_section section (callees_of sections n section))) (omega arith)
+    typed_from k (s ∷ rest) (suc j) section got = typed_from _ rest j section got
+        ∙ ap (λ n. Some (typed_section section (callees_of sections n section))) (omega arith)
 
     main_is : main_fits (slice_get (sections_from sections 0 sections) (interfaces_of sections).main) ≡ true
     main_is =
-        let m = main_at 0 _ has_main in
-        ap (λ n. main_fits (slice_get (sections_from sections 0 sections) n)) (m.is ∙ plus_none m.at) ∙
-        ap main_fits (typed_from 0 _ m.at _ m.got) ∙
-        ap (λ n. main_fits (Some (typed_section m.section (callees_of sections n m.section)))) (plus_none m.at) ∙
-        main_typed m.at _ m.got m.has
+        let m = any_found defines_main sections has_main in
+        ap (λ n. main_fits (slice_get (sections_from sections 0 sections) n))
+        (main_place 0 sections ∙ ap (λ o. option_map_or (λ j. 0 + j) o 0) m.is ∙ plus_none m.at) ∙ ap main_fits
+        (typed_from 0 _ m.at _ m.got) ∙ ap (λ n. main_fits (Some (typed_section m.item (callees_of sections n m.item))))
+        (plus_none m.at) ∙ main_typed m.at _ m.got m.passes
 
     -- The whole.
 
@@ -396,14 +323,12 @@ module _ (sections : List SectionTree) where
     typed_length k (section ∷ rest) = ap suc (typed_length _ rest)
 
     few : nat_le (length (sections_from sections 0 sections)) most_compartments ≡ true
-    few =
-        ap (λ n. nat_le n most_compartments) (typed_length 0 _) ∙
-        none_beyond (λ section. line_of_text section.line 1) most_compartments sections (front_empty _ _ in_counts)
+    few = ap (λ n. nat_le n most_compartments) (typed_length 0 _)
+        ∙ none_beyond (λ section. line_of_text section.line 1) most_compartments sections (front_empty _ _ in_counts)
 
     is_typed : is_well_typed (program_of sections) ≡ true
-    is_typed =
-        and_from _ _ few (and_from _ _ names_distinct
-        (and_from _ _ (sections_are [] _ refl) (and_from _ _ main_is one_main)))
+    is_typed = and_from _ _ few
+        (and_from _ _ names_distinct (and_from _ _ (sections_are [] _ refl) (and_from _ _ main_is one_main)))
 
 -- trees that break no rule are those of a well-typed program
 pub well_typed : (sections : List SectionTree) → AreLow sections → names_broken sections ≡ [] →
