@@ -49,9 +49,7 @@ module _ (P : TypedStmt → Type 0) where
   -- To show P of every statement, show it of one where P holds of each statement directly inside.
   pub stmt_induction : ((line : ℕ) (k : TypedStmtKind-F TypedStmtKind TypedStmt) → Inside P k → P (on_line line k)) →
       (s : TypedStmt) → P s
-  stmt_induction step =
-      ind-TypedStmt AnyLine P
-      (λ x y is line. step line x (subst (Inside P) is (inside y)))
+  stmt_induction step = ind-TypedStmt AnyLine P (λ x y is line. step line x (subst (Inside P) is (inside y)))
       (λ x y is. subst (λ z. P (roll-TypedStmt z)) is (y.kind.1 y.line))
 
 -- P of each expression directly inside
@@ -84,7 +82,5 @@ module _ (P : TypedExpr → Type 0) where
   -- To show P of every expression, show it of one where P holds of each expression directly inside.
   pub expr_induction : ((ty : Ty) (k : TypedKind-F TypedKind TypedExpr) → Under P k → P (typed ty k)) →
       (e : TypedExpr) → P e
-  expr_induction step =
-      ind-TypedExpr AnyType P
-      (λ x y is ty. step ty x (subst (Under P) is (under y)))
+  expr_induction step = ind-TypedExpr AnyType P (λ x y is ty. step ty x (subst (Under P) is (under y)))
       (λ x y is. subst (λ z. P (roll-TypedExpr z)) is (y.kind.1 y.ty))

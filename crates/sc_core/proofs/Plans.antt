@@ -54,8 +54,7 @@ function plan =
     }
 
 abbrev pub section : Sheet → TypedSection
-section sheet =
-    record { structs = sheet.structs; globals = sheet.globals; functions = map function sheet.plans }
+section sheet = record { structs = sheet.structs; globals = sheet.globals; functions = map function sheet.plans }
 
 abbrev pub program : Interfaces → List Sheet → ProgramTree
 program interfaces sheets = record { interfaces = interfaces; sections = map section sheets }
@@ -86,8 +85,7 @@ plan_nodes_is plan = λ i. suc (length (map param plan.params)) + total (slots_n
 module _ (arith : Arith) (structs : List TypedStruct) (here : Here) (params : ℕ) where
   abbrev pub slot_does : ℕ → Slot → Option Shape → Acts
   slot_does k slot None = leave Next
-  slot_does k slot (Some a) =
-      assign here (at_place slot.ty (λ blocks. Ok (variable_at here params (Local k))))
+  slot_does k slot (Some a) = assign here (at_place slot.ty (λ blocks. Ok (variable_at here params (Local k))))
       (way arith structs here params a) slot.line
 
   abbrev pub slots_do : ℕ → List Slot → List Acts
@@ -97,16 +95,15 @@ module _ (arith : Arith) (structs : List TypedStruct) (here : Here) (params : �
   pub inits_are : (k : ℕ) (slots : List Slot) → inits_do arith structs here params k (map local slots) ≡
       slots_do k slots
   inits_are k [] = refl
-  inits_are k (slot ∷ slots) =
-      with_init k slot slot.init (inits_are (suc k) slots) where
-        with_init : (k : ℕ) (slot : Slot) (init : Option Shape) →
-            inits_do arith structs here params (suc k) (map local slots) ≡ slots_do (suc k) slots →
-            inits_do arith structs here params k (record (local slot) { init = init_of init } ∷ map local slots) ≡
-            slot_does k slot init ∷ slots_do (suc k) slots
-        with_init k slot None rest = λ i. leave Next ∷ rest i
-        with_init k slot (Some a) rest = λ i.
-            assign here (at_place slot.ty (λ blocks. Ok (variable_at here params (Local k))))
-            (way_is arith structs here params a i) slot.line ∷ rest i
+  inits_are k (slot ∷ slots) = with_init k slot slot.init (inits_are (suc k) slots) where
+    with_init : (k : ℕ) (slot : Slot) (init : Option Shape) →
+        inits_do arith structs here params (suc k) (map local slots) ≡ slots_do (suc k) slots →
+        inits_do arith structs here params k (record (local slot) { init = init_of init } ∷ map local slots) ≡
+        slot_does k slot init ∷ slots_do (suc k) slots
+    with_init k slot None rest = λ i. leave Next ∷ rest i
+    with_init k slot (Some a) rest = λ i.
+        assign here (at_place slot.ty (λ blocks. Ok (variable_at here params (Local k))))
+        (way_is arith structs here params a i) slot.line ∷ rest i
 
 module _ (arith : Arith) (main : ℕ) where
   abbrev pub quick : List TypedStruct → Plan → Function
@@ -116,9 +113,8 @@ module _ (arith : Arith) (main : ℕ) where
         room = frame_bound (variables structs (function plan)) (plan_nodes plan);
         does = λ by here s. and_then (follow in_order
             (all_do (slots_do arith structs here (length (map param plan.params)) 0 plan.locals) tt s)
-            (all_do (lines_do arith structs here (length (map param plan.params)) by plan.body)))
-            (λ left s. closed left.exit (is_some plan.result)
-            (here.comp == main && bytes_eq plan.name main_name) plan.close_line here s);
+            (all_do (lines_do arith structs here (length (map param plan.params)) by plan.body))) (λ left s. closed
+            left.exit (is_some plan.result) (here.comp == main && bytes_eq plan.name main_name) plan.close_line here s);
       }
 
   pub function_is : (structs : List TypedStruct) (plan : Plan) →
@@ -129,9 +125,8 @@ module _ (arith : Arith) (main : ℕ) where
         room = frame_bound (variables structs (function plan)) (plan_nodes_is plan i);
         does = λ by here s. and_then (follow in_order
             (all_do (inits_are arith structs here (length (map param plan.params)) 0 plan.locals i) tt s)
-            (all_do (lines_are arith structs here (length (map param plan.params)) by plan.body i)))
-            (λ left s. closed left.exit (is_some plan.result)
-            (here.comp == main && bytes_eq plan.name main_name) plan.close_line here s);
+            (all_do (lines_are arith structs here (length (map param plan.params)) by plan.body i))) (λ left s. closed
+            left.exit (is_some plan.result) (here.comp == main && bytes_eq plan.name main_name) plan.close_line here s);
       }
 
   pub functions_are : (structs : List TypedStruct) (plans : List Plan) →

@@ -83,19 +83,16 @@ module _ (arith : Arith) (structs : List TypedStruct) (here : Here) (params : �
   sense (One ty o a) = record { ty = ty; way = term_step arith structs here params (term.Unary o (sense a)) ty }
   sense (Two ty o a b) = record {
     ty = ty;
-    way = term_step arith structs here params
-        (term.Binary o (sense a) (sense b)) ty;
+    way = term_step arith structs here params (term.Binary o (sense a) (sense b)) ty;
   }
   sense (At ty a b) = record { ty = ty; way = term_step arith structs here params (term.Index (sense a) (sense b)) ty }
   sense (Dot ty a offset) = record {
     ty = ty;
-    way = term_step arith structs here params
-        (term.Member (sense a) offset) ty;
+    way = term_step arith structs here params (term.Member (sense a) offset) ty;
   }
   sense (Arrow ty a offset) = record {
     ty = ty;
-    way = term_step arith structs here params
-        (term.Arrow (sense a) offset) ty;
+    way = term_step arith structs here params (term.Arrow (sense a) offset) ty;
   }
   sense (Star ty a) = record { ty = ty; way = term_step arith structs here params (term.Deref (sense a)) ty }
   sense (Amp ty a) = record { ty = ty; way = term_step arith structs here params (term.Address (sense a)) ty }
@@ -150,13 +147,11 @@ module _ (arith : Arith) (structs : List TypedStruct) (here : Here) (params : �
     lines_do (AssignCallLine line place target args rest) =
         assign_call here calls (way place) target (map way args) line ∷ lines_do rest
     lines_do (CallLine line target args rest) = call_alone here calls target (map way args) line ∷ lines_do rest
-    lines_do (IfLine line cond x y rest) =
-        (λ a s. and_then (evaluated here want.Value (way cond) line s)
+    lines_do (IfLine line cond x y rest) = (λ a s. and_then (evaluated here want.Value (way cond) line s)
         (λ v s. choose v (all_do (lines_do x) a s) (all_do (lines_do y) a s))) ∷ lines_do rest
     lines_do (WhileLine line cond x rest) = loop (test here (way cond) line) (all_do (lines_do x)) (leave Next) ∷
         lines_do rest
-    lines_do (ForLine line p e cond q f x rest) =
-        (λ a s. follow in_order (assign here (way p) (way e) line a s)
+    lines_do (ForLine line p e cond q f x rest) = (λ a s. follow in_order (assign here (way p) (way e) line a s)
         (loop (test here (way cond) line) (all_do (lines_do x)) (assign here (way q) (way f) line))) ∷ lines_do rest
     lines_do (BreakLine line rest) = leave Break ∷ lines_do rest
     lines_do (ContinueLine line rest) = leave Continue ∷ lines_do rest

@@ -25,8 +25,7 @@ resumes (latest ∷ earlier) to is = (_, refl)
 
 -- the run goes on after each allowed event but its end
 goes_further : (interfaces : Interfaces) (at : Standing) (event : Event) → may_perform interfaces at event ≡ true →
-    is_end event ≡ false →
-    (next : Standing) × (stands_after at event ≡ Some next)
+    is_end event ≡ false → (next : Standing) × (stands_after at event ≡ Some next)
 goes_further interfaces at (Call from to index args) may open_end = (_, refl)
 goes_further interfaces at (Ret from to value) may open_end = resumes _ to (and_parts _ _ may).0
 goes_further interfaces at (Out comp value) may open_end = (at, refl)
@@ -39,9 +38,8 @@ module _ (interfaces : Interfaces) (trace : List Event) (pending : Option ℕ) (
   -- the verdict is that of this event and of the later ones
   splits : legal interfaces trace ≡ (is_allowed interfaces is.at event &&
       is_legal_from interfaces (stands_after is.at event) (drop (place + 1) trace))
-  splits =
-      is.left ∙ ap (is_legal_from interfaces _) (drop_more trace place event within) ∙
-      ap (λ e. is_legal_from interfaces (Some is.at) (e ∷ drop (place + 1) trace)) (sym here)
+  splits = is.left ∙ ap (is_legal_from interfaces _) (drop_more trace place event within)
+      ∙ ap (λ e. is_legal_from interfaces (Some is.at) (e ∷ drop (place + 1) trace)) (sym here)
 
   module _ (allowed : Bool) (says : (at : Standing) → StandsBy interfaces.main trace pending at →
       allowed ≡ is_allowed interfaces at event) where
@@ -72,9 +70,8 @@ module _ (interfaces : Interfaces) (trace : List Event) (pending : Option ℕ) (
     after_end (End comp value) end = refl
 
     pub ended : allowed ≡ true → is_end event ≡ true → (place + 1 == length trace) ≡ legal interfaces trace
-    ended granted end =
-        nothing_follows _ refl ∙
-        sym (passed granted ∙ ap (λ s. is_legal_from interfaces s (drop (place + 1) trace)) (after_end event end))
+    ended granted end = nothing_follows _ refl
+        ∙ sym (passed granted ∙ ap (λ s. is_legal_from interfaces s (drop (place + 1) trace)) (after_end event end))
 
     pub goes_on : IfSome pending (λ call. call < length trace) → allowed ≡ true → is_end event ≡ false →
         IsOpenAt interfaces trace (open_after trace pending place event) (place + 1)

@@ -24,12 +24,11 @@ module _ (interfaces : Interfaces) where
 
   -- an export has a compartment
   has_comp : (comp index : ℕ) → IsSome (export_at interfaces comp index) → IsComp comp
-  has_comp comp index = of _
-    where
-      of : (found : Option Interface) → IsSome (option_and_then (λ found. slice_get found.exports index) found) →
-          IsSome found
-      of None is = absurd (false≢true is)
-      of _ is = refl
+  has_comp comp index = of _ where
+    of : (found : Option Interface) → IsSome (option_and_then (λ found. slice_get found.exports index) found) →
+        IsSome found
+    of None is = absurd (false≢true is)
+    of _ is = refl
 
   awaited : (waiting : List Activation) (to : ℕ) → awaits waiting to ≡ true →
       AllByRecursion (λ a. IsComp a.comp) waiting → IsComp to
@@ -44,8 +43,8 @@ module _ (interfaces : Interfaces) where
       (mine, has_comp to index export, export)
   performed at (Ret from to value) may known mine = (
     mine,
-    awaited at.waiting to (and_parts (awaits at.waiting to)
-        (may_return interfaces from at.active.entry value) may).0 known.waiting,
+    awaited at.waiting to
+        (and_parts (awaits at.waiting to) (may_return interfaces from at.active.entry value) may).0 known.waiting,
   )
   performed at (Out comp value) may known mine = mine
   performed at (In comp value) may known mine = mine
@@ -65,11 +64,10 @@ module _ (interfaces : Interfaces) where
   among_after : (at : Standing) (event : Event) → IsKnown interfaces event → IsAmong at →
       StandsAmong (stands_after at event)
   among_after at (Call from to index args) is known = record { active = is.1; waiting = (known.active, known.waiting) }
-  among_after at (Ret from to value) is known = resume _ known.waiting
-    where
-      resume : (waiting : List Activation) → AllByRecursion (λ a. IsComp a.comp) waiting → StandsAmong (resumed waiting)
-      resume [] all = tt
-      resume _ all = record { active = all.0; waiting = all.1 }
+  among_after at (Ret from to value) is known = resume _ known.waiting where
+    resume : (waiting : List Activation) → AllByRecursion (λ a. IsComp a.comp) waiting → StandsAmong (resumed waiting)
+    resume [] all = tt
+    resume _ all = record { active = all.0; waiting = all.1 }
   among_after at (Out comp value) is known = known
   among_after at (In comp value) is known = known
   among_after at (End comp value) is known = tt

@@ -13,9 +13,8 @@ one_more trace n event is =
     ap (λ m. take m trace) count ∙ take_more trace n event (slice_get_within trace n event is) ∙
     ap (λ x. take n trace ++ x ∷ []) (get_or_from_slice_get trace n event event is)
 
-behind_last : (from : Option Standing) (earlier : List Event) (event : Event) →
-    stands_behind from (earlier ++ event ∷ []) ≡ option_and_then (λ at. stands_after at event)
-    (stands_behind from earlier)
+behind_last : (from : Option Standing) (earlier : List Event) (event : Event) → stands_behind from
+    (earlier ++ event ∷ []) ≡ option_and_then (λ at. stands_after at event) (stands_behind from earlier)
 behind_last None [] event = refl
 behind_last (Some at) [] event = refl
 behind_last None (first ∷ earlier) event = refl
@@ -27,8 +26,7 @@ event_here trace place event within is = slice_get-get_or trace place event with
 
 -- the search goes on before an event that is no open call
 pub goes_on : (trace : List Event) (left place returned before : ℕ) (event : Event) → left ≡ suc place →
-    place < length trace →
-    event ≡ get_or trace place event → returned_before event returned ≡ Some before →
+    place < length trace → event ≡ get_or trace place event → returned_before event returned ≡ Some before →
     open_call trace left returned ≡ open_call trace place before
 goes_on trace left place returned before event e within is found =
     rw (e, event_here trace place event within is, found) refl
@@ -77,9 +75,8 @@ module _ (main : ℕ) (trace : List Event) where
   found_by count (End comp value) is again earlier was returned at then_at next up = absurd (none-some at next)
 
   found_next : (count : ℕ) (event : Event) → slice_get trace count ≡ Some event → Finds count →
-      (was : Option Standing) → standing count ≡ was →
-      (returned : ℕ) (at then_at : Standing) → option_and_then (λ s. stands_after s event) was ≡ Some at →
-      back returned at ≡ Some then_at →
+      (was : Option Standing) → standing count ≡ was → (returned : ℕ) (at then_at : Standing) →
+      option_and_then (λ s. stands_after s event) was ≡ Some at → back returned at ≡ Some then_at →
       StandsBy main trace (here_or count (open_call trace count) (returned_before event returned)) then_at
   found_next count event is again None was returned at then_at next up = absurd (none-some at next)
   found_next count event is again (Some earlier) was returned at then_at next up =
@@ -129,9 +126,8 @@ module _ (main : ℕ) (trace : List Event) where
 
   -- the run stands by the open call after each event
   pub after_by : (pending : Option ℕ) (place : ℕ) (event : Event) (at next : Standing) →
-      IfSome pending (λ call. call < length trace) →
-      slice_get trace place ≡ Some event → standing place ≡ Some at → StandsBy main trace pending at →
-      stands_after at event ≡ Some next →
+      IfSome pending (λ call. call < length trace) → slice_get trace place ≡ Some event → standing place ≡ Some at →
+      StandsBy main trace pending at → stands_after at event ≡ Some next →
       StandsBy main trace (open_after trace pending place event) next
   after_by pending place (Call from to index args) at next within is come by e =
       (at, come, subst (λ o. HasEntered o at next) (sym is) (sym (same_Some _ _ e)))

@@ -85,9 +85,8 @@ module _ (L M : Library) (agree : LibrariesAgree L M) where
     pub cross_agree : (from to index : ℕ) (args : List Value) (s : State) →
         PiecesAgree (call_cross L body from to index args s) (call_cross M other from to index args s)
     cross_agree from to index args s =
-        then_agree _ _ _ _ (found_agree _ _ s (agree.entered to _)) (λ number s.
-        runs_in to number _ (back_cross L.interfaces from to index) (back_cross M.interfaces from to index)
-        (back_agree from to index) _)
+        then_agree _ _ _ _ (found_agree _ _ s (agree.entered to _)) (λ number s. runs_in to number _
+        (back_cross L.interfaces from to index) (back_cross M.interfaces from to index) (back_agree from to index) _)
 
     called_agree : CallsAgree (called L body) (called M other)
     called_agree from (Own number) args s = then_agree _ _ _ _ (itself _) (λ _ s. own_agree from number args s)
@@ -96,9 +95,8 @@ module _ (L M : Library) (agree : LibrariesAgree L M) where
     called_agree from Output args s = itself _
 
     pub calls_agree : CallsAgree (calls L body) (calls M other)
-    calls_agree from target args s =
-        if_agree (may_call L from target args) (may_call M from target args) _ _ _ _ (may_same from target args)
-        (called_agree from target args s) (itself _)
+    calls_agree from target args s = if_agree (may_call L from target args) (may_call M from target args) _ _ _ _
+        (may_same from target args) (called_agree from target args s) (itself _)
 
     does_there : (here : Here) (s : State) (f g : Option Function) → Meets FunctionsAgree f g →
         PiecesAgree (and_then (found f s) (λ f s. f.does (calls L body) here s))
@@ -114,9 +112,8 @@ module _ (L M : Library) (agree : LibrariesAgree L M) where
     -- scripts
     asks_agree : (comp : ℕ) (target : CallTarget) (args : List Value) (s : State) →
         PiecesAgree (asks L body comp target args s) (asks M other comp target args s)
-    asks_agree comp target args s =
-        if_agree (may_call L comp target args) (may_call M comp target args) _ _ _ _ (may_same comp target args)
-        (calls_agree comp target args s) (itself _)
+    asks_agree comp target args s = if_agree (may_call L comp target args) (may_call M comp target args) _ _ _ _
+        (may_same comp target args) (calls_agree comp target args s) (itself _)
 
     acts_agree : (action : Action) (next next' again again' : State → Piece (Option Value)) (comp : ℕ) (s : State) →
         ((s : State) → PiecesAgree (next s) (next' s)) → ((s : State) → PiecesAgree (again s) (again' s)) →
@@ -132,9 +129,8 @@ module _ (L M : Library) (agree : LibrariesAgree L M) where
 
     pub performs_agree : (rows : List Row) → BodiesAgree (performs L body rows) (performs M other rows)
     performs_agree [] number here s = itself _
-    performs_agree (row ∷ rest) number here s =
-        if_agree (is_number number (L.entered _ _)) (is_number number (M.entered _ _)) _ _ _ _
-        (ap (is_number number) (agree.entered _ _))
+    performs_agree (row ∷ rest) number here s = if_agree (is_number number (L.entered _ _))
+        (is_number number (M.entered _ _)) _ _ _ _ (ap (is_number number) (agree.entered _ _))
         (acts_agree row.action _ _ _ _ here.comp s (λ s. performs_agree rest number here s) (λ s. bodies number here s))
         (itself _)
 
@@ -148,23 +144,19 @@ module _ (L M : Library) (agree : LibrariesAgree L M) where
 
   pub scripted_agree : (roles : Roles) (step to : Step) → StepsAgree step to →
       StepsAgree (scripted_step L roles step) (scripted_step M roles to)
-  scripted_agree roles step to k body other bodies number here s =
-      if_agree (roles.scripted _) _ _ _ _ _ refl (performs_agree body other bodies _ number here s)
-      (k body other bodies number here s)
+  scripted_agree roles step to k body other bodies number here s = if_agree (roles.scripted _) _ _ _ _ _ refl
+      (performs_agree body other bodies _ number here s) (k body other bodies number here s)
 
-  pub start_agree : (step to : Step) → StepsAgree step to → (main turns : ℕ) (s : State) →
-      PiecesAgree (and_then (found (L.entered main Main) s) (λ number s. call_own L (within step (suc turns)) main
-      number [] s))
+  pub start_agree : (step to : Step) → StepsAgree step to → (main turns : ℕ) (s : State) → PiecesAgree
+      (and_then (found (L.entered main Main) s) (λ number s. call_own L (within step (suc turns)) main number [] s))
       (and_then (found (M.entered main Main) s) (λ number s. call_own M (within to (suc turns)) main number [] s))
-  start_agree step to k main turns s =
-      then_agree _ _ _ _ (found_agree _ _ s (agree.entered main Main)) (λ number s.
+  start_agree step to k main turns s = then_agree _ _ _ _ (found_agree _ _ s (agree.entered main Main)) (λ number s.
       own_agree (within step (suc turns)) (within to (suc turns)) (within_agree step to k (suc turns)) main number [] s)
 
 -- whole runs
 
 same_reach : (events : ℕ) (run other : SourceRun) (end end' : RunEnd) → run.trace ≡ other.trace →
-    without_line end ≡ without_line end' →
-    reaches events run end ≡ reaches events other end'
+    without_line end ≡ without_line end' → reaches events run end ≡ reaches events other end'
 same_reach events run other Ended Ended is h = ap (λ t. nat_lt events (length t)) is
 same_reach events run other Ended (Blamed c x l) is h = absurd (cc)
 same_reach events run other Ended TurnsOut is h = absurd (cc)
@@ -183,8 +175,7 @@ same_reach events run other EventsOut TurnsOut is h = ap (λ t. nat_le events (l
 same_reach events run other EventsOut EventsOut is h = ap (λ t. nat_le events (length t)) is
 
 if_shown : (b c : Bool) (run other run' other' : SourceRun) → b ≡ c → BehavioursAgree run other →
-    BehavioursAgree run' other' →
-    BehavioursAgree (if b then run else run') (if c then other else other')
+    BehavioursAgree run' other' → BehavioursAgree (if b then run else run') (if c then other else other')
 if_shown true true run other run' other' is h k = h
 if_shown true false run other run' other' is h k = absurd (cc)
 if_shown false true run other run' other' is h k = absurd (cc)
@@ -197,10 +188,7 @@ stopped_agree events run other h =
       trace = take events _;
       end = EventsOut;
     }) (record { trace = take events _; end = EventsOut }) run other
-    (same_reach events run other run.end _ h.trace h.end) (record {
-      trace = ap (take events) h.trace;
-      end = refl;
-    }) h
+    (same_reach events run other run.end _ h.trace h.end) (record { trace = ap (take events) h.trace; end = refl }) h
 
 twice : (end : RunEnd) → without_line (without_line end) ≡ without_line end
 twice Ended = refl
@@ -241,9 +229,8 @@ run_agree main o p h = record {
 pub runs_agree : (L M : Library) (agree : LibrariesAgree L M) (step to : Step) → StepsAgree L M agree step to →
     (globals : Memory) (inputs : List ℕ) (turns : ℕ) →
     RunsAgree (run_by L step globals inputs turns) (run_by M to globals inputs turns)
-runs_agree L M agree step to k globals inputs turns =
-    subst (λ i. RunsAgree (run_by L step globals inputs turns)
-    (run_to i.main (and_then (found (M.entered i.main Main) (first_state globals inputs turns))
+runs_agree L M agree step to k globals inputs turns = subst (λ i. RunsAgree (run_by L step globals inputs turns) (run_to
+    i.main (and_then (found (M.entered i.main Main) (first_state globals inputs turns))
     (λ number s. call_own M (within to (suc turns)) i.main number [] s)))) agree.interfaces
     (run_agree L.interfaces.main _ _ (start_agree L M agree step to k L.interfaces.main turns _))
 

@@ -118,8 +118,7 @@ module _ (d : ℕ) (Soft : Cause → Type 0) (Turns : Type 0) where
         (λ t t' less less' b. h t t' less (subst (λ x. t'.turns < x) (sym same_turns) less') b))
 
     pub below_kept : Kept (Ahead n n') Below
-    below_kept =
-        record { reached = λ V v s s' a. along (ap (Reached v) a.state); after = after; turned = turned }
+    below_kept = record { reached = λ V v s s' a. along (ap (Reached v) a.state); after = after; turned = turned }
 
     computed_below : (V : Type 0) (here : Here) (line : ℕ) (r r' : Result V Cause) (s : State) → Keeps Soft V r r' →
         Below V (computed here line r s) (computed here line r' (richer d s))

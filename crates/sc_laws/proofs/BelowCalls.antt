@@ -88,10 +88,9 @@ module _ (d : ℕ) (Soft : Cause → Type 0) (Turns : Type 0) (spent : (d ≡ 0)
             → ((v : Option Value) → Goes (back v)) →
             ((v : Option Value) (s : State) → back v (richer d s) ≡ richer_piece d (back v s)) → (s : State) →
             RunBelow s (run_in L a comp number args back) (run_in M b comp number args back)
-        run_below comp number args back k k' s few few' =
-            found_below (function L comp number) (function M comp number) (function_twins _
-            _ Anywhere L M twins comp number) s _ _ (λ f g meets. entered_below f g meets comp number
-            args back k k' s few few')
+        run_below comp number args back k k' s few few' = found_below (function L comp number) (function M comp number)
+            (function_twins _ _ Anywhere L M twins comp number) s _ _
+            (λ f g meets. entered_below f g meets comp number args back k k' s few few')
 
         pub own_below : (comp number : ℕ) (args : List Value) (s : State) →
             RunBelow s (call_own L a comp number args) (call_own M b comp number args)
@@ -100,19 +99,16 @@ module _ (d : ℕ) (Soft : Cause → Type 0) (Turns : Type 0) (spent : (d ≡ 0)
         -- a call across, once the number of the function is known
         abbrev crosses : Library → Body → Interfaces → (from to index : ℕ) → List Value → ℕ → State →
             Piece (Option Value)
-        crosses library body interfaces from to index args number s =
-            run_in library body to number (crossed args) (back_cross interfaces from to index)
-            (tell (Call from to index (map word_in args)) s)
+        crosses library body interfaces from to index args number s = run_in library body to number (crossed args)
+            (back_cross interfaces from to index) (tell (Call from to index (map word_in args)) s)
 
         cross_to : (from to index : ℕ) (args : List Value) (number : Option ℕ) (s : State) → s.turns < n →
-            s.turns + d < n'
-            → Below d Soft Turns (Option Value)
+            s.turns + d < n' → Below d Soft Turns (Option Value)
             (and_then (found number s) (crosses L a L.interfaces from to index args))
             (and_then (found number (richer d s)) (crosses M b L.interfaces from to index args))
         cross_to from to index args None s few few' = along refl
-        cross_to from to index args (Some number) s few few' =
-            run_below to number _ (back_cross L.interfaces from to index)
-            (back_goes L.interfaces from to index) (λ v s. refl) _ few few'
+        cross_to from to index args (Some number) s few few' = run_below to number _
+            (back_cross L.interfaces from to index) (back_goes L.interfaces from to index) (λ v s. refl) _ few few'
 
         pub cross_below : (from to index : ℕ) (args : List Value) (s : State) →
             RunBelow s (call_cross L a from to index args) (call_cross M b from to index args)
@@ -137,13 +133,10 @@ module _ (d : ℕ) (Soft : Cause → Type 0) (Turns : Type 0) (spent : (d ≡ 0)
         called_below : (from : ℕ) (target : CallTarget) (args : List Value) (s s' : State) →
             Ahead d Soft Turns n n' s s' → Below d Soft Turns (Option Value) (called L a from target args s)
             (called M b from target args s')
-        called_below from (Own number) args s s' ahead =
-            after_turn _ _
-            (own_goes L a goes from number args) (own_goes M b goes' from number args) (own_below from number args) s s'
-            ahead
-        called_below from (Cross to index) args s s' ahead =
-            after_turn _ _ (cross_goes L a goes from to index args) (cross_goes M b goes' from to index args)
-            (cross_below from to index args) s s' ahead
+        called_below from (Own number) args s s' ahead = after_turn _ _ (own_goes L a goes from number args)
+            (own_goes M b goes' from number args) (own_below from number args) s s' ahead
+        called_below from (Cross to index) args s s' ahead = after_turn _ _ (cross_goes L a goes from to index args)
+            (cross_goes M b goes' from to index args) (cross_below from to index args) s s' ahead
         called_below from Input args s s' ahead =
             subst (λ x. Below d Soft Turns (Option Value) (called L a from Input args s) (called M b from Input args x))
             (sym ahead.state) (along refl)
@@ -167,18 +160,16 @@ module _ (d : ℕ) (Soft : Cause → Type 0) (Turns : Type 0) (spent : (d ≡ 0)
         guarded_below from target args s s' ahead =
             subst (λ may. Below d Soft Turns (Option Value) (calls L a from target args s)
             (if may then called M b from target args s' else Stopped (Blamed from BadType 0) s'))
-            (sym (same_tests from target args))
-            (if_below (may_call L from target args) _ _ _ _ (called_below from target args s s' ahead)
-            (along (ap (Stopped (Blamed from BadType 0)) ahead.state)))
+            (sym (same_tests from target args)) (if_below (may_call L from target args) _ _ _ _
+            (called_below from target args s s' ahead) (along (ap (Stopped (Blamed from BadType 0)) ahead.state)))
 
         asked_below : (from : ℕ) (target : CallTarget) (args : List Value) (s s' : State) →
             Ahead d Soft Turns n n' s s' →
             Below d Soft Turns (Option Value) (asks L a from target args s) (asks M b from target args s')
-        asked_below from target args s s' ahead =
-            subst (λ may. Below d Soft Turns (Option Value) (asks L a from target args s)
-            (if may then calls M b from target args s' else Stopped TurnsOut s')) (sym (same_tests from target args))
-            (if_below (may_call L from target args) _ _ _ _ (guarded_below from target args s s' ahead)
-            (along (ap (Stopped TurnsOut) ahead.state)))
+        asked_below from target args s s' ahead = subst (λ may. Below d Soft Turns (Option Value)
+            (asks L a from target args s) (if may then calls M b from target args s' else Stopped TurnsOut s'))
+            (sym (same_tests from target args)) (if_below (may_call L from target args) _ _ _ _
+            (guarded_below from target args s s' ahead) (along (ap (Stopped TurnsOut) ahead.state)))
 
         pub calls_below : (from : ℕ) → CallsTwins (Ahead d Soft Turns n n') (Below d Soft Turns) Anywhere from
             (calls L a) (calls M b)
@@ -239,10 +230,9 @@ module _ (d : ℕ) (Soft : Cause → Type 0) (Turns : Type 0) (spent : (d ≡ 0)
 
         -- a call of the environment, and then the rows behind it
         row_then : (from : ℕ) (target : CallTarget) (args : List Value) (next next' : State → Piece (Option Value)) →
-            Goes next → Goes next' →
-            ((s : State) → s.turns ≤ n → s.turns + d ≤ n' → Below d Soft Turns (Option Value) (next s)
-            (next' (richer d s))) → (s : State) → s.turns ≤ n → s.turns + d ≤ n'
-            → Below d Soft Turns (Option Value) (and_then (asks L a from target args s) (λ v. next))
+            Goes next → Goes next' → ((s : State) → s.turns ≤ n → s.turns + d ≤ n' →
+            Below d Soft Turns (Option Value) (next s) (next' (richer d s))) → (s : State) → s.turns ≤ n →
+            s.turns + d ≤ n' → Below d Soft Turns (Option Value) (and_then (asks L a from target args s) (λ v. next))
             (and_then (asks M b from target args (richer d s)) (λ v. next'))
         row_then from target args next next' go go' h s few few' =
             (below_kept d Soft Turns n n' spent).after (Option Value) _ s (richer d s)
@@ -255,10 +245,9 @@ module _ (d : ℕ) (Soft : Cause → Type 0) (Turns : Type 0) (spent : (d ≡ 0)
             (h t ahead.few (omega (arith, ahead.few', poorer))))
 
         acts_below : (action : Action) (next next' : State → Piece (Option Value)) → Goes next → Goes next' →
-            (number : ℕ) (here : Here) →
-            ((s : State) → s.turns ≤ n → s.turns + d ≤ n' → Below d Soft Turns (Option Value) (next s)
-            (next' (richer d s))) → (s : State) → s.turns ≤ n → s.turns + d ≤ n'
-            → Below d Soft Turns (Option Value) (acts L a action next (a number here) here.comp s)
+            (number : ℕ) (here : Here) → ((s : State) → s.turns ≤ n → s.turns + d ≤ n' →
+            Below d Soft Turns (Option Value) (next s) (next' (richer d s))) → (s : State) → s.turns ≤ n →
+            s.turns + d ≤ n' → Below d Soft Turns (Option Value) (acts L a action next (a number here) here.comp s)
             (acts M b action next' (b number here) here.comp (richer d s))
         acts_below (act.Call to index words) next next' go go' number here h s few few' =
             let args : List Value = map (λ w. Word w) words in
@@ -286,14 +275,13 @@ module _ (d : ℕ) (Soft : Cause → Type 0) (Turns : Type 0) (spent : (d ≡ 0)
 
         performs_below : (rows : List Row) → BodiesWithin n n' (performs L a rows) (performs M b rows)
         performs_below [] number here s few few' = along refl
-        performs_below (row ∷ rest) number here s few few' =
-            subst (λ x. Below d Soft Turns (Option Value) (performs L a (row ∷ rest) number here s)
-            (if is_number number x then acts M b row.action (performs M b rest number here) (b number here) here.comp
-            (richer d s) else Stopped TurnsOut (richer d s))) (sym (entered_same _ _ Anywhere L M twins _ _))
-            (if_below (is_number number _) _ _ _ _ (acts_below row.action
-            (performs L a rest number here) (performs M b rest number here) (performs_go L a goes rest number here)
-            (performs_go M b goes' rest number here) number here (performs_below rest number here) s few few')
-            (along refl))
+        performs_below (row ∷ rest) number here s few few' = subst (λ x. Below d Soft Turns (Option Value)
+            (performs L a (row ∷ rest) number here s) (if is_number number x then acts M b row.action
+            (performs M b rest number here) (b number here) here.comp (richer d s) else Stopped TurnsOut (richer d s)))
+            (sym (entered_same _ _ Anywhere L M twins _ _)) (if_below (is_number number _) _ _ _ _ (acts_below
+            row.action (performs L a rest number here) (performs M b rest number here)
+            (performs_go L a goes rest number here) (performs_go M b goes' rest number here) number here
+            (performs_below rest number here) s few few') (along refl))
 
         pub scripted_below : (roles : Roles) (step step' : Step) → BodiesWithin n n' (step a) (step' b) →
             BodiesWithin n n' (scripted_step L roles step a) (scripted_step M roles step' b)

@@ -39,9 +39,8 @@ module _ (Fair : ℕ → Type 0) where
     run_spares : (comp number : ℕ) (args : List Value) (back : Option Value → State → Piece (Option Value)) →
         ((v : Option Value) (s : State) → Kept sparing (back v s)) → (s : State) →
         Kept sparing (run_in library body comp number args back s)
-    run_spares comp number args back b s =
-        found_kept sparing (function library comp number) s _ tt (λ f is. then_kept sparing (body number _ _) _
-        (spares number _ _) (λ v t h. b v _))
+    run_spares comp number args back b s = found_kept sparing (function library comp number) s _ tt
+        (λ f is. then_kept sparing (body number _ _) _ (spares number _ _) (λ v t h. b v _))
 
     cross_spares : (from to index : ℕ) (args : List Value) (s : State) →
         Kept sparing (call_cross library body from to index args s)
@@ -92,43 +91,37 @@ module _ (Fair : ℕ → Type 0) where
         then_kept sparing (asks library body comp (Cross to index) (map _ args) s)
         _ (asks_spare comp (Cross to index) (map _ args) s) (λ v s h. a s)
     acts_spare (act.Ret v) next again n a comp s = record { after = tt }
-    acts_spare (act.Out w) next again n a comp s =
-        then_kept sparing (asks library body comp Output (Word w ∷ []) s) _ (asks_spare comp Output (Word w ∷ []) s)
-        (λ v s h. n s)
+    acts_spare (act.Out w) next again n a comp s = then_kept sparing (asks library body comp Output (Word w ∷ []) s) _
+        (asks_spare comp Output (Word w ∷ []) s) (λ v s h. n s)
     acts_spare (act.In w) next again n a comp s =
         then_kept sparing (asks library body comp Input [] s) _ (asks_spare comp Input [] s) (λ v s h. n s)
     acts_spare (act.End w) next again n a comp s = record { after = tt }
 
     performs_spare : (rows : List Row) → BodySpares (performs library body rows)
     performs_spare [] number here s = record { after = tt }
-    performs_spare (row ∷ rest) number here s =
-        by (performs_spare rest number here) _ where
-          by : ((s : State) → Kept sparing (performs library body rest number here s)) → (b : Bool) →
-              Kept sparing (if b then acts library body row.action (performs library body rest number here)
-              (body number here) here.comp s else Stopped TurnsOut s)
-          by next true = acts_spare _ _ _ next (spares number here) _ s
-          by next false = record { after = tt }
+    performs_spare (row ∷ rest) number here s = by (performs_spare rest number here) _ where
+      by : ((s : State) → Kept sparing (performs library body rest number here s)) → (b : Bool) →
+          Kept sparing (if b then acts library body row.action (performs library body rest number here)
+          (body number here) here.comp s else Stopped TurnsOut s)
+      by next true = acts_spare _ _ _ next (spares number here) _ s
+      by next false = record { after = tt }
 
-  module _ (library : Library) (obedient : Obedient library) (roles : Roles)
-      (fair : (comp number : ℕ) (f : Function) → roles.scripted comp ≡ false → function library comp number ≡ Some f →
-      Fair comp) where
+  module _ (library : Library) (obedient : Obedient library) (roles : Roles) (fair : (comp number : ℕ) (f : Function) →
+      roles.scripted comp ≡ false → function library comp number ≡ Some f → Fair comp) where
     step_spares : (body : Body) → BodyGoes body → BodySpares body →
         BodySpares (scripted_step library roles (run_step library) body)
     step_spares body goes spares number here s = by (roles.scripted _) refl where
-      by : (b : Bool) → roles.scripted here.comp ≡ b →
-          Kept sparing (if b then performs library body (rows_left roles here.comp s.trace) number here s else run_step
-          library body number here s)
+      by : (b : Bool) → roles.scripted here.comp ≡ b → Kept sparing (if b then performs library body
+          (rows_left roles here.comp s.trace) number here s else run_step library body number here s)
       by true is = performs_spare library body spares _ number here s
-      by false is =
-          run_step_spares library body spares obedient goes number here s
+      by false is = run_step_spares library body spares obedient goes number here s
           (λ f found_f. fair here.comp number f is found_f)
 
     within_spares : (n : ℕ) → BodySpares (within (scripted_step library roles (run_step library)) n)
     within_spares zero number here s = record { after = tt }
-    within_spares (suc n) number here s =
-        step_spares (within (scripted_step library roles (run_step library)) n)
-        (within_goes (scripted_step library roles _) (scripted_goes_on library obedient roles) n)
-        (within_spares n) number here s
+    within_spares (suc n) number here s = step_spares (within (scripted_step library roles (run_step library)) n)
+        (within_goes (scripted_step library roles _) (scripted_goes_on library obedient roles) n) (within_spares n)
+        number here s
 
     run_to_spares : (main : ℕ) (piece : Piece (Option Value)) → Kept sparing piece →
         Spares (run_to main piece).behaviour.end
@@ -153,9 +146,8 @@ module _ (library : Library) (obedient : Obedient library) (globals : Memory) (i
     (roles : Roles) (comp : ℕ) (cause : Cause) (line : ℕ)
     (ends : (stopped_at events (roles_run library globals inputs turns roles).behaviour).end ≡ Blamed comp cause line)
   where
-    fair_blame : (Fair : ℕ → Type 0) →
-        ((comp number : ℕ) (f : Function) → roles.scripted comp ≡ false → function library comp number ≡ Some f →
-        Fair comp) → Fair comp
+    fair_blame : (Fair : ℕ → Type 0) → ((comp number : ℕ) (f : Function) → roles.scripted comp ≡ false →
+        function library comp number ≡ Some f → Fair comp) → Fair comp
     fair_blame Fair fair =
         subst (Spares Fair) ends (stopped_spares Fair events (roles_run library globals inputs turns roles).behaviour
         (run_by_spares Fair library obedient roles fair globals inputs turns))
@@ -164,8 +156,7 @@ module _ (library : Library) (obedient : Obedient library) (globals : Memory) (i
     nobody_is_blamed = fair_blame (λ c. roles.scripted c ≡ false) (λ c number f plain found_f. plain)
 
     pub blamed_is_there : comp < length library.functions
-    blamed_is_there =
-        fair_blame (λ c. c < length library.functions)
+    blamed_is_there = fair_blame (λ c. c < length library.functions)
         (λ c number f plain found_f. listed library.functions c number f found_f) where
           listed : (functions : List (List Function)) (c number : ℕ) (f : Function) →
               slice_get (slice_index_or functions c []) number ≡ Some f → c < length functions

@@ -14,8 +14,7 @@ early : (n : ℕ) (x : SourceRun) (comp : ℕ) (cause : Cause) (line : ℕ) → 
     length (stopped_at n x).trace < n
 early n x comp cause line ends = by _ refl ends where
   few : (end : RunEnd) → end ≡ Blamed comp cause line → reaches n x end ≡ false → length x.trace < n
-  few end is stays =
-      let test : nat_le n _ ≡ false = ap (reaches n x) (sym is) ∙ stays in leb-false n _ test
+  few end is stays = let test : nat_le n _ ≡ false = ap (reaches n x) (sym is) ∙ stays in leb-false n _ test
 
   by : (b : Bool) → reaches n x x.end ≡ b → (if b then record { trace = take n x.trace; end = EventsOut } else x).end
       ≡ Blamed comp cause line → length (if b then record { trace = take n x.trace; end = EventsOut } else x).trace < n
@@ -44,19 +43,17 @@ module _ (L : Library) (obedient : Obedient L) (globals : Memory) (inputs : List
   told_more : (run other : SourceRun) (comp : ℕ) (cause : Cause) (line : ℕ) → other.end ≡ Blamed comp cause line →
       PassesBlame run other → length run.trace < length other.trace
   told_more run other comp cause line ends (turnless is) = let wants : other.end ≡ TurnsOut = ap (λ r. r.end) is in cc
-  told_more run other comp cause line ends (longer event front) =
-      omega (
-        arith,
-        ap length front.is,
-        length-append (run.trace ++ event ∷ []) front.more,
-        length-append run.trace
-            (event ∷ []),
-      )
+  told_more run other comp cause line ends (longer event front) = omega (
+    arith,
+    ap length front.is,
+    length-append
+        (run.trace ++ event ∷ []) front.more,
+    length-append run.trace (event ∷ []),
+  )
 
-  rises : (set : Set) (least : ℕ) (links : List Link) →
-      ((comp : ℕ) (cause : Cause) (line : ℕ) → (behaviour set).end ≡ Blamed comp cause line →
-      least ≤ length (behaviour set).trace)
-      → IsChain (performed_by L globals inputs turns t) t set links → IsRising least (length t) links
+  rises : (set : Set) (least : ℕ) (links : List Link) → ((comp : ℕ) (cause : Cause) (line : ℕ) →
+      (behaviour set).end ≡ Blamed comp cause line → least ≤ length (behaviour set).trace) →
+      IsChain (performed_by L globals inputs turns t) t set links → IsRising least (length t) links
   rises set least [] h chain = tt
   rises set least (link ∷ links) h chain =
       let here = chain.0 in
@@ -96,9 +93,8 @@ missing set (suc n) = (if set n then 0 else 1) + missing set n
 above_counts : (set : Set) (comp n : ℕ) → n ≤ comp → missing (with comp set) n ≡ missing set n
 unfolding missing
 above_counts set comp zero le = refl
-above_counts set comp (suc n) le =
-    ap₂ (λ b m. (if b || set n then 0 else 1) + m) (ne_eqb n comp (λ is. absurd (omega (arith, le, is))))
-    (above_counts set comp n (omega (arith, le)))
+above_counts set comp (suc n) le = ap₂ (λ b m. (if b || set n then 0 else 1) + m)
+    (ne_eqb n comp (λ is. absurd (omega (arith, le, is)))) (above_counts set comp n (omega (arith, le)))
 
 -- one below it that isn't of the set counts once
 still_apart : (n comp : ℕ) → (n == comp) ≡ false → comp < suc n → comp < n
@@ -109,9 +105,8 @@ below_counts : (set : Set) (comp n : ℕ) → set comp ≡ false → comp < n �
 unfolding missing
 below_counts set comp zero clear lt = absurd (omega (arith, lt))
 below_counts set comp (suc n) clear lt = by (below_counts set comp n clear) (n == comp) refl where
-  by : (comp < n → suc (missing (with comp set) n) ≡ missing set n) → (b : Bool) → (n == comp) ≡ b →
-      suc ((if (n == comp) || set n then 0 else 1) + missing (with comp set) n) ≡ (if set n then 0 else 1) + missing set
-      n
+  by : (comp < n → suc (missing (with comp set) n) ≡ missing set n) → (b : Bool) → (n == comp) ≡ b → suc
+      ((if (n == comp) || set n then 0 else 1) + missing (with comp set) n) ≡ (if set n then 0 else 1) + missing set n
   by before true is =
       let same : n ≡ comp = eqb-true n comp is in
       let here : set n ≡ false = ap set same ∙ clear in

@@ -84,26 +84,20 @@ module _ (Soft : Cause → Type 0) where
 
       pub binary_keeps : (o : BinaryOp) (a a' b b' : Meant) → Agrees a a' → Agrees b b' → (blocks : Blocks) →
           Keeps Value (binary ar structs o a b blocks) (binary br structs o a' b' blocks)
-      binary_keeps op.AndAlso a a' b b' h k blocks =
-          bind_keeps Value Value _ _ _ _ (h.way want.Value blocks)
-          (λ v. choose_keeps v _ _ _ _ (bind_keeps Value Value _ _ _ _ (k.way _ blocks) (λ w. alike refl))
-          (alike refl))
-      binary_keeps op.OrElse a a' b b' h k blocks =
-          bind_keeps Value Value _ _ _ _ (h.way _ blocks) (λ v. choose_keeps v _ _ _ _ (alike refl)
-          (bind_keeps Value Value _ _ _ _ (k.way _ blocks) (λ w. alike refl)))
-      binary_keeps o a a' b b' h k blocks =
-          bind_keeps Value Value _ _ _ _ (h.way _ blocks)
-          (λ v. bind_keeps Value Value _ _ _ _ (k.way _ blocks) (λ w. at_types blocks o a.ty a'.ty b.ty b'.ty v
-          w h.ty k.ty))
+      binary_keeps op.AndAlso a a' b b' h k blocks = bind_keeps Value Value _ _ _ _ (h.way want.Value blocks)
+          (λ v. choose_keeps v _ _ _ _ (bind_keeps Value Value _ _ _ _ (k.way _ blocks) (λ w. alike refl)) (alike refl))
+      binary_keeps op.OrElse a a' b b' h k blocks = bind_keeps Value Value _ _ _ _ (h.way _ blocks)
+          (λ v. choose_keeps v _ _ _ _ (alike refl) (bind_keeps Value Value _ _ _ _ (k.way _ blocks) (λ w. alike refl)))
+      binary_keeps o a a' b b' h k blocks = bind_keeps Value Value _ _ _ _ (h.way _ blocks) (λ v. bind_keeps Value Value
+          _ _ _ _ (k.way _ blocks) (λ w. at_types blocks o a.ty a'.ty b.ty b'.ty v w h.ty k.ty))
 
       place_keeps : (ty : Ty) (p p' : Blocks → Result Value Cause) →
           ((blocks : Blocks) → Keeps Value (p blocks) (p' blocks)) → (w : Want) (blocks : Blocks) →
           Keeps Value (at_place ty p w blocks) (at_place ty p' w blocks)
       place_keeps ty p p' h w blocks = bind_keeps Value Value _ _ _ _ (h blocks) (λ q. alike refl)
 
-      index_at : (blocks : Blocks) (left left' right right' : Ty) (v w : Value) → left' ≡ left → right' ≡ right →
-          Keeps Value (at_pointer structs blocks op.Add left right v w) (at_pointer structs blocks op.Add left' right' v
-          w)
+      index_at : (blocks : Blocks) (left left' right right' : Ty) (v w : Value) → left' ≡ left → right' ≡ right → Keeps
+          Value (at_pointer structs blocks op.Add left right v w) (at_pointer structs blocks op.Add left' right' v w)
       index_at blocks left left' right right' v w is is' =
           alike (ap (λ t. at_pointer structs blocks op.Add t right' v w) is
           ∙ ap (λ t. at_pointer structs blocks op.Add left t v w) is')
@@ -121,15 +115,13 @@ module _ (Soft : Cause → Type 0) where
         term_keeps ty (term.Literal word) h w blocks = alike refl
         term_keeps ty (term.Variable v) h w blocks = alike refl
         term_keeps ty (term.Unary o a) h w blocks =
-            bind_keeps Value Value _ _ _ _ (h.way want.Value blocks)
-            (λ v. subst (λ t. Keeps Value (applied_one ar (is_unsigned (meant ar structs here params a).ty) o v)
-            (applied_one br (is_unsigned t) o v)) (sym h.ty)
-            (one_keeps (is_unsigned (meant ar structs here params a).ty) o v))
+            bind_keeps Value Value _ _ _ _ (h.way want.Value blocks) (λ v. subst (λ t. Keeps Value
+            (applied_one ar (is_unsigned (meant ar structs here params a).ty) o v) (applied_one br (is_unsigned t) o v))
+            (sym h.ty) (one_keeps (is_unsigned (meant ar structs here params a).ty) o v))
         term_keeps ty (term.Binary o a b) h w blocks = binary_keeps o _ _ _ _ h.0 h.1 blocks
         term_keeps ty (term.Index a b) h w blocks =
-            place_keeps ty _ _ (λ blocks. bind_keeps Value Value _ _ _ _ (h.0.way want.Value blocks)
-            (λ v. bind_keeps Value Value _ _ _ _ (h.1.way want.Value blocks) (λ x. index_at blocks _ _ _ _ v x h.0.ty
-            h.1.ty))) w blocks
+            place_keeps ty _ _ (λ blocks. bind_keeps Value Value _ _ _ _ (h.0.way want.Value blocks) (λ v. bind_keeps
+            Value Value _ _ _ _ (h.1.way want.Value blocks) (λ x. index_at blocks _ _ _ _ v x h.0.ty h.1.ty))) w blocks
         term_keeps ty (term.Member a offset) h w blocks =
             place_keeps ty _ _ (λ blocks. bind_keeps Value Value _ _ (moved blocks (pos offset))
             (moved blocks (pos offset)) (h.way want.Place blocks) (λ v. alike refl)) w blocks
@@ -156,6 +148,5 @@ module _ (Soft : Cause → Type 0) where
             Keeps (List Value) (values (map (ways ar structs here params) es) blocks)
             (values (map (ways br structs here params) es) blocks)
         values_keep [] blocks = alike refl
-        values_keep (e ∷ es) blocks =
-            bind_keeps Value _ _ _ _ _ (ways_keep e _ blocks)
+        values_keep (e ∷ es) blocks = bind_keeps Value _ _ _ _ _ (ways_keep e _ blocks)
             (λ v. bind_keeps (List Value) _ _ _ _ _ (values_keep es blocks) (λ vs. alike refl))

@@ -30,18 +30,16 @@ module _ (step : Step) (goes : StepGoes step) (steps : StepsBelow 0 Never ⊥ (i
   -- more open calls than turns are as good as any number of them
   pub any_depth : (n m number : ℕ) (here : Here) (s : State) → s.turns < n → s.turns < m →
       within step m number here s ≡ within step n number here s
-  any_depth n m number here s few few' =
-      ap (within step m number here) (sym (no_richer s)) ∙ only_same _
-      _ (within_below 0 Never ⊥ (inl refl) step step goes goes steps n m number here s few (omega (arith, few')))
+  any_depth n m number here s few few' = ap (within step m number here) (sym (no_richer s)) ∙ only_same _ _
+      (within_below 0 Never ⊥ (inl refl) step step goes goes steps n m number here s few (omega (arith, few')))
 
   pub now_goes : BodyGoes (now step)
   now_goes number here s = within_goes step goes (suc s.turns) number here s
 
   pub fixed : IsFixed step
   fixed number here s =
-      let inner : BodiesBelow 0 Never ⊥ (inl refl) s.turns (s.turns + 0) _ (now step) =
-      λ number here t few few'. within_below 0 Never ⊥ (inl refl) step step goes goes steps s.turns (suc _)
-      number here t few (omega arith) in
+      let inner : BodiesBelow 0 Never ⊥ (inl refl) s.turns (s.turns + 0) _ (now step) = λ number here t few few'.
+      within_below 0 Never ⊥ (inl refl) step step goes goes steps s.turns (suc _) number here t few (omega arith) in
       sym (only_same _ _ (steps s.turns _ _ _ (within_goes step goes s.turns) now_goes inner
       number here s (omega arith) (omega arith))) ∙ ap (step _ number here) (no_richer s)
 

@@ -74,8 +74,7 @@ module _ (main : ℕ) (t : List Event) (S' : ℕ → Bool) where
 
   pub beyond_in : (end : RunEnd) (s : State) (p : Piece (Option Value)) → Beyond (Option Value) end s p →
       BeyondIn end s p
-  beyond_in end s p by =
-      record { front = by.front; agreed = by.agreed; passed = if_blamed end _ _ passes by.passed }
+  beyond_in end s p by = record { front = by.front; agreed = by.agreed; passed = if_blamed end _ _ passes by.passed }
 
   -- both have told the whole trace; or both come to the same at one place of it; or the first has stopped
   pub data KeepsUp (st : Standing) (V : Type 0) (o p : Piece V) : Type 0 where
@@ -112,8 +111,7 @@ module _ (main : ℕ) (t : List Event) (S' : ℕ → Bool) where
         turns = n.turns;
         inputs = n.inputs;
         stands = n.stands;
-        memory =
-            λ d clear. n.memory d clear
+        memory = λ d clear. n.memory d clear
             ∙ sym (blocks_there c d x s.memory (λ is. both_ways (S' d) clear (ap S' is ∙ performs)));
       }
 
@@ -122,10 +120,7 @@ module _ (main : ℕ) (t : List Event) (S' : ℕ → Bool) where
   near_tell st after s s' e more moves is n =
       record {
         trace = ap (λ u. u ++ e ∷ []) n.trace;
-        front = record {
-          more = more;
-          is = is ∙ sym (append_assoc s.trace _ more);
-        };
+        front = record { more = more; is = is ∙ sym (append_assoc s.trace _ more) };
         turns = n.turns;
         inputs = n.inputs;
         memory = n.memory;
@@ -155,11 +150,9 @@ module _ (main : ℕ) (t : List Event) (S' : ℕ → Bool) where
       ((v : V) → Goes (l v)) → Beyond V end s p → Beyond W end s (and_then p l)
   beyond_then V W end s p l goes by =
       record {
-        front = front_more s.trace (last p).trace (last (and_then p l)).trace by.front
-            (then_from p l goes).events;
+        front = front_more s.trace (last p).trace (last (and_then p l)).trace by.front (then_from p l goes).events;
         agreed = agreed_then V W end s p l by.agreed;
-        passed =
-            if_blamed end _ _ (passed_then V W s.trace p l goes) by.passed;
+        passed = if_blamed end _ _ (passed_then V W s.trace p l goes) by.passed;
       }
 
   -- what performs returns, and its return is told
@@ -230,9 +223,8 @@ module _ (main : ℕ) (t : List Event) (S' : ℕ → Bool) where
           reached = λ V v s s' n. record { follows = λ along. both v s s' refl refl n };
           after =
               λ V W s s' o p k l n g g' goes goes' r h. record {
-                follows = λ along. then_follows V W s s' o p k l g g' goes
-                    goes' h along (r.follows (in_line_before t (last o).trace (last (and_then o k)).trace
-                    (then_from o k goes).events along));
+                follows = λ along. then_follows V W s s' o p k l g g' goes goes' h along (r.follows
+                    (in_line_before t (last o).trace (last (and_then o k)).trace (then_from o k goes).events along));
               };
           turned = λ W k l goes goes' s s' n h. turn_follows W k l goes' s s' n s.turns _ refl refl h;
         }
@@ -290,17 +282,15 @@ module _ (main : ℕ) (t : List Event) (S' : ℕ → Bool) where
 
       -- what is left goes on from where the first run stands
       pub left_goes : (s : State) → Stands s → Front s.trace (last left).trace
-      left_goes s x =
-          subst (λ u. Front u (last left).trace) x.near.trace (subst (λ y. Front x.other.trace (last y).trace)
-          (sym x.is) (rest_goes x.other).grown.events)
+      left_goes s x = subst (λ u. Front u (last left).trace) x.near.trace
+          (subst (λ y. Front x.other.trace (last y).trace) (sym x.is) (rest_goes x.other).grown.events)
 
       then_performs : (V W : Type 0) (s : State) (o : Piece V) (k : V → State → Piece W) → Gone s o →
           ((v : V) → Goes (k v)) → ((v : V) (x : State) → Grown s x → Stands x → (y : Piece W) → Perform W (k v x) y) →
           InLine t (last (and_then o k)).trace → Performs V o → Performs W (and_then o k)
       then_performs V W s o k g goes h along (done a b) =
           done (front_more t (last o).trace (last (and_then o k)).trace a (then_from o k goes).events) b
-      then_performs V W s o k g goes h along (here v x is stands) =
-          subst (λ y. Performs W (and_then y k)) (sym is)
+      then_performs V W s o k g goes h along (here v x is stands) = subst (λ y. Performs W (and_then y k)) (sym is)
           ((h v x (subst (λ y. Grown s (last y)) is g.grown) stands (k v x)).performs
           (subst (λ y. InLine t (last (and_then y k)).trace) is along))
       then_performs V W s o k g goes h along (stop end x is by) = stop end x (ap (λ y. and_then y k) is) by
@@ -326,9 +316,7 @@ module _ (main : ℕ) (t : List Event) (S' : ℕ → Bool) where
               memory = x.near.memory;
               stands = x.near.stands;
             };
-          }) (k tt (record s {
-            turns = m;
-          }))).performs along)
+          }) (k tt (record s { turns = m }))).performs along)
 
       pub perform_kept : Kept OneSided Perform
       perform_kept =
@@ -366,8 +354,7 @@ module _ (main : ℕ) (t : List Event) (S' : ℕ → Bool) where
 
       pub stands_stored : (c : ℕ) (x : Blocks) (s : State) → S' c ≡ true → Stands s →
           Stands (record s { memory = with_blocks c x s.memory })
-      stands_stored c x s set at =
-          record { other = at.other; is = at.is; near = near_left st s _ c x set at.near }
+      stands_stored c x s set at = record { other = at.other; is = at.is; near = near_left st s _ c x set at.near }
 
       -- calls of a compartment that performs in the second run alone
       pub perform_at : ((s : State) → Stands s → MovesOrReturns s.trace left) → (at : Here) → S' at.comp ≡ true →

@@ -106,17 +106,14 @@ module _ (L : Library) (main : ℕ) (t : List Event) (S S' : ℕ → Bool) (larg
         S' comp ≡ true → L.entered comp st.active.entry ≡ Some k → performer e ≡ comp → t ≡ s.trace ++ e ∷ more →
         stands_behind (at_start main) s.trace ≡ Some st → Telling k comp first e s
     performs_next k comp first st s e more set is_k own is stands =
-        let next : Next _ st e =
-        row_of_next main comp t s.trace e more st is stands own in
+        let next : Next _ st e = row_of_next main comp t s.trace e more st is stands own in
         let row : Row = record { entry = st.active.entry; number = next.number; action = action_of e } in
         let doing = acts L second (action_of e) (performs L second next.rest k _) (second k (at comp first)) comp s in
         record {
           rest = next.rest;
           left = rows_behind main comp t s.trace e st own next;
-          is =
-              fixed k _ s
-              ∙ ap (λ b. if b then performs L second (rows_left (roles_in main S' t) comp s.trace) k (at comp first)
-              s else run_step L second k (at comp first) s) set
+          is = fixed k _ s ∙ ap (λ b. if b then performs L second (rows_left (roles_in main S' t) comp s.trace) k
+              (at comp first) s else run_step L second k (at comp first) s) set
               ∙ ap (λ rows. performs L second rows k (at comp first) s) next.is
               ∙ ap (λ n. if is_number k n then doing else Stopped TurnsOut s) is_k
               ∙ ap (λ b. if b then doing else Stopped TurnsOut s) (eq-eqb k k refl);
@@ -134,11 +131,10 @@ module _ (L : Library) (main : ℕ) (t : List Event) (S S' : ℕ → Bool) (larg
     tells_more s e p front = passing.passes (passed.longer e front)
 
     call_passes : (allowed : Bool) (m : ℕ) (from to index : ℕ) (args : List Value) (number : Option ℕ) (s : State)
-        (k : Option Value → State → Piece (Option Value)) → ((v : Option Value) → Goes (k v))
-        →
-        Passes s (and_then (if allowed then and_then (turn_of m s) (λ _ s. and_then (found number s)
-        (λ number s. run_in L second to number (crossed args) (back_cross L.interfaces from to index)
-        (tell (Call from to index (map word_in args)) s))) else Stopped TurnsOut s) k)
+        (k : Option Value → State → Piece (Option Value)) → ((v : Option Value) → Goes (k v)) → Passes s (and_then (if
+        allowed then and_then (turn_of m s) (λ _ s. and_then (found number s) (λ number s. run_in L second to number
+        (crossed args) (back_cross L.interfaces from to index) (tell (Call from to index (map word_in args)) s))) else
+        Stopped TurnsOut s) k)
     call_passes false m from to index args number s k goes = halts s
     call_passes true zero from to index args number s k goes = halts s
     call_passes true (suc m) from to index args None s k goes =
@@ -157,9 +153,8 @@ module _ (L : Library) (main : ℕ) (t : List Event) (S S' : ℕ → Bool) (larg
           let first : ℕ = length (s.memory to) in
           let ret : Option Value → State → Piece (Option Value) =
           λ v u. back_cross L.interfaces from to index v (done to f first u) in
-          let ret_goes : (v : Option Value) → Goes (ret v) =
-          λ v u. earlier u (done to f first u) (ret v u) (done_goes to f first u)
-          (back_goes L.interfaces from to index v (done to f first u)) in
+          let ret_goes : (v : Option Value) → Goes (ret v) = λ v u. earlier u (done to f first u) (ret v u)
+          (done_goes to f first u) (back_goes L.interfaces from to index v (done to f first u)) in
           tells_more s (Call from to index (map word_in args)) (and_then (and_then _ ret) k)
           (then_goes start (and_then (second number (at to first) start) ret) k
           (then_goes start (second number _ start) ret (second_goes number _ start) ret_goes) goes).grown.events
@@ -197,11 +192,9 @@ module _ (L : Library) (main : ℕ) (t : List Event) (S S' : ℕ → Bool) (larg
       by_test false = halts s
 
     pub second_passes : (k comp first : ℕ) (s : State) → S' comp ≡ true → Passes s (second k (at comp first) s)
-    second_passes k comp first s set =
-        subst (Passes s) (sym (fixed k _ s
-        ∙ ap (λ b. if b then performs L second (rows_left (roles_in main S' t) comp s.trace) k (at comp first)
-        s else run_step L second k (at comp first) s) set)) (rows_pass (rows_left (roles_in main S' t) comp s.trace) k
-        comp first s)
+    second_passes k comp first s set = subst (Passes s) (sym (fixed k _ s ∙ ap (λ b. if b then performs L second
+        (rows_left (roles_in main S' t) comp s.trace) k (at comp first) s else run_step L second k (at comp first)
+        s) set)) (rows_pass (rows_left (roles_in main S' t) comp s.trace) k comp first s)
 
     -- CALLS ACROSS
     -- a call of this function returns
@@ -229,9 +222,8 @@ module _ (L : Library) (main : ℕ) (t : List Event) (S S' : ℕ → Bool) (larg
     module _ (st : Standing) (from to index : ℕ) (f : Function) (first first' : ℕ) where
       both_return : (o p : Piece (Option Value)) → (S' to ≡ false → first' ≡ first) →
           InLine t (last (and_then o (returns to from index f first))).trace →
-          KeepsUp main t S' (inside st to index) (Option Value) o p →
-          KeepsUp main t S' st (Option Value) (and_then o (returns to from index f first))
-          (and_then p (returns to from index f first'))
+          KeepsUp main t S' (inside st to index) (Option Value) o p → KeepsUp main t S' st (Option Value)
+          (and_then o (returns to from index f first)) (and_then p (returns to from index f first'))
       both_return o p equal along (follows.done a b) =
           follows.done (front_more t (last o).trace (last (and_then o (returns to from index f first))).trace a
           (then_from o (returns to from index f first) (returns_goes to from index f first)).events)
@@ -239,78 +231,66 @@ module _ (L : Library) (main : ℕ) (t : List Event) (S S' : ℕ → Bool) (larg
           (then_from p (returns to from index f first') (returns_goes to from index f first')).events)
       both_return o p equal along (follows.both v u u' is is' near) =
           subst (λ y. KeepsUp main t S' st (Option Value) (and_then y (returns to from index f first))
-          (and_then p (returns to from index f first'))) (sym is)
-          (subst (λ y. KeepsUp main t S' st (Option Value) (returns to from index f first v u)
-          (and_then y (returns to from index f first'))) (sym is')
-          (told_both (next_told_is t u.trace (Ret to from (back to index v)) near.front
+          (and_then p (returns to from index f first'))) (sym is) (subst (λ y. KeepsUp main t S' st (Option Value)
+          (returns to from index f first v u) (and_then y (returns to from index f first'))) (sym is') (told_both
+          (next_told_is t u.trace (Ret to from (back to index v)) near.front
           (subst (λ y. InLine t (last (and_then y (returns to from index f first))).trace) is along)))) where
-            told_both : NextIs t u.trace (Ret to from (back to index v)) →
-                KeepsUp main t S' st (Option Value) (returns to from index f first v u)
-                (returns to from index f first' v u')
-            told_both (over all) =
-                follows.done (past u.trace (Ret to from (back to index v)) all)
+            told_both : NextIs t u.trace (Ret to from (back to index v)) → KeepsUp main t S' st (Option Value)
+                (returns to from index f first v u) (returns to from index f first' v u')
+            told_both (over all) = follows.done (past u.trace (Ret to from (back to index v)) all)
                 (past u'.trace (Ret to from (back to index v)) (all ∙ sym near.trace))
-            told_both (next_told more all) =
-                follows.both (option_value (back to index v)) _ _ refl refl (near_tell main t S' (inside st to index) st
-                (done to f first u) (done to f first' u') (Ret to from (back to index v)) more refl all
-                (quiet (near_blocks main t S' (inside st to index) u u' to (ended first (length f.cells) (u.memory to))
-                (ended first' (length f.cells) (u'.memory to))
-                (λ clear. (λ i. ended (equal clear i) (length f.cells) (near.memory to clear i))) near)))
-              where
-                quiet : Abreast main t S' (inside st to index)
-                    (record u { memory = with_blocks to (ended first (length f.cells) (u.memory to)) u.memory })
-                    (record u' { memory = with_blocks to (ended first' (length f.cells) (u'.memory to)) u'.memory }) →
-                    Abreast main t S' (inside st to index) (done to f first u) (done to f first' u')
-                quiet n = record {
-                  trace = n.trace;
-                  front = n.front;
-                  turns = n.turns;
-                  inputs = n.inputs;
-                  memory = n.memory;
-                  stands = n.stands;
-                }
-      both_return o p equal along (follows.stop end x is by) =
-          follows.stop end x (ap (λ y. and_then y (returns to from index f first)) is)
-          (beyond_then main t S' (Option Value) (Option Value) end x p (returns to from index f first')
-          (returns_goes to from index f first') by)
+            told_both (next_told more all) = follows.both (option_value (back to index v)) _ _ refl refl (near_tell main
+                t S' (inside st to index) st (done to f first u) (done to f first' u') (Ret to from (back to index v))
+                more refl all (quiet (near_blocks main t S' (inside st to index) u u' to
+                (ended first (length f.cells) (u.memory to)) (ended first' (length f.cells) (u'.memory to))
+                (λ clear. (λ i. ended (equal clear i) (length f.cells) (near.memory to clear i))) near))) where
+                  quiet : Abreast main t S' (inside st to index)
+                      (record u { memory = with_blocks to (ended first (length f.cells) (u.memory to)) u.memory })
+                      (record u' { memory = with_blocks to (ended first' (length f.cells) (u'.memory to)) u'.memory }) →
+                      Abreast main t S' (inside st to index) (done to f first u) (done to f first' u')
+                  quiet n = record {
+                    trace = n.trace;
+                    front = n.front;
+                    turns = n.turns;
+                    inputs = n.inputs;
+                    memory = n.memory;
+                    stands = n.stands;
+                  }
+      both_return o p equal along (follows.stop end x is by) = follows.stop end x
+          (ap (λ y. and_then y (returns to from index f first)) is) (beyond_then main t S' (Option Value) (Option Value)
+          end x p (returns to from index f first') (returns_goes to from index f first') by)
 
       -- the value and the event with which a performed return comes
       performed_return : (v : Option Value) (u' : State) →
           returns to from index f first' (option_value (back to index v)) u' ≡ Reached (option_value (back to index v))
           (tell (Ret to from (back to index v)) (done to f first' u'))
-      performed_return v u' =
-          ap (λ w. Reached (option_value w) (tell (Ret to from w) (done to f first' u')))
+      performed_return v u' = ap (λ w. Reached (option_value w) (tell (Ret to from w) (done to f first' u')))
           (crossing_stays (export_at L.interfaces to index) v)
 
       held_return : (k : ℕ) (o left : Piece (Option Value)) → S' to ≡ true → L.entered to (Export index) ≡ Some k →
           Goes {V = Option Value} (Onward k to first') →
-          InLine t (last (and_then o (returns to from index f first))).trace →
-          Performs main t S' (inside st to index) left (Onward k to first') (second_goes k (at to first'))
-          (Option Value) o
-          → KeepsUp main t S' st (Option Value) (and_then o (returns to from index f first))
-          (and_then left (returns to from index f first'))
+          InLine t (last (and_then o (returns to from index f first))).trace → Performs main t S' (inside st to index)
+          left (Onward k to first') (second_goes k (at to first')) (Option Value) o → KeepsUp main t S' st
+          (Option Value) (and_then o (returns to from index f first)) (and_then left (returns to from index f first'))
       held_return k o left set is_k on along (performing.done a b) =
           follows.done (front_more t (last o).trace (last (and_then o (returns to from index f first))).trace a
           (then_from o (returns to from index f first) (returns_goes to from index f first)).events)
           (front_more t (last left).trace (last (and_then left (returns to from index f first'))).trace b
           (then_from left (returns to from index f first') (returns_goes to from index f first')).events)
-      held_return k o left set is_k on along (performing.here v u is stands) =
-          subst (λ y. KeepsUp main t S' st (Option Value) (and_then y (returns to from index f first))
-          (and_then left (returns to from index f first'))) (sym is)
-          (told_held (next_told_is t u.trace (Ret to from (back to index v)) stands.near.front
+      held_return k o left set is_k on along (performing.here v u is stands) = subst (λ y. KeepsUp main t S' st
+          (Option Value) (and_then y (returns to from index f first)) (and_then left (returns to from index f first')))
+          (sym is) (told_held (next_told_is t u.trace (Ret to from (back to index v)) stands.near.front
           (subst (λ y. InLine t (last (and_then y (returns to from index f first))).trace) is along))) where
             behind : Front u.trace (last left).trace
             behind = left_goes main t S' (inside st to index) left (Onward k to first') (second_goes k (at to first')) u
                 stands
 
-            told_held : NextIs t u.trace (Ret to from (back to index v)) →
-                KeepsUp main t S' st (Option Value) (returns to from index f first v u)
-                (and_then left (returns to from index f first'))
-            told_held (over all) =
-                follows.done (past u.trace (Ret to from (back to index v)) all)
-                (whole main t S' u.trace (last (and_then left (returns to from index f first'))).trace all
-                (front_more u.trace (last left).trace (last (and_then left (returns to from index f first'))).trace
-                behind (then_from left (returns to from index f first') (returns_goes to from index f first')).events))
+            told_held : NextIs t u.trace (Ret to from (back to index v)) → KeepsUp main t S' st (Option Value)
+                (returns to from index f first v u) (and_then left (returns to from index f first'))
+            told_held (over all) = follows.done (past u.trace (Ret to from (back to index v)) all) (whole main t S'
+                u.trace (last (and_then left (returns to from index f first'))).trace all (front_more u.trace
+                (last left).trace (last (and_then left (returns to from index f first'))).trace behind
+                (then_from left (returns to from index f first') (returns_goes to from index f first')).events))
             told_held (next_told more all) =
                 let u' : State = stands.other in
                 let now_told : Telling k to first' (Ret to from (back to index v)) u' =
@@ -339,9 +319,8 @@ module _ (L : Library) (main : ℕ) (t : List Event) (S S' : ℕ → Bool) (larg
                   stands = n.stands;
                 }
       held_return k o left set is_k on along (performing.stop end x is by) =
-          follows.stop end x (ap (λ y. and_then y (returns to from index f first)) is)
-          (beyond_back main t S' (Option Value) end x left (returns to from index f first')
-          (returns_goes to from index f first')
+          follows.stop end x (ap (λ y. and_then y (returns to from index f first)) is) (beyond_back main t S'
+          (Option Value) end x left (returns to from index f first') (returns_goes to from index f first')
           (λ v u. (Ret to from (back to index v), front_same (u.trace ++ Ret to from (back to index v) ∷ []))) by)
 
     module _ (a : Body) (bodies : Bodies a) where
@@ -378,8 +357,7 @@ module _ (L : Library) (main : ℕ) (t : List Event) (S S' : ℕ → Bool) (larg
         x' = starts from to index args f s'
 
         entered_near : (more : List Event) → t ≡ s.trace ++ event ∷ more → N (inside st to index) x x'
-        entered_near more all =
-            quiet (near_blocks main t S' _ _ _ to _ _
+        entered_near more all = quiet (near_blocks main t S' _ _ _ to _ _
             (λ clear. ap (λ blocks. blocks ++ blocks_for f.cells (crossed args)) (n.memory to clear))
             (near_tell main t S' st _ s s' event more refl all n)) where
               quiet : N (inside st to index) (record (tell event s) {
@@ -398,9 +376,8 @@ module _ (L : Library) (main : ℕ) (t : List Event) (S S' : ℕ → Bool) (larg
 
         -- by whether the callee's compartment performs in both runs, in the second, or in neither
         callee : (b b' : Bool) → S to ≡ b → S' to ≡ b' → N (inside st to index) x x' →
-            InLine t (last (enters a from to index number args f s)).trace →
-            KeepsUp main t S' st (Option Value) (enters a from to index number args f s)
-            (enters second from to index number args f s')
+            InLine t (last (enters a from to index number args f s)).trace → KeepsUp main t S' st (Option Value)
+            (enters a from to index number args f s) (enters second from to index number args f s')
         callee true b' set set' near along =
             let inner : F (inside st to index) (a number (at to first) x) (second number (at to first') x') =
             bodies.enters number to first first' (inside st to index) x x' set near in
@@ -409,8 +386,7 @@ module _ (L : Library) (main : ℕ) (t : List Event) (S S' : ℕ → Bool) (larg
             (inner.follows (inner_in_line along)) where
               inner_in_line : InLine t (last (enters a from to index number args f s)).trace →
                   InLine t (last (a number (at to first) x)).trace
-              inner_in_line =
-                  in_line_before t (last (a number (at to first) x)).trace
+              inner_in_line = in_line_before t (last (a number (at to first) x)).trace
                   (last (enters a from to index number args f s)).trace (then_from (a number (at to first) x)
                   (returns to from index f first) (returns_goes to from index f first)).events
         callee false true clear set' near along =
@@ -423,8 +399,7 @@ module _ (L : Library) (main : ℕ) (t : List Event) (S S' : ℕ → Bool) (larg
             (inner.performs (inner_in_line along)) where
               inner_in_line : InLine t (last (enters a from to index number args f s)).trace →
                   InLine t (last (a number (at to first) x)).trace
-              inner_in_line =
-                  in_line_before t (last (a number (at to first) x)).trace
+              inner_in_line = in_line_before t (last (a number (at to first) x)).trace
                   (last (enters a from to index number args f s)).trace (then_from (a number (at to first) x)
                   (returns to from index f first) (returns_goes to from index f first)).events
         callee false false clear clear' near along =
@@ -437,20 +412,18 @@ module _ (L : Library) (main : ℕ) (t : List Event) (S S' : ℕ → Bool) (larg
             (λ c. refl) along (inner.follows (inner_in_line along))) where
               inner_in_line : InLine t (last (enters a from to index number args f s)).trace →
                   InLine t (last (a number (at to first) x)).trace
-              inner_in_line =
-                  in_line_before t (last (a number (at to first) x)).trace
+              inner_in_line = in_line_before t (last (a number (at to first) x)).trace
                   (last (enters a from to index number args f s)).trace (then_from (a number (at to first) x)
                   (returns to from index f first) (returns_goes to from index f first)).events
 
         call_next : NextIs t s.trace event → InLine t (last (enters a from to index number args f s)).trace →
             KeepsUp main t S' st (Option Value) (enters a from to index number args f s)
             (enters second from to index number args f s')
-        call_next (over all) along =
-            follows.done (front_more t x.trace (last (enters a from to index number args f s)).trace
-            (past s.trace event all) (enters_goes a bodies.goes from to index number args f s).grown.events)
-            (front_more t x'.trace (last (enters second from to index number args f s')).trace
-            (past s'.trace event (all ∙ sym n.trace)) (enters_goes second second_goes from to index number args f
-            s').grown.events)
+        call_next (over all) along = follows.done (front_more t x.trace
+            (last (enters a from to index number args f s)).trace (past s.trace event all)
+            (enters_goes a bodies.goes from to index number args f s).grown.events) (front_more t x'.trace
+            (last (enters second from to index number args f s')).trace (past s'.trace event (all ∙ sym n.trace))
+            (enters_goes second second_goes from to index number args f s').grown.events)
         call_next (next_told more all) along = callee (S to) _ refl refl (entered_near more all) along
 
         enters_follow : F st (enters a from to index number args f s) (enters second from to index number args f s')
@@ -495,9 +468,8 @@ module _ (L : Library) (main : ℕ) (t : List Event) (S S' : ℕ → Bool) (larg
 
       -- a call across, once the number of the function is known
       abbrev crosses : Body → (from to index : ℕ) → List Value → ℕ → State → Piece (Option Value)
-      crosses body from to index args number s =
-          run_in L body to number (crossed args) (back_cross L.interfaces from to index)
-          (tell (Call from to index (map word_in args)) s)
+      crosses body from to index args number s = run_in L body to number (crossed args)
+          (back_cross L.interfaces from to index) (tell (Call from to index (map word_in args)) s)
 
       -- by whether the function is there
       by_function : (from to index number : ℕ) (args : List Value) → L.entered to (Export index) ≡ Some number →
@@ -513,8 +485,7 @@ module _ (L : Library) (main : ℕ) (t : List Event) (S S' : ℕ → Bool) (larg
           enters_follow from to index number args f is st s s' n
 
       by_number : (from to index : ℕ) (args : List Value) (number : Option ℕ) → L.entered to (Export index) ≡ number →
-          (st : Standing) (s s' : State) → N st s s' →
-          F st (and_then (found number s) (crosses a from to index args))
+          (st : Standing) (s s' : State) → N st s s' → F st (and_then (found number s) (crosses a from to index args))
           (and_then (found number s') (crosses second from to index args))
       by_number from to index args None is st s s' n = nothing_follows st s s' n
       by_number from to index args (Some number) is st s s' n = by_function from to index number args is _ st s s' n
@@ -531,8 +502,7 @@ module _ (L : Library) (main : ℕ) (t : List Event) (S S' : ℕ → Bool) (larg
       -- a call that may be made, or what stands in its place
       guarded : (from : ℕ) (target : CallTarget) (args : List Value) (st : Standing) (s s' : State)
           (p p' : Piece (Option Value)) → F st (called L a from target args s) (called L second from target args s') →
-          F st p p'
-          → F st (if may_call L from target args then called L a from target args s else p)
+          F st p p' → F st (if may_call L from target args then called L a from target args s else p)
           (if may_call L from target args then called L second from target args s' else p')
       guarded from target args st s s' p p' h k = if_follows _ st _ _ p p' h k
 
@@ -548,10 +518,9 @@ module _ (L : Library) (main : ℕ) (t : List Event) (S S' : ℕ → Bool) (larg
       -- with its turn
       turned_follows : (from to index : ℕ) (args : List Value) (st : Standing) (s s' : State) → N st s s' →
           F st (called L a from (Cross to index) args s) (called L second from (Cross to index) args s')
-      turned_follows from to index args st s s' n =
-          (follow_kept main t S' st).turned (Option Value) _ _ (λ _. cross_goes L a bodies.goes from to index args)
-          (λ _. cross_goes L second second_goes from to index args) s s' n (λ y y' less less' near. cross_follows from
-          to index args st y y' near)
+      turned_follows from to index args st s s' n = (follow_kept main t S' st).turned (Option Value) _ _
+          (λ _. cross_goes L a bodies.goes from to index args) (λ _. cross_goes L second second_goes from to index args)
+          s s' n (λ y y' less less' near. cross_follows from to index args st y y' near)
 
       -- EVENTS OF THE ENVIRONMENT, AND CALLS WITHIN, WHERE NOBODY PERFORMS OR BOTH DO
       quiet_near : (st : Standing) (s s' y y' : State) → y.trace ≡ s.trace → y'.trace ≡ s'.trace → y.turns ≡ s.turns →
@@ -600,9 +569,8 @@ module _ (L : Library) (main : ℕ) (t : List Event) (S S' : ℕ → Bool) (larg
       -- an input that both read
       reads : (V : Type 0) (st : Standing) (comp : ℕ) (s s' : State) (k l : ℕ → State → Piece V) → N st s s' →
           ((w : ℕ) → Goes (k w)) → ((w : ℕ) → Goes (l w)) →
-          ((w : ℕ) (x x' : State) → N st x x' → Keeping main t S' st V (k w x) (l w x')) →
-          Keeping main t S' st V (k (next_input s.inputs) (read_input comp s))
-          (l (next_input s'.inputs) (read_input comp s'))
+          ((w : ℕ) (x x' : State) → N st x x' → Keeping main t S' st V (k w x) (l w x')) → Keeping main t S' st V
+          (k (next_input s.inputs) (read_input comp s)) (l (next_input s'.inputs) (read_input comp s'))
       reads V st comp s s' k l n goes goes' h =
           let w : ℕ = next_input s.inputs in
           subst (λ i. Keeping main t S' st V (k w (read_input comp s))
@@ -610,13 +578,11 @@ module _ (L : Library) (main : ℕ) (t : List Event) (S S' : ℕ → Bool) (larg
           (In comp w) _ _ refl (taken_near st s s' n) (goes w _) (goes' w _) (λ near. h w _ _ near))
 
       own_function : (comp number : ℕ) (args : List Value) (f : Option Function) → S' comp ≡ false →
-          (st : Standing) (s s' : State) → N st s s'
-          →
-          F st (and_then (found f s)
-          (λ f s. and_then (a number (at comp (length (s.memory comp))) (begun comp f args s))
+          (st : Standing) (s s' : State) → N st s s' → F st (and_then (found f s) (λ f s. and_then
+          (a number (at comp (length (s.memory comp))) (begun comp f args s))
+          (λ v u. Reached v (done comp f (length (s.memory comp)) u)))) (and_then (found f s') (λ f s. and_then
+          (second number (at comp (length (s.memory comp))) (begun comp f args s))
           (λ v u. Reached v (done comp f (length (s.memory comp)) u))))
-          (and_then (found f s') (λ f s. and_then (second number (at comp (length (s.memory comp)))
-          (begun comp f args s)) (λ v u. Reached v (done comp f (length (s.memory comp)) u))))
       own_function comp number args None clear st s s' n = nothing_follows st s s' n
       own_function comp number args (Some f) clear st s s' n =
           let first : ℕ = length (s.memory comp) in
@@ -648,22 +614,19 @@ module _ (L : Library) (main : ℕ) (t : List Event) (S S' : ℕ → Bool) (larg
       input_follows : (from : ℕ) (args : List Value) (st : Standing) (s s' : State) → N st s s' →
           F st (called L a from Input args s) (called L second from Input args s')
       input_follows from args st s s' n =
-          reads _ st from s s' (λ w. Reached _) (λ w. Reached _) n
-          (λ w. stays (Some (Word w))) (λ w. stays _) (λ w x x' near. (follow_kept main t S' st).reached
-          (Option Value) _ x x' near)
+          reads _ st from s s' (λ w. Reached _) (λ w. Reached _) n (λ w. stays (Some (Word w))) (λ w. stays _)
+          (λ w x x' near. (follow_kept main t S' st).reached (Option Value) _ x x' near)
 
       output_follows : (from : ℕ) (args : List Value) (st : Standing) (s s' : State) → N st s s' →
           F st (called L a from Output args s) (called L second from Output args s')
-      output_follows from args st s s' n =
-          tells _ st s s' (Out from _) _ _ refl n (stays None _) (stays None _)
+      output_follows from args st s s' n = tells _ st s s' (Out from _) _ _ refl n (stays None _) (stays None _)
           (λ near. (follow_kept main t S' st).reached (Option Value) None _ _ near)
 
       both_called : (here : Here) → S' here.comp ≡ false →
           (st : Standing) (target : CallTarget) (args : List Value) (s s' : State) → N st s s' →
           F st (called L a here.comp target args s) (called L second here.comp target args s')
-      both_called here clear st (Own number) args s s' n =
-          (follow_kept main t S' st).turned (Option Value) _ _ (λ _. own_goes L a bodies.goes _ number args)
-          (λ _. own_goes L second second_goes _ number args) s s' n
+      both_called here clear st (Own number) args s s' n = (follow_kept main t S' st).turned (Option Value) _ _
+          (λ _. own_goes L a bodies.goes _ number args) (λ _. own_goes L second second_goes _ number args) s s' n
           (λ y y' less less' near. own_follows _ number args clear st y y' near)
       both_called here clear st (Cross to index) args s s' n = turned_follows _ to index args st s s' n
       both_called here clear st Input args s s' n = input_follows _ args st s s' n
@@ -672,14 +635,12 @@ module _ (L : Library) (main : ℕ) (t : List Event) (S S' : ℕ → Bool) (larg
       both_calls : (here : Here) → S' here.comp ≡ false →
           (st : Standing) (target : CallTarget) (args : List Value) (s s' : State) → N st s s' →
           F st (calls L a here.comp target args s) (calls L second here.comp target args s')
-      both_calls here clear st target args s s' n =
-          guarded _ target args st s s' _ _ (both_called here clear st target args s s' n)
-          (blamed_follows _ clear st s s' n)
+      both_calls here clear st target args s s' n = guarded _ target args st s s' _ _
+          (both_called here clear st target args s s' n) (blamed_follows _ clear st s s' n)
 
       -- calls of a compartment that performs in neither run
-      pub calls_follow : (here : Here) → S' here.comp ≡ false → (st : Standing) →
-          CallsTwins (Abreast main t S' st) (Keeping main t S' st) (λ h. S' h.comp ≡ false) here.comp (calls L a)
-          (calls L second)
+      pub calls_follow : (here : Here) → S' here.comp ≡ false → (st : Standing) → CallsTwins (Abreast main t S' st)
+          (Keeping main t S' st) (λ h. S' h.comp ≡ false) here.comp (calls L a) (calls L second)
       calls_follow here clear st target args =
           record {
             first = calls_go L a bodies.goes _ target args;
@@ -751,11 +712,9 @@ module _ (L : Library) (main : ℕ) (t : List Event) (S S' : ℕ → Bool) (larg
         -- to perform these rows is to go on
         rows_now : (u : State) (rows : List Row) → rows_left (roles_in main S' t) comp u.trace ≡ rows →
             performs L second rows k (at comp theirs) u ≡ rest u
-        rows_now u rows is =
-            sym (fixed k _ u
-            ∙ ap (λ b. if b then performs L second (rows_left (roles_in main S' t) comp u.trace) k (at comp theirs)
-            u else run_step L second k (at comp theirs) u) set
-            ∙ ap (λ rows. performs L second rows k (at comp theirs) u) is)
+        rows_now u rows is = sym (fixed k _ u ∙ ap (λ b. if b then performs L second
+            (rows_left (roles_in main S' t) comp u.trace) k (at comp theirs) u else run_step L second k (at comp theirs)
+            u) set ∙ ap (λ rows. performs L second rows k (at comp theirs) u) is)
 
         quiet_held : (s y : State) → y.trace ≡ s.trace → y.turns ≡ s.turns → y.inputs ≡ s.inputs →
             ((other : State) → ((c : ℕ) → S' c ≡ false → other.memory c ≡ s.memory c) → (c : ℕ) → S' c ≡ false →
@@ -764,8 +723,7 @@ module _ (L : Library) (main : ℕ) (t : List Event) (S S' : ℕ → Bool) (larg
             record {
               other = h.other;
               is = h.is;
-              near = quiet_near st s h.other y h.other a refl b refl c refl
-                  (memory h.other h.near.memory) h.near;
+              near = quiet_near st s h.other y h.other a refl b refl c refl (memory h.other h.near.memory) h.near;
             }
 
         behind : (s : State) → H s → Front s.trace (last left).trace
@@ -774,8 +732,7 @@ module _ (L : Library) (main : ℕ) (t : List Event) (S S' : ℕ → Bool) (larg
         stopped : (V : Type 0) (s y : State) → y.trace ≡ s.trace → H s → Done V (Stopped TurnsOut y)
         stopped V s y a h =
             performing.stop TurnsOut y refl (record {
-              front = subst (λ u. Front u (last left).trace) (sym a)
-                  (behind s h);
+              front = subst (λ u. Front u (last left).trace) (sym a) (behind s h);
               agreed = tt;
               passed = tt;
             })
@@ -789,10 +746,9 @@ module _ (L : Library) (main : ℕ) (t : List Event) (S S' : ℕ → Bool) (larg
         tells_now s e h own along = by_next (next_told_is t s.trace e h.near.front along) where
           by_next : NextIs t s.trace e → Tells s e h
           by_next (over all) = all_told all
-          by_next (next_told more all) =
-              tells_it more all (performs_next k comp theirs st h.other e more set is_k own (all
-              ∙ ap (λ u. u ++ e ∷ more) (sym h.near.trace)) (ap (stands_behind (at_start main)) h.near.trace
-              ∙ h.near.stands))
+          by_next (next_told more all) = tells_it more all (performs_next k comp theirs st h.other e more set is_k own
+              (all ∙ ap (λ u. u ++ e ∷ more) (sym h.near.trace))
+              (ap (stands_behind (at_start main)) h.near.trace ∙ h.near.stands))
 
         -- what may be called
         abbrev may : (target : CallTarget) → List Value → Bool
@@ -804,18 +760,16 @@ module _ (L : Library) (main : ℕ) (t : List Event) (S S' : ℕ → Bool) (larg
         output_performs args s h allowed along = by_tells (tells_now s (Out comp (first_word args)) h refl along) where
           by_tells : Tells s (Out comp (first_word args)) h →
               Done (Option Value) (Reached None (tell (Out comp (first_word args)) s))
-          by_tells (all_told all) =
-              performing.done (past s.trace (Out comp (first_word args)) all) (whole main t S' s.trace (last left).trace
-              all (behind s h))
+          by_tells (all_told all) = performing.done (past s.trace (Out comp (first_word args)) all)
+              (whole main t S' s.trace (last left).trace all (behind s h))
           by_tells (tells_it more all act) =
               let u : State = h.other in
               let w : ℕ = first_word args in
               let goes_on : State → Piece (Option Value) = performs L second act.rest k (at comp theirs) in
               let by_test : Bool → Piece (Option Value) =
               λ b. if b then Reached None (tell (Out comp w) u) else Stopped TurnsOut u in
-              let allowed_too : may Output (Word w ∷ []) ≡ true =
-              and_from (imports L.interfaces comp is_output) true (and_parts (imports L.interfaces comp is_output)
-              _ allowed).0 refl in
+              let allowed_too : may Output (Word w ∷ []) ≡ true = and_from (imports L.interfaces comp is_output) true
+              (and_parts (imports L.interfaces comp is_output) _ allowed).0 refl in
               performing.here None (tell (Out comp w) s) refl (record {
                 other = tell (Out comp w) u;
                 near = near_tell main t S' st st s u (Out comp w) more refl all h.near;
@@ -832,8 +786,7 @@ module _ (L : Library) (main : ℕ) (t : List Event) (S S' : ℕ → Bool) (larg
             by_tells (tells_now s (In comp (next_input s.inputs)) h refl along) where
               by_tells : Tells s (In comp (next_input s.inputs)) h →
                   Done (Option Value) (Reached (Some (Word (next_input s.inputs))) (read_input comp s))
-              by_tells (all_told all) =
-                  performing.done (past s.trace (In comp (next_input s.inputs)) all)
+              by_tells (all_told all) = performing.done (past s.trace (In comp (next_input s.inputs)) all)
                   (whole main t S' s.trace (last left).trace all (behind s h))
               by_tells (tells_it more all act) =
                   let u : State = h.other in
@@ -842,17 +795,15 @@ module _ (L : Library) (main : ℕ) (t : List Event) (S S' : ℕ → Bool) (larg
                   let goes_on : State → Piece (Option Value) = performs L second act.rest k (at comp theirs) in
                   let same_read : read_input comp u ≡ read =
                   ap (λ i. tell (In comp (next_input i)) (taken u)) h.near.inputs in
-                  let by_test : Bool → Piece (Option Value) =
-                  λ b. if b then Reached (Some (Word (next_input u.inputs))) (read_input comp u) else Stopped TurnsOut
-                  u in
+                  let by_test : Bool → Piece (Option Value) = λ b. if b then Reached (Some (Word (next_input u.inputs)))
+                  (read_input comp u) else Stopped TurnsOut u in
                   performing.here (Some (Word w)) (read_input comp s) refl
                   (record {
                     other = read;
                     near = near_tell main t S' st st (taken s) (taken u) (In comp w) more refl all
                         (taken_near st s u h.near);
-                    is =
-                        h.is ∙ act.is ∙ ap (λ o. and_then o (λ v. goes_on)) (asks_is L second second_goes comp Input []
-                        u)
+                    is = h.is ∙ act.is
+                        ∙ ap (λ o. and_then o (λ v. goes_on)) (asks_is L second second_goes comp Input [] u)
                         ∙ ap (λ b. and_then (by_test b) (λ v. goes_on)) allowed ∙ ap goes_on same_read
                         ∙ rows_now read act.rest act.left;
                   })
@@ -866,9 +817,8 @@ module _ (L : Library) (main : ℕ) (t : List Event) (S S' : ℕ → Bool) (larg
         number_tells : (to index : ℕ) (args : List Value) (number : Option ℕ) (s : State) →
             CrossTells to index args s (and_then (found number s) (crosses a comp to index args))
         number_tells to index args None s = silent s refl refl
-        number_tells to index args (Some number) s =
-            loud (run_goes L a bodies.goes to number _ (back_cross L.interfaces comp to index)
-            (back_goes L.interfaces comp to index) _).grown.events
+        number_tells to index args (Some number) s = loud (run_goes L a bodies.goes to number _
+            (back_cross L.interfaces comp to index) (back_goes L.interfaces comp to index) _).grown.events
 
         same_trace : (to index : ℕ) (args : List Value) (s y : State) (o : Piece (Option Value)) → y.trace ≡ s.trace →
             CrossTells to index args y o → CrossTells to index args s o
@@ -896,13 +846,12 @@ module _ (L : Library) (main : ℕ) (t : List Event) (S S' : ℕ → Bool) (larg
         recalled : (to index : ℕ) (args : List Value) (u : State) → may (Cross to index) args ≡ true →
             asks L second comp (Cross to index) (map (λ w. Word w) (map word_in args)) u ≡ called L second comp
             (Cross to index) args u
-        recalled to index args u allowed =
-            asks_is L second second_goes comp (Cross to index) (map _ _) u
-            ∙ ap (λ b. if b then called L second comp (Cross to index) (map (λ w. Word w) (map word_in args))
-            u else Stopped TurnsOut u) (words_may to index args allowed)
-            ∙ ap₂ (λ values words. and_then (turn u) (λ _ s. and_then (found (L.entered to (Export index)) s)
-            (λ number s. run_in L second to number values (back_cross L.interfaces comp to index)
-            (tell (Call comp to index words) s)))) (crossed_again args) (words_again _)
+        recalled to index args u allowed = asks_is L second second_goes comp (Cross to index) (map _ _) u ∙ ap (λ b. if
+            b then called L second comp (Cross to index) (map (λ w. Word w) (map word_in args)) u else Stopped TurnsOut
+            u) (words_may to index args allowed) ∙ ap₂ (λ values words. and_then (turn u) (λ _ s. and_then
+            (found (L.entered to (Export index)) s) (λ number s. run_in L second to number values
+            (back_cross L.interfaces comp to index) (tell (Call comp to index words) s)))) (crossed_again args)
+            (words_again _)
 
         cross_performs : (to index : ℕ) (args : List Value) (s : State) → H s → may (Cross to index) args ≡ true →
             InLine t (last (called L a comp (Cross to index) args s)).trace →
@@ -910,18 +859,15 @@ module _ (L : Library) (main : ℕ) (t : List Event) (S S' : ℕ → Bool) (larg
         cross_performs to index args s h allowed along = by_told (cross_tells to index args s s.turns) where
           by_told : CrossTells to index args s (called L a comp (Cross to index) args s) →
               Done (Option Value) (called L a comp (Cross to index) args s)
-          by_told (silent y stops trace) =
-              subst (Done (Option Value)) (sym stops) (stopped (Option Value) s y trace h)
-          by_told (loud front) =
-              by_tells (tells_now s (Call comp to index (map word_in args)) h refl
-              (in_line_before t (s.trace ++ Call comp to index (map word_in args) ∷ [])
+          by_told (silent y stops trace) = subst (Done (Option Value)) (sym stops) (stopped (Option Value) s y trace h)
+          by_told (loud front) = by_tells (tells_now s (Call comp to index (map word_in args)) h refl (in_line_before t
+              (s.trace ++ Call comp to index (map word_in args) ∷ [])
               (last (called L a comp (Cross to index) args s)).trace front along)) where
                 by_follows : (left ≡ and_then (called L second comp (Cross to index) args h.other) (λ v. rest)) →
                     KeepsUp main t S' st (Option Value) (called L a comp (Cross to index) args s)
                     (called L second comp (Cross to index) args h.other) →
                     Done (Option Value) (called L a comp (Cross to index) args s)
-                by_follows is (follows.done x y) =
-                    performing.done x (subst (λ z. Front t (last z).trace) (sym is)
+                by_follows is (follows.done x y) = performing.done x (subst (λ z. Front t (last z).trace) (sym is)
                     (front_more t (last (called L second comp (Cross to index) args h.other)).trace
                     (last (and_then (called L second comp (Cross to index) args h.other) (λ v. rest))).trace y
                     (then_from (called L second comp (Cross to index) args h.other) (λ v. rest)
@@ -930,14 +876,12 @@ module _ (L : Library) (main : ℕ) (t : List Event) (S S' : ℕ → Bool) (larg
                     performing.here v y at_y (record {
                       other = y';
                       near = near;
-                      is = is
-                          ∙ ap (λ z. and_then z (λ v. rest)) at_y';
+                      is = is ∙ ap (λ z. and_then z (λ v. rest)) at_y';
                     })
-                by_follows is (follows.stop end y at_y by) =
-                    performing.stop end y at_y
-                    (beyond_in main t S' end y left (subst (Beyond main t S' (Option Value) end y) (sym is)
-                    (beyond_then main t S' (Option Value) (Option Value) end y (called L second comp (Cross to index)
-                    args h.other) (λ v. rest) (λ v. rest_goes) by)))
+                by_follows is (follows.stop end y at_y by) = performing.stop end y at_y (beyond_in main t S' end y left
+                    (subst (Beyond main t S' (Option Value) end y) (sym is) (beyond_then main t S' (Option Value)
+                    (Option Value) end y (called L second comp (Cross to index) args h.other) (λ v. rest)
+                    (λ v. rest_goes) by)))
 
                 by_tells : Tells s (Call comp to index (map word_in args)) h →
                     Done (Option Value) (called L a comp (Cross to index) args s)
@@ -946,9 +890,8 @@ module _ (L : Library) (main : ℕ) (t : List Event) (S S' : ℕ → Bool) (larg
                     (last (called L a comp (Cross to index) args s)).trace
                     (past s.trace (Call comp to index (map word_in args)) all) front)
                     (whole main t S' s.trace (last left).trace all (behind s h))
-                by_tells (tells_it more all act) =
-                    by_follows (h.is ∙ act.is ∙ ap (λ o. and_then o (λ v. rest))
-                    (recalled to index args h.other allowed))
+                by_tells (tells_it more all act) = by_follows
+                    (h.is ∙ act.is ∙ ap (λ o. and_then o (λ v. rest)) (recalled to index args h.other allowed))
                     ((turned_follows comp to index args st s h.other h.near).follows along)
 
         own_function_performs : (number : ℕ) (args : List Value) (f : Option Function) (s : State) → H s
@@ -993,8 +936,7 @@ module _ (L : Library) (main : ℕ) (t : List Event) (S S' : ℕ → Bool) (larg
             performing.stop _ s refl (record {
               front = behind s h;
               agreed = λ clear. absurd (both_ways _ clear set);
-              passed =
-                  λ _. subst (λ u. MovesOrReturns main t S' u left) h.near.trace
+              passed = λ _. subst (λ u. MovesOrReturns main t S' u left) h.near.trace
                   (subst (MovesOrReturns main t S' _) (sym h.is) (second_passes k comp theirs h.other set));
             })
 
@@ -1006,10 +948,9 @@ module _ (L : Library) (main : ℕ) (t : List Event) (S S' : ℕ → Bool) (larg
         if_allowed o s h true go along = go refl along
         if_allowed o s h false go along = blamed_here s h
 
-        with_test : (target : CallTarget) (args : List Value) (s : State) → H s →
-            (may target args ≡ true → InLine t (last (called L a comp target args s)).trace →
-            Done (Option Value) (called L a comp target args s)) →
-            InLine t (last (calls L a comp target args s)).trace → Done (Option Value) (calls L a comp target args s)
+        with_test : (target : CallTarget) (args : List Value) (s : State) → H s → (may target args ≡ true →
+            InLine t (last (called L a comp target args s)).trace → Done (Option Value) (called L a comp target args s))
+            → InLine t (last (calls L a comp target args s)).trace → Done (Option Value) (calls L a comp target args s)
         with_test target args s h go along = by_test _ refl along where
           by_test : (b : Bool) → may target args ≡ b →
               InLine t (last (if b then called L a comp target args s else Stopped (Blamed comp BadType 0) s)).trace →
@@ -1052,8 +993,7 @@ module _ (L : Library) (main : ℕ) (t : List Event) (S S' : ℕ → Bool) (larg
         calls_perform target args =
             record {
               first = calls_go L a bodies.goes comp target args;
-              second = calls_go L a bodies.goes comp target
-                  args;
+              second = calls_go L a bodies.goes comp target args;
               both = call_performs target args;
             }
 
@@ -1083,9 +1023,8 @@ module _ (L : Library) (main : ℕ) (t : List Event) (S S' : ℕ → Bool) (larg
 
         runs_here : (body : Body) (set : ℕ → Bool) (number : ℕ) (here : Here) (s : State) → set here.comp ≡ false →
             scripted_step L (roles_in main set t) (run_step L) body number here s ≡ run_step L body number here s
-        runs_here body set number here s clear =
-            ap (λ b. if b then performs L body (rows_left (roles_in main set t) here.comp s.trace) number here
-            s else run_step L body number here s) clear
+        runs_here body set number here s clear = ap (λ b. if b then performs L body
+            (rows_left (roles_in main set t) here.comp s.trace) number here s else run_step L body number here s) clear
 
         performs_here : (body : Body) (set : ℕ → Bool) (number : ℕ) (here : Here) (s : State) → set here.comp ≡ true →
             scripted_step L (roles_in main set t) (run_step L) body number here s
@@ -1096,18 +1035,16 @@ module _ (L : Library) (main : ℕ) (t : List Event) (S S' : ℕ → Bool) (larg
 
         step_plain : (number : ℕ) (here : Here) (st : Standing) (s s' : State) → S' here.comp ≡ false → N st s s' →
             F st (first_step a number here s) (second number here s')
-        step_plain number here st s s' clear n =
-            subst (λ x. F st x (second number here s')) (sym (runs_here a S number here s (smaller _ clear)))
-            (subst (F st _) (sym (fixed number here s' ∙ runs_here second S' number here s' clear))
-            (runs_follow (function L _ number) (function L _ number) st (function_twins _ _ _ L L (follow_twins st)
-            _ number) here clear s s' n))
+        step_plain number here st s s' clear n = subst (λ x. F st x (second number here s'))
+            (sym (runs_here a S number here s (smaller _ clear))) (subst (F st _)
+            (sym (fixed number here s' ∙ runs_here second S' number here s' clear)) (runs_follow (function L _ number)
+            (function L _ number) st (function_twins _ _ _ L L (follow_twins st) _ number) here clear s s' n))
 
         step_enters : (number comp mine theirs : ℕ) (st : Standing) (s s' : State) → S comp ≡ true → N st s s' →
             F st (first_step a number (at comp mine) s) (second number (at comp theirs) s')
         step_enters number comp mine theirs st s s' set n =
             let rows = rows_left (roles_in main S t) comp s.trace in
-            let same_rows =
-            ap (λ u. drop (count_of comp u) (part main comp t)) n.trace in
+            let same_rows = ap (λ u. drop (count_of comp u) (part main comp t)) n.trace in
             subst (λ x. F st x (second number (at comp theirs) s')) (sym (performs_here a S number _ s set))
             (subst (F st _) (sym (fixed number _ s' ∙ performs_here second S' number _ s' (larger comp set)
             ∙ ap (λ rows. performs L second rows number (at comp theirs) s') same_rows))
@@ -1115,9 +1052,8 @@ module _ (L : Library) (main : ℕ) (t : List Event) (S S' : ℕ → Bool) (larg
 
         held_passes : (st : Standing) (k comp theirs : ℕ) (left : Piece (Option Value)) → S' comp ≡ true → (s : State) →
             Held st k comp theirs left s → MovesOrReturns main t S' s.trace left
-        held_passes st k comp theirs left set s h =
-            subst (λ u. MovesOrReturns main t S' u left) h.near.trace (subst (MovesOrReturns main t S' _)
-            (sym h.is) (second_passes k comp theirs h.other set))
+        held_passes st k comp theirs left set s h = subst (λ u. MovesOrReturns main t S' u left) h.near.trace
+            (subst (MovesOrReturns main t S' _) (sym h.is) (second_passes k comp theirs h.other set))
 
         step_resumes : (number comp mine k theirs : ℕ) (st : Standing) (left : Piece (Option Value)) (s : State) →
             S comp ≡ false → S' comp ≡ true → L.entered comp st.active.entry ≡ Some k → Held st k comp theirs left s →
@@ -1193,5 +1129,4 @@ module _ (L : Library) (main : ℕ) (t : List Event) (S S' : ℕ → Bool) (larg
         ≡ true) L L) where
       pub all_bodies : (n : ℕ) → Bodies (within first_step n)
       all_bodies zero = no_bodies
-      all_bodies (suc n) =
-          step_bodies (within first_step n) (all_bodies n) library_goes follow_twins perform_twins
+      all_bodies (suc n) = step_bodies (within first_step n) (all_bodies n) library_goes follow_twins perform_twins

@@ -43,8 +43,7 @@ module _ (t : List Event) (S' : Set) where
         (comp : ℕ) (cause : Cause) (line : ℕ) → end ≡ Blamed comp cause line → S' comp ≡ false →
         (run_to main p).behaviour ≡ record { trace = u.trace; end = end }
     stays_blamed end u p by comp cause line is clear =
-        let blame =
-        subst (λ e. Agreed main t S' _ e u p) is by in
+        let blame = subst (λ e. Agreed main t S' _ e u p) is by in
         let x = blame clear in
         ap (λ y. (run_to main y).behaviour) x.1 ∙ (λ i. record { trace = x.2 i; end = sym is i })
 
@@ -69,10 +68,9 @@ module _ (t : List Event) (S' : Set) where
 
     -- where the first piece stopped
     stops_by : (end : RunEnd) (u : State) (o p : Piece (Option Value)) → o ≡ Stopped end u → StopsSo o →
-        Front u.trace (last p).trace → Agreed main t S' (Option Value) end u p →
-        ((x : SourceRun) → x.trace ≡ u.trace → (comp : ℕ) (cause : Cause) (line : ℕ) → end ≡ Blamed comp cause line →
-        S' comp ≡ true → PassesBlame x (run_to main p).behaviour) →
-        RunsFollow (run_to main o).behaviour (run_to main p).behaviour
+        Front u.trace (last p).trace → Agreed main t S' (Option Value) end u p → ((x : SourceRun) → x.trace ≡ u.trace →
+        (comp : ℕ) (cause : Cause) (line : ℕ) → end ≡ Blamed comp cause line → S' comp ≡ true →
+        PassesBlame x (run_to main p).behaviour) → RunsFollow (run_to main o).behaviour (run_to main p).behaviour
     stops_by end u o p is stop front agreed passed =
         let behaviour : (run_to main o).behaviour ≡ record { trace = u.trace; end = end } =
         ap (λ y. (run_to main y).behaviour) is in
@@ -128,9 +126,8 @@ module _ (L : Library) (obedient : Obedient L) (t : List Event) (S S' : Set) (la
   later_goes number here s = within_goes step' (scripted_goes_on L obedient _) (suc s.turns) number here s
 
   bodies : (n : ℕ) → Bodies L main t S S' larger step_fixed later_goes (within step n)
-  bodies =
-      all_bodies L main t S S' larger _ _ (library_goes L obedient) (λ st. library_twins Never _ _ _
-      (follow_kept main t S' st) (follow_at main t S' st) L L obedient)
+  bodies = all_bodies L main t S S' larger _ _ (library_goes L obedient)
+      (λ st. library_twins Never _ _ _ (follow_kept main t S' st) (follow_at main t S' st) L L obedient)
       (λ st left rest goes passes. library_twins Never _ _ _ (perform_kept main t S' st left rest goes)
       (perform_at main t S' st left rest goes passes) L L obedient)
 
@@ -174,9 +171,8 @@ module _ (L : Library) (obedient : Obedient L) (t : List Event) (S S' : Set) (la
       ended_shows (Stopped end s) = refl
 
       resumes_end : Performs main t S' st p (λ u. now step' number (at main first) u)
-          (later_goes number (at main first))
-          (Option Value) o → StopsSo o → S' main ≡ true → InLine t (run_to main o).behaviour.trace →
-          RunsFollow t S' (run_to main o).behaviour (run_to main p).behaviour
+          (later_goes number (at main first)) (Option Value) o → StopsSo o → S' main ≡ true →
+          InLine t (run_to main o).behaviour.trace → RunsFollow t S' (run_to main o).behaviour (run_to main p).behaviour
       resumes_end (performing.done a b) stop set along =
           tells_all (front_more t (last o).trace (run_to main o).behaviour.trace a (behaviour_front main o))
           (front_more t (last p).trace (run_to main p).behaviour.trace b (behaviour_front main p))
@@ -225,36 +221,28 @@ module _ (L : Library) (obedient : Obedient L) (t : List Event) (S S' : Set) (la
 
       main_runs : InLine t (run_to main (and_then o ends)).behaviour.trace →
           RunsFollow t S' (run_to main (and_then o ends)).behaviour (run_to main (and_then p ends)).behaviour
-      main_runs along =
-          subst (λ r. RunsFollow t S' r (run_to main (and_then p ends)).behaviour) (sym (ended_shows o))
+      main_runs along = subst (λ r. RunsFollow t S' r (run_to main (and_then p ends)).behaviour) (sym (ended_shows o))
           (subst (RunsFollow t S' (run_to main o).behaviour) (sym (ended_shows p))
           (main_follows _ _ refl refl (subst (λ r. InLine t r.trace) (ended_shows o) along)))
 
-    function_runs : (number : ℕ) → L.entered main Main ≡ Some number → (f : Option Function) →
-        InLine t (run_to main
-        (and_then (found f beginning)
-        (λ f s. and_then (within step (suc turns) number (at main (length (s.memory main))) (begun main f [] s))
-        (λ v u. Reached v (done main f (length (s.memory main)) u))))).behaviour.trace
-        → RunsFollow t S'
-        (run_to main
-        (and_then (found f beginning)
-        (λ f s. and_then (within step (suc turns) number (at main (length (s.memory main))) (begun main f [] s))
-        (λ v u. Reached v (done main f (length (s.memory main)) u))))).behaviour
-        (run_to main
-        (and_then (found f beginning)
-        (λ f s. and_then (within step' (suc turns) number (at main (length (s.memory main))) (begun main f [] s))
+    function_runs : (number : ℕ) → L.entered main Main ≡ Some number → (f : Option Function) → InLine t (run_to main
+        (and_then (found f beginning) (λ f s. and_then
+        (within step (suc turns) number (at main (length (s.memory main))) (begun main f [] s))
+        (λ v u. Reached v (done main f (length (s.memory main)) u))))).behaviour.trace → RunsFollow t S' (run_to main
+        (and_then (found f beginning) (λ f s. and_then
+        (within step (suc turns) number (at main (length (s.memory main))) (begun main f [] s))
+        (λ v u. Reached v (done main f (length (s.memory main)) u))))).behaviour (run_to main (and_then
+        (found f beginning) (λ f s. and_then
+        (within step' (suc turns) number (at main (length (s.memory main))) (begun main f [] s))
         (λ v u. Reached v (done main f (length (s.memory main)) u))))).behaviour
     function_runs number is None along = ends_so (λ comp cause line blame. absurd (cc)) refl
     function_runs number is (Some f) along = main_runs number is f along
 
-    number_runs : (number : Option ℕ) → L.entered main Main ≡ number →
-        InLine t (run_to main (and_then (found number beginning) (λ number s. call_own L (within step (suc turns)) main
-        number [] s))).behaviour.trace
-        → RunsFollow t S'
-        (run_to main (and_then (found number beginning) (λ number s. call_own L (within step (suc turns)) main number []
-        s))).behaviour (run_to main (and_then (found number beginning)
-        (λ number s. call_own L (within step' (suc turns))
-        main number [] s))).behaviour
+    number_runs : (number : Option ℕ) → L.entered main Main ≡ number → InLine t (run_to main (and_then
+        (found number beginning) (λ number s. call_own L (within step (suc turns)) main number [] s))).behaviour.trace →
+        RunsFollow t S' (run_to main (and_then (found number beginning)
+        (λ number s. call_own L (within step (suc turns)) main number [] s))).behaviour (run_to main (and_then
+        (found number beginning) (λ number s. call_own L (within step' (suc turns)) main number [] s))).behaviour
     number_runs None is along = ends_so (λ comp cause line blame. absurd (cc)) refl
     number_runs (Some number) is along = function_runs number is _ along
 
@@ -368,22 +356,19 @@ module _ (L : Library) (obedient : Obedient L) (globals : Memory) (inputs : List
       tells_too t _ _ large (run_follows L obedient t small large larger globals inputs turns) tells
 
   pub keeps_blames : KeepsBlames t behaviour
-  keeps_blames small large larger comp cause line ends front clear =
-      stays_so t _ _ large (run_follows L obedient t small large larger globals inputs
-      turns) comp cause line clear _ refl ends front
+  keeps_blames small large larger comp cause line ends front clear = stays_so t _ _ large
+      (run_follows L obedient t small large larger globals inputs turns) comp cause line clear _ refl ends front
 
   pub passes_blames : PassesBlames t behaviour
-  passes_blames small large larger comp cause line ends front set =
-      passes_so t _ _ large (run_follows L obedient t small large larger globals inputs
-      turns) comp cause line set _ refl ends front
+  passes_blames small large larger comp cause line ends front set = passes_so t _ _ large
+      (run_follows L obedient t small large larger globals inputs turns) comp cause line set _ refl ends front
 
   module _ (set : Set) where
     is_needed : (links : List Link) (small : Set) → IsWithin small set → IsChain behaviour t small links →
         (behaviour set).trace ≡ t → Includes set links
     is_needed [] small larger chain tells = tt
-    is_needed (link ∷ links) small larger chain tells =
-        by_test (set link.comp) refl (λ has. is_needed links (with _ small)
-        (with_link set small _ larger has) chain.1 tells) where
+    is_needed (link ∷ links) small larger chain tells = by_test (set link.comp) refl
+        (λ has. is_needed links (with _ small) (with_link set small _ larger has) chain.1 tells) where
           by_test : (b : Bool) → set link.comp ≡ b → (set link.comp ≡ true → Includes set links) →
               (set link.comp ≡ true) × Includes set links
           by_test true has rest = (has, rest has)

@@ -88,7 +88,6 @@ pub function_keeps : (library : Library) → Obedient library → (comp number :
     function library comp number ≡ Some f → (K : Property) (here : Here) → IsKept K here → (by : Calls) → CallsGo by →
     CallsKeep K here.comp by → (s : State) → K.Goes s → Kept K (f.does by here s)
 function_keeps library obedient comp number f is K here kept by goes keeps s at =
-    let twins =
-    library_twins Never (One K) (Pieces K) (IsKept K) (one_kept K here kept) (one_at K here kept) library library
-    obedient in
+    let twins = library_twins Never (One K) (Pieces K) (IsKept K) (one_kept K here kept) (one_at K here kept) library
+    library obedient in
     keeps_here K here kept _ (function library comp number) (twins.functions comp number) f is by goes keeps s at

@@ -30,24 +30,22 @@ module _ (interfaces : Interfaces) where
       is_legal_from interfaces at (t ++ e ∷ []) ≡ true
   legal_more at [] st e h l may = ap (λ x. is_legal_from interfaces x (e ∷ [])) h ∙ and_from _ true may refl
   legal_more None (x ∷ t) st e h l may = cc l
-  legal_more (Some a) (x ∷ t) st e h l may =
-      more (and_parts _ _ l) (λ k. legal_more _ t st e h k may) where
-        more : (is_allowed interfaces a x ≡ true) × (is_legal_from interfaces (stands_after a x) t ≡ true) →
-            (is_legal_from interfaces (stands_after a x) t ≡ true → is_legal_from interfaces (stands_after a x)
-            (t ++ e ∷ []) ≡ true) → is_legal_from interfaces (Some a) (x ∷ t ++ e ∷ []) ≡ true
-        more p rest = and_from _ _ p.0 (rest p.1)
+  legal_more (Some a) (x ∷ t) st e h l may = more (and_parts _ _ l) (λ k. legal_more _ t st e h k may) where
+    more : (is_allowed interfaces a x ≡ true) × (is_legal_from interfaces (stands_after a x) t ≡ true) →
+        (is_legal_from interfaces (stands_after a x) t ≡ true → is_legal_from interfaces (stands_after a x)
+        (t ++ e ∷ []) ≡ true) → is_legal_from interfaces (Some a) (x ∷ t ++ e ∷ []) ≡ true
+    more p rest = and_from _ _ p.0 (rest p.1)
 
   legal_take : (n : ℕ) (at : Option Standing) (t : List Event) → is_legal_from interfaces at t ≡ true →
       is_legal_from interfaces at (take n t) ≡ true
   legal_take zero at t l = refl
   legal_take (suc n) at [] l = refl
   legal_take (suc n) None (x ∷ t) l = cc l
-  legal_take (suc n) (Some a) (x ∷ t) l =
-      first (and_parts _ _ l) (λ k. legal_take n _ t k) where
-        first : (is_allowed interfaces a x ≡ true) × (is_legal_from interfaces (stands_after a x) t ≡ true) →
-            (is_legal_from interfaces (stands_after a x) t ≡ true → is_legal_from interfaces (stands_after a x)
-            (take n t) ≡ true) → is_legal_from interfaces (Some a) (x ∷ take n t) ≡ true
-        first p rest = and_from _ _ p.0 (rest p.1)
+  legal_take (suc n) (Some a) (x ∷ t) l = first (and_parts _ _ l) (λ k. legal_take n _ t k) where
+    first : (is_allowed interfaces a x ≡ true) × (is_legal_from interfaces (stands_after a x) t ≡ true) →
+        (is_legal_from interfaces (stands_after a x) t ≡ true → is_legal_from interfaces (stands_after a x)
+        (take n t) ≡ true) → is_legal_from interfaces (Some a) (x ∷ take n t) ≡ true
+    first p rest = and_from _ _ p.0 (rest p.1)
 
   -- where a legal trace stands
   pub record IsAt (t : List Event) (st : Standing) : Type 0 where
@@ -132,10 +130,9 @@ module _ (interfaces : Interfaces) where
     back_is_allowed : (st : Standing) (from to index : ℕ) (args : List Value) (v : Option Value) →
         from ≡ st.active.comp → takes interfaces to index (length args) ≡ true →
         is_allowed interfaces (entered_at st to index) (Ret to from (crossing (export_at interfaces to index) v)) ≡ true
-    back_is_allowed st from to index args v is may =
-        and_from (to == to) (awaits (st.active ∷ st.waiting) from && may_return interfaces to (Export index)
-        (crossing _ v)) (eq-eqb to to refl) (and_from (st.active.comp == from)
-        (may_return interfaces to (Export index) (crossing _ v))
+    back_is_allowed st from to index args v is may = and_from (to == to)
+        (awaits (st.active ∷ st.waiting) from && may_return interfaces to (Export index) (crossing _ v))
+        (eq-eqb to to refl) (and_from (st.active.comp == from) (may_return interfaces to (Export index) (crossing _ v))
         (eq-eqb _ from (sym is)) (back_fits (export_at interfaces to index) (length args) v may))
 
     cross_at : (st : Standing) (from to index : ℕ) (args : List Value) (s : State) → from ≡ st.active.comp
@@ -189,10 +186,8 @@ module _ (interfaces : Interfaces) where
     called_at st from (Cross to index) args s is may h =
         then_kept _ (turn s) (λ _ s. call_cross library body from to index args s)
         (turned_at st s.turns s h) (λ _ s h. cross_at st from to index args s is may h)
-    called_at st from Input args s is may h =
-        record { after = environment_at st from _ s is may refl h }
-    called_at st from Output args s is may h =
-        record { after = environment_at st from _ s is may refl h }
+    called_at st from Input args s is may h = record { after = environment_at st from _ s is may refl h }
+    called_at st from Output args s is may h = record { after = environment_at st from _ s is may refl h }
 
     pub calls_at : (st : Standing) (from : ℕ) (target : CallTarget) (args : List Value) (s : State) →
         from ≡ st.active.comp → IsAt s.trace st → Kept (standing st) (calls library body from target args s)
@@ -236,11 +231,9 @@ module _ (interfaces : Interfaces) where
               (λ v s. body number here s) (asks_at library same body legal_body st here.comp (Cross to index)
               (map (λ w. Word w) args) s is h) (λ v s h. legal_body number here s st is h)
           by_action (act.Ret v) next = record { after = h }
-          by_action (act.Out w) next =
-              then_kept (standing st) (asks library body here.comp Output (Word w ∷ []) s)
-              (λ v s. performs library body rest number here s) (asks_at library same body legal_body st here.comp
-              Output
-              (Word w ∷ []) s is h) (λ v s h. next s h)
+          by_action (act.Out w) next = then_kept (standing st) (asks library body here.comp Output (Word w ∷ []) s)
+              (λ v s. performs library body rest number here s)
+              (asks_at library same body legal_body st here.comp Output (Word w ∷ []) s is h) (λ v s h. next s h)
           by_action (act.In w) next =
               then_kept (standing st) (asks library body here.comp Input [] s) (λ v s. performs library body rest number
               here s) (asks_at library same body legal_body st here.comp Input [] s is h) (λ v s h. next s h)
@@ -255,9 +248,8 @@ module _ (interfaces : Interfaces) where
 
     pub scripted_legal : (roles : Roles) → StepLegal (scripted_step library roles (run_step library))
     scripted_legal roles body goes legal_body number here s st is h = by_role _ where
-      by_role : (b : Bool) →
-          Kept (standing st) (if b then performs library body (rows_left roles here.comp s.trace) number here
-          s else run_step library body number here s)
+      by_role : (b : Bool) → Kept (standing st) (if b then performs library body (rows_left roles here.comp s.trace)
+          number here s else run_step library body number here s)
       by_role true = performs_legal body legal_body _ number here s st is h
       by_role false = run_step_legal body goes legal_body number here s st is h
 
@@ -294,16 +286,12 @@ stopped_legal : (interfaces : Interfaces) (n : ℕ) (t : List Event) (end : RunE
 stopped_legal interfaces n t end h = ap (legal _) (trace_is n _) ∙ legal_take interfaces n _ t h
 
 module _ (library : Library) (obedient : Obedient library) (globals : Memory) (inputs : List ℕ) (turns events : ℕ) where
-  pub runs_legal : legal library.interfaces (stopped_at events
-      (library_run library globals inputs turns).behaviour).trace
-      ≡ true
-  runs_legal =
-      stopped_legal _ events _ _ (run_legal _ library refl obedient (run_step library)
+  pub runs_legal : legal library.interfaces
+      (stopped_at events (library_run library globals inputs turns).behaviour).trace ≡ true
+  runs_legal = stopped_legal _ events _ _ (run_legal _ library refl obedient (run_step library)
       (run_goes_on library obedient) (run_step_legal _ library refl obedient) globals inputs turns)
 
   pub scripts_legal : (roles : Roles) →
       legal library.interfaces (stopped_at events (roles_run library globals inputs turns roles).behaviour).trace ≡ true
-  scripts_legal roles =
-      stopped_legal _ events _ _ (run_legal _ library refl obedient
-      (scripted_step library roles _) (scripted_goes_on library obedient roles)
-      (scripted_legal _ library refl obedient roles) globals inputs turns)
+  scripts_legal roles = stopped_legal _ events _ _ (run_legal _ library refl obedient (scripted_step library roles _)
+      (scripted_goes_on library obedient roles) (scripted_legal _ library refl obedient roles) globals inputs turns)

@@ -6,9 +6,8 @@ use Rattle.sc_laws.proofs.Matching.{match_goes}
 
 -- a round, and then something
 abbrev pub one_round : {A : Type 0} → Does A → Does A → Does A → Does A → Does A
-one_round head body next again a s =
-    follow in_loop (head a s) (λ a s. and_then (turn s)
-    (λ _ s. follow in_loop (body a s) (λ a s. follow in_loop (next a s) again)))
+one_round head body next again a s = follow in_loop (head a s)
+    (λ a s. and_then (turn s) (λ _ s. follow in_loop (body a s) (λ a s. follow in_loop (next a s) again)))
 
 module _ (Soft : Cause → Type 0) (here : Here) (by : Calls) (go : GoFrom here.comp by) {A : Type 0}
     (head body next : DoingWith A) (h : MatchWith Soft here head head) (b : MatchWith Soft here body body)
@@ -27,12 +26,9 @@ module _ (Soft : Cause → Type 0) (here : Here) (by : Calls) (go : GoFrom here.
   goes : (does : DoingWith A) → MatchWith Soft here does does → (a : A) → Goes (does by a)
   goes does match a = match_goes Soft here (λ by. does by a) (λ by. does by a) (match a) by go
 
-  pub loop_again : (a : A) (s : State) →
-      loop (head by) (body by) (next by) a s ≡
-      one_round (head by) (body by) (next by) (loop (head by) (body by) (next by)) a s
-  loop_again a s =
-      follow_grown in_loop s (head by a s) _ _ (goes head h a s) (λ a t up.
-      turn_same t.turns t _ _ refl (λ u less.
-      follow_grown in_loop u (body by a u) _ _ (goes body b a u) (λ a v up2.
-      follow_grown in_loop v (next by a v) _ _ (goes next x a v) (λ a w up3.
-      enough_rounds s.turns (suc w.turns) a w (omega (arith, up.turns, less, up2.turns, up3.turns)) (omega arith)))))
+  pub loop_again : (a : A) (s : State) → loop (head by) (body by) (next by) a s ≡ one_round (head by) (body by)
+      (next by) (loop (head by) (body by) (next by)) a s
+  loop_again a s = follow_grown in_loop s (head by a s) _ _ (goes head h a s) (λ a t up. turn_same t.turns t _ _ refl
+      (λ u less. follow_grown in_loop u (body by a u) _ _ (goes body b a u) (λ a v up2. follow_grown in_loop v
+      (next by a v) _ _ (goes next x a v) (λ a w up3. enough_rounds s.turns (suc w.turns) a w
+      (omega (arith, up.turns, less, up2.turns, up3.turns)) (omega arith)))))

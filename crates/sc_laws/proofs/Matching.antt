@@ -31,15 +31,13 @@ module _ (Soft : Cause → Type 0) (P : State → State → Type 0) (R : (V : Ty
     played_related {V} (suc n) (Blames cause line) twin lasts (inr is) s s' few p =
         subst (λ x. R V (Stopped (Blamed here.comp cause line) s) (played x D here s')) (sym is)
         ((at here good).computing V line (λ blocks. Err cause) (λ blocks. Err cause) (λ blocks. alike refl) s s' p)
-    played_related {V} (suc n) (Reads go) twin lasts like s s' few p =
-        subst (λ x. R V (played (go (s.memory here.comp)) C here s) (played x D here s')) (sym like.1)
-        (kept.after Blocks V s s' (Reached (s.memory here.comp) s) (Reached (s'.memory here.comp) s')
-        (λ blocks. played (go blocks) C here) (λ blocks. played (like.0 blocks) D here) p (stays (s.memory here.comp) s)
-        (stays (s'.memory here.comp) s')
+    played_related {V} (suc n) (Reads go) twin lasts like s s' few p = subst
+        (λ x. R V (played (go (s.memory here.comp)) C here s) (played x D here s')) (sym like.1) (kept.after Blocks V s
+        s' (Reached (s.memory here.comp) s) (Reached (s'.memory here.comp) s') (λ blocks. played (go blocks) C here)
+        (λ blocks. played (like.0 blocks) D here) p (stays (s.memory here.comp) s) (stays (s'.memory here.comp) s')
         (λ blocks. played_goes (go blocks) C here first_go) (λ blocks. played_goes (like.0 blocks) D here second_go)
         ((at here good).computing Blocks 0 (λ blocks. Ok blocks) (λ blocks. Ok blocks) (λ blocks. alike refl) s s' p)
-        (λ blocks t t' up up' q.
-        played_related (suc n) (go blocks) (like.0 blocks) (lasts blocks) (like.2 blocks) t t'
+        (λ blocks t t' up up' q. played_related (suc n) (go blocks) (like.0 blocks) (lasts blocks) (like.2 blocks) t t'
         (omega (arith, few, up.turns)) q))
     played_related {V} (suc n) (Stores blocks go) twin lasts like s s' few p =
         subst (λ x. R V (played go C here (with_memory here.comp blocks s)) (played x D here s')) (sym like.1)
@@ -52,12 +50,10 @@ module _ (Soft : Cause → Type 0) (P : State → State → Type 0) (R : (V : Ty
         played_related n go like.0 lasts like.2 t t' (omega (arith, few, less)) q))
     played_related {V} (suc n) (Asks target args go) twin lasts like s s' few p =
         subst (λ x. R V (and_then (C here.comp target args s) (λ v. played (go v) C here)) (played x D here s'))
-        (sym like.1)
-        (kept.after (Option Value) V s s' (C here.comp target args s) (D here.comp target args s')
+        (sym like.1) (kept.after (Option Value) V s s' (C here.comp target args s) (D here.comp target args s')
         (λ v. played (go v) C here) (λ v. played (like.0 v) D here) p ((made target args).first s)
-        ((made target args).second s')
-        (λ v. played_goes (go v) C here first_go) (λ v. played_goes (like.0 v) D here second_go)
-        ((made target args).both s s' p) (λ v t t' up up' q.
+        ((made target args).second s') (λ v. played_goes (go v) C here first_go)
+        (λ v. played_goes (like.0 v) D here second_go) ((made target args).both s s' p) (λ v t t' up up' q.
         played_related (suc n) (go v) (like.0 v) (lasts v) (like.2 v) t t' (omega (arith, few, up.turns)) q))
     played_related (suc n) Halts twin lasts like s s' few p = absurd lasts
 
@@ -74,11 +70,9 @@ module _ (Soft : Cause → Type 0) (P : State → State → Type 0) (R : (V : Ty
         let second_is : (n : ℕ) (s : State) → s.turns < n → g.does D here s ≡ played (m.twin n) D here s =
         λ n s few. m.second.is n D go' s few in
         record {
-          first =
-              λ s. subst (Gone s) (sym (first_is (suc s.turns) s (omega arith)))
+          first = λ s. subst (Gone s) (sym (first_is (suc s.turns) s (omega arith)))
               (played_goes (m.tree (suc s.turns)) C here go s);
-          second =
-              λ s. subst (Gone s) (sym (second_is (suc s.turns) s (omega arith)))
+          second = λ s. subst (Gone s) (sym (second_is (suc s.turns) s (omega arith)))
               (played_goes (m.twin (suc s.turns)) D here go' s);
           both = λ s s' p. (
               let n : ℕ = suc (s.turns + s'.turns) in

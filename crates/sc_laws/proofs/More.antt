@@ -70,20 +70,17 @@ module _ (library : Library) (obedient : Obedient library) (globals : Memory) (i
 
   pub more_runs : ExtendedByMore (λ turns events. stopped_at events
       (library_run library globals inputs turns).behaviour)
-  more_runs =
-      more_of (run_step library) (run_goes_on library obedient) (λ d. run_steps d Never _ (inr tt) library
-      library obedient)
+  more_runs = more_of (run_step library) (run_goes_on library obedient)
+      (λ d. run_steps d Never _ (inr tt) library library obedient)
 
   pub more_scripted : (roles : Roles) →
       ExtendedByMore (λ turns events. stopped_at events (roles_run library globals inputs turns roles).behaviour)
-  more_scripted roles =
-      more_of (scripted_step library roles _) (scripted_goes_on library obedient roles)
+  more_scripted roles = more_of (scripted_step library roles _) (scripted_goes_on library obedient roles)
       (λ d. scripted_steps d Never _ (inr tt) library library obedient roles)
 
 -- ARITHMETIC
 pub wrapping_keeps : ArithKeeps IsArithmetic c_arith wrapping
-wrapping_keeps =
-    record { binary = λ unsigned o a b. binary_fits _ o a b; negated = λ unsigned a. negated_fits _ a }
+wrapping_keeps = record { binary = λ unsigned o a b. binary_fits _ o a b; negated = λ unsigned a. negated_fits _ a }
 
 -- two runs with as many turns, of which the first may be blamed for arithmetic
 module _ (one other : Run) (events : ℕ) where
@@ -168,14 +165,12 @@ module _ (L M : Library) (match : LibrariesMatch IsArithmetic L M) (globals : Me
   run_goes' body goes = run_step_goes M body goes (second_goes IsArithmetic L M match)
 
   pub runs_agree : AgreesInRoom (library_run L globals inputs turns) (library_run M globals inputs turns)
-  runs_agree =
-      in_room _ _ (below_of (run_step L) (run_step M) run_goes run_goes' (run_steps 0 IsArithmetic ⊥ (inl refl) L M
-      match))
+  runs_agree = in_room _ _
+      (below_of (run_step L) (run_step M) run_goes run_goes' (run_steps 0 IsArithmetic ⊥ (inl refl) L M match))
 
   pub scripts_agree : (roles : Roles) →
       AgreesInRoom (roles_run L globals inputs turns roles) (roles_run M globals inputs turns roles)
-  scripts_agree roles =
-      in_room _ _ (below_of (scripted_step L roles _) (scripted_step M roles (run_step M))
+  scripts_agree roles = in_room _ _ (below_of (scripted_step L roles _) (scripted_step M roles (run_step M))
       (scripted_goes L roles _ run_goes) (scripted_goes M roles _ run_goes')
       (scripted_steps 0 IsArithmetic ⊥ (inl refl) L M match roles))
 

@@ -93,10 +93,9 @@ nobody_who_performs_is_blamed = record {
 pub blamed_are_there : BlamedAreThere
 blamed_are_there = record {
   libraries = blamed_is_there;
-  programs = λ arith program set trace inputs turns events comp cause line ends.
-      subst (λ n. comp < n) (length-map _ (functions_in arith _))
-      (blamed_is_there (library_of arith program) (program_obeys arith program) (globals_of _) inputs
-      turns events (roles_in _ set trace) comp cause line ends);
+  programs = λ arith program set trace inputs turns events comp cause line ends. subst (λ n. comp < n)
+      (length-map _ (functions_in arith _)) (blamed_is_there (library_of arith program) (program_obeys arith program)
+      (globals_of _) inputs turns events (roles_in _ set trace) comp cause line ends);
 }
 
 -- what holds of libraries that obey holds of programs

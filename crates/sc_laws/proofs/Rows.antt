@@ -78,9 +78,8 @@ next_from c number (Some x) [] e more st is own =
           ∙ ap (λ y. record { entry = y.active.entry; number = number; action = action_of e } ∷ rows_from c (suc number)
           (stands_after x e) more) same;
     }
-next_from c number (Some x) (f ∷ u) e more st is own =
-    next_behind c number x st f e u _ (performer f == c) refl (next_from c (suc number) _
-    u e more st is own) (next_from c number _ u e more st is own)
+next_from c number (Some x) (f ∷ u) e more st is own = next_behind c number x st f e u _ (performer f == c) refl
+    (next_from c (suc number) _ u e more st is own) (next_from c number _ u e more st is own)
 
 -- the next row of a compartment that performs the next event of a trace
 pub row_of_next : (main c : ℕ) (t u : List Event) (e : Event) (more : List Event) (st : Standing) → t ≡ u ++ e ∷ more →
@@ -92,9 +91,8 @@ row_of_next main c t u e more st is stands own =
 pub rows_behind : (main c : ℕ) (t u : List Event) (e : Event) (st : Standing) → performer e ≡ c →
     (next : Next (drop (count_of c u) (part main c t)) st e) → drop (count_of c (u ++ e ∷ [])) (part main c t)
     ≡ next.rest
-rows_behind main c t u e st own next =
-    ap (λ n. drop n (part main c t)) (counts_its_own c u e own) ∙ one_less (count_of c u) (part main c t)
-    ∙ ap (drop 1) next.is where
+rows_behind main c t u e st own next = ap (λ n. drop n (part main c t)) (counts_its_own c u e own)
+    ∙ one_less (count_of c u) (part main c t) ∙ ap (drop 1) next.is where
       one_less : {A : Type 0} (n : ℕ) (xs : List A) → drop (suc n) xs ≡ drop 1 (drop n xs)
       one_less zero [] = refl
       one_less zero _ = refl
@@ -141,8 +139,7 @@ next_told_is t u e front (inr along) = at_most u t front.more along.more front.i
         empty [] less is = refl
         empty (x ∷ more) less is = absurd (cc)
   at_most (x ∷ u) [] more less is is' = absurd (cc)
-  at_most (x ∷ u) (y ∷ t) more less is is' =
-      behind (cc) (at_most u t more less (cc) (cc)) where
-        behind : y ≡ x → NextIs t u e → NextIs (y ∷ t) (x ∷ u) e
-        behind first (over is) = over (λ i. first i ∷ is i)
-        behind first (told more is) = told more (λ i. first i ∷ is i)
+  at_most (x ∷ u) (y ∷ t) more less is is' = behind (cc) (at_most u t more less (cc) (cc)) where
+    behind : y ≡ x → NextIs t u e → NextIs (y ∷ t) (x ∷ u) e
+    behind first (over is) = over (λ i. first i ∷ is i)
+    behind first (told more is) = told more (λ i. first i ∷ is i)

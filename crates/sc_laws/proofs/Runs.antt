@@ -27,9 +27,7 @@ take_fronts n m xs ys le front =
     subst (λ z. Front (take n xs) (take m z)) (sym front.is) (take_front n m xs front.more le)
 
 pub front_long : {A : Type 0} (xs ys : List A) → Front xs ys → length xs ≤ length ys
-front_long xs ys front =
-    let long = ap length front.is ∙ length-append xs front.more in
-    omega (arith, long)
+front_long xs ys front = let long = ap length front.is ∙ length-append xs front.more in omega (arith, long)
 
 -- RUNS THAT ARE STOPPED
 at_most : {n m : ℕ} → n < m → n ≤ m
@@ -122,8 +120,7 @@ module _ (d : ℕ) (Soft : Cause → Type 0) (Turns : Type 0) where
 
   module _ (spent : (d ≡ 0) ⊎ Turns) (L M : Library) (match : LibrariesMatch Soft L M) where
     pub libraries : (n n' : ℕ) → LibrariesBelow d Soft Turns spent n n' L M
-    libraries n n' =
-        library_twins Soft _ _ Anywhere (below_kept d Soft Turns n n' spent)
+    libraries n n' = library_twins Soft _ _ Anywhere (below_kept d Soft Turns n n' spent)
         (λ here good. below_at d Soft Turns n n' spent here) L M match
 
     pub run_steps : StepsBelow d Soft Turns spent (run_step L) (run_step M)
@@ -131,9 +128,8 @@ module _ (d : ℕ) (Soft : Cause → Type 0) (Turns : Type 0) where
 
     pub scripted_steps : (roles : Roles) → StepsBelow d Soft Turns spent (scripted_step L roles (run_step L))
         (scripted_step M roles (run_step M))
-    scripted_steps roles n n' a b goes goes' h =
-        scripted_below d Soft Turns spent n n' a b goes goes' h L M (libraries n n') roles (run_step L) (run_step M)
-        (run_steps n n' a b goes goes' h)
+    scripted_steps roles n n' a b goes goes' h = scripted_below d Soft Turns spent n n' a b goes goes' h L M
+        (libraries n n') roles (run_step L) (run_step M) (run_steps n n' a b goes goes' h)
 
     module _ (step step' : Step) (goes : StepGoes step) (goes' : StepGoes step') (steps : StepsBelow d Soft Turns spent
         step step') (globals : Memory) (inputs : List ℕ) (turns : ℕ) where
@@ -150,15 +146,13 @@ module _ (d : ℕ) (Soft : Cause → Type 0) (Turns : Type 0) where
       abbrev second_comes : ℕ → Option ℕ → Piece (Option Value)
       second_comes main number = and_then (found number (richer d start)) (first_call M step' (turns + d) main)
 
-      begin_below : (number : Option ℕ) →
-          Below d Soft Turns (Option Value) (and_then (found number start) (first_call L step turns main))
-          (second_comes main number)
+      begin_below : (number : Option ℕ) → Below d Soft Turns (Option Value)
+          (and_then (found number start) (first_call L step turns main)) (second_comes main number)
       begin_below None = along refl
-      begin_below (Some number) =
-          own_below d Soft Turns spent (suc turns) (suc _) (within step (suc turns))
-          (within step' (suc _)) (within_goes step goes (suc turns))
-          (within_goes step' goes' (suc _)) (within_below d Soft Turns spent step step' goes goes' steps
-          _ _) L M (libraries _ (suc (turns + d))) main number [] start (omega arith) (omega arith)
+      begin_below (Some number) = own_below d Soft Turns spent (suc turns) (suc _) (within step (suc turns))
+          (within step' (suc _)) (within_goes step goes (suc turns)) (within_goes step' goes' (suc _))
+          (within_below d Soft Turns spent step step' goes goes' steps _ _) L M (libraries _ (suc (turns + d))) main
+          number [] start (omega arith) (omega arith)
 
       begin_goes : (library : Library) (step : Step) → StepGoes step →
           (turns main : ℕ) (number : Option ℕ) (s : State) →
@@ -168,13 +162,12 @@ module _ (d : ℕ) (Soft : Cause → Type 0) (Turns : Type 0) where
           (λ number. own_goes library (within step (suc turns)) (within_goes step goes (suc turns)) main number [])
 
       pub runs_below : RunsBelow (run_by L step globals inputs turns) (run_by M step' globals inputs (turns + d))
-      runs_below =
-          subst (λ i. RunsBelow (run_by L step globals inputs turns)
+      runs_below = subst (λ i. RunsBelow (run_by L step globals inputs turns)
           (run_to i.main (second_comes i.main (M.entered i.main Main))))
-          (sym (libraries (suc turns) (suc (turns + d))).interfaces)
-          (run_to_below main (and_then (found _ start) (first_call L step turns main))
-          (second_comes main _) (begin_goes L step goes turns main (L.entered main Main) start).stop
-          (begin_goes M step' goes' (turns + d) main (M.entered main Main) (richer d start)).stop
-          (subst (λ x. Below d Soft Turns (Option Value) (and_then (found (L.entered main Main) start)
-          (first_call L step turns main)) (second_comes main x))
-          (sym ((libraries (suc turns) (suc (turns + d))).entered main Main)) (begin_below (L.entered main Main))))
+          (sym (libraries (suc turns) (suc (turns + d))).interfaces) (run_to_below main
+          (and_then (found _ start) (first_call L step turns main)) (second_comes main _)
+          (begin_goes L step goes turns main (L.entered main Main) start).stop
+          (begin_goes M step' goes' (turns + d) main (M.entered main Main) (richer d start)).stop (subst (λ x. Below d
+          Soft Turns (Option Value) (and_then (found (L.entered main Main) start) (first_call L step turns main))
+          (second_comes main x)) (sym ((libraries (suc turns) (suc (turns + d))).entered main Main))
+          (begin_below (L.entered main Main))))

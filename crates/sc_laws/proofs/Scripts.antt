@@ -24,15 +24,13 @@ pub allowed_at : (interfaces : Interfaces) (at : Option Standing) (u : List Even
     (st : Standing) → is_legal_from interfaces at (u ++ e ∷ more) ≡ true → stands_behind at u ≡ Some st →
     is_allowed interfaces st e ≡ true
 allowed_at interfaces None [] e more st l is = absurd (cc)
-allowed_at interfaces (Some a) [] e more st l is =
-    subst (λ x. is_allowed interfaces x e ≡ true) (same_Some a st is)
+allowed_at interfaces (Some a) [] e more st l is = subst (λ x. is_allowed interfaces x e ≡ true) (same_Some a st is)
     (and_parts (is_allowed interfaces a e) (is_legal_from interfaces _ more) l).0
 allowed_at interfaces None (x ∷ u) e more st l is = absurd (false≢true l)
 allowed_at interfaces (Some a) (x ∷ u) e more st l is = allowed_at interfaces _ u e more st (and_parts _ _ l).1 is
 
 -- what is left behind the first of what is left
-left_behind : {A : Type 0} (n : ℕ) (xs : List A) (x : A) (rest : List A) → x ∷ rest ≡ drop n xs →
-    rest ≡ drop (suc n) xs
+left_behind : {A : Type 0} (n : ℕ) (xs : List A) (x : A) (rest : List A) → x ∷ rest ≡ drop n xs → rest ≡ drop (suc n) xs
 left_behind zero [] x rest is = absurd (cc)
 left_behind zero (y ∷ xs) x rest is = cc is
 left_behind (suc n) [] x rest is = absurd (cc)
@@ -75,10 +73,7 @@ module _ (main : ℕ) (trace : List Event) where
   more_turns : {V : Type 0} (n : ℕ) (st : Standing) (o : Piece V) → Kept (standing n st) o →
       Kept (standing (suc n) st) o
   more_turns n st (Reached v s) h = record {
-    after = record {
-      few = (let few = h.after.few in omega (arith, few));
-      stands = h.after.stands;
-    };
+    after = record { few = (let few = h.after.few in omega (arith, few)); stands = h.after.stands };
   }
   more_turns n st (Stopped end s) h = record { after = h.after }
 
@@ -105,8 +100,7 @@ module _ (main : ℕ) (trace : List Event) where
 
   told : (n : ℕ) (st next : Standing) (s : State) (e : Event) → At n st s → stands_after st e ≡ Some next →
       At n next (tell e s)
-  told n st next s e at then_on =
-      record { few = at.few; stands = stands_last _ s.trace e st at.stands ∙ then_on }
+  told n st next s e at then_on = record { few = at.few; stands = stands_last _ s.trace e st at.stands ∙ then_on }
 
 -- FUNCTIONS
 module _ (library : Library) (leads_on : ExportsLead library) (trace : List Event)
@@ -125,8 +119,7 @@ module _ (library : Library) (leads_on : ExportsLead library) (trace : List Even
   IsEntered comp number st = set comp ≡ true → library.entered comp st.active.entry ≡ Some number
 
   abbrev BodyAlong : ℕ → Body → Type 0
-  BodyAlong n body =
-      (number : ℕ) (here : Here) (s : State) (st : Standing) → here.comp ≡ st.active.comp →
+  BodyAlong n body = (number : ℕ) (here : Here) (s : State) (st : Standing) → here.comp ≡ st.active.comp →
       is_some (function library here.comp number) ≡ true → IsEntered here.comp number st → At main trace n st s →
       Kept (Kind n st) (body number here s)
 
@@ -170,10 +163,8 @@ module _ (library : Library) (leads_on : ExportsLead library) (trace : List Even
     turned_own : (st : Standing) (from number : ℕ) (args : List Value) (s : State) → from ≡ st.active.comp →
         set from ≡ false → is_some (function library from number) ≡ true → At main trace (suc n) st s →
         Kept (Kind n st) (called library body from (Own number) args s)
-    turned_own st from number args s here plain is at =
-        after_turn main trace n s.turns st s _ refl at
-        (λ t at. own_along st from number args here is (λ performing. absurd
-        (false≢true (sym plain ∙ performing))) t at)
+    turned_own st from number args s here plain is at = after_turn main trace n s.turns st s _ refl at (λ t at.
+        own_along st from number args here is (λ performing. absurd (false≢true (sym plain ∙ performing))) t at)
 
     turned_cross : (st : Standing) (from to index : ℕ) (args : List Value) (s : State) →
         leads library to (library.entered to (Export index)) ≡ true → At main trace (suc n) st s →
@@ -197,11 +188,8 @@ module _ (library : Library) (leads_on : ExportsLead library) (trace : List Even
     called_along st from (Cross to index) args s here plain may at =
         more_turns main trace n st _ (turned_cross st from to index args s (led from to index args may) at)
     called_along st from Input args s here plain may at =
-        record {
-          after = told main trace _ st st _ _ (record { few = at.few; stands = at.stands }) refl;
-        }
-    called_along st from Output args s here plain may at =
-        record { after = told main trace _ st st s _ at refl }
+        record { after = told main trace _ st st _ _ (record { few = at.few; stands = at.stands }) refl }
+    called_along st from Output args s here plain may at = record { after = told main trace _ st st s _ at refl }
 
     calls_along : (st : Standing) (from : ℕ) (target : CallTarget) (args : List Value) (s : State) →
         from ≡ st.active.comp → set from ≡ false → At main trace (suc n) st s →
@@ -279,15 +267,13 @@ module _ (library : Library) (leads_on : ExportsLead library) (trace : List Even
 
       -- once an event was told, the rows behind are left
       rows_then : (e : Event) → performer e ≡ here.comp → rest ≡ rows_left roles here.comp (s.trace ++ e ∷ [])
-      rows_then e own =
-          left_behind (count_of _ s.trace) (part main _ trace) row rest rows ∙
-          ap (λ k. drop k (part main here.comp trace)) (sym (counts_its_own _ s.trace e own))
+      rows_then e own = left_behind (count_of _ s.trace) (part main _ trace) row rest rows
+          ∙ ap (λ k. drop k (part main here.comp trace)) (sym (counts_its_own _ s.trace e own))
 
       call_along : (to index : ℕ) (args : List ℕ) → row.action ≡ act.Call to index args → (b : Bool) →
-          may_call library here.comp (Cross to index) (map (λ w. Word w) args) ≡ b →
-          Kept (Kind (suc n) st)
-          (and_then (if b then (if b then called library body here.comp (Cross to index) (map (λ w. Word w) args) s else
-          Stopped (Blamed here.comp BadType 0) s) else Stopped TurnsOut s) (λ v s. body number here s))
+          may_call library here.comp (Cross to index) (map (λ w. Word w) args) ≡ b → Kept (Kind (suc n) st) (and_then
+          (if b then (if b then called library body here.comp (Cross to index) (map (λ w. Word w) args) s else Stopped
+          (Blamed here.comp BadType 0) s) else Stopped TurnsOut s) (λ v s. body number here s))
       call_along to index args its true may =
           let call = called library body here.comp (Cross to index) (map _ args) s in
           more_turns main trace n st _ (then_kept _ call _ (turned_cross st _ to index _ s (led _ to index _ may) at)
@@ -298,23 +284,20 @@ module _ (library : Library) (leads_on : ExportsLead library) (trace : List Even
             absurd (false≢true (sym may ∙ asks_well));
       }
 
-      out_along : (w : ℕ) → row.action ≡ act.Out w → (b : Bool) →
-          may_call library here.comp Output (Word w ∷ []) ≡ b →
-          Kept (Kind (suc n) st)
-          (and_then (if b then (if b then called library body here.comp Output (Word w ∷ []) s else
-          Stopped (Blamed here.comp BadType 0) s) else Stopped TurnsOut s)
-          (λ v s. performs library body rest number here s))
+      out_along : (w : ℕ) → row.action ≡ act.Out w → (b : Bool) → may_call library here.comp Output (Word w ∷ []) ≡ b →
+          Kept (Kind (suc n) st) (and_then (if b then
+          (if b then called library body here.comp Output (Word w ∷ []) s else Stopped (Blamed here.comp BadType 0) s)
+          else Stopped TurnsOut s) (λ v s. performs library body rest number here s))
       out_along w its true may = next _ (rows_then _ refl) (told main trace _ st st s _ at refl)
       out_along w its false may = record {
         after = λ e more along_trace.
             let asks_well = asked _ its e more along_trace in absurd (false≢true (sym may ∙ asks_well));
       }
 
-      in_along : (w : ℕ) → row.action ≡ act.In w → (b : Bool) → may_call library here.comp Input [] ≡ b →
-          Kept (Kind (suc n) st)
-          (and_then (if b then (if b then called library body here.comp Input [] s else
-          Stopped (Blamed here.comp BadType 0) s) else Stopped TurnsOut s)
-          (λ v s. performs library body rest number here s))
+      in_along : (w : ℕ) → row.action ≡ act.In w → (b : Bool) → may_call library here.comp Input [] ≡ b → Kept
+          (Kind (suc n) st) (and_then (if b then
+          (if b then called library body here.comp Input [] s else Stopped (Blamed here.comp BadType 0) s) else Stopped
+          TurnsOut s) (λ v s. performs library body rest number here s))
       in_along w its true may =
           next _ (rows_then _ refl) (told main trace _ st st _ _ (record { few = at.few; stands = at.stands }) refl)
       in_along w its false may = record {
@@ -322,9 +305,8 @@ module _ (library : Library) (leads_on : ExportsLead library) (trace : List Even
             let asks_well = asked _ its e more along_trace in absurd (false≢true (sym may ∙ asks_well));
       }
 
-      acts_along : (action : Action) → row.action ≡ action →
-          Kept (Kind (suc n) st) (acts library body action (performs library body rest number here) (body number here)
-          here.comp s)
+      acts_along : (action : Action) → row.action ≡ action → Kept (Kind (suc n) st)
+          (acts library body action (performs library body rest number here) (body number here) here.comp s)
       acts_along (act.Call to index args) its = call_along to index args its _ refl
       acts_along (act.Ret v) its = record { after = at }
       acts_along (act.Out w) its = out_along w its _ refl
@@ -343,17 +325,15 @@ module _ (library : Library) (leads_on : ExportsLead library) (trace : List Even
 
     performs_along : (rows : List Row) (number : ℕ) (here : Here) (s : State) (st : Standing) →
         rows ≡ rows_left roles here.comp s.trace → here.comp ≡ st.active.comp →
-        is_some (function library here.comp number) ≡ true →
-        library.entered here.comp st.active.entry ≡ Some number → At main trace (suc n) st s →
-        Kept (Kind (suc n) st) (performs library body rows number here s)
+        is_some (function library here.comp number) ≡ true → library.entered here.comp st.active.entry ≡ Some number →
+        At main trace (suc n) st s → Kept (Kind (suc n) st) (performs library body rows number here s)
     performs_along [] number here s st rows active is entered at = record {
       after = λ e more along_trace.
           let following = is_next st _ s e more active at along_trace in
           let never = rows ∙ following.row.is in absurd (cc never);
     }
-    performs_along (row ∷ rest) number here s st rows active is entered at =
-        row_along row rest number here s st rows active is entered at
-        (λ t rows at. performs_along rest number here t st rows active is entered at)
+    performs_along (row ∷ rest) number here s st rows active is entered at = row_along row rest number here s st rows
+        active is entered at (λ t rows at. performs_along rest number here t st rows active is entered at)
 
   module _ (obedient : Obedient library) where
     abbrev its_bodies : ℕ → Body
@@ -362,26 +342,21 @@ module _ (library : Library) (leads_on : ExportsLead library) (trace : List Even
     step_along : (n : ℕ) (body : Body) → BodyGoes body → BodyAlong n body →
         BodyAlong (suc n) (scripted_step library roles (run_step library) body)
     step_along n body goes along number here s st active is entered at = by (set here.comp) refl where
-      by : (b : Bool) → set here.comp ≡ b →
-          Kept (Kind (suc n) st) (if b then performs library body (rows_left roles here.comp s.trace) number here s else
-          run_step library body number here s)
-      by true performing =
-          performs_along n body along (rows_left roles here.comp s.trace) number here s st refl active is
-          (entered performing) at
-      by false plain =
-          there main trace (Kind (suc n) st) (function library here.comp number) s
-          (λ f s. f.does (calls library body) here s) is (λ f found_f.
-          function_keeps library obedient here.comp number f found_f (Kind (suc n) st) here
-          (is_kept main trace (suc n) st here) (calls library body) (calls_go library body goes)
+      by : (b : Bool) → set here.comp ≡ b → Kept (Kind (suc n) st) (if b then performs library body
+          (rows_left roles here.comp s.trace) number here s else run_step library body number here s)
+      by true performing = performs_along n body along (rows_left roles here.comp s.trace) number here s st refl active
+          is (entered performing) at
+      by false plain = there main trace (Kind (suc n) st) (function library here.comp number) s
+          (λ f s. f.does (calls library body) here s) is (λ f found_f. function_keeps library obedient here.comp number
+          f found_f (Kind (suc n) st) here (is_kept main trace (suc n) st here) (calls library body)
+          (calls_go library body goes)
           (λ target args s at. calls_along n body along st here.comp target args s active plain at) s at)
 
     within_along : (n : ℕ) → BodyAlong n (its_bodies n)
-    within_along zero number here s st active is entered at =
-        let few = at.few in absurd (omega (arith, few))
-    within_along (suc n) number here s st active is entered at =
-        step_along n (its_bodies n)
-        (within_goes (scripted_step library roles _) (scripted_goes_on library obedient roles) n)
-        (within_along n) number here s st active is entered at
+    within_along zero number here s st active is entered at = let few = at.few in absurd (omega (arith, few))
+    within_along (suc n) number here s st active is entered at = step_along n (its_bodies n)
+        (within_goes (scripted_step library roles _) (scripted_goes_on library obedient roles) n) (within_along n)
+        number here s st active is entered at
 
     abbrev first : Standing
     first = record { active = record { comp = main; entry = Main }; waiting = [] }

@@ -33,9 +33,8 @@ module _ (Soft : Cause → Type 0) (here : Here) where
 
   store_at_matches : (place place' : Ways) → WaysMatch place place' → (v : Value) (line : ℕ) →
       ActsMatch (λ by. store_at here place v line) (λ by. store_at here place' v line)
-  store_at_matches place place' h v line a =
-      match_then Soft here _ _ (λ q by. stored here q v line a) (λ q by. stored here q v line a)
-      (given_matches _ place place' h line) (λ q. match_store Soft here q v line a)
+  store_at_matches place place' h v line a = match_then Soft here _ _ (λ q by. stored here q v line a)
+      (λ q by. stored here q v line a) (given_matches _ place place' h line) (λ q. match_store Soft here q v line a)
 
   assign_matches : (place place' e e' : Ways) → WaysMatch place place' → WaysMatch e e' → (line : ℕ) →
       ActsMatch (λ by. assign here place e line) (λ by. assign here place' e' line)
@@ -49,10 +48,8 @@ module _ (Soft : Cause → Type 0) (here : Here) where
 
   pub test_matches : (cond cond' : Ways) → WaysMatch cond cond' → (line : ℕ) →
       ActsMatch (λ by. test here cond line) (λ by. test here cond' line)
-  test_matches cond cond' h line a =
-      match_then Soft here _ _ (λ v by s. choose v _ _)
-      (λ v by s. choose v _ _) (given_matches _ cond cond' h line) (λ v. choose_matches v _ _ _ _
-      (leave_matches Next a) (leave_matches Break a))
+  test_matches cond cond' h line a = match_then Soft here _ _ (λ v by s. choose v _ _) (λ v by s. choose v _ _)
+      (given_matches _ cond cond' h line) (λ v. choose_matches v _ _ _ _ (leave_matches Next a) (leave_matches Break a))
 
   pub store_result_matches : (place place' : Ways) → WaysMatch place place' → (result : Option Value) (line : ℕ) →
       ActsMatch (λ by. store_result here place result line) (λ by. store_result here place' result line)
@@ -62,8 +59,7 @@ module _ (Soft : Cause → Type 0) (here : Here) where
   call_matches : (target : CallTarget) (args args' : List Ways) →
       ((blocks : Blocks) → Keeps Soft (List Value) (values args blocks) (values args' blocks)) → (line : ℕ) →
       Match Soft here (λ by. call here by target args line) (λ by. call here by target args' line)
-  call_matches target args args' h line =
-      match_then Soft here _ _ (λ vs by. by _ target vs) (λ vs by. by _ target vs)
+  call_matches target args args' h line = match_then Soft here _ _ (λ vs by. by _ target vs) (λ vs by. by _ target vs)
       (match_computed Soft here line _ _ h) (λ vs. match_call Soft here target vs)
 
   module _ (ar br : Arith) (arith : ArithKeeps Soft ar br) (structs : List TypedStruct) (params : ℕ) where
@@ -76,9 +72,8 @@ module _ (Soft : Cause → Type 0) (here : Here) where
 
     called_matches : (c : TypedCall) (line : ℕ) → Match Soft here (λ by. call here by c.target (args_by ar c) line)
         (λ by. call here by c.target (args_by br c) line)
-    called_matches c line =
-        call_matches c.target (args_by ar c) (args_by br c) (values_keep Soft ar br arith structs here params c.args)
-        line
+    called_matches c line = call_matches c.target (args_by ar c) (args_by br c)
+        (values_keep Soft ar br arith structs here params c.args) line
 
     assign_call_matches : (place : TypedExpr) (c : TypedCall) (line : ℕ) →
         ActsMatch (λ by. assign_call here by (ways ar structs here params place) c.target (args_by ar c) line)
@@ -90,13 +85,11 @@ module _ (Soft : Cause → Type 0) (here : Here) where
 
     call_alone_matches : (c : TypedCall) (line : ℕ) → ActsMatch (λ by. call_alone here by c.target (args_by ar c) line)
         (λ by. call_alone here by c.target (args_by br c) line)
-    call_alone_matches c line a =
-        match_then Soft here _ _ (λ result by. leave Next a) (λ result by. leave Next a) (called_matches c line)
-        (λ result. leave_matches Next a)
+    call_alone_matches c line a = match_then Soft here _ _ (λ result by. leave Next a) (λ result by. leave Next a)
+        (called_matches c line) (λ result. leave_matches Next a)
 
-    simple_matches : (k : TypedSimpleKind) (line : ℕ) →
-        ActsMatch (λ by. simple_does ar structs here params by k line) (λ by. simple_does br structs here params by k
-        line)
+    simple_matches : (k : TypedSimpleKind) (line : ℕ) → ActsMatch (λ by. simple_does ar structs here params by k line)
+        (λ by. simple_does br structs here params by k line)
     simple_matches (simple.Assign place e) line = assign_matches _ _ _ _ (way_matches place) (way_matches e) line
     simple_matches (simple.AssignCall place c) line = assign_call_matches place c line
     simple_matches (simple.Call c) line = call_alone_matches c line
@@ -121,15 +114,12 @@ module _ (Soft : Cause → Type 0) (here : Here) where
     tested arith cond line by = test here (ways arith structs here params cond) line
 
     looped : (cond : TypedExpr) (line : ℕ) (block : List TypedStmt) → Each Both block → (f g : Calls → Acts) →
-        ActsMatch f g →
-        ActsMatch (λ by. loop (test here (ways ar structs here params cond) line)
-        (block_does ar structs here params by block) (f by))
-        (λ by. loop (test here (ways br structs here params cond) line) (block_does br structs here params by block)
-        (g by))
-    looped cond line block h f g next =
-        match_loop Soft here (tested ar cond line) (tested br cond line) (λ by. block_does ar structs here params by
-        block) (λ by. block_does br structs here params by block) f g (test_matches _ _ (way_matches cond) line)
-        (inner block h) next
+        ActsMatch f g → ActsMatch (λ by. loop (test here (ways ar structs here params cond) line)
+        (block_does ar structs here params by block) (f by)) (λ by. loop
+        (test here (ways br structs here params cond) line) (block_does br structs here params by block) (g by))
+    looped cond line block h f g next = match_loop Soft here (tested ar cond line) (tested br cond line)
+        (λ by. block_does ar structs here params by block) (λ by. block_does br structs here params by block) f g
+        (test_matches _ _ (way_matches cond) line) (inner block h) next
 
     layer_matches : (line : ℕ) (k : TypedStmtKind-F TypedStmtKind TypedStmt) → Inside Both k →
         ActsMatch (layered ar k line) (layered br k line)
@@ -137,26 +127,22 @@ module _ (Soft : Cause → Type 0) (here : Here) where
     layer_matches line (layer.Assign place e) h a = assign_matches _ _ _ _ (way_matches place) (way_matches e) line a
     layer_matches line (layer.AssignCall place c) h a = assign_call_matches place c line a
     layer_matches line (layer.Call c) h a = call_alone_matches c line a
-    layer_matches line (layer.If cond x y) h a =
-        match_then Soft here _ _
+    layer_matches line (layer.If cond x y) h a = match_then Soft here _ _
         (λ v by s. choose v (block_does ar structs here params by x a s) (block_does ar structs here params by y a s))
         (λ v by s. choose v (block_does br structs here params by x a s) _)
         (given_matches _ _ _ (way_matches cond) line) (λ v. choose_matches v _ _ _ _ (inner x h.0 a) (inner y h.1 a))
     layer_matches line (layer.While cond x) h a =
         looped cond line x h (λ by. leave Next) (λ by. leave Next) (leave_matches Next) a
-    layer_matches line (layer.For first cond next x) h a =
-        match_follow Soft here in_order (λ by. part_does ar structs here params by first a)
-        (λ by. part_does br structs here params by first a) _ _ (part_matches first a)
-        (looped cond line x h _ _ (part_matches next))
+    layer_matches line (layer.For first cond next x) h a = match_follow Soft here in_order
+        (λ by. part_does ar structs here params by first a) (λ by. part_does br structs here params by first a) _ _
+        (part_matches first a) (looped cond line x h _ _ (part_matches next))
     layer_matches line layer.Break h a = leave_matches Break a
     layer_matches line layer.Continue h a = leave_matches Continue a
     layer_matches line layer.Return h a = leave_matches (Return None) a
-    layer_matches line (layer.ReturnValue e) h a =
-        match_then Soft here _ _ (λ v by. leave (Return _) a) (λ v by. leave _ a)
-        (given_matches want.Value _ _ (way_matches e) line) (λ v. leave_matches _ a)
-    layer_matches line (layer.ReturnCall c) h a =
-        match_then Soft here _ _ (λ result by. leave (Return result) a) (λ result by. leave _ a)
-        (called_matches c line) (λ result. leave_matches (Return result) a)
+    layer_matches line (layer.ReturnValue e) h a = match_then Soft here _ _ (λ v by. leave (Return _) a)
+        (λ v by. leave _ a) (given_matches want.Value _ _ (way_matches e) line) (λ v. leave_matches _ a)
+    layer_matches line (layer.ReturnCall c) h a = match_then Soft here _ _ (λ result by. leave (Return result) a)
+        (λ result by. leave _ a) (called_matches c line) (λ result. leave_matches (Return result) a)
 
     -- a statement does what its layer does
     layer_is : (arith : Arith) (line : ℕ) (k : TypedStmtKind-F TypedStmtKind TypedStmt) →
@@ -164,18 +150,16 @@ module _ (Soft : Cause → Type 0) (here : Here) where
     layer_is arith line k = λ i by. sym (stmt_at _ _ (kind_step arith structs here params by) stmt_step line k) i
 
     stmt_matches : (stmt : TypedStmt) → Both stmt
-    stmt_matches =
-        stmt_induction Both
-        (λ line k h. subst (λ x. ActsMatch x (λ by. stmt_does br structs here params by (on_line line k)))
-        (layer_is ar line k) (subst (ActsMatch _) (layer_is br line k) (layer_matches line k h)))
+    stmt_matches = stmt_induction Both (λ line k h. subst
+        (λ x. ActsMatch x (λ by. stmt_does br structs here params by (on_line line k))) (layer_is ar line k)
+        (subst (ActsMatch _) (layer_is br line k) (layer_matches line k h)))
 
     pub block_matches : (block : List TypedStmt) →
         ActsMatch (λ by. block_does ar structs here params by block) (λ by. block_does br structs here params by block)
     block_matches block = inner block (everywhere Both stmt_matches block)
 
-    init_matches : (k : ℕ) (local : TypedLocal) (init : Option TypedExpr) →
-        ActsMatch (λ by. init_does ar structs here params k local init) (λ by. init_does br structs here params k local
-        init)
+    init_matches : (k : ℕ) (local : TypedLocal) (init : Option TypedExpr) → ActsMatch
+        (λ by. init_does ar structs here params k local init) (λ by. init_does br structs here params k local init)
     init_matches k local None = leave_matches Next
     init_matches k local (Some e) =
         let place = at_place local.ty (λ blocks. Ok (variable_at here params (Local k))) in
@@ -194,8 +178,7 @@ module _ (Soft : Cause → Type 0) (here : Here) where
 
     pub body_matches : (f : TypedFunction) →
         ActsMatch (λ by. body_does ar structs here params by f) (λ by. body_does br structs here params by f)
-    body_matches f a =
-        match_follow Soft here in_order (λ by. all_do (inits_do ar structs here params 0 f.locals) a)
+    body_matches f a = match_follow Soft here in_order (λ by. all_do (inits_do ar structs here params 0 f.locals) a)
         (λ by. all_do (inits_do br structs here params 0 f.locals) a)
         (λ by. block_does ar structs here params by f.body) (λ by. block_does br structs here params by f.body)
         (inits_match 0 f.locals a) (block_matches f.body)

@@ -120,16 +120,14 @@ module _ (library : Library) where
   module _ (obedient : Obedient library) where
     step_spends : (n : ℕ) (body : Body) → BodyGoes body → BodySpends n body → BodySpends (suc n) (run_step library body)
     step_spends n body goes spends number here s is few =
-        there (suc n) (function library _ number) s (λ f s. f.does _ here s) is (λ f found_f.
-        function_keeps library obedient here.comp number f found_f _ here (is_kept _ here)
-        (calls library body) (calls_go library body goes) (λ target args s few. calls_spend n body spends here.comp
-        target args s few) s few)
+        there (suc n) (function library _ number) s (λ f s. f.does _ here s) is (λ f found_f. function_keeps library
+        obedient here.comp number f found_f _ here (is_kept _ here) (calls library body) (calls_go library body goes)
+        (λ target args s few. calls_spend n body spends here.comp target args s few) s few)
 
     within_spends : (n : ℕ) → BodySpends n (within (run_step library) n)
     within_spends zero number here s is few = absurd (omega (arith, few))
-    within_spends (suc n) number here s is few =
-        step_spends n (within (run_step library) n) (within_goes (run_step library) (run_goes_on library obedient) n)
-        (within_spends n) number here s is few
+    within_spends (suc n) number here s is few = step_spends n (within (run_step library) n)
+        (within_goes (run_step library) (run_goes_on library obedient) n) (within_spends n) number here s is few
 
     is_spent : {V : Type 0} (n : ℕ) (o : Piece V) → Kept (fewer n) o → IsSpent o
     is_spent {V} n o h s is = (subst (λ x. Kept (fewer n) x) is h).after
@@ -148,8 +146,7 @@ module _ (library : Library) where
 
     stops : (globals : Memory) (inputs : List ℕ) (turns : ℕ) (o : Piece (Option Value)) →
         main_call library globals inputs turns ≡ o → Kept (fewer (suc turns)) o →
-        (run_to main o).behaviour.end ≡ TurnsOut →
-        StopsSpent library globals inputs turns
+        (run_to main o).behaviour.end ≡ TurnsOut → StopsSpent library globals inputs turns
     stops globals inputs turns (Reached v s) is h ends = absurd (cc)
     stops globals inputs turns (Stopped Ended s) is h ends = absurd (cc)
     stops globals inputs turns (Stopped (Blamed comp cause line) s) is h ends = absurd (cc)
