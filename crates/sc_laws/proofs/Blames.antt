@@ -10,7 +10,7 @@ use Rattle.sc_laws.proofs.Common.{true, turn, turn_of, within, zero, ℕ, ◌<�
 use Rattle.sc_event.specs.declared.row.Action.TheVariants as act
 use Rattle.sc_laws.proofs.Growing.{BodyGoes, calls_go, within_goes}
 use Rattle.sc_laws.proofs.Matching.{scripted_goes_on}
-use Rattle.sc_laws.proofs.Keeping.{IsKept, function_keeps}
+use Rattle.sc_laws.proofs.Keeping.{IsKept, scripted_keeps}
 
 -- that a compartment may be blamed
 module _ (Fair : ℕ → Type 0) where
@@ -59,63 +59,14 @@ module _ (Fair : ℕ → Type 0) where
     called_spares from Input args s = record { after = tt }
     called_spares from Output args s = record { after = tt }
 
-    calls_spare : (from : ℕ) → Fair from → (target : CallTarget) (args : List Value) (s : State) →
-        Kept sparing (calls library body from target args s)
-    calls_spare from clear target args s = by _ where
-      by : (b : Bool) →
-          Kept sparing (if b then called library body from target args s else Stopped (Blamed from BadType 0) s)
-      by true = called_spares from target args s
-      by false = record { after = clear }
-
-    asks_spare : (comp : ℕ) (target : CallTarget) (args : List Value) (s : State) →
-        Kept sparing (asks library body comp target args s)
-    asks_spare comp target args s = by _ where
-      by : (b : Bool) →
-          Kept sparing (if b then (if b then called library body comp target args s else Stopped (Blamed comp BadType 0)
-          s) else Stopped TurnsOut s)
-      by true = called_spares comp target args s
-      by false = record { after = tt }
-
-    run_step_spares : Obedient library → BodyGoes body → (number : ℕ) (here : Here) (s : State) →
-        ((f : Function) → function library here.comp number ≡ Some f → Fair here.comp) →
-        Kept sparing (run_step library body number here s)
-    run_step_spares obedient goes number here s fair =
-        found_kept sparing (function library _ number) s (λ f s. f.does _ here s) tt (λ f is.
-        function_keeps library obedient _ number f is sparing here (is_kept here (fair f is)) _
-        (calls_go library body goes) (λ target args s h. calls_spare _ (fair f is) target args s) s tt)
-
-    acts_spare : (action : Action) (next again : State → Piece (Option Value)) → ((s : State) → Kept sparing (next s)) →
-        ((s : State) → Kept sparing (again s)) → (comp : ℕ) (s : State) →
-        Kept sparing (acts library body action next again comp s)
-    acts_spare (act.Call to index args) next again n a comp s =
-        then_kept sparing (asks library body comp (Cross to index) (map _ args) s)
-        _ (asks_spare comp (Cross to index) (map _ args) s) (λ v s h. a s)
-    acts_spare (act.Ret v) next again n a comp s = record { after = tt }
-    acts_spare (act.Out w) next again n a comp s = then_kept sparing (asks library body comp Output (Word w ∷ []) s) _
-        (asks_spare comp Output (Word w ∷ []) s) (λ v s h. n s)
-    acts_spare (act.In w) next again n a comp s =
-        then_kept sparing (asks library body comp Input [] s) _ (asks_spare comp Input [] s) (λ v s h. n s)
-    acts_spare (act.End w) next again n a comp s = record { after = tt }
-
-    performs_spare : (rows : List Row) → BodySpares (performs library body rows)
-    performs_spare [] number here s = record { after = tt }
-    performs_spare (row ∷ rest) number here s = by (performs_spare rest number here) _ where
-      by : ((s : State) → Kept sparing (performs library body rest number here s)) → (b : Bool) →
-          Kept sparing (if b then acts library body row.action (performs library body rest number here)
-          (body number here) here.comp s else Stopped TurnsOut s)
-      by next true = acts_spare _ _ _ next (spares number here) _ s
-      by next false = record { after = tt }
-
   module _ (library : Library) (obedient : Obedient library) (roles : Roles) (fair : (comp number : ℕ) (f : Function) →
       roles.scripted comp ≡ false → function library comp number ≡ Some f → Fair comp) where
     step_spares : (body : Body) → BodyGoes body → BodySpares body →
         BodySpares (scripted_step library roles (run_step library) body)
-    step_spares body goes spares number here s = by (roles.scripted _) refl where
-      by : (b : Bool) → roles.scripted here.comp ≡ b → Kept sparing (if b then performs library body
-          (rows_left roles here.comp s.trace) number here s else run_step library body number here s)
-      by true is = performs_spare library body spares _ number here s
-      by false is = run_step_spares library body spares obedient goes number here s
-          (λ f found_f. fair here.comp number f is found_f)
+    step_spares body goes spares number here s = scripted_keeps sparing library body here
+        (λ target args s may h. called_spares library body spares here.comp target args s) number (λ s h. tt)
+        (λ s h. spares number here s) roles obedient goes
+        (λ plain f found_f. is_kept here (fair here.comp number f plain found_f)) s tt
 
     within_spares : (n : ℕ) → BodySpares (within (scripted_step library roles (run_step library)) n)
     within_spares zero number here s = record { after = tt }

@@ -82,6 +82,11 @@ pub then_from : {V W : Type 0} (o : Piece V) (k : V → State → Piece W) → (
 then_from (Reached v s) k h = (h v s).grown
 then_from (Stopped end s) k h = same s
 
+-- what was told before a piece is told before what follows it
+pub then_front : {V W : Type 0} (u : List Event) (o : Piece V) (k : V → State → Piece W) → ((v : V) → Goes (k v)) →
+    Front u (last o).trace → Front u (last (and_then o k)).trace
+then_front u o k goes front = front_more u (last o).trace _ front (then_from o k goes).events
+
 pub then_goes : {V W : Type 0} (s : State) (o : Piece V) (k : V → State → Piece W) → Gone s o → ((v : V) → Goes (k v)) →
     Gone s (and_then o k)
 then_goes s (Reached v t) k g h = earlier s t _ g.grown (h v t)

@@ -143,11 +143,14 @@ module _ {A : Type 0} (here : Here) where
         (λ left t up. take_same _ s f g h _ t up) ∙ sym (played_bind tree _ by here s)
 
 -- PLAYS
+-- what lasts a turn lasts however many
+from_one : (P : ℕ → Type 0) → P zero → ((n : ℕ) → P (suc n)) → (n : ℕ) → P n
+from_one P none some zero = none
+from_one P none some (suc n) = some n
+
 pub plays_reached : {V : Type 0} (here : Here) (v : V) → Plays here (λ by. Reached v) (λ n. Gives v)
-plays_reached here v = record { lasts = lasts; is = λ n by goes s few. refl } where
-  lasts : (n : ℕ) → Lasts n (Gives v)
-  lasts zero = tt
-  lasts _ = tt
+plays_reached here v =
+    record { lasts = from_one (λ n. Lasts n (Gives v)) tt (λ n. tt); is = λ n by goes s few. refl }
 
 pub plays_then : {V W : Type 0} (here : Here) (f : Doing V) (k : V → Doing W) (tree : ℕ → Interaction V) (next : V → ℕ →
     Interaction W) → Plays here f tree → ((v : V) → Plays here (k v) (next v)) →
@@ -166,15 +169,15 @@ of_result line (Err cause) = Blames cause line
 
 pub plays_computed : {V : Type 0} (here : Here) (line : ℕ) (e : Blocks → Result V Cause) → Plays here
     (λ by s. computed here line (e (s.memory here.comp)) s) (λ n. Reads (λ blocks. of_result line (e blocks)))
-plays_computed {V} here line e = record { lasts = lasts; is = λ n by goes s few. is (e (s.memory _)) by s } where
+plays_computed {V} here line e = record {
+  lasts = from_one (λ n. Lasts n (Reads (λ blocks. of_result line (e blocks)))) tt
+      (λ n blocks. lasts_result (suc n) (e blocks));
+  is = λ n by goes s few. is (e (s.memory _)) by s;
+} where
   lasts_result : (n : ℕ) (r : Result V Cause) → Lasts n (of_result line r)
   lasts_result zero r = tt
   lasts_result _ (Ok v) = tt
   lasts_result _ (Err cause) = tt
-
-  lasts : (n : ℕ) → Lasts n (Reads (λ blocks. of_result line (e blocks)))
-  lasts zero = tt
-  lasts (suc n) = λ blocks. lasts_result (suc n) _
 
   is : (r : Result V Cause) (by : Calls) (s : State) → computed here line r s ≡ played (of_result line r) by here s
   is (Ok v) by s = refl
@@ -182,17 +185,15 @@ plays_computed {V} here line e = record { lasts = lasts; is = λ n by goes s few
 
 pub plays_stored : {V : Type 0} (here : Here) (v : V) (blocks : Blocks) →
     Plays here (λ by s. Reached v (with_memory here.comp blocks s)) (λ n. Stores blocks (Gives v))
-plays_stored {V} here v blocks = record { lasts = lasts; is = λ n by goes s few. refl } where
-  lasts : (n : ℕ) → Lasts n (Stores blocks (Gives v))
-  lasts zero = tt
-  lasts _ = tt
+plays_stored {V} here v blocks =
+    record { lasts = from_one (λ n. Lasts n (Stores blocks (Gives v))) tt (λ n. tt); is = λ n by goes s few. refl }
 
 pub plays_call : (here : Here) (target : CallTarget) (args : List Value) →
     Plays here (λ by. by here.comp target args) (λ n. Asks target args (λ v. Gives v))
-plays_call here target args = record { lasts = lasts; is = λ n by goes s few. then_reached _ } where
-  lasts : (n : ℕ) → Lasts n (Asks target args (λ v. Gives v))
-  lasts zero = tt
-  lasts _ = λ v. tt
+plays_call here target args = record {
+  lasts = from_one (λ n. Lasts n (Asks target args (λ v. Gives v))) tt (λ n v. tt);
+  is = λ n by goes s few. then_reached _;
+}
 
 -- doings with what a run carries
 abbrev pub DoingWith : Type 0 → Type 0

@@ -15,16 +15,11 @@ use Rattle.sc_laws.proofs.Common.{◌==◌, ◌∙◌, ◌∷◌, ◌≡◌}
 use Rattle.sc_event.specs.declared.row.Action.TheVariants as act
 use Rattle.sc_laws.proofs.Growing.{BodyGoes, StepGoes, calls_go, within_goes}
 use Rattle.sc_laws.proofs.Matching.{run_goes_on, scripted_goes_on}
-use Rattle.sc_laws.proofs.Keeping.{IsKept, function_keeps}
+use Rattle.sc_laws.proofs.Keeping.{IsKept, run_step_keeps, scripted_keeps, then_other}
+use Rattle.sc_laws.proofs.Rows.{stands_last}
 use Rattle.sc_laws.proofs.Runs.{trace_is}
 
 module _ (interfaces : Interfaces) where
-  behind_more : (at : Option Standing) (t : List Event) (st : Standing) (e : Event) → stands_behind at t ≡ Some st →
-      stands_behind at (t ++ e ∷ []) ≡ stands_after st e
-  behind_more at [] st e h = ap (λ x. stands_behind x (e ∷ [])) h
-  behind_more None (x ∷ t) st e h = cc h
-  behind_more (Some a) (x ∷ t) st e h = behind_more _ t st e h
-
   legal_more : (at : Option Standing) (t : List Event) (st : Standing) (e : Event) → stands_behind at t ≡ Some st →
       is_legal_from interfaces at t ≡ true → is_allowed interfaces st e ≡ true →
       is_legal_from interfaces at (t ++ e ∷ []) ≡ true
@@ -56,7 +51,7 @@ module _ (interfaces : Interfaces) where
       stands_after st e ≡ Some next → IsAt (t ++ e ∷ []) next
   told_at t st next e h may then_at =
       record {
-        stands = behind_more _ t st e h.stands ∙ then_at;
+        stands = stands_last _ t e st h.stands ∙ then_at;
         is_legal = legal_more _ t st e h.stands h.is_legal may;
       }
 
@@ -75,13 +70,6 @@ module _ (interfaces : Interfaces) where
         turned = λ s h. turned_at st s.turns s h;
         blamed = λ s cause line h. (h.is_legal, tt);
       }
-
-  -- a piece that stands elsewhere, and back
-  then_at : {X Y : Type 0} (inner outer : Standing) (piece : Piece X) (go : X → State → Piece Y) →
-      Kept (standing inner) piece → ((v : X) (s : State) → IsAt s.trace inner → Kept (standing outer) (go v s)) →
-      Kept (standing outer) (and_then piece go)
-  then_at inner outer (Reached v s) go h k = k v s h.after
-  then_at inner outer (Stopped end s) go h k = record { after = h.after }
 
   abbrev BodyLegal : Body → Type 0
   BodyLegal body = (number : ℕ) (here : Here) (s : State) (st : Standing) → here.comp ≡ st.active.comp →
@@ -108,7 +96,7 @@ module _ (interfaces : Interfaces) where
     run_at inner outer comp number args back is b s h =
         found_kept (standing outer) (function library comp number) s (λ f s.
         and_then (body number _ _) _) (h.is_legal, tt) (λ f found_f.
-        then_at inner outer (body number _ _) (λ v t. back v _)
+        then_other (standing inner) (standing outer) (body number _ _) (λ v t. back v _) (λ end s h. h)
         (legal_body number (record { comp = comp; first = length _ }) (begun comp f args s) inner is h)
         (λ v t g. b v _ g))
 
@@ -189,69 +177,21 @@ module _ (interfaces : Interfaces) where
     called_at st from Input args s is may h = record { after = environment_at st from _ s is may refl h }
     called_at st from Output args s is may h = record { after = environment_at st from _ s is may refl h }
 
-    pub calls_at : (st : Standing) (from : ℕ) (target : CallTarget) (args : List Value) (s : State) →
-        from ≡ st.active.comp → IsAt s.trace st → Kept (standing st) (calls library body from target args s)
-    calls_at st from target args s is h = by_test _ refl where
-      by_test : (b : Bool) → may_call library from target args ≡ b →
-          Kept (standing st) (if b then called library body from target args s else Stopped (Blamed from BadType 0) s)
-      by_test true may = called_at st from target args s is (allowed from target args may) h
-      by_test false may = record { after = (h.is_legal, tt) }
-
-    asks_at : (st : Standing) (comp : ℕ) (target : CallTarget) (args : List Value) (s : State) → comp ≡ st.active.comp →
-        IsAt s.trace st → Kept (standing st) (asks library body comp target args s)
-    asks_at st comp target args s is h = by_test _ where
-      by_test : (b : Bool) →
-          Kept (standing st) (if b then calls library body comp target args s else Stopped TurnsOut s)
-      by_test true = calls_at st comp target args s is h
-      by_test false = record { after = (h.is_legal, tt) }
-
   module _ (library : Library) (same : library.interfaces ≡ interfaces) (obedient : Obedient library) where
     abbrev StepLegal : Step → Type 0
     StepLegal step = (body : Body) → BodyGoes body → BodyLegal body → BodyLegal (step body)
 
     pub run_step_legal : StepLegal (run_step library)
-    run_step_legal body goes legal_body number here s st is h =
-        found_kept (standing st) (function library here.comp number) s (λ f s. f.does (calls library body) here s)
-        (h.is_legal, tt) (λ f found_f. function_keeps library obedient here.comp number f found_f _ here
-        (is_kept st here) (calls library body) (calls_go library body goes) (λ target args s h. calls_at library same
-        body legal_body st here.comp target args s is h) s h)
-
-    -- a function that performs rows
-    performs_legal : (body : Body) → BodyLegal body → (rows : List Row) → BodyLegal (performs library body rows)
-    performs_legal body legal_body [] number here s st is h = record { after = (h.is_legal, tt) }
-    performs_legal body legal_body (row ∷ rest) number here s st is h =
-        by_test (is_number number (library.entered here.comp row.entry)) (λ s h. performs_legal body legal_body rest
-        number here s st is h) where
-          by_action : (action : Action) →
-              ((s : State) → IsAt s.trace st → Kept (standing st) (performs library body rest number here s)) →
-              Kept (standing st) (acts library body action (performs library body rest number here) (body number here)
-              here.comp s)
-          by_action (act.Call to index args) next =
-              then_kept (standing st) (asks library body here.comp (Cross to index) (map (λ w. Word w) args) s)
-              (λ v s. body number here s) (asks_at library same body legal_body st here.comp (Cross to index)
-              (map (λ w. Word w) args) s is h) (λ v s h. legal_body number here s st is h)
-          by_action (act.Ret v) next = record { after = h }
-          by_action (act.Out w) next = then_kept (standing st) (asks library body here.comp Output (Word w ∷ []) s)
-              (λ v s. performs library body rest number here s)
-              (asks_at library same body legal_body st here.comp Output (Word w ∷ []) s is h) (λ v s h. next s h)
-          by_action (act.In w) next =
-              then_kept (standing st) (asks library body here.comp Input [] s) (λ v s. performs library body rest number
-              here s) (asks_at library same body legal_body st here.comp Input [] s is h) (λ v s h. next s h)
-          by_action (act.End w) next = record { after = h }
-
-          by_test : (b : Bool) →
-              ((s : State) → IsAt s.trace st → Kept (standing st) (performs library body rest number here s)) →
-              Kept (standing st) (if b then acts library body row.action (performs library body rest number here)
-              (body number here) here.comp s else Stopped TurnsOut s)
-          by_test true next = by_action row.action next
-          by_test false next = record { after = (h.is_legal, tt) }
+    run_step_legal body goes legal_body number here s st is h = run_step_keeps (standing st) library body here
+        (λ target args s may h. called_at library same body legal_body st here.comp target args s is
+        (allowed library same body legal_body here.comp target args may) h) number (λ s h. (h.is_legal, tt)) obedient goes
+        (λ f found_f. is_kept st here) s h
 
     pub scripted_legal : (roles : Roles) → StepLegal (scripted_step library roles (run_step library))
-    scripted_legal roles body goes legal_body number here s st is h = by_role _ where
-      by_role : (b : Bool) → Kept (standing st) (if b then performs library body (rows_left roles here.comp s.trace)
-          number here s else run_step library body number here s)
-      by_role true = performs_legal body legal_body _ number here s st is h
-      by_role false = run_step_legal body goes legal_body number here s st is h
+    scripted_legal roles body goes legal_body number here s st is h = scripted_keeps (standing st) library body here
+        (λ target args s may h. called_at library same body legal_body st here.comp target args s is
+        (allowed library same body legal_body here.comp target args may) h) number (λ s h. (h.is_legal, tt))
+        (λ s h. legal_body number here s st is h) roles obedient goes (λ plain f found_f. is_kept st here) s h
 
     within_legal : (step : Step) → StepGoes step → StepLegal step → (n : ℕ) → BodyLegal (within step n)
     within_legal step step_goes legal_step zero number here s st is h = record { after = (h.is_legal, tt) }

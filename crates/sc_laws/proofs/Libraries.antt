@@ -52,9 +52,6 @@ module _ (P : State → State → Type 0) (R : (V : Type 0) → Piece V → Piec
     pub function_twins : (comp number : ℕ) → Meets FunctionTwins (function L comp number) (function M comp number)
     function_twins = twins.functions
 
-    pub entered_same : (comp : ℕ) (entry : Entry) → M.entered comp entry ≡ L.entered comp entry
-    entered_same = twins.entered
-
     some_same : (f g : Option Function) → Meets FunctionTwins f g → is_some g ≡ is_some f
     some_same None None h = refl
     some_same None (Some g) h = absurd h

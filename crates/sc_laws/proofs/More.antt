@@ -7,13 +7,13 @@ use Rattle.sc_laws.proofs.Common.{inr, le-leb, leb-true, length, library_of, lib
 use Rattle.sc_laws.proofs.Common.{roles_run, run_by, run_step, same, same_run, scripted_step, stopped_at, subst, sym}
 use Rattle.sc_laws.proofs.Common.{take, take-append-le, take_all, true, wrapping, ℕ, ◌+◌, ◌-◌, ◌<◌, ◌∙◌, ◌≡◌, ◌≤◌}
 use Rattle.sc_laws.proofs.Wrapping.{binary_fits, negated_fits}
-use Rattle.sc_laws.proofs.Growing.{front_same, StepGoes, run_step_goes, scripted_goes}
+use Rattle.sc_laws.proofs.Growing.{front_same, front_no_longer, StepGoes, run_step_goes, scripted_goes}
 use Rattle.sc_laws.proofs.Expressions.{ArithKeeps}
 use Rattle.sc_laws.proofs.Matching.{first_goes, second_goes, run_goes_on, scripted_goes_on}
 use Rattle.sc_laws.proofs.Programs.{program_matches}
 use Rattle.sc_laws.proofs.Below.{Passes}
 use Rattle.sc_laws.proofs.BelowCalls.{StepsBelow}
-use Rattle.sc_laws.proofs.Runs.{take_fronts, front_long, unreached, still_unreached, trace_is, RunsBelow, run_steps}
+use Rattle.sc_laws.proofs.Runs.{take_fronts, unreached, still_unreached, trace_is, RunsBelow, run_steps}
 use Rattle.sc_laws.proofs.Runs.{scripted_steps, runs_below, RunsBelow as goes}
 use Rattle.sc_laws.proofs.Rooms.{deepest_more}
 
@@ -93,12 +93,8 @@ module _ (one other : Run) (events : ℕ) where
   reached_too : (end : RunEnd) → Front x.trace y.trace → (end ≡ Ended → length x.trace < length y.trace) →
       events ≤ length x.trace → reaches events y end ≡ true
   reached_too Ended front ended le = (let longer = ended refl in lt-ltb events _ (omega (arith, le, longer)))
-  reached_too (Blamed comp cause line) front ended le =
-      (let long = front_long x.trace y.trace front in le-leb events _ (omega (arith, le, long)))
-  reached_too TurnsOut front ended le =
-      (let long = front_long x.trace y.trace front in le-leb events _ (omega (arith, le, long)))
-  reached_too EventsOut front ended le =
-      (let long = front_long x.trace y.trace front in le-leb events _ (omega (arith, le, long)))
+  reached_too _ front ended le =
+      (let long = front_no_longer x.trace y.trace front in le-leb events _ (omega (arith, le, long)))
 
   took_same : Front x.trace y.trace → events ≤ length x.trace → take events y.trace ≡ take events x.trace
   took_same front le = ap (take events) front.is ∙ take-append-le events x.trace front.more le

@@ -3,7 +3,8 @@ use Rattle.sc_laws.proofs.Common.{Bool, Event, Front, List, None, Option, Row, S
 use Rattle.sc_laws.proofs.Common.{append_assoc, at_start, count_of, drop, eq-eqb, false, filter, if◌then◌else◌, inl}
 use Rattle.sc_laws.proofs.Common.{inr, length, part, performer, refl, rows_from, stands_after, stands_behind, subst}
 use Rattle.sc_laws.proofs.Common.{suc, sym, true, zero, ℕ, ◌++◌, ◌==◌, ◌∙◌, ◌∷◌, ◌≡◌, ◌⊎◌}
-use Rattle.sc_laws.proofs.Growing.{front_more}
+use Rattle.sc_laws.proofs.Growing.{front_more, then_from}
+use Rattle.sc_laws.proofs.Common.{Goes, Piece, State, and_then, last}
 
 -- STANDING
 pub stands_last : (at : Option Standing) (u : List Event) (e : Event) (st : Standing) → stands_behind at u ≡ Some st →
@@ -119,6 +120,10 @@ InLine t u = Front u t ⊎ Front t u
 pub in_line_before : (t u v : List Event) → Front u v → InLine t v → InLine t u
 in_line_before t u v front (inl along) = inl (front_more u v t front along)
 in_line_before t u v front (inr along) = fronts_meet u t front.more along.more (sym front.is ∙ along.is)
+
+pub then_along : {V W : Type 0} (t : List Event) (o : Piece V) (k : V → State → Piece W) → ((v : V) → Goes (k v)) →
+    InLine t (last (and_then o k)).trace → InLine t (last o).trace
+then_along t o k goes = in_line_before t (last o).trace _ (then_from o k goes).events
 
 -- what a trace is where a run that kept to it tells one event more: it ends there, or has that event next
 pub data NextIs (t u : List Event) (e : Event) : Type 0 where

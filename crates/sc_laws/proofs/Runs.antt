@@ -6,7 +6,8 @@ use Rattle.sc_laws.proofs.Common.{[], and_then, ap, arith, call_own, exit_word, 
 use Rattle.sc_laws.proofs.Common.{if◌then◌else◌, last, le-ltb, leb-false, length, length-append, lt-leb, ltb-false}
 use Rattle.sc_laws.proofs.Common.{reaches, refl, run_by, run_step, run_to, scripted_step, stopped_at, subst, suc, sym}
 use Rattle.sc_laws.proofs.Common.{take, take_all, true, within, zero, ℕ, ◌++◌, ◌+◌, ◌<◌, ◌∙◌, ◌∷◌, ◌≡◌, ◌≤◌, ◌⊎◌}
-use Rattle.sc_laws.proofs.Growing.{front_more, StepGoes, then_goes, found_goes, own_goes, within_goes}
+use Rattle.sc_laws.proofs.Growing.{front_more, front_no_longer, StepGoes, then_goes, found_goes, own_goes, within_goes}
+pub use Rattle.sc_laws.proofs.Growing.{front_no_longer as front_long}
 use Rattle.sc_laws.proofs.Libraries.{Anywhere}
 use Rattle.sc_laws.proofs.Matching.{library_twins}
 use Rattle.sc_laws.proofs.Below.{richer, richer_piece, Passes, Below, along, passed, below_kept, below_at}
@@ -26,9 +27,6 @@ pub take_fronts : {A : Type 0} (n m : ℕ) (xs ys : List A) → n ≤ m → Fron
 take_fronts n m xs ys le front =
     subst (λ z. Front (take n xs) (take m z)) (sym front.is) (take_front n m xs front.more le)
 
-pub front_long : {A : Type 0} (xs ys : List A) → Front xs ys → length xs ≤ length ys
-front_long xs ys front = let long = ap length front.is ∙ length-append xs front.more in omega (arith, long)
-
 -- RUNS THAT ARE STOPPED
 at_most : {n m : ℕ} → n < m → n ≤ m
 at_most less = omega (arith, less)
@@ -36,9 +34,7 @@ at_most less = omega (arith, less)
 pub unreached : (events : ℕ) (run : SourceRun) (end : RunEnd) → reaches events run end ≡ false →
     length run.trace ≤ events
 unreached events run Ended below = ltb-false events _ below
-unreached events run (Blamed comp cause line) below = at_most (leb-false events _ below)
-unreached events run TurnsOut below = at_most (leb-false events _ below)
-unreached events run EventsOut below = at_most (leb-false events _ below)
+unreached events run _ below = at_most (leb-false events _ below)
 
 pub trace_is : (events : ℕ) (run : SourceRun) → (stopped_at events run).trace ≡ take events run.trace
 trace_is events run = by_test _ refl where
@@ -51,17 +47,8 @@ trace_is events run = by_test _ refl where
 pub still_unreached : (events more_events : ℕ) (run : SourceRun) (end : RunEnd) → events ≤ more_events →
     reaches events run end ≡ false → reaches more_events run end ≡ false
 still_unreached events more_events run Ended le is =
-    (let few = ltb-false events _ is in
-    le-ltb _ _ (omega (arith, few, le)))
-still_unreached events more_events run (Blamed comp cause line) le is =
-    (let few = leb-false events _ is in
-    lt-leb _ _ (omega (arith, few, le)))
-still_unreached events more_events run TurnsOut le is =
-    (let few = leb-false events _ is in
-    lt-leb _ _ (omega (arith, few, le)))
-still_unreached events more_events run EventsOut le is =
-    (let few = leb-false events _ is in
-    lt-leb _ _ (omega (arith, few, le)))
+    (let few = ltb-false events _ is in le-ltb _ _ (omega (arith, few, le)))
+still_unreached events more_events run _ le is = (let few = leb-false events _ is in lt-leb _ _ (omega (arith, few, le)))
 
 -- the frames of a run are those of its last state
 pub frames_are : (main : ℕ) (p : Piece (Option Value)) → (run_to main p).frames ≡ (last p).frames
@@ -87,7 +74,7 @@ module _ (d : ℕ) (Soft : Cause → Type 0) (Turns : Type 0) where
       Front trace (run_to main p).behaviour.trace × ((run_to main p).behaviour.end ≡ Ended →
       length trace < length (run_to main p).behaviour.trace)
   past main trace (Reached v s) stop front =
-      let long : length trace ≤ length s.trace = front_long trace s.trace front in
+      let long : length trace ≤ length s.trace = front_no_longer trace s.trace front in
       let one : length (s.trace ++ End main (exit_word v) ∷ []) ≡ length s.trace + 1 =
       length-append s.trace (End main (exit_word v) ∷ []) in (
         front_more trace s.trace (s.trace ++ End main (exit_word v) ∷ []) front

@@ -14,7 +14,8 @@ use Rattle.sc_laws.proofs.Common.{stands_after, stands_behind, subst, suc, sym, 
 use Rattle.sc_laws.proofs.Common.{within, zero, ℕ, ◌++◌, ◌<◌, ◌∙◌, ◌∷◌, ◌≡◌}
 use Rattle.sc_event.specs.declared.row.Action.TheVariants as act
 use Rattle.sc_laws.proofs.Growing.{BodyGoes, calls_go, within_goes}
-use Rattle.sc_laws.proofs.Keeping.{IsKept, function_keeps}
+use Rattle.sc_laws.proofs.Keeping.{IsKept, calls_keep, function_keeps, then_other}
+use Rattle.sc_laws.proofs.Common.{asks}
 use Rattle.sc_laws.proofs.Matching.{scripted_goes_on}
 use Rattle.sc_laws.proofs.Rows.{Next, counts_its_own, row_of_next, stands_last}
 
@@ -91,13 +92,6 @@ module _ (main : ℕ) (trace : List Event) where
   there K None s go is h = absurd (cc)
   there K (Some v) s go is h = h v refl
 
-  -- a piece that stands elsewhere, and back
-  then_at : {X Y : Type 0} (n : ℕ) (inner outer : Standing) (piece : Piece X) (go : X → State → Piece Y) →
-      Kept (standing n inner) piece → ((v : X) (s : State) → At n inner s → Kept (standing n outer) (go v s)) →
-      Kept (standing n outer) (and_then piece go)
-  then_at n inner outer (Reached v s) go h k = k v s h.after
-  then_at n inner outer (Stopped end s) go h k = record { after = h.after }
-
   told : (n : ℕ) (st next : Standing) (s : State) (e : Event) → At n st s → stands_after st e ≡ Some next →
       At n next (tell e s)
   told n st next s e at then_on = record { few = at.few; stands = stands_last _ s.trace e st at.stands ∙ then_on }
@@ -130,8 +124,8 @@ module _ (library : Library) (leads_on : ExportsLead library) (trace : List Even
         ((v : Option Value) (s : State) → At main trace n inner s → Kept (Kind n outer) (back v s)) → (s : State) →
         At main trace n inner s → Kept (Kind n outer) (run_in library body comp number args back s)
     run_along inner outer comp number args back here is entered b s at =
-        there main trace (Kind n outer) _ s _ is (λ f found_f. then_at main trace n inner outer
-        (body number _ (begun comp f args s)) _ (along number _ _ inner here is
+        there main trace (Kind n outer) _ s _ is (λ f found_f. then_other (Kind n inner) (Kind n outer)
+        (body number _ (begun comp f args s)) _ (λ end s h. h) (along number _ _ inner here is
         entered (record { few = at.few; stands = at.stands }))
         (λ v t at. b v (done comp f _ t) (record { few = at.few; stands = at.stands })))
 
@@ -190,15 +184,6 @@ module _ (library : Library) (leads_on : ExportsLead library) (trace : List Even
     called_along st from Input args s here plain may at =
         record { after = told main trace _ st st _ _ (record { few = at.few; stands = at.stands }) refl }
     called_along st from Output args s here plain may at = record { after = told main trace _ st st s _ at refl }
-
-    calls_along : (st : Standing) (from : ℕ) (target : CallTarget) (args : List Value) (s : State) →
-        from ≡ st.active.comp → set from ≡ false → At main trace (suc n) st s →
-        Kept (Kind (suc n) st) (calls library body from target args s)
-    calls_along st from target args s here plain at = by _ refl where
-      by : (b : Bool) → may_call library from target args ≡ b → Kept (Kind (suc n) st)
-          (if b then called library body from target args s else Stopped (Blamed from BadType 0) s)
-      by true may = called_along st from target args s here plain may at
-      by false may = record { after = tt }
 
     -- OF COMPARTMENTS THAT PERFORM
     -- what is asked for may be called
@@ -270,47 +255,32 @@ module _ (library : Library) (leads_on : ExportsLead library) (trace : List Even
       rows_then e own = left_behind (count_of _ s.trace) (part main _ trace) row rest rows
           ∙ ap (λ k. drop k (part main here.comp trace)) (sym (counts_its_own _ s.trace e own))
 
-      call_along : (to index : ℕ) (args : List ℕ) → row.action ≡ act.Call to index args → (b : Bool) →
-          may_call library here.comp (Cross to index) (map (λ w. Word w) args) ≡ b → Kept (Kind (suc n) st) (and_then
-          (if b then (if b then called library body here.comp (Cross to index) (map (λ w. Word w) args) s else Stopped
-          (Blamed here.comp BadType 0) s) else Stopped TurnsOut s) (λ v s. body number here s))
-      call_along to index args its true may =
-          let call = called library body here.comp (Cross to index) (map _ args) s in
-          more_turns main trace n st _ (then_kept _ call _ (turned_cross st _ to index _ s (led _ to index _ may) at)
-          (λ v t at. along number here t st active is (λ performing. entered) at))
-      call_along to index args its false may = record {
-        after = λ e more along_trace.
-            let asks_well = asked _ its e more along_trace in
-            absurd (false≢true (sym may ∙ asks_well));
-      }
-
-      out_along : (w : ℕ) → row.action ≡ act.Out w → (b : Bool) → may_call library here.comp Output (Word w ∷ []) ≡ b →
-          Kept (Kind (suc n) st) (and_then (if b then
-          (if b then called library body here.comp Output (Word w ∷ []) s else Stopped (Blamed here.comp BadType 0) s)
-          else Stopped TurnsOut s) (λ v s. performs library body rest number here s))
-      out_along w its true may = next _ (rows_then _ refl) (told main trace _ st st s _ at refl)
-      out_along w its false may = record {
-        after = λ e more along_trace.
-            let asks_well = asked _ its e more along_trace in absurd (false≢true (sym may ∙ asks_well));
-      }
-
-      in_along : (w : ℕ) → row.action ≡ act.In w → (b : Bool) → may_call library here.comp Input [] ≡ b → Kept
-          (Kind (suc n) st) (and_then (if b then
-          (if b then called library body here.comp Input [] s else Stopped (Blamed here.comp BadType 0) s) else Stopped
-          TurnsOut s) (λ v s. performs library body rest number here s))
-      in_along w its true may =
-          next _ (rows_then _ refl) (told main trace _ st st _ _ (record { few = at.few; stands = at.stands }) refl)
-      in_along w its false may = record {
-        after = λ e more along_trace.
-            let asks_well = asked _ its e more along_trace in absurd (false≢true (sym may ∙ asks_well));
-      }
+      asks_along : (target : CallTarget) (args : List Value) (action : Action)
+          (k : Option Value → State → Piece (Option Value)) → row.action ≡ action →
+          (MayAsk here.comp action → may_call library here.comp target args ≡ true) →
+          (may_call library here.comp target args ≡ true →
+          Kept (Kind (suc n) st) (and_then (called library body here.comp target args s) k)) →
+          Kept (Kind (suc n) st) (and_then (asks library body here.comp target args s) k)
+      asks_along target args action k its well go = by _ refl where
+        by : (b : Bool) → may_call library here.comp target args ≡ b → Kept (Kind (suc n) st) (and_then (if b then
+            (if b then called library body here.comp target args s else Stopped (Blamed here.comp BadType 0) s) else
+            Stopped TurnsOut s) k)
+        by true may = go may
+        by false may = record {
+          after = λ e more along_trace. absurd (false≢true (sym may ∙ well (asked action its e more along_trace)));
+        }
 
       acts_along : (action : Action) → row.action ≡ action → Kept (Kind (suc n) st)
           (acts library body action (performs library body rest number here) (body number here) here.comp s)
-      acts_along (act.Call to index args) its = call_along to index args its _ refl
+      acts_along (act.Call to index args) its = asks_along (Cross to index) (map (λ w. Word w) args) _ _ its (λ h. h)
+          (λ may. more_turns main trace n st _ (then_kept _ (called library body here.comp (Cross to index) (map _ args)
+          s) _ (turned_cross st _ to index _ s (led _ to index _ may) at)
+          (λ v t at. along number here t st active is (λ performing. entered) at)))
       acts_along (act.Ret v) its = record { after = at }
-      acts_along (act.Out w) its = out_along w its _ refl
-      acts_along (act.In w) its = in_along w its _ refl
+      acts_along (act.Out w) its = asks_along Output (Word w ∷ []) _ _ its (λ h. h)
+          (λ may. next _ (rows_then _ refl) (told main trace _ st st s _ at refl))
+      acts_along (act.In w) its = asks_along Input [] _ _ its (λ h. h) (λ may. next _ (rows_then _ refl)
+          (told main trace _ st st _ _ (record { few = at.few; stands = at.stands }) refl))
       acts_along (act.End w) its = record { after = at }
 
       row_along : Kept (Kind (suc n) st) (performs library body (row ∷ rest) number here s)
@@ -350,7 +320,8 @@ module _ (library : Library) (leads_on : ExportsLead library) (trace : List Even
           (λ f s. f.does (calls library body) here s) is (λ f found_f. function_keeps library obedient here.comp number
           f found_f (Kind (suc n) st) here (is_kept main trace (suc n) st here) (calls library body)
           (calls_go library body goes)
-          (λ target args s at. calls_along n body along st here.comp target args s active plain at) s at)
+          (calls_keep (Kind (suc n) st) library body here (λ target args s may at. called_along n body along st here.comp
+          target args s active plain may at) (is_kept main trace (suc n) st here)) s at)
 
     within_along : (n : ℕ) → BodyAlong n (its_bodies n)
     within_along zero number here s st active is entered at = let few = at.few in absurd (omega (arith, few))
