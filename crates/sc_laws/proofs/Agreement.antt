@@ -10,7 +10,7 @@ use Rattle.sc_laws.proofs.Common.{performs, piece_without_line, reaches, refl, r
 use Rattle.sc_laws.proofs.Common.{scripted_step, stopped_at, subst, suc, sym, take, true, within, without_line, zero, ℕ}
 use Rattle.sc_laws.proofs.Common.{◌∙◌, ◌∷◌, ◌≡◌}
 use Rattle.sc_event.specs.declared.row.Action.TheVariants as act
-use Rattle.sc_laws.proofs.Libraries.{may_call_same}
+use Rattle.sc_laws.proofs.Twins.{may_call_same}
 
 pub itself : {V : Type 0} (o : Piece V) → PiecesAgree o o
 itself o = record { same = refl }

@@ -1,16 +1,21 @@
 -- No compartment that performs is blamed, whatever the trace is, and only compartments that there are.
-use Rattle.sc_laws.proofs.Common.{Action, BadType, Blamed, Body, Bool, Call, CallTarget, Cause, Cross, Ended, EventsOut}
-use Rattle.sc_laws.proofs.Common.{Function, Here, Input, Kept, Library, List, Main, Memory, Obedient, Option, Output}
-use Rattle.sc_laws.proofs.Common.{Own, Piece, Property, Reached, Roles, Row, RunEnd, Some, SourceRun, State, Stopped}
-use Rattle.sc_laws.proofs.Common.{TurnsOut, Value, Word, [], acts, arith, asks, back_cross, back_own, call_cross}
-use Rattle.sc_laws.proofs.Common.{call_own, called, calls, false, first_state, found_kept, function, if◌then◌else◌}
-use Rattle.sc_laws.proofs.Common.{length, map, performs, refl, roles_run, rows_left, run_by, run_in, run_step, run_to}
-use Rattle.sc_laws.proofs.Common.{scripted_step, slice_get, slice_index_or, stopped_at, subst, suc, take, then_kept}
-use Rattle.sc_laws.proofs.Common.{true, turn, turn_of, within, zero, ℕ, ◌<◌, ◌∷◌, ◌≡◌}
+use Rattle.sc_laws.proofs.Common.{Action, AreFresh, BadType, Blamed, Body, Bool, Call, CallTarget, Cause, ChainRises}
+use Rattle.sc_laws.proofs.Common.{Cross, Ended, Event, EventsOut, Function, HasChain, Here, Input, IsBlamedOutside}
+use Rattle.sc_laws.proofs.Common.{IsChain, IsRising, IsWithin, Kept, Library, Link, List, Main, Memory, Obedient}
+use Rattle.sc_laws.proofs.Common.{Option, Output, Own, PassesBlame, Piece, Property, Reached, Roles, Row, RunEnd, Set}
+use Rattle.sc_laws.proofs.Common.{Some, SourceRun, State, Stopped, TurnsOut, Value, Word, [], acts, ap, ap₂, arith}
+use Rattle.sc_laws.proofs.Common.{asks, back_cross, back_own, call_cross, call_own, called, calls, cases_eq, eq-eqb}
+use Rattle.sc_laws.proofs.Common.{eqb-true, false, first_state, found_kept, function, if◌then◌else◌, leb-false, length}
+use Rattle.sc_laws.proofs.Common.{length-append, longer, map, nat_le, ne_eqb, nobody, performed_by, performs, reaches}
+use Rattle.sc_laws.proofs.Common.{refl, roles_in, roles_run, rows_left, run_by, run_in, run_step, run_to, scripted_step}
+use Rattle.sc_laws.proofs.Common.{slice_get, slice_index_or, stopped_at, subst, suc, sym, take, then_kept, true, turn}
+use Rattle.sc_laws.proofs.Common.{turn_of, turnless, with, within, zero, ℕ, ⊎_elim, ◌++◌, ◌+◌, ◌<◌, ◌==◌, ◌||◌, ◌∙◌}
+use Rattle.sc_laws.proofs.Common.{◌∷◌, ◌≡◌, ◌≤◌, ◌⊎◌}
 use Rattle.sc_event.specs.declared.row.Action.TheVariants as act
 use Rattle.sc_laws.proofs.Growing.{BodyGoes, calls_go, within_goes}
 use Rattle.sc_laws.proofs.Matching.{scripted_goes_on}
 use Rattle.sc_laws.proofs.Keeping.{IsKept, scripted_keeps}
+use Rattle.sc_laws.proofs.FollowingRuns.{passes_blames}
 
 -- that a compartment may be blamed
 module _ (Fair : ℕ → Type 0) where
@@ -114,3 +119,150 @@ module _ (library : Library) (obedient : Obedient library) (globals : Memory) (i
           listed [] c number f is = absurd (cc)
           listed (x ∷ xs) zero number f is = omega arith
           listed (x ∷ xs) (suc c) number f is = omega (arith, listed xs c number f is)
+
+-- The links of a chain come one after another, and a chain is found.
+
+-- a run that is blamed has fewer events than were allowed
+early : (n : ℕ) (x : SourceRun) (comp : ℕ) (cause : Cause) (line : ℕ) → (stopped_at n x).end ≡ Blamed comp cause line →
+    length (stopped_at n x).trace < n
+early n x comp cause line ends = by _ refl ends where
+  few : (end : RunEnd) → end ≡ Blamed comp cause line → reaches n x end ≡ false → length x.trace < n
+  few end is stays = let test : nat_le n _ ≡ false = ap (reaches n x) (sym is) ∙ stays in leb-false n _ test
+
+  by : (b : Bool) → reaches n x x.end ≡ b → (if b then record { trace = take n x.trace; end = EventsOut } else x).end
+      ≡ Blamed comp cause line → length (if b then record { trace = take n x.trace; end = EventsOut } else x).trace < n
+  by true is ends = cc
+  by false is ends = few x.end ends is
+
+within_with : (set : Set) (comp : ℕ) → IsWithin set (with comp set)
+within_with set comp c is = ap (λ b. (c == comp) || b) is ∙ or_true (c == comp) where
+  or_true : (b : Bool) → (b || true) ≡ true
+  or_true true = refl
+  or_true false = refl
+
+with_has : (set : Set) (comp : ℕ) → with comp set comp ≡ true
+with_has set comp = ap (λ b. b || set comp) (eq-eqb comp comp refl)
+
+module _ (L : Library) (obedient : Obedient L) (globals : Memory) (inputs : List ℕ) (turns : ℕ) (t : List Event) where
+  abbrev behaviour : Set → SourceRun
+  behaviour set = performed_by L globals inputs turns t set
+
+  blamed_early : (set : Set) (comp : ℕ) (cause : Cause) (line : ℕ) → (behaviour set).end ≡ Blamed comp cause line →
+      length (behaviour set).trace < length t
+  blamed_early set comp cause line ends =
+      early _ (roles_run L globals inputs turns (roles_in L.interfaces.main set t)).behaviour comp cause line ends
+
+  -- where the next run is blamed it has told more
+  told_more : (run other : SourceRun) (comp : ℕ) (cause : Cause) (line : ℕ) → other.end ≡ Blamed comp cause line →
+      PassesBlame run other → length run.trace < length other.trace
+  told_more run other comp cause line ends (turnless is) = let wants : other.end ≡ TurnsOut = ap (λ r. r.end) is in cc
+  told_more run other comp cause line ends (longer event front) = omega (
+    arith,
+    ap length front.is,
+    length-append
+        (run.trace ++ event ∷ []) front.more,
+    length-append run.trace (event ∷ []),
+  )
+
+  rises : (set : Set) (least : ℕ) (links : List Link) → ((comp : ℕ) (cause : Cause) (line : ℕ) →
+      (behaviour set).end ≡ Blamed comp cause line → least ≤ length (behaviour set).trace) →
+      IsChain (performed_by L globals inputs turns t) t set links → IsRising least (length t) links
+  rises set least [] h chain = tt
+  rises set least (link ∷ links) h chain =
+      let here = chain.0 in
+      let low : least ≤ length (behaviour set).trace = h link.comp link.cause link.line here.blamed in
+      let high : length (behaviour set).trace < length t =
+      blamed_early set link.comp link.cause link.line here.blamed in
+      let same : length (behaviour set).trace ≡ link.after = here.after in (
+        omega (arith, low, same),
+        omega (arith, high, same),
+        rises (with link.comp set) (suc link.after) links (λ comp cause line ends.
+            let more : length (behaviour set).trace < length (behaviour (with _ set)).trace =
+            told_more (behaviour set) (behaviour (with link.comp set)) comp cause line ends
+            (passes_blames L obedient globals inputs turns t set (with link.comp set) (within_with set link.comp)
+            link.comp link.cause link.line here.blamed here.front (with_has set link.comp)) in
+            omega (arith, more, same)) chain.1,
+      )
+
+  are_fresh : (set : Set) (links : List Link) → IsChain (performed_by L globals inputs turns t) t set links →
+      AreFresh set links
+  are_fresh set [] chain = tt
+  are_fresh set (link ∷ links) chain = (
+    nobody_is_blamed L obedient globals inputs turns (length t) (roles_in L.interfaces.main set t) link.comp
+        link.cause link.line chain.0.blamed,
+    are_fresh (with link.comp set) links chain.1,
+  )
+
+  pub chain_rises : ChainRises t behaviour
+  chain_rises links chain =
+      (rises nobody 0 links (λ comp cause line ends. omega arith) chain, are_fresh nobody links chain)
+
+-- how many compartments below a number are not of a set
+missing : Set → ℕ → ℕ
+missing set zero = 0
+missing set (suc n) = (if set n then 0 else 1) + missing set n
+
+-- a compartment at or above the number doesn't count
+above_counts : (set : Set) (comp n : ℕ) → n ≤ comp → missing (with comp set) n ≡ missing set n
+unfolding missing
+above_counts set comp zero le = refl
+above_counts set comp (suc n) le = ap₂ (λ b m. (if b || set n then 0 else 1) + m)
+    (ne_eqb n comp (λ is. absurd (omega (arith, le, is)))) (above_counts set comp n (omega (arith, le)))
+
+-- one below it that isn't of the set counts once
+still_apart : (n comp : ℕ) → (n == comp) ≡ false → comp < suc n → comp < n
+still_apart n comp differs lt = ⊎_elim (λ is. cc (sym differs ∙ eq-eqb n comp is)) (λ no. omega (arith, lt, no))
+    (cases_eq n comp)
+
+below_counts : (set : Set) (comp n : ℕ) → set comp ≡ false → comp < n → suc (missing (with comp set) n) ≡ missing set n
+unfolding missing
+below_counts set comp zero clear lt = absurd (omega (arith, lt))
+below_counts set comp (suc n) clear lt = by (below_counts set comp n clear) (n == comp) refl where
+  by : (comp < n → suc (missing (with comp set) n) ≡ missing set n) → (b : Bool) → (n == comp) ≡ b → suc
+      ((if (n == comp) || set n then 0 else 1) + missing (with comp set) n) ≡ (if set n then 0 else 1) + missing set n
+  by before true is =
+      let same : n ≡ comp = eqb-true n comp is in
+      let here : set n ≡ false = ap set same ∙ clear in
+      let counts : missing (with comp set) n ≡ missing set n = above_counts set comp n (omega (arith, same)) in
+      ap (λ b. suc ((if b || set n then 0 else 1) + missing (with comp set) n)) is
+      ∙ ((let one : suc (0 + missing (with comp set) n) ≡ 1 + missing set n = omega (arith, counts) in one)
+      ∙ ap (λ b. (if b then 0 else 1) + missing set n) (sym here))
+  by before false is =
+      let counts : suc (missing (with comp set) n) ≡ missing set n = before (still_apart n comp is lt) in
+      ap (λ b. suc ((if b || set n then 0 else 1) + missing (with comp set) n)) is
+      ∙ (let one : ℕ = if set n then 0 else 1 in let moved : suc (one + missing (with comp set) n)
+      ≡ one + missing set n = omega (arith, counts) in moved)
+
+nobody_missing : (n : ℕ) → missing nobody n ≡ n
+unfolding missing
+nobody_missing zero = refl
+nobody_missing (suc n) = let rest = nobody_missing n in omega (arith, rest)
+
+module _ (t : List Event) (runs : Set → SourceRun) (count : ℕ)
+    (each : (set : Set) → ((runs set).trace ≡ t) ⊎ IsBlamedOutside count set (runs set) t) where
+  abbrev Found : Set → ℕ → Type 0
+  Found set most = (links : List Link) × IsChain runs t set links × (length links ≤ most)
+
+  found : (most : ℕ) (set : Set) → missing set count ≤ most → Found set most
+  found zero set few = ⊎_elim (λ tells. ([], tells, omega arith)) (λ b.
+      let counts = below_counts set b.comp count b.outside b.compartment in absurd (omega (arith, few, counts)))
+      (each set)
+  found (suc most) set few =
+      ⊎_elim (λ tells. ([], tells, omega arith)) (λ b. goes_on b (found most _ (fewer b))) (each set) where
+        fewer : (b : IsBlamedOutside count set (runs set) t) → missing (with b.comp set) count ≤ most
+        fewer b = let counts = below_counts set b.comp count b.outside b.compartment in omega (arith, few, counts)
+
+        goes_on : (b : IsBlamedOutside count set (runs set) t) → Found (with b.comp set) most → Found set (suc most)
+        goes_on b rest =
+            let link : Link =
+            record { comp = b.comp; after = length (runs set).trace; cause = b.cause; line = b.line } in
+            let few_links = rest.2 in (
+              link ∷ rest.0,
+              (record { blamed = b.blamed; front = b.front; after = refl }, rest.1),
+              omega (arith, few_links),
+            )
+
+pub has_chain : (trace : List Event) (runs : Set → SourceRun) → HasChain trace runs
+has_chain trace runs count each =
+    let result = found trace runs count each count nobody (omega (arith, nobody_missing count)) in
+    (result.0, result.1, result.2)

@@ -14,18 +14,16 @@ use Rattle.sc_laws.proofs.Common.{◌∙◌, ◌∷◌, ◌≡◌}
 use Rattle.sc_event.specs.declared.row.Action.TheVariants as act
 use Rattle.sc_laws.proofs.Growing.{front_same, front_more, more, reached, stays, no_turn, earlier, then_from, then_goes}
 use Rattle.sc_laws.proofs.Growing.{BodyGoes, done_goes, own_goes, cross_goes, back_goes, calls_go, performs_go}
-use Rattle.sc_laws.proofs.Growing.{LibraryGoes, run_step_goes, scripted_goes, asks_is, asks_go, run_goes}
-use Rattle.sc_laws.proofs.Libraries.{CallsTwins, FunctionTwins, LibraryTwins}
+use Rattle.sc_laws.proofs.Growing.{LibraryGoes, run_step_goes, scripted_goes, asks_is, asks_go, run_goes, then_front}
+use Rattle.sc_laws.proofs.Twins.{CallsTwins, FunctionTwins, LibraryTwins}
 use Rattle.sc_laws.proofs.Rows.{InLine, in_line_before, NextIs, over, next_told_is, Next, row_of_next, rows_behind}
-use Rattle.sc_laws.proofs.Rows.{told as next_told}
+use Rattle.sc_laws.proofs.Rows.{told as next_told, then_along}
 use Rattle.sc_laws.proofs.Following.{Abreast, Beyond, KeepsUp, Keeping, near_blocks, near_tell, whole, beyond_then}
 use Rattle.sc_laws.proofs.Following.{follow_kept, Stands, OneSided, Performs, Perform, left_goes, perform_kept}
 use Rattle.sc_laws.proofs.Following.{stands_stored, MovesOrReturns, beyond_back, beyond_in, KeepsUp as follows}
-use Rattle.sc_laws.proofs.Following.{Performs as performing, MovesOn as passed, MovesOrReturns as passing}
+use Rattle.sc_laws.proofs.Following.{Performs as performing, MovesOn as passed, MovesOrReturns as passing, near_with}
+use Rattle.sc_laws.proofs.Following.{stops_short, both_stop, both_blamed, stops_here, blamed_here}
 use Rattle.sc_laws.proofs.Scripts.{words_are}
-use Rattle.sc_laws.proofs.Following.{near_with, stops_short, both_stop, both_blamed, stops_here, blamed_here}
-use Rattle.sc_laws.proofs.Growing.{then_front}
-use Rattle.sc_laws.proofs.Rows.{then_along}
 
 -- a call of this compartment, whose first block is this
 abbrev pub at : (comp first : ℕ) → Here

@@ -1,16 +1,15 @@
 -- To show that the functions of a library keep a property of states, show it of what changes memory, of turns and of
 -- calls.
-use Rattle.sc_laws.proofs.Common.{Blamed, Blocks, CallTarget, Calls, Cause, Err, Function, Gone, Grown, Here, Kept}
-use Rattle.sc_laws.proofs.Common.{Library, List, Meets, Never, None, Obedient, Ok, Option, Piece, Property, Reached}
-use Rattle.sc_laws.proofs.Common.{Result, Some, State, Stopped, Value, and_then, ap, arith, computed, function, refl}
-use Rattle.sc_laws.proofs.Common.{subst, suc, sym, turn, turn_of, with_blocks, zero, ℕ, ◌<◌, ◌≡◌}
-use Rattle.sc_laws.proofs.Common.{Action, BadType, Body, Bool, Cross, Input, Output, Roles, Row, RunEnd, TurnsOut, Word}
-use Rattle.sc_laws.proofs.Common.{[], acts, asks, called, calls, false, found_kept, if◌then◌else◌, map, may_call}
-use Rattle.sc_laws.proofs.Common.{performs, rows_left, run_step, scripted_step, then_kept, true, ◌∷◌}
+use Rattle.sc_laws.proofs.Common.{Action, BadType, Blamed, Blocks, Body, Bool, CallTarget, Calls, Cause, Cross, Err}
+use Rattle.sc_laws.proofs.Common.{Function, Gone, Grown, Here, Input, Kept, Library, List, Meets, Never, None, Obedient}
+use Rattle.sc_laws.proofs.Common.{Ok, Option, Output, Piece, Property, Reached, Result, Roles, Row, RunEnd, Some, State}
+use Rattle.sc_laws.proofs.Common.{Stopped, TurnsOut, Value, Word, [], acts, and_then, ap, arith, asks, called, calls}
+use Rattle.sc_laws.proofs.Common.{computed, false, found_kept, function, if◌then◌else◌, map, may_call, performs, refl}
+use Rattle.sc_laws.proofs.Common.{rows_left, run_step, scripted_step, subst, suc, sym, then_kept, true, turn, turn_of}
+use Rattle.sc_laws.proofs.Common.{with_blocks, zero, ℕ, ◌<◌, ◌∷◌, ◌≡◌}
 use Rattle.sc_event.specs.declared.row.Action.TheVariants as act
 use Rattle.sc_laws.proofs.Growing.{BodyGoes, CallsGo, calls_go}
-use Rattle.sc_laws.proofs.Twins.{Kept as RelationKept, KeptAt}
-use Rattle.sc_laws.proofs.Libraries.{FunctionTwins}
+use Rattle.sc_laws.proofs.Twins.{Kept as RelationKept, KeptAt, FunctionTwins}
 use Rattle.sc_laws.proofs.Matching.{library_twins}
 
 -- what is to be shown of a property, for the functions of a compartment

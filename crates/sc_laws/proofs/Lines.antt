@@ -24,7 +24,7 @@ use Rattle.sc_core.specs.declared.value.Want.TheVariants as want
 use Rattle.sc_laws.specs.Lines.{simple_lined, layer_lined, stmt_lined, local_lined, function_lined, section_lined}
 use Rattle.sc_laws.specs.Lines.{program_lined}
 use Rattle.sc_laws.proofs.Agreement.{itself, then_agree, agreeing_run_alike}
-use Rattle.sc_laws.proofs.Programs.{Pairs, meets_at, lists_at}
+use Rattle.sc_laws.proofs.Statements.{Pairs, meets_at, lists_at}
 
 -- WORDS
 computed_agree : {V : Type 0} (here : Here) (line other : ℕ) (r : Result V Cause) (s : State) →

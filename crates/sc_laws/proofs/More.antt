@@ -10,11 +10,10 @@ use Rattle.sc_laws.proofs.Wrapping.{binary_fits, negated_fits}
 use Rattle.sc_laws.proofs.Growing.{front_same, front_no_longer, StepGoes, run_step_goes, scripted_goes}
 use Rattle.sc_laws.proofs.Expressions.{ArithKeeps}
 use Rattle.sc_laws.proofs.Matching.{first_goes, second_goes, run_goes_on, scripted_goes_on}
-use Rattle.sc_laws.proofs.Programs.{program_matches}
-use Rattle.sc_laws.proofs.Below.{Passes}
-use Rattle.sc_laws.proofs.BelowCalls.{StepsBelow}
-use Rattle.sc_laws.proofs.Runs.{take_fronts, unreached, still_unreached, trace_is, RunsBelow, run_steps}
-use Rattle.sc_laws.proofs.Runs.{scripted_steps, runs_below, RunsBelow as goes}
+use Rattle.sc_laws.proofs.Statements.{program_matches}
+use Rattle.sc_laws.proofs.Below.{Passes, StepsBelow}
+use Rattle.sc_laws.proofs.Runs.{take_fronts, unreached, still_unreached, trace_is, RunsBelow, run_steps, scripted_steps}
+use Rattle.sc_laws.proofs.Runs.{runs_below, RunsBelow as goes}
 use Rattle.sc_laws.proofs.Rooms.{deepest_more}
 
 -- MORE TURNS AND EVENTS

@@ -1,10 +1,10 @@
 -- Where a compartment stands in its rows, and how traces go on along another.
-use Rattle.sc_laws.proofs.Common.{Bool, Event, Front, List, None, Option, Row, Some, Standing, [], action_of, ap}
-use Rattle.sc_laws.proofs.Common.{append_assoc, at_start, count_of, drop, eq-eqb, false, filter, if◌then◌else◌, inl}
-use Rattle.sc_laws.proofs.Common.{inr, length, part, performer, refl, rows_from, stands_after, stands_behind, subst}
-use Rattle.sc_laws.proofs.Common.{suc, sym, true, zero, ℕ, ◌++◌, ◌==◌, ◌∙◌, ◌∷◌, ◌≡◌, ◌⊎◌}
+use Rattle.sc_laws.proofs.Common.{Bool, Event, Front, Goes, List, None, Option, Piece, Row, Some, Standing, State, []}
+use Rattle.sc_laws.proofs.Common.{action_of, and_then, ap, append_assoc, at_start, count_of, drop, eq-eqb, false}
+use Rattle.sc_laws.proofs.Common.{filter, if◌then◌else◌, inl, inr, last, length, part, performer, refl, rows_from}
+use Rattle.sc_laws.proofs.Common.{stands_after, stands_behind, subst, suc, sym, true, zero, ℕ, ◌++◌, ◌==◌, ◌∙◌, ◌∷◌}
+use Rattle.sc_laws.proofs.Common.{◌≡◌, ◌⊎◌}
 use Rattle.sc_laws.proofs.Growing.{front_more, then_from}
-use Rattle.sc_laws.proofs.Common.{Goes, Piece, State, and_then, last}
 
 -- STANDING
 pub stands_last : (at : Option Standing) (u : List Event) (e : Event) (st : Standing) → stands_behind at u ≡ Some st →

@@ -4,7 +4,7 @@ use Rattle.sc_laws.proofs.Common.{Action, BadType, Blamed, Body, Bool, Call, Cal
 use Rattle.sc_laws.proofs.Common.{EventsOut, Export, ExportsLead, Here, In, Input, Interfaces, Kept, Library, List}
 use Rattle.sc_laws.proofs.Common.{Main, Memory, None, Obedient, Option, Out, Output, Own, Piece, Property, Reached, Ret}
 use Rattle.sc_laws.proofs.Common.{Roles, Row, RunEnd, Set, Some, SpendsAlong, Standing, State, Stopped, TurnsOut, Value}
-use Rattle.sc_laws.proofs.Common.{Word, [], action_of, acts, and_from, and_parts, and_then, ap, arith, at_start}
+use Rattle.sc_laws.proofs.Common.{Word, [], action_of, acts, and_from, and_parts, and_then, ap, arith, asks, at_start}
 use Rattle.sc_laws.proofs.Common.{back_cross, back_own, begun, call_cross, call_own, called, calls, count_of, done}
 use Rattle.sc_laws.proofs.Common.{drop, eq-eqb, eqb-true, false, false≢true, first_state, found, function}
 use Rattle.sc_laws.proofs.Common.{if◌then◌else◌, imports, is_allowed, is_legal_from, is_number, is_some, is_word, leads}
@@ -15,7 +15,6 @@ use Rattle.sc_laws.proofs.Common.{within, zero, ℕ, ◌++◌, ◌<◌, ◌∙�
 use Rattle.sc_event.specs.declared.row.Action.TheVariants as act
 use Rattle.sc_laws.proofs.Growing.{BodyGoes, calls_go, within_goes}
 use Rattle.sc_laws.proofs.Keeping.{IsKept, calls_keep, function_keeps, then_other}
-use Rattle.sc_laws.proofs.Common.{asks}
 use Rattle.sc_laws.proofs.Matching.{scripted_goes_on}
 use Rattle.sc_laws.proofs.Rows.{Next, counts_its_own, row_of_next, stands_last}
 
