@@ -82,9 +82,10 @@ seven = sheet [] (main_with [] (output_then 5 (lit 7) (ReturnValueLine 6 (lit 0)
 
 -- `a = -2147483647 - 1; b = -1; output(a / b); return 0;`
 abbrev pub min_by_minus_one : List Sheet
-min_by_minus_one = sheet [] (main_with (slot ty.Int ∷ slot ty.Int ∷ []) (AssignLine 7 (local 0)
-    (Two ty.Int op.Sub (One ty.Int unary.Minus (lit 2147483647)) (lit 1)) (AssignLine 8 (local 1)
-    (One ty.Int unary.Minus (lit 1))
+min_by_minus_one =
+    sheet [] (main_with (slot ty.Int ∷ slot ty.Int ∷ [])
+    (AssignLine 7 (local 0) (Two ty.Int op.Sub (One ty.Int unary.Minus (lit 2147483647)) (lit 1))
+    (AssignLine 8 (local 1) (One ty.Int unary.Minus (lit 1))
     (output_then 9 (Two ty.Int op.Div (local 0) (local 1)) (ReturnValueLine 10 (lit 0) NoLine)))) 11 ∷ []) ∷ []
 
 -- `int x; output(1); output(x & 0); return 0;`
@@ -95,7 +96,8 @@ uninitialised =
 
 -- `int f(void) { }` and `int r; r = f(); return r;`
 abbrev pub missing_return : List Sheet
-missing_return = sheet [] (plan (codes "f") [] [] NoLine 3 ∷ main_with (slot ty.Int ∷ [])
+missing_return =
+    sheet [] (plan (codes "f") [] [] NoLine 3 ∷ main_with (slot ty.Int ∷ [])
     (AssignCallLine 6 (local 0) (Own 0) [] (ReturnValueLine 7 (local 0) NoLine)) 8 ∷ []) ∷ []
 
 -- `int *leak(void)` returns the place of its local; `p = leak(); v = *p; return v;`
@@ -127,9 +129,11 @@ store_interfaces =
     }
 
 abbrev pub store_sheets : List Sheet
-store_sheets = sheet [] (main_with (slot ty.Int ∷ []) (AssignCallLine 8 (local 0) (Cross 1 0) (lit 4 ∷ lit 9 ∷ [])
-    (output_then 9 (local 0) (ReturnValueLine 10 (lit 0) NoLine))) 11 ∷ []) ∷ sheet
-    (global_of (ints 4) ∷ global_of ty.Int ∷ []) (plan (codes "put") (ty.Int ∷ ty.Int ∷ []) []
+store_sheets =
+    sheet [] (main_with (slot ty.Int ∷ []) (AssignCallLine 8 (local 0) (Cross 1 0) (lit 4 ∷ lit 9 ∷ [])
+    (output_then 9 (local 0) (ReturnValueLine 10 (lit 0) NoLine))) 11 ∷ []) ∷
+    sheet (global_of (ints 4) ∷ global_of ty.Int ∷ [])
+    (plan (codes "put") (ty.Int ∷ ty.Int ∷ []) []
     (AssignLine 6 (element 4 0 (param 0)) (param 1) (ReturnValueLine 7 (global 1) NoLine)) 8 ∷ []) ∷ []
 
 -- `Main` calls `f` of `A` and `g` of `B`; each stores past the end of its `int x[2]`
@@ -146,14 +150,17 @@ two_stores_interfaces =
     }
 
 abbrev pub past_end : List ℕ → Sheet
-past_end name = sheet (global_of (ints 2) ∷ global_of ty.Int ∷ []) (plan name (ty.Int ∷ []) []
-    (AssignLine 6 (element 2 0 (param 0)) (lit 5) (ReturnValueLine 7 (global 1) NoLine)) 8 ∷ [])
+past_end name =
+    sheet (global_of (ints 2) ∷ global_of ty.Int ∷ [])
+    (plan name (ty.Int ∷ []) [] (AssignLine 6 (element 2 0 (param 0)) (lit 5)
+    (ReturnValueLine 7 (global 1) NoLine)) 8 ∷ [])
 
 abbrev pub two_stores : List Sheet
-two_stores = sheet [] (main_with (slot ty.Int ∷ []) (AssignCallLine 10 (local 0) (Cross 1 0) (lit 2 ∷ []) (output_then
-    11 (local 0) (AssignCallLine 12 (local 0) (Cross 2 0) (lit 2 ∷ [])
-    (output_then 13 (local 0) (ReturnValueLine 14 (lit 0) NoLine))))) 15 ∷ []) ∷ past_end (codes "f") ∷ past_end
-    (codes "g") ∷ []
+two_stores =
+    sheet [] (main_with (slot ty.Int ∷ []) (AssignCallLine 10 (local 0) (Cross 1 0) (lit 2 ∷ [])
+    (output_then 11 (local 0) (AssignCallLine 12 (local 0) (Cross 2 0) (lit 2 ∷ [])
+    (output_then 13 (local 0) (ReturnValueLine 14 (lit 0) NoLine))))) 15 ∷ []) ∷ past_end (codes "f") ∷
+    past_end (codes "g") ∷ []
 
 -- `Main` calls `f` of `A`, which calls `g` of `B`, which calls `h` of `A`
 abbrev pub reentry_interfaces : Interfaces
@@ -167,23 +174,27 @@ reentry_interfaces =
     }
 
 abbrev pub reentry : List Sheet
-reentry = sheet [] (main_with (slot ty.Int ∷ [])
-    (AssignCallLine 8 (local 0) (Cross 1 0) (lit 2 ∷ []) (output_then 9 (local 0) (ReturnValueLine 10 (lit 0) NoLine)))
-    11 ∷ []) ∷ sheet (global_of (ints 2) ∷ global_of ty.Int ∷ []) (plan (codes "f") (ty.Int ∷ []) (slot ty.Int ∷ [])
+reentry =
+    sheet [] (main_with (slot ty.Int ∷ []) (AssignCallLine 8 (local 0) (Cross 1 0) (lit 2 ∷ [])
+    (output_then 9 (local 0) (ReturnValueLine 10 (lit 0) NoLine))) 11 ∷ []) ∷
+    sheet (global_of (ints 2) ∷ global_of ty.Int ∷ [])
+    (plan (codes "f") (ty.Int ∷ []) (slot ty.Int ∷ [])
     (AssignLine 10 (element 2 0 (param 0)) (lit 5)
-    (AssignCallLine 11 (local 0) (Cross 2 0) (global 1 ∷ []) (ReturnValueLine 12 (plus (local 0) (global 1)) NoLine)))
-    13 ∷ plan (codes "h") (ty.Int ∷ []) []
-    (AssignLine 15 (global 1) (plus (global 1) (param 0)) (ReturnValueLine 16 (global 1) NoLine)) 17 ∷ []) ∷ sheet []
-    (plan (codes "g") (ty.Int ∷ []) (slot ty.Int ∷ [])
-    (AssignCallLine 7 (local 0) (Cross 1 1) (plus (param 0) (lit 1) ∷ []) (ReturnValueLine 8 (local 0) NoLine)) 9 ∷ [])
-    ∷ []
+    (AssignCallLine 11 (local 0) (Cross 2 0) (global 1 ∷ [])
+    (ReturnValueLine 12 (plus (local 0) (global 1)) NoLine))) 13 ∷
+    plan (codes "h") (ty.Int ∷ []) [] (AssignLine 15 (global 1) (plus (global 1) (param 0))
+    (ReturnValueLine 16 (global 1) NoLine)) 17 ∷ []) ∷
+    sheet [] (plan (codes "g") (ty.Int ∷ []) (slot ty.Int ∷ [])
+    (AssignCallLine 7 (local 0) (Cross 1 1) (plus (param 0) (lit 1) ∷ []) (ReturnValueLine 8 (local 0) NoLine)) 9 ∷
+    []) ∷ []
 
 -- `Main` calls `f` of `A`, which has `int a[8000]` and calls `g` of `B`, which calls `f` again, and so on
 abbrev pub deep_interfaces : Interfaces
 deep_interfaces = record {
-  comps = interface (codes "Main") [] (import.Function 1 0 ∷ []) ∷ interface (codes "A")
-      (proto (codes "f") [] (Some scalar.Int) ∷ []) (import.Function 2 0 ∷ []) ∷ interface (codes "B")
-      (proto (codes "g") [] (Some scalar.Int) ∷ []) (import.Function 1 0 ∷ []) ∷ [];
+  comps =
+      interface (codes "Main") [] (import.Function 1 0 ∷ []) ∷
+      interface (codes "A") (proto (codes "f") [] (Some scalar.Int) ∷ []) (import.Function 2 0 ∷ []) ∷
+      interface (codes "B") (proto (codes "g") [] (Some scalar.Int) ∷ []) (import.Function 1 0 ∷ []) ∷ [];
   main = 0;
 }
 
@@ -191,7 +202,8 @@ abbrev pub calling : CallTarget → ℕ → Lines
 calling target place = AssignCallLine 4 (local place) target [] (ReturnValueLine 5 (local place) NoLine)
 
 abbrev pub deep : List Sheet
-deep = sheet [] (main_with (slot ty.Int ∷ []) (calling (Cross 1 0) 0) 6 ∷ []) ∷ sheet [] (plan (codes "f") []
-    (slot (ints 8000) ∷ slot ty.Int ∷ [])
-    (AssignCallLine 4 (local 1) (Cross 2 0) [] (ReturnValueLine 5 (Two ty.Int op.Add (local 1) (lit 1)) NoLine)) 6 ∷ [])
-    ∷ sheet [] (plan (codes "g") [] (slot ty.Int ∷ []) (calling (Cross 1 0) 0) 6 ∷ []) ∷ []
+deep =
+    sheet [] (main_with (slot ty.Int ∷ []) (calling (Cross 1 0) 0) 6 ∷ []) ∷
+    sheet [] (plan (codes "f") [] (slot (ints 8000) ∷ slot ty.Int ∷ []) (AssignCallLine 4 (local 1) (Cross 2 0) []
+    (ReturnValueLine 5 (Two ty.Int op.Add (local 1) (lit 1)) NoLine)) 6 ∷ []) ∷
+    sheet [] (plan (codes "g") [] (slot ty.Int ∷ []) (calling (Cross 1 0) 0) 6 ∷ []) ∷ []
