@@ -38,8 +38,9 @@ module _ (A B : Type 0) (kind_step : TypedStmtKind-F A B → A) (stmt_step : Typ
       fold-roll-TypedStmt A B _ _ _
       ∙ ap (λ x. stmt_step (record { line = line; kind = x })) (fold-roll-TypedStmtKind A B kind_step stmt_step k)
 
-  -- the folds of a list of statements, by those of the first and of the rest
-  pub next_line : (line : ℕ) (k : TypedStmtKind-F TypedStmtKind TypedStmt) {b : B} {bs cs : List B} →
-      stmt_step (record { line = line; kind = layer_of k }) ≡ b → bs ≡ cs →
-      fold-TypedStmt A B kind_step stmt_step (on_line line k) ∷ bs ≡ b ∷ cs
-  next_line line k is rest = λ i. (stmt_at line k ∙ is) i ∷ rest i
+-- the folds of a list of statements, by those of the first and of the rest
+pub next_line : {A B : Type 0} (kind_step : TypedStmtKind-F A B → A) (stmt_step : TypedStmt-F A B → B) (line : ℕ)
+    (k : TypedStmtKind-F TypedStmtKind TypedStmt) {b : B} {bs cs : List B} →
+    stmt_step (record { line = line; kind = layer_of A B kind_step stmt_step k }) ≡ b → bs ≡ cs →
+    fold-TypedStmt A B kind_step stmt_step (on_line line k) ∷ bs ≡ b ∷ cs
+next_line kind_step stmt_step line k is rest = λ i. (stmt_at _ _ kind_step stmt_step line k ∙ is) i ∷ rest i

@@ -43,28 +43,27 @@ lines_high (ReturnCallLine line target args rest) = suc (highest (map shape_heig
 
 pub lines_high_are : (x : Lines) → map stmt_height (stmts x) ≡ lines_high x
 lines_high_are NoLine = refl
-lines_high_are (EmptyLine line rest) = next_line _ _ kind_height _ line _ refl (lines_high_are rest)
+lines_high_are (EmptyLine line rest) = next_line _ _ _ _ refl (lines_high_are rest)
 lines_high_are (AssignLine line p e rest) =
-    next_line _ _ kind_height _ line _ (λ j. suc (max (height_is p j) (height_is e j))) (lines_high_are rest)
-lines_high_are (AssignCallLine line p target args rest) = next_line _ _ kind_height _ line _
-    (λ j. suc (max (height_is p j) (highest (heights_are args j)))) (lines_high_are rest)
+    next_line _ _ _ _ (λ j. suc (max (height_is p j) (height_is e j))) (lines_high_are rest)
+lines_high_are (AssignCallLine line p target args rest) =
+    next_line _ _ _ _ (λ j. suc (max (height_is p j) (highest (heights_are args j)))) (lines_high_are rest)
 lines_high_are (CallLine line target args rest) =
-    next_line _ _ kind_height _ line _ (λ j. suc (highest (heights_are args j))) (lines_high_are rest)
-lines_high_are (IfLine line c x y rest) = next_line _ _ kind_height _ line _
-    (λ j. suc (max (height_is c j) (max (highest (lines_high_are x j)) (highest (lines_high_are y j)))))
+    next_line _ _ _ _ (λ j. suc (highest (heights_are args j))) (lines_high_are rest)
+lines_high_are (IfLine line c x y rest) =
+    next_line _ _ _ _ (λ j. suc (max (height_is c j) (max (highest (lines_high_are x j)) (highest (lines_high_are y j)))))
     (lines_high_are rest)
-lines_high_are (WhileLine line c x rest) = next_line _ _ kind_height _ line _
-    (λ j. suc (max (height_is c j) (highest (lines_high_are x j)))) (lines_high_are rest)
-lines_high_are (ForLine line p e c q f x rest) = next_line _ _ kind_height _ line _ (λ j. suc (max
+lines_high_are (WhileLine line c x rest) =
+    next_line _ _ _ _ (λ j. suc (max (height_is c j) (highest (lines_high_are x j)))) (lines_high_are rest)
+lines_high_are (ForLine line p e c q f x rest) = next_line _ _ _ _ (λ j. suc (max
     (max (suc (max (height_is p j) (height_is e j))) (suc (max (height_is q j) (height_is f j))))
     (max (height_is c j) (highest (lines_high_are x j))))) (lines_high_are rest)
-lines_high_are (BreakLine line rest) = next_line _ _ kind_height _ line _ refl (lines_high_are rest)
-lines_high_are (ContinueLine line rest) = next_line _ _ kind_height _ line _ refl (lines_high_are rest)
-lines_high_are (ReturnLine line rest) = next_line _ _ kind_height _ line _ refl (lines_high_are rest)
-lines_high_are (ReturnValueLine line e rest) =
-    next_line _ _ kind_height _ line _ (λ j. suc (height_is e j)) (lines_high_are rest)
+lines_high_are (BreakLine line rest) = next_line _ _ _ _ refl (lines_high_are rest)
+lines_high_are (ContinueLine line rest) = next_line _ _ _ _ refl (lines_high_are rest)
+lines_high_are (ReturnLine line rest) = next_line _ _ _ _ refl (lines_high_are rest)
+lines_high_are (ReturnValueLine line e rest) = next_line _ _ _ _ (λ j. suc (height_is e j)) (lines_high_are rest)
 lines_high_are (ReturnCallLine line target args rest) =
-    next_line _ _ kind_height _ line _ (λ j. suc (highest (heights_are args j))) (lines_high_are rest)
+    next_line _ _ _ _ (λ j. suc (highest (heights_are args j))) (lines_high_are rest)
 
 abbrev pub shape_nodes : Shape → ℕ
 shape_nodes = shape_fold ℕ ℕ term_nodes (λ e. e.kind)
@@ -95,27 +94,25 @@ lines_nodes (ReturnCallLine line target args rest) = suc (total (map shape_nodes
 
 pub lines_nodes_are : (x : Lines) → map stmt_nodes (stmts x) ≡ lines_nodes x
 lines_nodes_are NoLine = refl
-lines_nodes_are (EmptyLine line rest) = next_line _ _ kind_nodes _ line _ refl (lines_nodes_are rest)
+lines_nodes_are (EmptyLine line rest) = next_line _ _ _ _ refl (lines_nodes_are rest)
 lines_nodes_are (AssignLine line p e rest) =
-    next_line _ _ kind_nodes _ line _ (λ j. suc ((nodes_is p j) + (nodes_is e j))) (lines_nodes_are rest)
+    next_line _ _ _ _ (λ j. suc ((nodes_is p j) + (nodes_is e j))) (lines_nodes_are rest)
 lines_nodes_are (AssignCallLine line p target args rest) =
-    next_line _ _ kind_nodes _ line _ (λ j. suc ((nodes_is p j) + total (nodes_are args j))) (lines_nodes_are rest)
+    next_line _ _ _ _ (λ j. suc ((nodes_is p j) + total (nodes_are args j))) (lines_nodes_are rest)
 lines_nodes_are (CallLine line target args rest) =
-    next_line _ _ kind_nodes _ line _ (λ j. suc (total (nodes_are args j))) (lines_nodes_are rest)
-lines_nodes_are (IfLine line c x y rest) = next_line _ _ kind_nodes _ line _
+    next_line _ _ _ _ (λ j. suc (total (nodes_are args j))) (lines_nodes_are rest)
+lines_nodes_are (IfLine line c x y rest) = next_line _ _ _ _
     (λ j. suc ((nodes_is c j) + total (lines_nodes_are x j) + total (lines_nodes_are y j))) (lines_nodes_are rest)
 lines_nodes_are (WhileLine line c x rest) =
-    next_line _ _ kind_nodes _ line _ (λ j. suc ((nodes_is c j) + total (lines_nodes_are x j))) (lines_nodes_are rest)
-lines_nodes_are (ForLine line p e c q f x rest) =
-    next_line _ _ kind_nodes _ line _ (λ j. suc (suc ((nodes_is p j) + (nodes_is e j)) + (nodes_is c j) + suc
-    ((nodes_is q j) + (nodes_is f j)) + total (lines_nodes_are x j))) (lines_nodes_are rest)
-lines_nodes_are (BreakLine line rest) = next_line _ _ kind_nodes _ line _ refl (lines_nodes_are rest)
-lines_nodes_are (ContinueLine line rest) = next_line _ _ kind_nodes _ line _ refl (lines_nodes_are rest)
-lines_nodes_are (ReturnLine line rest) = next_line _ _ kind_nodes _ line _ refl (lines_nodes_are rest)
-lines_nodes_are (ReturnValueLine line e rest) =
-    next_line _ _ kind_nodes _ line _ (λ j. suc (nodes_is e j)) (lines_nodes_are rest)
+    next_line _ _ _ _ (λ j. suc ((nodes_is c j) + total (lines_nodes_are x j))) (lines_nodes_are rest)
+lines_nodes_are (ForLine line p e c q f x rest) = next_line _ _ _ _ (λ j. suc (suc ((nodes_is p j) + (nodes_is e j)) +
+    (nodes_is c j) + suc ((nodes_is q j) + (nodes_is f j)) + total (lines_nodes_are x j))) (lines_nodes_are rest)
+lines_nodes_are (BreakLine line rest) = next_line _ _ _ _ refl (lines_nodes_are rest)
+lines_nodes_are (ContinueLine line rest) = next_line _ _ _ _ refl (lines_nodes_are rest)
+lines_nodes_are (ReturnLine line rest) = next_line _ _ _ _ refl (lines_nodes_are rest)
+lines_nodes_are (ReturnValueLine line e rest) = next_line _ _ _ _ (λ j. suc (nodes_is e j)) (lines_nodes_are rest)
 lines_nodes_are (ReturnCallLine line target args rest) =
-    next_line _ _ kind_nodes _ line _ (λ j. suc (total (nodes_are args j))) (lines_nodes_are rest)
+    next_line _ _ _ _ (λ j. suc (total (nodes_are args j))) (lines_nodes_are rest)
 
 module _ (scope : Scope) (callable : Callable) (result : Option Ty) where
   abbrev pub judge : Shape → Judged
@@ -134,14 +131,12 @@ module _ (scope : Scope) (callable : Callable) (result : Option Ty) where
   lines_fit (AssignCallLine line p target args rest) =
       (λ looping. assign_call_fits callable (judge p) target (map judge args)) ∷ lines_fit rest
   lines_fit (CallLine line target args rest) = (λ looping. call_fits callable target (map judge args)) ∷ lines_fit rest
-  lines_fit (IfLine line c x y rest) = (λ looping. is_scalar (judge c) &&
-      (list_all {X = Bool → Bool} (λ s. s looping) (lines_fit x) &&
-      list_all {X = Bool → Bool} (λ s. s looping) (lines_fit y))) ∷ lines_fit rest
+  lines_fit (IfLine line c x y rest) = (λ looping. is_scalar (judge c) && (list_all {X = Bool → Bool} (λ s. s looping)
+      (lines_fit x) && list_all {X = Bool → Bool} (λ s. s looping) (lines_fit y))) ∷ lines_fit rest
   lines_fit (WhileLine line c x rest) = (λ looping. is_scalar (judge c) &&
       list_all {X = Bool → Bool} (λ s. s true) (lines_fit x)) ∷ lines_fit rest
-  lines_fit (ForLine line p e c q f x rest) = (λ looping. assign_fits (judge p) (judge e) &&
-      (is_scalar (judge c) && (assign_fits (judge q) (judge f) &&
-      list_all {X = Bool → Bool} (λ s. s true) (lines_fit x)))) ∷ lines_fit rest
+  lines_fit (ForLine line p e c q f x rest) = (λ looping. assign_fits (judge p) (judge e) && (is_scalar (judge c) &&
+      (assign_fits (judge q) (judge f) && list_all {X = Bool → Bool} (λ s. s true) (lines_fit x)))) ∷ lines_fit rest
   lines_fit (BreakLine line rest) = (λ looping. looping) ∷ lines_fit rest
   lines_fit (ContinueLine line rest) = (λ looping. looping) ∷ lines_fit rest
   lines_fit (ReturnLine line rest) = (λ looping. not (is_some result)) ∷ lines_fit rest
@@ -151,31 +146,27 @@ module _ (scope : Scope) (callable : Callable) (result : Option Ty) where
 
   pub lines_fit_are : (x : Lines) → map (stmt_fits scope callable result) (stmts x) ≡ lines_fit x
   lines_fit_are NoLine = refl
-  lines_fit_are (EmptyLine line rest) =
-      next_line _ _ (kind_fits scope callable result) _ line _ refl (lines_fit_are rest)
-  lines_fit_are (AssignLine line p e rest) = next_line _ _ (kind_fits scope callable result) _ line _
-      (λ j. λ looping. assign_fits (judge_is p j) (judge_is e j)) (lines_fit_are rest)
-  lines_fit_are (AssignCallLine line p target args rest) = next_line _ _ (kind_fits scope callable result) _ line _
+  lines_fit_are (EmptyLine line rest) = next_line _ _ _ _ refl (lines_fit_are rest)
+  lines_fit_are (AssignLine line p e rest) =
+      next_line _ _ _ _ (λ j. λ looping. assign_fits (judge_is p j) (judge_is e j)) (lines_fit_are rest)
+  lines_fit_are (AssignCallLine line p target args rest) = next_line _ _ _ _
       (λ j. λ looping. assign_call_fits callable (judge_is p j) target (judges_are args j)) (lines_fit_are rest)
-  lines_fit_are (CallLine line target args rest) = next_line _ _ (kind_fits scope callable result) _ line _
-      (λ j. λ looping. call_fits callable target (judges_are args j)) (lines_fit_are rest)
-  lines_fit_are (IfLine line c x y rest) = next_line _ _ (kind_fits scope callable result) _ line _ (λ j. λ looping.
-      is_scalar (judge_is c j) && (list_all {X = Bool → Bool} (λ s. s looping) (lines_fit_are x j) && list_all
-      {X = Bool → Bool} (λ s. s looping) (lines_fit_are y j))) (lines_fit_are rest)
-  lines_fit_are (WhileLine line c x rest) = next_line _ _ (kind_fits scope callable result) _ line _
+  lines_fit_are (CallLine line target args rest) =
+      next_line _ _ _ _ (λ j. λ looping. call_fits callable target (judges_are args j)) (lines_fit_are rest)
+  lines_fit_are (IfLine line c x y rest) =
+      next_line _ _ _ _ (λ j. λ looping. is_scalar (judge_is c j) && (list_all {X = Bool → Bool} (λ s. s looping)
+      (lines_fit_are x j) && list_all {X = Bool → Bool} (λ s. s looping) (lines_fit_are y j))) (lines_fit_are rest)
+  lines_fit_are (WhileLine line c x rest) = next_line _ _ _ _
       (λ j. λ looping. is_scalar (judge_is c j) && list_all {X = Bool → Bool} (λ s. s true) (lines_fit_are x j))
       (lines_fit_are rest)
-  lines_fit_are (ForLine line p e c q f x rest) = next_line _ _ (kind_fits scope callable result) _ line _ (λ j.
-      λ looping. assign_fits (judge_is p j) (judge_is e j) && (is_scalar (judge_is c j) &&
+  lines_fit_are (ForLine line p e c q f x rest) =
+      next_line _ _ _ _ (λ j. λ looping. assign_fits (judge_is p j) (judge_is e j) && (is_scalar (judge_is c j) &&
       (assign_fits (judge_is q j) (judge_is f j) && list_all {X = Bool → Bool} (λ s. s true) (lines_fit_are x j))))
       (lines_fit_are rest)
-  lines_fit_are (BreakLine line rest) =
-      next_line _ _ (kind_fits scope callable result) _ line _ refl (lines_fit_are rest)
-  lines_fit_are (ContinueLine line rest) =
-      next_line _ _ (kind_fits scope callable result) _ line _ refl (lines_fit_are rest)
-  lines_fit_are (ReturnLine line rest) =
-      next_line _ _ (kind_fits scope callable result) _ line _ refl (lines_fit_are rest)
-  lines_fit_are (ReturnValueLine line e rest) = next_line _ _ (kind_fits scope callable result) _ line _
-      (λ j. λ looping. returned_fits result (judge_is e j)) (lines_fit_are rest)
-  lines_fit_are (ReturnCallLine line target args rest) = next_line _ _ (kind_fits scope callable result) _ line _
-      (λ j. λ looping. returned_call_fits callable result target (judges_are args j)) (lines_fit_are rest)
+  lines_fit_are (BreakLine line rest) = next_line _ _ _ _ refl (lines_fit_are rest)
+  lines_fit_are (ContinueLine line rest) = next_line _ _ _ _ refl (lines_fit_are rest)
+  lines_fit_are (ReturnLine line rest) = next_line _ _ _ _ refl (lines_fit_are rest)
+  lines_fit_are (ReturnValueLine line e rest) =
+      next_line _ _ _ _ (λ j. λ looping. returned_fits result (judge_is e j)) (lines_fit_are rest)
+  lines_fit_are (ReturnCallLine line target args rest) =
+      next_line _ _ _ _ (λ j. λ looping. returned_call_fits callable result target (judges_are args j)) (lines_fit_are rest)

@@ -154,32 +154,28 @@ module _ (arith : Arith) (structs : List TypedStruct) (here : Here) (params : �
 
     pub lines_are : (x : Lines) → map (stmt_does arith structs here params calls) (stmts x) ≡ lines_do x
     lines_are NoLine = refl
-    lines_are (EmptyLine line rest) =
-        next_line _ _ (kind_step arith structs here params calls) _ line _ refl (lines_are rest)
-    lines_are (AssignLine line place e rest) = next_line _ _ (kind_step arith structs here params calls) _ line _
-        (λ j. assign here (way_is place j) (way_is e j) line) (lines_are rest)
-    lines_are (AssignCallLine line place target args rest) = next_line _ _ (kind_step arith structs here params calls) _
-        line _ (λ j. assign_call here calls (way_is place j) target (ways_are args j) line) (lines_are rest)
-    lines_are (CallLine line target args rest) = next_line _ _ (kind_step arith structs here params calls) _ line _
-        (λ j. call_alone here calls target (ways_are args j) line) (lines_are rest)
-    lines_are (IfLine line cond x y rest) = next_line _ _ (kind_step arith structs here params calls) _ line _ (λ j a s.
-        and_then (evaluated here want.Value (way_is cond j) line s)
+    lines_are (EmptyLine line rest) = next_line _ _ _ _ refl (lines_are rest)
+    lines_are (AssignLine line place e rest) =
+        next_line _ _ _ _ (λ j. assign here (way_is place j) (way_is e j) line) (lines_are rest)
+    lines_are (AssignCallLine line place target args rest) =
+        next_line _ _ _ _ (λ j. assign_call here calls (way_is place j) target (ways_are args j) line) (lines_are rest)
+    lines_are (CallLine line target args rest) =
+        next_line _ _ _ _ (λ j. call_alone here calls target (ways_are args j) line) (lines_are rest)
+    lines_are (IfLine line cond x y rest) =
+        next_line _ _ _ _ (λ j a s. and_then (evaluated here want.Value (way_is cond j) line s)
         (λ v s. choose v (all_do (lines_are x j) a s) (all_do (lines_are y j) a s))) (lines_are rest)
-    lines_are (WhileLine line cond x rest) = next_line _ _ (kind_step arith structs here params calls) _ line _
-        (λ j. loop (test here (way_is cond j) line) (all_do (lines_are x j)) (leave Next)) (lines_are rest)
-    lines_are (ForLine line p e cond q f x rest) = next_line _ _ (kind_step arith structs here params calls) _ line _
-        (λ j a s. follow in_order (assign here (way_is p j) (way_is e j) line a s)
+    lines_are (WhileLine line cond x rest) =
+        next_line _ _ _ _ (λ j. loop (test here (way_is cond j) line) (all_do (lines_are x j)) (leave Next)) (lines_are rest)
+    lines_are (ForLine line p e cond q f x rest) =
+        next_line _ _ _ _ (λ j a s. follow in_order (assign here (way_is p j) (way_is e j) line a s)
         (loop (test here (way_is cond j) line) (all_do (lines_are x j)) (assign here (way_is q j) (way_is f j) line)))
         (lines_are rest)
-    lines_are (BreakLine line rest) =
-        next_line _ _ (kind_step arith structs here params calls) _ line _ refl (lines_are rest)
-    lines_are (ContinueLine line rest) =
-        next_line _ _ (kind_step arith structs here params calls) _ line _ refl (lines_are rest)
-    lines_are (ReturnLine line rest) =
-        next_line _ _ (kind_step arith structs here params calls) _ line _ refl (lines_are rest)
-    lines_are (ReturnValueLine line e rest) = next_line _ _ (kind_step arith structs here params calls) _ line _
+    lines_are (BreakLine line rest) = next_line _ _ _ _ refl (lines_are rest)
+    lines_are (ContinueLine line rest) = next_line _ _ _ _ refl (lines_are rest)
+    lines_are (ReturnLine line rest) = next_line _ _ _ _ refl (lines_are rest)
+    lines_are (ReturnValueLine line e rest) = next_line _ _ _ _
         (λ j a s. and_then (evaluated here want.Value (way_is e j) line s) (λ v s. leave (Return (Some v)) a s))
         (lines_are rest)
-    lines_are (ReturnCallLine line target args rest) = next_line _ _ (kind_step arith structs here params calls) _ line
-        _ (λ j a s. and_then (call here calls target (ways_are args j) line s) (λ result s. leave (Return result) a s))
+    lines_are (ReturnCallLine line target args rest) = next_line _ _ _ _
+        (λ j a s. and_then (call here calls target (ways_are args j) line s) (λ result s. leave (Return result) a s))
         (lines_are rest)
