@@ -41,14 +41,9 @@ module _ (interfaces : Interfaces) where
       let takes_it = (and_parts (imports interfaces from _) (takes interfaces to index _) may).1 in
       let export = there _ (λ found. length _ == length args) takes_it in
       (mine, has_comp to index export, export)
-  performed at (Ret from to value) may known mine = (
-    mine,
-    awaited at.waiting to
-        (and_parts (awaits at.waiting to) (may_return interfaces from at.active.entry value) may).0 known.waiting,
-  )
-  performed at (Out comp value) may known mine = mine
-  performed at (In comp value) may known mine = mine
-  performed at (End comp value) may known mine = mine
+  performed at (Ret from to value) may known mine = (mine, awaited at.waiting to
+      (and_parts (awaits at.waiting to) (may_return interfaces from at.active.entry value) may).0 known.waiting)
+  performed at _ may known mine = mine
 
   known_of : (at : Standing) (event : Event) → is_allowed interfaces at event ≡ true → IsAmong at →
       IsKnown interfaces event
@@ -68,9 +63,8 @@ module _ (interfaces : Interfaces) where
     resume : (waiting : List Activation) → AllByRecursion (λ a. IsComp a.comp) waiting → StandsAmong (resumed waiting)
     resume [] all = tt
     resume _ all = record { active = all.0; waiting = all.1 }
-  among_after at (Out comp value) is known = known
-  among_after at (In comp value) is known = known
   among_after at (End comp value) is known = tt
+  among_after at _ is known = known
 
   all_known : (from : Option Standing) (trace : List Event) → StandsAmong from →
       is_legal_from interfaces from trace ≡ true → AllByRecursion (IsKnown interfaces) trace

@@ -15,12 +15,12 @@ one_more trace n event is =
 
 behind_last : (from : Option Standing) (earlier : List Event) (event : Event) → stands_behind from
     (earlier ++ event ∷ []) ≡ option_and_then (λ at. stands_after at event) (stands_behind from earlier)
-behind_last None [] event = refl
-behind_last (Some at) [] event = refl
-behind_last None (first ∷ earlier) event = refl
 behind_last (Some at) (first ∷ earlier) event = behind_last _ earlier event
+behind_last (Some at) [] event = refl
+behind_last None [] event = refl
+behind_last None (first ∷ earlier) event = refl
 
-event_here : (trace : List Event) (place : ℕ) (event : Event) → place < length trace →
+pub event_here : (trace : List Event) (place : ℕ) (event : Event) → place < length trace →
     event ≡ get_or trace place event → slice_get trace place ≡ Some event
 event_here trace place event within is = slice_get-get_or trace place event within ∙ ap (λ e. Some e) (sym is)
 
@@ -34,10 +34,7 @@ goes_on trace left place returned before event e within is found =
 pub few : (event : Event) (returned before : ℕ) → returned_before event returned ≡ Some before → before ≤ suc returned
 few (Call from to index args) zero before is = absurd (none-some before is)
 few (Call from to index args) (suc returned) before is = omega (arith, same_Some _ before is)
-few (Ret from to value) returned before is = omega (arith, same_Some _ before is)
-few (Out comp value) returned before is = omega (arith, same_Some _ before is)
-few (In comp value) returned before is = omega (arith, same_Some _ before is)
-few (End comp value) returned before is = omega (arith, same_Some _ before is)
+few _ returned before is = omega (arith, same_Some _ before is)
 
 -- where the run stands once so many more calls have returned
 abbrev back : (returned : ℕ) → Standing → Option Standing
@@ -68,11 +65,9 @@ module _ (main : ℕ) (trace : List Event) where
       again _ earlier then_at was (subst (λ s. back (suc returned) s ≡ Some then_at) (sym (same_Some _ _ next)) up)
   found_by count (Ret from to value) is again earlier was returned at then_at next up =
       again _ earlier then_at was (ap (option_and_then _) next ∙ up)
-  found_by count (Out comp value) is again earlier was returned at then_at next up =
-      again _ earlier then_at was (subst (λ s. back returned s ≡ Some then_at) (sym (same_Some _ _ next)) up)
-  found_by count (In comp value) is again earlier was returned at then_at next up =
-      again _ earlier then_at was (subst (λ s. back returned s ≡ Some then_at) (sym (same_Some _ _ next)) up)
   found_by count (End comp value) is again earlier was returned at then_at next up = absurd (none-some at next)
+  found_by count _ is again earlier was returned at then_at next up =
+      again _ earlier then_at was (subst (λ s. back returned s ≡ Some then_at) (sym (same_Some _ _ next)) up)
 
   found_next : (count : ℕ) (event : Event) → slice_get trace count ≡ Some event → Finds count →
       (was : Option Standing) → standing count ≡ was → (returned : ℕ) (at then_at : Standing) →
@@ -105,12 +100,8 @@ module _ (main : ℕ) (trace : List Event) where
 
     waits_by : (event : Option Event) (earlier : Standing) → HasEntered event earlier at →
         at.waiting ≡ earlier.active ∷ earlier.waiting
-    waits_by None earlier h = absurd h
     waits_by (Some (Call from to index args)) earlier h = ap (λ s. s.waiting) h
-    waits_by (Some (Ret from to value)) earlier h = absurd h
-    waits_by (Some (Out comp value)) earlier h = absurd h
-    waits_by (Some (In comp value)) earlier h = absurd h
-    waits_by (Some (End comp value)) earlier h = absurd h
+    waits_by _ earlier h = absurd h
 
     pub awaited : (comp to : ℕ) → StandsBy main trace (Some call) at →
         ((earlier : Standing) → StandsBy main trace (open_call trace call 0) earlier → comp ≡ earlier.active.comp) →
@@ -134,8 +125,5 @@ module _ (main : ℕ) (trace : List Event) where
   after_by None place (Ret from to value) at next within is come by e =
       absurd (none-some next (subst (λ s. resumed s.waiting ≡ Some next) (same_Some _ _ by) e))
   after_by (Some call) place (Ret from to value) at next within is come by e = outer_by call at within next by e
-  after_by pending place (Out comp value) at next within is come by e =
-      subst (StandsBy main trace pending) (same_Some _ _ e) by
-  after_by pending place (In comp value) at next within is come by e =
-      subst (StandsBy main trace pending) (same_Some _ _ e) by
   after_by pending place (End comp value) at next within is come by e = absurd (none-some next e)
+  after_by pending place _ at next within is come by e = subst (StandsBy main trace pending) (same_Some _ _ e) by
