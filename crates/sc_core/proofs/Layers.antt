@@ -1,10 +1,9 @@
 -- A fold at an expression or a statement, by its layer: one equation for all forms, whose right side computes.
-use Rattle.sc_core.proofs.Common.{List, ◌∷◌}
-use Rattle.sc_core.proofs.Common.{Ty, TypedExpr, TypedExpr-F, TypedKind, TypedKind-F, TypedStmt, TypedStmt-F}
+use Rattle.sc_core.proofs.Common.{List, Ty, TypedExpr, TypedExpr-F, TypedKind, TypedKind-F, TypedStmt, TypedStmt-F}
 use Rattle.sc_core.proofs.Common.{TypedStmtKind, TypedStmtKind-F, ap, fold-TypedExpr, fold-TypedKind, fold-TypedStmt}
 use Rattle.sc_core.proofs.Common.{fold-TypedStmtKind, fold-roll-TypedExpr, fold-roll-TypedKind, fold-roll-TypedStmt}
 use Rattle.sc_core.proofs.Common.{fold-roll-TypedStmtKind, map-TypedKind, map-TypedStmtKind, roll-TypedKind}
-use Rattle.sc_core.proofs.Common.{roll-TypedStmtKind, ℕ, ◌∙◌, ◌≡◌}
+use Rattle.sc_core.proofs.Common.{roll-TypedStmtKind, ℕ, ◌∙◌, ◌∷◌, ◌≡◌}
 
 -- an expression of this type, by its layer
 abbrev pub typed : Ty → TypedKind-F TypedKind TypedExpr → TypedExpr

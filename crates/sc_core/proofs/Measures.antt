@@ -1,17 +1,13 @@
 -- Folds of trees by shapes: types, heights and nodes compute.
-use Rattle.sc_core.proofs.Common.{Bool, Callable, Judged, List, Option, Scope, Ty, TypedExpr-F, TypedKind-F, []}
-use Rattle.sc_core.proofs.Common.{assign_call_fits, assign_fits, call_fits, expr_height, expr_nodes, fold-TypedExpr}
-use Rattle.sc_core.proofs.Common.{highest, is_scalar, is_some, judged, kind_fits, kind_height, kind_nodes, list_all}
+use Rattle.sc_core.proofs.Common.{Bool, Callable, Judged, List, Option, Scope, Ty, [], assign_call_fits, assign_fits}
+use Rattle.sc_core.proofs.Common.{call_fits, expr_height, expr_nodes, highest, is_scalar, is_some, judged, list_all}
 use Rattle.sc_core.proofs.Common.{map, max, not, refl, returned_call_fits, returned_fits, stmt_fits, stmt_height}
-use Rattle.sc_core.proofs.Common.{stmt_nodes, suc, term_height, term_judged, term_nodes, total, true, ℕ, ◌&&◌, ◌+◌, ◌∙◌}
-use Rattle.sc_core.proofs.Common.{◌∷◌, ◌≡◌}
-use Rattle.sc_core.specs.declared.expr.TypedKind.TheOpen as term
-use Rattle.sc_core.specs.declared.stmt.TypedStmtKind.TheOpen as layer
+use Rattle.sc_core.proofs.Common.{stmt_nodes, suc, term_height, term_judged, term_nodes, total, true, ℕ, ◌&&◌, ◌+◌, ◌∷◌}
+use Rattle.sc_core.proofs.Common.{◌≡◌}
 use Rattle.sc_core.proofs.Layers.{next_line}
-use Rattle.sc_core.proofs.Shapes.{Shape, Lit, Var, One, Two, At, Dot, Arrow, Star, Amp, expr, Lines, NoLine, EmptyLine}
-use Rattle.sc_core.proofs.Shapes.{AssignLine, AssignCallLine, CallLine, IfLine, WhileLine, ForLine, BreakLine}
-use Rattle.sc_core.proofs.Shapes.{ContinueLine, ReturnLine, ReturnValueLine, ReturnCallLine, call_of, part, stmts, shape_fold, shape_fold_is}
-use Rattle.sc_core.proofs.Shapes.{shapes_are}
+use Rattle.sc_core.proofs.Shapes.{Shape, expr, Lines, NoLine, EmptyLine, AssignLine, AssignCallLine, CallLine, IfLine}
+use Rattle.sc_core.proofs.Shapes.{WhileLine, ForLine, BreakLine, ContinueLine, ReturnLine, ReturnValueLine}
+use Rattle.sc_core.proofs.Shapes.{ReturnCallLine, stmts, shape_fold, shape_fold_is, shapes_are}
 
 abbrev pub shape_height : Shape → ℕ
 shape_height = shape_fold ℕ ℕ term_height (λ e. e.kind)

@@ -1,10 +1,10 @@
 -- Trees by shapes, on which folds compute: what an expression gives and what statements do, as recursions that the
 -- meaning equals.
 use Rattle.sc_core.proofs.Common.{Acts, Arith, BinaryOp, Break, CallTarget, Calls, Continue, Here, List, Meant, Next}
-use Rattle.sc_core.proofs.Common.{None, Option, Return, Some, Ty, TypedExpr, TypedStmt, TypedStruct, UnaryOp, Ways, []}
-use Rattle.sc_core.proofs.Common.{all_do, and_then, ap, assign, assign_call, call, call_alone, choose, evaluated}
-use Rattle.sc_core.proofs.Common.{follow, in_order, kind_step, leave, loop, map, meant, refl, stmt_does, stmt_step}
-use Rattle.sc_core.proofs.Common.{term_step, test, ways, ℕ, ◌∙◌, ◌∷◌, ◌≡◌}
+use Rattle.sc_core.proofs.Common.{None, Option, Return, Some, Ty, TypedExpr, TypedExpr-F, TypedKind-F, TypedStmt}
+use Rattle.sc_core.proofs.Common.{TypedStruct, UnaryOp, Ways, [], all_do, and_then, ap, assign, assign_call, call}
+use Rattle.sc_core.proofs.Common.{call_alone, choose, evaluated, fold-TypedExpr, follow, in_order, leave, loop, map}
+use Rattle.sc_core.proofs.Common.{meant, meant_step, refl, stmt_does, term_step, test, ways, ℕ, ◌∙◌, ◌∷◌, ◌≡◌}
 use Rattle.sc_core.specs.declared.expr.TypedKind.TheOpen as term
 use Rattle.sc_core.specs.declared.expr.VarRef.{VarRef}
 use Rattle.sc_core.specs.declared.expr.TypedCall.{TypedCall}
@@ -13,8 +13,6 @@ use Rattle.sc_core.specs.declared.stmt.TypedSimple.{TypedSimple}
 use Rattle.sc_core.specs.declared.stmt.TypedSimpleKind.TheVariants as simple
 use Rattle.sc_core.specs.declared.value.Want.TheVariants as want
 use Rattle.sc_core.proofs.Layers.{typed, expr_at, on_line, next_line}
-use Rattle.sc_core.proofs.Common.{TypedExpr-F, TypedKind-F, fold-TypedExpr}
-use Rattle.sc_core.specs.Tree.{meant_step}
 
 -- an expression
 pub data Shape : Type 0 where

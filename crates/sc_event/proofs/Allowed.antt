@@ -1,10 +1,10 @@
 -- What is known at each event of the walk through a trace.
-use Rattle.sc_event.proofs.Common.{Activation, Bool, Call, End, Event, IfSome, In, Interfaces, List, None, Option, Out}
-use Rattle.sc_event.proofs.Common.{Ret, Some, Standing, StandsBy, [], and_parts, ap, arith, awaits, drop, drop_more}
-use Rattle.sc_event.proofs.Common.{eq-eqb, false, false≢true, get_or, is_allowed, is_end, is_legal_from, legal, length}
+use Rattle.sc_event.proofs.Common.{Activation, Bool, Call, End, Event, IfSome, Interfaces, List, None, Option, Ret}
+use Rattle.sc_event.proofs.Common.{Some, Standing, StandsBy, [], and_parts, ap, arith, awaits, drop, drop_more, eq-eqb}
+use Rattle.sc_event.proofs.Common.{false, false≢true, get_or, is_allowed, is_end, is_legal_from, legal, length}
 use Rattle.sc_event.proofs.Common.{length-drop, may_perform, ne_eqb, open_after, option_and_then, performer, refl}
-use Rattle.sc_event.proofs.Common.{resumed, slice_get, slice_get-get_or, stands_after, suc, sym, true, ℕ, ◌&&◌, ◌+◌}
-use Rattle.sc_event.proofs.Common.{◌-◌, ◌<◌, ◌==◌, ◌∙◌, ◌∷◌, ◌≡◌}
+use Rattle.sc_event.proofs.Common.{resumed, slice_get, stands_after, suc, sym, true, ℕ, ◌&&◌, ◌+◌, ◌-◌, ◌<◌, ◌==◌, ◌∙◌}
+use Rattle.sc_event.proofs.Common.{◌∷◌, ◌≡◌}
 use Rattle.sc_event.proofs.OpenCalls.{event_here, standing, standing_next, after_by}
 
 -- all events before a place were allowed, and the run goes on there

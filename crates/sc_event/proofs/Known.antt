@@ -1,9 +1,9 @@
 -- The numbers of a legal trace's events stand for something.
-use Rattle.sc_event.proofs.Common.{Activation, All, Bool, Call, End, Event, In, Interfaces, IsKnown, IsSome, List, None}
-use Rattle.sc_event.proofs.Common.{Option, Out, Ret, Some, Standing, [], and_parts, awaits, comp_at, eqb-true}
-use Rattle.sc_event.proofs.Common.{export_at, false, false≢true, imports, is_allowed, is_legal_from, legal, length}
-use Rattle.sc_event.proofs.Common.{may_perform, may_return, option_and_then, option_map_or, performer, refl, resumed}
-use Rattle.sc_event.proofs.Common.{slice_get, stands_after, subst, sym, takes, true, ℕ, ◌==◌, ◌∷◌, ◌≡◌}
+use Rattle.sc_event.proofs.Common.{Activation, All, Bool, Call, End, Event, Interfaces, IsKnown, IsSome, List, None}
+use Rattle.sc_event.proofs.Common.{Option, Ret, Some, Standing, [], and_parts, awaits, comp_at, eqb-true, export_at}
+use Rattle.sc_event.proofs.Common.{false, false≢true, imports, is_allowed, is_legal_from, legal, length, may_perform}
+use Rattle.sc_event.proofs.Common.{may_return, option_and_then, option_map_or, performer, refl, resumed, slice_get}
+use Rattle.sc_event.proofs.Common.{stands_after, subst, sym, takes, true, ℕ, ◌==◌, ◌∷◌, ◌≡◌}
 use Rattle.std.proofs.lemmas.List.Elements.{All-from_recursion}
 use Rattle.std.specs.List.{AllByRecursion}
 use Rattle.sc_event.specs.declared.interface.Interface.{Interface}

@@ -1,10 +1,10 @@
 -- The open call that is found in a trace is the one by which the run stands where it stands.
-use Rattle.sc_event.proofs.Common.{Call, End, Event, HasEntered, IfSome, In, List, None, Option, Out, Ret, Some}
-use Rattle.sc_event.proofs.Common.{Standing, StandsBy, [], ap, arith, at_start, awaits, get_or, get_or_from_slice_get}
-use Rattle.sc_event.proofs.Common.{here_or, length, none-some, open_after, open_call, option_and_then, option_map_or}
-use Rattle.sc_event.proofs.Common.{refl, resumed, returned_before, same_Some, slice_get, slice_get-get_or}
-use Rattle.sc_event.proofs.Common.{slice_get_within, stands_after, stands_behind, subst, suc, sym, take, take_more}
-use Rattle.sc_event.proofs.Common.{zero, ℕ, ◌++◌, ◌+◌, ◌<◌, ◌==◌, ◌∙◌, ◌∷◌, ◌≡◌, ◌≤◌}
+use Rattle.sc_event.proofs.Common.{Call, End, Event, HasEntered, IfSome, List, None, Option, Ret, Some, Standing}
+use Rattle.sc_event.proofs.Common.{StandsBy, [], ap, arith, at_start, awaits, get_or, get_or_from_slice_get, here_or}
+use Rattle.sc_event.proofs.Common.{length, none-some, open_after, open_call, option_and_then, option_map_or, refl}
+use Rattle.sc_event.proofs.Common.{resumed, returned_before, same_Some, slice_get, slice_get-get_or, slice_get_within}
+use Rattle.sc_event.proofs.Common.{stands_after, stands_behind, subst, suc, sym, take, take_more, zero, ℕ, ◌++◌, ◌+◌}
+use Rattle.sc_event.proofs.Common.{◌<◌, ◌==◌, ◌∙◌, ◌∷◌, ◌≡◌, ◌≤◌}
 
 one_more : (trace : List Event) (n : ℕ) (event : Event) → slice_get trace n ≡ Some event →
     take (suc n) trace ≡ take n trace ++ event ∷ []

@@ -32,18 +32,16 @@ then_agree o p k l h x = record {
 if_agree : {V : Type 0} (b c : Bool) (o p o' p' : Piece V) → b ≡ c → PiecesAgree o p → PiecesAgree o' p' →
     PiecesAgree (if b then o else o') (if c then p else p')
 if_agree true true o p o' p' is h k = h
-if_agree true false o p o' p' is h k = absurd (cc)
-if_agree false true o p o' p' is h k = absurd (cc)
 if_agree false false o p o' p' is h k = k
+if_agree _ _ o p o' p' is h k = absurd (cc)
 
 found_agree : {V : Type 0} (m n : Option V) (s : State) → m ≡ n → PiecesAgree (found m s) (found n s)
 found_agree m n s is = record { same = ap (λ x. piece_without_line (found x s)) is }
 
 both_there : (f g : Option Function) → Meets FunctionsAgree f g → is_some f ≡ is_some g
 both_there None None h = refl
-both_there None (Some g) h = absurd h
-both_there (Some f) None h = absurd h
 both_there (Some f) (Some g) h = refl
+both_there _ _ h = absurd h
 
 module _ (L M : Library) (agree : LibrariesAgree L M) where
   -- the same calls may be made
@@ -62,10 +60,9 @@ module _ (L M : Library) (agree : LibrariesAgree L M) where
         (and_then (found g s) (λ g s. and_then (other number (record { comp = comp; first = length (s.memory comp) })
         (begun comp g args s)) (λ v t. back' v (done comp g (length (s.memory comp)) t))))
     runs_there comp number args back back' b s None None h = itself _
-    runs_there comp number args back back' b s None (Some g) h = absurd h
-    runs_there comp number args back back' b s (Some f) None h = absurd h
     runs_there comp number args back back' b s (Some f) (Some g) h =
         rw (h.cells, h.room) (then_agree _ _ _ _ (bodies number _ _) (λ v t. b v _))
+    runs_there comp number args back back' b s _ _ h = absurd h
 
     runs_in : (comp number : ℕ) (args : List Value) (back back' : Option Value → State → Piece (Option Value)) →
         ((v : Option Value) (s : State) → PiecesAgree (back v s) (back' v s)) → (s : State) →
@@ -102,9 +99,8 @@ module _ (L M : Library) (agree : LibrariesAgree L M) where
         PiecesAgree (and_then (found f s) (λ f s. f.does (calls L body) here s))
         (and_then (found g s) (λ g s. g.does (calls M other) here s))
     does_there here s None None h = itself _
-    does_there here s None (Some g) h = absurd h
-    does_there here s (Some f) None h = absurd h
     does_there here s (Some f) (Some g) h = h.does _ _ calls_agree here s
+    does_there here s _ _ h = absurd h
 
     pub step_agree : BodiesAgree (run_step L body) (run_step M other)
     step_agree number here s = does_there here s (function L _ number) (function M _ number) (agree.functions _ number)
@@ -158,43 +154,25 @@ module _ (L M : Library) (agree : LibrariesAgree L M) where
 same_reach : (events : ℕ) (run other : SourceRun) (end end' : RunEnd) → run.trace ≡ other.trace →
     without_line end ≡ without_line end' → reaches events run end ≡ reaches events other end'
 same_reach events run other Ended Ended is h = ap (λ t. nat_lt events (length t)) is
-same_reach events run other Ended (Blamed c x l) is h = absurd (cc)
-same_reach events run other Ended TurnsOut is h = absurd (cc)
-same_reach events run other Ended EventsOut is h = absurd (cc)
-same_reach events run other (Blamed c x l) Ended is h = absurd (cc)
-same_reach events run other (Blamed c x l) (Blamed c' x' l') is h = ap (λ t. nat_le events (length t)) is
-same_reach events run other (Blamed c x l) TurnsOut is h = ap (λ t. nat_le events (length t)) is
-same_reach events run other (Blamed c x l) EventsOut is h = ap (λ t. nat_le events (length t)) is
-same_reach events run other TurnsOut Ended is h = absurd (cc)
-same_reach events run other TurnsOut (Blamed c x l) is h = ap (λ t. nat_le events (length t)) is
-same_reach events run other TurnsOut TurnsOut is h = ap (λ t. nat_le events (length t)) is
-same_reach events run other TurnsOut EventsOut is h = ap (λ t. nat_le events (length t)) is
-same_reach events run other EventsOut Ended is h = absurd (cc)
-same_reach events run other EventsOut (Blamed c x l) is h = ap (λ t. nat_le events (length t)) is
-same_reach events run other EventsOut TurnsOut is h = ap (λ t. nat_le events (length t)) is
-same_reach events run other EventsOut EventsOut is h = ap (λ t. nat_le events (length t)) is
+same_reach events run other Ended _ is h = absurd (cc)
+same_reach events run other _ Ended is h = absurd (cc)
+same_reach events run other _ _ is h = ap (λ t. nat_le events (length t)) is
 
 if_shown : (b c : Bool) (run other run' other' : SourceRun) → b ≡ c → BehavioursAgree run other →
     BehavioursAgree run' other' → BehavioursAgree (if b then run else run') (if c then other else other')
 if_shown true true run other run' other' is h k = h
-if_shown true false run other run' other' is h k = absurd (cc)
-if_shown false true run other run' other' is h k = absurd (cc)
 if_shown false false run other run' other' is h k = k
+if_shown _ _ run other run' other' is h k = absurd (cc)
 
 pub stopped_agree : (events : ℕ) (run other : SourceRun) → BehavioursAgree run other →
     BehavioursAgree (stopped_at events run) (stopped_at events other)
 stopped_agree events run other h =
-    if_shown (reaches events run run.end) (reaches events other _) (record {
-      trace = take events _;
-      end = EventsOut;
-    }) (record { trace = take events _; end = EventsOut }) run other
-    (same_reach events run other run.end _ h.trace h.end) (record { trace = ap (take events) h.trace; end = refl }) h
+    if_shown (reaches events run run.end) (reaches events other _) (record { trace = take events _; end = EventsOut })
+    (record { trace = take events _; end = EventsOut }) run other (same_reach events run other run.end _ h.trace h.end) (record { trace = ap (take events) h.trace; end = refl }) h
 
 twice : (end : RunEnd) → without_line (without_line end) ≡ without_line end
 twice Ended = refl
-twice (Blamed comp cause line) = refl
-twice TurnsOut = refl
-twice EventsOut = refl
+twice _ = refl
 
 -- what a run shows, without the line, is told by its piece without the line
 trace_of : (main : ℕ) (o : Piece (Option Value)) →

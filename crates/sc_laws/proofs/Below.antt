@@ -231,9 +231,8 @@ module _ (d : ℕ) (Soft : Cause → Type 0) (Turns : Type 0) (spent : (d ≡ 0)
           ((f g : Function) → FunctionsBelow f g → Beneath (k f s) (l g (richer d s))) →
           Beneath (and_then (found f s) k) (and_then (found g (richer d s)) l)
       found_below None None meets s k l h = along refl
-      found_below None (Some g) meets s k l h = absurd meets
-      found_below (Some f) None meets s k l h = absurd meets
       found_below (Some f) (Some g) meets s k l h = h f g meets
+      found_below _ _ meets s k l h = absurd meets
 
       module _ (L M : Library) (twins : LibrariesBelow L M) where
         run_below : (comp number : ℕ) (args : List Value) (back : Option Value → State → Piece (Option Value))

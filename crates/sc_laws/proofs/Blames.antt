@@ -1,18 +1,16 @@
 -- No compartment that performs is blamed, whatever the trace is, and only compartments that there are.
-use Rattle.sc_laws.proofs.Common.{Action, AreFresh, BadType, Blamed, Body, Bool, Call, CallTarget, Cause, ChainRises}
-use Rattle.sc_laws.proofs.Common.{Cross, Ended, Event, EventsOut, Function, HasChain, Here, Input, IsBlamedOutside}
-use Rattle.sc_laws.proofs.Common.{IsChain, IsRising, IsWithin, Kept, Library, Link, List, Main, Memory, Obedient}
-use Rattle.sc_laws.proofs.Common.{Option, Output, Own, PassesBlame, Piece, Property, Reached, Roles, Row, RunEnd, Set}
-use Rattle.sc_laws.proofs.Common.{Some, SourceRun, State, Stopped, TurnsOut, Value, Word, [], acts, ap, ap₂, arith}
-use Rattle.sc_laws.proofs.Common.{asks, back_cross, back_own, call_cross, call_own, called, calls, cases_eq, eq-eqb}
-use Rattle.sc_laws.proofs.Common.{eqb-true, false, first_state, found_kept, function, if◌then◌else◌, leb-false, length}
-use Rattle.sc_laws.proofs.Common.{length-append, longer, map, nat_le, ne_eqb, nobody, performed_by, performs, reaches}
-use Rattle.sc_laws.proofs.Common.{refl, roles_in, roles_run, rows_left, run_by, run_in, run_step, run_to, scripted_step}
-use Rattle.sc_laws.proofs.Common.{slice_get, slice_index_or, stopped_at, subst, suc, sym, take, then_kept, true, turn}
-use Rattle.sc_laws.proofs.Common.{turn_of, turnless, with, within, zero, ℕ, ⊎_elim, ◌++◌, ◌+◌, ◌<◌, ◌==◌, ◌||◌, ◌∙◌}
-use Rattle.sc_laws.proofs.Common.{◌∷◌, ◌≡◌, ◌≤◌, ◌⊎◌}
-use Rattle.sc_event.specs.declared.row.Action.TheVariants as act
-use Rattle.sc_laws.proofs.Growing.{BodyGoes, calls_go, within_goes}
+use Rattle.sc_laws.proofs.Common.{AreFresh, Blamed, Body, Bool, CallTarget, Cause, ChainRises, Cross, Ended, Event}
+use Rattle.sc_laws.proofs.Common.{EventsOut, Function, HasChain, Here, Input, IsBlamedOutside, IsChain, IsRising}
+use Rattle.sc_laws.proofs.Common.{IsWithin, Kept, Library, Link, List, Main, Memory, Obedient, Option, Output, Own}
+use Rattle.sc_laws.proofs.Common.{PassesBlame, Piece, Property, Reached, Roles, RunEnd, Set, Some, SourceRun, State}
+use Rattle.sc_laws.proofs.Common.{Stopped, TurnsOut, Value, [], ap, ap₂, arith, back_cross, back_own, call_cross}
+use Rattle.sc_laws.proofs.Common.{call_own, called, cases_eq, eq-eqb, eqb-true, false, first_state, found_kept}
+use Rattle.sc_laws.proofs.Common.{function, if◌then◌else◌, leb-false, length, length-append, longer, nat_le, ne_eqb}
+use Rattle.sc_laws.proofs.Common.{nobody, performed_by, reaches, refl, roles_in, roles_run, run_by, run_in, run_step}
+use Rattle.sc_laws.proofs.Common.{run_to, scripted_step, slice_get, slice_index_or, stopped_at, subst, suc, sym, take}
+use Rattle.sc_laws.proofs.Common.{then_kept, true, turn, turn_of, turnless, with, within, zero, ℕ, ⊎_elim, ◌++◌, ◌+◌}
+use Rattle.sc_laws.proofs.Common.{◌<◌, ◌==◌, ◌||◌, ◌∙◌, ◌∷◌, ◌≡◌, ◌≤◌, ◌⊎◌}
+use Rattle.sc_laws.proofs.Growing.{BodyGoes, within_goes}
 use Rattle.sc_laws.proofs.Matching.{scripted_goes_on}
 use Rattle.sc_laws.proofs.Keeping.{IsKept, scripted_keeps}
 use Rattle.sc_laws.proofs.FollowingRuns.{passes_blames}

@@ -43,19 +43,12 @@ module _ (Soft : Cause → Type 0) where
     pub on_words_keep : (unsigned : Bool) (o : BinaryOp) (v w : Value) →
         Keeps Value (on_words ar unsigned o v w) (on_words br unsigned o v w)
     on_words_keep unsigned o (Word a) (Word b) = word_keeps _ _ (arith.binary _ o a b)
-    on_words_keep unsigned o (Word a) Null = alike refl
-    on_words_keep unsigned o (Word a) (Ptr p) = alike refl
-    on_words_keep unsigned o Null w = alike refl
-    on_words_keep unsigned o (Ptr p) w = alike refl
+    on_words_keep unsigned o _ _ = alike refl
 
     pub one_keeps : (unsigned : Bool) (o : UnaryOp) (v : Value) →
         Keeps Value (applied_one ar unsigned o v) (applied_one br unsigned o v)
     one_keeps unsigned unary.Minus (Word a) = word_keeps _ _ (arith.negated _ a)
-    one_keeps unsigned unary.Minus Null = alike refl
-    one_keeps unsigned unary.Minus (Ptr p) = alike refl
-    one_keeps unsigned unary.Plus v = alike refl
-    one_keeps unsigned unary.Not v = alike refl
-    one_keeps unsigned unary.BitNot v = alike refl
+    one_keeps unsigned _ _ = alike refl
 
     module _ (structs : List TypedStruct) where
       pub applied_keeps : (blocks : Blocks) (o : BinaryOp) (left right : Ty) (v w : Value) →

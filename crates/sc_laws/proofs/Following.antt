@@ -1,12 +1,12 @@
 -- Two runs along one trace, of which the second has more compartments that perform their parts of it: the relation of
 -- their pieces.
-use Rattle.sc_laws.proofs.Common.{Blamed, Blocks, Bool, Cause, Ended, Err, Event, EventsOut, FrameChange, Front, Goes}
-use Rattle.sc_laws.proofs.Common.{Gone, Grown, Here, List, Never, Ok, Option, Piece, Reached, Result, RunEnd, Some}
-use Rattle.sc_laws.proofs.Common.{Standing, State, Stopped, TurnsOut, Value, [], and_then, ap, append_assoc, arith}
-use Rattle.sc_laws.proofs.Common.{at_start, both_ways, cases_eq, computed, eq-eqb, false, if◌then◌else◌, last, ne_eqb}
-use Rattle.sc_laws.proofs.Common.{refl, stands_after, stands_behind, subst, suc, sym, tell, true, turn_of, with_blocks}
-use Rattle.sc_laws.proofs.Common.{zero, ℕ, ⊎_elim, ◌++◌, ◌<◌, ◌∙◌, ◌∷◌, ◌≡◌, ◌≤◌}
-use Rattle.sc_laws.proofs.Growing.{front_same, front_more, then_from, then_front, then_goes, turn_of_goes}
+use Rattle.sc_laws.proofs.Common.{Blamed, Blocks, Bool, Cause, Err, Event, FrameChange, Front, Goes, Gone, Grown, Here}
+use Rattle.sc_laws.proofs.Common.{List, Never, Ok, Option, Piece, Reached, Result, RunEnd, Some, Standing, State}
+use Rattle.sc_laws.proofs.Common.{Stopped, TurnsOut, Value, [], and_then, ap, append_assoc, arith, at_start, both_ways}
+use Rattle.sc_laws.proofs.Common.{cases_eq, computed, eq-eqb, false, if◌then◌else◌, last, ne_eqb, refl, stands_after}
+use Rattle.sc_laws.proofs.Common.{stands_behind, subst, suc, sym, tell, true, turn_of, with_blocks, zero, ℕ, ⊎_elim}
+use Rattle.sc_laws.proofs.Common.{◌++◌, ◌<◌, ◌∙◌, ◌∷◌, ◌≡◌, ◌≤◌}
+use Rattle.sc_laws.proofs.Growing.{front_same, then_front, then_goes, turn_of_goes}
 use Rattle.sc_laws.proofs.Twins.{Kept, KeptAt}
 use Rattle.sc_laws.proofs.Expressions.{Keeps, alike, blamed}
 use Rattle.sc_laws.proofs.Rows.{stands_last, InLine, then_along}

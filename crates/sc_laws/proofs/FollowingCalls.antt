@@ -1,20 +1,20 @@
 -- Calls in two runs along one trace, of which the second has more compartments that perform their parts of it.
 use Rattle.sc_laws.proofs.Common.{Action, BadType, Blamed, Body, Bool, Call, CallTarget, Cross, Event, Export, Front}
 use Rattle.sc_laws.proofs.Common.{Function, Goes, Gone, Here, In, Input, IsFixed, Library, List, Meets, None, Option}
-use Rattle.sc_laws.proofs.Common.{Out, Output, Own, Piece, Proto, Reached, Ret, Row, Scalar, Some, Standing, State}
-use Rattle.sc_laws.proofs.Common.{Step, Stopped, TurnsOut, Value, Word, [], action_of, acts, and_from, and_parts}
-use Rattle.sc_laws.proofs.Common.{and_then, ap, ap₂, arith, asks, at_start, back_cross, begun, blocks_for, both_ways}
-use Rattle.sc_laws.proofs.Common.{call_cross, call_own, called, calls, count_of, crossed, crossing, done, drop, ended}
-use Rattle.sc_laws.proofs.Common.{eq-eqb, export_at, false, first_word, found, function, if◌then◌else◌, imports}
-use Rattle.sc_laws.proofs.Common.{is_number, is_output, is_word, last, length, list_all, map, may_call, next_input, now}
+use Rattle.sc_laws.proofs.Common.{Output, Own, Piece, Proto, Reached, Ret, Row, Scalar, Some, Standing, State, Step}
+use Rattle.sc_laws.proofs.Common.{Stopped, TurnsOut, Value, Word, [], action_of, acts, and_from, and_parts, and_then}
+use Rattle.sc_laws.proofs.Common.{ap, ap₂, asks, at_start, back_cross, begun, blocks_for, both_ways, call_cross}
+use Rattle.sc_laws.proofs.Common.{call_own, called, calls, count_of, crossed, crossing, done, drop, ended, eq-eqb}
+use Rattle.sc_laws.proofs.Common.{export_at, false, first_word, found, function, if◌then◌else◌, imports, is_number}
+use Rattle.sc_laws.proofs.Common.{is_output, is_word, last, length, list_all, map, may_call, next_input, now}
 use Rattle.sc_laws.proofs.Common.{option_value, part, performer, performs, read_input, refl, roles_in, rows_left}
 use Rattle.sc_laws.proofs.Common.{run_in, run_step, scripted_step, stands_after, stands_behind, subst, suc, sym, takes}
-use Rattle.sc_laws.proofs.Common.{tell, true, turn, turn_of, with_blocks, within, word_back, word_in, zero, ℕ, ◌++◌}
-use Rattle.sc_laws.proofs.Common.{◌∙◌, ◌∷◌, ◌≡◌}
+use Rattle.sc_laws.proofs.Common.{tell, true, turn, turn_of, within, word_back, word_in, zero, ℕ, ◌++◌, ◌∙◌, ◌∷◌, ◌≡◌}
+use Rattle.sc_event.specs.declared.event.Event.TheVariants.{Out}
 use Rattle.sc_event.specs.declared.row.Action.TheVariants as act
-use Rattle.sc_laws.proofs.Growing.{front_same, front_more, more, reached, stays, no_turn, earlier, then_from, then_goes}
-use Rattle.sc_laws.proofs.Growing.{BodyGoes, done_goes, own_goes, cross_goes, back_goes, calls_go, performs_go}
-use Rattle.sc_laws.proofs.Growing.{LibraryGoes, run_step_goes, scripted_goes, asks_is, asks_go, run_goes, then_front}
+use Rattle.sc_laws.proofs.Growing.{front_same, front_more, more, reached, stays, no_turn, earlier, then_goes, BodyGoes}
+use Rattle.sc_laws.proofs.Growing.{done_goes, own_goes, cross_goes, back_goes, calls_go, performs_go, LibraryGoes}
+use Rattle.sc_laws.proofs.Growing.{run_step_goes, scripted_goes, asks_is, asks_go, run_goes, then_front}
 use Rattle.sc_laws.proofs.Twins.{CallsTwins, FunctionTwins, LibraryTwins}
 use Rattle.sc_laws.proofs.Rows.{InLine, in_line_before, NextIs, over, next_told_is, Next, row_of_next, rows_behind}
 use Rattle.sc_laws.proofs.Rows.{told as next_told, then_along}
@@ -780,10 +780,9 @@ module _ (L : Library) (main : ℕ) (t : List Event) (S S' : ℕ → Bool) (larg
             F st (and_then (found f s) (λ f s. f.does (calls L a) here s))
             (and_then (found g s') (λ f s. f.does (calls L second) here s))
         runs_follow None None st meets here clear s s' n = nothing_follows st s s' n
-        runs_follow None (Some g) st meets here clear s s' n = absurd meets
-        runs_follow (Some f) None st meets here clear s s' n = absurd meets
         runs_follow (Some f) (Some g) st meets here clear s s' n =
             (meets.does _ _ here clear (calls_follow here clear st)).both s s' n
+        runs_follow _ _ st meets here clear s s' n = absurd meets
 
         smaller : (c : ℕ) → S' c ≡ false → S c ≡ false
         smaller c clear = by_test (S c) refl where

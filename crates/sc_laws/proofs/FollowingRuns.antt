@@ -7,19 +7,17 @@ use Rattle.sc_laws.proofs.Common.{TurnsOut, Value, [], and_then, ap, append-nil,
 use Rattle.sc_laws.proofs.Common.{drop, eqb-true, exit_word, false, first_state, found, if◌then◌else◌, inl, inr, last}
 use Rattle.sc_laws.proofs.Common.{leb-false, length, length-append, longer, lt-leb, nobody, now, performed_by, reaches}
 use Rattle.sc_laws.proofs.Common.{refl, roles_in, roles_run, run_by, run_to, stands_behind, stopped_at, subst, suc, sym}
-use Rattle.sc_laws.proofs.Common.{take, take-append-drop, take_all, true, turnless, with, within, zero, ℕ, ◌++◌, ◌+◌}
-use Rattle.sc_laws.proofs.Common.{◌<◌, ◌==◌, ◌||◌, ◌∙◌, ◌∷◌, ◌≡◌, ◌≤◌}
+use Rattle.sc_laws.proofs.Common.{take, take-append-drop, take_all, take_front, true, turnless, with, within, ℕ, ◌++◌}
+use Rattle.sc_laws.proofs.Common.{◌+◌, ◌<◌, ◌==◌, ◌||◌, ◌∙◌, ◌∷◌, ◌≡◌}
 use Rattle.sc_event.specs.declared.event.Event.TheVariants as event
 use Rattle.sc_laws.proofs.Growing.{front_same, front_more, front_no_longer, BodyGoes, within_goes}
-use Rattle.sc_laws.proofs.Following.{GoesOn, KeepsUp, Beyond, whole, follow_kept, follow_at, Performs, left_goes}
-use Rattle.sc_laws.proofs.Following.{perform_kept, perform_at, MovesOrReturns, MovesOn, Agreed, IfBlamed, BeyondIn}
-use Rattle.sc_laws.proofs.Following.{KeepsUp as follows, Performs as performing, MovesOn as passed}
-use Rattle.sc_laws.proofs.Following.{MovesOrReturns as passing}
+use Rattle.sc_laws.proofs.Following.{GoesOn, KeepsUp, whole, follow_kept, follow_at, Performs, left_goes, perform_kept}
+use Rattle.sc_laws.proofs.Following.{perform_at, MovesOrReturns, MovesOn, IfBlamed, KeepsUp as follows}
+use Rattle.sc_laws.proofs.Following.{Performs as performing, MovesOn as passed, MovesOrReturns as passing}
 use Rattle.sc_laws.proofs.Matching.{library_twins, scripted_goes_on, library_goes}
 use Rattle.sc_laws.proofs.Runs.{scripted_fixed, trace_is, take_fronts}
 use Rattle.sc_laws.proofs.Rows.{InLine, in_line_before, NextIs, over, next_told_is, told as next_told}
 use Rattle.sc_laws.proofs.FollowingCalls.{at, first_step, second_step, N, Bodies, Telling, performs_next, all_bodies}
-use Rattle.sc_base.proofs.Lists.{take_front}
 
 -- what is shown of a piece goes on from where it is
 behaviour_front : (main : ℕ) (o : Piece (Option Value)) → Front (last o).trace (run_to main o).behaviour.trace

@@ -3,12 +3,12 @@
 -- `match_` is of one word, and together they show that a library obeys.
 use Rattle.sc_laws.proofs.Common.{Alike, Asks, Blames, Blocks, Bool, CallTarget, Calls, Cause, Does, Doing, Each, Err}
 use Rattle.sc_laws.proofs.Common.{Exit, Gives, GoFrom, Goes, Gone, Grown, Halts, Here, Interaction, Lasts, Left, List}
-use Rattle.sc_laws.proofs.Common.{Match, Next, Ok, On, Piece, Plays, Reached, Reads, Result, Route, Spends, State}
+use Rattle.sc_laws.proofs.Common.{Match, Next, Ok, On, Out, Piece, Plays, Reached, Reads, Result, Route, Spends, State}
 use Rattle.sc_laws.proofs.Common.{Stopped, Stores, Value, [], all_do, and_then, ap, arith, computed, false, follow}
 use Rattle.sc_laws.proofs.Common.{if◌then◌else◌, in_loop, in_order, inl, inr, leave, loop, map, played, refl, rounds}
 use Rattle.sc_laws.proofs.Common.{store, stored, subst, suc, sym, true, turn, turn_of, with_memory, zero, ℕ, ◌<◌, ◌∙◌}
 use Rattle.sc_laws.proofs.Common.{◌∷◌, ◌≡◌, ◌≤◌}
-use Rattle.sc_core.specs.Prelude.{Out, take}
+use Rattle.sc_core.specs.Prelude.{take}
 use Rattle.sc_laws.proofs.Growing.{same, stays, no_turn, earlier, then_goes, turn_goes, then_then}
 use Rattle.sc_laws.proofs.Expressions.{Keeps, alike, blamed}
 
@@ -80,13 +80,12 @@ played_goes Halts by here go s = no_turn s
 pub lasts_most : {V : Type 0} (n m : ℕ) (tree : Interaction V) → m ≤ n → Lasts n tree → Lasts m tree
 lasts_most n zero tree le h = tt
 lasts_most zero (suc m) tree le h = absurd (omega (arith, le))
-lasts_most (suc n) (suc m) (Gives v) le h = tt
-lasts_most (suc n) (suc m) (Blames cause line) le h = tt
 lasts_most (suc n) (suc m) (Reads go) le h = λ blocks. lasts_most (suc n) _ (go blocks) le (h blocks)
 lasts_most (suc n) (suc m) (Stores blocks go) le h = lasts_most _ _ go le h
 lasts_most (suc n) (suc m) (Spends go) le h = lasts_most n m go (omega (arith, le)) h
 lasts_most (suc n) (suc m) (Asks target args go) le h = λ v. lasts_most _ (suc m) (go v) le (h v)
 lasts_most (suc n) (suc m) Halts le h = absurd h
+lasts_most (suc n) (suc m) _ le h = tt
 
 pub lasts_bind : {V W : Type 0} (n : ℕ) (tree : Interaction V) (next : V → Interaction W) → Lasts n tree →
     ((v : V) → Lasts n (next v)) → Lasts n (bind tree next)

@@ -8,6 +8,7 @@ use Rattle.sc_laws.proofs.Common.{computed, false, found_kept, function, if◌th
 use Rattle.sc_laws.proofs.Common.{rows_left, run_step, scripted_step, subst, suc, sym, then_kept, true, turn, turn_of}
 use Rattle.sc_laws.proofs.Common.{with_blocks, zero, ℕ, ◌<◌, ◌∷◌, ◌≡◌}
 use Rattle.sc_event.specs.declared.row.Action.TheVariants as act
+use Rattle.sc_laws.proofs.Common.{found, is_some, leads, ◌∙◌}
 use Rattle.sc_laws.proofs.Growing.{BodyGoes, CallsGo, calls_go}
 use Rattle.sc_laws.proofs.Twins.{Kept as RelationKept, KeptAt, FunctionTwins}
 use Rattle.sc_laws.proofs.Matching.{library_twins}
@@ -76,8 +77,6 @@ module _ (K : Property) where
         f ≡ Some h → (by : Calls) → CallsGo by → CallsKeep K here.comp by → (s : State) → K.Goes s →
         Kept K (h.does by here s)
     keeps_here None None meets h is by goes keeps s at = absurd (cc)
-    keeps_here None (Some g) meets h is by goes keeps s at = absurd meets
-    keeps_here (Some f) None meets h is by goes keeps s at = absurd meets
     keeps_here (Some f) (Some g) meets h is by goes keeps s at =
         let equal : f ≡ h = cc in
         subst (λ x. Kept K (x.does by here s)) equal ((meets.does by by here kept (λ target args. record {
@@ -85,6 +84,7 @@ module _ (K : Property) where
           second = goes _ target args;
           both = λ s t one. keeps target args s one.goes;
         })).both s s (record { goes = at; is = refl }))
+    keeps_here _ _ meets h is by goes keeps s at = absurd meets
 
 -- a function of a library keeps what its calls keep
 pub function_keeps : (library : Library) → Obedient library → (comp number : ℕ) (f : Function) →
@@ -94,6 +94,21 @@ function_keeps library obedient comp number f is K here kept by goes keeps s at 
     let twins = library_twins Never (One K) (Pieces K) (IsKept K) (one_kept K here kept) (one_at K here kept) library
     library obedient in
     keeps_here K here kept _ (function library comp number) (twins.functions comp number) f is by goes keeps s at
+
+-- what is looked up and there
+pub there : {V W : Type 0} (K : Property) (o : Option V) (s : State) (go : V → State → Piece W) → is_some o ≡ true →
+    ((v : V) → o ≡ Some v → Kept K (go v s)) → Kept K (and_then (found o s) go)
+there K None s go is h = absurd (cc)
+there K (Some v) s go is h = h v refl
+
+pub led_somewhere : (library : Library) (comp : ℕ) (number : Option ℕ) → leads library comp number ≡ true →
+    is_some number ≡ true
+led_somewhere library comp None is = is
+led_somewhere library comp (Some number) is = refl
+
+pub led_there : (library : Library) (comp number : ℕ) (o : Option ℕ) → leads library comp o ≡ true → o ≡ Some number →
+    is_some (function library comp number) ≡ true
+led_there library comp number o is same = sym (ap (leads library comp) same) ∙ is
 
 -- a piece that keeps another property, and what follows it
 pub then_other : {V W : Type 0} (K L : Property) (piece : Piece V) (go : V → State → Piece W) →

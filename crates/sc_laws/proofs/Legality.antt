@@ -1,19 +1,16 @@
 -- Every trace that a run shows is legal.
-use Rattle.sc_laws.proofs.Common.{Action, BadType, Blamed, Body, Bool, Call, CallTarget, Cross, End, Event, Export}
-use Rattle.sc_laws.proofs.Common.{Here, In, Input, Interfaces, IsStop, Kept, Library, List, Main, Memory, None}
-use Rattle.sc_laws.proofs.Common.{Obedient, Option, Out, Output, Own, Piece, Property, Proto, Reached, Ret, Roles, Row}
-use Rattle.sc_laws.proofs.Common.{RunEnd, Scalar, Some, Standing, State, Step, Stopped, TurnsOut, Value, Word, [], acts}
-use Rattle.sc_laws.proofs.Common.{and_from, and_parts, and_then, ap, asks, at_start, awaits, back_cross, back_own}
-use Rattle.sc_laws.proofs.Common.{begun, call_cross, call_own, called, calls, crossed, crossing, eq-eqb, export_at}
-use Rattle.sc_laws.proofs.Common.{false, first_state, fits_result, found, found_kept, function, if◌then◌else◌, imports}
-use Rattle.sc_laws.proofs.Common.{is_allowed, is_function, is_input, is_legal_from, is_number, is_output, legal, length}
-use Rattle.sc_laws.proofs.Common.{length-map, library_run, map, may_call, may_perform, may_return, option_map_or}
-use Rattle.sc_laws.proofs.Common.{performer, performs, refl, roles_run, rows_left, run_by, run_in, run_step, run_to}
-use Rattle.sc_laws.proofs.Common.{scripted_step, stands_after, stands_behind, stopped_at, subst, suc, sym, take, takes}
-use Rattle.sc_laws.proofs.Common.{tell, then_kept, true, turn, turn_of, within, word_back, word_in, zero, ℕ, ◌&&◌, ◌++◌}
-use Rattle.sc_laws.proofs.Common.{◌==◌, ◌∙◌, ◌∷◌, ◌≡◌}
-use Rattle.sc_event.specs.declared.row.Action.TheVariants as act
-use Rattle.sc_laws.proofs.Growing.{BodyGoes, StepGoes, calls_go, within_goes}
+use Rattle.sc_laws.proofs.Common.{Body, Call, CallTarget, Cross, Event, Export, Here, Input, Interfaces, IsStop, Kept}
+use Rattle.sc_laws.proofs.Common.{Library, List, Main, Memory, None, Obedient, Option, Output, Own, Piece, Property}
+use Rattle.sc_laws.proofs.Common.{Proto, Reached, Ret, Roles, RunEnd, Scalar, Some, Standing, State, Step, Stopped}
+use Rattle.sc_laws.proofs.Common.{Value, [], and_from, and_parts, and_then, ap, at_start, awaits, back_cross, back_own}
+use Rattle.sc_laws.proofs.Common.{begun, call_cross, call_own, called, crossed, crossing, eq-eqb, export_at, false}
+use Rattle.sc_laws.proofs.Common.{first_state, fits_result, found, found_kept, function, imports, is_allowed}
+use Rattle.sc_laws.proofs.Common.{is_function, is_input, is_legal_from, is_output, legal, length, length-map}
+use Rattle.sc_laws.proofs.Common.{library_run, map, may_call, may_perform, may_return, option_map_or, performer, refl}
+use Rattle.sc_laws.proofs.Common.{roles_run, run_by, run_in, run_step, run_to, scripted_step, stands_after}
+use Rattle.sc_laws.proofs.Common.{stands_behind, stopped_at, subst, suc, sym, take, takes, tell, then_kept, true, turn}
+use Rattle.sc_laws.proofs.Common.{turn_of, within, word_back, word_in, zero, ℕ, ◌&&◌, ◌++◌, ◌==◌, ◌∙◌, ◌∷◌, ◌≡◌}
+use Rattle.sc_laws.proofs.Growing.{BodyGoes, StepGoes, within_goes}
 use Rattle.sc_laws.proofs.Matching.{run_goes_on, scripted_goes_on}
 use Rattle.sc_laws.proofs.Keeping.{IsKept, run_step_keeps, scripted_keeps, then_other}
 use Rattle.sc_laws.proofs.Rows.{stands_last}

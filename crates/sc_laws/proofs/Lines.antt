@@ -1,7 +1,7 @@
 -- A program whose trees stand on other lines does the same up to the lines of blames.
 use Rattle.sc_laws.proofs.Common.{Acts, Arith, Bool, Break, CallTarget, Calls, CallsAgree, Cause, Continue, Does, Each}
 use Rattle.sc_laws.proofs.Common.{Entry, Err, Exit, Export, FunctionsAgree, Here, Inside, Left, LibrariesAgree, List}
-use Rattle.sc_laws.proofs.Common.{Local, Main, Next, None, Ok, On, Option, OtherLinesAgree, Piece, PiecesAgree}
+use Rattle.sc_laws.proofs.Common.{Local, Main, Next, None, Ok, On, Option, OtherLinesAgree, Out, Piece, PiecesAgree}
 use Rattle.sc_laws.proofs.Common.{ProgramTree, Proto, Result, Return, Route, RunsAgree, Some, State, TypedExpr}
 use Rattle.sc_laws.proofs.Common.{TypedFunction, TypedLocal, TypedSection, TypedSimple, TypedSimpleKind, TypedStmt}
 use Rattle.sc_laws.proofs.Common.{TypedStmt-F, TypedStmtKind, TypedStmtKind-F, TypedStruct, Value, Want, Ways, []}
@@ -17,7 +17,7 @@ use Rattle.sc_laws.proofs.Common.{run_by, run_of, run_step, simple_does, slice_g
 use Rattle.sc_laws.proofs.Common.{stmt_induction, stmt_nodes, stmt_step, store, store_at, store_result, stored, subst}
 use Rattle.sc_laws.proofs.Common.{suc, sym, test, total, true, turn, variable_at, variables, ways, zero, ℕ, ◌++◌, ◌+◌}
 use Rattle.sc_laws.proofs.Common.{◌∙◌, ◌∷◌, ◌≡◌}
-use Rattle.sc_core.specs.Prelude.{Out, take}
+use Rattle.sc_core.specs.Prelude.{take}
 use Rattle.sc_core.specs.declared.stmt.TypedSimpleKind.TheVariants as simple
 use Rattle.sc_core.specs.declared.stmt.TypedStmtKind.TheOpen as layer
 use Rattle.sc_core.specs.declared.value.Want.TheVariants as want
@@ -94,10 +94,6 @@ module _ (line_of : ℕ → ℕ) where
 
   layer_nodes : (k : TypedStmtKind-F TypedStmtKind TypedStmt) → Inside SameNodes k →
       nodes_of (inner_lined k) ≡ nodes_of k
-  layer_nodes layer.Empty h = refl
-  layer_nodes (layer.Assign place value) h = refl
-  layer_nodes (layer.AssignCall place call) h = refl
-  layer_nodes (layer.Call call) h = refl
   layer_nodes (layer.If cond first second) h =
       ap₂ (λ m n. suc (expr_nodes cond + total m + total n)) (list_nodes first h.0) (list_nodes second h.1)
   layer_nodes (layer.While cond body) h = ap (λ n. suc (expr_nodes cond + total n)) (list_nodes body h)
@@ -105,11 +101,7 @@ module _ (line_of : ℕ → ℕ) where
       ap₂ (λ m n. suc (m + expr_nodes cond + n + total (map stmt_nodes (map (stmt_lined line_of) body))))
       (same_part first) (same_part next)
       ∙ ap (λ n. suc (part_nodes first + expr_nodes cond + part_nodes next + total n)) (list_nodes body h)
-  layer_nodes layer.Break h = refl
-  layer_nodes layer.Continue h = refl
-  layer_nodes layer.Return h = refl
-  layer_nodes (layer.ReturnValue value) h = refl
-  layer_nodes (layer.ReturnCall call) h = refl
+  layer_nodes _ h = refl
 
   same_nodes : (stmt : TypedStmt) → SameNodes stmt
   same_nodes =
@@ -212,7 +204,6 @@ module _ (here : Here) where
 
       layer_agree : (line : ℕ) (k : TypedStmtKind-F TypedStmtKind TypedStmt) → Inside Agrees k →
           DoesAgree (layered C k line) (layered D (inner_lined line_of k) (line_of line))
-      layer_agree line layer.Empty h a s = itself _
       layer_agree line (layer.Assign place e) h a s =
           assign_agree (ways arith structs here params place) (ways arith structs here params e) line (line_of line) a s
       layer_agree line (layer.AssignCall place c) h a s =
@@ -227,13 +218,11 @@ module _ (here : Here) where
           follow_agree in_order _ _ _ _ (part_agree first a s) (loop_agree (ways arith structs here params cond) line
           (line_of line) _ _ (part_does arith structs here params C next) (part_does arith structs here params D
           _) (block_agree x h) (part_agree next))
-      layer_agree line layer.Break h a s = itself _
-      layer_agree line layer.Continue h a s = itself _
-      layer_agree line layer.Return h a s = itself _
       layer_agree line (layer.ReturnValue e) h a s = then_agree _ _ _ _
           (given_agree want.Value (ways arith structs here params e) line (line_of line) s) (λ v s. itself _)
       layer_agree line (layer.ReturnCall c) h a s =
           then_agree _ _ _ _ (call_agree c.target (map _ c.args) line (line_of line) s) (λ result s. itself _)
+      layer_agree line _ h a s = itself _
 
       stmt_agree : (stmt : TypedStmt) → Agrees stmt
       stmt_agree = stmt_induction Agrees (λ line k h. subst
@@ -265,16 +254,13 @@ module _ (here : Here) where
 
   brace_agree : (has_result is_main : Bool) (line other : ℕ) (s : State) →
       PiecesAgree (at_brace has_result is_main line here s) (at_brace has_result is_main other here s)
-  brace_agree true true line other s = itself _
   brace_agree true false line other s = record { same = refl }
-  brace_agree false is_main line other s = itself _
+  brace_agree _ _ line other s = itself _
 
   closed_agree : (exit : Exit) (has_result is_main : Bool) (line other : ℕ) (s : State) →
       PiecesAgree (closed exit has_result is_main line here s) (closed exit has_result is_main other here s)
-  closed_agree Next has_result is_main line other s = brace_agree _ is_main line other s
-  closed_agree Break has_result is_main line other s = brace_agree _ is_main line other s
-  closed_agree Continue has_result is_main line other s = brace_agree _ is_main line other s
   closed_agree (Return v) has_result is_main line other s = itself _
+  closed_agree _ has_result is_main line other s = brace_agree _ is_main line other s
 
 -- FUNCTIONS AND LIBRARIES
 module _ (arith : Arith) (line_of : ℕ → ℕ) where

@@ -84,9 +84,8 @@ module _ (Soft : Cause → Type 0) (P : State → State → Type 0) (R : (V : Ty
 
   both_there : (f g : Option Function) → Meets (FunctionsMatch Soft) f g → Meets (FunctionTwins P R Good) f g
   both_there None None h = tt
-  both_there None (Some g) h = absurd h
-  both_there (Some f) None h = absurd h
   both_there (Some f) (Some g) h = function_twins f g h
+  both_there _ _ h = absurd h
 
   pub library_twins : (L M : Library) → LibrariesMatch Soft L M → LibraryTwins P R Good L M
   library_twins L M match = record {
@@ -108,19 +107,17 @@ module _ (Soft : Cause → Type 0) where
 
   goes_here : (f g : Option Function) → Meets (FunctionsMatch Soft) f g → (h : Function) → f ≡ Some h → FunctionGoes h
   goes_here None None meets h is = absurd (cc)
-  goes_here None (Some g) meets h is = absurd meets
-  goes_here (Some f) None meets h is = absurd meets
   goes_here (Some f) (Some g) meets h is = λ by go here.
       (let equal : f ≡ h = cc in subst (λ x. Goes (x.does by here)) equal)
       (tree_goes here _ (meets.does here).tree (meets.does here).first by (go _))
+  goes_here _ _ meets h is = absurd meets
 
   goes_there : (f g : Option Function) → Meets (FunctionsMatch Soft) f g → (h : Function) → g ≡ Some h → FunctionGoes h
   goes_there None None meets h is = absurd (cc)
-  goes_there None (Some g) meets h is = absurd meets
-  goes_there (Some f) None meets h is = absurd meets
   goes_there (Some f) (Some g) meets h is = λ by go here.
       (let equal : g ≡ h = cc in subst (λ x. Goes (x.does by here)) equal)
       (tree_goes here _ (meets.does here).twin (meets.does here).second by (go _))
+  goes_there _ _ meets h is = absurd meets
 
   module _ (L M : Library) (match : LibrariesMatch Soft L M) where
     pub first_goes : LibraryGoes L

@@ -43,10 +43,8 @@ module _ (d : ℕ) (one other : Run) (events more_events : ℕ) (le : events ≤
   final_at false is final (goes.goes_past end ends stop passes front ended frames late) =
       absurd (no_end end passes (subst IsFinal ends final)) where
         no_end : (end : RunEnd) → Passes d Never (Unit {0}) end → IsFinal end → ⊥
-        no_end Ended passes final = passes
-        no_end (Blamed comp cause line) passes final = passes
         no_end TurnsOut passes final = final
-        no_end EventsOut passes final = final
+        no_end _ passes final = passes
 
   extends : RunsBelow d Never (Unit {0}) one other → Extends (stopped_at events shorter) (stopped_at more_events longer)
   extends below =
@@ -115,20 +113,16 @@ module _ (one other : Run) (events : ℕ) where
 
   agrees : RunsBelow 0 IsArithmetic ⊥ one other → AgreesUntilBlame (stopped_at events x) (stopped_at events y)
   agrees (goes.same_run is) = same (ap (λ z. stopped_at events z.behaviour) is)
-  agrees (goes.goes_past Ended ends stop passes front ended frames late) = absurd passes
   agrees (goes.goes_past (Blamed comp cause line) ends stop passes front ended frames late) =
       blamed_at comp cause line ends passes front ended _ refl
-  agrees (goes.goes_past TurnsOut ends stop passes front ended frames late) = absurd passes
-  agrees (goes.goes_past EventsOut ends stop passes front ended frames late) = absurd passes
+  agrees (goes.goes_past _ ends stop passes front ended frames late) = absurd passes
 
 module _ (one other : Run) where
   whole_agrees : RunsBelow 0 IsArithmetic ⊥ one other → RunsUntilBlame one other
   whole_agrees (goes.same_run is) = same_run is
-  whole_agrees (goes.goes_past Ended ends stop passes front ended frames late) = absurd passes
   whole_agrees (goes.goes_past (Blamed comp cause line) ends stop passes front ended frames late) =
       blamed_run comp cause line ends passes front frames late
-  whole_agrees (goes.goes_past TurnsOut ends stop passes front ended frames late) = absurd passes
-  whole_agrees (goes.goes_past EventsOut ends stop passes front ended frames late) = absurd passes
+  whole_agrees (goes.goes_past _ ends stop passes front ended frames late) = absurd passes
 
   no_deeper : RunsUntilBlame one other → (events comp : ℕ) → depth_in one events comp ≤ depth_in other events comp
   no_deeper (same_run is) events comp =

@@ -1,17 +1,14 @@
 -- Frames: each change is of a moment within the trace, and a call that returns leaves the open room as it was.
-use Rattle.sc_laws.proofs.Common.{Action, AllBefore, AreTold, BadType, Blamed, Body, Bool, Call, CallTarget, Closed}
-use Rattle.sc_laws.proofs.Common.{Cross, DeepestIsReached, End, Event, FrameChange, Function, Here, In, Input}
-use Rattle.sc_laws.proofs.Common.{KeepsRooms, Kept, LeavesRooms, Library, List, Main, Memory, Obedient, Opened, Option}
-use Rattle.sc_laws.proofs.Common.{Out, Output, Own, Piece, Property, Reached, Ret, Roles, Row, State, Step, Stopped}
-use Rattle.sc_laws.proofs.Common.{TellsNoEnd, TurnsOut, Value, Word, [], acts, and_then, ap, arith, asks, back_cross}
-use Rattle.sc_laws.proofs.Common.{back_own, begun, call_cross, call_own, called, calls, deepest, done, exit_word, false}
-use Rattle.sc_laws.proofs.Common.{first_state, found_kept, function, has_no_end, if◌then◌else◌, is_end, last, length}
-use Rattle.sc_laws.proofs.Common.{length-append, list_any, lt-ltb, map, max, nat_lt, not, open_room, performs, refl}
-use Rattle.sc_laws.proofs.Common.{room_after, rows_left, run_by, run_in, run_step, run_to, scripted_step, subst, suc}
-use Rattle.sc_laws.proofs.Common.{sym, tell, then_kept, true, turn, turn_of, within, zero, ℕ, ◌&&◌, ◌++◌, ◌+◌, ◌-◌}
-use Rattle.sc_laws.proofs.Common.{◌==◌, ◌||◌, ◌∙◌, ◌∷◌, ◌≡◌, ◌≤◌}
-use Rattle.sc_event.specs.declared.row.Action.TheVariants as act
-use Rattle.sc_laws.proofs.Growing.{BodyGoes, StepGoes, calls_go, within_goes}
+use Rattle.sc_laws.proofs.Common.{AllBefore, AreTold, Body, Bool, CallTarget, Closed, Cross, DeepestIsReached, End}
+use Rattle.sc_laws.proofs.Common.{Event, FrameChange, Function, Here, In, Input, KeepsRooms, Kept, LeavesRooms, Library}
+use Rattle.sc_laws.proofs.Common.{List, Main, Memory, Obedient, Opened, Option, Output, Own, Piece, Property, Reached}
+use Rattle.sc_laws.proofs.Common.{Roles, State, Step, Stopped, TellsNoEnd, Value, [], ap, arith, back_cross, back_own}
+use Rattle.sc_laws.proofs.Common.{begun, call_cross, call_own, called, deepest, done, exit_word, false, first_state}
+use Rattle.sc_laws.proofs.Common.{found_kept, function, has_no_end, if◌then◌else◌, is_end, last, length, length-append}
+use Rattle.sc_laws.proofs.Common.{list_any, lt-ltb, max, nat_lt, not, open_room, refl, room_after, run_by, run_in}
+use Rattle.sc_laws.proofs.Common.{run_step, run_to, scripted_step, subst, suc, sym, tell, then_kept, true, turn}
+use Rattle.sc_laws.proofs.Common.{turn_of, within, zero, ℕ, ◌&&◌, ◌++◌, ◌+◌, ◌-◌, ◌==◌, ◌||◌, ◌∙◌, ◌∷◌, ◌≡◌, ◌≤◌}
+use Rattle.sc_laws.proofs.Growing.{BodyGoes, StepGoes, within_goes}
 use Rattle.sc_laws.proofs.Matching.{run_goes_on, scripted_goes_on}
 use Rattle.sc_laws.proofs.Keeping.{IsKept, run_step_keeps, scripted_keeps, then_other}
 

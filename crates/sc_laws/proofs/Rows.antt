@@ -1,12 +1,10 @@
 -- Where a compartment stands in its rows, and how traces go on along another.
-use Rattle.sc_laws.proofs.Common.{Bool, Event, Front, Goes, List, None, Option, Piece, Row, Some, Standing, State, []}
-use Rattle.sc_laws.proofs.Common.{action_of, and_then, ap, append_assoc, at_start, count_of, drop, eq-eqb, false}
-use Rattle.sc_laws.proofs.Common.{filter, if◌then◌else◌, inl, inr, last, length, part, performer, refl, rows_from}
-use Rattle.sc_laws.proofs.Common.{stands_after, stands_behind, subst, suc, sym, true, zero, ℕ, ◌++◌, ◌==◌, ◌∙◌, ◌∷◌}
-use Rattle.sc_laws.proofs.Common.{◌≡◌, ◌⊎◌}
-use Rattle.std.proofs.Common.{arith, length-append}
+use Rattle.sc_laws.proofs.Common.{Event, Front, Goes, List, None, Option, Piece, Row, Some, Standing, State, []}
+use Rattle.sc_laws.proofs.Common.{action_of, and_then, ap, append_assoc, arith, at_start, count_of, drop, drop_next}
+use Rattle.sc_laws.proofs.Common.{eq-eqb, filter, if◌then◌else◌, inl, inr, last, length, length-append, part, performer}
+use Rattle.sc_laws.proofs.Common.{refl, rows_from, stands_after, stands_behind, subst, suc, sym, ℕ, ◌++◌, ◌==◌, ◌∙◌}
+use Rattle.sc_laws.proofs.Common.{◌∷◌, ◌≡◌, ◌⊎◌}
 use Rattle.std.proofs.lemmas.List.Elements.{filter-append}
-use Rattle.sc_base.proofs.Lists.{drop_next}
 use Rattle.sc_event.proofs.Rows.{next_row}
 use Rattle.sc_laws.proofs.Growing.{front_more, then_from}
 

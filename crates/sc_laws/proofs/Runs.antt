@@ -172,10 +172,8 @@ no_richer_piece (Stopped end s) = ap (Stopped end) (no_richer s)
 
 -- with as many turns, the same causes and the same ends there is no run but the same
 nothing_passes : (end : RunEnd) → Passes 0 Never ⊥ end → ⊥
-nothing_passes Ended h = h
 nothing_passes (Blamed comp cause line) h = h
-nothing_passes TurnsOut h = h
-nothing_passes EventsOut h = h
+nothing_passes _ h = h
 
 pub only_same : {V : Type 0} (o p : Piece V) → Below 0 Never ⊥ V o p → p ≡ o
 only_same o p (along is) = is ∙ no_richer_piece o

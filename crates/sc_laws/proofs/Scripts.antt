@@ -2,7 +2,7 @@
 -- hasn't told all of it, it has none left. For there the next row of the active compartment is its next event.
 use Rattle.sc_laws.proofs.Common.{Action, BadType, Blamed, Body, Bool, Call, CallTarget, Cross, End, Ended, Event}
 use Rattle.sc_laws.proofs.Common.{EventsOut, Export, ExportsLead, Here, In, Input, Interfaces, Kept, Library, List}
-use Rattle.sc_laws.proofs.Common.{Main, Memory, None, Obedient, Option, Out, Output, Own, Piece, Property, Reached, Ret}
+use Rattle.sc_laws.proofs.Common.{Main, Memory, None, Obedient, Option, Output, Own, Piece, Property, Reached, Ret}
 use Rattle.sc_laws.proofs.Common.{Roles, Row, RunEnd, Set, Some, SpendsAlong, Standing, State, Stopped, TurnsOut, Value}
 use Rattle.sc_laws.proofs.Common.{Word, [], action_of, acts, and_from, and_parts, and_then, ap, arith, asks, at_start}
 use Rattle.sc_laws.proofs.Common.{back_cross, back_own, begun, call_cross, call_own, called, calls, count_of, done}
@@ -12,9 +12,10 @@ use Rattle.sc_laws.proofs.Common.{legal, length-map, list_all, map, may_call, ma
 use Rattle.sc_laws.proofs.Common.{refl, roles_in, rows_left, run_in, run_step, same_Some, scripted_call, scripted_step}
 use Rattle.sc_laws.proofs.Common.{stands_after, stands_behind, subst, suc, sym, takes, tell, then_kept, true, turn_of}
 use Rattle.sc_laws.proofs.Common.{within, zero, ℕ, ◌++◌, ◌<◌, ◌∙◌, ◌∷◌, ◌≡◌}
+use Rattle.sc_event.specs.declared.event.Event.TheVariants.{Out}
 use Rattle.sc_event.specs.declared.row.Action.TheVariants as act
 use Rattle.sc_laws.proofs.Growing.{BodyGoes, calls_go, within_goes}
-use Rattle.sc_laws.proofs.Keeping.{IsKept, calls_keep, function_keeps, then_other}
+use Rattle.sc_laws.proofs.Keeping.{IsKept, calls_keep, function_keeps, led_somewhere, led_there, then_other, there}
 use Rattle.sc_laws.proofs.Matching.{scripted_goes_on}
 use Rattle.sc_laws.proofs.Rows.{Next, counts_its_own, row_of_next, stands_last}
 
@@ -85,12 +86,6 @@ module _ (main : ℕ) (trace : List Event) where
   after_turn n (suc m) st s k is at h =
       h _ (record { few = (let few = at.few in omega (arith, is, few)); stands = at.stands })
 
-  -- what is looked up and there
-  there : {V W : Type 0} (K : Property) (o : Option V) (s : State) (go : V → State → Piece W) → is_some o ≡ true →
-      ((v : V) → o ≡ Some v → Kept K (go v s)) → Kept K (and_then (found o s) go)
-  there K None s go is h = absurd (cc)
-  there K (Some v) s go is h = h v refl
-
   told : (n : ℕ) (st next : Standing) (s : State) (e : Event) → At n st s → stands_after st e ≡ Some next →
       At n next (tell e s)
   told n st next s e at then_on = record { few = at.few; stands = stands_last _ s.trace e st at.stands ∙ then_on }
@@ -123,7 +118,7 @@ module _ (library : Library) (leads_on : ExportsLead library) (trace : List Even
         ((v : Option Value) (s : State) → At main trace n inner s → Kept (Kind n outer) (back v s)) → (s : State) →
         At main trace n inner s → Kept (Kind n outer) (run_in library body comp number args back s)
     run_along inner outer comp number args back here is entered b s at =
-        there main trace (Kind n outer) _ s _ is (λ f found_f. then_other (Kind n inner) (Kind n outer)
+        there (Kind n outer) _ s _ is (λ f found_f. then_other (Kind n inner) (Kind n outer)
         (body number _ (begun comp f args s)) _ (λ end s h. h) (along number _ _ inner here is
         entered (record { few = at.few; stands = at.stands }))
         (λ v t at. b v (done comp f _ t) (record { few = at.few; stands = at.stands })))
@@ -134,10 +129,6 @@ module _ (library : Library) (leads_on : ExportsLead library) (trace : List Even
     own_along st comp number args here is entered =
         run_along st st comp number args back_own here is entered (λ v s at. record { after = at })
 
-    led_somewhere : (comp : ℕ) (number : Option ℕ) → leads library comp number ≡ true → is_some number ≡ true
-    led_somewhere comp None is = is
-    led_somewhere comp (Some number) is = refl
-
     abbrev entered_at : Standing → ℕ → ℕ → Standing
     entered_at st to index =
         record { active = record { comp = to; entry = Export index }; waiting = st.active ∷ st.waiting }
@@ -146,9 +137,9 @@ module _ (library : Library) (leads_on : ExportsLead library) (trace : List Even
         leads library to (library.entered to (Export index)) ≡ true → (s : State) → At main trace n st s →
         Kept (Kind n st) (call_cross library body from to index args s)
     cross_along st from to index args is s at =
-        there main trace _ (library.entered to _) s _ (led_somewhere to _ is) (λ number same.
+        there _ (library.entered to _) s _ (led_somewhere library to _ is) (λ number same.
         run_along (entered_at st to index) st to number _ (back_cross library.interfaces from to index)
-        refl (sym (ap (leads library to) same) ∙ is) (λ performing. same) (λ v s inside. record {
+        refl (led_there library to number _ is same) (λ performing. same) (λ v s inside. record {
           after = told main trace n _ st s _ inside refl;
         }) _ (told main trace n st _ s _ at refl))
 
@@ -315,7 +306,7 @@ module _ (library : Library) (leads_on : ExportsLead library) (trace : List Even
           (rows_left roles here.comp s.trace) number here s else run_step library body number here s)
       by true performing = performs_along n body along (rows_left roles here.comp s.trace) number here s st refl active
           is (entered performing) at
-      by false plain = there main trace (Kind (suc n) st) (function library here.comp number) s
+      by false plain = there (Kind (suc n) st) (function library here.comp number) s
           (λ f s. f.does (calls library body) here s) is (λ f found_f. function_keeps library obedient here.comp number
           f found_f (Kind (suc n) st) here (is_kept main trace (suc n) st here) (calls library body)
           (calls_go library body goes)
@@ -336,10 +327,10 @@ module _ (library : Library) (leads_on : ExportsLead library) (trace : List Even
         Kept (Kind (suc turns) first) (scripted_call library roles globals inputs turns)
     main_along globals inputs turns is =
         let body = its_bodies (suc turns) in
-        there main trace _ (library.entered main Main) (first_state globals inputs turns) _
-        (led_somewhere (suc turns) body (within_along _) main _ is) (λ number same.
+        there _ (library.entered main Main) (first_state globals inputs turns) _
+        (led_somewhere library main _ is) (λ number same.
         own_along _ body (within_along _) first main number [] refl
-        (sym (ap (leads library main) same) ∙ is) (λ performing. same) _ (record { few = omega arith; stands = refl }))
+        (led_there library main number _ is same) (λ performing. same) _ (record { few = omega arith; stands = refl }))
 
 pub spends_along : (library : Library) → Obedient library → ExportsLead library →
     leads library library.interfaces.main (library.entered library.interfaces.main Main) ≡ true →

@@ -89,9 +89,8 @@ module _ (P : State → State → Type 0) (R : (V : Type 0) → Piece V → Piec
 
     some_same : (f g : Option Function) → Meets FunctionTwins f g → is_some g ≡ is_some f
     some_same None None h = refl
-    some_same None (Some g) h = absurd h
-    some_same (Some f) None h = absurd h
     some_same (Some f) (Some g) h = refl
+    some_same _ _ h = absurd h
 
     -- the same calls may be made
     pub may_same : (from : ℕ) (target : CallTarget) (args : List Value) →
