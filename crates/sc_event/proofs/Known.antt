@@ -41,8 +41,11 @@ module _ (interfaces : Interfaces) where
       let takes_it = (and_parts (imports interfaces from _) (takes interfaces to index _) may).1 in
       let export = there _ (λ found. length _ == length args) takes_it in
       (mine, has_comp to index export, export)
-  performed at (Ret from to value) may known mine = (mine, awaited at.waiting to
-      (and_parts (awaits at.waiting to) (may_return interfaces from at.active.entry value) may).0 known.waiting)
+  performed at (Ret from to value) may known mine = (
+    mine,
+    awaited at.waiting to
+        (and_parts (awaits at.waiting to) (may_return interfaces from at.active.entry value) may).0 known.waiting,
+  )
   performed at _ may known mine = mine
 
   known_of : (at : Standing) (event : Event) → is_allowed interfaces at event ≡ true → IsAmong at →

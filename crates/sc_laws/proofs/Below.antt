@@ -254,8 +254,7 @@ module _ (d : ℕ) (Soft : Cause → Type 0) (Turns : Type 0) (spent : (d ≡ 0)
             (back_cross interfaces from to index) (tell (Call from to index (map word_in args)) s)
 
         cross_to : (from to index : ℕ) (args : List Value) (number : Option ℕ) (s : State) → s.turns < n →
-            s.turns + d < n' → Beneath
-            (and_then (found number s) (crosses L a L.interfaces from to index args))
+            s.turns + d < n' → Beneath (and_then (found number s) (crosses L a L.interfaces from to index args))
             (and_then (found number (richer d s)) (crosses M b L.interfaces from to index args))
         cross_to from to index args None s few few' = along refl
         cross_to from to index args (Some number) s few few' = run_below to number _
@@ -263,40 +262,34 @@ module _ (d : ℕ) (Soft : Cause → Type 0) (Turns : Type 0) (spent : (d ≡ 0)
 
         pub cross_below : (from to index : ℕ) (args : List Value) (s : State) →
             RunBelow s (call_cross L a from to index args) (call_cross M b from to index args)
-        cross_below from to index args s few few' =
-            subst (λ x. Beneath (call_cross L a from to index args s)
+        cross_below from to index args s few few' = subst (λ x. Beneath (call_cross L a from to index args s)
             (and_then (found x (richer d s)) (crosses M b M.interfaces from to index args)))
-            (sym (twins.entered to (Export index)))
-            (subst (λ i. Beneath (call_cross L a from to index args s)
+            (sym (twins.entered to (Export index))) (subst (λ i. Beneath (call_cross L a from to index args s)
             (and_then (found (L.entered to (Export index)) (richer d s)) (crosses M b i from to index args)))
             (sym twins.interfaces) (cross_to from to index args (L.entered to _) s few few'))
 
         -- a turn, and then what is related while fewer calls are made
         after_turn : (f g : State → Piece (Option Value)) → Goes f → Goes g → ((s : State) → RunBelow s f g) →
-            (s s' : State) → Near s s' →
-            Beneath (and_then (turn s) (λ _. f)) (and_then (turn s') (λ _. g))
+            (s s' : State) → Near s s' → Beneath (and_then (turn s) (λ _. f)) (and_then (turn s') (λ _. g))
         after_turn f g go go' h s s' ahead =
             (below_kept d Soft Turns n n' spent).turned (Option Value) _ _ (λ _. go) (λ _. go') s s' ahead
             (λ t t' less less' next. let poorer = ap (λ x. x.turns) next.state in
             subst (λ x. Beneath (f t) (g x)) (sym next.state)
             (h t (omega (arith, less, ahead.few)) (omega (arith, less', ahead.few', poorer))))
 
-        called_below : (from : ℕ) (target : CallTarget) (args : List Value) (s s' : State) →
-            Near s s' → Beneath (called L a from target args s)
-            (called M b from target args s')
+        called_below : (from : ℕ) (target : CallTarget) (args : List Value) (s s' : State) → Near s s' →
+            Beneath (called L a from target args s) (called M b from target args s')
         called_below from (Own number) args s s' ahead = after_turn _ _ (own_goes L a goes from number args)
             (own_goes M b goes' from number args) (own_below from number args) s s' ahead
         called_below from (Cross to index) args s s' ahead = after_turn _ _ (cross_goes L a goes from to index args)
             (cross_goes M b goes' from to index args) (cross_below from to index args) s s' ahead
-        called_below from Input args s s' ahead =
-            subst (λ x. Beneath (called L a from Input args s) (called M b from Input args x))
-            (sym ahead.state) (along refl)
+        called_below from Input args s s' ahead = subst
+            (λ x. Beneath (called L a from Input args s) (called M b from Input args x)) (sym ahead.state) (along refl)
         called_below from Output args s s' ahead =
             subst (λ x. Beneath (called L a from Output args s)
             (called M b from Output args x)) (sym ahead.state) (along refl)
 
-        if_below : (x : Bool) (o o' p p' : Piece (Option Value)) → Beneath o p →
-            Beneath o' p' →
+        if_below : (x : Bool) (o o' p p' : Piece (Option Value)) → Beneath o p → Beneath o' p' →
             Beneath (if x then o else o') (if x then p else p')
         if_below true o o' p p' h k = h
         if_below false o o' p p' h k = k
@@ -305,25 +298,21 @@ module _ (d : ℕ) (Soft : Cause → Type 0) (Turns : Type 0) (spent : (d ≡ 0)
             may_call M from target args ≡ may_call L from target args
         same_tests from target args = may_same _ _ Anywhere L M twins from target args
 
-        guarded_below : (from : ℕ) (target : CallTarget) (args : List Value) (s s' : State) →
-            Near s s' → Beneath (calls L a from target args s)
-            (calls M b from target args s')
-        guarded_below from target args s s' ahead =
-            subst (λ may. Beneath (calls L a from target args s)
+        guarded_below : (from : ℕ) (target : CallTarget) (args : List Value) (s s' : State) → Near s s' →
+            Beneath (calls L a from target args s) (calls M b from target args s')
+        guarded_below from target args s s' ahead = subst (λ may. Beneath (calls L a from target args s)
             (if may then called M b from target args s' else Stopped (Blamed from BadType 0) s'))
             (sym (same_tests from target args)) (if_below (may_call L from target args) _ _ _ _
             (called_below from target args s s' ahead) (along (ap (Stopped (Blamed from BadType 0)) ahead.state)))
 
-        asked_below : (from : ℕ) (target : CallTarget) (args : List Value) (s s' : State) →
-            Near s s' →
+        asked_below : (from : ℕ) (target : CallTarget) (args : List Value) (s s' : State) → Near s s' →
             Beneath (asks L a from target args s) (asks M b from target args s')
         asked_below from target args s s' ahead = subst (λ may. Beneath
             (asks L a from target args s) (if may then calls M b from target args s' else Stopped TurnsOut s'))
             (sym (same_tests from target args)) (if_below (may_call L from target args) _ _ _ _
             (guarded_below from target args s s' ahead) (along (ap (Stopped TurnsOut) ahead.state)))
 
-        pub calls_below : (from : ℕ) → CallsTwins (Near) (Below d Soft Turns) Anywhere from
-            (calls L a) (calls M b)
+        pub calls_below : (from : ℕ) → CallsTwins (Near) (Below d Soft Turns) Anywhere from (calls L a) (calls M b)
         calls_below from target args =
             record {
               first = calls_go L a goes from target args;

@@ -144,8 +144,7 @@ module _ (main : ℕ) (t : List Event) (S' : ℕ → Bool) where
   passed_then : (V W : Type 0) (u : List Event) (p : Piece V) (l : V → State → Piece W) → ((v : V) → Goes (l v)) →
       MovesOn V u p → MovesOn W u (and_then p l)
   passed_then V W u p l goes (no_turn s' is same) = no_turn s' (ap (λ y. and_then y l) is) same
-  passed_then V W u p l goes (longer e front) =
-      longer e (then_front (u ++ e ∷ []) p l goes front)
+  passed_then V W u p l goes (longer e front) = longer e (then_front (u ++ e ∷ []) p l goes front)
 
   pub past_then : (V W A B : Type 0) (end : RunEnd) (s : State) (p : Piece V) (l : V → State → Piece W) →
       ((v : V) → Goes (l v)) → (A → B) → GoesOn V A end s p → GoesOn W B end s (and_then p l)

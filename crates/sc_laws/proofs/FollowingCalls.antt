@@ -136,8 +136,7 @@ module _ (L : Library) (main : ℕ) (t : List Event) (S S' : ℕ → Bool) (larg
         record {
           rest = next.rest;
           left = rows_behind main comp t s.trace e st own next;
-          is = performs_now k comp first s set
-              ∙ ap (λ rows. performs L second rows k (at comp first) s) next.is
+          is = performs_now k comp first s set ∙ ap (λ rows. performs L second rows k (at comp first) s) next.is
               ∙ ap (λ n. if is_number k n then doing else Stopped TurnsOut s) is_k
               ∙ ap (λ b. if b then doing else Stopped TurnsOut s) (eq-eqb k k refl);
         }
@@ -277,9 +276,8 @@ module _ (L : Library) (main : ℕ) (t : List Event) (S S' : ℕ → Bool) (larg
             told_both : NextIs t u.trace (told v) → Up st (ends v u) (ends' v u')
             told_both (over all) =
                 follows.done (past u.trace (told v) all) (past u'.trace (told v) (all ∙ sym near.trace))
-            told_both (next_told more all) = follows.both (option_value (back to index v)) _ _ refl refl
-                (ended_near u u' v more all
-                (λ clear. (λ i. ended (equal clear i) (length f.cells) (near.memory to clear i))) near)
+            told_both (next_told more all) = follows.both (option_value (back to index v)) _ _ refl refl (ended_near u
+                u' v more all (λ clear. (λ i. ended (equal clear i) (length f.cells) (near.memory to clear i))) near)
       both_return o p equal along (follows.stop end x is by) = follows.stop end x (ap (λ y. and_then y ends) is)
           (beyond_then main t S' (Option Value) (Option Value) end x p ends' (returns_goes to from index f first') by)
 
@@ -536,9 +534,8 @@ module _ (L : Library) (main : ℕ) (t : List Event) (S S' : ℕ → Bool) (larg
       acts_follow (act.Out w) next next' number comp mine theirs goes goes' set st h s s' n =
           asked_then comp Output (Word w ∷ []) (λ v. next) (λ v. next') (λ v. goes) (λ v. goes') st s s' n
           (output_follows comp (Word w ∷ []) st s s' n) (λ v. h)
-      acts_follow (act.In w) next next' number comp mine theirs goes goes' set st h s s' n =
-          asked_then comp Input [] (λ v. next) (λ v. next') (λ v. goes) (λ v. goes') st s s' n
-          (input_follows comp [] st s s' n) (λ v. h)
+      acts_follow (act.In w) next next' number comp mine theirs goes goes' set st h s s' n = asked_then comp Input []
+          (λ v. next) (λ v. next') (λ v. goes) (λ v. goes') st s s' n (input_follows comp [] st s s' n) (λ v. h)
       acts_follow (act.End w) next next' number comp mine theirs goes goes' set st h s s' n =
           (follow_kept main t S' st).reached (Option Value) _ s s' n
 

@@ -44,9 +44,8 @@ module _ (t : List Event) (S' : Set) where
     passes_on x u p same (passed.no_turn s' is told) =
         turnless (ap (λ y. (run_to main y).behaviour) is ∙
         ap (λ z. record { trace = z; end = TurnsOut }) (told ∙ sym same))
-    passes_on x u p same (passed.longer e front) =
-        longer e (subst (λ z. Front (z ++ e ∷ []) (run_to main p).behaviour.trace) (sym same)
-        (told_on (u ++ e ∷ []) p front))
+    passes_on x u p same (passed.longer e front) = longer e
+        (subst (λ z. Front (z ++ e ∷ []) (run_to main p).behaviour.trace) (sym same) (told_on (u ++ e ∷ []) p front))
 
     passes_in : (x : SourceRun) (u : List Event) (p : Piece (Option Value)) → x.trace ≡ u →
         MovesOrReturns main t S' u p → PassesBlame x (run_to main p).behaviour
@@ -79,8 +78,7 @@ module _ (t : List Event) (S' : Set) where
 
     both_end : (st : Standing) (o p : Piece (Option Value)) → StopsSo o → KeepsUp main t S' st (Option Value) o p →
         RunsFollow (run_to main o).behaviour (run_to main p).behaviour
-    both_end st o p stop (follows.done a b) =
-        tells_all (told_on t o a) (told_on t p b)
+    both_end st o p stop (follows.done a b) = tells_all (told_on t o a) (told_on t p b)
     both_end st o p stop (follows.both v u u' is is' near) =
         ends_so (ended_whole (run_to main o).behaviour (ap (λ y. (run_to main y).behaviour.end) is))
         (ap (λ y. (run_to main y).behaviour) is'
@@ -164,9 +162,8 @@ module _ (L : Library) (obedient : Obedient L) (t : List Event) (S S' : Set) (la
           (later_goes number (at main first)) (Option Value) o → S' main ≡ true →
           InLine t (run_to main o).behaviour.trace → RunsFollow t S' (run_to main o).behaviour (run_to main p).behaviour
       resumes_end (performing.done a b) set along = tells_all (told_on t S' main t o a) (told_on t S' main t p b)
-      resumes_end (performing.here v u is stands) set along =
-          subst (λ r. RunsFollow t S' r (run_to main p).behaviour) (sym (ap (λ y. (run_to main y).behaviour) is))
-          (by_next (next_told_is t u.trace (exit v) stands.near.front
+      resumes_end (performing.here v u is stands) set along = subst (λ r. RunsFollow t S' r (run_to main p).behaviour)
+          (sym (ap (λ y. (run_to main y).behaviour) is)) (by_next (next_told_is t u.trace (exit v) stands.near.front
           (subst (λ y. InLine t (run_to main y).behaviour.trace) is along))) where
             by_next : NextIs t u.trace (exit v) →
                 RunsFollow t S' (run_to main (Reached v u)).behaviour (run_to main p).behaviour

@@ -148,8 +148,7 @@ from_one P none some zero = none
 from_one P none some (suc n) = some n
 
 pub plays_reached : {V : Type 0} (here : Here) (v : V) → Plays here (λ by. Reached v) (λ n. Gives v)
-plays_reached here v =
-    record { lasts = from_one (λ n. Lasts n (Gives v)) tt (λ n. tt); is = λ n by goes s few. refl }
+plays_reached here v = record { lasts = from_one (λ n. Lasts n (Gives v)) tt (λ n. tt); is = λ n by goes s few. refl }
 
 pub plays_then : {V W : Type 0} (here : Here) (f : Doing V) (k : V → Doing W) (tree : ℕ → Interaction V) (next : V → ℕ →
     Interaction W) → Plays here f tree → ((v : V) → Plays here (k v) (next v)) →

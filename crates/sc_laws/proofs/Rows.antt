@@ -45,9 +45,8 @@ row_of_next main c t u e more st is stands own =
 pub rows_behind : (main c : ℕ) (t u : List Event) (e : Event) (st : Standing) → performer e ≡ c →
     (next : Next (drop (count_of c u) (part main c t)) st e) → drop (count_of c (u ++ e ∷ [])) (part main c t)
     ≡ next.rest
-rows_behind main c t u e st own next =
-    ap (λ n. drop n (part main c t)) (counts_its_own c u e own) ∙ sym (drop_next (part main c t) (count_of c u))
-    ∙ ap (drop 1) next.is
+rows_behind main c t u e st own next = ap (λ n. drop n (part main c t)) (counts_its_own c u e own)
+    ∙ sym (drop_next (part main c t) (count_of c u)) ∙ ap (drop 1) next.is
 
 -- TRACES
 -- two fronts of one list: one is a front of the other
