@@ -33,18 +33,10 @@ module _ (P : TypedStmt → Type 0) where
 
   inside : (y : TypedStmtKind-F ((k : TypedStmtKind) × AnyLine k) ((s : TypedStmt) × P s)) →
       Inside P (map-TypedStmtKind _ _ _ _ (λ k. k.0) (λ s. s.0) y)
-  inside layer.Empty = tt
-  inside (layer.Assign place value) = tt
-  inside (layer.AssignCall place call) = tt
-  inside (layer.Call call) = tt
   inside (layer.If cond first second) = (each first, each second)
   inside (layer.While cond body) = each body
   inside (layer.For first cond next body) = each body
-  inside layer.Break = tt
-  inside layer.Continue = tt
-  inside layer.Return = tt
-  inside (layer.ReturnValue value) = tt
-  inside (layer.ReturnCall call) = tt
+  inside _ = tt
 
   -- To show P of every statement, show it of one where P holds of each statement directly inside.
   pub stmt_induction : ((line : ℕ) (k : TypedStmtKind-F TypedStmtKind TypedStmt) → Inside P k → P (on_line line k)) →
@@ -69,8 +61,6 @@ module _ (P : TypedExpr → Type 0) where
 
   under : (y : TypedKind-F ((k : TypedKind) × AnyType k) ((e : TypedExpr) × P e)) →
       Under P (map-TypedKind _ _ _ _ (λ k. k.0) (λ e. e.0) y)
-  under (term.Literal word) = tt
-  under (term.Variable v) = tt
   under (term.Unary o a) = a.1
   under (term.Binary o a b) = (a.1, b.1)
   under (term.Index a b) = (a.1, b.1)
@@ -78,6 +68,7 @@ module _ (P : TypedExpr → Type 0) where
   under (term.Arrow a offset) = a.1
   under (term.Deref a) = a.1
   under (term.Address a) = a.1
+  under _ = tt
 
   -- To show P of every expression, show it of one where P holds of each expression directly inside.
   pub expr_induction : ((ty : Ty) (k : TypedKind-F TypedKind TypedExpr) → Under P k → P (typed ty k)) →

@@ -1,5 +1,5 @@
 -- Programs by plans, whose functions compute: the meaning of a program is the run of its plan's library.
-use Rattle.sc_core.proofs.Common.{Acts, Arith, Bool, Event, Function, Here, Interfaces, Library, List, Local, Next}
+use Rattle.sc_core.proofs.Common.{Acts, Arith, Bool, Calls, Event, Function, Here, Interfaces, Library, List, Local, Next}
 use Rattle.sc_core.proofs.Common.{None, Ok, Option, Run, Some, Ty, TypedExpr, TypedGlobal, TypedSection, TypedStruct}
 use Rattle.sc_core.proofs.Common.{[], all_do, and_then, ap, assign, at_place, bytes_eq, closed, codes, entry_in, follow}
 use Rattle.sc_core.proofs.Common.{frame_bound, function_of, functions_in, globals_of, in_order, init_nodes, inits_do}
@@ -106,28 +106,25 @@ module _ (arith : Arith) (structs : List TypedStruct) (here : Here) (params : �
         (way_is arith structs here params a i) slot.line ∷ rest i
 
 module _ (arith : Arith) (main : ℕ) where
+  -- the function of a plan, by its nodes and by what its locals and its lines do
+  abbrev made : List TypedStruct → Plan → ℕ → (Here → List Acts) → (Here → Calls → List Acts) → Function
+  made structs plan nodes inits lines = record {
+    cells = variables structs (function plan);
+    room = frame_bound (variables structs (function plan)) nodes;
+    does = λ by here s. and_then (follow in_order (all_do (inits here) tt s) (all_do (lines here by))) (λ left s. closed
+        left.exit (is_some plan.result) (here.comp == main && bytes_eq plan.name main_name) plan.close_line here s);
+  }
+
   abbrev pub quick : List TypedStruct → Plan → Function
-  quick structs plan =
-      record {
-        cells = variables structs (function plan);
-        room = frame_bound (variables structs (function plan)) (plan_nodes plan);
-        does = λ by here s. and_then (follow in_order
-            (all_do (slots_do arith structs here (length (map param plan.params)) 0 plan.locals) tt s)
-            (all_do (lines_do arith structs here (length (map param plan.params)) by plan.body))) (λ left s. closed
-            left.exit (is_some plan.result) (here.comp == main && bytes_eq plan.name main_name) plan.close_line here s);
-      }
+  quick structs plan = made structs plan (plan_nodes plan)
+      (λ here. slots_do arith structs here (length (map param plan.params)) 0 plan.locals)
+      (λ here by. lines_do arith structs here (length (map param plan.params)) by plan.body)
 
   pub function_is : (structs : List TypedStruct) (plan : Plan) →
       function_of arith main structs (function plan) ≡ quick structs plan
-  function_is structs plan = λ i.
-      record {
-        cells = variables structs (function plan);
-        room = frame_bound (variables structs (function plan)) (plan_nodes_is plan i);
-        does = λ by here s. and_then (follow in_order
-            (all_do (inits_are arith structs here (length (map param plan.params)) 0 plan.locals i) tt s)
-            (all_do (lines_are arith structs here (length (map param plan.params)) by plan.body i))) (λ left s. closed
-            left.exit (is_some plan.result) (here.comp == main && bytes_eq plan.name main_name) plan.close_line here s);
-      }
+  function_is structs plan = λ i. made structs plan (plan_nodes_is plan i)
+      (λ here. inits_are arith structs here (length (map param plan.params)) 0 plan.locals i)
+      (λ here by. lines_are arith structs here (length (map param plan.params)) by plan.body i)
 
   pub functions_are : (structs : List TypedStruct) (plans : List Plan) →
       map (function_of arith main structs) (map function plans) ≡ map (quick structs) plans

@@ -1,9 +1,9 @@
 -- Libraries that agree function by function run the same, also where compartments perform scripts.
-use Rattle.sc_laws.proofs.Common.{Action, AgreeingRunAlike, BehavioursAgree, Blamed, BodiesAgree, Body, Bool, Call}
+use Rattle.sc_laws.proofs.Common.{Action, AgreeingRunAlike, BehavioursAgree, BodiesAgree, Body, Bool, Call}
 use Rattle.sc_laws.proofs.Common.{CallTarget, CallsAgree, Cross, Ended, EventsOut, Function, FunctionsAgree, Here}
 use Rattle.sc_laws.proofs.Common.{Input, LibrariesAgree, Library, List, Main, Meets, Memory, None, Option, Output, Own}
 use Rattle.sc_laws.proofs.Common.{Piece, PiecesAgree, Reached, Roles, Row, RunEnd, RunsAgree, Some, SourceRun, State}
-use Rattle.sc_laws.proofs.Common.{Step, Stopped, TurnsOut, Value, Word, [], acts, and_then, ap, asks, back_cross}
+use Rattle.sc_laws.proofs.Common.{Step, Stopped, Value, Word, [], acts, and_then, ap, asks, back_cross}
 use Rattle.sc_laws.proofs.Common.{back_own, begun, call_cross, call_own, called, calls, done, false, first_state, found}
 use Rattle.sc_laws.proofs.Common.{function, if◌then◌else◌, is_number, is_some, length, map, may_call, nat_le, nat_lt}
 use Rattle.sc_laws.proofs.Common.{performs, piece_without_line, reaches, refl, run_by, run_in, run_step, run_to}

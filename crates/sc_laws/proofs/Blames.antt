@@ -7,13 +7,14 @@ use Rattle.sc_laws.proofs.Common.{Stopped, TurnsOut, Value, [], ap, ap₂, arith
 use Rattle.sc_laws.proofs.Common.{call_own, called, cases_eq, eq-eqb, eqb-true, false, first_state, found_kept}
 use Rattle.sc_laws.proofs.Common.{function, if◌then◌else◌, leb-false, length, length-append, longer, nat_le, ne_eqb}
 use Rattle.sc_laws.proofs.Common.{nobody, performed_by, reaches, refl, roles_in, roles_run, run_by, run_in, run_step}
-use Rattle.sc_laws.proofs.Common.{run_to, scripted_step, slice_get, slice_index_or, stopped_at, subst, suc, sym, take}
+use Rattle.sc_laws.proofs.Common.{run_to, scripted_step, slice_get, slice_index_or, stopped_at, subst, suc, sym}
 use Rattle.sc_laws.proofs.Common.{then_kept, true, turn, turn_of, turnless, with, within, zero, ℕ, ⊎_elim, ◌++◌, ◌+◌}
 use Rattle.sc_laws.proofs.Common.{◌<◌, ◌==◌, ◌||◌, ◌∙◌, ◌∷◌, ◌≡◌, ◌≤◌, ◌⊎◌}
 use Rattle.sc_laws.proofs.Growing.{BodyGoes, within_goes}
 use Rattle.sc_laws.proofs.Matching.{scripted_goes_on}
 use Rattle.sc_laws.proofs.Keeping.{IsKept, scripted_keeps}
 use Rattle.sc_laws.proofs.FollowingRuns.{passes_blames}
+use Rattle.sc_laws.proofs.Runs.{shown}
 
 -- that a compartment may be blamed
 module _ (Fair : ℕ → Type 0) where
@@ -92,7 +93,7 @@ module _ (Fair : ℕ → Type 0) where
 
   stopped_spares : (events : ℕ) (run : SourceRun) → Spares run.end → Spares (stopped_at events run).end
   stopped_spares events run h = by _ where
-    by : (b : Bool) → Spares (if b then record { trace = take events run.trace; end = EventsOut } else run).end
+    by : (b : Bool) → Spares (shown events b run).end
     by true = tt
     by false = h
 
@@ -127,8 +128,7 @@ early n x comp cause line ends = by _ refl ends where
   few : (end : RunEnd) → end ≡ Blamed comp cause line → reaches n x end ≡ false → length x.trace < n
   few end is stays = let test : nat_le n _ ≡ false = ap (reaches n x) (sym is) ∙ stays in leb-false n _ test
 
-  by : (b : Bool) → reaches n x x.end ≡ b → (if b then record { trace = take n x.trace; end = EventsOut } else x).end
-      ≡ Blamed comp cause line → length (if b then record { trace = take n x.trace; end = EventsOut } else x).trace < n
+  by : (b : Bool) → reaches n x x.end ≡ b → (shown n b x).end ≡ Blamed comp cause line → length (shown n b x).trace < n
   by true is ends = cc
   by false is ends = few x.end ends is
 
@@ -154,13 +154,8 @@ module _ (L : Library) (obedient : Obedient L) (globals : Memory) (inputs : List
   told_more : (run other : SourceRun) (comp : ℕ) (cause : Cause) (line : ℕ) → other.end ≡ Blamed comp cause line →
       PassesBlame run other → length run.trace < length other.trace
   told_more run other comp cause line ends (turnless is) = let wants : other.end ≡ TurnsOut = ap (λ r. r.end) is in cc
-  told_more run other comp cause line ends (longer event front) = omega (
-    arith,
-    ap length front.is,
-    length-append
-        (run.trace ++ event ∷ []) front.more,
-    length-append run.trace (event ∷ []),
-  )
+  told_more run other comp cause line ends (longer event front) = omega (arith, ap length front.is, length-append
+      (run.trace ++ event ∷ []) front.more, length-append run.trace (event ∷ []))
 
   rises : (set : Set) (least : ℕ) (links : List Link) → ((comp : ℕ) (cause : Cause) (line : ℕ) →
       (behaviour set).end ≡ Blamed comp cause line → least ≤ length (behaviour set).trace) →
@@ -185,11 +180,9 @@ module _ (L : Library) (obedient : Obedient L) (globals : Memory) (inputs : List
   are_fresh : (set : Set) (links : List Link) → IsChain (performed_by L globals inputs turns t) t set links →
       AreFresh set links
   are_fresh set [] chain = tt
-  are_fresh set (link ∷ links) chain = (
-    nobody_is_blamed L obedient globals inputs turns (length t) (roles_in L.interfaces.main set t) link.comp
-        link.cause link.line chain.0.blamed,
-    are_fresh (with link.comp set) links chain.1,
-  )
+  are_fresh set (link ∷ links) chain =
+      (nobody_is_blamed L obedient globals inputs turns (length t) (roles_in L.interfaces.main set t) link.comp
+      link.cause link.line chain.0.blamed, are_fresh (with link.comp set) links chain.1)
 
   pub chain_rises : ChainRises t behaviour
   chain_rises links chain =

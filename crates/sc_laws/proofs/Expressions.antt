@@ -1,5 +1,5 @@
 -- What expressions give in two arithmetics, of which one may blame where the other goes on.
-use Rattle.sc_laws.proofs.Common.{Arith, BinaryOp, Blocks, Bool, Cause, Err, Here, List, Meant, Null, Ok, Ptr, Result}
+use Rattle.sc_laws.proofs.Common.{Arith, BinaryOp, Blocks, Bool, Cause, Err, Here, List, Meant, Ok, Result}
 use Rattle.sc_laws.proofs.Common.{TypedExpr, TypedStruct, Under, Value, Want, Ways, Word, [], ap, applied, applied_one}
 use Rattle.sc_laws.proofs.Common.{as_word, at_place, at_pointer, binary, bind, choose, expr_at, expr_induction, false}
 use Rattle.sc_laws.proofs.Common.{if◌then◌else◌, is_pointer, is_unsigned, map, meant, meant_step, moved, on_words, pos}

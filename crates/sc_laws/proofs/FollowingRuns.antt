@@ -1,10 +1,10 @@
 -- Whole runs along one trace, of which the second has more compartments that perform their parts of it; the least set.
-use Rattle.sc_laws.proofs.Common.{Blamed, Bool, Cause, Ended, Event, EventsOut, Front, Function, Includes, IsChain}
+use Rattle.sc_laws.proofs.Common.{Blamed, Bool, Cause, Ended, Event, Front, Function, Includes, IsChain}
 use Rattle.sc_laws.proofs.Common.{IsFixed, IsStop, IsWithin, KeepsBlames, LeastIsChain, Library, Link, List, Main}
 use Rattle.sc_laws.proofs.Common.{Memory, Never, None, Obedient, Option, PassesBlame, PassesBlames, Piece, Reached}
 use Rattle.sc_laws.proofs.Common.{RunEnd, Set, Some, SourceRun, Standing, State, Step, Stopped, StopsSo, TellsWithMore}
 use Rattle.sc_laws.proofs.Common.{TurnsOut, Value, [], and_then, ap, append-nil, arith, at_start, begun, call_own, done}
-use Rattle.sc_laws.proofs.Common.{drop, eqb-true, exit_word, false, first_state, found, if◌then◌else◌, inl, inr, last}
+use Rattle.sc_laws.proofs.Common.{drop, eqb-true, exit_word, false, first_state, found, inl, inr, last}
 use Rattle.sc_laws.proofs.Common.{leb-false, length, length-append, longer, lt-leb, nobody, now, performed_by, reaches}
 use Rattle.sc_laws.proofs.Common.{refl, roles_in, roles_run, run_by, run_to, stands_behind, stopped_at, subst, suc, sym}
 use Rattle.sc_laws.proofs.Common.{take, take-append-drop, take_all, take_front, true, turnless, with, within, ℕ, ◌++◌}
@@ -15,7 +15,7 @@ use Rattle.sc_laws.proofs.Following.{GoesOn, KeepsUp, whole, follow_kept, follow
 use Rattle.sc_laws.proofs.Following.{perform_at, MovesOrReturns, MovesOn, IfBlamed, KeepsUp as follows}
 use Rattle.sc_laws.proofs.Following.{Performs as performing, MovesOn as passed, MovesOrReturns as passing}
 use Rattle.sc_laws.proofs.Matching.{library_twins, scripted_goes_on, library_goes}
-use Rattle.sc_laws.proofs.Runs.{scripted_fixed, trace_is, take_fronts}
+use Rattle.sc_laws.proofs.Runs.{scripted_fixed, shown, trace_is, take_fronts}
 use Rattle.sc_laws.proofs.Rows.{InLine, in_line_before, NextIs, over, next_told_is, told as next_told}
 use Rattle.sc_laws.proofs.FollowingCalls.{at, first_step, second_step, N, Bodies, Telling, performs_next, all_bodies}
 
@@ -227,9 +227,8 @@ module _ (L : Library) (obedient : Obedient L) (t : List Event) (S S' : Set) (la
 
 -- THE LAWS
 module _ (t : List Event) (x y : SourceRun) where
-  -- a run cut at the length of the trace, or not
   abbrev cut : Bool → SourceRun → SourceRun
-  cut b run = if b then record { trace = take (length t) run.trace; end = EventsOut } else run
+  cut = shown (length t)
 
   -- a run that is stopped at the length of the trace shows the trace where its events begin with it
   shows : Front t y.trace → (stopped_at (length t) y).trace ≡ t

@@ -8,7 +8,7 @@ use Rattle.sc_laws.proofs.Common.{first_state, fits_result, found, found_kept, f
 use Rattle.sc_laws.proofs.Common.{is_function, is_input, is_legal_from, is_output, legal, length, length-map}
 use Rattle.sc_laws.proofs.Common.{library_run, map, may_call, may_perform, may_return, option_map_or, performer, refl}
 use Rattle.sc_laws.proofs.Common.{roles_run, run_by, run_in, run_step, run_to, scripted_step, stands_after}
-use Rattle.sc_laws.proofs.Common.{stands_behind, stopped_at, subst, suc, sym, take, takes, tell, then_kept, true, turn}
+use Rattle.sc_laws.proofs.Common.{stands_behind, stopped_at, suc, sym, take, takes, tell, then_kept, true, turn}
 use Rattle.sc_laws.proofs.Common.{turn_of, within, word_back, word_in, zero, ℕ, ◌&&◌, ◌++◌, ◌==◌, ◌∙◌, ◌∷◌, ◌≡◌}
 use Rattle.sc_laws.proofs.Growing.{BodyGoes, StepGoes, within_goes}
 use Rattle.sc_laws.proofs.Matching.{run_goes_on, scripted_goes_on}
@@ -16,28 +16,27 @@ use Rattle.sc_laws.proofs.Keeping.{IsKept, run_step_keeps, scripted_keeps, then_
 use Rattle.sc_laws.proofs.Rows.{stands_last}
 use Rattle.sc_laws.proofs.Runs.{trace_is}
 
-module _ (interfaces : Interfaces) where
+module _ (library : Library) where
+  abbrev interfaces : Interfaces
+  interfaces = library.interfaces
+
   legal_more : (at : Option Standing) (t : List Event) (st : Standing) (e : Event) → stands_behind at t ≡ Some st →
       is_legal_from interfaces at t ≡ true → is_allowed interfaces st e ≡ true →
       is_legal_from interfaces at (t ++ e ∷ []) ≡ true
   legal_more at [] st e h l may = ap (λ x. is_legal_from interfaces x (e ∷ [])) h ∙ and_from _ true may refl
   legal_more None (x ∷ t) st e h l may = cc l
-  legal_more (Some a) (x ∷ t) st e h l may = more (and_parts _ _ l) (λ k. legal_more _ t st e h k may) where
-    more : (is_allowed interfaces a x ≡ true) × (is_legal_from interfaces (stands_after a x) t ≡ true) →
-        (is_legal_from interfaces (stands_after a x) t ≡ true → is_legal_from interfaces (stands_after a x)
-        (t ++ e ∷ []) ≡ true) → is_legal_from interfaces (Some a) (x ∷ t ++ e ∷ []) ≡ true
-    more p rest = and_from _ _ p.0 (rest p.1)
+  legal_more (Some a) (x ∷ t) st e h l may =
+      let parts = and_parts (is_allowed interfaces a x) (is_legal_from interfaces (stands_after a x) t) l in
+      and_from (is_allowed interfaces a x) _ parts.0 (legal_more (stands_after a x) t st e h parts.1 may)
 
   legal_take : (n : ℕ) (at : Option Standing) (t : List Event) → is_legal_from interfaces at t ≡ true →
       is_legal_from interfaces at (take n t) ≡ true
   legal_take zero at t l = refl
   legal_take (suc n) at [] l = refl
   legal_take (suc n) None (x ∷ t) l = cc l
-  legal_take (suc n) (Some a) (x ∷ t) l = first (and_parts _ _ l) (λ k. legal_take n _ t k) where
-    first : (is_allowed interfaces a x ≡ true) × (is_legal_from interfaces (stands_after a x) t ≡ true) →
-        (is_legal_from interfaces (stands_after a x) t ≡ true → is_legal_from interfaces (stands_after a x)
-        (take n t) ≡ true) → is_legal_from interfaces (Some a) (x ∷ take n t) ≡ true
-    first p rest = and_from _ _ p.0 (rest p.1)
+  legal_take (suc n) (Some a) (x ∷ t) l =
+      let parts = and_parts (is_allowed interfaces a x) (is_legal_from interfaces (stands_after a x) t) l in
+      and_from (is_allowed interfaces a x) _ parts.0 (legal_take n (stands_after a x) t parts.1)
 
   -- where a legal trace stands
   pub record IsAt (t : List Event) (st : Standing) : Type 0 where
@@ -83,8 +82,7 @@ module _ (interfaces : Interfaces) where
   back_fits None count v h = cc h
   back_fits (Some proto) count v h = fits_back _ v
 
-  module _ (library : Library) (same : library.interfaces ≡ interfaces) (body : Body)
-      (legal_body : BodyLegal body) where
+  module _ (body : Body) (legal_body : BodyLegal body) where
     -- a function runs where the run stands inside, and returns to where it stood
     run_at : (inner outer : Standing) (comp number : ℕ) (args : List Value) (back : Option Value → State →
         Piece (Option Value)) → comp ≡ inner.active.comp
@@ -123,11 +121,7 @@ module _ (interfaces : Interfaces) where
     cross_at : (st : Standing) (from to index : ℕ) (args : List Value) (s : State) → from ≡ st.active.comp
         → (imports interfaces from (is_function to index) && takes interfaces to index (length args)) ≡ true
         → IsAt s.trace st → Kept (standing st) (call_cross library body from to index args s)
-    cross_at st from to index args s is may h =
-        subst (λ c. Kept (standing st) (and_then (found (library.entered to (Export index)) s) (λ number s.
-        run_in library body to number (crossed args) (back_cross c from to index)
-        (tell (Call from to index (map word_in args)) s)))) (sym same)
-        (found_kept (standing st) (library.entered to (Export index)) s (λ number s.
+    cross_at st from to index args s is may h = found_kept (standing st) (library.entered to (Export index)) s (λ number s.
         run_in library body to number (crossed args) (back_cross interfaces from to index)
         (tell (Call from to index (map word_in args)) s)) (h.is_legal, tt) (λ number found_number.
         run_at (entered_at st to index) st to number (crossed args) (back_cross interfaces from to index) refl
@@ -136,7 +130,7 @@ module _ (interfaces : Interfaces) where
               (back_is_allowed st from to index args v is (and_parts _ _ may).1) refl;
         }) (tell (Call from to index (map word_in args)) s)
         (told_at s.trace st (entered_at st to index) (Call from to index (map word_in args)) h
-        (call_is_allowed st from to index args is may) refl)))
+        (call_is_allowed st from to index args is may) refl))
 
     environment_at : (st : Standing) (from : ℕ) (e : Event) (s : State) → performer e ≡ st.active.comp →
         may_perform interfaces st e ≡ true → stands_after st e ≡ Some st → IsAt s.trace st → IsAt (s.trace ++ e ∷ []) st
@@ -156,11 +150,9 @@ module _ (interfaces : Interfaces) where
     allowed from (Cross to index) args may =
         let first = and_parts (imports library.interfaces from _) _ may in
         let second = and_parts (takes library.interfaces to index _) _ first.1 in
-        and_from (imports interfaces from _) (takes interfaces to index _)
-        (ap (λ i. imports i from (is_function to index)) (sym same) ∙ first.0) (ap (λ i. takes i to index (length args))
-        (sym same) ∙ second.0)
-    allowed from Input args may = ap (λ i. imports i from is_input) (sym same) ∙ may
-    allowed from Output args may = ap (λ i. imports i from is_output) (sym same) ∙ (and_parts _ _ may).0
+        and_from (imports interfaces from _) (takes interfaces to index _) first.0 second.0
+    allowed from Input args may = may
+    allowed from Output args may = (and_parts _ _ may).0
 
     called_at : (st : Standing) (from : ℕ) (target : CallTarget) (args : List Value) (s : State) →
         from ≡ st.active.comp → Allowed from target args → IsAt s.trace st →
@@ -174,20 +166,20 @@ module _ (interfaces : Interfaces) where
     called_at st from Input args s is may h = record { after = environment_at st from _ s is may refl h }
     called_at st from Output args s is may h = record { after = environment_at st from _ s is may refl h }
 
-  module _ (library : Library) (same : library.interfaces ≡ interfaces) (obedient : Obedient library) where
+  module _ (obedient : Obedient library) where
     abbrev StepLegal : Step → Type 0
     StepLegal step = (body : Body) → BodyGoes body → BodyLegal body → BodyLegal (step body)
 
     pub run_step_legal : StepLegal (run_step library)
     run_step_legal body goes legal_body number here s st is h = run_step_keeps (standing st) library body here
-        (λ target args s may h. called_at library same body legal_body st here.comp target args s is
-        (allowed library same body legal_body here.comp target args may) h) number (λ s h. (h.is_legal, tt)) obedient goes
+        (λ target args s may h. called_at body legal_body st here.comp target args s is
+        (allowed body legal_body here.comp target args may) h) number (λ s h. (h.is_legal, tt)) obedient goes
         (λ f found_f. is_kept st here) s h
 
     pub scripted_legal : (roles : Roles) → StepLegal (scripted_step library roles (run_step library))
     scripted_legal roles body goes legal_body number here s st is h = scripted_keeps (standing st) library body here
-        (λ target args s may h. called_at library same body legal_body st here.comp target args s is
-        (allowed library same body legal_body here.comp target args may) h) number (λ s h. (h.is_legal, tt))
+        (λ target args s may h. called_at body legal_body st here.comp target args s is
+        (allowed body legal_body here.comp target args may) h) number (λ s h. (h.is_legal, tt))
         (λ s h. legal_body number here s st is h) roles obedient goes (λ plain f found_f. is_kept st here) s h
 
     within_legal : (step : Step) → StepGoes step → StepLegal step → (n : ℕ) → BodyLegal (within step n)
@@ -207,28 +199,24 @@ module _ (interfaces : Interfaces) where
     run_legal : (step : Step) → StepGoes step → StepLegal step → (globals : Memory) (inputs : List ℕ) (turns : ℕ) →
         legal interfaces (run_by library step globals inputs turns).behaviour.trace ≡ true
     run_legal step step_goes legal_step globals inputs turns =
-        subst (λ c. legal interfaces
-        (run_to c.main (and_then (found (library.entered c.main Main) (first_state globals inputs turns))
-        (λ number s. call_own library (within step (suc turns)) c.main number [] s))).behaviour.trace ≡ true) (sym same)
-        (piece_legal (and_then (found (library.entered interfaces.main Main) _)
+        piece_legal (and_then (found (library.entered interfaces.main Main) _)
         (λ number s. call_own library (within step (suc turns)) interfaces.main number [] s))
         (found_kept _ (library.entered interfaces.main Main) (first_state globals inputs turns)
         (λ number s. call_own library (within step (suc turns)) interfaces.main number [] s) (refl, tt)
-        (λ number found_number. own_at library same _ (within_legal step step_goes legal_step
-        (suc turns)) begins _ number [] (first_state globals inputs turns) refl
-        (record { stands = refl; is_legal = refl }))))
+        (λ number found_number. own_at _ (within_legal step step_goes legal_step (suc turns)) begins _ number []
+        (first_state globals inputs turns) refl (record { stands = refl; is_legal = refl })))
 
-stopped_legal : (interfaces : Interfaces) (n : ℕ) (t : List Event) (end : RunEnd) → legal interfaces t ≡ true →
-    legal interfaces (stopped_at n (record { trace = t; end = end })).trace ≡ true
-stopped_legal interfaces n t end h = ap (legal _) (trace_is n _) ∙ legal_take interfaces n _ t h
+stopped_legal : (library : Library) (n : ℕ) (t : List Event) (end : RunEnd) → legal library.interfaces t ≡ true →
+    legal library.interfaces (stopped_at n (record { trace = t; end = end })).trace ≡ true
+stopped_legal library n t end h = ap (legal _) (trace_is n _) ∙ legal_take library n _ t h
 
 module _ (library : Library) (obedient : Obedient library) (globals : Memory) (inputs : List ℕ) (turns events : ℕ) where
   pub runs_legal : legal library.interfaces
       (stopped_at events (library_run library globals inputs turns).behaviour).trace ≡ true
-  runs_legal = stopped_legal _ events _ _ (run_legal _ library refl obedient (run_step library)
-      (run_goes_on library obedient) (run_step_legal _ library refl obedient) globals inputs turns)
+  runs_legal = stopped_legal library events _ _ (run_legal library obedient (run_step library)
+      (run_goes_on library obedient) (run_step_legal library obedient) globals inputs turns)
 
   pub scripts_legal : (roles : Roles) →
       legal library.interfaces (stopped_at events (roles_run library globals inputs turns roles).behaviour).trace ≡ true
-  scripts_legal roles = stopped_legal _ events _ _ (run_legal _ library refl obedient (scripted_step library roles _)
-      (scripted_goes_on library obedient roles) (scripted_legal _ library refl obedient roles) globals inputs turns)
+  scripts_legal roles = stopped_legal library events _ _ (run_legal library obedient (scripted_step library roles _)
+      (scripted_goes_on library obedient roles) (scripted_legal library obedient roles) globals inputs turns)

@@ -1,5 +1,5 @@
 -- A program whose trees stand on other lines does the same up to the lines of blames.
-use Rattle.sc_laws.proofs.Common.{Acts, Arith, Bool, Break, CallTarget, Calls, CallsAgree, Cause, Continue, Does, Each}
+use Rattle.sc_laws.proofs.Common.{Acts, Arith, Bool, CallTarget, Calls, CallsAgree, Cause, Does, Each}
 use Rattle.sc_laws.proofs.Common.{Entry, Err, Exit, Export, FunctionsAgree, Here, Inside, Left, LibrariesAgree, List}
 use Rattle.sc_laws.proofs.Common.{Local, Main, Next, None, Ok, On, Option, OtherLinesAgree, Out, Piece, PiecesAgree}
 use Rattle.sc_laws.proofs.Common.{ProgramTree, Proto, Result, Return, Route, RunsAgree, Some, State, TypedExpr}

@@ -2,7 +2,7 @@
 use Rattle.sc_laws.proofs.Common.{AgreesInRoom, AgreesUntilBlame, Blamed, Bool, Cause, Ended, EventsOut, ExtendedByMore}
 use Rattle.sc_laws.proofs.Common.{Extends, Front, IsArithmetic, IsFinal, LibrariesMatch, Library, List, Memory, Never}
 use Rattle.sc_laws.proofs.Common.{Obedient, ProgramTree, Roles, Run, RunEnd, RunsUntilBlame, SourceRun, Step, TurnsOut}
-use Rattle.sc_laws.proofs.Common.{ap, arith, blamed, blamed_run, c_arith, deepest, depth_in, false, if◌then◌else◌, inl}
+use Rattle.sc_laws.proofs.Common.{ap, arith, blamed, blamed_run, c_arith, deepest, depth_in, false, inl}
 use Rattle.sc_laws.proofs.Common.{inr, le-leb, leb-true, length, library_of, library_run, lt-ltb, nat_le, reaches, refl}
 use Rattle.sc_laws.proofs.Common.{roles_run, run_by, run_step, same, same_run, scripted_step, stopped_at, subst, sym}
 use Rattle.sc_laws.proofs.Common.{take, take-append-le, take_all, true, wrapping, ℕ, ◌+◌, ◌-◌, ◌<◌, ◌∙◌, ◌≡◌, ◌≤◌}
@@ -12,7 +12,7 @@ use Rattle.sc_laws.proofs.Expressions.{ArithKeeps}
 use Rattle.sc_laws.proofs.Matching.{first_goes, second_goes, run_goes_on, scripted_goes_on}
 use Rattle.sc_laws.proofs.Statements.{program_matches}
 use Rattle.sc_laws.proofs.Below.{Passes, StepsBelow}
-use Rattle.sc_laws.proofs.Runs.{take_fronts, unreached, still_unreached, trace_is, RunsBelow, run_steps, scripted_steps}
+use Rattle.sc_laws.proofs.Runs.{shown, take_fronts, unreached, still_unreached, trace_is, RunsBelow, run_steps, scripted_steps}
 use Rattle.sc_laws.proofs.Runs.{runs_below, RunsBelow as goes}
 use Rattle.sc_laws.proofs.Rooms.{deepest_more}
 
@@ -28,18 +28,11 @@ module _ (d : ℕ) (one other : Run) (events more_events : ℕ) (le : events ≤
   front_events (goes.same_run is) = subst (λ z. Front shorter.trace z.behaviour.trace) (sym is) (front_same _)
   front_events (goes.goes_past end is stop passes front ended frames late) = front
 
-  final_at : (b : Bool) → reaches events shorter shorter.end ≡ b →
-      IsFinal (if b then record { trace = take events shorter.trace; end = EventsOut } else shorter).end →
-      RunsBelow d Never (Unit {0}) one other →
-      stopped_at more_events longer ≡ (if b then record {
-        trace = take events shorter.trace;
-        end = EventsOut;
-      } else shorter)
+  final_at : (b : Bool) → reaches events shorter shorter.end ≡ b → IsFinal (shown events b shorter).end →
+      RunsBelow d Never (Unit {0}) one other → stopped_at more_events longer ≡ (shown events b shorter)
   final_at true is final below = absurd final
-  final_at false is final (goes.same_run equal) =
-      ap (λ z. stopped_at more_events z.behaviour) equal
-      ∙ ap (λ b. if b then record { trace = take more_events shorter.trace; end = EventsOut } else shorter)
-      (still_unreached events _ shorter _ le is)
+  final_at false is final (goes.same_run equal) = ap (λ z. stopped_at more_events z.behaviour) equal
+      ∙ ap (λ b. shown more_events b shorter) (still_unreached events _ shorter _ le is)
   final_at false is final (goes.goes_past end ends stop passes front ended frames late) =
       absurd (no_end end passes (subst IsFinal ends final)) where
         no_end : (end : RunEnd) → Passes d Never (Unit {0}) end → IsFinal end → ⊥
@@ -98,11 +91,10 @@ module _ (one other : Run) (events : ℕ) where
 
   blamed_at : (comp : ℕ) (cause : Cause) (line : ℕ) → x.end ≡ Blamed comp cause line → IsArithmetic cause →
       Front x.trace y.trace → (y.end ≡ Ended → length x.trace < length y.trace) → (b : Bool) →
-      reaches events x x.end ≡ b →
-      AgreesUntilBlame (if b then record { trace = take events x.trace; end = EventsOut } else x) (stopped_at events y)
+      reaches events x x.end ≡ b → AgreesUntilBlame (shown events b x) (stopped_at events y)
   blamed_at comp cause line ends soft front ended true is =
       let le = leb_true events (length x.trace) (ap (reaches events x) (sym ends) ∙ is) in
-      same (ap (λ b. if b then record { trace = take events y.trace; end = EventsOut } else y)
+      same (ap (λ b. shown events b y)
       (reached_too y.end front ended le) ∙ ap (λ t. record { trace = t; end = EventsOut }) (took_same front le)) where
         leb_true : (a b : ℕ) → nat_le a b ≡ true → a ≤ b
         leb_true a b is = leb-true a b is

@@ -38,10 +38,13 @@ pub unreached : (events : ℕ) (run : SourceRun) (end : RunEnd) → reaches even
 unreached events run Ended below = ltb-false events _ below
 unreached events run _ below = at_most (leb-false events _ below)
 
+-- a run that is cut at so many events, or not
+abbrev pub shown : ℕ → Bool → SourceRun → SourceRun
+shown events b run = if b then record { trace = take events run.trace; end = EventsOut } else run
+
 pub trace_is : (events : ℕ) (run : SourceRun) → (stopped_at events run).trace ≡ take events run.trace
 trace_is events run = by_test _ refl where
-  by_test : (b : Bool) → reaches events run run.end ≡ b →
-      (if b then record { trace = take events run.trace; end = EventsOut } else run).trace ≡ take events run.trace
+  by_test : (b : Bool) → reaches events run run.end ≡ b → (shown events b run).trace ≡ take events run.trace
   by_test true is = refl
   by_test false is = sym (take_all events _ (unreached events run run.end is))
 

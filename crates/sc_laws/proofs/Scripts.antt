@@ -6,7 +6,7 @@ use Rattle.sc_laws.proofs.Common.{Main, Memory, None, Obedient, Option, Output, 
 use Rattle.sc_laws.proofs.Common.{Roles, Row, RunEnd, Set, Some, SpendsAlong, Standing, State, Stopped, TurnsOut, Value}
 use Rattle.sc_laws.proofs.Common.{Word, [], action_of, acts, and_from, and_parts, and_then, ap, arith, asks, at_start}
 use Rattle.sc_laws.proofs.Common.{back_cross, back_own, begun, call_cross, call_own, called, calls, count_of, done}
-use Rattle.sc_laws.proofs.Common.{drop, eq-eqb, eqb-true, false, false≢true, first_state, found, function}
+use Rattle.sc_laws.proofs.Common.{drop, eq-eqb, eqb-true, false, false≢true, first_state, function}
 use Rattle.sc_laws.proofs.Common.{if◌then◌else◌, imports, is_allowed, is_legal_from, is_number, is_some, is_word, leads}
 use Rattle.sc_laws.proofs.Common.{legal, length-map, list_all, map, may_call, may_perform, part, performer, performs}
 use Rattle.sc_laws.proofs.Common.{refl, roles_in, rows_left, run_in, run_step, same_Some, scripted_call, scripted_step}

@@ -1,12 +1,12 @@
 -- A run that is out of turns has none left, where all functions that are called are there.
-use Rattle.sc_laws.proofs.Common.{BadType, Blamed, Body, Bool, CallTarget, Cross, Ended, EventsOut, Export, Here, Input}
-use Rattle.sc_laws.proofs.Common.{IsSpent, Kept, Library, List, Main, Memory, None, Obedient, Option, Output, Own}
-use Rattle.sc_laws.proofs.Common.{Piece, Property, Reached, RunEnd, Some, SpendsTurns, State, Stopped, StopsSpent}
-use Rattle.sc_laws.proofs.Common.{TurnsOut, Value, [], and_parts, and_then, ap, arith, back_cross, back_own, call_cross}
-use Rattle.sc_laws.proofs.Common.{call_own, called, calls, false, first_state, found, function, if◌then◌else◌, imports}
+use Rattle.sc_laws.proofs.Common.{Blamed, Body, CallTarget, Cross, Ended, EventsOut, Export, Here, Input}
+use Rattle.sc_laws.proofs.Common.{IsSpent, Kept, Library, List, Main, Memory, Obedient, Option, Output, Own}
+use Rattle.sc_laws.proofs.Common.{Piece, Property, Reached, RunEnd, SpendsTurns, State, Stopped, StopsSpent}
+use Rattle.sc_laws.proofs.Common.{TurnsOut, Value, [], and_parts, and_then, arith, back_cross, back_own, call_cross}
+use Rattle.sc_laws.proofs.Common.{call_own, called, calls, first_state, function, imports}
 use Rattle.sc_laws.proofs.Common.{is_some, is_word, leads, length, list_all, main_call, may_call, refl, run_in}
 use Rattle.sc_laws.proofs.Common.{run_step, run_to, subst, suc, sym, takes, then_kept, true, turn_of, within, zero, ℕ}
-use Rattle.sc_laws.proofs.Common.{◌<◌, ◌∙◌, ◌≡◌}
+use Rattle.sc_laws.proofs.Common.{◌<◌, ◌≡◌}
 use Rattle.sc_laws.proofs.Growing.{BodyGoes, calls_go, within_goes}
 use Rattle.sc_laws.proofs.Matching.{run_goes_on}
 use Rattle.sc_laws.proofs.Keeping.{IsKept, calls_keep, function_keeps, led_somewhere, led_there, there}
