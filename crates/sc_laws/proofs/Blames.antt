@@ -154,8 +154,9 @@ module _ (L : Library) (obedient : Obedient L) (globals : Memory) (inputs : List
   told_more : (run other : SourceRun) (comp : ℕ) (cause : Cause) (line : ℕ) → other.end ≡ Blamed comp cause line →
       PassesBlame run other → length run.trace < length other.trace
   told_more run other comp cause line ends (turnless is) = let wants : other.end ≡ TurnsOut = ap (λ r. r.end) is in cc
-  told_more run other comp cause line ends (longer event front) = omega (arith, ap length front.is, length-append
-      (run.trace ++ event ∷ []) front.more, length-append run.trace (event ∷ []))
+  told_more run other comp cause line ends (longer event front) =
+      let long = length-append (run.trace ++ event ∷ []) front.more in
+      omega (arith, ap length front.is, long, length-append run.trace (event ∷ []))
 
   rises : (set : Set) (least : ℕ) (links : List Link) → ((comp : ℕ) (cause : Cause) (line : ℕ) →
       (behaviour set).end ≡ Blamed comp cause line → least ≤ length (behaviour set).trace) →
@@ -181,8 +182,8 @@ module _ (L : Library) (obedient : Obedient L) (globals : Memory) (inputs : List
       AreFresh set links
   are_fresh set [] chain = tt
   are_fresh set (link ∷ links) chain =
-      (nobody_is_blamed L obedient globals inputs turns (length t) (roles_in L.interfaces.main set t) link.comp
-      link.cause link.line chain.0.blamed, are_fresh (with link.comp set) links chain.1)
+      let fresh = nobody_is_blamed L obedient globals inputs turns (length t) (roles_in L.interfaces.main set t) link.comp
+      link.cause link.line chain.0.blamed in (fresh, are_fresh (with link.comp set) links chain.1)
 
   pub chain_rises : ChainRises t behaviour
   chain_rises links chain =

@@ -254,8 +254,11 @@ module _ (Soft : Cause → Type 0) where
   alike_bind (Gives v) twin next next' is k = subst (λ x. Alike Soft (next v) (bind x next')) (sym is) (k v)
   alike_bind (Blames cause line) twin next next' (inl soft) k = inl soft
   alike_bind (Blames cause line) twin next next' (inr is) k = inr (ap (λ x. bind x next') is)
-  alike_bind (Reads go) twin next next' h k = ((λ blocks. bind (h.0 blocks) next'), ap (λ x. bind x next') h.1, λ
-      blocks. alike_bind (go blocks) (h.0 blocks) next next' (h.2 blocks) k)
+  alike_bind (Reads go) twin next next' h k = (
+    (λ blocks. bind (h.0 blocks) next'),
+    ap (λ x. bind x next') h.1,
+    (λ blocks. alike_bind (go blocks) (h.0 blocks) next next' (h.2 blocks) k),
+  )
   alike_bind (Stores blocks go) twin next next' h k =
       (bind h.0 next', ap (λ x. bind x next') h.1, alike_bind go h.0 next next' h.2 k)
   alike_bind (Spends go) twin next next' h k =
@@ -290,8 +293,12 @@ module _ (Soft : Cause → Type 0) where
         Alike Soft (round_trees n f f2 f3 a) (round_trees n g g2 g3 a)
     alike_rounds zero f g f2 g2 f3 g3 h b x a = refl
     alike_rounds (suc n) f g f2 g2 f3 g3 h b x a =
-        alike_trail in_loop (f a) (g a) _ _ (h a) (λ a. ((trail in_loop (g2 a) _), refl, alike_trail in_loop (f2 a)
-        (g2 a) _ _ (b a) (λ a. alike_trail in_loop (f3 a) (g3 a) _ _ (x a) (alike_rounds n f g f2 g2 f3 g3 h b x))))
+        alike_trail in_loop (f a) (g a) _ _ (h a) (λ a. (
+          (trail in_loop (g2 a) _),
+          refl,
+          alike_trail in_loop (f2 a) (g2 a) _ _ (b a)
+              (λ a. alike_trail in_loop (f3 a) (g3 a) _ _ (x a) (alike_rounds n f g f2 g2 f3 g3 h b x)),
+        ))
 
   -- DOINGS THAT MATCH
   module _ (here : Here) where
