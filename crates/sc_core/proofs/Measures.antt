@@ -46,8 +46,8 @@ lines_high_are (AssignCallLine line p target args rest) =
     next_line _ _ _ _ (λ j. suc (max (height_is p j) (highest (heights_are args j)))) (lines_high_are rest)
 lines_high_are (CallLine line target args rest) =
     next_line _ _ _ _ (λ j. suc (highest (heights_are args j))) (lines_high_are rest)
-lines_high_are (IfLine line c x y rest) =
-    next_line _ _ _ _ (λ j. suc (max (height_is c j) (max (highest (lines_high_are x j)) (highest (lines_high_are y j)))))
+lines_high_are (IfLine line c x y rest) = next_line _ _ _ _
+    (λ j. suc (max (height_is c j) (max (highest (lines_high_are x j)) (highest (lines_high_are y j)))))
     (lines_high_are rest)
 lines_high_are (WhileLine line c x rest) =
     next_line _ _ _ _ (λ j. suc (max (height_is c j) (highest (lines_high_are x j)))) (lines_high_are rest)
@@ -164,5 +164,5 @@ module _ (scope : Scope) (callable : Callable) (result : Option Ty) where
   lines_fit_are (ReturnLine line rest) = next_line _ _ _ _ refl (lines_fit_are rest)
   lines_fit_are (ReturnValueLine line e rest) =
       next_line _ _ _ _ (λ j. λ looping. returned_fits result (judge_is e j)) (lines_fit_are rest)
-  lines_fit_are (ReturnCallLine line target args rest) =
-      next_line _ _ _ _ (λ j. λ looping. returned_call_fits callable result target (judges_are args j)) (lines_fit_are rest)
+  lines_fit_are (ReturnCallLine line target args rest) = next_line _ _ _ _
+      (λ j. λ looping. returned_call_fits callable result target (judges_are args j)) (lines_fit_are rest)

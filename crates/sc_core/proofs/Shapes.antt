@@ -162,8 +162,8 @@ module _ (arith : Arith) (structs : List TypedStruct) (here : Here) (params : 鈩
     lines_are (IfLine line cond x y rest) =
         next_line _ _ _ _ (位 j a s. and_then (evaluated here want.Value (way_is cond j) line s)
         (位 v s. choose v (all_do (lines_are x j) a s) (all_do (lines_are y j) a s))) (lines_are rest)
-    lines_are (WhileLine line cond x rest) =
-        next_line _ _ _ _ (位 j. loop (test here (way_is cond j) line) (all_do (lines_are x j)) (leave Next)) (lines_are rest)
+    lines_are (WhileLine line cond x rest) = next_line _ _ _ _
+        (位 j. loop (test here (way_is cond j) line) (all_do (lines_are x j)) (leave Next)) (lines_are rest)
     lines_are (ForLine line p e cond q f x rest) =
         next_line _ _ _ _ (位 j a s. follow in_order (assign here (way_is p j) (way_is e j) line a s)
         (loop (test here (way_is cond j) line) (all_do (lines_are x j)) (assign here (way_is q j) (way_is f j) line)))

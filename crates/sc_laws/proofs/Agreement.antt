@@ -1,14 +1,13 @@
 -- Libraries that agree function by function run the same, also where compartments perform scripts.
-use Rattle.sc_laws.proofs.Common.{Action, AgreeingRunAlike, BehavioursAgree, BodiesAgree, Body, Bool, Call}
-use Rattle.sc_laws.proofs.Common.{CallTarget, CallsAgree, Cross, Ended, EventsOut, Function, FunctionsAgree, Here}
-use Rattle.sc_laws.proofs.Common.{Input, LibrariesAgree, Library, List, Main, Meets, Memory, None, Option, Output, Own}
-use Rattle.sc_laws.proofs.Common.{Piece, PiecesAgree, Reached, Roles, Row, RunEnd, RunsAgree, Some, SourceRun, State}
-use Rattle.sc_laws.proofs.Common.{Step, Stopped, Value, Word, [], acts, and_then, ap, asks, back_cross}
-use Rattle.sc_laws.proofs.Common.{back_own, begun, call_cross, call_own, called, calls, done, false, first_state, found}
-use Rattle.sc_laws.proofs.Common.{function, if◌then◌else◌, is_number, is_some, length, map, may_call, nat_le, nat_lt}
-use Rattle.sc_laws.proofs.Common.{performs, piece_without_line, reaches, refl, run_by, run_in, run_step, run_to}
-use Rattle.sc_laws.proofs.Common.{scripted_step, stopped_at, subst, suc, sym, take, true, within, without_line, zero, ℕ}
-use Rattle.sc_laws.proofs.Common.{◌∙◌, ◌∷◌, ◌≡◌}
+use Rattle.sc_laws.proofs.Common.{Action, AgreeingRunAlike, BehavioursAgree, BodiesAgree, Body, Bool, Call, CallTarget}
+use Rattle.sc_laws.proofs.Common.{CallsAgree, Cross, Ended, EventsOut, Function, FunctionsAgree, Here, Input}
+use Rattle.sc_laws.proofs.Common.{LibrariesAgree, Library, List, Main, Meets, Memory, None, Option, Output, Own, Piece}
+use Rattle.sc_laws.proofs.Common.{PiecesAgree, Reached, Roles, Row, RunEnd, RunsAgree, Some, SourceRun, State, Step}
+use Rattle.sc_laws.proofs.Common.{Stopped, Value, Word, [], acts, and_then, ap, asks, back_cross, back_own, begun}
+use Rattle.sc_laws.proofs.Common.{call_cross, call_own, called, calls, done, false, first_state, found, function}
+use Rattle.sc_laws.proofs.Common.{if◌then◌else◌, is_number, is_some, length, map, may_call, nat_le, nat_lt, performs}
+use Rattle.sc_laws.proofs.Common.{piece_without_line, reaches, refl, run_by, run_in, run_step, run_to, scripted_step}
+use Rattle.sc_laws.proofs.Common.{stopped_at, subst, suc, sym, take, true, within, without_line, zero, ℕ, ◌∙◌, ◌∷◌, ◌≡◌}
 use Rattle.sc_event.specs.declared.row.Action.TheVariants as act
 use Rattle.sc_laws.proofs.Twins.{may_call_same}
 
@@ -168,7 +167,8 @@ pub stopped_agree : (events : ℕ) (run other : SourceRun) → BehavioursAgree r
     BehavioursAgree (stopped_at events run) (stopped_at events other)
 stopped_agree events run other h =
     if_shown (reaches events run run.end) (reaches events other _) (record { trace = take events _; end = EventsOut })
-    (record { trace = take events _; end = EventsOut }) run other (same_reach events run other run.end _ h.trace h.end) (record { trace = ap (take events) h.trace; end = refl }) h
+    (record { trace = take events _; end = EventsOut }) run other (same_reach events run other run.end _ h.trace h.end)
+    (record { trace = ap (take events) h.trace; end = refl }) h
 
 twice : (end : RunEnd) → without_line (without_line end) ≡ without_line end
 twice Ended = refl

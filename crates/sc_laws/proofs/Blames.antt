@@ -182,7 +182,8 @@ module _ (L : Library) (obedient : Obedient L) (globals : Memory) (inputs : List
       AreFresh set links
   are_fresh set [] chain = tt
   are_fresh set (link ∷ links) chain =
-      let fresh = nobody_is_blamed L obedient globals inputs turns (length t) (roles_in L.interfaces.main set t) link.comp
+      let fresh = nobody_is_blamed L obedient globals inputs turns (length t) (roles_in L.interfaces.main set t)
+      link.comp
       link.cause link.line chain.0.blamed in (fresh, are_fresh (with link.comp set) links chain.1)
 
   pub chain_rises : ChainRises t behaviour

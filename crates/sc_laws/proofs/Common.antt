@@ -59,7 +59,7 @@ pub use Rattle.sc_core.specs.declared.stmt.TypedSimpleKind.{TypedSimpleKind}
 pub use Rattle.sc_core.specs.declared.stmt.TypedStmt.{TypedStmt, TypedStmt-F, fold-TypedStmt}
 pub use Rattle.sc_core.specs.declared.stmt.TypedStmtKind.{TypedStmtKind, TypedStmtKind-F, fold-TypedStmtKind}
 pub use Rattle.sc_core.specs.declared.stmt.TypedStmtKind.{map-TypedStmtKind, roll-TypedStmtKind}
-pub use Rattle.sc_core.specs.declared.value.Value.TheVariants.{Null, Ptr, Word}
+pub use Rattle.sc_core.specs.declared.value.Value.TheVariants.{Word}
 pub use Rattle.sc_core.specs.declared.value.Want.{Want}
 pub use Rattle.sc_laws.specs.Common.{Blamed, CallTarget, Cause, Ended, Entry, Event, EventsOut, ProgramTree, RunEnd}
 pub use Rattle.sc_laws.specs.Common.{SourceRun, TurnsOut, Value}

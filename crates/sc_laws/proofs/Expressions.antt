@@ -1,7 +1,7 @@
 -- What expressions give in two arithmetics, of which one may blame where the other goes on.
-use Rattle.sc_laws.proofs.Common.{Arith, BinaryOp, Blocks, Bool, Cause, Err, Here, List, Meant, Ok, Result}
-use Rattle.sc_laws.proofs.Common.{TypedExpr, TypedStruct, Under, Value, Want, Ways, Word, [], ap, applied, applied_one}
-use Rattle.sc_laws.proofs.Common.{as_word, at_place, at_pointer, binary, bind, choose, expr_at, expr_induction, false}
+use Rattle.sc_laws.proofs.Common.{Arith, BinaryOp, Blocks, Bool, Cause, Err, Here, List, Meant, Ok, Result, TypedExpr}
+use Rattle.sc_laws.proofs.Common.{TypedStruct, Under, Value, Want, Ways, Word, [], ap, applied, applied_one, as_word}
+use Rattle.sc_laws.proofs.Common.{at_place, at_pointer, binary, bind, choose, expr_at, expr_induction, false}
 use Rattle.sc_laws.proofs.Common.{if◌then◌else◌, is_pointer, is_unsigned, map, meant, meant_step, moved, on_words, pos}
 use Rattle.sc_laws.proofs.Common.{refl, subst, sym, term_of, term_step, true, typed, values, ways, ℕ, ◌∙◌, ◌∷◌, ◌≡◌}
 use Rattle.sc_base.specs.declared.op.UnaryOp.{UnaryOp}

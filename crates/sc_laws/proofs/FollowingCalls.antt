@@ -79,8 +79,9 @@ module _ (L : Library) (main : ℕ) (t : List Event) (S S' : ℕ → Bool) (larg
   TwinsFollow = (st : Standing) → LibraryTwins (N st) (Keeping main t S' st) (λ h. S' h.comp ≡ false) L L
 
   abbrev TwinsPerform : Type 0
-  TwinsPerform = (st : Standing) (left : Piece (Option Value)) (rest : State → Piece (Option Value)) (goes : Goes rest) →
-      ((s : State) → Stands main t S' st left rest goes s → MovesOrReturns main t S' s.trace left) → LibraryTwins
+  TwinsPerform = (st : Standing) (left : Piece (Option Value)) (rest : State → Piece (Option Value))
+      (goes : Goes rest) → ((s : State) → Stands main t S' st left rest goes s →
+      MovesOrReturns main t S' s.trace left) → LibraryTwins
       (OneSided main t S' st left rest goes) (Perform main t S' st left rest goes) (λ h. S' h.comp ≡ true) L L
 
   -- a step, by whether the compartment performs
@@ -165,8 +166,9 @@ module _ (L : Library) (main : ℕ) (t : List Event) (S S' : ℕ → Bool) (larg
         let back = back_cross L.interfaces from to index in
         let told_state : State = tell (Call from to index (map word_in args)) (record s { turns = m }) in
         tells_more s (Call from to index (map word_in args)) _
-        (then_goes told_state (run_in L second to number (crossed args) back told_state) k (run_goes L second second_goes
-        to number (crossed args) back (back_goes L.interfaces from to index) told_state) goes).grown.events
+        (then_goes told_state (run_in L second to number (crossed args) back told_state) k
+        (run_goes L second second_goes to number (crossed args) back (back_goes L.interfaces from to index)
+        told_state) goes).grown.events
 
     environment_passes : (allowed : Bool) (s : State) (e : Event) (x : State) (v : Option Value) (next : State →
         Piece (Option Value)) → x.trace ≡ s.trace ++ e ∷ [] → Goes next →
@@ -242,7 +244,8 @@ module _ (L : Library) (main : ℕ) (t : List Event) (S S' : ℕ → Bool) (larg
           by_next (next_told_is t y.trace e n.front (in_line_before t _ (last o).trace front along)) along;
     } where
       by_next : NextIs t y.trace e → InLine t (last o).trace → KeepsUp main t S' st V o p
-      by_next (over all) along = follows.done (front_more t (y.trace ++ e ∷ []) (last o).trace (past y.trace e all) front)
+      by_next (over all) along = follows.done
+          (front_more t (y.trace ++ e ∷ []) (last o).trace (past y.trace e all) front)
           (front_more t (y'.trace ++ e ∷ []) (last p).trace (past y'.trace e (all ∙ sym n.trace)) front')
       by_next (next_told more all) along = (go (near_tell main t S' st after y y' e more moves all n)).follows along
 
@@ -257,8 +260,8 @@ module _ (L : Library) (main : ℕ) (t : List Event) (S S' : ℕ → Bool) (larg
       abbrev told : Option Value → Event
       told v = Ret to from (back to index v)
 
-      ended_near : (u u' : State) (v : Option Value) (more : List Event) → t ≡ u.trace ++ told v ∷ more → (S' to ≡ false →
-          ended first' (length f.cells) (u'.memory to) ≡ ended first (length f.cells) (u.memory to)) →
+      ended_near : (u u' : State) (v : Option Value) (more : List Event) → t ≡ u.trace ++ told v ∷ more →
+          (S' to ≡ false → ended first' (length f.cells) (u'.memory to) ≡ ended first (length f.cells) (u.memory to)) →
           N (inside st to index) u u' → N st (tell (told v) (done to f first u)) (tell (told v) (done to f first' u'))
       ended_near u u' v more all same near = near_tell main t S' (inside st to index) st (done to f first u)
           (done to f first' u') (told v) more refl all (near_blocks main t S' _ u u' to _ _ _ _ same near)
@@ -294,13 +297,13 @@ module _ (L : Library) (main : ℕ) (t : List Event) (S S' : ℕ → Bool) (larg
           (then_front t o ends (returns_goes to from index f first) a)
           (then_front t left ends' (returns_goes to from index f first') b)
       held_return k o left set is_k along (performing.here v u is stands) =
-          subst (λ y. Up st (and_then y ends) (and_then left ends')) (sym is) (told_held (next_told_is t u.trace (told v)
-          stands.near.front (subst (λ y. InLine t (last (and_then y ends)).trace) is along))) where
+          subst (λ y. Up st (and_then y ends) (and_then left ends')) (sym is) (told_held (next_told_is t u.trace
+          (told v) stands.near.front (subst (λ y. InLine t (last (and_then y ends)).trace) is along))) where
             told_held : NextIs t u.trace (told v) → Up st (ends v u) (and_then left ends')
-            told_held (over all) = follows.done (past u.trace (told v) all) (whole main t S' u.trace
-                (last (and_then left ends')).trace all (then_front u.trace left ends' (returns_goes to from index f first')
-                (left_goes main t S' (inside st to index) left (Onward k to first') (second_goes k (at to first')) u
-                stands)))
+            told_held (over all) =
+                follows.done (past u.trace (told v) all) (whole main t S' u.trace (last (and_then left ends')).trace all
+                (then_front u.trace left ends' (returns_goes to from index f first') (left_goes main t S'
+                (inside st to index) left (Onward k to first') (second_goes k (at to first')) u stands)))
             told_held (next_told more all) =
                 let now_told : Telling k to first' (told v) stands.other =
                 performs_next k to first' (inside st to index) stands.other (told v) more set is_k refl
@@ -369,8 +372,8 @@ module _ (L : Library) (main : ℕ) (t : List Event) (S S' : ℕ → Bool) (larg
             ((bodies.enters number to first first' (inside st to index) x x' set near).follows (along_inside along))
         callee false true clear set' near along = held_return st from to index f first first' number
             (a number (at to first) x) (second number (at to first') x') set' is_number along
-            ((bodies.resumes number to first number first' (inside st to index) (second number (at to first') x') x clear
-            set' is_number (record { other = x'; near = near; is = refl })).performs (along_inside along))
+            ((bodies.resumes number to first number first' (inside st to index) (second number (at to first') x') x
+            clear set' is_number (record { other = x'; near = near; is = refl })).performs (along_inside along))
         callee false false clear clear' near along =
             subst (λ k. Up st run (and_then (second number (at to k) x') (returns to from index f k)))
             (sym (ap length (n.memory to clear'))) (both_return st from to index f first first (a number _ x)
@@ -393,8 +396,10 @@ module _ (L : Library) (main : ℕ) (t : List Event) (S S' : ℕ → Bool) (larg
           (back_cross L.interfaces from to index) (tell (Call from to index (map word_in args)) s)
 
       -- by whether the function is there
-      abbrev crosses_to : Body → (from to index number : ℕ) → List Value → Option Function → State → Piece (Option Value)
-      crosses_to body from to index number args f s = and_then (found f (tell (Call from to index (map word_in args)) s))
+      abbrev crosses_to : Body → (from to index number : ℕ) → List Value → Option Function → State → Piece
+          (Option Value)
+      crosses_to body from to index number args f s = and_then
+          (found f (tell (Call from to index (map word_in args)) s))
           (λ f y. and_then (body number (at to (length (y.memory to))) (begun to f (crossed args) y))
           (returns to from index f (length (y.memory to))))
 
@@ -431,12 +436,13 @@ module _ (L : Library) (main : ℕ) (t : List Event) (S S' : ℕ → Bool) (larg
           (if_follows (may_call L from target args) st _ _ _ (Stopped TurnsOut s') h (nothing_follows st s s' n)))
 
       asked_then : (comp : ℕ) (target : CallTarget) (args : List Value) (k l : Option Value → State →
-          Piece (Option Value)) → ((v : Option Value) → Goes (k v)) → ((v : Option Value) → Goes (l v)) → (st : Standing)
+          Piece (Option Value)) → ((v : Option Value) → Goes (k v)) → ((v : Option Value) → Goes (l v)) → (st :
+          Standing)
           (s s' : State) → N st s s' → F st (called L a comp target args s) (called L second comp target args s') →
           ((v : Option Value) (u u' : State) → N st u u' → F st (k v u) (l v u')) →
           F st (and_then (asks L a comp target args s) k) (and_then (asks L second comp target args s') l)
-      asked_then comp target args k l goes goes' st s s' n h after = (follow_kept main t S' st).after (Option Value) _ s s'
-          (asks L a comp target args s) (asks L second comp target args s') k l n
+      asked_then comp target args k l goes goes' st s s' n h after = (follow_kept main t S' st).after (Option Value) _ s
+          s' (asks L a comp target args s) (asks L second comp target args s') k l n
           (asks_go L a bodies.goes comp target args s) (asks_go L second second_goes comp target args s') goes goes'
           (asked comp target args st s s' n h) (λ v u u' up up' near. after v u u' near)
 
@@ -467,10 +473,11 @@ module _ (L : Library) (main : ℕ) (t : List Event) (S S' : ℕ → Bool) (larg
       own_function comp number args (Some f) clear st s s' n =
           let first : ℕ = length (s.memory comp) in
           let ends : ℕ → Option Value → State → Piece (Option Value) = λ first v u. Reached v (done comp f first u) in
-          let near_start : N st (begun comp f args s) (begun comp f args s') = near_blocks main t S' st s s' comp _ _ _ _
-          (λ c. ap (λ blocks. blocks ++ blocks_for f.cells args) (n.memory comp c)) n in
+          let near_start : N st (begun comp f args s) (begun comp f args s') = near_blocks main t S' st s s' comp _ _ _
+          _ (λ c. ap (λ blocks. blocks ++ blocks_for f.cells args) (n.memory comp c)) n in
           subst (λ k. F st (and_then (a number (at comp first) (begun comp f args s)) (ends first))
-          (and_then (second number (at comp k) (begun comp f args s')) (ends k))) (sym (ap length (n.memory comp clear)))
+          (and_then (second number (at comp k) (begun comp f args s')) (ends k))) (sym
+          (ap length (n.memory comp clear)))
           ((follow_kept main t S' st).after (Option Value) _ (begun comp f args s) (begun comp f args s') (a number _ _)
           (second number _ _) (ends first) (ends first) near_start (bodies.goes number _ _)
           (second_goes number (at comp first) _) (λ v u. reached v u _ (done_goes comp f first u))
@@ -621,8 +628,8 @@ module _ (L : Library) (main : ℕ) (t : List Event) (S S' : ℕ → Bool) (larg
             InLine t (s.trace ++ Out comp (first_word args) ∷ []) →
             Done (Option Value) (Reached None (tell (Out comp (first_word args)) s))
         output_performs args s h allowed = event_performs (Out comp (first_word args)) None s.inputs h.other.inputs s h
-            refl refl h.near (λ next. ap (λ o. and_then o (λ v. next)) (asks_allowed Output (Word (first_word args) ∷ [])
-            h.other (and_from (imports L.interfaces comp is_output) true
+            refl refl h.near (λ next. ap (λ o. and_then o (λ v. next)) (asks_allowed Output
+            (Word (first_word args) ∷ []) h.other (and_from (imports L.interfaces comp is_output) true
             (and_parts (imports L.interfaces comp is_output) _ allowed).0 refl)))
 
         input_performs : (args : List Value) (s : State) → H s → may Input args ≡ true →
@@ -671,8 +678,8 @@ module _ (L : Library) (main : ℕ) (t : List Event) (S S' : ℕ → Bool) (larg
         recalled : (to index : ℕ) (args : List Value) (u : State) → may (Cross to index) args ≡ true →
             asks L second comp (Cross to index) (map (λ w. Word w) (map word_in args)) u ≡ called L second comp
             (Cross to index) args u
-        recalled to index args u allowed = asks_allowed (Cross to index) (map _ _) u (words_may to index args allowed)
-            ∙ ap₂ (λ values words. and_then (turn u) (λ _ s. and_then (found (L.entered to (Export index)) s) (λ number s.
+        recalled to index args u allowed = asks_allowed (Cross to index) (map _ _) u (words_may to index args allowed) ∙
+            ap₂ (λ values words. and_then (turn u) (λ _ s. and_then (found (L.entered to (Export index)) s) (λ number s.
             run_in L second to number values (back_cross L.interfaces comp to index)
             (tell (Call comp to index words) s)))) (crossed_again args) (words_again _)
 
@@ -723,10 +730,11 @@ module _ (L : Library) (main : ℕ) (t : List Event) (S S' : ℕ → Bool) (larg
             let ends : Option Value → State → Piece _ = λ v u. Reached v (done comp f first u) in
             let ends_go : (v : Option Value) → Goes (ends v) =
             λ v u. reached v u (done comp f first u) (done_goes comp f first u) in
-            (perform_kept main t S' st left rest rest_goes).after (Option Value) (Option Value) start start o o ends ends
-            (record { same = refl; stands = h_start }) (bodies.goes number (at comp first) start)
+            (perform_kept main t S' st left rest rest_goes).after (Option Value) (Option Value) start start o o ends
+            ends (record { same = refl; stands = h_start }) (bodies.goes number (at comp first) start)
             (bodies.goes number (at comp first) start) ends_go ends_go
-            (bodies.resumes number comp first k theirs st left start clear set is_k h_start) (λ v u u' up up' one. record {
+            (bodies.resumes number comp first k theirs st left start clear set is_k h_start)
+            (λ v u u' up up' one. record {
               performs = λ along. performing.here v (done comp f first u) refl (stands_stored main t S' st left rest
                   rest_goes comp (ended first (length f.cells) (u.memory comp)) _ u set one.stands);
             })
@@ -741,8 +749,8 @@ module _ (L : Library) (main : ℕ) (t : List Event) (S S' : ℕ → Bool) (larg
               InLine t (last (if b then called L a comp target args s else Stopped (Blamed comp BadType 0) s)).trace →
               Done (Option Value) (if b then called L a comp target args s else Stopped (Blamed comp BadType 0) s)
           by_test true allowed along = go allowed along
-          by_test false barred along = blamed_here main t S' st left rest rest_goes (Option Value) comp BadType 0 s set h
-              (held_passes st k comp theirs left set s h)
+          by_test false barred along = blamed_here main t S' st left rest rest_goes (Option Value) comp BadType 0 s set
+              h (held_passes st k comp theirs left set s h)
 
         own_performs : (number : ℕ) (args : List Value) (s s' : State) → One s s' →
             Pieces (Option Value) (called L a comp (Own number) args s) (called L a comp (Own number) args s')
@@ -753,8 +761,9 @@ module _ (L : Library) (main : ℕ) (t : List Event) (S S' : ℕ → Bool) (larg
               performs = (own_function_performs number args (function L comp number) y now_one.stands).performs;
             })
 
-        allowed_performs : (target : CallTarget) (args : List Value) (s s' : State) → One s s' → may target args ≡ true →
-            InLine t (last (called L a comp target args s)).trace → Done (Option Value) (called L a comp target args s)
+        allowed_performs : (target : CallTarget) (args : List Value) (s s' : State) → One s s' →
+            may target args ≡ true → InLine t (last (called L a comp target args s)).trace →
+            Done (Option Value) (called L a comp target args s)
         allowed_performs (Own number) args s s' one allowed = (own_performs number args s s' one).performs
         allowed_performs (Cross to index) args s s' one allowed = cross_performs to index args s one.stands allowed
         allowed_performs Input args s s' one allowed = input_performs args s one.stands allowed
@@ -789,10 +798,10 @@ module _ (L : Library) (main : ℕ) (t : List Event) (S S' : ℕ → Bool) (larg
 
         step_plain : (number : ℕ) (here : Here) (st : Standing) (s s' : State) → S' here.comp ≡ false → N st s s' →
             F st (first_step a number here s) (second number here s')
-        step_plain number here st s s' clear n = subst (λ x. F st x (second number here s'))
-            (sym (role_is a S number here s false (smaller _ clear))) (subst (F st _)
-            (sym (fixed number here s' ∙ role_is second S' number here s' false clear)) (runs_follow (function L _ number)
-            (function L _ number) st ((follow_twins st).functions _ number) here clear s s' n))
+        step_plain number here st s s' clear n =
+            subst (λ x. F st x (second number here s')) (sym (role_is a S number here s false (smaller _ clear))) (subst
+            (F st _) (sym (fixed number here s' ∙ role_is second S' number here s' false clear)) (runs_follow
+            (function L _ number) (function L _ number) st ((follow_twins st).functions _ number) here clear s s' n))
 
         step_enters : (number comp mine theirs : ℕ) (st : Standing) (s s' : State) → S comp ≡ true → N st s s' →
             F st (first_step a number (at comp mine) s) (second number (at comp theirs) s')
@@ -809,7 +818,8 @@ module _ (L : Library) (main : ℕ) (t : List Event) (S S' : ℕ → Bool) (larg
             P st k comp theirs left (first_step a number (at comp mine) s)
         step_resumes number comp mine k theirs st left s clear set is_k h =
             subst (P st k comp theirs left) (sym (role_is a S number _ s false clear))
-            (by_function_held (function L comp number) (function L comp number) ((perform_twins st left _ _ (held_passes st k comp theirs left set)).functions comp number)) where
+            (by_function_held (function L comp number) (function L comp number)
+            ((perform_twins st left _ _ (held_passes st k comp theirs left set)).functions comp number)) where
               by_function_held : (f g : Option Function) →
                   Meets (FunctionTwins (OneSided main t S' st left (Onward k comp theirs)
                   (second_goes k (at comp theirs))) (Perform main t S' st left (Onward k comp theirs)

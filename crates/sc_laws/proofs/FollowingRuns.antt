@@ -1,14 +1,14 @@
 -- Whole runs along one trace, of which the second has more compartments that perform their parts of it; the least set.
-use Rattle.sc_laws.proofs.Common.{Blamed, Bool, Cause, Ended, Event, Front, Function, Includes, IsChain}
-use Rattle.sc_laws.proofs.Common.{IsFixed, IsStop, IsWithin, KeepsBlames, LeastIsChain, Library, Link, List, Main}
-use Rattle.sc_laws.proofs.Common.{Memory, Never, None, Obedient, Option, PassesBlame, PassesBlames, Piece, Reached}
-use Rattle.sc_laws.proofs.Common.{RunEnd, Set, Some, SourceRun, Standing, State, Step, Stopped, StopsSo, TellsWithMore}
-use Rattle.sc_laws.proofs.Common.{TurnsOut, Value, [], and_then, ap, append-nil, arith, at_start, begun, call_own, done}
-use Rattle.sc_laws.proofs.Common.{drop, eqb-true, exit_word, false, first_state, found, inl, inr, last}
-use Rattle.sc_laws.proofs.Common.{leb-false, length, length-append, longer, lt-leb, nobody, now, performed_by, reaches}
-use Rattle.sc_laws.proofs.Common.{refl, roles_in, roles_run, run_by, run_to, stands_behind, stopped_at, subst, suc, sym}
-use Rattle.sc_laws.proofs.Common.{take, take-append-drop, take_all, take_front, true, turnless, with, within, ℕ, ◌++◌}
-use Rattle.sc_laws.proofs.Common.{◌+◌, ◌<◌, ◌==◌, ◌||◌, ◌∙◌, ◌∷◌, ◌≡◌}
+use Rattle.sc_laws.proofs.Common.{Blamed, Bool, Cause, Ended, Event, Front, Function, Includes, IsChain, IsFixed}
+use Rattle.sc_laws.proofs.Common.{IsStop, IsWithin, KeepsBlames, LeastIsChain, Library, Link, List, Main, Memory, Never}
+use Rattle.sc_laws.proofs.Common.{None, Obedient, Option, PassesBlame, PassesBlames, Piece, Reached, RunEnd, Set, Some}
+use Rattle.sc_laws.proofs.Common.{SourceRun, Standing, State, Step, Stopped, StopsSo, TellsWithMore, TurnsOut, Value}
+use Rattle.sc_laws.proofs.Common.{[], and_then, ap, append-nil, arith, at_start, begun, call_own, done, drop, eqb-true}
+use Rattle.sc_laws.proofs.Common.{exit_word, false, first_state, found, inl, inr, last, leb-false, length}
+use Rattle.sc_laws.proofs.Common.{length-append, longer, lt-leb, nobody, now, performed_by, reaches, refl, roles_in}
+use Rattle.sc_laws.proofs.Common.{roles_run, run_by, run_to, stands_behind, stopped_at, subst, suc, sym, take}
+use Rattle.sc_laws.proofs.Common.{take-append-drop, take_all, take_front, true, turnless, with, within, ℕ, ◌++◌, ◌+◌}
+use Rattle.sc_laws.proofs.Common.{◌<◌, ◌==◌, ◌||◌, ◌∙◌, ◌∷◌, ◌≡◌}
 use Rattle.sc_event.specs.declared.event.Event.TheVariants as event
 use Rattle.sc_laws.proofs.Growing.{front_same, front_more, front_no_longer, BodyGoes, within_goes}
 use Rattle.sc_laws.proofs.Following.{GoesOn, KeepsUp, whole, follow_kept, follow_at, Performs, left_goes, perform_kept}
@@ -58,8 +58,8 @@ module _ (t : List Event) (S' : Set) where
         })
 
     -- where the first piece stopped
-    stops_by : (end : RunEnd) (u : State) (o p : Piece (Option Value)) (Passed : Type 0) → o ≡ Stopped end u → StopsSo o →
-        GoesOn main t S' (Option Value) Passed end u p →
+    stops_by : (end : RunEnd) (u : State) (o p : Piece (Option Value)) (Passed : Type 0) → o ≡ Stopped end u →
+        StopsSo o → GoesOn main t S' (Option Value) Passed end u p →
         ((x : SourceRun) → x.trace ≡ u.trace → Passed → PassesBlame x (run_to main p).behaviour) →
         RunsFollow (run_to main o).behaviour (run_to main p).behaviour
     stops_by end u o p Passed is stop by passed =
@@ -68,7 +68,8 @@ module _ (t : List Event) (S' : Set) where
         goes_by end (ap (λ y. (run_to main y).behaviour.end) is) (subst StopsSo is stop)
         (subst (λ r. Front r.trace (run_to main p).behaviour.trace) (sym behaviour) (told_on u.trace p by.front))
         (λ comp cause line blame clear. (let blamed = by.agreed comp cause line blame clear in
-        ap (λ y. (run_to main y).behaviour) blamed.1 ∙ ap (λ z. record { trace = z; end = end }) blamed.2 ∙ sym behaviour))
+        ap (λ y. (run_to main y).behaviour) blamed.1 ∙ ap (λ z. record { trace = z; end = end }) blamed.2 ∙ sym
+        behaviour))
         (λ comp cause line blame set. passed (run_to main o).behaviour (ap (λ r. r.trace) behaviour)
         (by.passed comp cause line blame set))
 
@@ -168,15 +169,16 @@ module _ (L : Library) (obedient : Obedient L) (t : List Event) (S S' : Set) (la
             by_next : NextIs t u.trace (exit v) →
                 RunsFollow t S' (run_to main (Reached v u)).behaviour (run_to main p).behaviour
             by_next (over all) =
-                tells_all (whole main t S' u.trace (u.trace ++ exit v ∷ []) all (record { more = exit v ∷ []; is = refl }))
+                tells_all
+                (whole main t S' u.trace (u.trace ++ exit v ∷ []) all (record { more = exit v ∷ []; is = refl }))
                 (whole main t S' u.trace (run_to main p).behaviour.trace all (told_on t S' main u.trace p
-                (left_goes main t S' st p (λ u. now step' number (at main first) u) (later_goes number (at main first)) u
-                stands)))
+                (left_goes main t S' st p (λ u. now step' number (at main first) u) (later_goes number (at main first))
+                u stands)))
             by_next (next_told more all) =
                 let u' : State = stands.other in
                 let now_told : Telling L main t S S' larger step_fixed later_goes number main first (exit v) u' =
-                performs_next L main t S S' larger step_fixed later_goes number main first st u' (exit v) more set is_number
-                refl (all ∙ ap (λ x. x ++ exit v ∷ more) (sym stands.near.trace))
+                performs_next L main t S S' larger step_fixed later_goes number main first st u' (exit v) more set
+                is_number refl (all ∙ ap (λ x. x ++ exit v ∷ more) (sym stands.near.trace))
                 (ap (stands_behind (at_start main)) stands.near.trace ∙ stands.near.stands) in
                 ends_so (λ comp cause line blame. absurd (cc)) (ap (λ y. (run_to main y).behaviour) (stands.is
                 ∙ now_told.is) ∙ ap (λ z. record { trace = z ++ exit v ∷ []; end = Ended }) stands.near.trace)
@@ -188,7 +190,8 @@ module _ (L : Library) (obedient : Obedient L) (t : List Event) (S S' : Set) (la
           RunsFollow t S' (run_to main o).behaviour (run_to main p).behaviour
       main_follows true b' set set' along = both_end t S' main st o p stops (((bodies (suc turns)).enters number main
           first first st start start set (begins_near f)).follows (within_run along))
-      main_follows false true clear set' along = resumes_end (((bodies (suc turns)).resumes number main first number first
+      main_follows false true clear set' along = resumes_end
+          (((bodies (suc turns)).resumes number main first number first
           st p start clear set' is_number (record { other = start; near = begins_near f; is = refl })).performs
           (within_run along)) set' along
       main_follows false false clear clear' along = both_end t S' main st o p stops (((bodies (suc turns)).plain number

@@ -4,11 +4,10 @@ use Rattle.sc_laws.proofs.Common.{Action, BadType, Blamed, Blocks, Body, Bool, C
 use Rattle.sc_laws.proofs.Common.{Function, Gone, Grown, Here, Input, Kept, Library, List, Meets, Never, None, Obedient}
 use Rattle.sc_laws.proofs.Common.{Ok, Option, Output, Piece, Property, Reached, Result, Roles, Row, RunEnd, Some, State}
 use Rattle.sc_laws.proofs.Common.{Stopped, TurnsOut, Value, Word, [], acts, and_then, ap, arith, asks, called, calls}
-use Rattle.sc_laws.proofs.Common.{computed, false, found_kept, function, if◌then◌else◌, map, may_call, performs, refl}
-use Rattle.sc_laws.proofs.Common.{rows_left, run_step, scripted_step, subst, suc, sym, then_kept, true, turn, turn_of}
-use Rattle.sc_laws.proofs.Common.{with_blocks, zero, ℕ, ◌<◌, ◌∷◌, ◌≡◌}
+use Rattle.sc_laws.proofs.Common.{computed, false, found, found_kept, function, if◌then◌else◌, is_some, leads, map}
+use Rattle.sc_laws.proofs.Common.{may_call, performs, refl, rows_left, run_step, scripted_step, subst, suc, sym}
+use Rattle.sc_laws.proofs.Common.{then_kept, true, turn, turn_of, with_blocks, zero, ℕ, ◌<◌, ◌∙◌, ◌∷◌, ◌≡◌}
 use Rattle.sc_event.specs.declared.row.Action.TheVariants as act
-use Rattle.sc_laws.proofs.Common.{found, is_some, leads, ◌∙◌}
 use Rattle.sc_laws.proofs.Growing.{BodyGoes, CallsGo, calls_go}
 use Rattle.sc_laws.proofs.Twins.{Kept as RelationKept, KeptAt, FunctionTwins}
 use Rattle.sc_laws.proofs.Matching.{library_twins}
@@ -132,8 +131,8 @@ module _ (K : Property) (library : Library) (body : Body) (here : Here) (called_
     asks_keep : CallsKeep K here.comp (asks library body)
     asks_keep target args s h = by _ refl where
       by : (b : Bool) → may_call library here.comp target args ≡ b → Kept K (if b then
-          (if b then called library body here.comp target args s else Stopped (Blamed here.comp BadType 0) s) else Stopped
-          TurnsOut s)
+          (if b then called library body here.comp target args s else Stopped (Blamed here.comp BadType 0) s) else
+          Stopped TurnsOut s)
       by true may = called_keep target args s may h
       by false may = record { after = stops s h }
 
@@ -141,13 +140,14 @@ module _ (K : Property) (library : Library) (body : Body) (here : Here) (called_
         ((f : Function) → function library here.comp number ≡ Some f → IsKept K here) → (s : State) → K.Goes s →
         Kept K (run_step library body number here s)
     run_step_keeps obedient goes kept s h = found_kept K (function library here.comp number) s
-        (λ f s. f.does (calls library body) here s) (stops s h) (λ f is. function_keeps library obedient here.comp number f
-        is K here (kept f is) (calls library body) (calls_go library body goes) (calls_keep (kept f is)) s h)
+        (λ f s. f.does (calls library body) here s) (stops s h) (λ f is. function_keeps library obedient here.comp
+        number f is K here (kept f is) (calls library body) (calls_go library body goes) (calls_keep (kept f is)) s h)
 
     module _ (again : (s : State) → K.Goes s → Kept K (body number here s)) where
       acts_keep : (action : Action) (next : State → Piece (Option Value)) → ((s : State) → K.Goes s → Kept K (next s)) →
           (s : State) → K.Goes s → Kept K (acts library body action next (body number here) here.comp s)
-      acts_keep (act.Call to index args) next n s h = then_kept K (asks library body here.comp (Cross to index) (map _ args)
+      acts_keep (act.Call to index args) next n s h = then_kept K
+          (asks library body here.comp (Cross to index) (map _ args)
           s) _ (asks_keep (Cross to index) (map _ args) s h) (λ v. again)
       acts_keep (act.Ret v) next n s h = record { after = h }
       acts_keep (act.Out w) next n s h = then_kept K (asks library body here.comp Output (Word w ∷ []) s) _

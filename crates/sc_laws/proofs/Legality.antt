@@ -121,7 +121,8 @@ module _ (library : Library) where
     cross_at : (st : Standing) (from to index : ℕ) (args : List Value) (s : State) → from ≡ st.active.comp
         → (imports interfaces from (is_function to index) && takes interfaces to index (length args)) ≡ true
         → IsAt s.trace st → Kept (standing st) (call_cross library body from to index args s)
-    cross_at st from to index args s is may h = found_kept (standing st) (library.entered to (Export index)) s (λ number s.
+    cross_at st from to index args s is may h = found_kept (standing st) (library.entered to (Export index)) s
+        (λ number s.
         run_in library body to number (crossed args) (back_cross interfaces from to index)
         (tell (Call from to index (map word_in args)) s)) (h.is_legal, tt) (λ number found_number.
         run_at (entered_at st to index) st to number (crossed args) (back_cross interfaces from to index) refl

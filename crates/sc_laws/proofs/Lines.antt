@@ -1,22 +1,21 @@
 -- A program whose trees stand on other lines does the same up to the lines of blames.
-use Rattle.sc_laws.proofs.Common.{Acts, Arith, Bool, CallTarget, Calls, CallsAgree, Cause, Does, Each}
-use Rattle.sc_laws.proofs.Common.{Entry, Err, Exit, Export, FunctionsAgree, Here, Inside, Left, LibrariesAgree, List}
-use Rattle.sc_laws.proofs.Common.{Local, Main, Next, None, Ok, On, Option, OtherLinesAgree, Out, Piece, PiecesAgree}
-use Rattle.sc_laws.proofs.Common.{ProgramTree, Proto, Result, Return, Route, RunsAgree, Some, State, TypedExpr}
-use Rattle.sc_laws.proofs.Common.{TypedFunction, TypedLocal, TypedSection, TypedSimple, TypedSimpleKind, TypedStmt}
-use Rattle.sc_laws.proofs.Common.{TypedStmt-F, TypedStmtKind, TypedStmtKind-F, TypedStruct, Value, Want, Ways, []}
-use Rattle.sc_laws.proofs.Common.{all_do, ap, ap₂, assign, assign_call, at_brace, at_place, block_does, body_does}
-use Rattle.sc_laws.proofs.Common.{bytes_eq, call, call_alone, cells_of, choose, closed, computed, cond, entry_in}
-use Rattle.sc_laws.proofs.Common.{evaluated, everywhere, export_at, expr_nodes, false, first_blocks, fold-TypedStmt}
-use Rattle.sc_laws.proofs.Common.{fold-TypedStmtKind, follow, frame_bound, function_of, functions_in, globals_of}
-use Rattle.sc_laws.proofs.Common.{if◌then◌else◌, in_loop, in_order, init_does, inits_do, kind_nodes, kind_step}
-use Rattle.sc_laws.proofs.Common.{layer_of, leave, length, length-map, library_of, local_nodes, loop, main_name, map}
-use Rattle.sc_laws.proofs.Common.{map-TypedStmtKind, nat_lt, nodes, not, on_line, option_map, part_does, part_nodes}
-use Rattle.sc_laws.proofs.Common.{place_named, place_of_export, position_or_len, refl, roll-TypedStmtKind, rounds}
-use Rattle.sc_laws.proofs.Common.{run_by, run_of, run_step, simple_does, slice_get, slice_get-map, stmt_at, stmt_does}
-use Rattle.sc_laws.proofs.Common.{stmt_induction, stmt_nodes, stmt_step, store, store_at, store_result, stored, subst}
-use Rattle.sc_laws.proofs.Common.{suc, sym, test, total, true, turn, variable_at, variables, ways, zero, ℕ, ◌++◌, ◌+◌}
-use Rattle.sc_laws.proofs.Common.{◌∙◌, ◌∷◌, ◌≡◌}
+use Rattle.sc_laws.proofs.Common.{Acts, Arith, Bool, CallTarget, Calls, CallsAgree, Cause, Does, Each, Entry, Err, Exit}
+use Rattle.sc_laws.proofs.Common.{Export, FunctionsAgree, Here, Inside, Left, LibrariesAgree, List, Local, Main, Next}
+use Rattle.sc_laws.proofs.Common.{None, Ok, On, Option, OtherLinesAgree, Out, Piece, PiecesAgree, ProgramTree, Proto}
+use Rattle.sc_laws.proofs.Common.{Result, Return, Route, RunsAgree, Some, State, TypedExpr, TypedFunction, TypedLocal}
+use Rattle.sc_laws.proofs.Common.{TypedSection, TypedSimple, TypedSimpleKind, TypedStmt, TypedStmt-F, TypedStmtKind}
+use Rattle.sc_laws.proofs.Common.{TypedStmtKind-F, TypedStruct, Value, Want, Ways, [], all_do, ap, ap₂, assign}
+use Rattle.sc_laws.proofs.Common.{assign_call, at_brace, at_place, block_does, body_does, bytes_eq, call, call_alone}
+use Rattle.sc_laws.proofs.Common.{cells_of, choose, closed, computed, cond, entry_in, evaluated, everywhere, export_at}
+use Rattle.sc_laws.proofs.Common.{expr_nodes, false, first_blocks, fold-TypedStmt, fold-TypedStmtKind, follow}
+use Rattle.sc_laws.proofs.Common.{frame_bound, function_of, functions_in, globals_of, if◌then◌else◌, in_loop, in_order}
+use Rattle.sc_laws.proofs.Common.{init_does, inits_do, kind_nodes, kind_step, layer_of, leave, length, length-map}
+use Rattle.sc_laws.proofs.Common.{library_of, local_nodes, loop, main_name, map, map-TypedStmtKind, nat_lt, nodes, not}
+use Rattle.sc_laws.proofs.Common.{on_line, option_map, part_does, part_nodes, place_named, place_of_export}
+use Rattle.sc_laws.proofs.Common.{position_or_len, refl, roll-TypedStmtKind, rounds, run_by, run_of, run_step}
+use Rattle.sc_laws.proofs.Common.{simple_does, slice_get, slice_get-map, stmt_at, stmt_does, stmt_induction, stmt_nodes}
+use Rattle.sc_laws.proofs.Common.{stmt_step, store, store_at, store_result, stored, subst, suc, sym, test, total, true}
+use Rattle.sc_laws.proofs.Common.{turn, variable_at, variables, ways, zero, ℕ, ◌++◌, ◌+◌, ◌∙◌, ◌∷◌, ◌≡◌}
 use Rattle.sc_core.specs.Prelude.{take}
 use Rattle.sc_core.specs.declared.stmt.TypedSimpleKind.TheVariants as simple
 use Rattle.sc_core.specs.declared.stmt.TypedStmtKind.TheOpen as layer

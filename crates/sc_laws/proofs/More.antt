@@ -2,18 +2,18 @@
 use Rattle.sc_laws.proofs.Common.{AgreesInRoom, AgreesUntilBlame, Blamed, Bool, Cause, Ended, EventsOut, ExtendedByMore}
 use Rattle.sc_laws.proofs.Common.{Extends, Front, IsArithmetic, IsFinal, LibrariesMatch, Library, List, Memory, Never}
 use Rattle.sc_laws.proofs.Common.{Obedient, ProgramTree, Roles, Run, RunEnd, RunsUntilBlame, SourceRun, Step, TurnsOut}
-use Rattle.sc_laws.proofs.Common.{ap, arith, blamed, blamed_run, c_arith, deepest, depth_in, false, inl}
-use Rattle.sc_laws.proofs.Common.{inr, le-leb, leb-true, length, library_of, library_run, lt-ltb, nat_le, reaches, refl}
-use Rattle.sc_laws.proofs.Common.{roles_run, run_by, run_step, same, same_run, scripted_step, stopped_at, subst, sym}
-use Rattle.sc_laws.proofs.Common.{take, take-append-le, take_all, true, wrapping, ℕ, ◌+◌, ◌-◌, ◌<◌, ◌∙◌, ◌≡◌, ◌≤◌}
+use Rattle.sc_laws.proofs.Common.{ap, arith, blamed, blamed_run, c_arith, deepest, depth_in, false, inl, inr, le-leb}
+use Rattle.sc_laws.proofs.Common.{leb-true, length, library_of, library_run, lt-ltb, nat_le, reaches, refl, roles_run}
+use Rattle.sc_laws.proofs.Common.{run_by, run_step, same, same_run, scripted_step, stopped_at, subst, sym, take}
+use Rattle.sc_laws.proofs.Common.{take-append-le, take_all, true, wrapping, ℕ, ◌+◌, ◌-◌, ◌<◌, ◌∙◌, ◌≡◌, ◌≤◌}
 use Rattle.sc_laws.proofs.Wrapping.{binary_fits, negated_fits}
 use Rattle.sc_laws.proofs.Growing.{front_same, front_no_longer, StepGoes, run_step_goes, scripted_goes}
 use Rattle.sc_laws.proofs.Expressions.{ArithKeeps}
 use Rattle.sc_laws.proofs.Matching.{first_goes, second_goes, run_goes_on, scripted_goes_on}
 use Rattle.sc_laws.proofs.Statements.{program_matches}
 use Rattle.sc_laws.proofs.Below.{Passes, StepsBelow}
-use Rattle.sc_laws.proofs.Runs.{shown, take_fronts, unreached, still_unreached, trace_is, RunsBelow, run_steps, scripted_steps}
-use Rattle.sc_laws.proofs.Runs.{runs_below, RunsBelow as goes}
+use Rattle.sc_laws.proofs.Runs.{shown, take_fronts, unreached, still_unreached, trace_is, RunsBelow, run_steps}
+use Rattle.sc_laws.proofs.Runs.{scripted_steps, runs_below, RunsBelow as goes}
 use Rattle.sc_laws.proofs.Rooms.{deepest_more}
 
 -- MORE TURNS AND EVENTS

@@ -63,9 +63,11 @@ deepest_from : (events comp room : ℕ) (xs ys : List FrameChange) → AllBefore
     room_after comp room xs ≤ deepest events comp room (xs ++ ys)
 deepest_from events comp room [] ys h = deepest_first events comp room ys
 deepest_from events comp room (Opened told c more ∷ xs) ys h = either (c == comp) _ room _ _ _ _
-    (lt-ltb told events h.0) (deepest_from events comp (room + more) xs ys h.1) (deepest_from events comp room xs ys h.1)
+    (lt-ltb told events h.0) (deepest_from events comp (room + more) xs ys h.1)
+    (deepest_from events comp room xs ys h.1)
 deepest_from events comp room (Closed told c less ∷ xs) ys h = either (c == comp) _ room _ _ _ _
-    (lt-ltb told events h.0) (deepest_from events comp (room - less) xs ys h.1) (deepest_from events comp room xs ys h.1)
+    (lt-ltb told events h.0) (deepest_from events comp (room - less) xs ys h.1)
+    (deepest_from events comp room xs ys h.1)
 
 -- more changes get no less deep
 both_more : (b : Bool) (room x x' y y' : ℕ) → x ≤ x' → y ≤ y' →
@@ -187,8 +189,8 @@ module _ (base : State) where
         ((v : Option Value) (s : State) → Noted base rooms s → Kept (noting base rooms) (back v s)) → (s : State) →
         Noted base rooms s → Kept (noting base rooms) (run_in library body comp number args back s)
     run_notes comp number args back b s h = found_kept _ (function library comp number) s _ h.told (λ f is. then_other
-        (noting base (wider comp f.room rooms)) (noting base rooms) (body number _ _) _ (λ end s h. h) (notes _ number _ _ (begun_noted rooms comp f args s h))
-        (λ v t g. b v _ (done_noted rooms comp f _ t g)))
+        (noting base (wider comp f.room rooms)) (noting base rooms) (body number _ _) _ (λ end s h. h)
+        (notes _ number _ _ (begun_noted rooms comp f args s h)) (λ v t g. b v _ (done_noted rooms comp f _ t g)))
 
     own_notes : (comp number : ℕ) (args : List Value) (s : State) → Noted base rooms s →
         Kept (noting base rooms) (call_own library body comp number args s)

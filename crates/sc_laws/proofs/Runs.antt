@@ -53,7 +53,8 @@ pub still_unreached : (events more_events : ℕ) (run : SourceRun) (end : RunEnd
     reaches events run end ≡ false → reaches more_events run end ≡ false
 still_unreached events more_events run Ended le is =
     (let few = ltb-false events _ is in le-ltb _ _ (omega (arith, few, le)))
-still_unreached events more_events run _ le is = (let few = leb-false events _ is in lt-leb _ _ (omega (arith, few, le)))
+still_unreached events more_events run _ le is =
+    (let few = leb-false events _ is in lt-leb _ _ (omega (arith, few, le)))
 
 -- the frames of a run are those of its last state
 pub frames_are : (main : ℕ) (p : Piece (Option Value)) → (run_to main p).frames ≡ (last p).frames

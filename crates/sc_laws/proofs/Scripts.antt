@@ -6,10 +6,10 @@ use Rattle.sc_laws.proofs.Common.{Main, Memory, None, Obedient, Option, Output, 
 use Rattle.sc_laws.proofs.Common.{Roles, Row, RunEnd, Set, Some, SpendsAlong, Standing, State, Stopped, TurnsOut, Value}
 use Rattle.sc_laws.proofs.Common.{Word, [], action_of, acts, and_from, and_parts, and_then, ap, arith, asks, at_start}
 use Rattle.sc_laws.proofs.Common.{back_cross, back_own, begun, call_cross, call_own, called, calls, count_of, done}
-use Rattle.sc_laws.proofs.Common.{drop, eq-eqb, eqb-true, false, false≢true, first_state, function}
-use Rattle.sc_laws.proofs.Common.{if◌then◌else◌, imports, is_allowed, is_legal_from, is_number, is_some, is_word, leads}
-use Rattle.sc_laws.proofs.Common.{legal, length-map, list_all, map, may_call, may_perform, part, performer, performs}
-use Rattle.sc_laws.proofs.Common.{refl, roles_in, rows_left, run_in, run_step, same_Some, scripted_call, scripted_step}
+use Rattle.sc_laws.proofs.Common.{drop, eq-eqb, eqb-true, false, false≢true, first_state, function, if◌then◌else◌}
+use Rattle.sc_laws.proofs.Common.{imports, is_allowed, is_legal_from, is_number, is_some, is_word, leads, legal}
+use Rattle.sc_laws.proofs.Common.{length-map, list_all, map, may_call, may_perform, part, performer, performs, refl}
+use Rattle.sc_laws.proofs.Common.{roles_in, rows_left, run_in, run_step, same_Some, scripted_call, scripted_step}
 use Rattle.sc_laws.proofs.Common.{stands_after, stands_behind, subst, suc, sym, takes, tell, then_kept, true, turn_of}
 use Rattle.sc_laws.proofs.Common.{within, zero, ℕ, ◌++◌, ◌<◌, ◌∙◌, ◌∷◌, ◌≡◌}
 use Rattle.sc_event.specs.declared.event.Event.TheVariants.{Out}
@@ -99,6 +99,9 @@ module _ (library : Library) (leads_on : ExportsLead library) (trace : List Even
   abbrev roles : Roles
   roles = roles_in main set trace
 
+  abbrev Now : ℕ → Standing → State → Type 0
+  Now = At main trace
+
   abbrev Kind : ℕ → Standing → Property
   Kind n st = standing main trace n st
 
@@ -108,15 +111,15 @@ module _ (library : Library) (leads_on : ExportsLead library) (trace : List Even
 
   abbrev BodyAlong : ℕ → Body → Type 0
   BodyAlong n body = (number : ℕ) (here : Here) (s : State) (st : Standing) → here.comp ≡ st.active.comp →
-      is_some (function library here.comp number) ≡ true → IsEntered here.comp number st → At main trace n st s →
+      is_some (function library here.comp number) ≡ true → IsEntered here.comp number st → Now n st s →
       Kept (Kind n st) (body number here s)
 
   module _ (n : ℕ) (body : Body) (along : BodyAlong n body) where
     run_along : (inner outer : Standing) (comp number : ℕ) (args : List Value)
         (back : Option Value → State → Piece (Option Value)) → comp ≡ inner.active.comp →
         is_some (function library comp number) ≡ true → IsEntered comp number inner →
-        ((v : Option Value) (s : State) → At main trace n inner s → Kept (Kind n outer) (back v s)) → (s : State) →
-        At main trace n inner s → Kept (Kind n outer) (run_in library body comp number args back s)
+        ((v : Option Value) (s : State) → Now n inner s → Kept (Kind n outer) (back v s)) → (s : State) →
+        Now n inner s → Kept (Kind n outer) (run_in library body comp number args back s)
     run_along inner outer comp number args back here is entered b s at =
         there (Kind n outer) _ s _ is (λ f found_f. then_other (Kind n inner) (Kind n outer)
         (body number _ (begun comp f args s)) _ (λ end s h. h) (along number _ _ inner here is
@@ -125,7 +128,7 @@ module _ (library : Library) (leads_on : ExportsLead library) (trace : List Even
 
     own_along : (st : Standing) (comp number : ℕ) (args : List Value) → comp ≡ st.active.comp →
         is_some (function library comp number) ≡ true → IsEntered comp number st → (s : State) →
-        At main trace n st s → Kept (Kind n st) (call_own library body comp number args s)
+        Now n st s → Kept (Kind n st) (call_own library body comp number args s)
     own_along st comp number args here is entered =
         run_along st st comp number args back_own here is entered (λ v s at. record { after = at })
 
@@ -134,7 +137,7 @@ module _ (library : Library) (leads_on : ExportsLead library) (trace : List Even
         record { active = record { comp = to; entry = Export index }; waiting = st.active ∷ st.waiting }
 
     cross_along : (st : Standing) (from to index : ℕ) (args : List Value) →
-        leads library to (library.entered to (Export index)) ≡ true → (s : State) → At main trace n st s →
+        leads library to (library.entered to (Export index)) ≡ true → (s : State) → Now n st s →
         Kept (Kind n st) (call_cross library body from to index args s)
     cross_along st from to index args is s at =
         there _ (library.entered to _) s _ (led_somewhere library to _ is) (λ number same.
@@ -145,13 +148,13 @@ module _ (library : Library) (leads_on : ExportsLead library) (trace : List Even
 
     -- a call that takes a turn
     turned_own : (st : Standing) (from number : ℕ) (args : List Value) (s : State) → from ≡ st.active.comp →
-        set from ≡ false → is_some (function library from number) ≡ true → At main trace (suc n) st s →
+        set from ≡ false → is_some (function library from number) ≡ true → Now (suc n) st s →
         Kept (Kind n st) (called library body from (Own number) args s)
     turned_own st from number args s here plain is at = after_turn main trace n s.turns st s _ refl at (λ t at.
         own_along st from number args here is (λ performing. absurd (false≢true (sym plain ∙ performing))) t at)
 
     turned_cross : (st : Standing) (from to index : ℕ) (args : List Value) (s : State) →
-        leads library to (library.entered to (Export index)) ≡ true → At main trace (suc n) st s →
+        leads library to (library.entered to (Export index)) ≡ true → Now (suc n) st s →
         Kept (Kind n st) (called library body from (Cross to index) args s)
     turned_cross st from to index args s is at =
         after_turn main trace n s.turns st s _ refl at (λ t at. cross_along st from to index args is t at)
@@ -166,7 +169,7 @@ module _ (library : Library) (leads_on : ExportsLead library) (trace : List Even
     -- OF COMPARTMENTS THAT RUN THEIR FUNCTIONS
     called_along : (st : Standing) (from : ℕ) (target : CallTarget) (args : List Value) (s : State) →
         from ≡ st.active.comp → set from ≡ false → may_call library from target args ≡ true →
-        At main trace (suc n) st s → Kept (Kind (suc n) st) (called library body from target args s)
+        Now (suc n) st s → Kept (Kind (suc n) st) (called library body from target args s)
     called_along st from (Own number) args s here plain may at =
         more_turns main trace n st _ (turned_own st from number args s here plain may at)
     called_along st from (Cross to index) args s here plain may at =
@@ -205,7 +208,7 @@ module _ (library : Library) (leads_on : ExportsLead library) (trace : List Even
       pub may : may_perform library.interfaces st e ≡ true
 
     is_next : (st : Standing) (comp : ℕ) (s : State) (e : Event) (more : List Event) → comp ≡ st.active.comp →
-        At main trace (suc n) st s → trace ≡ s.trace ++ e ∷ more → IsNext st comp s.trace e
+        Now (suc n) st s → trace ≡ s.trace ++ e ∷ more → IsNext st comp s.trace e
     is_next st comp s e more here at is =
         let allowed = allowed_at library.interfaces (at_start main) s.trace e more st
         (subst (λ t. legal library.interfaces t ≡ true) is legal_trace) at.stands in
@@ -217,8 +220,8 @@ module _ (library : Library) (leads_on : ExportsLead library) (trace : List Even
     module _ (row : Row) (rest : List Row) (number : ℕ) (here : Here) (s : State) (st : Standing)
         (rows : row ∷ rest ≡ rows_left roles here.comp s.trace) (active : here.comp ≡ st.active.comp)
         (is : is_some (function library here.comp number) ≡ true)
-        (entered : library.entered here.comp st.active.entry ≡ Some number) (at : At main trace (suc n) st s)
-        (next : (t : State) → rest ≡ rows_left roles here.comp t.trace → At main trace (suc n) st t →
+        (entered : library.entered here.comp st.active.entry ≡ Some number) (at : Now (suc n) st s)
+        (next : (t : State) → rest ≡ rows_left roles here.comp t.trace → Now (suc n) st t →
         Kept (Kind (suc n) st) (performs library body rest number here t)) where
       same_row : (e : Event) (more : List Event) → (following : IsNext st here.comp s.trace e) →
           row ≡ record { entry = st.active.entry; number = following.row.number; action = action_of e }
@@ -286,7 +289,7 @@ module _ (library : Library) (leads_on : ExportsLead library) (trace : List Even
     performs_along : (rows : List Row) (number : ℕ) (here : Here) (s : State) (st : Standing) →
         rows ≡ rows_left roles here.comp s.trace → here.comp ≡ st.active.comp →
         is_some (function library here.comp number) ≡ true → library.entered here.comp st.active.entry ≡ Some number →
-        At main trace (suc n) st s → Kept (Kind (suc n) st) (performs library body rows number here s)
+        Now (suc n) st s → Kept (Kind (suc n) st) (performs library body rows number here s)
     performs_along [] number here s st rows active is entered at = record {
       after = λ e more along_trace.
           let following = is_next st _ s e more active at along_trace in
@@ -309,9 +312,9 @@ module _ (library : Library) (leads_on : ExportsLead library) (trace : List Even
       by false plain = there (Kind (suc n) st) (function library here.comp number) s
           (λ f s. f.does (calls library body) here s) is (λ f found_f. function_keeps library obedient here.comp number
           f found_f (Kind (suc n) st) here (is_kept main trace (suc n) st here) (calls library body)
-          (calls_go library body goes)
-          (calls_keep (Kind (suc n) st) library body here (λ target args s may at. called_along n body along st here.comp
-          target args s active plain may at) (is_kept main trace (suc n) st here)) s at)
+          (calls_go library body goes) (calls_keep (Kind (suc n) st) library body here
+          (λ target args s may at. called_along n body along st here.comp target args s active plain may at)
+          (is_kept main trace (suc n) st here)) s at)
 
     within_along : (n : ℕ) → BodyAlong n (its_bodies n)
     within_along zero number here s st active is entered at = let few = at.few in absurd (omega (arith, few))

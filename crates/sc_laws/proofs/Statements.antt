@@ -65,6 +65,10 @@ module _ (Soft : Cause → Type 0) (here : Here) where
       (match_computed Soft here line _ _ h) (λ vs. match_call Soft here target vs)
 
   module _ (ar br : Arith) (arith : ArithKeeps Soft ar br) (structs : List TypedStruct) (params : ℕ) where
+    -- the same acts in both
+    abbrev InBoth : (Arith → Calls → Acts) → Type 0
+    InBoth acts = ActsMatch (acts ar) (acts br)
+
     pub way_matches : (e : TypedExpr) → WaysMatch (ways ar structs here params e) (ways br structs here params e)
     way_matches e = ways_keep Soft ar br arith structs here params e
 
@@ -78,20 +82,19 @@ module _ (Soft : Cause → Type 0) (here : Here) where
         (values_keep Soft ar br arith structs here params c.args) line
 
     assign_call_matches : (place : TypedExpr) (c : TypedCall) (line : ℕ) →
-        ActsMatch (λ by. assign_call here by (ways ar structs here params place) c.target (args_by ar c) line)
-        (λ by. assign_call here by (ways br structs here params place) c.target (args_by br c) line)
+        InBoth (λ arith by. assign_call here by (ways arith structs here params place) c.target (args_by arith c) line)
     assign_call_matches place c line a =
         match_then Soft here _ _ (λ result by. store_result here (ways ar structs here params place) result line a)
         (λ result by. store_result here (ways br structs here params place) result line a)
         (called_matches c line) (λ result. store_result_matches _ _ (way_matches place) result line a)
 
-    call_alone_matches : (c : TypedCall) (line : ℕ) → ActsMatch (λ by. call_alone here by c.target (args_by ar c) line)
-        (λ by. call_alone here by c.target (args_by br c) line)
+    call_alone_matches : (c : TypedCall) (line : ℕ) →
+        InBoth (λ arith by. call_alone here by c.target (args_by arith c) line)
     call_alone_matches c line a = match_then Soft here _ _ (λ result by. leave Next a) (λ result by. leave Next a)
         (called_matches c line) (λ result. leave_matches Next a)
 
-    simple_matches : (k : TypedSimpleKind) (line : ℕ) → ActsMatch (λ by. simple_does ar structs here params by k line)
-        (λ by. simple_does br structs here params by k line)
+    simple_matches : (k : TypedSimpleKind) (line : ℕ) →
+        InBoth (λ arith by. simple_does arith structs here params by k line)
     simple_matches (simple.Assign place e) line = assign_matches _ _ _ _ (way_matches place) (way_matches e) line
     simple_matches (simple.AssignCall place c) line = assign_call_matches place c line
     simple_matches (simple.Call c) line = call_alone_matches c line
@@ -102,11 +105,10 @@ module _ (Soft : Cause → Type 0) (here : Here) where
     part_matches (Some s) = simple_matches s.kind s.line
 
     abbrev Both : TypedStmt → Type 0
-    Both stmt =
-        ActsMatch (λ by. stmt_does ar structs here params by stmt) (λ by. stmt_does br structs here params by stmt)
+    Both stmt = InBoth (λ arith by. stmt_does arith structs here params by stmt)
 
     inner : (block : List TypedStmt) → Each Both block →
-        ActsMatch (λ by. block_does ar structs here params by block) (λ by. block_does br structs here params by block)
+        InBoth (λ arith by. block_does arith structs here params by block)
     inner block h = match_all Soft here _ _ block h
 
     abbrev layered : Arith → TypedStmtKind-F TypedStmtKind TypedStmt → ℕ → Calls → Acts
@@ -115,16 +117,15 @@ module _ (Soft : Cause → Type 0) (here : Here) where
     abbrev tested : Arith → TypedExpr → ℕ → Calls → Acts
     tested arith cond line by = test here (ways arith structs here params cond) line
 
-    looped : (cond : TypedExpr) (line : ℕ) (block : List TypedStmt) → Each Both block → (f g : Calls → Acts) →
-        ActsMatch f g → ActsMatch (λ by. loop (test here (ways ar structs here params cond) line)
-        (block_does ar structs here params by block) (f by)) (λ by. loop
-        (test here (ways br structs here params cond) line) (block_does br structs here params by block) (g by))
-    looped cond line block h f g next = match_loop Soft here (tested ar cond line) (tested br cond line)
-        (λ by. block_does ar structs here params by block) (λ by. block_does br structs here params by block) f g
-        (test_matches _ _ (way_matches cond) line) (inner block h) next
+    looped : (cond : TypedExpr) (line : ℕ) (block : List TypedStmt) → Each Both block → (f : Arith → Calls → Acts) →
+        InBoth f → InBoth (λ arith by. loop (test here (ways arith structs here params cond) line)
+        (block_does arith structs here params by block) (f arith by))
+    looped cond line block h f next = match_loop Soft here (tested ar cond line) (tested br cond line)
+        (λ by. block_does ar structs here params by block) (λ by. block_does br structs here params by block) (f ar)
+        (f br) (test_matches _ _ (way_matches cond) line) (inner block h) next
 
     layer_matches : (line : ℕ) (k : TypedStmtKind-F TypedStmtKind TypedStmt) → Inside Both k →
-        ActsMatch (layered ar k line) (layered br k line)
+        InBoth (λ arith. layered arith k line)
     layer_matches line layer.Empty h a = leave_matches Next a
     layer_matches line (layer.Assign place e) h a = assign_matches _ _ _ _ (way_matches place) (way_matches e) line a
     layer_matches line (layer.AssignCall place c) h a = assign_call_matches place c line a
@@ -133,11 +134,11 @@ module _ (Soft : Cause → Type 0) (here : Here) where
         (λ v by s. choose v (block_does ar structs here params by x a s) (block_does ar structs here params by y a s))
         (λ v by s. choose v (block_does br structs here params by x a s) _)
         (given_matches _ _ _ (way_matches cond) line) (λ v. choose_matches v _ _ _ _ (inner x h.0 a) (inner y h.1 a))
-    layer_matches line (layer.While cond x) h a =
-        looped cond line x h (λ by. leave Next) (λ by. leave Next) (leave_matches Next) a
+    layer_matches line (layer.While cond x) h a = looped cond line x h (λ arith by. leave Next) (leave_matches Next) a
     layer_matches line (layer.For first cond next x) h a = match_follow Soft here in_order
         (λ by. part_does ar structs here params by first a) (λ by. part_does br structs here params by first a) _ _
-        (part_matches first a) (looped cond line x h _ _ (part_matches next))
+        (part_matches first a)
+        (looped cond line x h (λ arith by. part_does arith structs here params by next) (part_matches next))
     layer_matches line layer.Break h a = leave_matches Break a
     layer_matches line layer.Continue h a = leave_matches Continue a
     layer_matches line layer.Return h a = leave_matches (Return None) a
@@ -160,16 +161,15 @@ module _ (Soft : Cause → Type 0) (here : Here) where
         ActsMatch (λ by. block_does ar structs here params by block) (λ by. block_does br structs here params by block)
     block_matches block = inner block (everywhere Both stmt_matches block)
 
-    init_matches : (k : ℕ) (local : TypedLocal) (init : Option TypedExpr) → ActsMatch
-        (λ by. init_does ar structs here params k local init) (λ by. init_does br structs here params k local init)
+    init_matches : (k : ℕ) (local : TypedLocal) (init : Option TypedExpr) →
+        InBoth (λ arith by. init_does arith structs here params k local init)
     init_matches k local None = leave_matches Next
     init_matches k local (Some e) =
         let place = at_place local.ty (λ blocks. Ok (variable_at here params (Local k))) in
         assign_matches place place _ _ (λ w blocks. alike refl) (way_matches e) local.line
 
     inits_match : (k : ℕ) (locals : List TypedLocal) →
-        ActsMatch (λ by. all_do (inits_do ar structs here params k locals))
-        (λ by. all_do (inits_do br structs here params k locals))
+        InBoth (λ arith by. all_do (inits_do arith structs here params k locals))
     inits_match k [] a = leave_matches Next a
     inits_match k (local ∷ locals) a =
         match_follow Soft here in_order (λ by. init_does ar structs here params k local local.init a)
@@ -187,17 +187,14 @@ module _ (Soft : Cause → Type 0) (here : Here) where
 
   brace_matches : (has_result is_main : Bool) (line : ℕ) →
       Match Soft here (λ by. at_brace has_result is_main line here) (λ by. at_brace has_result is_main line here)
-  brace_matches true true line = match_reached Soft here _
   brace_matches true false line =
       match_computed Soft here line (λ blocks. Err NoReturn) (λ blocks. Err NoReturn) (λ blocks. alike refl)
-  brace_matches false is_main line = match_reached Soft here None
+  brace_matches _ _ line = match_reached Soft here _
 
   pub closed_matches : (exit : Exit) (has_result is_main : Bool) (line : ℕ) →
       Match Soft here (λ by. closed exit has_result is_main line here) (λ by. closed exit has_result is_main line here)
-  closed_matches Next has_result is_main line = brace_matches _ is_main line
-  closed_matches Break has_result is_main line = brace_matches _ is_main line
-  closed_matches Continue has_result is_main line = brace_matches _ is_main line
   closed_matches (Return v) has_result is_main line = match_reached Soft here v
+  closed_matches _ has_result is_main line = brace_matches _ is_main line
 
 -- A program under two arithmetics, of which the second gives what the first does or the first blames: what its
 -- functions do matches.
@@ -205,25 +202,22 @@ module _ (Soft : Cause → Type 0) (here : Here) where
 -- a list of doings, each related to the one at its place
 abbrev pub Pairs : {A B : Type 0} → (A → B → Type 0) → List A → List B → Type 0
 Pairs Q [] [] = Unit {0}
-Pairs Q [] (y ∷ ys) = ⊥
-Pairs Q (x ∷ xs) [] = ⊥
 Pairs Q (x ∷ xs) (y ∷ ys) = Q x y × Pairs Q xs ys
+Pairs Q _ _ = ⊥
 
 pub meets_at : {A : Type 0} (Q : A → A → Type 0) (xs ys : List A) (i : ℕ) → Pairs Q xs ys →
     Meets Q (slice_get xs i) (slice_get ys i)
 meets_at Q [] [] i h = tt
-meets_at Q [] (y ∷ ys) i h = absurd h
-meets_at Q (x ∷ xs) [] i h = absurd h
 meets_at Q (x ∷ xs) (y ∷ ys) zero h = h.0
 meets_at Q (x ∷ xs) (y ∷ ys) (suc i) h = meets_at Q xs ys i h.1
+meets_at Q _ _ i h = absurd h
 
 pub lists_at : {A : Type 0} (Q : A → A → Type 0) (xss yss : List (List A)) (i : ℕ) → Pairs (Pairs Q) xss yss →
     Pairs Q (slice_index_or xss i []) (slice_index_or yss i [])
 lists_at Q [] [] i h = tt
-lists_at Q [] (y ∷ ys) i h = absurd h
-lists_at Q (x ∷ xs) [] i h = absurd h
 lists_at Q (x ∷ xs) (y ∷ ys) zero h = h.0
 lists_at Q (x ∷ xs) (y ∷ ys) (suc i) h = lists_at Q xs ys i h.1
+lists_at Q _ _ i h = absurd h
 
 module _ (Soft : Cause → Type 0) (ar br : Arith) (arith : ArithKeeps Soft ar br) where
   of_function : (main : ℕ) (structs : List TypedStruct) (f : TypedFunction) →

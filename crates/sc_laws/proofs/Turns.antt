@@ -1,12 +1,11 @@
 -- A run that is out of turns has none left, where all functions that are called are there.
-use Rattle.sc_laws.proofs.Common.{Blamed, Body, CallTarget, Cross, Ended, EventsOut, Export, Here, Input}
-use Rattle.sc_laws.proofs.Common.{IsSpent, Kept, Library, List, Main, Memory, Obedient, Option, Output, Own}
-use Rattle.sc_laws.proofs.Common.{Piece, Property, Reached, RunEnd, SpendsTurns, State, Stopped, StopsSpent}
-use Rattle.sc_laws.proofs.Common.{TurnsOut, Value, [], and_parts, and_then, arith, back_cross, back_own, call_cross}
-use Rattle.sc_laws.proofs.Common.{call_own, called, calls, first_state, function, imports}
-use Rattle.sc_laws.proofs.Common.{is_some, is_word, leads, length, list_all, main_call, may_call, refl, run_in}
-use Rattle.sc_laws.proofs.Common.{run_step, run_to, subst, suc, sym, takes, then_kept, true, turn_of, within, zero, ℕ}
-use Rattle.sc_laws.proofs.Common.{◌<◌, ◌≡◌}
+use Rattle.sc_laws.proofs.Common.{Blamed, Body, CallTarget, Cross, Ended, EventsOut, Export, Here, Input, IsSpent, Kept}
+use Rattle.sc_laws.proofs.Common.{Library, List, Main, Memory, Obedient, Option, Output, Own, Piece, Property, Reached}
+use Rattle.sc_laws.proofs.Common.{RunEnd, SpendsTurns, State, Stopped, StopsSpent, TurnsOut, Value, [], and_parts}
+use Rattle.sc_laws.proofs.Common.{and_then, arith, back_cross, back_own, call_cross, call_own, called, calls}
+use Rattle.sc_laws.proofs.Common.{first_state, function, imports, is_some, is_word, leads, length, list_all, main_call}
+use Rattle.sc_laws.proofs.Common.{may_call, refl, run_in, run_step, run_to, subst, suc, sym, takes, then_kept, true}
+use Rattle.sc_laws.proofs.Common.{turn_of, within, zero, ℕ, ◌<◌, ◌≡◌}
 use Rattle.sc_laws.proofs.Growing.{BodyGoes, calls_go, within_goes}
 use Rattle.sc_laws.proofs.Matching.{run_goes_on}
 use Rattle.sc_laws.proofs.Keeping.{IsKept, calls_keep, function_keeps, led_somewhere, led_there, there}
@@ -97,11 +96,11 @@ module _ (library : Library) where
 
   module _ (obedient : Obedient library) where
     step_spends : (n : ℕ) (body : Body) → BodyGoes body → BodySpends n body → BodySpends (suc n) (run_step library body)
-    step_spends n body goes spends number here s is few =
-        there (fewer (suc n)) (function library _ number) s (λ f s. f.does _ here s) is (λ f found_f. function_keeps library
-        obedient here.comp number f found_f _ here (is_kept _ here) (calls library body) (calls_go library body goes)
-        (calls_keep (fewer (suc n)) library body here (λ target args s may few. called_spends n body spends here.comp target
-        args s (is_there n body spends here.comp target args may) few) (is_kept _ here)) s few)
+    step_spends n body goes spends number here s is few = there (fewer (suc n)) (function library _ number) s
+        (λ f s. f.does _ here s) is (λ f found_f. function_keeps library obedient here.comp number f found_f _ here
+        (is_kept _ here) (calls library body) (calls_go library body goes) (calls_keep (fewer (suc n)) library body here
+        (λ target args s may few. called_spends n body spends here.comp target args s
+        (is_there n body spends here.comp target args may) few) (is_kept _ here)) s few)
 
     within_spends : (n : ℕ) → BodySpends n (within (run_step library) n)
     within_spends zero number here s is few = absurd (omega (arith, few))
