@@ -14,15 +14,14 @@ pub use Rattle.sc_core.specs.Prelude.{deepest, depth, entry_in, evaluated, expr_
 pub use Rattle.sc_core.specs.Prelude.{frame_bound, function_fits, function_of, functions_in, global_fits, globals_of}
 pub use Rattle.sc_core.specs.Prelude.{goes_into, has_distinct_names, has_few_compartments, has_main, has_one_main}
 pub use Rattle.sc_core.specs.Prelude.{highest, in_order, init_fits, init_height, init_nodes, inits_do, interface_fits}
-pub use Rattle.sc_core.specs.Prelude.{is_scalar, is_well_typed, judged, kind_fits, kind_height, kind_nodes, kind_step}
-pub use Rattle.sc_core.specs.Prelude.{leave, library_of, local_fits, local_nodes, loop, main_name, meaning, meant}
-pub use Rattle.sc_core.specs.Prelude.{most_height, most_nodes, most_params, negated_word, nodes, on_all_words}
-pub use Rattle.sc_core.specs.Prelude.{params_fit, result_fits, returned_call_fits, returned_fits, roles_in, run_by}
-pub use Rattle.sc_core.specs.Prelude.{run_of, run_step, scope_of, scripted_depth_by, scripted_meaning, scripted_run_of}
-pub use Rattle.sc_core.specs.Prelude.{scripted_step, section_fits, sections_fit, stmt_does, stmt_fits, stmt_height}
-pub use Rattle.sc_core.specs.Prelude.{stmt_nodes, stmt_step, stopped_at, structs_fit, term_height, term_judged}
-pub use Rattle.sc_core.specs.Prelude.{term_nodes, term_step, test, total, variable_at, variable_fits, variables, ways}
-pub use Rattle.sc_core.specs.Prelude.{wrapped, wrapped_depth, wrapping}
+pub use Rattle.sc_core.specs.Prelude.{is_scalar, is_well_typed, judged, leave, library_of, local_fits, local_nodes}
+pub use Rattle.sc_core.specs.Prelude.{loop, main_name, meaning, meant, meant_step, most_height, most_nodes, most_params}
+pub use Rattle.sc_core.specs.Prelude.{negated_word, nodes, on_all_words, params_fit, result_fits, returned_call_fits}
+pub use Rattle.sc_core.specs.Prelude.{returned_fits, roles_in, run_by, run_of, run_step, scope_of, scripted_depth_by}
+pub use Rattle.sc_core.specs.Prelude.{scripted_meaning, scripted_run_of, scripted_step, section_fits, sections_fit}
+pub use Rattle.sc_core.specs.Prelude.{stmt_does, stmt_fits, stmt_height, stmt_nodes, stopped_at, structs_fit}
+pub use Rattle.sc_core.specs.Prelude.{term_height, term_judged, term_nodes, term_step, test, total, variable_at}
+pub use Rattle.sc_core.specs.Prelude.{variable_fits, variables, ways, wrapped, wrapped_depth, wrapping}
 pub use Rattle.sc_core.specs.declared.cause.Cause.TheVariants.{BadPointer, BadShift, BadType, Dangling, Indeterminate}
 pub use Rattle.sc_core.specs.declared.cause.Cause.TheVariants.{NoReturn, NullUse, OutOfBounds, Overflow, ZeroDivisor}
 pub use Rattle.sc_core.specs.declared.expr.CallTarget.{CallTarget}

@@ -33,25 +33,15 @@ module _ (P : TypedStmt → Type 0) where
 
   inside : (y : TypedStmtKind-F ((k : TypedStmtKind) × AnyLine k) ((s : TypedStmt) × P s)) →
       Inside P (map-TypedStmtKind _ _ _ _ (λ k. k.0) (λ s. s.0) y)
-  inside layer.Empty = tt
-  inside (layer.Assign place value) = tt
-  inside (layer.AssignCall place call) = tt
-  inside (layer.Call call) = tt
   inside (layer.If cond first second) = (each first, each second)
   inside (layer.While cond body) = each body
   inside (layer.For first cond next body) = each body
-  inside layer.Break = tt
-  inside layer.Continue = tt
-  inside layer.Return = tt
-  inside (layer.ReturnValue value) = tt
-  inside (layer.ReturnCall call) = tt
+  inside _ = tt
 
   -- To show P of every statement, show it of one where P holds of each statement directly inside.
   pub stmt_induction : ((line : ℕ) (k : TypedStmtKind-F TypedStmtKind TypedStmt) → Inside P k → P (on_line line k)) →
       (s : TypedStmt) → P s
-  stmt_induction step =
-      ind-TypedStmt AnyLine P
-      (λ x y is line. step line x (subst (Inside P) is (inside y)))
+  stmt_induction step = ind-TypedStmt AnyLine P (λ x y is line. step line x (subst (Inside P) is (inside y)))
       (λ x y is. subst (λ z. P (roll-TypedStmt z)) is (y.kind.1 y.line))
 
 -- P of each expression directly inside
@@ -71,8 +61,6 @@ module _ (P : TypedExpr → Type 0) where
 
   under : (y : TypedKind-F ((k : TypedKind) × AnyType k) ((e : TypedExpr) × P e)) →
       Under P (map-TypedKind _ _ _ _ (λ k. k.0) (λ e. e.0) y)
-  under (term.Literal word) = tt
-  under (term.Variable v) = tt
   under (term.Unary o a) = a.1
   under (term.Binary o a b) = (a.1, b.1)
   under (term.Index a b) = (a.1, b.1)
@@ -80,11 +68,10 @@ module _ (P : TypedExpr → Type 0) where
   under (term.Arrow a offset) = a.1
   under (term.Deref a) = a.1
   under (term.Address a) = a.1
+  under _ = tt
 
   -- To show P of every expression, show it of one where P holds of each expression directly inside.
   pub expr_induction : ((ty : Ty) (k : TypedKind-F TypedKind TypedExpr) → Under P k → P (typed ty k)) →
       (e : TypedExpr) → P e
-  expr_induction step =
-      ind-TypedExpr AnyType P
-      (λ x y is ty. step ty x (subst (Under P) is (under y)))
+  expr_induction step = ind-TypedExpr AnyType P (λ x y is ty. step ty x (subst (Under P) is (under y)))
       (λ x y is. subst (λ z. P (roll-TypedExpr z)) is (y.kind.1 y.ty))

@@ -1,9 +1,9 @@
 -- A fold at an expression or a statement, by its layer: one equation for all forms, whose right side computes.
-use Rattle.sc_core.proofs.Common.{Ty, TypedExpr, TypedExpr-F, TypedKind, TypedKind-F, TypedStmt, TypedStmt-F}
+use Rattle.sc_core.proofs.Common.{List, Ty, TypedExpr, TypedExpr-F, TypedKind, TypedKind-F, TypedStmt, TypedStmt-F}
 use Rattle.sc_core.proofs.Common.{TypedStmtKind, TypedStmtKind-F, ap, fold-TypedExpr, fold-TypedKind, fold-TypedStmt}
 use Rattle.sc_core.proofs.Common.{fold-TypedStmtKind, fold-roll-TypedExpr, fold-roll-TypedKind, fold-roll-TypedStmt}
 use Rattle.sc_core.proofs.Common.{fold-roll-TypedStmtKind, map-TypedKind, map-TypedStmtKind, roll-TypedKind}
-use Rattle.sc_core.proofs.Common.{roll-TypedStmtKind, ℕ, ◌∙◌, ◌≡◌}
+use Rattle.sc_core.proofs.Common.{roll-TypedStmtKind, ℕ, ◌∙◌, ◌∷◌, ◌≡◌}
 
 -- an expression of this type, by its layer
 abbrev pub typed : Ty → TypedKind-F TypedKind TypedExpr → TypedExpr
@@ -36,3 +36,10 @@ module _ (A B : Type 0) (kind_step : TypedStmtKind-F A B → A) (stmt_step : Typ
   stmt_at line k =
       fold-roll-TypedStmt A B _ _ _
       ∙ ap (λ x. stmt_step (record { line = line; kind = x })) (fold-roll-TypedStmtKind A B kind_step stmt_step k)
+
+-- the folds of a list of statements, by those of the first and of the rest
+pub next_line : {A B : Type 0} (kind_step : TypedStmtKind-F A B → A) (stmt_step : TypedStmt-F A B → B) (line : ℕ)
+    (k : TypedStmtKind-F TypedStmtKind TypedStmt) {b : B} {bs cs : List B} →
+    stmt_step (record { line = line; kind = layer_of A B kind_step stmt_step k }) ≡ b → bs ≡ cs →
+    fold-TypedStmt A B kind_step stmt_step (on_line line k) ∷ bs ≡ b ∷ cs
+next_line kind_step stmt_step line k is rest = λ i. (stmt_at _ _ kind_step stmt_step line k ∙ is) i ∷ rest i

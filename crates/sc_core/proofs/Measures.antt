@@ -1,50 +1,13 @@
 -- Folds of trees by shapes: types, heights and nodes compute.
-use Rattle.sc_core.proofs.Common.{Bool, Callable, Judged, List, Option, Scope, Ty, TypedExpr-F, TypedKind-F, []}
-use Rattle.sc_core.proofs.Common.{assign_call_fits, assign_fits, call_fits, expr_height, expr_nodes, fold-TypedExpr}
-use Rattle.sc_core.proofs.Common.{highest, is_scalar, is_some, judged, kind_fits, kind_height, kind_nodes, list_all}
+use Rattle.sc_core.proofs.Common.{Bool, Callable, Judged, List, Option, Scope, Ty, [], assign_call_fits, assign_fits}
+use Rattle.sc_core.proofs.Common.{call_fits, expr_height, expr_nodes, highest, is_scalar, is_some, judged, list_all}
 use Rattle.sc_core.proofs.Common.{map, max, not, refl, returned_call_fits, returned_fits, stmt_fits, stmt_height}
-use Rattle.sc_core.proofs.Common.{stmt_nodes, suc, term_height, term_judged, term_nodes, total, true, ℕ, ◌&&◌, ◌+◌, ◌∙◌}
-use Rattle.sc_core.proofs.Common.{◌∷◌, ◌≡◌}
-use Rattle.sc_core.specs.declared.expr.TypedKind.TheOpen as term
-use Rattle.sc_core.specs.declared.stmt.TypedStmtKind.TheOpen as layer
-use Rattle.sc_core.proofs.Layers.{expr_at, stmt_at}
-use Rattle.sc_core.proofs.Shapes.{Shape, Lit, Var, One, Two, At, Dot, Arrow, Star, Amp, expr, Lines, NoLine, EmptyLine}
-use Rattle.sc_core.proofs.Shapes.{AssignLine, AssignCallLine, CallLine, IfLine, WhileLine, ForLine, BreakLine}
-use Rattle.sc_core.proofs.Shapes.{ContinueLine, ReturnLine, ReturnValueLine, ReturnCallLine, call_of, part, stmts}
-
-module _ (A B : Type 0) (kind : TypedKind-F A B → A) (of : TypedExpr-F A B → B) where
-  abbrev pub shape_fold : Shape → B
-  shape_fold (Lit ty word) = of (record { ty = ty; kind = kind (term.Literal word) })
-  shape_fold (Var ty v) = of (record { ty = ty; kind = kind (term.Variable v) })
-  shape_fold (One ty o a) = of (record { ty = ty; kind = kind (term.Unary o (shape_fold a)) })
-  shape_fold (Two ty o a b) = of (record { ty = ty; kind = kind (term.Binary o (shape_fold a) (shape_fold b)) })
-  shape_fold (At ty a b) = of (record { ty = ty; kind = kind (term.Index (shape_fold a) (shape_fold b)) })
-  shape_fold (Dot ty a offset) = of (record { ty = ty; kind = kind (term.Member (shape_fold a) offset) })
-  shape_fold (Arrow ty a offset) = of (record { ty = ty; kind = kind (term.Arrow (shape_fold a) offset) })
-  shape_fold (Star ty a) = of (record { ty = ty; kind = kind (term.Deref (shape_fold a)) })
-  shape_fold (Amp ty a) = of (record { ty = ty; kind = kind (term.Address (shape_fold a)) })
-
-  pub shape_fold_is : (a : Shape) → fold-TypedExpr A B kind of (expr a) ≡ shape_fold a
-  shape_fold_is (Lit ty word) = expr_at A B kind of ty _
-  shape_fold_is (Var ty v) = expr_at A B kind of ty _
-  shape_fold_is (One ty o a) = expr_at A B kind of ty _ ∙
-      (λ j. of (record { ty = ty; kind = kind (term.Unary o (shape_fold_is a j)) }))
-  shape_fold_is (Two ty o a b) = expr_at A B kind of ty _ ∙
-      (λ j. of (record { ty = ty; kind = kind (term.Binary o (shape_fold_is a j) (shape_fold_is b j)) }))
-  shape_fold_is (At ty a b) = expr_at A B kind of ty _ ∙
-      (λ j. of (record { ty = ty; kind = kind (term.Index (shape_fold_is a j) (shape_fold_is b j)) }))
-  shape_fold_is (Dot ty a offset) = expr_at A B kind of ty _ ∙
-      (λ j. of (record { ty = ty; kind = kind (term.Member (shape_fold_is a j) offset) }))
-  shape_fold_is (Arrow ty a offset) = expr_at A B kind of ty _ ∙
-      (λ j. of (record { ty = ty; kind = kind (term.Arrow (shape_fold_is a j) offset) }))
-  shape_fold_is (Star ty a) = expr_at A B kind of ty _ ∙
-      (λ j. of (record { ty = ty; kind = kind (term.Deref (shape_fold_is a j)) }))
-  shape_fold_is (Amp ty a) = expr_at A B kind of ty _ ∙
-      (λ j. of (record { ty = ty; kind = kind (term.Address (shape_fold_is a j)) }))
-
-  pub shapes_are : (args : List Shape) → map (fold-TypedExpr A B kind of) (map expr args) ≡ map shape_fold args
-  shapes_are [] = refl
-  shapes_are (a ∷ args) = λ i. shape_fold_is a i ∷ shapes_are args i
+use Rattle.sc_core.proofs.Common.{stmt_nodes, suc, term_height, term_judged, term_nodes, total, true, ℕ, ◌&&◌, ◌+◌, ◌∷◌}
+use Rattle.sc_core.proofs.Common.{◌≡◌}
+use Rattle.sc_core.proofs.Layers.{next_line}
+use Rattle.sc_core.proofs.Shapes.{Shape, expr, Lines, NoLine, EmptyLine, AssignLine, AssignCallLine, CallLine, IfLine}
+use Rattle.sc_core.proofs.Shapes.{WhileLine, ForLine, BreakLine, ContinueLine, ReturnLine, ReturnValueLine}
+use Rattle.sc_core.proofs.Shapes.{ReturnCallLine, stmts, shape_fold, shape_fold_is, shapes_are}
 
 abbrev pub shape_height : Shape → ℕ
 shape_height = shape_fold ℕ ℕ term_height (λ e. e.kind)
@@ -76,38 +39,27 @@ lines_high (ReturnCallLine line target args rest) = suc (highest (map shape_heig
 
 pub lines_high_are : (x : Lines) → map stmt_height (stmts x) ≡ lines_high x
 lines_high_are NoLine = refl
-lines_high_are (EmptyLine line rest) = λ i. (stmt_at _ _ kind_height (λ s. suc s.kind) line (layer.Empty) ∙
-    (λ j. 1)) i ∷ lines_high_are rest i
-lines_high_are (AssignLine line p e rest) = λ i. (stmt_at _ _ kind_height (λ s. suc s.kind) line
-    (layer.Assign (expr p) (expr e)) ∙ (λ j. suc (max (height_is p j) (height_is e j)))) i ∷ lines_high_are rest i
+lines_high_are (EmptyLine line rest) = next_line _ _ _ _ refl (lines_high_are rest)
+lines_high_are (AssignLine line p e rest) =
+    next_line _ _ _ _ (λ j. suc (max (height_is p j) (height_is e j))) (lines_high_are rest)
 lines_high_are (AssignCallLine line p target args rest) =
-    λ i. (stmt_at _ _ kind_height (λ s. suc s.kind) line (layer.AssignCall (expr p) (call_of target args)) ∙
-    (λ j. suc (max (height_is p j) (highest (heights_are args j))))) i ∷ lines_high_are rest i
-lines_high_are (CallLine line target args rest) = λ i.
-    (stmt_at _ _ kind_height (λ s. suc s.kind) line (layer.Call (call_of target args)) ∙
-    (λ j. suc (highest (heights_are args j)))) i ∷ lines_high_are rest i
-lines_high_are (IfLine line c x y rest) = λ i. (stmt_at _ _ kind_height (λ s. suc s.kind) line
-    (layer.If (expr c) (stmts x) (stmts y)) ∙ (λ j. suc
-    (max (height_is c j) (max (highest (lines_high_are x j)) (highest (lines_high_are y j)))))) i ∷
-    lines_high_are rest i
-lines_high_are (WhileLine line c x rest) = λ i. (stmt_at _ _ kind_height (λ s. suc s.kind) line
-    (layer.While _ (stmts x)) ∙ (λ j. suc (max (height_is c j) (highest (lines_high_are x j))))) i ∷
-    lines_high_are rest i
-lines_high_are (ForLine line p e c q f x rest) = λ i.
-    (stmt_at _ _ kind_height (λ s. suc s.kind) line (layer.For (part line p e) (expr c) (part line q f) (stmts x)) ∙
-    (λ j. suc (max (max (suc (max (height_is p j) (height_is e j))) (suc (max (height_is q j) (height_is f j))))
-    (max (height_is c j) (highest (lines_high_are x j)))))) i ∷ lines_high_are rest i
-lines_high_are (BreakLine line rest) = λ i. (stmt_at _ _ kind_height (λ s. suc s.kind) line (layer.Break) ∙
-    (λ j. 1)) i ∷ lines_high_are rest i
-lines_high_are (ContinueLine line rest) = λ i. (stmt_at _ _ kind_height (λ s. suc s.kind) line (layer.Continue) ∙
-    (λ j. 1)) i ∷ lines_high_are rest i
-lines_high_are (ReturnLine line rest) = λ i. (stmt_at _ _ kind_height (λ s. suc s.kind) line (layer.Return) ∙
-    (λ j. 1)) i ∷ lines_high_are rest i
-lines_high_are (ReturnValueLine line e rest) = λ i. (stmt_at _ _ kind_height (λ s. suc s.kind) line
-    (layer.ReturnValue (expr e)) ∙ (λ j. suc (height_is e j))) i ∷ lines_high_are rest i
+    next_line _ _ _ _ (λ j. suc (max (height_is p j) (highest (heights_are args j)))) (lines_high_are rest)
+lines_high_are (CallLine line target args rest) =
+    next_line _ _ _ _ (λ j. suc (highest (heights_are args j))) (lines_high_are rest)
+lines_high_are (IfLine line c x y rest) = next_line _ _ _ _
+    (λ j. suc (max (height_is c j) (max (highest (lines_high_are x j)) (highest (lines_high_are y j)))))
+    (lines_high_are rest)
+lines_high_are (WhileLine line c x rest) =
+    next_line _ _ _ _ (λ j. suc (max (height_is c j) (highest (lines_high_are x j)))) (lines_high_are rest)
+lines_high_are (ForLine line p e c q f x rest) = next_line _ _ _ _ (λ j. suc (max
+    (max (suc (max (height_is p j) (height_is e j))) (suc (max (height_is q j) (height_is f j))))
+    (max (height_is c j) (highest (lines_high_are x j))))) (lines_high_are rest)
+lines_high_are (BreakLine line rest) = next_line _ _ _ _ refl (lines_high_are rest)
+lines_high_are (ContinueLine line rest) = next_line _ _ _ _ refl (lines_high_are rest)
+lines_high_are (ReturnLine line rest) = next_line _ _ _ _ refl (lines_high_are rest)
+lines_high_are (ReturnValueLine line e rest) = next_line _ _ _ _ (λ j. suc (height_is e j)) (lines_high_are rest)
 lines_high_are (ReturnCallLine line target args rest) =
-    λ i. (stmt_at _ _ kind_height (λ s. suc s.kind) line (layer.ReturnCall (call_of target args)) ∙
-    (λ j. suc (highest (heights_are args j)))) i ∷ lines_high_are rest i
+    next_line _ _ _ _ (λ j. suc (highest (heights_are args j))) (lines_high_are rest)
 
 abbrev pub shape_nodes : Shape → ℕ
 shape_nodes = shape_fold ℕ ℕ term_nodes (λ e. e.kind)
@@ -138,36 +90,25 @@ lines_nodes (ReturnCallLine line target args rest) = suc (total (map shape_nodes
 
 pub lines_nodes_are : (x : Lines) → map stmt_nodes (stmts x) ≡ lines_nodes x
 lines_nodes_are NoLine = refl
-lines_nodes_are (EmptyLine line rest) = λ i. (stmt_at _ _ kind_nodes (λ s. s.kind) line (layer.Empty) ∙ (λ j. 1)) i ∷
-    lines_nodes_are rest i
-lines_nodes_are (AssignLine line p e rest) = λ i. (stmt_at _ _ kind_nodes (λ s. s.kind) line
-    (layer.Assign (expr p) (expr e)) ∙ (λ j. suc ((nodes_is p j) + (nodes_is e j)))) i ∷ lines_nodes_are rest i
+lines_nodes_are (EmptyLine line rest) = next_line _ _ _ _ refl (lines_nodes_are rest)
+lines_nodes_are (AssignLine line p e rest) =
+    next_line _ _ _ _ (λ j. suc ((nodes_is p j) + (nodes_is e j))) (lines_nodes_are rest)
 lines_nodes_are (AssignCallLine line p target args rest) =
-    λ i. (stmt_at _ _ kind_nodes (λ s. s.kind) line (layer.AssignCall (expr p) (call_of target args)) ∙
-    (λ j. suc ((nodes_is p j) + total (nodes_are args j)))) i ∷ lines_nodes_are rest i
-lines_nodes_are (CallLine line target args rest) = λ i.
-    (stmt_at _ _ kind_nodes (λ s. s.kind) line (layer.Call (call_of target args)) ∙
-    (λ j. suc (total (nodes_are args j)))) i ∷ lines_nodes_are rest i
-lines_nodes_are (IfLine line c x y rest) = λ i. (stmt_at _ _ kind_nodes (λ s. s.kind) line
-    (layer.If (expr c) (stmts x) (stmts y)) ∙ (λ j. suc
-    ((nodes_is c j) + total (lines_nodes_are x j) + total (lines_nodes_are y j)))) i ∷ lines_nodes_are rest i
-lines_nodes_are (WhileLine line c x rest) = λ i. (stmt_at _ _ kind_nodes (λ s. s.kind) line
-    (layer.While _ (stmts x)) ∙ (λ j. suc ((nodes_is c j) + total (lines_nodes_are x j)))) i ∷ lines_nodes_are rest i
-lines_nodes_are (ForLine line p e c q f x rest) = λ i.
-    (stmt_at _ _ kind_nodes (λ s. s.kind) line (layer.For (part line p e) (expr c) (part line q f) (stmts x)) ∙
-    (λ j. suc (suc ((nodes_is p j) + (nodes_is e j)) + (nodes_is c j) + suc ((nodes_is q j) + (nodes_is f j)) + total
-    (lines_nodes_are x j)))) i ∷ lines_nodes_are rest i
-lines_nodes_are (BreakLine line rest) = λ i. (stmt_at _ _ kind_nodes (λ s. s.kind) line (layer.Break) ∙ (λ j. 1)) i ∷
-    lines_nodes_are rest i
-lines_nodes_are (ContinueLine line rest) = λ i. (stmt_at _ _ kind_nodes (λ s. s.kind) line (layer.Continue) ∙
-    (λ j. 1)) i ∷ lines_nodes_are rest i
-lines_nodes_are (ReturnLine line rest) = λ i. (stmt_at _ _ kind_nodes (λ s. s.kind) line (layer.Return) ∙ (λ j. 1)) i ∷
-    lines_nodes_are rest i
-lines_nodes_are (ReturnValueLine line e rest) = λ i. (stmt_at _ _ kind_nodes (λ s. s.kind) line
-    (layer.ReturnValue _) ∙ (λ j. suc (nodes_is e j))) i ∷ lines_nodes_are rest i
+    next_line _ _ _ _ (λ j. suc ((nodes_is p j) + total (nodes_are args j))) (lines_nodes_are rest)
+lines_nodes_are (CallLine line target args rest) =
+    next_line _ _ _ _ (λ j. suc (total (nodes_are args j))) (lines_nodes_are rest)
+lines_nodes_are (IfLine line c x y rest) = next_line _ _ _ _
+    (λ j. suc ((nodes_is c j) + total (lines_nodes_are x j) + total (lines_nodes_are y j))) (lines_nodes_are rest)
+lines_nodes_are (WhileLine line c x rest) =
+    next_line _ _ _ _ (λ j. suc ((nodes_is c j) + total (lines_nodes_are x j))) (lines_nodes_are rest)
+lines_nodes_are (ForLine line p e c q f x rest) = next_line _ _ _ _ (λ j. suc (suc ((nodes_is p j) + (nodes_is e j)) +
+    (nodes_is c j) + suc ((nodes_is q j) + (nodes_is f j)) + total (lines_nodes_are x j))) (lines_nodes_are rest)
+lines_nodes_are (BreakLine line rest) = next_line _ _ _ _ refl (lines_nodes_are rest)
+lines_nodes_are (ContinueLine line rest) = next_line _ _ _ _ refl (lines_nodes_are rest)
+lines_nodes_are (ReturnLine line rest) = next_line _ _ _ _ refl (lines_nodes_are rest)
+lines_nodes_are (ReturnValueLine line e rest) = next_line _ _ _ _ (λ j. suc (nodes_is e j)) (lines_nodes_are rest)
 lines_nodes_are (ReturnCallLine line target args rest) =
-    λ i. (stmt_at _ _ kind_nodes (λ s. s.kind) line (layer.ReturnCall (call_of target args)) ∙
-    (λ j. suc (total (nodes_are args j)))) i ∷ lines_nodes_are rest i
+    next_line _ _ _ _ (λ j. suc (total (nodes_are args j))) (lines_nodes_are rest)
 
 module _ (scope : Scope) (callable : Callable) (result : Option Ty) where
   abbrev pub judge : Shape → Judged
@@ -186,14 +127,12 @@ module _ (scope : Scope) (callable : Callable) (result : Option Ty) where
   lines_fit (AssignCallLine line p target args rest) =
       (λ looping. assign_call_fits callable (judge p) target (map judge args)) ∷ lines_fit rest
   lines_fit (CallLine line target args rest) = (λ looping. call_fits callable target (map judge args)) ∷ lines_fit rest
-  lines_fit (IfLine line c x y rest) = (λ looping. is_scalar (judge c) &&
-      (list_all {X = Bool → Bool} (λ s. s looping) (lines_fit x) &&
-      list_all {X = Bool → Bool} (λ s. s looping) (lines_fit y))) ∷ lines_fit rest
+  lines_fit (IfLine line c x y rest) = (λ looping. is_scalar (judge c) && (list_all {X = Bool → Bool} (λ s. s looping)
+      (lines_fit x) && list_all {X = Bool → Bool} (λ s. s looping) (lines_fit y))) ∷ lines_fit rest
   lines_fit (WhileLine line c x rest) = (λ looping. is_scalar (judge c) &&
       list_all {X = Bool → Bool} (λ s. s true) (lines_fit x)) ∷ lines_fit rest
-  lines_fit (ForLine line p e c q f x rest) = (λ looping. assign_fits (judge p) (judge e) &&
-      (is_scalar (judge c) && (assign_fits (judge q) (judge f) &&
-      list_all {X = Bool → Bool} (λ s. s true) (lines_fit x)))) ∷ lines_fit rest
+  lines_fit (ForLine line p e c q f x rest) = (λ looping. assign_fits (judge p) (judge e) && (is_scalar (judge c) &&
+      (assign_fits (judge q) (judge f) && list_all {X = Bool → Bool} (λ s. s true) (lines_fit x)))) ∷ lines_fit rest
   lines_fit (BreakLine line rest) = (λ looping. looping) ∷ lines_fit rest
   lines_fit (ContinueLine line rest) = (λ looping. looping) ∷ lines_fit rest
   lines_fit (ReturnLine line rest) = (λ looping. not (is_some result)) ∷ lines_fit rest
@@ -203,39 +142,27 @@ module _ (scope : Scope) (callable : Callable) (result : Option Ty) where
 
   pub lines_fit_are : (x : Lines) → map (stmt_fits scope callable result) (stmts x) ≡ lines_fit x
   lines_fit_are NoLine = refl
-  lines_fit_are (EmptyLine line rest) = λ i. (stmt_at _ _ (kind_fits scope callable result) (λ s. s.kind) line
-      (layer.Empty) ∙ (λ j. (λ looping. true))) i ∷ lines_fit_are rest i
-  lines_fit_are (AssignLine line p e rest) = λ i. (stmt_at _ _ (kind_fits scope callable result) (λ s. s.kind) line
-      (layer.Assign (expr p) (expr e)) ∙ (λ j. (λ looping. assign_fits (judge_is p j) (judge_is e j)))) i ∷
-      lines_fit_are rest i
-  lines_fit_are (AssignCallLine line p target args rest) =
-      λ i. (stmt_at _ _ (kind_fits scope callable result) (λ s. s.kind) line
-      (layer.AssignCall (expr p) (call_of target args)) ∙
-      (λ j. (λ looping. assign_call_fits callable (judge_is p j) target (judges_are args j)))) i ∷ lines_fit_are rest i
-  lines_fit_are (CallLine line target args rest) = λ i.
-      (stmt_at _ _ (kind_fits scope callable result) (λ s. s.kind) line (layer.Call (call_of target args)) ∙
-      (λ j. (λ looping. call_fits callable target (judges_are args j)))) i ∷ lines_fit_are rest i
-  lines_fit_are (IfLine line c x y rest) = λ i. (stmt_at _ _ (kind_fits scope callable result) (λ s. s.kind) line
-      (layer.If (expr c) (stmts x) (stmts y)) ∙ (λ j.
-      (λ looping. is_scalar (judge_is c j) && (list_all {X = Bool → Bool} (λ s. s looping) (lines_fit_are x j) &&
-      list_all {X = Bool → Bool} (λ s. s looping) (lines_fit_are y j))))) i ∷ lines_fit_are rest i
-  lines_fit_are (WhileLine line c x rest) = λ i. (stmt_at _ _ (kind_fits scope callable result) (λ s. s.kind) line
-      (layer.While (expr c) (stmts x)) ∙ (λ j. (λ looping. is_scalar (judge_is c j) &&
-      list_all {X = Bool → Bool} (λ s. s true) (lines_fit_are x j)))) i ∷ lines_fit_are rest i
-  lines_fit_are (ForLine line p e c q f x rest) = λ i.
-      (stmt_at _ _ (kind_fits scope callable result) (λ s. s.kind) line
-      (layer.For (part line p e) (expr c) (part line q f) (stmts x)) ∙
-      (λ j. (λ looping. assign_fits (judge_is p j) (judge_is e j) &&
-      (is_scalar (judge_is c j) && (assign_fits (judge_is q j) (judge_is f j) &&
-      list_all {X = Bool → Bool} (λ s. s true) (lines_fit_are x j)))))) i ∷ lines_fit_are rest i
-  lines_fit_are (BreakLine line rest) = λ i. (stmt_at _ _ (kind_fits scope callable result) (λ s. s.kind) line
-      (layer.Break) ∙ (λ j. (λ looping. looping))) i ∷ lines_fit_are rest i
-  lines_fit_are (ContinueLine line rest) = λ i. (stmt_at _ _ (kind_fits scope callable result) (λ s. s.kind) line
-      (layer.Continue) ∙ (λ j. (λ looping. looping))) i ∷ lines_fit_are rest i
-  lines_fit_are (ReturnLine line rest) = λ i. (stmt_at _ _ (kind_fits scope callable result) (λ s. s.kind) line
-      (layer.Return) ∙ (λ j. (λ looping. not (is_some result)))) i ∷ lines_fit_are rest i
-  lines_fit_are (ReturnValueLine line e rest) = λ i. (stmt_at _ _ (kind_fits scope callable result) (λ s. s.kind) line
-      (layer.ReturnValue (expr e)) ∙ (λ j. (λ looping. returned_fits result (judge_is e j)))) i ∷ lines_fit_are rest i
-  lines_fit_are (ReturnCallLine line target args rest) =
-      λ i. (stmt_at _ _ (kind_fits scope callable result) (λ s. s.kind) line (layer.ReturnCall (call_of target args)) ∙
-      (λ j. (λ looping. returned_call_fits callable result target (judges_are args j)))) i ∷ lines_fit_are rest i
+  lines_fit_are (EmptyLine line rest) = next_line _ _ _ _ refl (lines_fit_are rest)
+  lines_fit_are (AssignLine line p e rest) =
+      next_line _ _ _ _ (λ j. λ looping. assign_fits (judge_is p j) (judge_is e j)) (lines_fit_are rest)
+  lines_fit_are (AssignCallLine line p target args rest) = next_line _ _ _ _
+      (λ j. λ looping. assign_call_fits callable (judge_is p j) target (judges_are args j)) (lines_fit_are rest)
+  lines_fit_are (CallLine line target args rest) =
+      next_line _ _ _ _ (λ j. λ looping. call_fits callable target (judges_are args j)) (lines_fit_are rest)
+  lines_fit_are (IfLine line c x y rest) =
+      next_line _ _ _ _ (λ j. λ looping. is_scalar (judge_is c j) && (list_all {X = Bool → Bool} (λ s. s looping)
+      (lines_fit_are x j) && list_all {X = Bool → Bool} (λ s. s looping) (lines_fit_are y j))) (lines_fit_are rest)
+  lines_fit_are (WhileLine line c x rest) = next_line _ _ _ _
+      (λ j. λ looping. is_scalar (judge_is c j) && list_all {X = Bool → Bool} (λ s. s true) (lines_fit_are x j))
+      (lines_fit_are rest)
+  lines_fit_are (ForLine line p e c q f x rest) =
+      next_line _ _ _ _ (λ j. λ looping. assign_fits (judge_is p j) (judge_is e j) && (is_scalar (judge_is c j) &&
+      (assign_fits (judge_is q j) (judge_is f j) && list_all {X = Bool → Bool} (λ s. s true) (lines_fit_are x j))))
+      (lines_fit_are rest)
+  lines_fit_are (BreakLine line rest) = next_line _ _ _ _ refl (lines_fit_are rest)
+  lines_fit_are (ContinueLine line rest) = next_line _ _ _ _ refl (lines_fit_are rest)
+  lines_fit_are (ReturnLine line rest) = next_line _ _ _ _ refl (lines_fit_are rest)
+  lines_fit_are (ReturnValueLine line e rest) =
+      next_line _ _ _ _ (λ j. λ looping. returned_fits result (judge_is e j)) (lines_fit_are rest)
+  lines_fit_are (ReturnCallLine line target args rest) = next_line _ _ _ _
+      (λ j. λ looping. returned_call_fits callable result target (judges_are args j)) (lines_fit_are rest)

@@ -1,11 +1,11 @@
 -- Programs by plans, whose functions compute: the meaning of a program is the run of its plan's library.
-use Rattle.sc_core.proofs.Common.{Acts, Arith, Bool, Event, Function, Here, Interfaces, Library, List, Local, Next}
-use Rattle.sc_core.proofs.Common.{None, Ok, Option, Run, Some, Ty, TypedExpr, TypedGlobal, TypedSection, TypedStruct}
-use Rattle.sc_core.proofs.Common.{[], all_do, and_then, ap, assign, at_place, bytes_eq, closed, codes, entry_in, follow}
-use Rattle.sc_core.proofs.Common.{frame_bound, function_of, functions_in, globals_of, in_order, init_nodes, inits_do}
-use Rattle.sc_core.proofs.Common.{is_some, leave, length, library_of, local_nodes, main_name, map, nodes, refl}
-use Rattle.sc_core.proofs.Common.{roles_in, run_by, run_of, run_step, scripted_run_of, scripted_step, suc, total}
-use Rattle.sc_core.proofs.Common.{variable_at, variables, ℕ, ◌&&◌, ◌+◌, ◌==◌, ◌∷◌, ◌≡◌}
+use Rattle.sc_core.proofs.Common.{Acts, Arith, Bool, Calls, Event, Function, Here, Interfaces, Library, List, Local}
+use Rattle.sc_core.proofs.Common.{Next, None, Ok, Option, Run, Some, Ty, TypedExpr, TypedGlobal, TypedSection}
+use Rattle.sc_core.proofs.Common.{TypedStruct, [], all_do, and_then, ap, assign, at_place, bytes_eq, closed, codes}
+use Rattle.sc_core.proofs.Common.{entry_in, follow, frame_bound, function_of, functions_in, globals_of, in_order}
+use Rattle.sc_core.proofs.Common.{init_nodes, inits_do, is_some, leave, length, library_of, local_nodes, main_name, map}
+use Rattle.sc_core.proofs.Common.{nodes, refl, roles_in, run_by, run_of, run_step, scripted_run_of, scripted_step, suc}
+use Rattle.sc_core.proofs.Common.{total, variable_at, variables, ℕ, ◌&&◌, ◌+◌, ◌==◌, ◌∷◌, ◌≡◌}
 use Rattle.sc_core.specs.declared.section.TypedParam.{TypedParam}
 use Rattle.sc_core.specs.declared.section.TypedLocal.{TypedLocal}
 use Rattle.sc_core.specs.declared.section.TypedFunction.{TypedFunction}
@@ -54,8 +54,7 @@ function plan =
     }
 
 abbrev pub section : Sheet → TypedSection
-section sheet =
-    record { structs = sheet.structs; globals = sheet.globals; functions = map function sheet.plans }
+section sheet = record { structs = sheet.structs; globals = sheet.globals; functions = map function sheet.plans }
 
 abbrev pub program : Interfaces → List Sheet → ProgramTree
 program interfaces sheets = record { interfaces = interfaces; sections = map section sheets }
@@ -86,8 +85,7 @@ plan_nodes_is plan = λ i. suc (length (map param plan.params)) + total (slots_n
 module _ (arith : Arith) (structs : List TypedStruct) (here : Here) (params : ℕ) where
   abbrev pub slot_does : ℕ → Slot → Option Shape → Acts
   slot_does k slot None = leave Next
-  slot_does k slot (Some a) =
-      assign here (at_place slot.ty (λ blocks. Ok (variable_at here params (Local k))))
+  slot_does k slot (Some a) = assign here (at_place slot.ty (λ blocks. Ok (variable_at here params (Local k))))
       (way arith structs here params a) slot.line
 
   abbrev pub slots_do : ℕ → List Slot → List Acts
@@ -97,42 +95,36 @@ module _ (arith : Arith) (structs : List TypedStruct) (here : Here) (params : �
   pub inits_are : (k : ℕ) (slots : List Slot) → inits_do arith structs here params k (map local slots) ≡
       slots_do k slots
   inits_are k [] = refl
-  inits_are k (slot ∷ slots) =
-      with_init k slot slot.init (inits_are (suc k) slots) where
-        with_init : (k : ℕ) (slot : Slot) (init : Option Shape) →
-            inits_do arith structs here params (suc k) (map local slots) ≡ slots_do (suc k) slots →
-            inits_do arith structs here params k (record (local slot) { init = init_of init } ∷ map local slots) ≡
-            slot_does k slot init ∷ slots_do (suc k) slots
-        with_init k slot None rest = λ i. leave Next ∷ rest i
-        with_init k slot (Some a) rest = λ i.
-            assign here (at_place slot.ty (λ blocks. Ok (variable_at here params (Local k))))
-            (way_is arith structs here params a i) slot.line ∷ rest i
+  inits_are k (slot ∷ slots) = with_init k slot slot.init (inits_are (suc k) slots) where
+    with_init : (k : ℕ) (slot : Slot) (init : Option Shape) →
+        inits_do arith structs here params (suc k) (map local slots) ≡ slots_do (suc k) slots →
+        inits_do arith structs here params k (record (local slot) { init = init_of init } ∷ map local slots) ≡
+        slot_does k slot init ∷ slots_do (suc k) slots
+    with_init k slot None rest = λ i. leave Next ∷ rest i
+    with_init k slot (Some a) rest = λ i.
+        assign here (at_place slot.ty (λ blocks. Ok (variable_at here params (Local k))))
+        (way_is arith structs here params a i) slot.line ∷ rest i
 
 module _ (arith : Arith) (main : ℕ) where
+  -- the function of a plan, by its nodes and by what its locals and its lines do
+  abbrev made : List TypedStruct → Plan → ℕ → (Here → List Acts) → (Here → Calls → List Acts) → Function
+  made structs plan nodes inits lines = record {
+    cells = variables structs (function plan);
+    room = frame_bound (variables structs (function plan)) nodes;
+    does = λ by here s. and_then (follow in_order (all_do (inits here) tt s) (all_do (lines here by))) (λ left s. closed
+        left.exit (is_some plan.result) (here.comp == main && bytes_eq plan.name main_name) plan.close_line here s);
+  }
+
   abbrev pub quick : List TypedStruct → Plan → Function
-  quick structs plan =
-      record {
-        cells = variables structs (function plan);
-        room = frame_bound (variables structs (function plan)) (plan_nodes plan);
-        does = λ by here s. and_then (follow in_order
-            (all_do (slots_do arith structs here (length (map param plan.params)) 0 plan.locals) tt s)
-            (all_do (lines_do arith structs here (length (map param plan.params)) by plan.body)))
-            (λ left s. closed left.exit (is_some plan.result)
-            (here.comp == main && bytes_eq plan.name main_name) plan.close_line here s);
-      }
+  quick structs plan = made structs plan (plan_nodes plan)
+      (λ here. slots_do arith structs here (length (map param plan.params)) 0 plan.locals)
+      (λ here by. lines_do arith structs here (length (map param plan.params)) by plan.body)
 
   pub function_is : (structs : List TypedStruct) (plan : Plan) →
       function_of arith main structs (function plan) ≡ quick structs plan
-  function_is structs plan = λ i.
-      record {
-        cells = variables structs (function plan);
-        room = frame_bound (variables structs (function plan)) (plan_nodes_is plan i);
-        does = λ by here s. and_then (follow in_order
-            (all_do (inits_are arith structs here (length (map param plan.params)) 0 plan.locals i) tt s)
-            (all_do (lines_are arith structs here (length (map param plan.params)) by plan.body i)))
-            (λ left s. closed left.exit (is_some plan.result)
-            (here.comp == main && bytes_eq plan.name main_name) plan.close_line here s);
-      }
+  function_is structs plan = λ i. made structs plan (plan_nodes_is plan i)
+      (λ here. inits_are arith structs here (length (map param plan.params)) 0 plan.locals i)
+      (λ here by. lines_are arith structs here (length (map param plan.params)) by plan.body i)
 
   pub functions_are : (structs : List TypedStruct) (plans : List Plan) →
       map (function_of arith main structs) (map function plans) ≡ map (quick structs) plans

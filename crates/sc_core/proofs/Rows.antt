@@ -93,8 +93,7 @@ two_stores_is_blamed = by_plan two_stores_interfaces two_stores [] 5 7
 -- with `A` performing, `B` is blamed
 pub second_store_is_blamed : scripted_meaning (program two_stores_interfaces two_stores)
     (λ comp. comp == 1) two_stores_trace [] 5 7 ≡ record {
-      trace = Call 0 1 0 (2 ∷ []) ∷ Ret 1 0 (Some 5) ∷ Out 0 5 ∷
-          Call 0 2 0 (2 ∷ []) ∷ [];
+      trace = Call 0 1 0 (2 ∷ []) ∷ Ret 1 0 (Some 5) ∷ Out 0 5 ∷ Call 0 2 0 (2 ∷ []) ∷ [];
       end = Blamed 2 OutOfBounds 6;
     }
 second_store_is_blamed = scripted_by_plan two_stores_interfaces two_stores (λ comp. comp == 1) two_stores_trace [] 5 7
@@ -104,9 +103,8 @@ pub both_performed : scripted_meaning (program two_stores_interfaces two_stores)
 both_performed = scripted_by_plan two_stores_interfaces two_stores is_no_main two_stores_trace [] 5 7
 
 abbrev pub reentry_trace : List Event
-reentry_trace =
-    Call 0 1 0 (2 ∷ []) ∷ Call 1 2 0 (5 ∷ []) ∷ Call 2 1 1 (6 ∷ []) ∷ Ret 1 2 (Some 11) ∷ Ret 2 1 (Some 11) ∷
-    Ret 1 0 (Some 22) ∷ Out 0 22 ∷ End 0 0 ∷ []
+reentry_trace = Call 0 1 0 (2 ∷ []) ∷ Call 1 2 0 (5 ∷ []) ∷ Call 2 1 1 (6 ∷ []) ∷ Ret 1 2 (Some 11) ∷ Ret 2 1 (Some 11)
+    ∷ Ret 1 0 (Some 22) ∷ Out 0 22 ∷ End 0 0 ∷ []
 
 pub reentry_is_blamed : meaning (program reentry_interfaces reentry) [] 5 8 ≡
     record { trace = Call 0 1 0 (2 ∷ []) ∷ []; end = Blamed 1 OutOfBounds 10 }
@@ -158,15 +156,13 @@ store_wrapped_depth = ap (λ run. deepest 4 1 0 run.frames) (run_is wrapping sto
 
 pub store_scripted_depth : scripted_depth_by c_arith (program store_interfaces store_sheets) (λ comp. comp == 0)
     (Call 0 1 0 (4 ∷ 9 ∷ []) ∷ []) [] 5 4 1 ≡ 112
-store_scripted_depth =
-    ap (λ run. deepest 4 1 0 run.frames) (scripted_run_is c_arith store_interfaces store_sheets [] 5 (λ comp. comp == 0)
-    (Call 0 1 0 (4 ∷ 9 ∷ []) ∷ []))
+store_scripted_depth = ap (λ run. deepest 4 1 0 run.frames)
+    (scripted_run_is c_arith store_interfaces store_sheets [] 5 (λ comp. comp == 0) (Call 0 1 0 (4 ∷ 9 ∷ []) ∷ []))
 
 pub store_scripted_wrapped_depth : scripted_depth_by wrapping (program store_interfaces store_sheets)
     (λ comp. comp == 0) (Call 0 1 0 (4 ∷ 9 ∷ []) ∷ []) [] 5 4 1 ≡ 112
-store_scripted_wrapped_depth =
-    ap (λ run. deepest 4 1 0 run.frames) (scripted_run_is wrapping store_interfaces store_sheets [] 5
-    (λ comp. comp == 0) (Call 0 1 0 (4 ∷ 9 ∷ []) ∷ []))
+store_scripted_wrapped_depth = ap (λ run. deepest 4 1 0 run.frames)
+    (scripted_run_is wrapping store_interfaces store_sheets [] 5 (λ comp. comp == 0) (Call 0 1 0 (4 ∷ 9 ∷ []) ∷ []))
 
 -- a script whose next row names another function, and one with no row left
 pub wrong_row : scripted_meaning (program reentry_interfaces reentry) (λ comp. comp == 1)

@@ -44,58 +44,38 @@ module _ (scope : Scope) (callable : Callable) where
 
   abbrev quick_slots : List Slot → Bool
   quick_slots [] = true
-  quick_slots (slot ∷ slots) =
-      all_hold (
-      variable_fits scope.structs slot.ty ∷
-      quick_init slot.ty slot.init ∷
-      nat_le (quick_height slot.init) most_height ∷ []
-      ) && quick_slots slots
+  quick_slots (slot ∷ slots) = all_hold (variable_fits scope.structs slot.ty ∷ quick_init slot.ty slot.init ∷ nat_le
+      (quick_height slot.init) most_height ∷ []) && quick_slots slots
 
   slots_are : (slots : List Slot) → list_all (local_fits scope) (map local slots) ≡ quick_slots slots
   slots_are [] = refl
-  slots_are (slot ∷ slots) = λ i.
-      all_hold (
-      variable_fits scope.structs slot.ty ∷
-      init_is slot.ty slot.init i ∷
-      nat_le (high_is slot.init i) most_height ∷ []
-      ) && slots_are slots i
+  slots_are (slot ∷ slots) = λ i. all_hold (variable_fits scope.structs slot.ty ∷ init_is slot.ty slot.init i ∷ nat_le
+      (high_is slot.init i) most_height ∷ []) && slots_are slots i
 
   body_is : (result : Option Ty) (body : Lines) → list_all {X = TypedStmt}
       (λ s. stmt_fits scope callable result s false) (stmts body) ≡
       list_all {X = Bool → Bool} (λ s. s false) (lines_fit scope callable result body)
-  body_is result body =
-      all_of_map (λ s. s false) (stmt_fits scope callable result) (stmts body) ∙
-      ap (λ fits. list_all (λ s. s false) fits) (lines_fit_are scope callable result body)
+  body_is result body = all_of_map (λ s. s false) (stmt_fits scope callable result) (stmts body)
+      ∙ ap (λ fits. list_all (λ s. s false) fits) (lines_fit_are scope callable result body)
 
 heights_is : (body : Lines) → list_all {X = TypedStmt} (λ s. nat_le (stmt_height s) most_height) (stmts body) ≡
     list_all (λ h. nat_le h most_height) (lines_high body)
-heights_is body =
-    all_of_map (λ h. nat_le h most_height) stmt_height (stmts body) ∙
-    ap (λ heights. list_all (λ h. nat_le h most_height) heights) (lines_high_are body)
+heights_is body = all_of_map (λ h. nat_le h most_height) stmt_height (stmts body)
+    ∙ ap (λ heights. list_all (λ h. nat_le h most_height) heights) (lines_high_are body)
 
 module _ (callable : Callable) (of : TypedSection) where
   abbrev quick_function : Plan → Bool
   quick_function plan =
-      all_hold (
-      nat_le (length (function plan).params) most_params ∷
-      params_fit of.structs (function plan).params ∷
-      result_fits of.structs plan.result ∷
-      quick_slots (scope_of of (function plan)) callable plan.locals ∷
-      list_all {X = Bool → Bool} (λ s. s false)
-      (lines_fit (scope_of of (function plan)) callable plan.result plan.body) ∷
-      list_all (λ h. nat_le h most_height) (lines_high plan.body) ∷ []
-      )
+      all_hold (nat_le (length (function plan).params) most_params ∷ params_fit of.structs (function plan).params ∷
+      result_fits of.structs plan.result ∷ quick_slots (scope_of of (function plan)) callable plan.locals ∷ list_all
+      {X = Bool → Bool} (λ s. s false) (lines_fit (scope_of of (function plan)) callable plan.result plan.body) ∷
+      list_all (λ h. nat_le h most_height) (lines_high plan.body) ∷ [])
 
   function_is : (plan : Plan) → function_fits callable of (function plan) ≡ quick_function plan
-  function_is plan = λ i.
-      all_hold (
-      nat_le (length (function plan).params) most_params ∷
-      params_fit of.structs (function plan).params ∷
-      result_fits of.structs plan.result ∷
-      slots_are (scope_of of (function plan)) callable plan.locals i ∷
-      body_is (scope_of of (function plan)) callable plan.result plan.body i ∷
-      heights_is plan.body i ∷ []
-      )
+  function_is plan =
+      λ i. all_hold (nat_le (length (function plan).params) most_params ∷ params_fit of.structs (function plan).params ∷
+      result_fits of.structs plan.result ∷ slots_are (scope_of of (function plan)) callable plan.locals i ∷ body_is
+      (scope_of of (function plan)) callable plan.result plan.body i ∷ heights_is plan.body i ∷ [])
 
   abbrev quick_functions : List Plan → Bool
   quick_functions [] = true
@@ -113,69 +93,43 @@ nodes_are (plan ∷ plans) = λ i. plan_nodes_is plan i ∷ nodes_are plans i
 module _ (interfaces : Interfaces) where
   abbrev quick_section : Interface → Sheet → Bool
   quick_section interface sheet =
-      all_hold (
-      structs_fit sheet.structs 0 sheet.structs ∷
-      list_all (global_fits sheet.structs) sheet.globals ∷
-      quick_functions (callable_in interfaces interface (section sheet)) (section sheet) sheet.plans ∷
-      nat_le (total (map plan_nodes sheet.plans)) most_nodes ∷
-      nat_le (decl_count (section sheet)) most_nodes ∷ []
-      )
+      all_hold (structs_fit sheet.structs 0 sheet.structs ∷ list_all (global_fits sheet.structs) sheet.globals ∷
+      quick_functions (callable_in interfaces interface (section sheet)) (section sheet) sheet.plans ∷ nat_le
+      (total (map plan_nodes sheet.plans)) most_nodes ∷ nat_le (decl_count (section sheet)) most_nodes ∷ [])
 
   section_is : (comp : ℕ) (interface : Interface) (sheet : Sheet) →
       section_fits interfaces comp interface (section sheet) ≡ quick_section interface sheet
-  section_is comp interface sheet = λ i.
-      all_hold (
-      structs_fit sheet.structs 0 sheet.structs ∷
-      list_all (global_fits sheet.structs) sheet.globals ∷
-      functions_are (callable_in interfaces interface (section sheet)) (section sheet) sheet.plans i ∷
-      nat_le (total (nodes_are sheet.plans i)) most_nodes ∷
-      nat_le (decl_count (section sheet)) most_nodes ∷ []
-      )
+  section_is comp interface sheet =
+      λ i. all_hold (structs_fit sheet.structs 0 sheet.structs ∷ list_all (global_fits sheet.structs) sheet.globals ∷
+      functions_are (callable_in interfaces interface (section sheet)) (section sheet) sheet.plans i ∷ nat_le
+      (total (nodes_are sheet.plans i)) most_nodes ∷ nat_le (decl_count (section sheet)) most_nodes ∷ [])
 
   abbrev quick_sections : ℕ → List Interface → List Sheet → Bool
   quick_sections comp [] [] = true
   quick_sections comp [] (sheet ∷ sheets) = false
   quick_sections comp (interface ∷ comps) [] = false
-  quick_sections comp (interface ∷ comps) (sheet ∷ sheets) =
-      all_hold (
-      quick_section interface sheet ∷
-      interface_fits interfaces comp interface (section sheet) ∷
-      quick_sections (suc comp) comps sheets ∷ []
-      )
+  quick_sections comp (interface ∷ comps) (sheet ∷ sheets) = all_hold (quick_section interface sheet ∷ interface_fits
+      interfaces comp interface (section sheet) ∷ quick_sections (suc comp) comps sheets ∷ [])
 
   sections_are : (comp : ℕ) (comps : List Interface) (sheets : List Sheet) →
       sections_fit interfaces comp comps (map section sheets) ≡ quick_sections comp comps sheets
   sections_are comp [] [] = refl
   sections_are comp [] (sheet ∷ sheets) = refl
   sections_are comp (interface ∷ comps) [] = refl
-  sections_are comp (interface ∷ comps) (sheet ∷ sheets) = λ i.
-      all_hold (
-      section_is comp interface sheet i ∷
-      interface_fits interfaces comp interface (section sheet) ∷
-      sections_are (suc comp) comps sheets i ∷ []
-      )
+  sections_are comp (interface ∷ comps) (sheet ∷ sheets) = λ i. all_hold (section_is comp interface sheet i ∷
+      interface_fits interfaces comp interface (section sheet) ∷ sections_are (suc comp) comps sheets i ∷ [])
 
 -- whether a program is well typed, by its plan: what follows computes
 abbrev pub quick_typed : Interfaces → List Sheet → Bool
-quick_typed interfaces sheets =
-    all_hold (
-    has_few_compartments (program interfaces sheets) ∷
-    has_distinct_names (program interfaces sheets) ∷
-    quick_sections interfaces 0 interfaces.comps sheets ∷
-    has_main (program interfaces sheets) ∷
-    has_one_main (program interfaces sheets) ∷ []
-    )
+quick_typed interfaces sheets = all_hold (has_few_compartments (program interfaces sheets) ∷ has_distinct_names
+    (program interfaces sheets) ∷ quick_sections interfaces 0 interfaces.comps sheets ∷ has_main
+    (program interfaces sheets) ∷ has_one_main (program interfaces sheets) ∷ [])
 
 pub typed_by_plan : (interfaces : Interfaces) (sheets : List Sheet) →
     is_well_typed (program interfaces sheets) ≡ quick_typed interfaces sheets
-typed_by_plan interfaces sheets = λ i.
-    all_hold (
-    has_few_compartments (program interfaces sheets) ∷
-    has_distinct_names (program interfaces sheets) ∷
-    sections_are interfaces 0 interfaces.comps sheets i ∷
-    has_main (program interfaces sheets) ∷
-    has_one_main (program interfaces sheets) ∷ []
-    )
+typed_by_plan interfaces sheets = λ i. all_hold (has_few_compartments (program interfaces sheets) ∷ has_distinct_names
+    (program interfaces sheets) ∷ sections_are interfaces 0 interfaces.comps sheets i ∷ has_main
+    (program interfaces sheets) ∷ has_one_main (program interfaces sheets) ∷ [])
 
 pub seven_is_typed : is_well_typed (program alone seven) ≡ true
 seven_is_typed = typed_by_plan alone seven

@@ -1,9 +1,9 @@
 -- The numbers of a legal trace's events stand for something.
-use Rattle.sc_event.proofs.Common.{Activation, All, Bool, Call, End, Event, In, Interfaces, IsKnown, IsSome, List, None}
-use Rattle.sc_event.proofs.Common.{Option, Out, Ret, Some, Standing, [], and_parts, awaits, comp_at, eqb-true}
-use Rattle.sc_event.proofs.Common.{export_at, false, false≢true, imports, is_allowed, is_legal_from, legal, length}
-use Rattle.sc_event.proofs.Common.{may_perform, may_return, option_and_then, option_map_or, performer, refl, resumed}
-use Rattle.sc_event.proofs.Common.{slice_get, stands_after, subst, sym, takes, true, ℕ, ◌==◌, ◌∷◌, ◌≡◌}
+use Rattle.sc_event.proofs.Common.{Activation, All, Bool, Call, End, Event, Interfaces, IsKnown, IsSome, List, None}
+use Rattle.sc_event.proofs.Common.{Option, Ret, Some, Standing, [], and_parts, awaits, comp_at, eqb-true, export_at}
+use Rattle.sc_event.proofs.Common.{false, false≢true, imports, is_allowed, is_legal_from, legal, length, may_perform}
+use Rattle.sc_event.proofs.Common.{may_return, option_and_then, option_map_or, performer, refl, resumed, slice_get}
+use Rattle.sc_event.proofs.Common.{stands_after, subst, sym, takes, true, ℕ, ◌==◌, ◌∷◌, ◌≡◌}
 use Rattle.std.proofs.lemmas.List.Elements.{All-from_recursion}
 use Rattle.std.specs.List.{AllByRecursion}
 use Rattle.sc_event.specs.declared.interface.Interface.{Interface}
@@ -24,12 +24,11 @@ module _ (interfaces : Interfaces) where
 
   -- an export has a compartment
   has_comp : (comp index : ℕ) → IsSome (export_at interfaces comp index) → IsComp comp
-  has_comp comp index = of _
-    where
-      of : (found : Option Interface) → IsSome (option_and_then (λ found. slice_get found.exports index) found) →
-          IsSome found
-      of None is = absurd (false≢true is)
-      of _ is = refl
+  has_comp comp index = of _ where
+    of : (found : Option Interface) → IsSome (option_and_then (λ found. slice_get found.exports index) found) →
+        IsSome found
+    of None is = absurd (false≢true is)
+    of _ is = refl
 
   awaited : (waiting : List Activation) (to : ℕ) → awaits waiting to ≡ true →
       AllByRecursion (λ a. IsComp a.comp) waiting → IsComp to
@@ -44,12 +43,10 @@ module _ (interfaces : Interfaces) where
       (mine, has_comp to index export, export)
   performed at (Ret from to value) may known mine = (
     mine,
-    awaited at.waiting to (and_parts (awaits at.waiting to)
-        (may_return interfaces from at.active.entry value) may).0 known.waiting,
+    awaited at.waiting to
+        (and_parts (awaits at.waiting to) (may_return interfaces from at.active.entry value) may).0 known.waiting,
   )
-  performed at (Out comp value) may known mine = mine
-  performed at (In comp value) may known mine = mine
-  performed at (End comp value) may known mine = mine
+  performed at _ may known mine = mine
 
   known_of : (at : Standing) (event : Event) → is_allowed interfaces at event ≡ true → IsAmong at →
       IsKnown interfaces event
@@ -65,14 +62,12 @@ module _ (interfaces : Interfaces) where
   among_after : (at : Standing) (event : Event) → IsKnown interfaces event → IsAmong at →
       StandsAmong (stands_after at event)
   among_after at (Call from to index args) is known = record { active = is.1; waiting = (known.active, known.waiting) }
-  among_after at (Ret from to value) is known = resume _ known.waiting
-    where
-      resume : (waiting : List Activation) → AllByRecursion (λ a. IsComp a.comp) waiting → StandsAmong (resumed waiting)
-      resume [] all = tt
-      resume _ all = record { active = all.0; waiting = all.1 }
-  among_after at (Out comp value) is known = known
-  among_after at (In comp value) is known = known
+  among_after at (Ret from to value) is known = resume _ known.waiting where
+    resume : (waiting : List Activation) → AllByRecursion (λ a. IsComp a.comp) waiting → StandsAmong (resumed waiting)
+    resume [] all = tt
+    resume _ all = record { active = all.0; waiting = all.1 }
   among_after at (End comp value) is known = tt
+  among_after at _ is known = known
 
   all_known : (from : Option Standing) (trace : List Event) → StandsAmong from →
       is_legal_from interfaces from trace ≡ true → AllByRecursion (IsKnown interfaces) trace

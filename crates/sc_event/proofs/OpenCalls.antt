@@ -1,10 +1,10 @@
 -- The open call that is found in a trace is the one by which the run stands where it stands.
-use Rattle.sc_event.proofs.Common.{Call, End, Event, HasEntered, IfSome, In, List, None, Option, Out, Ret, Some}
-use Rattle.sc_event.proofs.Common.{Standing, StandsBy, [], ap, arith, at_start, awaits, get_or, get_or_from_slice_get}
-use Rattle.sc_event.proofs.Common.{here_or, length, none-some, open_after, open_call, option_and_then, option_map_or}
-use Rattle.sc_event.proofs.Common.{refl, resumed, returned_before, same_Some, slice_get, slice_get-get_or}
-use Rattle.sc_event.proofs.Common.{slice_get_within, stands_after, stands_behind, subst, suc, sym, take, take_more}
-use Rattle.sc_event.proofs.Common.{zero, ℕ, ◌++◌, ◌+◌, ◌<◌, ◌==◌, ◌∙◌, ◌∷◌, ◌≡◌, ◌≤◌}
+use Rattle.sc_event.proofs.Common.{Call, End, Event, HasEntered, IfSome, List, None, Option, Ret, Some, Standing}
+use Rattle.sc_event.proofs.Common.{StandsBy, [], ap, arith, at_start, awaits, get_or, get_or_from_slice_get, here_or}
+use Rattle.sc_event.proofs.Common.{length, none-some, open_after, open_call, option_and_then, option_map_or, refl}
+use Rattle.sc_event.proofs.Common.{resumed, returned_before, same_Some, slice_get, slice_get-get_or, slice_get_within}
+use Rattle.sc_event.proofs.Common.{stands_after, stands_behind, subst, suc, sym, take, take_more, zero, ℕ, ◌++◌, ◌+◌}
+use Rattle.sc_event.proofs.Common.{◌<◌, ◌==◌, ◌∙◌, ◌∷◌, ◌≡◌, ◌≤◌}
 
 one_more : (trace : List Event) (n : ℕ) (event : Event) → slice_get trace n ≡ Some event →
     take (suc n) trace ≡ take n trace ++ event ∷ []
@@ -13,22 +13,20 @@ one_more trace n event is =
     ap (λ m. take m trace) count ∙ take_more trace n event (slice_get_within trace n event is) ∙
     ap (λ x. take n trace ++ x ∷ []) (get_or_from_slice_get trace n event event is)
 
-behind_last : (from : Option Standing) (earlier : List Event) (event : Event) →
-    stands_behind from (earlier ++ event ∷ []) ≡ option_and_then (λ at. stands_after at event)
-    (stands_behind from earlier)
-behind_last None [] event = refl
-behind_last (Some at) [] event = refl
-behind_last None (first ∷ earlier) event = refl
+behind_last : (from : Option Standing) (earlier : List Event) (event : Event) → stands_behind from
+    (earlier ++ event ∷ []) ≡ option_and_then (λ at. stands_after at event) (stands_behind from earlier)
 behind_last (Some at) (first ∷ earlier) event = behind_last _ earlier event
+behind_last (Some at) [] event = refl
+behind_last None [] event = refl
+behind_last None (first ∷ earlier) event = refl
 
-event_here : (trace : List Event) (place : ℕ) (event : Event) → place < length trace →
+pub event_here : (trace : List Event) (place : ℕ) (event : Event) → place < length trace →
     event ≡ get_or trace place event → slice_get trace place ≡ Some event
 event_here trace place event within is = slice_get-get_or trace place event within ∙ ap (λ e. Some e) (sym is)
 
 -- the search goes on before an event that is no open call
 pub goes_on : (trace : List Event) (left place returned before : ℕ) (event : Event) → left ≡ suc place →
-    place < length trace →
-    event ≡ get_or trace place event → returned_before event returned ≡ Some before →
+    place < length trace → event ≡ get_or trace place event → returned_before event returned ≡ Some before →
     open_call trace left returned ≡ open_call trace place before
 goes_on trace left place returned before event e within is found =
     rw (e, event_here trace place event within is, found) refl
@@ -36,10 +34,7 @@ goes_on trace left place returned before event e within is found =
 pub few : (event : Event) (returned before : ℕ) → returned_before event returned ≡ Some before → before ≤ suc returned
 few (Call from to index args) zero before is = absurd (none-some before is)
 few (Call from to index args) (suc returned) before is = omega (arith, same_Some _ before is)
-few (Ret from to value) returned before is = omega (arith, same_Some _ before is)
-few (Out comp value) returned before is = omega (arith, same_Some _ before is)
-few (In comp value) returned before is = omega (arith, same_Some _ before is)
-few (End comp value) returned before is = omega (arith, same_Some _ before is)
+few _ returned before is = omega (arith, same_Some _ before is)
 
 -- where the run stands once so many more calls have returned
 abbrev back : (returned : ℕ) → Standing → Option Standing
@@ -70,16 +65,13 @@ module _ (main : ℕ) (trace : List Event) where
       again _ earlier then_at was (subst (λ s. back (suc returned) s ≡ Some then_at) (sym (same_Some _ _ next)) up)
   found_by count (Ret from to value) is again earlier was returned at then_at next up =
       again _ earlier then_at was (ap (option_and_then _) next ∙ up)
-  found_by count (Out comp value) is again earlier was returned at then_at next up =
-      again _ earlier then_at was (subst (λ s. back returned s ≡ Some then_at) (sym (same_Some _ _ next)) up)
-  found_by count (In comp value) is again earlier was returned at then_at next up =
-      again _ earlier then_at was (subst (λ s. back returned s ≡ Some then_at) (sym (same_Some _ _ next)) up)
   found_by count (End comp value) is again earlier was returned at then_at next up = absurd (none-some at next)
+  found_by count _ is again earlier was returned at then_at next up =
+      again _ earlier then_at was (subst (λ s. back returned s ≡ Some then_at) (sym (same_Some _ _ next)) up)
 
   found_next : (count : ℕ) (event : Event) → slice_get trace count ≡ Some event → Finds count →
-      (was : Option Standing) → standing count ≡ was →
-      (returned : ℕ) (at then_at : Standing) → option_and_then (λ s. stands_after s event) was ≡ Some at →
-      back returned at ≡ Some then_at →
+      (was : Option Standing) → standing count ≡ was → (returned : ℕ) (at then_at : Standing) →
+      option_and_then (λ s. stands_after s event) was ≡ Some at → back returned at ≡ Some then_at →
       StandsBy main trace (here_or count (open_call trace count) (returned_before event returned)) then_at
   found_next count event is again None was returned at then_at next up = absurd (none-some at next)
   found_next count event is again (Some earlier) was returned at then_at next up =
@@ -108,12 +100,8 @@ module _ (main : ℕ) (trace : List Event) where
 
     waits_by : (event : Option Event) (earlier : Standing) → HasEntered event earlier at →
         at.waiting ≡ earlier.active ∷ earlier.waiting
-    waits_by None earlier h = absurd h
     waits_by (Some (Call from to index args)) earlier h = ap (λ s. s.waiting) h
-    waits_by (Some (Ret from to value)) earlier h = absurd h
-    waits_by (Some (Out comp value)) earlier h = absurd h
-    waits_by (Some (In comp value)) earlier h = absurd h
-    waits_by (Some (End comp value)) earlier h = absurd h
+    waits_by _ earlier h = absurd h
 
     pub awaited : (comp to : ℕ) → StandsBy main trace (Some call) at →
         ((earlier : Standing) → StandsBy main trace (open_call trace call 0) earlier → comp ≡ earlier.active.comp) →
@@ -129,17 +117,13 @@ module _ (main : ℕ) (trace : List Event) where
 
   -- the run stands by the open call after each event
   pub after_by : (pending : Option ℕ) (place : ℕ) (event : Event) (at next : Standing) →
-      IfSome pending (λ call. call < length trace) →
-      slice_get trace place ≡ Some event → standing place ≡ Some at → StandsBy main trace pending at →
-      stands_after at event ≡ Some next →
+      IfSome pending (λ call. call < length trace) → slice_get trace place ≡ Some event → standing place ≡ Some at →
+      StandsBy main trace pending at → stands_after at event ≡ Some next →
       StandsBy main trace (open_after trace pending place event) next
   after_by pending place (Call from to index args) at next within is come by e =
       (at, come, subst (λ o. HasEntered o at next) (sym is) (sym (same_Some _ _ e)))
   after_by None place (Ret from to value) at next within is come by e =
       absurd (none-some next (subst (λ s. resumed s.waiting ≡ Some next) (same_Some _ _ by) e))
   after_by (Some call) place (Ret from to value) at next within is come by e = outer_by call at within next by e
-  after_by pending place (Out comp value) at next within is come by e =
-      subst (StandsBy main trace pending) (same_Some _ _ e) by
-  after_by pending place (In comp value) at next within is come by e =
-      subst (StandsBy main trace pending) (same_Some _ _ e) by
   after_by pending place (End comp value) at next within is come by e = absurd (none-some next e)
+  after_by pending place _ at next within is come by e = subst (StandsBy main trace pending) (same_Some _ _ e) by

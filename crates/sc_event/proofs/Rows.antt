@@ -12,9 +12,8 @@ row_of at number event = record { entry = at.active.entry; number = number; acti
 module _ (comp : ℕ) (event : Event) (later : List Event) (at : Standing) (own : (performer event == comp) ≡ true) where
   -- what is left of the rows behind so many
   abbrev IsNext : (number count : ℕ) → List Row → Type 0
-  IsNext number count rows =
-      drop count rows ≡ row_of at (number + count) event ∷
-      rows_from comp (suc (number + count)) (stands_after at event) later
+  IsNext number count rows = drop count rows ≡ row_of at (number + count) event ∷ rows_from comp (suc (number + count))
+      (stands_after at event) later
 
   -- one row more stands in front
   one_before : (number count : ℕ) (row : Row) (rows : List Row) → IsNext (suc number) count rows →
@@ -37,18 +36,16 @@ module _ (comp : ℕ) (event : Event) (later : List Event) (at : Standing) (own 
       ap (λ n. row_of at n event ∷ rows_from comp (suc n) (stands_after at event) later) none
   behind number (first ∷ earlier) None e = absurd (none-some at e)
   behind number (first ∷ earlier) (Some s) e =
-      split (performer first == comp) (behind _ earlier (stands_after s first) e) (behind number earlier _ e)
-    where
-      split : (mine : Bool) → IsNext (suc number) (count_of comp earlier)
-          (rows_from comp (suc number) (stands_after s first) (earlier ++ event ∷ later)) →
-          IsNext number (count_of comp earlier) (rows_from comp number (stands_after s first)
-          (earlier ++ event ∷ later)) →
-          IsNext number (length (cond mine (first ∷ filter (λ event. performer event == comp) earlier)
-          (filter (λ event. performer event == comp) earlier)))
-          (if mine then row_of s number first ∷ rows_from comp (suc number) (stands_after s first)
-          (earlier ++ event ∷ later) else rows_from comp number (stands_after s first) (earlier ++ event ∷ later))
-      split true with_it without = one_before number (count_of comp earlier) (row_of s number first) _ with_it
-      split false with_it without = without
+      split (performer first == comp) (behind _ earlier (stands_after s first) e) (behind number earlier _ e) where
+        split : (mine : Bool) → IsNext (suc number) (count_of comp earlier)
+            (rows_from comp (suc number) (stands_after s first) (earlier ++ event ∷ later)) → IsNext number
+            (count_of comp earlier) (rows_from comp number (stands_after s first) (earlier ++ event ∷ later)) → IsNext
+            number (length (cond mine (first ∷ filter (λ event. performer event == comp) earlier)
+            (filter (λ event. performer event == comp) earlier))) (if mine then row_of s number first ∷ rows_from comp
+            (suc number) (stands_after s first) (earlier ++ event ∷ later) else rows_from comp number
+            (stands_after s first) (earlier ++ event ∷ later))
+        split true with_it without = one_before number (count_of comp earlier) (row_of s number first) _ with_it
+        split false with_it without = without
 
 -- behind its own events so far, the rows of a compartment begin with its next event, and the function that is active
 -- there

@@ -1,16 +1,15 @@
 -- Libraries that agree function by function run the same, also where compartments perform scripts.
-use Rattle.sc_laws.proofs.Common.{Action, AgreeingRunAlike, BehavioursAgree, Blamed, BodiesAgree, Body, Bool, Call}
-use Rattle.sc_laws.proofs.Common.{CallTarget, CallsAgree, Cross, Ended, EventsOut, Function, FunctionsAgree, Here}
-use Rattle.sc_laws.proofs.Common.{Input, LibrariesAgree, Library, List, Main, Meets, Memory, None, Option, Output, Own}
-use Rattle.sc_laws.proofs.Common.{Piece, PiecesAgree, Reached, Roles, Row, RunEnd, RunsAgree, Some, SourceRun, State}
-use Rattle.sc_laws.proofs.Common.{Step, Stopped, TurnsOut, Value, Word, [], acts, and_then, ap, asks, back_cross}
-use Rattle.sc_laws.proofs.Common.{back_own, begun, call_cross, call_own, called, calls, done, false, first_state, found}
-use Rattle.sc_laws.proofs.Common.{function, if◌then◌else◌, is_number, is_some, length, map, may_call, nat_le, nat_lt}
-use Rattle.sc_laws.proofs.Common.{performs, piece_without_line, reaches, refl, run_by, run_in, run_step, run_to}
-use Rattle.sc_laws.proofs.Common.{scripted_step, stopped_at, subst, suc, sym, take, true, within, without_line, zero, ℕ}
-use Rattle.sc_laws.proofs.Common.{◌∙◌, ◌∷◌, ◌≡◌}
+use Rattle.sc_laws.proofs.Common.{Action, AgreeingRunAlike, BehavioursAgree, BodiesAgree, Body, Bool, Call, CallTarget}
+use Rattle.sc_laws.proofs.Common.{CallsAgree, Cross, Ended, EventsOut, Function, FunctionsAgree, Here, Input}
+use Rattle.sc_laws.proofs.Common.{LibrariesAgree, Library, List, Main, Meets, Memory, None, Option, Output, Own, Piece}
+use Rattle.sc_laws.proofs.Common.{PiecesAgree, Reached, Roles, Row, RunEnd, RunsAgree, Some, SourceRun, State, Step}
+use Rattle.sc_laws.proofs.Common.{Stopped, Value, Word, [], acts, and_then, ap, asks, back_cross, back_own, begun}
+use Rattle.sc_laws.proofs.Common.{call_cross, call_own, called, calls, done, false, first_state, found, function}
+use Rattle.sc_laws.proofs.Common.{if◌then◌else◌, is_number, is_some, length, map, may_call, nat_le, nat_lt, performs}
+use Rattle.sc_laws.proofs.Common.{piece_without_line, reaches, refl, run_by, run_in, run_step, run_to, scripted_step}
+use Rattle.sc_laws.proofs.Common.{stopped_at, subst, suc, sym, take, true, within, without_line, zero, ℕ, ◌∙◌, ◌∷◌, ◌≡◌}
 use Rattle.sc_event.specs.declared.row.Action.TheVariants as act
-use Rattle.sc_laws.proofs.Libraries.{may_call_same}
+use Rattle.sc_laws.proofs.Twins.{may_call_same}
 
 pub itself : {V : Type 0} (o : Piece V) → PiecesAgree o o
 itself o = record { same = refl }
@@ -32,18 +31,16 @@ then_agree o p k l h x = record {
 if_agree : {V : Type 0} (b c : Bool) (o p o' p' : Piece V) → b ≡ c → PiecesAgree o p → PiecesAgree o' p' →
     PiecesAgree (if b then o else o') (if c then p else p')
 if_agree true true o p o' p' is h k = h
-if_agree true false o p o' p' is h k = absurd (cc)
-if_agree false true o p o' p' is h k = absurd (cc)
 if_agree false false o p o' p' is h k = k
+if_agree _ _ o p o' p' is h k = absurd (cc)
 
 found_agree : {V : Type 0} (m n : Option V) (s : State) → m ≡ n → PiecesAgree (found m s) (found n s)
 found_agree m n s is = record { same = ap (λ x. piece_without_line (found x s)) is }
 
 both_there : (f g : Option Function) → Meets FunctionsAgree f g → is_some f ≡ is_some g
 both_there None None h = refl
-both_there None (Some g) h = absurd h
-both_there (Some f) None h = absurd h
 both_there (Some f) (Some g) h = refl
+both_there _ _ h = absurd h
 
 module _ (L M : Library) (agree : LibrariesAgree L M) where
   -- the same calls may be made
@@ -62,10 +59,9 @@ module _ (L M : Library) (agree : LibrariesAgree L M) where
         (and_then (found g s) (λ g s. and_then (other number (record { comp = comp; first = length (s.memory comp) })
         (begun comp g args s)) (λ v t. back' v (done comp g (length (s.memory comp)) t))))
     runs_there comp number args back back' b s None None h = itself _
-    runs_there comp number args back back' b s None (Some g) h = absurd h
-    runs_there comp number args back back' b s (Some f) None h = absurd h
     runs_there comp number args back back' b s (Some f) (Some g) h =
         rw (h.cells, h.room) (then_agree _ _ _ _ (bodies number _ _) (λ v t. b v _))
+    runs_there comp number args back back' b s _ _ h = absurd h
 
     runs_in : (comp number : ℕ) (args : List Value) (back back' : Option Value → State → Piece (Option Value)) →
         ((v : Option Value) (s : State) → PiecesAgree (back v s) (back' v s)) → (s : State) →
@@ -85,9 +81,8 @@ module _ (L M : Library) (agree : LibrariesAgree L M) where
     pub cross_agree : (from to index : ℕ) (args : List Value) (s : State) →
         PiecesAgree (call_cross L body from to index args s) (call_cross M other from to index args s)
     cross_agree from to index args s =
-        then_agree _ _ _ _ (found_agree _ _ s (agree.entered to _)) (λ number s.
-        runs_in to number _ (back_cross L.interfaces from to index) (back_cross M.interfaces from to index)
-        (back_agree from to index) _)
+        then_agree _ _ _ _ (found_agree _ _ s (agree.entered to _)) (λ number s. runs_in to number _
+        (back_cross L.interfaces from to index) (back_cross M.interfaces from to index) (back_agree from to index) _)
 
     called_agree : CallsAgree (called L body) (called M other)
     called_agree from (Own number) args s = then_agree _ _ _ _ (itself _) (λ _ s. own_agree from number args s)
@@ -96,17 +91,15 @@ module _ (L M : Library) (agree : LibrariesAgree L M) where
     called_agree from Output args s = itself _
 
     pub calls_agree : CallsAgree (calls L body) (calls M other)
-    calls_agree from target args s =
-        if_agree (may_call L from target args) (may_call M from target args) _ _ _ _ (may_same from target args)
-        (called_agree from target args s) (itself _)
+    calls_agree from target args s = if_agree (may_call L from target args) (may_call M from target args) _ _ _ _
+        (may_same from target args) (called_agree from target args s) (itself _)
 
     does_there : (here : Here) (s : State) (f g : Option Function) → Meets FunctionsAgree f g →
         PiecesAgree (and_then (found f s) (λ f s. f.does (calls L body) here s))
         (and_then (found g s) (λ g s. g.does (calls M other) here s))
     does_there here s None None h = itself _
-    does_there here s None (Some g) h = absurd h
-    does_there here s (Some f) None h = absurd h
     does_there here s (Some f) (Some g) h = h.does _ _ calls_agree here s
+    does_there here s _ _ h = absurd h
 
     pub step_agree : BodiesAgree (run_step L body) (run_step M other)
     step_agree number here s = does_there here s (function L _ number) (function M _ number) (agree.functions _ number)
@@ -114,9 +107,8 @@ module _ (L M : Library) (agree : LibrariesAgree L M) where
     -- scripts
     asks_agree : (comp : ℕ) (target : CallTarget) (args : List Value) (s : State) →
         PiecesAgree (asks L body comp target args s) (asks M other comp target args s)
-    asks_agree comp target args s =
-        if_agree (may_call L comp target args) (may_call M comp target args) _ _ _ _ (may_same comp target args)
-        (calls_agree comp target args s) (itself _)
+    asks_agree comp target args s = if_agree (may_call L comp target args) (may_call M comp target args) _ _ _ _
+        (may_same comp target args) (calls_agree comp target args s) (itself _)
 
     acts_agree : (action : Action) (next next' again again' : State → Piece (Option Value)) (comp : ℕ) (s : State) →
         ((s : State) → PiecesAgree (next s) (next' s)) → ((s : State) → PiecesAgree (again s) (again' s)) →
@@ -132,9 +124,8 @@ module _ (L M : Library) (agree : LibrariesAgree L M) where
 
     pub performs_agree : (rows : List Row) → BodiesAgree (performs L body rows) (performs M other rows)
     performs_agree [] number here s = itself _
-    performs_agree (row ∷ rest) number here s =
-        if_agree (is_number number (L.entered _ _)) (is_number number (M.entered _ _)) _ _ _ _
-        (ap (is_number number) (agree.entered _ _))
+    performs_agree (row ∷ rest) number here s = if_agree (is_number number (L.entered _ _))
+        (is_number number (M.entered _ _)) _ _ _ _ (ap (is_number number) (agree.entered _ _))
         (acts_agree row.action _ _ _ _ here.comp s (λ s. performs_agree rest number here s) (λ s. bodies number here s))
         (itself _)
 
@@ -148,65 +139,40 @@ module _ (L M : Library) (agree : LibrariesAgree L M) where
 
   pub scripted_agree : (roles : Roles) (step to : Step) → StepsAgree step to →
       StepsAgree (scripted_step L roles step) (scripted_step M roles to)
-  scripted_agree roles step to k body other bodies number here s =
-      if_agree (roles.scripted _) _ _ _ _ _ refl (performs_agree body other bodies _ number here s)
-      (k body other bodies number here s)
+  scripted_agree roles step to k body other bodies number here s = if_agree (roles.scripted _) _ _ _ _ _ refl
+      (performs_agree body other bodies _ number here s) (k body other bodies number here s)
 
-  pub start_agree : (step to : Step) → StepsAgree step to → (main turns : ℕ) (s : State) →
-      PiecesAgree (and_then (found (L.entered main Main) s) (λ number s. call_own L (within step (suc turns)) main
-      number [] s))
+  pub start_agree : (step to : Step) → StepsAgree step to → (main turns : ℕ) (s : State) → PiecesAgree
+      (and_then (found (L.entered main Main) s) (λ number s. call_own L (within step (suc turns)) main number [] s))
       (and_then (found (M.entered main Main) s) (λ number s. call_own M (within to (suc turns)) main number [] s))
-  start_agree step to k main turns s =
-      then_agree _ _ _ _ (found_agree _ _ s (agree.entered main Main)) (λ number s.
+  start_agree step to k main turns s = then_agree _ _ _ _ (found_agree _ _ s (agree.entered main Main)) (λ number s.
       own_agree (within step (suc turns)) (within to (suc turns)) (within_agree step to k (suc turns)) main number [] s)
 
 -- whole runs
 
 same_reach : (events : ℕ) (run other : SourceRun) (end end' : RunEnd) → run.trace ≡ other.trace →
-    without_line end ≡ without_line end' →
-    reaches events run end ≡ reaches events other end'
+    without_line end ≡ without_line end' → reaches events run end ≡ reaches events other end'
 same_reach events run other Ended Ended is h = ap (λ t. nat_lt events (length t)) is
-same_reach events run other Ended (Blamed c x l) is h = absurd (cc)
-same_reach events run other Ended TurnsOut is h = absurd (cc)
-same_reach events run other Ended EventsOut is h = absurd (cc)
-same_reach events run other (Blamed c x l) Ended is h = absurd (cc)
-same_reach events run other (Blamed c x l) (Blamed c' x' l') is h = ap (λ t. nat_le events (length t)) is
-same_reach events run other (Blamed c x l) TurnsOut is h = ap (λ t. nat_le events (length t)) is
-same_reach events run other (Blamed c x l) EventsOut is h = ap (λ t. nat_le events (length t)) is
-same_reach events run other TurnsOut Ended is h = absurd (cc)
-same_reach events run other TurnsOut (Blamed c x l) is h = ap (λ t. nat_le events (length t)) is
-same_reach events run other TurnsOut TurnsOut is h = ap (λ t. nat_le events (length t)) is
-same_reach events run other TurnsOut EventsOut is h = ap (λ t. nat_le events (length t)) is
-same_reach events run other EventsOut Ended is h = absurd (cc)
-same_reach events run other EventsOut (Blamed c x l) is h = ap (λ t. nat_le events (length t)) is
-same_reach events run other EventsOut TurnsOut is h = ap (λ t. nat_le events (length t)) is
-same_reach events run other EventsOut EventsOut is h = ap (λ t. nat_le events (length t)) is
+same_reach events run other Ended _ is h = absurd (cc)
+same_reach events run other _ Ended is h = absurd (cc)
+same_reach events run other _ _ is h = ap (λ t. nat_le events (length t)) is
 
 if_shown : (b c : Bool) (run other run' other' : SourceRun) → b ≡ c → BehavioursAgree run other →
-    BehavioursAgree run' other' →
-    BehavioursAgree (if b then run else run') (if c then other else other')
+    BehavioursAgree run' other' → BehavioursAgree (if b then run else run') (if c then other else other')
 if_shown true true run other run' other' is h k = h
-if_shown true false run other run' other' is h k = absurd (cc)
-if_shown false true run other run' other' is h k = absurd (cc)
 if_shown false false run other run' other' is h k = k
+if_shown _ _ run other run' other' is h k = absurd (cc)
 
 pub stopped_agree : (events : ℕ) (run other : SourceRun) → BehavioursAgree run other →
     BehavioursAgree (stopped_at events run) (stopped_at events other)
 stopped_agree events run other h =
-    if_shown (reaches events run run.end) (reaches events other _) (record {
-      trace = take events _;
-      end = EventsOut;
-    }) (record { trace = take events _; end = EventsOut }) run other
-    (same_reach events run other run.end _ h.trace h.end) (record {
-      trace = ap (take events) h.trace;
-      end = refl;
-    }) h
+    if_shown (reaches events run run.end) (reaches events other _) (record { trace = take events _; end = EventsOut })
+    (record { trace = take events _; end = EventsOut }) run other (same_reach events run other run.end _ h.trace h.end)
+    (record { trace = ap (take events) h.trace; end = refl }) h
 
 twice : (end : RunEnd) → without_line (without_line end) ≡ without_line end
 twice Ended = refl
-twice (Blamed comp cause line) = refl
-twice TurnsOut = refl
-twice EventsOut = refl
+twice _ = refl
 
 -- what a run shows, without the line, is told by its piece without the line
 trace_of : (main : ℕ) (o : Piece (Option Value)) →
@@ -241,9 +207,8 @@ run_agree main o p h = record {
 pub runs_agree : (L M : Library) (agree : LibrariesAgree L M) (step to : Step) → StepsAgree L M agree step to →
     (globals : Memory) (inputs : List ℕ) (turns : ℕ) →
     RunsAgree (run_by L step globals inputs turns) (run_by M to globals inputs turns)
-runs_agree L M agree step to k globals inputs turns =
-    subst (λ i. RunsAgree (run_by L step globals inputs turns)
-    (run_to i.main (and_then (found (M.entered i.main Main) (first_state globals inputs turns))
+runs_agree L M agree step to k globals inputs turns = subst (λ i. RunsAgree (run_by L step globals inputs turns) (run_to
+    i.main (and_then (found (M.entered i.main Main) (first_state globals inputs turns))
     (λ number s. call_own M (within to (suc turns)) i.main number [] s)))) agree.interfaces
     (run_agree L.interfaces.main _ _ (start_agree L M agree step to k L.interfaces.main turns _))
 

@@ -1,16 +1,20 @@
 -- No compartment that performs is blamed, whatever the trace is, and only compartments that there are.
-use Rattle.sc_laws.proofs.Common.{Action, BadType, Blamed, Body, Bool, Call, CallTarget, Cause, Cross, Ended, EventsOut}
-use Rattle.sc_laws.proofs.Common.{Function, Here, Input, Kept, Library, List, Main, Memory, Obedient, Option, Output}
-use Rattle.sc_laws.proofs.Common.{Own, Piece, Property, Reached, Roles, Row, RunEnd, Some, SourceRun, State, Stopped}
-use Rattle.sc_laws.proofs.Common.{TurnsOut, Value, Word, [], acts, arith, asks, back_cross, back_own, call_cross}
-use Rattle.sc_laws.proofs.Common.{call_own, called, calls, false, first_state, found_kept, function, if◌then◌else◌}
-use Rattle.sc_laws.proofs.Common.{length, map, performs, refl, roles_run, rows_left, run_by, run_in, run_step, run_to}
-use Rattle.sc_laws.proofs.Common.{scripted_step, slice_get, slice_index_or, stopped_at, subst, suc, take, then_kept}
-use Rattle.sc_laws.proofs.Common.{true, turn, turn_of, within, zero, ℕ, ◌<◌, ◌∷◌, ◌≡◌}
-use Rattle.sc_event.specs.declared.row.Action.TheVariants as act
-use Rattle.sc_laws.proofs.Growing.{BodyGoes, calls_go, within_goes}
+use Rattle.sc_laws.proofs.Common.{AreFresh, Blamed, Body, Bool, CallTarget, Cause, ChainRises, Cross, Ended, Event}
+use Rattle.sc_laws.proofs.Common.{EventsOut, Function, HasChain, Here, Input, IsBlamedOutside, IsChain, IsRising}
+use Rattle.sc_laws.proofs.Common.{IsWithin, Kept, Library, Link, List, Main, Memory, Obedient, Option, Output, Own}
+use Rattle.sc_laws.proofs.Common.{PassesBlame, Piece, Property, Reached, Roles, RunEnd, Set, Some, SourceRun, State}
+use Rattle.sc_laws.proofs.Common.{Stopped, TurnsOut, Value, [], ap, ap₂, arith, back_cross, back_own, call_cross}
+use Rattle.sc_laws.proofs.Common.{call_own, called, cases_eq, eq-eqb, eqb-true, false, first_state, found_kept}
+use Rattle.sc_laws.proofs.Common.{function, if◌then◌else◌, leb-false, length, length-append, longer, nat_le, ne_eqb}
+use Rattle.sc_laws.proofs.Common.{nobody, performed_by, reaches, refl, roles_in, roles_run, run_by, run_in, run_step}
+use Rattle.sc_laws.proofs.Common.{run_to, scripted_step, slice_get, slice_index_or, stopped_at, subst, suc, sym}
+use Rattle.sc_laws.proofs.Common.{then_kept, true, turn, turn_of, turnless, with, within, zero, ℕ, ⊎_elim, ◌++◌, ◌+◌}
+use Rattle.sc_laws.proofs.Common.{◌<◌, ◌==◌, ◌||◌, ◌∙◌, ◌∷◌, ◌≡◌, ◌≤◌, ◌⊎◌}
+use Rattle.sc_laws.proofs.Growing.{BodyGoes, within_goes}
 use Rattle.sc_laws.proofs.Matching.{scripted_goes_on}
-use Rattle.sc_laws.proofs.Keeping.{IsKept, function_keeps}
+use Rattle.sc_laws.proofs.Keeping.{IsKept, scripted_keeps}
+use Rattle.sc_laws.proofs.FollowingRuns.{passes_blames}
+use Rattle.sc_laws.proofs.Runs.{shown}
 
 -- that a compartment may be blamed
 module _ (Fair : ℕ → Type 0) where
@@ -39,9 +43,8 @@ module _ (Fair : ℕ → Type 0) where
     run_spares : (comp number : ℕ) (args : List Value) (back : Option Value → State → Piece (Option Value)) →
         ((v : Option Value) (s : State) → Kept sparing (back v s)) → (s : State) →
         Kept sparing (run_in library body comp number args back s)
-    run_spares comp number args back b s =
-        found_kept sparing (function library comp number) s _ tt (λ f is. then_kept sparing (body number _ _) _
-        (spares number _ _) (λ v t h. b v _))
+    run_spares comp number args back b s = found_kept sparing (function library comp number) s _ tt
+        (λ f is. then_kept sparing (body number _ _) _ (spares number _ _) (λ v t h. b v _))
 
     cross_spares : (from to index : ℕ) (args : List Value) (s : State) →
         Kept sparing (call_cross library body from to index args s)
@@ -60,75 +63,20 @@ module _ (Fair : ℕ → Type 0) where
     called_spares from Input args s = record { after = tt }
     called_spares from Output args s = record { after = tt }
 
-    calls_spare : (from : ℕ) → Fair from → (target : CallTarget) (args : List Value) (s : State) →
-        Kept sparing (calls library body from target args s)
-    calls_spare from clear target args s = by _ where
-      by : (b : Bool) →
-          Kept sparing (if b then called library body from target args s else Stopped (Blamed from BadType 0) s)
-      by true = called_spares from target args s
-      by false = record { after = clear }
-
-    asks_spare : (comp : ℕ) (target : CallTarget) (args : List Value) (s : State) →
-        Kept sparing (asks library body comp target args s)
-    asks_spare comp target args s = by _ where
-      by : (b : Bool) →
-          Kept sparing (if b then (if b then called library body comp target args s else Stopped (Blamed comp BadType 0)
-          s) else Stopped TurnsOut s)
-      by true = called_spares comp target args s
-      by false = record { after = tt }
-
-    run_step_spares : Obedient library → BodyGoes body → (number : ℕ) (here : Here) (s : State) →
-        ((f : Function) → function library here.comp number ≡ Some f → Fair here.comp) →
-        Kept sparing (run_step library body number here s)
-    run_step_spares obedient goes number here s fair =
-        found_kept sparing (function library _ number) s (λ f s. f.does _ here s) tt (λ f is.
-        function_keeps library obedient _ number f is sparing here (is_kept here (fair f is)) _
-        (calls_go library body goes) (λ target args s h. calls_spare _ (fair f is) target args s) s tt)
-
-    acts_spare : (action : Action) (next again : State → Piece (Option Value)) → ((s : State) → Kept sparing (next s)) →
-        ((s : State) → Kept sparing (again s)) → (comp : ℕ) (s : State) →
-        Kept sparing (acts library body action next again comp s)
-    acts_spare (act.Call to index args) next again n a comp s =
-        then_kept sparing (asks library body comp (Cross to index) (map _ args) s)
-        _ (asks_spare comp (Cross to index) (map _ args) s) (λ v s h. a s)
-    acts_spare (act.Ret v) next again n a comp s = record { after = tt }
-    acts_spare (act.Out w) next again n a comp s =
-        then_kept sparing (asks library body comp Output (Word w ∷ []) s) _ (asks_spare comp Output (Word w ∷ []) s)
-        (λ v s h. n s)
-    acts_spare (act.In w) next again n a comp s =
-        then_kept sparing (asks library body comp Input [] s) _ (asks_spare comp Input [] s) (λ v s h. n s)
-    acts_spare (act.End w) next again n a comp s = record { after = tt }
-
-    performs_spare : (rows : List Row) → BodySpares (performs library body rows)
-    performs_spare [] number here s = record { after = tt }
-    performs_spare (row ∷ rest) number here s =
-        by (performs_spare rest number here) _ where
-          by : ((s : State) → Kept sparing (performs library body rest number here s)) → (b : Bool) →
-              Kept sparing (if b then acts library body row.action (performs library body rest number here)
-              (body number here) here.comp s else Stopped TurnsOut s)
-          by next true = acts_spare _ _ _ next (spares number here) _ s
-          by next false = record { after = tt }
-
-  module _ (library : Library) (obedient : Obedient library) (roles : Roles)
-      (fair : (comp number : ℕ) (f : Function) → roles.scripted comp ≡ false → function library comp number ≡ Some f →
-      Fair comp) where
+  module _ (library : Library) (obedient : Obedient library) (roles : Roles) (fair : (comp number : ℕ) (f : Function) →
+      roles.scripted comp ≡ false → function library comp number ≡ Some f → Fair comp) where
     step_spares : (body : Body) → BodyGoes body → BodySpares body →
         BodySpares (scripted_step library roles (run_step library) body)
-    step_spares body goes spares number here s = by (roles.scripted _) refl where
-      by : (b : Bool) → roles.scripted here.comp ≡ b →
-          Kept sparing (if b then performs library body (rows_left roles here.comp s.trace) number here s else run_step
-          library body number here s)
-      by true is = performs_spare library body spares _ number here s
-      by false is =
-          run_step_spares library body spares obedient goes number here s
-          (λ f found_f. fair here.comp number f is found_f)
+    step_spares body goes spares number here s = scripted_keeps sparing library body here
+        (λ target args s may h. called_spares library body spares here.comp target args s) number (λ s h. tt)
+        (λ s h. spares number here s) roles obedient goes
+        (λ plain f found_f. is_kept here (fair here.comp number f plain found_f)) s tt
 
     within_spares : (n : ℕ) → BodySpares (within (scripted_step library roles (run_step library)) n)
     within_spares zero number here s = record { after = tt }
-    within_spares (suc n) number here s =
-        step_spares (within (scripted_step library roles (run_step library)) n)
-        (within_goes (scripted_step library roles _) (scripted_goes_on library obedient roles) n)
-        (within_spares n) number here s
+    within_spares (suc n) number here s = step_spares (within (scripted_step library roles (run_step library)) n)
+        (within_goes (scripted_step library roles _) (scripted_goes_on library obedient roles) n) (within_spares n)
+        number here s
 
     run_to_spares : (main : ℕ) (piece : Piece (Option Value)) → Kept sparing piece →
         Spares (run_to main piece).behaviour.end
@@ -145,7 +93,7 @@ module _ (Fair : ℕ → Type 0) where
 
   stopped_spares : (events : ℕ) (run : SourceRun) → Spares run.end → Spares (stopped_at events run).end
   stopped_spares events run h = by _ where
-    by : (b : Bool) → Spares (if b then record { trace = take events run.trace; end = EventsOut } else run).end
+    by : (b : Bool) → Spares (shown events b run).end
     by true = tt
     by false = h
 
@@ -153,9 +101,8 @@ module _ (library : Library) (obedient : Obedient library) (globals : Memory) (i
     (roles : Roles) (comp : ℕ) (cause : Cause) (line : ℕ)
     (ends : (stopped_at events (roles_run library globals inputs turns roles).behaviour).end ≡ Blamed comp cause line)
   where
-    fair_blame : (Fair : ℕ → Type 0) →
-        ((comp number : ℕ) (f : Function) → roles.scripted comp ≡ false → function library comp number ≡ Some f →
-        Fair comp) → Fair comp
+    fair_blame : (Fair : ℕ → Type 0) → ((comp number : ℕ) (f : Function) → roles.scripted comp ≡ false →
+        function library comp number ≡ Some f → Fair comp) → Fair comp
     fair_blame Fair fair =
         subst (Spares Fair) ends (stopped_spares Fair events (roles_run library globals inputs turns roles).behaviour
         (run_by_spares Fair library obedient roles fair globals inputs turns))
@@ -164,11 +111,151 @@ module _ (library : Library) (obedient : Obedient library) (globals : Memory) (i
     nobody_is_blamed = fair_blame (λ c. roles.scripted c ≡ false) (λ c number f plain found_f. plain)
 
     pub blamed_is_there : comp < length library.functions
-    blamed_is_there =
-        fair_blame (λ c. c < length library.functions)
+    blamed_is_there = fair_blame (λ c. c < length library.functions)
         (λ c number f plain found_f. listed library.functions c number f found_f) where
           listed : (functions : List (List Function)) (c number : ℕ) (f : Function) →
               slice_get (slice_index_or functions c []) number ≡ Some f → c < length functions
           listed [] c number f is = absurd (cc)
           listed (x ∷ xs) zero number f is = omega arith
           listed (x ∷ xs) (suc c) number f is = omega (arith, listed xs c number f is)
+
+-- The links of a chain come one after another, and a chain is found.
+
+-- a run that is blamed has fewer events than were allowed
+early : (n : ℕ) (x : SourceRun) (comp : ℕ) (cause : Cause) (line : ℕ) → (stopped_at n x).end ≡ Blamed comp cause line →
+    length (stopped_at n x).trace < n
+early n x comp cause line ends = by _ refl ends where
+  few : (end : RunEnd) → end ≡ Blamed comp cause line → reaches n x end ≡ false → length x.trace < n
+  few end is stays = let test : nat_le n _ ≡ false = ap (reaches n x) (sym is) ∙ stays in leb-false n _ test
+
+  by : (b : Bool) → reaches n x x.end ≡ b → (shown n b x).end ≡ Blamed comp cause line → length (shown n b x).trace < n
+  by true is ends = cc
+  by false is ends = few x.end ends is
+
+within_with : (set : Set) (comp : ℕ) → IsWithin set (with comp set)
+within_with set comp c is = ap (λ b. (c == comp) || b) is ∙ or_true (c == comp) where
+  or_true : (b : Bool) → (b || true) ≡ true
+  or_true true = refl
+  or_true false = refl
+
+with_has : (set : Set) (comp : ℕ) → with comp set comp ≡ true
+with_has set comp = ap (λ b. b || set comp) (eq-eqb comp comp refl)
+
+module _ (L : Library) (obedient : Obedient L) (globals : Memory) (inputs : List ℕ) (turns : ℕ) (t : List Event) where
+  abbrev behaviour : Set → SourceRun
+  behaviour set = performed_by L globals inputs turns t set
+
+  blamed_early : (set : Set) (comp : ℕ) (cause : Cause) (line : ℕ) → (behaviour set).end ≡ Blamed comp cause line →
+      length (behaviour set).trace < length t
+  blamed_early set comp cause line ends =
+      early _ (roles_run L globals inputs turns (roles_in L.interfaces.main set t)).behaviour comp cause line ends
+
+  -- where the next run is blamed it has told more
+  told_more : (run other : SourceRun) (comp : ℕ) (cause : Cause) (line : ℕ) → other.end ≡ Blamed comp cause line →
+      PassesBlame run other → length run.trace < length other.trace
+  told_more run other comp cause line ends (turnless is) = let wants : other.end ≡ TurnsOut = ap (λ r. r.end) is in cc
+  told_more run other comp cause line ends (longer event front) =
+      let long = length-append (run.trace ++ event ∷ []) front.more in
+      omega (arith, ap length front.is, long, length-append run.trace (event ∷ []))
+
+  rises : (set : Set) (least : ℕ) (links : List Link) → ((comp : ℕ) (cause : Cause) (line : ℕ) →
+      (behaviour set).end ≡ Blamed comp cause line → least ≤ length (behaviour set).trace) →
+      IsChain (performed_by L globals inputs turns t) t set links → IsRising least (length t) links
+  rises set least [] h chain = tt
+  rises set least (link ∷ links) h chain =
+      let here = chain.0 in
+      let low : least ≤ length (behaviour set).trace = h link.comp link.cause link.line here.blamed in
+      let high : length (behaviour set).trace < length t =
+      blamed_early set link.comp link.cause link.line here.blamed in
+      let same : length (behaviour set).trace ≡ link.after = here.after in (
+        omega (arith, low, same),
+        omega (arith, high, same),
+        rises (with link.comp set) (suc link.after) links (λ comp cause line ends.
+            let more : length (behaviour set).trace < length (behaviour (with _ set)).trace =
+            told_more (behaviour set) (behaviour (with link.comp set)) comp cause line ends
+            (passes_blames L obedient globals inputs turns t set (with link.comp set) (within_with set link.comp)
+            link.comp link.cause link.line here.blamed here.front (with_has set link.comp)) in
+            omega (arith, more, same)) chain.1,
+      )
+
+  are_fresh : (set : Set) (links : List Link) → IsChain (performed_by L globals inputs turns t) t set links →
+      AreFresh set links
+  are_fresh set [] chain = tt
+  are_fresh set (link ∷ links) chain =
+      let fresh = nobody_is_blamed L obedient globals inputs turns (length t) (roles_in L.interfaces.main set t)
+      link.comp
+      link.cause link.line chain.0.blamed in (fresh, are_fresh (with link.comp set) links chain.1)
+
+  pub chain_rises : ChainRises t behaviour
+  chain_rises links chain =
+      (rises nobody 0 links (λ comp cause line ends. omega arith) chain, are_fresh nobody links chain)
+
+-- how many compartments below a number are not of a set
+missing : Set → ℕ → ℕ
+missing set zero = 0
+missing set (suc n) = (if set n then 0 else 1) + missing set n
+
+-- a compartment at or above the number doesn't count
+above_counts : (set : Set) (comp n : ℕ) → n ≤ comp → missing (with comp set) n ≡ missing set n
+unfolding missing
+above_counts set comp zero le = refl
+above_counts set comp (suc n) le = ap₂ (λ b m. (if b || set n then 0 else 1) + m)
+    (ne_eqb n comp (λ is. absurd (omega (arith, le, is)))) (above_counts set comp n (omega (arith, le)))
+
+-- one below it that isn't of the set counts once
+still_apart : (n comp : ℕ) → (n == comp) ≡ false → comp < suc n → comp < n
+still_apart n comp differs lt = ⊎_elim (λ is. cc (sym differs ∙ eq-eqb n comp is)) (λ no. omega (arith, lt, no))
+    (cases_eq n comp)
+
+below_counts : (set : Set) (comp n : ℕ) → set comp ≡ false → comp < n → suc (missing (with comp set) n) ≡ missing set n
+unfolding missing
+below_counts set comp zero clear lt = absurd (omega (arith, lt))
+below_counts set comp (suc n) clear lt = by (below_counts set comp n clear) (n == comp) refl where
+  by : (comp < n → suc (missing (with comp set) n) ≡ missing set n) → (b : Bool) → (n == comp) ≡ b → suc
+      ((if (n == comp) || set n then 0 else 1) + missing (with comp set) n) ≡ (if set n then 0 else 1) + missing set n
+  by before true is =
+      let same : n ≡ comp = eqb-true n comp is in
+      let here : set n ≡ false = ap set same ∙ clear in
+      let counts : missing (with comp set) n ≡ missing set n = above_counts set comp n (omega (arith, same)) in
+      ap (λ b. suc ((if b || set n then 0 else 1) + missing (with comp set) n)) is
+      ∙ ((let one : suc (0 + missing (with comp set) n) ≡ 1 + missing set n = omega (arith, counts) in one)
+      ∙ ap (λ b. (if b then 0 else 1) + missing set n) (sym here))
+  by before false is =
+      let counts : suc (missing (with comp set) n) ≡ missing set n = before (still_apart n comp is lt) in
+      ap (λ b. suc ((if b || set n then 0 else 1) + missing (with comp set) n)) is
+      ∙ (let one : ℕ = if set n then 0 else 1 in let moved : suc (one + missing (with comp set) n)
+      ≡ one + missing set n = omega (arith, counts) in moved)
+
+nobody_missing : (n : ℕ) → missing nobody n ≡ n
+unfolding missing
+nobody_missing zero = refl
+nobody_missing (suc n) = let rest = nobody_missing n in omega (arith, rest)
+
+module _ (t : List Event) (runs : Set → SourceRun) (count : ℕ)
+    (each : (set : Set) → ((runs set).trace ≡ t) ⊎ IsBlamedOutside count set (runs set) t) where
+  abbrev Found : Set → ℕ → Type 0
+  Found set most = (links : List Link) × IsChain runs t set links × (length links ≤ most)
+
+  found : (most : ℕ) (set : Set) → missing set count ≤ most → Found set most
+  found zero set few = ⊎_elim (λ tells. ([], tells, omega arith)) (λ b.
+      let counts = below_counts set b.comp count b.outside b.compartment in absurd (omega (arith, few, counts)))
+      (each set)
+  found (suc most) set few =
+      ⊎_elim (λ tells. ([], tells, omega arith)) (λ b. goes_on b (found most _ (fewer b))) (each set) where
+        fewer : (b : IsBlamedOutside count set (runs set) t) → missing (with b.comp set) count ≤ most
+        fewer b = let counts = below_counts set b.comp count b.outside b.compartment in omega (arith, few, counts)
+
+        goes_on : (b : IsBlamedOutside count set (runs set) t) → Found (with b.comp set) most → Found set (suc most)
+        goes_on b rest =
+            let link : Link =
+            record { comp = b.comp; after = length (runs set).trace; cause = b.cause; line = b.line } in
+            let few_links = rest.2 in (
+              link ∷ rest.0,
+              (record { blamed = b.blamed; front = b.front; after = refl }, rest.1),
+              omega (arith, few_links),
+            )
+
+pub has_chain : (trace : List Event) (runs : Set → SourceRun) → HasChain trace runs
+has_chain trace runs count each =
+    let result = found trace runs count each count nobody (omega (arith, nobody_missing count)) in
+    (result.0, result.1, result.2)

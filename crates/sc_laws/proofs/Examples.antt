@@ -1,7 +1,8 @@
 -- Chains of worked programs, computed, and the least sets that they give.
-use Rattle.sc_laws.proofs.Common.{Blamed, Call, End, Ended, Event, Front, Includes, IsChain, Link, List, Out}
-use Rattle.sc_laws.proofs.Common.{OutOfBounds, ProgramTree, Ret, Set, Some, SourceRun, [], ap, c_arith, length, nobody}
-use Rattle.sc_laws.proofs.Common.{performed, sym, true, with, ◌++◌, ◌∷◌, ◌≡◌}
+use Rattle.sc_laws.proofs.Common.{Blamed, Call, End, Ended, Event, Front, Includes, IsChain, Link, List, OutOfBounds}
+use Rattle.sc_laws.proofs.Common.{ProgramTree, Ret, Set, Some, SourceRun, [], ap, c_arith, length, nobody, performed}
+use Rattle.sc_laws.proofs.Common.{sym, true, with, ◌++◌, ◌∷◌, ◌≡◌}
+use Rattle.sc_event.specs.declared.event.Event.TheVariants.{Out}
 use Rattle.sc_core.proofs.Plans.{program}
 use Rattle.sc_core.proofs.Programs.{two_stores_interfaces, two_stores, reentry_interfaces, reentry}
 use Rattle.sc_core.proofs.Rows.{scripted_by_plan, two_stores_trace, reentry_trace}
@@ -32,13 +33,11 @@ first_stores : performed c_arith stores [] 5 two_stores_trace (with 1 nobody)
       trace = Call 0 1 0 (2 ∷ []) ∷ Ret 1 0 (Some 5) ∷ Out 0 5 ∷ Call 0 2 0 (2 ∷ []) ∷ [];
       end = Blamed 2 OutOfBounds 6;
     }
-first_stores =
-    scripted_by_plan two_stores_interfaces two_stores (with 1 nobody) two_stores_trace [] 5 7
+first_stores = scripted_by_plan two_stores_interfaces two_stores (with 1 nobody) two_stores_trace [] 5 7
 
 both_store : performed c_arith stores [] 5 two_stores_trace (with 2 (with 1 nobody))
     ≡ record { trace = two_stores_trace; end = Ended }
-both_store =
-    scripted_by_plan two_stores_interfaces two_stores (with 2 (with 1 nobody)) two_stores_trace [] 5 7
+both_store = scripted_by_plan two_stores_interfaces two_stores (with 2 (with 1 nobody)) two_stores_trace [] 5 7
 
 pub stores_chain : IsChain (performed c_arith stores [] 5 two_stores_trace) two_stores_trace nobody
     (first_link ∷ second_link ∷ [])
@@ -83,8 +82,7 @@ pub reentry_chain : IsChain (performed c_arith (program reentry_interfaces reent
 reentry_chain = (
   record {
     blamed = ap (λ run. run.end) nobody_reenters;
-    front =
-        link_of _ _ (Call 1 2 0 (5 ∷ []) ∷ Call 2 1 1 (6 ∷ []) ∷ Ret 1 2 (Some 11) ∷ Ret 2 1 (Some 11) ∷ Ret 1 0
+    front = link_of _ _ (Call 1 2 0 (5 ∷ []) ∷ Call 2 1 1 (6 ∷ []) ∷ Ret 1 2 (Some 11) ∷ Ret 2 1 (Some 11) ∷ Ret 1 0
         (Some 22) ∷ Out 0 22 ∷ End 0 0 ∷ []) nobody_reenters;
     after = ap (λ run. length run.trace) nobody_reenters;
   },
@@ -94,6 +92,5 @@ reentry_chain = (
 -- any set with that compartment tells the trace, whoever else performs
 pub reentry_suffices : (set : Set) → set 1 ≡ true →
     (performed c_arith (program reentry_interfaces reentry) [] 5 reentry_trace set).trace ≡ reentry_trace
-reentry_suffices set has =
-    (chain_is_least.programs c_arith (program reentry_interfaces reentry) [] 5 _ (entered_again ∷ []) set
-    reentry_chain).1 (has, tt)
+reentry_suffices set has = (chain_is_least.programs c_arith (program reentry_interfaces reentry) [] 5 _
+    (entered_again ∷ []) set reentry_chain).1 (has, tt)

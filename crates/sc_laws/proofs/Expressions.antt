@@ -1,7 +1,7 @@
 -- What expressions give in two arithmetics, of which one may blame where the other goes on.
-use Rattle.sc_laws.proofs.Common.{Arith, BinaryOp, Blocks, Bool, Cause, Err, Here, List, Meant, Null, Ok, Ptr, Result}
-use Rattle.sc_laws.proofs.Common.{TypedExpr, TypedStruct, Under, Value, Want, Ways, Word, [], ap, applied, applied_one}
-use Rattle.sc_laws.proofs.Common.{as_word, at_place, at_pointer, binary, bind, choose, expr_at, expr_induction, false}
+use Rattle.sc_laws.proofs.Common.{Arith, BinaryOp, Blocks, Bool, Cause, Err, Here, List, Meant, Ok, Result, TypedExpr}
+use Rattle.sc_laws.proofs.Common.{TypedStruct, Under, Value, Want, Ways, Word, [], ap, applied, applied_one, as_word}
+use Rattle.sc_laws.proofs.Common.{at_place, at_pointer, binary, bind, choose, expr_at, expr_induction, false}
 use Rattle.sc_laws.proofs.Common.{if◌then◌else◌, is_pointer, is_unsigned, map, meant, meant_step, moved, on_words, pos}
 use Rattle.sc_laws.proofs.Common.{refl, subst, sym, term_of, term_step, true, typed, values, ways, ℕ, ◌∙◌, ◌∷◌, ◌≡◌}
 use Rattle.sc_base.specs.declared.op.UnaryOp.{UnaryOp}
@@ -43,19 +43,12 @@ module _ (Soft : Cause → Type 0) where
     pub on_words_keep : (unsigned : Bool) (o : BinaryOp) (v w : Value) →
         Keeps Value (on_words ar unsigned o v w) (on_words br unsigned o v w)
     on_words_keep unsigned o (Word a) (Word b) = word_keeps _ _ (arith.binary _ o a b)
-    on_words_keep unsigned o (Word a) Null = alike refl
-    on_words_keep unsigned o (Word a) (Ptr p) = alike refl
-    on_words_keep unsigned o Null w = alike refl
-    on_words_keep unsigned o (Ptr p) w = alike refl
+    on_words_keep unsigned o _ _ = alike refl
 
     pub one_keeps : (unsigned : Bool) (o : UnaryOp) (v : Value) →
         Keeps Value (applied_one ar unsigned o v) (applied_one br unsigned o v)
     one_keeps unsigned unary.Minus (Word a) = word_keeps _ _ (arith.negated _ a)
-    one_keeps unsigned unary.Minus Null = alike refl
-    one_keeps unsigned unary.Minus (Ptr p) = alike refl
-    one_keeps unsigned unary.Plus v = alike refl
-    one_keeps unsigned unary.Not v = alike refl
-    one_keeps unsigned unary.BitNot v = alike refl
+    one_keeps unsigned _ _ = alike refl
 
     module _ (structs : List TypedStruct) where
       pub applied_keeps : (blocks : Blocks) (o : BinaryOp) (left right : Ty) (v w : Value) →
@@ -84,26 +77,20 @@ module _ (Soft : Cause → Type 0) where
 
       pub binary_keeps : (o : BinaryOp) (a a' b b' : Meant) → Agrees a a' → Agrees b b' → (blocks : Blocks) →
           Keeps Value (binary ar structs o a b blocks) (binary br structs o a' b' blocks)
-      binary_keeps op.AndAlso a a' b b' h k blocks =
-          bind_keeps Value Value _ _ _ _ (h.way want.Value blocks)
-          (λ v. choose_keeps v _ _ _ _ (bind_keeps Value Value _ _ _ _ (k.way _ blocks) (λ w. alike refl))
-          (alike refl))
-      binary_keeps op.OrElse a a' b b' h k blocks =
-          bind_keeps Value Value _ _ _ _ (h.way _ blocks) (λ v. choose_keeps v _ _ _ _ (alike refl)
-          (bind_keeps Value Value _ _ _ _ (k.way _ blocks) (λ w. alike refl)))
-      binary_keeps o a a' b b' h k blocks =
-          bind_keeps Value Value _ _ _ _ (h.way _ blocks)
-          (λ v. bind_keeps Value Value _ _ _ _ (k.way _ blocks) (λ w. at_types blocks o a.ty a'.ty b.ty b'.ty v
-          w h.ty k.ty))
+      binary_keeps op.AndAlso a a' b b' h k blocks = bind_keeps Value Value _ _ _ _ (h.way want.Value blocks)
+          (λ v. choose_keeps v _ _ _ _ (bind_keeps Value Value _ _ _ _ (k.way _ blocks) (λ w. alike refl)) (alike refl))
+      binary_keeps op.OrElse a a' b b' h k blocks = bind_keeps Value Value _ _ _ _ (h.way _ blocks)
+          (λ v. choose_keeps v _ _ _ _ (alike refl) (bind_keeps Value Value _ _ _ _ (k.way _ blocks) (λ w. alike refl)))
+      binary_keeps o a a' b b' h k blocks = bind_keeps Value Value _ _ _ _ (h.way _ blocks) (λ v. bind_keeps Value Value
+          _ _ _ _ (k.way _ blocks) (λ w. at_types blocks o a.ty a'.ty b.ty b'.ty v w h.ty k.ty))
 
       place_keeps : (ty : Ty) (p p' : Blocks → Result Value Cause) →
           ((blocks : Blocks) → Keeps Value (p blocks) (p' blocks)) → (w : Want) (blocks : Blocks) →
           Keeps Value (at_place ty p w blocks) (at_place ty p' w blocks)
       place_keeps ty p p' h w blocks = bind_keeps Value Value _ _ _ _ (h blocks) (λ q. alike refl)
 
-      index_at : (blocks : Blocks) (left left' right right' : Ty) (v w : Value) → left' ≡ left → right' ≡ right →
-          Keeps Value (at_pointer structs blocks op.Add left right v w) (at_pointer structs blocks op.Add left' right' v
-          w)
+      index_at : (blocks : Blocks) (left left' right right' : Ty) (v w : Value) → left' ≡ left → right' ≡ right → Keeps
+          Value (at_pointer structs blocks op.Add left right v w) (at_pointer structs blocks op.Add left' right' v w)
       index_at blocks left left' right right' v w is is' =
           alike (ap (λ t. at_pointer structs blocks op.Add t right' v w) is
           ∙ ap (λ t. at_pointer structs blocks op.Add left t v w) is')
@@ -121,15 +108,13 @@ module _ (Soft : Cause → Type 0) where
         term_keeps ty (term.Literal word) h w blocks = alike refl
         term_keeps ty (term.Variable v) h w blocks = alike refl
         term_keeps ty (term.Unary o a) h w blocks =
-            bind_keeps Value Value _ _ _ _ (h.way want.Value blocks)
-            (λ v. subst (λ t. Keeps Value (applied_one ar (is_unsigned (meant ar structs here params a).ty) o v)
-            (applied_one br (is_unsigned t) o v)) (sym h.ty)
-            (one_keeps (is_unsigned (meant ar structs here params a).ty) o v))
+            bind_keeps Value Value _ _ _ _ (h.way want.Value blocks) (λ v. subst (λ t. Keeps Value
+            (applied_one ar (is_unsigned (meant ar structs here params a).ty) o v) (applied_one br (is_unsigned t) o v))
+            (sym h.ty) (one_keeps (is_unsigned (meant ar structs here params a).ty) o v))
         term_keeps ty (term.Binary o a b) h w blocks = binary_keeps o _ _ _ _ h.0 h.1 blocks
         term_keeps ty (term.Index a b) h w blocks =
-            place_keeps ty _ _ (λ blocks. bind_keeps Value Value _ _ _ _ (h.0.way want.Value blocks)
-            (λ v. bind_keeps Value Value _ _ _ _ (h.1.way want.Value blocks) (λ x. index_at blocks _ _ _ _ v x h.0.ty
-            h.1.ty))) w blocks
+            place_keeps ty _ _ (λ blocks. bind_keeps Value Value _ _ _ _ (h.0.way want.Value blocks) (λ v. bind_keeps
+            Value Value _ _ _ _ (h.1.way want.Value blocks) (λ x. index_at blocks _ _ _ _ v x h.0.ty h.1.ty))) w blocks
         term_keeps ty (term.Member a offset) h w blocks =
             place_keeps ty _ _ (λ blocks. bind_keeps Value Value _ _ (moved blocks (pos offset))
             (moved blocks (pos offset)) (h.way want.Place blocks) (λ v. alike refl)) w blocks
@@ -156,6 +141,5 @@ module _ (Soft : Cause → Type 0) where
             Keeps (List Value) (values (map (ways ar structs here params) es) blocks)
             (values (map (ways br structs here params) es) blocks)
         values_keep [] blocks = alike refl
-        values_keep (e ∷ es) blocks =
-            bind_keeps Value _ _ _ _ _ (ways_keep e _ blocks)
+        values_keep (e ∷ es) blocks = bind_keeps Value _ _ _ _ _ (ways_keep e _ blocks)
             (λ v. bind_keeps (List Value) _ _ _ _ _ (values_keep es blocks) (λ vs. alike refl))

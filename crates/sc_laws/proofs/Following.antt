@@ -1,15 +1,15 @@
 -- Two runs along one trace, of which the second has more compartments that perform their parts of it: the relation of
 -- their pieces.
-use Rattle.sc_laws.proofs.Common.{Blamed, Blocks, Bool, Cause, Ended, Err, Event, EventsOut, Front, Goes, Gone, Grown}
-use Rattle.sc_laws.proofs.Common.{Here, List, Never, Ok, Option, Piece, Reached, Result, RunEnd, Some, Standing, State}
+use Rattle.sc_laws.proofs.Common.{Blamed, Blocks, Bool, Cause, Err, Event, FrameChange, Front, Goes, Gone, Grown, Here}
+use Rattle.sc_laws.proofs.Common.{List, Never, Ok, Option, Piece, Reached, Result, RunEnd, Some, Standing, State}
 use Rattle.sc_laws.proofs.Common.{Stopped, TurnsOut, Value, [], and_then, ap, append_assoc, arith, at_start, both_ways}
 use Rattle.sc_laws.proofs.Common.{cases_eq, computed, eq-eqb, false, if◌then◌else◌, last, ne_eqb, refl, stands_after}
 use Rattle.sc_laws.proofs.Common.{stands_behind, subst, suc, sym, tell, true, turn_of, with_blocks, zero, ℕ, ⊎_elim}
 use Rattle.sc_laws.proofs.Common.{◌++◌, ◌<◌, ◌∙◌, ◌∷◌, ◌≡◌, ◌≤◌}
-use Rattle.sc_laws.proofs.Growing.{front_same, front_more, same, more, then_from, then_goes, turn_of_goes}
+use Rattle.sc_laws.proofs.Growing.{front_same, then_front, then_goes, turn_of_goes}
 use Rattle.sc_laws.proofs.Twins.{Kept, KeptAt}
 use Rattle.sc_laws.proofs.Expressions.{Keeps, alike, blamed}
-use Rattle.sc_laws.proofs.Rows.{stands_last, InLine, in_line_before}
+use Rattle.sc_laws.proofs.Rows.{stands_last, InLine, then_along}
 
 -- MEMORY
 blocks_here : (c d : ℕ) (x : Blocks) (m : ℕ → Blocks) → d ≡ c → with_blocks c x m d ≡ x
@@ -17,6 +17,13 @@ blocks_here c d x m is = ap (λ b. if b then x else m d) (eq-eqb d c is)
 
 blocks_there : (c d : ℕ) (x : Blocks) (m : ℕ → Blocks) → (d ≡ c → ⊥) → with_blocks c x m d ≡ m d
 blocks_there c d x m differs = ap (λ b. if b then x else m d) (ne_eqb d c differs)
+
+-- where the run is blamed on a compartment of which this is said
+abbrev pub IfBlamed : (ℕ → Bool) → Bool → RunEnd → Type 0 → Type 0
+IfBlamed set said end W = (comp : ℕ) (cause : Cause) (line : ℕ) → end ≡ Blamed comp cause line → set comp ≡ said → W
+
+no_blame : (set : ℕ → Bool) (said : Bool) (W : Type 0) → IfBlamed set said TurnsOut W
+no_blame set said W comp cause line is said_so = absurd (cc)
 
 -- the main compartment, the trace, and the compartments that perform in the second run
 module _ (main : ℕ) (t : List Event) (S' : ℕ → Bool) where
@@ -31,11 +38,7 @@ module _ (main : ℕ) (t : List Event) (S' : ℕ → Bool) where
 
   -- a compartment that is blamed is blamed in the second run too, unless it performs there
   abbrev pub Agreed : (V : Type 0) → RunEnd → State → Piece V → Type 0
-  Agreed V Ended s p = Unit {0}
-  Agreed V TurnsOut s p = Unit {0}
-  Agreed V EventsOut s p = Unit {0}
-  Agreed V (Blamed comp cause line) s p = S' comp ≡ false → (s' : State) × (p ≡ Stopped (Blamed comp cause line) s')
-      × (s'.trace ≡ s.trace)
+  Agreed V end s p = IfBlamed S' false end ((s' : State) × (p ≡ Stopped end s') × (s'.trace ≡ s.trace))
 
   -- the second run tells an event more, or wants a turn or a row for it
   pub data MovesOn (V : Type 0) (u : List Event) (p : Piece V) : Type 0 where
@@ -47,35 +50,26 @@ module _ (main : ℕ) (t : List Event) (S' : ℕ → Bool) where
     passes : MovesOn (Option Value) u p → MovesOrReturns u p
     hands_back : (v : Option Value) (s' : State) → p ≡ Reached v s' → s'.trace ≡ u → MovesOrReturns u p
 
-  -- a compartment that is blamed and performs in the second run
-  abbrev pub IfBlamed : RunEnd → Type 0 → Type 0
-  IfBlamed Ended W = Unit {0}
-  IfBlamed TurnsOut W = Unit {0}
-  IfBlamed EventsOut W = Unit {0}
-  IfBlamed (Blamed comp cause line) W = S' comp ≡ true → W
-
-  -- the second run goes on where the first has stopped
-  pub record Beyond (V : Type 0) (end : RunEnd) (s : State) (p : Piece V) : Type 0 where
+  -- the second run goes on where the first has stopped; if the blamed compartment performs there, this holds
+  pub record GoesOn (V Passed : Type 0) (end : RunEnd) (s : State) (p : Piece V) : Type 0 where
     pub front : Front s.trace (last p).trace
     pub agreed : Agreed V end s p
-    pub passed : IfBlamed end (MovesOn V s.trace p)
+    pub passed : IfBlamed S' true end Passed
+
+  abbrev pub Beyond : (V : Type 0) → RunEnd → State → Piece V → Type 0
+  Beyond V end s p = GoesOn V (MovesOn V s.trace p) end s p
 
   -- the same in a function that performs
-  pub record BeyondIn (end : RunEnd) (s : State) (p : Piece (Option Value)) : Type 0 where
-    pub front : Front s.trace (last p).trace
-    pub agreed : Agreed (Option Value) end s p
-    pub passed : IfBlamed end (MovesOrReturns s.trace p)
-
-  if_blamed : (end : RunEnd) (V W : Type 0) → (V → W) → IfBlamed end V → IfBlamed end W
-  if_blamed Ended V W f h = tt
-  if_blamed TurnsOut V W f h = tt
-  if_blamed EventsOut V W f h = tt
-  if_blamed (Blamed comp cause line) V W f h = λ set. f (h set)
+  abbrev pub BeyondIn : RunEnd → State → Piece (Option Value) → Type 0
+  BeyondIn end s p = GoesOn (Option Value) (MovesOrReturns s.trace p) end s p
 
   pub beyond_in : (end : RunEnd) (s : State) (p : Piece (Option Value)) → Beyond (Option Value) end s p →
       BeyondIn end s p
-  beyond_in end s p by =
-      record { front = by.front; agreed = by.agreed; passed = if_blamed end _ _ passes by.passed }
+  beyond_in end s p by = record {
+    front = by.front;
+    agreed = by.agreed;
+    passed = λ comp cause line is set. passes (by.passed comp cause line is set);
+  }
 
   -- both have told the whole trace; or both come to the same at one place of it; or the first has stopped
   pub data KeepsUp (st : Standing) (V : Type 0) (o p : Piece V) : Type 0 where
@@ -88,44 +82,54 @@ module _ (main : ℕ) (t : List Event) (S' : ℕ → Bool) where
     pub follows : InLine t (last o).trace → KeepsUp st V o p
 
   -- STATES
-  pub near_blocks : (st : Standing) (s s' : State) (c : ℕ) (x x' : Blocks) → (S' c ≡ false → x' ≡ x) → Abreast st s s' →
-      Abreast st (record s { memory = with_blocks c x s.memory }) (record s' { memory = with_blocks c x' s'.memory })
-  near_blocks st s s' c x x' same n =
-      record {
-        trace = n.trace;
-        front = n.front;
-        turns = n.turns;
-        inputs = n.inputs;
-        stands = n.stands;
-        memory = λ d clear. ⊎_elim (λ is. blocks_here c d x' s'.memory is ∙ same (subst (λ k. S' k ≡ false) is clear)
-            ∙ sym (blocks_here c d x s.memory is)) (λ differs. blocks_there c d x' s'.memory differs ∙ n.memory d clear
-            ∙ sym (blocks_there c d x s.memory differs)) (cases_eq d c);
-      }
+  -- other blocks and other frames
+  pub near_blocks : (st : Standing) (s s' : State) (c : ℕ) (x x' : Blocks) (frames frames' : List FrameChange) →
+      (S' c ≡ false → x' ≡ x) → Abreast st s s' →
+      Abreast st (record s { memory = with_blocks c x s.memory; frames = frames })
+      (record s' { memory = with_blocks c x' s'.memory; frames = frames' })
+  near_blocks st s s' c x x' frames frames' same n = record {
+    trace = n.trace;
+    front = n.front;
+    turns = n.turns;
+    inputs = n.inputs;
+    stands = n.stands;
+    memory = λ d clear. ⊎_elim (λ is. blocks_here c d x' s'.memory is ∙ same (subst (λ k. S' k ≡ false) is clear)
+        ∙ sym (blocks_here c d x s.memory is)) (λ differs. blocks_there c d x' s'.memory differs ∙ n.memory d clear
+        ∙ sym (blocks_there c d x s.memory differs)) (cases_eq d c);
+  }
+
+  -- other turns and other inputs
+  pub near_with : (st : Standing) (s s' : State) (turns turns' : ℕ) (inputs inputs' : List ℕ) → turns ≤ turns' →
+      inputs' ≡ inputs → Abreast st s s' → Abreast st (record s { turns = turns; inputs = inputs })
+      (record s' { turns = turns'; inputs = inputs' })
+  near_with st s s' turns turns' inputs inputs' few is n = record {
+    trace = n.trace;
+    front = n.front;
+    turns = few;
+    inputs = is;
+    memory = n.memory;
+    stands = n.stands;
+  }
 
   -- blocks of a compartment that performs in the second run change in the first alone
-  pub near_left : (st : Standing) (s s' : State) (c : ℕ) (x : Blocks) → S' c ≡ true → Abreast st s s' →
-      Abreast st (record s { memory = with_blocks c x s.memory }) s'
-  near_left st s s' c x performs n =
-      record {
-        trace = n.trace;
-        front = n.front;
-        turns = n.turns;
-        inputs = n.inputs;
-        stands = n.stands;
-        memory =
-            λ d clear. n.memory d clear
-            ∙ sym (blocks_there c d x s.memory (λ is. both_ways (S' d) clear (ap S' is ∙ performs)));
-      }
+  pub near_left : (st : Standing) (s s' : State) (c : ℕ) (x : Blocks) (frames : List FrameChange) → S' c ≡ true →
+      Abreast st s s' → Abreast st (record s { memory = with_blocks c x s.memory; frames = frames }) s'
+  near_left st s s' c x frames performs n = record {
+    trace = n.trace;
+    front = n.front;
+    turns = n.turns;
+    inputs = n.inputs;
+    stands = n.stands;
+    memory = λ d clear. n.memory d clear
+        ∙ sym (blocks_there c d x s.memory (λ is. both_ways (S' d) clear (ap S' is ∙ performs)));
+  }
 
   pub near_tell : (st after : Standing) (s s' : State) (e : Event) (more : List Event) →
       stands_after st e ≡ Some after → t ≡ s.trace ++ e ∷ more → Abreast st s s' → Abreast after (tell e s) (tell e s')
   near_tell st after s s' e more moves is n =
       record {
         trace = ap (λ u. u ++ e ∷ []) n.trace;
-        front = record {
-          more = more;
-          is = is ∙ sym (append_assoc s.trace _ more);
-        };
+        front = record { more = more; is = is ∙ sym (append_assoc s.trace _ more) };
         turns = n.turns;
         inputs = n.inputs;
         memory = n.memory;
@@ -137,30 +141,23 @@ module _ (main : ℕ) (t : List Event) (S' : ℕ → Bool) where
   whole u v is front = subst (λ x. Front x v) (sym is) front
 
   -- THE WORDS IN BOTH RUNS
-  agreed_then : (V W : Type 0) (end : RunEnd) (s : State) (p : Piece V) (l : V → State → Piece W) → Agreed V end s p →
-      Agreed W end s (and_then p l)
-  agreed_then V W Ended s p l h = tt
-  agreed_then V W TurnsOut s p l h = tt
-  agreed_then V W EventsOut s p l h = tt
-  agreed_then V W (Blamed comp cause line) s p l h = λ clear.
-      (let x = h clear in (x.0, ap (λ y. and_then y l) x.1, x.2))
-
   passed_then : (V W : Type 0) (u : List Event) (p : Piece V) (l : V → State → Piece W) → ((v : V) → Goes (l v)) →
       MovesOn V u p → MovesOn W u (and_then p l)
   passed_then V W u p l goes (no_turn s' is same) = no_turn s' (ap (λ y. and_then y l) is) same
-  passed_then V W u p l goes (longer e front) =
-      longer e (front_more _ (last p).trace (last (and_then p l)).trace front (then_from p l goes).events)
+  passed_then V W u p l goes (longer e front) = longer e (then_front (u ++ e ∷ []) p l goes front)
+
+  pub past_then : (V W A B : Type 0) (end : RunEnd) (s : State) (p : Piece V) (l : V → State → Piece W) →
+      ((v : V) → Goes (l v)) → (A → B) → GoesOn V A end s p → GoesOn W B end s (and_then p l)
+  past_then V W A B end s p l goes f by = record {
+    front = then_front s.trace p l goes by.front;
+    agreed = λ comp cause line is clear.
+        (let x = by.agreed comp cause line is clear in (x.0, ap (λ y. and_then y l) x.1, x.2));
+    passed = λ comp cause line is set. f (by.passed comp cause line is set);
+  }
 
   pub beyond_then : (V W : Type 0) (end : RunEnd) (s : State) (p : Piece V) (l : V → State → Piece W) →
       ((v : V) → Goes (l v)) → Beyond V end s p → Beyond W end s (and_then p l)
-  beyond_then V W end s p l goes by =
-      record {
-        front = front_more s.trace (last p).trace (last (and_then p l)).trace by.front
-            (then_from p l goes).events;
-        agreed = agreed_then V W end s p l by.agreed;
-        passed =
-            if_blamed end _ _ (passed_then V W s.trace p l goes) by.passed;
-      }
+  beyond_then V W end s p l goes = past_then V W _ _ end s p l goes (passed_then V W s.trace p l goes)
 
   -- what performs returns, and its return is told
   passed_back : (W : Type 0) (u : List Event) (p : Piece (Option Value)) (l : Option Value → State → Piece W) →
@@ -175,21 +172,42 @@ module _ (main : ℕ) (t : List Event) (S' : ℕ → Bool) where
   pub beyond_back : (W : Type 0) (end : RunEnd) (s : State) (p : Piece (Option Value)) (l : Option Value → State →
       Piece W) → ((v : Option Value) → Goes (l v)) → ((v : Option Value) (x : State) →
       (e : Event) × Front (x.trace ++ e ∷ []) (last (l v x)).trace) → BeyondIn end s p → Beyond W end s (and_then p l)
-  beyond_back W end s p l goes tells by =
-      record {
-        front = front_more s.trace (last p).trace (last (and_then p l)).trace by.front (then_from p l goes).events;
-        agreed = agreed_then _ W end s p l by.agreed;
-        passed = if_blamed end _ _ (passed_back W s.trace p l goes tells) by.passed;
-      }
+  beyond_back W end s p l goes tells = past_then _ W _ _ end s p l goes (passed_back W s.trace p l goes tells)
 
   module _ (st : Standing) where
+    -- the first stops without a turn
+    pub stops_short : (V : Type 0) (s : State) (p : Piece V) → Front s.trace (last p).trace →
+        Keeping st V (Stopped TurnsOut s) p
+    stops_short V s p front = record {
+      follows = λ along.
+          stop TurnsOut s refl (record { front = front; agreed = no_blame _ _ _; passed = no_blame _ _ _ });
+    }
+
+    -- both stop
+    same_front : (s s' : State) → s'.trace ≡ s.trace → Front s.trace s'.trace
+    same_front s s' is = subst (Front s.trace) (sym is) (front_same s.trace)
+
+    pub both_stop : (V : Type 0) (s s' : State) → s'.trace ≡ s.trace →
+        Keeping st V (Stopped TurnsOut s) (Stopped TurnsOut s')
+    both_stop V s s' is = stops_short V s (Stopped TurnsOut s') (same_front s s' is)
+
+    pub both_blamed : (V : Type 0) (comp : ℕ) (cause : Cause) (line : ℕ) (s s' : State) → S' comp ≡ false →
+        s'.trace ≡ s.trace → Keeping st V (Stopped (Blamed comp cause line) s) (Stopped (Blamed comp cause line) s')
+    both_blamed V comp cause line s s' clear is = record {
+      follows = λ along. stop _ s refl (record {
+        front = same_front s s' is;
+        agreed = λ c cause line blame clear. (s', refl, is);
+        passed = λ c cause' line' blame set.
+            (let same : comp ≡ c = cc in absurd (both_ways (S' comp) clear (ap S' same ∙ set)));
+      });
+    }
+
     then_follows : (V W : Type 0) (s s' : State) (o p : Piece V) (k l : V → State → Piece W) → Gone s o → Gone s' p →
         ((v : V) → Goes (k v)) → ((v : V) → Goes (l v)) →
         ((v : V) (x x' : State) → Grown s x → Grown s' x' → Abreast st x x' → Keeping st W (k v x) (l v x'))
         → InLine t (last (and_then o k)).trace → KeepsUp st V o p → KeepsUp st W (and_then o k) (and_then p l)
     then_follows V W s s' o p k l g g' goes goes' h along (done a b) =
-        done (front_more t (last o).trace (last (and_then o k)).trace a (then_from o k goes).events)
-        (front_more t (last p).trace (last (and_then p l)).trace b (then_from p l goes').events)
+        done (then_front t o k goes a) (then_front t p l goes' b)
     then_follows V W s s' o p k l g g' goes goes' h along (both v x x' is is' near) =
         let grown : Grown s x = subst (λ y. Grown s (last y)) is g.grown in
         let grown' : Grown s' x' = subst (λ y. Grown s' (last y)) is' g'.grown in
@@ -205,24 +223,11 @@ module _ (main : ℕ) (t : List Event) (S' : ℕ → Bool) where
         → ((x x' : State) → x.turns < s.turns → x'.turns < s'.turns → Abreast st x x' →
         Keeping st W (k tt x) (l tt x')) → Keeping st W (and_then (turn_of m s) k) (and_then (turn_of m' s') l)
     turn_follows W k l goes s s' n zero m' is is' h =
-        record {
-          follows = λ along. stop TurnsOut s refl (record {
-            front = subst (λ u. Front u (last (and_then (turn_of m' s') l)).trace) n.trace
-                (then_goes s' (turn_of m' s') l (turn_of_goes m' s' is') goes).grown.events;
-            agreed = tt;
-            passed = tt;
-          });
-        }
+        stops_short W s _ (subst (λ u. Front u (last (and_then (turn_of m' s') l)).trace) n.trace
+        (then_goes s' (turn_of m' s') l (turn_of_goes m' s' is') goes).grown.events)
     turn_follows W k l goes s s' n (suc m) zero is is' h = (let le = n.turns in absurd (omega (arith, le, is, is')))
-    turn_follows W k l goes s s' n (suc m) (suc m') is is' h =
-        (let le = n.turns in h _ _ (omega (arith, is)) (omega (arith, is')) (record {
-          trace = n.trace;
-          front = n.front;
-          turns = omega (arith, le, is, is');
-          inputs = n.inputs;
-          memory = n.memory;
-          stands = n.stands;
-        }))
+    turn_follows W k l goes s s' n (suc m) (suc m') is is' h = (let le = n.turns in h _ _ (omega (arith, is))
+        (omega (arith, is')) (near_with st s s' m m' _ _ (omega (arith, le, is, is')) n.inputs n))
 
     pub follow_kept : Kept (Abreast st) (Keeping st)
     follow_kept =
@@ -230,9 +235,8 @@ module _ (main : ℕ) (t : List Event) (S' : ℕ → Bool) where
           reached = λ V v s s' n. record { follows = λ along. both v s s' refl refl n };
           after =
               λ V W s s' o p k l n g g' goes goes' r h. record {
-                follows = λ along. then_follows V W s s' o p k l g g' goes
-                    goes' h along (r.follows (in_line_before t (last o).trace (last (and_then o k)).trace
-                    (then_from o k goes).events along));
+                follows = λ along. then_follows V W s s' o p k l g g' goes goes' h along
+                    (r.follows (then_along t o k goes along));
               };
           turned = λ W k l goes goes' s s' n h. turn_follows W k l goes' s s' n s.turns _ refl refl h;
         }
@@ -241,14 +245,7 @@ module _ (main : ℕ) (t : List Event) (S' : ℕ → Bool) where
         (line : ℕ) (r : Result V Cause) (s s' : State) → Abreast st s s' →
         Keeping st V (computed here line r s) (computed here line r s')
     computed_follow V here clear line (Ok v) s s' n = record { follows = λ along. both v s s' refl refl n }
-    computed_follow V here clear line (Err cause) s s' n =
-        record {
-          follows = λ along. stop _ s refl (record {
-            front = subst (Front s.trace) (sym n.trace) (front_same s.trace);
-            agreed = λ clear. (s', refl, n.trace);
-            passed = λ set. absurd (both_ways _ clear set);
-          });
-        }
+    computed_follow V here clear line (Err cause) s s' n = both_blamed V _ cause line s s' clear n.trace
 
     -- calls of a compartment that performs in neither run
     pub follow_at : (here : Here) → S' here.comp ≡ false → KeptAt (Abreast st) (Keeping st) Never here
@@ -258,7 +255,7 @@ module _ (main : ℕ) (t : List Event) (S' : ℕ → Bool) where
               (λ x. Keeping st V (computed here line (e (s.memory here.comp)) s) (computed here line (e' x) s'))
               (sym (n.memory here.comp clear)) (equal V line (e _) (e' _) s s' n (h _));
           passed = λ V cause line soft s s' n p g. absurd soft;
-          stored = λ blocks s s' n. near_blocks st s s' here.comp blocks blocks (λ c. refl) n;
+          stored = λ blocks s s' n. near_blocks st s s' here.comp blocks blocks _ _ (λ c. refl) n;
         } where
           equal : (V : Type 0) (line : ℕ) (r r' : Result V Cause) (s s' : State) → Abreast st s s' →
               Keeps Never V r r' → Keeping st V (computed here line r s) (computed here line r' s')
@@ -290,66 +287,61 @@ module _ (main : ℕ) (t : List Event) (S' : ℕ → Bool) where
 
       -- what is left goes on from where the first run stands
       pub left_goes : (s : State) → Stands s → Front s.trace (last left).trace
-      left_goes s x =
-          subst (λ u. Front u (last left).trace) x.near.trace (subst (λ y. Front x.other.trace (last y).trace)
-          (sym x.is) (rest_goes x.other).grown.events)
+      left_goes s x = subst (λ u. Front u (last left).trace) x.near.trace
+          (subst (λ y. Front x.other.trace (last y).trace) (sym x.is) (rest_goes x.other).grown.events)
 
       then_performs : (V W : Type 0) (s : State) (o : Piece V) (k : V → State → Piece W) → Gone s o →
-          ((v : V) → Goes (k v)) → ((v : V) (x : State) → Grown s x → Stands x → (y : Piece W) → Perform W (k v x) y) →
+          ((v : V) → Goes (k v)) →
+          ((v : V) (x : State) → Grown s x → Stands x → InLine t (last (k v x)).trace → Performs W (k v x)) →
           InLine t (last (and_then o k)).trace → Performs V o → Performs W (and_then o k)
-      then_performs V W s o k g goes h along (done a b) =
-          done (front_more t (last o).trace (last (and_then o k)).trace a (then_from o k goes).events) b
-      then_performs V W s o k g goes h along (here v x is stands) =
-          subst (λ y. Performs W (and_then y k)) (sym is)
-          ((h v x (subst (λ y. Grown s (last y)) is g.grown) stands (k v x)).performs
+      then_performs V W s o k g goes h along (done a b) = done (then_front t o k goes a) b
+      then_performs V W s o k g goes h along (here v x is stands) = subst (λ y. Performs W (and_then y k)) (sym is)
+          (h v x (subst (λ y. Grown s (last y)) is g.grown) stands
           (subst (λ y. InLine t (last (and_then y k)).trace) is along))
       then_performs V W s o k g goes h along (stop end x is by) = stop end x (ap (λ y. and_then y k) is) by
 
-      any_piece : (W : Type 0) (o p q : Piece W) → Perform W o p → Perform W o q
-      any_piece W o p q h = record { performs = h.performs }
+      -- the first stops without a turn
+      pub stops_here : (V : Type 0) (s y : State) → y.trace ≡ s.trace → Stands s → Performs V (Stopped TurnsOut y)
+      stops_here V s y is x = stop TurnsOut y refl (record {
+        front = subst (λ u. Front u (last left).trace) (sym is) (left_goes s x);
+        agreed = no_blame _ _ _;
+        passed = no_blame _ _ _;
+      })
+
+      -- the first is blamed
+      pub blamed_here : (V : Type 0) (comp : ℕ) (cause : Cause) (line : ℕ) (s : State) → S' comp ≡ true → Stands s →
+          MovesOrReturns s.trace left → Performs V (Stopped (Blamed comp cause line) s)
+      blamed_here V comp cause line s set x by = stop _ s refl (record {
+        front = left_goes s x;
+        agreed = λ c cause' line' blame clear.
+            (let same : comp ≡ c = cc in absurd (both_ways (S' c) clear (ap S' (sym same) ∙ set)));
+        passed = λ c cause line blame set. by;
+      })
 
       turn_performs : (W : Type 0) (k : Unit {0} → State → Piece W) → (s : State) → Stands s → (m : ℕ) → m ≡ s.turns →
-          ((x : State) → x.turns < s.turns → Stands x → (y : Piece W) → Perform W (k tt x) y) →
+          ((x : State) → x.turns < s.turns → Stands x → InLine t (last (k tt x)).trace → Performs W (k tt x)) →
           InLine t (last (and_then (turn_of m s) k)).trace → Performs W (and_then (turn_of m s) k)
-      turn_performs W k s x zero is h along =
-          stop TurnsOut s refl (record { front = left_goes s x; agreed = tt; passed = tt })
-      turn_performs W k s x (suc m) is h along =
-          (let le = x.near.turns in
-          (h _ (omega (arith, is)) (record {
-            other = x.other;
-            is = x.is;
-            near = record {
-              trace = x.near.trace;
-              front = x.near.front;
-              turns = omega (arith, le, is);
-              inputs = x.near.inputs;
-              memory = x.near.memory;
-              stands = x.near.stands;
-            };
-          }) (k tt (record s {
-            turns = m;
-          }))).performs along)
+      turn_performs W k s x zero is h along = stops_here W s s refl x
+      turn_performs W k s x (suc m) is h along = (let le = x.near.turns in h _ (omega (arith, is)) (record {
+        other = x.other;
+        is = x.is;
+        near = near_with st s x.other m _ _ _ (omega (arith, le, is)) x.near.inputs x.near;
+      }) along)
 
       pub perform_kept : Kept OneSided Perform
       perform_kept =
           record {
             reached = λ V v s s' one. record { performs = λ along. here v s refl one.stands };
-            after =
-                λ V W s s' o p k l one g g' goes goes' r h. record {
-                  performs = λ along. then_performs V W s o k g goes
-                      (λ v x grown stands y. any_piece W (k v x) (l v x) y
-                      (h v x x grown (subst (λ z. Grown z x) (sym one.same) grown)
-                      (record { same = refl; stands = stands }))) along
-                      (r.performs (in_line_before t (last o).trace (last (and_then o k)).trace
-                      (then_from o k goes).events along));
-                };
+            after = λ V W s s' o p k l one g g' goes goes' r h. record {
+              performs = λ along. then_performs V W s o k g goes (λ v x grown stands.
+                  (h v x x grown (subst (λ z. Grown z x) (sym one.same) grown)
+                  (record { same = refl; stands = stands })).performs) along
+                  (r.performs (then_along t o k goes along));
+            };
             turned = λ W k l goes goes' s s' one h. record {
-              performs =
-                  λ along. turn_performs W k s one.stands s.turns refl (λ x less stands y. any_piece W (k tt x) (l tt x)
-                  y
+              performs = turn_performs W k s one.stands s.turns refl (λ x less stands.
                   (h x x less (subst (λ z. x.turns < z.turns) (sym one.same) less)
-                  (record { same = refl; stands = stands })))
-                  along;
+                  (record { same = refl; stands = stands })).performs);
             };
           }
 
@@ -357,17 +349,12 @@ module _ (main : ℕ) (t : List Event) (S' : ℕ → Bool) where
           ((s : State) → Stands s → MovesOrReturns s.trace left) → (line : ℕ) (r : Result V Cause) (s : State) →
           Stands s → Performs V (computed at line r s)
       computed_performs V at set by line (Ok v) s x = here v s refl x
-      computed_performs V at set by line (Err cause) s x =
-          stop _ s refl (record {
-            front = left_goes s x;
-            agreed = λ clear. absurd (both_ways _ clear set);
-            passed = λ yes. by s x;
-          })
+      computed_performs V at set by line (Err cause) s x = blamed_here V _ cause line s set x (by s x)
 
-      pub stands_stored : (c : ℕ) (x : Blocks) (s : State) → S' c ≡ true → Stands s →
-          Stands (record s { memory = with_blocks c x s.memory })
-      stands_stored c x s set at =
-          record { other = at.other; is = at.is; near = near_left st s _ c x set at.near }
+      pub stands_stored : (c : ℕ) (x : Blocks) (frames : List FrameChange) (s : State) → S' c ≡ true → Stands s →
+          Stands (record s { memory = with_blocks c x s.memory; frames = frames })
+      stands_stored c x frames s set at =
+          record { other = at.other; is = at.is; near = near_left st s _ c x frames set at.near }
 
       -- calls of a compartment that performs in the second run alone
       pub perform_at : ((s : State) → Stands s → MovesOrReturns s.trace left) → (at : Here) → S' at.comp ≡ true →
@@ -381,6 +368,6 @@ module _ (main : ℕ) (t : List Event) (S' : ℕ → Bool) where
             stored =
                 λ blocks s s' one. record {
                   same = ap {A = State} (λ z. record z { memory = with_blocks at.comp blocks z.memory }) one.same;
-                  stands = stands_stored at.comp blocks s set one.stands;
+                  stands = stands_stored at.comp blocks _ s set one.stands;
                 };
           }

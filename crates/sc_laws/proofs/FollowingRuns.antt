@@ -1,26 +1,23 @@
 -- Whole runs along one trace, of which the second has more compartments that perform their parts of it; the least set.
-use Rattle.sc_laws.proofs.Common.{Blamed, Bool, Cause, Ended, Event, EventsOut, Front, Function, Includes, IsChain}
-use Rattle.sc_laws.proofs.Common.{IsFixed, IsStop, IsWithin, KeepsBlames, LeastIsChain, Library, Link, List, Main}
-use Rattle.sc_laws.proofs.Common.{Memory, Never, None, Obedient, Option, PassesBlame, PassesBlames, Piece, Reached}
-use Rattle.sc_laws.proofs.Common.{RunEnd, Set, Some, SourceRun, Standing, State, Step, Stopped, StopsSo, TellsWithMore}
-use Rattle.sc_laws.proofs.Common.{TurnsOut, Value, [], and_then, ap, append-nil, arith, at_start, begun, call_own, done}
-use Rattle.sc_laws.proofs.Common.{eqb-true, exit_word, false, first_state, found, if◌then◌else◌, inl, inr, last}
-use Rattle.sc_laws.proofs.Common.{leb-false, length, length-append, longer, lt-leb, nobody, now, performed_by, reaches}
-use Rattle.sc_laws.proofs.Common.{refl, roles_in, roles_run, run_by, run_to, stands_behind, stopped_at, subst, suc, sym}
-use Rattle.sc_laws.proofs.Common.{take, take_all, true, turnless, with, within, zero, ℕ, ◌++◌, ◌+◌, ◌<◌, ◌==◌, ◌||◌}
-use Rattle.sc_laws.proofs.Common.{◌∙◌, ◌∷◌, ◌≡◌, ◌≤◌}
+use Rattle.sc_laws.proofs.Common.{Blamed, Bool, Cause, Ended, Event, Front, Function, Includes, IsChain, IsFixed}
+use Rattle.sc_laws.proofs.Common.{IsStop, IsWithin, KeepsBlames, LeastIsChain, Library, Link, List, Main, Memory, Never}
+use Rattle.sc_laws.proofs.Common.{None, Obedient, Option, PassesBlame, PassesBlames, Piece, Reached, RunEnd, Set, Some}
+use Rattle.sc_laws.proofs.Common.{SourceRun, Standing, State, Step, Stopped, StopsSo, TellsWithMore, TurnsOut, Value}
+use Rattle.sc_laws.proofs.Common.{[], and_then, ap, append-nil, arith, at_start, begun, call_own, done, drop, eqb-true}
+use Rattle.sc_laws.proofs.Common.{exit_word, false, first_state, found, inl, inr, last, leb-false, length}
+use Rattle.sc_laws.proofs.Common.{length-append, longer, lt-leb, nobody, now, performed_by, reaches, refl, roles_in}
+use Rattle.sc_laws.proofs.Common.{roles_run, run_by, run_to, stands_behind, stopped_at, subst, suc, sym, take}
+use Rattle.sc_laws.proofs.Common.{take-append-drop, take_all, take_front, true, turnless, with, within, ℕ, ◌++◌, ◌+◌}
+use Rattle.sc_laws.proofs.Common.{◌<◌, ◌==◌, ◌||◌, ◌∙◌, ◌∷◌, ◌≡◌}
 use Rattle.sc_event.specs.declared.event.Event.TheVariants as event
-use Rattle.sc_laws.proofs.Growing.{front_same, front_more, BodyGoes, within_goes}
+use Rattle.sc_laws.proofs.Growing.{front_same, front_more, front_no_longer, BodyGoes, within_goes}
+use Rattle.sc_laws.proofs.Following.{GoesOn, KeepsUp, whole, follow_kept, follow_at, Performs, left_goes, perform_kept}
+use Rattle.sc_laws.proofs.Following.{perform_at, MovesOrReturns, MovesOn, IfBlamed, KeepsUp as follows}
+use Rattle.sc_laws.proofs.Following.{Performs as performing, MovesOn as passed, MovesOrReturns as passing}
 use Rattle.sc_laws.proofs.Matching.{library_twins, scripted_goes_on, library_goes}
-use Rattle.sc_laws.proofs.Fixed.{scripted_fixed}
-use Rattle.sc_laws.proofs.Runs.{front_long, trace_is, take_fronts}
+use Rattle.sc_laws.proofs.Runs.{scripted_fixed, shown, trace_is, take_fronts}
 use Rattle.sc_laws.proofs.Rows.{InLine, in_line_before, NextIs, over, next_told_is, told as next_told}
-use Rattle.sc_laws.proofs.Following.{KeepsUp, Beyond, whole, follow_kept, follow_at, Performs, left_goes, perform_kept}
-use Rattle.sc_laws.proofs.Following.{perform_at, MovesOrReturns, MovesOn, Agreed, IfBlamed, BeyondIn}
-use Rattle.sc_laws.proofs.Following.{KeepsUp as follows, Performs as performing, MovesOn as passed}
-use Rattle.sc_laws.proofs.Following.{MovesOrReturns as passing}
 use Rattle.sc_laws.proofs.FollowingCalls.{at, first_step, second_step, N, Bodies, Telling, performs_next, all_bodies}
-use Rattle.sc_base.proofs.Lists.{take_front}
 
 -- what is shown of a piece goes on from where it is
 behaviour_front : (main : ℕ) (o : Piece (Option Value)) → Front (last o).trace (run_to main o).behaviour.trace
@@ -33,29 +30,22 @@ module _ (t : List Event) (S' : Set) where
   pub data RunsFollow (x y : SourceRun) : Type 0 where
     tells_all : Front t x.trace → Front t y.trace → RunsFollow x y
     ends_so : ((comp : ℕ) (cause : Cause) (line : ℕ) → x.end ≡ Blamed comp cause line → ⊥) → y ≡ x → RunsFollow x y
-    goes_by : (end : RunEnd) → x.end ≡ end → IsStop end → Front x.trace y.trace →
-        ((comp : ℕ) (cause : Cause) (line : ℕ) → end ≡ Blamed comp cause line → S' comp ≡ false → y ≡ x) →
-        ((comp : ℕ) (cause : Cause) (line : ℕ) → end ≡ Blamed comp cause line → S' comp ≡ true → PassesBlame x y) →
-        RunsFollow x y
+    goes_by : (end : RunEnd) → x.end ≡ end → IsStop end → Front x.trace y.trace → IfBlamed S' false end (y ≡ x) →
+        IfBlamed S' true end (PassesBlame x y) → RunsFollow x y
 
   module _ (main : ℕ) where
-    stays_blamed : (end : RunEnd) (u : State) (p : Piece (Option Value)) → Agreed main t S' (Option Value) end u p →
-        (comp : ℕ) (cause : Cause) (line : ℕ) → end ≡ Blamed comp cause line → S' comp ≡ false →
-        (run_to main p).behaviour ≡ record { trace = u.trace; end = end }
-    stays_blamed end u p by comp cause line is clear =
-        let blame =
-        subst (λ e. Agreed main t S' _ e u p) is by in
-        let x = blame clear in
-        ap (λ y. (run_to main y).behaviour) x.1 ∙ (λ i. record { trace = x.2 i; end = sym is i })
+    -- what is told with the end is told in the whole run
+    told_on : (u : List Event) (p : Piece (Option Value)) → Front u (last p).trace →
+        Front u (run_to main p).behaviour.trace
+    told_on u p front = front_more u (last p).trace _ front (behaviour_front main p)
 
     passes_on : (x : SourceRun) (u : List Event) (p : Piece (Option Value)) → x.trace ≡ u →
         MovesOn main t S' (Option Value) u p → PassesBlame x (run_to main p).behaviour
     passes_on x u p same (passed.no_turn s' is told) =
         turnless (ap (λ y. (run_to main y).behaviour) is ∙
         ap (λ z. record { trace = z; end = TurnsOut }) (told ∙ sym same))
-    passes_on x u p same (passed.longer e front) =
-        longer e (subst (λ z. Front (z ++ e ∷ []) (run_to main p).behaviour.trace) (sym same)
-        (front_more _ (last p).trace (run_to main p).behaviour.trace front (behaviour_front main p)))
+    passes_on x u p same (passed.longer e front) = longer e
+        (subst (λ z. Front (z ++ e ∷ []) (run_to main p).behaviour.trace) (sym same) (told_on (u ++ e ∷ []) p front))
 
     passes_in : (x : SourceRun) (u : List Event) (p : Piece (Option Value)) → x.trace ≡ u →
         MovesOrReturns main t S' u p → PassesBlame x (run_to main p).behaviour
@@ -68,32 +58,20 @@ module _ (t : List Event) (S' : Set) where
         })
 
     -- where the first piece stopped
-    stops_by : (end : RunEnd) (u : State) (o p : Piece (Option Value)) → o ≡ Stopped end u → StopsSo o →
-        Front u.trace (last p).trace → Agreed main t S' (Option Value) end u p →
-        ((x : SourceRun) → x.trace ≡ u.trace → (comp : ℕ) (cause : Cause) (line : ℕ) → end ≡ Blamed comp cause line →
-        S' comp ≡ true → PassesBlame x (run_to main p).behaviour) →
+    stops_by : (end : RunEnd) (u : State) (o p : Piece (Option Value)) (Passed : Type 0) → o ≡ Stopped end u →
+        StopsSo o → GoesOn main t S' (Option Value) Passed end u p →
+        ((x : SourceRun) → x.trace ≡ u.trace → Passed → PassesBlame x (run_to main p).behaviour) →
         RunsFollow (run_to main o).behaviour (run_to main p).behaviour
-    stops_by end u o p is stop front agreed passed =
+    stops_by end u o p Passed is stop by passed =
         let behaviour : (run_to main o).behaviour ≡ record { trace = u.trace; end = end } =
         ap (λ y. (run_to main y).behaviour) is in
         goes_by end (ap (λ y. (run_to main y).behaviour.end) is) (subst StopsSo is stop)
-        (subst (λ r. Front r.trace (run_to main p).behaviour.trace) (sym behaviour) (front_more u.trace (last p).trace
-        (run_to main p).behaviour.trace front (behaviour_front main p)))
-        (λ comp cause line blame clear. stays_blamed end u p
-        agreed comp cause line blame clear ∙ sym behaviour)
-        (passed (run_to main o).behaviour (ap (λ r. r.trace) behaviour))
-
-    stops_so : (end : RunEnd) (u : State) (o p : Piece (Option Value)) → o ≡ Stopped end u → StopsSo o →
-        Beyond main t S' (Option Value) end u p → RunsFollow (run_to main o).behaviour (run_to main p).behaviour
-    stops_so end u o p is stop by =
-        stops_by end u o p is stop by.front by.agreed (λ x same comp cause line blame set. passes_on x u.trace p same
-        (subst (λ e. IfBlamed main t S' e (MovesOn main t S' _ u.trace p)) blame by.passed set))
-
-    stops_in : (end : RunEnd) (u : State) (o p : Piece (Option Value)) → o ≡ Stopped end u → StopsSo o →
-        BeyondIn main t S' end u p → RunsFollow (run_to main o).behaviour (run_to main p).behaviour
-    stops_in end u o p is stop by =
-        stops_by end u o p is stop by.front by.agreed (λ x same comp cause line blame set. passes_in x u.trace p same
-        (subst (λ e. IfBlamed main t S' e (MovesOrReturns main t S' u.trace p)) blame by.passed set))
+        (subst (λ r. Front r.trace (run_to main p).behaviour.trace) (sym behaviour) (told_on u.trace p by.front))
+        (λ comp cause line blame clear. (let blamed = by.agreed comp cause line blame clear in
+        ap (λ y. (run_to main y).behaviour) blamed.1 ∙ ap (λ z. record { trace = z; end = end }) blamed.2 ∙ sym
+        behaviour))
+        (λ comp cause line blame set. passed (run_to main o).behaviour (ap (λ r. r.trace) behaviour)
+        (by.passed comp cause line blame set))
 
     ended_whole : (x : SourceRun) → x.end ≡ Ended → (comp : ℕ) (cause : Cause) (line : ℕ) →
         x.end ≡ Blamed comp cause line → ⊥
@@ -101,15 +79,14 @@ module _ (t : List Event) (S' : Set) where
 
     both_end : (st : Standing) (o p : Piece (Option Value)) → StopsSo o → KeepsUp main t S' st (Option Value) o p →
         RunsFollow (run_to main o).behaviour (run_to main p).behaviour
-    both_end st o p stop (follows.done a b) =
-        tells_all (front_more t (last o).trace (run_to main o).behaviour.trace a (behaviour_front main o))
-        (front_more t (last p).trace (run_to main p).behaviour.trace b (behaviour_front main p))
+    both_end st o p stop (follows.done a b) = tells_all (told_on t o a) (told_on t p b)
     both_end st o p stop (follows.both v u u' is is' near) =
         ends_so (ended_whole (run_to main o).behaviour (ap (λ y. (run_to main y).behaviour.end) is))
         (ap (λ y. (run_to main y).behaviour) is'
         ∙ ap (λ z. record { trace = z ++ event.End main (exit_word v) ∷ []; end = Ended }) near.trace
         ∙ sym (ap (λ y. (run_to main y).behaviour) is))
-    both_end st o p stop (follows.stop end u is by) = stops_so end u o p is stop by
+    both_end st o p stop (follows.stop end u is by) =
+        stops_by end u o p _ is stop by (λ x same. passes_on x u.trace p same)
 
 module _ (L : Library) (obedient : Obedient L) (t : List Event) (S S' : Set) (larger : IsWithin S S') where
   abbrev main : ℕ
@@ -128,9 +105,8 @@ module _ (L : Library) (obedient : Obedient L) (t : List Event) (S S' : Set) (la
   later_goes number here s = within_goes step' (scripted_goes_on L obedient _) (suc s.turns) number here s
 
   bodies : (n : ℕ) → Bodies L main t S S' larger step_fixed later_goes (within step n)
-  bodies =
-      all_bodies L main t S S' larger _ _ (library_goes L obedient) (λ st. library_twins Never _ _ _
-      (follow_kept main t S' st) (follow_at main t S' st) L L obedient)
+  bodies = all_bodies L main t S S' larger _ _ (library_goes L obedient)
+      (λ st. library_twins Never _ _ _ (follow_kept main t S' st) (follow_at main t S' st) L L obedient)
       (λ st left rest goes passes. library_twins Never _ _ _ (perform_kept main t S' st left rest goes)
       (perform_at main t S' st left rest goes passes) L L obedient)
 
@@ -173,88 +149,78 @@ module _ (L : Library) (obedient : Obedient L) (t : List Event) (S S' : Set) (la
       ended_shows (Reached v s) = refl
       ended_shows (Stopped end s) = refl
 
+      stops : StopsSo o
+      stops = ((bodies (suc turns)).goes number (at main first) start).stop
+
+      within_run : InLine t (run_to main o).behaviour.trace → InLine t (last o).trace
+      within_run = in_line_before t (last o).trace _ (behaviour_front main o)
+
+      -- the event with which `main` ends
+      abbrev exit : Option Value → Event
+      exit v = event.End main (exit_word v)
+
       resumes_end : Performs main t S' st p (λ u. now step' number (at main first) u)
-          (later_goes number (at main first))
-          (Option Value) o → StopsSo o → S' main ≡ true → InLine t (run_to main o).behaviour.trace →
-          RunsFollow t S' (run_to main o).behaviour (run_to main p).behaviour
-      resumes_end (performing.done a b) stop set along =
-          tells_all (front_more t (last o).trace (run_to main o).behaviour.trace a (behaviour_front main o))
-          (front_more t (last p).trace (run_to main p).behaviour.trace b (behaviour_front main p))
-      resumes_end (performing.here v u is stands) stop set along =
-          subst (λ r. RunsFollow t S' r (run_to main p).behaviour) (sym (ap (λ y. (run_to main y).behaviour) is))
-          (by_next (next_told_is t u.trace (event.End main (exit_word v)) stands.near.front
+          (later_goes number (at main first)) (Option Value) o → S' main ≡ true →
+          InLine t (run_to main o).behaviour.trace → RunsFollow t S' (run_to main o).behaviour (run_to main p).behaviour
+      resumes_end (performing.done a b) set along = tells_all (told_on t S' main t o a) (told_on t S' main t p b)
+      resumes_end (performing.here v u is stands) set along = subst (λ r. RunsFollow t S' r (run_to main p).behaviour)
+          (sym (ap (λ y. (run_to main y).behaviour) is)) (by_next (next_told_is t u.trace (exit v) stands.near.front
           (subst (λ y. InLine t (run_to main y).behaviour.trace) is along))) where
-            by_next : NextIs t u.trace (event.End main (exit_word v)) →
+            by_next : NextIs t u.trace (exit v) →
                 RunsFollow t S' (run_to main (Reached v u)).behaviour (run_to main p).behaviour
             by_next (over all) =
-                tells_all (whole main t S' u.trace (u.trace ++ event.End main (exit_word v) ∷ []) all
-                (record { more = event.End main (exit_word v) ∷ []; is = refl }))
-                (whole main t S' u.trace (run_to main p).behaviour.trace all (front_more u.trace (last p).trace
-                (run_to main p).behaviour.trace (left_goes main t S' st p (λ u. now step' number (at main first) u)
-                (later_goes number (at main first)) u stands) (behaviour_front main p)))
+                tells_all
+                (whole main t S' u.trace (u.trace ++ exit v ∷ []) all (record { more = exit v ∷ []; is = refl }))
+                (whole main t S' u.trace (run_to main p).behaviour.trace all (told_on t S' main u.trace p
+                (left_goes main t S' st p (λ u. now step' number (at main first) u) (later_goes number (at main first))
+                u stands)))
             by_next (next_told more all) =
                 let u' : State = stands.other in
-                let now_told : Telling L main t S S' larger step_fixed later_goes number main first
-                (event.End main (exit_word v)) u' =
-                performs_next L main t S S' larger step_fixed later_goes number main first st u'
-                (event.End main (exit_word v)) more set is_number refl (all
-                ∙ ap (λ x. x ++ event.End main (exit_word v) ∷ more) (sym stands.near.trace))
+                let now_told : Telling L main t S S' larger step_fixed later_goes number main first (exit v) u' =
+                performs_next L main t S S' larger step_fixed later_goes number main first st u' (exit v) more set
+                is_number refl (all ∙ ap (λ x. x ++ exit v ∷ more) (sym stands.near.trace))
                 (ap (stands_behind (at_start main)) stands.near.trace ∙ stands.near.stands) in
                 ends_so (λ comp cause line blame. absurd (cc)) (ap (λ y. (run_to main y).behaviour) (stands.is
-                ∙ now_told.is) ∙ ap (λ z. record { trace = z ++ event.End main (exit_word v) ∷ []; end = Ended })
-                stands.near.trace)
-      resumes_end (performing.stop end u is by) stop set along = stops_in t S' main end u o p is stop by
+                ∙ now_told.is) ∙ ap (λ z. record { trace = z ++ exit v ∷ []; end = Ended }) stands.near.trace)
+      resumes_end (performing.stop end u is by) set along =
+          stops_by t S' main end u o p _ is stops by (λ x same. passes_in t S' main x u.trace p same)
 
       -- by whether `main` performs in both runs, in the second, or in neither
       main_follows : (b b' : Bool) → S main ≡ b → S' main ≡ b' → InLine t (run_to main o).behaviour.trace →
           RunsFollow t S' (run_to main o).behaviour (run_to main p).behaviour
-      main_follows true b' set set' along =
-          both_end t S' main st o p ((bodies (suc turns)).goes number (at main first) start).stop
-          (((bodies (suc turns)).enters number main first first st start start set (begins_near f)).follows
-          (in_line_before t (last o).trace (run_to main o).behaviour.trace (behaviour_front main o) along))
-      main_follows false true clear set' along =
-          resumes_end (((bodies (suc turns)).resumes number main first number first st p start clear set' is_number
-          (record { other = start; near = begins_near f; is = refl })).performs (in_line_before t (last o).trace
-          (run_to main o).behaviour.trace (behaviour_front main o) along))
-          ((bodies (suc turns)).goes number (at main first)
-          start).stop set' along
-      main_follows false false clear clear' along =
-          both_end t S' main st o p ((bodies (suc turns)).goes number (at main first) start).stop
-          (((bodies (suc turns)).plain number (at main first) st start start clear' (begins_near f)).follows
-          (in_line_before t (last o).trace (run_to main o).behaviour.trace (behaviour_front main o) along))
+      main_follows true b' set set' along = both_end t S' main st o p stops (((bodies (suc turns)).enters number main
+          first first st start start set (begins_near f)).follows (within_run along))
+      main_follows false true clear set' along = resumes_end
+          (((bodies (suc turns)).resumes number main first number first
+          st p start clear set' is_number (record { other = start; near = begins_near f; is = refl })).performs
+          (within_run along)) set' along
+      main_follows false false clear clear' along = both_end t S' main st o p stops (((bodies (suc turns)).plain number
+          (at main first) st start start clear' (begins_near f)).follows (within_run along))
 
       main_runs : InLine t (run_to main (and_then o ends)).behaviour.trace →
           RunsFollow t S' (run_to main (and_then o ends)).behaviour (run_to main (and_then p ends)).behaviour
-      main_runs along =
-          subst (λ r. RunsFollow t S' r (run_to main (and_then p ends)).behaviour) (sym (ended_shows o))
+      main_runs along = subst (λ r. RunsFollow t S' r (run_to main (and_then p ends)).behaviour) (sym (ended_shows o))
           (subst (RunsFollow t S' (run_to main o).behaviour) (sym (ended_shows p))
           (main_follows _ _ refl refl (subst (λ r. InLine t r.trace) (ended_shows o) along)))
 
+    -- the run once the function of `main` is looked up, and once its number is
+    abbrev of_function : Step → ℕ → Option Function → SourceRun
+    of_function step number f = (run_to main (and_then (found f beginning) (λ f s. and_then
+        (within step (suc turns) number (at main (length (s.memory main))) (begun main f [] s))
+        (λ v u. Reached v (done main f (length (s.memory main)) u))))).behaviour
+
     function_runs : (number : ℕ) → L.entered main Main ≡ Some number → (f : Option Function) →
-        InLine t (run_to main
-        (and_then (found f beginning)
-        (λ f s. and_then (within step (suc turns) number (at main (length (s.memory main))) (begun main f [] s))
-        (λ v u. Reached v (done main f (length (s.memory main)) u))))).behaviour.trace
-        → RunsFollow t S'
-        (run_to main
-        (and_then (found f beginning)
-        (λ f s. and_then (within step (suc turns) number (at main (length (s.memory main))) (begun main f [] s))
-        (λ v u. Reached v (done main f (length (s.memory main)) u))))).behaviour
-        (run_to main
-        (and_then (found f beginning)
-        (λ f s. and_then (within step' (suc turns) number (at main (length (s.memory main))) (begun main f [] s))
-        (λ v u. Reached v (done main f (length (s.memory main)) u))))).behaviour
+        InLine t (of_function step number f).trace → RunsFollow t S' (of_function step number f)
+        (of_function step' number f)
     function_runs number is None along = ends_so (λ comp cause line blame. absurd (cc)) refl
     function_runs number is (Some f) along = main_runs number is f along
 
-    number_runs : (number : Option ℕ) → L.entered main Main ≡ number →
-        InLine t (run_to main (and_then (found number beginning) (λ number s. call_own L (within step (suc turns)) main
-        number [] s))).behaviour.trace
-        → RunsFollow t S'
-        (run_to main (and_then (found number beginning) (λ number s. call_own L (within step (suc turns)) main number []
-        s))).behaviour (run_to main (and_then (found number beginning)
-        (λ number s. call_own L (within step' (suc turns))
-        main number [] s))).behaviour
+    abbrev of_number : Step → Option ℕ → SourceRun
+    of_number step number = (run_to main (and_then (found number beginning)
+        (λ number s. call_own L (within step (suc turns)) main number [] s))).behaviour
+
+    number_runs : (number : Option ℕ) → L.entered main Main ≡ number → InLine t (of_number step number).trace →
+        RunsFollow t S' (of_number step number) (of_number step' number)
     number_runs None is along = ends_so (λ comp cause line blame. absurd (cc)) refl
     number_runs (Some number) is along = function_runs number is _ along
 
@@ -262,16 +228,11 @@ module _ (L : Library) (obedient : Obedient L) (t : List Event) (S S' : Set) (la
         RunsFollow t S' (run_by L step globals inputs turns).behaviour (run_by L step' globals inputs turns).behaviour
     run_follows along = number_runs _ refl along
 
--- LISTS
-front_taken : {A : Type 0} (n : ℕ) (xs : List A) → Front (take n xs) xs
-front_taken zero xs = record { more = xs; is = refl }
-front_taken (suc n) [] = record { more = []; is = refl }
-front_taken (suc n) (x ∷ xs) =
-    let rest = front_taken n xs in
-    record { more = rest.more; is = ap (λ ys. x ∷ ys) rest.is }
-
 -- THE LAWS
 module _ (t : List Event) (x y : SourceRun) where
+  abbrev cut : Bool → SourceRun → SourceRun
+  cut = shown (length t)
+
   -- a run that is stopped at the length of the trace shows the trace where its events begin with it
   shows : Front t y.trace → (stopped_at (length t) y).trace ≡ t
   shows front = trace_is _ y ∙ ap (take _) front.is ∙ take_front t front.more
@@ -280,7 +241,10 @@ module _ (t : List Event) (x y : SourceRun) where
       (stopped_at (length t) y).trace ≡ t
   tells_too S' h tells = by_run (h (inr front)) where
     front : Front t x.trace
-    front = subst (λ u. Front u x.trace) (sym (trace_is (length t) x) ∙ tells) (front_taken (length t) x.trace)
+    front = subst (λ u. Front u x.trace) (sym (trace_is (length t) x) ∙ tells) (record {
+      more = drop (length t) x.trace;
+      is = sym (take-append-drop (length t) x.trace);
+    })
 
     by_run : RunsFollow t S' x y → (stopped_at (length t) y).trace ≡ t
     by_run (tells_all a b) = shows b
@@ -292,59 +256,48 @@ module _ (t : List Event) (x y : SourceRun) where
       reaches (length t) x x.end ≡ false → length x.trace < length t
   blamed_early comp cause line ends is = leb-false _ _ (ap (reaches _ x) (sym ends) ∙ is)
 
-  stays_so : (S' : Set) → (InLine t x.trace → RunsFollow t S' x y) → (comp : ℕ) (cause : Cause) (line : ℕ) →
-      S' comp ≡ false → (b : Bool) → reaches (length t) x x.end ≡ b →
-      (if b then record { trace = take (length t) x.trace; end = EventsOut } else x).end ≡ Blamed comp cause line →
-      Front (if b then record { trace = take (length t) x.trace; end = EventsOut } else x).trace t
-      → stopped_at (length t) y ≡ (if b then record { trace = take (length t) x.trace; end = EventsOut } else x)
-  stays_so S' h comp cause line clear true is ends front = absurd (cc)
-  stays_so S' h comp cause line clear false is ends front = by_run (h (inl front)) where
-    same : y ≡ x → stopped_at (length t) y ≡ x
-    same equal =
-        ap (stopped_at (length t)) equal
-        ∙ ap (λ b. if b then record { trace = take (length t) x.trace; end = EventsOut } else x) is
+  module _ (S' : Set) (h : InLine t x.trace → RunsFollow t S' x y) (comp : ℕ) (cause : Cause) (line : ℕ) where
+    not_all : x.end ≡ Blamed comp cause line → reaches (length t) x x.end ≡ false → Front t x.trace → ⊥
+    not_all ends is told =
+        let few = blamed_early comp cause line ends is in
+        let many = front_no_longer t x.trace told in omega (arith, few, many)
 
-    by_run : RunsFollow t S' x y → stopped_at (length t) y ≡ x
-    by_run (tells_all a b) =
-        (let few : length x.trace < length t = blamed_early comp cause line ends is in
-        let many : length t ≤ length x.trace = front_long t x.trace a in absurd (omega (arith, few, many)))
-    by_run (ends_so no_blame equal) = same equal
-    by_run (goes_by end ends' stop on stays passes) = same (stays comp cause line (sym ends' ∙ ends) clear)
+    stays_so : S' comp ≡ false → (b : Bool) → reaches (length t) x x.end ≡ b → (cut b x).end ≡ Blamed comp cause line →
+        Front (cut b x).trace t → stopped_at (length t) y ≡ cut b x
+    stays_so clear true is ends front = absurd (cc)
+    stays_so clear false is ends front = by_run (h (inl front)) where
+      same : y ≡ x → stopped_at (length t) y ≡ x
+      same equal = ap (stopped_at (length t)) equal ∙ ap (λ b. cut b x) is
 
-  passes_so : (S' : Set) → (InLine t x.trace → RunsFollow t S' x y) → (comp : ℕ) (cause : Cause) (line : ℕ) →
-      S' comp ≡ true → (b : Bool) → reaches (length t) x x.end ≡ b →
-      (if b then record { trace = take (length t) x.trace; end = EventsOut } else x).end ≡ Blamed comp cause line →
-      Front (if b then record { trace = take (length t) x.trace; end = EventsOut } else x).trace t
-      → PassesBlame (if b then record { trace = take (length t) x.trace; end = EventsOut } else x)
-      (stopped_at (length t) y)
-  passes_so S' h comp cause line set true is ends front = absurd (cc)
-  passes_so S' h comp cause line set false is ends front = by_run (h (inl front)) where
-    few : length x.trace < length t
-    few = blamed_early comp cause line ends is
+      by_run : RunsFollow t S' x y → stopped_at (length t) y ≡ x
+      by_run (tells_all a b) = absurd (not_all ends is a)
+      by_run (ends_so no_blame equal) = same equal
+      by_run (goes_by end ends' stop on stays passes) = same (stays comp cause line (sym ends' ∙ ends) clear)
 
-    stopped_on : PassesBlame x y → PassesBlame x (stopped_at (length t) y)
-    stopped_on (turnless equal) =
-        turnless (ap (stopped_at (length t)) equal
-        ∙ ap (λ b. if b then record { trace = take (length t) x.trace; end = EventsOut } else record {
-          trace = x.trace;
-          end = TurnsOut;
-        }) (lt-leb (length t) (length x.trace) few))
-    stopped_on (longer e on) =
-        let one : length (x.trace ++ e ∷ []) ≡ length x.trace + 1 = length-append x.trace (e ∷ []) in
-        longer e (subst (λ u. Front (x.trace ++ e ∷ []) u) (sym (trace_is (length t) y))
-        (subst (λ u. Front u (take (length t) y.trace)) (take_all (length t) (x.trace ++ e ∷ [])
-        (omega (arith, one, few))) (take_fronts (length t) (length t) (x.trace ++ e ∷ []) y.trace (omega arith) on)))
+    passes_so : S' comp ≡ true → (b : Bool) → reaches (length t) x x.end ≡ b → (cut b x).end ≡ Blamed comp cause line →
+        Front (cut b x).trace t → PassesBlame (cut b x) (stopped_at (length t) y)
+    passes_so set true is ends front = absurd (cc)
+    passes_so set false is ends front = by_run (h (inl front)) where
+      few : length x.trace < length t
+      few = blamed_early comp cause line ends is
 
-    by_run : RunsFollow t S' x y → PassesBlame x (stopped_at (length t) y)
-    by_run (tells_all a b) =
-        (let many : length t ≤ length x.trace = front_long t x.trace a in absurd (omega (arith, few, many)))
-    by_run (ends_so no_blame equal) = absurd (no_blame comp cause line ends)
-    by_run (goes_by end ends' stop on stays passes) = stopped_on (passes comp cause line (sym ends' ∙ ends) set)
+      stopped_on : PassesBlame x y → PassesBlame x (stopped_at (length t) y)
+      stopped_on (turnless equal) = turnless (ap (stopped_at (length t)) equal
+          ∙ ap (λ b. cut b (record { trace = x.trace; end = TurnsOut })) (lt-leb (length t) (length x.trace) few))
+      stopped_on (longer e on) =
+          let one : length (x.trace ++ e ∷ []) ≡ length x.trace + 1 = length-append x.trace (e ∷ []) in
+          longer e (subst (λ u. Front (x.trace ++ e ∷ []) u) (sym (trace_is (length t) y))
+          (subst (λ u. Front u (take (length t) y.trace)) (take_all (length t) (x.trace ++ e ∷ [])
+          (omega (arith, one, few))) (take_fronts (length t) (length t) (x.trace ++ e ∷ []) y.trace (omega arith) on)))
+
+      by_run : RunsFollow t S' x y → PassesBlame x (stopped_at (length t) y)
+      by_run (tells_all a b) = absurd (not_all ends is a)
+      by_run (ends_so no_blame equal) = absurd (no_blame comp cause line ends)
+      by_run (goes_by end ends' stop on stays passes) = stopped_on (passes comp cause line (sym ends' ∙ ends) set)
 
   -- a run that was blamed has not told the whole trace
   blamed_below : (comp : ℕ) (cause : Cause) (line : ℕ) → (b : Bool) → reaches (length t) x x.end ≡ b →
-      (if b then record { trace = take (length t) x.trace; end = EventsOut } else x).end ≡ Blamed comp cause line →
-      (if b then record { trace = take (length t) x.trace; end = EventsOut } else x).trace ≡ t → ⊥
+      (cut b x).end ≡ Blamed comp cause line → (cut b x).trace ≡ t → ⊥
   blamed_below comp cause line true is ends tells = cc
   blamed_below comp cause line false is ends tells =
       (let few = blamed_early comp cause line ends is in let long = ap length tells in omega (arith, few, long))
@@ -368,22 +321,19 @@ module _ (L : Library) (obedient : Obedient L) (globals : Memory) (inputs : List
       tells_too t _ _ large (run_follows L obedient t small large larger globals inputs turns) tells
 
   pub keeps_blames : KeepsBlames t behaviour
-  keeps_blames small large larger comp cause line ends front clear =
-      stays_so t _ _ large (run_follows L obedient t small large larger globals inputs
-      turns) comp cause line clear _ refl ends front
+  keeps_blames small large larger comp cause line ends front clear = stays_so t _ _ large
+      (run_follows L obedient t small large larger globals inputs turns) comp cause line clear _ refl ends front
 
   pub passes_blames : PassesBlames t behaviour
-  passes_blames small large larger comp cause line ends front set =
-      passes_so t _ _ large (run_follows L obedient t small large larger globals inputs
-      turns) comp cause line set _ refl ends front
+  passes_blames small large larger comp cause line ends front set = passes_so t _ _ large
+      (run_follows L obedient t small large larger globals inputs turns) comp cause line set _ refl ends front
 
   module _ (set : Set) where
     is_needed : (links : List Link) (small : Set) → IsWithin small set → IsChain behaviour t small links →
         (behaviour set).trace ≡ t → Includes set links
     is_needed [] small larger chain tells = tt
-    is_needed (link ∷ links) small larger chain tells =
-        by_test (set link.comp) refl (λ has. is_needed links (with _ small)
-        (with_link set small _ larger has) chain.1 tells) where
+    is_needed (link ∷ links) small larger chain tells = by_test (set link.comp) refl
+        (λ has. is_needed links (with _ small) (with_link set small _ larger has) chain.1 tells) where
           by_test : (b : Bool) → set link.comp ≡ b → (set link.comp ≡ true → Includes set links) →
               (set link.comp ≡ true) × Includes set links
           by_test true has rest = (has, rest has)

@@ -1,14 +1,14 @@
 -- Each word of the meaning only goes on: events are appended, and no turns come back.
 use Rattle.sc_laws.proofs.Common.{Action, AllFrom, BadType, Blamed, Body, Bool, Call, CallTarget, Calls, Closed, Cross}
 use Rattle.sc_laws.proofs.Common.{Does, Event, Exit, FrameChange, Front, Function, Goes, Gone, Grown, Here, In, Input}
-use Rattle.sc_laws.proofs.Common.{Interfaces, Left, Library, List, None, On, Opened, Option, Output, Own, Piece}
+use Rattle.sc_laws.proofs.Common.{Interfaces, Left, Library, List, None, On, Opened, Option, Out, Output, Own, Piece}
 use Rattle.sc_laws.proofs.Common.{Reached, Ret, Roles, Route, Row, Some, State, Step, Stopped, TurnsOut, Value, Word}
 use Rattle.sc_laws.proofs.Common.{[], acts, and_then, ap, append-nil, append_assoc, arith, asks, back_cross, back_own}
 use Rattle.sc_laws.proofs.Common.{begun, call_cross, call_own, called, calls, done, false, follow, found, function}
 use Rattle.sc_laws.proofs.Common.{if◌then◌else◌, is_number, last, length, length-append, map, may_call, performs}
 use Rattle.sc_laws.proofs.Common.{read_input, refl, rows_left, run_in, run_step, scripted_step, suc, sym, tell, true}
 use Rattle.sc_laws.proofs.Common.{turn, turn_of, within, word_in, zero, ℕ, ◌++◌, ◌+◌, ◌∙◌, ◌∷◌, ◌≡◌, ◌≤◌}
-use Rattle.sc_core.specs.Prelude.{Out, take}
+use Rattle.sc_core.specs.Prelude.{take}
 use Rattle.sc_event.specs.declared.row.Action.TheVariants as act
 
 abbrev pub front_same : {A : Type 0} (xs : List A) → Front xs xs
@@ -42,8 +42,7 @@ from_append events (Opened told c room ∷ first) second h k = (h.0, from_append
 from_append events (Closed told c room ∷ first) second h k = (h.0, from_append events first second h.1 k)
 
 pub front_no_longer : {A : Type 0} (xs ys : List A) → Front xs ys → length xs ≤ length ys
-front_no_longer xs ys h =
-    let long = ap length h.is ∙ length-append xs h.more in omega (arith, long)
+front_no_longer xs ys h = let long = ap length h.is ∙ length-append xs h.more in omega (arith, long)
 
 pub late_more : (s t : State) (first second : List FrameChange) → Front s.trace t.trace →
     AllFrom (length s.trace) first → AllFrom (length t.trace) second → AllFrom (length s.trace) (first ++ second)
@@ -83,6 +82,11 @@ pub then_from : {V W : Type 0} (o : Piece V) (k : V → State → Piece W) → (
 then_from (Reached v s) k h = (h v s).grown
 then_from (Stopped end s) k h = same s
 
+-- what was told before a piece is told before what follows it
+pub then_front : {V W : Type 0} (u : List Event) (o : Piece V) (k : V → State → Piece W) → ((v : V) → Goes (k v)) →
+    Front u (last o).trace → Front u (last (and_then o k)).trace
+then_front u o k goes front = front_more u (last o).trace _ front (then_from o k goes).events
+
 pub then_goes : {V W : Type 0} (s : State) (o : Piece V) (k : V → State → Piece W) → Gone s o → ((v : V) → Goes (k v)) →
     Gone s (and_then o k)
 then_goes s (Reached v t) k g h = earlier s t _ g.grown (h v t)
@@ -99,12 +103,7 @@ follow_goes route s o go g h = then_goes s o _ g (λ left. take_goes _ go h _)
 pub turn_of_goes : (n : ℕ) (s : State) → n ≡ s.turns → Gone s (turn_of n s)
 turn_of_goes zero s is = no_turn s
 turn_of_goes (suc n) s is =
-    reached tt s _ (record {
-      events = front_same s.trace;
-      frames = front_same _;
-      late = tt;
-      turns = omega (arith, is);
-    })
+    reached tt s _ (record { events = front_same s.trace; frames = front_same _; late = tt; turns = omega (arith, is) })
 
 pub turn_goes : (s : State) → Gone s (turn s)
 turn_goes s = turn_of_goes s.turns s refl
@@ -139,10 +138,7 @@ pub begun_goes : (comp : ℕ) (f : Function) (args : List Value) (s : State) →
 begun_goes comp f args s =
     record {
       events = front_same s.trace;
-      frames = record {
-        more = Opened _ comp f.room ∷ [];
-        is = refl;
-      };
+      frames = record { more = Opened _ comp f.room ∷ []; is = refl };
       late = (omega arith, tt);
       turns = omega arith;
     }
@@ -151,10 +147,7 @@ pub done_goes : (comp : ℕ) (f : Function) (first : ℕ) (s : State) → Grown 
 done_goes comp f first s =
     record {
       events = front_same s.trace;
-      frames = record {
-        more = Closed _ comp f.room ∷ [];
-        is = refl;
-      };
+      frames = record { more = Closed _ comp f.room ∷ []; is = refl };
       late = (omega arith, tt);
       turns = omega arith;
     }
@@ -211,9 +204,8 @@ module _ (library : Library) (body : Body) (goes : BodyGoes body) where
       (Stopped _ s) (called_go from target args s) (record { grown = same s; stop = tt })
 
   -- a call that a script asks for is made where it may be
-  pub asks_is : (comp : ℕ) (target : CallTarget) (args : List Value) (s : State) →
-      asks library body comp target args s ≡ (if may_call library comp target args then called library body comp target
-      args s else Stopped TurnsOut s)
+  pub asks_is : (comp : ℕ) (target : CallTarget) (args : List Value) (s : State) → asks library body comp target args s
+      ≡ (if may_call library comp target args then called library body comp target args s else Stopped TurnsOut s)
   asks_is comp target args s = by _ where
     by : (b : Bool) → (if b then (if b then called library body comp target args s else Stopped (Blamed comp BadType 0)
         s) else Stopped TurnsOut s) ≡ (if b then called library body comp target args s else Stopped TurnsOut s)
@@ -221,23 +213,20 @@ module _ (library : Library) (body : Body) (goes : BodyGoes body) where
     by false = refl
 
   pub asks_go : (comp : ℕ) (target : CallTarget) (args : List Value) → Goes (asks library body comp target args)
-  asks_go comp target args s =
-      if_goes s (may_call library comp target args) (calls library body comp target args s) (Stopped TurnsOut s)
-      (calls_go comp target args s) (no_turn s)
+  asks_go comp target args s = if_goes s (may_call library comp target args) (calls library body comp target args s)
+      (Stopped TurnsOut s) (calls_go comp target args s) (no_turn s)
 
   pub run_step_goes : LibraryGoes library → BodyGoes (run_step library body)
-  run_step_goes h number here s =
-      known (function library _ number) (h _ number) where
-        known : (f : Option Function) → ((g : Function) → f ≡ Some g → FunctionGoes g) →
-            Gone s (and_then (found f s) (λ f s. f.does (calls library body) here s))
-        known None h = no_turn s
-        known (Some f) h = h f refl (calls library body) calls_go here s
+  run_step_goes h number here s = known (function library _ number) (h _ number) where
+    known : (f : Option Function) → ((g : Function) → f ≡ Some g → FunctionGoes g) →
+        Gone s (and_then (found f s) (λ f s. f.does (calls library body) here s))
+    known None h = no_turn s
+    known (Some f) h = h f refl (calls library body) calls_go here s
 
   pub acts_go : (action : Action) (next again : State → Piece (Option Value)) → Goes next → Goes again → (comp : ℕ) →
       Goes (acts library body action next again comp)
-  acts_go (act.Call to index args) next again h k comp s =
-      then_goes s (asks library body comp (Cross to index) (map _ args) s) _ (asks_go comp (Cross to index)
-      (map _ args) s) (λ v. k)
+  acts_go (act.Call to index args) next again h k comp s = then_goes s
+      (asks library body comp (Cross to index) (map _ args) s) _ (asks_go comp (Cross to index) (map _ args) s) (λ v. k)
   acts_go (act.Ret v) next again h k comp s = stays _ s
   acts_go (act.Out w) next again h k comp s =
       then_goes s (asks library body comp Output (Word w ∷ []) s) _ (asks_go comp Output (Word w ∷ []) s) (λ v. h)
@@ -247,9 +236,8 @@ module _ (library : Library) (body : Body) (goes : BodyGoes body) where
 
   pub performs_go : (rows : List Row) → BodyGoes (performs library body rows)
   performs_go [] number here s = no_turn s
-  performs_go (row ∷ rest) number here s =
-      if_goes s (is_number number _) _ _ (acts_go _ _ _ (performs_go rest number here)
-      (goes number here) _ s) (no_turn s)
+  performs_go (row ∷ rest) number here s = if_goes s (is_number number _) _ _
+      (acts_go _ _ _ (performs_go rest number here) (goes number here) _ s) (no_turn s)
 
 -- functions in which calls go on only go on
 abbrev pub StepGoes : Step → Type 0
@@ -257,13 +245,11 @@ StepGoes step = (body : Body) → BodyGoes body → BodyGoes (step body)
 
 pub scripted_goes : (library : Library) (roles : Roles) (step : Step) → StepGoes step →
     StepGoes (scripted_step library roles step)
-scripted_goes library roles step h body goes number here s =
-    by_role _ where
-      by_role : (b : Bool) →
-          Gone s (if b then performs library body (rows_left roles here.comp s.trace) number here s else step body
-          number here s)
-      by_role true = performs_go library body goes _ number here s
-      by_role false = h body goes number here s
+scripted_goes library roles step h body goes number here s = by_role _ where
+  by_role : (b : Bool) → Gone s (if b then performs library body (rows_left roles here.comp s.trace) number here s
+      else step body number here s)
+  by_role true = performs_go library body goes _ number here s
+  by_role false = h body goes number here s
 
 pub within_goes : (step : Step) → StepGoes step → (n : ℕ) → BodyGoes (within step n)
 within_goes step h zero number here s = no_turn s

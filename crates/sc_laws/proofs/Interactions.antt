@@ -3,12 +3,12 @@
 -- `match_` is of one word, and together they show that a library obeys.
 use Rattle.sc_laws.proofs.Common.{Alike, Asks, Blames, Blocks, Bool, CallTarget, Calls, Cause, Does, Doing, Each, Err}
 use Rattle.sc_laws.proofs.Common.{Exit, Gives, GoFrom, Goes, Gone, Grown, Halts, Here, Interaction, Lasts, Left, List}
-use Rattle.sc_laws.proofs.Common.{Match, Next, Ok, On, Piece, Plays, Reached, Reads, Result, Route, Spends, State}
+use Rattle.sc_laws.proofs.Common.{Match, Next, Ok, On, Out, Piece, Plays, Reached, Reads, Result, Route, Spends, State}
 use Rattle.sc_laws.proofs.Common.{Stopped, Stores, Value, [], all_do, and_then, ap, arith, computed, false, follow}
 use Rattle.sc_laws.proofs.Common.{if◌then◌else◌, in_loop, in_order, inl, inr, leave, loop, map, played, refl, rounds}
 use Rattle.sc_laws.proofs.Common.{store, stored, subst, suc, sym, true, turn, turn_of, with_memory, zero, ℕ, ◌<◌, ◌∙◌}
 use Rattle.sc_laws.proofs.Common.{◌∷◌, ◌≡◌, ◌≤◌}
-use Rattle.sc_core.specs.Prelude.{Out, take}
+use Rattle.sc_core.specs.Prelude.{take}
 use Rattle.sc_laws.proofs.Growing.{same, stays, no_turn, earlier, then_goes, turn_goes, then_then}
 use Rattle.sc_laws.proofs.Expressions.{Keeps, alike, blamed}
 
@@ -53,8 +53,7 @@ played_bind (Gives v) next by here s = refl
 played_bind (Blames cause line) next by here s = refl
 played_bind (Reads go) next by here s = played_bind (go (s.memory here.comp)) next by here s
 played_bind (Stores blocks go) next by here s = played_bind go next by here _
-played_bind (Spends go) next by here s =
-    (λ i. and_then (turn s) (λ _ t. played_bind go next by here t i))
+played_bind (Spends go) next by here s = (λ i. and_then (turn s) (λ _ t. played_bind go next by here t i))
     ∙ sym (then_then (turn s) (λ _ t. played go by here t) _)
 played_bind (Asks target args go) next by here s =
     (λ i. and_then (by here.comp target args s) (λ v t. played_bind (go v) next by here t i))
@@ -73,22 +72,20 @@ played_goes (Stores blocks next) by here go s =
           record { events = (same s).events; frames = (same s).frames; late = (same s).late; turns = (same s).turns }
 played_goes (Spends next) by here go s =
     then_goes s (turn s) (λ _. played next by here) (turn_goes s) (λ u. played_goes next by here go)
-played_goes (Asks target args next) by here go s =
-    then_goes s (by here.comp target args s) (λ v. played (next v) by here) (go target args s)
-    (λ v. played_goes (next v) by here go)
+played_goes (Asks target args next) by here go s = then_goes s (by here.comp target args s)
+    (λ v. played (next v) by here) (go target args s) (λ v. played_goes (next v) by here go)
 played_goes Halts by here go s = no_turn s
 
 -- what lasts longer lasts
 pub lasts_most : {V : Type 0} (n m : ℕ) (tree : Interaction V) → m ≤ n → Lasts n tree → Lasts m tree
 lasts_most n zero tree le h = tt
 lasts_most zero (suc m) tree le h = absurd (omega (arith, le))
-lasts_most (suc n) (suc m) (Gives v) le h = tt
-lasts_most (suc n) (suc m) (Blames cause line) le h = tt
 lasts_most (suc n) (suc m) (Reads go) le h = λ blocks. lasts_most (suc n) _ (go blocks) le (h blocks)
 lasts_most (suc n) (suc m) (Stores blocks go) le h = lasts_most _ _ go le h
 lasts_most (suc n) (suc m) (Spends go) le h = lasts_most n m go (omega (arith, le)) h
 lasts_most (suc n) (suc m) (Asks target args go) le h = λ v. lasts_most _ (suc m) (go v) le (h v)
 lasts_most (suc n) (suc m) Halts le h = absurd h
+lasts_most (suc n) (suc m) _ le h = tt
 
 pub lasts_bind : {V W : Type 0} (n : ℕ) (tree : Interaction V) (next : V → Interaction W) → Lasts n tree →
     ((v : V) → Lasts n (next v)) → Lasts n (bind tree next)
@@ -115,8 +112,7 @@ trail route tree go = bind tree (λ left. on_route (route left.exit) go left.car
 abbrev pub round_trees : {A : Type 0} → ℕ → (A → Interaction (Left A)) → (A → Interaction (Left A)) →
     (A → Interaction (Left A)) → A → Interaction (Left A)
 round_trees zero head body next a = Halts
-round_trees (suc n) head body next a =
-    trail in_loop (head a)
+round_trees (suc n) head body next a = trail in_loop (head a)
     (λ a. Spends (trail in_loop (body a) (λ a. trail in_loop (next a) (round_trees n head body next))))
 
 module _ {A : Type 0} (here : Here) where
@@ -141,26 +137,26 @@ module _ {A : Type 0} (here : Here) where
         (g : A → Interaction (Left A)) → o ≡ played tree by here s →
         ((a : A) (t : State) → Grown s t → f a t ≡ played (g a) by here t) →
         follow route o f ≡ played (trail route tree g) by here s
-    follow_same route s o tree f g is h =
-        ap (λ x. follow route x f) is ∙ then_same s (played tree by here s) (played_goes tree by here goes s)
-        (λ left t. take _ f _ t) (λ left t. played (on_route _ g _) by here t)
+    follow_same route s o tree f g is h = ap (λ x. follow route x f) is ∙ then_same s (played tree by here s)
+        (played_goes tree by here goes s) (λ left t. take _ f _ t) (λ left t. played (on_route _ g _) by here t)
         (λ left t up. take_same _ s f g h _ t up) ∙ sym (played_bind tree _ by here s)
 
 -- PLAYS
+-- what lasts a turn lasts however many
+from_one : (P : ℕ → Type 0) → P zero → ((n : ℕ) → P (suc n)) → (n : ℕ) → P n
+from_one P none some zero = none
+from_one P none some (suc n) = some n
+
 pub plays_reached : {V : Type 0} (here : Here) (v : V) → Plays here (λ by. Reached v) (λ n. Gives v)
-plays_reached here v = record { lasts = lasts; is = λ n by goes s few. refl } where
-  lasts : (n : ℕ) → Lasts n (Gives v)
-  lasts zero = tt
-  lasts _ = tt
+plays_reached here v = record { lasts = from_one (λ n. Lasts n (Gives v)) tt (λ n. tt); is = λ n by goes s few. refl }
 
 pub plays_then : {V W : Type 0} (here : Here) (f : Doing V) (k : V → Doing W) (tree : ℕ → Interaction V) (next : V → ℕ →
     Interaction W) → Plays here f tree → ((v : V) → Plays here (k v) (next v)) →
     Plays here (λ by s. and_then (f by s) (λ v t. k v by t)) (λ n. bind (tree n) (λ v. next v n))
 plays_then here f k tree next h x = record {
   lasts = λ n. lasts_bind n (tree n) (λ v. next v n) (h.lasts n) (λ v. (x v).lasts n);
-  is = λ n by goes s few.
-      ap (λ o. and_then o (λ v t. k v by t)) (h.is n by goes s few)
-      ∙ then_same s (played (tree n) by here s) (played_goes (tree n) by here goes s) (λ v t. k v by t)
+  is = λ n by goes s few. ap (λ o. and_then o (λ v t. k v by t)) (h.is n by goes s few) ∙ then_same s
+      (played (tree n) by here s) (played_goes (tree n) by here goes s) (λ v t. k v by t)
       (λ v t. played (next v n) by here t) (λ v t up. (x v).is n by goes t (omega (arith, few, up.turns)))
       ∙ sym (played_bind (tree n) (λ v. next v n) by here s);
 }
@@ -169,38 +165,33 @@ abbrev of_result : {V : Type 0} → ℕ → Result V Cause → Interaction V
 of_result line (Ok v) = Gives v
 of_result line (Err cause) = Blames cause line
 
-pub plays_computed : {V : Type 0} (here : Here) (line : ℕ) (e : Blocks → Result V Cause) →
-    Plays here (λ by s. computed here line (e (s.memory here.comp)) s)
-    (λ n. Reads (λ blocks. of_result line (e blocks)))
-plays_computed {V} here line e =
-    record { lasts = lasts; is = λ n by goes s few. is (e (s.memory _)) by s } where
-      lasts_result : (n : ℕ) (r : Result V Cause) → Lasts n (of_result line r)
-      lasts_result zero r = tt
-      lasts_result _ (Ok v) = tt
-      lasts_result _ (Err cause) = tt
+pub plays_computed : {V : Type 0} (here : Here) (line : ℕ) (e : Blocks → Result V Cause) → Plays here
+    (λ by s. computed here line (e (s.memory here.comp)) s) (λ n. Reads (λ blocks. of_result line (e blocks)))
+plays_computed {V} here line e = record {
+  lasts = from_one (λ n. Lasts n (Reads (λ blocks. of_result line (e blocks)))) tt
+      (λ n blocks. lasts_result (suc n) (e blocks));
+  is = λ n by goes s few. is (e (s.memory _)) by s;
+} where
+  lasts_result : (n : ℕ) (r : Result V Cause) → Lasts n (of_result line r)
+  lasts_result zero r = tt
+  lasts_result _ (Ok v) = tt
+  lasts_result _ (Err cause) = tt
 
-      lasts : (n : ℕ) → Lasts n (Reads (λ blocks. of_result line (e blocks)))
-      lasts zero = tt
-      lasts (suc n) = λ blocks. lasts_result (suc n) _
-
-      is : (r : Result V Cause) (by : Calls) (s : State) → computed here line r s ≡ played (of_result line r) by here s
-      is (Ok v) by s = refl
-      is (Err cause) by s = refl
+  is : (r : Result V Cause) (by : Calls) (s : State) → computed here line r s ≡ played (of_result line r) by here s
+  is (Ok v) by s = refl
+  is (Err cause) by s = refl
 
 pub plays_stored : {V : Type 0} (here : Here) (v : V) (blocks : Blocks) →
     Plays here (λ by s. Reached v (with_memory here.comp blocks s)) (λ n. Stores blocks (Gives v))
-plays_stored {V} here v blocks = record { lasts = lasts; is = λ n by goes s few. refl } where
-  lasts : (n : ℕ) → Lasts n (Stores blocks (Gives v))
-  lasts zero = tt
-  lasts _ = tt
+plays_stored {V} here v blocks =
+    record { lasts = from_one (λ n. Lasts n (Stores blocks (Gives v))) tt (λ n. tt); is = λ n by goes s few. refl }
 
 pub plays_call : (here : Here) (target : CallTarget) (args : List Value) →
     Plays here (λ by. by here.comp target args) (λ n. Asks target args (λ v. Gives v))
-plays_call here target args =
-    record { lasts = lasts; is = λ n by goes s few. then_reached _ } where
-      lasts : (n : ℕ) → Lasts n (Asks target args (λ v. Gives v))
-      lasts zero = tt
-      lasts _ = λ v. tt
+plays_call here target args = record {
+  lasts = from_one (λ n. Lasts n (Asks target args (λ v. Gives v))) tt (λ n v. tt);
+  is = λ n by goes s few. then_reached _;
+}
 
 -- doings with what a run carries
 abbrev pub DoingWith : Type 0 → Type 0
@@ -241,18 +232,16 @@ module _ {A : Type 0} (here : Here) where
         follow_same here by goes in_loop s (f by a s) (head a most) _ _ ((h a).is most by goes s small) (λ a t up.
         turn_same t.turns t (λ t. follow in_loop (f2 by a t) (λ a s. follow in_loop (f3 by a s) (rounds n (f by) _ _)))
         (λ t. played (trail in_loop (body a most) (λ a. trail in_loop (next a most) (trees m))) by here t) refl
-        (λ w less. follow_same here by goes in_loop w (f2 by a w) (body a most) _ _ ((b a).is most by goes w
-        (omega (arith, small, up.turns, less))) (λ a u up2.
-        follow_same here by goes in_loop u (f3 by a u) (next a most) _ _ ((x a).is most by goes u
-        (omega (arith, small, up.turns, less, up2.turns))) (λ a z up3.
-        rounds_are by goes n m a z (omega (arith, few, up.turns, less, up2.turns, up3.turns))
+        (λ w less. follow_same here by goes in_loop w (f2 by a w) (body a most) _ _
+        ((b a).is most by goes w (omega (arith, small, up.turns, less))) (λ a u up2. follow_same here by goes in_loop u
+        (f3 by a u) (next a most) _ _ ((x a).is most by goes u (omega (arith, small, up.turns, less, up2.turns)))
+        (λ a z up3. rounds_are by goes n m a z (omega (arith, few, up.turns, less, up2.turns, up3.turns))
         (omega (arith, few', up.turns, less, up2.turns, up3.turns))
         (omega (arith, small, up.turns, less, up2.turns, up3.turns))))))
 
   pub plays_loop : (f f2 f3 : DoingWith A) (head body next : A → ℕ → Interaction (Left A)) → PlaysWith f head →
-      PlaysWith f2 body → PlaysWith f3 next →
-      PlaysWith (λ by. loop (f by) (f2 by) (f3 by)) (λ a n. round_trees n (λ a. head a n) (λ a. body a n)
-      (λ a. next a n) a)
+      PlaysWith f2 body → PlaysWith f3 next → PlaysWith (λ by. loop (f by) (f2 by) (f3 by))
+      (λ a n. round_trees n (λ a. head a n) (λ a. body a n) (λ a. next a n) a)
   plays_loop f f2 f3 head body next h b x a = record {
     lasts = λ n. lasts_rounds f f2 f3 head body next h b x n n (omega arith) a;
     is = λ n by goes s few. rounds_are f f2 f3 head body next h b x n by goes (suc s.turns) n a s (omega arith) few few;
@@ -268,8 +257,7 @@ module _ (Soft : Cause → Type 0) where
   alike_bind (Reads go) twin next next' h k = (
     (λ blocks. bind (h.0 blocks) next'),
     ap (λ x. bind x next') h.1,
-    λ blocks. alike_bind (go blocks) (h.0 blocks)
-        next next' (h.2 blocks) k,
+    (λ blocks. alike_bind (go blocks) (h.0 blocks) next next' (h.2 blocks) k),
   )
   alike_bind (Stores blocks go) twin next next' h k =
       (bind h.0 next', ap (λ x. bind x next') h.1, alike_bind go h.0 next next' h.2 k)
@@ -308,8 +296,8 @@ module _ (Soft : Cause → Type 0) where
         alike_trail in_loop (f a) (g a) _ _ (h a) (λ a. (
           (trail in_loop (g2 a) _),
           refl,
-          alike_trail in_loop (f2 a) (g2 a) _ _ (b a) (λ a.
-              alike_trail in_loop (f3 a) (g3 a) _ _ (x a) (alike_rounds n f g f2 g2 f3 g3 h b x)),
+          alike_trail in_loop (f2 a) (g2 a) _ _ (b a)
+              (λ a. alike_trail in_loop (f3 a) (g3 a) _ _ (x a) (alike_rounds n f g f2 g2 f3 g3 h b x)),
         ))
 
   -- DOINGS THAT MATCH
@@ -336,25 +324,18 @@ module _ (Soft : Cause → Type 0) where
 
     -- what is computed from the blocks of the compartment, or blame
     pub match_computed : {V : Type 0} (line : ℕ) (e e' : Blocks → Result V Cause) →
-        ((blocks : Blocks) → Keeps Soft V (e blocks) (e' blocks)) →
-        Match Soft here (λ by s. computed here line (e (s.memory here.comp)) s)
-        (λ by s. computed here line (e' (s.memory here.comp)) s)
+        ((blocks : Blocks) → Keeps Soft V (e blocks) (e' blocks)) → Match Soft here
+        (λ by s. computed here line (e (s.memory here.comp)) s) (λ by s. computed here line (e' (s.memory here.comp)) s)
     match_computed line e e' h = record {
       tree = λ n. Reads _;
       twin = λ n. Reads _;
       first = plays_computed here line e;
       second = plays_computed here line e';
-      alike =
-          λ n. (
-            (λ blocks. of_result line _),
-            refl,
-            λ blocks. alike_result line _ _ (h blocks),
-          );
+      alike = λ n. ((λ blocks. of_result line _), refl, λ blocks. alike_result line _ _ (h blocks));
     }
 
-    pub match_stored : {V : Type 0} (v : V) (blocks : Blocks) →
-        Match Soft here (λ by s. Reached v (with_memory here.comp blocks s))
-        (λ by s. Reached v (with_memory here.comp blocks s))
+    pub match_stored : {V : Type 0} (v : V) (blocks : Blocks) → Match Soft here
+        (λ by s. Reached v (with_memory here.comp blocks s)) (λ by s. Reached v (with_memory here.comp blocks s))
     match_stored v blocks = record {
       tree = λ n. Stores blocks _;
       twin = λ n. Stores blocks _;
@@ -397,8 +378,7 @@ module _ (Soft : Cause → Type 0) where
 
       -- a value at a place
       pub match_store : (q v : Value) (line : ℕ) → MatchWith (λ by. stored here q v line) (λ by. stored here q v line)
-      match_store q v line a =
-          match_then _ _ (λ blocks by t. leave Next a _) (λ blocks by t. leave Next a _)
+      match_store q v line a = match_then _ _ (λ blocks by t. leave Next a _) (λ blocks by t. leave Next a _)
           (match_computed line (λ blocks. store blocks q v) (λ blocks. store blocks q v) (λ blocks. alike refl))
           (λ blocks. match_stored _ blocks)
 
@@ -406,8 +386,7 @@ module _ (Soft : Cause → Type 0) where
       pub match_all : {X : Type 0} (f g : X → DoingWith A) (xs : List X) → Each (λ x. MatchWith (f x) (g x)) xs →
           MatchWith (λ by. all_do (map (λ x. f x by) xs)) (λ by. all_do (map (λ x. g x by) xs))
       match_all f g [] h a = match_leave Next a
-      match_all f g (x ∷ xs) h a =
-          match_follow in_order (λ by. f x by a) (λ by. g x by a) (λ by. all_do (map _ xs))
+      match_all f g (x ∷ xs) h a = match_follow in_order (λ by. f x by a) (λ by. g x by a) (λ by. all_do (map _ xs))
           (λ by. all_do (map _ xs)) (h.0 a) (match_all f g xs h.1)
 
       pub match_loop : (f g f2 g2 f3 g3 : DoingWith A) → MatchWith f g → MatchWith f2 g2 → MatchWith f3 g3 →

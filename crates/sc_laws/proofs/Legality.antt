@@ -1,29 +1,24 @@
 -- Every trace that a run shows is legal.
-use Rattle.sc_laws.proofs.Common.{Action, BadType, Blamed, Body, Bool, Call, CallTarget, Cross, End, Event, Export}
-use Rattle.sc_laws.proofs.Common.{Here, In, Input, Interfaces, IsStop, Kept, Library, List, Main, Memory, None}
-use Rattle.sc_laws.proofs.Common.{Obedient, Option, Out, Output, Own, Piece, Property, Proto, Reached, Ret, Roles, Row}
-use Rattle.sc_laws.proofs.Common.{RunEnd, Scalar, Some, Standing, State, Step, Stopped, TurnsOut, Value, Word, [], acts}
-use Rattle.sc_laws.proofs.Common.{and_from, and_parts, and_then, ap, asks, at_start, awaits, back_cross, back_own}
-use Rattle.sc_laws.proofs.Common.{begun, call_cross, call_own, called, calls, crossed, crossing, eq-eqb, export_at}
-use Rattle.sc_laws.proofs.Common.{false, first_state, fits_result, found, found_kept, function, if◌then◌else◌, imports}
-use Rattle.sc_laws.proofs.Common.{is_allowed, is_function, is_input, is_legal_from, is_number, is_output, legal, length}
-use Rattle.sc_laws.proofs.Common.{length-map, library_run, map, may_call, may_perform, may_return, option_map_or}
-use Rattle.sc_laws.proofs.Common.{performer, performs, refl, roles_run, rows_left, run_by, run_in, run_step, run_to}
-use Rattle.sc_laws.proofs.Common.{scripted_step, stands_after, stands_behind, stopped_at, subst, suc, sym, take, takes}
-use Rattle.sc_laws.proofs.Common.{tell, then_kept, true, turn, turn_of, within, word_back, word_in, zero, ℕ, ◌&&◌, ◌++◌}
-use Rattle.sc_laws.proofs.Common.{◌==◌, ◌∙◌, ◌∷◌, ◌≡◌}
-use Rattle.sc_event.specs.declared.row.Action.TheVariants as act
-use Rattle.sc_laws.proofs.Growing.{BodyGoes, StepGoes, calls_go, within_goes}
+use Rattle.sc_laws.proofs.Common.{Body, Call, CallTarget, Cross, Event, Export, Here, Input, Interfaces, IsStop, Kept}
+use Rattle.sc_laws.proofs.Common.{Library, List, Main, Memory, None, Obedient, Option, Output, Own, Piece, Property}
+use Rattle.sc_laws.proofs.Common.{Proto, Reached, Ret, Roles, RunEnd, Scalar, Some, Standing, State, Step, Stopped}
+use Rattle.sc_laws.proofs.Common.{Value, [], and_from, and_parts, and_then, ap, at_start, awaits, back_cross, back_own}
+use Rattle.sc_laws.proofs.Common.{begun, call_cross, call_own, called, crossed, crossing, eq-eqb, export_at, false}
+use Rattle.sc_laws.proofs.Common.{first_state, fits_result, found, found_kept, function, imports, is_allowed}
+use Rattle.sc_laws.proofs.Common.{is_function, is_input, is_legal_from, is_output, legal, length, length-map}
+use Rattle.sc_laws.proofs.Common.{library_run, map, may_call, may_perform, may_return, option_map_or, performer, refl}
+use Rattle.sc_laws.proofs.Common.{roles_run, run_by, run_in, run_step, run_to, scripted_step, stands_after}
+use Rattle.sc_laws.proofs.Common.{stands_behind, stopped_at, suc, sym, take, takes, tell, then_kept, true, turn}
+use Rattle.sc_laws.proofs.Common.{turn_of, within, word_back, word_in, zero, ℕ, ◌&&◌, ◌++◌, ◌==◌, ◌∙◌, ◌∷◌, ◌≡◌}
+use Rattle.sc_laws.proofs.Growing.{BodyGoes, StepGoes, within_goes}
 use Rattle.sc_laws.proofs.Matching.{run_goes_on, scripted_goes_on}
-use Rattle.sc_laws.proofs.Keeping.{IsKept, function_keeps}
+use Rattle.sc_laws.proofs.Keeping.{IsKept, run_step_keeps, scripted_keeps, then_other}
+use Rattle.sc_laws.proofs.Rows.{stands_last}
 use Rattle.sc_laws.proofs.Runs.{trace_is}
 
-module _ (interfaces : Interfaces) where
-  behind_more : (at : Option Standing) (t : List Event) (st : Standing) (e : Event) → stands_behind at t ≡ Some st →
-      stands_behind at (t ++ e ∷ []) ≡ stands_after st e
-  behind_more at [] st e h = ap (λ x. stands_behind x (e ∷ [])) h
-  behind_more None (x ∷ t) st e h = cc h
-  behind_more (Some a) (x ∷ t) st e h = behind_more _ t st e h
+module _ (library : Library) where
+  abbrev interfaces : Interfaces
+  interfaces = library.interfaces
 
   legal_more : (at : Option Standing) (t : List Event) (st : Standing) (e : Event) → stands_behind at t ≡ Some st →
       is_legal_from interfaces at t ≡ true → is_allowed interfaces st e ≡ true →
@@ -31,11 +26,8 @@ module _ (interfaces : Interfaces) where
   legal_more at [] st e h l may = ap (λ x. is_legal_from interfaces x (e ∷ [])) h ∙ and_from _ true may refl
   legal_more None (x ∷ t) st e h l may = cc l
   legal_more (Some a) (x ∷ t) st e h l may =
-      more (and_parts _ _ l) (λ k. legal_more _ t st e h k may) where
-        more : (is_allowed interfaces a x ≡ true) × (is_legal_from interfaces (stands_after a x) t ≡ true) →
-            (is_legal_from interfaces (stands_after a x) t ≡ true → is_legal_from interfaces (stands_after a x)
-            (t ++ e ∷ []) ≡ true) → is_legal_from interfaces (Some a) (x ∷ t ++ e ∷ []) ≡ true
-        more p rest = and_from _ _ p.0 (rest p.1)
+      let parts = and_parts (is_allowed interfaces a x) (is_legal_from interfaces (stands_after a x) t) l in
+      and_from (is_allowed interfaces a x) _ parts.0 (legal_more (stands_after a x) t st e h parts.1 may)
 
   legal_take : (n : ℕ) (at : Option Standing) (t : List Event) → is_legal_from interfaces at t ≡ true →
       is_legal_from interfaces at (take n t) ≡ true
@@ -43,11 +35,8 @@ module _ (interfaces : Interfaces) where
   legal_take (suc n) at [] l = refl
   legal_take (suc n) None (x ∷ t) l = cc l
   legal_take (suc n) (Some a) (x ∷ t) l =
-      first (and_parts _ _ l) (λ k. legal_take n _ t k) where
-        first : (is_allowed interfaces a x ≡ true) × (is_legal_from interfaces (stands_after a x) t ≡ true) →
-            (is_legal_from interfaces (stands_after a x) t ≡ true → is_legal_from interfaces (stands_after a x)
-            (take n t) ≡ true) → is_legal_from interfaces (Some a) (x ∷ take n t) ≡ true
-        first p rest = and_from _ _ p.0 (rest p.1)
+      let parts = and_parts (is_allowed interfaces a x) (is_legal_from interfaces (stands_after a x) t) l in
+      and_from (is_allowed interfaces a x) _ parts.0 (legal_take n (stands_after a x) t parts.1)
 
   -- where a legal trace stands
   pub record IsAt (t : List Event) (st : Standing) : Type 0 where
@@ -58,7 +47,7 @@ module _ (interfaces : Interfaces) where
       stands_after st e ≡ Some next → IsAt (t ++ e ∷ []) next
   told_at t st next e h may then_at =
       record {
-        stands = behind_more _ t st e h.stands ∙ then_at;
+        stands = stands_last _ t e st h.stands ∙ then_at;
         is_legal = legal_more _ t st e h.stands h.is_legal may;
       }
 
@@ -78,13 +67,6 @@ module _ (interfaces : Interfaces) where
         blamed = λ s cause line h. (h.is_legal, tt);
       }
 
-  -- a piece that stands elsewhere, and back
-  then_at : {X Y : Type 0} (inner outer : Standing) (piece : Piece X) (go : X → State → Piece Y) →
-      Kept (standing inner) piece → ((v : X) (s : State) → IsAt s.trace inner → Kept (standing outer) (go v s)) →
-      Kept (standing outer) (and_then piece go)
-  then_at inner outer (Reached v s) go h k = k v s h.after
-  then_at inner outer (Stopped end s) go h k = record { after = h.after }
-
   abbrev BodyLegal : Body → Type 0
   BodyLegal body = (number : ℕ) (here : Here) (s : State) (st : Standing) → here.comp ≡ st.active.comp →
       IsAt s.trace st → Kept (standing st) (body number here s)
@@ -100,8 +82,7 @@ module _ (interfaces : Interfaces) where
   back_fits None count v h = cc h
   back_fits (Some proto) count v h = fits_back _ v
 
-  module _ (library : Library) (same : library.interfaces ≡ interfaces) (body : Body)
-      (legal_body : BodyLegal body) where
+  module _ (body : Body) (legal_body : BodyLegal body) where
     -- a function runs where the run stands inside, and returns to where it stood
     run_at : (inner outer : Standing) (comp number : ℕ) (args : List Value) (back : Option Value → State →
         Piece (Option Value)) → comp ≡ inner.active.comp
@@ -110,7 +91,7 @@ module _ (interfaces : Interfaces) where
     run_at inner outer comp number args back is b s h =
         found_kept (standing outer) (function library comp number) s (λ f s.
         and_then (body number _ _) _) (h.is_legal, tt) (λ f found_f.
-        then_at inner outer (body number _ _) (λ v t. back v _)
+        then_other (standing inner) (standing outer) (body number _ _) (λ v t. back v _) (λ end s h. h)
         (legal_body number (record { comp = comp; first = length _ }) (begun comp f args s) inner is h)
         (λ v t g. b v _ g))
 
@@ -132,20 +113,16 @@ module _ (interfaces : Interfaces) where
     back_is_allowed : (st : Standing) (from to index : ℕ) (args : List Value) (v : Option Value) →
         from ≡ st.active.comp → takes interfaces to index (length args) ≡ true →
         is_allowed interfaces (entered_at st to index) (Ret to from (crossing (export_at interfaces to index) v)) ≡ true
-    back_is_allowed st from to index args v is may =
-        and_from (to == to) (awaits (st.active ∷ st.waiting) from && may_return interfaces to (Export index)
-        (crossing _ v)) (eq-eqb to to refl) (and_from (st.active.comp == from)
-        (may_return interfaces to (Export index) (crossing _ v))
+    back_is_allowed st from to index args v is may = and_from (to == to)
+        (awaits (st.active ∷ st.waiting) from && may_return interfaces to (Export index) (crossing _ v))
+        (eq-eqb to to refl) (and_from (st.active.comp == from) (may_return interfaces to (Export index) (crossing _ v))
         (eq-eqb _ from (sym is)) (back_fits (export_at interfaces to index) (length args) v may))
 
     cross_at : (st : Standing) (from to index : ℕ) (args : List Value) (s : State) → from ≡ st.active.comp
         → (imports interfaces from (is_function to index) && takes interfaces to index (length args)) ≡ true
         → IsAt s.trace st → Kept (standing st) (call_cross library body from to index args s)
-    cross_at st from to index args s is may h =
-        subst (λ c. Kept (standing st) (and_then (found (library.entered to (Export index)) s) (λ number s.
-        run_in library body to number (crossed args) (back_cross c from to index)
-        (tell (Call from to index (map word_in args)) s)))) (sym same)
-        (found_kept (standing st) (library.entered to (Export index)) s (λ number s.
+    cross_at st from to index args s is may h = found_kept (standing st) (library.entered to (Export index)) s
+        (λ number s.
         run_in library body to number (crossed args) (back_cross interfaces from to index)
         (tell (Call from to index (map word_in args)) s)) (h.is_legal, tt) (λ number found_number.
         run_at (entered_at st to index) st to number (crossed args) (back_cross interfaces from to index) refl
@@ -154,7 +131,7 @@ module _ (interfaces : Interfaces) where
               (back_is_allowed st from to index args v is (and_parts _ _ may).1) refl;
         }) (tell (Call from to index (map word_in args)) s)
         (told_at s.trace st (entered_at st to index) (Call from to index (map word_in args)) h
-        (call_is_allowed st from to index args is may) refl)))
+        (call_is_allowed st from to index args is may) refl))
 
     environment_at : (st : Standing) (from : ℕ) (e : Event) (s : State) → performer e ≡ st.active.comp →
         may_perform interfaces st e ≡ true → stands_after st e ≡ Some st → IsAt s.trace st → IsAt (s.trace ++ e ∷ []) st
@@ -174,11 +151,9 @@ module _ (interfaces : Interfaces) where
     allowed from (Cross to index) args may =
         let first = and_parts (imports library.interfaces from _) _ may in
         let second = and_parts (takes library.interfaces to index _) _ first.1 in
-        and_from (imports interfaces from _) (takes interfaces to index _)
-        (ap (λ i. imports i from (is_function to index)) (sym same) ∙ first.0) (ap (λ i. takes i to index (length args))
-        (sym same) ∙ second.0)
-    allowed from Input args may = ap (λ i. imports i from is_input) (sym same) ∙ may
-    allowed from Output args may = ap (λ i. imports i from is_output) (sym same) ∙ (and_parts _ _ may).0
+        and_from (imports interfaces from _) (takes interfaces to index _) first.0 second.0
+    allowed from Input args may = may
+    allowed from Output args may = (and_parts _ _ may).0
 
     called_at : (st : Standing) (from : ℕ) (target : CallTarget) (args : List Value) (s : State) →
         from ≡ st.active.comp → Allowed from target args → IsAt s.trace st →
@@ -189,77 +164,24 @@ module _ (interfaces : Interfaces) where
     called_at st from (Cross to index) args s is may h =
         then_kept _ (turn s) (λ _ s. call_cross library body from to index args s)
         (turned_at st s.turns s h) (λ _ s h. cross_at st from to index args s is may h)
-    called_at st from Input args s is may h =
-        record { after = environment_at st from _ s is may refl h }
-    called_at st from Output args s is may h =
-        record { after = environment_at st from _ s is may refl h }
+    called_at st from Input args s is may h = record { after = environment_at st from _ s is may refl h }
+    called_at st from Output args s is may h = record { after = environment_at st from _ s is may refl h }
 
-    pub calls_at : (st : Standing) (from : ℕ) (target : CallTarget) (args : List Value) (s : State) →
-        from ≡ st.active.comp → IsAt s.trace st → Kept (standing st) (calls library body from target args s)
-    calls_at st from target args s is h = by_test _ refl where
-      by_test : (b : Bool) → may_call library from target args ≡ b →
-          Kept (standing st) (if b then called library body from target args s else Stopped (Blamed from BadType 0) s)
-      by_test true may = called_at st from target args s is (allowed from target args may) h
-      by_test false may = record { after = (h.is_legal, tt) }
-
-    asks_at : (st : Standing) (comp : ℕ) (target : CallTarget) (args : List Value) (s : State) → comp ≡ st.active.comp →
-        IsAt s.trace st → Kept (standing st) (asks library body comp target args s)
-    asks_at st comp target args s is h = by_test _ where
-      by_test : (b : Bool) →
-          Kept (standing st) (if b then calls library body comp target args s else Stopped TurnsOut s)
-      by_test true = calls_at st comp target args s is h
-      by_test false = record { after = (h.is_legal, tt) }
-
-  module _ (library : Library) (same : library.interfaces ≡ interfaces) (obedient : Obedient library) where
+  module _ (obedient : Obedient library) where
     abbrev StepLegal : Step → Type 0
     StepLegal step = (body : Body) → BodyGoes body → BodyLegal body → BodyLegal (step body)
 
     pub run_step_legal : StepLegal (run_step library)
-    run_step_legal body goes legal_body number here s st is h =
-        found_kept (standing st) (function library here.comp number) s (λ f s. f.does (calls library body) here s)
-        (h.is_legal, tt) (λ f found_f. function_keeps library obedient here.comp number f found_f _ here
-        (is_kept st here) (calls library body) (calls_go library body goes) (λ target args s h. calls_at library same
-        body legal_body st here.comp target args s is h) s h)
-
-    -- a function that performs rows
-    performs_legal : (body : Body) → BodyLegal body → (rows : List Row) → BodyLegal (performs library body rows)
-    performs_legal body legal_body [] number here s st is h = record { after = (h.is_legal, tt) }
-    performs_legal body legal_body (row ∷ rest) number here s st is h =
-        by_test (is_number number (library.entered here.comp row.entry)) (λ s h. performs_legal body legal_body rest
-        number here s st is h) where
-          by_action : (action : Action) →
-              ((s : State) → IsAt s.trace st → Kept (standing st) (performs library body rest number here s)) →
-              Kept (standing st) (acts library body action (performs library body rest number here) (body number here)
-              here.comp s)
-          by_action (act.Call to index args) next =
-              then_kept (standing st) (asks library body here.comp (Cross to index) (map (λ w. Word w) args) s)
-              (λ v s. body number here s) (asks_at library same body legal_body st here.comp (Cross to index)
-              (map (λ w. Word w) args) s is h) (λ v s h. legal_body number here s st is h)
-          by_action (act.Ret v) next = record { after = h }
-          by_action (act.Out w) next =
-              then_kept (standing st) (asks library body here.comp Output (Word w ∷ []) s)
-              (λ v s. performs library body rest number here s) (asks_at library same body legal_body st here.comp
-              Output
-              (Word w ∷ []) s is h) (λ v s h. next s h)
-          by_action (act.In w) next =
-              then_kept (standing st) (asks library body here.comp Input [] s) (λ v s. performs library body rest number
-              here s) (asks_at library same body legal_body st here.comp Input [] s is h) (λ v s h. next s h)
-          by_action (act.End w) next = record { after = h }
-
-          by_test : (b : Bool) →
-              ((s : State) → IsAt s.trace st → Kept (standing st) (performs library body rest number here s)) →
-              Kept (standing st) (if b then acts library body row.action (performs library body rest number here)
-              (body number here) here.comp s else Stopped TurnsOut s)
-          by_test true next = by_action row.action next
-          by_test false next = record { after = (h.is_legal, tt) }
+    run_step_legal body goes legal_body number here s st is h = run_step_keeps (standing st) library body here
+        (λ target args s may h. called_at body legal_body st here.comp target args s is
+        (allowed body legal_body here.comp target args may) h) number (λ s h. (h.is_legal, tt)) obedient goes
+        (λ f found_f. is_kept st here) s h
 
     pub scripted_legal : (roles : Roles) → StepLegal (scripted_step library roles (run_step library))
-    scripted_legal roles body goes legal_body number here s st is h = by_role _ where
-      by_role : (b : Bool) →
-          Kept (standing st) (if b then performs library body (rows_left roles here.comp s.trace) number here
-          s else run_step library body number here s)
-      by_role true = performs_legal body legal_body _ number here s st is h
-      by_role false = run_step_legal body goes legal_body number here s st is h
+    scripted_legal roles body goes legal_body number here s st is h = scripted_keeps (standing st) library body here
+        (λ target args s may h. called_at body legal_body st here.comp target args s is
+        (allowed body legal_body here.comp target args may) h) number (λ s h. (h.is_legal, tt))
+        (λ s h. legal_body number here s st is h) roles obedient goes (λ plain f found_f. is_kept st here) s h
 
     within_legal : (step : Step) → StepGoes step → StepLegal step → (n : ℕ) → BodyLegal (within step n)
     within_legal step step_goes legal_step zero number here s st is h = record { after = (h.is_legal, tt) }
@@ -278,32 +200,24 @@ module _ (interfaces : Interfaces) where
     run_legal : (step : Step) → StepGoes step → StepLegal step → (globals : Memory) (inputs : List ℕ) (turns : ℕ) →
         legal interfaces (run_by library step globals inputs turns).behaviour.trace ≡ true
     run_legal step step_goes legal_step globals inputs turns =
-        subst (λ c. legal interfaces
-        (run_to c.main (and_then (found (library.entered c.main Main) (first_state globals inputs turns))
-        (λ number s. call_own library (within step (suc turns)) c.main number [] s))).behaviour.trace ≡ true) (sym same)
-        (piece_legal (and_then (found (library.entered interfaces.main Main) _)
+        piece_legal (and_then (found (library.entered interfaces.main Main) _)
         (λ number s. call_own library (within step (suc turns)) interfaces.main number [] s))
         (found_kept _ (library.entered interfaces.main Main) (first_state globals inputs turns)
         (λ number s. call_own library (within step (suc turns)) interfaces.main number [] s) (refl, tt)
-        (λ number found_number. own_at library same _ (within_legal step step_goes legal_step
-        (suc turns)) begins _ number [] (first_state globals inputs turns) refl
-        (record { stands = refl; is_legal = refl }))))
+        (λ number found_number. own_at _ (within_legal step step_goes legal_step (suc turns)) begins _ number []
+        (first_state globals inputs turns) refl (record { stands = refl; is_legal = refl })))
 
-stopped_legal : (interfaces : Interfaces) (n : ℕ) (t : List Event) (end : RunEnd) → legal interfaces t ≡ true →
-    legal interfaces (stopped_at n (record { trace = t; end = end })).trace ≡ true
-stopped_legal interfaces n t end h = ap (legal _) (trace_is n _) ∙ legal_take interfaces n _ t h
+stopped_legal : (library : Library) (n : ℕ) (t : List Event) (end : RunEnd) → legal library.interfaces t ≡ true →
+    legal library.interfaces (stopped_at n (record { trace = t; end = end })).trace ≡ true
+stopped_legal library n t end h = ap (legal _) (trace_is n _) ∙ legal_take library n _ t h
 
 module _ (library : Library) (obedient : Obedient library) (globals : Memory) (inputs : List ℕ) (turns events : ℕ) where
-  pub runs_legal : legal library.interfaces (stopped_at events
-      (library_run library globals inputs turns).behaviour).trace
-      ≡ true
-  runs_legal =
-      stopped_legal _ events _ _ (run_legal _ library refl obedient (run_step library)
-      (run_goes_on library obedient) (run_step_legal _ library refl obedient) globals inputs turns)
+  pub runs_legal : legal library.interfaces
+      (stopped_at events (library_run library globals inputs turns).behaviour).trace ≡ true
+  runs_legal = stopped_legal library events _ _ (run_legal library obedient (run_step library)
+      (run_goes_on library obedient) (run_step_legal library obedient) globals inputs turns)
 
   pub scripts_legal : (roles : Roles) →
       legal library.interfaces (stopped_at events (roles_run library globals inputs turns roles).behaviour).trace ≡ true
-  scripts_legal roles =
-      stopped_legal _ events _ _ (run_legal _ library refl obedient
-      (scripted_step library roles _) (scripted_goes_on library obedient roles)
-      (scripted_legal _ library refl obedient roles) globals inputs turns)
+  scripts_legal roles = stopped_legal library events _ _ (run_legal library obedient (scripted_step library roles _)
+      (scripted_goes_on library obedient roles) (scripted_legal library obedient roles) globals inputs turns)

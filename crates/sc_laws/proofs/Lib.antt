@@ -1,12 +1,9 @@
 pub mod Common
 pub mod Agreement
 pub mod Below
-pub mod BelowCalls
 pub mod Blames
-pub mod Chaining
 pub mod Examples
 pub mod Expressions
-pub mod Fixed
 pub mod Following
 pub mod FollowingCalls
 pub mod FollowingRuns
@@ -14,14 +11,11 @@ pub mod Growing
 pub mod Interactions
 pub mod Keeping
 pub mod Legality
-pub mod Libraries
 pub mod Lines
-pub mod Loops
 pub mod Matching
 pub mod More
 pub mod Order
 pub mod ProgramLaws
-pub mod Programs
 pub mod Rooms
 pub mod Rows
 pub mod Runs

@@ -1,30 +1,29 @@
 -- A program whose trees stand on other lines does the same up to the lines of blames.
-use Rattle.sc_laws.proofs.Common.{Acts, Arith, Bool, Break, CallTarget, Calls, CallsAgree, Cause, Continue, Does, Each}
-use Rattle.sc_laws.proofs.Common.{Entry, Err, Exit, Export, FunctionsAgree, Here, Inside, Left, LibrariesAgree, List}
-use Rattle.sc_laws.proofs.Common.{Local, Main, Next, None, Ok, On, Option, OtherLinesAgree, Piece, PiecesAgree}
-use Rattle.sc_laws.proofs.Common.{ProgramTree, Proto, Result, Return, Route, RunsAgree, Some, State, TypedExpr}
-use Rattle.sc_laws.proofs.Common.{TypedFunction, TypedLocal, TypedSection, TypedSimple, TypedSimpleKind, TypedStmt}
-use Rattle.sc_laws.proofs.Common.{TypedStmt-F, TypedStmtKind, TypedStmtKind-F, TypedStruct, Value, Want, Ways, []}
-use Rattle.sc_laws.proofs.Common.{all_do, ap, ap₂, assign, assign_call, at_brace, at_place, block_does, body_does}
-use Rattle.sc_laws.proofs.Common.{bytes_eq, call, call_alone, cells_of, choose, closed, computed, cond, entry_in}
-use Rattle.sc_laws.proofs.Common.{evaluated, everywhere, export_at, expr_nodes, false, first_blocks, fold-TypedStmt}
-use Rattle.sc_laws.proofs.Common.{fold-TypedStmtKind, follow, frame_bound, function_of, functions_in, globals_of}
-use Rattle.sc_laws.proofs.Common.{if◌then◌else◌, in_loop, in_order, init_does, inits_do, kind_nodes, kind_step}
-use Rattle.sc_laws.proofs.Common.{layer_of, leave, length, length-map, library_of, local_nodes, loop, main_name, map}
-use Rattle.sc_laws.proofs.Common.{map-TypedStmtKind, nat_lt, nodes, not, on_line, option_map, part_does, part_nodes}
-use Rattle.sc_laws.proofs.Common.{place_named, place_of_export, position_or_len, refl, roll-TypedStmtKind, rounds}
-use Rattle.sc_laws.proofs.Common.{run_by, run_of, run_step, simple_does, slice_get, slice_get-map, stmt_at, stmt_does}
-use Rattle.sc_laws.proofs.Common.{stmt_induction, stmt_nodes, stmt_step, store, store_at, store_result, stored, subst}
-use Rattle.sc_laws.proofs.Common.{suc, sym, test, total, true, turn, variable_at, variables, ways, zero, ℕ, ◌++◌, ◌+◌}
-use Rattle.sc_laws.proofs.Common.{◌∙◌, ◌∷◌, ◌≡◌}
-use Rattle.sc_core.specs.Prelude.{Out, take}
+use Rattle.sc_laws.proofs.Common.{Acts, Arith, Bool, CallTarget, Calls, CallsAgree, Cause, Does, Each, Entry, Err, Exit}
+use Rattle.sc_laws.proofs.Common.{Export, FunctionsAgree, Here, Inside, Left, LibrariesAgree, List, Local, Main, Next}
+use Rattle.sc_laws.proofs.Common.{None, Ok, On, Option, OtherLinesAgree, Out, Piece, PiecesAgree, ProgramTree, Proto}
+use Rattle.sc_laws.proofs.Common.{Result, Return, Route, RunsAgree, Some, State, TypedExpr, TypedFunction, TypedLocal}
+use Rattle.sc_laws.proofs.Common.{TypedSection, TypedSimple, TypedSimpleKind, TypedStmt, TypedStmt-F, TypedStmtKind}
+use Rattle.sc_laws.proofs.Common.{TypedStmtKind-F, TypedStruct, Value, Want, Ways, [], all_do, ap, ap₂, assign}
+use Rattle.sc_laws.proofs.Common.{assign_call, at_brace, at_place, block_does, body_does, bytes_eq, call, call_alone}
+use Rattle.sc_laws.proofs.Common.{cells_of, choose, closed, computed, cond, entry_in, evaluated, everywhere, export_at}
+use Rattle.sc_laws.proofs.Common.{expr_nodes, false, first_blocks, fold-TypedStmt, fold-TypedStmtKind, follow}
+use Rattle.sc_laws.proofs.Common.{frame_bound, function_of, functions_in, globals_of, if◌then◌else◌, in_loop, in_order}
+use Rattle.sc_laws.proofs.Common.{init_does, inits_do, kind_nodes, kind_step, layer_of, leave, length, length-map}
+use Rattle.sc_laws.proofs.Common.{library_of, local_nodes, loop, main_name, map, map-TypedStmtKind, nat_lt, nodes, not}
+use Rattle.sc_laws.proofs.Common.{on_line, option_map, part_does, part_nodes, place_named, place_of_export}
+use Rattle.sc_laws.proofs.Common.{position_or_len, refl, roll-TypedStmtKind, rounds, run_by, run_of, run_step}
+use Rattle.sc_laws.proofs.Common.{simple_does, slice_get, slice_get-map, stmt_at, stmt_does, stmt_induction, stmt_nodes}
+use Rattle.sc_laws.proofs.Common.{stmt_step, store, store_at, store_result, stored, subst, suc, sym, test, total, true}
+use Rattle.sc_laws.proofs.Common.{turn, variable_at, variables, ways, zero, ℕ, ◌++◌, ◌+◌, ◌∙◌, ◌∷◌, ◌≡◌}
+use Rattle.sc_core.specs.Prelude.{take}
 use Rattle.sc_core.specs.declared.stmt.TypedSimpleKind.TheVariants as simple
 use Rattle.sc_core.specs.declared.stmt.TypedStmtKind.TheOpen as layer
 use Rattle.sc_core.specs.declared.value.Want.TheVariants as want
 use Rattle.sc_laws.specs.Lines.{simple_lined, layer_lined, stmt_lined, local_lined, function_lined, section_lined}
 use Rattle.sc_laws.specs.Lines.{program_lined}
 use Rattle.sc_laws.proofs.Agreement.{itself, then_agree, agreeing_run_alike}
-use Rattle.sc_laws.proofs.Programs.{Pairs, meets_at, lists_at}
+use Rattle.sc_laws.proofs.Statements.{Pairs, meets_at, lists_at}
 
 -- WORDS
 computed_agree : {V : Type 0} (here : Here) (line other : ℕ) (r : Result V Cause) (s : State) →
@@ -54,10 +53,9 @@ follow_agree route o p f g h k = then_agree o p _ _ h (λ left s. take_agree _ f
 rounds_agree : {A : Type 0} (n : ℕ) (f g f2 g2 f3 g3 : Does A) → DoesAgree f g → DoesAgree f2 g2 → DoesAgree f3 g3 →
     DoesAgree (rounds n f f2 f3) (rounds n g g2 g3)
 rounds_agree zero f g f2 g2 f3 g3 h b x a s = itself _
-rounds_agree (suc n) f g f2 g2 f3 g3 h b x a s =
-    follow_agree in_loop (f a s) (g a s) _ _ (h a s) (λ a s. then_agree (turn s) (turn s) _ _ (itself _) (λ u s.
-    follow_agree in_loop (f2 a s) (g2 a s) _ _ (b a s) (λ a s.
-    follow_agree in_loop (f3 a s) (g3 a s) _ _ (x a s) (rounds_agree n f g f2 g2 f3 g3 h b x))))
+rounds_agree (suc n) f g f2 g2 f3 g3 h b x a s = follow_agree in_loop (f a s) (g a s) _ _ (h a s) (λ a s. then_agree
+    (turn s) (turn s) _ _ (itself _) (λ u s. follow_agree in_loop (f2 a s) (g2 a s) _ _ (b a s)
+    (λ a s. follow_agree in_loop (f3 a s) (g3 a s) _ _ (x a s) (rounds_agree n f g f2 g2 f3 g3 h b x))))
 
 -- A STATEMENT ON ANOTHER LINE
 module _ (line_of : ℕ → ℕ) where
@@ -95,10 +93,6 @@ module _ (line_of : ℕ → ℕ) where
 
   layer_nodes : (k : TypedStmtKind-F TypedStmtKind TypedStmt) → Inside SameNodes k →
       nodes_of (inner_lined k) ≡ nodes_of k
-  layer_nodes layer.Empty h = refl
-  layer_nodes (layer.Assign place value) h = refl
-  layer_nodes (layer.AssignCall place call) h = refl
-  layer_nodes (layer.Call call) h = refl
   layer_nodes (layer.If cond first second) h =
       ap₂ (λ m n. suc (expr_nodes cond + total m + total n)) (list_nodes first h.0) (list_nodes second h.1)
   layer_nodes (layer.While cond body) h = ap (λ n. suc (expr_nodes cond + total n)) (list_nodes body h)
@@ -106,11 +100,7 @@ module _ (line_of : ℕ → ℕ) where
       ap₂ (λ m n. suc (m + expr_nodes cond + n + total (map stmt_nodes (map (stmt_lined line_of) body))))
       (same_part first) (same_part next)
       ∙ ap (λ n. suc (part_nodes first + expr_nodes cond + part_nodes next + total n)) (list_nodes body h)
-  layer_nodes layer.Break h = refl
-  layer_nodes layer.Continue h = refl
-  layer_nodes layer.Return h = refl
-  layer_nodes (layer.ReturnValue value) h = refl
-  layer_nodes (layer.ReturnCall call) h = refl
+  layer_nodes _ h = refl
 
   same_nodes : (stmt : TypedStmt) → SameNodes stmt
   same_nodes =
@@ -128,8 +118,7 @@ module _ (line_of : ℕ → ℕ) where
   same_cells structs (local ∷ rest) = ap (λ ns. cells_of structs local.ty ∷ ns) (same_cells structs rest)
 
   function_nodes : (f : TypedFunction) → nodes (function_lined line_of f) ≡ nodes f
-  function_nodes f =
-      ap₂ (λ m n. suc (length f.params) + total m + total n) (same_locals f.locals)
+  function_nodes f = ap₂ (λ m n. suc (length f.params) + total m + total n) (same_locals f.locals)
       (list_nodes f.body (everywhere SameNodes same_nodes f.body))
 
   function_cells : (structs : List TypedStruct) (f : TypedFunction) →
@@ -172,9 +161,8 @@ module _ (here : Here) where
 
     assign_call_agree : (place : Ways) (target : CallTarget) (args : List Ways) (line other : ℕ) →
         DoesAgree (assign_call here C place target args line) (assign_call here D place target args other)
-    assign_call_agree place target args line other a s =
-        then_agree _ _ _ _ (call_agree target args line other s) (λ result s. store_result_agree place result line other
-        a s)
+    assign_call_agree place target args line other a s = then_agree _ _ _ _ (call_agree target args line other s)
+        (λ result s. store_result_agree place result line other a s)
 
     call_alone_agree : (target : CallTarget) (args : List Ways) (line other : ℕ) →
         DoesAgree (call_alone here C target args line) (call_alone here D target args other)
@@ -190,36 +178,31 @@ module _ (here : Here) where
           assign_call_agree (ways arith structs here params place) c.target (map _ c.args) line other
       simple_agree (simple.Call c) line other = call_alone_agree c.target (map _ c.args) line other
 
-      part_agree : (part : Option TypedSimple) →
-          DoesAgree (part_does arith structs here params C part) (part_does arith structs here params D
-          (option_map (simple_lined line_of) part))
+      part_agree : (part : Option TypedSimple) → DoesAgree (part_does arith structs here params C part)
+          (part_does arith structs here params D (option_map (simple_lined line_of) part))
       part_agree None a s = itself _
       part_agree (Some p) a s = simple_agree p.kind p.line _ a s
 
       abbrev Agrees : TypedStmt → Type 0
-      Agrees stmt =
-          DoesAgree (stmt_does arith structs here params C stmt) (stmt_does arith structs here params D
-          (stmt_lined line_of stmt))
+      Agrees stmt = DoesAgree (stmt_does arith structs here params C stmt)
+          (stmt_does arith structs here params D (stmt_lined line_of stmt))
 
       block_agree : (block : List TypedStmt) → Each Agrees block →
           DoesAgree (block_does arith structs here params C block) (block_does arith structs here params D
           (map (stmt_lined line_of) block))
       block_agree [] h a s = itself _
-      block_agree (stmt ∷ rest) h a s =
-          follow_agree in_order _ _ _ _ (h.0 a s) (block_agree rest h.1)
+      block_agree (stmt ∷ rest) h a s = follow_agree in_order _ _ _ _ (h.0 a s) (block_agree rest h.1)
 
       loop_agree : (cond : Ways) (line other : ℕ) (f g f3 g3 : Acts) → DoesAgree f g → DoesAgree f3 g3 →
           DoesAgree (loop (test here cond line) f f3) (loop (test here cond other) g g3)
-      loop_agree cond line other f g f3 g3 b x a s =
-          rounds_agree (suc s.turns) (test here cond line) (test here cond other) f g f3 g3 (test_agree cond line other)
-          b x a s
+      loop_agree cond line other f g f3 g3 b x a s = rounds_agree (suc s.turns) (test here cond line)
+          (test here cond other) f g f3 g3 (test_agree cond line other) b x a s
 
       abbrev layered : Calls → TypedStmtKind-F TypedStmtKind TypedStmt → ℕ → Acts
       layered by = layer_of _ _ (kind_step arith structs here params by) stmt_step
 
       layer_agree : (line : ℕ) (k : TypedStmtKind-F TypedStmtKind TypedStmt) → Inside Agrees k →
           DoesAgree (layered C k line) (layered D (inner_lined line_of k) (line_of line))
-      layer_agree line layer.Empty h a s = itself _
       layer_agree line (layer.Assign place e) h a s =
           assign_agree (ways arith structs here params place) (ways arith structs here params e) line (line_of line) a s
       layer_agree line (layer.AssignCall place c) h a s =
@@ -228,28 +211,23 @@ module _ (here : Here) where
       layer_agree line (layer.If cond x y) h a s =
           then_agree _ _ _ _ (given_agree want.Value (ways arith structs here params cond) line (line_of line) s)
           (λ v s. choose_agree v _ _ _ _ (block_agree x h.0 a s) (block_agree y h.1 a s))
-      layer_agree line (layer.While cond x) h a s =
-          loop_agree (ways arith structs here params cond) line (line_of line) _ _ (leave Next) (leave Next)
-          (block_agree x h) (λ a s. itself _) a s
+      layer_agree line (layer.While cond x) h a s = loop_agree (ways arith structs here params cond) line (line_of line)
+          _ _ (leave Next) (leave Next) (block_agree x h) (λ a s. itself _) a s
       layer_agree line (layer.For first cond next x) h a s =
           follow_agree in_order _ _ _ _ (part_agree first a s) (loop_agree (ways arith structs here params cond) line
           (line_of line) _ _ (part_does arith structs here params C next) (part_does arith structs here params D
           _) (block_agree x h) (part_agree next))
-      layer_agree line layer.Break h a s = itself _
-      layer_agree line layer.Continue h a s = itself _
-      layer_agree line layer.Return h a s = itself _
-      layer_agree line (layer.ReturnValue e) h a s =
-          then_agree _ _ _ _ (given_agree want.Value (ways arith structs here params e) line (line_of line) s)
-          (λ v s. itself _)
+      layer_agree line (layer.ReturnValue e) h a s = then_agree _ _ _ _
+          (given_agree want.Value (ways arith structs here params e) line (line_of line) s) (λ v s. itself _)
       layer_agree line (layer.ReturnCall c) h a s =
           then_agree _ _ _ _ (call_agree c.target (map _ c.args) line (line_of line) s) (λ result s. itself _)
+      layer_agree line _ h a s = itself _
 
       stmt_agree : (stmt : TypedStmt) → Agrees stmt
-      stmt_agree =
-          stmt_induction Agrees (λ line k h. subst
+      stmt_agree = stmt_induction Agrees (λ line k h. subst
           (λ x. DoesAgree x (stmt_does arith structs here params D (stmt_lined line_of (on_line line k))))
-          (sym (stmt_at _ _ _ _ line k)) (subst (DoesAgree _)
-          (sym (ap (stmt_does arith structs here params D) (lined_at line_of line k)
+          (sym (stmt_at _ _ _ _ line k)) (subst (DoesAgree _) (sym
+          (ap (stmt_does arith structs here params D) (lined_at line_of line k)
           ∙ stmt_at _ _ (kind_step arith structs here params D) stmt_step (line_of line) (inner_lined line_of k)))
           (layer_agree line k h)))
 
@@ -268,25 +246,20 @@ module _ (here : Here) where
       inits_agree k (local ∷ rest) a s =
           follow_agree in_order _ _ _ _ (init_agree k local local.init a s) (inits_agree _ rest)
 
-      body_agree : (f : TypedFunction) →
-          DoesAgree (body_does arith structs here params C f) (body_does arith structs here params D
-          (function_lined line_of f))
-      body_agree f a s =
-          follow_agree in_order _ _ _ _ (inits_agree 0 f.locals a s)
+      body_agree : (f : TypedFunction) → DoesAgree (body_does arith structs here params C f)
+          (body_does arith structs here params D (function_lined line_of f))
+      body_agree f a s = follow_agree in_order _ _ _ _ (inits_agree 0 f.locals a s)
           (block_agree f.body (everywhere Agrees stmt_agree f.body))
 
   brace_agree : (has_result is_main : Bool) (line other : ℕ) (s : State) →
       PiecesAgree (at_brace has_result is_main line here s) (at_brace has_result is_main other here s)
-  brace_agree true true line other s = itself _
   brace_agree true false line other s = record { same = refl }
-  brace_agree false is_main line other s = itself _
+  brace_agree _ _ line other s = itself _
 
   closed_agree : (exit : Exit) (has_result is_main : Bool) (line other : ℕ) (s : State) →
       PiecesAgree (closed exit has_result is_main line here s) (closed exit has_result is_main other here s)
-  closed_agree Next has_result is_main line other s = brace_agree _ is_main line other s
-  closed_agree Break has_result is_main line other s = brace_agree _ is_main line other s
-  closed_agree Continue has_result is_main line other s = brace_agree _ is_main line other s
   closed_agree (Return v) has_result is_main line other s = itself _
+  closed_agree _ has_result is_main line other s = brace_agree _ is_main line other s
 
 -- FUNCTIONS AND LIBRARIES
 module _ (arith : Arith) (line_of : ℕ → ℕ) where
@@ -299,15 +272,13 @@ module _ (arith : Arith) (line_of : ℕ → ℕ) where
         closed_agree here _ _ _ _ _ s);
   }
 
-  functions_agree : (main : ℕ) (structs : List TypedStruct) (fs : List TypedFunction) →
-      Pairs FunctionsAgree (map (function_of arith main structs) fs) (map (function_of arith main structs)
-      (map (function_lined line_of) fs))
+  functions_agree : (main : ℕ) (structs : List TypedStruct) (fs : List TypedFunction) → Pairs FunctionsAgree
+      (map (function_of arith main structs) fs) (map (function_of arith main structs) (map (function_lined line_of) fs))
   functions_agree main structs [] = tt
   functions_agree main structs (f ∷ fs) = (function_agrees main structs f, functions_agree main structs fs)
 
-  sections_agree : (main : ℕ) (sections : List TypedSection) →
-      Pairs (Pairs FunctionsAgree) (map (functions_in arith main) sections)
-      (map (functions_in arith main) (map (section_lined line_of) sections))
+  sections_agree : (main : ℕ) (sections : List TypedSection) → Pairs (Pairs FunctionsAgree)
+      (map (functions_in arith main) sections) (map (functions_in arith main) (map (section_lined line_of) sections))
   sections_agree main [] = tt
   sections_agree main (section ∷ rest) = (functions_agree main _ _, sections_agree main rest)
 
@@ -321,9 +292,8 @@ module _ (arith : Arith) (line_of : ℕ → ℕ) where
   same_place : (name : List ℕ) (section : Option TypedSection) →
       place_named name (option_map (section_lined line_of) section) ≡ place_named name section
   same_place name None = refl
-  same_place name (Some section) =
-      ap₂ (λ n count. cond (nat_lt n count) (Some n) None) (same_prefix name section.functions)
-      (length-map section.functions (function_lined line_of))
+  same_place name (Some section) = ap₂ (λ n count. cond (nat_lt n count) (Some n) None)
+      (same_prefix name section.functions) (length-map section.functions (function_lined line_of))
 
   same_export : (proto : Option Proto) (section : Option TypedSection) →
       place_of_export proto (option_map (section_lined line_of) section) ≡ place_of_export proto section
@@ -334,9 +304,8 @@ module _ (arith : Arith) (line_of : ℕ → ℕ) where
       entry_in program comp entry ≡ entry_in (program_lined line_of program) comp entry
   same_entry program comp Main =
       sym (ap (place_named _) (slice_get-map _ _ comp) ∙ same_place main_name (slice_get _ comp))
-  same_entry program comp (Export index) =
-      sym (ap (place_of_export _) (slice_get-map _
-      _ comp) ∙ same_export (export_at program.interfaces comp index) (slice_get _ comp))
+  same_entry program comp (Export index) = sym (ap (place_of_export _) (slice_get-map _ _ comp)
+      ∙ same_export (export_at program.interfaces comp index) (slice_get _ comp))
 
 libraries_agree : (arith : Arith) (line_of : ℕ → ℕ) (program : ProgramTree) →
     LibrariesAgree (library_of arith program) (library_of arith (program_lined line_of program))
@@ -361,10 +330,9 @@ same_globals line_of sections comp = same_blocks line_of _ ∙ sym (ap first_blo
 pub other_lines_agree : OtherLinesAgree
 other_lines_agree = record {
   libraries = libraries_agree;
-  runs = λ arith line_of program inputs turns. subst (λ globals. RunsAgree (run_of arith program inputs turns)
-      (run_by (library_of arith (program_lined line_of program))
-      (run_step (library_of arith (program_lined line_of program))) globals inputs turns))
-      (λ i comp. same_globals line_of program.sections comp i)
-      (agreeing_run_alike.meaning (library_of arith program) (library_of arith _)
-      (libraries_agree arith line_of program) (globals_of _) inputs turns);
+  runs = λ arith line_of program inputs turns. subst (λ globals. RunsAgree (run_of arith program inputs turns) (run_by
+      (library_of arith (program_lined line_of program)) (run_step (library_of arith (program_lined line_of program)))
+      globals inputs turns)) (λ i comp. same_globals line_of program.sections comp i) (agreeing_run_alike.meaning
+      (library_of arith program) (library_of arith _) (libraries_agree arith line_of program) (globals_of _) inputs
+      turns);
 }

@@ -1,15 +1,14 @@
 -- Functions that match are related in every relation that the words of the meaning keep.
-use Rattle.sc_laws.proofs.Common.{Alike, Asks, Blamed, Blames, Blocks, Calls, Cause, Doing, Err, Function}
+use Rattle.sc_laws.proofs.Common.{Alike, Asks, Blamed, Blames, Blocks, Calls, Cause, Does, Doing, Err, Function}
 use Rattle.sc_laws.proofs.Common.{FunctionsMatch, Gives, GoFrom, Goes, Gone, Halts, Here, Interaction, Lasts}
 use Rattle.sc_laws.proofs.Common.{LibrariesMatch, Library, Match, Meets, Never, None, Obedient, Ok, Option, Piece}
 use Rattle.sc_laws.proofs.Common.{Plays, Reached, Reads, Roles, Some, Spends, State, Stopped, Stores, Value, and_then}
-use Rattle.sc_laws.proofs.Common.{arith, function, inl, inr, played, refl, run_step, scripted_step, subst, suc, sym}
-use Rattle.sc_laws.proofs.Common.{turn, with_memory, zero, ℕ, ◌+◌, ◌<◌, ◌≡◌}
+use Rattle.sc_laws.proofs.Common.{arith, follow, function, in_loop, inl, inr, loop, played, refl, rounds, run_step}
+use Rattle.sc_laws.proofs.Common.{scripted_step, subst, suc, sym, turn, with_memory, zero, ℕ, ◌+◌, ◌<◌, ◌∙◌, ◌≡◌}
 use Rattle.sc_laws.proofs.Growing.{stays, FunctionGoes, LibraryGoes, StepGoes, run_step_goes, scripted_goes}
-use Rattle.sc_laws.proofs.Twins.{Twins, Kept, KeptAt}
+use Rattle.sc_laws.proofs.Twins.{Twins, Kept, KeptAt, CallsTwins, FunctionTwins, LibraryTwins}
 use Rattle.sc_laws.proofs.Expressions.{alike}
-use Rattle.sc_laws.proofs.Libraries.{CallsTwins, FunctionTwins, LibraryTwins}
-use Rattle.sc_laws.proofs.Interactions.{played_goes}
+use Rattle.sc_laws.proofs.Interactions.{played_goes, DoingWith, MatchWith, follow_grown, turn_same, trees, rounds_are}
 
 module _ (Soft : Cause → Type 0) (P : State → State → Type 0) (R : (V : Type 0) → Piece V → Piece V → Type 0)
     (Good : Here → Type 0) (kept : Kept P R) (at : (here : Here) → Good here → KeptAt P R Soft here) where
@@ -31,15 +30,13 @@ module _ (Soft : Cause → Type 0) (P : State → State → Type 0) (R : (V : Ty
     played_related {V} (suc n) (Blames cause line) twin lasts (inr is) s s' few p =
         subst (λ x. R V (Stopped (Blamed here.comp cause line) s) (played x D here s')) (sym is)
         ((at here good).computing V line (λ blocks. Err cause) (λ blocks. Err cause) (λ blocks. alike refl) s s' p)
-    played_related {V} (suc n) (Reads go) twin lasts like s s' few p =
-        subst (λ x. R V (played (go (s.memory here.comp)) C here s) (played x D here s')) (sym like.1)
-        (kept.after Blocks V s s' (Reached (s.memory here.comp) s) (Reached (s'.memory here.comp) s')
-        (λ blocks. played (go blocks) C here) (λ blocks. played (like.0 blocks) D here) p (stays (s.memory here.comp) s)
-        (stays (s'.memory here.comp) s')
+    played_related {V} (suc n) (Reads go) twin lasts like s s' few p = subst
+        (λ x. R V (played (go (s.memory here.comp)) C here s) (played x D here s')) (sym like.1) (kept.after Blocks V s
+        s' (Reached (s.memory here.comp) s) (Reached (s'.memory here.comp) s') (λ blocks. played (go blocks) C here)
+        (λ blocks. played (like.0 blocks) D here) p (stays (s.memory here.comp) s) (stays (s'.memory here.comp) s')
         (λ blocks. played_goes (go blocks) C here first_go) (λ blocks. played_goes (like.0 blocks) D here second_go)
         ((at here good).computing Blocks 0 (λ blocks. Ok blocks) (λ blocks. Ok blocks) (λ blocks. alike refl) s s' p)
-        (λ blocks t t' up up' q.
-        played_related (suc n) (go blocks) (like.0 blocks) (lasts blocks) (like.2 blocks) t t'
+        (λ blocks t t' up up' q. played_related (suc n) (go blocks) (like.0 blocks) (lasts blocks) (like.2 blocks) t t'
         (omega (arith, few, up.turns)) q))
     played_related {V} (suc n) (Stores blocks go) twin lasts like s s' few p =
         subst (λ x. R V (played go C here (with_memory here.comp blocks s)) (played x D here s')) (sym like.1)
@@ -52,12 +49,10 @@ module _ (Soft : Cause → Type 0) (P : State → State → Type 0) (R : (V : Ty
         played_related n go like.0 lasts like.2 t t' (omega (arith, few, less)) q))
     played_related {V} (suc n) (Asks target args go) twin lasts like s s' few p =
         subst (λ x. R V (and_then (C here.comp target args s) (λ v. played (go v) C here)) (played x D here s'))
-        (sym like.1)
-        (kept.after (Option Value) V s s' (C here.comp target args s) (D here.comp target args s')
+        (sym like.1) (kept.after (Option Value) V s s' (C here.comp target args s) (D here.comp target args s')
         (λ v. played (go v) C here) (λ v. played (like.0 v) D here) p ((made target args).first s)
-        ((made target args).second s')
-        (λ v. played_goes (go v) C here first_go) (λ v. played_goes (like.0 v) D here second_go)
-        ((made target args).both s s' p) (λ v t t' up up' q.
+        ((made target args).second s') (λ v. played_goes (go v) C here first_go)
+        (λ v. played_goes (like.0 v) D here second_go) ((made target args).both s s' p) (λ v t t' up up' q.
         played_related (suc n) (go v) (like.0 v) (lasts v) (like.2 v) t t' (omega (arith, few, up.turns)) q))
     played_related (suc n) Halts twin lasts like s s' few p = absurd lasts
 
@@ -74,11 +69,9 @@ module _ (Soft : Cause → Type 0) (P : State → State → Type 0) (R : (V : Ty
         let second_is : (n : ℕ) (s : State) → s.turns < n → g.does D here s ≡ played (m.twin n) D here s =
         λ n s few. m.second.is n D go' s few in
         record {
-          first =
-              λ s. subst (Gone s) (sym (first_is (suc s.turns) s (omega arith)))
+          first = λ s. subst (Gone s) (sym (first_is (suc s.turns) s (omega arith)))
               (played_goes (m.tree (suc s.turns)) C here go s);
-          second =
-              λ s. subst (Gone s) (sym (second_is (suc s.turns) s (omega arith)))
+          second = λ s. subst (Gone s) (sym (second_is (suc s.turns) s (omega arith)))
               (played_goes (m.twin (suc s.turns)) D here go' s);
           both = λ s s' p. (
               let n : ℕ = suc (s.turns + s'.turns) in
@@ -91,9 +84,8 @@ module _ (Soft : Cause → Type 0) (P : State → State → Type 0) (R : (V : Ty
 
   both_there : (f g : Option Function) → Meets (FunctionsMatch Soft) f g → Meets (FunctionTwins P R Good) f g
   both_there None None h = tt
-  both_there None (Some g) h = absurd h
-  both_there (Some f) None h = absurd h
   both_there (Some f) (Some g) h = function_twins f g h
+  both_there _ _ h = absurd h
 
   pub library_twins : (L M : Library) → LibrariesMatch Soft L M → LibraryTwins P R Good L M
   library_twins L M match = record {
@@ -115,19 +107,17 @@ module _ (Soft : Cause → Type 0) where
 
   goes_here : (f g : Option Function) → Meets (FunctionsMatch Soft) f g → (h : Function) → f ≡ Some h → FunctionGoes h
   goes_here None None meets h is = absurd (cc)
-  goes_here None (Some g) meets h is = absurd meets
-  goes_here (Some f) None meets h is = absurd meets
   goes_here (Some f) (Some g) meets h is = λ by go here.
       (let equal : f ≡ h = cc in subst (λ x. Goes (x.does by here)) equal)
       (tree_goes here _ (meets.does here).tree (meets.does here).first by (go _))
+  goes_here _ _ meets h is = absurd meets
 
   goes_there : (f g : Option Function) → Meets (FunctionsMatch Soft) f g → (h : Function) → g ≡ Some h → FunctionGoes h
   goes_there None None meets h is = absurd (cc)
-  goes_there None (Some g) meets h is = absurd meets
-  goes_there (Some f) None meets h is = absurd meets
   goes_there (Some f) (Some g) meets h is = λ by go here.
       (let equal : g ≡ h = cc in subst (λ x. Goes (x.does by here)) equal)
       (tree_goes here _ (meets.does here).twin (meets.does here).second by (go _))
+  goes_there _ _ meets h is = absurd meets
 
   module _ (L M : Library) (match : LibrariesMatch Soft L M) where
     pub first_goes : LibraryGoes L
@@ -145,3 +135,34 @@ module _ (library : Library) (obedient : Obedient library) where
 
   pub scripted_goes_on : (roles : Roles) → StepGoes (scripted_step library roles (run_step library))
   scripted_goes_on roles = scripted_goes library roles _ run_goes_on
+
+-- A loop whose parts are trees is a round, and then the loop again.
+
+-- a round, and then something
+abbrev pub one_round : {A : Type 0} → Does A → Does A → Does A → Does A → Does A
+one_round head body next again a s = follow in_loop (head a s)
+    (λ a s. and_then (turn s) (λ _ s. follow in_loop (body a s) (λ a s. follow in_loop (next a s) again)))
+
+module _ (Soft : Cause → Type 0) (here : Here) (by : Calls) (go : GoFrom here.comp by) {A : Type 0}
+    (head body next : DoingWith A) (h : MatchWith Soft here head head) (b : MatchWith Soft here body body)
+    (x : MatchWith Soft here next next) where
+  -- any number of rounds above the turns is as good as another
+  enough_rounds : (n m : ℕ) (a : A) (s : State) → s.turns < n → s.turns < m →
+      rounds n (head by) (body by) (next by) a s ≡ rounds m (head by) (body by) (next by) a s
+  enough_rounds n m a s few few' = as_trees n few ∙ sym (as_trees m few') where
+    as_trees : (k : ℕ) → s.turns < k → rounds k (head by) (body by) (next by) a s ≡
+        played (trees here head body next (λ a. (h a).tree) (λ a. (b a).tree) (λ a. (x a).tree) (λ a. (h a).first)
+        (λ a. (b a).first) (λ a. (x a).first) (suc s.turns) (suc s.turns) a) by here s
+    as_trees k less =
+        rounds_are here head body next (λ a. (h a).tree) (λ a. (b a).tree) (λ a. (x a).tree) (λ a. (h a).first)
+        (λ a. (b a).first) (λ a. (x a).first) (suc s.turns) by go k (suc s.turns) a s less (omega arith) (omega arith)
+
+  goes : (does : DoingWith A) → MatchWith Soft here does does → (a : A) → Goes (does by a)
+  goes does match a = match_goes Soft here (λ by. does by a) (λ by. does by a) (match a) by go
+
+  pub loop_again : (a : A) (s : State) → loop (head by) (body by) (next by) a s ≡ one_round (head by) (body by)
+      (next by) (loop (head by) (body by) (next by)) a s
+  loop_again a s = follow_grown in_loop s (head by a s) _ _ (goes head h a s) (λ a t up. turn_same t.turns t _ _ refl
+      (λ u less. follow_grown in_loop u (body by a u) _ _ (goes body b a u) (λ a v up2. follow_grown in_loop v
+      (next by a v) _ _ (goes next x a v) (λ a w up3. enough_rounds s.turns (suc w.turns) a w
+      (omega (arith, up.turns, less, up2.turns, up3.turns)) (omega arith)))))

@@ -2,18 +2,17 @@
 use Rattle.sc_laws.proofs.Common.{AgreesInRoom, AgreesUntilBlame, Blamed, Bool, Cause, Ended, EventsOut, ExtendedByMore}
 use Rattle.sc_laws.proofs.Common.{Extends, Front, IsArithmetic, IsFinal, LibrariesMatch, Library, List, Memory, Never}
 use Rattle.sc_laws.proofs.Common.{Obedient, ProgramTree, Roles, Run, RunEnd, RunsUntilBlame, SourceRun, Step, TurnsOut}
-use Rattle.sc_laws.proofs.Common.{ap, arith, blamed, blamed_run, c_arith, deepest, depth_in, false, if◌then◌else◌, inl}
-use Rattle.sc_laws.proofs.Common.{inr, le-leb, leb-true, length, library_of, library_run, lt-ltb, nat_le, reaches, refl}
-use Rattle.sc_laws.proofs.Common.{roles_run, run_by, run_step, same, same_run, scripted_step, stopped_at, subst, sym}
-use Rattle.sc_laws.proofs.Common.{take, take-append-le, take_all, true, wrapping, ℕ, ◌+◌, ◌-◌, ◌<◌, ◌∙◌, ◌≡◌, ◌≤◌}
+use Rattle.sc_laws.proofs.Common.{ap, arith, blamed, blamed_run, c_arith, deepest, depth_in, false, inl, inr, le-leb}
+use Rattle.sc_laws.proofs.Common.{leb-true, length, library_of, library_run, lt-ltb, nat_le, reaches, refl, roles_run}
+use Rattle.sc_laws.proofs.Common.{run_by, run_step, same, same_run, scripted_step, stopped_at, subst, sym, take}
+use Rattle.sc_laws.proofs.Common.{take-append-le, take_all, true, wrapping, ℕ, ◌+◌, ◌-◌, ◌<◌, ◌∙◌, ◌≡◌, ◌≤◌}
 use Rattle.sc_laws.proofs.Wrapping.{binary_fits, negated_fits}
-use Rattle.sc_laws.proofs.Growing.{front_same, StepGoes, run_step_goes, scripted_goes}
+use Rattle.sc_laws.proofs.Growing.{front_same, front_no_longer, StepGoes, run_step_goes, scripted_goes}
 use Rattle.sc_laws.proofs.Expressions.{ArithKeeps}
 use Rattle.sc_laws.proofs.Matching.{first_goes, second_goes, run_goes_on, scripted_goes_on}
-use Rattle.sc_laws.proofs.Programs.{program_matches}
-use Rattle.sc_laws.proofs.Below.{Passes}
-use Rattle.sc_laws.proofs.BelowCalls.{StepsBelow}
-use Rattle.sc_laws.proofs.Runs.{take_fronts, front_long, unreached, still_unreached, trace_is, RunsBelow, run_steps}
+use Rattle.sc_laws.proofs.Statements.{program_matches}
+use Rattle.sc_laws.proofs.Below.{Passes, StepsBelow}
+use Rattle.sc_laws.proofs.Runs.{shown, take_fronts, unreached, still_unreached, trace_is, RunsBelow, run_steps}
 use Rattle.sc_laws.proofs.Runs.{scripted_steps, runs_below, RunsBelow as goes}
 use Rattle.sc_laws.proofs.Rooms.{deepest_more}
 
@@ -29,25 +28,16 @@ module _ (d : ℕ) (one other : Run) (events more_events : ℕ) (le : events ≤
   front_events (goes.same_run is) = subst (λ z. Front shorter.trace z.behaviour.trace) (sym is) (front_same _)
   front_events (goes.goes_past end is stop passes front ended frames late) = front
 
-  final_at : (b : Bool) → reaches events shorter shorter.end ≡ b →
-      IsFinal (if b then record { trace = take events shorter.trace; end = EventsOut } else shorter).end →
-      RunsBelow d Never (Unit {0}) one other →
-      stopped_at more_events longer ≡ (if b then record {
-        trace = take events shorter.trace;
-        end = EventsOut;
-      } else shorter)
+  final_at : (b : Bool) → reaches events shorter shorter.end ≡ b → IsFinal (shown events b shorter).end →
+      RunsBelow d Never (Unit {0}) one other → stopped_at more_events longer ≡ (shown events b shorter)
   final_at true is final below = absurd final
-  final_at false is final (goes.same_run equal) =
-      ap (λ z. stopped_at more_events z.behaviour) equal
-      ∙ ap (λ b. if b then record { trace = take more_events shorter.trace; end = EventsOut } else shorter)
-      (still_unreached events _ shorter _ le is)
+  final_at false is final (goes.same_run equal) = ap (λ z. stopped_at more_events z.behaviour) equal
+      ∙ ap (λ b. shown more_events b shorter) (still_unreached events _ shorter _ le is)
   final_at false is final (goes.goes_past end ends stop passes front ended frames late) =
       absurd (no_end end passes (subst IsFinal ends final)) where
         no_end : (end : RunEnd) → Passes d Never (Unit {0}) end → IsFinal end → ⊥
-        no_end Ended passes final = passes
-        no_end (Blamed comp cause line) passes final = passes
         no_end TurnsOut passes final = final
-        no_end EventsOut passes final = final
+        no_end _ passes final = passes
 
   extends : RunsBelow d Never (Unit {0}) one other → Extends (stopped_at events shorter) (stopped_at more_events longer)
   extends below =
@@ -70,20 +60,17 @@ module _ (library : Library) (obedient : Obedient library) (globals : Memory) (i
 
   pub more_runs : ExtendedByMore (λ turns events. stopped_at events
       (library_run library globals inputs turns).behaviour)
-  more_runs =
-      more_of (run_step library) (run_goes_on library obedient) (λ d. run_steps d Never _ (inr tt) library
-      library obedient)
+  more_runs = more_of (run_step library) (run_goes_on library obedient)
+      (λ d. run_steps d Never _ (inr tt) library library obedient)
 
   pub more_scripted : (roles : Roles) →
       ExtendedByMore (λ turns events. stopped_at events (roles_run library globals inputs turns roles).behaviour)
-  more_scripted roles =
-      more_of (scripted_step library roles _) (scripted_goes_on library obedient roles)
+  more_scripted roles = more_of (scripted_step library roles _) (scripted_goes_on library obedient roles)
       (λ d. scripted_steps d Never _ (inr tt) library library obedient roles)
 
 -- ARITHMETIC
 pub wrapping_keeps : ArithKeeps IsArithmetic c_arith wrapping
-wrapping_keeps =
-    record { binary = λ unsigned o a b. binary_fits _ o a b; negated = λ unsigned a. negated_fits _ a }
+wrapping_keeps = record { binary = λ unsigned o a b. binary_fits _ o a b; negated = λ unsigned a. negated_fits _ a }
 
 -- two runs with as many turns, of which the first may be blamed for arithmetic
 module _ (one other : Run) (events : ℕ) where
@@ -96,23 +83,18 @@ module _ (one other : Run) (events : ℕ) where
   reached_too : (end : RunEnd) → Front x.trace y.trace → (end ≡ Ended → length x.trace < length y.trace) →
       events ≤ length x.trace → reaches events y end ≡ true
   reached_too Ended front ended le = (let longer = ended refl in lt-ltb events _ (omega (arith, le, longer)))
-  reached_too (Blamed comp cause line) front ended le =
-      (let long = front_long x.trace y.trace front in le-leb events _ (omega (arith, le, long)))
-  reached_too TurnsOut front ended le =
-      (let long = front_long x.trace y.trace front in le-leb events _ (omega (arith, le, long)))
-  reached_too EventsOut front ended le =
-      (let long = front_long x.trace y.trace front in le-leb events _ (omega (arith, le, long)))
+  reached_too _ front ended le =
+      (let long = front_no_longer x.trace y.trace front in le-leb events _ (omega (arith, le, long)))
 
   took_same : Front x.trace y.trace → events ≤ length x.trace → take events y.trace ≡ take events x.trace
   took_same front le = ap (take events) front.is ∙ take-append-le events x.trace front.more le
 
   blamed_at : (comp : ℕ) (cause : Cause) (line : ℕ) → x.end ≡ Blamed comp cause line → IsArithmetic cause →
       Front x.trace y.trace → (y.end ≡ Ended → length x.trace < length y.trace) → (b : Bool) →
-      reaches events x x.end ≡ b →
-      AgreesUntilBlame (if b then record { trace = take events x.trace; end = EventsOut } else x) (stopped_at events y)
+      reaches events x x.end ≡ b → AgreesUntilBlame (shown events b x) (stopped_at events y)
   blamed_at comp cause line ends soft front ended true is =
       let le = leb_true events (length x.trace) (ap (reaches events x) (sym ends) ∙ is) in
-      same (ap (λ b. if b then record { trace = take events y.trace; end = EventsOut } else y)
+      same (ap (λ b. shown events b y)
       (reached_too y.end front ended le) ∙ ap (λ t. record { trace = t; end = EventsOut }) (took_same front le)) where
         leb_true : (a b : ℕ) → nat_le a b ≡ true → a ≤ b
         leb_true a b is = leb-true a b is
@@ -123,20 +105,16 @@ module _ (one other : Run) (events : ℕ) where
 
   agrees : RunsBelow 0 IsArithmetic ⊥ one other → AgreesUntilBlame (stopped_at events x) (stopped_at events y)
   agrees (goes.same_run is) = same (ap (λ z. stopped_at events z.behaviour) is)
-  agrees (goes.goes_past Ended ends stop passes front ended frames late) = absurd passes
   agrees (goes.goes_past (Blamed comp cause line) ends stop passes front ended frames late) =
       blamed_at comp cause line ends passes front ended _ refl
-  agrees (goes.goes_past TurnsOut ends stop passes front ended frames late) = absurd passes
-  agrees (goes.goes_past EventsOut ends stop passes front ended frames late) = absurd passes
+  agrees (goes.goes_past _ ends stop passes front ended frames late) = absurd passes
 
 module _ (one other : Run) where
   whole_agrees : RunsBelow 0 IsArithmetic ⊥ one other → RunsUntilBlame one other
   whole_agrees (goes.same_run is) = same_run is
-  whole_agrees (goes.goes_past Ended ends stop passes front ended frames late) = absurd passes
   whole_agrees (goes.goes_past (Blamed comp cause line) ends stop passes front ended frames late) =
       blamed_run comp cause line ends passes front frames late
-  whole_agrees (goes.goes_past TurnsOut ends stop passes front ended frames late) = absurd passes
-  whole_agrees (goes.goes_past EventsOut ends stop passes front ended frames late) = absurd passes
+  whole_agrees (goes.goes_past _ ends stop passes front ended frames late) = absurd passes
 
   no_deeper : RunsUntilBlame one other → (events comp : ℕ) → depth_in one events comp ≤ depth_in other events comp
   no_deeper (same_run is) events comp =
@@ -168,14 +146,12 @@ module _ (L M : Library) (match : LibrariesMatch IsArithmetic L M) (globals : Me
   run_goes' body goes = run_step_goes M body goes (second_goes IsArithmetic L M match)
 
   pub runs_agree : AgreesInRoom (library_run L globals inputs turns) (library_run M globals inputs turns)
-  runs_agree =
-      in_room _ _ (below_of (run_step L) (run_step M) run_goes run_goes' (run_steps 0 IsArithmetic ⊥ (inl refl) L M
-      match))
+  runs_agree = in_room _ _
+      (below_of (run_step L) (run_step M) run_goes run_goes' (run_steps 0 IsArithmetic ⊥ (inl refl) L M match))
 
   pub scripts_agree : (roles : Roles) →
       AgreesInRoom (roles_run L globals inputs turns roles) (roles_run M globals inputs turns roles)
-  scripts_agree roles =
-      in_room _ _ (below_of (scripted_step L roles _) (scripted_step M roles (run_step M))
+  scripts_agree roles = in_room _ _ (below_of (scripted_step L roles _) (scripted_step M roles (run_step M))
       (scripted_goes L roles _ run_goes) (scripted_goes M roles _ run_goes')
       (scripted_steps 0 IsArithmetic ⊥ (inl refl) L M match roles))
 

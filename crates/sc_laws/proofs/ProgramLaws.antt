@@ -8,13 +8,12 @@ use Rattle.sc_laws.proofs.Common.{library_of, performed_by, refl, roles_in, run_
 use Rattle.sc_laws.proofs.Common.{◌<◌}
 use Rattle.sc_laws.proofs.Growing.{within_goes}
 use Rattle.sc_laws.proofs.Matching.{run_goes_on, scripted_goes_on}
-use Rattle.sc_laws.proofs.Programs.{program_obeys}
-use Rattle.sc_laws.proofs.Fixed.{has_fixed_point}
+use Rattle.sc_laws.proofs.Statements.{program_obeys}
+use Rattle.sc_laws.proofs.Runs.{has_fixed_point}
 use Rattle.sc_laws.proofs.More.{more_runs, more_scripted, runs_agree, scripts_agree, wrapping_matches}
 use Rattle.sc_laws.proofs.Legality.{runs_legal, scripts_legal}
-use Rattle.sc_laws.proofs.Blames.{blamed_is_there, nobody_is_blamed}
+use Rattle.sc_laws.proofs.Blames.{blamed_is_there, nobody_is_blamed, chain_rises, has_chain}
 use Rattle.sc_laws.proofs.FollowingRuns.{tells_with_more, keeps_blames, passes_blames, least_is_chain}
-use Rattle.sc_laws.proofs.Chaining.{chain_rises, has_chain}
 use Rattle.sc_laws.proofs.Rooms.{keeps_rooms}
 use Rattle.sc_laws.proofs.Scripts.{spends_along}
 use Rattle.sc_laws.proofs.Turns.{spends_turns}
@@ -93,10 +92,9 @@ nobody_who_performs_is_blamed = record {
 pub blamed_are_there : BlamedAreThere
 blamed_are_there = record {
   libraries = blamed_is_there;
-  programs = λ arith program set trace inputs turns events comp cause line ends.
-      subst (λ n. comp < n) (length-map _ (functions_in arith _))
-      (blamed_is_there (library_of arith program) (program_obeys arith program) (globals_of _) inputs
-      turns events (roles_in _ set trace) comp cause line ends);
+  programs = λ arith program set trace inputs turns events comp cause line ends. subst (λ n. comp < n)
+      (length-map _ (functions_in arith _)) (blamed_is_there (library_of arith program) (program_obeys arith program)
+      (globals_of _) inputs turns events (roles_in _ set trace) comp cause line ends);
 }
 
 -- what holds of libraries that obey holds of programs

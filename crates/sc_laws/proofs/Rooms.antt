@@ -1,41 +1,34 @@
 -- Frames: each change is of a moment within the trace, and a call that returns leaves the open room as it was.
-use Rattle.sc_laws.proofs.Common.{Action, AllBefore, AreTold, BadType, Blamed, Body, Bool, Call, CallTarget, Closed}
-use Rattle.sc_laws.proofs.Common.{Cross, DeepestIsReached, End, Event, FrameChange, Function, Here, In, Input}
-use Rattle.sc_laws.proofs.Common.{KeepsRooms, Kept, LeavesRooms, Library, List, Main, Memory, Obedient, Opened, Option}
-use Rattle.sc_laws.proofs.Common.{Out, Output, Own, Piece, Property, Reached, Ret, Roles, Row, State, Step, Stopped}
-use Rattle.sc_laws.proofs.Common.{TellsNoEnd, TurnsOut, Value, Word, [], acts, and_then, ap, arith, asks, back_cross}
-use Rattle.sc_laws.proofs.Common.{back_own, begun, call_cross, call_own, called, calls, deepest, done, exit_word, false}
-use Rattle.sc_laws.proofs.Common.{first_state, found_kept, function, has_no_end, if◌then◌else◌, is_end, last, length}
-use Rattle.sc_laws.proofs.Common.{length-append, list_any, lt-ltb, map, max, nat_lt, not, open_room, performs, refl}
-use Rattle.sc_laws.proofs.Common.{room_after, rows_left, run_by, run_in, run_step, run_to, scripted_step, subst, suc}
-use Rattle.sc_laws.proofs.Common.{sym, tell, then_kept, true, turn, turn_of, within, zero, ℕ, ◌&&◌, ◌++◌, ◌+◌, ◌-◌}
-use Rattle.sc_laws.proofs.Common.{◌==◌, ◌||◌, ◌∙◌, ◌∷◌, ◌≡◌, ◌≤◌}
-use Rattle.sc_event.specs.declared.row.Action.TheVariants as act
-use Rattle.sc_laws.proofs.Growing.{BodyGoes, StepGoes, calls_go, within_goes}
+use Rattle.sc_laws.proofs.Common.{AllBefore, AreTold, Body, Bool, CallTarget, Closed, Cross, DeepestIsReached, End}
+use Rattle.sc_laws.proofs.Common.{Event, FrameChange, Function, Here, In, Input, KeepsRooms, Kept, LeavesRooms, Library}
+use Rattle.sc_laws.proofs.Common.{List, Main, Memory, Obedient, Opened, Option, Output, Own, Piece, Property, Reached}
+use Rattle.sc_laws.proofs.Common.{Roles, State, Step, Stopped, TellsNoEnd, Value, [], ap, arith, back_cross, back_own}
+use Rattle.sc_laws.proofs.Common.{begun, call_cross, call_own, called, deepest, done, exit_word, false, first_state}
+use Rattle.sc_laws.proofs.Common.{found_kept, function, has_no_end, if◌then◌else◌, is_end, last, length, length-append}
+use Rattle.sc_laws.proofs.Common.{list_any, lt-ltb, max, nat_lt, not, open_room, refl, room_after, run_by, run_in}
+use Rattle.sc_laws.proofs.Common.{run_step, run_to, scripted_step, subst, suc, sym, tell, then_kept, true, turn}
+use Rattle.sc_laws.proofs.Common.{turn_of, within, zero, ℕ, ◌&&◌, ◌++◌, ◌+◌, ◌-◌, ◌==◌, ◌||◌, ◌∙◌, ◌∷◌, ◌≡◌, ◌≤◌}
+use Rattle.sc_laws.proofs.Growing.{BodyGoes, StepGoes, within_goes}
 use Rattle.sc_laws.proofs.Matching.{run_goes_on, scripted_goes_on}
-use Rattle.sc_laws.proofs.Keeping.{IsKept, function_keeps}
+use Rattle.sc_laws.proofs.Keeping.{IsKept, run_step_keeps, scripted_keeps, then_other}
 
 -- LISTS OF CHANGES
+
+appended : (comp inner room : ℕ) (xs ys : List FrameChange) (b : Bool) →
+    room_after comp inner (xs ++ ys) ≡ room_after comp (room_after comp inner xs) ys →
+    room_after comp room (xs ++ ys) ≡ room_after comp (room_after comp room xs) ys →
+    (if b then room_after comp inner (xs ++ ys) else room_after comp room (xs ++ ys))
+    ≡ room_after comp (if b then room_after comp inner xs else room_after comp room xs) ys
+appended comp inner room xs ys true h k = h
+appended comp inner room xs ys false h k = k
 
 room_append : (comp room : ℕ) (xs ys : List FrameChange) →
     room_after comp room (xs ++ ys) ≡ room_after comp (room_after comp room xs) ys
 room_append comp room [] ys = refl
-room_append comp room (Opened told c more ∷ xs) ys =
-    by (c == comp) (room_append comp (room + more) xs ys) (room_append comp room xs ys) where
-      by : (b : Bool) → room_after comp (room + more) (xs ++ ys) ≡ room_after comp (room_after comp (room + more) xs)
-          ys → room_after comp room (xs ++ ys) ≡ room_after comp (room_after comp room xs) ys
-          → (if b then room_after comp (room + more) (xs ++ ys) else room_after comp room (xs ++ ys))
-          ≡ room_after comp (if b then room_after comp (room + more) xs else room_after comp room xs) ys
-      by true h k = h
-      by false h k = k
-room_append comp room (Closed told c less ∷ xs) ys =
-    by _ (room_append comp _ xs ys) (room_append comp room xs ys) where
-      by : (b : Bool) → room_after comp (room - less) (xs ++ ys) ≡ room_after comp (room_after comp (room - less) xs)
-          ys → room_after comp room (xs ++ ys) ≡ room_after comp (room_after comp room xs) ys
-          → (if b then room_after comp (room - less) (xs ++ ys) else room_after comp room (xs ++ ys))
-          ≡ room_after comp (if b then room_after comp (room - less) xs else room_after comp room xs) ys
-      by true h k = h
-      by false h k = k
+room_append comp room (Opened told c more ∷ xs) ys = appended comp (room + more) room xs ys (c == comp)
+    (room_append comp (room + more) xs ys) (room_append comp room xs ys)
+room_append comp room (Closed told c less ∷ xs) ys = appended comp (room - less) room xs ys (c == comp)
+    (room_append comp (room - less) xs ys) (room_append comp room xs ys)
 
 before_append : (n : ℕ) (xs ys : List FrameChange) → AllBefore n xs → AllBefore n ys → AllBefore n (xs ++ ys)
 before_append n [] ys h k = k
@@ -45,72 +38,50 @@ before_append n (Closed told c less ∷ xs) ys h k = (h.0, before_append n xs ys
 -- what was told by then was told by later
 pub before_more : (n m : ℕ) → n ≤ m → (xs : List FrameChange) → AllBefore n xs → AllBefore m xs
 before_more n m le [] h = tt
-before_more n m le (Opened told c more ∷ xs) h = let first =
-    h.0 in (omega (arith, le, first), before_more n m le xs h.1)
-before_more n m le (Closed told c less ∷ xs) h = let first =
-    h.0 in (omega (arith, le, first), before_more n m le xs h.1)
+before_more n m le (Opened told c more ∷ xs) h =
+    let first = h.0 in (omega (arith, le, first), before_more n m le xs h.1)
+before_more n m le (Closed told c less ∷ xs) h =
+    let first = h.0 in (omega (arith, le, first), before_more n m le xs h.1)
 
 -- the deepest room is at least the first
+deeper : (b : Bool) (room more rest : ℕ) → room ≤ rest → room ≤ (if b then max room more else rest)
+deeper true room more rest h = omega arith
+deeper false room more rest h = h
+
 deepest_first : (events comp room : ℕ) (ys : List FrameChange) → room ≤ deepest events comp room ys
 deepest_first events comp room [] = omega arith
-deepest_first events comp room (Opened told c more ∷ ys) =
-    by _ (deepest_first events comp room ys) where
-      by : (b : Bool) → room ≤ deepest events comp room ys →
-          room ≤ (if b then max room (deepest events comp (room + more) ys) else deepest events comp room ys)
-      by true h = omega arith
-      by false h = h
-deepest_first events comp room (Closed told c less ∷ ys) =
-    by _ (deepest_first events comp room ys) where
-      by : (b : Bool) → room ≤ deepest events comp room ys →
-          room ≤ (if b then max room (deepest events comp (room - less) ys) else deepest events comp room ys)
-      by true h = omega arith
-      by false h = h
+deepest_first events comp room (Opened told c more ∷ ys) = deeper _ room _ _ (deepest_first events comp room ys)
+deepest_first events comp room (Closed told c less ∷ ys) = deeper _ room _ _ (deepest_first events comp room ys)
+
+either : (b before : Bool) (room x x' y y' : ℕ) → before ≡ true → x ≤ x' → y ≤ y' →
+    (if b then x else y) ≤ (if b && before then max room x' else y')
+either true true room x x' y y' is h k = omega (arith, h)
+either true false room x x' y y' is h k = cc
+either false before room x x' y y' is h k = k
 
 deepest_from : (events comp room : ℕ) (xs ys : List FrameChange) → AllBefore events xs →
     room_after comp room xs ≤ deepest events comp room (xs ++ ys)
 deepest_from events comp room [] ys h = deepest_first events comp room ys
-deepest_from events comp room (Opened told c more ∷ xs) ys h =
-    by _ _ (lt-ltb told events h.0) (deepest_from events comp (room + more) xs ys h.1)
-    (deepest_from events comp room xs ys h.1) where
-      by : (b before : Bool) → before ≡ true → room_after comp (room + more) xs ≤ deepest events comp (room + more)
-          (xs ++ ys) → room_after comp room xs ≤ deepest events comp room (xs ++ ys)
-          → (if b then room_after comp (room + more) xs else room_after comp room xs) ≤ (if b && before then max room
-          (deepest events comp (room + more) (xs ++ ys)) else deepest events comp room (xs ++ ys))
-      by true true is h k = omega (arith, h)
-      by true false is h k = cc
-      by false before is h k = k
-deepest_from events comp room (Closed told c less ∷ xs) ys h =
-    by _ _ (lt-ltb told events h.0) (deepest_from events comp _ xs ys h.1)
-    (deepest_from events comp room xs ys h.1) where
-      by : (b before : Bool) → before ≡ true → room_after comp (room - less) xs ≤ deepest events comp (room - less)
-          (xs ++ ys) → room_after comp room xs ≤ deepest events comp room (xs ++ ys)
-          → (if b then room_after comp (room - less) xs else room_after comp room xs) ≤ (if b && before then max room
-          (deepest events comp (room - less) (xs ++ ys)) else deepest events comp room (xs ++ ys))
-      by true true is h k = omega (arith, h)
-      by true false is h k = cc
-      by false before is h k = k
+deepest_from events comp room (Opened told c more ∷ xs) ys h = either (c == comp) _ room _ _ _ _
+    (lt-ltb told events h.0) (deepest_from events comp (room + more) xs ys h.1)
+    (deepest_from events comp room xs ys h.1)
+deepest_from events comp room (Closed told c less ∷ xs) ys h = either (c == comp) _ room _ _ _ _
+    (lt-ltb told events h.0) (deepest_from events comp (room - less) xs ys h.1)
+    (deepest_from events comp room xs ys h.1)
 
 -- more changes get no less deep
+both_more : (b : Bool) (room x x' y y' : ℕ) → x ≤ x' → y ≤ y' →
+    (if b then max room x else y) ≤ (if b then max room x' else y')
+both_more true room x x' y y' h k = omega (arith, h)
+both_more false room x x' y y' h k = k
+
 pub deepest_more : (events comp room : ℕ) (xs ys : List FrameChange) →
     deepest events comp room xs ≤ deepest events comp room (xs ++ ys)
 deepest_more events comp room [] ys = deepest_first events comp room ys
-deepest_more events comp room (Opened told c more ∷ xs) ys =
-    by (c == comp && nat_lt told events) (deepest_more events comp (room + more) xs ys)
-    (deepest_more events comp room xs ys) where
-      by : (b : Bool) → deepest events comp (room + more) xs ≤ deepest events comp (room + more) (xs ++ ys) →
-          deepest events comp room xs ≤ deepest events comp room (xs ++ ys)
-          → (if b then max room (deepest events comp (room + more) xs) else deepest events comp room xs)
-          ≤ (if b then max room (deepest events comp (room + more) (xs ++ ys)) else deepest events comp room (xs ++ ys))
-      by true h k = omega (arith, h)
-      by false h k = k
-deepest_more events comp room (Closed told c less ∷ xs) ys =
-    by _ (deepest_more events comp _ xs ys) (deepest_more events comp room xs ys) where
-      by : (b : Bool) → deepest events comp (room - less) xs ≤ deepest events comp (room - less) (xs ++ ys) →
-          deepest events comp room xs ≤ deepest events comp room (xs ++ ys)
-          → (if b then max room (deepest events comp (room - less) xs) else deepest events comp room xs)
-          ≤ (if b then max room (deepest events comp (room - less) (xs ++ ys)) else deepest events comp room (xs ++ ys))
-      by true h k = omega (arith, h)
-      by false h k = k
+deepest_more events comp room (Opened told c more ∷ xs) ys = both_more (c == comp && nat_lt told events) room _ _ _ _
+    (deepest_more events comp (room + more) xs ys) (deepest_more events comp room xs ys)
+deepest_more events comp room (Closed told c less ∷ xs) ys = both_more (c == comp && nat_lt told events) room _ _ _ _
+    (deepest_more events comp (room - less) xs ys) (deepest_more events comp room xs ys)
 
 pub deepest_is_reached : DeepestIsReached
 deepest_is_reached events comp before after h = deepest_from events comp 0 before after h
@@ -153,16 +124,12 @@ module _ (base : State) where
 
   turned : (rooms : Rooms) (n : ℕ) (s : State) → Noted base rooms s → Kept (noting base rooms) (turn_of n s)
   turned rooms zero s h = record { after = h.told }
-  turned rooms (suc n) s h =
-      record { after = record { told = told_again s _ refl refl h.told; open_ = h.open_ } }
+  turned rooms (suc n) s h = record { after = record { told = told_again s _ refl refl h.told; open_ = h.open_ } }
 
   is_kept : (rooms : Rooms) (here : Here) → IsKept (noting base rooms) here
   is_kept rooms here =
       record {
-        memory = λ s blocks h. record {
-          told = told_again s _ refl refl h.told;
-          open_ = h.open_;
-        };
+        memory = λ s blocks h. record { told = told_again s _ refl refl h.told; open_ = h.open_ };
         turned = λ s h. turned rooms s.turns s h;
         blamed = λ s cause line h. h.told;
       }
@@ -195,9 +162,8 @@ module _ (base : State) where
         ∙ ap (λ room. if comp == c then room + f.room else room) (h.open_ c);
   }
 
-  done_noted : (rooms : Rooms) (comp : ℕ) (f : Function) (first : ℕ) (s : State) → Noted base (wider comp f.room rooms)
-      s →
-      Noted base rooms (done comp f first s)
+  done_noted : (rooms : Rooms) (comp : ℕ) (f : Function) (first : ℕ) (s : State) →
+      Noted base (wider comp f.room rooms) s → Noted base rooms (done comp f first s)
   done_noted rooms comp f first s h = record {
     told = record {
       moments = λ first. before_append (suc _) s.frames (Closed _ comp f.room ∷ [])
@@ -214,13 +180,6 @@ module _ (base : State) where
 
   -- RUNS
 
-  -- a piece at wider rooms, and back
-  then_back : {X Y : Type 0} (inner outer : Rooms) (piece : Piece X) (go : X → State → Piece Y) →
-      Kept (noting base inner) piece → ((v : X) (s : State) → Noted base inner s → Kept (noting base outer) (go v s)) →
-      Kept (noting base outer) (and_then piece go)
-  then_back inner outer (Reached v s) go h k = k v s h.after
-  then_back inner outer (Stopped end s) go h k = record { after = h.after }
-
   abbrev BodyNotes : Body → Type 0
   BodyNotes body = (rooms : Rooms) (number : ℕ) (here : Here) (s : State) → Noted base rooms s →
       Kept (noting base rooms) (body number here s)
@@ -228,12 +187,10 @@ module _ (base : State) where
   module _ (library : Library) (body : Body) (notes : BodyNotes body) (rooms : Rooms) where
     run_notes : (comp number : ℕ) (args : List Value) (back : Option Value → State → Piece (Option Value)) →
         ((v : Option Value) (s : State) → Noted base rooms s → Kept (noting base rooms) (back v s)) → (s : State) →
-        Noted base rooms s →
-        Kept (noting base rooms) (run_in library body comp number args back s)
-    run_notes comp number args back b s h =
-        found_kept _ (function library comp number) s _ h.told (λ f is.
-        then_back (wider comp f.room rooms) rooms (body number _ _) _ (notes _ number _
-        _ (begun_noted rooms comp f args s h)) (λ v t g. b v _ (done_noted rooms comp f _ t g)))
+        Noted base rooms s → Kept (noting base rooms) (run_in library body comp number args back s)
+    run_notes comp number args back b s h = found_kept _ (function library comp number) s _ h.told (λ f is. then_other
+        (noting base (wider comp f.room rooms)) (noting base rooms) (body number _ _) _ (λ end s h. h)
+        (notes _ number _ _ (begun_noted rooms comp f args s h)) (λ v t g. b v _ (done_noted rooms comp f _ t g)))
 
     own_notes : (comp number : ℕ) (args : List Value) (s : State) → Noted base rooms s →
         Kept (noting base rooms) (call_own library body comp number args s)
@@ -258,77 +215,23 @@ module _ (base : State) where
     called_notes from Input args s h =
         record {
           after = let told = told_noted rooms (In from _) s refl h in
-              record {
-                told = told_again (tell (In from _) s) _ refl refl told.told;
-                open_ = told.open_;
-              };
+              record { told = told_again (tell (In from _) s) _ refl refl told.told; open_ = told.open_ };
         }
     called_notes from Output args s h = record { after = told_noted rooms _ s refl h }
-
-    calls_note : (from : ℕ) (target : CallTarget) (args : List Value) (s : State) → Noted base rooms s →
-        Kept (noting base rooms) (calls library body from target args s)
-    calls_note from target args s h = by _ where
-      by : (b : Bool) →
-          Kept (noting base rooms) (if b then called library body from target args s else Stopped (Blamed from BadType
-          0) s)
-      by true = called_notes from target args s h
-      by false = record { after = h.told }
-
-  -- scripts
-  module _ (library : Library) (body : Body) (notes : BodyNotes body) (rooms : Rooms) where
-    asks_note : (comp : ℕ) (target : CallTarget) (args : List Value) (s : State) → Noted base rooms s →
-        Kept (noting base rooms) (asks library body comp target args s)
-    asks_note comp target args s h = by _ where
-      by : (b : Bool) → Kept (noting base rooms) (if b then calls library body comp target args s else Stopped TurnsOut
-          s)
-      by true = calls_note library body notes rooms comp target args s h
-      by false = record { after = h.told }
-
-    acts_note : (action : Action) (next again : State → Piece (Option Value)) →
-        ((s : State) → Noted base rooms s → Kept (noting base rooms) (next s)) →
-        ((s : State) → Noted base rooms s → Kept (noting base rooms) (again s))
-        → (comp : ℕ) (s : State) → Noted base rooms s → Kept (noting base rooms) (acts library body action next again
-        comp s)
-    acts_note (act.Call to index args) next again n a comp s h =
-        then_kept _ (asks library body comp (Cross to index) (map _ args) s)
-        _ (asks_note comp (Cross to index) (map _ args) s h) (λ v s h. a s h)
-    acts_note (act.Ret v) next again n a comp s h = record { after = h }
-    acts_note (act.Out w) next again n a comp s h =
-        then_kept _ (asks library body comp Output (Word w ∷ []) s) _ (asks_note comp Output (Word w ∷ []) s
-        h) (λ v s h. n s h)
-    acts_note (act.In w) next again n a comp s h =
-        then_kept _ (asks library body comp Input [] s) _ (asks_note comp Input [] s h) (λ v s h. n s h)
-    acts_note (act.End w) next again n a comp s h = record { after = h }
-
-    performs_note : (rows : List Row) (number : ℕ) (here : Here) (s : State) → Noted base rooms s →
-        Kept (noting base rooms) (performs library body rows number here s)
-    performs_note [] number here s h = record { after = h.told }
-    performs_note (row ∷ rest) number here s h =
-        by (performs_note rest number here) _ where
-          by : ((s : State) → Noted base rooms s → Kept (noting base rooms) (performs library body rest number here s))
-              → (b : Bool) →
-              Kept (noting base rooms) (if b then acts library body row.action (performs library body rest number here)
-              (body number here) here.comp s else Stopped TurnsOut s)
-          by next true = acts_note _ _ _ next (λ s h. notes rooms number here s h) _ s h
-          by next false = record { after = h.told }
 
   abbrev StepNotes : Step → Type 0
   StepNotes step = (body : Body) → BodyGoes body → BodyNotes body → BodyNotes (step body)
 
   module _ (library : Library) (obedient : Obedient library) where
     run_step_notes : (body : Body) → BodyGoes body → BodyNotes body → BodyNotes (run_step library body)
-    run_step_notes body goes notes rooms number here s h =
-        found_kept _ (function library _ number) s (λ f s. f.does _ here s) h.told (λ f is.
-        function_keeps library obedient _ number f is _ here (is_kept rooms here)
-        _ (calls_go library body goes) (λ target args s h. calls_note library body notes rooms _ target args s h) s h)
+    run_step_notes body goes notes rooms number here s h = run_step_keeps (noting base rooms) library body here
+        (λ target args s may h. called_notes library body notes rooms here.comp target args s h) number (λ s h. h.told)
+        obedient goes (λ f is. is_kept rooms here) s h
 
     scripted_notes : (roles : Roles) → StepNotes (scripted_step library roles (run_step library))
-    scripted_notes roles body goes notes rooms number here s h = by _ where
-      by : (b : Bool) →
-          Kept (noting base rooms) (if b then performs library body (rows_left roles here.comp s.trace) number here
-          s else run_step library body number here s)
-      by true = performs_note library body notes rooms _ number here s h
-      by false = run_step_notes body goes notes rooms number here s h
+    scripted_notes roles body goes notes rooms number here s h = scripted_keeps (noting base rooms) library body here
+        (λ target args s may h. called_notes library body notes rooms here.comp target args s h) number (λ s h. h.told)
+        (λ s h. notes rooms number here s h) roles obedient goes (λ plain f is. is_kept rooms here) s h
 
     module _ (step : Step) (goes : StepGoes step) (notes : StepNotes step) where
       within_notes : (n : ℕ) → BodyNotes (within step n)
@@ -351,10 +254,8 @@ module _ (library : Library) (obedient : Obedient library) where
     last_told base rooms (Stopped end s) h = h.after
 
     run_to_notes : (base : State) (rooms : Rooms) (main : ℕ) (piece : Piece (Option Value)) →
-        AllBefore (suc (length base.trace)) base.frames → Kept (noting base rooms) piece →
-        AreTold (run_to main piece)
-    run_to_notes base rooms main (Reached v s) first h =
-        before_more (suc (length s.trace)) (suc (length _))
+        AllBefore (suc (length base.trace)) base.frames → Kept (noting base rooms) piece → AreTold (run_to main piece)
+    run_to_notes base rooms main (Reached v s) first h = before_more (suc (length s.trace)) (suc (length _))
         (omega (arith, length-append s.trace (End main (exit_word v) ∷ []))) _ (h.after.told.moments first)
     run_to_notes base rooms main (Stopped end s) first h = h.after.moments first
 
@@ -372,9 +273,8 @@ module _ (library : Library) (obedient : Obedient library) where
           reached_noted rooms piece v t is h = (subst (λ p. Kept (noting s rooms) p) is h).after
 
     tells_no_end : TellsNoEnd library step
-    tells_no_end n comp number args s h =
-        (last_told s (λ c. open_room c s) (call_own library (within step n) comp number args s)
-        (own_kept n comp number args s)).endless h
+    tells_no_end n comp number args s h = (last_told s (λ c. open_room c s)
+        (call_own library (within step n) comp number args s) (own_kept n comp number args s)).endless h
 
   pub keeps_rooms : KeepsRooms library
   keeps_rooms = record {
@@ -385,8 +285,7 @@ module _ (library : Library) (obedient : Obedient library) where
         turns;
     returns = leaves_rooms (run_step library) (run_goes_on library obedient)
         (λ base. run_step_notes base library obedient);
-    scripted_returns =
-        λ roles. leaves_rooms (scripted_step library roles _) (scripted_goes_on library obedient roles)
+    scripted_returns = λ roles. leaves_rooms (scripted_step library roles _) (scripted_goes_on library obedient roles)
         (λ base. scripted_notes base library obedient roles);
     no_end = tells_no_end (run_step library) (run_goes_on library obedient)
         (λ base. run_step_notes base library obedient);

@@ -1,9 +1,12 @@
 -- Where a compartment stands in its rows, and how traces go on along another.
-use Rattle.sc_laws.proofs.Common.{Bool, Event, Front, List, None, Option, Row, Some, Standing, [], action_of, ap}
-use Rattle.sc_laws.proofs.Common.{append_assoc, at_start, count_of, drop, eq-eqb, false, filter, if◌then◌else◌, inl}
-use Rattle.sc_laws.proofs.Common.{inr, length, part, performer, refl, rows_from, stands_after, stands_behind, subst}
-use Rattle.sc_laws.proofs.Common.{suc, sym, true, zero, ℕ, ◌++◌, ◌==◌, ◌∙◌, ◌∷◌, ◌≡◌, ◌⊎◌}
-use Rattle.sc_laws.proofs.Growing.{front_more}
+use Rattle.sc_laws.proofs.Common.{Event, Front, Goes, List, None, Option, Piece, Row, Some, Standing, State, []}
+use Rattle.sc_laws.proofs.Common.{action_of, and_then, ap, append_assoc, arith, at_start, count_of, drop, drop_next}
+use Rattle.sc_laws.proofs.Common.{eq-eqb, filter, if◌then◌else◌, inl, inr, last, length, length-append, part, performer}
+use Rattle.sc_laws.proofs.Common.{refl, rows_from, stands_after, stands_behind, subst, suc, sym, ℕ, ◌++◌, ◌==◌, ◌∙◌}
+use Rattle.sc_laws.proofs.Common.{◌∷◌, ◌≡◌, ◌⊎◌}
+use Rattle.std.proofs.lemmas.List.Elements.{filter-append}
+use Rattle.sc_event.proofs.Rows.{next_row}
+use Rattle.sc_laws.proofs.Growing.{front_more, then_from}
 
 -- STANDING
 pub stands_last : (at : Option Standing) (u : List Event) (e : Event) (st : Standing) → stands_behind at u ≡ Some st →
@@ -14,24 +17,13 @@ stands_last (Some x) [] e st is = (let same : x ≡ st = cc in ap (λ y. stands_
 stands_last (Some x) (f ∷ u) e st is = stands_last _ u e st is
 
 -- ROWS
-counted : (c : ℕ) (f : Event) (u : List Event) (b : Bool) → (performer f == c) ≡ b →
-    count_of c (f ∷ u) ≡ (if b then suc (count_of c u) else count_of c u)
-counted c f u true is =
-    ap (λ b. length (if b then f ∷ filter (λ event. performer event == c) u else filter (λ event. performer event == c)
-    u)) is
-counted c f u false is =
-    ap (λ b. length (if b then f ∷ filter (λ event. performer event == c) u else filter (λ event. performer event == c)
-    u)) is
-
-one_more : (c : ℕ) (f e : Event) (u : List Event) (b : Bool) → (performer f == c) ≡ b →
-    count_of c (u ++ e ∷ []) ≡ suc (count_of c u) → count_of c (f ∷ (u ++ e ∷ [])) ≡ suc (count_of c (f ∷ u))
-one_more c f e u true is more = counted c f _ true is ∙ ap suc more ∙ ap suc (sym (counted c f u true is))
-one_more c f e u false is more = counted c f _ false is ∙ more ∙ ap suc (sym (counted c f u false is))
-
 pub counts_its_own : (c : ℕ) (u : List Event) (e : Event) → performer e ≡ c →
     count_of c (u ++ e ∷ []) ≡ suc (count_of c u)
-counts_its_own c [] e own = counted c e [] true (eq-eqb _ c own)
-counts_its_own c (f ∷ u) e own = one_more c f e u _ refl (counts_its_own c u e own)
+counts_its_own c u e own =
+    let mine : count_of c (u ++ e ∷ []) ≡ length (filter (λ event. performer event == c) u ++ e ∷ []) =
+    ap length (filter-append _ u (e ∷ [])) ∙ ap (λ b. length (filter (λ event. performer event == c) u ++
+    (if b then e ∷ [] else []))) (eq-eqb _ c own) in
+    omega (arith, mine, length-append (filter (λ event. performer event == c) u) (e ∷ []))
 
 -- the first of these rows is one of this entry and action
 pub record Next (rows : List Row) (st : Standing) (e : Event) : Type 0 where
@@ -39,67 +31,22 @@ pub record Next (rows : List Row) (st : Standing) (e : Event) : Type 0 where
   pub rest : List Row
   pub is : rows ≡ record { entry = st.active.entry; number = number; action = action_of e } ∷ rest
 
--- the rows from an event on
-abbrev from_here : (c number : ℕ) → Standing → Event → List Event → Bool → List Row
-from_here c number x f later b =
-    if b then record { entry = x.active.entry; number = number; action = action_of f } ∷ rows_from c (suc number)
-    (stands_after x f) later else rows_from c number (stands_after x f) later
-
-next_behind : (c number : ℕ) (x st : Standing) (f e : Event) (u later : List Event) (b : Bool) →
-    (performer f == c) ≡ b → Next (drop (count_of c u) (rows_from c (suc number) (stands_after x f) later)) st e →
-    Next (drop (count_of c u) (rows_from c number (stands_after x f) later)) st e
-    → Next (drop (count_of c (f ∷ u)) (from_here c number x f later (performer f == c))) st e
-next_behind c number x st f e u later true is h k =
-    record {
-      number = h.number;
-      rest = h.rest;
-      is = ap (λ n. drop n (from_here c number x f later (performer f == c)))
-          (counted c f u true is) ∙ ap (λ b. drop (suc (count_of c u)) (from_here c number x f later b)) is ∙ h.is;
-    }
-next_behind c number x st f e u later false is h k =
-    record {
-      number = k.number;
-      rest = k.rest;
-      is = ap (λ n. drop n (from_here c number x f later (performer f == c)))
-          (counted c f u false is) ∙ ap (λ b. drop (count_of c u) (from_here c number x f later b)) is ∙ k.is;
-    }
-
-next_from : (c number : ℕ) (at : Option Standing) (u : List Event) (e : Event) (more : List Event) (st : Standing) →
-    stands_behind at u ≡ Some st → performer e ≡ c →
-    Next (drop (count_of c u) (rows_from c number at (u ++ e ∷ more))) st e
-next_from c number None [] e more st is own = absurd (cc)
-next_from c number None (f ∷ u) e more st is own = absurd (cc)
-next_from c number (Some x) [] e more st is own =
-    let same : x ≡ st = cc in
-    record {
-      number = number;
-      rest = rows_from c (suc number) (stands_after x e) more;
-      is = ap (from_here c number x e more) (eq-eqb _ c own)
-          ∙ ap (λ y. record { entry = y.active.entry; number = number; action = action_of e } ∷ rows_from c (suc number)
-          (stands_after x e) more) same;
-    }
-next_from c number (Some x) (f ∷ u) e more st is own =
-    next_behind c number x st f e u _ (performer f == c) refl (next_from c (suc number) _
-    u e more st is own) (next_from c number _ u e more st is own)
-
 -- the next row of a compartment that performs the next event of a trace
 pub row_of_next : (main c : ℕ) (t u : List Event) (e : Event) (more : List Event) (st : Standing) → t ≡ u ++ e ∷ more →
     stands_behind (at_start main) u ≡ Some st → performer e ≡ c → Next (drop (count_of c u) (part main c t)) st e
 row_of_next main c t u e more st is stands own =
-    subst (λ z. Next (drop (count_of c u) (part main c z)) st e) (sym is) (next_from c 0 _ u e more st stands own)
+    subst (λ z. Next (drop (count_of c u) (part main c z)) st e) (sym is) (record {
+      number = count_of c u;
+      rest = rows_from c (suc (count_of c u)) (stands_after st e) more;
+      is = next_row main c u e more st (eq-eqb _ c own) stands;
+    })
 
 -- once it is told, the rows behind it are left
 pub rows_behind : (main c : ℕ) (t u : List Event) (e : Event) (st : Standing) → performer e ≡ c →
     (next : Next (drop (count_of c u) (part main c t)) st e) → drop (count_of c (u ++ e ∷ [])) (part main c t)
     ≡ next.rest
-rows_behind main c t u e st own next =
-    ap (λ n. drop n (part main c t)) (counts_its_own c u e own) ∙ one_less (count_of c u) (part main c t)
-    ∙ ap (drop 1) next.is where
-      one_less : {A : Type 0} (n : ℕ) (xs : List A) → drop (suc n) xs ≡ drop 1 (drop n xs)
-      one_less zero [] = refl
-      one_less zero _ = refl
-      one_less _ [] = refl
-      one_less (suc n) (x ∷ xs) = one_less n xs
+rows_behind main c t u e st own next = ap (λ n. drop n (part main c t)) (counts_its_own c u e own)
+    ∙ sym (drop_next (part main c t) (count_of c u)) ∙ ap (drop 1) next.is
 
 -- TRACES
 -- two fronts of one list: one is a front of the other
@@ -122,6 +69,10 @@ pub in_line_before : (t u v : List Event) → Front u v → InLine t v → InLin
 in_line_before t u v front (inl along) = inl (front_more u v t front along)
 in_line_before t u v front (inr along) = fronts_meet u t front.more along.more (sym front.is ∙ along.is)
 
+pub then_along : {V W : Type 0} (t : List Event) (o : Piece V) (k : V → State → Piece W) → ((v : V) → Goes (k v)) →
+    InLine t (last (and_then o k)).trace → InLine t (last o).trace
+then_along t o k goes = in_line_before t (last o).trace _ (then_from o k goes).events
+
 -- what a trace is where a run that kept to it tells one event more: it ends there, or has that event next
 pub data NextIs (t u : List Event) (e : Event) : Type 0 where
   over : t ≡ u → NextIs t u e
@@ -141,8 +92,7 @@ next_told_is t u e front (inr along) = at_most u t front.more along.more front.i
         empty [] less is = refl
         empty (x ∷ more) less is = absurd (cc)
   at_most (x ∷ u) [] more less is is' = absurd (cc)
-  at_most (x ∷ u) (y ∷ t) more less is is' =
-      behind (cc) (at_most u t more less (cc) (cc)) where
-        behind : y ≡ x → NextIs t u e → NextIs (y ∷ t) (x ∷ u) e
-        behind first (over is) = over (λ i. first i ∷ is i)
-        behind first (told more is) = told more (λ i. first i ∷ is i)
+  at_most (x ∷ u) (y ∷ t) more less is is' = behind (cc) (at_most u t more less (cc) (cc)) where
+    behind : y ≡ x → NextIs t u e → NextIs (y ∷ t) (x ∷ u) e
+    behind first (over is) = over (λ i. first i ∷ is i)
+    behind first (told more is) = told more (λ i. first i ∷ is i)

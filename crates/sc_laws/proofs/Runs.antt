@@ -1,17 +1,20 @@
 -- Whole runs: steps of two libraries, and what they come to when they are stopped at a number of events.
 use Rattle.sc_laws.proofs.Common.{AllFrom, Blamed, Bool, Cause, End, Ended, Event, EventsOut, FrameChange, Front, Gone}
-use Rattle.sc_laws.proofs.Common.{IsStop, LibrariesMatch, Library, List, Main, Memory, None, Option, Piece, Reached}
-use Rattle.sc_laws.proofs.Common.{Roles, Run, RunEnd, Some, SourceRun, State, Step, Stopped, StopsSo, TurnsOut, Value}
-use Rattle.sc_laws.proofs.Common.{[], and_then, ap, arith, call_own, exit_word, false, first_state, found}
-use Rattle.sc_laws.proofs.Common.{if◌then◌else◌, last, le-ltb, leb-false, length, length-append, lt-leb, ltb-false}
-use Rattle.sc_laws.proofs.Common.{reaches, refl, run_by, run_step, run_to, scripted_step, stopped_at, subst, suc, sym}
-use Rattle.sc_laws.proofs.Common.{take, take_all, true, within, zero, ℕ, ◌++◌, ◌+◌, ◌<◌, ◌∙◌, ◌∷◌, ◌≡◌, ◌≤◌, ◌⊎◌}
-use Rattle.sc_laws.proofs.Growing.{front_more, StepGoes, then_goes, found_goes, own_goes, within_goes}
-use Rattle.sc_laws.proofs.Libraries.{Anywhere}
-use Rattle.sc_laws.proofs.Matching.{library_twins}
-use Rattle.sc_laws.proofs.Below.{richer, richer_piece, Passes, Below, along, passed, below_kept, below_at}
-use Rattle.sc_laws.proofs.BelowCalls.{StepsBelow, LibrariesBelow, run_step_below, scripted_below, own_below}
-use Rattle.sc_laws.proofs.BelowCalls.{within_below}
+use Rattle.sc_laws.proofs.Common.{HasFixedPoint, Here, IsFixed, IsSteady, IsStop, LibrariesMatch, Library, List, Main}
+use Rattle.sc_laws.proofs.Common.{Memory, Never, None, Obedient, Option, Piece, Reached, Roles, Run, RunEnd, Some}
+use Rattle.sc_laws.proofs.Common.{SourceRun, State, Step, Stopped, StopsSo, TurnsOut, Value, [], and_then, ap, arith}
+use Rattle.sc_laws.proofs.Common.{call_own, exit_word, false, first_state, found, if◌then◌else◌, inl, last, le-ltb}
+use Rattle.sc_laws.proofs.Common.{leb-false, length, length-append, lt-leb, ltb-false, now, reaches, refl, run_by}
+use Rattle.sc_laws.proofs.Common.{run_step, run_to, scripted_step, stopped_at, subst, suc, sym, take, take_all, true}
+use Rattle.sc_laws.proofs.Common.{within, zero, ℕ, ◌++◌, ◌+◌, ◌<◌, ◌∙◌, ◌∷◌, ◌≡◌, ◌≤◌, ◌⊎◌}
+use Rattle.sc_laws.proofs.Growing.{front_more, front_no_longer, StepGoes, then_goes, found_goes, own_goes, within_goes}
+use Rattle.sc_laws.proofs.Growing.{BodyGoes, StepGoes, within_goes}
+pub use Rattle.sc_laws.proofs.Growing.{front_no_longer as front_long}
+use Rattle.sc_laws.proofs.Twins.{Anywhere}
+use Rattle.sc_laws.proofs.Matching.{library_twins, run_goes_on, scripted_goes_on}
+use Rattle.sc_laws.proofs.Below.{richer, richer_piece, Passes, Below, along, passed, below_kept, below_at, StepsBelow}
+use Rattle.sc_laws.proofs.Below.{LibrariesBelow, run_step_below, scripted_below, own_below, within_below, richer}
+use Rattle.sc_laws.proofs.Below.{richer_piece, Passes, Below, along, passed, BodiesBelow, StepsBelow, within_below}
 
 -- LISTS
 take_front : {A : Type 0} (n m : ℕ) (xs more : List A) → n ≤ m → Front (take n xs) (take m (xs ++ more))
@@ -26,11 +29,6 @@ pub take_fronts : {A : Type 0} (n m : ℕ) (xs ys : List A) → n ≤ m → Fron
 take_fronts n m xs ys le front =
     subst (λ z. Front (take n xs) (take m z)) (sym front.is) (take_front n m xs front.more le)
 
-pub front_long : {A : Type 0} (xs ys : List A) → Front xs ys → length xs ≤ length ys
-front_long xs ys front =
-    let long = ap length front.is ∙ length-append xs front.more in
-    omega (arith, long)
-
 -- RUNS THAT ARE STOPPED
 at_most : {n m : ℕ} → n < m → n ≤ m
 at_most less = omega (arith, less)
@@ -38,14 +36,15 @@ at_most less = omega (arith, less)
 pub unreached : (events : ℕ) (run : SourceRun) (end : RunEnd) → reaches events run end ≡ false →
     length run.trace ≤ events
 unreached events run Ended below = ltb-false events _ below
-unreached events run (Blamed comp cause line) below = at_most (leb-false events _ below)
-unreached events run TurnsOut below = at_most (leb-false events _ below)
-unreached events run EventsOut below = at_most (leb-false events _ below)
+unreached events run _ below = at_most (leb-false events _ below)
+
+-- a run that is cut at so many events, or not
+abbrev pub shown : ℕ → Bool → SourceRun → SourceRun
+shown events b run = if b then record { trace = take events run.trace; end = EventsOut } else run
 
 pub trace_is : (events : ℕ) (run : SourceRun) → (stopped_at events run).trace ≡ take events run.trace
 trace_is events run = by_test _ refl where
-  by_test : (b : Bool) → reaches events run run.end ≡ b →
-      (if b then record { trace = take events run.trace; end = EventsOut } else run).trace ≡ take events run.trace
+  by_test : (b : Bool) → reaches events run run.end ≡ b → (shown events b run).trace ≡ take events run.trace
   by_test true is = refl
   by_test false is = sym (take_all events _ (unreached events run run.end is))
 
@@ -53,17 +52,9 @@ trace_is events run = by_test _ refl where
 pub still_unreached : (events more_events : ℕ) (run : SourceRun) (end : RunEnd) → events ≤ more_events →
     reaches events run end ≡ false → reaches more_events run end ≡ false
 still_unreached events more_events run Ended le is =
-    (let few = ltb-false events _ is in
-    le-ltb _ _ (omega (arith, few, le)))
-still_unreached events more_events run (Blamed comp cause line) le is =
-    (let few = leb-false events _ is in
-    lt-leb _ _ (omega (arith, few, le)))
-still_unreached events more_events run TurnsOut le is =
-    (let few = leb-false events _ is in
-    lt-leb _ _ (omega (arith, few, le)))
-still_unreached events more_events run EventsOut le is =
-    (let few = leb-false events _ is in
-    lt-leb _ _ (omega (arith, few, le)))
+    (let few = ltb-false events _ is in le-ltb _ _ (omega (arith, few, le)))
+still_unreached events more_events run _ le is =
+    (let few = leb-false events _ is in lt-leb _ _ (omega (arith, few, le)))
 
 -- the frames of a run are those of its last state
 pub frames_are : (main : ℕ) (p : Piece (Option Value)) → (run_to main p).frames ≡ (last p).frames
@@ -89,7 +80,7 @@ module _ (d : ℕ) (Soft : Cause → Type 0) (Turns : Type 0) where
       Front trace (run_to main p).behaviour.trace × ((run_to main p).behaviour.end ≡ Ended →
       length trace < length (run_to main p).behaviour.trace)
   past main trace (Reached v s) stop front =
-      let long : length trace ≤ length s.trace = front_long trace s.trace front in
+      let long : length trace ≤ length s.trace = front_no_longer trace s.trace front in
       let one : length (s.trace ++ End main (exit_word v) ∷ []) ≡ length s.trace + 1 =
       length-append s.trace (End main (exit_word v) ∷ []) in (
         front_more trace s.trace (s.trace ++ End main (exit_word v) ∷ []) front
@@ -122,8 +113,7 @@ module _ (d : ℕ) (Soft : Cause → Type 0) (Turns : Type 0) where
 
   module _ (spent : (d ≡ 0) ⊎ Turns) (L M : Library) (match : LibrariesMatch Soft L M) where
     pub libraries : (n n' : ℕ) → LibrariesBelow d Soft Turns spent n n' L M
-    libraries n n' =
-        library_twins Soft _ _ Anywhere (below_kept d Soft Turns n n' spent)
+    libraries n n' = library_twins Soft _ _ Anywhere (below_kept d Soft Turns n n' spent)
         (λ here good. below_at d Soft Turns n n' spent here) L M match
 
     pub run_steps : StepsBelow d Soft Turns spent (run_step L) (run_step M)
@@ -131,9 +121,8 @@ module _ (d : ℕ) (Soft : Cause → Type 0) (Turns : Type 0) where
 
     pub scripted_steps : (roles : Roles) → StepsBelow d Soft Turns spent (scripted_step L roles (run_step L))
         (scripted_step M roles (run_step M))
-    scripted_steps roles n n' a b goes goes' h =
-        scripted_below d Soft Turns spent n n' a b goes goes' h L M (libraries n n') roles (run_step L) (run_step M)
-        (run_steps n n' a b goes goes' h)
+    scripted_steps roles n n' a b goes goes' h = scripted_below d Soft Turns spent n n' a b goes goes' h L M
+        (libraries n n') roles (run_step L) (run_step M) (run_steps n n' a b goes goes' h)
 
     module _ (step step' : Step) (goes : StepGoes step) (goes' : StepGoes step') (steps : StepsBelow d Soft Turns spent
         step step') (globals : Memory) (inputs : List ℕ) (turns : ℕ) where
@@ -150,15 +139,13 @@ module _ (d : ℕ) (Soft : Cause → Type 0) (Turns : Type 0) where
       abbrev second_comes : ℕ → Option ℕ → Piece (Option Value)
       second_comes main number = and_then (found number (richer d start)) (first_call M step' (turns + d) main)
 
-      begin_below : (number : Option ℕ) →
-          Below d Soft Turns (Option Value) (and_then (found number start) (first_call L step turns main))
-          (second_comes main number)
+      begin_below : (number : Option ℕ) → Below d Soft Turns (Option Value)
+          (and_then (found number start) (first_call L step turns main)) (second_comes main number)
       begin_below None = along refl
-      begin_below (Some number) =
-          own_below d Soft Turns spent (suc turns) (suc _) (within step (suc turns))
-          (within step' (suc _)) (within_goes step goes (suc turns))
-          (within_goes step' goes' (suc _)) (within_below d Soft Turns spent step step' goes goes' steps
-          _ _) L M (libraries _ (suc (turns + d))) main number [] start (omega arith) (omega arith)
+      begin_below (Some number) = own_below d Soft Turns spent (suc turns) (suc _) (within step (suc turns))
+          (within step' (suc _)) (within_goes step goes (suc turns)) (within_goes step' goes' (suc _))
+          (within_below d Soft Turns spent step step' goes goes' steps _ _) L M (libraries _ (suc (turns + d))) main
+          number [] start (omega arith) (omega arith)
 
       begin_goes : (library : Library) (step : Step) → StepGoes step →
           (turns main : ℕ) (number : Option ℕ) (s : State) →
@@ -168,13 +155,73 @@ module _ (d : ℕ) (Soft : Cause → Type 0) (Turns : Type 0) where
           (λ number. own_goes library (within step (suc turns)) (within_goes step goes (suc turns)) main number [])
 
       pub runs_below : RunsBelow (run_by L step globals inputs turns) (run_by M step' globals inputs (turns + d))
-      runs_below =
-          subst (λ i. RunsBelow (run_by L step globals inputs turns)
+      runs_below = subst (λ i. RunsBelow (run_by L step globals inputs turns)
           (run_to i.main (second_comes i.main (M.entered i.main Main))))
-          (sym (libraries (suc turns) (suc (turns + d))).interfaces)
-          (run_to_below main (and_then (found _ start) (first_call L step turns main))
-          (second_comes main _) (begin_goes L step goes turns main (L.entered main Main) start).stop
-          (begin_goes M step' goes' (turns + d) main (M.entered main Main) (richer d start)).stop
-          (subst (λ x. Below d Soft Turns (Option Value) (and_then (found (L.entered main Main) start)
-          (first_call L step turns main)) (second_comes main x))
-          (sym ((libraries (suc turns) (suc (turns + d))).entered main Main)) (begin_below (L.entered main Main))))
+          (sym (libraries (suc turns) (suc (turns + d))).interfaces) (run_to_below main
+          (and_then (found _ start) (first_call L step turns main)) (second_comes main _)
+          (begin_goes L step goes turns main (L.entered main Main) start).stop
+          (begin_goes M step' goes' (turns + d) main (M.entered main Main) (richer d start)).stop (subst (λ x. Below d
+          Soft Turns (Option Value) (and_then (found (L.entered main Main) start) (first_call L step turns main))
+          (second_comes main x)) (sym ((libraries (suc turns) (suc (turns + d))).entered main Main))
+          (begin_below (L.entered main Main))))
+
+-- What functions do with as many open calls as they have turns is a fixed point.
+
+no_richer : (s : State) → richer 0 s ≡ s
+no_richer s = (let none : s.turns + 0 ≡ s.turns = omega arith in ap (λ n. record s { turns = n }) none)
+
+no_richer_piece : {V : Type 0} (o : Piece V) → richer_piece 0 o ≡ o
+no_richer_piece (Reached v s) = ap (Reached v) (no_richer s)
+no_richer_piece (Stopped end s) = ap (Stopped end) (no_richer s)
+
+-- with as many turns, the same causes and the same ends there is no run but the same
+nothing_passes : (end : RunEnd) → Passes 0 Never ⊥ end → ⊥
+nothing_passes (Blamed comp cause line) h = h
+nothing_passes _ h = h
+
+pub only_same : {V : Type 0} (o p : Piece V) → Below 0 Never ⊥ V o p → p ≡ o
+only_same o p (along is) = is ∙ no_richer_piece o
+only_same o p (passed end s is passes front) = absurd (nothing_passes end passes)
+
+module _ (step : Step) (goes : StepGoes step) (steps : StepsBelow 0 Never ⊥ (inl refl) step step) where
+  -- more open calls than turns are as good as any number of them
+  pub any_depth : (n m number : ℕ) (here : Here) (s : State) → s.turns < n → s.turns < m →
+      within step m number here s ≡ within step n number here s
+  any_depth n m number here s few few' = ap (within step m number here) (sym (no_richer s)) ∙ only_same _ _
+      (within_below 0 Never ⊥ (inl refl) step step goes goes steps n m number here s few (omega (arith, few')))
+
+  pub now_goes : BodyGoes (now step)
+  now_goes number here s = within_goes step goes (suc s.turns) number here s
+
+  pub fixed : IsFixed step
+  fixed number here s =
+      let inner : BodiesBelow 0 Never ⊥ (inl refl) s.turns (s.turns + 0) _ (now step) = λ number here t few few'.
+      within_below 0 Never ⊥ (inl refl) step step goes goes steps s.turns (suc _) number here t few (omega arith) in
+      sym (only_same _ _ (steps s.turns _ _ _ (within_goes step goes s.turns) now_goes inner
+      number here s (omega arith) (omega arith))) ∙ ap (step _ number here) (no_richer s)
+
+module _ (library : Library) (obedient : Obedient library) where
+  steady_steps : StepsBelow 0 Never ⊥ (inl refl) (run_step library) (run_step library)
+  steady_steps = run_steps 0 Never ⊥ (inl refl) library library obedient
+
+  steady_scripts : (roles : Roles) → StepsBelow 0 Never ⊥ (inl refl) (scripted_step library roles (run_step library))
+      (scripted_step library roles (run_step library))
+  steady_scripts = scripted_steps 0 Never ⊥ (inl refl) library library obedient
+
+  pub run_fixed : IsFixed (run_step library)
+  run_fixed = fixed (run_step library) (run_goes_on library obedient) steady_steps
+
+  pub scripted_fixed : (roles : Roles) → IsFixed (scripted_step library roles (run_step library))
+  scripted_fixed roles =
+      fixed (scripted_step library roles _) (scripted_goes_on library obedient roles) (steady_scripts roles)
+
+  pub run_steady : IsSteady (run_step library)
+  run_steady = any_depth (run_step library) (run_goes_on library obedient) steady_steps
+
+  pub scripted_steady : (roles : Roles) → IsSteady (scripted_step library roles (run_step library))
+  scripted_steady roles =
+      any_depth (scripted_step library roles _) (scripted_goes_on library obedient roles) (steady_scripts roles)
+
+  pub has_fixed_point : HasFixedPoint library
+  has_fixed_point =
+      record { run = run_fixed; scripted = scripted_fixed; run_steady = run_steady; scripted_steady = scripted_steady }

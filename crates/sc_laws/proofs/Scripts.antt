@@ -2,19 +2,20 @@
 -- hasn't told all of it, it has none left. For there the next row of the active compartment is its next event.
 use Rattle.sc_laws.proofs.Common.{Action, BadType, Blamed, Body, Bool, Call, CallTarget, Cross, End, Ended, Event}
 use Rattle.sc_laws.proofs.Common.{EventsOut, Export, ExportsLead, Here, In, Input, Interfaces, Kept, Library, List}
-use Rattle.sc_laws.proofs.Common.{Main, Memory, None, Obedient, Option, Out, Output, Own, Piece, Property, Reached, Ret}
+use Rattle.sc_laws.proofs.Common.{Main, Memory, None, Obedient, Option, Output, Own, Piece, Property, Reached, Ret}
 use Rattle.sc_laws.proofs.Common.{Roles, Row, RunEnd, Set, Some, SpendsAlong, Standing, State, Stopped, TurnsOut, Value}
-use Rattle.sc_laws.proofs.Common.{Word, [], action_of, acts, and_from, and_parts, and_then, ap, arith, at_start}
+use Rattle.sc_laws.proofs.Common.{Word, [], action_of, acts, and_from, and_parts, and_then, ap, arith, asks, at_start}
 use Rattle.sc_laws.proofs.Common.{back_cross, back_own, begun, call_cross, call_own, called, calls, count_of, done}
-use Rattle.sc_laws.proofs.Common.{drop, eq-eqb, eqb-true, false, false≢true, first_state, found, function}
-use Rattle.sc_laws.proofs.Common.{if◌then◌else◌, imports, is_allowed, is_legal_from, is_number, is_some, is_word, leads}
-use Rattle.sc_laws.proofs.Common.{legal, length-map, list_all, map, may_call, may_perform, part, performer, performs}
-use Rattle.sc_laws.proofs.Common.{refl, roles_in, rows_left, run_in, run_step, same_Some, scripted_call, scripted_step}
+use Rattle.sc_laws.proofs.Common.{drop, eq-eqb, eqb-true, false, false≢true, first_state, function, if◌then◌else◌}
+use Rattle.sc_laws.proofs.Common.{imports, is_allowed, is_legal_from, is_number, is_some, is_word, leads, legal}
+use Rattle.sc_laws.proofs.Common.{length-map, list_all, map, may_call, may_perform, part, performer, performs, refl}
+use Rattle.sc_laws.proofs.Common.{roles_in, rows_left, run_in, run_step, same_Some, scripted_call, scripted_step}
 use Rattle.sc_laws.proofs.Common.{stands_after, stands_behind, subst, suc, sym, takes, tell, then_kept, true, turn_of}
 use Rattle.sc_laws.proofs.Common.{within, zero, ℕ, ◌++◌, ◌<◌, ◌∙◌, ◌∷◌, ◌≡◌}
+use Rattle.sc_event.specs.declared.event.Event.TheVariants.{Out}
 use Rattle.sc_event.specs.declared.row.Action.TheVariants as act
 use Rattle.sc_laws.proofs.Growing.{BodyGoes, calls_go, within_goes}
-use Rattle.sc_laws.proofs.Keeping.{IsKept, function_keeps}
+use Rattle.sc_laws.proofs.Keeping.{IsKept, calls_keep, function_keeps, led_somewhere, led_there, then_other, there}
 use Rattle.sc_laws.proofs.Matching.{scripted_goes_on}
 use Rattle.sc_laws.proofs.Rows.{Next, counts_its_own, row_of_next, stands_last}
 
@@ -24,15 +25,13 @@ pub allowed_at : (interfaces : Interfaces) (at : Option Standing) (u : List Even
     (st : Standing) → is_legal_from interfaces at (u ++ e ∷ more) ≡ true → stands_behind at u ≡ Some st →
     is_allowed interfaces st e ≡ true
 allowed_at interfaces None [] e more st l is = absurd (cc)
-allowed_at interfaces (Some a) [] e more st l is =
-    subst (λ x. is_allowed interfaces x e ≡ true) (same_Some a st is)
+allowed_at interfaces (Some a) [] e more st l is = subst (λ x. is_allowed interfaces x e ≡ true) (same_Some a st is)
     (and_parts (is_allowed interfaces a e) (is_legal_from interfaces _ more) l).0
 allowed_at interfaces None (x ∷ u) e more st l is = absurd (false≢true l)
 allowed_at interfaces (Some a) (x ∷ u) e more st l is = allowed_at interfaces _ u e more st (and_parts _ _ l).1 is
 
 -- what is left behind the first of what is left
-left_behind : {A : Type 0} (n : ℕ) (xs : List A) (x : A) (rest : List A) → x ∷ rest ≡ drop n xs →
-    rest ≡ drop (suc n) xs
+left_behind : {A : Type 0} (n : ℕ) (xs : List A) (x : A) (rest : List A) → x ∷ rest ≡ drop n xs → rest ≡ drop (suc n) xs
 left_behind zero [] x rest is = absurd (cc)
 left_behind zero (y ∷ xs) x rest is = cc is
 left_behind (suc n) [] x rest is = absurd (cc)
@@ -75,10 +74,7 @@ module _ (main : ℕ) (trace : List Event) where
   more_turns : {V : Type 0} (n : ℕ) (st : Standing) (o : Piece V) → Kept (standing n st) o →
       Kept (standing (suc n) st) o
   more_turns n st (Reached v s) h = record {
-    after = record {
-      few = (let few = h.after.few in omega (arith, few));
-      stands = h.after.stands;
-    };
+    after = record { few = (let few = h.after.few in omega (arith, few)); stands = h.after.stands };
   }
   more_turns n st (Stopped end s) h = record { after = h.after }
 
@@ -90,23 +86,9 @@ module _ (main : ℕ) (trace : List Event) where
   after_turn n (suc m) st s k is at h =
       h _ (record { few = (let few = at.few in omega (arith, is, few)); stands = at.stands })
 
-  -- what is looked up and there
-  there : {V W : Type 0} (K : Property) (o : Option V) (s : State) (go : V → State → Piece W) → is_some o ≡ true →
-      ((v : V) → o ≡ Some v → Kept K (go v s)) → Kept K (and_then (found o s) go)
-  there K None s go is h = absurd (cc)
-  there K (Some v) s go is h = h v refl
-
-  -- a piece that stands elsewhere, and back
-  then_at : {X Y : Type 0} (n : ℕ) (inner outer : Standing) (piece : Piece X) (go : X → State → Piece Y) →
-      Kept (standing n inner) piece → ((v : X) (s : State) → At n inner s → Kept (standing n outer) (go v s)) →
-      Kept (standing n outer) (and_then piece go)
-  then_at n inner outer (Reached v s) go h k = k v s h.after
-  then_at n inner outer (Stopped end s) go h k = record { after = h.after }
-
   told : (n : ℕ) (st next : Standing) (s : State) (e : Event) → At n st s → stands_after st e ≡ Some next →
       At n next (tell e s)
-  told n st next s e at then_on =
-      record { few = at.few; stands = stands_last _ s.trace e st at.stands ∙ then_on }
+  told n st next s e at then_on = record { few = at.few; stands = stands_last _ s.trace e st at.stands ∙ then_on }
 
 -- FUNCTIONS
 module _ (library : Library) (leads_on : ExportsLead library) (trace : List Event)
@@ -117,6 +99,9 @@ module _ (library : Library) (leads_on : ExportsLead library) (trace : List Even
   abbrev roles : Roles
   roles = roles_in main set trace
 
+  abbrev Now : ℕ → Standing → State → Type 0
+  Now = At main trace
+
   abbrev Kind : ℕ → Standing → Property
   Kind n st = standing main trace n st
 
@@ -125,58 +110,51 @@ module _ (library : Library) (leads_on : ExportsLead library) (trace : List Even
   IsEntered comp number st = set comp ≡ true → library.entered comp st.active.entry ≡ Some number
 
   abbrev BodyAlong : ℕ → Body → Type 0
-  BodyAlong n body =
-      (number : ℕ) (here : Here) (s : State) (st : Standing) → here.comp ≡ st.active.comp →
-      is_some (function library here.comp number) ≡ true → IsEntered here.comp number st → At main trace n st s →
+  BodyAlong n body = (number : ℕ) (here : Here) (s : State) (st : Standing) → here.comp ≡ st.active.comp →
+      is_some (function library here.comp number) ≡ true → IsEntered here.comp number st → Now n st s →
       Kept (Kind n st) (body number here s)
 
   module _ (n : ℕ) (body : Body) (along : BodyAlong n body) where
     run_along : (inner outer : Standing) (comp number : ℕ) (args : List Value)
         (back : Option Value → State → Piece (Option Value)) → comp ≡ inner.active.comp →
         is_some (function library comp number) ≡ true → IsEntered comp number inner →
-        ((v : Option Value) (s : State) → At main trace n inner s → Kept (Kind n outer) (back v s)) → (s : State) →
-        At main trace n inner s → Kept (Kind n outer) (run_in library body comp number args back s)
+        ((v : Option Value) (s : State) → Now n inner s → Kept (Kind n outer) (back v s)) → (s : State) →
+        Now n inner s → Kept (Kind n outer) (run_in library body comp number args back s)
     run_along inner outer comp number args back here is entered b s at =
-        there main trace (Kind n outer) _ s _ is (λ f found_f. then_at main trace n inner outer
-        (body number _ (begun comp f args s)) _ (along number _ _ inner here is
+        there (Kind n outer) _ s _ is (λ f found_f. then_other (Kind n inner) (Kind n outer)
+        (body number _ (begun comp f args s)) _ (λ end s h. h) (along number _ _ inner here is
         entered (record { few = at.few; stands = at.stands }))
         (λ v t at. b v (done comp f _ t) (record { few = at.few; stands = at.stands })))
 
     own_along : (st : Standing) (comp number : ℕ) (args : List Value) → comp ≡ st.active.comp →
         is_some (function library comp number) ≡ true → IsEntered comp number st → (s : State) →
-        At main trace n st s → Kept (Kind n st) (call_own library body comp number args s)
+        Now n st s → Kept (Kind n st) (call_own library body comp number args s)
     own_along st comp number args here is entered =
         run_along st st comp number args back_own here is entered (λ v s at. record { after = at })
-
-    led_somewhere : (comp : ℕ) (number : Option ℕ) → leads library comp number ≡ true → is_some number ≡ true
-    led_somewhere comp None is = is
-    led_somewhere comp (Some number) is = refl
 
     abbrev entered_at : Standing → ℕ → ℕ → Standing
     entered_at st to index =
         record { active = record { comp = to; entry = Export index }; waiting = st.active ∷ st.waiting }
 
     cross_along : (st : Standing) (from to index : ℕ) (args : List Value) →
-        leads library to (library.entered to (Export index)) ≡ true → (s : State) → At main trace n st s →
+        leads library to (library.entered to (Export index)) ≡ true → (s : State) → Now n st s →
         Kept (Kind n st) (call_cross library body from to index args s)
     cross_along st from to index args is s at =
-        there main trace _ (library.entered to _) s _ (led_somewhere to _ is) (λ number same.
+        there _ (library.entered to _) s _ (led_somewhere library to _ is) (λ number same.
         run_along (entered_at st to index) st to number _ (back_cross library.interfaces from to index)
-        refl (sym (ap (leads library to) same) ∙ is) (λ performing. same) (λ v s inside. record {
+        refl (led_there library to number _ is same) (λ performing. same) (λ v s inside. record {
           after = told main trace n _ st s _ inside refl;
         }) _ (told main trace n st _ s _ at refl))
 
     -- a call that takes a turn
     turned_own : (st : Standing) (from number : ℕ) (args : List Value) (s : State) → from ≡ st.active.comp →
-        set from ≡ false → is_some (function library from number) ≡ true → At main trace (suc n) st s →
+        set from ≡ false → is_some (function library from number) ≡ true → Now (suc n) st s →
         Kept (Kind n st) (called library body from (Own number) args s)
-    turned_own st from number args s here plain is at =
-        after_turn main trace n s.turns st s _ refl at
-        (λ t at. own_along st from number args here is (λ performing. absurd
-        (false≢true (sym plain ∙ performing))) t at)
+    turned_own st from number args s here plain is at = after_turn main trace n s.turns st s _ refl at (λ t at.
+        own_along st from number args here is (λ performing. absurd (false≢true (sym plain ∙ performing))) t at)
 
     turned_cross : (st : Standing) (from to index : ℕ) (args : List Value) (s : State) →
-        leads library to (library.entered to (Export index)) ≡ true → At main trace (suc n) st s →
+        leads library to (library.entered to (Export index)) ≡ true → Now (suc n) st s →
         Kept (Kind n st) (called library body from (Cross to index) args s)
     turned_cross st from to index args s is at =
         after_turn main trace n s.turns st s _ refl at (λ t at. cross_along st from to index args is t at)
@@ -191,26 +169,14 @@ module _ (library : Library) (leads_on : ExportsLead library) (trace : List Even
     -- OF COMPARTMENTS THAT RUN THEIR FUNCTIONS
     called_along : (st : Standing) (from : ℕ) (target : CallTarget) (args : List Value) (s : State) →
         from ≡ st.active.comp → set from ≡ false → may_call library from target args ≡ true →
-        At main trace (suc n) st s → Kept (Kind (suc n) st) (called library body from target args s)
+        Now (suc n) st s → Kept (Kind (suc n) st) (called library body from target args s)
     called_along st from (Own number) args s here plain may at =
         more_turns main trace n st _ (turned_own st from number args s here plain may at)
     called_along st from (Cross to index) args s here plain may at =
         more_turns main trace n st _ (turned_cross st from to index args s (led from to index args may) at)
     called_along st from Input args s here plain may at =
-        record {
-          after = told main trace _ st st _ _ (record { few = at.few; stands = at.stands }) refl;
-        }
-    called_along st from Output args s here plain may at =
-        record { after = told main trace _ st st s _ at refl }
-
-    calls_along : (st : Standing) (from : ℕ) (target : CallTarget) (args : List Value) (s : State) →
-        from ≡ st.active.comp → set from ≡ false → At main trace (suc n) st s →
-        Kept (Kind (suc n) st) (calls library body from target args s)
-    calls_along st from target args s here plain at = by _ refl where
-      by : (b : Bool) → may_call library from target args ≡ b → Kept (Kind (suc n) st)
-          (if b then called library body from target args s else Stopped (Blamed from BadType 0) s)
-      by true may = called_along st from target args s here plain may at
-      by false may = record { after = tt }
+        record { after = told main trace _ st st _ _ (record { few = at.few; stands = at.stands }) refl }
+    called_along st from Output args s here plain may at = record { after = told main trace _ st st s _ at refl }
 
     -- OF COMPARTMENTS THAT PERFORM
     -- what is asked for may be called
@@ -242,7 +208,7 @@ module _ (library : Library) (leads_on : ExportsLead library) (trace : List Even
       pub may : may_perform library.interfaces st e ≡ true
 
     is_next : (st : Standing) (comp : ℕ) (s : State) (e : Event) (more : List Event) → comp ≡ st.active.comp →
-        At main trace (suc n) st s → trace ≡ s.trace ++ e ∷ more → IsNext st comp s.trace e
+        Now (suc n) st s → trace ≡ s.trace ++ e ∷ more → IsNext st comp s.trace e
     is_next st comp s e more here at is =
         let allowed = allowed_at library.interfaces (at_start main) s.trace e more st
         (subst (λ t. legal library.interfaces t ≡ true) is legal_trace) at.stands in
@@ -254,8 +220,8 @@ module _ (library : Library) (leads_on : ExportsLead library) (trace : List Even
     module _ (row : Row) (rest : List Row) (number : ℕ) (here : Here) (s : State) (st : Standing)
         (rows : row ∷ rest ≡ rows_left roles here.comp s.trace) (active : here.comp ≡ st.active.comp)
         (is : is_some (function library here.comp number) ≡ true)
-        (entered : library.entered here.comp st.active.entry ≡ Some number) (at : At main trace (suc n) st s)
-        (next : (t : State) → rest ≡ rows_left roles here.comp t.trace → At main trace (suc n) st t →
+        (entered : library.entered here.comp st.active.entry ≡ Some number) (at : Now (suc n) st s)
+        (next : (t : State) → rest ≡ rows_left roles here.comp t.trace → Now (suc n) st t →
         Kept (Kind (suc n) st) (performs library body rest number here t)) where
       same_row : (e : Event) (more : List Event) → (following : IsNext st here.comp s.trace e) →
           row ≡ record { entry = st.active.entry; number = following.row.number; action = action_of e }
@@ -279,56 +245,35 @@ module _ (library : Library) (leads_on : ExportsLead library) (trace : List Even
 
       -- once an event was told, the rows behind are left
       rows_then : (e : Event) → performer e ≡ here.comp → rest ≡ rows_left roles here.comp (s.trace ++ e ∷ [])
-      rows_then e own =
-          left_behind (count_of _ s.trace) (part main _ trace) row rest rows ∙
-          ap (λ k. drop k (part main here.comp trace)) (sym (counts_its_own _ s.trace e own))
+      rows_then e own = left_behind (count_of _ s.trace) (part main _ trace) row rest rows
+          ∙ ap (λ k. drop k (part main here.comp trace)) (sym (counts_its_own _ s.trace e own))
 
-      call_along : (to index : ℕ) (args : List ℕ) → row.action ≡ act.Call to index args → (b : Bool) →
-          may_call library here.comp (Cross to index) (map (λ w. Word w) args) ≡ b →
-          Kept (Kind (suc n) st)
-          (and_then (if b then (if b then called library body here.comp (Cross to index) (map (λ w. Word w) args) s else
-          Stopped (Blamed here.comp BadType 0) s) else Stopped TurnsOut s) (λ v s. body number here s))
-      call_along to index args its true may =
-          let call = called library body here.comp (Cross to index) (map _ args) s in
-          more_turns main trace n st _ (then_kept _ call _ (turned_cross st _ to index _ s (led _ to index _ may) at)
-          (λ v t at. along number here t st active is (λ performing. entered) at))
-      call_along to index args its false may = record {
-        after = λ e more along_trace.
-            let asks_well = asked _ its e more along_trace in
-            absurd (false≢true (sym may ∙ asks_well));
-      }
+      asks_along : (target : CallTarget) (args : List Value) (action : Action)
+          (k : Option Value → State → Piece (Option Value)) → row.action ≡ action →
+          (MayAsk here.comp action → may_call library here.comp target args ≡ true) →
+          (may_call library here.comp target args ≡ true →
+          Kept (Kind (suc n) st) (and_then (called library body here.comp target args s) k)) →
+          Kept (Kind (suc n) st) (and_then (asks library body here.comp target args s) k)
+      asks_along target args action k its well go = by _ refl where
+        by : (b : Bool) → may_call library here.comp target args ≡ b → Kept (Kind (suc n) st) (and_then (if b then
+            (if b then called library body here.comp target args s else Stopped (Blamed here.comp BadType 0) s) else
+            Stopped TurnsOut s) k)
+        by true may = go may
+        by false may = record {
+          after = λ e more along_trace. absurd (false≢true (sym may ∙ well (asked action its e more along_trace)));
+        }
 
-      out_along : (w : ℕ) → row.action ≡ act.Out w → (b : Bool) →
-          may_call library here.comp Output (Word w ∷ []) ≡ b →
-          Kept (Kind (suc n) st)
-          (and_then (if b then (if b then called library body here.comp Output (Word w ∷ []) s else
-          Stopped (Blamed here.comp BadType 0) s) else Stopped TurnsOut s)
-          (λ v s. performs library body rest number here s))
-      out_along w its true may = next _ (rows_then _ refl) (told main trace _ st st s _ at refl)
-      out_along w its false may = record {
-        after = λ e more along_trace.
-            let asks_well = asked _ its e more along_trace in absurd (false≢true (sym may ∙ asks_well));
-      }
-
-      in_along : (w : ℕ) → row.action ≡ act.In w → (b : Bool) → may_call library here.comp Input [] ≡ b →
-          Kept (Kind (suc n) st)
-          (and_then (if b then (if b then called library body here.comp Input [] s else
-          Stopped (Blamed here.comp BadType 0) s) else Stopped TurnsOut s)
-          (λ v s. performs library body rest number here s))
-      in_along w its true may =
-          next _ (rows_then _ refl) (told main trace _ st st _ _ (record { few = at.few; stands = at.stands }) refl)
-      in_along w its false may = record {
-        after = λ e more along_trace.
-            let asks_well = asked _ its e more along_trace in absurd (false≢true (sym may ∙ asks_well));
-      }
-
-      acts_along : (action : Action) → row.action ≡ action →
-          Kept (Kind (suc n) st) (acts library body action (performs library body rest number here) (body number here)
-          here.comp s)
-      acts_along (act.Call to index args) its = call_along to index args its _ refl
+      acts_along : (action : Action) → row.action ≡ action → Kept (Kind (suc n) st)
+          (acts library body action (performs library body rest number here) (body number here) here.comp s)
+      acts_along (act.Call to index args) its = asks_along (Cross to index) (map (λ w. Word w) args) _ _ its (λ h. h)
+          (λ may. more_turns main trace n st _ (then_kept _ (called library body here.comp (Cross to index) (map _ args)
+          s) _ (turned_cross st _ to index _ s (led _ to index _ may) at)
+          (λ v t at. along number here t st active is (λ performing. entered) at)))
       acts_along (act.Ret v) its = record { after = at }
-      acts_along (act.Out w) its = out_along w its _ refl
-      acts_along (act.In w) its = in_along w its _ refl
+      acts_along (act.Out w) its = asks_along Output (Word w ∷ []) _ _ its (λ h. h)
+          (λ may. next _ (rows_then _ refl) (told main trace _ st st s _ at refl))
+      acts_along (act.In w) its = asks_along Input [] _ _ its (λ h. h) (λ may. next _ (rows_then _ refl)
+          (told main trace _ st st _ _ (record { few = at.few; stands = at.stands }) refl))
       acts_along (act.End w) its = record { after = at }
 
       row_along : Kept (Kind (suc n) st) (performs library body (row ∷ rest) number here s)
@@ -343,17 +288,15 @@ module _ (library : Library) (leads_on : ExportsLead library) (trace : List Even
 
     performs_along : (rows : List Row) (number : ℕ) (here : Here) (s : State) (st : Standing) →
         rows ≡ rows_left roles here.comp s.trace → here.comp ≡ st.active.comp →
-        is_some (function library here.comp number) ≡ true →
-        library.entered here.comp st.active.entry ≡ Some number → At main trace (suc n) st s →
-        Kept (Kind (suc n) st) (performs library body rows number here s)
+        is_some (function library here.comp number) ≡ true → library.entered here.comp st.active.entry ≡ Some number →
+        Now (suc n) st s → Kept (Kind (suc n) st) (performs library body rows number here s)
     performs_along [] number here s st rows active is entered at = record {
       after = λ e more along_trace.
           let following = is_next st _ s e more active at along_trace in
           let never = rows ∙ following.row.is in absurd (cc never);
     }
-    performs_along (row ∷ rest) number here s st rows active is entered at =
-        row_along row rest number here s st rows active is entered at
-        (λ t rows at. performs_along rest number here t st rows active is entered at)
+    performs_along (row ∷ rest) number here s st rows active is entered at = row_along row rest number here s st rows
+        active is entered at (λ t rows at. performs_along rest number here t st rows active is entered at)
 
   module _ (obedient : Obedient library) where
     abbrev its_bodies : ℕ → Body
@@ -362,26 +305,22 @@ module _ (library : Library) (leads_on : ExportsLead library) (trace : List Even
     step_along : (n : ℕ) (body : Body) → BodyGoes body → BodyAlong n body →
         BodyAlong (suc n) (scripted_step library roles (run_step library) body)
     step_along n body goes along number here s st active is entered at = by (set here.comp) refl where
-      by : (b : Bool) → set here.comp ≡ b →
-          Kept (Kind (suc n) st) (if b then performs library body (rows_left roles here.comp s.trace) number here s else
-          run_step library body number here s)
-      by true performing =
-          performs_along n body along (rows_left roles here.comp s.trace) number here s st refl active is
-          (entered performing) at
-      by false plain =
-          there main trace (Kind (suc n) st) (function library here.comp number) s
-          (λ f s. f.does (calls library body) here s) is (λ f found_f.
-          function_keeps library obedient here.comp number f found_f (Kind (suc n) st) here
-          (is_kept main trace (suc n) st here) (calls library body) (calls_go library body goes)
-          (λ target args s at. calls_along n body along st here.comp target args s active plain at) s at)
+      by : (b : Bool) → set here.comp ≡ b → Kept (Kind (suc n) st) (if b then performs library body
+          (rows_left roles here.comp s.trace) number here s else run_step library body number here s)
+      by true performing = performs_along n body along (rows_left roles here.comp s.trace) number here s st refl active
+          is (entered performing) at
+      by false plain = there (Kind (suc n) st) (function library here.comp number) s
+          (λ f s. f.does (calls library body) here s) is (λ f found_f. function_keeps library obedient here.comp number
+          f found_f (Kind (suc n) st) here (is_kept main trace (suc n) st here) (calls library body)
+          (calls_go library body goes) (calls_keep (Kind (suc n) st) library body here
+          (λ target args s may at. called_along n body along st here.comp target args s active plain may at)
+          (is_kept main trace (suc n) st here)) s at)
 
     within_along : (n : ℕ) → BodyAlong n (its_bodies n)
-    within_along zero number here s st active is entered at =
-        let few = at.few in absurd (omega (arith, few))
-    within_along (suc n) number here s st active is entered at =
-        step_along n (its_bodies n)
-        (within_goes (scripted_step library roles _) (scripted_goes_on library obedient roles) n)
-        (within_along n) number here s st active is entered at
+    within_along zero number here s st active is entered at = let few = at.few in absurd (omega (arith, few))
+    within_along (suc n) number here s st active is entered at = step_along n (its_bodies n)
+        (within_goes (scripted_step library roles _) (scripted_goes_on library obedient roles) n) (within_along n)
+        number here s st active is entered at
 
     abbrev first : Standing
     first = record { active = record { comp = main; entry = Main }; waiting = [] }
@@ -391,10 +330,10 @@ module _ (library : Library) (leads_on : ExportsLead library) (trace : List Even
         Kept (Kind (suc turns) first) (scripted_call library roles globals inputs turns)
     main_along globals inputs turns is =
         let body = its_bodies (suc turns) in
-        there main trace _ (library.entered main Main) (first_state globals inputs turns) _
-        (led_somewhere (suc turns) body (within_along _) main _ is) (λ number same.
+        there _ (library.entered main Main) (first_state globals inputs turns) _
+        (led_somewhere library main _ is) (λ number same.
         own_along _ body (within_along _) first main number [] refl
-        (sym (ap (leads library main) same) ∙ is) (λ performing. same) _ (record { few = omega arith; stands = refl }))
+        (led_there library main number _ is same) (λ performing. same) _ (record { few = omega arith; stands = refl }))
 
 pub spends_along : (library : Library) → Obedient library → ExportsLead library →
     leads library library.interfaces.main (library.entered library.interfaces.main Main) ≡ true →

@@ -1,15 +1,14 @@
 -- A run that is out of turns has none left, where all functions that are called are there.
-use Rattle.sc_laws.proofs.Common.{BadType, Blamed, Body, Bool, CallTarget, Cross, Ended, EventsOut, Export, Here, Input}
-use Rattle.sc_laws.proofs.Common.{IsSpent, Kept, Library, List, Main, Memory, None, Obedient, Option, Output, Own}
-use Rattle.sc_laws.proofs.Common.{Piece, Property, Reached, RunEnd, Some, SpendsTurns, State, Stopped, StopsSpent}
-use Rattle.sc_laws.proofs.Common.{TurnsOut, Value, [], and_parts, and_then, ap, arith, back_cross, back_own, call_cross}
-use Rattle.sc_laws.proofs.Common.{call_own, called, calls, false, first_state, found, function, if◌then◌else◌, imports}
-use Rattle.sc_laws.proofs.Common.{is_some, is_word, leads, length, list_all, main_call, may_call, refl, run_in}
-use Rattle.sc_laws.proofs.Common.{run_step, run_to, subst, suc, sym, takes, then_kept, true, turn_of, within, zero, ℕ}
-use Rattle.sc_laws.proofs.Common.{◌<◌, ◌∙◌, ◌≡◌}
+use Rattle.sc_laws.proofs.Common.{Blamed, Body, CallTarget, Cross, Ended, EventsOut, Export, Here, Input, IsSpent, Kept}
+use Rattle.sc_laws.proofs.Common.{Library, List, Main, Memory, Obedient, Option, Output, Own, Piece, Property, Reached}
+use Rattle.sc_laws.proofs.Common.{RunEnd, SpendsTurns, State, Stopped, StopsSpent, TurnsOut, Value, [], and_parts}
+use Rattle.sc_laws.proofs.Common.{and_then, arith, back_cross, back_own, call_cross, call_own, called, calls}
+use Rattle.sc_laws.proofs.Common.{first_state, function, imports, is_some, is_word, leads, length, list_all, main_call}
+use Rattle.sc_laws.proofs.Common.{may_call, refl, run_in, run_step, run_to, subst, suc, sym, takes, then_kept, true}
+use Rattle.sc_laws.proofs.Common.{turn_of, within, zero, ℕ, ◌<◌, ◌≡◌}
 use Rattle.sc_laws.proofs.Growing.{BodyGoes, calls_go, within_goes}
 use Rattle.sc_laws.proofs.Matching.{run_goes_on}
-use Rattle.sc_laws.proofs.Keeping.{IsKept, function_keeps}
+use Rattle.sc_laws.proofs.Keeping.{IsKept, calls_keep, function_keeps, led_somewhere, led_there, there}
 
 -- an end for want of turns comes without any
 abbrev Spent : RunEnd → State → Type 0
@@ -44,12 +43,6 @@ after_turn : {V : Type 0} (n m : ℕ) (s : State) (k : State → Piece V) → m 
 after_turn n zero s k is few h = record { after = sym is }
 after_turn n (suc m) s k is few h = h _ (omega (arith, is, few))
 
--- what is looked up and there
-there : {V W : Type 0} (n : ℕ) (o : Option V) (s : State) (go : V → State → Piece W) → is_some o ≡ true →
-    ((v : V) → o ≡ Some v → Kept (fewer n) (go v s)) → Kept (fewer n) (and_then (found o s) go)
-there n None s go is h = absurd (cc)
-there n (Some v) s go is h = h v refl
-
 module _ (library : Library) where
   abbrev BodySpends : ℕ → Body → Type 0
   BodySpends n body = (number : ℕ) (here : Here) (s : State) → is_some (function library here.comp number) ≡ true →
@@ -61,27 +54,19 @@ module _ (library : Library) where
         → ((v : Option Value) (s : State) → s.turns < n → Kept (fewer n) (back v s)) → (s : State) → s.turns < n →
         Kept (fewer n) (run_in library body comp number args back s)
     run_spends comp number args back is b s few =
-        there n (function library comp number) s _ is (λ f found_f. then_kept _ (body number _ _) _
+        there (fewer n) (function library comp number) s _ is (λ f found_f. then_kept _ (body number _ _) _
         (spends number (record { comp = comp; first = length (s.memory comp) }) _ is few) (λ v t few. b v _ few))
 
     own_spends : (comp number : ℕ) (args : List Value) → is_some (function library comp number) ≡ true → (s : State) →
         s.turns < n → Kept (fewer n) (call_own library body comp number args s)
     own_spends comp number args is = run_spends comp number args back_own is (λ v s few. record { after = few })
 
-    led_somewhere : (comp : ℕ) (number : Option ℕ) → leads library comp number ≡ true → is_some number ≡ true
-    led_somewhere comp None is = is
-    led_somewhere comp (Some number) is = refl
-
-    led_there : (comp number : ℕ) (o : Option ℕ) → leads library comp o ≡ true → o ≡ Some number →
-        is_some (function library comp number) ≡ true
-    led_there comp number o is same = sym (ap (leads library comp) same) ∙ is
-
     cross_spends : (from to index : ℕ) (args : List Value) → leads library to (library.entered to (Export index))
         ≡ true → (s : State) → s.turns < n → Kept (fewer n) (call_cross library body from to index args s)
     cross_spends from to index args is s few =
-        there n (library.entered to _) s _ (led_somewhere to _ is) (λ number same.
+        there (fewer n) (library.entered to _) s _ (led_somewhere library to _ is) (λ number same.
         run_spends to number _ (back_cross library.interfaces from to index)
-        (led_there to number _ is same) (λ v s few. record { after = few }) _ few)
+        (led_there library to number _ is same) (λ v s few. record { after = few }) _ few)
 
     -- what is there, of a call that may be made
     abbrev IsThere : ℕ → CallTarget → Type 0
@@ -109,27 +94,18 @@ module _ (library : Library) where
     called_spends from Input args s is few = record { after = few }
     called_spends from Output args s is few = record { after = few }
 
-    calls_spend : (from : ℕ) (target : CallTarget) (args : List Value) (s : State) → s.turns < suc n →
-        Kept (fewer (suc n)) (calls library body from target args s)
-    calls_spend from target args s few = by _ refl where
-      by : (b : Bool) → may_call library from target args ≡ b →
-          Kept (fewer (suc n)) (if b then called library body from target args s else Stopped (Blamed from BadType 0) s)
-      by true may = called_spends from target args s (is_there from target args may) few
-      by false may = record { after = tt }
-
   module _ (obedient : Obedient library) where
     step_spends : (n : ℕ) (body : Body) → BodyGoes body → BodySpends n body → BodySpends (suc n) (run_step library body)
-    step_spends n body goes spends number here s is few =
-        there (suc n) (function library _ number) s (λ f s. f.does _ here s) is (λ f found_f.
-        function_keeps library obedient here.comp number f found_f _ here (is_kept _ here)
-        (calls library body) (calls_go library body goes) (λ target args s few. calls_spend n body spends here.comp
-        target args s few) s few)
+    step_spends n body goes spends number here s is few = there (fewer (suc n)) (function library _ number) s
+        (λ f s. f.does _ here s) is (λ f found_f. function_keeps library obedient here.comp number f found_f _ here
+        (is_kept _ here) (calls library body) (calls_go library body goes) (calls_keep (fewer (suc n)) library body here
+        (λ target args s may few. called_spends n body spends here.comp target args s
+        (is_there n body spends here.comp target args may) few) (is_kept _ here)) s few)
 
     within_spends : (n : ℕ) → BodySpends n (within (run_step library) n)
     within_spends zero number here s is few = absurd (omega (arith, few))
-    within_spends (suc n) number here s is few =
-        step_spends n (within (run_step library) n) (within_goes (run_step library) (run_goes_on library obedient) n)
-        (within_spends n) number here s is few
+    within_spends (suc n) number here s is few = step_spends n (within (run_step library) n)
+        (within_goes (run_step library) (run_goes_on library obedient) n) (within_spends n) number here s is few
 
     is_spent : {V : Type 0} (n : ℕ) (o : Piece V) → Kept (fewer n) o → IsSpent o
     is_spent {V} n o h s is = (subst (λ x. Kept (fewer n) x) is h).after
@@ -142,19 +118,16 @@ module _ (library : Library) where
     main_spends globals inputs turns is =
         let body = within (run_step library) (suc turns) in
         there _ (library.entered main Main) (first_state globals inputs turns)
-        _ (led_somewhere (suc turns) body (within_spends _) main _ is) (λ number same.
+        _ (led_somewhere library main _ is) (λ number same.
         own_spends _ body (within_spends _) main number []
-        (led_there (suc turns) body (within_spends _) main number _ is same) _ (omega arith))
+        (led_there library main number _ is same) _ (omega arith))
 
     stops : (globals : Memory) (inputs : List ℕ) (turns : ℕ) (o : Piece (Option Value)) →
         main_call library globals inputs turns ≡ o → Kept (fewer (suc turns)) o →
-        (run_to main o).behaviour.end ≡ TurnsOut →
-        StopsSpent library globals inputs turns
-    stops globals inputs turns (Reached v s) is h ends = absurd (cc)
-    stops globals inputs turns (Stopped Ended s) is h ends = absurd (cc)
-    stops globals inputs turns (Stopped (Blamed comp cause line) s) is h ends = absurd (cc)
+        (run_to main o).behaviour.end ≡ TurnsOut → StopsSpent library globals inputs turns
     stops globals inputs turns (Stopped TurnsOut s) is h ends = record { state = s; stopped = is; spent = h.after }
-    stops globals inputs turns (Stopped EventsOut s) is h ends = absurd (cc)
+    stops globals inputs turns (Reached v s) is h ends = absurd (cc)
+    stops globals inputs turns (Stopped _ s) is h ends = absurd (cc)
 
     pub spends_turns : SpendsTurns library
     spends_turns = record {

@@ -1,6 +1,9 @@
 -- Two runs side by side: which relations of them the words of the meaning keep.
-use Rattle.sc_laws.proofs.Common.{Blamed, Blocks, Cause, Goes, Gone, Grown, Here, Piece, Reached, Result, State}
-use Rattle.sc_laws.proofs.Common.{Stopped, and_then, computed, turn, with_blocks, ℕ, ◌<◌}
+use Rattle.sc_laws.proofs.Common.{Blamed, Blocks, CallTarget, Calls, Cause, Cross, Entry, Export, Function, Goes, Gone}
+use Rattle.sc_laws.proofs.Common.{Grown, Here, Input, Library, List, Meets, None, Option, Output, Own, Piece, Reached}
+use Rattle.sc_laws.proofs.Common.{Result, Some, State, Stopped, Value, and_then, ap, computed, function, imports}
+use Rattle.sc_laws.proofs.Common.{is_function, is_input, is_output, is_some, is_word, leads, length, list_all, may_call}
+use Rattle.sc_laws.proofs.Common.{refl, takes, turn, with_blocks, ℕ, ◌&&◌, ◌<◌, ◌==◌, ◌∙◌, ◌≡◌}
 use Rattle.sc_laws.proofs.Expressions.{Keeps}
 
 -- A relation of two runs: which states are related, and which pieces are.
@@ -34,3 +37,63 @@ module _ (P : State → State → Type 0) (R : (V : Type 0) → Piece V → Piec
       pub stored : (blocks : Blocks) (s s' : State) → P s s' →
           P (record s { memory = with_blocks here.comp blocks s.memory })
           (record s' { memory = with_blocks here.comp blocks s'.memory })
+
+-- Two libraries side by side, function by function.
+
+-- a call of any compartment
+abbrev pub Anywhere : Here → Type 0
+Anywhere here = Unit {0}
+
+-- where entries lead to the same functions, the same calls may be made
+module _ (L M : Library) (interfaces : M.interfaces ≡ L.interfaces)
+    (entered : (comp : ℕ) (entry : Entry) → M.entered comp entry ≡ L.entered comp entry)
+    (there : (comp number : ℕ) → is_some (function M comp number) ≡ is_some (function L comp number)) where
+  leads_same : (comp : ℕ) (number : Option ℕ) → leads M comp number ≡ leads L comp number
+  leads_same comp None = refl
+  leads_same comp (Some number) = there comp number
+
+  pub may_call_same : (from : ℕ) (target : CallTarget) (args : List Value) →
+      may_call M from target args ≡ may_call L from target args
+  may_call_same from (Own number) args = there from number
+  may_call_same from (Cross to index) args =
+      ap (λ i. imports i from (is_function to index) && (takes i to index (length args)
+      && (list_all is_word args && leads M to (M.entered to (Export index))))) interfaces
+      ∙ ap (λ b. imports L.interfaces from (is_function to index) && (takes L.interfaces to index (length args)
+      && (list_all is_word args && b))) (ap (leads M to) (entered to _) ∙ leads_same to (L.entered to _))
+  may_call_same from Input args = ap (λ i. imports i from is_input) interfaces
+  may_call_same from Output args =
+      ap (λ i. imports i from is_output && (length args == 1 && list_all is_word args)) interfaces
+
+-- a relation that is kept in these calls
+module _ (P : State → State → Type 0) (R : (V : Type 0) → Piece V → Piece V → Type 0) (Good : Here → Type 0) where
+  -- what is called from a compartment
+  abbrev pub CallsTwins : ℕ → Calls → Calls → Type 0
+  CallsTwins from C D = (target : CallTarget) (args : List Value) →
+      Twins P R (Option Value) (C from target args) (D from target args)
+
+  -- functions that callers can't tell apart, and that do related things where their calls do
+  pub record FunctionTwins (f g : Function) : Type 0 where
+    pub cells : g.cells ≡ f.cells
+    pub room : g.room ≡ f.room
+    pub does : (C D : Calls) (here : Here) → Good here → CallsTwins here.comp C D →
+        Twins P R (Option Value) (f.does C here) (g.does D here)
+
+  pub record LibraryTwins (L M : Library) : Type 0 where
+    pub interfaces : M.interfaces ≡ L.interfaces
+    pub functions : (comp number : ℕ) → Meets FunctionTwins (function L comp number) (function M comp number)
+    pub entered : (comp : ℕ) (entry : Entry) → M.entered comp entry ≡ L.entered comp entry
+
+  module _ (L M : Library) (twins : LibraryTwins L M) where
+    pub function_twins : (comp number : ℕ) → Meets FunctionTwins (function L comp number) (function M comp number)
+    function_twins = twins.functions
+
+    some_same : (f g : Option Function) → Meets FunctionTwins f g → is_some g ≡ is_some f
+    some_same None None h = refl
+    some_same (Some f) (Some g) h = refl
+    some_same _ _ h = absurd h
+
+    -- the same calls may be made
+    pub may_same : (from : ℕ) (target : CallTarget) (args : List Value) →
+        may_call M from target args ≡ may_call L from target args
+    may_same =
+        may_call_same L M twins.interfaces twins.entered (λ comp number. some_same _ _ (function_twins comp number))

@@ -65,31 +65,7 @@ binary_fits false op.ShiftLeft a b =
 binary_fits true op.ShiftLeft a b = shift_fits b _ refl (λ n. Ok _) (λ n. (a * 2 ^ n) % 2 ^ 32) (λ n. alike refl)
 binary_fits false op.ShiftRight a b = shift_fits b _ refl (λ n. Ok _) (λ n. word_of (int_shr _ n)) (λ n. alike refl)
 binary_fits true op.ShiftRight a b = shift_fits b _ refl (λ n. Ok _) (λ n. a / 2 ^ n) (λ n. alike refl)
-binary_fits true op.Add a b = alike refl
-binary_fits true op.Sub a b = alike refl
-binary_fits true op.Mul a b = alike refl
-binary_fits true op.BitOr a b = alike refl
-binary_fits false op.BitOr a b = alike refl
-binary_fits true op.BitXor a b = alike refl
-binary_fits false op.BitXor a b = alike refl
-binary_fits true op.BitAnd a b = alike refl
-binary_fits false op.BitAnd a b = alike refl
-binary_fits true op.Equal a b = alike refl
-binary_fits false op.Equal a b = alike refl
-binary_fits true op.NotEqual a b = alike refl
-binary_fits false op.NotEqual a b = alike refl
-binary_fits true op.Less a b = alike refl
-binary_fits false op.Less a b = alike refl
-binary_fits true op.Greater a b = alike refl
-binary_fits false op.Greater a b = alike refl
-binary_fits true op.LessEqual a b = alike refl
-binary_fits false op.LessEqual a b = alike refl
-binary_fits true op.GreaterEqual a b = alike refl
-binary_fits false op.GreaterEqual a b = alike refl
-binary_fits true op.OrElse a b = alike refl
-binary_fits false op.OrElse a b = alike refl
-binary_fits true op.AndAlso a b = alike refl
-binary_fits false op.AndAlso a b = alike refl
+binary_fits _ _ a b = alike refl
 
 pub negated_fits : (unsigned : Bool) (a : ℕ) →
     Keeps IsArithmetic ℕ (c_negated unsigned a) (Ok (negated_word unsigned a))

@@ -6,7 +6,7 @@ use Rattle.sc_replay.proofs.Common.{eq-eqb, exit_word, false, first_state, found
 use Rattle.sc_replay.proofs.Common.{length, main_proto, now, performs, proto_of, refl, rows_left, run_by, run_goes_on}
 use Rattle.sc_replay.proofs.Common.{run_step, run_to, scripted_goes_on, scripted_step, subst, suc, sym, true, within}
 use Rattle.sc_replay.proofs.Common.{within_goes, zero, ℕ, ◌++◌, ◌∙◌, ◌∷◌, ◌≡◌, ◌≤◌}
-use Rattle.sc_laws.proofs.Fixed.{scripted_fixed}
+use Rattle.sc_laws.proofs.Runs.{scripted_fixed}
 use Rattle.sc_replay.proofs.Text.{counting}
 use Rattle.sc_replay.proofs.Near.{Both, Near, Reaches, Returns, ahead, both_so, both_then, counts, near_begun}
 use Rattle.sc_replay.proofs.Near.{near_below, near_within, reached, stopped}

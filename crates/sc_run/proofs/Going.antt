@@ -7,11 +7,9 @@ use Rattle.sc_run.proofs.Common.{option_copied, part_does, result_goes, run_step
 use Rattle.sc_run.proofs.Common.{within_goes, ℕ, ◌≡◌}
 use Rattle.sc_laws.proofs.Expressions.{ArithKeeps}
 use Rattle.sc_laws.proofs.Interactions.{MatchWith, match_loop}
-use Rattle.sc_laws.proofs.Loops.{one_round, loop_again}
-use Rattle.sc_laws.proofs.Matching.{match_goes, run_goes_on}
-use Rattle.sc_laws.proofs.Programs.{itself_keeps, program_obeys}
-use Rattle.sc_laws.proofs.Statements.{test_matches, store_result_matches, way_matches, part_matches, block_matches}
-use Rattle.sc_laws.proofs.Statements.{closed_matches}
+use Rattle.sc_laws.proofs.Matching.{one_round, loop_again, match_goes, run_goes_on}
+use Rattle.sc_laws.proofs.Statements.{itself_keeps, program_obeys, test_matches, store_result_matches, way_matches}
+use Rattle.sc_laws.proofs.Statements.{part_matches, block_matches, closed_matches}
 
 itself : ArithKeeps Never c_arith c_arith
 itself = itself_keeps Never c_arith

@@ -15,9 +15,8 @@ use Rattle.sc_core.specs.declared.value.Value.{Value}
 use Rattle.sc_laws.proofs.Expressions.{ArithKeeps, Keeps, alike, on_words_keep, one_keeps}
 use Rattle.sc_laws.proofs.Interactions.{MatchWith, match_reached, match_then, match_computed, match_store, match_call}
 use Rattle.sc_laws.proofs.Interactions.{match_if, match_leave, match_all, match_loop}
-use Rattle.sc_laws.proofs.Programs.{Pairs, meets_at, lists_at, itself_keeps}
+use Rattle.sc_laws.proofs.Statements.{Pairs, meets_at, lists_at, itself_keeps, closed_matches}
 use Rattle.sc_laws.proofs.ProgramLaws.{wrapped_agrees, wrapping_agrees}
-use Rattle.sc_laws.proofs.Statements.{closed_matches}
 use Rattle.sc_laws.proofs.Wrapping.{binary_fits, negated_fits}
 use Rattle.sc_tac.specs.declared.stmt.TacOp.{TacOp}
 use Rattle.sc_tac.specs.declared.stmt.TacOp.TheVariants as tacop
