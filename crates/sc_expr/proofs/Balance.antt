@@ -60,8 +60,7 @@ after_bracketed n t u us opens closes even =
     ap (λ k. open_along k (us ++ u ∷ [])) (opens n) ∙ after_append (n + 1) us (u ∷ []) ∙
     ap (λ k. open_after u.symbol k) (even _) ∙ closes _ ∙ one_less
 
-after_behind : (n : ℕ) (ts us : List Lexeme) → open_along n ts ≡ n → open_along n us ≡ n →
-    open_along n (ts ++ us) ≡ n
+after_behind : (n : ℕ) (ts us : List Lexeme) → open_along n ts ≡ n → open_along n us ≡ n → open_along n (ts ++ us) ≡ n
 after_behind n ts us even too = after_append n ts us ∙ ap (λ k. open_along k us) even ∙ too
 
 pub balanced : {level : ℕ} {ts : List Lexeme} {e : ExprTree} → Spells level ts e → (n : ℕ) → open_along n ts ≡ n

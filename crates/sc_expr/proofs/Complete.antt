@@ -2,10 +2,11 @@
 use Rattle.sc_expr.proofs.Common.{BinaryOp, ExprTree, Extension, IsIdent, IsMark, Lexeme, List, Mark, None, Option}
 use Rattle.sc_expr.proofs.Common.{Prefix, Reader, Some, Spells, Symbol, [], ap, append_assoc, arith, arrow, cond}
 use Rattle.sc_expr.proofs.Common.{expr_height, extended_with, extension_at, extension_by, extension_level, extension_of}
-use Rattle.sc_expr.proofs.Common.{extension_within, found, go_on, index, joined, le-leb, lead_by, lead_of, leaf_of}
-use Rattle.sc_expr.proofs.Common.{level_of, literal, looser, lt-leb, max, member, most_open, none-some, operand_with}
-use Rattle.sc_expr.proofs.Common.{option_map, parenthesised, prefix_of, prefixed, read, read_nested, refl, subst, suc}
-use Rattle.sc_expr.proofs.Common.{sym, variable, within, zero, «prefix», ℕ, ◌++◌, ◌+◌, ◌-◌, ◌<◌, ◌∙◌, ◌∷◌, ◌≡◌, ◌≤◌}
+use Rattle.sc_expr.proofs.Common.{extension_within, found, go_on, index, joined, joined_with, le-leb, lead_by, lead_of}
+use Rattle.sc_expr.proofs.Common.{leaf_of, level_of, literal, looser, lt-leb, max, member, most_open, named_with}
+use Rattle.sc_expr.proofs.Common.{none-some, operand_with, option_map, parenthesised, prefix_of, prefixed, read}
+use Rattle.sc_expr.proofs.Common.{read_nested, refl, subst, suc, sym, variable, within, zero, «prefix», ℕ, ◌++◌, ◌+◌}
+use Rattle.sc_expr.proofs.Common.{◌-◌, ◌<◌, ◌∙◌, ◌∷◌, ◌≡◌, ◌≤◌}
 use Rattle.sc_ast.specs.declared.expr.ExprTree.TheVariants as expr
 use Rattle.sc_expr.specs.declared.mark.Mark.TheVariants as mark
 use Rattle.sc_expr.specs.declared.operator.Extension.TheVariants as extension
@@ -65,9 +66,8 @@ module _ (nested : ℕ → ℕ → Reader) (below : ℕ → Reader) (room : ℕ)
   operand_prefix t m p us rest e h is of inner = let leads = prefix_leads m p of in rw (is, leads, inner)
 
   extended_operator : (op : BinaryOp) (us rest : List Lexeme) (e f : ExprTree) (h k : ℕ) → h ≤ room →
-      below (level_of op - 1) us ≡ Some (found f k rest) →
-      extended_with nested below room e h (extension.Operator op) us ≡
-      Some (found (expr.Binary op e f) (max h k + 1) rest)
+      below (level_of op - 1) us ≡ Some (found f k rest) → extended_with nested below room e h (extension.Operator op)
+      us ≡ Some (found (expr.Binary op e f) (max h k + 1) rest)
   unfolding extended_with
   extended_operator op us rest e f h k low right = let fits = le-leb h room low in rw (fits, right)
 
@@ -77,22 +77,16 @@ module _ (nested : ℕ → ℕ → Reader) (below : ℕ → Reader) (room : ℕ)
   unfolding extended_with
   extended_index u us rest e f h k low inner closes = let fits = le-leb h room low in rw (fits, inner, closes)
 
-  extended_member : (u : Lexeme) (rest : List Lexeme) (e : ExprTree) (name : List ℕ) (h : ℕ) → h ≤ room →
-      IsIdent name u → extended_with nested below room e h extension.Member (u ∷ rest) ≡
-      Some (found (expr.Member e name) (h + 1) rest)
+  extended_named : (ext : Extension) (make : ExprTree → List ℕ → ExprTree) (u : Lexeme) (rest : List Lexeme)
+      (e : ExprTree) (name : List ℕ) (h : ℕ) → h ≤ room → IsIdent name u →
+      ((us : List Lexeme) → joined_with nested below room e h ext us ≡ named_with (make e) h us) →
+      extended_with nested below room e h ext (u ∷ rest) ≡ Some (found (make e name) (h + 1) rest)
   unfolding extended_with
-  extended_member u rest e name h low is = let fits = le-leb h room low in rw (fits, is)
-
-  extended_arrow : (u : Lexeme) (rest : List Lexeme) (e : ExprTree) (name : List ℕ) (h : ℕ) → h ≤ room →
-      IsIdent name u → extended_with nested below room e h extension.Arrow (u ∷ rest) ≡
-      Some (found (expr.Arrow e name) (h + 1) rest)
-  unfolding extended_with
-  extended_arrow u rest e name h low is = let fits = le-leb h room low in rw (fits, is)
+  extended_named ext make u rest e name h low is of = let fits = le-leb h room low in rw (fits, of, is)
 
 -- reading these lexemes comes to the expression, and to going on behind it in turns enough
 abbrev Arrives : ℕ → ℕ → ℕ → List Lexeme → ExprTree → List Lexeme → Type 0
-Arrives free room level all e rest =
-    (turns : ℕ) × (suc room < turns + expr_height e) ×
+Arrives free room level all e rest = (turns : ℕ) × (suc room < turns + expr_height e) ×
     (read free (suc room) level all ≡ go_on (read_nested free) (read free room) room level turns
     (found e (expr_height e) rest))
 
@@ -128,9 +122,8 @@ from_operand free room level ts e h rest same some operand =
 -- one turn more, to an expression that is higher
 from_turn : (free room level : ℕ) (all ts us rest : List Lexeme) (e f : ExprTree) (ext : Extension) (h : ℕ) →
     Arrives free room level all e us → extension_within level us ≡ Some (ext, ts) → expr_height e ≤ room →
-    expr_height e < expr_height f → h ≡ expr_height f →
-    extended_with (read_nested free) (read free room) room e (expr_height e) ext ts ≡ Some (found f h rest) →
-    Arrives free room level all f rest
+    expr_height e < expr_height f → h ≡ expr_height f → extended_with (read_nested free) (read free room)
+    room e (expr_height e) ext ts ≡ Some (found f h rest) → Arrives free room level all f rest
 from_turn free room level all ts us rest e f ext h g next low more same grows =
     let enough = g.1 in
     let one : g.0 ≡ g.0 - 1 + 1 = omega arith in (
@@ -149,6 +142,23 @@ with_brackets : (ts us rest : List Lexeme) (t u : Lexeme) →
     ts ++ (t ∷ (us ++ u ∷ [])) ++ rest ≡ ts ++ (t ∷ (us ++ (u ∷ rest)))
 with_brackets ts us rest t u = append_assoc ts _ rest ∙ ap (λ k. ts ++ (t ∷ k)) (inside_of us rest u)
 
+-- the same of a name behind `.` or `->`
+named_goes : (m : Mark) (ext : Extension) (make : ExprTree → List ℕ → ExprTree) (ts : List Lexeme) (e : ExprTree)
+    (t u : Lexeme) (name : List ℕ) → IsMark m t → IsIdent name u → extension_of m ≡ Some ext →
+    extension_level ext ≡ 0 → Spells 0 ts e → GoesOn 0 ts e → expr_height (make e name) ≡ expr_height e + 1 →
+    ((nested : ℕ → ℕ → Reader) (below : ℕ → Reader) (room : ℕ) (us : List Lexeme) →
+    joined_with nested below room e (expr_height e) ext us ≡ named_with (make e) (expr_height e) us) →
+    GoesOn 0 (ts ++ t ∷ u ∷ []) (make e name)
+named_goes m ext make ts e t u name dot is of tight d on height makes = λ free room level n rest inside low few may.
+    let most = most_behind n (t ∷ u ∷ []) d in
+    let base = on free room level n (t ∷ u ∷ rest) (omega arith) (omega arith) (omega arith) (λ ext at. omega arith) in
+    let grows = extended_named (read_nested free) (read free room) room ext make u rest e name (expr_height e)
+    (omega arith) is (makes (read_nested free) (read free room) room) in
+    subst (λ k. Arrives free room level k (make e name) rest) (sym (append_assoc ts (t ∷ u ∷ []) rest))
+    (from_turn free room level (ts ++ (t ∷ u ∷ rest)) (u ∷ rest) (t ∷ u ∷ rest) rest e (make e name) ext
+    (expr_height e + 1) base (next_within level t (u ∷ rest) m ext dot of (omega arith)) (omega arith) (omega arith)
+    (sym height) grows)
+
 -- Reading arrives at all that is spelled.
 pub goes : {c : ℕ} {ts : List Lexeme} {e : ExprTree} (d : Spells c ts e) → GoesOn c ts e
 goes (literal t number is) = λ free room level n rest inside low few may.
@@ -157,8 +167,7 @@ goes (literal t number is) = λ free room level n rest inside low few may.
     (expr.Literal number) is refl refl)
 goes (variable t name is) = λ free room level n rest inside low few may.
     from_operand free room level (t ∷ rest) (expr.Variable name) 1 rest (sym (variable_height name)) (omega arith)
-    (operand_leaf (read_nested free) (read free room) room t rest (symbol.Ident name)
-    (expr.Variable name) is refl refl)
+    (operand_leaf (read_nested free) (read free room) room t rest (symbol.Ident name) (expr.Variable name) is refl refl)
 goes (parenthesised {ts = ts} {e = e} t u is closes d) = λ free room level n rest inside low few may.
     let most = most_bracketed n t u [] (says t (symbol.Mark mark.OpenParen) is) (says u (symbol.Mark _) closes) d in
     let opened = open_low (n + 1) ts in
@@ -189,30 +198,10 @@ goes (index {ts = ts} {us = us} {e = e} {f = f} t u is closes d g) = λ free roo
     (expr.Index e f) extension.Index (max (expr_height e) (expr_height f) + 1) base
     (next_within level t (us ++ (u ∷ rest)) mark.OpenSquare extension.Index is refl (omega arith)) (omega arith)
     (omega arith) (sym height) grows)
-goes (member {ts = ts} {e = e} t u name dot is d) = λ free room level n rest inside low few may.
-    let height = member_height e name in
-    let most = most_behind n (t ∷ u ∷ []) d in
-    let base = goes d free room level n (t ∷ u ∷ rest) (omega arith) (omega arith) (omega arith)
-    (λ ext at. omega arith) in
-    let grows = extended_member (read_nested free) (read free room) room u rest e name (expr_height e)
-    (omega arith) is in
-    subst (λ k. Arrives free room level k (expr.Member e name) rest) (sym (append_assoc ts (t ∷ u ∷ []) rest))
-    (from_turn free room level (ts ++ (t ∷ u ∷ rest)) (u ∷ rest) (t ∷ u ∷ rest) rest e
-    (expr.Member e name) extension.Member (expr_height e + 1) base
-    (next_within level t (u ∷ rest) mark.Dot extension.Member dot refl (omega arith)) (omega arith) (omega arith)
-    (sym height) grows)
-goes (arrow {ts = ts} {e = e} t u name points is d) = λ free room level n rest inside low few may.
-    let height = arrow_height e name in
-    let most = most_behind n (t ∷ u ∷ []) d in
-    let base = goes d free room level n (t ∷ u ∷ rest) (omega arith) (omega arith) (omega arith)
-    (λ ext at. omega arith) in
-    let grows = extended_arrow (read_nested free) (read free room) room u rest e name (expr_height e)
-    (omega arith) is in
-    subst (λ k. Arrives free room level k (expr.Arrow e name) rest) (sym (append_assoc ts (t ∷ u ∷ []) rest))
-    (from_turn free room level (ts ++ (t ∷ u ∷ rest)) (u ∷ rest) (t ∷ u ∷ rest) rest e
-    (expr.Arrow e name) extension.Arrow (expr_height e + 1) base
-    (next_within level t (u ∷ rest) mark.Arrow extension.Arrow points refl (omega arith)) (omega arith)
-    (omega arith) (sym height) grows)
+goes (member {ts = ts} {e = e} t u name dot is d) = named_goes mark.Dot extension.Member expr.Member ts e t u name
+    dot is refl (omega arith) d (goes d) (member_height e name) (λ nested below room us. refl)
+goes (arrow {ts = ts} {e = e} t u name points is d) = named_goes mark.Arrow extension.Arrow expr.Arrow ts e t u name
+    points is refl (omega arith) d (goes d) (arrow_height e name) (λ nested below room us. refl)
 goes («prefix» {ts = ts} {e = e} t m p is of d) = λ free room level n rest inside low few may.
     let height = prefixed_height p e in
     let most = most_plain n t ts (plain_prefix t m p is of) in

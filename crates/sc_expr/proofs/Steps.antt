@@ -69,8 +69,7 @@ module _ (nested : ℕ → ℕ → Reader) (below : ℕ → Reader) (room : ℕ)
   no_turns level (suc turns) x h = absurd (omega arith)
 
   pub turns_on : (level turns fewer : ℕ) (x y : Found) (ext : Extension) (ts : List Lexeme) → turns ≡ fewer + 1 →
-      extension_within level x.rest ≡ Some (ext, ts) →
-      extended_with nested below room x.tree x.height ext ts ≡ Some y →
+      extension_within level x.rest ≡ Some (ext, ts) → extended_with nested below room x.tree x.height ext ts ≡ Some y →
       go_on nested below room level turns x ≡ go_on nested below room level fewer y
   unfolding go_on
   turns_on level zero fewer x y ext ts h q r = absurd (omega arith)

@@ -17,14 +17,14 @@ front_sound level count ts x some opened h =
       taken = r.taken;
       split = r.split;
       spelled = r.spelled;
-      low = let low = r.low in let height = r.measured in omega arith;
-      few = let few = r.few count in omega arith;
-      ends = λ ext at. let more = r.onward ext at in omega arith;
+      low = omega (arith, r.low, r.measured);
+      few = omega (arith, r.few count);
+      ends = λ ext at. omega (arith, r.onward ext at);
     }
 
 pub height_sound : (level count : ℕ) (ts : List Lexeme) (x : Found) → 0 < level → read_expr level count ts ≡ Some x →
     x.height ≡ expr_height x.tree
-height_sound level count ts x some h = let r = read_sound _ 256 level ts x some h in r.measured
+height_sound level count ts x some h = (read_sound _ 256 level ts x some h).measured
 
 -- a front is read
 pub front_complete : (level count : ℕ) (ts : List Lexeme) (e : ExprTree) (rest : List Lexeme) →
