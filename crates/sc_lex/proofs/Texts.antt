@@ -1,4 +1,5 @@
 -- What texts that are tokens consist of.
+use Rattle.std.proofs.lemmas.Bool.{cond_both}
 use Rattle.sc_lex.proofs.Common.{Bool, Compartment, Export, Ident, Import, Integer, List, None, Option, Reserved, Some}
 use Rattle.sc_lex.proofs.Common.{TokenKind, [], and_from, and_parts, ap, arith, base_of, bytes_eq, bytes_eq-Decides}
 use Rattle.sc_lex.proofs.Common.{cond, digits_of, directive_kind, drop, drop_all, drop_more, eqb-true, false}
@@ -99,17 +100,10 @@ integer_bytes text h =
     let digits = (and_parts (not _) _ (and_parts _ _ h).0).1 in
     let named = list_all_along (is_digit _) is_name_byte (λ b q. digit_is_name_byte _ b low q)
     (digits_of body) digits in
-    outer _ refl (inner body _ refl named)
-  where
-    inner : (body : List ℕ) (x : Bool) → is_hexadecimal body ≡ x →
-        list_all is_name_byte (cond x (drop 2 body) body) ≡ true → list_all is_name_byte body ≡ true
-    inner body true e q = hexadecimal_bytes body e q
-    inner body false e q = q
-
-    outer : (x : Bool) → has_suffix text ≡ x → list_all is_name_byte (cond x (take (length text - 1) text) text) ≡
-        true → list_all is_name_byte text ≡ true
-    outer true e q = suffix_bytes text e q
-    outer false e q = q
+    cond_both (has_suffix text) _ _ (λ t. list_all is_name_byte t ≡ true → list_all is_name_byte text ≡ true)
+    (λ e q. suffix_bytes text e q) (λ e q. q) (cond_both (is_hexadecimal body) _ _
+    (λ t. list_all is_name_byte t ≡ true → list_all is_name_byte body ≡ true)
+    (λ e q. hexadecimal_bytes body e q) (λ e q. q) named)
 
 name_bytes : (text : List ℕ) → is_name text ≡ true → list_all is_name_byte text ≡ true
 unfolding is_name
