@@ -1,7 +1,7 @@
 -- What is read is spelled so, and within the limits.
 use Rattle.sc_expr.proofs.Common.{BinaryOp, ExprTree, Extension, Found, IsMark, Lead, Lexeme, List, Mark, None, Option}
-use Rattle.sc_expr.proofs.Common.{Prefix, Reader, Some, Spells, Symbol, [], ap, append_assoc, ap₂, arith, arrow, behind}
-use Rattle.sc_expr.proofs.Common.{cases_lt, expr_height, extended_with, extension_at, extension_by, extension_level}
+use Rattle.sc_expr.proofs.Common.{Prefix, Reader, Some, Spells, Symbol, [], ap, ap₂, arith, arrow, behind, cases_lt}
+use Rattle.sc_expr.proofs.Common.{expr_height, extended_with, extension_at, extension_by, extension_level}
 use Rattle.sc_expr.proofs.Common.{extension_within, found, go_on, index, joined, joined_with, lead_of, lead_with}
 use Rattle.sc_expr.proofs.Common.{leaf_at, leaf_of, leb, leb-true, level_of, level_with, literal, looser, max, member}
 use Rattle.sc_expr.proofs.Common.{most_open, name_at, named_with, none-some, open_after, open_behind, operand_with}
@@ -17,8 +17,8 @@ use Rattle.sc_expr.proofs.Options.{same_some, bound, cond_is, glued}
 use Rattle.sc_expr.proofs.Heights.{literal_height, variable_height, prefixed_height, joined_height, index_height}
 use Rattle.sc_expr.proofs.Heights.{member_height, arrow_height}
 use Rattle.sc_expr.proofs.Balance.{says, plain_binary, plain_prefix, most_behind, most_bracketed, most_plain}
-use Rattle.sc_expr.proofs.Ahead.{operator_low, operator_mark, index_mark, member_mark, arrow_mark, Ahead, ahead}
-use Rattle.sc_expr.proofs.Ahead.{nothing_within, behind_mark, name_ahead, paren_lead, prefix_lead}
+use Rattle.sc_expr.proofs.Ahead.{operator_low, operator_mark, extension_mark, Ahead, ahead, nothing_within, behind_mark}
+use Rattle.sc_expr.proofs.Ahead.{name_ahead, paren_lead, prefix_lead}
 
 -- An expression stands at the front: it is spelled at this level within the limits, and what goes on behind it is of
 -- the second level or a looser one.
@@ -185,7 +185,7 @@ module _ (free room : ℕ) (nested : ℕ → ℕ → Reader) (below : ℕ → Re
       let u = behind_mark mark.CloseSquare z.rest c.0 c.1 in
       let r = in_brackets room 11 us z (omega arith) b.1 in
       let inner = r.2 in
-      let is : IsMark _ a.first = a.is ∙ ap (λ m. symbol.Mark m) (index_mark a.m a.of) in
+      let is : IsMark _ a.first = a.is ∙ ap (λ m. symbol.Mark m) (extension_mark a.m _ _ a.of refl) in
       subst (At 0 ts) (same_some c.2) (record {
         taken = s.taken ++ a.first ∷ (inner.taken ++ u.0 ∷ []);
         split = glued c.0 s.taken (a.first ∷ (inner.taken ++ u.0 ∷ [])) s.split
@@ -208,11 +208,11 @@ module _ (free room : ℕ) (nested : ℕ → ℕ → Reader) (below : ℕ → Re
   joined_sound level extension.Member ts us x y s a low h =
       named_sound mark.Dot extension.Member (λ e name. expr.Member e name) level ts us x y
       (λ e name ts t u is of d. member t u name is of d) (λ e name. member_height e name) (λ n. refl) s a
-      (a.is ∙ ap (λ m. symbol.Mark m) (member_mark a.m a.of)) low h
+      (a.is ∙ ap (λ m. symbol.Mark m) (extension_mark a.m _ _ a.of refl)) low h
   joined_sound level extension.Arrow ts us x y s a low h =
       named_sound mark.Arrow _ (λ e name. expr.Arrow e name) level ts us x y
       (λ e name ts t u is of d. arrow t u name is of d) (λ e name. arrow_height e name) (λ n. refl) s a
-      (a.is ∙ ap (λ m. symbol.Mark m) (arrow_mark a.m a.of)) low h
+      (a.is ∙ ap (λ m. symbol.Mark m) (extension_mark a.m _ _ a.of refl)) low h
 
   extended_sound : (level c : ℕ) (ext : Extension) (ts us : List Lexeme) (x y : Found) → At c ts x →
       Ahead level x.rest ext us → extended_with nested below room x.tree x.height ext us ≡ Some y →
