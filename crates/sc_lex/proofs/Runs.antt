@@ -11,7 +11,7 @@ use Rattle.sc_lex.proofs.Texts.{IsRun, kind_of-nil, none_from}
 -- numbers of which none is below the other are one
 pub same_unless : (a b : ℕ) → (a < b → ⊥) → (b < a → ⊥) → a ≡ b
 same_unless a b less more =
-    ⊎_elim (λ h. absurd (less h)) (λ le. ⊎_elim (λ h. absurd (more h)) (λ ge. omega arith) (cases_lt b a)) (cases_lt a b)
+    ⊎_elim (λ h. absurd (less h)) (λ h. ⊎_elim (λ k. absurd (more k)) (λ k. omega arith) (cases_lt b a)) (cases_lt a b)
 
 -- a token has a byte
 pub token_positive : {directives : Bool} {text : List ℕ} {kind : TokenKind} (len : ℕ) →
