@@ -318,12 +318,7 @@ before_complete free room {ts} {place} t m op p q d rest low few ends =
     let made = updates_height op place one in
     let height = one_height in
     let short : expr_height place < room = omega arith in
-    rw (
-      p,
-      q,
-      place_reads free room d rest (omega arith) (few_tail free t ts few) ends.0,
-      lt-ltb _ room short,
-    )
+    rw (p, q, place_reads free room d rest (omega arith) (few_tail free t ts few) ends.0, lt-ltb _ room short)
 
 call_alone_complete : (free : ℕ) → (room : ℕ) {ts : List Lexeme} {c : CallTree} (d : SpellsCall ts c)
     (rest : List Lexeme) → call_height c ≤ room → Few free ts →

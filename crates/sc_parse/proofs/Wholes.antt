@@ -126,10 +126,4 @@ decl_sound free limit xs ys ts rest h = chosen _ (adds struct_decl_at xs ts) _ h
     (λ q e. one_added limit (headed_at free limit) xs ys ts rest (λ x rest h. headed_one free limit ts rest x h) e)
     (λ q e.
     let d = globals_exact.sound xs ys ts rest e in
-    record {
-      taken = d.taken;
-      added = d.added;
-      split = d.split;
-      all = d.all;
-      spelled = globals_made limit d.spelled;
-    }))
+    record { taken = d.taken; added = d.added; split = d.split; all = d.all; spelled = globals_made limit d.spelled }))
