@@ -299,15 +299,17 @@ EndsSimple rest = NoExtension rest × (begins_with mark.OpenParen rest ≡ false
 
 -- an assignment, where what stands behind its place is read
 assigned : (free : ℕ) → (room : ℕ) {ts : List Lexeme} {place : ExprTree} (d : SpellsPlace ts place) (m : Mark)
-    (t : Lexeme) (us : List Lexeme) (c : Change) (k : SimpleKind) (rest : List Lexeme) → IsMark m t → change_of m ≡
-    Some c → expr_height place ≤ room → Few free ts → changed free room (Some c) (placed place (expr_height place)) us ≡
-    Some (k, rest) → simple_at free room (ts ++ t ∷ us) ≡ Some (k, rest)
+    (t : Lexeme) (us : List Lexeme) (c : Change) (k : SimpleKind) (rest : List Lexeme) → IsMark m t →
+    change_of m ≡ Some c → expr_height place ≤ room → Few free (ts ++ t ∷ us) →
+    changed free room (Some c) (placed place (expr_height place)) (us ++ rest) ≡ Some (k, rest) →
+    simple_at free room ((ts ++ t ∷ us) ++ rest) ≡ Some (k, rest)
 unfolding simple_at assignment_at
 assigned free room {ts} d m t us c k rest p q low few h =
-    let stop = stops m c q t us p in
-    let none = no_step (ts ++ t ∷ us) (expr_starts d.0 _) in
-    let plain = no_call d.0 (t ∷ us) stop.1 in
-    rw (none, plain, place_reads free room d (t ∷ us) low few stop.0, p, q) h
+    let stop = stops m c q t (us ++ rest) p in
+    let none = no_step (ts ++ t ∷ (us ++ rest)) (expr_starts d.0 _) in
+    let plain = no_call d.0 (t ∷ (us ++ rest)) stop.1 in
+    let read = place_reads free room d (t ∷ (us ++ rest)) low (few_left free ts _ few) stop.0 in
+    ap (simple_at free room) (append_assoc ts _ rest) ∙ rw (none, plain, read, p, q) h
 
 before_complete : (free : ℕ) → (room : ℕ) {ts : List Lexeme} {place : ExprTree} (t : Lexeme) (m : Mark)
     (op : BinaryOp) → IsMark m t → step_of m ≡ Some op → (d : SpellsPlace ts place) (rest : List Lexeme) →
@@ -337,31 +339,26 @@ unfolding value_behind operand_behind stepped
 simple_complete free room (assign {ts = ts} {us = us} {place = place} {value = value} t p d v) rest low few ends =
     let inner = few_tail free t us (few_right free ts _ few) in
     let read = (expr_exact free room).complete us rest value (record { spelled = v; low = omega arith }) inner ends.0 in
-    ap (simple_at free room) (append_assoc ts _ rest) ∙ assigned free room d _ t (us ++ rest) _ _ rest p refl
-    (omega arith) (few_left free ts _ few) (rw (no_call v rest ends.1, read))
+    assigned free room d _ t us _ _ rest p refl (omega arith) few (rw (no_call v rest ends.1, read))
 simple_complete free room (assign_call {ts = ts} {us = us} {place = place} {call = c} t p d v) rest low few ends =
     let inner = few_tail free t us (few_right free ts _ few) in
     let read = (call_exact free room).complete us rest c (record { spelled = v; low = omega arith }) inner tt in
-    ap (simple_at free room) (append_assoc ts _ rest) ∙ assigned free room d _ t (us ++ rest) _ _ rest p refl
-    (omega arith) (few_left free ts _ few) (rw (call_begins v rest, read))
+    assigned free room d _ t us _ _ rest p refl (omega arith) few (rw (call_begins v rest, read))
 simple_complete free room (compound {ts = ts} {us = us} {place = place} {operand = operand} t m op p q d v) rest low few
     ends =
     let inner = few_tail free t us (few_right free ts _ few) in
     let made = updates_height op place operand in
     let short : expr_height place < room = omega arith in
     let less : expr_height operand ≤ room - 1 = omega arith in
-    let read = (expr_exact free (room - 1)).complete us rest operand
-    (record { spelled = v; low = less }) inner ends.0 in
-    ap (simple_at free room) (append_assoc ts _ rest)
-    ∙ assigned free room d m t (us ++ rest) (change.By op) _ rest p (compound_change m op q)
-    (omega arith) (few_left free ts _ few) (rw (lt-ltb _ room short, read))
+    let read = (expr_exact free (room - 1)).complete us rest operand (record { spelled = v; low = less }) inner ends.0 in
+    assigned free room d m t us (change.By op) _ rest p (compound_change m op q) (omega arith) few
+    (rw (lt-ltb _ room short, read))
 simple_complete free room (step_behind {ts = ts} {place = place} t m op p q d) rest low few ends =
     let made = updates_height op place one in
     let height = one_height in
     let short : expr_height place < room = omega arith in
-    ap (simple_at free room) (append_assoc ts _ rest)
-    ∙ assigned free room d m t rest (change.Step op) _ rest p (step_change m op q)
-    (omega arith) (few_left free ts _ few) (rw (lt-ltb _ room short))
+    assigned free room d m t [] (change.Step op) _ rest p (step_change m op q) (omega arith) few
+    (rw (lt-ltb _ room short))
 simple_complete free room (step_before t m op p q d) rest low few ends =
     before_complete free room t m op p q d rest low few ends
 simple_complete free room (call {ts = ts} {call = c} d) rest low few ends = call_alone_complete free room d rest low few
