@@ -32,12 +32,7 @@ module _ (text : List ℕ) where
   next_heading from low = elim (find (is_heading text) from (length text - from)) [
     | inl f ↦ (
       f.0,
-      record {
-        low = f.1.low;
-        high = omega (arith, f.1.high);
-        heading = λ inside. f.1.holds;
-        clear = f.1.first;
-      },
+      record { low = f.1.low; high = omega (arith, f.1.high); heading = λ inside. f.1.holds; clear = f.1.first },
     )
     | inr nowhere ↦ (
       length text,
@@ -60,15 +55,9 @@ module _ (text : List ℕ) where
 
   is_section : (at next : ℕ) (name : List ℕ) → IsTrue (is_heading text at) → name_at text at ≡ Some name →
       IsNext (at + 1) next → IsSection text at next (section_at at next name)
-  is_section at next name h is n = record {
-    heading = h;
-    name = is;
-    start = refl;
-    line = refl;
-    bytes = refl;
-    within = (omega (arith, n.low), n.high);
-    whole = n.clear;
-  }
+  is_section at next name h is n =
+      let within : (at < next) × (next ≤ length text) = (omega (arith, n.low), n.high) in
+      record { heading = h; name = is; start = refl; line = refl; bytes = refl; within = within; whole = n.clear }
 
   -- a bad line behind a section is the first one
   bad_behind : (at next : ℕ) (name : List ℕ) → name_at text at ≡ Some name → IsNext (at + 1) next → IsFirstBad next →

@@ -206,12 +206,7 @@ module _ (bytes : List ℕ) where
       Ways (at + n) → Ways at
   behind_token at kind n t w = elim w [
     | inl c ↦ inl (token_at bytes at kind n ∷ c.0, token kind n t c.1)
-    | inr s ↦ inr (record {
-      to = s.to;
-      tokens = token_at bytes at kind n ∷ s.tokens;
-      cuts = token kind n t s.cuts;
-      stuck = s.stuck;
-    })
+    | inr s ↦ inr (record { to = s.to; tokens = _; cuts = token kind n t s.cuts; stuck = s.stuck })
   ]
 
   at_end : (at : ℕ) → at ≡ length bytes → Ways at
@@ -225,12 +220,8 @@ module _ (bytes : List ℕ) where
     | inr no_gap ↦ elim (decide_token _ _) [
       | inl t ↦ behind_token at t.0 t.1 t.2 (let some = token_positive t.1 t.2 in let within = t.2.within in
           let long = length-drop at bytes in next _ (omega arith) (omega arith))
-      | inr no_token ↦ inr (record {
-        to = at;
-        tokens = [];
-        cuts = nothing;
-        stuck = record { more = more; no_gap = no_gap; no_token = no_token };
-      })
+      | inr no_token ↦ let stuck : IsStuck bytes at = record { more = more; no_gap = no_gap; no_token = no_token } in
+          inr (record { to = at; tokens = []; cuts = nothing; stuck = stuck })
     ]
   ]
 

@@ -131,24 +131,13 @@ heading_fails text refusal r = subst (λ p. Fails text p refusal.line) (sym r.ph
 module _ (text preamble : List ℕ) (ss : List Section) (divided : IsSplit text preamble ss) where
   passes : (before : List Token) (cuts : List (List Token)) → IsCut preamble before → AllZip IsCutInto ss cuts →
       PassesLex text before (map part_of ss)
-  passes before cuts cut each = record {
-    preamble = preamble;
-    found = ss;
-    cuts = cuts;
-    split = divided;
-    parts = refl;
-    cut = cut;
-    each = cuts_of ss cuts each;
-  }
+  passes before cuts cut each = let parts = cuts_of ss cuts each in
+      record { preamble = preamble; found = ss; cuts = cuts; split = divided; parts = refl; cut = cut; each = parts }
 
   pub reads : (cuts : List (List Token)) (trees : List SectionTree) → IsCut preamble [] → AllZip IsCutInto ss cuts →
       AllZip IsTreeOf ss trees → Reads text trees
-  reads cuts trees cut each trees_are =
-      record {
-        sections = map part_of ss;
-        lexed = passes [] cuts cut each;
-        each = trees_read text ss trees (in_text divided.behind) trees_are;
-      }
+  reads cuts trees cut each trees_are = let read = trees_read text ss trees (in_text divided.behind) trees_are in
+      record { sections = map part_of ss; lexed = passes [] cuts cut each; each = read }
 
   fails : (refusal : Refusal) {p : Phase} → refusal.phase ≡ p → Fails text p refusal.line →
       Fails text refusal.phase refusal.line
