@@ -140,15 +140,6 @@ from_turn free room level all ts us rest e f ext h g next low more same grows =
           ap (λ k. go_on (read_nested free) (read free room) room level (g.0 - 1) (found f k rest)) same,
     )
 
--- the lexemes behind a closing bracket, one behind another
-inside_of : (us rest : List Lexeme) (u : Lexeme) → us ++ u ∷ [] ++ rest ≡ us ++ (u ∷ rest)
-inside_of us rest u = append_assoc us _ rest
-
--- behind a part, brackets and what they hold
-with_brackets : (ts us rest : List Lexeme) (t u : Lexeme) →
-    ts ++ (t ∷ (us ++ u ∷ [])) ++ rest ≡ ts ++ (t ∷ (us ++ (u ∷ rest)))
-with_brackets ts us rest t u = append_assoc ts _ rest ∙ ap (λ k. ts ++ (t ∷ k)) (inside_of us rest u)
-
 -- the same of a name behind `.` or `->`
 named_goes : (m : Mark) (ext : Extension) (make : ExprTree → List ℕ → ExprTree) (ts : List Lexeme) (e : ExprTree)
     (t u : Lexeme) (name : List ℕ) → IsMark m t → IsIdent name u → extension_of m ≡ Some ext →
@@ -180,7 +171,7 @@ goes (parenthesised {ts = ts} {e = e} t u is closes d) = λ free room level n re
     (omega arith) (omega arith) (closing u rest (symbol.Mark mark.CloseParen) 12 closes refl) in
     let nested = nested_at free (free - 1) (room + 1) 11 (ts ++ (u ∷ rest)) fewer ∙ inner in
     let operand = operand_paren free room t u (ts ++ (u ∷ rest)) rest e is closes nested in
-    subst (λ k. Arrives free room level (t ∷ k) e rest) (sym (inside_of ts rest u))
+    subst (λ k. Arrives free room level (t ∷ k) e rest) (sym (append_assoc ts (u ∷ []) rest))
     (from_operand free room level (t ∷ (ts ++ (u ∷ rest))) e (expr_height e) rest refl (positive d) operand)
 goes (index {ts = ts} {us = us} {e = e} {f = f} t u is closes d g) = λ free room level n rest inside low few may.
     let height = index_height e f in
@@ -195,7 +186,8 @@ goes (index {ts = ts} {us = us} {e = e} {f = f} t u is closes d g) = λ free roo
     (omega arith) (closing u rest (symbol.Mark mark.CloseSquare) 12 closes refl) in
     let nested = nested_at free (free - 1) room 11 (us ++ (u ∷ rest)) fewer ∙ inner in
     let grows = extended_index free room u (us ++ (u ∷ rest)) rest e f (omega arith) nested closes in
-    subst (λ k. Arrives free room level k (expr.Index e f) rest) (sym (with_brackets ts us rest t u))
+    subst (λ k. Arrives free room level k (expr.Index e f) rest) (sym (append_assoc ts (t ∷ (us ++ u ∷ [])) rest ∙
+    ap (λ k. ts ++ (t ∷ k)) (append_assoc us (u ∷ []) rest)))
     (from_turn free room level (ts ++ (t ∷ (us ++ (u ∷ rest)))) (us ++ (u ∷ rest)) (t ∷ (us ++ (u ∷ rest))) rest e
     (expr.Index e f) extension.Index (max (expr_height e) (expr_height f) + 1) base
     (next_within level t (us ++ (u ∷ rest)) mark.OpenSquare extension.Index is refl (omega arith)) (omega arith)

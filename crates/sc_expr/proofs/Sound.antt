@@ -185,7 +185,7 @@ module _ (free room : ℕ) (nested : ℕ → ℕ → Reader) (below : ℕ → Re
       let u = behind_mark mark.CloseSquare z.rest c.0 c.1 in
       let r = in_brackets room 11 us z (omega arith) b.1 in
       let inner = r.2 in
-      let is : IsMark _ a.first = a.is ∙ ap (λ m. symbol.Mark m) (extension_mark a.m _ _ a.of refl) in
+      let is : IsMark _ a.first = a.is ∙ ap symbol.Mark (extension_mark a.m _ _ a.of refl) in
       subst (At 0 ts) (same_some c.2) (record {
         taken = s.taken ++ a.first ∷ (inner.taken ++ u.0 ∷ []);
         split = glued c.0 s.taken (a.first ∷ (inner.taken ++ u.0 ∷ [])) s.split
@@ -206,13 +206,13 @@ module _ (free room : ℕ) (nested : ℕ → ℕ → Reader) (below : ℕ → Re
   joined_sound level (extension.Operator op) ts us x y s a low h = operator_sound level op ts us x y s a low h
   joined_sound level extension.Index ts us x y s a low h = index_sound level ts us x y s a low h
   joined_sound level extension.Member ts us x y s a low h =
-      named_sound mark.Dot extension.Member (λ e name. expr.Member e name) level ts us x y
-      (λ e name ts t u is of d. member t u name is of d) (λ e name. member_height e name) (λ n. refl) s a
-      (a.is ∙ ap (λ m. symbol.Mark m) (extension_mark a.m _ _ a.of refl)) low h
+      named_sound mark.Dot extension.Member expr.Member level ts us x y
+      (λ e name ts t u is of d. member t u name is of d) member_height (λ n. refl) s a
+      (a.is ∙ ap symbol.Mark (extension_mark a.m _ _ a.of refl)) low h
   joined_sound level extension.Arrow ts us x y s a low h =
-      named_sound mark.Arrow _ (λ e name. expr.Arrow e name) level ts us x y
-      (λ e name ts t u is of d. arrow t u name is of d) (λ e name. arrow_height e name) (λ n. refl) s a
-      (a.is ∙ ap (λ m. symbol.Mark m) (extension_mark a.m _ _ a.of refl)) low h
+      named_sound mark.Arrow extension.Arrow expr.Arrow level ts us x y
+      (λ e name ts t u is of d. arrow t u name is of d) arrow_height (λ n. refl) s a
+      (a.is ∙ ap symbol.Mark (extension_mark a.m _ _ a.of refl)) low h
 
   extended_sound : (level c : ℕ) (ext : Extension) (ts us : List Lexeme) (x y : Found) → At c ts x →
       Ahead level x.rest ext us → extended_with nested below room x.tree x.height ext us ≡ Some y →
