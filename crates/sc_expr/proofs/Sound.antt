@@ -94,8 +94,8 @@ module _ (free room : ℕ) (nested : ℕ → ℕ → Reader) (below : ℕ → Re
         spelled = parenthesised t u.0 is u.2 inner.spelled;
         measured = inner.measured;
         low = inner.low;
-        few = λ n. omega (arith, most_bracketed n t u.0 [] (says t _ is) (says u.0 _ u.2) inner.spelled,
-            inner.few (n + 1), r.1);
+        few = λ n. let most = most_bracketed n t u.0 [] (says t _ is) (says u.0 _ u.2) inner.spelled in
+            omega (arith, most, inner.few (n + 1), r.1);
         onward = λ ext at. omega arith;
       })
 
@@ -146,9 +146,10 @@ module _ (free room : ℕ) (nested : ℕ → ℕ → Reader) (below : ℕ → Re
         spelled = spells x.tree b.0.0 s.taken a.first u.0 is u.2 s.spelled;
         measured = ap (λ k. k + 1) s.measured ∙ sym (height x.tree b.0.0);
         low = omega arith;
-        few = λ n. omega (arith, most_behind n (a.first ∷ u.0 ∷ []) s.spelled,
-            most_plain n a.first (u.0 ∷ []) (λ k. says a.first (symbol.Mark m) is k ∙ plain k),
-            most_plain n u.0 [] (says u.0 (symbol.Ident b.0.0) u.2), s.few n);
+        few = λ n.
+            let most = most_behind n (a.first ∷ u.0 ∷ []) s.spelled in
+            let sign = most_plain n a.first (u.0 ∷ []) (λ k. says a.first (symbol.Mark m) is k ∙ plain k) in
+            omega (arith, most, sign, most_plain n u.0 [] (says u.0 (symbol.Ident b.0.0) u.2), s.few n);
         onward = λ other at. omega arith;
       })
 
@@ -171,8 +172,10 @@ module _ (free room : ℕ) (nested : ℕ → ℕ → Reader) (below : ℕ → Re
         spelled = subst (λ k. Spells k (s.taken ++ a.first ∷ right.taken) (expr.Binary op x.tree z.tree)) at whole;
         measured = ap₂ (λ k l. max k l + 1) s.measured right.measured ∙ sym (joined_height op x.tree z.tree);
         low = omega (arith, right.low);
-        few = λ n. omega (arith, most_behind n (a.first ∷ right.taken) s.spelled,
-            most_plain n a.first right.taken (plain_binary a.first a.m op a.is of), s.few n, right.few n);
+        few = λ n.
+            let most = most_behind n (a.first ∷ right.taken) s.spelled in
+            let sign = most_plain n a.first right.taken (plain_binary a.first a.m op a.is of) in
+            omega (arith, most, sign, s.few n, right.few n);
         onward = λ other next. omega (arith, right.onward other next);
       })
 
@@ -193,9 +196,11 @@ module _ (free room : ℕ) (nested : ℕ → ℕ → Reader) (below : ℕ → Re
         spelled = index a.first u.0 is u.2 s.spelled inner.spelled;
         measured = ap₂ (λ k l. max k l + 1) s.measured inner.measured ∙ sym (index_height x.tree z.tree);
         low = omega (arith, inner.low);
-        few = λ n. omega (arith, most_behind n (a.first ∷ (inner.taken ++ u.0 ∷ [])) s.spelled,
-            most_bracketed n a.first u.0 [] (says a.first _ is) (says u.0 (symbol.Mark _) u.2) inner.spelled, s.few n,
-            inner.few (n + 1), r.1);
+        few = λ n.
+            let most = most_behind n (a.first ∷ (inner.taken ++ u.0 ∷ [])) s.spelled in
+            let inside = most_bracketed n a.first u.0 [] (says a.first _ is) (says u.0 (symbol.Mark _) u.2)
+            inner.spelled in
+            omega (arith, most, inside, s.few n, inner.few (n + 1), r.1);
         onward = λ other at. omega arith;
       })
 

@@ -86,7 +86,7 @@ module _ {A : Type 0} (Fits : List Lexeme → Type 0) (fits_left : (ts us : List
         taken = first.taken ++ (items.taken ++ mark.0 ∷ []);
         added = items.added;
         split = glued rest first.taken (items.taken ++ mark.0 ∷ []) first.split
-        (glued rest items.taken (mark.0 ∷ []) items.split (mark.1 ∙ ap (λ l. mark.0 ∷ l) same.1));
+            (glued rest items.taken (mark.0 ∷ []) items.split (mark.1 ∙ ap (λ l. mark.0 ∷ l) same.1));
         all = sym same.0 ∙ items.all;
         spelled = declares mark.0 mark.2 first.spelled
             (subst (λ n. Separated (Item b.0.0 n) items.taken items.added) line items.spelled);

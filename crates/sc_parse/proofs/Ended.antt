@@ -107,8 +107,8 @@ returned_sound free room ts rest x q h = chosen _ _ (value_returned free room (d
     let t = word_ahead ts word.Return q in
     let d : Taken (Returned room) (drop 1 ts) x rest = chosen _ _ _ e
     (λ n e. made (λ c. stmt.ReturnCall c) (call_at free room) (call_exact free room).sound
-    (λ ts c d t p u r. record { spelled = return_call t u p r d.spelled; low = omega
-    (arith, return_call_height c, d.low) }) e)
+    (λ ts c d t p u r. let height = return_call_height c in
+    record { spelled = return_call t u p r d.spelled; low = omega (arith, height, d.low) }) e)
     (λ n e. made (λ v. stmt.ReturnValue v) (expr_at free room) (expr_exact free room).sound
     (λ ts v d t p u r. record { spelled = return_value t u p r d.spelled; low = omega (arith, value_height v, d.low) })
     e) in

@@ -96,8 +96,7 @@ unfolding expr_at
 expr_sound free room ts rest x h =
     let b = bound _ _ _ h in
     let m = measured free room ts b.0 b.1 in
-    took m.taken b.2 m.split (record { spelled = m.spelled; low = let low = m.low in let height = m.height in omega
-    arith })
+    took m.taken b.2 m.split (record { spelled = m.spelled; low = omega (arith, m.low, m.height) })
 
 expr_complete : (free : ℕ) → (room : ℕ) (ts rest : List Lexeme) (x : ExprTree) → IsExpr room ts x → Few free ts →
     NoExtension rest → expr_at free room (ts ++ rest) ≡ Some (x, rest)

@@ -114,7 +114,9 @@ part_sound free room m ts rest x h = chosen _ _ (cond (leb 1 room) (simple_at fr
     let b = bound (λ x. Some _) (simple_at free (room - 1) ts) (x, rest) c.1 in
     let k = (simple_exact free (room - 1)).sound ts b.0.1 b.0.0 b.1 in
     let line = ap first_line k.split ∙ first_line_some k.taken b.0.1 (kind_some k.spelled.spelled) in
-    took k.taken b.2 k.split (record { spelled = a_part (k.spelled.spelled, line); low = omega (arith, k.spelled.low)
+    took k.taken b.2 k.split (record {
+      spelled = a_part (k.spelled.spelled, line);
+      low = omega (arith, k.spelled.low);
     }))
 
 pub part_reads : (free : ℕ) → (room : ℕ) (m : Mark) → is_some (lead_by m) ≡ false → is_some (step_of m) ≡ false →
@@ -145,8 +147,8 @@ test_sound free room ts rest x h = chosen _ _ _ h (λ q e.
     let height = one_height in
     took [] c.1 refl (record { spelled = no_test; low = omega arith })) (λ q e.
     let d = (expr_exact free room).sound ts rest x e in
-    record { taken = d.taken; split = d.split; spelled = record
-    { spelled = a_test d.spelled.spelled; low = d.spelled.low } })
+    let spelled : IsTest room d.taken x = record { spelled = a_test d.spelled.spelled; low = d.spelled.low } in
+    record { taken = d.taken; split = d.split; spelled = spelled })
 
 pub test_reads : (free : ℕ) → (room : ℕ) {ts : List Lexeme} {x : ExprTree} (d : SpellsTest ts x) (v : Lexeme)
     (rest : List Lexeme) → IsMark mark.Semicolon v → expr_height x ≤ room → Few free ts →

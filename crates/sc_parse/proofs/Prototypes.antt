@@ -76,16 +76,16 @@ unfolding params_at
 params_sound ts rest x h = chosen _ _ _ h (λ q e. let first = void_ahead ts q in
     took (first.first ∷ []) e first.is (no_params first.first first.keyword)) (λ q e.
     let l = all_params_exact.sound [] x ts rest e in
-    record { taken = l.taken; split = l.split; spelled = subst (SpellsParams l.taken) (sym l.all)
-    (some_params l.spelled) })
+    let spelled = some_params l.spelled in
+    record { taken = l.taken; split = l.split; spelled = subst (SpellsParams l.taken) (sym l.all) spelled })
 
 params_complete : {ts : List Lexeme} {x : List ParamTree} (d : SpellsParams ts x) (rest : List Lexeme) →
     EndsParams rest → params_at (ts ++ rest) ≡ Some (x, rest)
 unfolding params_at
 params_complete (no_params t p) rest h = rw p
 params_complete (some_params {ts = ts} {params = xs} d) rest h =
-    rw (separated_front NoVoid (λ ts rest x d. param_no_void d rest) d rest, all_params_exact.complete [] xs ts rest d
-    tt h)
+    let read = all_params_exact.complete [] xs ts rest d tt h in
+    rw (separated_front NoVoid (λ ts rest x d. param_no_void d rest) d rest, read)
 
 result_sound : (ts rest : List Lexeme) (x : Option TypeName) → result_at ts ≡ Some (x, rest) →
     Taken SpellsResult ts x rest
