@@ -3,7 +3,8 @@ use Rattle.sc_expr.proofs.Common.{BinaryOp, Extension, IsIdent, IsMark, Lead, Le
 use Rattle.sc_expr.proofs.Common.{Some, Symbol, [], ap, arith, behind, binary_of, cases_lt, cond, cond_some}
 use Rattle.sc_expr.proofs.Common.{extension_at, extension_by, extension_level, extension_of, extension_within, is_mark}
 use Rattle.sc_expr.proofs.Common.{le-leb, lead_by, lead_of, leb-true, level_of, name_at, name_by, none-some, option_map}
-use Rattle.sc_expr.proofs.Common.{prefix_of, refl, rules, subst, sym, true, within, ℕ, ⊎_elim, ◌<◌, ◌∙◌, ◌∷◌, ◌≡◌, ◌≤◌}
+use Rattle.sc_expr.proofs.Common.{prefix_of, refl, rules, subst, sym, true, within, ℕ, ⊎_elim, ◌<◌, ◌>>=◌, ◌∙◌, ◌∷◌}
+use Rattle.sc_expr.proofs.Common.{◌≡◌, ◌≤◌}
 use Rattle.sc_base.specs.declared.op.BinaryOp.TheVariants as binary
 use Rattle.sc_expr.specs.contracts.mark.Mark.{the_type}
 use denote.Enum.Bare.{same_true}
@@ -41,29 +42,19 @@ mark_operator mark.Dot op h = absurd (none-some op h)
 mark_operator mark.Arrow op h = absurd (none-some op h)
 mark_operator _ op h = ap (λ o. option_map (λ x. extension.Operator x) o) h
 
-abbrev index_in : Option Extension → Option ℕ
-index_in (Some extension.Index) = Some 0
-index_in _ = None
+-- the mark of an extension that is no operator
+abbrev pub tight_mark : Extension → Option Mark
+tight_mark extension.Index = Some mark.OpenSquare
+tight_mark extension.Member = Some mark.Dot
+tight_mark extension.Arrow = Some mark.Arrow
+tight_mark _ = None
 
-pub index_mark : (m : Mark) → extension_of m ≡ Some extension.Index → m ≡ mark.OpenSquare
-index_mark mark.OpenSquare h = refl
-index_mark _ h = absurd (none-some 0 (ap index_in h))
-
-abbrev member_in : Option Extension → Option ℕ
-member_in (Some extension.Member) = Some 0
-member_in _ = None
-
-pub member_mark : (m : Mark) → extension_of m ≡ Some extension.Member → m ≡ mark.Dot
-member_mark mark.Dot h = refl
-member_mark _ h = absurd (none-some 0 (ap member_in h))
-
-abbrev arrow_in : Option Extension → Option ℕ
-arrow_in (Some extension.Arrow) = Some 0
-arrow_in _ = None
-
-pub arrow_mark : (m : Mark) → extension_of m ≡ Some extension.Arrow → m ≡ mark.Arrow
-arrow_mark mark.Arrow h = refl
-arrow_mark _ h = absurd (none-some 0 (ap arrow_in h))
+pub extension_mark : (m : Mark) (ext : Extension) (k : Mark) → extension_of m ≡ Some ext → tight_mark ext ≡ Some k →
+    m ≡ k
+extension_mark mark.OpenSquare ext k h is = same_some (ap (λ o. o >>= tight_mark) h ∙ is)
+extension_mark mark.Dot ext k h is = same_some (ap (λ o. o >>= tight_mark) h ∙ is)
+extension_mark mark.Arrow ext k h is = same_some (ap (λ o. o >>= tight_mark) h ∙ is)
+extension_mark _ ext k h is = absurd (none-some k (ap (λ o. o >>= tight_mark) h ∙ is))
 
 -- A mark stands at the front that goes on with an expression, in a level or a tighter one.
 pub record Ahead (level : ℕ) (ts : List Lexeme) (ext : Extension) (us : List Lexeme) : Type 0 where

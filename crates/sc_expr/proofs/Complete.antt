@@ -1,11 +1,12 @@
 -- What is spelled within the limits is read.
-use Rattle.sc_expr.proofs.Common.{BinaryOp, ExprTree, Extension, IsIdent, IsMark, Lexeme, List, Mark, None, Option}
-use Rattle.sc_expr.proofs.Common.{Prefix, Reader, Some, Spells, Symbol, [], ap, append_assoc, arith, arrow, cond}
+use Rattle.sc_expr.proofs.Common.{BinaryOp, ExprTree, Extension, Found, IsIdent, IsMark, Lexeme, List, Mark, None}
+use Rattle.sc_expr.proofs.Common.{Option, Prefix, Some, Spells, Symbol, [], ap, append_assoc, arith, arrow, cond}
 use Rattle.sc_expr.proofs.Common.{expr_height, extended_with, extension_at, extension_by, extension_level, extension_of}
-use Rattle.sc_expr.proofs.Common.{extension_within, found, go_on, index, joined, le-leb, lead_by, lead_of, leaf_of}
-use Rattle.sc_expr.proofs.Common.{level_of, literal, looser, lt-leb, max, member, most_open, none-some, operand_with}
-use Rattle.sc_expr.proofs.Common.{option_map, parenthesised, prefix_of, prefixed, read, read_nested, refl, subst, suc}
-use Rattle.sc_expr.proofs.Common.{sym, variable, within, zero, «prefix», ℕ, ◌++◌, ◌+◌, ◌-◌, ◌<◌, ◌∙◌, ◌∷◌, ◌≡◌, ◌≤◌}
+use Rattle.sc_expr.proofs.Common.{extension_within, found, go_on, index, joined, joined_with, le-leb, lead_by, lead_of}
+use Rattle.sc_expr.proofs.Common.{leaf_of, level_of, literal, looser, lt-leb, max, member, most_open, named_with}
+use Rattle.sc_expr.proofs.Common.{none-some, operand_with, option_map, parenthesised, prefix_of, prefixed, read}
+use Rattle.sc_expr.proofs.Common.{read_nested, refl, subst, suc, sym, variable, within, zero, «prefix», ℕ, ◌++◌, ◌+◌}
+use Rattle.sc_expr.proofs.Common.{◌-◌, ◌<◌, ◌∙◌, ◌∷◌, ◌≡◌, ◌≤◌}
 use Rattle.sc_ast.specs.declared.expr.ExprTree.TheVariants as expr
 use Rattle.sc_expr.specs.declared.mark.Mark.TheVariants as mark
 use Rattle.sc_expr.specs.declared.operator.Extension.TheVariants as extension
@@ -29,7 +30,7 @@ quiet_by level us (Some ext) looser_all = ap (λ b. cond b (Some (ext, us)) None
 
 quiet : (level : ℕ) (rest : List Lexeme) → Onward (suc level) rest → extension_within level rest ≡ None
 quiet level [] may = refl
-quiet level (t ∷ ts) may = quiet_by level ts _ (λ ext at. let more = may ext at in omega arith)
+quiet level (t ∷ ts) may = quiet_by level ts _ (λ ext at. omega (arith, may ext at))
 
 -- a lexeme that no expression goes on with
 closing : (t : Lexeme) (rest : List Lexeme) (s : Symbol) (level : ℕ) → t.symbol ≡ s → extension_by s ≡ None →
@@ -46,53 +47,54 @@ prefix_leads : (m : Mark) (p : Prefix) → prefix_of m ≡ Some p → lead_by m 
 prefix_leads mark.OpenParen p h = absurd (none-some p h)
 prefix_leads _ p h = ap (λ o. option_map (λ x. lead.Prefix x) o) h
 
-module _ (nested : ℕ → ℕ → Reader) (below : ℕ → Reader) (room : ℕ) where
+module _ (free room : ℕ) where
+  -- an operand
+  abbrev operand_at : List Lexeme → Option Found
+  operand_at ts = operand_with (read_nested free) (read free room) room ts
+
+  -- what an expression goes on to
+  abbrev extended_at : ExprTree → Extension → List Lexeme → Option Found
+  extended_at e ext us = extended_with (read_nested free) (read free room) room e (expr_height e) ext us
+
   operand_leaf : (t : Lexeme) (ts : List Lexeme) (s : Symbol) (e : ExprTree) → t.symbol ≡ s → lead_of s ≡ None →
-      leaf_of s ≡ Some e → operand_with nested below room (t ∷ ts) ≡ Some (found e 1 ts)
+      leaf_of s ≡ Some e → operand_at (t ∷ ts) ≡ Some (found e 1 ts)
   unfolding operand_with
   operand_leaf t ts s e is none leaf = rw (is, none, leaf)
 
-  operand_paren : (t u : Lexeme) (us rest : List Lexeme) (e : ExprTree) (h : ℕ) → IsMark mark.OpenParen t →
-      IsMark mark.CloseParen u → nested (room + 1) 11 us ≡ Some (found e h (u ∷ rest)) →
-      operand_with nested below room (t ∷ us) ≡ Some (found e h rest)
+  operand_paren : (t u : Lexeme) (us rest : List Lexeme) (e : ExprTree) → IsMark mark.OpenParen t →
+      IsMark mark.CloseParen u → read_nested free (room + 1) 11 us ≡ Some (found e (expr_height e) (u ∷ rest)) →
+      operand_at (t ∷ us) ≡ Some (found e (expr_height e) rest)
   unfolding operand_with
-  operand_paren t u us rest e h is closes inner = rw (is, inner, closes)
+  operand_paren t u us rest e is closes inner = rw (is, inner, closes)
 
-  operand_prefix : (t : Lexeme) (m : Mark) (p : Prefix) (us rest : List Lexeme) (e : ExprTree) (h : ℕ) → IsMark m t →
-      prefix_of m ≡ Some p → below 1 us ≡ Some (found e h rest) →
-      operand_with nested below room (t ∷ us) ≡ Some (found (prefixed p e) (h + 1) rest)
+  operand_prefix : (t : Lexeme) (m : Mark) (p : Prefix) (us rest : List Lexeme) (e : ExprTree) → IsMark m t →
+      prefix_of m ≡ Some p → read free room 1 us ≡ Some (found e (expr_height e) rest) →
+      operand_at (t ∷ us) ≡ Some (found (prefixed p e) (expr_height e + 1) rest)
   unfolding operand_with
-  operand_prefix t m p us rest e h is of inner = let leads = prefix_leads m p of in rw (is, leads, inner)
+  operand_prefix t m p us rest e is of inner = let leads = prefix_leads m p of in rw (is, leads, inner)
 
-  extended_operator : (op : BinaryOp) (us rest : List Lexeme) (e f : ExprTree) (h k : ℕ) → h ≤ room →
-      below (level_of op - 1) us ≡ Some (found f k rest) →
-      extended_with nested below room e h (extension.Operator op) us ≡
-      Some (found (expr.Binary op e f) (max h k + 1) rest)
+  extended_operator : (op : BinaryOp) (us rest : List Lexeme) (e f : ExprTree) → expr_height e ≤ room →
+      read free room (level_of op - 1) us ≡ Some (found f (expr_height f) rest) → extended_at e (extension.Operator op)
+      us ≡ Some (found (expr.Binary op e f) (max (expr_height e) (expr_height f) + 1) rest)
   unfolding extended_with
-  extended_operator op us rest e f h k low right = let fits = le-leb h room low in rw (fits, right)
+  extended_operator op us rest e f low right = let fits = le-leb (expr_height e) room low in rw (fits, right)
 
-  extended_index : (u : Lexeme) (us rest : List Lexeme) (e f : ExprTree) (h k : ℕ) → h ≤ room →
-      nested room 11 us ≡ Some (found f k (u ∷ rest)) → IsMark mark.CloseSquare u →
-      extended_with nested below room e h extension.Index us ≡ Some (found (expr.Index e f) (max h k + 1) rest)
+  extended_index : (u : Lexeme) (us rest : List Lexeme) (e f : ExprTree) → expr_height e ≤ room →
+      read_nested free room 11 us ≡ Some (found f (expr_height f) (u ∷ rest)) → IsMark mark.CloseSquare u →
+      extended_at e extension.Index us ≡ Some (found (expr.Index e f) (max (expr_height e) (expr_height f) + 1) rest)
   unfolding extended_with
-  extended_index u us rest e f h k low inner closes = let fits = le-leb h room low in rw (fits, inner, closes)
+  extended_index u us rest e f low inner closes = let fits = le-leb (expr_height e) room low in rw (fits, inner, closes)
 
-  extended_member : (u : Lexeme) (rest : List Lexeme) (e : ExprTree) (name : List ℕ) (h : ℕ) → h ≤ room →
-      IsIdent name u → extended_with nested below room e h extension.Member (u ∷ rest) ≡
-      Some (found (expr.Member e name) (h + 1) rest)
+  extended_named : (ext : Extension) (make : ExprTree → List ℕ → ExprTree) (u : Lexeme) (rest : List Lexeme)
+      (e : ExprTree) (name : List ℕ) → expr_height e ≤ room → IsIdent name u → ((us : List Lexeme) →
+      joined_with (read_nested free) (read free room) room e (expr_height e) ext us ≡ named_with (make e)
+      (expr_height e) us) → extended_at e ext (u ∷ rest) ≡ Some (found (make e name) (expr_height e + 1) rest)
   unfolding extended_with
-  extended_member u rest e name h low is = let fits = le-leb h room low in rw (fits, is)
-
-  extended_arrow : (u : Lexeme) (rest : List Lexeme) (e : ExprTree) (name : List ℕ) (h : ℕ) → h ≤ room →
-      IsIdent name u → extended_with nested below room e h extension.Arrow (u ∷ rest) ≡
-      Some (found (expr.Arrow e name) (h + 1) rest)
-  unfolding extended_with
-  extended_arrow u rest e name h low is = let fits = le-leb h room low in rw (fits, is)
+  extended_named ext make u rest e name low is of = let fits = le-leb (expr_height e) room low in rw (fits, of, is)
 
 -- reading these lexemes comes to the expression, and to going on behind it in turns enough
 abbrev Arrives : ℕ → ℕ → ℕ → List Lexeme → ExprTree → List Lexeme → Type 0
-Arrives free room level all e rest =
-    (turns : ℕ) × (suc room < turns + expr_height e) ×
+Arrives free room level all e rest = (turns : ℕ) × (suc room < turns + expr_height e) ×
     (read free (suc room) level all ≡ go_on (read_nested free) (read free room) room level turns
     (found e (expr_height e) rest))
 
@@ -110,13 +112,12 @@ Takes c ts e = (free room level n : ℕ) (rest : List Lexeme) → c ≤ level �
 pub takes : (c : ℕ) (ts : List Lexeme) (e : ExprTree) → 1 ≤ expr_height e → GoesOn c ts e → Takes c ts e
 takes c ts e some on free zero level n rest inside low few may = absurd (omega arith)
 takes c ts e some on free (suc room) level n rest inside low few may =
-    let g = on free room level n rest inside low few (λ ext at. let more = may ext at in omega arith) in
+    let g = on free room level n rest inside low few (λ ext at. omega (arith, may ext at)) in
     let enough = g.1 in
     g.2 ∙ turns_end _ _ room level g.0 _ (omega arith) (quiet level rest may)
 
-from_operand : (free room level : ℕ) (ts : List Lexeme) (e : ExprTree) (h : ℕ) (rest : List Lexeme) →
-    h ≡ expr_height e → 1 ≤ h → operand_with (read_nested free) (read free room) room ts ≡ Some (found e h rest) →
-    Arrives free room level ts e rest
+from_operand : (free room level : ℕ) (ts : List Lexeme) (e : ExprTree) (h : ℕ) (rest : List Lexeme) → h ≡
+    expr_height e → 1 ≤ h → operand_at free room ts ≡ Some (found e h rest) → Arrives free room level ts e rest
 from_operand free room level ts e h rest same some operand =
     let next : suc room ≡ room + 1 = omega arith in (
       suc room,
@@ -128,8 +129,7 @@ from_operand free room level ts e h rest same some operand =
 -- one turn more, to an expression that is higher
 from_turn : (free room level : ℕ) (all ts us rest : List Lexeme) (e f : ExprTree) (ext : Extension) (h : ℕ) →
     Arrives free room level all e us → extension_within level us ≡ Some (ext, ts) → expr_height e ≤ room →
-    expr_height e < expr_height f → h ≡ expr_height f →
-    extended_with (read_nested free) (read free room) room e (expr_height e) ext ts ≡ Some (found f h rest) →
+    expr_height e < expr_height f → h ≡ expr_height f → extended_at free room e ext ts ≡ Some (found f h rest) →
     Arrives free room level all f rest
 from_turn free room level all ts us rest e f ext h g next low more same grows =
     let enough = g.1 in
@@ -140,25 +140,29 @@ from_turn free room level all ts us rest e f ext h g next low more same grows =
           ap (λ k. go_on (read_nested free) (read free room) room level (g.0 - 1) (found f k rest)) same,
     )
 
--- the lexemes behind a closing bracket, one behind another
-inside_of : (us rest : List Lexeme) (u : Lexeme) → us ++ u ∷ [] ++ rest ≡ us ++ (u ∷ rest)
-inside_of us rest u = append_assoc us _ rest
-
--- behind a part, brackets and what they hold
-with_brackets : (ts us rest : List Lexeme) (t u : Lexeme) →
-    ts ++ (t ∷ (us ++ u ∷ [])) ++ rest ≡ ts ++ (t ∷ (us ++ (u ∷ rest)))
-with_brackets ts us rest t u = append_assoc ts _ rest ∙ ap (λ k. ts ++ (t ∷ k)) (inside_of us rest u)
+-- the same of a name behind `.` or `->`
+named_goes : (m : Mark) (ext : Extension) (make : ExprTree → List ℕ → ExprTree) (ts : List Lexeme) (e : ExprTree)
+    (t u : Lexeme) (name : List ℕ) → IsMark m t → IsIdent name u → extension_of m ≡ Some ext →
+    extension_level ext ≡ 0 → Spells 0 ts e → GoesOn 0 ts e → expr_height (make e name) ≡ expr_height e + 1 →
+    ((free room : ℕ) (us : List Lexeme) → joined_with (read_nested free) (read free room) room e (expr_height e) ext us
+    ≡ named_with (make e) (expr_height e) us) → GoesOn 0 (ts ++ t ∷ u ∷ []) (make e name)
+named_goes m ext make ts e t u name dot is of tight d on height makes = λ free room level n rest inside low few may.
+    let most = most_behind n (t ∷ u ∷ []) d in
+    let base = on free room level n (t ∷ u ∷ rest) (omega arith) (omega arith) (omega arith) (λ ext at. omega arith) in
+    let grows = extended_named free room ext make u rest e name (omega arith) is (makes free room) in
+    subst (λ k. Arrives free room level k (make e name) rest) (sym (append_assoc ts (t ∷ u ∷ []) rest))
+    (from_turn free room level (ts ++ (t ∷ u ∷ rest)) (u ∷ rest) (t ∷ u ∷ rest) rest e (make e name) ext
+    (expr_height e + 1) base (next_within level t (u ∷ rest) m ext dot of (omega arith)) (omega arith) (omega arith)
+    (sym height) grows)
 
 -- Reading arrives at all that is spelled.
 pub goes : {c : ℕ} {ts : List Lexeme} {e : ExprTree} (d : Spells c ts e) → GoesOn c ts e
 goes (literal t number is) = λ free room level n rest inside low few may.
     from_operand free room level (t ∷ rest) (expr.Literal number) 1 rest (sym (literal_height number)) (omega arith)
-    (operand_leaf (read_nested free) (read free room) room t rest (symbol.Integer number)
-    (expr.Literal number) is refl refl)
+    (operand_leaf free room t rest (symbol.Integer number) (expr.Literal number) is refl refl)
 goes (variable t name is) = λ free room level n rest inside low few may.
     from_operand free room level (t ∷ rest) (expr.Variable name) 1 rest (sym (variable_height name)) (omega arith)
-    (operand_leaf (read_nested free) (read free room) room t rest (symbol.Ident name)
-    (expr.Variable name) is refl refl)
+    (operand_leaf free room t rest (symbol.Ident name) (expr.Variable name) is refl refl)
 goes (parenthesised {ts = ts} {e = e} t u is closes d) = λ free room level n rest inside low few may.
     let most = most_bracketed n t u [] (says t (symbol.Mark mark.OpenParen) is) (says u (symbol.Mark _) closes) d in
     let opened = open_low (n + 1) ts in
@@ -166,9 +170,8 @@ goes (parenthesised {ts = ts} {e = e} t u is closes d) = λ free room level n re
     let inner = takes 11 ts e (positive d) (goes d) (free - 1) (room + 1) 11 (n + 1) (u ∷ rest) (omega arith)
     (omega arith) (omega arith) (closing u rest (symbol.Mark mark.CloseParen) 12 closes refl) in
     let nested = nested_at free (free - 1) (room + 1) 11 (ts ++ (u ∷ rest)) fewer ∙ inner in
-    let operand = operand_paren (read_nested free) (read free room) room t u (ts ++ (u ∷ rest)) rest e
-    (expr_height e) is closes nested in
-    subst (λ k. Arrives free room level (t ∷ k) e rest) (sym (inside_of ts rest u))
+    let operand = operand_paren free room t u (ts ++ (u ∷ rest)) rest e is closes nested in
+    subst (λ k. Arrives free room level (t ∷ k) e rest) (sym (append_assoc ts (u ∷ []) rest))
     (from_operand free room level (t ∷ (ts ++ (u ∷ rest))) e (expr_height e) rest refl (positive d) operand)
 goes (index {ts = ts} {us = us} {e = e} {f = f} t u is closes d g) = λ free room level n rest inside low few may.
     let height = index_height e f in
@@ -182,65 +185,44 @@ goes (index {ts = ts} {us = us} {e = e} {f = f} t u is closes d g) = λ free roo
     let inner = takes 11 us f (positive g) (goes g) (free - 1) room 11 (n + 1) (u ∷ rest) (omega arith) (omega arith)
     (omega arith) (closing u rest (symbol.Mark mark.CloseSquare) 12 closes refl) in
     let nested = nested_at free (free - 1) room 11 (us ++ (u ∷ rest)) fewer ∙ inner in
-    let grows = extended_index (read_nested free) (read free room) room u (us ++ (u ∷ rest)) rest e f (expr_height e)
-    (expr_height f) (omega arith) nested closes in
-    subst (λ k. Arrives free room level k (expr.Index e f) rest) (sym (with_brackets ts us rest t u))
+    let grows = extended_index free room u (us ++ (u ∷ rest)) rest e f (omega arith) nested closes in
+    subst (λ k. Arrives free room level k (expr.Index e f) rest) (sym (append_assoc ts (t ∷ (us ++ u ∷ [])) rest ∙
+    ap (λ k. ts ++ (t ∷ k)) (append_assoc us (u ∷ []) rest)))
     (from_turn free room level (ts ++ (t ∷ (us ++ (u ∷ rest)))) (us ++ (u ∷ rest)) (t ∷ (us ++ (u ∷ rest))) rest e
     (expr.Index e f) extension.Index (max (expr_height e) (expr_height f) + 1) base
     (next_within level t (us ++ (u ∷ rest)) mark.OpenSquare extension.Index is refl (omega arith)) (omega arith)
     (omega arith) (sym height) grows)
-goes (member {ts = ts} {e = e} t u name dot is d) = λ free room level n rest inside low few may.
-    let height = member_height e name in
-    let most = most_behind n (t ∷ u ∷ []) d in
-    let base = goes d free room level n (t ∷ u ∷ rest) (omega arith) (omega arith) (omega arith)
-    (λ ext at. omega arith) in
-    let grows = extended_member (read_nested free) (read free room) room u rest e name (expr_height e)
-    (omega arith) is in
-    subst (λ k. Arrives free room level k (expr.Member e name) rest) (sym (append_assoc ts (t ∷ u ∷ []) rest))
-    (from_turn free room level (ts ++ (t ∷ u ∷ rest)) (u ∷ rest) (t ∷ u ∷ rest) rest e
-    (expr.Member e name) extension.Member (expr_height e + 1) base
-    (next_within level t (u ∷ rest) mark.Dot extension.Member dot refl (omega arith)) (omega arith) (omega arith)
-    (sym height) grows)
-goes (arrow {ts = ts} {e = e} t u name points is d) = λ free room level n rest inside low few may.
-    let height = arrow_height e name in
-    let most = most_behind n (t ∷ u ∷ []) d in
-    let base = goes d free room level n (t ∷ u ∷ rest) (omega arith) (omega arith) (omega arith)
-    (λ ext at. omega arith) in
-    let grows = extended_arrow (read_nested free) (read free room) room u rest e name (expr_height e)
-    (omega arith) is in
-    subst (λ k. Arrives free room level k (expr.Arrow e name) rest) (sym (append_assoc ts (t ∷ u ∷ []) rest))
-    (from_turn free room level (ts ++ (t ∷ u ∷ rest)) (u ∷ rest) (t ∷ u ∷ rest) rest e
-    (expr.Arrow e name) extension.Arrow (expr_height e + 1) base
-    (next_within level t (u ∷ rest) mark.Arrow extension.Arrow points refl (omega arith)) (omega arith)
-    (omega arith) (sym height) grows)
+goes (member {ts = ts} {e = e} t u name dot is d) = named_goes mark.Dot extension.Member expr.Member ts e t u name
+    dot is refl (omega arith) d (goes d) (member_height e name) (λ free room us. refl)
+goes (arrow {ts = ts} {e = e} t u name points is d) = named_goes mark.Arrow extension.Arrow expr.Arrow ts e t u name
+    points is refl (omega arith) d (goes d) (arrow_height e name) (λ free room us. refl)
 goes («prefix» {ts = ts} {e = e} t m p is of d) = λ free room level n rest inside low few may.
     let height = prefixed_height p e in
     let most = most_plain n t ts (plain_prefix t m p is of) in
     let inner = takes 1 ts e (positive d) (goes d) free room 1 n rest (omega arith) (omega arith) (omega arith)
     (λ ext at. no_unary ext (may ext at)) in
     from_operand free room level (t ∷ (ts ++ rest)) (prefixed p e) (expr_height e + 1) rest (sym height) (omega arith)
-    (operand_prefix (read_nested free) (read free room) room t m p (ts ++ rest) rest e (expr_height e) is of inner)
+    (operand_prefix free room t m p (ts ++ rest) rest e is of inner)
 goes (joined {level = tight} {ts = ts} {us = us} {e = e} {f = f} t m op is of at d g) =
     λ free room level n rest inside low few may.
     let height = joined_height op e f in
     let most = most_behind n (t ∷ us) d in
     let most_right = most_plain n t us (plain_binary t m op is of) in
-    let next : extension_at (t ∷ (us ++ rest)) ≡ Some (extension.Operator op) =
-    ap (λ s. extension_by s) is ∙ mark_operator m op of in
+    let next : extension_at (t ∷ (us ++ rest)) ≡ Some _ = ap extension_by is ∙ mark_operator m op of in
     let base = goes d free room level n (t ∷ (us ++ rest)) inside (omega arith) (omega arith)
     (λ ext there. subst (λ x. suc tight ≤ extension_level x) (same_some (sym next ∙ there)) (omega arith)) in
     let right = takes tight us f (positive g) (goes g) free room tight n rest (omega arith) (omega arith)
     (omega arith) may in
     let less : level_of op - 1 ≡ tight = omega arith in
-    let grows = extended_operator (read_nested free) (read free room) room op (us ++ rest) rest e f (expr_height e)
-    (expr_height f) (omega arith) (ap (λ k. read free room k (us ++ rest)) less ∙ right) in
+    let grows = extended_operator free room op (us ++ rest) rest e f (omega arith)
+    (ap (λ k. read free room k (us ++ rest)) less ∙ right) in
     subst (λ k. Arrives free room level k (expr.Binary op e f) rest) (sym (append_assoc ts (t ∷ us) rest))
     (from_turn free room level (ts ++ (t ∷ (us ++ rest))) (us ++ rest) (t ∷ (us ++ rest)) rest e (expr.Binary op e f)
     (extension.Operator op) (max (expr_height e) (expr_height f) + 1) base
     (next_within level t (us ++ rest) m (extension.Operator op) is (mark_operator m op of) (omega arith))
     (omega arith) (omega arith) (sym height) grows)
 goes (looser d) = λ free room level n rest inside low few may.
-    goes d free room level n rest (omega arith) low few (λ ext at. let more = may ext at in omega arith)
+    goes d free room level n rest (omega arith) low few (λ ext at. omega (arith, may ext at))
 
 -- what is spelled within the limits is read, where nothing of the level goes on behind it
 pub reads_all : {c : ℕ} {ts : List Lexeme} {e : ExprTree} (d : Spells c ts e) → Takes c ts e

@@ -1,5 +1,6 @@
 -- What an answer that is there came from.
-use Rattle.sc_expr.proofs.Common.{Bool, None, Option, Some, ap, cond, false, none-some, refl, true, ◌>>=◌, ◌≡◌}
+use Rattle.sc_expr.proofs.Common.{Bool, List, None, Option, Some, ap, append_assoc, cond, false, none-some, refl, sym}
+use Rattle.sc_expr.proofs.Common.{true, ◌++◌, ◌>>=◌, ◌∙◌, ◌≡◌}
 
 abbrev out : {A : Type 0} → A → Option A → A
 out other None = other
@@ -18,3 +19,8 @@ bound f (Some x) y h = (x, refl, h)
 pub cond_is : {A : Type 0} (b : Bool) (o : Option A) (x : A) → cond b o None ≡ Some x → (b ≡ true) × (o ≡ Some x)
 cond_is true o x h = (refl, h)
 cond_is false o x h = absurd (none-some x h)
+
+-- one front behind another
+pub glued : {A : Type 0} {ts us : List A} (rest first second : List A) → ts ≡ first ++ us → us ≡ second ++ rest →
+    ts ≡ (first ++ second) ++ rest
+glued rest first second p q = p ∙ ap (λ l. first ++ l) q ∙ sym (append_assoc first second rest)

@@ -10,11 +10,6 @@ unfolding read read_within
 one_level zero room level ts = refl
 one_level (suc free) room level ts = refl
 
-pub no_level : (free level : ℕ) (ts : List Lexeme) → read free 0 level ts ≡ None
-unfolding read read_within
-no_level zero level ts = refl
-no_level (suc free) level ts = refl
-
 pub read_at : (free room below level : ℕ) (ts : List Lexeme) → room ≡ below + 1 →
     read free room level ts ≡ level_with (read_nested free) (read free below) below level ts
 read_at free zero below level ts h = absurd (omega arith)
@@ -22,7 +17,9 @@ read_at free (suc room) below level ts h = let e : room ≡ below = omega arith 
     one_level free room level ts ∙ ap (λ k. level_with (read_nested free) (read free k) k level ts) e
 
 pub read_none : (free room level : ℕ) (ts : List Lexeme) → room ≡ 0 → read free room level ts ≡ None
-read_none free zero level ts h = no_level free level ts
+unfolding read read_within
+read_none zero zero level ts h = refl
+read_none (suc free) zero level ts h = refl
 read_none free (suc room) level ts h = absurd (omega arith)
 
 pub nested_at : (free fewer room level : ℕ) (ts : List Lexeme) → free ≡ fewer + 1 →
@@ -69,8 +66,7 @@ module _ (nested : ℕ → ℕ → Reader) (below : ℕ → Reader) (room : ℕ)
   no_turns level (suc turns) x h = absurd (omega arith)
 
   pub turns_on : (level turns fewer : ℕ) (x y : Found) (ext : Extension) (ts : List Lexeme) → turns ≡ fewer + 1 →
-      extension_within level x.rest ≡ Some (ext, ts) →
-      extended_with nested below room x.tree x.height ext ts ≡ Some y →
+      extension_within level x.rest ≡ Some (ext, ts) → extended_with nested below room x.tree x.height ext ts ≡ Some y →
       go_on nested below room level turns x ≡ go_on nested below room level fewer y
   unfolding go_on
   turns_on level zero fewer x y ext ts h q r = absurd (omega arith)

@@ -136,8 +136,7 @@ module _ (bytes : List ℕ) where
   progress_on at line n found p h q =
       let fits = piece_fits _ _ p n q in
       let len : at + n - at ≡ n = omega arith in
-      let one =
-      subst (λ ts. Cuts bytes at (at + n) ts) (append-nil _) (cuts_piece p at n _ [] q nothing) in
+      let one = subst (λ ts. Cuts bytes at (at + n) ts) (append-nil _) (cuts_piece p at n _ [] q nothing) in
       record {
         within = omega (arith, fits, h.within, length-drop at bytes);
         in_line = ap (λ l. line_after l (newlines (take n (drop at bytes)))) h.in_line ∙
@@ -162,5 +161,4 @@ module _ (bytes : List ℕ) where
   pub progress_uncut : (at line : ℕ) (found : List Token) → Progress at line found → at < length bytes → Stops at →
       (tokens : List Token) → IsCut bytes tokens → ⊥
   progress_uncut at line found h more stop tokens c =
-      let same = (one_way h.front stop c end_stops).0 in
-      absurd (omega arith)
+      let same = (one_way h.front stop c end_stops).0 in absurd (omega arith)

@@ -32,8 +32,7 @@ module _ (text : List ℕ) (start : is_name_byte (slice_index text 0) ≡ true) 
       let positive : 0 < len = rw is (run_positive _ text some start) in
       let none = (word_run (take len text) kind (sym e)).no_directive in
       run_token _ text word_runs len kind _ is positive (word_kinds len positive ∙ sym e)
-      (λ d. absurd (false≢true (sym none ∙ d))) (λ c. no_slash (star_first text c))
-      (λ c. no_slash (slash_first text c))
+      (λ d. absurd (false≢true (sym none ∙ d))) (λ c. no_slash (star_first text c)) (λ c. no_slash (slash_first text c))
 
   pub word_none : (len : ℕ) → 0 < length text → len ≡ prefix_len is_name_byte text → None ≡ word_kind (take len text) →
       NoToken text
@@ -126,21 +125,22 @@ module _ (text : List ℕ) (some : 0 < length text) (word : is_name_byte (slice_
   mark_two three two no_block no_line directives = mark_token 2 _ (omega arith) two
       (λ m more low. let e : m ≡ 3 = omega arith in rw e three) no_block no_line
 
+  none_above : stands text 3 ≡ false → stands text 2 ≡ false → (m : ℕ) → 1 < m → m ≤ 3 → stands text m ≡ false
+  none_above three two m more low = ⊎_elim (λ less. let e : m ≡ 2 = omega arith in rw e two)
+      (λ le. let e : m ≡ 3 = omega arith in rw e three) (cases_lt m 3)
+
   pub mark_one : stands text 3 ≡ false → stands text 2 ≡ false → stands text 1 ≡ true →
       (IsTrue (begins_block_comment text) → ⊥) → (IsTrue (begins_line_comment text) → ⊥) → (directives : Bool) →
       IsToken directives text Mark 1
-  mark_one three two one no_block no_line directives =
-      mark_token 1 directives (omega arith) one (λ m more low.
-      ⊎_elim (λ less. let e : m ≡ 2 = omega arith in rw e two) (λ le. let e : m ≡ 3 = omega arith in rw e three)
-      (cases_lt m 3)) no_block no_line
+  mark_one three two one no_block no_line directives = mark_token 1 directives (omega arith) one
+      (λ m more low. none_above three two m more low) no_block no_line
 
   pub mark_none : stands text 3 ≡ false → stands text 2 ≡ false → stands text 1 ≡ false → NoToken text
   mark_none three two one directives kind len t =
       let positive = token_positive len t in
-      none-some kind (sym (mark_kinds_none len positive t.within
-      (λ low. ⊎_elim (λ less. ⊎_elim (λ least. let e : len ≡ 1 = omega arith in rw e one)
-      (λ le. let e : len ≡ 2 = omega arith in rw e two) (cases_lt len 2))
-      (λ le. let e : len ≡ 3 = omega arith in rw e three) (cases_lt len 3))) ∙ t.spelled)
+      none-some kind (sym (mark_kinds_none len positive t.within (λ low.
+      ⊎_elim (λ more. none_above three two len more low) (λ le. let e : len ≡ 1 = omega arith in rw e one)
+      (cases_lt 1 len))) ∙ t.spelled)
 
 -- white space begins no token
 pub white_none : (text : List ℕ) → is_white_space (slice_index text 0) ≡ true → NoToken text
@@ -149,9 +149,8 @@ white_none text h directives kind len t =
     none-some kind (sym white ∙ t.spelled)
 
 -- what is found or not wherever directives are allowed or not, in one of the two cases
-pub found_at : (found : Option (TokenKind × ℕ)) (text : List ℕ) (here : Bool) →
-    IfSome found (λ x. (directives : Bool) → IsToken directives text x.0 x.1) →
-    IfSome found (λ x. IsToken here text x.0 x.1)
+pub found_at : (found : Option (TokenKind × ℕ)) (text : List ℕ) (here : Bool) → IfSome found (λ x. (directives : Bool) →
+    IsToken directives text x.0 x.1) → IfSome found (λ x. IsToken here text x.0 x.1)
 found_at None text here h = h
 found_at (Some x) text here h = h here
 

@@ -1,9 +1,9 @@
 -- White space and comments at the front of a text.
 use Rattle.sc_lex.proofs.Common.{IsGap, IsTrue, List, [], ap, arith, begins_block_comment, begins_line_comment}
-use Rattle.sc_lex.proofs.Common.{block_comment, cases_lt, codes, drop, ends_comment, false, false≢true, is_inside_line}
+use Rattle.sc_lex.proofs.Common.{block_comment, codes, drop, ends_comment, false, false≢true, is_inside_line}
 use Rattle.sc_lex.proofs.Common.{is_white_space, length, length-drop, line_comment, line_len, prefix_len-le-length}
-use Rattle.sc_lex.proofs.Common.{refl, slice_index, sym, true, white_space, ℕ, ⊎_elim, ◌+◌, ◌<◌, ◌∙◌, ◌≡◌, ◌≤◌}
-use Rattle.sc_lex.proofs.Runs.{run_positive}
+use Rattle.sc_lex.proofs.Common.{refl, slice_index, sym, true, white_space, ℕ, ◌+◌, ◌<◌, ◌∙◌, ◌≡◌, ◌≤◌}
+use Rattle.sc_lex.proofs.Runs.{run_positive, same_unless}
 use Rattle.sc_lex.proofs.Wording.{begins_with, front_byte}
 
 pub ends_within : (text : List ℕ) (at : ℕ) → IsTrue (ends_comment text at) → at + 2 ≤ length text
@@ -31,10 +31,7 @@ one_gap {text} (white_space h) (block_comment at q low ends first) = absurd (whi
 one_gap {text} (white_space h) (line_comment q) = absurd (white_no_slash text h (slash_first text q))
 one_gap {text} (block_comment at h low ends first) (white_space q) = absurd (white_no_slash text q (star_first text h))
 one_gap {text} (block_comment at h low ends first) (block_comment bt q low' ends' first') =
-    let same = ⊎_elim (λ less. absurd (first' at low less ends))
-    (λ more. ⊎_elim (λ less. absurd (first bt low' less ends')) (λ le. omega arith) (cases_lt bt at))
-    (cases_lt at bt) in
-    ap (λ k. k + 2) same
+    ap (λ k. k + 2) (same_unless at bt (λ less. first' at low less ends) (λ less. first bt low' less ends'))
 one_gap {text} (block_comment at h low ends first) (line_comment q) =
     absurd (omega (arith, star_second text h, slash_second text q))
 one_gap {text} (line_comment h) (white_space q) = absurd (white_no_slash text q (slash_first text h))

@@ -27,8 +27,7 @@ module _ (base : ℕ) where
       base ≤ d → is_number base greatest digits ≡ false
   unfolding is_number
   no_digit digits i greatest d less is high =
-      let fails =
-      le-ltb (digit_value (get_or digits i 0)) base (rw is at high) in
+      let fails = le-ltb (digit_value (get_or digits i 0)) base (rw is at high) in
       and_left _ _ (and_right _ _ (list_all_at _ digits i 0 less fails))
 
   pub too_great : (digits : List ℕ) (i value greatest d : ℕ) → 1 ≤ base → IsRead digits i value greatest →

@@ -1,11 +1,17 @@
 -- Tokens that end where the bytes of a class end.
+use Rattle.std.proofs.lemmas.Bool.{cond_both}
 use Rattle.sc_lex.proofs.Common.{Bool, IsToken, IsTrue, List, None, Some, TokenKind, [], ap, arith}
-use Rattle.sc_lex.proofs.Common.{begins_block_comment, begins_line_comment, cases_lt, cond, false, false≢true, get_or}
+use Rattle.sc_lex.proofs.Common.{begins_block_comment, begins_line_comment, cases_lt, false, false≢true, get_or}
 use Rattle.sc_lex.proofs.Common.{get_or-take, is_directive, kind_of, length, length-take-le, list_all, list_all_at}
 use Rattle.sc_lex.proofs.Common.{none-some, not_from_false, not_from_true, one-add, prefix_len, prefix_len-le-length}
-use Rattle.sc_lex.proofs.Common.{prefix_len_passes, prefix_len_stops, refl, suc, sym, take, true, zero, ℕ, ⊎_elim, ◌+◌}
-use Rattle.sc_lex.proofs.Common.{◌<◌, ◌∙◌, ◌∷◌, ◌≡◌, ◌≤◌}
+use Rattle.sc_lex.proofs.Common.{prefix_len_passes, prefix_len_stops, refl, suc, sym, take, true, zero, ℕ, ⊎_elim, ◌<◌}
+use Rattle.sc_lex.proofs.Common.{◌∙◌, ◌∷◌, ◌≡◌, ◌≤◌}
 use Rattle.sc_lex.proofs.Texts.{IsRun, kind_of-nil, none_from}
+
+-- numbers of which none is below the other are one
+pub same_unless : (a b : ℕ) → (a < b → ⊥) → (b < a → ⊥) → a ≡ b
+same_unless a b less more =
+    ⊎_elim (λ h. absurd (less h)) (λ h. ⊎_elim (λ k. absurd (more k)) (λ k. omega arith) (cases_lt b a)) (cases_lt a b)
 
 -- a token has a byte
 pub token_positive : {directives : Bool} {text : List ℕ} {kind : TokenKind} (len : ℕ) →
@@ -16,12 +22,8 @@ token_positive (suc n) t = omega arith
 module _ (p : ℕ → Bool) where
   pub run_all : (bs : List ℕ) → list_all p (take (prefix_len p bs) bs) ≡ true
   run_all [] = refl
-  run_all (b ∷ bs) = go (run_all bs) (p b) refl
-    where
-      go : list_all p (take (prefix_len p bs) bs) ≡ true → (t : Bool) → p b ≡ t →
-          list_all p (take (cond t (1 + prefix_len p bs) 0) (b ∷ bs)) ≡ true
-      go h true q = rw (one-add, q) h
-      go h false q = refl
+  run_all (b ∷ bs) = cond_both (p b) _ _ (λ n. list_all p (take n (b ∷ bs)) ≡ true)
+      (λ q. rw (one-add, q) (run_all bs)) (λ q. refl)
 
   pub run_positive : (bs : List ℕ) → 0 < length bs → p (get_or bs 0 0) ≡ true → 0 < prefix_len p bs
   run_positive [] h q = absurd (omega arith)
@@ -34,10 +36,9 @@ module _ (p : ℕ → Bool) (text : List ℕ) (runs : (m : ℕ) (kind : TokenKin
       let i : prefix_len p text < length _ = omega (arith, length-take-le m text within) in
       list_all_at p _ _ 0 i (ap p (get_or-take m text _ 0 h) ∙ prefix_len_stops p text 0 (omega arith))
 
-  pub run_token : (n : ℕ) (kind : TokenKind) (directives : Bool) → n ≡ prefix_len p text → 0 < n →
-      kind_of (take n text) ≡ Some kind → (IsTrue (is_directive kind) → IsTrue directives) →
-      (IsTrue (begins_block_comment text) → ⊥) → (IsTrue (begins_line_comment text) → ⊥) →
-      IsToken directives text kind n
+  pub run_token : (n : ℕ) (kind : TokenKind) (directives : Bool) → n ≡ prefix_len p text → 0 < n → kind_of (take n text)
+      ≡ Some kind → (IsTrue (is_directive kind) → IsTrue directives) → (IsTrue (begins_block_comment text) → ⊥) →
+      (IsTrue (begins_line_comment text) → ⊥) → IsToken directives text kind n
   run_token n kind directives is positive spelled allowed block line = record {
     within = omega (arith, prefix_len-le-length p text);
     spelled = spelled;
@@ -55,10 +56,9 @@ module _ (p : ℕ → Bool) (text : List ℕ) (runs : (m : ℕ) (kind : TokenKin
       let positive = token_positive m t in
       let run = runs m kind positive t.spelled in
       let inside = prefix_len-le-length p text in
-      ⊎_elim (λ longer. absurd (false≢true (sym (run_longer m longer t.within) ∙ run.all))) (λ low. ⊎_elim
-      (λ less. absurd (false≢true (sym (run.follow _ ∙
-      not_from_true (p _) (prefix_len_passes p text m 0 less)) ∙ t.apart (omega arith))))
-      (λ le. omega arith) (cases_lt m (prefix_len p text))) (cases_lt (prefix_len p text) m)
+      same_unless m (prefix_len p text) (λ less. false≢true (sym (run.follow _ ∙
+      not_from_true (p _) (prefix_len_passes p text m 0 less)) ∙ t.apart (omega arith)))
+      (λ longer. false≢true (sym (run_longer m longer t.within) ∙ run.all))
 
   -- nothing of this class is a token, where its longest run is none
   pub run_none : kind_of (take (prefix_len p text) text) ≡ None → (directives : Bool) (kind : TokenKind) (m : ℕ) →

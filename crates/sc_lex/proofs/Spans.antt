@@ -1,19 +1,9 @@
 -- Tokens that cut bytes are slices of them, one behind another.
-use Rattle.sc_lex.proofs.Common.{All, AllPairs, AreSpans, Bool, Cuts, IsCut, IsSpan, IsToken, List, Token, TokenKind}
-use Rattle.sc_lex.proofs.Common.{arith, drop, gap, length-drop, nothing, refl, suc, token, token_at, zero, ℕ, ◌+◌, ◌-◌}
-use Rattle.sc_lex.proofs.Common.{◌∷◌, ◌≡◌, ◌≤◌}
+use Rattle.std.proofs.lemmas.List.Elements.{All-cons}
+use Rattle.std.proofs.lemmas.List.Kept.{AllPairs-cons}
+use Rattle.sc_lex.proofs.Common.{All, AreSpans, Bool, Cuts, IsCut, IsSpan, IsToken, List, Token, TokenKind, arith, drop}
+use Rattle.sc_lex.proofs.Common.{gap, length-drop, nothing, refl, token, token_at, ℕ, ◌+◌, ◌-◌, ◌≡◌, ◌≤◌}
 use Rattle.sc_lex.proofs.Runs.{token_positive}
-
-all_cons : (P : Token → Type 0) (t : Token) (ts : List Token) → P t → All P ts → All P (t ∷ ts)
-all_cons P t ts h q zero d k = h
-all_cons P t ts h q (suc i) d k = q i d (omega arith)
-
-pairs_cons : (R : Token → Token → Type 0) (t : Token) (ts : List Token) → All (R t) ts → AllPairs R ts →
-    AllPairs R (t ∷ ts)
-pairs_cons R t ts h q zero zero d k l = absurd (omega arith)
-pairs_cons R t ts h q zero (suc j) d k l = h j d (omega arith)
-pairs_cons R t ts h q (suc i) zero d k l = absurd (omega arith)
-pairs_cons R t ts h q (suc i) (suc j) d k l = q i j d (omega arith) (omega arith)
 
 module _ (bytes : List ℕ) where
   span_of : {directives : Bool} (at : ℕ) (kind : TokenKind) (len : ℕ) → IsToken directives (drop at bytes) kind len →
@@ -33,7 +23,7 @@ module _ (bytes : List ℕ) where
   begin_behind nothing before low = λ k d h. absurd (omega arith)
   begin_behind (gap n h c) before low = begin_behind c before (omega arith)
   begin_behind {at} (token {tokens = ts} kind n h c) before low =
-      all_cons (λ t. before ≤ t.start) (token_at bytes at kind n) ts low (begin_behind c before (omega arith))
+      All-cons (λ t. before ≤ t.start) (token_at bytes at kind n) ts low (begin_behind c before (omega arith))
 
   cut_spans : {at to : ℕ} {tokens : List Token} → Cuts bytes at to tokens → AreSpans bytes tokens
   cut_spans nothing = record { each = λ k d h. absurd (omega arith); apart = λ i j d h k. absurd (omega arith) }
@@ -41,8 +31,8 @@ module _ (bytes : List ℕ) where
   cut_spans {at} (token {tokens = ts} kind n h c) =
       let rest = cut_spans c in
       record {
-        each = all_cons (λ t. IsSpan bytes t) (token_at bytes at kind n) ts (span_of at kind n h) rest.each;
-        apart = pairs_cons (λ t later. t.end ≤ later.start) (token_at bytes at kind n) ts
+        each = All-cons (IsSpan bytes) (token_at bytes at kind n) ts (span_of at kind n h) rest.each;
+        apart = AllPairs-cons (λ t later. t.end ≤ later.start) (token_at bytes at kind n) ts
             (begin_behind c _ (omega arith)) rest.apart;
       }
 

@@ -24,15 +24,10 @@ range-append text a b c h k =
     let behind : drop b text ≡ drop (b - a) (drop a text) = rw (drop-drop, there) refl in
     rw (behind, far) (take-add _ _ _)
 
-newlines-append : (xs ys : List ℕ) → newlines (xs ++ ys) ≡ newlines xs + newlines ys
-newlines-append xs ys = sum_by-append _ xs ys
-
 pub line_at_end : (text : List ℕ) (at end : ℕ) → at ≤ end →
     line_after (line_at text at) (newlines (slice_range text at end)) ≡ line_at text end
 line_at_end text at end h =
-    let whole =
-    ap newlines (take-range text at end h) ∙ newlines-append (take at text) (slice_range text at end) in
-    lines _ _ _ whole
+    lines _ _ _ (ap newlines (take-range text at end h) ∙ sum_by-append _ (take at text) (slice_range text at end))
   where
     lines : (n m k : ℕ) → k ≡ n + m → min (min (1 + n) 4294967295 + m) 4294967295 ≡ min (1 + k) 4294967295
     lines n m k e = omega arith

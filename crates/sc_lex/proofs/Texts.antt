@@ -1,4 +1,6 @@
 -- What texts that are tokens consist of.
+use Rattle.std.proofs.Math.Bool.{not-not}
+use Rattle.std.proofs.lemmas.Bool.{cond_both}
 use Rattle.sc_lex.proofs.Common.{Bool, Compartment, Export, Ident, Import, Integer, List, None, Option, Reserved, Some}
 use Rattle.sc_lex.proofs.Common.{TokenKind, [], and_from, and_parts, ap, arith, base_of, bytes_eq, bytes_eq-Decides}
 use Rattle.sc_lex.proofs.Common.{cond, digits_of, directive_kind, drop, drop_all, drop_more, eqb-true, false}
@@ -99,17 +101,10 @@ integer_bytes text h =
     let digits = (and_parts (not _) _ (and_parts _ _ h).0).1 in
     let named = list_all_along (is_digit _) is_name_byte (λ b q. digit_is_name_byte _ b low q)
     (digits_of body) digits in
-    outer _ refl (inner body _ refl named)
-  where
-    inner : (body : List ℕ) (x : Bool) → is_hexadecimal body ≡ x →
-        list_all is_name_byte (cond x (drop 2 body) body) ≡ true → list_all is_name_byte body ≡ true
-    inner body true e q = hexadecimal_bytes body e q
-    inner body false e q = q
-
-    outer : (x : Bool) → has_suffix text ≡ x → list_all is_name_byte (cond x (take (length text - 1) text) text) ≡
-        true → list_all is_name_byte text ≡ true
-    outer true e q = suffix_bytes text e q
-    outer false e q = q
+    cond_both (has_suffix text) _ _ (λ t. list_all is_name_byte t ≡ true → list_all is_name_byte text ≡ true)
+    (λ e q. suffix_bytes text e q) (λ e q. q) (cond_both (is_hexadecimal body) _ _
+    (λ t. list_all is_name_byte t ≡ true → list_all is_name_byte body ≡ true)
+    (λ e q. hexadecimal_bytes body e q) (λ e q. q) named)
 
 name_bytes : (text : List ℕ) → is_name text ≡ true → list_all is_name_byte text ≡ true
 unfolding is_name
@@ -154,13 +149,10 @@ pub record IsDirective (text : List ℕ) (kind : TokenKind) : Type 0 where
   pub first : slice_index text 0 ≡ 35
   pub directive : is_directive kind ≡ true
 
-not_twice : (b : Bool) → b ≡ not (not b)
-not_twice true = refl
-not_twice false = refl
-
 pub directive_run : (text : List ℕ) (kind : TokenKind) → directive_kind text ≡ Some kind → IsDirective text kind
 unfolding line_kind
-directive_run text kind h = outer (is_pragma text) refl h
+directive_run text kind h = cond_both (is_pragma text) _ None (λ o. o ≡ Some kind → IsDirective text kind)
+    (λ p e. go p (is_some _) (is_export (words text)) (is_import (words text)) e) (λ p e. absurd (none-some kind e)) h
   where
     made : is_pragma text ≡ true → (k : TokenKind) → ((byte : ℕ) → may_follow k byte ≡ not (is_inside_line byte)) →
         is_directive k ≡ true → ◌≡◌ {A = Option TokenKind} (Some k) (Some kind) → IsDirective text kind
@@ -176,14 +168,10 @@ directive_run text kind h = outer (is_pragma text) refl h
     go : is_pragma text ≡ true → (x y z : Bool) → ◌≡◌ {A = Option TokenKind}
         (cond x (Some Compartment) (cond y (Some Export) (cond z (Some Import) None))) (Some kind) →
         IsDirective text kind
-    go pragma true y z e = made pragma Compartment (λ b. not_twice (b == 10)) refl e
-    go pragma false true z e = made pragma Export (λ b. not_twice (b == 10)) refl e
-    go pragma false false true e = made pragma Import (λ b. not_twice (b == 10)) refl e
+    go pragma true y z e = made pragma Compartment (λ b. sym (not-not (b == 10))) refl e
+    go pragma false true z e = made pragma Export (λ b. sym (not-not (b == 10))) refl e
+    go pragma false false true e = made pragma Import (λ b. sym (not-not (b == 10))) refl e
     go pragma false false false e = absurd (none-some kind e)
-
-    outer : (x : Bool) → is_pragma text ≡ x → cond x (line_kind text) None ≡ Some kind → IsDirective text kind
-    outer true p e = go p (is_some _) (is_export (words text)) (is_import (words text)) e
-    outer false p e = absurd (none-some kind e)
 
 pub none_from : (o : Option TokenKind) → ((kind : TokenKind) → o ≡ Some kind → ⊥) → o ≡ None
 none_from None h = refl

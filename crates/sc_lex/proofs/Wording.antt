@@ -1,5 +1,6 @@
 -- The first word of a line, and the words behind it.
-use Rattle.sc_lex.proofs.Common.{Bool, List, None, [], ap, arith, begins_heading, cases_lt, codes, cond, drop, drop_all}
+use Rattle.std.proofs.lemmas.Bool.{cond_both}
+use Rattle.sc_lex.proofs.Common.{List, None, [], ap, arith, begins_heading, cases_lt, codes, cond, drop, drop_all}
 use Rattle.sc_lex.proofs.Common.{drop_more, eqb, false, filter, get_or, get_or-drop, get_or-take, is_blank, is_empty}
 use Rattle.sc_lex.proofs.Common.{is_name, length, length-take, length-take-le, name_of, nat_eq, ne_eqb, not, not-false}
 use Rattle.sc_lex.proofs.Common.{not-true, one-add, only_name, position_or_len, prefix_len, prefix_len-le-length}
@@ -24,43 +25,33 @@ words-blank b line h = ap kept (slice_split-cons_yes _ b line h)
 
 words-skip : (line : List ℕ) → words (drop (prefix_len is_blank line) line) ≡ words line
 words-skip [] = refl
-words-skip (b ∷ line) = go (words-skip line) _ refl
-  where
-    go : words (drop (prefix_len is_blank line) line) ≡ words line → (t : Bool) → is_blank b ≡ t →
-        words (drop (cond t (1 + prefix_len is_blank line) 0) (b ∷ line)) ≡ words (b ∷ line)
-    go so true h = rw one-add (so ∙ sym (words-blank b line h))
-    go so false h = refl
+words-skip (b ∷ line) = cond_both (is_blank b) _ _ (λ n. words (drop n (b ∷ line)) ≡ words (b ∷ line))
+    (λ h. rw one-add (words-skip line ∙ sym (words-blank b line h))) (λ h. refl)
 
 -- a first word, and what stands behind it
 words-front : (line : List ℕ) (len : ℕ) → len ≡ position_or_len is_blank line → 0 < len →
     words line ≡ take len line ∷ words (drop len line)
 unfolding words
-words-front line len is some = ⊎_elim inside whole (cases_lt len (length line))
+words-front line len is some = ⊎_elim (λ less.
+    let blank : is_blank (get_or line len 0) ≡ true =
+    not-false _ (rw is (prefix_len_stops (λ byte. not (is_blank byte)) line 0 (rw is at less))) in
+    let split : slice_split is_blank line ≡ take len line ∷ slice_split is_blank (drop (len + 1) line) =
+    rw is (slice_split_first is_blank line 0 (rw is at less)) in
+    let behind : words (drop len line) ≡ words (drop (len + 1) line) =
+    ap words (drop_more line len 0 less) ∙ words-blank (get_or line len 0) (drop (len + 1) line) blank in
+    ap kept split ∙ kept-full (take len line) (slice_split is_blank (drop (len + 1) line)) full ∙
+    ap (λ ws. take len line ∷ ws) (sym behind)) (λ past.
+    let none = slice_split_none is_blank line (λ k d h.
+    not-true _ (prefix_len_passes (λ byte. not (is_blank byte)) line k d (omega arith))) in
+    let all : take len line ≡ line = take_all len line past in
+    let nothing : drop len line ≡ [] = drop_all len line past in
+    rw (all, nothing) (ap kept none ∙ kept-full line [] (rw all at full))) (cases_lt len (length line))
   where
     fits : len ≤ length line
     fits = omega (arith, prefix_len-le-length (λ byte. not (is_blank byte)) line)
 
     full : 0 < length (take len line)
     full = omega (arith, length-take-le len line fits)
-
-    inside : len < length line → words line ≡ take len line ∷ words (drop len line)
-    inside less =
-        let blank : is_blank (get_or line len 0) ≡ true =
-        not-false _ (rw is (prefix_len_stops (λ byte. not (is_blank byte)) line 0 (rw is at less))) in
-        let split : slice_split is_blank line ≡ take len line ∷ slice_split is_blank (drop (len + 1) line) =
-        rw is (slice_split_first is_blank line 0 (rw is at less)) in
-        let behind : words (drop len line) ≡ words (drop (len + 1) line) =
-        ap words (drop_more line len 0 less) ∙ words-blank (get_or line len 0) (drop (len + 1) line) blank in
-        ap kept split ∙ kept-full (take len line) (slice_split is_blank (drop (len + 1) line)) full ∙
-        ap (λ ws. take len line ∷ ws) (sym behind)
-
-    whole : length line ≤ len → words line ≡ take len line ∷ words (drop len line)
-    whole past =
-        let none = slice_split_none is_blank line (λ k d h.
-        not-true _ (prefix_len_passes (λ byte. not (is_blank byte)) line k d (omega arith))) in
-        let all : take len line ≡ line = take_all len line past in
-        let nothing : drop len line ≡ [] = drop_all len line past in
-        rw (all, nothing) (ap kept none ∙ kept-full line [] (rw all at full))
 
 -- the first word is this long, and the others stand behind it
 record Front (line : List ℕ) (len : ℕ) : Type 0 where
@@ -77,14 +68,12 @@ front_nil line (suc n) h = rw h (record { word = refl; behind = refl })
 
 front : (line : List ℕ) (b l : ℕ) → b ≡ prefix_len is_blank line → l ≡ position_or_len is_blank (drop b line) →
     Front (drop b line) l
-front line b l p q = ⊎_elim more (λ past. front_nil (drop b line) l (drop_all b line past)) (cases_lt b _)
-  where
-    more : b < length line → Front (drop b line) l
-    more less =
-        let solid : is_blank (get_or line b 0) ≡ false = rw p (prefix_len_stops is_blank line 0 (rw p at less)) in
-        let starts : position_or_len is_blank (drop b line) ≡ 1 + position_or_len is_blank (drop (b + 1) line) =
-        ap (position_or_len _) (drop_more line b 0 less) ∙ rw solid in
-        front_some (drop b line) l (words-front (drop b line) l q (omega arith))
+front line b l p q = ⊎_elim (λ less.
+    let solid : is_blank (get_or line b 0) ≡ false = rw p (prefix_len_stops is_blank line 0 (rw p at less)) in
+    let starts : position_or_len is_blank (drop b line) ≡ 1 + position_or_len is_blank (drop (b + 1) line) =
+    ap (position_or_len _) (drop_more line b 0 less) ∙ rw solid in
+    front_some (drop b line) l (words-front (drop b line) l q (omega arith)))
+    (λ past. front_nil (drop b line) l (drop_all b line past)) (cases_lt b _)
 
 pub first_word : (line : List ℕ) (b l : ℕ) → b ≡ prefix_len is_blank line → l ≡ position_or_len is_blank (drop b line) →
     take l (drop b line) ≡ get_or (words line) 0 []

@@ -1,19 +1,20 @@
 -- Types and declarators are read exactly as they are spelled.
-use Rattle.sc_parse.proofs.Common.{BaseTree, Bool, Declarator, IsIdent, IsInteger, IsKeyword, IsMark, Keyword, Lexeme}
-use Rattle.sc_parse.proofs.Common.{List, Mark, None, Number, Option, Some, SpellsBase, SpellsDeclarator, SpellsStars}
+use Rattle.sc_parse.proofs.Common.{BaseTree, Declarator, IsIdent, IsInteger, IsKeyword, IsMark, Keyword, Lexeme, List}
+use Rattle.sc_parse.proofs.Common.{Mark, None, Number, Option, Some, SpellsBase, SpellsDeclarator, SpellsStars}
 use Rattle.sc_parse.proofs.Common.{SpellsTypeName, Symbol, TypeName, [], ap, append_assoc, arith, array, array_length}
-use Rattle.sc_parse.proofs.Common.{base_at, base_by, begins_with, behind, behind_mark, bound, bracketed_length, cond}
-use Rattle.sc_parse.proofs.Common.{declarator, declarator_at, drop, elements_at, false, int, integer_by, is_int}
-use Rattle.sc_parse.proofs.Common.{is_mark, keyword_at, keyword_by, length_at, name_ahead, name_at, none-some, one-add}
-use Rattle.sc_parse.proofs.Common.{option_map_or, past_int, prefix_len, refl, same_some, signed, signed_int, star}
-use Rattle.sc_parse.proofs.Common.{star_count, struct, subst, suc, sym, true, type_name, type_name_at, type_of}
-use Rattle.sc_parse.proofs.Common.{unsigned, unsigned_int, ℕ, ◌++◌, ◌+◌, ◌>>=◌, ◌∙◌, ◌∷◌, ◌≡◌}
+use Rattle.sc_parse.proofs.Common.{base_at, base_by, begins_with, behind, behind_mark, bound, declarator, declarator_at}
+use Rattle.sc_parse.proofs.Common.{drop, elements_at, false, false≢true, first_line, glued, int, integer_by, is_base}
+use Rattle.sc_parse.proofs.Common.{is_int, is_mark, is_void, keyword_at, keyword_by, length, length_at, line_at}
+use Rattle.sc_parse.proofs.Common.{name_ahead, name_at, no_base, none-some, one-add, past_int, refl, same_some, signed}
+use Rattle.sc_parse.proofs.Common.{signed_int, star, star_count, struct, subst, suc, sym, true, type_name, type_name_at}
+use Rattle.sc_parse.proofs.Common.{type_of, unsigned, unsigned_int, ℕ, ◌++◌, ◌+◌, ◌<◌, ◌>>=◌, ◌∙◌, ◌∷◌, ◌≡◌}
+use Rattle.std.proofs.lemmas.Bool.{false_from_ne_true, cond_both}
 use Rattle.sc_ast.specs.declared.types.BaseTree.TheVariants as base
 use Rattle.sc_expr.specs.declared.mark.Keyword.TheVariants as word
 use Rattle.sc_expr.specs.declared.mark.Mark.TheVariants as mark
 use Rattle.sc_expr.specs.declared.lexeme.Symbol.TheVariants as symbol
 use Rattle.sc_parse.specs.Types.{none, plain}
-use Rattle.sc_parse.proofs.Exact.{Taken, Exact, Any, took, glued}
+use Rattle.sc_parse.proofs.Exact.{Taken, Exact, Any, took, given, same_pair}
 
 pub keyword_is : (s : Symbol) (word : Keyword) → keyword_by s ≡ Some word →
     IsKeyword word (record { symbol = s; line = 0 })
@@ -36,7 +37,7 @@ int_ahead ts h = go (keyword_at ts) refl h
   where
     go : (o : Option Keyword) → keyword_at ts ≡ o → is_int o ≡ true → Word ts word.Int
     go (Some word.Int) q e = word_ahead ts word.Int q
-    go _ q e = absurd (none-some {A = ℕ} 0 (ap (λ b. cond b (Some 0) None) e))
+    go _ q e = absurd (false≢true e)
 
 abbrev pub NoInt : List Lexeme → Type 0
 NoInt rest = is_int (keyword_at rest) ≡ false
@@ -49,18 +50,12 @@ sign_taken : (ts rest : List Lexeme) (sign : Keyword) (value x : BaseTree) → k
     Taken SpellsBase ts x rest
 sign_taken ts rest sign value x q alone both h =
     let first = word_ahead ts sign q in
-    go first (is_int (keyword_at (drop 1 ts))) refl h
-  where
-    go : Word ts sign → (b : Bool) → is_int (keyword_at (drop 1 ts)) ≡ b →
-        ◌≡◌ {A = Option (BaseTree × List Lexeme)} (Some (value, cond b (drop 1 (drop 1 ts)) (drop 1 ts)))
-        (Some (x, rest)) → Taken SpellsBase ts x rest
-    go first true e k =
-        let second = int_ahead (drop 1 ts) e in
-        took SpellsBase ts (first.first ∷ second.first ∷ []) x value (drop 1 (drop 1 ts)) rest
-        (first.is ∙ ap (λ l. first.first ∷ l) second.is)
-        (both first.first second.first first.keyword second.keyword) k
-    go first false e k = took SpellsBase ts (first.first ∷ []) x value (drop 1 ts) rest first.is
-        (alone first.first first.keyword) k
+    cond_both (is_int (keyword_at (drop 1 ts))) _ _
+    (λ l. ◌≡◌ {A = Option (BaseTree × List Lexeme)} (Some (value, l)) (Some (x, rest)) → Taken SpellsBase ts x rest)
+    (λ e k. let second = int_ahead (drop 1 ts) e in
+    took (first.first ∷ second.first ∷ []) k (first.is ∙ ap (λ l. first.first ∷ l) second.is)
+    (both first.first second.first first.keyword second.keyword))
+    (λ e k. took (first.first ∷ []) k first.is (alone first.first first.keyword)) h
 
 base_sound : (ts rest : List Lexeme) (x : BaseTree) → base_at ts ≡ Some (x, rest) → Taken SpellsBase ts x rest
 unfolding base_at
@@ -69,15 +64,15 @@ base_sound ts rest x h = go (keyword_at ts) refl h
     go : (o : Option Keyword) → keyword_at ts ≡ o → base_by o (drop 1 ts) ≡ Some (x, rest) → Taken SpellsBase ts x rest
     go (Some word.Int) q e =
         let first = word_ahead ts word.Int q in
-        took SpellsBase ts (first.first ∷ []) x base.Int (drop 1 ts) rest first.is (int first.first first.keyword) e
+        took (first.first ∷ []) e first.is (int first.first first.keyword)
     go (Some word.Signed) q e = sign_taken ts rest word.Signed base.Int x q signed signed_int e
     go (Some word.Unsigned) q e = sign_taken ts rest word.Unsigned base.Unsigned x q unsigned unsigned_int e
     go (Some word.Struct) q e =
         let first = word_ahead ts word.Struct q in
         let b = bound (λ x. Some (base.Struct x.0, x.1)) (name_at (drop 1 ts)) (x, rest) e in
         let tag = name_ahead (drop 1 ts) b.0.1 b.0.0 b.1 in
-        took SpellsBase ts (first.first ∷ tag.0 ∷ []) x (base.Struct b.0.0) b.0.1 rest
-        (first.is ∙ ap (λ l. first.first ∷ l) tag.1) (struct first.first tag.0 b.0.0 first.keyword tag.2) b.2
+        took (first.first ∷ tag.0 ∷ []) b.2 (first.is ∙ ap (λ l. first.first ∷ l) tag.1)
+        (struct first.first tag.0 b.0.0 first.keyword tag.2)
     go _ q e = absurd (none-some (x, rest) e)
 
 base_complete : {ts : List Lexeme} {x : BaseTree} (d : SpellsBase ts x) (rest : List Lexeme) → NoInt rest →
@@ -93,6 +88,34 @@ base_complete (struct t u tag p q) rest h = rw (p, q)
 pub base_exact : Exact Any SpellsBase NoInt base_at
 base_exact = record { sound = base_sound; complete = λ ts rest x d fits h. base_complete d rest h }
 
+-- what a base begins with
+pub record BaseFront (ts : List Lexeme) : Type 0 where
+  pub some : 0 < length ts
+  pub no_end : (rest : List Lexeme) → begins_with mark.CloseCurly (ts ++ rest) ≡ false
+  pub no_void : (rest : List Lexeme) → is_void (keyword_at (ts ++ rest)) ≡ false
+  pub no_line : (rest : List Lexeme) → line_at (ts ++ rest) ≡ None
+  pub is_base : (rest : List Lexeme) → no_base (ts ++ rest) ≡ false
+  pub line : (rest : List Lexeme) → first_line (ts ++ rest) ≡ first_line ts
+
+base_word : (t : Lexeme) (ts : List Lexeme) (w : Keyword) → IsKeyword w t → is_void (Some w) ≡ false →
+    is_base (Some w) ≡ true → BaseFront (t ∷ ts)
+base_word t ts w p q r = record {
+  some = omega arith;
+  no_end = λ rest. rw p;
+  no_void = λ rest. rw (p, q);
+  no_line = λ rest. rw p;
+  is_base = λ rest. rw (p, r);
+  line = λ rest. refl;
+}
+
+pub base_front : {ts : List Lexeme} {base : BaseTree} → SpellsBase ts base → BaseFront ts
+base_front (int t p) = base_word t [] _ p refl refl
+base_front (signed t p) = base_word t [] _ p refl refl
+base_front (signed_int t u p q) = base_word t _ _ p refl refl
+base_front (unsigned t p) = base_word t [] _ p refl refl
+base_front (unsigned_int t u p q) = base_word t _ _ p refl refl
+base_front (struct t u tag p q) = base_word t _ _ p refl refl
+
 abbrev pub NoStar : List Lexeme → Type 0
 NoStar rest = begins_with mark.Star rest ≡ false
 
@@ -103,23 +126,22 @@ mark_is m t h =
     let same : t ≡ b.0 = cc in
     subst (IsMark m) (sym same) b.2
 
+-- another mark stands there
+pub other_mark : (m other : Mark) (t : Lexeme) → IsMark other t → (other ≡ m → ⊥) → is_mark m t.symbol ≡ false
+other_mark m other t p apart = false_from_ne_true _ (λ e.
+    let is = sym p ∙ mark_is m t e in let same : other ≡ m = cc in apart same)
+
 -- as many `*` as are counted
 pub stars_ahead : (ts : List Lexeme) → Taken SpellsStars ts (star_count ts) (drop (star_count ts) ts)
 unfolding star_count
 stars_ahead [] = record { taken = []; split = refl; spelled = none }
-stars_ahead (t ∷ ts) = go (stars_ahead ts) (is_mark mark.Star t.symbol) refl
-  where
-    go : Taken SpellsStars ts (prefix_len (λ t. is_mark mark.Star t.symbol) ts)
-        (drop (prefix_len (λ t. is_mark mark.Star t.symbol) ts) ts) → (b : Bool) → is_mark mark.Star t.symbol ≡ b →
-        Taken SpellsStars (t ∷ ts) (cond b (1 + prefix_len (λ t. is_mark mark.Star t.symbol) ts) 0)
-        (drop (cond b (1 + prefix_len (λ t. is_mark mark.Star t.symbol) ts) 0) (t ∷ ts))
-    go more true q =
-        rw one-add (record {
-          taken = t ∷ more.taken;
-          split = ap (λ l. t ∷ l) more.split;
-          spelled = subst (λ n. SpellsStars (t ∷ more.taken) n) (omega arith) (star t (mark_is _ t q) more.spelled);
-        })
-    go more false q = record { taken = []; split = refl; spelled = none }
+stars_ahead (t ∷ ts) = let others = stars_ahead ts in
+    cond_both (is_mark mark.Star t.symbol) _ _ (λ n. Taken SpellsStars (t ∷ ts) n (drop n (t ∷ ts)))
+    (λ q. rw one-add (record {
+      taken = t ∷ others.taken;
+      split = ap (λ l. t ∷ l) others.split;
+      spelled = subst (SpellsStars (t ∷ others.taken)) (omega arith) (star t (mark_is _ t q) others.spelled);
+    })) (λ q. record { taken = []; split = refl; spelled = none })
 
 pub stars_count : {ts : List Lexeme} {n : ℕ} (d : SpellsStars ts n) (rest : List Lexeme) → NoStar rest →
     (star_count (ts ++ rest) ≡ n) × (drop n (ts ++ rest) ≡ rest)
@@ -137,9 +159,8 @@ type_name_sound ts rest x h =
     let b = bound _ _ _ h in
     let first = base_sound ts b.0.1 b.0.0 b.1 in
     let stars = stars_ahead b.0.1 in
-    took SpellsTypeName ts (first.taken ++ stars.taken) x _ _ rest
-    (glued ts b.0.1 (drop _ b.0.1) first.taken stars.taken first.split stars.split)
-    (type_name first.spelled stars.spelled) b.2
+    took (first.taken ++ stars.taken) b.2 (glued (drop _ b.0.1) first.taken stars.taken first.split stars.split)
+    (type_name first.spelled stars.spelled)
 
 -- no `int` stands at the front of `*` and what is no `int`
 pub stars_no_int : {ts : List Lexeme} {n : ℕ} (d : SpellsStars ts n) (rest : List Lexeme) → NoInt rest →
@@ -178,44 +199,34 @@ elements_ahead [] rest x h = absurd (none-some _ h)
 elements_ahead (t ∷ ts) rest x h =
     let b = bound _ _ _ h in
     let c = bound _ _ _ b.2 in
-    let same = same_some c.2 in
-    let value = ap (λ p. p.0) same in
-    let behind = ap (λ p. p.1) same in
+    let same = same_pair c.2 in
     record {
       first = t;
       number = b.0;
-      is = ap (λ l. t ∷ l) behind;
+      is = ap (λ l. t ∷ l) same.1;
       integer = integer_is _ b.0 b.1;
-      fits = c.1 ∙ ap (λ n. Some n) value;
+      fits = c.1 ∙ ap (λ n. Some n) same.0;
     }
 
 -- What may stand behind the name in a declarator.
 pub data IsLength : List Lexeme → Option ℕ → Type 0 where
   no_length : IsLength [] None
   in_brackets : (u v w : Lexeme) (number : Number) (elements : ℕ) → IsMark mark.OpenSquare u → IsInteger number v →
-      IsMark mark.CloseSquare w → array_length number.value ≡ Some elements →
-      IsLength (u ∷ v ∷ w ∷ []) (Some elements)
+      IsMark mark.CloseSquare w → array_length number.value ≡ Some elements → IsLength (u ∷ v ∷ w ∷ []) (Some elements)
 
 abbrev pub NoBracket : List Lexeme → Type 0
 NoBracket rest = behind mark.OpenSquare rest ≡ None
 
 length_sound : (ts rest : List Lexeme) (x : Option ℕ) → length_at ts ≡ Some (x, rest) → Taken IsLength ts x rest
 unfolding length_at
-length_sound ts rest x h = go (behind mark.OpenSquare ts) refl h
-  where
-    go : (o : Option (List Lexeme)) → behind mark.OpenSquare ts ≡ o →
-        option_map_or bracketed_length o (Some (None, ts)) ≡ Some (x, rest) → Taken IsLength ts x rest
-    go None q e = took IsLength ts [] x None ts rest refl no_length e
-    go (Some us) q e =
-        let u = behind_mark mark.OpenSquare ts us q in
-        let b = bound (λ x. behind mark.CloseSquare x.1 >>= (λ rest. Some (Some x.0, rest))) (elements_at us)
-        (x, rest) e in
-        let c = bound (λ rest. Some (Some b.0.0, rest)) (behind mark.CloseSquare b.0.1) (x, rest) b.2 in
-        let v = elements_ahead us b.0.1 b.0.0 b.1 in
-        let w = behind_mark mark.CloseSquare b.0.1 c.0 c.1 in
-        took IsLength ts (u.0 ∷ v.first ∷ w.0 ∷ []) x (Some b.0.0) c.0 rest
-        (u.1 ∙ ap (λ l. u.0 ∷ l) (v.is ∙ ap (λ l. v.first ∷ l) w.1))
-        (in_brackets u.0 v.first w.0 v.number b.0.0 u.2 v.integer w.2 v.fits) c.2
+length_sound ts rest x h = given _ _ _ h (λ q e. took [] e refl no_length) (λ us q e.
+    let u = behind_mark mark.OpenSquare ts us q in
+    let b = bound _ (elements_at us) (x, rest) e in
+    let c = bound _ (behind mark.CloseSquare b.0.1) (x, rest) b.2 in
+    let v = elements_ahead us b.0.1 b.0.0 b.1 in
+    let w = behind_mark mark.CloseSquare b.0.1 c.0 c.1 in
+    took (u.0 ∷ v.first ∷ w.0 ∷ []) c.2 (u.1 ∙ ap (λ l. u.0 ∷ l) (v.is ∙ ap (λ l. v.first ∷ l) w.1))
+    (in_brackets u.0 v.first w.0 v.number b.0.0 u.2 v.integer w.2 v.fits))
 
 length_complete : {ts : List Lexeme} {x : Option ℕ} (d : IsLength ts x) (rest : List Lexeme) → NoBracket rest →
     length_at (ts ++ rest) ≡ Some (x, rest)
@@ -241,9 +252,8 @@ declarator_sound ts rest x h =
     let c = bound (λ y. Some _) _ _ b.2 in
     let t = name_ahead (drop _ ts) b.0.1 b.0.0 b.1 in
     let l = length_sound b.0.1 c.0.1 c.0.0 c.1 in
-    took IsDeclarator ts (stars.taken ++ t.0 ∷ l.taken) x (declarator _ b.0.0 c.0.0) c.0.1 rest
-    (glued ts (drop _ ts) c.0.1 stars.taken (t.0 ∷ l.taken) stars.split (t.1 ∙ ap (λ r. t.0 ∷ r) l.split))
-    (with_length t.0 b.0.0 t.2 stars.spelled l.spelled) c.2
+    took (stars.taken ++ t.0 ∷ l.taken) c.2 (glued c.0.1 stars.taken (t.0 ∷ l.taken) stars.split
+    (t.1 ∙ ap (λ r. t.0 ∷ r) l.split)) (with_length t.0 b.0.0 t.2 stars.spelled l.spelled)
 
 pub declarator_reads : {ts us : List Lexeme} {stars : ℕ} {elements : Option ℕ} (t : Lexeme) (name : List ℕ)
     (p : IsIdent name t) (d : SpellsStars ts stars) (l : IsLength us elements) (rest : List Lexeme) → NoBracket rest →

@@ -1,4 +1,5 @@
 -- What declarations begin with.
+use Rattle.sc_parse.proofs.Bases.{base_front, NoInt, stars_no_int, stars_count}
 use Rattle.sc_parse.proofs.Common.{BaseTree, Declares, GlobalTree, HeadTree, InitTree, IsGlobal, Lexeme, List, None}
 use Rattle.sc_parse.proofs.Common.{Option, Separated, SpellsBase, SpellsDeclarator, SpellsHead, SpellsInit}
 use Rattle.sc_parse.proofs.Common.{SpellsResult, SpellsStars, SpellsStruct, StructTree, TypeName, TypeTree, []}
@@ -12,9 +13,7 @@ use Rattle.sc_parse.specs.Lists as lists
 use Rattle.sc_parse.specs.Types as types
 use Rattle.sc_parse.specs.Types.{plain}
 use Rattle.sc_parse.specs.Declarations.{struct, one}
-use Rattle.sc_parse.proofs.Bases.{NoInt, stars_no_int, stars_count}
 use Rattle.sc_parse.proofs.Declared.{declarator_no_int}
-use Rattle.sc_parse.proofs.Prototypes.{base_no_void}
 
 -- no `{` stands at the front
 abbrev NoCurly : List Lexeme → Type 0
@@ -107,18 +106,10 @@ base_past (unsigned t p) rest h = rw (p, h)
 base_past (unsigned_int t u p q) rest h = rw (p, q)
 base_past (types.struct t u tag p q) rest h = rw p
 
-base_no_line : {ts : List Lexeme} {base : BaseTree} (d : SpellsBase ts base) (rest : List Lexeme) → NoLine (ts ++ rest)
-base_no_line (int t p) rest = rw p
-base_no_line (signed t p) rest = rw p
-base_no_line (signed_int t u p q) rest = rw p
-base_no_line (unsigned t p) rest = rw p
-base_no_line (unsigned_int t u p q) rest = rw p
-base_no_line (types.struct t u tag p q) rest = rw p
-
 base_head : {ts : List Lexeme} {base : BaseTree} (d : SpellsBase ts base) (rest : List Lexeme) → NoInt rest →
     begins_head (ts ++ rest) ≡ begins_call (past_stars rest)
 unfolding begins_head
-base_head d rest h = rw (base_no_void d rest, base_past d rest h)
+base_head d rest h = rw ((base_front d).no_void rest, base_past d rest h)
 
 -- what a declaration begins with that is read as one of globals
 pub record BeginsGlobals (ts : List Lexeme) : Type 0 where
@@ -129,13 +120,12 @@ pub record BeginsGlobals (ts : List Lexeme) : Type 0 where
 pub globals_begin : {ts : List Lexeme} {trees : List GlobalTree} (d : Declares IsGlobal ts trees) (rest : List Lexeme) →
     BeginsGlobals (ts ++ rest)
 globals_begin (declares {ts = ts} {us = us} t p d g) rest =
-    let all =
-    append_assoc ts (us ++ t ∷ []) rest ∙ ap (λ l. ts ++ l) (append_assoc us _ rest) in
+    let all = append_assoc ts (us ++ t ∷ []) rest ∙ ap (λ l. ts ++ l) (append_assoc us _ rest) in
     let front = globals_front g (t ∷ rest) (rw p) in
     subst BeginsGlobals (sym all) (record {
       no_struct = base_no_struct d _ front.no_curly;
       no_head = base_head d _ front.no_int ∙ front.no_call;
-      no_line = base_no_line d _;
+      no_line = (base_front d).no_line _;
     })
 
 -- what a declaration begins with that is read as one with a head
@@ -152,7 +142,7 @@ result_begins (a_result (type_name {ts = ts} {us = us} d g)) rest a b c k =
     subst BeginsHead (sym (append_assoc ts us rest)) (record {
       no_struct = base_no_struct d (us ++ rest) (stars_no_curly g rest b);
       is_head = base_head d _ (stars_no_int g rest a) ∙ ap begins_call (past_all g rest c) ∙ k;
-      no_line = base_no_line d _;
+      no_line = (base_front d).no_line _;
     })
 
 pub head_begins : {ts : List Lexeme} {x : HeadTree} (d : SpellsHead ts x) (rest : List Lexeme) → BeginsHead (ts ++ rest)

@@ -1,22 +1,19 @@
 -- Locals and functions are read exactly as they are spelled.
 use Rattle.sc_parse.proofs.Common.{BaseTree, Declares, ExprTree, FunctionHead, FunctionParam, FunctionTree, Grouped}
 use Rattle.sc_parse.proofs.Common.{HeadTree, IsLocal, IsMark, Lexeme, List, LocalTree, None, Option, ParamTree}
-use Rattle.sc_parse.proofs.Common.{Separated, Some, SpellsBase, SpellsIf, SpellsStmtKind, SpellsStmts, SpellsValue}
-use Rattle.sc_parse.proofs.Common.{StmtKind, StmtTree, [], a_value, alone, ap, append_assoc, arith, behind, behind_mark}
-use Rattle.sc_parse.proofs.Common.{body_behind, bound, choice, declaration_at, declares, empty, expr_at, false}
-use Rattle.sc_parse.proofs.Common.{first_line, for_loop, function_head, function_param, function_tree, grouped, head_of}
-use Rattle.sc_parse.proofs.Common.{init_height, int, is_base, length, local, local_at, local_height, locals_behind}
-use Rattle.sc_parse.proofs.Common.{locals_height, map, max, more, named_head, named_params, no_base, no_value}
-use Rattle.sc_parse.proofs.Common.{none-some, not, option_map_or, otherwise, otherwise_if, param_of, plain, refl}
-use Rattle.sc_parse.proofs.Common.{return_call, return_nothing, return_value, same_some, signed, signed_int}
-use Rattle.sc_parse.proofs.Common.{stmts_height, struct, subst, sym, true, unsigned, unsigned_int, value_at, while_loop}
-use Rattle.sc_parse.proofs.Common.{ℕ, ◌++◌, ◌+◌, ◌>>=◌, ◌∙◌, ◌∷◌, ◌≡◌, ◌≤◌}
+use Rattle.sc_parse.proofs.Common.{Separated, Some, SpellsStmts, SpellsValue, StmtTree, [], a_value, ap, append_assoc}
+use Rattle.sc_parse.proofs.Common.{arith, behind, behind_mark, body_behind, bound, declaration_at, declares, expr_at}
+use Rattle.sc_parse.proofs.Common.{false, first_line, function_head, function_param, function_tree, glued, grouped}
+use Rattle.sc_parse.proofs.Common.{head_of, init_height, is_base, length, local, local_at, local_height, locals_behind}
+use Rattle.sc_parse.proofs.Common.{locals_height, map, max, more, named_head, named_params, no_base, no_value, param_of}
+use Rattle.sc_parse.proofs.Common.{refl, same_some, stmts_height, subst, sym, true, value_at, ℕ, ◌++◌, ◌+◌, ◌>>=◌, ◌∙◌}
+use Rattle.sc_parse.proofs.Common.{◌∷◌, ◌≡◌, ◌≤◌}
+use Rattle.sc_parse.proofs.Bases.{base_front, NoInt, NoBracket, declarator_sound}
+use Rattle.sc_parse.proofs.Exact.{given, Taken, Exact, ExactAdder, took, grouped_exact}
+use Rattle.sc_parse.proofs.Ended.{kind_starts}
 use Rattle.sc_expr.specs.declared.mark.Mark.TheVariants as mark
 use Rattle.sc_parse.specs.Lists as lists
 use Rattle.sc_parse.specs.Statements as statements
-use Rattle.sc_parse.proofs.Parts.{kind_no_word}
-use Rattle.sc_parse.proofs.Exact.{Taken, Exact, ExactAdder, took, glued, grouped_exact}
-use Rattle.sc_parse.proofs.Bases.{NoInt, NoBracket, declarator_sound}
 use Rattle.sc_parse.proofs.Declared.{declaration_exact, declarator_complete, declarator_no_int}
 use Rattle.sc_parse.proofs.Structures.{declares_some}
 use Rattle.sc_parse.proofs.Expressions.{Few, few_left, few_right, few_tail, NoExtension, expr_exact}
@@ -33,19 +30,13 @@ NoEqual rest = behind mark.Equal rest ≡ None
 value_sound : (free limit : ℕ) → (ts rest : List Lexeme) (x : Option ExprTree) →
     value_at free limit ts ≡ Some (x, rest) → Taken (IsValue limit) ts x rest
 unfolding value_at
-value_sound free limit ts rest x h = go (behind mark.Equal ts) refl h
-  where
-    go : (o : Option (List Lexeme)) → behind mark.Equal ts ≡ o →
-        option_map_or {U = Option (Option ExprTree × List Lexeme)}
-        (λ us. expr_at free limit us >>= (λ x. Some (Some x.0, x.1))) o (Some (None, ts)) ≡ Some (x, rest) →
-        Taken (IsValue limit) ts x rest
-    go None q e = took (IsValue limit) ts [] x None ts rest refl (record { spelled = no_value; low = omega arith }) e
-    go (Some us) q e =
-        let t = behind_mark mark.Equal ts us q in
-        let b = bound (λ x. Some (Some x.0, x.1)) (expr_at free limit us) (x, rest) e in
-        let d = (expr_exact free limit).sound us b.0.1 b.0.0 b.1 in
-        took (IsValue limit) ts (t.0 ∷ d.taken) x (Some b.0.0) b.0.1 rest (t.1 ∙ ap (λ l. t.0 ∷ l) d.split)
-        (record { spelled = a_value t.0 t.2 d.spelled.spelled; low = d.spelled.low }) b.2
+value_sound free limit ts rest x h = given _ _ _ h (λ q e.
+    took [] e refl (record { spelled = no_value; low = omega arith })) (λ us q e.
+    let t = behind_mark mark.Equal ts us q in
+    let b = bound (λ x. Some (Some x.0, x.1)) (expr_at free limit us) (x, rest) e in
+    let d = (expr_exact free limit).sound us b.0.1 b.0.0 b.1 in
+    took (t.0 ∷ d.taken) b.2 (t.1 ∙ ap (λ l. t.0 ∷ l) d.split)
+    (record { spelled = a_value t.0 t.2 d.spelled.spelled; low = d.spelled.low }))
 
 value_complete : (free limit : ℕ) → {ts : List Lexeme} {x : Option ExprTree} (d : SpellsValue ts x)
     (rest : List Lexeme) → init_height x ≤ limit → Few free ts → NoEqual rest → NoExtension rest →
@@ -76,8 +67,8 @@ local_sound free limit base line ts rest x h =
     let c = bound _ _ _ b.2 in
     let d = declarator_sound ts b.0.1 b.0.0 b.1 in
     let v = value_sound free limit b.0.1 c.0.1 c.0.0 c.1 in
-    took _ ts (d.taken ++ v.taken) x _ c.0.1 rest (glued ts b.0.1 c.0.1 d.taken v.taken d.split v.split)
-    (record { spelled = local (d.spelled base) v.spelled.spelled; low = v.spelled.low }) c.2
+    took (d.taken ++ v.taken) c.2 (glued c.0.1 d.taken v.taken d.split v.split)
+    (record { spelled = local (d.spelled base) v.spelled.spelled; low = v.spelled.low })
 
 local_complete : (free limit : ℕ) → {base : BaseTree} {line : ℕ} {ts : List Lexeme} {x : LocalTree}
     (d : IsLocal base line ts x) (rest : List Lexeme) → local_height x ≤ limit → Few free ts → EndsLocal rest →
@@ -106,19 +97,10 @@ local_line_exact free limit = declaration_exact _ (few_left free) (few_right fre
     _ (local_exact free limit) (λ t rest p. (rw p, rw p, rw p)) (λ t rest p. (rw p, rw p, rw p))
     (λ base line ts rest x d. local_no_int d.spelled rest)
 
-base_begins : {ts : List Lexeme} {base : BaseTree} (d : SpellsBase ts base) (rest : List Lexeme) →
-    no_base (ts ++ rest) ≡ false
-base_begins (int t p) rest = rw p
-base_begins (signed t p) rest = rw p
-base_begins (signed_int t u p q) rest = rw p
-base_begins (unsigned t p) rest = rw p
-base_begins (unsigned_int t u p q) rest = rw p
-base_begins (struct t u tag p q) rest = rw p
-
 declares_begins : {A : Type 0} {Item : BaseTree → ℕ → List Lexeme → A → Type 0} {ts : List Lexeme} {xs : List A}
     (d : Declares Item ts xs) (rest : List Lexeme) → no_base (ts ++ rest) ≡ false
 declares_begins (declares {ts = ts} {us = us} t p d g) rest =
-    ap no_base (append_assoc ts _ rest) ∙ base_begins d ((us ++ t ∷ []) ++ rest)
+    ap no_base (append_assoc ts _ rest) ∙ (base_front d).is_base ((us ++ t ∷ []) ++ rest)
 
 pub lows_exact : (free limit : ℕ) → ExactAdder (Few free) (Grouped (Declares (IsLow limit)))
     (λ rest. no_base rest ≡ true) (λ xs ts. grouped no_base (declaration_at (locals_behind free limit))
@@ -143,45 +125,33 @@ items_joined limit (lists.one d) h = lists.one (record { spelled = d; low = omeg
 items_joined limit (more t p d g) h = more t p (record { spelled = d; low = omega arith })
     (items_joined limit g (omega arith))
 
-line_apart : (limit : ℕ) → {ts : List Lexeme} {xs : List LocalTree} → Declares (IsLow limit) ts xs →
-    Declares IsLocal ts xs × (locals_height xs ≤ limit)
-line_apart limit (declares t p d g) = let items = items_apart limit g in (declares t p d items.0, items.1)
-
-line_joined : (limit : ℕ) → {ts : List Lexeme} {xs : List LocalTree} → Declares IsLocal ts xs →
-    locals_height xs ≤ limit → Declares (IsLow limit) ts xs
-line_joined limit (declares t p d g) h = declares t p d (items_joined limit g h)
-
 pub locals_apart : (limit : ℕ) → {ts : List Lexeme} {xs : List LocalTree} → Grouped (Declares (IsLow limit)) ts xs →
     Grouped (Declares IsLocal) ts xs × (locals_height xs ≤ limit)
 locals_apart limit lists.none = (lists.none, omega arith)
-locals_apart limit (lists.next {xs = xs} {ys = ys} d g) = let first = line_apart limit d in let others =
-    locals_apart limit g in (lists.next first.0 others.0, omega (arith, heights_joined xs ys, first.1, others.1))
+locals_apart limit (lists.next {xs = xs} {ys = ys} (declares t p d g) gs) =
+    let first = items_apart limit g in
+    let others = locals_apart limit gs in
+    (lists.next (declares t p d first.0) others.0, omega (arith, heights_joined xs ys, first.1, others.1))
 
 pub locals_joined : (limit : ℕ) → {ts : List Lexeme} {xs : List LocalTree} → Grouped (Declares IsLocal) ts xs →
     locals_height xs ≤ limit → Grouped (Declares (IsLow limit)) ts xs
 locals_joined limit lists.none h = lists.none
-locals_joined limit (lists.next {xs = xs} {ys = ys} d g) h =
+locals_joined limit (lists.next {xs = xs} {ys = ys} (declares t p d g) gs) h =
     let sum = heights_joined xs ys in
-    lists.next (line_joined limit d (omega arith)) (locals_joined limit g (omega arith))
+    lists.next (declares t p d (items_joined limit g (omega arith))) (locals_joined limit gs (omega arith))
 
 -- the parameters of a function are those of its head
 params_sound : (params : List ParamTree) (named : List FunctionParam) → named_params params ≡ Some named →
     map param_of named ≡ params
 params_sound [] named h = ap (map param_of) (sym (same_some h))
-params_sound (param ∷ rest) named h = go param.name refl h (params_sound rest)
-  where
-    go : (o : Option (List ℕ)) → param.name ≡ o → o >>=
-        (λ name. named_params rest >>= (λ others. Some (function_param param.ty name ∷ others))) ≡ Some named →
-        ((named : List FunctionParam) → named_params rest ≡ Some named → map param_of named ≡ rest) →
-        map param_of named ≡ param ∷ rest
-    go None q e ih = absurd (none-some named e)
-    go (Some name) q e ih =
-        let b = bound (λ others. Some (function_param param.ty name ∷ others)) (named_params rest) named e in
-        let same = same_some b.2 in
-        let first : param_of (function_param param.ty name) ≡ param =
-        ap (λ o. record { ty = param.ty; name = o }) (sym q) in
-        ap (map param_of) (sym same) ∙ ap (λ l. param_of (function_param param.ty name) ∷ l) (ih b.0 b.1) ∙
-        ap (λ p. p ∷ rest) first
+params_sound (param ∷ rest) named h =
+    let a = bound (λ name. named_params rest >>= (λ others. Some (function_param param.ty name ∷ others))) param.name
+    named h in
+    let b = bound (λ others. Some (function_param param.ty a.0 ∷ others)) (named_params rest) named a.2 in
+    let first : param_of (function_param param.ty a.0) ≡ param =
+    ap (λ o. record { ty = param.ty; name = o }) (sym a.1) in
+    ap (map param_of) (sym (same_some b.2)) ∙
+    ap (λ l. param_of (function_param param.ty a.0) ∷ l) (params_sound rest b.0 b.1) ∙ ap (λ p. p ∷ rest) first
 
 pub named_sound : (head : HeadTree) (named : FunctionHead) → named_head head ≡ Some named → head_of named ≡ head
 named_sound head named h =
@@ -211,41 +181,21 @@ body_sound free limit head ts rest x h =
     let stmts = (stmts_exact free limit).sound l.0.1 s.0.1 s.0.0 s.1 in
     let u = behind_mark _ s.0.1 c.0 c.1 in
     let line = ap first_line u.1 in
-    let made =
-    a_body t.0 u.0 t.2 u.2 apart.0 stmts.spelled.spelled apart.1 stmts.spelled.low in
-    took _ ts (t.0 ∷ (locals.taken ++ (stmts.taken ++ u.0 ∷ []))) x _ c.0 rest
-    (t.1 ∙ ap (λ k. t.0 ∷ k) (glued o.0 l.0.1 c.0 locals.taken (stmts.taken ++ u.0 ∷ []) locals.split
-    (glued l.0.1 s.0.1 c.0 stmts.taken (u.0 ∷ []) stmts.split u.1)))
+    let made = a_body t.0 u.0 t.2 u.2 apart.0 stmts.spelled.spelled apart.1 stmts.spelled.low in
+    took (t.0 ∷ (locals.taken ++ (stmts.taken ++ u.0 ∷ []))) c.2
+    (t.1 ∙ ap (λ k. t.0 ∷ k) (glued c.0 locals.taken (stmts.taken ++ u.0 ∷ []) locals.split
+    (glued c.0 stmts.taken (u.0 ∷ []) stmts.split u.1)))
     (subst (λ n. IsBody limit head (t.0 ∷ (locals.taken ++ (stmts.taken ++ u.0 ∷ [])))
     (function_tree head l.0.0 s.0.0 n)) (sym line)
     (subst (λ z. IsBody limit head (t.0 ∷ (locals.taken ++ (stmts.taken ++ u.0 ∷ [])))
-    (function_tree head z s.0.0 u.0.line)) (sym locals.all) made)) c.2
+    (function_tree head z s.0.0 u.0.line)) (sym locals.all) made))
 
 -- no statement begins as a declaration of locals does
-if_no_base : {ts : List Lexeme} {k : StmtKind} (d : SpellsIf ts k) (rest : List Lexeme) → no_base (ts ++ rest) ≡ true
-if_no_base (alone t p c b) rest = rw p
-if_no_base (otherwise t u p q c b e) rest = rw p
-if_no_base (otherwise_if t u p q c b e) rest = rw p
-
-kind_no_base : {ts : List Lexeme} {k : StmtKind} (d : SpellsStmtKind ts k) (rest : List Lexeme) →
-    no_base (ts ++ rest) ≡ true
-kind_no_base (empty t p) rest = rw p
-kind_no_base (plain {ts = ts} t p d) rest = ap no_base (append_assoc ts _ rest) ∙
-    ap (λ o. not (is_base o)) (kind_no_word d (t ∷ rest))
-kind_no_base (statements.break t u p q) rest = rw p
-kind_no_base (statements.continue t u p q) rest = rw p
-kind_no_base (return_nothing t u p q) rest = rw p
-kind_no_base (return_value t u p q d) rest = rw p
-kind_no_base (return_call t u p q d) rest = rw p
-kind_no_base (choice d) rest = if_no_base d rest
-kind_no_base (while_loop t p c b) rest = rw p
-kind_no_base (for_loop t u v w x p q r s k f c n b) rest = rw p
-
 stmts_no_base : {ts : List Lexeme} {ss : List StmtTree} (d : SpellsStmts ts ss) (u : Lexeme) (rest : List Lexeme) →
     IsMark mark.CloseCurly u → no_base (ts ++ u ∷ rest) ≡ true
 stmts_no_base statements.none u rest p = rw p
 stmts_no_base (statements.next {ts = ts} {us = us} d g) u rest p =
-    ap no_base (append_assoc ts us _) ∙ kind_no_base d (us ++ u ∷ rest)
+    ap no_base (append_assoc ts us _) ∙ (kind_starts d).no_base (us ++ u ∷ rest)
 
 pub body_complete : (free limit : ℕ) → {head : FunctionHead} {ts : List Lexeme} {x : FunctionTree}
     (d : IsBody limit head ts x) (rest : List Lexeme) → Few free ts →

@@ -4,6 +4,7 @@ pub use Rattle.std.proofs.Common.{append-nil, append_assoc, arith, bytes_eq, cod
 pub use Rattle.std.proofs.Common.{le-leb, leb, leb-false, leb-true, length, length-append, lt-ltb, ltb-true, map, max}
 pub use Rattle.std.proofs.Common.{nat_le, nat_lt, not, one-add, refl, rules, slice_range, subst, suc, sym, take, true}
 pub use Rattle.std.proofs.Common.{zero, ℕ, ◌&&◌, ◌*◌, ◌++◌, ◌+◌, ◌-◌, ◌<◌, ◌||◌, ◌∙◌, ◌∷◌, ◌≡◌, ◌≤◌}
+pub use Rattle.std.proofs.lemmas.Bool.{cond_both, false_from_ne_true, false≢true}
 pub use Rattle.std.proofs.lemmas.List.{length-map, take_more}
 pub use Rattle.std.proofs.lemmas.Option.{none-some}
 pub use Rattle.std.specs.List.{list_any, prefix_len}
@@ -25,7 +26,7 @@ pub use Rattle.sc_ast.specs.declared.section.FunctionParam.{FunctionParam}
 pub use Rattle.sc_ast.specs.declared.section.GlobalTree.{GlobalTree}
 pub use Rattle.sc_expr.proofs.Ahead.{behind_mark, name_ahead}
 pub use Rattle.sc_expr.proofs.Balance.{open_along, open_low}
-pub use Rattle.sc_expr.proofs.Options.{bound, cond_is, same_some}
+pub use Rattle.sc_expr.proofs.Options.{bound, cond_is, glued, same_some}
 pub use Rattle.sc_expr.proofs.Sound.{read_sound}
 pub use Rattle.sc_expr.specs.Prelude.{Found, IsIdent, IsMark, Spells, arrow, behind, binary_of, extension_at, found}
 pub use Rattle.sc_expr.specs.Prelude.{ident_in, import_of, index, is_mark, joined, lead_by, lexeme_of, literal, look_up}

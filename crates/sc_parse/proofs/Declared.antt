@@ -1,15 +1,14 @@
 -- Declarations of variables and structs are read exactly as they are spelled.
 use Rattle.sc_parse.proofs.Common.{BaseTree, Declarator, Declares, IsMark, IsMember, Lexeme, List, MemberTree, None}
-use Rattle.sc_parse.proofs.Common.{Option, Reader, Separated, Some, SpellsBase, SpellsDeclarator, TypeTree, [], adds}
-use Rattle.sc_parse.proofs.Common.{all_separated, ap, append_assoc, array, behind, behind_mark, bound, declaration_at}
-use Rattle.sc_parse.proofs.Common.{declarator, declarator_at, declares, first_line, int, member_at, members_behind}
-use Rattle.sc_parse.proofs.Common.{more, one, refl, same_some, signed, signed_int, struct, subst, sym, type_of}
-use Rattle.sc_parse.proofs.Common.{unsigned, unsigned_int, ℕ, ◌++◌, ◌∙◌, ◌∷◌, ◌≡◌}
+use Rattle.sc_parse.proofs.Common.{Option, Reader, Separated, Some, SpellsDeclarator, TypeTree, [], adds, all_separated}
+use Rattle.sc_parse.proofs.Common.{ap, append_assoc, array, behind, behind_mark, bound, declaration_at, declarator}
+use Rattle.sc_parse.proofs.Common.{declarator_at, declares, first_line, glued, int, member_at, members_behind, more}
+use Rattle.sc_parse.proofs.Common.{one, refl, subst, sym, type_of, ℕ, ◌++◌, ◌∙◌, ◌∷◌, ◌≡◌}
+use Rattle.sc_parse.proofs.Bases.{base_front, NoInt, NoBracket, base_exact, no_length, in_brackets, declarator_sound}
+use Rattle.sc_parse.proofs.Bases.{declarator_reads, stars_no_int}
+use Rattle.sc_parse.proofs.Exact.{same_pair, Taken, Added, Exact, ExactAdder, Any, took, separated_exact}
 use Rattle.sc_expr.specs.declared.mark.Mark.TheVariants as mark
 use Rattle.sc_parse.specs.Types.{plain}
-use Rattle.sc_parse.proofs.Exact.{Taken, Added, Exact, ExactAdder, Any, took, glued, separated_exact}
-use Rattle.sc_parse.proofs.Bases.{NoInt, NoBracket, base_exact, no_length, in_brackets, declarator_sound}
-use Rattle.sc_parse.proofs.Bases.{declarator_reads, stars_no_int}
 
 abbrev pub Comma : List Lexeme → Option (List Lexeme)
 Comma = behind mark.Comma
@@ -51,21 +50,6 @@ declarator_no_int (plain {ts = ts} t name p d) rest =
 declarator_no_int (array {ts = ts} t u v w name number elements p q r s k d) rest =
     subst NoInt (sym (append_assoc ts _ rest)) (stars_no_int d (t ∷ u ∷ v ∷ w ∷ rest) (rw p))
 
-pub first_line_base : {ts : List Lexeme} {base : BaseTree} (d : SpellsBase ts base) (rest : List Lexeme) →
-    first_line (ts ++ rest) ≡ first_line ts
-first_line_base (int t p) rest = refl
-first_line_base (signed t p) rest = refl
-first_line_base (signed_int t u p q) rest = refl
-first_line_base (unsigned t p) rest = refl
-first_line_base (unsigned_int t u p q) rest = refl
-first_line_base (struct t u tag p q) rest = refl
-
-pub semicolon_no_bracket : (t : Lexeme) (rest : List Lexeme) → IsMark mark.Semicolon t → NoBracket (t ∷ rest)
-semicolon_no_bracket t rest p = rw p
-
-pub comma_no_bracket : (t : Lexeme) (rest : List Lexeme) → IsMark mark.Comma t → NoBracket (t ∷ rest)
-comma_no_bracket t rest p = rw p
-
 pub separated_front : {A : Type 0} {Item : List Lexeme → A → Type 0} (P : List Lexeme → Type 0)
     (front : (ts rest : List Lexeme) (x : A) → Item ts x → P (ts ++ rest)) {ts : List Lexeme} {xs : List A}
     (d : Separated Item ts xs) (rest : List Lexeme) → P (ts ++ rest)
@@ -86,28 +70,24 @@ module _ {A : Type 0} (Fits : List Lexeme → Type 0) (fits_left : (ts us : List
   items_exact base line = separated_exact Fits fits_left fits_right _ comma_ahead
       _ Ends _ (exact base line) before_comma (λ t us rest zs p d. rw p)
 
-  declaration_sound : (xs ys : List A) (ts rest : List Lexeme) →
-      declaration_at (λ base line. adds (item base line)) xs ts ≡ Some (ys, rest) →
-      Added (Declares Item) xs ts ys rest
+  declaration_sound : (xs ys : List A) (ts rest : List Lexeme) → declaration_at (λ base line. adds (item base line))
+      xs ts ≡ Some (ys, rest) → Added (Declares Item) xs ts ys rest
   unfolding declaration_at
   declaration_sound xs ys ts rest h =
       let b = bound _ _ _ h in
       let c = bound _ _ _ b.2 in
       let s = bound _ _ _ c.2 in
-      let same = same_some s.2 in
-      let all = ap (λ p. p.0) same in
-      let behind = ap (λ p. p.1) same in
+      let same = same_pair s.2 in
       let first = base_exact.sound ts b.0.1 b.0.0 b.1 in
       let items = (items_exact b.0.0 _).sound xs c.0.0 b.0.1 c.0.1 c.1 in
       let mark = behind_mark _ c.0.1 s.0 s.1 in
-      let line =
-      ap first_line first.split ∙ first_line_base first.spelled b.0.1 in
+      let line = ap first_line first.split ∙ (base_front first.spelled).line b.0.1 in
       record {
         taken = first.taken ++ (items.taken ++ mark.0 ∷ []);
         added = items.added;
-        split = glued ts b.0.1 rest first.taken (items.taken ++ mark.0 ∷ []) first.split
-            (glued b.0.1 c.0.1 rest items.taken (mark.0 ∷ []) items.split (mark.1 ∙ ap (λ l. mark.0 ∷ l) behind));
-        all = sym all ∙ items.all;
+        split = glued rest first.taken (items.taken ++ mark.0 ∷ []) first.split
+            (glued rest items.taken (mark.0 ∷ []) items.split (mark.1 ∙ ap (λ l. mark.0 ∷ l) same.1));
+        all = sym same.0 ∙ items.all;
         spelled = declares mark.0 mark.2 first.spelled
             (subst (λ n. Separated (Item b.0.0 n) items.taken items.added) line items.spelled);
       }
@@ -126,7 +106,7 @@ module _ {A : Type 0} (Fits : List Lexeme → Type 0) (fits_left : (ts us : List
       (fits_left us (t ∷ []) (fits_right ts (us ++ t ∷ []) fits)) (before_semicolon t rest p, no_comma) in
       let semicolon : behind mark.Semicolon (t ∷ rest) ≡ Some rest = rw p in
       ap (λ l. declaration_at (λ base line. adds (item base line)) xs l) all
-      ∙ rw (first, first_line_base d (us ++ t ∷ rest), items, semicolon)
+      ∙ rw (first, (base_front d).line (us ++ t ∷ rest), items, semicolon)
 
   pub declaration_exact : ExactAdder Fits (Declares Item) (λ rest. Unit {0})
       (declaration_at (λ base line. adds (item base line)))
@@ -135,19 +115,13 @@ module _ {A : Type 0} (Fits : List Lexeme → Type 0) (fits_left : (ts us : List
     complete = λ xs zs ts rest d fits h. declaration_reads d xs rest fits;
   }
 
-pub any_left : (ts us : List Lexeme) → Any (ts ++ us) → Any ts
-any_left ts us h = tt
-
-pub any_right : (ts us : List Lexeme) → Any (ts ++ us) → Any us
-any_right ts us h = tt
-
 member_sound : (base : BaseTree) (line : ℕ) (ts rest : List Lexeme) (x : MemberTree) →
     member_at base ts ≡ Some (x, rest) → Taken (IsMember base line) ts x rest
 unfolding member_at
 member_sound base line ts rest x h =
     let b = bound _ _ _ h in
     let d = declarator_sound ts b.0.1 b.0.0 b.1 in
-    took _ ts d.taken x _ b.0.1 rest d.split (d.spelled base) b.2
+    took d.taken b.2 d.split (d.spelled base)
 
 member_complete : (base : BaseTree) (ts rest : List Lexeme) (x : MemberTree) → SpellsDeclarator base ts x.ty x.name →
     NoBracket rest → member_at base (ts ++ rest) ≡ Some (x, rest)
@@ -162,5 +136,5 @@ member_exact base line = record {
 
 -- a declaration of members
 pub member_line_exact : ExactAdder Any (Declares IsMember) (λ rest. Unit {0}) (declaration_at members_behind)
-member_line_exact = declaration_exact Any _ _ IsMember NoBracket _ member_exact comma_no_bracket semicolon_no_bracket
+member_line_exact = declaration_exact Any _ _ IsMember NoBracket _ member_exact (λ t rest p. rw p) (λ t rest p. rw p)
     (λ base line ts rest x d. declarator_no_int d rest)

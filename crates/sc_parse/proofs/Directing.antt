@@ -1,9 +1,9 @@
 -- Directives are read exactly as they are spelled.
-use Rattle.sc_parse.proofs.Common.{Directives, ExportLine, ImportLine, Lexeme, Line, List, None, Option, Some}
-use Rattle.sc_parse.proofs.Common.{SpellsDirectives, Symbol, [], ap, append-nil, append_assoc, arith, directives, drop}
-use Rattle.sc_parse.proofs.Common.{export, export_line, import_line, length, line_at, line_by, lines_at, none-some}
-use Rattle.sc_parse.proofs.Common.{option_map_or, refl, same_some, subst, suc, sym, with_line, zero, ℕ, ◌++◌, ◌<◌, ◌∙◌}
-use Rattle.sc_parse.proofs.Common.{◌∷◌, ◌≡◌}
+use Rattle.sc_parse.proofs.Exact.{given, same_pair}
+use Rattle.sc_parse.proofs.Common.{Directives, ExportLine, ImportLine, Lexeme, Line, List, Some, SpellsDirectives}
+use Rattle.sc_parse.proofs.Common.{Symbol, [], ap, append-nil, append_assoc, arith, directives, drop, export}
+use Rattle.sc_parse.proofs.Common.{export_line, import_line, length, line_at, line_by, lines_at, none-some, refl}
+use Rattle.sc_parse.proofs.Common.{same_some, subst, suc, sym, with_line, zero, ℕ, ◌++◌, ◌<◌, ◌∙◌, ◌∷◌, ◌≡◌}
 use Rattle.sc_expr.specs.declared.lexeme.Symbol.TheVariants as symbol
 use Rattle.sc_parse.specs.declared.section.Line.TheVariants as line
 use Rattle.sc_parse.specs.Sections.{none}
@@ -69,33 +69,23 @@ pub lines_sound : (turns : ℕ) (found all : Directives) (ts rest : List Lexeme)
     lines_at turns found ts ≡ Some (all, rest) → Directed found ts all rest
 unfolding lines_at
 lines_sound zero found all ts rest h = absurd (none-some _ h)
-lines_sound (suc turns) found all ts rest h = go (line_at ts) refl h (lines_sound turns)
-  where
-    go : (o : Option Line) → line_at ts ≡ o → option_map_or {U = Option (Directives × List Lexeme)}
-        (λ l. lines_at turns (with_line found l) (drop 1 ts)) o (Some (found, ts)) ≡ Some (all, rest)
-        → ((found all : Directives) (ts rest : List Lexeme) → lines_at turns found ts ≡ Some (all, rest) →
-        Directed found ts all rest) → Directed found ts all rest
-    go None q e ih =
-        let same = same_some e in
-        let value : found ≡ all = ap (λ p. p.0) same in
-        let after : ts ≡ rest = ap (λ p. p.1) same in
-        record {
-          taken = [];
-          exports = [];
-          imports = [];
-          split = after;
-          spelled = none;
-          all_exports = ap (λ f. f.exports) (sym value) ∙ sym (append-nil found.exports);
-          all_imports = ap (λ f. f.imports) (sym value) ∙ sym (append-nil found.imports);
-        }
-    go (Some l) q e ih =
-        let a = line_ahead ts l q in
-        one_more a.line found ts (drop 1 ts) all rest a.is (ih (with_line found l) all (drop 1 ts) rest e)
+lines_sound (suc turns) found all ts rest h = given _ _ _ h (λ q e.
+    let same = same_pair e in
+    record {
+      taken = [];
+      exports = [];
+      imports = [];
+      split = same.1;
+      spelled = none;
+      all_exports = ap (λ f. f.exports) (sym same.0) ∙ sym (append-nil found.exports);
+      all_imports = ap (λ f. f.imports) (sym same.0) ∙ sym (append-nil found.imports);
+    }) (λ l q e.
+    let a = line_ahead ts l q in
+    one_more a.line found ts (drop 1 ts) all rest a.is (lines_sound turns (with_line found l) all (drop 1 ts) rest e))
 
 pub lines_complete : {ts : List Lexeme} {exports : List ExportLine} {imports : List ImportLine}
     (d : SpellsDirectives ts exports imports) (turns : ℕ) (before : List ExportLine) (ahead : List ImportLine)
-    (rest : List Lexeme) → length ts < turns → NoLine rest →
-    lines_at turns (directives before ahead) (ts ++ rest) ≡
+    (rest : List Lexeme) → length ts < turns → NoLine rest → lines_at turns (directives before ahead) (ts ++ rest) ≡
     Some (directives (before ++ exports) (ahead ++ imports), rest)
 unfolding lines_at
 lines_complete none zero before ahead rest h stop = absurd (omega arith)

@@ -1,8 +1,9 @@
 -- Readers that read exactly what is spelled, alone and in lists.
-use Rattle.sc_parse.proofs.Common.{Adder, Bool, Grouped, IsMark, Lexeme, List, None, Option, Reader, Separated, Some}
-use Rattle.sc_parse.proofs.Common.{[], adds, ap, append-nil, append_assoc, arith, bound, cond, false, grouped, length}
-use Rattle.sc_parse.proofs.Common.{length-append, more, next, none, none-some, one, option_map_or, refl, same_some}
-use Rattle.sc_parse.proofs.Common.{separated, subst, suc, sym, true, zero, ℕ, ◌++◌, ◌+◌, ◌<◌, ◌>>=◌, ◌∙◌, ◌∷◌, ◌≡◌, ◌≤◌}
+use Rattle.sc_parse.proofs.Common.{Adder, Bool, Grouped, IsMark, Lexeme, List, Mark, None, Option, Reader, Separated}
+use Rattle.sc_parse.proofs.Common.{Some, [], adds, ap, append-nil, append_assoc, arith, before_mark, behind}
+use Rattle.sc_parse.proofs.Common.{behind_mark, bound, cond, false, glued, grouped, length, length-append, more, next}
+use Rattle.sc_parse.proofs.Common.{none, none-some, one, option_map_or, refl, same_some, separated, subst, suc, sym}
+use Rattle.sc_parse.proofs.Common.{true, zero, ℕ, ◌++◌, ◌+◌, ◌<◌, ◌>>=◌, ◌∙◌, ◌∷◌, ◌≡◌, ◌≤◌}
 use Rattle.sc_expr.specs.declared.mark.Mark.TheVariants as mark
 
 -- A front of the lexemes, with what it spells.
@@ -39,23 +40,89 @@ pub record ExactAdder {A : Type 0} (Fits : List Lexeme → Type 0) (Group : List
 abbrev pub Any : List Lexeme → Type 0
 Any ts = Unit {0}
 
-pub took : {A : Type 0} (Item : List Lexeme → A → Type 0) (ts taken : List Lexeme) (x y : A) (us rest : List Lexeme) →
-    ts ≡ taken ++ us → Item taken y → ◌≡◌ {A = Option (A × List Lexeme)} (Some (y, us)) (Some (x, rest)) →
-    Taken Item ts x rest
-took Item ts taken x y us rest split spelled h =
-    let same = same_some h in
-    let value = ap (λ p. p.0) same in
-    let behind = ap (λ p. p.1) same in
-    record {
-      taken = taken;
-      split = split ∙ ap (λ l. taken ++ l) behind;
-      spelled = subst (λ v. Item taken v) value spelled;
-    }
+-- what a test chose
+pub chosen : {A P : Type 0} (b : Bool) (u v : A) {w : A} → cond b u v ≡ w → (b ≡ true → u ≡ w → P) →
+    (b ≡ false → v ≡ w → P) → P
+chosen true u v h first second = first refl h
+chosen false u v h first second = second refl h
 
--- one front behind another
-pub glued : (ts us rest first second : List Lexeme) → ts ≡ first ++ us → us ≡ second ++ rest →
-    ts ≡ (first ++ second) ++ rest
-glued ts us rest first second p q = p ∙ ap (λ l. first ++ l) q ∙ sym (append_assoc first second rest)
+-- whether something is there
+pub given : {A B P : Type 0} (f : A → B) (o : Option A) (other : B) {w : B} → option_map_or f o other ≡ w →
+    (o ≡ None → other ≡ w → P) → ((x : A) → o ≡ Some x → f x ≡ w → P) → P
+given f None other h without with = without refl h
+given f (Some x) other h without with = with x refl h
+
+pub same_pair : {A B : Type 0} {x y : A × B} → Some x ≡ Some y → (x.0 ≡ y.0) × (x.1 ≡ y.1)
+same_pair h = let same = same_some h in (ap (λ p. p.0) same, ap (λ p. p.1) same)
+
+pub took : {A : Type 0} {Item : List Lexeme → A → Type 0} {ts us rest : List Lexeme} {x y : A} (taken : List Lexeme) →
+    ◌≡◌ {A = Option (A × List Lexeme)} (Some (y, us)) (Some (x, rest)) → ts ≡ taken ++ us → Item taken y →
+    Taken Item ts x rest
+took {Item = Item} {ts = ts} taken h split spelled =
+    subst (λ p. Taken Item ts p.0 p.1) (same_some h) (record { taken = taken; split = split; spelled = spelled })
+
+-- what is read, made into something else
+pub made : {A B : Type 0} {Item : List Lexeme → A → Type 0} {Made : List Lexeme → B → Type 0} (f : A → B)
+    (reader : Reader A) → ((ts rest : List Lexeme) (x : A) → reader ts ≡ Some (x, rest) → Taken Item ts x rest) →
+    ((ts : List Lexeme) (x : A) → Item ts x → Made ts (f x)) → {ts rest : List Lexeme} {y : B} →
+    ◌>>=◌ {B = B × List Lexeme} (reader ts) (λ x. Some (f x.0, x.1)) ≡ Some (y, rest) → Taken Made ts y rest
+made f reader sound make {ts} h =
+    let b = bound _ _ _ h in
+    let t = sound ts b.0.1 b.0.0 b.1 in
+    took t.taken b.2 t.split (make t.taken b.0.0 t.spelled)
+
+-- What stands before a mark, and the mark.
+pub record Before {A : Type 0} (Item : List Lexeme → A → Type 0) (m : Mark) (ts : List Lexeme) (x : A)
+    (rest : List Lexeme) : Type 0 where
+  pub taken : List Lexeme
+  pub ends : Lexeme
+  pub split : ts ≡ taken ++ ends ∷ rest
+  pub mark : IsMark m ends
+  pub spelled : Item taken x
+
+pub ended : {A : Type 0} (m : Mark) (Item : List Lexeme → A → Type 0) (reader : Reader A) →
+    ((ts rest : List Lexeme) (x : A) → reader ts ≡ Some (x, rest) → Taken Item ts x rest) → (ts : List Lexeme)
+    (y : A × List Lexeme) → before_mark m reader ts ≡ Some y → Before Item m ts y.0 y.1
+ended m Item reader sound ts y h =
+    let b = bound _ _ y h in
+    let c = bound _ _ y b.2 in
+    let d = sound ts b.0.1 b.0.0 b.1 in
+    let v = behind_mark m b.0.1 c.0 c.1 in
+    subst (λ p. Before Item m ts p.0 p.1) (same_some c.2) (record {
+      taken = d.taken;
+      ends = v.0;
+      split = d.split ∙ ap (λ l. d.taken ++ l) v.1;
+      mark = v.2;
+      spelled = d.spelled;
+    })
+
+-- What stands between two marks, and the marks.
+pub record Between {A : Type 0} (Item : List Lexeme → A → Type 0) (m n : Mark) (ts : List Lexeme) (x : A)
+    (rest : List Lexeme) : Type 0 where
+  pub first : Lexeme
+  pub taken : List Lexeme
+  pub last : Lexeme
+  pub split : ts ≡ (first ∷ (taken ++ last ∷ [])) ++ rest
+  pub opens : IsMark m first
+  pub closes : IsMark n last
+  pub spelled : Item taken x
+
+pub enclosed : {A : Type 0} (m n : Mark) (Item : List Lexeme → A → Type 0) (reader : Reader A) →
+    ((ts rest : List Lexeme) (x : A) → reader ts ≡ Some (x, rest) → Taken Item ts x rest) → (ts : List Lexeme)
+    (y : A × List Lexeme) → behind m ts >>= before_mark n reader ≡ Some y → Between Item m n ts y.0 y.1
+enclosed m n Item reader sound ts y h =
+    let o = bound _ _ y h in
+    let u = behind_mark m ts o.0 o.1 in
+    let b = ended n Item reader sound o.0 y o.2 in
+    record {
+      first = u.0;
+      taken = b.taken;
+      last = b.ends;
+      split = u.1 ∙ ap (λ l. u.0 ∷ l) (glued y.1 b.taken (b.ends ∷ []) b.split refl);
+      opens = u.2;
+      closes = b.mark;
+      spelled = b.spelled;
+    }
 
 -- one item of a list
 pub record One {A : Type 0} (Item : List Lexeme → A → Type 0) (ts : List Lexeme) (xs : List A) : Type 0 where
@@ -63,22 +130,19 @@ pub record One {A : Type 0} (Item : List Lexeme → A → Type 0) (ts : List Lex
   pub is : xs ≡ item ∷ []
   pub spelled : Item ts item
 
-pub adds_exact : {A : Type 0} (Fits : List Lexeme → Type 0) (Item : List Lexeme → A → Type 0)
-    (Ends : List Lexeme → Type 0) (reader : Reader A) → Exact Fits Item Ends reader →
-    ExactAdder Fits (One Item) Ends (adds reader)
+pub adds_exact : {A : Type 0} (Fits : List Lexeme → Type 0) (Item : List Lexeme → A → Type 0) (Ends : List Lexeme →
+    Type 0) (reader : Reader A) → Exact Fits Item Ends reader → ExactAdder Fits (One Item) Ends (adds reader)
 unfolding adds
 adds_exact {A} Fits Item Ends reader e = record {
   sound = λ xs ys ts rest h.
       let b = bound _ _ _ h in
       let t = e.sound ts b.0.1 b.0.0 b.1 in
-      let same = same_some b.2 in
-      let all = ap (λ p. p.0) same in
-      let behind = ap (λ p. p.1) same in
+      let same = same_pair b.2 in
       record {
         taken = t.taken;
         added = b.0.0 ∷ [];
-        split = t.split ∙ ap (λ l. t.taken ++ l) behind;
-        all = sym all;
+        split = t.split ∙ ap (λ l. t.taken ++ l) same.1;
+        all = sym same.0;
         spelled = record { item = b.0.0; is = refl; spelled = t.spelled };
       };
   complete = λ xs zs ts rest g fits ends.
@@ -100,35 +164,25 @@ module _ {A : Type 0} (Fits : List Lexeme → Type 0) (fits_left : (ts us : List
         let b = bound (λ x. option_map_or (λ rest. separated comma (adds reader) turns x.0 rest) (comma x.1) (Some x))
         (adds reader xs ts) (ys, rest) h in
         let a = (adds_exact Fits Item Ends reader exact).sound xs b.0.0 ts b.0.1 b.1 in
-        go b.0.0 b.0.1 a (comma b.0.1) refl b.2 (separated_sound turns)
-      where
-        go : (zs : List A) (us : List Lexeme) → Added (One Item) xs ts zs us → (o : Option (List Lexeme)) →
-            comma us ≡ o → option_map_or (λ rest. separated comma (adds reader) turns zs rest) o (Some (zs, us)) ≡
-            Some (ys, rest)
-            → ((xs ys : List A) (ts rest : List Lexeme) → separated comma (adds reader) turns xs ts ≡ Some (ys, rest) →
-            Added (Separated Item) xs ts ys rest) → Added (Separated Item) xs ts ys rest
-        go zs us a None q e ih =
-            let same = same_some e in
-            let all : zs ≡ ys = ap (λ p. p.0) same in
-            let behind : us ≡ rest = ap (λ p. p.1) same in
-            record {
-              taken = a.taken;
-              added = a.spelled.item ∷ [];
-              split = a.split ∙ ap (λ l. a.taken ++ l) behind;
-              all = sym all ∙ a.all ∙ ap (λ l. xs ++ l) a.spelled.is;
-              spelled = one a.spelled.spelled;
-            }
-        go zs us a (Some vs) q e ih =
-            let c = comma_ahead us vs q in
-            let l = ih zs ys vs rest e in
-            record {
-              taken = a.taken ++ c.0 ∷ l.taken;
-              added = a.spelled.item ∷ l.added;
-              split = glued ts us rest a.taken (c.0 ∷ l.taken) a.split (c.1 ∙ ap (λ r. c.0 ∷ r) l.split);
-              all = l.all ∙ ap (λ r. r ++ l.added) (a.all ∙ ap (λ r. xs ++ r) a.spelled.is) ∙
-                  append_assoc xs (a.spelled.item ∷ []) l.added;
-              spelled = more c.0 c.2 a.spelled.spelled l.spelled;
-            }
+        let item = a.all ∙ ap (λ l. xs ++ l) a.spelled.is in
+        given _ _ _ b.2 (λ q e.
+        let same = same_pair e in
+        record {
+          taken = a.taken;
+          added = a.spelled.item ∷ [];
+          split = a.split ∙ ap (λ l. a.taken ++ l) same.1;
+          all = sym same.0 ∙ item;
+          spelled = one a.spelled.spelled;
+        }) (λ vs q e.
+        let c = comma_ahead b.0.1 vs q in
+        let l = separated_sound turns b.0.0 ys vs rest e in
+        record {
+          taken = a.taken ++ c.0 ∷ l.taken;
+          added = a.spelled.item ∷ l.added;
+          split = glued rest a.taken (c.0 ∷ l.taken) a.split (c.1 ∙ ap (λ r. c.0 ∷ r) l.split);
+          all = l.all ∙ ap (λ r. r ++ l.added) item ∙ append_assoc xs (a.spelled.item ∷ []) l.added;
+          spelled = more c.0 c.2 a.spelled.spelled l.spelled;
+        })
 
     pub separated_short : {ts : List Lexeme} {zs : List A} → Separated Item ts zs → length zs ≤ length ts + 1
     separated_short (one d) = omega arith
@@ -173,33 +227,22 @@ module _ {A : Type 0} (Fits : List Lexeme → Type 0) (fits_left : (ts us : List
         grouped ends group turns xs ts ≡ Some (ys, rest) → Added (Grouped Group) xs ts ys rest × (ends rest ≡ true)
     unfolding grouped
     grouped_sound zero xs ys ts rest h = absurd (none-some _ h)
-    grouped_sound (suc turns) xs ys ts rest h = go (ends ts) refl h (grouped_sound turns)
-      where
-        go : (b : Bool) → ends ts ≡ b → cond {A = Option (List A × List Lexeme)} b (Some (xs, ts))
-            (group xs ts >>= (λ x. grouped ends group turns x.0 x.1)) ≡ Some (ys, rest)
-            → ((xs ys : List A) (ts rest : List Lexeme) → grouped ends group turns xs ts ≡ Some (ys, rest) →
-            Added (Grouped Group) xs ts ys rest × (ends rest ≡ true)) →
-            Added (Grouped Group) xs ts ys rest × (ends rest ≡ true)
-        go true q e ih =
-            let same = same_some e in
-            let all : xs ≡ ys = ap (λ p. p.0) same in
-            let behind : ts ≡ rest = ap (λ p. p.1) same in (
-              record { taken = []; added = []; split = behind; all = sym all ∙ sym (append-nil xs); spelled = none },
-              ap ends (sym behind) ∙ q,
-            )
-        go false q e ih =
-            let b = bound (λ x. grouped ends group turns x.0 x.1) _ (ys, rest) e in
-            let a = exact.sound xs b.0.0 ts b.0.1 b.1 in
-            let l = ih b.0.0 ys b.0.1 rest b.2 in (
-              record {
-                taken = a.taken ++ l.0.taken;
-                added = a.added ++ l.0.added;
-                split = glued ts b.0.1 rest a.taken l.0.taken a.split l.0.split;
-                all = l.0.all ∙ ap (λ r. r ++ l.0.added) a.all ∙ append_assoc xs a.added l.0.added;
-                spelled = next a.spelled l.0.spelled;
-              },
-              l.1,
-            )
+    grouped_sound (suc turns) xs ys ts rest h = chosen _ _ _ h (λ q e. let same = same_pair e in (
+      record { taken = []; added = []; split = same.1; all = sym same.0 ∙ sym (append-nil xs); spelled = none },
+      ap ends (sym same.1) ∙ q,
+    )) (λ q e.
+        let b = bound (λ x. grouped ends group turns x.0 x.1) _ (ys, rest) e in
+        let a = exact.sound xs b.0.0 ts b.0.1 b.1 in
+        let l = grouped_sound turns b.0.0 ys b.0.1 rest b.2 in (
+          record {
+            taken = a.taken ++ l.0.taken;
+            added = a.added ++ l.0.added;
+            split = glued rest a.taken l.0.taken a.split l.0.split;
+            all = l.0.all ∙ ap (λ r. r ++ l.0.added) a.all ∙ append_assoc xs a.added l.0.added;
+            spelled = next a.spelled l.0.spelled;
+          },
+          l.1,
+        ))
 
     -- how many groups there are
     unfoldable group_count : {ts : List Lexeme} {zs : List A} → Grouped Group ts zs → ℕ

@@ -37,14 +37,12 @@ three = record { value = 3; unsigned = false }
 pub two_globals : SpellsDecl
     (in_line 1 (symbol.Keyword word.Int) ∷ the (symbol.Mark mark.Star) ∷ the a ∷ the (symbol.Mark mark.OpenSquare) ∷
     the (symbol.Integer three) ∷ the (symbol.Mark mark.CloseSquare) ∷ the (symbol.Mark mark.Comma) ∷ the b ∷
-    the (symbol.Mark mark.Semicolon) ∷ [])
-    (decl.Global (record {
+    the (symbol.Mark mark.Semicolon) ∷ []) (decl.Global (record {
       ty = record { base = base.Int; stars = 1; length = Some 3 };
       name = codes "a";
       init = init.Absent;
       line = 1;
-    }) ∷ decl.Global
-    (record {
+    }) ∷ decl.Global (record {
       ty = record { base = base.Int; stars = 0; length = None };
       name = codes "b";
       init = init.Absent;

@@ -1,18 +1,18 @@
 -- Expressions in statements, and calls, are read exactly as they are spelled.
-use Rattle.sc_parse.proofs.Common.{BinaryOp, Bool, CallTree, ExprTree, Found, IsMark, Lexeme, List, Mark, None, Option}
-use Rattle.sc_parse.proofs.Common.{Prefix, Separated, Some, Spells, SpellsArgs, SpellsCall, Symbol, [], all_separated}
-use Rattle.sc_parse.proofs.Common.{ap, append_assoc, args_at, args_behind, args_in_parens, arith, arrow, begins_call}
-use Rattle.sc_parse.proofs.Common.{begins_with, behind, behind_mark, binary_of, bound, call, call_at, call_height, cond}
-use Rattle.sc_parse.proofs.Common.{expr_at, expr_height, exprs_height, extension_at, false, found, index, is_mark}
-use Rattle.sc_parse.proofs.Common.{is_some, joined, lead_by, literal, looser, loosest_level, member, more, most_open}
-use Rattle.sc_parse.proofs.Common.{name_ahead, no_args, none-some, one, open_after, open_behind, open_low}
-use Rattle.sc_parse.proofs.Common.{parenthesised, prefix, prefix_of, read, read_sound, refl, same_some, some_args}
-use Rattle.sc_parse.proofs.Common.{subst, sym, true, unary_level, variable, ℕ, ◌++◌, ◌∙◌, ◌∷◌, ◌≡◌, ◌≤◌}
+use Rattle.sc_parse.proofs.Common.{Bool, CallTree, ExprTree, Found, IsMark, Lexeme, List, Mark, None, Prefix, Separated}
+use Rattle.sc_parse.proofs.Common.{Some, Spells, SpellsArgs, SpellsCall, Symbol, [], all_separated, ap, append_assoc}
+use Rattle.sc_parse.proofs.Common.{args_at, args_behind, arith, arrow, begins_call, begins_with, behind, binary_of}
+use Rattle.sc_parse.proofs.Common.{bound, call, call_at, call_height, expr_at, expr_height, exprs_height, extension_at}
+use Rattle.sc_parse.proofs.Common.{false, false_from_ne_true, false≢true, found, index, is_some, joined, lead_by}
+use Rattle.sc_parse.proofs.Common.{literal, looser, loosest_level, member, more, most_open, name_ahead, no_args}
+use Rattle.sc_parse.proofs.Common.{none-some, one, open_after, open_behind, open_low, parenthesised, prefix, prefix_of}
+use Rattle.sc_parse.proofs.Common.{read, read_sound, refl, some_args, subst, sym, true, unary_level, variable, ℕ, ◌++◌}
+use Rattle.sc_parse.proofs.Common.{◌∙◌, ◌∷◌, ◌≡◌, ◌≤◌}
+use Rattle.sc_parse.proofs.Bases.{other_mark, mark_is}
+use Rattle.sc_parse.proofs.Exact.{chosen, enclosed, Taken, Exact, ExactAdder, took, separated_exact}
 use Rattle.sc_expr.specs.declared.mark.Mark.TheVariants as mark
 use Rattle.sc_expr.specs.declared.lexeme.Symbol.TheVariants as symbol
 use Rattle.sc_expr.proofs.Complete.{reads_all}
-use Rattle.sc_parse.proofs.Exact.{Taken, Exact, ExactAdder, took, separated_exact}
-use Rattle.sc_parse.proofs.Bases.{mark_is}
 use Rattle.sc_parse.proofs.Declared.{comma_ahead}
 
 -- nowhere more brackets are open than may be
@@ -40,8 +40,7 @@ most_more : (n k : ℕ) (ts : List Lexeme) → n ≤ k → most_open n ts ≤ mo
 most_more n k [] h = h
 most_more n k (t ∷ ts) h = omega (
   arith,
-  most_more (open_after t.symbol n) (open_after t.symbol k) ts
-      (after_more t.symbol n k h),
+  most_more (open_after t.symbol n) (open_after t.symbol k) ts (after_more t.symbol n k h),
 )
 
 most_right : (n : ℕ) (ts us : List Lexeme) → most_open 0 us ≤ most_open n (ts ++ us)
@@ -97,8 +96,7 @@ unfolding expr_at
 expr_sound free room ts rest x h =
     let b = bound _ _ _ h in
     let m = measured free room ts b.0 b.1 in
-    took _ ts m.taken x _ _ rest m.split
-    (record { spelled = m.spelled; low = let low = m.low in let height = m.height in omega arith }) b.2
+    took m.taken b.2 m.split (record { spelled = m.spelled; low = omega (arith, m.low, m.height) })
 
 expr_complete : (free : ℕ) → (room : ℕ) (ts rest : List Lexeme) (x : ExprTree) → IsExpr room ts x → Few free ts →
     NoExtension rest → expr_at free room (ts ++ rest) ≡ Some (x, rest)
@@ -146,19 +144,17 @@ expr_starts (joined {ts = ts} {us = us} t m op p q k d g) rest =
     ap begins_expr (append_assoc ts _ rest) ∙ expr_starts d (t ∷ us ++ rest)
 expr_starts (looser d) rest = expr_starts d rest
 
-pub false-true : false ≡ true → ⊥
-false-true h = none-some {A = ℕ} 0 (ap (λ b. cond b (Some 0) None) h)
+pub call_starts : {ts : List Lexeme} {x : CallTree} (d : SpellsCall ts x) (rest : List Lexeme) →
+    begins_expr (ts ++ rest) ≡ true
+unfolding begins_expr starts_expr
+call_starts (call t u v name p q r d) rest = rw p
 
 -- a mark that begins no expression doesn't stand where one begins
 pub no_mark : (m : Mark) → is_some (lead_by m) ≡ false → (ts : List Lexeme) → begins_expr ts ≡ true →
     begins_with m ts ≡ false
 unfolding begins_expr starts_expr
 no_mark m h [] e = refl
-no_mark m h (t ∷ ts) e = go _ refl
-  where
-    go : (b : Bool) → is_mark m t.symbol ≡ b → b ≡ false
-    go false q = refl
-    go true q = let is = mark_is m t q in absurd (false-true (sym h ∙ (rw is at e)))
+no_mark m h (t ∷ ts) e = false_from_ne_true _ (λ q. let is = mark_is m t q in false≢true (sym h ∙ (rw is at e)))
 
 args_apart : {room : ℕ} {ts : List Lexeme} {es : List ExprTree} → Separated (IsExpr room) ts es →
     Separated (Spells loosest_level) ts es × (exprs_height es ≤ room)
@@ -189,19 +185,15 @@ pub record IsArgs (room : ℕ) (ts : List Lexeme) (es : List ExprTree) : Type 0 
 args_sound : (free : ℕ) → (room : ℕ) (ts rest : List Lexeme) (x : List ExprTree) →
     args_at free room ts ≡ Some (x, rest) → Taken (IsArgs room) ts x rest
 unfolding args_at
-args_sound free room ts rest x h = go (begins_with mark.CloseParen ts) h
-  where
-    go : (b : Bool) → cond {A = Option (List ExprTree × List Lexeme)} b (Some ([], ts))
-        (all_separated (args_behind free room) [] ts) ≡ Some (x, rest) → Taken (IsArgs room) ts x rest
-    go true e = took _ ts [] x [] ts rest refl (record { spelled = no_args; low = omega arith }) e
-    go false e =
-        let l = (all_args_exact free room).sound [] x ts rest e in
-        let a = args_apart l.spelled in
-        record {
-          taken = l.taken;
-          split = l.split;
-          spelled = subst (λ v. IsArgs room l.taken v) (sym l.all) (record { spelled = some_args a.0; low = a.1 });
-        }
+args_sound free room ts rest x h = chosen _ _ _ h (λ q e.
+    took [] e refl (record { spelled = no_args; low = omega arith })) (λ q e.
+    let l = (all_args_exact free room).sound [] x ts rest e in
+    let a = args_apart l.spelled in
+    record {
+      taken = l.taken;
+      split = l.split;
+      spelled = subst (IsArgs room l.taken) (sym l.all) (record { spelled = some_args a.0; low = a.1 });
+    })
 
 args_complete : (free : ℕ) → {room : ℕ} {ts : List Lexeme} {es : List ExprTree} (d : SpellsArgs ts es) (v : Lexeme)
     (rest : List Lexeme) → exprs_height es ≤ room → Few free ts → IsMark mark.CloseParen v →
@@ -217,28 +209,6 @@ pub record IsCall (room : ℕ) (ts : List Lexeme) (x : CallTree) : Type 0 where
   pub spelled : SpellsCall ts x
   pub low : call_height x ≤ room
 
-parens_sound : (free : ℕ) → (room : ℕ) (ts rest : List Lexeme) (x : List ExprTree) →
-    args_in_parens free room ts ≡ Some (x, rest) → (u : Lexeme) × (taken : List Lexeme) × (v : Lexeme) ×
-    (ts ≡ u ∷ (taken ++ v ∷ rest)) × IsMark mark.OpenParen u × IsMark mark.CloseParen v × IsArgs room taken x
-parens_sound free room ts rest x h =
-    let o = bound _ _ _ h in
-    let b = bound _ _ _ o.2 in
-    let c = bound _ _ _ b.2 in
-    let same = same_some c.2 in
-    let value = ap (λ p. p.0) same in
-    let after = ap (λ p. p.1) same in
-    let u = behind_mark _ ts o.0 o.1 in
-    let d = args_sound free room o.0 b.0.1 b.0.0 b.1 in
-    let v = behind_mark _ b.0.1 c.0 c.1 in (
-      u.0,
-      d.taken,
-      v.0,
-      u.1 ∙ ap (λ l. u.0 ∷ l) (d.split ∙ ap (λ l. d.taken ++ l) (v.1 ∙ ap (λ l. v.0 ∷ l) after)),
-      u.2,
-      v.2,
-      subst (λ z. IsArgs room d.taken z) value d.spelled,
-    )
-
 call_sound : (free : ℕ) → (room : ℕ) (ts rest : List Lexeme) (x : CallTree) → call_at free room ts ≡ Some (x, rest) →
     Taken (IsCall room) ts x rest
 unfolding call_at
@@ -246,10 +216,12 @@ call_sound free room ts rest x h =
     let b = bound _ _ _ h in
     let c = bound _ _ _ b.2 in
     let t = name_ahead ts b.0.1 b.0.0 b.1 in
-    let p = parens_sound free room b.0.1 c.0.1 c.0.0 c.1 in
-    took _ ts (t.0 ∷ p.0 ∷ (p.1 ++ p.2 ∷ [])) x _ c.0.1 rest
-    (t.1 ∙ ap (λ l. t.0 ∷ l) (p.3 ∙ ap (λ l. p.0 ∷ l) (sym (append_assoc p.1 _ c.0.1))))
-    (record { spelled = call t.0 p.0 p.2 b.0.0 t.2 p.4 p.5 p.6.spelled; low = p.6.low }) c.2
+    let p = enclosed mark.OpenParen mark.CloseParen (IsArgs room) (args_at free room) (args_sound free room) b.0.1 c.0
+    c.1 in
+    took (t.0 ∷ p.first ∷ (p.taken ++ p.last ∷ [])) c.2 (t.1 ∙ ap (λ l. t.0 ∷ l) p.split) (record {
+      spelled = call t.0 p.first p.last b.0.0 t.2 p.opens p.closes p.spelled.spelled;
+      low = p.spelled.low;
+    })
 
 call_complete : (free : ℕ) → {room : ℕ} {ts : List Lexeme} {x : CallTree} (d : SpellsCall ts x) (rest : List Lexeme) →
     call_height x ≤ room → Few free ts → call_at free room (ts ++ rest) ≡ Some (x, rest)
@@ -271,17 +243,6 @@ pub call_begins : {ts : List Lexeme} {x : CallTree} (d : SpellsCall ts x) (rest 
 call_begins (call t u v name p q r d) rest = rw (p, q)
 
 -- no identifier and `(` begin an expression, where no `(` stands behind it
-binary_no_paren : (t : Lexeme) (m : Mark) (op : BinaryOp) → IsMark m t → binary_of m ≡ Some op →
-    is_mark mark.OpenParen t.symbol ≡ false
-binary_no_paren t m op p q = go (is_mark mark.OpenParen t.symbol) refl
-  where
-    go : (b : Bool) → is_mark mark.OpenParen t.symbol ≡ b → b ≡ false
-    go false e = refl
-    go true e =
-        let is : symbol.Mark m ≡ symbol.Mark _ = sym p ∙ mark_is mark.OpenParen t e in
-        let same : m ≡ mark.OpenParen = cc in
-        absurd (none-some op (sym (ap binary_of same) ∙ q))
-
 pub no_call : {level : ℕ} {ts : List Lexeme} {e : ExprTree} (d : Spells level ts e) (rest : List Lexeme) →
     begins_with mark.OpenParen rest ≡ false → begins_call (ts ++ rest) ≡ false
 no_call (literal t number p) rest h = rw p
@@ -295,5 +256,6 @@ no_call (arrow {ts = ts} t u name p q d) rest h = ap begins_call (append_assoc t
     no_call d (t ∷ u ∷ rest) (rw p)
 no_call (prefix t m o p q d) rest h = rw p
 no_call (joined {ts = ts} {us = us} t m op p q k d g) rest h =
-    ap begins_call (append_assoc ts _ rest) ∙ no_call d (t ∷ us ++ rest) (binary_no_paren t m op p q)
+    ap begins_call (append_assoc ts _ rest) ∙ no_call d (t ∷ us ++ rest)
+    (other_mark mark.OpenParen m t p (λ same. none-some op (sym (ap binary_of same) ∙ q)))
 no_call (looser d) rest h = no_call d rest h

@@ -3,14 +3,13 @@ use Rattle.sc_parse.proofs.Common.{BaseTree, Bool, ConstTree, Decl, Declares, Gl
 use Rattle.sc_parse.proofs.Common.{Lexeme, List, None, Option, Separated, Some, SpellsConst, SpellsInit, [], absent}
 use Rattle.sc_parse.proofs.Common.{all_consts, ap, append_assoc, begins_with, behind, behind_inner_comma, behind_mark}
 use Rattle.sc_parse.proofs.Common.{bound, cond, const_at, consts_at, declaration_at, false, global, global_at}
-use Rattle.sc_parse.proofs.Common.{globals_behind, init_at, init_behind, many, many_comma, negated, non_empty, one_at}
-use Rattle.sc_parse.proofs.Common.{option_map_or, past_comma, refl, same_some, subst, sym, true, ℕ, ◌++◌, ◌>>=◌, ◌∙◌}
-use Rattle.sc_parse.proofs.Common.{◌∷◌, ◌≡◌}
+use Rattle.sc_parse.proofs.Common.{globals_behind, glued, init_at, init_behind, many, many_comma, negated, non_empty}
+use Rattle.sc_parse.proofs.Common.{past_comma, refl, subst, sym, true, ℕ, ◌++◌, ◌>>=◌, ◌∙◌, ◌∷◌, ◌≡◌}
+use Rattle.sc_parse.proofs.Exact.{given, same_pair, Taken, Exact, ExactAdder, Any, took}
 use Rattle.sc_ast.specs.declared.section.InitTree.TheVariants as init
 use Rattle.sc_ast.specs.declared.section.Decl.TheVariants as decl
 use Rattle.sc_expr.specs.declared.mark.Mark.TheVariants as mark
 use Rattle.sc_parse.specs.Declarations.{plain, one}
-use Rattle.sc_parse.proofs.Exact.{Taken, Exact, ExactAdder, Any, took, glued}
 use Rattle.sc_parse.proofs.Bases.{NoInt, NoBracket, declarator_sound}
 use Rattle.sc_parse.proofs.Declared.{declaration_exact, declarator_complete, declarator_no_int}
 use Rattle.sc_parse.proofs.Structures.{non_empty_some, non_empty_is, separated_some, const_sound, const_complete}
@@ -40,31 +39,26 @@ consts_sound ts rest x h =
     let c = bound (λ rest. non_empty b.0.0 >>= (λ values. Some _))
     (behind mark.CloseCurly (past_comma b.0.1)) (x, rest) b.2 in
     let n = bound (λ values. Some (init.Many values, c.0)) (non_empty b.0.0) (x, rest) c.2 in
-    let same = same_some n.2 in
-    let value : init.Many n.0 ≡ x = ap (λ p. p.0) same in
-    let after : c.0 ≡ rest = ap (λ p. p.1) same in
+    let same = same_pair n.2 in
     let l = all_consts_exact.sound [] b.0.0 ts b.0.1 b.1 in
-    let full = non_empty_some b.0.0 n.0 n.1 in
-    let values = sym l.all ∙ full.0 in
     let v = behind_mark mark.CloseCurly (past_comma b.0.1) c.0 c.1 in
-    go l.taken n.0 (subst (λ z. Separated SpellsConst l.taken z) values l.spelled) b.0.1 l.split v.0
-    (v.1 ∙ ap (λ r. v.0 ∷ r) after) v.2 (sym value) (behind mark.Comma b.0.1) refl
+    go n.0 (subst (Separated SpellsConst l.taken) (sym l.all ∙ (non_empty_some b.0.0 n.0 n.1).0) l.spelled) b.0.1
+    l.split (v.1 ∙ ap (λ r. v.0 ∷ r) same.1) v.2 (sym same.0) (behind mark.Comma b.0.1) refl
   where
-    go : (taken : List Lexeme) (values : List ConstTree) → Separated SpellsConst taken values → (us : List Lexeme) →
-        ts ≡ taken ++ us → (v : Lexeme) → past_comma us ≡ v ∷ rest → IsMark mark.CloseCurly v → x ≡ init.Many values →
+    go : {taken : List Lexeme} (values : List ConstTree) → Separated SpellsConst taken values → (us : List Lexeme) →
+        ts ≡ taken ++ us → {v : Lexeme} → past_comma us ≡ v ∷ rest → IsMark mark.CloseCurly v → x ≡ init.Many values →
         (o : Option (List Lexeme)) → behind mark.Comma us ≡ o
         → (taken : List Lexeme) × (values : List ConstTree) × (v : Lexeme) × (ts ≡ taken ++ v ∷ rest) ×
         IsListed taken values × IsMark mark.CloseCurly v × (x ≡ init.Many values)
-    go taken values d us split v e p value None q =
-        let is : us ≡ v ∷ rest = (rw q at e) in
-        (taken, values, v, split ∙ ap (λ l. taken ++ l) is, bare d, p, value)
-    go taken values d us split v e p value (Some vs) q =
+    go {taken} values d us split {v} e p value None q =
+        (taken, values, v, split ∙ ap (λ l. taken ++ l) (rw q at e), bare d, p, value)
+    go {taken} values d us split {v} e p value (Some vs) q =
         let t = behind_mark mark.Comma us vs q in
         let is : vs ≡ v ∷ rest = (rw q at e) in (
           taken ++ t.0 ∷ [],
           values,
           v,
-          glued ts us _ taken (t.0 ∷ []) split (t.1 ∙ ap (λ l. t.0 ∷ l) is),
+          glued _ taken (t.0 ∷ []) split (t.1 ∙ ap (λ l. t.0 ∷ l) is),
           with_comma t.0 t.2 d,
           p,
           value,
@@ -88,31 +82,19 @@ consts_complete (with_comma {ts = ts} {values = values} t q d) v rest p =
 
 init_sound : (ts rest : List Lexeme) (x : InitTree) → init_at ts ≡ Some (x, rest) → Taken SpellsInit ts x rest
 unfolding init_at init_behind
-init_sound ts rest x h = go (behind mark.Equal ts) refl h
-  where
-    behind_equal : (us : List Lexeme) (t : Lexeme) → ts ≡ t ∷ us → IsMark mark.Equal t → (o : Option (List Lexeme)) →
-        behind mark.OpenCurly us ≡ o → option_map_or consts_at o (one_at us) ≡ Some (x, rest) →
-        Taken SpellsInit ts x rest
-    behind_equal us t is p None q e =
-        let b = bound (λ x. Some (init.One x.0, x.1)) (const_at us) (x, rest) e in
-        let c = const_sound us b.0.1 b.0.0 b.1 in
-        took SpellsInit ts (t ∷ c.taken) x (init.One b.0.0) b.0.1 rest (is ∙ ap (λ l. t ∷ l) c.split)
-        (one t p c.spelled) b.2
-    behind_equal us t is p (Some vs) q e =
-        let u = behind_mark mark.OpenCurly us vs q in
-        let c = consts_sound vs rest x e in
-        record {
-          taken = t ∷ u.0 ∷ (c.0 ++ c.2 ∷ []);
-          split = is ∙ ap (λ l. t ∷ l) (u.1 ∙ ap (λ l. u.0 ∷ l) (c.3 ∙ sym (append_assoc c.0 _ rest)));
-          spelled = subst (λ v. SpellsInit (t ∷ u.0 ∷ (c.0 ++ c.2 ∷ [])) v) (sym c.6)
-              (in_braces c.4 t u.0 c.2 p u.2 c.5);
-        }
-
-    go : (o : Option (List Lexeme)) → behind mark.Equal ts ≡ o →
-        option_map_or init_behind o (Some (init.Absent, ts)) ≡ Some (x, rest) → Taken SpellsInit ts x rest
-    go None q e = took SpellsInit ts [] x init.Absent ts rest refl absent e
-    go (Some us) q e = let t = behind_mark mark.Equal ts us q in
-        behind_equal us t.0 t.1 t.2 (behind mark.OpenCurly us) refl e
+init_sound ts rest x h = given _ _ _ h (λ q e. took [] e refl absent) (λ us q e.
+    let t = behind_mark mark.Equal ts us q in
+    given _ _ _ e (λ q e.
+    let b = bound (λ x. Some (init.One x.0, x.1)) (const_at us) (x, rest) e in
+    let c = const_sound us b.0.1 b.0.0 b.1 in
+    took (t.0 ∷ c.taken) b.2 (t.1 ∙ ap (λ l. t.0 ∷ l) c.split) (one t.0 t.2 c.spelled)) (λ vs q e.
+    let u = behind_mark mark.OpenCurly us vs q in
+    let c = consts_sound vs rest x e in
+    record {
+      taken = t.0 ∷ u.0 ∷ (c.0 ++ c.2 ∷ []);
+      split = t.1 ∙ ap (λ l. t.0 ∷ l) (u.1 ∙ ap (λ l. u.0 ∷ l) (c.3 ∙ sym (append_assoc c.0 _ rest)));
+      spelled = subst (SpellsInit (t.0 ∷ u.0 ∷ (c.0 ++ c.2 ∷ []))) (sym c.6) (in_braces c.4 t.0 u.0 c.2 t.2 u.2 c.5);
+    }))
 
 abbrev NoEqual : List Lexeme → Type 0
 NoEqual rest = behind mark.Equal rest ≡ None
@@ -149,8 +131,8 @@ global_sound base line ts rest x h =
     let c = bound _ _ _ b.2 in
     let d = declarator_sound ts b.0.1 b.0.0 b.1 in
     let i = init_sound b.0.1 c.0.1 c.0.0 c.1 in
-    took _ ts (d.taken ++ i.taken) x _ c.0.1 rest
-    (glued ts b.0.1 c.0.1 d.taken i.taken d.split i.split) (a_global (global (d.spelled base) i.spelled)) c.2
+    took (d.taken ++ i.taken) c.2 (glued c.0.1 d.taken i.taken d.split i.split)
+    (a_global (global (d.spelled base) i.spelled))
 
 init_no_bracket : {ts : List Lexeme} {x : InitTree} (d : SpellsInit ts x) (rest : List Lexeme) → NoBracket rest →
     NoBracket (ts ++ rest)
@@ -159,16 +141,12 @@ init_no_bracket (one t p d) rest h = rw p
 init_no_bracket (many t u v p q r d) rest h = rw p
 init_no_bracket (many_comma t u v w p q r k d) rest h = rw p
 
-global_reads : {base : BaseTree} {line : ℕ} {ts : List Lexeme} {x : GlobalTree} (d : IsGlobal base line ts x)
-    (rest : List Lexeme) → EndsGlobal rest → global_at base line (ts ++ rest) ≡ Some (decl.Global x, rest)
-unfolding global_at
-global_reads {base = base} {line = line} (global {ts = ts} {us = us} {value = value} d i) rest h =
-    let r = declarator_complete d (us ++ rest) (init_no_bracket i rest h.0) in
-    ap (global_at base line) (append_assoc ts us rest) ∙ rw (r.is, init_complete i rest h.1, r.ty_is, r.name_is)
-
 global_complete : {base : BaseTree} {line : ℕ} {ts : List Lexeme} {x : Decl} (d : IsGlobalDecl base line ts x)
     (rest : List Lexeme) → EndsGlobal rest → global_at base line (ts ++ rest) ≡ Some (x, rest)
-global_complete (a_global d) rest h = global_reads d rest h
+unfolding global_at
+global_complete {base = base} {line = line} (a_global (global {ts = ts} {us = us} d i)) rest h =
+    let r = declarator_complete d (us ++ rest) (init_no_bracket i rest h.0) in
+    ap (global_at base line) (append_assoc ts us rest) ∙ rw (r.is, init_complete i rest h.1, r.ty_is, r.name_is)
 
 global_no_int : {base : BaseTree} {line : ℕ} {ts : List Lexeme} {x : Decl} (d : IsGlobalDecl base line ts x)
     (rest : List Lexeme) → NoInt (ts ++ rest)

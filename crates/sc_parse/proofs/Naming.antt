@@ -1,7 +1,7 @@
 -- A head as that of a function.
 use Rattle.sc_parse.proofs.Common.{FunctionHead, FunctionParam, HeadTree, IsTrue, List, None, Option, ParamTree, Some}
-use Rattle.sc_parse.proofs.Common.{[], ap, cond, function_head, function_param, has_nameless, head_of, map, named_head}
-use Rattle.sc_parse.proofs.Common.{named_params, none-some, param_of, refl, sym, ℕ, ◌>>=◌, ◌∙◌, ◌∷◌, ◌≡◌}
+use Rattle.sc_parse.proofs.Common.{[], ap, false≢true, function_head, function_param, has_nameless, head_of, map}
+use Rattle.sc_parse.proofs.Common.{named_head, named_params, param_of, refl, sym, ℕ, ◌>>=◌, ◌∙◌, ◌∷◌, ◌≡◌}
 
 params_named : (params : List FunctionParam) → named_params (map param_of params) ≡ Some params
 params_named [] = refl
@@ -13,7 +13,7 @@ head_named head tree h = ap named_head (sym h) ∙ ap (λ o. o >>= (λ params. S
     (params_named head.params)
 
 params_nameless : (params : List ParamTree) → IsTrue (has_nameless params) → named_params params ≡ None
-params_nameless [] h = absurd (none-some {A = ℕ} 0 (ap (λ b. cond b (Some 0) None) h))
+params_nameless [] h = absurd (false≢true h)
 params_nameless (param ∷ rest) h = go param.name refl h (params_nameless rest)
   where
     go : (o : Option (List ℕ)) → param.name ≡ o → IsTrue (has_nameless (param ∷ rest)) →

@@ -1,16 +1,16 @@
 -- Blocks and the statements that hold them are read exactly as they are spelled.
-use Rattle.sc_parse.proofs.Common.{Bool, ExprTree, Grouped, IsKeyword, IsMark, Keyword, Lexeme, List, Mark, None}
-use Rattle.sc_parse.proofs.Common.{Option, Reader, SimpleKind, SimpleTree, Some, SpellsBlock, SpellsCondition, SpellsIf}
-use Rattle.sc_parse.proofs.Common.{SpellsPart, SpellsStmtKind, SpellsStmts, SpellsTest, StmtKind, StmtTree, [], adds}
-use Rattle.sc_parse.proofs.Common.{alone, ap, append-nil, append_assoc, arith, before_mark, begins_with, behind}
-use Rattle.sc_parse.proofs.Common.{behind_mark, block, block_at, bound, choice, cond, drop, else_at, else_behind, empty}
-use Rattle.sc_parse.proofs.Common.{ended_at, expr_height, false, first_line, first_part, for_behind, for_head}
-use Rattle.sc_parse.proofs.Common.{for_height, for_loop, for_parts, grouped, if_behind, if_height, is_else, is_if}
-use Rattle.sc_parse.proofs.Common.{keyword_at, kind_by, kind_height, kind_of, last_part, length, loop_of, middle_part}
-use Rattle.sc_parse.proofs.Common.{none-some, option_height, otherwise, otherwise_if, part_at, plain, plain_at}
-use Rattle.sc_parse.proofs.Common.{plain_height, refl, return_call, return_call_height, return_nothing, return_value}
-use Rattle.sc_parse.proofs.Common.{returned, same_some, simple_at, stmt_at, stmt_tree, stmt_within, stmts_at}
-use Rattle.sc_parse.proofs.Common.{stmts_height, subst, suc, sym, test_at, tree_height, true, value_height}
+use Rattle.sc_parse.proofs.Common.{ExprTree, Grouped, IsKeyword, IsMark, Keyword, Lexeme, List, None, Option, Reader}
+use Rattle.sc_parse.proofs.Common.{SimpleKind, SimpleTree, Some, SpellsBlock, SpellsCondition, SpellsIf, SpellsPart}
+use Rattle.sc_parse.proofs.Common.{SpellsStmtKind, SpellsStmts, SpellsTest, StmtKind, StmtTree, [], adds, alone, ap}
+use Rattle.sc_parse.proofs.Common.{append-nil, append_assoc, arith, before_mark, begins_with, behind, behind_mark}
+use Rattle.sc_parse.proofs.Common.{block, block_at, bound, choice, cond, drop, else_at, else_behind, empty, ended_at}
+use Rattle.sc_parse.proofs.Common.{expr_height, false, false≢true, first_line, first_part, for_behind, for_head}
+use Rattle.sc_parse.proofs.Common.{for_height, for_loop, for_parts, glued, grouped, if_behind, if_height, is_else}
+use Rattle.sc_parse.proofs.Common.{is_if, keyword_at, kind_by, kind_height, kind_of, last_part, length, loop_of}
+use Rattle.sc_parse.proofs.Common.{middle_part, none-some, option_height, otherwise, otherwise_if, part_at, plain}
+use Rattle.sc_parse.proofs.Common.{plain_at, plain_height, refl, return_call, return_call_height, return_nothing}
+use Rattle.sc_parse.proofs.Common.{return_value, returned, same_some, simple_at, stmt_at, stmt_tree, stmt_within}
+use Rattle.sc_parse.proofs.Common.{stmts_at, stmts_height, subst, suc, sym, test_at, tree_height, true, value_height}
 use Rattle.sc_parse.proofs.Common.{while_behind, while_height, while_loop, zero, ℕ, ◌++◌, ◌+◌, ◌<◌, ◌>>=◌, ◌∙◌, ◌∷◌}
 use Rattle.sc_parse.proofs.Common.{◌≡◌, ◌≤◌}
 use Rattle.sc_ast.specs.declared.stmt.StmtKind.TheVariants as stmt
@@ -20,13 +20,14 @@ use Rattle.sc_parse.specs.Lists as lists
 use Rattle.sc_parse.specs.Statements as statements
 use Rattle.sc_parse.specs.StmtReaders as readers
 use Rattle.sc_parse.specs.declared.stmts.ForHead.{ForHead}
-use Rattle.sc_parse.proofs.Exact.{Taken, Exact, ExactAdder, took, glued, One, adds_exact, grouped_exact}
+use Rattle.sc_parse.proofs.Exact.{Taken, Exact, ExactAdder, took, One, adds_exact, grouped_exact, chosen, ended}
+use Rattle.sc_parse.proofs.Exact.{enclosed}
 use Rattle.sc_parse.proofs.Bases.{Word, word_ahead, mark_is}
 use Rattle.sc_parse.proofs.Expressions.{Few, few_left, few_right, few_tail, expr_exact, expr_starts, call_exact}
-use Rattle.sc_parse.proofs.Expressions.{call_begins, no_call, no_mark, false-true}
+use Rattle.sc_parse.proofs.Expressions.{call_begins, no_call, no_mark, call_starts}
 use Rattle.sc_parse.proofs.Simples.{simple_exact}
-use Rattle.sc_parse.proofs.Parts.{condition_exact, first_line_some, kind_no_word, kind_no_mark, call_no_mark, IsPart}
-use Rattle.sc_parse.proofs.Parts.{part_sound, part_reads, IsTest, test_sound, test_reads}
+use Rattle.sc_parse.proofs.Parts.{condition_exact, first_line_some, kind_no_word, kind_no_mark, IsPart, part_sound}
+use Rattle.sc_parse.proofs.Parts.{part_reads, IsTest, test_sound, test_reads}
 use Rattle.sc_parse.proofs.Ended.{NoElse, kind_starts, IsKind, IsStmt, a_stmt, stmt_starts, ended_sound}
 
 -- behind a `}` no `else` stands at the front
@@ -40,11 +41,16 @@ else_ahead ts h = go (keyword_at ts) refl h
   where
     go : (o : Option Keyword) → keyword_at ts ≡ o → is_else o ≡ true → Word ts word.Else
     go (Some word.Else) q e = word_ahead ts word.Else q
-    go _ q e = absurd (false-true e)
+    go _ q e = absurd (false≢true e)
 
 -- a block that is at most so high
 pub record IsBlock (room : ℕ) (ts : List Lexeme) (ss : List StmtTree) : Type 0 where
   pub spelled : SpellsBlock ts ss
+  pub low : stmts_height ss ≤ room
+
+-- statements up to `}`, each at most so high
+pub record IsStmts (room : ℕ) (ts : List Lexeme) (ss : List StmtTree) : Type 0 where
+  pub spelled : SpellsStmts ts ss
   pub low : stmts_height ss ≤ room
 
 -- what may stand behind the first block of an `if`
@@ -77,18 +83,6 @@ stmts_joined {room} (statements.next {ts = ts} {kind = k} {stmts = ss} d g) h =
     let less : stmts_height ss ≤ room = omega arith in
     lists.next (record { item = stmt_tree _ k; is = refl; spelled = a_stmt d low }) (stmts_joined g less)
 
-if_kind : {ts : List Lexeme} {k : StmtKind} (d : SpellsStmtKind ts k) → is_if (keyword_at ts) ≡ true → SpellsIf ts k
-if_kind (empty t p) h = absurd (false-true (rw p at h))
-if_kind (plain {ts = ts} t p d) h = absurd (false-true (sym (ap is_if (kind_no_word d _)) ∙ h))
-if_kind (statements.break t u p q) h = absurd (false-true (rw p at h))
-if_kind (statements.continue t u p q) h = absurd (false-true (rw p at h))
-if_kind (return_nothing t u p q) h = absurd (false-true (rw p at h))
-if_kind (return_value t u p q d) h = absurd (false-true (rw p at h))
-if_kind (return_call t u p q d) h = absurd (false-true (rw p at h))
-if_kind (choice d) h = d
-if_kind (while_loop t p c b) h = absurd (false-true (rw p at h))
-if_kind (for_loop t u v w x p q r s k f c n b) h = absurd (false-true (rw p at h))
-
 keyword_front : (ts rest : List Lexeme) → 0 < length ts → keyword_at (ts ++ rest) ≡ keyword_at ts
 keyword_front [] rest h = absurd (omega arith)
 keyword_front (t ∷ ts) rest h = refl
@@ -103,34 +97,6 @@ block_no_if : {ts : List Lexeme} {ss : List StmtTree} (d : SpellsBlock ts ss) (r
     is_if (keyword_at (ts ++ rest)) ≡ false
 block_no_if (block t u p q d) rest = rw p
 
--- what stands before a mark, and the mark
-record Before {A : Type 0} (Item : List Lexeme → A → Type 0) (m : Mark) (ts : List Lexeme) (x : A)
-    (rest : List Lexeme) : Type 0 where
-  taken : List Lexeme
-  ends : Lexeme
-  split : ts ≡ taken ++ ends ∷ rest
-  mark : IsMark m ends
-  spelled : Item taken x
-
-part_ended : {A : Type 0} (m : Mark) (reader : Reader A) (Item : List Lexeme → A → Type 0)
-    (sound : (ts rest : List Lexeme) (x : A) → reader ts ≡ Some (x, rest) → Taken Item ts x rest) (ts : List Lexeme)
-    (y : A × List Lexeme) → before_mark m reader ts ≡ Some y → Before Item m ts y.0 y.1
-part_ended m reader Item sound ts y h =
-    let b = bound _ _ y h in
-    let c = bound _ _ y b.2 in
-    let same = same_some c.2 in
-    let value = ap (λ p. p.0) same in
-    let after = ap (λ p. p.1) same in
-    let d = sound ts b.0.1 b.0.0 b.1 in
-    let v = behind_mark m b.0.1 c.0 c.1 in
-    record {
-      taken = d.taken;
-      ends = v.0;
-      split = d.split ∙ ap (λ l. d.taken ++ l) (v.1 ∙ ap (λ l. v.0 ∷ l) after);
-      mark = v.2;
-      spelled = subst (λ z. Item d.taken z) value d.spelled;
-    }
-
 plain_ended : (free : ℕ) → (room : ℕ) (ts : List Lexeme) (t : Lexeme) (rest : List Lexeme) (k : SimpleKind) →
     IsMark mark.Semicolon t → keyword_at ts ≡ None → begins_with mark.Semicolon ts ≡ false →
     simple_at free room ts ≡ Some (k, t ∷ rest) → ended_at free room ts ≡ Some (kind_of k, rest)
@@ -144,21 +110,24 @@ module _ (free : ℕ) (room : ℕ) (inner : Reader StmtTree) (exact : Exact (Few
       (λ us rest zs d. (stmt_starts d.spelled).no_end rest) (λ us zs d. (stmt_starts d.spelled).some) end_no_else
       (λ us rest zs d. (stmt_starts d.spelled).no_else rest)
 
+  stmts_sound : (ts rest : List Lexeme) (x : List StmtTree) → stmts_at inner ts ≡ Some (x, rest) →
+      Taken (IsStmts room) ts x rest
+  stmts_sound ts rest x h =
+      let d = inner_exact.sound [] x ts rest h in
+      let s = stmts_apart d.spelled in
+      record {
+        taken = d.taken;
+        split = d.split;
+        spelled = subst (IsStmts room d.taken) (sym d.all) (record { spelled = s.0; low = s.1 });
+      }
+
   block_sound : (ts rest : List Lexeme) (x : List StmtTree) → block_at inner ts ≡ Some (x, rest) →
       Taken (IsBlock room) ts x rest
   unfolding block_at
   block_sound ts rest x h =
-      let o = bound (λ us. before_mark mark.CloseCurly (stmts_at inner) us) _ _ h in
-      let b = bound (λ x. behind mark.CloseCurly x.1 >>= (λ rest. Some (x.0, rest))) _ _ o.2 in
-      let c = bound (λ rest. Some (b.0.0, rest)) _ _ b.2 in
-      let u = behind_mark mark.OpenCurly ts o.0 o.1 in
-      let d = inner_exact.sound [] b.0.0 o.0 b.0.1 b.1 in
-      let s = stmts_apart d.spelled in
-      let v = behind_mark mark.CloseCurly b.0.1 c.0 c.1 in
-      took _ ts (u.0 ∷ (d.taken ++ v.0 ∷ [])) x b.0.0 c.0 rest
-      (u.1 ∙ ap (λ l. u.0 ∷ l) (glued o.0 b.0.1 c.0 d.taken _ d.split v.1))
-      (subst (λ z. IsBlock room (u.0 ∷ (d.taken ++ v.0 ∷ [])) z) (sym d.all)
-      (record { spelled = block u.0 v.0 u.2 v.2 s.0; low = s.1 })) c.2
+      let b = enclosed mark.OpenCurly mark.CloseCurly (IsStmts room) (stmts_at inner) stmts_sound ts (x, rest) h in
+      let spelled = block b.first b.last b.opens b.closes b.spelled.spelled in
+      record { taken = _; split = b.split; spelled = record { spelled = spelled; low = b.spelled.low } }
 
   block_complete : {ts : List Lexeme} {x : List StmtTree} (d : SpellsBlock ts x) (rest : List Lexeme) →
       stmts_height x ≤ room → Few free ts → block_at inner (ts ++ rest) ≡ Some (x, rest)
@@ -170,38 +139,26 @@ module _ (free : ℕ) (room : ℕ) (inner : Reader StmtTree) (exact : Exact (Few
 
   if_inner : {ts : List Lexeme} {x : StmtTree} (u : Lexeme) → IsKeyword word.Else u → (d : IsStmt room ts x) →
       is_if (keyword_at ts) ≡ true → IsElse room (u ∷ ts) (x ∷ [])
-  if_inner u p (a_stmt d low) h = an_if u p (if_kind d h) low
+  if_inner u p (a_stmt d low) h = an_if u p ((kind_starts d).an_if h) low
 
   else_sound : (ts rest : List Lexeme) (x : List StmtTree) → else_at inner ts ≡ Some (x, rest) →
       Taken (IsElse room) ts x rest
   unfolding else_at else_behind
-  else_sound ts rest x h = go (is_else (keyword_at ts)) refl h
-    where
-      by_if : (u : Lexeme) → ts ≡ u ∷ drop 1 ts → IsKeyword word.Else u → (b : Bool) →
-          is_if (keyword_at (drop 1 ts)) ≡ b → cond {A = Option (List StmtTree × List Lexeme)} b
-          (readers.alone inner (drop 1 ts)) (block_at inner (drop 1 ts)) ≡ Some (x, rest) →
-          Taken (IsElse room) ts x rest
-      by_if u is p true q e =
-          let b = bound (λ x. Some (x.0 ∷ [], x.1)) (inner (drop 1 ts)) (x, rest) e in
-          let d = exact.sound (drop 1 ts) b.0.1 b.0.0 b.1 in
-          let begins : is_if (keyword_at d.taken) ≡ true =
-          ap is_if (sym (keyword_front d.taken b.0.1 (stmt_starts d.spelled).some) ∙ ap keyword_at (sym d.split)) ∙
-          q in
-          took (IsElse room) ts (u ∷ d.taken) x (b.0.0 ∷ []) b.0.1 rest (is ∙ ap (λ l. u ∷ l) d.split)
-          (if_inner u p d.spelled begins) b.2
-      by_if u is p false q e =
-          let d = block_sound (drop 1 ts) rest x e in
-          record {
-            taken = u ∷ d.taken;
-            split = is ∙ ap (λ l. u ∷ l) d.split;
-            spelled = a_block u p d.spelled.spelled d.spelled.low;
-          }
-
-      go : (b : Bool) → is_else (keyword_at ts) ≡ b →
-          cond {A = Option (List StmtTree × List Lexeme)} b (else_behind inner (drop 1 ts)) (Some ([], ts)) ≡
-          Some (x, rest) → Taken (IsElse room) ts x rest
-      go true q e = let t = else_ahead ts q in by_if t.first t.is t.keyword (is_if (keyword_at _)) refl e
-      go false q e = took (IsElse room) ts [] x [] ts rest refl nothing e
+  else_sound ts rest x h = chosen _ _ _ h (λ q e.
+      let t = else_ahead ts q in
+      chosen _ _ _ e (λ q e.
+      let b = bound (λ x. Some (x.0 ∷ [], x.1)) (inner (drop 1 ts)) (x, rest) e in
+      let d = exact.sound (drop 1 ts) b.0.1 b.0.0 b.1 in
+      let begins : is_if (keyword_at d.taken) ≡ true =
+      ap is_if (sym (keyword_front d.taken b.0.1 (stmt_starts d.spelled).some) ∙ ap keyword_at (sym d.split)) ∙ q in
+      took (t.first ∷ d.taken) b.2 (t.is ∙ ap (λ l. t.first ∷ l) d.split) (if_inner t.first t.keyword d.spelled begins))
+      (λ q e.
+      let d = block_sound (drop 1 ts) rest x e in
+      record {
+        taken = t.first ∷ d.taken;
+        split = t.is ∙ ap (λ l. t.first ∷ l) d.split;
+        spelled = a_block t.first t.keyword d.spelled.spelled d.spelled.low;
+      })) (λ q e. took [] e refl nothing)
 
   else_complete : {ts : List Lexeme} {x : List StmtTree} (d : IsElse room ts x) (rest : List Lexeme) → Few free ts →
       NoElse rest → else_at inner (ts ++ rest) ≡ Some (x, rest)
@@ -235,13 +192,9 @@ module _ (free : ℕ) (room : ℕ) (inner : Reader StmtTree) (exact : Exact (Few
       let f = else_sound c.0.1 e.0.1 e.0.0 e.1 in
       let made = if_made t.first t.keyword k.spelled.spelled d.spelled.spelled f.spelled in
       let height = if_height b.0.0 c.0.0 e.0.0 in
-      let first = k.spelled.low in
-      let second = d.spelled.low in
-      let third = made.1 in
-      took _ ts (t.first ∷ (k.taken ++ (d.taken ++ f.taken))) x _ e.0.1 rest
-      (t.is ∙ ap (λ l. t.first ∷ l) (glued _ b.0.1 e.0.1 k.taken _ k.split
-      (glued b.0.1 c.0.1 e.0.1 d.taken f.taken d.split f.split)))
-      (record { spelled = choice made.0; low = omega arith }) e.2
+      took (t.first ∷ (k.taken ++ (d.taken ++ f.taken))) e.2
+      (t.is ∙ ap (λ l. t.first ∷ l) (glued e.0.1 k.taken _ k.split (glued e.0.1 d.taken f.taken d.split f.split)))
+      (record { spelled = choice made.0; low = omega (arith, k.spelled.low, d.spelled.low, made.1) })
 
   if_reads : {ts us vs : List Lexeme} {c : ExprTree} {th e : List StmtTree} (k : SpellsCondition ts c)
       (b : SpellsBlock us th) (d : IsElse room vs e) (rest : List Lexeme) → expr_height c ≤ room →
@@ -254,8 +207,7 @@ module _ (free : ℕ) (room : ℕ) (inner : Reader StmtTree) (exact : Exact (Few
       (few_left free ts _ few) tt in
       let second = block_complete b (vs ++ rest) less (few_left free us vs inside) in
       let third = else_complete d rest (few_right free us vs inside) ends in
-      let all =
-      append_assoc ts (us ++ vs) rest ∙ ap (λ l. ts ++ l) (append_assoc us vs rest) in
+      let all = append_assoc ts (us ++ vs) rest ∙ ap (λ l. ts ++ l) (append_assoc us vs rest) in
       ap (if_behind free inner room) all ∙ rw (first, second, third)
 
   if_complete : {ts : List Lexeme} {x : StmtKind} (d : SpellsIf ts x) (rest : List Lexeme) → kind_height x ≤ room →
@@ -293,11 +245,11 @@ module _ (free : ℕ) (room : ℕ) (inner : Reader StmtTree) (exact : Exact (Few
       let k = (condition_exact free room).sound (drop 1 ts) b.0.1 b.0.0 b.1 in
       let d = block_sound b.0.1 c.0.1 c.0.0 c.1 in
       let height = while_height b.0.0 c.0.0 in
-      let first = k.spelled.low in
-      let second = d.spelled.low in
-      took _ ts (t.first ∷ (k.taken ++ d.taken)) x _ c.0.1 rest
-      (t.is ∙ ap (λ l. t.first ∷ l) (glued _ b.0.1 c.0.1 k.taken d.taken k.split d.split))
-      (record { spelled = while_loop t.first t.keyword k.spelled.spelled d.spelled.spelled; low = omega arith }) c.2
+      took (t.first ∷ (k.taken ++ d.taken)) c.2 (t.is ∙ ap (λ l. t.first ∷ l)
+      (glued c.0.1 k.taken d.taken k.split d.split)) (record {
+        spelled = while_loop t.first t.keyword k.spelled.spelled d.spelled.spelled;
+        low = omega (arith, k.spelled.low, d.spelled.low);
+      })
 
   while_reads : {ts us : List Lexeme} {c : ExprTree} {body : List StmtTree} (k : SpellsCondition ts c)
       (b : SpellsBlock us body) (rest : List Lexeme) → expr_height c ≤ room → stmts_height body ≤ room →
@@ -330,37 +282,27 @@ module _ (free : ℕ) (room : ℕ) (inner : Reader StmtTree) (exact : Exact (Few
       let o = bound (λ us. before_mark mark.Semicolon (part_at free room mark.Semicolon) us)
       (behind mark.OpenParen (drop 1 ts)) a.0 a.1 in
       let u = behind_mark mark.OpenParen (drop 1 ts) o.0 o.1 in
-      let first = part_ended mark.Semicolon (part_at free room mark.Semicolon) (IsPart room)
+      let first = ended mark.Semicolon (IsPart room) (part_at free room mark.Semicolon)
       (part_sound free room mark.Semicolon) o.0 a.0 o.2 in
-      let second = part_ended mark.Semicolon (test_at free room) (IsTest room) (test_sound free room) a.0.1 b.0 b.1 in
-      let third = part_ended mark.CloseParen (part_at free room _) (IsPart room)
-      (part_sound free room mark.CloseParen) b.0.1 c.0 c.1 in
+      let second = ended mark.Semicolon (IsTest room) (test_at free room) (test_sound free room) a.0.1 b.0 b.1 in
+      let third = ended mark.CloseParen (IsPart room) (part_at free room _) (part_sound free room mark.CloseParen) b.0.1
+      c.0 c.1 in
       let body = block_sound c.0.1 e.0.1 e.0.0 e.1 in
       let height = for_height a.0.0 b.0.0 c.0.0 e.0.0 in
-      let l1 = first.spelled.low in
-      let l2 = second.spelled.low in
-      let l3 = third.spelled.low in
-      let l4 = body.spelled.low in
-      let fourth : c.0.1 ≡ body.taken ++ e.0.1 = body.split in
-      let after3 : b.0.1 ≡ (third.taken ++ third.ends ∷ body.taken) ++ e.0.1 =
-      glued b.0.1 (third.ends ∷ c.0.1) e.0.1 third.taken (third.ends ∷ body.taken) third.split
-      (ap (λ l. third.ends ∷ l) fourth) in
-      let after2 : a.0.1 ≡ (second.taken ++ second.ends ∷ (third.taken ++ third.ends ∷ body.taken)) ++ e.0.1 =
-      glued a.0.1 (second.ends ∷ b.0.1) e.0.1 second.taken
-      (second.ends ∷ (third.taken ++ third.ends ∷ body.taken)) second.split (ap (λ l. second.ends ∷ l) after3) in
-      let after1 : o.0 ≡ (first.taken ++ first.ends ∷
-      (second.taken ++ second.ends ∷ (third.taken ++ third.ends ∷ body.taken))) ++ e.0.1 =
-      glued o.0 (first.ends ∷ a.0.1) e.0.1 first.taken
-      (first.ends ∷ (second.taken ++ second.ends ∷ (third.taken ++ third.ends ∷ body.taken))) first.split
+      let after3 = glued e.0.1 third.taken (third.ends ∷ body.taken) third.split (ap (λ l. third.ends ∷ l) body.split)
+      in
+      let after2 = glued e.0.1 second.taken (second.ends ∷ (third.taken ++ third.ends ∷ body.taken)) second.split
+      (ap (λ l. second.ends ∷ l) after3) in
+      let after1 = glued e.0.1 first.taken (first.ends ∷
+      (second.taken ++ second.ends ∷ (third.taken ++ third.ends ∷ body.taken))) first.split
       (ap (λ l. first.ends ∷ l) after2) in
-      took (IsKind room) ts (t.first ∷ u.0 ∷ (first.taken ++ first.ends ∷
-      (second.taken ++ second.ends ∷ (third.taken ++ third.ends ∷ body.taken)))) x
-      (stmt.For a.0.0 b.0.0 c.0.0 e.0.0) e.0.1 rest (t.is ∙ ap (λ l. t.first ∷ l) (u.1 ∙ ap (λ l. u.0 ∷ l) after1))
-      (record {
+      took (t.first ∷ u.0 ∷ (first.taken ++ first.ends ∷
+      (second.taken ++ second.ends ∷ (third.taken ++ third.ends ∷ body.taken)))) e.2
+      (t.is ∙ ap (λ l. t.first ∷ l) (u.1 ∙ ap (λ l. u.0 ∷ l) after1)) (record {
         spelled = for_loop t.first u.0 first.ends second.ends third.ends t.keyword u.2 first.mark second.mark
             third.mark first.spelled.spelled second.spelled.spelled third.spelled.spelled body.spelled.spelled;
-        low = omega arith;
-      }) e.2
+        low = omega (arith, first.spelled.low, second.spelled.low, third.spelled.low, body.spelled.low);
+      })
 
   for_reads : {ts us vs ws : List Lexeme} {first next : Option SimpleTree} {c : ExprTree} {body : List StmtTree}
       (u v w x : Lexeme) → IsMark mark.OpenParen u → IsMark mark.Semicolon v → IsMark mark.Semicolon w →
@@ -422,7 +364,7 @@ module _ (free : ℕ) (room : ℕ) (inner : Reader StmtTree) (exact : Exact (Few
       let inside = few_left free ts (u ∷ []) (few_tail free t (ts ++ u ∷ []) few) in
       let read = (call_exact free room).complete ts (u ∷ rest) c
       (record { spelled = d; low = omega arith }) inside tt in
-      let other = call_no_mark mark.Semicolon d (u ∷ rest) in
+      let other = no_mark mark.Semicolon refl _ (call_starts d (u ∷ rest)) in
       ap (λ l. kind_by free inner room (keyword_at (t ∷ l)) (t ∷ l)) (append_assoc ts (u ∷ []) rest) ∙
       rw (p, other, call_begins d (u ∷ rest), read, q)
   kind_complete (choice {ts = ts} d) rest low few ends = let r = if_complete d rest low few ends in rw r.0 r.1
@@ -448,11 +390,9 @@ module _ (free : ℕ) (room : ℕ) (inner : Reader StmtTree) (exact : Exact (Few
   within_sound ts rest x h =
       let b = bound _ _ _ h in
       let k = kind_sound ts b.0.1 b.0.0 b.1 in
-      let line =
-      ap first_line k.split ∙ first_line_some k.taken b.0.1 (kind_starts k.spelled.spelled).some in
-      let low = k.spelled.low in
-      took _ ts k.taken x _ b.0.1 rest k.split (subst (λ n. IsStmt (suc room) k.taken (stmt_tree n b.0.0)) (sym line)
-      (a_stmt k.spelled.spelled (omega arith))) b.2
+      let line = ap first_line k.split ∙ first_line_some k.taken b.0.1 (kind_starts k.spelled.spelled).some in
+      took k.taken b.2 k.split (subst (λ n. IsStmt (suc room) k.taken (stmt_tree n b.0.0)) (sym line)
+      (a_stmt k.spelled.spelled (omega (arith, k.spelled.low))))
 
   within_complete : {ts : List Lexeme} {x : StmtTree} (d : IsStmt (suc room) ts x) (rest : List Lexeme) → Few free ts →
       NoElse rest → stmt_within free inner room (ts ++ rest) ≡ Some (x, rest)
@@ -475,30 +415,14 @@ stmt_exact free zero = record {
 }
 stmt_exact free (suc room) =
     let w = within_exact free room (stmt_at free room) (stmt_exact free room) in
-    record {
-      sound = λ ts rest x h. w.sound ts rest x h;
-      complete = λ ts rest x d few ends. w.complete ts rest x d few ends;
-    }
-
--- statements up to `}`, each at most so high
-pub record IsStmts (room : ℕ) (ts : List Lexeme) (ss : List StmtTree) : Type 0 where
-  pub spelled : SpellsStmts ts ss
-  pub low : stmts_height ss ≤ room
+    record { sound = w.sound; complete = w.complete }
 
 abbrev pub AtEnd : List Lexeme → Type 0
 AtEnd rest = begins_with mark.CloseCurly rest ≡ true
 
 pub stmts_exact : (free : ℕ) → (room : ℕ) → Exact (Few free) (IsStmts room) AtEnd (stmts_at (stmt_at free room))
-stmts_exact free room =
-    let e = inner_exact free room _ (stmt_exact free room) in
-    record {
-      sound = λ ts rest x h.
-          let d = e.sound [] x ts rest h in
-          let s = stmts_apart d.spelled in
-          record {
-            taken = d.taken;
-            split = d.split;
-            spelled = subst (λ z. IsStmts room d.taken z) (sym d.all) (record { spelled = s.0; low = s.1 });
-          };
-      complete = λ ts rest x d few ends. e.complete [] x ts rest (stmts_joined d.spelled d.low) few ends;
-    }
+stmts_exact free room = record {
+  sound = stmts_sound free room _ (stmt_exact free room);
+  complete = λ ts rest x d few ends.
+      (inner_exact free room _ (stmt_exact free room)).complete [] x ts rest (stmts_joined d.spelled d.low) few ends;
+}

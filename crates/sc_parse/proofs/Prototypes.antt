@@ -1,19 +1,17 @@
 -- Parameters and heads are read exactly as they are spelled.
-use Rattle.sc_parse.proofs.Common.{BaseTree, Bool, HeadTree, IsMark, Keyword, Lexeme, List, None, Option, ParamTree}
-use Rattle.sc_parse.proofs.Common.{Separated, Some, SpellsBase, SpellsHead, SpellsParam, SpellsParams, SpellsResult}
-use Rattle.sc_parse.proofs.Common.{SpellsTypeName, TypeName, [], a_result, adds, all_separated, ap, append_assoc}
-use Rattle.sc_parse.proofs.Common.{behind, behind_mark, bound, cond, drop, false, first_line, head, head_at, head_tree}
-use Rattle.sc_parse.proofs.Common.{int, is_void, keyword_at, more, name_ahead, name_at, named, nameless, no_params}
-use Rattle.sc_parse.proofs.Common.{no_result, none-some, option_map_or, param_at, param_tree, params_at}
-use Rattle.sc_parse.proofs.Common.{params_in_parens, refl, result_at, same_some, signed, signed_int, some_params}
-use Rattle.sc_parse.proofs.Common.{struct, subst, sym, true, type_name, type_name_at, unsigned, unsigned_int, ℕ, ◌++◌}
-use Rattle.sc_parse.proofs.Common.{◌>>=◌, ◌∙◌, ◌∷◌, ◌≡◌}
+use Rattle.sc_parse.proofs.Common.{HeadTree, Keyword, Lexeme, List, None, Option, ParamTree, Separated, Some}
+use Rattle.sc_parse.proofs.Common.{SpellsHead, SpellsParam, SpellsParams, SpellsResult, SpellsTypeName, TypeName, []}
+use Rattle.sc_parse.proofs.Common.{a_result, adds, all_separated, ap, append_assoc, behind, bound, false, false≢true}
+use Rattle.sc_parse.proofs.Common.{first_line, glued, head, head_at, head_tree, is_void, keyword_at, name_ahead}
+use Rattle.sc_parse.proofs.Common.{name_at, named, nameless, no_params, no_result, option_map_or, param_at, param_tree}
+use Rattle.sc_parse.proofs.Common.{params_at, refl, result_at, some_params, subst, sym, true, type_name, type_name_at}
+use Rattle.sc_parse.proofs.Common.{◌++◌, ◌∙◌, ◌∷◌, ◌≡◌}
+use Rattle.sc_parse.proofs.Bases.{base_front, Word, word_ahead, NoType, type_name_exact}
+use Rattle.sc_parse.proofs.Declared.{separated_front, comma_ahead}
+use Rattle.sc_parse.proofs.Exact.{given, chosen, enclosed, made, Taken, Exact, ExactAdder, Any, took, separated_exact}
 use Rattle.sc_expr.specs.declared.mark.Keyword.TheVariants as word
 use Rattle.sc_expr.specs.declared.mark.Mark.TheVariants as mark
 use Rattle.sc_parse.specs.Lists as lists
-use Rattle.sc_parse.proofs.Exact.{Taken, Exact, ExactAdder, Any, took, glued, separated_exact}
-use Rattle.sc_parse.proofs.Bases.{Word, word_ahead, NoType, type_name_exact}
-use Rattle.sc_parse.proofs.Declared.{comma_ahead, first_line_base}
 
 abbrev pub NoName : List Lexeme → Type 0
 NoName rest = name_at rest ≡ None
@@ -27,17 +25,10 @@ param_sound ts rest x h =
     let b = bound (λ x. option_map_or {U = Option (ParamTree × List Lexeme)}
     (λ y. Some (param_tree x.0 _, y.1)) (name_at x.1) (Some (param_tree x.0 None, x.1))) (type_name_at ts)
     (x, rest) h in
-    go b.0.0 b.0.1 (type_name_exact.sound ts b.0.1 b.0.0 b.1) (name_at b.0.1) refl b.2
-  where
-    go : (ty : TypeName) (us : List Lexeme) → Taken SpellsTypeName ts ty us → (o : Option (List ℕ × List Lexeme)) →
-        name_at us ≡ o → option_map_or {U = Option (ParamTree × List Lexeme)}
-        (λ y. Some (param_tree ty (Some y.0), y.1)) o (Some (param_tree ty None, us)) ≡ Some (x, rest) →
-        Taken SpellsParam ts x rest
-    go ty us d None q e = took SpellsParam ts d.taken x (param_tree ty None) us rest d.split (nameless d.spelled) e
-    go ty us d (Some y) q e =
-        let t = name_ahead us y.1 y.0 q in
-        took SpellsParam ts (d.taken ++ t.0 ∷ []) x (param_tree ty (Some y.0)) y.1 rest
-        (glued ts us y.1 d.taken _ d.split t.1) (named t.0 y.0 t.2 d.spelled) e
+    let d = type_name_exact.sound ts b.0.1 b.0.0 b.1 in
+    given _ _ _ b.2 (λ q e. took d.taken e d.split (nameless d.spelled)) (λ y q e.
+    let t = name_ahead b.0.1 y.1 y.0 q in
+    took (d.taken ++ t.0 ∷ []) e (glued y.1 d.taken _ d.split t.1) (named t.0 y.0 t.2 d.spelled))
 
 param_complete : {ts : List Lexeme} {x : ParamTree} (d : SpellsParam ts x) (rest : List Lexeme) → EndsParam rest →
     param_at (ts ++ rest) ≡ Some (x, rest)
@@ -61,16 +52,7 @@ void_ahead ts h = go (keyword_at ts) refl h
   where
     go : (o : Option Keyword) → keyword_at ts ≡ o → is_void o ≡ true → Word ts word.Void
     go (Some word.Void) q e = word_ahead ts word.Void q
-    go _ q e = absurd (none-some {A = ℕ} 0 (ap (λ b. cond b (Some 0) None) e))
-
-pub base_no_void : {ts : List Lexeme} {base : BaseTree} (d : SpellsBase ts base) (rest : List Lexeme) →
-    is_void (keyword_at (ts ++ rest)) ≡ false
-base_no_void (int t p) rest = rw p
-base_no_void (signed t p) rest = rw p
-base_no_void (signed_int t u p q) rest = rw p
-base_no_void (unsigned t p) rest = rw p
-base_no_void (unsigned_int t u p q) rest = rw p
-base_no_void (struct t u tag p q) rest = rw p
+    go _ q e = absurd (false≢true e)
 
 abbrev NoVoid : List Lexeme → Type 0
 NoVoid ts = is_void (keyword_at ts) ≡ false
@@ -78,18 +60,12 @@ NoVoid ts = is_void (keyword_at ts) ≡ false
 type_name_no_void : {ts : List Lexeme} {ty : TypeName} (d : SpellsTypeName ts ty) (rest : List Lexeme) →
     NoVoid (ts ++ rest)
 type_name_no_void (type_name {ts = ts} {us = us} d g) rest =
-    subst NoVoid (sym (append_assoc ts us rest)) (base_no_void d (us ++ rest))
+    subst NoVoid (sym (append_assoc ts us rest)) ((base_front d).no_void (us ++ rest))
 
 param_no_void : {ts : List Lexeme} {x : ParamTree} (d : SpellsParam ts x) (rest : List Lexeme) → NoVoid (ts ++ rest)
 param_no_void (named {ts = ts} t name p d) rest = subst NoVoid (sym (append_assoc ts _ rest))
     (type_name_no_void d (t ∷ rest))
 param_no_void (nameless d) rest = type_name_no_void d rest
-
-params_no_void : {ts : List Lexeme} {xs : List ParamTree} (d : Separated SpellsParam ts xs) (rest : List Lexeme) →
-    NoVoid (ts ++ rest)
-params_no_void (lists.one d) rest = param_no_void d rest
-params_no_void (more {ts = ts} {us = us} t p d g) rest =
-    subst NoVoid (sym (append_assoc ts _ rest)) (param_no_void d (t ∷ us ++ rest))
 
 abbrev EndsParams : List Lexeme → Type 0
 EndsParams rest = EndsParam rest × (behind mark.Comma rest ≡ None)
@@ -97,42 +73,26 @@ EndsParams rest = EndsParam rest × (behind mark.Comma rest ≡ None)
 params_sound : (ts rest : List Lexeme) (x : List ParamTree) → params_at ts ≡ Some (x, rest) →
     Taken SpellsParams ts x rest
 unfolding params_at
-params_sound ts rest x h = go (is_void (keyword_at ts)) refl h
-  where
-    go : (b : Bool) → is_void (keyword_at ts) ≡ b → cond {A = Option (List ParamTree × List Lexeme)} b
-        (Some ([], drop 1 ts)) (all_separated (adds param_at) [] ts) ≡ Some (x, rest) → Taken SpellsParams ts x rest
-    go true q e = let first = void_ahead ts q in took SpellsParams ts (first.first ∷ []) x [] (drop 1 ts) rest first.is
-        (no_params first.first first.keyword) e
-    go false q e =
-        let l = all_params_exact.sound [] x ts rest e in
-        record {
-          taken = l.taken;
-          split = l.split;
-          spelled = subst (λ v. SpellsParams l.taken v) (sym l.all)
-              (some_params l.spelled);
-        }
+params_sound ts rest x h = chosen _ _ _ h (λ q e. let first = void_ahead ts q in
+    took (first.first ∷ []) e first.is (no_params first.first first.keyword)) (λ q e.
+    let l = all_params_exact.sound [] x ts rest e in
+    let spelled = some_params l.spelled in
+    record { taken = l.taken; split = l.split; spelled = subst (SpellsParams l.taken) (sym l.all) spelled })
 
 params_complete : {ts : List Lexeme} {x : List ParamTree} (d : SpellsParams ts x) (rest : List Lexeme) →
     EndsParams rest → params_at (ts ++ rest) ≡ Some (x, rest)
 unfolding params_at
 params_complete (no_params t p) rest h = rw p
 params_complete (some_params {ts = ts} {params = xs} d) rest h =
-    rw (params_no_void d rest, all_params_exact.complete [] xs ts rest d tt h)
+    let read = all_params_exact.complete [] xs ts rest d tt h in
+    rw (separated_front NoVoid (λ ts rest x d. param_no_void d rest) d rest, read)
 
 result_sound : (ts rest : List Lexeme) (x : Option TypeName) → result_at ts ≡ Some (x, rest) →
     Taken SpellsResult ts x rest
 unfolding result_at
-result_sound ts rest x h = go (is_void (keyword_at ts)) refl h
-  where
-    go : (b : Bool) → is_void (keyword_at ts) ≡ b → cond {A = Option (Option TypeName × List Lexeme)} b
-        (Some (None, drop 1 ts)) (type_name_at ts >>= (λ x. Some (Some x.0, x.1))) ≡ Some (x, rest) →
-        Taken SpellsResult ts x rest
-    go true q e = let first = void_ahead ts q in took SpellsResult ts _ x None
-        (drop 1 ts) rest first.is (no_result first.first first.keyword) e
-    go false q e =
-        let b = bound (λ x. Some _) (type_name_at ts) (x, rest) e in
-        let d = type_name_exact.sound ts b.0.1 b.0.0 b.1 in
-        took SpellsResult ts d.taken x _ b.0.1 rest d.split (a_result d.spelled) b.2
+result_sound ts rest x h = chosen _ _ _ h (λ q e. let first = void_ahead ts q in
+    took (first.first ∷ []) e first.is (no_result first.first first.keyword)) (λ q e.
+    made (λ x. Some x) type_name_at type_name_exact.sound (λ ts x d. a_result d) e)
 
 result_complete : {ts : List Lexeme} {x : Option TypeName} (d : SpellsResult ts x) (rest : List Lexeme) → NoType rest →
     result_at (ts ++ rest) ≡ Some (x, rest)
@@ -141,33 +101,10 @@ result_complete (no_result t p) rest h = rw p
 result_complete (a_result {ts = ts} {ty = ty} d) rest h =
     rw (type_name_no_void d rest, type_name_exact.complete ts rest ty d tt h)
 
--- parameters in their parentheses
-parens_sound : (ts rest : List Lexeme) (x : List ParamTree) → params_in_parens ts ≡ Some (x, rest) →
-    (u : Lexeme) × (taken : List Lexeme) × (v : Lexeme) × (ts ≡ u ∷ (taken ++ v ∷ rest)) × IsMark mark.OpenParen u ×
-    IsMark mark.CloseParen v × SpellsParams taken x
-parens_sound ts rest x h =
-    let o = bound _ _ _ h in
-    let b = bound _ _ _ o.2 in
-    let c = bound _ _ _ b.2 in
-    let same = same_some c.2 in
-    let value = ap (λ p. p.0) same in
-    let after = ap (λ p. p.1) same in
-    let u = behind_mark _ ts o.0 o.1 in
-    let d = params_sound o.0 b.0.1 b.0.0 b.1 in
-    let v = behind_mark _ b.0.1 c.0 c.1 in (
-      u.0,
-      d.taken,
-      v.0,
-      u.1 ∙ ap (λ l. u.0 ∷ l) (d.split ∙ ap (λ l. d.taken ++ l) (v.1 ∙ ap (λ l. v.0 ∷ l) after)),
-      u.2,
-      v.2,
-      subst (λ z. SpellsParams d.taken z) value d.spelled,
-    )
-
 first_line_type : {ts : List Lexeme} {ty : TypeName} (d : SpellsTypeName ts ty) (rest : List Lexeme) →
     first_line (ts ++ rest) ≡ first_line ts
 first_line_type (type_name {ts = ts} {us = us} d g) rest =
-    ap first_line (append_assoc ts us rest) ∙ first_line_base d (us ++ rest) ∙ sym (first_line_base d us)
+    ap first_line (append_assoc ts us rest) ∙ (base_front d).line (us ++ rest) ∙ sym ((base_front d).line us)
 
 first_line_result : {ts : List Lexeme} {x : Option TypeName} (d : SpellsResult ts x) (rest : List Lexeme) →
     first_line (ts ++ rest) ≡ first_line ts
@@ -182,14 +119,13 @@ head_sound ts rest x h =
     let c = bound _ _ _ n.2 in
     let r = result_sound ts b.0.1 b.0.0 b.1 in
     let t = name_ahead b.0.1 n.0.1 n.0.0 n.1 in
-    let p = parens_sound n.0.1 c.0.1 c.0.0 c.1 in
+    let p = enclosed mark.OpenParen mark.CloseParen SpellsParams params_at params_sound n.0.1 c.0 c.1 in
     let line = ap first_line r.split ∙ first_line_result r.spelled b.0.1 in
-    let made = head t.0 p.0 p.2 n.0.0 t.2 p.4 p.5 r.spelled p.6 in
-    took SpellsHead ts (r.taken ++ t.0 ∷ p.0 ∷ (p.1 ++ p.2 ∷ [])) x _ c.0.1 rest
-    (glued ts b.0.1 c.0.1 r.taken _ r.split
-    (t.1 ∙ ap (λ l. t.0 ∷ l) (p.3 ∙ ap (λ l. p.0 ∷ l) (sym (append_assoc p.1 _ c.0.1)))))
-    (subst (λ k. SpellsHead (r.taken ++ t.0 ∷ p.0 ∷ (p.1 ++ p.2 ∷ [])) (head_tree b.0.0 n.0.0 c.0.0 k))
-    (sym line) made) c.2
+    let made = head t.0 p.first p.last n.0.0 t.2 p.opens p.closes r.spelled p.spelled in
+    took (r.taken ++ t.0 ∷ p.first ∷ (p.taken ++ p.last ∷ [])) c.2
+    (glued c.0.1 r.taken _ r.split (t.1 ∙ ap (λ l. t.0 ∷ l) p.split))
+    (subst (λ k. SpellsHead (r.taken ++ t.0 ∷ p.first ∷ (p.taken ++ p.last ∷ [])) (head_tree b.0.0 n.0.0 c.0.0 k))
+    (sym line) made)
 
 head_complete : {ts : List Lexeme} {x : HeadTree} (d : SpellsHead ts x) (rest : List Lexeme) →
     head_at (ts ++ rest) ≡ Some (x, rest)

@@ -1,14 +1,14 @@
 -- Sections are read exactly as they are spelled, within the limits of height and of brackets, and no lexemes spell two.
 use Rattle.sc_parse.proofs.Common.{Decl, Grouped, Lexeme, List, SectionTree, Some, SpellsDecl, SpellsSection, Symbol}
 use Rattle.sc_parse.proofs.Common.{[], ap, append-nil, arith, bound, compartment_at, compartment_by, decls_at}
-use Rattle.sc_parse.proofs.Common.{decls_height, directives, directives_at, is_empty, length, length-append, max}
-use Rattle.sc_parse.proofs.Common.{most_open, none-some, refl, same_some, section, section_at, section_height}
+use Rattle.sc_parse.proofs.Common.{decls_height, directives, directives_at, false≢true, is_empty, length, length-append}
+use Rattle.sc_parse.proofs.Common.{max, most_open, none-some, refl, same_some, section, section_at, section_height}
 use Rattle.sc_parse.proofs.Common.{section_tree, section_within, subst, sym, true, ℕ, ◌++◌, ◌+◌, ◌>>=◌, ◌∙◌, ◌∷◌, ◌≡◌}
 use Rattle.sc_parse.proofs.Common.{◌≤◌}
 use Rattle.sc_expr.specs.declared.lexeme.Symbol.TheVariants as symbol
 use Rattle.sc_parse.specs.Lists as lists
-use Rattle.sc_parse.proofs.Exact.{grouped_sound}
-use Rattle.sc_parse.proofs.Expressions.{Few, few_left, few_right, few_tail, false-true}
+use Rattle.sc_parse.proofs.Exact.{grouped_sound, same_pair}
+use Rattle.sc_parse.proofs.Expressions.{Few, few_left, few_right, few_tail}
 use Rattle.sc_parse.proofs.Beginnings.{NoLine}
 use Rattle.sc_parse.proofs.Wholes.{IsDecls}
 use Rattle.sc_parse.proofs.Decls.{decl_exact, decl_no_line, all_exact, decls_apart, decls_joined}
@@ -29,13 +29,11 @@ compartment_ahead : (ts rest : List Lexeme) (name : List ℕ) → compartment_at
 compartment_ahead [] rest name h = absurd (none-some _ h)
 compartment_ahead (t ∷ ts) rest name h =
     let b = bound _ _ _ h in
-    let same = same_some b.2 in
-    let value = ap (λ p. p.0) same in
-    let after = ap (λ p. p.1) same in
+    let same = same_pair b.2 in
     record {
       first = t;
-      is = ap (λ l. t ∷ l) after;
-      names = compartment_is _ b.0 b.1 ∙ ap (λ n. symbol.Compartment n) value;
+      is = ap (λ l. t ∷ l) same.1;
+      names = compartment_is _ b.0 b.1 ∙ ap (λ n. symbol.Compartment n) same.0;
     }
 
 -- declarations up to the end, at most so high
@@ -45,7 +43,7 @@ record Declared (limit : ℕ) (ts : List Lexeme) (zs : List Decl) : Type 0 where
 
 ended : (rest : List Lexeme) → is_empty rest ≡ true → rest ≡ []
 ended [] h = refl
-ended (t ∷ rest) h = absurd (false-true h)
+ended (t ∷ rest) h = absurd (false≢true h)
 
 decls_sound : (free limit : ℕ) (ts rest : List Lexeme) (zs : List Decl) → decls_at free limit ts ≡ Some (zs, rest) →
     Declared limit ts zs × (rest ≡ [])
@@ -74,9 +72,7 @@ within_sound free limit line ts rest x h =
     let c = bound (λ y. decls_at free limit y.1 >>= (λ z. Some (section_tree b.0.0 line y.0 z.0, z.1)))
     (directives_at b.0.1) (x, rest) b.2 in
     let d = bound (λ z. Some (section_tree b.0.0 line c.0.0 z.0, z.1)) (decls_at free limit c.0.1) (x, rest) c.2 in
-    let same = same_some d.2 in
-    let value : section_tree b.0.0 line c.0.0 d.0.0 ≡ x = ap (λ p. p.0) same in
-    let after : d.0.1 ≡ rest = ap (λ p. p.1) same in
+    let same = same_pair d.2 in
     let first = compartment_ahead ts b.0.1 b.0.0 b.1 in
     let lines = lines_sound (length b.0.1 + 1) (directives [] []) c.0.0 b.0.1 c.0.1 c.1 in
     let decls = decls_sound free limit c.0.1 d.0.1 d.0.0 d.1 in
@@ -87,8 +83,8 @@ within_sound free limit line ts rest x h =
     let all : ts ≡ first.first ∷ (lines.taken ++ c.0.1) = first.is ∙ ap (λ l. first.first ∷ l) lines.split in (
       subst (λ l. IsSection limit line l x) (sym all) (subst
           (IsSection limit line (first.first ∷ (lines.taken ++ c.0.1)))
-          (ap (λ f. section_tree b.0.0 line f d.0.0) found ∙ value) made),
-      sym after ∙ decls.1,
+          (ap (λ f. section_tree b.0.0 line f d.0.0) found ∙ same.0) made),
+      sym same.1 ∙ decls.1,
     )
 
 decls_no_line : {ts : List Lexeme} {zs : List Decl} (d : Grouped SpellsDecl ts zs) → NoLine ts

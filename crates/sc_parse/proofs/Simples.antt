@@ -1,15 +1,16 @@
 -- Assignments, `++` and `--`, and calls are read exactly as they are spelled.
-use Rattle.sc_parse.proofs.Common.{BinaryOp, Bool, CallTree, ExprTree, IsMark, IsTrue, Lexeme, List, Mark, None, Option}
+use Rattle.sc_parse.proofs.Common.{BinaryOp, CallTree, ExprTree, IsMark, IsTrue, Lexeme, List, Mark, None, Option}
 use Rattle.sc_parse.proofs.Common.{Prefix, SimpleKind, Some, Spells, SpellsCall, SpellsKind, SpellsPlace, Symbol, []}
-use Rattle.sc_parse.proofs.Common.{ap, append_assoc, arith, arrow, assign, assign_call, assignment_at, begins_call}
-use Rattle.sc_parse.proofs.Common.{begins_value, begins_with, bound, call, call_alone, call_at, call_height, change_at}
-use Rattle.sc_parse.proofs.Common.{change_of, changed, compound, compound_of, cond, cond_is, drop, expr_at, expr_height}
-use Rattle.sc_parse.proofs.Common.{false, index, is_place, is_some, joined, lead_by, literal, looser, lt-ltb, ltb-true}
-use Rattle.sc_parse.proofs.Common.{makes_value, mark_at, mark_by, max, member, none-some, operand_behind, option_map_or}
-use Rattle.sc_parse.proofs.Common.{parenthesised, place_at, placed, prefix, prefix_of, prefixed, read, read_sound, refl}
-use Rattle.sc_parse.proofs.Common.{rules, same_some, simple_at, simple_kind_height, step_at, step_before, step_behind}
-use Rattle.sc_parse.proofs.Common.{step_of, stepped, subst, sym, the_lemmas, true, unary_place, unstepped, updates}
-use Rattle.sc_parse.proofs.Common.{value_behind, variable, ℕ, ◌++◌, ◌+◌, ◌-◌, ◌<◌, ◌>>=◌, ◌∙◌, ◌∷◌, ◌≡◌, ◌≤◌}
+use Rattle.sc_parse.proofs.Common.{ap, append_assoc, arith, arrow, assign, assign_call, assignment_at, begins_value}
+use Rattle.sc_parse.proofs.Common.{begins_with, bound, call, call_alone, call_at, call_height, change_at, change_of}
+use Rattle.sc_parse.proofs.Common.{changed, compound, compound_of, cond_is, drop, expr_at, expr_height, false}
+use Rattle.sc_parse.proofs.Common.{false≢true, glued, index, is_place, is_some, joined, lead_by, literal, looser}
+use Rattle.sc_parse.proofs.Common.{lt-ltb, ltb-true, makes_value, mark_at, mark_by, max, member, none-some}
+use Rattle.sc_parse.proofs.Common.{operand_behind, option_map_or, parenthesised, place_at, placed, prefix, prefix_of}
+use Rattle.sc_parse.proofs.Common.{prefixed, read, read_sound, refl, rules, same_some, simple_at, simple_kind_height}
+use Rattle.sc_parse.proofs.Common.{step_at, step_before, step_behind, step_of, stepped, subst, sym, the_lemmas, true}
+use Rattle.sc_parse.proofs.Common.{unary_place, unstepped, updates, value_behind, variable, ℕ, ◌++◌, ◌+◌, ◌-◌, ◌<◌}
+use Rattle.sc_parse.proofs.Common.{◌>>=◌, ◌∙◌, ◌∷◌, ◌≡◌, ◌≤◌}
 use Rattle.sc_ast.specs.declared.expr.ExprTree.TheVariants as expr
 use Rattle.sc_base.specs.declared.op.UnaryOp.{UnaryOp}
 use Rattle.sc_ast.specs.declared.stmt.SimpleKind.TheVariants as simple
@@ -23,10 +24,10 @@ use Rattle.sc_parse.specs.declared.simple.Placed.{Placed}
 use Rattle.sc_parse.specs.Statements as statements
 use Rattle.sc_parse.specs.Statements.{one}
 use Rattle.sc_parse.specs.StmtReaders as readers
-use Rattle.sc_parse.proofs.Exact.{Taken, Exact, took, glued}
+use Rattle.sc_parse.proofs.Exact.{Taken, Exact, took, given, chosen, made, same_pair}
 use Rattle.sc_parse.proofs.Expressions.{Few, few_left, few_right, few_tail, NoExtension, unary_reads, expr_exact}
 use Rattle.sc_parse.proofs.Expressions.{call_exact, call_begins, no_call, begins_expr, expr_starts, starts_expr}
-use Rattle.sc_parse.proofs.Expressions.{false-true}
+use Rattle.sc_parse.proofs.Expressions.{call_starts}
 
 -- a mark at the front
 pub record Marked (ts : List Lexeme) (m : Mark) : Type 0 where
@@ -50,30 +51,12 @@ data Changes : Mark → Change → Type 0 where
 
 change_other : (m : Mark) (c : Change) → option_map_or (λ op. Some (change.By op)) (compound_of m)
     (option_map_or (λ op. Some (change.Step op)) (step_of m) None) ≡ Some c → Changes m c
-change_other m c h = go (compound_of m) refl (step_of m) refl h
-  where
-    go : (o : Option BinaryOp) → compound_of m ≡ o → (p : Option BinaryOp) → step_of m ≡ p →
-        option_map_or (λ op. Some (change.By op)) o (option_map_or (λ op. Some (change.Step op)) p None) ≡ Some c →
-        Changes m c
-    go (Some op) q p r e = subst (Changes m) (same_some e) (by m op q)
-    go None q (Some op) r e = subst (Changes m) (same_some e) (steps m op r)
-    go None q None r e = absurd (none-some c e)
+change_other m c h = given _ _ _ h (λ q e. given _ _ _ e (λ r e. absurd (none-some c e))
+    (λ op r e. subst (Changes m) (same_some e) (steps m op r))) (λ op q e. subst (Changes m) (same_some e) (by m op q))
 
 changes : (m : Mark) (c : Change) → change_of m ≡ Some c → Changes m c
 changes mark.Equal c h = subst (Changes _) (same_some h) sets
-changes mark.PlusEqual c h = change_other _ c h
-changes mark.MinusEqual c h = change_other _ c h
-changes mark.StarEqual c h = change_other _ c h
-changes mark.SlashEqual c h = change_other _ c h
-changes mark.PercentEqual c h = change_other _ c h
-changes mark.LessLessEqual c h = change_other _ c h
-changes mark.GreaterGreaterEqual c h = change_other _ c h
-changes mark.AndEqual c h = change_other _ c h
-changes mark.CaretEqual c h = change_other _ c h
-changes mark.OrEqual c h = change_other _ c h
-changes mark.PlusPlus c h = change_other _ c h
-changes mark.MinusMinus c h = change_other _ c h
-changes _ c h = absurd (none-some c h)
+changes _ c h = change_other _ c h
 
 -- a statement that may stand in the head of a `for`, whose parts are at most so high
 pub record IsSimple (room : ℕ) (ts : List Lexeme) (x : SimpleKind) : Type 0 where
@@ -87,45 +70,15 @@ record PlaceTaken (room : ℕ) (ts : List Lexeme) (x : Placed) (rest : List Lexe
   height : x.height ≡ expr_height x.place
   low : x.height ≤ room
 
-unary_place_sound : (free : ℕ) → (room : ℕ) (ts rest : List Lexeme) (x : Placed) →
-    unary_place free room ts ≡ Some (x, rest) → PlaceTaken room ts x rest
-unary_place_sound free room ts rest x h =
-    let b = bound _ _ _ h in
-    let m = read_sound free room _ ts b.0 (omega arith) b.1 in
-    let c = cond_is _ _ _ b.2 in
-    let same = same_some c.1 in
-    let value = ap (λ p. p.0) same in
-    let after = ap (λ p. p.1) same in
-    let made : PlaceTaken room ts _ _ =
-    record { taken = m.taken; split = m.split; spelled = (m.spelled, c.0); height = m.measured; low = m.low } in
-    subst (λ y. PlaceTaken room ts y rest) value (subst
-    (λ r. PlaceTaken room ts (placed b.0.tree b.0.height) r) after made)
-
 place_sound : (free : ℕ) → (room : ℕ) (ts rest : List Lexeme) (x : Placed) → place_at free room ts ≡ Some (x, rest) →
     PlaceTaken room ts x rest
 unfolding place_at
-place_sound free room ts rest x h = go _ h
-  where
-    go : (b : Bool) → cond {A = Option (Placed × List Lexeme)} b None (unary_place free room ts) ≡ Some (x, rest) →
-        PlaceTaken room ts x rest
-    go true e = absurd (none-some _ e)
-    go false e = unary_place_sound free room ts rest x e
-
--- a postfix expression begins with no operator
-postfix_begins : {level : ℕ} {ts : List Lexeme} {e : ExprTree} (d : Spells level ts e) (rest : List Lexeme) →
-    level ≡ 0 → begins_value (ts ++ rest) ≡ false
-postfix_begins (literal t number p) rest h = rw p
-postfix_begins (variable t name p) rest h = rw p
-postfix_begins (parenthesised t u p q d) rest h = rw p
-postfix_begins (index {ts = ts} {us = us} t u p q d g) rest h =
-    ap begins_value (append_assoc ts _ rest) ∙ postfix_begins d (t ∷ (us ++ u ∷ []) ++ rest) refl
-postfix_begins (member {ts = ts} t u name p q d) rest h =
-    ap begins_value (append_assoc ts _ rest) ∙ postfix_begins d (t ∷ u ∷ rest) refl
-postfix_begins (arrow {ts = ts} t u name p q d) rest h =
-    ap begins_value (append_assoc ts _ rest) ∙ postfix_begins d (t ∷ u ∷ rest) refl
-postfix_begins (prefix t m o p q d) rest h = absurd (omega arith)
-postfix_begins (joined t m op p q k d g) rest h = absurd (omega arith)
-postfix_begins (looser d) rest h = absurd (omega arith)
+place_sound free room ts rest x h = chosen _ None (unary_place free room ts) h (λ q e. absurd (none-some _ e)) (λ q e.
+    let b = bound _ _ _ e in
+    let m = read_sound free room _ ts b.0 (omega arith) b.1 in
+    let c = cond_is _ _ _ b.2 in
+    subst (λ y. PlaceTaken room ts y.0 y.1) (same_some c.1)
+    (record { taken = m.taken; split = m.split; spelled = (m.spelled, c.0); height = m.measured; low = m.low }))
 
 unary_no_place : (op : UnaryOp) (e : ExprTree) → is_place (expr.Unary op e) ≡ false
 unary_no_place op e = search (rules, the_lemmas)
@@ -137,41 +90,38 @@ binary_no_place : (op : BinaryOp) (e f : ExprTree) → is_place (expr.Binary op 
 binary_no_place op e f = search (rules, the_lemmas)
 
 star_makes_none : (m : Mark) → prefix_of m ≡ Some prefixes.Dereference → makes_value m ≡ false
-star_makes_none mark.Minus h = cc
-star_makes_none mark.Plus h = cc
-star_makes_none mark.Not h = cc
-star_makes_none mark.Tilde h = cc
-star_makes_none mark.And h = cc
-star_makes_none _ h = refl
+star_makes_none mark.Star h = refl
+star_makes_none _ h = cc
 
 no_value : (m : Mark) (p : Prefix) (e : ExprTree) → prefix_of m ≡ Some p → IsTrue (is_place (prefixed p e)) →
     makes_value m ≡ false
 no_value m prefixes.Dereference e h place = star_makes_none m h
-no_value m prefixes.Address e h place = absurd (false-true (sym (address_no_place e) ∙ place))
-no_value m (prefixes.Operator op) e h place = absurd (false-true (sym (unary_no_place op e) ∙ place))
+no_value m prefixes.Address e h place = absurd (false≢true (sym (address_no_place e) ∙ place))
+no_value m (prefixes.Operator op) e h place = absurd (false≢true (sym (unary_no_place op e) ∙ place))
 
--- of the operators `*` alone begins a place
+-- of the operators `*` alone begins a place, and none a postfix expression
 place_begins : {level : ℕ} {ts : List Lexeme} {e : ExprTree} (d : Spells level ts e) (rest : List Lexeme) →
-    IsTrue (is_place e) → begins_value (ts ++ rest) ≡ false
+    (0 < level → IsTrue (is_place e)) → begins_value (ts ++ rest) ≡ false
 place_begins (literal t number p) rest h = rw p
 place_begins (variable t name p) rest h = rw p
 place_begins (parenthesised t u p q d) rest h = rw p
-place_begins (index {ts = ts} {us = us} t u p q d g) rest h =
-    ap begins_value (append_assoc ts _ rest) ∙ postfix_begins d (t ∷ (us ++ u ∷ []) ++ rest) refl
-place_begins (member {ts = ts} t u name p q d) rest h =
-    ap begins_value (append_assoc ts _ rest) ∙ postfix_begins d (t ∷ u ∷ rest) refl
-place_begins (arrow {ts = ts} t u name p q d) rest h =
-    ap begins_value (append_assoc ts _ rest) ∙ postfix_begins d (t ∷ u ∷ rest) refl
-place_begins (prefix {e = e} t m o p q d) rest h = rw p (no_value m o e q h)
-place_begins (joined {e = e} {f = f} t m op p q k d g) rest h = absurd (false-true (sym (binary_no_place op e f) ∙ h))
-place_begins (looser d) rest h = place_begins d rest h
+place_begins (index {ts = ts} {us = us} t u p q d g) rest h = ap begins_value (append_assoc ts _ rest) ∙
+    place_begins d (t ∷ (us ++ u ∷ []) ++ rest) (λ some. absurd (omega arith))
+place_begins (member {ts = ts} t u name p q d) rest h = ap begins_value (append_assoc ts _ rest) ∙
+    place_begins d (t ∷ u ∷ rest) (λ some. absurd (omega arith))
+place_begins (arrow {ts = ts} t u name p q d) rest h = ap begins_value (append_assoc ts _ rest) ∙
+    place_begins d (t ∷ u ∷ rest) (λ some. absurd (omega arith))
+place_begins (prefix {e = e} t m o p q d) rest h = rw p (no_value m o e q (h (omega arith)))
+place_begins (joined {e = e} {f = f} t m op p q k d g) rest h =
+    absurd (false≢true (sym (binary_no_place op e f) ∙ h (omega arith)))
+place_begins (looser d) rest h = place_begins d rest (λ some. h (omega arith))
 
 place_reads : (free : ℕ) → (room : ℕ) {ts : List Lexeme} {place : ExprTree} (d : SpellsPlace ts place)
     (rest : List Lexeme) → expr_height place ≤ room → Few free ts → NoExtension rest →
     place_at free room (ts ++ rest) ≡ Some (placed place (expr_height place), rest)
 unfolding place_at
 place_reads free room d rest low few ends = rw (
-  place_begins d.0 rest d.1,
+  place_begins d.0 rest (λ some. d.1),
   unary_reads free d.0 room rest low few ends,
   d.1,
 )
@@ -193,8 +143,8 @@ stepped_some : (room : ℕ) (op : BinaryOp) (x : Placed) (ts rest : List Lexeme)
 unfolding stepped
 stepped_some room op x ts rest k h =
     let c = cond_is _ _ _ h in
-    let same = same_some c.1 in
-    (ltb-true _ room c.0, sym (ap (λ p. p.0) same), ap (λ p. p.1) same)
+    let same = same_pair c.1 in
+    (ltb-true _ room c.0, sym same.0, same.1)
 
 step_before_sound : (free : ℕ) → (room : ℕ) (op : BinaryOp) (m : Mark) (ts rest : List Lexeme) (k : SimpleKind) →
     mark_at ts ≡ Some m → step_of m ≡ Some op → readers.step_before free room op (drop 1 ts) ≡ Some (k, rest) →
@@ -207,8 +157,7 @@ step_before_sound free room op m ts rest k q r h =
     let s = stepped_some room op b.0.0 b.0.1 rest k b.2 in
     let height = p.height in
     let short = s.0 in
-    let low =
-    step_low op b.0.0.place room (positive p.spelled.0) (omega arith) in
+    let low = step_low op b.0.0.place room (positive p.spelled.0) (omega arith) in
     record {
       taken = t.first ∷ p.taken;
       split = t.is ∙ ap (λ l. t.first ∷ l) (p.split ∙ ap (λ l. p.taken ++ l) s.2);
@@ -218,34 +167,18 @@ step_before_sound free room op m ts rest k q r h =
 
 call_alone_sound : (free : ℕ) → (room : ℕ) (ts rest : List Lexeme) (k : SimpleKind) →
     call_alone free room ts ≡ Some (k, rest) → Taken (IsSimple room) ts k rest
-call_alone_sound free room ts rest k h =
-    let b = bound _ _ _ h in
-    let c = (call_exact free room).sound ts b.0.1 b.0.0 b.1 in
-    took _ ts c.taken k _ b.0.1 rest c.split (record { spelled = call c.spelled.spelled; low = c.spelled.low }) b.2
+call_alone_sound free room ts rest k h = made simple.Call (call_at free room) (call_exact free room).sound
+    (λ ts c d. record { spelled = call d.spelled; low = d.low }) h
 
 value_sound : (free : ℕ) → (room : ℕ) (place : ExprTree) (before : List Lexeme) (t : Lexeme) (ts rest : List Lexeme)
     (k : SimpleKind) → IsMark mark.Equal t → SpellsPlace before place → expr_height place ≤ room →
     value_behind free room place ts ≡ Some (k, rest) → Taken (λ us k. IsSimple room (before ++ t ∷ us) k) ts k rest
 unfolding value_behind
-value_sound free room place before t ts rest k p d low h = go (begins_call ts) h
-  where
-    go : (b : Bool) → cond {A = Option (SimpleKind × List Lexeme)} b
-        (call_at free room ts >>= (λ x. Some (simple.AssignCall place x.0, x.1)))
-        (expr_at free room ts >>= (λ x. Some (simple.Assign place x.0, x.1))) ≡ Some (k, rest) →
-        Taken (λ us k. IsSimple room (before ++ t ∷ us) k) ts k rest
-    go true e =
-        let b = bound (λ x. Some (simple.AssignCall place x.0, x.1)) (call_at free room ts) (k, rest) e in
-        let c = (call_exact free room).sound ts b.0.1 b.0.0 b.1 in
-        let short = c.spelled.low in
-        took (λ us k. IsSimple room (before ++ t ∷ us) k) ts c.taken k
-        (simple.AssignCall place b.0.0) b.0.1 rest c.split
-        (record { spelled = assign_call t p d c.spelled.spelled; low = omega arith }) b.2
-    go false e =
-        let b = bound (λ x. Some (simple.Assign place x.0, x.1)) (expr_at free room ts) (k, rest) e in
-        let c = (expr_exact free room).sound ts b.0.1 b.0.0 b.1 in
-        let short = c.spelled.low in
-        took (λ us k. IsSimple room (before ++ t ∷ us) k) ts c.taken k (simple.Assign place b.0.0) b.0.1 rest c.split
-        (record { spelled = assign t p d c.spelled.spelled; low = omega arith }) b.2
+value_sound free room place before t ts rest k p d low h = chosen _ _ _ h
+    (λ q e. made (simple.AssignCall place) (call_at free room) (call_exact free room).sound
+    (λ us c v. record { spelled = assign_call t p d v.spelled; low = omega (arith, v.low) }) e)
+    (λ q e. made (simple.Assign place) (expr_at free room) (expr_exact free room).sound
+    (λ us e v. record { spelled = assign t p d v.spelled; low = omega (arith, v.low) }) e)
 
 operand_sound : (free : ℕ) → (room : ℕ) (op : BinaryOp) (m : Mark) (x : Placed) (before : List Lexeme) (t : Lexeme)
     (ts rest : List Lexeme) (k : SimpleKind) → IsMark m t → compound_of m ≡ Some op → SpellsPlace before x.place →
@@ -259,21 +192,23 @@ operand_sound free room op m x before t ts rest k p q d height h =
     let e = (expr_exact free _).sound ts b.0.1 b.0.0 b.1 in
     let low = e.spelled.low in
     let made = updates_height op x.place b.0.0 in
-    took _ ts e.taken k _ b.0.1 rest e.split
-    (record { spelled = compound t m op p q d e.spelled.spelled; low = omega arith }) b.2
+    took e.taken b.2 e.split (record { spelled = compound t m op p q d e.spelled.spelled; low = omega arith })
+
+change_ahead : (ts : List Lexeme) (c : Change) → change_at ts ≡ Some c → (m : Mark) × Marked ts m × Changes m c
+change_ahead ts c h = let b = bound _ _ c h in (b.0, mark_ahead ts b.0 b.1, changes b.0 c b.2)
 
 assignment_sound : (free : ℕ) → (room : ℕ) (ts rest : List Lexeme) (k : SimpleKind) →
     assignment_at free room ts ≡ Some (k, rest) → Taken (IsSimple room) ts k rest
 unfolding assignment_at
 assignment_sound free room ts rest k h =
     let b = bound (λ x. changed free room (change_at x.1) x.0 (drop 1 x.1)) (place_at free room ts) (k, rest) h in
-    go b.0.0 b.0.1 (place_sound free room ts b.0.1 b.0.0 b.1) (mark_at b.0.1) refl b.2
+    go b.0.0 b.0.1 (place_sound free room ts b.0.1 b.0.0 b.1) (change_at b.0.1) refl b.2
   where
     whole : (x : Placed) (us : List Lexeme) (p : PlaceTaken room ts x us) (t : Lexeme) → us ≡ t ∷ drop 1 us →
         Taken (λ vs k. IsSimple room (p.taken ++ t ∷ vs) k) (drop 1 us) k rest → Taken (IsSimple room) ts k rest
     whole x us p t is v = record {
       taken = p.taken ++ t ∷ v.taken;
-      split = glued ts us rest p.taken (t ∷ v.taken) p.split (is ∙ ap (λ l. t ∷ l) v.split);
+      split = glued rest p.taken (t ∷ v.taken) p.split (is ∙ ap (λ l. t ∷ l) v.split);
       spelled = v.spelled;
     }
 
@@ -294,42 +229,22 @@ assignment_sound free room ts rest k h =
         step_low op x.place room (positive p.spelled.0) (omega arith) in
         record {
           taken = p.taken ++ t.first ∷ [];
-          split = glued ts us rest p.taken (t.first ∷ []) p.split (t.is ∙ ap (λ l. t.first ∷ l) s.2);
+          split = glued rest p.taken (t.first ∷ []) p.split (t.is ∙ ap (λ l. t.first ∷ l) s.2);
           spelled = subst (λ z. IsSimple room (p.taken ++ t.first ∷ []) z) (sym s.1)
               (record { spelled = step_behind t.first m op t.mark q p.spelled; low = low });
         }
 
-    by_mark : (x : Placed) (us : List Lexeme) (p : PlaceTaken room ts x us) (m : Mark) → Marked us m →
-        (c : Option Change) → change_of m ≡ c → changed free room c x (drop 1 us) ≡ Some (k, rest) →
-        Taken (IsSimple room) ts k rest
-    by_mark x us p m t None q e = absurd (none-some (k, rest) e)
-    by_mark x us p m t (Some c) q e = by_change x us p m t c (changes m c q) e
-
-    go : (x : Placed) (us : List Lexeme) → PlaceTaken room ts x us → (o : Option Mark) → mark_at us ≡ o →
-        changed free room (o >>= change_of) x (drop 1 us) ≡ Some (k, rest) → Taken (IsSimple room) ts k rest
+    go : (x : Placed) (us : List Lexeme) → PlaceTaken room ts x us → (o : Option Change) → change_at us ≡ o →
+        changed free room o x (drop 1 us) ≡ Some (k, rest) → Taken (IsSimple room) ts k rest
     go x us p None q e = absurd (none-some (k, rest) e)
-    go x us p (Some m) q e = by_mark x us p m (mark_ahead us m q) (change_of m) refl e
+    go x us p (Some c) q e = let a = change_ahead us c q in by_change x us p a.0 a.1 c a.2 e
 
 simple_sound : (free : ℕ) → (room : ℕ) (ts rest : List Lexeme) (k : SimpleKind) →
     simple_at free room ts ≡ Some (k, rest) → Taken (IsSimple room) ts k rest
 unfolding simple_at
-simple_sound free room ts rest k h = go _ refl h
-  where
-    other : (b : Bool) → cond {A = Option (SimpleKind × List Lexeme)} b (call_alone free room ts)
-        (assignment_at free room ts) ≡ Some (k, rest) → Taken (IsSimple room) ts k rest
-    other true e = call_alone_sound free room ts rest k e
-    other false e = assignment_sound free room ts rest k e
-
-    by_step : (m : Mark) → mark_at ts ≡ Some m → (o : Option BinaryOp) → step_of m ≡ o →
-        option_map_or (λ op. readers.step_before free room op (drop 1 ts)) o (unstepped free room ts) ≡
-        Some (k, rest) → Taken (IsSimple room) ts k rest
-    by_step m q None r e = other _ e
-    by_step m q (Some op) r e = step_before_sound free room op m ts rest k q r e
-
-    go : (o : Option Mark) → mark_at ts ≡ o → option_map_or (λ op. readers.step_before free room op (drop 1 ts))
-        (o >>= step_of) (unstepped free room ts) ≡ Some (k, rest) → Taken (IsSimple room) ts k rest
-    go None q e = other _ e
-    go (Some m) q e = by_step m q (step_of m) refl e
+simple_sound free room ts rest k h = given _ (step_at ts) (unstepped free room ts) h (λ q e. chosen _ _ _ e
+    (λ q e. call_alone_sound free room ts rest k e) (λ q e. assignment_sound free room ts rest k e)) (λ op q e.
+    let b = bound _ _ op q in step_before_sound free room op b.0 ts rest k b.1 b.2 e)
 
 compound_change : (m : Mark) (op : BinaryOp) → compound_of m ≡ Some op → change_of m ≡ Some (change.By op)
 compound_change mark.Equal op h = absurd (none-some op h)
@@ -347,28 +262,26 @@ abbrev Stops : Mark → Type 0
 Stops m = (t : Lexeme) (rest : List Lexeme) → IsMark m t →
     NoExtension (t ∷ rest) × (begins_with mark.OpenParen (t ∷ rest) ≡ false)
 
-compound_stops : (m : Mark) (op : BinaryOp) → compound_of m ≡ Some op → Stops m
-compound_stops mark.PlusEqual op h t rest p = (rw p, rw p)
-compound_stops mark.MinusEqual op h t rest p = (rw p, rw p)
-compound_stops mark.StarEqual op h t rest p = (rw p, rw p)
-compound_stops mark.SlashEqual op h t rest p = (rw p, rw p)
-compound_stops mark.PercentEqual op h t rest p = (rw p, rw p)
-compound_stops mark.LessLessEqual op h t rest p = (rw p, rw p)
-compound_stops mark.GreaterGreaterEqual op h t rest p = (rw p, rw p)
-compound_stops mark.AndEqual op h t rest p = (rw p, rw p)
-compound_stops mark.CaretEqual op h t rest p = (rw p, rw p)
-compound_stops mark.OrEqual op h t rest p = (rw p, rw p)
-compound_stops _ op h t rest p = absurd (none-some op h)
-
-step_stops : (m : Mark) (op : BinaryOp) → step_of m ≡ Some op → Stops m
-step_stops mark.PlusPlus op h t rest p = (rw p, rw p)
-step_stops mark.MinusMinus op h t rest p = (rw p, rw p)
-step_stops _ op h t rest p = absurd (none-some op h)
+stops : (m : Mark) (c : Change) → change_of m ≡ Some c → Stops m
+stops mark.Equal c h t rest p = (rw p, rw p)
+stops mark.PlusEqual c h t rest p = (rw p, rw p)
+stops mark.MinusEqual c h t rest p = (rw p, rw p)
+stops mark.StarEqual c h t rest p = (rw p, rw p)
+stops mark.SlashEqual c h t rest p = (rw p, rw p)
+stops mark.PercentEqual c h t rest p = (rw p, rw p)
+stops mark.LessLessEqual c h t rest p = (rw p, rw p)
+stops mark.GreaterGreaterEqual c h t rest p = (rw p, rw p)
+stops mark.AndEqual c h t rest p = (rw p, rw p)
+stops mark.CaretEqual c h t rest p = (rw p, rw p)
+stops mark.OrEqual c h t rest p = (rw p, rw p)
+stops mark.PlusPlus c h t rest p = (rw p, rw p)
+stops mark.MinusMinus c h t rest p = (rw p, rw p)
+stops _ c h t rest p = absurd (none-some c h)
 
 -- neither `++` nor `--` begins an expression
 lead_no_step : (m : Mark) → is_some (lead_by m) ≡ true → step_of m ≡ None
-lead_no_step mark.PlusPlus h = absurd (none-some {A = ℕ} 0 (ap (λ b. cond b (Some 0) None) h))
-lead_no_step mark.MinusMinus h = absurd (none-some {A = ℕ} 0 (ap (λ b. cond b (Some 0) None) h))
+lead_no_step mark.PlusPlus h = absurd (false≢true h)
+lead_no_step mark.MinusMinus h = absurd (false≢true h)
 lead_no_step _ h = refl
 
 symbol_no_step : (s : Symbol) → starts_expr s ≡ true → mark_by s >>= step_of ≡ None
@@ -381,25 +294,22 @@ unfolding begins_expr
 no_step [] h = refl
 no_step (t ∷ ts) h = symbol_no_step _ h
 
-call_no_step : {ts : List Lexeme} {x : CallTree} (d : SpellsCall ts x) (rest : List Lexeme) →
-    step_at (ts ++ rest) ≡ None
-call_no_step (statements.call t u v name p q r d) rest = rw p
-
 abbrev pub EndsSimple : List Lexeme → Type 0
 EndsSimple rest = NoExtension rest × (begins_with mark.OpenParen rest ≡ false)
 
 -- an assignment, where what stands behind its place is read
 assigned : (free : ℕ) → (room : ℕ) {ts : List Lexeme} {place : ExprTree} (d : SpellsPlace ts place) (m : Mark)
     (t : Lexeme) (us : List Lexeme) (c : Change) (k : SimpleKind) (rest : List Lexeme) → IsMark m t →
-    change_of m ≡ Some c → Stops m → expr_height place ≤ room → Few free ts →
-    changed free room (Some c) (placed place (expr_height place)) us ≡ Some (k, rest) →
-    simple_at free room (ts ++ t ∷ us) ≡ Some (k, rest)
+    change_of m ≡ Some c → expr_height place ≤ room → Few free (ts ++ t ∷ us) →
+    changed free room (Some c) (placed place (expr_height place)) (us ++ rest) ≡ Some (k, rest) →
+    simple_at free room ((ts ++ t ∷ us) ++ rest) ≡ Some (k, rest)
 unfolding simple_at assignment_at
-assigned free room {ts} d m t us c k rest p q stops low few h =
-    let stop = stops t us p in
-    let none = no_step (ts ++ t ∷ us) (expr_starts d.0 _) in
-    let plain = no_call d.0 (t ∷ us) stop.1 in
-    rw (none, plain, place_reads free room d (t ∷ us) low few stop.0, p, q) h
+assigned free room {ts} d m t us c k rest p q low few h =
+    let stop = stops m c q t (us ++ rest) p in
+    let none = no_step (ts ++ t ∷ (us ++ rest)) (expr_starts d.0 _) in
+    let plain = no_call d.0 (t ∷ (us ++ rest)) stop.1 in
+    let read = place_reads free room d (t ∷ (us ++ rest)) low (few_left free ts _ few) stop.0 in
+    ap (simple_at free room) (append_assoc ts _ rest) ∙ rw (none, plain, read, p, q) h
 
 before_complete : (free : ℕ) → (room : ℕ) {ts : List Lexeme} {place : ExprTree} (t : Lexeme) (m : Mark)
     (op : BinaryOp) → IsMark m t → step_of m ≡ Some op → (d : SpellsPlace ts place) (rest : List Lexeme) →
@@ -410,12 +320,7 @@ before_complete free room {ts} {place} t m op p q d rest low few ends =
     let made = updates_height op place one in
     let height = one_height in
     let short : expr_height place < room = omega arith in
-    rw (
-      p,
-      q,
-      place_reads free room d rest (omega arith) (few_tail free t ts few) ends.0,
-      lt-ltb _ room short,
-    )
+    rw (p, q, place_reads free room d rest (omega arith) (few_tail free t ts few) ends.0, lt-ltb _ room short)
 
 call_alone_complete : (free : ℕ) → (room : ℕ) {ts : List Lexeme} {c : CallTree} (d : SpellsCall ts c)
     (rest : List Lexeme) → call_height c ≤ room → Few free ts →
@@ -423,44 +328,37 @@ call_alone_complete : (free : ℕ) → (room : ℕ) {ts : List Lexeme} {c : Call
 unfolding simple_at
 call_alone_complete free room {ts} {c} d rest low few =
     rw (
-      call_no_step d rest,
+      no_step _ (call_starts d rest),
       call_begins d rest,
-      (call_exact free room).complete ts rest c
-          (record { spelled = d; low = low }) few tt,
+      (call_exact free room).complete ts rest c (record { spelled = d; low = low }) few tt,
     )
 
-simple_complete : (free : ℕ) → (room : ℕ) {ts : List Lexeme} {k : SimpleKind} (d : SpellsKind ts k)
-    (rest : List Lexeme) → simple_kind_height k ≤ room → Few free ts → EndsSimple rest →
-    simple_at free room (ts ++ rest) ≡ Some (k, rest)
+simple_complete : (free : ℕ) → (room : ℕ) {ts : List Lexeme} {k : SimpleKind} (d : SpellsKind ts k) (rest : List Lexeme)
+    → simple_kind_height k ≤ room → Few free ts → EndsSimple rest → simple_at free room (ts ++ rest) ≡ Some (k, rest)
 unfolding value_behind operand_behind stepped
 simple_complete free room (assign {ts = ts} {us = us} {place = place} {value = value} t p d v) rest low few ends =
     let inner = few_tail free t us (few_right free ts _ few) in
     let read = (expr_exact free room).complete us rest value (record { spelled = v; low = omega arith }) inner ends.0 in
-    ap (simple_at free room) (append_assoc ts _ rest) ∙ assigned free room d _ t (us ++ rest) _ _ rest p refl
-    (λ t rest p. (rw p, rw p)) (omega arith) (few_left free ts _ few) (rw (no_call v rest ends.1, read))
+    assigned free room d _ t us _ _ rest p refl (omega arith) few (rw (no_call v rest ends.1, read))
 simple_complete free room (assign_call {ts = ts} {us = us} {place = place} {call = c} t p d v) rest low few ends =
     let inner = few_tail free t us (few_right free ts _ few) in
     let read = (call_exact free room).complete us rest c (record { spelled = v; low = omega arith }) inner tt in
-    ap (simple_at free room) (append_assoc ts _ rest) ∙ assigned free room d _ t (us ++ rest) _ _ rest p refl
-    (λ t rest p. (rw p, rw p)) (omega arith) (few_left free ts _ few) (rw (call_begins v rest, read))
+    assigned free room d _ t us _ _ rest p refl (omega arith) few (rw (call_begins v rest, read))
 simple_complete free room (compound {ts = ts} {us = us} {place = place} {operand = operand} t m op p q d v) rest low few
     ends =
     let inner = few_tail free t us (few_right free ts _ few) in
     let made = updates_height op place operand in
     let short : expr_height place < room = omega arith in
     let less : expr_height operand ≤ room - 1 = omega arith in
-    let read = (expr_exact free (room - 1)).complete us rest operand
-    (record { spelled = v; low = less }) inner ends.0 in
-    ap (simple_at free room) (append_assoc ts _ rest)
-    ∙ assigned free room d m t (us ++ rest) (change.By op) _ rest p (compound_change m op q)
-    (compound_stops m op q) (omega arith) (few_left free ts _ few) (rw (lt-ltb _ room short, read))
+    let read = (expr_exact free (room - 1)).complete us rest operand (record { spelled = v; low = less }) inner ends.0 in
+    assigned free room d m t us (change.By op) _ rest p (compound_change m op q) (omega arith) few
+    (rw (lt-ltb _ room short, read))
 simple_complete free room (step_behind {ts = ts} {place = place} t m op p q d) rest low few ends =
     let made = updates_height op place one in
     let height = one_height in
     let short : expr_height place < room = omega arith in
-    ap (simple_at free room) (append_assoc ts _ rest)
-    ∙ assigned free room d m t rest (change.Step op) _ rest p (step_change m op q)
-    (step_stops m op q) (omega arith) (few_left free ts _ few) (rw (lt-ltb _ room short))
+    assigned free room d m t [] (change.Step op) _ rest p (step_change m op q) (omega arith) few
+    (rw (lt-ltb _ room short))
 simple_complete free room (step_before t m op p q d) rest low few ends =
     before_complete free room t m op p q d rest low few ends
 simple_complete free room (call {ts = ts} {call = c} d) rest low few ends = call_alone_complete free room d rest low few

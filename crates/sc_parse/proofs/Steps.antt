@@ -13,9 +13,8 @@ module _ {A : Type 0} (comma : List Lexeme → Option (List Lexeme)) (adder : Ad
   item_last zero xs ys ts us h q r = absurd (omega arith)
   item_last (suc turns) xs ys ts us h q r = rw (q, r)
 
-  pub item_next : (turns fewer : ℕ) (xs ys : List A) (ts us vs : List Lexeme) → turns ≡ fewer + 1 →
-      adder xs ts ≡ Some (ys, us) → comma us ≡ Some vs →
-      separated comma adder turns xs ts ≡ separated comma adder fewer ys vs
+  pub item_next : (turns fewer : ℕ) (xs ys : List A) (ts us vs : List Lexeme) → turns ≡ fewer + 1 → adder xs ts ≡
+      Some (ys, us) → comma us ≡ Some vs → separated comma adder turns xs ts ≡ separated comma adder fewer ys vs
   unfolding separated
   item_next zero fewer xs ys ts us vs h q r = absurd (omega arith)
   item_next (suc turns) fewer xs ys ts us vs h q r = let e : turns ≡ fewer = omega arith in rw (q, r, e)

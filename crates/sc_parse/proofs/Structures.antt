@@ -1,49 +1,31 @@
 -- Structs, globals and what they begin with are read exactly as they are spelled.
 use Rattle.sc_parse.proofs.Common.{BaseTree, Bool, ConstTree, Declares, Grouped, IsIdent, IsInteger, IsKeyword, IsMark}
-use Rattle.sc_parse.proofs.Common.{IsMember, Lexeme, List, MemberTree, None, Number, Option, Separated, Some}
-use Rattle.sc_parse.proofs.Common.{SpellsBase, SpellsConst, SpellsStruct, StructTree, [], adds, ap, append_assoc, arith}
-use Rattle.sc_parse.proofs.Common.{begins_with, behind, behind_inner_comma, behind_mark, bound, cond, const_at}
-use Rattle.sc_parse.proofs.Common.{const_tree, declaration_at, declares, drop, false, first_line, grouped, int}
-use Rattle.sc_parse.proofs.Common.{keyword_at, length, length-append, literal_at, members_at, members_behind}
-use Rattle.sc_parse.proofs.Common.{members_in_braces, more, name_ahead, name_at, negated, next, non_empty, none}
-use Rattle.sc_parse.proofs.Common.{none-some, option_map_or, refl, same_some, separated, signed, signed_int, struct_at}
-use Rattle.sc_parse.proofs.Common.{struct_tree, subst, sym, true, unsigned, unsigned_int, ℕ, ◌++◌, ◌+◌, ◌<◌, ◌>>=◌, ◌∙◌}
-use Rattle.sc_parse.proofs.Common.{◌∷◌, ◌≡◌}
+use Rattle.sc_parse.proofs.Common.{IsMember, Lexeme, List, MemberTree, None, Number, Separated, Some, SpellsConst}
+use Rattle.sc_parse.proofs.Common.{SpellsStruct, StructTree, [], adds, ap, append_assoc, arith, begins_with, behind}
+use Rattle.sc_parse.proofs.Common.{behind_inner_comma, behind_mark, bound, const_at, const_tree, declaration_at}
+use Rattle.sc_parse.proofs.Common.{declares, drop, false, first_line, glued, grouped, keyword_at, length, length-append}
+use Rattle.sc_parse.proofs.Common.{literal_at, members_at, members_behind, members_in_braces, more, name_ahead, name_at}
+use Rattle.sc_parse.proofs.Common.{negated, next, non_empty, none, none-some, refl, same_some, separated, struct_at}
+use Rattle.sc_parse.proofs.Common.{struct_tree, subst, sym, true, ℕ, ◌++◌, ◌+◌, ◌<◌, ◌>>=◌, ◌∙◌, ◌∷◌, ◌≡◌}
+use Rattle.sc_parse.proofs.Bases.{base_front, word_ahead, integer_is}
+use Rattle.sc_parse.proofs.Exact.{same_pair, given, chosen, enclosed, Taken, Exact, ExactAdder, Any, took}
+use Rattle.sc_parse.proofs.Exact.{separated_exact, grouped_exact}
 use Rattle.sc_expr.specs.declared.mark.Keyword.TheVariants as word
 use Rattle.sc_expr.specs.declared.mark.Mark.TheVariants as mark
 use Rattle.sc_parse.specs.Types as types
 use Rattle.sc_parse.specs.Lists as lists
 use Rattle.sc_parse.specs.Declarations.{struct, plain}
-use Rattle.sc_parse.proofs.Exact.{Taken, Exact, ExactAdder, Any, took, glued, separated_exact, grouped_exact}
-use Rattle.sc_parse.proofs.Bases.{word_ahead, integer_is}
 use Rattle.sc_parse.proofs.Declared.{member_line_exact}
-
--- no `}` stands at the front of a base
-pub base_starts : {ts : List Lexeme} {base : BaseTree} (d : SpellsBase ts base) (rest : List Lexeme) →
-    begins_with mark.CloseCurly (ts ++ rest) ≡ false
-base_starts (int t p) rest = rw p
-base_starts (signed t p) rest = rw p
-base_starts (signed_int t u p q) rest = rw p
-base_starts (unsigned t p) rest = rw p
-base_starts (unsigned_int t u p q) rest = rw p
-base_starts (types.struct t u tag p q) rest = rw p
-
-pub base_some : {ts : List Lexeme} {base : BaseTree} (d : SpellsBase ts base) → 0 < length ts
-base_some (int t p) = omega arith
-base_some (signed t p) = omega arith
-base_some (signed_int t u p q) = omega arith
-base_some (unsigned t p) = omega arith
-base_some (unsigned_int t u p q) = omega arith
-base_some (types.struct t u tag p q) = omega arith
 
 module _ {A : Type 0} (Item : BaseTree → ℕ → List Lexeme → A → Type 0) where
   pub declares_starts : {ts : List Lexeme} {xs : List A} (d : Declares Item ts xs) (rest : List Lexeme) →
       begins_with mark.CloseCurly (ts ++ rest) ≡ false
   declares_starts (declares {ts = ts} {us = us} t p d g) rest =
-      ap (begins_with mark.CloseCurly) (append_assoc ts _ rest) ∙ base_starts d ((us ++ t ∷ []) ++ rest)
+      ap (begins_with mark.CloseCurly) (append_assoc ts _ rest) ∙ (base_front d).no_end ((us ++ t ∷ []) ++ rest)
 
   pub declares_some : {ts : List Lexeme} {xs : List A} (d : Declares Item ts xs) → 0 < length ts
-  declares_some (declares {ts = ts} {us = us} t p d g) = omega (arith, base_some d, length-append ts (us ++ t ∷ []))
+  declares_some (declares {ts = ts} {us = us} t p d g) = omega
+      (arith, (base_front d).some, length-append ts (us ++ t ∷ []))
 
 lines_exact : ExactAdder Any (Grouped (Declares IsMember)) (λ rest. begins_with mark.CloseCurly rest ≡ true)
     (λ xs ts. grouped (begins_with mark.CloseCurly) (declaration_at members_behind) (length ts + 1) xs ts)
@@ -82,15 +64,12 @@ members_sound ts rest x h =
     let c = bound _ _ _ b.2 in
     let g = lines_exact.sound [] b.0.0 ts b.0.1 b.1 in
     let n = non_empty_some b.0.0 c.0 c.1 in
-    let same = same_some c.2 in
-    let value = ap (λ p. p.0) same in
-    let behind = ap (λ p. p.1) same in
-    let all = sym g.all ∙ n.0 ∙ value in
+    let same = same_pair c.2 in
     let some : 0 < length g.added = omega (arith, n.1, ap length g.all) in
     record {
       taken = g.taken;
-      split = g.split ∙ ap (λ l. g.taken ++ l) behind;
-      spelled = subst (λ v. IsMembers g.taken v) all (in_lines g.spelled some);
+      split = g.split ∙ ap (λ l. g.taken ++ l) same.1;
+      spelled = subst (IsMembers g.taken) (sym g.all ∙ n.0 ∙ same.0) (in_lines g.spelled some);
     }
 
 members_complete : {ts : List Lexeme} {x : List MemberTree} (d : IsMembers ts x) (rest : List Lexeme) →
@@ -103,10 +82,10 @@ members_complete (lines {ts = ts} {us = us} {members = members} {others = others
 
 struct_made : {ms : List Lexeme} {members : List MemberTree} (d : IsMembers ms members) (t u v w y : Lexeme)
     (tag : List ℕ) → IsKeyword word.Struct t → IsIdent tag u → IsMark mark.OpenCurly v → IsMark mark.CloseCurly w →
-    IsMark mark.Semicolon y → SpellsStruct (t ∷ u ∷ v ∷ (ms ++ w ∷ y ∷ [])) (struct_tree tag members t.line)
+    IsMark mark.Semicolon y → SpellsStruct (t ∷ u ∷ v ∷ ((ms ++ w ∷ []) ++ y ∷ [])) (struct_tree tag members t.line)
 struct_made (lines {ts = ts} {us = us} {members = members} {others = others} d g) t u v w y tag p q r k l =
     subst (λ z. SpellsStruct (t ∷ u ∷ v ∷ z) (struct_tree tag (members ++ others) t.line))
-    (sym (append_assoc ts us _)) (struct t u v w y tag p q r k l d g)
+    (sym (append_assoc (ts ++ us) _ _ ∙ append_assoc ts us _)) (struct t u v w y tag p q r k l d g)
 
 pub struct_sound : (ts rest : List Lexeme) (x : StructTree) → keyword_at ts ≡ Some word.Struct →
     struct_at ts ≡ Some (x, rest) → Taken SpellsStruct ts x rest
@@ -119,30 +98,16 @@ struct_sound ts rest x q h =
     let c = bound (λ y. behind mark.Semicolon y.1 >>= (λ rest. Some (struct_tree b.0.0 y.0 (first_line ts), rest)))
     (members_in_braces b.0.1) (x, rest) b.2 in
     let s = bound (λ rest. Some (struct_tree b.0.0 c.0.0 _, rest)) (behind mark.Semicolon c.0.1) (x, rest) c.2 in
-    let o = bound (λ us. members_at us >>= (λ x. behind mark.CloseCurly x.1 >>= (λ rest. Some (x.0, rest))))
-    (behind mark.OpenCurly b.0.1) c.0 c.1 in
-    let m = bound (λ x. behind mark.CloseCurly x.1 >>= (λ rest. Some (x.0, rest))) (members_at o.0) c.0 o.2 in
-    let k = bound (λ rest. Some (m.0.0, rest)) (behind mark.CloseCurly m.0.1) c.0 m.2 in
-    let same = same_some k.2 in
-    let value : m.0.0 ≡ c.0.0 = ap (λ p. p.0) same in
-    let after : k.0 ≡ c.0.1 = ap (λ p. p.1) same in
     let tag = name_ahead (drop 1 ts) b.0.1 b.0.0 b.1 in
-    let opened = behind_mark mark.OpenCurly b.0.1 o.0 o.1 in
-    let members = members_sound o.0 m.0.1 m.0.0 m.1 in
-    let closed = behind_mark mark.CloseCurly m.0.1 k.0 k.1 in
+    let m = enclosed mark.OpenCurly mark.CloseCurly IsMembers members_at members_sound b.0.1 c.0 c.1 in
     let last = behind_mark mark.Semicolon c.0.1 s.0 s.1 in
-    let line : first_line ts ≡ first.first.line = ap first_line first.is in
-    let taken = first.first ∷ tag.0 ∷ opened.0 ∷ (members.taken ++ closed.0 ∷ last.0 ∷ []) in
-    let made = struct_made (subst (λ v. IsMembers members.taken v) value members.spelled) first.first tag.0 opened.0
-    closed.0 last.0 b.0.0 first.keyword tag.2 opened.2 closed.2 last.2 in
-    let inner : o.0 ≡ (members.taken ++ closed.0 ∷ last.0 ∷ []) ++ s.0 =
-    glued o.0 m.0.1 s.0 members.taken (closed.0 ∷ last.0 ∷ []) members.split
-    (closed.1 ∙ ap (λ l. closed.0 ∷ l) (after ∙ last.1)) in
-    took SpellsStruct ts (first.first ∷ tag.0 ∷ opened.0 ∷ (members.taken ++ closed.0 ∷ last.0 ∷ [])) x
-    (struct_tree b.0.0 c.0.0 (first_line ts)) s.0 rest
-    (first.is ∙ ap (λ l. first.first ∷ l) (tag.1 ∙ ap (λ l. tag.0 ∷ l) (opened.1 ∙ ap (λ l. opened.0 ∷ l) inner)))
-    (subst (λ n. SpellsStruct (first.first ∷ tag.0 ∷ opened.0 ∷ (members.taken ++ closed.0 ∷ last.0 ∷ []))
-    (struct_tree b.0.0 c.0.0 n)) (sym line) made) s.2
+    let made = struct_made m.spelled first.first tag.0 m.first m.last last.0 b.0.0 first.keyword tag.2 m.opens m.closes
+    last.2 in
+    took (first.first ∷ tag.0 ∷ ((m.first ∷ (m.taken ++ m.last ∷ [])) ++ last.0 ∷ [])) s.2
+    (first.is ∙ ap (λ l. first.first ∷ l) (tag.1 ∙ ap (λ l. tag.0 ∷ l)
+    (glued s.0 (m.first ∷ (m.taken ++ m.last ∷ [])) (last.0 ∷ []) m.split last.1)))
+    (subst (λ n. SpellsStruct (first.first ∷ tag.0 ∷ ((m.first ∷ (m.taken ++ m.last ∷ [])) ++ last.0 ∷ []))
+    (struct_tree b.0.0 c.0.0 n)) (sym (ap first_line first.is)) made)
 
 pub struct_complete : {ts : List Lexeme} {x : StructTree} (d : SpellsStruct ts x) (rest : List Lexeme) →
     struct_at (ts ++ rest) ≡ Some (x, rest)
@@ -161,33 +126,25 @@ literal_sound : (negative : Bool) (ts rest : List Lexeme) (x : ConstTree) → li
 literal_sound negative [] rest x h = absurd (none-some _ h)
 literal_sound negative (t ∷ ts) rest x h =
     let b = bound _ _ _ h in
-    let same = same_some b.2 in
-    let value = ap (λ p. p.0) same in
-    let behind = ap (λ p. p.1) same in
-    (t, b.0, ap (λ l. t ∷ l) behind, integer_is _ b.0 b.1, sym value)
+    let same = same_pair b.2 in
+    (t, b.0, ap (λ l. t ∷ l) same.1, integer_is _ b.0 b.1, sym same.0)
 
 pub const_sound : (ts rest : List Lexeme) (x : ConstTree) → const_at ts ≡ Some (x, rest) → Taken SpellsConst ts x rest
 unfolding const_at
-const_sound ts rest x h = go (behind mark.Minus ts) refl h
-  where
-    go : (o : Option (List Lexeme)) → behind mark.Minus ts ≡ o →
-        option_map_or (literal_at true) o (literal_at false ts) ≡ Some (x, rest) → Taken SpellsConst ts x rest
-    go None q e =
-        let l = literal_sound false ts rest x e in
-        record {
-          taken = l.0 ∷ [];
-          split = l.2;
-          spelled = subst (λ v. SpellsConst (l.0 ∷ []) v) (sym l.4)
-              (plain l.0 l.1 l.3);
-        }
-    go (Some us) q e =
-        let t = behind_mark mark.Minus ts us q in
-        let l = literal_sound true us rest x e in
-        record {
-          taken = t.0 ∷ l.0 ∷ [];
-          split = t.1 ∙ ap (λ r. t.0 ∷ r) l.2;
-          spelled = subst (λ v. SpellsConst (t.0 ∷ l.0 ∷ []) v) (sym l.4) (negated t.0 l.0 l.1 t.2 l.3);
-        }
+const_sound ts rest x h = given _ _ _ h (λ q e.
+    let l = literal_sound false ts rest x e in
+    record {
+      taken = l.0 ∷ [];
+      split = l.2;
+      spelled = subst (SpellsConst (l.0 ∷ [])) (sym l.4) (plain l.0 l.1 l.3);
+    }) (λ us q e.
+    let t = behind_mark mark.Minus ts us q in
+    let l = literal_sound true us rest x e in
+    record {
+      taken = t.0 ∷ l.0 ∷ [];
+      split = t.1 ∙ ap (λ r. t.0 ∷ r) l.2;
+      spelled = subst (SpellsConst (t.0 ∷ l.0 ∷ [])) (sym l.4) (negated t.0 l.0 l.1 t.2 l.3);
+    })
 
 pub const_complete : {ts : List Lexeme} {x : ConstTree} (d : SpellsConst ts x) (rest : List Lexeme) →
     const_at (ts ++ rest) ≡ Some (x, rest)
@@ -206,12 +163,7 @@ const_starts (negated t u number p q) rest = rw p
 inner_ahead : (us vs : List Lexeme) → behind_inner_comma us ≡ Some vs →
     (t : Lexeme) × (us ≡ t ∷ vs) × IsMark mark.Comma t
 inner_ahead [] vs h = absurd (none-some vs h)
-inner_ahead (t ∷ ts) vs h = go _ h
-  where
-    go : (b : Bool) → cond b None (behind mark.Comma (t ∷ ts)) ≡ Some vs →
-        (u : Lexeme) × (t ∷ ts ≡ u ∷ vs) × IsMark mark.Comma u
-    go true e = absurd (none-some vs e)
-    go false e = behind_mark _ _ vs e
+inner_ahead (t ∷ ts) vs h = chosen _ _ _ h (λ q e. absurd (none-some vs e)) (λ q e. behind_mark _ _ vs e)
 
 consts_starts : {ts : List Lexeme} {xs : List ConstTree} (d : Separated SpellsConst ts xs) (rest : List Lexeme) →
     begins_with mark.CloseCurly (ts ++ rest) ≡ false

@@ -1,10 +1,10 @@
 -- What a section with its lexemes is parsed to.
-use Rattle.sc_parse.proofs.Common.{Any, Bool, Err, IfOk, IsErrOf, IsExcess, IsParsed, Lexeme, List, None, Ok, Option}
-use Rattle.sc_parse.proofs.Common.{Parses, Result, SectionTree, Some, Token, [], ap, arith, cond, cond_is, false}
-use Rattle.sc_parse.proofs.Common.{le-leb, leb, leb-true, length, length-map, lexeme_of, lexemes_of, line_after, map}
-use Rattle.sc_parse.proofs.Common.{most_open, none-some, open_after, option_map, refl, same_some, section_at, subst}
-use Rattle.sc_parse.proofs.Common.{suc, sym, take, tree_of, true, whole_line, zero, ℕ, ◌+◌, ◌-◌, ◌<◌, ◌∙◌, ◌∷◌, ◌≡◌}
-use Rattle.sc_parse.proofs.Common.{◌≤◌}
+use Rattle.sc_parse.proofs.Exact.{chosen}
+use Rattle.sc_parse.proofs.Common.{Any, Err, IfOk, IsErrOf, IsExcess, IsParsed, Lexeme, List, None, Ok, Option, Parses}
+use Rattle.sc_parse.proofs.Common.{Result, SectionTree, Some, Token, [], ap, arith, cond, cond_is, le-leb, leb}
+use Rattle.sc_parse.proofs.Common.{leb-true, length, length-map, lexeme_of, lexemes_of, line_after, map, most_open}
+use Rattle.sc_parse.proofs.Common.{none-some, open_after, option_map, refl, same_some, section_at, subst, suc, sym}
+use Rattle.sc_parse.proofs.Common.{take, tree_of, whole_line, zero, ℕ, ◌+◌, ◌-◌, ◌<◌, ◌∙◌, ◌∷◌, ◌≡◌, ◌≤◌}
 use Rattle.std.proofs.lemmas.Bool.{lt-leb}
 use Rattle.sc_lex.specs.declared.refusal.Refusal.{Refusal}
 use Rattle.sc_lex.specs.declared.fault.TextFault.{TextFault}
@@ -24,12 +24,7 @@ too_many line ts at e = ap (λ b. cond b (option_map (λ x. x.0) (section_at lin
 
 pub unread : (line : ℕ) (ts : List Lexeme) → section_at line ts ≡ None → tree_of line ts ≡ None
 unfolding tree_of
-unread line ts h = go _ _ h
-  where
-    go : (b : Bool) (o : Option (SectionTree × List Lexeme)) → o ≡ None →
-        cond {A = Option SectionTree} b (option_map (λ x. x.0) o) None ≡ None
-    go true o q = ap (λ o. option_map (λ x. x.0) o) q
-    go false o q = refl
+unread line ts h = chosen _ _ _ refl (λ q e. sym e ∙ ap (λ o. option_map (λ x. x.0) o) h) (λ q e. sym e)
 
 pub tree_found : (line : ℕ) (ts rest : List Lexeme) (x : SectionTree) → section_at line ts ≡ Some (x, rest) →
     most_open 0 ts ≤ 1024 → tree_of line ts ≡ Some x
@@ -48,15 +43,13 @@ parsed line ts (Ok tree) h =
     let c = cond_is (leb (most_open 0 ts) 1024) (option_map _ _) tree h in
     go (section_at line ts) refl c.1
   where
-    few : tree_of line ts ≡ Some tree → most_open 0 ts ≤ 1024
-    few h = leb-true (most_open 0 ts) 1024 (cond_is (leb _ 1024) (option_map (λ x. x.0) _) tree h).0
-
     go : (o : Option (SectionTree × List Lexeme)) → section_at line ts ≡ o → option_map (λ x. x.0) o ≡ Some tree →
         IsParsed line ts tree
     go None q e = absurd (none-some tree e)
     go (Some x) q e =
         let s = (section_sound line ts x.1 tree (q ∙ ap (λ t. Some (t, x.1)) (same_some e))).0 in
-        record { spelled = s.spelled; low = s.low; few = few h }
+        let c = cond_is (leb _ 1024) (option_map (λ x. x.0) _) tree h in
+        record { spelled = s.spelled; low = s.low; few = leb-true (most_open 0 ts) 1024 c.0 }
 
 -- the fault is a refusal
 abbrev IsRefusal : Result SectionTree TextFault → Type 0

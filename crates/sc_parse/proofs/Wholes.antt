@@ -1,18 +1,16 @@
 -- Declarations in a section are spelled as they are read.
-use Rattle.sc_parse.proofs.Common.{BaseTree, Bool, Decl, Declares, FunctionHead, FunctionTree, GlobalTree, HeadTree}
-use Rattle.sc_parse.proofs.Common.{IsGlobal, Keyword, Lexeme, List, None, Option, Reader, Separated, Some, SpellsDecl}
-use Rattle.sc_parse.proofs.Common.{SpellsHead, [], a_function, a_struct, adds, ap, arith, begins_head, begins_struct}
-use Rattle.sc_parse.proofs.Common.{behind, behind_head, behind_mark, body_behind, bound, cond, decl_at, declaration_at}
-use Rattle.sc_parse.proofs.Common.{declares, decls_height, drop, false, function, function_behind, globals}
-use Rattle.sc_parse.proofs.Common.{globals_behind, head_at, head_of, headed_at, is_struct_word, keyword_at, map, more}
-use Rattle.sc_parse.proofs.Common.{named_head, names_struct, option_map_or, prototype, refl, same_some, struct_decl_at}
-use Rattle.sc_parse.proofs.Common.{subst, sym, true, ℕ, ◌++◌, ◌>>=◌, ◌∙◌, ◌∷◌, ◌≡◌, ◌≤◌}
+use Rattle.sc_parse.proofs.Common.{BaseTree, Decl, Declares, FunctionHead, FunctionTree, GlobalTree, IsGlobal, Keyword}
+use Rattle.sc_parse.proofs.Common.{Lexeme, List, Option, Reader, Separated, Some, SpellsDecl, SpellsHead, []}
+use Rattle.sc_parse.proofs.Common.{a_function, a_struct, adds, ap, arith, begins_struct, behind_head, behind_mark}
+use Rattle.sc_parse.proofs.Common.{body_behind, bound, cond, decl_at, declares, decls_height, drop, false, false≢true}
+use Rattle.sc_parse.proofs.Common.{function, function_behind, globals, glued, head_at, head_of, headed_at}
+use Rattle.sc_parse.proofs.Common.{is_struct_word, keyword_at, map, more, named_head, names_struct, prototype, refl}
+use Rattle.sc_parse.proofs.Common.{struct_decl_at, subst, sym, true, ℕ, ◌++◌, ◌>>=◌, ◌∙◌, ◌∷◌, ◌≡◌, ◌≤◌}
 use Rattle.sc_ast.specs.declared.section.Decl.TheVariants as decl
 use Rattle.sc_expr.specs.declared.mark.Keyword.TheVariants as word
 use Rattle.sc_expr.specs.declared.mark.Mark.TheVariants as mark
 use Rattle.sc_parse.specs.Lists as lists
-use Rattle.sc_parse.proofs.Exact.{Taken, Added, took, glued}
-use Rattle.sc_parse.proofs.Expressions.{false-true}
+use Rattle.sc_parse.proofs.Exact.{Taken, Added, took, given, chosen, same_pair}
 use Rattle.sc_parse.proofs.Structures.{struct_sound}
 use Rattle.sc_parse.proofs.Initialisers.{IsGlobalDecl, a_global, globals_exact}
 use Rattle.sc_parse.proofs.Prototypes.{head_exact}
@@ -34,14 +32,12 @@ unfolding adds
 one_added limit reader xs ys ts rest sound h =
     let b = bound _ _ _ h in
     let t = sound b.0.0 b.0.1 b.1 in
-    let same = same_some b.2 in
-    let all = ap (λ p. p.0) same in
-    let after = ap (λ p. p.1) same in
+    let same = same_pair b.2 in
     record {
       taken = t.taken;
       added = b.0.0 ∷ [];
-      split = t.split ∙ ap (λ l. t.taken ++ l) after;
-      all = sym all;
+      split = t.split ∙ ap (λ l. t.taken ++ l) same.1;
+      all = sym same.0;
       spelled = t.spelled;
     }
 
@@ -51,7 +47,7 @@ struct_word ts h = go _ refl h
     go : (o : Option Keyword) → keyword_at ts ≡ o → cond (is_struct_word o) (names_struct (drop 1 ts)) false ≡ true →
         keyword_at ts ≡ Some word.Struct
     go (Some word.Struct) q e = q
-    go _ q e = absurd (false-true e)
+    go _ q e = absurd (false≢true e)
 
 struct_one : (limit : ℕ) → (ts rest : List Lexeme) (x : Decl) → keyword_at ts ≡ Some word.Struct →
     struct_decl_at ts ≡ Some (x, rest) → Taken (IsOne limit) ts x rest
@@ -59,7 +55,7 @@ unfolding struct_decl_at
 struct_one limit ts rest x q h =
     let b = bound _ _ _ h in
     let t = struct_sound ts b.0.1 b.0.0 q b.1 in
-    took _ ts t.taken x _ b.0.1 rest t.split (record { spelled = a_struct t.spelled; low = omega arith }) b.2
+    took t.taken b.2 t.split (record { spelled = a_struct t.spelled; low = omega arith })
 
 function_made : (limit : ℕ) → {ts us : List Lexeme} {head : FunctionHead} {x : FunctionTree}
     (d : SpellsHead ts (head_of head)) (b : IsBody limit head us x) → IsOne limit (ts ++ us) (decl.Function x)
@@ -71,27 +67,18 @@ headed_one : (free limit : ℕ) → (ts rest : List Lexeme) (x : Decl) → heade
 unfolding headed_at function_behind
 headed_one free limit ts rest x h =
     let b = bound (λ x. behind_head free limit x.0 x.1) (head_at ts) (x, rest) h in
-    go b.0.0 b.0.1 (head_exact.sound ts b.0.1 b.0.0 b.1) (behind mark.Semicolon b.0.1) refl b.2
-  where
-    go : (head : HeadTree) (us : List Lexeme) → Taken SpellsHead ts head us → (o : Option (List Lexeme)) →
-        behind mark.Semicolon us ≡ o → option_map_or {U = Option (Decl × List Lexeme)}
-        (λ rest. Some (decl.Proto head, rest)) o (named_head head >>=
-        (λ named. body_behind free limit named us >>= (λ x. Some (decl.Function x.0, x.1)))) ≡ Some (x, rest) →
-        Taken (IsOne limit) ts x rest
-    go head us d (Some vs) q e =
-        let t = behind_mark mark.Semicolon us vs q in
-        took (IsOne limit) ts (d.taken ++ t.0 ∷ []) x (decl.Proto head) vs rest
-        (glued ts us vs d.taken (t.0 ∷ []) d.split t.1)
-        (record { spelled = prototype t.0 t.2 d.spelled; low = omega arith }) e
-    go head us d None q e =
-        let n = bound (λ named. body_behind free limit named us >>= (λ x. Some (decl.Function x.0, x.1)))
-        (named_head head) (x, rest) e in
-        let b = bound (λ x. Some (decl.Function x.0, x.1)) (body_behind free limit n.0 us) (x, rest) n.2 in
-        let body = body_sound free limit n.0 us b.0.1 b.0.0 b.1 in
-        let named = named_sound head n.0 n.1 in
-        took (IsOne limit) ts (d.taken ++ body.taken) x (decl.Function b.0.0) b.0.1 rest
-        (glued ts us b.0.1 d.taken body.taken d.split body.split)
-        (function_made limit (subst (λ h. SpellsHead d.taken h) (sym named) d.spelled) body.spelled) b.2
+    let d = head_exact.sound ts b.0.1 b.0.0 b.1 in
+    given (λ rest. Some _) _ _ b.2 (λ q e.
+    let n = bound (λ named. body_behind free limit named b.0.1 >>= (λ x. Some (decl.Function x.0, x.1)))
+    (named_head b.0.0) (x, rest) e in
+    let c = bound (λ x. Some (decl.Function x.0, x.1)) (body_behind free limit n.0 b.0.1) (x, rest) n.2 in
+    let body = body_sound free limit n.0 b.0.1 c.0.1 c.0.0 c.1 in
+    took (d.taken ++ body.taken) c.2 (glued c.0.1 d.taken body.taken d.split body.split)
+    (function_made limit (subst (SpellsHead d.taken) (sym (named_sound b.0.0 n.0 n.1)) d.spelled) body.spelled))
+    (λ vs q e.
+    let t = behind_mark mark.Semicolon b.0.1 vs q in
+    took (d.taken ++ t.0 ∷ []) e (glued vs d.taken (t.0 ∷ []) d.split t.1)
+    (record { spelled = prototype t.0 t.2 d.spelled; low = omega arith }))
 
 -- globals as trees
 record AreGlobals (base : BaseTree) (line : ℕ) (ts : List Lexeme) (ds : List Decl) : Type 0 where
@@ -133,25 +120,10 @@ globals_made limit (declares {ts = ts} {us = us} t p b d) =
 pub decl_sound : (free limit : ℕ) → (xs ys : List Decl) (ts rest : List Lexeme) →
     decl_at free limit xs ts ≡ Some (ys, rest) → Added (IsDecls limit) xs ts ys rest
 unfolding decl_at
-decl_sound free limit xs ys ts rest h = go (begins_struct ts) refl h
-  where
-    other : (b : Bool) → cond {A = Option (List Decl × List Lexeme)} b (adds (headed_at free limit) xs ts)
-        (declaration_at globals_behind xs ts) ≡ Some (ys, rest) → Added (IsDecls limit) xs ts ys rest
-    other true e = one_added limit (headed_at free limit) xs ys ts rest
-        (λ x rest h. headed_one free limit ts rest x h) e
-    other false e =
-        let d = globals_exact.sound xs ys ts rest e in
-        record {
-          taken = d.taken;
-          added = d.added;
-          split = d.split;
-          all = d.all;
-          spelled = globals_made limit d.spelled;
-        }
-
-    go : (b : Bool) → begins_struct ts ≡ b → cond {A = Option (List Decl × List Lexeme)} b (adds struct_decl_at xs ts)
-        (cond {A = Option (List Decl × List Lexeme)} (begins_head ts) (adds (headed_at free limit) xs ts)
-        (declaration_at globals_behind xs ts)) ≡ Some (ys, rest) → Added (IsDecls limit) xs ts ys rest
-    go true q e = one_added limit struct_decl_at xs ys ts rest
-        (λ x rest h. struct_one limit ts rest x (struct_word ts q) h) e
-    go false q e = other (begins_head ts) e
+decl_sound free limit xs ys ts rest h = chosen _ (adds struct_decl_at xs ts) _ h
+    (λ q e. one_added limit struct_decl_at xs ys ts rest (λ x rest h. struct_one limit ts rest x (struct_word ts q) h)
+    e) (λ q e. chosen _ _ _ e
+    (λ q e. one_added limit (headed_at free limit) xs ys ts rest (λ x rest h. headed_one free limit ts rest x h) e)
+    (λ q e.
+    let d = globals_exact.sound xs ys ts rest e in
+    record { taken = d.taken; added = d.added; split = d.split; all = d.all; spelled = globals_made limit d.spelled }))

@@ -32,12 +32,7 @@ module _ (text : List ℕ) where
   next_heading from low = elim (find (is_heading text) from (length text - from)) [
     | inl f ↦ (
       f.0,
-      record {
-        low = f.1.low;
-        high = let high = f.1.high in omega arith;
-        heading = λ inside. f.1.holds;
-        clear = f.1.first;
-      },
+      record { low = f.1.low; high = omega (arith, f.1.high); heading = λ inside. f.1.holds; clear = f.1.first },
     )
     | inr nowhere ↦ (
       length text,
@@ -60,22 +55,16 @@ module _ (text : List ℕ) where
 
   is_section : (at next : ℕ) (name : List ℕ) → IsTrue (is_heading text at) → name_at text at ≡ Some name →
       IsNext (at + 1) next → IsSection text at next (section_at at next name)
-  is_section at next name h is n = record {
-    heading = h;
-    name = is;
-    start = refl;
-    line = refl;
-    bytes = refl;
-    within = (let low = n.low in omega arith, n.high);
-    whole = n.clear;
-  }
+  is_section at next name h is n =
+      let within : (at < next) × (next ≤ length text) = (omega (arith, n.low), n.high) in
+      record { heading = h; name = is; start = refl; line = refl; bytes = refl; within = within; whole = n.clear }
 
   -- a bad line behind a section is the first one
   bad_behind : (at next : ℕ) (name : List ℕ) → name_at text at ≡ Some name → IsNext (at + 1) next → IsFirstBad next →
       IsFirstBad at
   bad_behind at next name is n b = record {
     at = b.at;
-    low = let low = n.low in let more = b.low in omega arith;
+    low = omega (arith, n.low, b.low);
     bad = b.bad;
     first = λ before low high bad. ⊎_elim (λ inside. ⊎_elim (λ less. n.clear before (omega arith) inside bad.heading)
         (λ le. let same : before ≡ at = omega arith in
@@ -104,11 +93,7 @@ module _ (text : List ℕ) where
       let n = next_heading (at + 1) (omega arith) in
       let below = n.1.low in
       elim (next n.0 n.1.high (omega arith) n.1.heading) [
-        | inl s ↦ inl (
-          section_at at n.0 name ∷ s.0,
-          section (section_at at n.0 name)
-              (is_section at n.0 name heading e n.1) s.1,
-        )
+        | inl s ↦ inl (_, section (section_at at n.0 name) (is_section at n.0 name heading e n.1) s.1)
         | inr bad ↦ inr (bad_behind at n.0 name e n.1 bad)
       ]
 
@@ -206,37 +191,20 @@ module _ (text : List ℕ) where
   abbrev Either : Type 0
   Either = ((trees : List SectionTree) × Reads text trees) ⊎ ((which : Phase) × (line : ℕ) × Fails text which line)
 
+  lexed : {preamble : List ℕ} {ss : List Section} {before : List Token} (cuts : List (List Token)) →
+      IsSplit text preamble ss → IsCut preamble before → AreCutInto (map part_of ss) cuts →
+      PassesLex text before (map part_of ss)
+  lexed cuts split cut each =
+      record { preamble = _; found = _; cuts = cuts; split = split; parts = refl; cut = cut; each = each }
+
   after_lex : (preamble : List ℕ) (ss : List Section) (before : List Token) (cuts : List (List Token)) →
       IsSplit text preamble ss → IsCut preamble before → AreCutInto (map part_of ss) cuts → Either
-  after_lex preamble ss [] cuts split cut each =
-      let passes : PassesLex text [] _ =
-      record {
-        preamble = preamble;
-        found = ss;
-        cuts = cuts;
-        split = split;
-        parts = refl;
-        cut = cut;
-        each = each;
-      } in
-      elim (read_sections ss cuts (in_text split.behind) each) [
-        | inl t ↦ inl (t.0, record { sections = map part_of ss; lexed = passes; each = t.1 })
-        | inr f ↦ inr (phase.Syntax, f.0, in_section _ passes f.1)
-      ]
+  after_lex preamble ss [] cuts split cut each = elim (read_sections ss cuts (in_text split.behind) each) [
+    | inl t ↦ inl (t.0, record { sections = map part_of ss; lexed = lexed cuts split cut each; each = t.1 })
+    | inr f ↦ inr (phase.Syntax, f.0, in_section _ (lexed cuts split cut each) f.1)
+  ]
   after_lex preamble ss (t ∷ more) cuts split cut each =
-      inr (
-        phase.Syntax,
-        t.line,
-        in_preamble t more (map part_of ss) (record {
-          preamble = preamble;
-          found = ss;
-          cuts = cuts;
-          split = split;
-          parts = refl;
-          cut = cut;
-          each = each;
-        }) refl,
-      )
+      inr (phase.Syntax, t.line, in_preamble t more (map part_of ss) (lexed cuts split cut each) refl)
 
   after_split : (preamble : List ℕ) (ss : List Section) → IsSplit text preamble ss → Either
   after_split preamble ss split = elim (cut_parts (parts_of preamble ss)) [

@@ -4,8 +4,9 @@ use Rattle.sc_read.proofs.Common.{TokenKind, [], allows_directive, ap, arith, be
 use Rattle.sc_read.proofs.Common.{begins_with, block_comment, cases_lt, codes, drop, ends_comment, false, false≢true}
 use Rattle.sc_read.proofs.Common.{gap, gap_fits, inl, inr, is_directive, is_some, is_white_space, kind_of, length}
 use Rattle.sc_read.proofs.Common.{length-drop, line_comment, line_len, may_follow, none-some, nothing, refl}
-use Rattle.sc_read.proofs.Common.{slice_index, subst, suc, sym, take, token, token_at, token_positive, true}
-use Rattle.sc_read.proofs.Common.{white_space, zero, ℕ, ⊎_elim, ◌+◌, ◌-◌, ◌<◌, ◌∙◌, ◌∷◌, ◌≡◌, ◌≤◌, ◌⊎◌}
+use Rattle.sc_read.proofs.Common.{same_unless, slice_index, subst, suc, sym, take, token, token_at, token_positive}
+use Rattle.sc_read.proofs.Common.{true, white_space, zero, ℕ, ⊎_elim, ◌+◌, ◌-◌, ◌<◌, ◌∙◌, ◌∷◌, ◌≡◌, ◌≤◌, ◌⊎◌}
+use Rattle.std.proofs.Common.{lt-ltb, ltb, ltb-true}
 
 -- the first of n places from one on at which a test holds
 pub record IsFirst (p : ℕ → Bool) (from to at : ℕ) : Type 0 where
@@ -20,32 +21,29 @@ HoldsNot p from to = (at : ℕ) → from ≤ at → at < to → p at ≡ true �
 abbrev Found : (ℕ → Bool) → ℕ → ℕ → Type 0
 Found p from to = ((at : ℕ) × IsFirst p from to at) ⊎ HoldsNot p from to
 
+-- where a test doesn't hold at the first place, it holds behind it
+past : (p : ℕ → Bool) (from at : ℕ) → p from ≡ false → p at ≡ true → from ≤ at → from < at
+past p from at fails holds low = ⊎_elim (λ less. less)
+    (λ le. let same : at ≡ from = omega arith in absurd (false≢true (sym fails ∙ subst (λ k. p k ≡ true) same holds)))
+    (cases_lt from at)
+
 find_more : (p : ℕ → Bool) (from n : ℕ) → Found p (from + 1) (from + 1 + n) → (b : Bool) → p from ≡ b →
     Found p from (from + suc n)
 find_more p from n rest true e = inl (
   from,
-  record {
-    low = omega arith;
-    high = omega arith;
-    holds = e;
-    first = λ before low high h. omega arith;
-  },
+  record { low = omega arith; high = omega arith; holds = e; first = λ before low high h. omega arith },
 )
 find_more p from n rest false e = elim rest [
   | inl f ↦ inl (
     f.0,
     record {
-      low = let low = f.1.low in omega arith;
-      high = let high = f.1.high in omega arith;
+      low = omega (arith, f.1.low);
+      high = omega (arith, f.1.high);
       holds = f.1.holds;
-      first = λ before low high h. ⊎_elim (λ less. f.1.first before (omega arith) high h)
-          (λ le. let same : before ≡ from = omega arith in false≢true (sym e ∙ subst (λ k. p k ≡ true) same h))
-          (cases_lt from before);
+      first = λ before low high h. f.1.first before (omega (arith, past p from before e h low)) high h;
     },
   )
-  | inr nowhere ↦ inr (λ at low high h. ⊎_elim (λ less. nowhere at (omega arith) (omega arith) h)
-      (λ le. let same : at ≡ from = omega arith in false≢true (sym e ∙ subst (λ k. p k ≡ true) same h))
-      (cases_lt from at))
+  | inr nowhere ↦ inr (λ at low high h. nowhere at (omega (arith, past p from at e h low)) (omega arith) h)
 ]
 
 pub find : (p : ℕ → Bool) (from n : ℕ) → ((at : ℕ) × IsFirst p from (from + n) at) ⊎ HoldsNot p from (from + n)
@@ -61,39 +59,21 @@ record IsLast (p : ℕ → Bool) (n at : ℕ) : Type 0 where
 abbrev FoundLast : (ℕ → Bool) → ℕ → Type 0
 FoundLast p n = ((at : ℕ) × IsLast p n at) ⊎ ((at : ℕ) → at ≤ n → p at ≡ true → ⊥)
 
-last_zero : (p : ℕ → Bool) (b : Bool) → p 0 ≡ b → FoundLast p 0
-last_zero p true e = inl (0, record { high = omega arith; holds = e; last = λ behind low high h. omega arith })
-last_zero p false e = inr (λ at low h. let same : at ≡ 0 = omega arith in
-    false≢true (sym e ∙ subst (λ k. p k ≡ true) same h))
-
-last_more : (p : ℕ → Bool) (n : ℕ) → FoundLast p n → (b : Bool) → p (suc n) ≡ b → FoundLast p (suc n)
-last_more p n rest true e = inl (
-  suc n,
-  record {
-    high = omega arith;
-    holds = e;
-    last = λ behind low high h. omega arith;
-  },
-)
-last_more p n rest false e = elim rest [
+last_of : (p : ℕ → Bool) (n : ℕ) → FoundLast p n
+last_of p n = elim (find (λ k. p (n - k)) 0 (n + 1)) [
   | inl f ↦ inl (
-    f.0,
+    n - f.0,
     record {
-      high = let high = f.1.high in omega arith;
+      high = omega arith;
       holds = f.1.holds;
-      last = λ behind low high h. ⊎_elim (λ less. f.1.last behind low (omega arith) h)
-          (λ le. let same : behind ≡ suc n = omega arith in false≢true (sym e ∙ subst (λ k. p k ≡ true) same h))
-          (cases_lt behind (suc n));
+      last = λ behind low high h. f.1.first (n - behind) (omega arith) (omega arith) (at behind high h);
     },
   )
-  | inr nowhere ↦ inr (λ at low h. ⊎_elim (λ less. nowhere at (omega arith) h)
-      (λ le. let same : at ≡ suc n = omega arith in false≢true (sym e ∙ subst (λ k. p k ≡ true) same h))
-      (cases_lt at (suc n)))
+  | inr nowhere ↦ inr (λ k low h. nowhere (n - k) (omega arith) (omega arith) (at k low h))
 ]
-
-last_of : (p : ℕ → Bool) (n : ℕ) → FoundLast p n
-last_of p zero = last_zero p (p 0) refl
-last_of p (suc n) = last_more p n (last_of p n) _ refl
+  where
+    at : (k : ℕ) → k ≤ n → p k ≡ true → p (n - (n - k)) ≡ true
+    at k low h = let same : k ≡ n - (n - k) = omega arith in subst (λ k. p k ≡ true) same h
 
 -- a comment ends inside the text
 ends_within : (text : List ℕ) (at : ℕ) → IsTrue (ends_comment text at) → at < length text
@@ -144,6 +124,11 @@ NoTokenHere directives text = (kind : TokenKind) (len : ℕ) → IsToken directi
 abbrev ATokenHere : Bool → List ℕ → Type 0
 ATokenHere directives text = (kind : TokenKind) × (len : ℕ) × IsToken directives text kind len
 
+implied : (b c : Bool) → (b ≡ true → c ≡ true) ⊎ ((b ≡ true → c ≡ true) → ⊥)
+implied false c = inl (λ h. absurd (false≢true h))
+implied true true = inl (λ h. refl)
+implied true false = inr (λ on. false≢true (on refl))
+
 -- a front of this length spells a token
 abbrev spells : List ℕ → ℕ → Bool
 spells text len = is_some (kind_of (take len text))
@@ -156,11 +141,8 @@ module _ (directives : Bool) (text : List ℕ) where
 
     same_token : (other : TokenKind) (n : ℕ) → IsToken directives text other n → IsToken directives text kind len
     same_token other n t =
-        let low : n ≤ len = ⊎_elim (λ less. absurd (none-some other (sym (longest n less t.within) ∙ t.spelled)))
-        (λ le. le) (cases_lt len n) in
-        let high : len ≤ n = ⊎_elim (λ less. absurd (none-some kind (sym (t.longest len less l.high) ∙ is))) (λ le. le)
-        (cases_lt n len) in
-        let long : n ≡ len = omega arith in
+        let long = same_unless n len (λ less. none-some kind (sym (t.longest len less l.high) ∙ is))
+        (λ less. none-some other (sym (longest n less t.within) ∙ t.spelled)) in
         let spelled : kind_of (take len text) ≡ Some other =
         subst (λ k. kind_of (take k text) ≡ Some other) long t.spelled in
         let kinds : other ≡ kind = cc in
@@ -169,48 +151,37 @@ module _ (directives : Bool) (text : List ℕ) where
     not_then : (IsToken directives text kind len → ⊥) → ATokenHere directives text ⊎ NoTokenHere directives text
     not_then never = inr (λ other n t. never (same_token other n t))
 
-    no_line : (len < length text → IsTrue (may_follow kind (slice_index text len))) →
-        (IsTrue (is_directive kind) → IsTrue directives) → (IsTrue (begins_block_comment text) → ⊥) → (b : Bool) →
-        begins_line_comment text ≡ b → ATokenHere directives text ⊎ NoTokenHere directives text
-    no_line apart allowed block true e = not_then (λ t. t.no_line_comment e)
-    no_line apart allowed block false e =
-        inl (
-          kind,
-          len,
-          record {
-            within = l.high;
-            spelled = is;
-            longest = longest;
-            apart = apart;
-            allowed = allowed;
-            no_block_comment = block;
-            no_line_comment = λ h. false≢true (sym e ∙ h);
-          },
-        )
-
-    no_block : (len < length text → IsTrue (may_follow kind (slice_index text len))) →
-        (IsTrue (is_directive kind) → IsTrue directives) → (b : Bool) → begins_block_comment text ≡ b →
-        ATokenHere directives text ⊎ NoTokenHere directives text
-    no_block apart allowed true e = not_then (λ t. t.no_block_comment e)
-    no_block apart allowed false e = no_line apart allowed (λ h. false≢true (sym e ∙ h)) _ refl
-
-    allowing : (len < length text → IsTrue (may_follow kind (slice_index text len))) → (b : Bool) → directives ≡ b →
-        (d : Bool) → is_directive kind ≡ d → ATokenHere directives text ⊎ NoTokenHere directives text
-    allowing apart true e d q = no_block apart (λ h. e) _ refl
-    allowing apart false e true q = not_then (λ t. false≢true (sym e ∙ t.allowed q))
-    allowing apart false e false q = no_block apart (λ h. absurd (false≢true (sym q ∙ h))) _ refl
-
-    standing : (b : Bool) → may_follow kind (slice_index text len) ≡ b →
-        ATokenHere directives text ⊎ NoTokenHere directives text
-    standing true e = allowing (λ h. e) _ refl _ refl
-    standing false e =
-        ⊎_elim (λ less. not_then (λ t. false≢true (sym e ∙ t.apart less)))
-        (λ le. allowing (λ h. absurd (omega arith)) _ refl _ refl) (cases_lt len (length text))
+    -- a token of this kind, where four tests say so
+    decide_here : ATokenHere directives text ⊎ NoTokenHere directives text
+    decide_here = elim (implied (ltb len (length text)) (may_follow kind (slice_index text len))) [
+      | inl apart ↦ elim (implied (is_directive kind) directives) [
+        | inl allowed ↦ elim (implied (begins_block_comment text) false) [
+          | inl block ↦ elim (implied (begins_line_comment text) false) [
+            | inl line ↦ inl (
+              kind,
+              len,
+              record {
+                within = l.high;
+                spelled = is;
+                longest = longest;
+                apart = λ less. apart (lt-ltb len (length text) less);
+                allowed = allowed;
+                no_block_comment = λ h. false≢true (block h);
+                no_line_comment = λ h. false≢true (line h);
+              },
+            )
+            | inr never ↦ not_then (λ t. never (λ h. absurd (t.no_line_comment h)))
+          ]
+          | inr never ↦ not_then (λ t. never (λ h. absurd (t.no_block_comment h)))
+        ]
+        | inr never ↦ not_then (λ t. never t.allowed)
+      ]
+      | inr never ↦ not_then (λ t. never (λ h. t.apart (ltb-true len _ h)))
+    ]
 
   decide_token : ATokenHere directives text ⊎ NoTokenHere directives text
   decide_token = elim (last_of (spells text) (length text)) [
-    | inl f ↦ let s = some_of (kind_of _) f.1.holds in
-        standing f.0 f.1 s.0 s.1 _ refl
+    | inl f ↦ let s = some_of (kind_of _) f.1.holds in decide_here f.0 f.1 s.0 s.1
     | inr nowhere ↦ inr (λ kind len t. nowhere len t.within (ap is_some t.spelled))
   ]
 
@@ -235,12 +206,7 @@ module _ (bytes : List ℕ) where
       Ways (at + n) → Ways at
   behind_token at kind n t w = elim w [
     | inl c ↦ inl (token_at bytes at kind n ∷ c.0, token kind n t c.1)
-    | inr s ↦ inr (record {
-      to = s.to;
-      tokens = token_at bytes at kind n ∷ s.tokens;
-      cuts = token kind n t s.cuts;
-      stuck = s.stuck;
-    })
+    | inr s ↦ inr (record { to = s.to; tokens = _; cuts = token kind n t s.cuts; stuck = s.stuck })
   ]
 
   at_end : (at : ℕ) → at ≡ length bytes → Ways at
@@ -254,12 +220,8 @@ module _ (bytes : List ℕ) where
     | inr no_gap ↦ elim (decide_token _ _) [
       | inl t ↦ behind_token at t.0 t.1 t.2 (let some = token_positive t.1 t.2 in let within = t.2.within in
           let long = length-drop at bytes in next _ (omega arith) (omega arith))
-      | inr no_token ↦ inr (record {
-        to = at;
-        tokens = [];
-        cuts = nothing;
-        stuck = record { more = more; no_gap = no_gap; no_token = no_token };
-      })
+      | inr no_token ↦ let stuck : IsStuck bytes at = record { more = more; no_gap = no_gap; no_token = no_token } in
+          inr (record { to = at; tokens = []; cuts = nothing; stuck = stuck })
     ]
   ]
 

@@ -1,7 +1,8 @@
 -- A text is split in one way.
 use Rattle.sc_read.proofs.Common.{AreSections, IsBadHeading, IsSection, IsSplit, IsTrue, List, None, Section, ap, ap₂}
 use Rattle.sc_read.proofs.Common.{arith, cases_lt, is_heading, length, map, name_at, none, none-some, part_of, refl}
-use Rattle.sc_read.proofs.Common.{section, slice_range, subst, sym, take, ℕ, ⊎_elim, ◌<◌, ◌∙◌, ◌∷◌, ◌≡◌, ◌≤◌}
+use Rattle.sc_read.proofs.Common.{same_unless, section, slice_range, subst, sym, take, ℕ, ⊎_elim, ◌<◌, ◌∙◌, ◌∷◌, ◌≡◌}
+use Rattle.sc_read.proofs.Common.{◌≤◌}
 use Rattle.sc_lex.proofs.Splits.{heading_within, sections_rise}
 
 begins : {text : List ℕ} {at end : ℕ} {ss : List Section} → AreSections text at end ss → at < end →
@@ -17,10 +18,9 @@ no_earlier {next = next} g others e low high = g.whole next (omega arith) high (
 same_end : {text : List ℕ} {at at' n m end end' : ℕ} {s s' : Section} {ss ss' : List Section} → IsSection text at n s →
     IsSection text at' m s' → at ≡ at' → AreSections text n end ss → AreSections text m end' ss' → end ≡ length text →
     end' ≡ length text → n ≡ m
-same_end {n = n} {m = m} g g' same others others' e e' =
-    ⊎_elim (λ less. absurd (no_earlier g' others e (omega (arith, g.within)) less))
-    (λ le. ⊎_elim (λ less. absurd (no_earlier g others' e' (omega (arith, g'.within)) less)) (λ ge. omega arith)
-    (cases_lt m n)) (cases_lt n m)
+same_end {n = n} {m = m} g g' same others others' e e' = same_unless n m
+    (λ less. no_earlier g' others e (omega (arith, g.within)) less)
+    (λ less. no_earlier g others' e' (omega (arith, g'.within)) less)
 
 same_sections : {text : List ℕ} {at end at' end' : ℕ} {ss ss' : List Section} → AreSections text at end ss →
     AreSections text at' end' ss' → at ≡ at' → end ≡ length text → end' ≡ length text → map part_of ss ≡ map part_of ss'
@@ -40,10 +40,8 @@ not_before : {text p q : List ℕ} {ss ss' : List Section} → IsSplit text p ss
 not_before {p = p} c d less = d.before _ (omega arith) less (begins c.behind (omega (arith, sections_rise d.behind)))
 
 pub same_preamble : {text p q : List ℕ} {ss ss' : List Section} → IsSplit text p ss → IsSplit text q ss' → p ≡ q
-same_preamble {text} {p} {q} c d =
-    let long = ⊎_elim (λ less. absurd (not_before c d less))
-    (λ le. ⊎_elim (λ less. absurd (not_before d c less)) (λ ge. omega arith) (cases_lt _ _)) (cases_lt _ _) in
-    c.front ∙ ap (λ n. take n text) long ∙ sym d.front
+same_preamble {text} {p} {q} c d = c.front ∙
+    ap (λ n. take n text) (same_unless (length p) (length q) (not_before c d) (not_before d c)) ∙ sym d.front
 
 pub same_parts : {text p q : List ℕ} {ss ss' : List Section} → IsSplit text p ss → IsSplit text q ss' →
     map part_of ss ≡ map part_of ss'

@@ -1,9 +1,9 @@
 -- From what the functions over the sections find to what is said of the text.
-use Rattle.sc_read.proofs.Common.{AllByRecursion, AllZip, Any, AreSections, Cuts, Err, Fails, FailsLex, FailsSyntax}
-use Rattle.sc_read.proofs.Common.{First, HasTokens, HasTree, IfOk, IsCut, IsCutInto, IsCuttable, IsGap, IsParsable}
-use Rattle.sc_read.proofs.Common.{IsParsed, IsRead, IsSplit, IsTreeOf, IsUncut, IsUnread, List, None, Ok, Part}
-use Rattle.sc_read.proofs.Common.{PassesLex, Reads, Refusal, RefusesBytes, RefusesHeading, RefusesTokens, Result}
-use Rattle.sc_read.proofs.Common.{Section, SectionTree, Some, Token, [], and_parts, ap, arith, bad_heading, begins_line}
+use Rattle.sc_read.proofs.Common.{AllByRecursion, AllZip, Any, AreSections, Cuts, Err, Fails, FailsSyntax, First}
+use Rattle.sc_read.proofs.Common.{HasTokens, HasTree, IfOk, IsCut, IsCutInto, IsCuttable, IsGap, IsParsable, IsParsed}
+use Rattle.sc_read.proofs.Common.{IsRead, IsSplit, IsTreeOf, IsUncut, IsUnread, List, None, Ok, Part, PassesLex, Phase}
+use Rattle.sc_read.proofs.Common.{Reads, Refusal, RefusesBytes, RefusesHeading, RefusesTokens, Result, Section}
+use Rattle.sc_read.proofs.Common.{SectionTree, Some, Token, [], and_parts, ap, arith, bad_heading, begins_line}
 use Rattle.sc_read.proofs.Common.{block_comment, codes, drop, false, false≢true, front_byte, gap, get_or, get_or-take}
 use Rattle.sc_read.proofs.Common.{here, in_preamble, in_section, is_white_space, later, length, length-drop}
 use Rattle.sc_read.proofs.Common.{length-take-le, lexemes_of, line_after, line_at, line_comment, map, newlines, none}
@@ -46,8 +46,7 @@ in_text {text} {at} (section {next = next} first g others) =
     let wide = length-take-le _ _ fits in (
       record {
         line = g.line ∙ ap (λ k. line_at text k) (sym g.start);
-        first = ap (λ bytes. slice_index bytes 0) g.bytes ∙ get_or-take (next - at) (drop at text) 0 0 (omega arith) ∙
-            sign;
+        first = ap (λ bytes. slice_index bytes 0) g.bytes ∙ get_or-take _ (drop at text) 0 0 (omega arith) ∙ sign;
         some = subst (λ bytes. 0 < length bytes) (sym g.bytes) (omega arith);
       },
       in_text others,
@@ -74,12 +73,8 @@ has_token text s (t ∷ tokens) i c = omega arith
 tree_read : (text : List ℕ) (s : Section) (tree : SectionTree) → InText text s → IsTreeOf s tree →
     IsRead text (part_of s) tree
 tree_read text s tree i t =
-    record {
-      tokens = t.tokens;
-      cut = t.cut;
-      parsed = subst
-          (λ l. IsParsed l (lexemes_of s.bytes.now t.tokens) tree) i.line t.parsed;
-    }
+    let parsed = subst (λ l. IsParsed l (lexemes_of s.bytes.now t.tokens) tree) i.line t.parsed in
+    record { tokens = t.tokens; cut = t.cut; parsed = parsed }
 
 trees_read : (text : List ℕ) (ss : List Section) (trees : List SectionTree) → AllByRecursion (InText text) ss →
     AllZip IsTreeOf ss trees → AllZip (IsRead text) (map part_of ss) trees
@@ -136,42 +131,27 @@ heading_fails text refusal r = subst (λ p. Fails text p refusal.line) (sym r.ph
 module _ (text preamble : List ℕ) (ss : List Section) (divided : IsSplit text preamble ss) where
   passes : (before : List Token) (cuts : List (List Token)) → IsCut preamble before → AllZip IsCutInto ss cuts →
       PassesLex text before (map part_of ss)
-  passes before cuts cut each = record {
-    preamble = preamble;
-    found = ss;
-    cuts = cuts;
-    split = divided;
-    parts = refl;
-    cut = cut;
-    each = cuts_of ss cuts each;
-  }
+  passes before cuts cut each = let parts = cuts_of ss cuts each in
+      record { preamble = preamble; found = ss; cuts = cuts; split = divided; parts = refl; cut = cut; each = parts }
 
   pub reads : (cuts : List (List Token)) (trees : List SectionTree) → IsCut preamble [] → AllZip IsCutInto ss cuts →
       AllZip IsTreeOf ss trees → Reads text trees
-  reads cuts trees cut each trees_are =
-      record {
-        sections = map part_of ss;
-        lexed = passes [] cuts cut each;
-        each = trees_read text ss trees (in_text divided.behind) trees_are;
-      }
+  reads cuts trees cut each trees_are = let read = trees_read text ss trees (in_text divided.behind) trees_are in
+      record { sections = map part_of ss; lexed = passes [] cuts cut each; each = read }
 
-  fails_lex : (refusal : Refusal) → refusal.phase ≡ phase.Lex → FailsLex text refusal.line →
+  fails : (refusal : Refusal) {p : Phase} → refusal.phase ≡ p → Fails text p refusal.line →
       Fails text refusal.phase refusal.line
-  fails_lex refusal is f = subst (λ p. Fails text p refusal.line) (sym is) f
-
-  fails_syntax : (refusal : Refusal) → refusal.phase ≡ phase.Syntax → FailsSyntax text refusal.line →
-      Fails text refusal.phase refusal.line
-  fails_syntax refusal is f = subst (λ p. Fails text p refusal.line) (sym is) f
+  fails refusal is f = subst (λ p. Fails text p refusal.line) (sym is) f
 
   pub preamble_uncut : (refusal : Refusal) → RefusesBytes preamble 1 refusal → Fails text refusal.phase refusal.line
   preamble_uncut refusal r =
-      fails_lex refusal r.phase (uncut _ ss divided
+      fails refusal r.phase (uncut _ ss divided
       (here (uncut_at text (record { start = 0; bytes = preamble }) 1 refusal refl r)))
 
   pub section_uncut : (before : List Token) (refusal : Refusal) → IsCut preamble before →
       First IsCuttable (λ s. RefusesBytes s.bytes.now s.line refusal) ss → refusal.phase ≡ phase.Lex →
       Fails text refusal.phase refusal.line
-  section_uncut before refusal cut f is = fails_lex refusal is
+  section_uncut before refusal cut f is = fails refusal is
       (uncut _ ss divided (later (before, cut) (first_uncut text refusal (in_text divided.behind) f)))
 
   pub preamble_spells : (first : Token) (more : List Token) (cuts : List (List Token)) → IsCut preamble (first ∷ more) →
@@ -182,7 +162,7 @@ module _ (text preamble : List ℕ) (ss : List Section) (divided : IsSplit text 
       First IsParsable (RefusesTokens refusal.line) ss → refusal.phase ≡ phase.Syntax →
       Fails text refusal.phase refusal.line
   section_unread cuts refusal cut each f is =
-      fails_syntax refusal is (in_section (map part_of ss) (passes [] cuts cut each)
+      fails refusal is (in_section (map part_of ss) (passes [] cuts cut each)
       (first_unread text _ (in_text divided.behind) f))
 
 -- one more section is good
@@ -215,10 +195,8 @@ pub zip_at : {A B : Type 0} (R : A → B → Type 0) (xs : List A) (ys : List B)
     y ≡ get_or ys at y → R x y
 zip_at R [] ys at x y h low few p q = absurd (omega arith)
 zip_at R (a ∷ xs) [] at x y h low few p q = absurd (omega arith)
-zip_at R (a ∷ xs) (b ∷ ys) zero x y h low few p q =
-    subst (λ z. R z y) (sym p) (subst (λ z. R a z) (sym q) h.0)
-zip_at R (a ∷ xs) (b ∷ ys) (suc at) x y h low few p q =
-    zip_at R xs ys at x y h (omega arith) (omega arith) p q
+zip_at R (a ∷ xs) (b ∷ ys) zero x y h low few p q = subst (λ z. R z y) (sym p) (subst (R a) (sym q) h.0)
+zip_at R (a ∷ xs) (b ∷ ys) (suc at) x y h low few p q = zip_at R xs ys at x y h (omega arith) (omega arith) p q
 
 -- as many of the one as of the other from a place on, and so in all
 pub as_many_from : {A B : Type 0} (R : A → B → Type 0) (xs : List A) (ys : List B) (at : ℕ) →

@@ -2,8 +2,8 @@
 use Rattle.sc_read.proofs.Common.{AllZip, Fails, FailsLex, FailsSyntax, First, HasTokens, HasTree, IsCut, IsParsed}
 use Rattle.sc_read.proofs.Common.{IsRead, IsSplit, IsUncut, IsUnread, Lexeme, List, Part, PassesLex, Phase, Reads}
 use Rattle.sc_read.proofs.Common.{Refusal, RefusesBytes, RefusesHeading, Section, SectionTree, SpellsSection, Token, []}
-use Rattle.sc_read.proofs.Common.{ap, ap₂, arith, bad_heading, cases_lt, here, in_preamble, in_section, later}
-use Rattle.sc_read.proofs.Common.{lexemes_of, line_at, parts_of, refl, subst, sym, uncut, ℕ, ⊎_elim, ◌∙◌, ◌∷◌, ◌≡◌}
+use Rattle.sc_read.proofs.Common.{ap, ap₂, bad_heading, here, in_preamble, in_section, later, lexemes_of, line_at}
+use Rattle.sc_read.proofs.Common.{parts_of, refl, same_unless, subst, sym, uncut, ℕ, ◌∙◌, ◌∷◌, ◌≡◌}
 use Rattle.sc_lex.specs.declared.refusal.Phase.TheVariants as phase
 use Rattle.sc_read.proofs.Stuck.{cut_refused}
 use Rattle.sc_read.proofs.Splits.{same_preamble, same_parts, split_good}
@@ -29,17 +29,12 @@ one_first same bad worse (later good f) (later fine g) = one_first same bad wors
 same_bad : {text : List ℕ} {refusal other : Refusal} → RefusesHeading text refusal → RefusesHeading text other →
     refusal.line ≡ other.line
 same_bad {text} r q =
-    let place = ⊎_elim (λ less. absurd (q.first r.at less r.bad))
-    (λ le. ⊎_elim (λ less. absurd (r.first q.at less q.bad)) (λ ge. omega arith) (cases_lt q.at r.at))
-    (cases_lt r.at q.at) in
+    let place = same_unless r.at q.at (λ less. q.first r.at less r.bad) (λ less. r.first q.at less q.bad) in
     r.line ∙ ap (λ at. line_at text at) place ∙ sym q.line
 
 parts_agree : {text p q : List ℕ} {ss ss' : List Section} → IsSplit text p ss → IsSplit text q ss' →
     parts_of p ss ≡ parts_of q ss'
-parts_agree {p = p} {q = q} {ss = ss} {ss' = ss'} c d =
-    let front = same_preamble c d in
-    let behind = same_parts c d in
-    ap₂ (λ b parts. record { start = 0; bytes = b } ∷ parts) front behind
+parts_agree c d = ap₂ (λ b parts. record { start = 0; bytes = b } ∷ parts) (same_preamble c d) (same_parts c d)
 
 -- a text that passes phase Lex doesn't fail it
 lexed_or_fails : (text : List ℕ) (before : List Token) (sections : List Part) (line : ℕ) →
@@ -48,8 +43,7 @@ lexed_or_fails text before sections line p (bad_heading refusal r e) = split_goo
 lexed_or_fails text before sections line p (uncut preamble found split f) =
     no_first (λ part tokens c bad. cut_refused part.bytes (line_at text part.start)
     (record { phase = phase.Lex; line = line }) bad tokens c)
-    (subst (λ parts. First HasTokens (IsUncut text line) parts) (parts_agree split p.split) f)
-    (before ∷ p.cuts)
+    (subst (λ parts. First HasTokens (IsUncut text line) parts) (parts_agree split p.split) f) (before ∷ p.cuts)
     (p.cut, subst (λ parts. AllZip (λ part tokens. IsCut part.bytes tokens) parts p.cuts) p.parts p.each)
 
 sections_agree : {text : List ℕ} {before more : List Token} {sections others : List Part} →
@@ -72,15 +66,12 @@ module _ (one_cut : (bytes : List ℕ) (tokens others : List Token) → IsCut by
   pub read_or_refused : (text : List ℕ) (trees : List SectionTree) (which : Phase) (line : ℕ) → Reads text trees →
       Fails text which line → ⊥
   read_or_refused text trees phase.Lex line r f = lexed_or_fails text [] _ line r.lexed f
-  read_or_refused text trees phase.Syntax line r (in_preamble first more sections p e) = let same =
-      preambles_agree r.lexed p in absurd (cc)
+  read_or_refused text trees phase.Syntax line r (in_preamble first more sections p e) =
+      let same = preambles_agree r.lexed p in absurd (cc)
   read_or_refused text trees phase.Syntax line r (in_section sections p f) =
       no_first (read_or_unread text line) (subst (λ parts. First (HasTree text) (IsUnread text line) parts)
       (sections_agree p r.lexed) f) trees r.each
-  read_or_refused text trees phase.Names line r f = f
-  read_or_refused text trees phase.Types line r f = f
-  read_or_refused text trees phase.Interface line r f = f
-  read_or_refused text trees phase.Count line r f = f
+  read_or_refused text trees _ line r f = f
 
   module _ (one_section : (line : ℕ) (lexemes : List Lexeme) (s t : SectionTree) → SpellsSection line lexemes s →
       SpellsSection line lexemes t → s ≡ t) where
@@ -98,9 +89,7 @@ module _ (one_cut : (bytes : List ℕ) (tokens others : List Token) → IsCut by
     one_list text (s ∷ sections) [] ys r q = absurd r
     one_list text (s ∷ sections) (x ∷ xs) [] r q = absurd q
     one_list text (s ∷ sections) (x ∷ xs) (y ∷ ys) r q =
-        let first = one_tree text s x y r.0 q.0 in
-        let more : xs ≡ ys = one_list text sections xs ys r.1 q.1 in
-        ap (λ z. z ∷ xs) first ∙ ap (λ zs. y ∷ zs) more
+        ap₂ (λ z zs. z ∷ zs) (one_tree text s x y r.0 q.0) (one_list text sections xs ys r.1 q.1)
 
     pub one_reading : (text : List ℕ) (trees others : List SectionTree) → Reads text trees → Reads text others →
         trees ≡ others
@@ -136,15 +125,6 @@ module _ (one_refusal : (bytes : List ℕ) (line : ℕ) (refusal other : Refusal
   one_phase text phase.Lex phase.Syntax line second f g = absurd (lex_or_syntax text line second f g)
   one_phase text phase.Syntax phase.Lex line second f g = absurd (lex_or_syntax text second line g f)
   one_phase text phase.Syntax phase.Syntax line second f g = (refl, λ e. absurd (cc))
-  one_phase text phase.Lex phase.Names line second f g = absurd g
-  one_phase text phase.Lex phase.Types line second f g = absurd g
-  one_phase text phase.Lex phase.Interface line second f g = absurd g
-  one_phase text phase.Lex phase.Count line second f g = absurd g
-  one_phase text phase.Syntax phase.Names line second f g = absurd g
-  one_phase text phase.Syntax phase.Types line second f g = absurd g
-  one_phase text phase.Syntax phase.Interface line second f g = absurd g
-  one_phase text phase.Syntax phase.Count line second f g = absurd g
-  one_phase text phase.Names other line second f g = absurd f
-  one_phase text phase.Types other line second f g = absurd f
-  one_phase text phase.Interface other line second f g = absurd f
-  one_phase text phase.Count other line second f g = absurd f
+  one_phase text phase.Lex _ line second f g = absurd g
+  one_phase text phase.Syntax _ line second f g = absurd g
+  one_phase text _ other line second f g = absurd f
