@@ -63,7 +63,7 @@ module _ (P : StmtTree → Type 0) where
   inside (layer.Assign place value) = tt
   inside (layer.AssignCall place call) = tt
   inside (layer.Call call) = tt
-  inside (layer.If cond then_part else_part) = (each then_part, each else_part)
+  inside (layer.If cond then_part else_part) = (each _, each _)
   inside (layer.While cond body) = each body
   inside (layer.For first cond next body) = each body
   inside layer.Break = tt
