@@ -15,13 +15,13 @@ use Rattle.sc_print.proofs.Common.{symbols, true, type_name, value_words, word, 
 use Rattle.sc_ast.specs.declared.section.Decl.TheVariants as decl
 use Rattle.sc_parse.specs.Lists as lists
 use Rattle.sc_parse.specs.Declarations as decls
-use Rattle.sc_print.proofs.Each.{all_at}
+use Rattle.sc_print.proofs.Each.{each_kept}
 use Rattle.sc_print.proofs.Tables as tables
 use Rattle.sc_print.proofs.Leaves.{name_says}
 use Rattle.sc_print.proofs.Reading.{Reading, fixed, part, written, reads, separated, Alike, AllAlike, all_alike}
 use Rattle.sc_print.proofs.Reading.{line_symbols, joined_symbols}
 use Rattle.sc_print.proofs.Simple.{expr_reads}
-use Rattle.sc_print.proofs.Stmts.{Lines, lines_read, everywhere}
+use Rattle.sc_print.proofs.Stmts.{Lines, lines_read, stmt_holds}
 use Rattle.sc_print.proofs.Decls.{base_reads, stars_read, declarator_words, declarator_reads, init_reads}
 use Rattle.sc_print.proofs.Lists.{Say}
 use Rattle.sc_expr.specs.declared.mark.Keyword.TheVariants as keyword
@@ -235,7 +235,7 @@ function_reads f k =
     let parts = and_parts _ _ k in
     let rest = and_parts _ _ parts.1 in
     function_with f _ parts.0 rest.0
-    (λ ts said. lines_read 1 f.body (everywhere f.body) (all_at f.body rest.1) ts said)
+    (lines_read 1 f.body (each_kept _ f.body stmt_holds rest.1))
 
 pub decl_reads : (d : Decl) → IsTrue (is_kept_decl d) →
     Reading (decl_words d) (λ ts. Alike SpellsDecl lineless_decl ts d)
