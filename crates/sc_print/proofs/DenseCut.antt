@@ -8,9 +8,7 @@ use Rattle.sc_print.proofs.Reading.{joined_symbols}
 use Rattle.sc_print.proofs.Spacing.{Tidy, line_end}
 use Rattle.sc_print.proofs.StmtSpacing.{Free}
 use Rattle.sc_print.proofs.DeclSpacing.{decl_tidy, each_tidy}
-use Rattle.sc_print.proofs.DirectiveWords.{heading_line_is}
-use Rattle.sc_print.proofs.Lined.{tidy, line, found_lines}
-use Rattle.sc_print.proofs.Whole.{keeps, exports_lined, imports_lined, heading_front}
+use Rattle.sc_print.proofs.Whole.{keeps, cut_with}
 
 -- an empty line in front may be left out
 without_line : {pieces : List Piece} {rest : List ℕ} → Tidy (newline ∷ pieces) rest → Tidy pieces rest
@@ -26,6 +24,9 @@ pub decl_symbols : (d : Decl) → symbols (dense_decl d) ≡ symbols (decl_words
 decl_symbols (decl.Struct tree) = refl
 decl_symbols _ = refl
 
+same_behind : (a b c : List Piece) → symbols b ≡ symbols c → symbols (a ++ b) ≡ symbols (a ++ c)
+same_behind a b c h = joined_symbols a b ∙ ap (λ s. symbols a ++ s) h ∙ sym (joined_symbols a c)
+
 decls_symbols : (ds : List Decl) → symbols (flat_map dense_decl ds) ≡ symbols (flat_map decl_words ds)
 decls_symbols [] = refl
 decls_symbols (d ∷ ds) =
@@ -38,24 +39,11 @@ section_symbols tree =
     let imports = flat_map import_words tree.imports in
     let dense = flat_map dense_decl tree.decls in
     let decls = flat_map decl_words tree.decls in
-    let heading = heading_words _ in
-    let inner =
-    joined_symbols imports dense ∙ ap (λ s. symbols imports ++ s) (decls_symbols _) ∙
-    sym (joined_symbols imports decls) in
-    let outer =
-    joined_symbols exports (imports ++ dense) ∙ ap (λ s. symbols exports ++ s) inner ∙
-    sym (joined_symbols exports (imports ++ decls)) in
-    joined_symbols heading (exports ++ (imports ++ dense)) ∙ ap (λ s. symbols heading ++ s) outer ∙
-    sym (joined_symbols heading (exports ++ (imports ++ decls)))
+    same_behind (heading_words _) (exports ++ (imports ++ dense)) (exports ++ (imports ++ decls)) (same_behind exports
+    (imports ++ dense) (imports ++ decls) (same_behind imports dense decls (decls_symbols _)))
 
 pub dense_cut : (tree : SectionTree) → IsTrue (kept_section tree) →
     SaysAll (dense_text tree) (symbols (section_words tree))
 dense_cut tree k =
-    let kept = keeps tree k in
-    let decls = each_tidy dense_decl is_kept_decl dense_tidy tree.decls kept.decls [] in
-    let lined = line (heading_line_is _ kept.name)
-    (exports_lined tree.exports kept.exports _ (imports_lined tree.imports kept.imports _ (tidy decls))) in
-    let behind = flat_map export_words tree.exports ++
-    (flat_map import_words tree.imports ++ flat_map dense_decl tree.decls) in
-    let found = found_lines _ (heading_front tree.name (10 ∷ text_of behind)) lined [] refl refl in
+    let found = cut_with tree k _ (each_tidy dense_decl is_kept_decl dense_tidy tree.decls (keeps tree k).decls []) in
     record { tokens = found.tokens; cut = found.cuts; says = found.says ∙ section_symbols tree }

@@ -69,7 +69,7 @@ binary_at op e f left right inner_left inner_right before level =
         part (right [] (levels.level_of op - 1)) ∷ []) _ (λ ts said t is us behind.
         let l = subst (λ n. Spells n ts e) (sym (tables.own_level op)) (inner_left [] (levels.level_of op) ts said) in
         let d = joined t (tables.binary_mark op) op (is ∙ tables.binary_says op) (tables.binary_operator op)
-        (tables.above op) l (inner_right [] (levels.level_of op - 1) us behind) in
+        (sym (tables.own_level op)) l (inner_right [] (levels.level_of op - 1) us behind) in
         subst (λ n. Spells n (ts ++ t ∷ us) (expr.Binary op e f)) (tables.own_level op) d)
 
 index_at : (e f : ExprTree) (base place : List Piece) → AtLevel 0 base e → AtLevel 11 place f → (level : ℕ) →

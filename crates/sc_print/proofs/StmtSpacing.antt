@@ -37,18 +37,22 @@ pub closing : (pieces : List Piece) (text : List ℕ) → Sound pieces → ((res
 closing pieces text t calm w rest = tidy_append pieces _ rest
     (t _ (subst (λ x. Calm (x ++ rest)) (sym (append-nil text)) (calm rest))) (next (w _) none)
 
-args_from : (e : ExprTree) (es : List ExprTree) → IsTrue (is_kept e) → list_all is_kept es ≡ true →
-    Sound (join_by expr_words comma (e ∷ es))
-args_from e [] k all rest calm = tidy_append _ [] rest (expr_tidy e k rest calm) none
-args_from e (x ∷ xs) k all rest calm =
-    let parts = and_parts (is_kept x) (list_all is_kept xs) all in
-    tidy_append (expr_words e) (word _ ∷ blank ∷ join_by expr_words comma (x ∷ xs)) rest
-    (expr_tidy e k _ refl) (next (comma_word _) (gap (args_from x xs parts.0 parts.1 rest calm)))
+-- items with commas between them, each before texts that are fine
+module _ {A : Type 0} (words : A → List Piece) (kept : A → Bool) (Fine : List ℕ → Type 0)
+    (comma_fine : (rest : List ℕ) → Fine (44 ∷ rest))
+    (t : (x : A) → IsTrue (kept x) → (rest : List ℕ) → Fine rest → Tidy (words x) rest) where
+  pub joined_tidy : (x : A) (xs : List A) → IsTrue (kept x) → list_all kept xs ≡ true → (rest : List ℕ) → Fine rest →
+      Tidy (join_by words comma (x ∷ xs)) rest
+  joined_tidy x [] k all rest fine = tidy_append _ [] rest (t x k rest fine) none
+  joined_tidy x (y ∷ ys) k all rest fine =
+      let parts = and_parts (kept y) (list_all kept ys) all in
+      tidy_append (words x) (word _ ∷ blank ∷ join_by words comma (y ∷ ys)) rest (t x k _ (comma_fine _))
+      (next (comma_word _) (gap (joined_tidy y ys parts.0 parts.1 rest fine)))
 
 args_tidy : (args : List ExprTree) → list_all is_kept args ≡ true → Sound (join_by expr_words comma args)
-args_tidy [] all rest calm = none
-args_tidy (e ∷ es) all rest calm = let parts = and_parts _ _ all in
-    args_from e es parts.0 parts.1 rest calm
+args_tidy [] all = λ rest calm. none
+args_tidy (e ∷ es) all = let parts = and_parts (is_kept e) _ all in
+    joined_tidy expr_words is_kept Calm (λ r. refl) expr_tidy e es parts.0 parts.1
 
 pub call_tidy : (c : CallTree) → IsTrue (kept_call c) → Free (call_words c)
 call_tidy c k rest =

@@ -12,6 +12,7 @@ use Rattle.sc_print.proofs.Reading.{AllAlike, Reading, part, written, reads}
 use Rattle.sc_print.proofs.DirectiveWords.{export_says, export_line_is, import_text, import_says, import_line_is}
 use Rattle.sc_print.proofs.DirectiveWords.{heading_text, heading_says, heading_line_is, heading_begins}
 use Rattle.sc_print.proofs.Lined.{Lined, tidy, line, found_lines}
+use Rattle.sc_print.proofs.Spacing.{Tidy}
 use Rattle.sc_print.proofs.Cut.{Found}
 use Rattle.sc_print.proofs.Sections.{decls_read}
 use Rattle.sc_print.proofs.DeclSpacing.{decls_tidy}
@@ -142,16 +143,16 @@ imports_lined (x ∷ imports) k more l =
     let names = and_parts (is_name x.comp) (is_name x.name) parts.0 in
     line (import_line_is x.comp x.name names.0 names.1) (imports_lined imports parts.1 more l)
 
-pub heading_front : (name more : List ℕ) → begins_heading (heading_text name ++ more) ≡ true
-heading_front name more = heading_begins (name ++ more)
+-- a section, whose declarations may be written in other words than they are printed in, is cut
+pub cut_with : (tree : SectionTree) → IsTrue (kept_section tree) → (decls : List Piece) → Tidy decls [] →
+    let words = heading_words tree.name ++ (flat_map export_words tree.exports ++
+    (flat_map import_words tree.imports ++ decls)) in Found (text_of words) 0 (symbols words)
+cut_with tree k decls apart =
+    let kept = keeps tree k in
+    let behind = flat_map export_words tree.exports ++ (flat_map import_words tree.imports ++ decls) in
+    found_lines _ (heading_begins (tree.name ++ 10 ∷ text_of behind)) (line (heading_line_is _ kept.name)
+    (exports_lined tree.exports kept.exports _ (imports_lined tree.imports kept.imports _ (tidy apart)))) [] refl refl
 
 pub section_cut : (tree : SectionTree) → IsTrue (kept_section tree) →
     Found (printed tree) 0 (symbols (section_words tree))
-section_cut tree k =
-    let kept = keeps tree k in
-    let lined = line (heading_line_is _ kept.name)
-    (exports_lined tree.exports kept.exports _ (imports_lined tree.imports kept.imports _
-    (tidy (decls_tidy _ kept.decls [])))) in
-    let behind = flat_map export_words tree.exports ++
-    (flat_map import_words tree.imports ++ flat_map decl_words tree.decls) in
-    found_lines _ (heading_front tree.name (10 ∷ text_of behind)) lined [] refl refl
+section_cut tree k = cut_with tree k (flat_map decl_words tree.decls) (decls_tidy _ (keeps tree k).decls [])

@@ -1,4 +1,5 @@
 -- What is done at once, and leaves nothing that waits.
+use Rattle.sc_run.proofs.Common.{TypedSimpleKind}
 use Rattle.sc_run.proofs.Common.{Acts, Body as Body', Bool, Bor, CameTo, Comes, Doing, Exit, Frame, Go, Left, List}
 use Rattle.sc_run.proofs.Common.{Loop, Memory, Next, None, Ok, Option, Passes, PassesIf, Piece, ProgramTree, Reached}
 use Rattle.sc_run.proofs.Common.{Return, Route, Run as Run', RunEnd, Seen, Some, SourceRun, Standing, State, Step}
@@ -16,6 +17,7 @@ use Rattle.sc_core.specs.declared.value.Want.TheVariants as want
 use Rattle.sc_value.specs.Assigning.{AssignedIf, Holding}
 use Rattle.sc_run.proofs.Coming.{computed_comes, stored_ok, then_goes, turn_comes, with_memory}
 use Rattle.sc_run.proofs.Looping.{cond_evaluated, round_is, steps_as, steps_later, steps_wait, tested}
+use Rattle.sc_run.proofs.Standing.{Follows}
 use Rattle.sc_run.proofs.Stating.{alone, first_and_rest, stmt_is}
 use Rattle.sc_run.proofs.Unseen.{way_same}
 
@@ -68,7 +70,7 @@ reached_at after v (Stopped end t) go c = elim c [ ]
 
 -- a piece that comes to a value, and what follows it
 pub passes_by : {V : Type 0} (before after : Seen) (v : V) (x : State → Piece V)
-    (go : ℕ → V → State → Piece (Left (Unit {0}))) → Comes before after (Ok v) x →
+    (go : Follows V) → Comes before after (Ok v) x →
     Passes before after (λ n s. and_then (x s) (go n)) (λ n s. go n v s)
 passes_by before after v x go h =
     record { passes = λ n s shows. reached_at after v (x s) (go n) (h.comes s shows); fewer = h.fewer }
@@ -160,14 +162,17 @@ module _ (program : ProgramTree) (f : Frame) where
   abbrev block_by : List TypedStmt → Doing
   block_by stmts n s = block_acts program n f stmts tt s
 
+  abbrev left_by : Exit → Doing
+  left_by exit n s = leave exit tt s
+
   pub empty_done : (stmt : TypedStmt) (seen : Seen) → stmt.kind ≡ roll-TypedStmtKind layer.Empty →
-      Passes seen seen (λ n. stmt_acts program n f stmt tt) ended_so
+      Passes seen seen (stmt_by stmt) ended_so
   empty_done stmt seen is = passes_as _ (stmt_is program f stmt _ is) (stays_so seen _)
 
   pub assign_done : (stmt : TypedStmt) (ref place e : TypedExpr) (b : Bool) (before after : Seen) →
       stmt.kind ≡ roll-TypedStmtKind (layer.Assign place e) → ref ≡ place →
-      PassesIf b before after (λ n. assign (here_of f.scope) (way_in f ref) (way_in f e) stmt.line tt) ended_so →
-      PassesIf b before after (λ n. stmt_acts program n f stmt tt) ended_so
+      PassesIf b before after (assigned_by ref e stmt.line) ended_so →
+      PassesIf b before after (stmt_by stmt) ended_so
   assign_done stmt ref place e b before after is same h =
       passes_if_as b before after _ _ _ (λ n s. stmt_is program f stmt _ is n s ∙
       ap (λ x. assigned_by x e stmt.line n s) (sym same)) h
@@ -175,23 +180,23 @@ module _ (program : ProgramTree) (f : Frame) where
   -- one more statement
   pub one_more : (stmts : List TypedStmt) (at : ℕ) (stmt : TypedStmt) (before middle after : Seen) →
       at < length stmts → stmt ≡ get_or stmts at stmt →
-      Passes before middle (λ n s. block_acts program n f stmts tt s)
-      (λ n s. block_acts program n f (drop at stmts) tt s) →
-      Passes middle after (λ n. stmt_acts program n f stmt tt) ended_so →
-      Passes before after (λ n s. block_acts program n f stmts tt s)
-      (λ n s. block_acts program n f (drop (at + 1) stmts) tt s)
+      Passes before middle (block_by stmts)
+      (block_by (drop at stmts)) →
+      Passes middle after (stmt_by stmt) ended_so →
+      Passes before after (block_by stmts)
+      (block_by (drop (at + 1) stmts))
   one_more stmts at stmt before middle after there item h k =
       then_passes h (passes_as _
       (λ n s. ap (λ xs. block_by xs n s) (drop-step stmts at stmt there item)) (next_one k)) where
-        next_one : Passes middle after (λ n. stmt_acts program n f stmt tt) ended_so →
+        next_one : Passes middle after (stmt_by stmt) ended_so →
             Passes middle after (block_by (stmt ∷ drop (at + 1) stmts)) (block_by (drop (at + 1) stmts))
         next_one k = passes_follow in_order _ k
 
   pub all_done : (stmts : List TypedStmt) (at : ℕ) (before after : Seen) → length stmts ≤ at →
-      Passes before after (λ n s. block_acts program n f stmts tt s)
-      (λ n s. block_acts program n f (drop at stmts) tt s) →
-      Passes before after (λ n s. block_acts program n f stmts tt s)
-      (λ n s. block_acts program n f (drop (length stmts) stmts) tt s)
+      Passes before after (block_by stmts)
+      (block_by (drop at stmts)) →
+      Passes before after (block_by stmts)
+      (block_by (drop (length stmts) stmts))
   all_done stmts at before after le h =
       subst (λ xs. Passes before after (block_by stmts) (block_by xs))
       (drop_all at stmts le ∙ sym (drop_all _ stmts (omega arith))) h
@@ -200,7 +205,7 @@ module _ (program : ProgramTree) (f : Frame) where
   choosing : (stmt : TypedStmt) (cond : TypedExpr) (x y : List TypedStmt) (v : Value) (seen : Seen) →
       stmt.kind ≡ roll-TypedStmtKind (layer.If cond x y) →
       Ok v ≡ way_in f cond want.Value (seen.memory f.scope.comp.now) →
-      Passes seen seen (λ n. stmt_acts program n f stmt tt) (λ n s. choose v (block_by x n s) (block_by y n s))
+      Passes seen seen (stmt_by stmt) (λ n s. choose v (block_by x n s) (block_by y n s))
   choosing stmt cond x y v seen is gives =
       passes_as _ (stmt_is program f stmt _ is)
       (passes_by seen seen v (evaluated (here_of f.scope) want.Value (way_in f cond) stmt.line)
@@ -212,7 +217,7 @@ module _ (program : ProgramTree) (f : Frame) where
       stmt.kind ≡ roll-TypedStmtKind (layer.If cond x y) →
       Ok v ≡ way_in f cond want.Value (seen.memory f.scope.comp.now) →
       is_true v ≡ true → part ≡ x →
-      Passes seen seen (λ n. stmt_acts program n f stmt tt) (λ n. block_acts program n f part tt)
+      Passes seen seen (stmt_by stmt) (block_by part)
   first_chosen stmt cond x y part v seen is gives holds same =
       then_passes (choosing stmt cond x y v seen is gives) (passes_as _
       (λ n s. ap (λ b. if b then block_by x n s else block_by y n s) holds ∙ ap (λ xs. block_by xs n s) (sym same))
@@ -222,7 +227,7 @@ module _ (program : ProgramTree) (f : Frame) where
       stmt.kind ≡ roll-TypedStmtKind (layer.If cond x y) →
       Ok v ≡ way_in f cond want.Value (seen.memory f.scope.comp.now) →
       is_true v ≡ false → part ≡ y →
-      Passes seen seen (λ n. stmt_acts program n f stmt tt) (λ n. block_acts program n f part tt)
+      Passes seen seen (stmt_by stmt) (block_by part)
   second_chosen stmt cond x y part v seen is gives fails same =
       then_passes (choosing stmt cond x y v seen is gives) (passes_as _
       (λ n s. ap (λ b. if b then block_by x n s else block_by y n s) fails ∙ ap (λ xs. block_by xs n s) (sym same))
@@ -231,11 +236,11 @@ module _ (program : ProgramTree) (f : Frame) where
   -- what is left of the part that was chosen
   pub part_left : (before middle after : Seen) (stmt : TypedStmt) (part : List TypedStmt) (count : ℕ) →
       middle ≡ before →
-      Passes middle middle (λ n. stmt_acts program n f stmt tt) (λ n. block_acts program n f part tt) →
-      Passes middle after (λ n s. block_acts program n f part tt s)
-      (λ n s. block_acts program n f (drop count part) tt s) →
-      Passes before after (λ n. stmt_acts program n f stmt tt)
-      (λ n. block_acts program n f (take (length part - count) (drop count part)) tt)
+      Passes middle middle (stmt_by stmt) (block_by part) →
+      Passes middle after (block_by part)
+      (block_by (drop count part)) →
+      Passes before after (stmt_by stmt)
+      (block_by (take (length part - count) (drop count part)))
   part_left before middle after stmt part count same h k =
       subst (λ x. Passes x after (stmt_by stmt) (block_by (take (length part - count) (drop count part)))) same
       (then_passes h (subst (λ xs. Passes middle after (block_by part) (block_by xs)) (sym (rest_at count part)) k))
@@ -243,10 +248,10 @@ module _ (program : ProgramTree) (f : Frame) where
   -- part of one more statement
   pub within_one : (stmts part : List TypedStmt) (at : ℕ) (stmt : TypedStmt) (before middle after : Seen) →
       at < length stmts → stmt ≡ get_or stmts at stmt →
-      Passes before middle (λ n s. block_acts program n f stmts tt s)
-      (λ n s. block_acts program n f (drop at stmts) tt s) →
-      Passes middle after (λ n. stmt_acts program n f stmt tt) (λ n. block_acts program n f part tt) →
-      Passes before after (λ n s. block_acts program n f stmts tt s)
+      Passes before middle (block_by stmts)
+      (block_by (drop at stmts)) →
+      Passes middle after (stmt_by stmt) (block_by part) →
+      Passes before after (block_by stmts)
       (λ n s. follow in_order (block_acts program n f part tt s) (block_acts program n f (drop (at + 1) stmts)))
   within_one stmts part at stmt before middle after there item h k =
       then_passes h (passes_as _ (λ n s. ap (λ xs. block_by xs n s) (drop-step stmts at stmt there item))
@@ -254,19 +259,19 @@ module _ (program : ProgramTree) (f : Frame) where
 
   pub one_over : (stmts part : List TypedStmt) (at : ℕ) (stmt : TypedStmt) (before middle after : Seen) → part ≡ [] →
       at < length stmts → stmt ≡ get_or stmts at stmt →
-      Passes before middle (λ n s. block_acts program n f stmts tt s)
-      (λ n s. block_acts program n f (drop at stmts) tt s) →
-      Passes middle after (λ n. stmt_acts program n f stmt tt) (λ n. block_acts program n f part tt) →
-      Passes before after (λ n s. block_acts program n f stmts tt s)
-      (λ n s. block_acts program n f (drop (at + 1) stmts) tt s)
+      Passes before middle (block_by stmts)
+      (block_by (drop at stmts)) →
+      Passes middle after (stmt_by stmt) (block_by part) →
+      Passes before after (block_by stmts)
+      (block_by (drop (at + 1) stmts))
   one_over stmts part at stmt before middle after empty there item h k =
       within_one stmts [] at stmt before middle after there item h
       (subst (λ xs. Passes middle after (stmt_by stmt) (block_by xs)) empty k)
 
   pub none_behind : (stmts : List TypedStmt) (at : ℕ) (before after : Seen) → length stmts ≤ at →
-      Passes before after (λ n s. block_acts program n f stmts tt s)
-      (λ n s. block_acts program n f (drop at stmts) tt s) →
-      Passes before after (λ n s. block_acts program n f stmts tt s) (λ n s. leave Next tt s)
+      Passes before after (block_by stmts)
+      (block_by (drop at stmts)) →
+      Passes before after (block_by stmts) ended_so
   none_behind stmts at before after le h =
       then_passes h (passes_as _ (λ n s. ap (λ xs. block_by xs n s) (drop_all at stmts le)) (stays_so after _))
 
@@ -274,7 +279,7 @@ module _ (program : ProgramTree) (f : Frame) where
   pub value_leaves : (stmt : TypedStmt) (ref : TypedExpr) (e : TypedExpr) (v : Value) (seen : Seen) →
       stmt.kind ≡ roll-TypedStmtKind (layer.ReturnValue e) → ref ≡ e →
       Ok v ≡ way_in f ref want.Value (seen.memory f.scope.comp.now) → (rest : List TypedStmt) →
-      Passes seen seen (λ n s. block_acts program n f (stmt ∷ rest) tt s) (λ n s. leave (Return (Some v)) tt s)
+      Passes seen seen (block_by (stmt ∷ rest)) (left_by (Return (Some v)))
   value_leaves stmt ref e v seen is same gives rest =
       passes_as _ (λ n s. ap (λ p. follow in_order p (block_acts program n f rest)) (stmt_is program f stmt _ is n s))
       (passes_follow in_order (λ n. block_acts program n f rest)
@@ -285,24 +290,23 @@ module _ (program : ProgramTree) (f : Frame) where
 
   pub first_leaves : (stmts : List TypedStmt) (stmt : TypedStmt) (exit : Exit) (seen : Seen) → 1 ≤ length stmts →
       stmt ≡ get_or stmts 0 stmt → ((rest : List TypedStmt) →
-      Passes seen seen (λ n s. block_acts program n f (stmt ∷ rest) tt s) (λ n s. leave exit tt s)) →
-      Passes seen seen (λ n s. block_acts program n f stmts tt s) (λ n s. leave exit tt s)
+      Passes seen seen (block_by (stmt ∷ rest)) (left_by exit)) →
+      Passes seen seen (block_by stmts) (left_by exit)
   first_leaves stmts stmt exit seen le item h =
       passes_as _ (λ n s. ap (λ xs. block_by xs n s) (first_and_rest stmts stmt le item)) (h (drop 1 stmts))
 
   -- a part in the head of a `for`
-  abbrev part_by : TypedSimple → Doing
-  part_by part n s = part_acts program n f (Some part) tt s
+  abbrev simple_by : TypedSimpleKind → ℕ → Doing
+  simple_by kind line n s = simple_does c_arith f.scope.structs.now (here_of f.scope) f.scope.params
+      (calls_in program n) kind line tt s
 
   pub part_assigned : (part : TypedSimple) (ref : TypedExpr) (place e : TypedExpr) (b : Bool) (before after : Seen) →
       part.kind ≡ simple.Assign place e → ref ≡ place →
-      PassesIf b before after (λ n. assign (here_of f.scope) (way_in f ref) (way_in f e) part.line tt) ended_so →
-      PassesIf b before after (λ n. simple_does c_arith f.scope.structs.now (here_of f.scope) f.scope.params
-      (calls_in program n) part.kind part.line tt) ended_so
+      PassesIf b before after (assigned_by ref e part.line) ended_so →
+      PassesIf b before after (simple_by part.kind part.line) ended_so
   part_assigned part ref place e b before after is same h =
       passes_if_as b before after _ _ ended_so
-      (λ n s. ap (λ k. simple_does c_arith f.scope.structs.now (here_of f.scope) f.scope.params
-      (calls_in program n) k part.line tt s) is ∙ ap (λ x. assigned_by x e part.line n s) (sym same)) h
+      (λ n s. ap (λ k. simple_by k part.line n s) is ∙ ap (λ x. assigned_by x e part.line n s) (sym same)) h
 
   module _ (l : Loop) where
     abbrev next_by : Doing
@@ -312,20 +316,19 @@ module _ (program : ProgramTree) (f : Frame) where
     loop_by n s = loop_acts program n f l tt s
 
     pub no_next : (seen : Seen) → option_copied l.next ≡ None →
-        Passes seen seen (λ n. next_acts program n f l tt) ended_so
+        Passes seen seen next_by ended_so
     no_next seen is = passes_as next_by (λ n s. ap (λ o. part_acts program n f o tt s) is) (stays_so seen _)
 
     pub next_is_done : (part : TypedSimple) (b : Bool) (before after : Seen) → option_copied l.next ≡ Some part →
-        PassesIf b before after (λ n. simple_does c_arith f.scope.structs.now (here_of f.scope) f.scope.params
-        (calls_in program n) part.kind part.line tt) ended_so →
-        PassesIf b before after (λ n. next_acts program n f l tt) ended_so
+        PassesIf b before after (simple_by part.kind part.line) ended_so →
+        PassesIf b before after next_by ended_so
     next_is_done part b before after is h =
         passes_if_as b before after next_by _ _ (λ n s. ap (λ o. part_acts program n f o tt s) is) h
 
     -- a round begins: its test holds, and there is a turn
     pub round_begins : (seen : Seen) (k : ℕ) → Holding (way_in f l.cond.now) (seen.memory f.scope.comp.now) →
         seen.turns ≡ suc k →
-        Passes seen (record seen { turns = k }) (λ n. loop_acts program n f l tt) (in_body program f l l.body.now)
+        Passes seen (record seen { turns = k }) loop_by (in_body program f l l.body.now)
     round_begins seen k h turns =
         passes_as loop_by (round_is program f l) (then_passes (passes_by seen seen h.given (cond_evaluated program f l)
         (λ n v s. tested program f l n _ s) (computed_comes (here_of f.scope) l.line (λ bs. way_in f _ _ bs)
@@ -335,19 +338,19 @@ module _ (program : ProgramTree) (f : Frame) where
 
     -- statements of the body are done
     pub body_done : (before middle after : Seen) (at : Option Position) →
-        Passes before middle (λ n. loop_acts program n f l tt) (in_body program f l l.body.now) →
-        Passes middle after (λ n. block_acts program n f l.body.now tt) (left_at program f l.body.now at) →
-        Passes before after (λ n. loop_acts program n f l tt)
+        Passes before middle loop_by (in_body program f l l.body.now) →
+        Passes middle after (block_by l.body.now) (left_at program f l.body.now at) →
+        Passes before after loop_by
         (λ n s. follow in_loop (left_at program f l.body.now at n s)
         (λ a s. follow in_loop (next_acts program n f l a s) (loop_acts program n f l)))
     body_done before middle after at h k = then_passes h (passes_follow in_loop _ k)
 
     -- the loop stands behind its body
     pub behind_body : (before middle after : Seen) (none : Bor (List TypedStmt)) →
-        Passes before middle (λ n. loop_acts program n f l tt) (in_body program f l l.body.now) →
-        Passes middle after (λ n. block_acts program n f l.body.now tt) (left_at program f l.body.now None) →
+        Passes before middle loop_by (in_body program f l l.body.now) →
+        Passes middle after (block_by l.body.now) (left_at program f l.body.now None) →
         none.now ≡ [] →
-        Passes before after (λ n. loop_acts program n f l tt)
+        Passes before after loop_by
         (in_round program f l (Some (record { part = none; count = length l.body.now })))
     behind_body before middle after none h k empty =
         then_passes (body_done before middle after None h k) (passes_as _
@@ -357,17 +360,17 @@ module _ (program : ProgramTree) (f : Frame) where
 
     -- the loop stands before a round again
     pub round_done : (before middle done after : Seen) →
-        Passes before middle (λ n. loop_acts program n f l tt) (in_body program f l l.body.now) →
-        Passes middle done (λ n. block_acts program n f l.body.now tt) (left_at program f l.body.now None) →
-        Passes done after (λ n. next_acts program n f l tt) ended_so →
-        Passes before after (λ n. loop_acts program n f l tt) (λ n. loop_acts program n f l tt)
+        Passes before middle loop_by (in_body program f l l.body.now) →
+        Passes middle done (block_by l.body.now) (left_at program f l.body.now None) →
+        Passes done after next_by ended_so →
+        Passes before after loop_by loop_by
     round_done before middle done after h k m =
         then_passes (body_done before middle done None h k) (passes_follow in_loop _ m)
 
     -- what comes before the next round, and the loop again
     pub next_behind : (before middle : Seen) (work : List Work) (step : Step) (after : Seen) (later : List Work)
-        (g : Frame) → Passes before middle (λ n. next_acts program n f l tt) ended_so →
-        Steps program middle work f (λ n. loop_acts program n f l tt) step after later g →
+        (g : Frame) → Passes before middle next_by ended_so →
+        Steps program middle work f loop_by step after later g →
         Steps program before work f (λ n s. follow in_loop (next_acts program n f l tt s) (loop_acts program n f l))
         step after later g
     next_behind before middle work step after later g h k =
@@ -376,10 +379,10 @@ module _ (program : ProgramTree) (f : Frame) where
     -- a round that is left in its body
     pub left_in_body : (before middle : Seen) (work later : List Work) (at : Position) (step : Step) (after : Seen)
         (last : List Work) (g : Frame) →
-        Passes before middle (λ n. loop_acts program n f l tt) (in_round program f l (Some at)) →
+        Passes before middle loop_by (in_round program f l (Some at)) →
         later ≡ work ++ Body' l ∷ [] →
         Steps program middle later f (left_at program f l.body.now (Some at)) step after last g →
-        Steps program before work f (λ n. loop_acts program n f l tt) step after last g
+        Steps program before work f loop_by step after last g
     left_in_body before middle work later at step after last g h is k =
         steps_behind program work f step after last g before middle loop_by _ h
         (steps_wait program middle work f _ later _ _ step after last g is (λ n s. refl) k)
@@ -401,9 +404,9 @@ module _ (program : ProgramTree) (f : Frame) where
   -- a step behind what was done of statements
   pub at_behind : (before middle : Seen) (work : List Work) (stmts body : List TypedStmt) (at : Option Position)
       (step : Step) (after : Seen) (later : List Work) (g : Frame) → stmts ≡ body →
-      Passes before middle (λ n. block_acts program n f stmts tt) (left_at program f stmts at) →
+      Passes before middle (block_by stmts) (left_at program f stmts at) →
       Steps program middle work f (left_at program f stmts at) step after later g →
-      Steps program before work f (λ n s. block_acts program n f body tt s) step after later g
+      Steps program before work f (block_by body) step after later g
   at_behind before middle work stmts body at step after later g same h k =
       subst (λ xs. Steps program before work f (block_by xs) step after later g) same
       (steps_behind program work f step after later g before middle _ _ h k)
@@ -411,19 +414,19 @@ module _ (program : ProgramTree) (f : Frame) where
   -- something more waits for the statements
   pub caller_behind : (before middle : Seen) (work pushed : List Work) (stmts body : List TypedStmt) (at : Position)
       (step : Step) (after : Seen) (later : List Work) (g : Frame) → stmts ≡ body → pushed ≡ work →
-      Passes before middle (λ n. block_acts program n f stmts tt) (left_at program f stmts (Some at)) →
+      Passes before middle (block_by stmts) (left_at program f stmts (Some at)) →
       Steps program middle pushed f (left_at program f stmts (Some at)) step after later g →
-      Steps program before work f (λ n s. block_acts program n f body tt s) step after later g
+      Steps program before work f (block_by body) step after later g
   caller_behind before middle work pushed stmts body at step after later g same is h k =
       at_behind before middle work stmts body (Some at) step after later g same h
       (subst (λ ws. Steps program middle ws f (left_at program f stmts (Some at)) step after later g) is k)
 
   pub rest_behind : (before middle : Seen) (work : List Work) (stmts body : List TypedStmt) (at : Position)
       (step : Step) (after : Seen) (later : List Work) (g : Frame) → stmts ≡ body → at.part.now ≡ [] →
-      Passes before middle (λ n. block_acts program n f stmts tt) (left_at program f stmts (Some at)) →
+      Passes before middle (block_by stmts) (left_at program f stmts (Some at)) →
       Steps program middle work f
-      (λ n s. block_acts program n f (take (length stmts - at.count) (drop at.count stmts)) tt s) step after later g →
-      Steps program before work f (λ n s. block_acts program n f body tt s) step after later g
+      (block_by (take (length stmts - at.count) (drop at.count stmts))) step after later g →
+      Steps program before work f (block_by body) step after later g
   rest_behind before middle work stmts body at step after later g same empty h k =
       at_behind before middle work stmts body (Some at) step after later g same h (steps_as program middle work f _
       _ step after later g (λ n s. no_part stmts at empty n s ∙ ap (λ xs. block_by xs n s) (sym (rest_at _ stmts))) k)
@@ -431,12 +434,12 @@ module _ (program : ProgramTree) (f : Frame) where
   -- control leaves the function behind the statements that were done
   pub left_behind : (before middle : Seen) (work : List Work) (stmts body : List TypedStmt) (at : Position)
       (exit : Exit) (step : Step) (after : Seen) (later : List Work) (g : Frame) → stmts ≡ body → at.part.now ≡ [] →
-      Passes before middle (λ n. block_acts program n f stmts tt) (left_at program f stmts (Some at)) →
+      Passes before middle (block_by stmts) (left_at program f stmts (Some at)) →
       Passes middle middle
-      (λ n s. block_acts program n f (take (length stmts - at.count) (drop at.count stmts)) tt s)
-      (λ n s. leave exit tt s) →
-      Steps program middle work f (λ n s. leave exit tt s) step after later g →
-      Steps program before work f (λ n s. block_acts program n f body tt s) step after later g
+      (block_by (take (length stmts - at.count) (drop at.count stmts)))
+      (left_by exit) →
+      Steps program middle work f (left_by exit) step after later g →
+      Steps program before work f (block_by body) step after later g
   left_behind before middle work stmts body at exit step after later g same empty h left k =
       rest_behind before middle work stmts body at step after later g same empty h
       (steps_behind program work f step after later g middle middle _ _ left k)

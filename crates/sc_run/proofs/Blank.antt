@@ -39,20 +39,16 @@ pub length_same : (bs : Blocks) → length (blank bs) ≡ length bs
 length_same bs = length-map bs _
 
 loaded_same : (bs : Blocks) (pointer : Bool) (o : Option Cell) → loaded (blank bs) pointer o ≡ loaded bs pointer o
-loaded_same bs pointer None = refl
-loaded_same bs pointer (Some cell.Undef) = refl
-loaded_same bs pointer (Some (cell.Word w)) = refl
-loaded_same bs pointer (Some cell.Null) = refl
 loaded_same bs pointer (Some (cell.Ptr p)) =
     ap (λ b. if b then (if pointer then Ok (Ptr p) else Err BadType) else Err Dangling) (live_same bs p.block)
+loaded_same bs pointer _ = refl
 
 pub load_same : (bs : Blocks) (pointer : Bool) (q : Value) → load (blank bs) pointer q ≡ load bs pointer q
-load_same bs pointer (Word w) = refl
-load_same bs pointer Null = refl
 load_same bs pointer (Ptr p) =
     ap (λ c. bind c (λ cells. loaded (blank bs) pointer (slice_get cells p.index))) (cells_same bs p.block)
     ∙ by_ok (cells_at bs p.block) (λ cells. loaded (blank bs) pointer (slice_get cells p.index))
     (λ cells. loaded bs pointer _) (λ cells. loaded_same bs pointer _)
+load_same bs pointer _ = refl
 
 abbrev pub blanked : Result Blocks Cause → Result Blocks Cause
 blanked r = bind r (λ bs. Ok (blank bs))
@@ -75,9 +71,8 @@ stored_same bs p v (Err cause) = refl
 stored_same bs p v (Ok cells) = with_same bs p v cells _
 
 pub store_same : (bs : Blocks) (q v : Value) → store (blank bs) q v ≡ blanked (store bs q v)
-store_same bs (Word w) v = refl
-store_same bs Null v = refl
 store_same bs (Ptr p) v = ap (λ c. bind c (with_cell (blank bs) p v)) (cells_same bs p.block) ∙ stored_same bs p v _
+store_same bs _ v = refl
 
 pub blank_more : (bs cs : Blocks) → blank (bs ++ cs) ≡ blank bs ++ blank cs
 blank_more bs cs = map-append _ bs cs
@@ -94,12 +89,10 @@ given_twice false cells = refl
 
 -- what is left of blocks does not depend on the cells of those that had ended
 pub left_same : (first count : ℕ) (bs : Blocks) → cleared first count (blank bs) ≡ blank (ended first count bs)
-left_same zero zero [] = refl
 left_same zero zero (b ∷ bs) = λ i. given_twice b.live b.cells i ∷ left_same zero zero bs i
-left_same zero (suc count) [] = refl
 left_same zero (suc count) (b ∷ bs) = ap (λ cs. ended_block ∷ cs) (left_same zero count bs)
-left_same (suc first) count [] = refl
 left_same (suc first) count (b ∷ bs) = λ i. given_twice b.live b.cells i ∷ left_same first count bs i
+left_same _ _ [] = refl
 
 with_if : (b : Bool) (bs cs : Blocks) → blank (if b then bs else cs) ≡ (if b then blank bs else blank cs)
 with_if true bs cs = refl

@@ -1,4 +1,5 @@
 -- Calls that begin.
+use Rattle.sc_run.proofs.Common.{Doing}
 use Rattle.sc_run.proofs.Common.{Begun, Bor, Call, Callee, Caller, CameTo, Comes, Err, Frame, Function, Left, List}
 use Rattle.sc_run.proofs.Common.{None, Ok, Option, Piece, Place, ProgramTree, Reached, RunEnd, Seen, Some, SourceRun}
 use Rattle.sc_run.proofs.Common.{Standing, State, Step, Steps, Stop, Stopped, To, TypedExpr, Value, Work, [], and_then}
@@ -105,6 +106,9 @@ module _ (program : ProgramTree) (caller : Frame) (callee : Callee) (args : List
   from_call crossing n s = entering (back_from program caller callee crossing) n
       (entry_from caller callee args crossing s)
 
+  abbrev tries : Option ℕ → Doing
+  tries crossing n s = and_then (and_then (turn s) (λ _ s. from_call crossing n s)) (result_goes program caller to)
+
   module _ (whole : SourceRun) (work later : List Work) (crossing : Option ℕ) (mid begun_to : Seen) (g : Frame)
       (there : Found) (b : Begun callee args (told_call caller callee args crossing mid) begun_to g) where
     abbrev Entered : Type 0
@@ -151,9 +155,7 @@ module _ (program : ProgramTree) (caller : Frame) (callee : Callee) (args : List
         (result_goes program caller to))) (sym is) refl
 
     entered_from : (before : Seen) → later ≡ work ++ Caller caller to crossing ∷ [] → before.turns ≡ suc mid.turns →
-        Comes before mid (Ok tt) turn → Standing program whole before work caller
-        (λ n s. and_then (and_then (turn s) (λ _ s. from_call crossing n s)) (result_goes program caller to)) →
-        Entered
+        Comes before mid (Ok tt) turn → Standing program whole before work caller (tries crossing) → Entered
     entered_from before pushed taken c h =
         by_turn h.open_calls (turn h.state) (c.comes h.state h.shows)
         (more (ap (λ x. x.turns) h.shows) taken h.enough) h.rest where
@@ -180,16 +182,11 @@ module _ (program : ProgramTree) (caller : Frame) (callee : Callee) (args : List
 
   pub enter_steps : (crossing : Option ℕ) (work later : List Work) (before mid told begun_to : Seen) (g : Frame)
       (step : Step) (last : Seen) (last_work : List Work) (last_frame : Frame) →
-      function (library program) callee.comp.now callee.number ≡
-      Some (function_of c_arith program.interfaces.main callee.structs.now callee.function.now) →
-      Comes before mid (Ok tt) turn → before.turns ≡ suc mid.turns →
+      Found → Comes before mid (Ok tt) turn → before.turns ≡ suc mid.turns →
       told ≡ told_call caller callee args crossing mid → Begun callee args told begun_to g →
       later ≡ work ++ Caller caller to crossing ∷ [] →
       Steps program begun_to later g (λ n s. body_acts program n g tt s) step last last_work last_frame →
-      Steps program before work caller (λ n s. and_then
-      (and_then (turn s) (λ _ s. run_in (library program) (bodies program n) callee.comp.now callee.number args
-      (back_from program caller callee crossing) (entry_from caller callee args crossing s)))
-      (result_goes program caller to)) step last last_work last_frame
+      Steps program before work caller (tries crossing) step last last_work last_frame
   enter_steps crossing work later before mid told begun_to g step last last_work last_frame there c taken tells b pushed
       h =
       record {
@@ -200,11 +197,9 @@ module _ (program : ProgramTree) (caller : Frame) (callee : Callee) (args : List
   -- a call that has no turn left
   pub enter_stops : (crossing : Option ℕ) (work : List Work) (before after : Seen) (end : RunEnd) →
       Comes before after (Err end) turn → Steps program before work caller
-      (λ n s. and_then (and_then (turn s) (λ _ s. run_in (library program)
-      (bodies program n) callee.comp.now callee.number args (back_from program caller callee crossing)
-      (entry_from caller callee args crossing s))) (result_goes program caller to)) (Stop end) after work caller
+      (tries crossing) (Stop end) after work caller
   enter_stops crossing work before after end c =
-      steps_as program before work caller (λ n s. and_then _ (result_goes program caller to)) (λ n s. and_then (turn s)
+      steps_as program before work caller (tries crossing) (λ n s. and_then (turn s)
       (λ _ s. and_then _ (result_goes program caller to))) (Stop end) after work caller
       (λ n s. then_then (turn s) (λ _ s. from_call _ n s) (result_goes program caller to))
       (step_stops program before after work caller end turn

@@ -21,9 +21,7 @@ pub once_more : (zeros : List (List Cell)) (n : ℕ) (cells more so_far : List C
     more ≡ cells → so_far ++ more ≡ repeated zeros (n + 1) cells
 once_more zeros n cells more so_far is same =
     (λ i. is i ++ same i) ∙ sym (repeated_more zeros n cells) ∙
-    ap (λ k. repeated zeros k cells) (sym (plus_one n)) where
-      plus_one : (k : ℕ) → k + 1 ≡ suc k
-      plus_one k = omega arith
+    ap (λ k. repeated zeros k cells) (sym (add-one n))
 
 members_more : (zeros : List (List Cell)) (ms : List TypedMember) (m : TypedMember) →
     member_zeros zeros (ms ++ m ∷ []) ≡ member_zeros zeros ms ++ zeros_of zeros m.ty
@@ -42,19 +40,14 @@ member_more zeros ms i m so_far there item is =
 
 word_first : (ws : List ℕ) (c : Cell) (cs : List Cell) →
     with_words ws (c ∷ cs) ≡ cell_with (slice_get ws 0) c ∷ with_words (drop 1 ws) cs
-word_first [] c cs = ap (λ xs. c ∷ xs) (no_words cs) where
-  no_words : (xs : List Cell) → xs ≡ with_words [] xs
-  no_words xs = refl
+word_first [] c cs = refl
 word_first (w ∷ ws) Null cs = refl
-word_first (w ∷ ws) Undef cs = refl
-word_first (w ∷ ws) (Word v) cs = refl
-word_first (w ∷ ws) (Ptr p) cs = refl
+word_first (w ∷ ws) _ cs = refl
 
 first_of_rest : (ws : List ℕ) (i : ℕ) → slice_get (drop i ws) 0 ≡ slice_get ws i
 first_of_rest [] zero = refl
-first_of_rest [] (suc i) = refl
-first_of_rest (w ∷ ws) zero = refl
 first_of_rest (w ∷ ws) (suc i) = first_of_rest ws i
+first_of_rest _ _ = refl
 
 -- one more cell
 pub word_more : (ws : List ℕ) (cs : List Cell) (i : ℕ) (c new : Cell) (word : Option ℕ) (so_far whole : List Cell) →
@@ -64,13 +57,11 @@ pub word_more : (ws : List ℕ) (cs : List Cell) (i : ℕ) (c new : Cell) (word 
 word_more ws cs i c new word so_far whole there item is gives stands_so =
     append_assoc so_far (new ∷ []) _
     ∙ ap (λ xs. so_far ++ xs) ((λ k. (gives ∙ ap (λ o. cell_with o c) (is ∙ sym (first_of_rest ws i))) k ∷
-    with_words (drop (plus_one i k) ws) (drop (i + 1) cs)) ∙
+    with_words (drop (add-one i k) ws) (drop (i + 1) cs)) ∙
     ap (λ xs. cell_with (slice_get (drop i ws) 0) c ∷ with_words xs (drop (i + 1) cs)) (sym (drop_next ws i)) ∙
     sym (word_first (drop i ws) c (drop (i + 1) cs)) ∙
     ap (with_words (drop i ws)) (sym (rw (add-one, drop-cons cs i Undef) (λ k. sym item k ∷ drop (suc i) cs))))
-    ∙ stands_so where
-      plus_one : (k : ℕ) → k + 1 ≡ suc k
-      plus_one k = omega arith
+    ∙ stands_so
 
 no_more : (ws : List ℕ) → with_words ws [] ≡ []
 no_more [] = refl

@@ -1,4 +1,5 @@
 -- Loops, and what waits behind statements.
+use Rattle.sc_run.proofs.Common.{Doing}
 use Rattle.sc_run.proofs.Common.{Acts, Body as Body', Bool, Break, Comes, Err, Exit, Frame, Go, Left, List, Loop, Next}
 use Rattle.sc_run.proofs.Common.{Now, Ok, Piece, ProgramTree, Run as Run', RunEnd, Seen, State, Step, Steps, Stop}
 use Rattle.sc_run.proofs.Common.{Value, Work, [], and_then, ap, arith, block_acts, choose, does_now, evaluated, false}
@@ -8,7 +9,7 @@ use Rattle.sc_run.proofs.Common.{◌∷◌, ◌≡◌}
 use Rattle.sc_core.specs.Prelude.{take}
 use Rattle.sc_core.specs.declared.value.Want.TheVariants as want
 use Rattle.sc_run.proofs.Going.{loop_is}
-use Rattle.sc_run.proofs.Standing.{Acting, told_as, goes_on, step_stops, moved, newest_first}
+use Rattle.sc_run.proofs.Standing.{Follows, told_as, goes_on, step_stops, moved, newest_first}
 
 module _ (program : ProgramTree) (f : Frame) where
   module _ (l : Loop) where
@@ -41,7 +42,7 @@ module _ (program : ProgramTree) (f : Frame) where
         ∙ (λ i. and_then (cond_evaluated s) (λ v s. by_truth n (is_true v) s i))
 
 module _ (program : ProgramTree) (before : Seen) (work : List Work) (f : Frame) where
-  pub steps_as : (p q : Acting) (step : Step) (after : Seen) (later : List Work) (g : Frame) →
+  pub steps_as : (p q : Doing) (step : Step) (after : Seen) (later : List Work) (g : Frame) →
       ((n : ℕ) (s : State) → p n s ≡ q n s) → Steps program before work f q step after later g →
       Steps program before work f p step after later g
   steps_as p q step after later g same h =
@@ -49,7 +50,7 @@ module _ (program : ProgramTree) (before : Seen) (work : List Work) (f : Frame) 
 
   -- a piece that came to a value, before the rest of a step
   pub steps_on : {V : Type 0} (middle after : Seen) (v : V) (p : State → Piece V)
-      (go : ℕ → V → State → Piece (Left (Unit {0}))) (step : Step) (later : List Work) (g : Frame) →
+      (go : Follows V) (step : Step) (later : List Work) (g : Frame) →
       Comes before middle (Ok v) p → Steps program middle work f (λ n s. go n v s) step after later g →
       Steps program before work f (λ n s. and_then (p s) (go n)) step after later g
   steps_on middle after v p go step later g c h =
@@ -59,7 +60,7 @@ module _ (program : ProgramTree) (before : Seen) (work : List Work) (f : Frame) 
       }
 
   -- something more that waits
-  pub steps_wait : (w : Work) (later : List Work) (p q : Acting) (step : Step) (after : Seen) (last : List Work)
+  pub steps_wait : (w : Work) (later : List Work) (p q : Doing) (step : Step) (after : Seen) (last : List Work)
       (g : Frame) → later ≡ work ++ w ∷ [] → ((n : ℕ) (s : State) →
       resume program n (reverse work) f (p n s) ≡ resume program n (w ∷ reverse work) f (q n s)) →
       Steps program before later f q step after last g → Steps program before work f p step after last g
@@ -72,7 +73,7 @@ module _ (program : ProgramTree) (before : Seen) (work : List Work) (f : Frame) 
       }
 
   -- something that waited is taken up
-  pub steps_resume : (w : Work) (earlier : List Work) (p q : Acting) (step : Step) (after : Seen) (last : List Work)
+  pub steps_resume : (w : Work) (earlier : List Work) (p q : Doing) (step : Step) (after : Seen) (last : List Work)
       (g : Frame) → work ≡ earlier ++ w ∷ [] → ((n : ℕ) (s : State) →
       resume program n (w ∷ reverse earlier) f (p n s) ≡ resume program n (reverse earlier) f (q n s)) →
       Steps program before earlier f q step after last g → Steps program before work f p step after last g
@@ -85,7 +86,7 @@ module _ (program : ProgramTree) (before : Seen) (work : List Work) (f : Frame) 
       }
 
   -- what is left to do is done by a later step
-  pub steps_later : (now : Now) (p : Acting) → ((n : ℕ) (s : State) → p n s ≡ does_now program f now n s) →
+  pub steps_later : (now : Now) (p : Doing) → ((n : ℕ) (s : State) → p n s ≡ does_now program f now n s) →
       Steps program before work f p (Go now) before work f
   steps_later now p same = record { stands = λ whole standing. told_as program whole work f before p _ same standing }
 
@@ -129,7 +130,7 @@ module _ (program : ProgramTree) (before after : Seen) (work later : List Work) 
       (λ n s. refl))))
 
 -- nothing waits
-pub nothing_waits : (program : ProgramTree) (before : Seen) (work later : List Work) (f : Frame) (p : Acting)
+pub nothing_waits : (program : ProgramTree) (before : Seen) (work later : List Work) (f : Frame) (p : Doing)
     (step : Step) (after : Seen) (g : Frame) → length work ≡ 0 → length later ≡ 0 →
     Steps program before [] f p step after [] g → Steps program before work f p step after later g
 nothing_waits program before [] [] f p step after g a b h = h
@@ -142,17 +143,17 @@ nothing_waits program before (w ∷ work) later f p step after g a b h = absurd 
 
 module _ (program : ProgramTree) (before : Seen) (work earlier : List Work) (f : Frame) (w : Work) (step : Step)
     (after : Seen) (later : List Work) (g : Frame) (popped : work ≡ earlier ++ w ∷ []) where
-  abbrev leaving : Exit → Acting
+  abbrev leaving : Exit → Doing
   leaving exit n s = leave exit tt s
 
-  pub taken : (exit : Exit) (x : Work) (p : Acting) → w ≡ x → Steps program before earlier f p step after later g →
+  pub taken : (exit : Exit) (x : Work) (p : Doing) → w ≡ x → Steps program before earlier f p step after later g →
       ((n : ℕ) (s : State) → resume program n (x ∷ reverse earlier) f (leave exit tt s) ≡
       resume program n (reverse earlier) f (p n s)) → Steps program before work f (leaving exit) step after later g
   taken exit x p is h same =
       steps_resume program before work f x earlier _ p step after later g
       (popped ∙ ap (λ y. earlier ++ y ∷ []) is) same h
 
-  pub caller_taken : (p : Acting) (x : Work) → w ≡ x → Steps program before (earlier ++ x ∷ []) f p step after later g →
+  pub caller_taken : (p : Doing) (x : Work) → w ≡ x → Steps program before (earlier ++ x ∷ []) f p step after later g →
       Steps program before work f p step after later g
   caller_taken p x is h =
       subst (λ ws. Steps program before ws f p step after later g) (sym (popped ∙ ap (λ y. earlier ++ y ∷ []) is)) h

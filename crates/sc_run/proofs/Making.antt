@@ -1,4 +1,5 @@
 -- The variables of a call, one block after the other, and their initialisers.
+use Rattle.sc_run.proofs.Common.{add-one}
 use Rattle.sc_run.proofs.Common.{Acts, Blocks, Bool, CameTo, Comes, Err, Here, Left, List, Memory, Next, None, Ok}
 use Rattle.sc_run.proofs.Common.{Option, Piece, Reached, Result, RunEnd, Seen, Some, State, Stopped, TypedExpr}
 use Rattle.sc_run.proofs.Common.{TypedLocal, TypedParam, TypedStruct, Value, [], all_do, ap, append_assoc, arith}
@@ -72,9 +73,7 @@ module _ (structs : List TypedStruct) (here : Here) (params : ℕ) where
   first_init locals k local there item s =
       ap (λ ls. all_do (inits_do c_arith structs here params k ls) tt s) (drop-step locals k local there item)
       ∙ ap (λ m. follow in_order (init_does c_arith structs here params k local local.init tt s)
-      (all_do (inits_do c_arith structs here params m (drop (k + 1) locals)))) (sym add-one_of) where
-        add-one_of : k + 1 ≡ suc k
-        add-one_of = omega arith
+      (all_do (inits_do c_arith structs here params m (drop (k + 1) locals)))) (sym (add-one k))
 
   pub started_more : (locals : List TypedLocal) (k : ℕ) (local : TypedLocal) (before now next : Seen) →
       k < length locals → local ≡ get_or locals k local → Started locals k before now →

@@ -1,27 +1,26 @@
 -- Where a run stands, as pieces come to something and as things are left to wait.
+use Rattle.sc_run.proofs.Common.{Doing}
 use Rattle.sc_run.proofs.Common.{Again, Body as Body', Caller, CameTo, Comes, Err, First, Frame, Left, List, Ok, Piece}
 use Rattle.sc_run.proofs.Common.{ProgramTree, Reached, Rest, RunEnd, Seen, SourceRun, Standing, State, Steps, Stop}
 use Rattle.sc_run.proofs.Common.{Stopped, Work, [], and_then, ap, arith, refl, resume, reverse, reverse-append, sym, ℕ}
 use Rattle.sc_run.proofs.Common.{◌++◌, ◌∙◌, ◌∷◌, ◌≡◌, ◌≤◌}
 use Rattle.sc_run.proofs.Coming.{then_stops}
 
-abbrev pub Acting : Type 0
-Acting = ℕ → State → Piece (Left (Unit {0}))
+-- what follows a value
+abbrev pub Follows : Type 0 → Type 0
+Follows V = ℕ → V → State → Piece (Left (Unit {0}))
 
 module _ (program : ProgramTree) where
   -- nothing that waits is done after the end of the run
   pub resume_stopped : (n : ℕ) (work : List Work) (f : Frame) (end : RunEnd) (s : State) →
       (resume program n work f (Stopped end s)).behaviour ≡ record { trace = s.trace; end = end }
   resume_stopped n [] f end s = refl
-  resume_stopped n (Rest stmts ∷ work) f end s = resume_stopped n work f end s
-  resume_stopped n (First l ∷ work) f end s = resume_stopped n work f end s
-  resume_stopped n (Body' l ∷ work) f end s = resume_stopped n work f end s
-  resume_stopped n (Again l ∷ work) f end s = resume_stopped n work f end s
   resume_stopped n (Caller caller to crossing ∷ work) f end s = resume_stopped _ work caller end s
+  resume_stopped n (_ ∷ work) f end s = resume_stopped n work f end s
 
   module _ (whole : SourceRun) (work : List Work) (f : Frame) where
     -- the same, as the piece is told otherwise
-    pub told_as : (seen : Seen) (p q : Acting) → ((n : ℕ) (s : State) → p n s ≡ q n s) →
+    pub told_as : (seen : Seen) (p q : Doing) → ((n : ℕ) (s : State) → p n s ≡ q n s) →
         Standing program whole seen work f p → Standing program whole seen work f q
     told_as seen p q same h =
         record {
@@ -32,7 +31,7 @@ module _ (program : ProgramTree) where
           rest = ap (λ x. (resume program h.open_calls (reverse work) f x).behaviour) (sym (same _ h.state)) ∙ h.rest;
         }
 
-    goes_at : {V : Type 0} (after : Seen) (v : V) (n : ℕ) (x : Piece V) (go : ℕ → V → State → Piece (Left (Unit {0}))) →
+    goes_at : {V : Type 0} (after : Seen) (v : V) (n : ℕ) (x : Piece V) (go : Follows V) →
         CameTo (Ok v) after x → after.turns ≤ n → (resume program n (reverse work) f (and_then x (go n))).behaviour ≡
         whole → Standing program whole after work f (λ n s. go n v s)
     goes_at after v n (Reached w t) go c enough rest =
@@ -49,7 +48,7 @@ module _ (program : ProgramTree) where
 
     -- a piece that came to a value: what follows it is done
     pub goes_on : {V : Type 0} (before after : Seen) (v : V) (p : State → Piece V)
-        (go : ℕ → V → State → Piece (Left (Unit {0}))) → Comes before after (Ok v) p →
+        (go : Follows V) → Comes before after (Ok v) p →
         Standing program whole before work f (λ n s. and_then (p s) (go n)) →
         Standing program whole after work f (λ n s. go n v s)
     goes_on before after v p go c h =
@@ -60,7 +59,7 @@ module _ (program : ProgramTree) where
           fewer a b d = omega (arith, a, b, d)
 
   -- the same with something that waits
-  pub moved : (whole : SourceRun) (seen : Seen) (work later : List Work) (f : Frame) (p q : Acting) →
+  pub moved : (whole : SourceRun) (seen : Seen) (work later : List Work) (f : Frame) (p q : Doing) →
       ((n : ℕ) (s : State) → resume program n (reverse work) f (p n s) ≡ resume program n (reverse later) f (q n s)) →
       Standing program whole seen work f p → Standing program whole seen later f q
   moved whole seen work later f p q same h =
@@ -84,7 +83,7 @@ module _ (program : ProgramTree) (before after : Seen) (work : List Work) (f : F
       sym rest ∙ resume_stopped program n (reverse work) f e t ∙ (λ i. record { trace = (c.1 i).trace; end = c.0 i })
 
   -- a step that ends the run
-  pub step_stops : {V : Type 0} (end : RunEnd) (p : State → Piece V) (go : ℕ → V → State → Piece (Left (Unit {0}))) →
+  pub step_stops : {V : Type 0} (end : RunEnd) (p : State → Piece V) (go : Follows V) →
       Comes before after (Err end) p → Steps program before work f (λ n s. and_then (p s) (go n))
       (Stop end) after work f
   step_stops end p go c = record {

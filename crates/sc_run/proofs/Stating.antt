@@ -1,4 +1,5 @@
 -- Statements, by their layers.
+use Rattle.sc_run.proofs.Common.{Doing}
 use Rattle.sc_run.proofs.Common.{Acts, Bor, Break, Continue, Exit, Frame, Left, List, Loop, Next, Option, Piece}
 use Rattle.sc_run.proofs.Common.{ProgramTree, Reached, Rest, Return, Route, Seen, Some, State, Step, Steps, Stopped}
 use Rattle.sc_run.proofs.Common.{TypedExpr, TypedSimple, TypedStmt, TypedStmtKind, TypedStmtKind-F, Work, [], and_then}
@@ -8,11 +9,9 @@ use Rattle.sc_run.proofs.Common.{loop, loop_acts, part_acts, refl, resume, roll-
 use Rattle.sc_run.proofs.Common.{stmt_step, subst, sym, take, take_all, test, way_in, ℕ, ◌++◌, ◌-◌, ◌∙◌, ◌∷◌, ◌≡◌, ◌≤◌}
 use Rattle.sc_core.specs.declared.stmt.TypedStmtKind.TheOpen as layer
 use Rattle.sc_core.specs.declared.value.Want.TheVariants as want
-use Rattle.sc_run.proofs.Standing.{Acting}
 use Rattle.sc_run.proofs.Looping.{steps_as, steps_wait}
 
-abbrev pub layer_acts : ProgramTree → ℕ → Frame → TypedStmtKind-F TypedStmtKind TypedStmt → ℕ → State →
-    Piece (Left (Unit {0}))
+abbrev pub layer_acts : ProgramTree → ℕ → Frame → TypedStmtKind-F TypedStmtKind TypedStmt → Doing
 layer_acts program n f k line s =
     layer_of _ _ (kind_step c_arith f.scope.structs.now (here_of f.scope) f.scope.params
     (calls_in program n)) stmt_step k line tt s
@@ -54,9 +53,7 @@ list_steps program before work later f stmts stmt rest step after last g split s
 
 by_exit : (exit : Exit) (s : State) → follow in_order (leave exit tt s) (leave {A = Unit {0}} Next) ≡ leave exit tt s
 by_exit Next s = refl
-by_exit Break s = refl
-by_exit Continue s = refl
-by_exit (Return v) s = refl
+by_exit _ s = refl
 
 -- nothing follows the last statement
 pub alone : (p : Piece (Left (Unit {0}))) → follow in_order p (leave Next) ≡ p
@@ -89,7 +86,7 @@ part_steps program before work later f route waiting given part l step after las
 
 module _ (program : ProgramTree) (before : Seen) (work : List Work) (f : Frame) (line : ℕ) (step : Step) (after : Seen)
     (later : List Work) (g : Frame) where
-  abbrev StepsBy : Acting → Type 0
+  abbrev StepsBy : Doing → Type 0
   StepsBy p = Steps program before work f p step after later g
 
   pub assign_layer : (ref place e : TypedExpr) → ref ≡ place →

@@ -21,36 +21,29 @@ abbrev pub WaySame : Ways → Type 0
 WaySame e = (wish : Want) (bs : Blocks) → e wish (blank bs) ≡ e wish bs
 
 moved_same : (bs : Blocks) (by : ℤ) (q : Value) → moved (blank bs) by q ≡ moved bs by q
-moved_same bs by (Word w) = refl
-moved_same bs by Null = refl
 moved_same bs by (Ptr p) = ap (λ c. bind c (λ cells. place_at p.block (pos p.index +ℤ by) (length cells)))
     (cells_same bs p.block)
+moved_same bs by _ = refl
 
 on_same : (bs : Blocks) (cells : ℕ) (unsigned : Bool) (q i : Value) →
     moved_on (blank bs) cells unsigned q i ≡ moved_on bs cells unsigned q i
 on_same bs cells unsigned q (Word i) = moved_same bs _ q
-on_same bs cells unsigned q Null = refl
-on_same bs cells unsigned q (Ptr p) = refl
+on_same bs cells unsigned q _ = refl
 
 back_same : (bs : Blocks) (cells : ℕ) (unsigned : Bool) (q i : Value) →
     moved_back (blank bs) cells unsigned q i ≡ moved_back bs cells unsigned q i
 back_same bs cells unsigned q (Word i) = moved_same bs _ q
-back_same bs cells unsigned q Null = refl
-back_same bs cells unsigned q (Ptr p) = refl
+back_same bs cells unsigned q _ = refl
 
 inside_same : (bs : Blocks) (p : Pointer) → is_inside (blank bs) p ≡ is_inside bs p
 inside_same bs p = ap (λ c. bind c (λ cells. Ok (nat_lt p.index (length cells)))) (cells_same bs p.block)
 
 place_same : (bs : Blocks) (v w : Value) → same_place (blank bs) v w ≡ same_place bs v w
-place_same bs (Word a) w = refl
-place_same bs Null Null = refl
-place_same bs Null (Word a) = refl
-place_same bs Null (Ptr q) = refl
-place_same bs (Ptr p) (Word a) = refl
-place_same bs (Ptr p) Null = refl
 place_same bs (Ptr p) (Ptr q) = λ i.
     if p.block == q.block then Ok (p.index == q.index) else
     bind (inside_same bs p i) (λ a. bind (inside_same bs q i) (λ b. if a && b then Ok false else Err BadPointer))
+place_same bs Null Null = refl
+place_same bs _ _ = refl
 
 between_same : (bs : Blocks) (o : BinaryOp) (cells : ℕ) (v w : Value) →
     between (blank bs) o cells v w ≡ between bs o cells v w
