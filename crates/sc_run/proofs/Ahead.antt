@@ -1,5 +1,5 @@
 -- What is done at once, and leaves nothing that waits.
-use Rattle.sc_run.proofs.Common.{TypedSimpleKind}
+use Rattle.sc_core.specs.declared.stmt.TypedSimpleKind.{TypedSimpleKind}
 use Rattle.sc_run.proofs.Common.{Acts, Body as Body', Bool, Bor, CameTo, Comes, Doing, Exit, Frame, Go, Left, List}
 use Rattle.sc_run.proofs.Common.{Loop, Memory, Next, None, Ok, Option, Passes, PassesIf, Piece, ProgramTree, Reached}
 use Rattle.sc_run.proofs.Common.{Return, Route, Run as Run', RunEnd, Seen, Some, SourceRun, Standing, State, Step}
@@ -69,9 +69,8 @@ reached_at after v (Reached w t) go c = (t, c.1, ap (λ z. go z t) c.0)
 reached_at after v (Stopped end t) go c = elim c [ ]
 
 -- a piece that comes to a value, and what follows it
-pub passes_by : {V : Type 0} (before after : Seen) (v : V) (x : State → Piece V)
-    (go : Follows V) → Comes before after (Ok v) x →
-    Passes before after (λ n s. and_then (x s) (go n)) (λ n s. go n v s)
+pub passes_by : {V : Type 0} (before after : Seen) (v : V) (x : State → Piece V) (go : Follows V) →
+    Comes before after (Ok v) x → Passes before after (λ n s. and_then (x s) (go n)) (λ n s. go n v s)
 passes_by before after v x go h =
     record { passes = λ n s shows. reached_at after v (x s) (go n) (h.comes s shows); fewer = h.fewer }
 
@@ -171,34 +170,25 @@ module _ (program : ProgramTree) (f : Frame) where
 
   pub assign_done : (stmt : TypedStmt) (ref place e : TypedExpr) (b : Bool) (before after : Seen) →
       stmt.kind ≡ roll-TypedStmtKind (layer.Assign place e) → ref ≡ place →
-      PassesIf b before after (assigned_by ref e stmt.line) ended_so →
-      PassesIf b before after (stmt_by stmt) ended_so
-  assign_done stmt ref place e b before after is same h =
-      passes_if_as b before after _ _ _ (λ n s. stmt_is program f stmt _ is n s ∙
-      ap (λ x. assigned_by x e stmt.line n s) (sym same)) h
+      PassesIf b before after (assigned_by ref e stmt.line) ended_so → PassesIf b before after (stmt_by stmt) ended_so
+  assign_done stmt ref place e b before after is same h = passes_if_as b before after _ _ _
+      (λ n s. stmt_is program f stmt _ is n s ∙ ap (λ x. assigned_by x e stmt.line n s) (sym same)) h
 
   -- one more statement
-  pub one_more : (stmts : List TypedStmt) (at : ℕ) (stmt : TypedStmt) (before middle after : Seen) →
-      at < length stmts → stmt ≡ get_or stmts at stmt →
-      Passes before middle (block_by stmts)
-      (block_by (drop at stmts)) →
+  pub one_more : (stmts : List TypedStmt) (at : ℕ) (stmt : TypedStmt) (before middle after : Seen) → at < length stmts →
+      stmt ≡ get_or stmts at stmt → Passes before middle (block_by stmts) (block_by (drop at stmts)) →
       Passes middle after (stmt_by stmt) ended_so →
-      Passes before after (block_by stmts)
-      (block_by (drop (at + 1) stmts))
-  one_more stmts at stmt before middle after there item h k =
-      then_passes h (passes_as _
+      Passes before after (block_by stmts) (block_by (drop (at + 1) stmts))
+  one_more stmts at stmt before middle after there item h k = then_passes h (passes_as _
       (λ n s. ap (λ xs. block_by xs n s) (drop-step stmts at stmt there item)) (next_one k)) where
         next_one : Passes middle after (stmt_by stmt) ended_so →
             Passes middle after (block_by (stmt ∷ drop (at + 1) stmts)) (block_by (drop (at + 1) stmts))
         next_one k = passes_follow in_order _ k
 
   pub all_done : (stmts : List TypedStmt) (at : ℕ) (before after : Seen) → length stmts ≤ at →
-      Passes before after (block_by stmts)
-      (block_by (drop at stmts)) →
-      Passes before after (block_by stmts)
-      (block_by (drop (length stmts) stmts))
-  all_done stmts at before after le h =
-      subst (λ xs. Passes before after (block_by stmts) (block_by xs))
+      Passes before after (block_by stmts) (block_by (drop at stmts)) →
+      Passes before after (block_by stmts) (block_by (drop (length stmts) stmts))
+  all_done stmts at before after le h = subst (λ xs. Passes before after (block_by stmts) (block_by xs))
       (drop_all at stmts le ∙ sym (drop_all _ stmts (omega arith))) h
 
   -- the statements that a condition chooses
@@ -215,8 +205,7 @@ module _ (program : ProgramTree) (f : Frame) where
 
   pub first_chosen : (stmt : TypedStmt) (cond : TypedExpr) (x y part : List TypedStmt) (v : Value) (seen : Seen) →
       stmt.kind ≡ roll-TypedStmtKind (layer.If cond x y) →
-      Ok v ≡ way_in f cond want.Value (seen.memory f.scope.comp.now) →
-      is_true v ≡ true → part ≡ x →
+      Ok v ≡ way_in f cond want.Value (seen.memory f.scope.comp.now) → is_true v ≡ true → part ≡ x →
       Passes seen seen (stmt_by stmt) (block_by part)
   first_chosen stmt cond x y part v seen is gives holds same =
       then_passes (choosing stmt cond x y v seen is gives) (passes_as _
@@ -225,8 +214,7 @@ module _ (program : ProgramTree) (f : Frame) where
 
   pub second_chosen : (stmt : TypedStmt) (cond : TypedExpr) (x y part : List TypedStmt) (v : Value) (seen : Seen) →
       stmt.kind ≡ roll-TypedStmtKind (layer.If cond x y) →
-      Ok v ≡ way_in f cond want.Value (seen.memory f.scope.comp.now) →
-      is_true v ≡ false → part ≡ y →
+      Ok v ≡ way_in f cond want.Value (seen.memory f.scope.comp.now) → is_true v ≡ false → part ≡ y →
       Passes seen seen (stmt_by stmt) (block_by part)
   second_chosen stmt cond x y part v seen is gives fails same =
       then_passes (choosing stmt cond x y v seen is gives) (passes_as _
@@ -235,12 +223,9 @@ module _ (program : ProgramTree) (f : Frame) where
 
   -- what is left of the part that was chosen
   pub part_left : (before middle after : Seen) (stmt : TypedStmt) (part : List TypedStmt) (count : ℕ) →
-      middle ≡ before →
-      Passes middle middle (stmt_by stmt) (block_by part) →
-      Passes middle after (block_by part)
-      (block_by (drop count part)) →
-      Passes before after (stmt_by stmt)
-      (block_by (take (length part - count) (drop count part)))
+      middle ≡ before → Passes middle middle (stmt_by stmt) (block_by part) →
+      Passes middle after (block_by part) (block_by (drop count part)) →
+      Passes before after (stmt_by stmt) (block_by (take (length part - count) (drop count part)))
   part_left before middle after stmt part count same h k =
       subst (λ x. Passes x after (stmt_by stmt) (block_by (take (length part - count) (drop count part)))) same
       (then_passes h (subst (λ xs. Passes middle after (block_by part) (block_by xs)) (sym (rest_at count part)) k))
@@ -248,10 +233,8 @@ module _ (program : ProgramTree) (f : Frame) where
   -- part of one more statement
   pub within_one : (stmts part : List TypedStmt) (at : ℕ) (stmt : TypedStmt) (before middle after : Seen) →
       at < length stmts → stmt ≡ get_or stmts at stmt →
-      Passes before middle (block_by stmts)
-      (block_by (drop at stmts)) →
-      Passes middle after (stmt_by stmt) (block_by part) →
-      Passes before after (block_by stmts)
+      Passes before middle (block_by stmts) (block_by (drop at stmts)) →
+      Passes middle after (stmt_by stmt) (block_by part) → Passes before after (block_by stmts)
       (λ n s. follow in_order (block_acts program n f part tt s) (block_acts program n f (drop (at + 1) stmts)))
   within_one stmts part at stmt before middle after there item h k =
       then_passes h (passes_as _ (λ n s. ap (λ xs. block_by xs n s) (drop-step stmts at stmt there item))
@@ -259,19 +242,14 @@ module _ (program : ProgramTree) (f : Frame) where
 
   pub one_over : (stmts part : List TypedStmt) (at : ℕ) (stmt : TypedStmt) (before middle after : Seen) → part ≡ [] →
       at < length stmts → stmt ≡ get_or stmts at stmt →
-      Passes before middle (block_by stmts)
-      (block_by (drop at stmts)) →
+      Passes before middle (block_by stmts) (block_by (drop at stmts)) →
       Passes middle after (stmt_by stmt) (block_by part) →
-      Passes before after (block_by stmts)
-      (block_by (drop (at + 1) stmts))
-  one_over stmts part at stmt before middle after empty there item h k =
-      within_one stmts [] at stmt before middle after there item h
-      (subst (λ xs. Passes middle after (stmt_by stmt) (block_by xs)) empty k)
+      Passes before after (block_by stmts) (block_by (drop (at + 1) stmts))
+  one_over stmts part at stmt before middle after empty there item h k = within_one stmts [] at stmt before middle after
+      there item h (subst (λ xs. Passes middle after (stmt_by stmt) (block_by xs)) empty k)
 
   pub none_behind : (stmts : List TypedStmt) (at : ℕ) (before after : Seen) → length stmts ≤ at →
-      Passes before after (block_by stmts)
-      (block_by (drop at stmts)) →
-      Passes before after (block_by stmts) ended_so
+      Passes before after (block_by stmts) (block_by (drop at stmts)) → Passes before after (block_by stmts) ended_so
   none_behind stmts at before after le h =
       then_passes h (passes_as _ (λ n s. ap (λ xs. block_by xs n s) (drop_all at stmts le)) (stays_so after _))
 
@@ -301,11 +279,9 @@ module _ (program : ProgramTree) (f : Frame) where
       (calls_in program n) kind line tt s
 
   pub part_assigned : (part : TypedSimple) (ref : TypedExpr) (place e : TypedExpr) (b : Bool) (before after : Seen) →
-      part.kind ≡ simple.Assign place e → ref ≡ place →
-      PassesIf b before after (assigned_by ref e part.line) ended_so →
+      part.kind ≡ simple.Assign place e → ref ≡ place → PassesIf b before after (assigned_by ref e part.line) ended_so →
       PassesIf b before after (simple_by part.kind part.line) ended_so
-  part_assigned part ref place e b before after is same h =
-      passes_if_as b before after _ _ ended_so
+  part_assigned part ref place e b before after is same h = passes_if_as b before after _ _ ended_so
       (λ n s. ap (λ k. simple_by k part.line n s) is ∙ ap (λ x. assigned_by x e part.line n s) (sym same)) h
 
   module _ (l : Loop) where
@@ -315,20 +291,17 @@ module _ (program : ProgramTree) (f : Frame) where
     abbrev loop_by : Doing
     loop_by n s = loop_acts program n f l tt s
 
-    pub no_next : (seen : Seen) → option_copied l.next ≡ None →
-        Passes seen seen next_by ended_so
+    pub no_next : (seen : Seen) → option_copied l.next ≡ None → Passes seen seen next_by ended_so
     no_next seen is = passes_as next_by (λ n s. ap (λ o. part_acts program n f o tt s) is) (stays_so seen _)
 
     pub next_is_done : (part : TypedSimple) (b : Bool) (before after : Seen) → option_copied l.next ≡ Some part →
-        PassesIf b before after (simple_by part.kind part.line) ended_so →
-        PassesIf b before after next_by ended_so
+        PassesIf b before after (simple_by part.kind part.line) ended_so → PassesIf b before after next_by ended_so
     next_is_done part b before after is h =
         passes_if_as b before after next_by _ _ (λ n s. ap (λ o. part_acts program n f o tt s) is) h
 
     -- a round begins: its test holds, and there is a turn
     pub round_begins : (seen : Seen) (k : ℕ) → Holding (way_in f l.cond.now) (seen.memory f.scope.comp.now) →
-        seen.turns ≡ suc k →
-        Passes seen (record seen { turns = k }) loop_by (in_body program f l l.body.now)
+        seen.turns ≡ suc k → Passes seen (record seen { turns = k }) loop_by (in_body program f l l.body.now)
     round_begins seen k h turns =
         passes_as loop_by (round_is program f l) (then_passes (passes_by seen seen h.given (cond_evaluated program f l)
         (λ n v s. tested program f l n _ s) (computed_comes (here_of f.scope) l.line (λ bs. way_in f _ _ bs)
@@ -339,19 +312,16 @@ module _ (program : ProgramTree) (f : Frame) where
     -- statements of the body are done
     pub body_done : (before middle after : Seen) (at : Option Position) →
         Passes before middle loop_by (in_body program f l l.body.now) →
-        Passes middle after (block_by l.body.now) (left_at program f l.body.now at) →
-        Passes before after loop_by
-        (λ n s. follow in_loop (left_at program f l.body.now at n s)
+        Passes middle after (block_by l.body.now) (left_at program f l.body.now at) → Passes before after loop_by (λ n
+        s. follow in_loop (left_at program f l.body.now at n s)
         (λ a s. follow in_loop (next_acts program n f l a s) (loop_acts program n f l)))
     body_done before middle after at h k = then_passes h (passes_follow in_loop _ k)
 
     -- the loop stands behind its body
     pub behind_body : (before middle after : Seen) (none : Bor (List TypedStmt)) →
         Passes before middle loop_by (in_body program f l l.body.now) →
-        Passes middle after (block_by l.body.now) (left_at program f l.body.now None) →
-        none.now ≡ [] →
-        Passes before after loop_by
-        (in_round program f l (Some (record { part = none; count = length l.body.now })))
+        Passes middle after (block_by l.body.now) (left_at program f l.body.now None) → none.now ≡ [] →
+        Passes before after loop_by (in_round program f l (Some (record { part = none; count = length l.body.now })))
     behind_body before middle after none h k empty =
         then_passes (body_done before middle after None h k) (passes_as _
         (λ n s. λ i. follow in_loop (follow in_order (block_by (sym empty i) n s)
@@ -359,18 +329,15 @@ module _ (program : ProgramTree) (f : Frame) where
         (λ a s. follow in_loop (next_acts program n f l a s) (loop_acts program n f l))) (stays_so after _))
 
     -- the loop stands before a round again
-    pub round_done : (before middle done after : Seen) →
-        Passes before middle loop_by (in_body program f l l.body.now) →
+    pub round_done : (before middle done after : Seen) → Passes before middle loop_by (in_body program f l l.body.now) →
         Passes middle done (block_by l.body.now) (left_at program f l.body.now None) →
-        Passes done after next_by ended_so →
-        Passes before after loop_by loop_by
+        Passes done after next_by ended_so → Passes before after loop_by loop_by
     round_done before middle done after h k m =
         then_passes (body_done before middle done None h k) (passes_follow in_loop _ m)
 
     -- what comes before the next round, and the loop again
     pub next_behind : (before middle : Seen) (work : List Work) (step : Step) (after : Seen) (later : List Work)
-        (g : Frame) → Passes before middle next_by ended_so →
-        Steps program middle work f loop_by step after later g →
+        (g : Frame) → Passes before middle next_by ended_so → Steps program middle work f loop_by step after later g →
         Steps program before work f (λ n s. follow in_loop (next_acts program n f l tt s) (loop_acts program n f l))
         step after later g
     next_behind before middle work step after later g h k =
@@ -378,14 +345,12 @@ module _ (program : ProgramTree) (f : Frame) where
 
     -- a round that is left in its body
     pub left_in_body : (before middle : Seen) (work later : List Work) (at : Position) (step : Step) (after : Seen)
-        (last : List Work) (g : Frame) →
-        Passes before middle loop_by (in_round program f l (Some at)) →
+        (last : List Work) (g : Frame) → Passes before middle loop_by (in_round program f l (Some at)) →
         later ≡ work ++ Body' l ∷ [] →
         Steps program middle later f (left_at program f l.body.now (Some at)) step after last g →
         Steps program before work f loop_by step after last g
-    left_in_body before middle work later at step after last g h is k =
-        steps_behind program work f step after last g before middle loop_by _ h
-        (steps_wait program middle work f _ later _ _ step after last g is (λ n s. refl) k)
+    left_in_body before middle work later at step after last g h is k = steps_behind program work f step after last g
+        before middle loop_by _ h (steps_wait program middle work f _ later _ _ step after last g is (λ n s. refl) k)
 
   no_part : (stmts : List TypedStmt) (at : Position) → at.part.now ≡ [] → (n : ℕ) (s : State) →
       left_at program f stmts (Some at) n s ≡ block_by (drop at.count stmts) n s
@@ -396,9 +361,8 @@ module _ (program : ProgramTree) (f : Frame) where
   pub part_last : (before : Seen) (work : List Work) (stmts rest : List TypedStmt) (at : Position) (b : Bool) →
       rest ≡ take (length stmts - at.count) (drop at.count stmts) → b ≡ (length rest == 0) → b ≡ true →
       Steps program before work f (left_at program f stmts (Some at)) (Go (Run' at.part)) before work f
-  part_last before work stmts rest at b same none empty =
-      steps_later program before work f _ _
-      (λ n s. ap (λ xs. follow in_order (block_by at.part.now n s) (block_acts program n f xs))
+  part_last before work stmts rest at b same none empty = steps_later program before work f _ _ (λ n s. ap
+      (λ xs. follow in_order (block_by at.part.now n s) (block_acts program n f xs))
       (sym (same ∙ rest_at _ stmts) ∙ none_in rest b none empty) ∙ alone _)
 
   -- a step behind what was done of statements
@@ -424,8 +388,7 @@ module _ (program : ProgramTree) (f : Frame) where
   pub rest_behind : (before middle : Seen) (work : List Work) (stmts body : List TypedStmt) (at : Position)
       (step : Step) (after : Seen) (later : List Work) (g : Frame) → stmts ≡ body → at.part.now ≡ [] →
       Passes before middle (block_by stmts) (left_at program f stmts (Some at)) →
-      Steps program middle work f
-      (block_by (take (length stmts - at.count) (drop at.count stmts))) step after later g →
+      Steps program middle work f (block_by (take (length stmts - at.count) (drop at.count stmts))) step after later g →
       Steps program before work f (block_by body) step after later g
   rest_behind before middle work stmts body at step after later g same empty h k =
       at_behind before middle work stmts body (Some at) step after later g same h (steps_as program middle work f _
@@ -435,9 +398,7 @@ module _ (program : ProgramTree) (f : Frame) where
   pub left_behind : (before middle : Seen) (work : List Work) (stmts body : List TypedStmt) (at : Position)
       (exit : Exit) (step : Step) (after : Seen) (later : List Work) (g : Frame) → stmts ≡ body → at.part.now ≡ [] →
       Passes before middle (block_by stmts) (left_at program f stmts (Some at)) →
-      Passes middle middle
-      (block_by (take (length stmts - at.count) (drop at.count stmts)))
-      (left_by exit) →
+      Passes middle middle (block_by (take (length stmts - at.count) (drop at.count stmts))) (left_by exit) →
       Steps program middle work f (left_by exit) step after later g →
       Steps program before work f (block_by body) step after later g
   left_behind before middle work stmts body at exit step after later g same empty h left k =

@@ -35,18 +35,15 @@ module _ (program : ProgramTree) (inputs : List ℕ) (turns : ℕ) where
 
   -- what `main` does from the start
   abbrev main_does : State → Piece (Option Value)
-  main_does s =
-      and_then (found (entry_in program program.interfaces.main Main) s)
-      (λ number s. call_own (library program) (within (run_step (library program))
-      (suc turns)) program.interfaces.main number [] s)
+  main_does s = and_then (found (entry_in program program.interfaces.main Main) s) (λ number s. call_own
+      (library program) (within (run_step (library program)) (suc turns)) program.interfaces.main number [] s)
 
   module _ (callee : Callee) (number : ℕ) (after : Seen) (f : Frame) where
     pub begins : entry_in program program.interfaces.main Main ≡ Some number →
-        callee.comp.now ≡ program.interfaces.main → callee.number ≡ number →
-        function (library program) callee.comp.now callee.number ≡
-        Some (function_of c_arith program.interfaces.main callee.structs.now callee.function.now) →
-        Begun callee [] seen_first after f → Standing program
-        (run_of c_arith program inputs turns).behaviour after [] f (λ n s. body_acts program n f tt s)
+        callee.comp.now ≡ program.interfaces.main → callee.number ≡ number → function (library program) callee.comp.now
+        callee.number ≡ Some (function_of c_arith program.interfaces.main callee.structs.now callee.function.now) →
+        Begun callee [] seen_first after f →
+        Standing program (run_of c_arith program inputs turns).behaviour after [] f (λ n s. body_acts program n f tt s)
     begins at here place there b =
         subst (λ g. Standing program (run_of c_arith program inputs turns).behaviour after [] g
         (λ n s. body_acts program n g tt s)) (sym same) (record {

@@ -44,9 +44,8 @@ loaded_same bs pointer (Some (cell.Ptr p)) =
 loaded_same bs pointer _ = refl
 
 pub load_same : (bs : Blocks) (pointer : Bool) (q : Value) → load (blank bs) pointer q ≡ load bs pointer q
-load_same bs pointer (Ptr p) =
-    ap (λ c. bind c (λ cells. loaded (blank bs) pointer (slice_get cells p.index))) (cells_same bs p.block)
-    ∙ by_ok (cells_at bs p.block) (λ cells. loaded (blank bs) pointer (slice_get cells p.index))
+load_same bs pointer (Ptr p) = ap (λ c. bind c (λ cells. loaded (blank bs) pointer (slice_get cells p.index)))
+    (cells_same bs p.block) ∙ by_ok (cells_at bs p.block) (λ cells. loaded (blank bs) pointer (slice_get cells p.index))
     (λ cells. loaded bs pointer _) (λ cells. loaded_same bs pointer _)
 load_same bs pointer _ = refl
 

@@ -47,10 +47,9 @@ module _ (program : ProgramTree) (caller : Frame) (callee : Callee) (args : List
   abbrev pub entering : (Option Value → State → Piece (Option Value)) → ℕ → State → Piece (Option Value)
   entering back n s = run_in (library program) (bodies program n) callee.comp.now callee.number args back s
 
-  pub enter_is : Found → (back : Option Value → State → Piece (Option Value)) (m : ℕ) (t : State) →
-      entering back (suc m) t ≡ returned program (frame_at (length (t.memory callee.comp.now))) back
-      (body_acts program m (frame_at (length (t.memory callee.comp.now))) tt
-      (begun callee.comp.now called_function args t))
+  pub enter_is : Found → (back : Option Value → State → Piece (Option Value)) (m : ℕ) (t : State) → entering back
+      (suc m) t ≡ returned program (frame_at (length (t.memory callee.comp.now))) back (body_acts program m
+      (frame_at (length (t.memory callee.comp.now))) tt (begun callee.comp.now called_function args t))
   enter_is there back m t =
       ap (λ o. and_then (found o t) (λ f s. and_then (bodies program (suc m) callee.number
       (record { comp = callee.comp.now; first = length (s.memory callee.comp.now) })
@@ -93,8 +92,7 @@ module _ (program : ProgramTree) (caller : Frame) (callee : Callee) (args : List
   entry_seen None s seen shows = shows
   entry_seen (Some index) s seen shows =
       ap {A = Seen} (λ x. record x {
-        trace = x.trace ++
-            Call caller.scope.comp.now callee.comp.now index (map word_in args) ∷ [];
+        trace = x.trace ++ Call caller.scope.comp.now callee.comp.now index (map word_in args) ∷ [];
       }) shows
 
   entry_turns : (crossing : Option ℕ) (s : State) → (entry_from caller callee args crossing s).turns ≡ s.turns
@@ -133,10 +131,9 @@ module _ (program : ProgramTree) (caller : Frame) (callee : Callee) (args : List
           shows = begun_seen t (told_call caller callee args crossing mid) shows ∙ sym b.seen;
           enough = enough;
           rest = ap (λ ws. (resume program m ws (frame_at (length (t.memory callee.comp.now))) entered_piece).behaviour)
-              (ap reverse pushed ∙ newest_first work (Caller caller to _)) ∙
-              ap (λ x. x.behaviour) (waits m entered_piece (frame_at _) refl) ∙
-              ap (λ q. (resume program (suc m) (reverse work) caller
-              (and_then q (result_goes program caller to))).behaviour)
+              (ap reverse pushed ∙ newest_first work (Caller caller to _)) ∙ ap (λ x. x.behaviour)
+              (waits m entered_piece (frame_at _) refl) ∙ ap (λ q.
+              (resume program (suc m) (reverse work) caller (and_then q (result_goes program caller to))).behaviour)
               (sym (enter_is there (back_from program caller callee _) m t)) ∙ rest;
         }) where
           entered_piece : Piece (Left (Unit {0}))
@@ -144,8 +141,7 @@ module _ (program : ProgramTree) (caller : Frame) (callee : Callee) (args : List
               (begun callee.comp.now called_function args t)
 
     waits_at : (cross : Option ℕ) (first : ℕ) (n : ℕ) (p : Piece (Left (Unit {0}))) (f : Frame) → f ≡ frame_at first →
-        resume program n (Caller caller to cross ∷ reverse work) f p ≡
-        resume program (suc n) (reverse work) caller
+        resume program n (Caller caller to cross ∷ reverse work) f p ≡ resume program (suc n) (reverse work) caller
         (and_then (returned program f (back_from program caller callee cross) p) (result_goes program caller to))
     waits_at None first n p f is = refl
     waits_at (Some index) first n p f is =
@@ -156,8 +152,7 @@ module _ (program : ProgramTree) (caller : Frame) (callee : Callee) (args : List
 
     entered_from : (before : Seen) → later ≡ work ++ Caller caller to crossing ∷ [] → before.turns ≡ suc mid.turns →
         Comes before mid (Ok tt) turn → Standing program whole before work caller (tries crossing) → Entered
-    entered_from before pushed taken c h =
-        by_turn h.open_calls (turn h.state) (c.comes h.state h.shows)
+    entered_from before pushed taken c h = by_turn h.open_calls (turn h.state) (c.comes h.state h.shows)
         (more (ap (λ x. x.turns) h.shows) taken h.enough) h.rest where
           more : h.state.turns ≡ before.turns → before.turns ≡ suc mid.turns → h.state.turns ≤ h.open_calls →
               suc mid.turns ≤ h.open_calls
@@ -170,10 +165,9 @@ module _ (program : ProgramTree) (caller : Frame) (callee : Callee) (args : List
           by_turn zero x e le rest = absurd (none mid.turns le) where
             none : (k : ℕ) → suc k ≤ 0 → ⊥
             none k z = omega (arith, z)
-          by_turn (suc m) (Reached u t) e le rest =
-              enter_at m (entry_from caller callee args crossing t) pushed (entry_seen crossing t mid e.1)
-              (λ n p f is. waits_at crossing (length
-              ((entry_from caller callee args _ t).memory callee.comp.now)) n p f is)
+          by_turn (suc m) (Reached u t) e le rest = enter_at m (entry_from caller callee args crossing t) pushed
+              (entry_seen crossing t mid e.1) (λ n p f is. waits_at crossing
+              (length ((entry_from caller callee args _ t).memory callee.comp.now)) n p f is)
               (less (entry_turns crossing t) (ap (λ x. x.turns) e.1) le) rest where
                 less : (entry_from caller callee args crossing t).turns ≡ t.turns → t.turns ≡ mid.turns →
                     suc mid.turns ≤ suc m → (entry_from caller callee args crossing t).turns ≤ m
@@ -181,10 +175,9 @@ module _ (program : ProgramTree) (caller : Frame) (callee : Callee) (args : List
           by_turn (suc m) (Stopped end t) e le rest = elim e [ ]
 
   pub enter_steps : (crossing : Option ℕ) (work later : List Work) (before mid told begun_to : Seen) (g : Frame)
-      (step : Step) (last : Seen) (last_work : List Work) (last_frame : Frame) →
-      Found → Comes before mid (Ok tt) turn → before.turns ≡ suc mid.turns →
-      told ≡ told_call caller callee args crossing mid → Begun callee args told begun_to g →
-      later ≡ work ++ Caller caller to crossing ∷ [] →
+      (step : Step) (last : Seen) (last_work : List Work) (last_frame : Frame) → Found → Comes before mid (Ok tt) turn →
+      before.turns ≡ suc mid.turns → told ≡ told_call caller callee args crossing mid →
+      Begun callee args told begun_to g → later ≡ work ++ Caller caller to crossing ∷ [] →
       Steps program begun_to later g (λ n s. body_acts program n g tt s) step last last_work last_frame →
       Steps program before work caller (tries crossing) step last last_work last_frame
   enter_steps crossing work later before mid told begun_to g step last last_work last_frame there c taken tells b pushed
@@ -196,11 +189,8 @@ module _ (program : ProgramTree) (caller : Frame) (callee : Callee) (args : List
 
   -- a call that has no turn left
   pub enter_stops : (crossing : Option ℕ) (work : List Work) (before after : Seen) (end : RunEnd) →
-      Comes before after (Err end) turn → Steps program before work caller
-      (tries crossing) (Stop end) after work caller
-  enter_stops crossing work before after end c =
-      steps_as program before work caller (tries crossing) (λ n s. and_then (turn s)
-      (λ _ s. and_then _ (result_goes program caller to))) (Stop end) after work caller
-      (λ n s. then_then (turn s) (λ _ s. from_call _ n s) (result_goes program caller to))
-      (step_stops program before after work caller end turn
-      (λ n u s. and_then (from_call _ n s) (result_goes program caller to)) c)
+      Comes before after (Err end) turn → Steps program before work caller (tries crossing) (Stop end) after work caller
+  enter_stops crossing work before after end c = steps_as program before work caller (tries crossing)
+      (λ n s. and_then (turn s) (λ _ s. and_then _ (result_goes program caller to))) (Stop end) after work caller
+      (λ n s. then_then (turn s) (λ _ s. from_call _ n s) (result_goes program caller to)) (step_stops program before
+      after work caller end turn (λ n u s. and_then (from_call _ n s) (result_goes program caller to)) c)

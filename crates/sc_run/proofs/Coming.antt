@@ -12,8 +12,7 @@ with_memory seen memory = record seen { memory = memory }
 pub seen_with : (s : State) (seen : Seen) (comp : ℕ) (bs : Blocks) → seen_of s ≡ seen →
     seen_of (record s { memory = with_blocks comp bs s.memory }) ≡
     record seen { memory = with_blocks comp (blank bs) seen.memory }
-seen_with s seen comp bs shows =
-    ap (λ memory. with_memory (seen_of s) memory) (memory_with comp bs _) ∙
+seen_with s seen comp bs shows = ap (λ memory. with_memory (seen_of s) memory) (memory_with comp bs _) ∙
     ap {A = Seen} (λ x. record x { memory = with_blocks comp (blank bs) x.memory }) shows
 
 -- the blocks of a compartment, as they are seen
@@ -74,15 +73,13 @@ then_goes before middle after v r p go h k =
 
 -- a store
 module _ (here : Here) (q v : Value) (line : ℕ) (seen : Seen) (after : Blocks) where
-  stored_at : (s : State) (r : Result Blocks Cause) → seen_of s ≡ seen → blanked r ≡ Ok after →
-      CameTo (with_exit {V = Unit {0}} Next (Ok tt))
-      (record seen { memory = with_blocks here.comp after seen.memory })
+  stored_at : (s : State) (r : Result Blocks Cause) → seen_of s ≡ seen → blanked r ≡ Ok after → CameTo
+      (with_exit {V = Unit {0}} Next (Ok tt)) (record seen { memory = with_blocks here.comp after seen.memory })
       (and_then (computed here line r s) (λ blocks s.
       leave {A = Unit {0}} Next tt (record s { memory = with_blocks here.comp blocks s.memory })))
   stored_at s (Ok blocks) shows is = (
     refl,
-    seen_with s seen here.comp blocks shows ∙
-        ap (λ bs. record seen { memory = with_blocks here.comp bs seen.memory })
+    seen_with s seen here.comp blocks shows ∙ ap (λ bs. record seen { memory = with_blocks here.comp bs seen.memory })
         (unwrap (blank blocks) after is),
   ) where
     unwrap : (a b : Blocks) → ◌≡◌ {A = Result Blocks Cause} (Ok a) (Ok b) → a ≡ b
@@ -121,8 +118,7 @@ module _ (here : Here) (q v : Value) (line : ℕ) (seen : Seen) (cause : Cause) 
 -- a turn, if there is one
 turned_at : (n : ℕ) (s : State) (seen : Seen) → seen_of s ≡ seen → s.turns ≡ suc n →
     CameTo (Ok tt) (record seen { turns = n }) (turn_of s.turns s)
-turned_at n s seen shows is =
-    subst (λ k. CameTo (Ok tt) (record seen { turns = n }) (turn_of k s)) (sym is)
+turned_at n s seen shows is = subst (λ k. CameTo (Ok tt) (record seen { turns = n }) (turn_of k s)) (sym is)
     (refl, ap {A = Seen} (λ x. record x { turns = n }) shows)
 
 pub turn_comes : (n : ℕ) (seen : Seen) → seen.turns ≡ suc n → Comes seen (record seen { turns = n }) (Ok tt) turn

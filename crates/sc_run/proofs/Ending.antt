@@ -29,32 +29,26 @@ module _ (program : ProgramTree) (f : Frame) (exit : Exit) where
   returned_err end back s is = ap (λ p. and_then p (λ v t. back v (over t))) (is s)
 
   over_seen : (s : State) (before : Seen) → seen_of s ≡ before → seen_of (over s) ≡ left_by f before
-  over_seen s before shows =
-      seen_with s before _ (ended f.scope.first (variable_count f) (s.memory _)) shows
-      ∙ ap (λ bs. with_memory before (with_blocks f.scope.comp.now bs before.memory))
-      (sym (left_same f.scope.first (variable_count f) (s.memory _)) ∙
-      ap (λ bs. cleared f.scope.first (variable_count f) bs) (blocks_seen s before f.scope.comp.now shows))
+  over_seen s before shows = seen_with s before _ (ended f.scope.first (variable_count f) (s.memory _)) shows ∙ ap
+      (λ bs. with_memory before (with_blocks f.scope.comp.now bs before.memory)) (sym
+      (left_same f.scope.first (variable_count f) (s.memory _)) ∙ ap (λ bs. cleared f.scope.first (variable_count f) bs)
+      (blocks_seen s before f.scope.comp.now shows))
 
   module _ (whole : SourceRun) (before : Seen) (work : List Work) (caller : Frame) (to : To) (crossing : Option ℕ) where
     abbrev waiting : List Work
     waiting = work ++ Caller caller to crossing ∷ []
 
-    resumed : (n : ℕ) (s : State) → resume program n (reverse waiting) f (leaving s) ≡
-        resume program (suc n) (reverse work) caller
-        (and_then (returned program f (back_to program caller f crossing) (leaving s))
-        (result_goes program caller to))
+    resumed : (n : ℕ) (s : State) → resume program n (reverse waiting) f (leaving s) ≡ resume program (suc n)
+        (reverse work) caller
+        (and_then (returned program f (back_to program caller f crossing) (leaving s)) (result_goes program caller to))
     resumed n s = ap (λ ws. resume program n ws f (leaving s)) (newest_first work _)
 
     pub call_ends : (end : RunEnd) → ClosedBy program f exit (Err end) →
-        Standing program whole before waiting f (λ n s. leaving s) →
-        whole ≡ record { trace = before.trace; end = end }
-    call_ends end is h =
-        sym h.rest ∙ ap (λ r. r.behaviour) (resumed h.open_calls h.state ∙
-        ap (λ p. resume program (suc h.open_calls) (reverse work) caller
-        (and_then p (result_goes program caller to)))
-        (returned_err end (back_to program caller f crossing) h.state is)) ∙
-        resume_stopped program (suc h.open_calls) (reverse work) caller end h.state ∙
-        (λ i. record { trace = (h.shows i).trace; end = end })
+        Standing program whole before waiting f (λ n s. leaving s) → whole ≡ record { trace = before.trace; end = end }
+    call_ends end is h = sym h.rest ∙ ap (λ r. r.behaviour) (resumed h.open_calls h.state ∙ ap
+        (λ p. resume program (suc h.open_calls) (reverse work) caller (and_then p (result_goes program caller to)))
+        (returned_err end (back_to program caller f crossing) h.state is)) ∙ resume_stopped program (suc h.open_calls)
+        (reverse work) caller end h.state ∙ (λ i. record { trace = (h.shows i).trace; end = end })
 
     back_at : (cross : Option ℕ) (v : Option Value) (n : ℕ) (s : State)
         (rest : (resume program n (reverse work) caller

@@ -19,16 +19,14 @@ repeated_more zeros (suc n) cells = ap (λ cs. cells ++ cs) (repeated_more zeros
 -- the cells once more
 pub once_more : (zeros : List (List Cell)) (n : ℕ) (cells more so_far : List Cell) → so_far ≡ repeated zeros n cells →
     more ≡ cells → so_far ++ more ≡ repeated zeros (n + 1) cells
-once_more zeros n cells more so_far is same =
-    (λ i. is i ++ same i) ∙ sym (repeated_more zeros n cells) ∙
-    ap (λ k. repeated zeros k cells) (sym (add-one n))
+once_more zeros n cells more so_far is same = (λ i. is i ++ same i) ∙ sym (repeated_more zeros n cells) ∙ ap
+    (λ k. repeated zeros k cells) (sym (add-one n))
 
 members_more : (zeros : List (List Cell)) (ms : List TypedMember) (m : TypedMember) →
     member_zeros zeros (ms ++ m ∷ []) ≡ member_zeros zeros ms ++ zeros_of zeros m.ty
 members_more zeros [] m = append-nil _
-members_more zeros (x ∷ ms) m =
-    ap (λ cs. zeros_of zeros x.ty ++ cs) (members_more zeros ms m) ∙
-    sym (append_assoc (zeros_of zeros x.ty) (member_zeros zeros ms) (zeros_of zeros m.ty))
+members_more zeros (x ∷ ms) m = ap (λ cs. zeros_of zeros x.ty ++ cs) (members_more zeros ms m) ∙ sym
+    (append_assoc (zeros_of zeros x.ty) (member_zeros zeros ms) (zeros_of zeros m.ty))
 
 -- one more member
 pub member_more : (zeros : List (List Cell)) (ms : List TypedMember) (i : ℕ) (m : TypedMember) (so_far : List Cell) →
@@ -70,8 +68,7 @@ no_more (w ∷ ws) = refl
 -- all cells
 pub words_all : (ws : List ℕ) (cs : List Cell) (i : ℕ) (so_far whole : List Cell) → length cs ≤ i →
     so_far ++ with_words (drop i ws) (drop i cs) ≡ whole → so_far ≡ whole
-words_all ws cs i so_far whole past stands_so =
-    sym (append-nil so_far) ∙ ap (λ xs. so_far ++ xs)
+words_all ws cs i so_far whole past stands_so = sym (append-nil so_far) ∙ ap (λ xs. so_far ++ xs)
     (sym (ap (with_words _) (drop_all i cs past) ∙ no_more (drop i ws))) ∙ stands_so
 
 -- one more global
@@ -81,8 +78,7 @@ pub global_more : (zeros : List (List Cell)) (gs : List TypedGlobal) (i : ℕ) (
     later ≡ with_blocks comp (now comp ++ global_block zeros g ∷ []) now →
     later ≡ with_blocks comp (memory comp ++ map (global_block zeros) (take (i + 1) gs)) memory
 global_more zeros gs i g comp memory now later there item is gives =
-    let stands_so : now comp ≡ memory comp ++ map _ _ =
-    (λ k. is k comp) ∙ at_itself comp _ memory in
+    let stands_so : now comp ≡ memory comp ++ map _ _ = (λ k. is k comp) ∙ at_itself comp _ memory in
     let more = sym (map-append (global_block zeros) (take i gs) (g ∷ [])) ∙
     ap (map (global_block zeros)) (ap (λ x. take i gs ++ x ∷ []) item ∙ sym (take_more gs i g there)) in
     gives ∙ (λ k. with_blocks comp (stands_so k ++ global_block zeros g ∷ []) (is k)) ∙ with_twice comp _
@@ -113,9 +109,8 @@ section_more sections at comp section now later there item same is gives =
     let short : length (take at sections) ≡ at = omega (arith, length-take at sections, there) in
     let here : now comp ≡ [] = (λ k. is k comp) ∙ ap (λ n. globals_of (take at sections) n) (same ∙ sym short) ∙
     past section (take at sections) in
-    let next : globals_of (take at sections ++ section ∷ []) ≡
-    with_blocks at (first_blocks (Some section)) (globals_of (take at sections)) =
-    (λ k c. at_next section (take at sections) c k) ∙
-    ap (λ n. with_blocks n (first_blocks (Some section)) (globals_of (take at sections))) short in
+    let next : globals_of (take at sections ++ section ∷ []) ≡ with_blocks at (first_blocks (Some section))
+    (globals_of (take at sections)) = (λ k c. at_next section (take at sections) c k) ∙ ap
+    (λ n. with_blocks n (first_blocks (Some section)) (globals_of (take at sections))) short in
     gives ∙ (λ k. with_blocks (same k) (here k ++ first_blocks (Some section)) (is k)) ∙ sym next
     ∙ ap globals_of (ap (λ x. take at sections ++ x ∷ []) item ∙ sym (take_more _ at section there))

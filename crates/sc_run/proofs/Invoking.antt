@@ -61,8 +61,7 @@ module _ (program : ProgramTree) (before : Seen) (work : List Work) (f : Frame) 
 
   pub refused : (target : CallTarget) (args : List Value) (end : RunEnd) → end ≡ refusal →
       may_call (library program) f.scope.comp.now target args ≡ false →
-      Steps program before work f (calling target args)
-      (Stop end) before work f
+      Steps program before work f (calling target args) (Stop end) before work f
   refused target args end same is =
       subst (λ e. Steps program before work f (calling target args) (Stop e) before work f) (sym same)
       (steps_as program before work f _ (λ n s. and_then (stops_here s) rg) _ before work f (λ n s. ap (λ b. tried b target args n s) is) (step_stops program before before work f refusal _ (λ n. rg) halts))
@@ -71,14 +70,12 @@ module _ (program : ProgramTree) (before : Seen) (work : List Work) (f : Frame) 
       may_call (library program) f.scope.comp.now target args ≡ true →
       Steps program before work f (tried true target args) step after later g →
       Steps program before work f (calling target args) step after later g
-  allowed target args step after later g is h =
-      steps_as program before work f _ _ step after later g
+  allowed target args step after later g is h = steps_as program before work f _ _ step after later g
       (λ n s. ap (λ b. tried b target args n s) is) h
 
   pub own_missing : (number : ℕ) (args : List Value) (end : RunEnd) → end ≡ refusal →
       function (library program) f.scope.comp.now number ≡ None →
-      Steps program before work f (calling (Own number) args)
-      (Stop end) before work f
+      Steps program before work f (calling (Own number) args) (Stop end) before work f
   own_missing number args end same is = refused (Own number) args end same (ap is_some is)
 
   -- a function that is entered, as a call sees it
@@ -140,9 +137,8 @@ module _ (program : ProgramTree) (before : Seen) (work : List Work) (f : Frame) 
         EntryAt program comp (Export index) (Some callee) →
         Steps program before work f (entering callee args (Some index)) step after later g →
         Steps program before work f (calling (Cross comp index) args) step after later g
-    cross_enters callee step after later g may entry h =
-        allowed (Cross comp index) args step after later g
-        (all_hold imported taken words leads_on (sym may)
+    cross_enters callee step after later g may entry h = allowed (Cross comp index) args step after later g (all_hold
+        imported taken words leads_on (sym may)
         (ap leads_there entry.0 ∙ is_there callee comp callee.number entry.1.0 refl entry.1.2))
         (steps_as program before work f (tried true (Cross comp index) args)
         (entering callee args (Some index)) step after later g same h) where
@@ -167,8 +163,7 @@ module _ (program : ProgramTree) (before : Seen) (work : List Work) (f : Frame) 
       middle ≡ record before { inputs = drop 1 before.inputs } →
       told ≡ record middle { trace = middle.trace ++ In f.scope.comp.now word ∷ [] } →
       Steps program told work f (λ n s. rg (Some (Word word)) s) step after work f →
-      Steps program before work f (calling Input args) step after
-      work f
+      Steps program before work f (calling Input args) step after work f
   input_steps args word middle told after step may is rest tells h =
       allowed Input args step after work f may (steps_on program before work f told after (Some (Word word))
       (λ s. Reached (Some (Word _)) (read_input f.scope.comp.now s)) (λ n. rg) step work f (record {
@@ -190,8 +185,7 @@ module _ (program : ProgramTree) (before : Seen) (work : List Work) (f : Frame) 
       may_call (library program) f.scope.comp.now Output args ≡ true → word ≡ first_word args →
       told ≡ record before { trace = before.trace ++ Out f.scope.comp.now word ∷ [] } →
       Steps program told work f (λ n s. rg None s) step after work f →
-      Steps program before work f (calling Output args) step after
-      work f
+      Steps program before work f (calling Output args) step after work f
   output_steps args word told after step may is tells h =
       allowed Output args step after work f may (steps_on program before work f told after None (λ s.
       Reached None _) (λ n. rg) step work f (record {
@@ -218,10 +212,8 @@ module _ (program : ProgramTree) (before : Seen) (work : List Work) (f : Frame) 
     by_assoc n s = then_then (given_args s) (λ vs s. calls_in program n _ target vs s) rg
 
   pub as_called : (target t : CallTarget) (args : List Value) (step : Step) (after : Seen) (later : List Work)
-      (g : Frame) → target ≡ t → Steps program before work f
-      (calling t args) step after later g →
-      Steps program before work f (calling target args) step after
-      later g
+      (g : Frame) → target ≡ t → Steps program before work f (calling t args) step after later g →
+      Steps program before work f (calling target args) step after later g
   as_called target t args step after later g is h =
       subst (λ x. Steps program before work f (calling x args) step after later g) (sym is) h
 

@@ -29,17 +29,15 @@ module _ (program : ProgramTree) (f : Frame) where
     cond_evaluated s = evaluated (here_of f.scope) want.Value (way_in f l.cond.now) l.line s
 
     abbrev pub rest_of_round : ℕ → Acts
-    rest_of_round n a s =
-        and_then (turn s) (λ _ s. follow in_loop (block_acts program n f l.body.now a s)
+    rest_of_round n a s = and_then (turn s) (λ _ s. follow in_loop (block_acts program n f l.body.now a s)
         (λ a s. follow in_loop (next_acts program n f l a s) (loop_acts program n f l)))
 
     -- a loop: its condition, a turn, its body, and the loop again
     pub round_is : (n : ℕ) (s : State) → loop_acts program n f l tt s ≡
         and_then (cond_evaluated s) (λ v s. tested n (is_true v) s)
-    round_is n s =
-        loop_is program n f l s ∙ then_then (cond_evaluated s) (λ v s. choose v _ _)
-        (λ left s. take (in_loop _) (rest_of_round n) _ s)
-        ∙ (λ i. and_then (cond_evaluated s) (λ v s. by_truth n (is_true v) s i))
+    round_is n s = loop_is program n f l s ∙ then_then (cond_evaluated s) (λ v s. choose v _ _)
+        (λ left s. take (in_loop _) (rest_of_round n) _ s) ∙
+        (λ i. and_then (cond_evaluated s) (λ v s. by_truth n (is_true v) s i))
 
 module _ (program : ProgramTree) (before : Seen) (work : List Work) (f : Frame) where
   pub steps_as : (p q : Doing) (step : Step) (after : Seen) (later : List Work) (g : Frame) →
@@ -55,8 +53,7 @@ module _ (program : ProgramTree) (before : Seen) (work : List Work) (f : Frame) 
       Steps program before work f (λ n s. and_then (p s) (go n)) step after later g
   steps_on middle after v p go step later g c h =
       record {
-        stands = λ whole standing. h.stands whole
-            (goes_on program whole work f before middle v p go c standing);
+        stands = λ whole standing. h.stands whole (goes_on program whole work f before middle v p go c standing);
       }
 
   -- something more that waits
@@ -66,10 +63,9 @@ module _ (program : ProgramTree) (before : Seen) (work : List Work) (f : Frame) 
       Steps program before later f q step after last g → Steps program before work f p step after last g
   steps_wait w later p q step after last g is same h =
       record {
-        stands = λ whole standing. h.stands whole
-            (moved program whole before work later f p q
-            (λ n s. same n s ∙ ap (λ ws. resume program n ws f (q n s))
-            (sym (ap reverse is ∙ newest_first work w))) standing);
+        stands = λ whole standing. h.stands whole (moved program whole before work later f p q
+            (λ n s. same n s ∙ ap (λ ws. resume program n ws f (q n s)) (sym (ap reverse is ∙ newest_first work w)))
+            standing);
       }
 
   -- something that waited is taken up
@@ -79,10 +75,9 @@ module _ (program : ProgramTree) (before : Seen) (work : List Work) (f : Frame) 
       Steps program before earlier f q step after last g → Steps program before work f p step after last g
   steps_resume w earlier p q step after last g is same h =
       record {
-        stands = λ whole standing. h.stands whole
-            (moved program whole before work earlier f p q
-            (λ n s. ap (λ ws. resume program n ws f (p n s)) (ap reverse is ∙ newest_first earlier w) ∙
-            same n s) standing);
+        stands = λ whole standing. h.stands whole (moved program whole before work earlier f p q
+            (λ n s. ap (λ ws. resume program n ws f (p n s)) (ap reverse is ∙ newest_first earlier w) ∙ same n s)
+            standing);
       }
 
   -- what is left to do is done by a later step
@@ -93,18 +88,16 @@ module _ (program : ProgramTree) (before : Seen) (work : List Work) (f : Frame) 
   module _ (l : Loop) where
     pub round_err : (end : RunEnd) → Comes before before (Err end) (cond_evaluated program f l) →
         Steps program before work f (λ n. loop_acts program n f l tt) (Stop end) before work f
-    round_err end c =
-        steps_as _ (λ n s. and_then (cond_evaluated program f l s) (λ v s. tested program f l n _ s))
-        _ before work f (round_is program f l) (step_stops program before before work f end _
-        (λ n v s. tested program f l n _ s) c)
+    round_err end c = steps_as _ (λ n s. and_then (cond_evaluated program f l s) (λ v s. tested program f l n _ s)) _
+        before work f (round_is program f l)
+        (step_stops program before before work f end _ (λ n v s. tested program f l n _ s) c)
 
     pub round_goes : (v : Value) (after : Seen) (step : Step) (later : List Work) →
         Comes before before (Ok v) (cond_evaluated program f l) → is_true v ≡ true →
         Steps program before work f (λ n s. tested program f l n true s) step after later f →
         Steps program before work f (λ n. loop_acts program n f l tt) step after later f
-    round_goes v after step later c true_is h =
-        steps_as _ (λ n s.
-        and_then (cond_evaluated program f l s) (λ v s. tested program f l n _ s)) step after later f
+    round_goes v after step later c true_is h = steps_as _
+        (λ n s. and_then (cond_evaluated program f l s) (λ v s. tested program f l n _ s)) step after later f
         (round_is program f l) (steps_on before after v _ (λ n v s. tested program f l n _ s) step later f c
         (steps_as _ _ step after later f (λ n s. ap (λ b. tested program f l n b s) true_is) h))
 
@@ -113,9 +106,8 @@ module _ (program : ProgramTree) (before : Seen) (work : List Work) (f : Frame) 
         (λ a s. follow in_loop (next_acts program n f l a s) (loop_acts program n f l))
 
     pub round_out : (v : Value) (after : Seen) (end : RunEnd) →
-        Comes before before (Ok v) (cond_evaluated program f l) → is_true v ≡ true →
-        Comes before after (Err end) turn → Steps program before work f (λ n. loop_acts program n f l tt)
-        (Stop end) after work f
+        Comes before before (Ok v) (cond_evaluated program f l) → is_true v ≡ true → Comes before after (Err end) turn →
+        Steps program before work f (λ n. loop_acts program n f l tt) (Stop end) after work f
     round_out v after end c true_is t =
         round_goes v after _ work c true_is (step_stops program before after work f end turn in_body t)
 
@@ -129,17 +121,16 @@ module _ (program : ProgramTree) (before after : Seen) (work later : List Work) 
       _ (λ n s. block_acts program n f _ tt s) _ after later f is (λ n s. refl) (steps_later program after later f _ _
       (λ n s. refl))))
 
+not_none : (n : ℕ) → suc n ≡ 0 → ⊥
+not_none n e = omega (arith, e)
+
 -- nothing waits
 pub nothing_waits : (program : ProgramTree) (before : Seen) (work later : List Work) (f : Frame) (p : Doing)
     (step : Step) (after : Seen) (g : Frame) → length work ≡ 0 → length later ≡ 0 →
     Steps program before [] f p step after [] g → Steps program before work f p step after later g
 nothing_waits program before [] [] f p step after g a b h = h
-nothing_waits program before [] (w ∷ later) f p step after g a b h = absurd (some _ b) where
-  some : (n : ℕ) → suc n ≡ 0 → ⊥
-  some n e = omega (arith, e)
-nothing_waits program before (w ∷ work) later f p step after g a b h = absurd (some _ a) where
-  some : (n : ℕ) → suc n ≡ 0 → ⊥
-  some n e = omega (arith, e)
+nothing_waits program before [] (w ∷ later) f p step after g a b h = absurd (not_none _ b)
+nothing_waits program before (w ∷ work) later f p step after g a b h = absurd (not_none _ a)
 
 module _ (program : ProgramTree) (before : Seen) (work earlier : List Work) (f : Frame) (w : Work) (step : Step)
     (after : Seen) (later : List Work) (g : Frame) (popped : work ≡ earlier ++ w ∷ []) where
@@ -149,8 +140,7 @@ module _ (program : ProgramTree) (before : Seen) (work earlier : List Work) (f :
   pub taken : (exit : Exit) (x : Work) (p : Doing) → w ≡ x → Steps program before earlier f p step after later g →
       ((n : ℕ) (s : State) → resume program n (x ∷ reverse earlier) f (leave exit tt s) ≡
       resume program n (reverse earlier) f (p n s)) → Steps program before work f (leaving exit) step after later g
-  taken exit x p is h same =
-      steps_resume program before work f x earlier _ p step after later g
+  taken exit x p is h same = steps_resume program before work f x earlier _ p step after later g
       (popped ∙ ap (λ y. earlier ++ y ∷ []) is) same h
 
   pub caller_taken : (p : Doing) (x : Work) → w ≡ x → Steps program before (earlier ++ x ∷ []) f p step after later g →

@@ -39,14 +39,11 @@ pub with_more : (comp : ℕ) (sizes : List ℕ) (args : List Value) (n at : ℕ)
     now ≡ with_sizes comp sizes args memory → later ≡ with_blocks comp (now comp ++ block_for n arg ∷ []) now →
     later ≡ with_sizes comp (sizes ++ n ∷ []) args memory
 with_more comp sizes args n at arg memory now later place is so_far gives =
-    let block =
-    ap (block_for n) (is ∙ ap (slice_get args) place) in
-    let stands_so : now comp ≡ memory comp ++ blocks_for sizes args =
-    (λ i. so_far i comp) ∙ at_itself comp _ memory in
+    let block = ap (block_for n) (is ∙ ap (slice_get args) place) in
+    let stands_so : now comp ≡ memory comp ++ blocks_for sizes args = (λ i. so_far i comp) ∙ at_itself comp _ memory in
     gives ∙ (λ i. with_blocks comp (stands_so i ++ block i ∷ []) (so_far i)) ∙ with_twice comp _
-    (memory comp ++ blocks_for sizes args) memory
-    ∙ ap (λ bs. with_blocks comp bs memory) (append_assoc (memory comp) (blocks_for sizes args) (block_for n _ ∷ []) ∙
-    ap (λ bs. memory comp ++ bs) (sym (blocks_more sizes args n)))
+    (memory comp ++ blocks_for sizes args) memory ∙ ap (λ bs. with_blocks comp bs memory) (append_assoc (memory comp)
+    (blocks_for sizes args) (block_for n _ ∷ []) ∙ ap (λ bs. memory comp ++ bs) (sym (blocks_more sizes args n)))
 
 module _ (structs : List TypedStruct) (here : Here) (params : ℕ) where
   pub init_is : (k : ℕ) (local : TypedLocal) (e : TypedExpr) (before after : Seen)
@@ -67,9 +64,8 @@ module _ (structs : List TypedStruct) (here : Here) (params : ℕ) where
         Comes before after r (inits_from locals 0 tt)
 
   first_init : (locals : List TypedLocal) (k : ℕ) (local : TypedLocal) → k < length locals →
-      local ≡ get_or locals k local → (s : State) →
-      inits_from locals k tt s ≡ follow in_order (init_does c_arith structs here params k local local.init tt s)
-      (inits_from locals (k + 1))
+      local ≡ get_or locals k local → (s : State) → inits_from locals k tt s ≡ follow in_order
+      (init_does c_arith structs here params k local local.init tt s) (inits_from locals (k + 1))
   first_init locals k local there item s =
       ap (λ ls. all_do (inits_do c_arith structs here params k ls) tt s) (drop-step locals k local there item)
       ∙ ap (λ m. follow in_order (init_does c_arith structs here params k local local.init tt s)
@@ -98,14 +94,12 @@ module _ (structs : List TypedStruct) (here : Here) (params : ℕ) where
         by_first : (after : Seen) (r : Result (Left (Unit {0})) RunEnd) →
             Comes next after r (inits_from locals (k + 1) tt) → (s : State) → seen_of s ≡ now →
             CameTo r after (inits_from locals k tt s)
-        by_first after r d s shows =
-            subst (CameTo r after) (sym (first_init locals k local there item s))
+        by_first after r d s shows = subst (CameTo r after) (sym (first_init locals k local there item s))
             (by_piece after r d (init_does c_arith structs here params k local local.init tt s) (c.comes s shows))
 
   pub started_blamed : (locals : List TypedLocal) (k : ℕ) (local : TypedLocal) (before now next : Seen) (end : RunEnd) →
-      k < length locals → local ≡ get_or locals k local → Started locals k before now →
-      Comes now next (with_exit {V = Unit {0}} Next (Err end))
-      (init_does c_arith structs here params k local local.init tt) →
+      k < length locals → local ≡ get_or locals k local → Started locals k before now → Comes now next
+      (with_exit {V = Unit {0}} Next (Err end)) (init_does c_arith structs here params k local local.init tt) →
       Comes before next (Err end) (inits_from locals 0 tt)
   started_blamed locals k local before now next end there item h c =
       h.on next _ (record {
@@ -120,8 +114,7 @@ module _ (structs : List TypedStruct) (here : Here) (params : ℕ) where
 
   pub started_all : (locals : List TypedLocal) (k : ℕ) (before now : Seen) → length locals ≤ k →
       Started locals k before now → Comes before now (with_exit {V = Unit {0}} Next (Ok tt)) (inits_from locals 0 tt)
-  started_all locals k before now all h =
-      h.on now (with_exit {V = Unit {0}} Next (Ok tt))
+  started_all locals k before now all h = h.on now (with_exit {V = Unit {0}} Next (Ok tt))
       (record {
         comes = λ s shows. subst (λ ls. CameTo (with_exit {V = Unit {0}} Next (Ok tt)) now
             (all_do (inits_do c_arith structs here params k ls) tt s)) (sym (drop_all k locals all)) (refl, shows);
@@ -137,8 +130,7 @@ local_sizes structs f = map {A = TypedLocal} (λ l. cells_of structs l.ty) f.loc
 module _ {A : Type 0} (f : A → ℕ) (xs : List A) (at : ℕ) (x : A) (there : at < length xs)
     (item : x ≡ get_or xs at x) where
   pub sizes_more : take (at + 1) (map f xs) ≡ take at (map f xs) ++ f x ∷ []
-  sizes_more =
-      take-map f _ xs ∙ ap (map f) (take_more xs at x there ∙ ap (λ y. take at xs ++ y ∷ []) (sym item)) ∙
+  sizes_more = take-map f _ xs ∙ ap (map f) (take_more xs at x there ∙ ap (λ y. take at xs ++ y ∷ []) (sym item)) ∙
       map-append f (take at xs) (x ∷ []) ∙ ap (λ ys. ys ++ f x ∷ []) (sym (take-map f at xs))
 
   sizes_length : at ≡ length (take at (map f xs))
@@ -150,8 +142,7 @@ module _ {A : Type 0} (f : A → ℕ) (xs : List A) (at : ℕ) (x : A) (there : 
       now ≡ with_sizes comp (front ++ take at (map f xs)) args memory →
       later ≡ with_blocks comp (now comp ++ block_for count arg ∷ []) now →
       later ≡ with_sizes comp (front ++ take (at + 1) (map f xs)) args memory
-  one_more comp front args place count arg memory now later where_ counted is so_far gives =
-      with_more comp _ args count place arg memory now later
-      (omega (arith, where_, length-append front (take at (map f xs)), sizes_length)) is so_far gives
-      ∙ ap (λ sizes. with_sizes comp sizes args memory) (append_assoc front _ _ ∙
-      ap (λ ys. front ++ ys) (ap (λ n. take at (map f xs) ++ n ∷ []) counted ∙ sym sizes_more))
+  one_more comp front args place count arg memory now later where_ counted is so_far gives = with_more comp _ args count
+      place arg memory now later (omega (arith, where_, length-append front (take at (map f xs)), sizes_length)) is
+      so_far gives ∙ ap (λ sizes. with_sizes comp sizes args memory) (append_assoc front _ _ ∙ ap (λ ys. front ++ ys)
+      (ap (λ n. take at (map f xs) ++ n ∷ []) counted ∙ sym sizes_more))

@@ -28,8 +28,7 @@ module _ (program : ProgramTree) (s : State) where
   returned_goes : (f : Frame) (back : Option Value → State → Piece (Option Value)) →
       ((v : Option Value) → Goes (back v)) →
       (p : Piece (Left (Unit {0}))) → Gone s p → Gone s (returned program f back p)
-  returned_goes f back b p h =
-      then_goes s (and_then p _) _ (then_goes s p _ h (closes_goes program 0 f)) (λ v t.
+  returned_goes f back b p h = then_goes s (and_then p _) _ (then_goes s p _ h (closes_goes program 0 f)) (λ v t.
       let end = done f.scope.comp.now (function_in program f) f.scope.first t in
       earlier t end _ (done_goes _ (function_in program f) _ t) (b v end))
 
@@ -80,14 +79,12 @@ module _ (program : ProgramTree) (whole : SourceRun) (seen : Seen) (work : List 
   reached : (events : ℕ) (trace : List Event) (end : RunEnd) → events ≤ length seen.trace →
       Onward seen.trace (record { trace = trace; end = end }) →
       stopped_at events (record { trace = trace; end = end }) ≡ record { trace = take events trace; end = EventsOut }
-  reached events trace Ended le h =
-      ap (λ b. if b then (record { trace = take events trace; end = EventsOut }) else
+  reached events trace Ended le h = ap (λ b. if b then (record { trace = take events trace; end = EventsOut }) else
       (record { trace = trace; end = Ended })) (lt-ltb events (length trace)
       (over (length _) (length trace) le (h.ended refl))) where
         over : (a b : ℕ) → events ≤ a → suc a ≤ b → events < b
         over a b x y = omega (arith, x, y)
-  reached events trace end le h =
-      ap (λ b. if b then (record { trace = take events trace; end = EventsOut }) else
+  reached events trace end le h = ap (λ b. if b then (record { trace = take events trace; end = EventsOut }) else
       (record { trace = trace; end = end })) (le-leb events (length trace) (omega (
         arith,
         le,
@@ -99,6 +96,5 @@ module _ (program : ProgramTree) (whole : SourceRun) (seen : Seen) (work : List 
   pub stopped_here : (events : ℕ) → events ≤ length seen.trace →
       Standing program whole seen work f (does_now program f now) →
       stopped_at events whole ≡ record { trace = take events seen.trace; end = EventsOut }
-  stopped_here events le h =
-      reached events _ _ le (onward h) ∙
+  stopped_here events le h = reached events _ _ le (onward h) ∙
       (λ i. record { trace = take_front events _ _ le (onward h).grown i; end = EventsOut })

@@ -47,12 +47,10 @@ module _ (program : ProgramTree) where
     goes_at after v n (Stopped end t) go c enough rest = elim c [ ]
 
     -- a piece that came to a value: what follows it is done
-    pub goes_on : {V : Type 0} (before after : Seen) (v : V) (p : State → Piece V)
-        (go : Follows V) → Comes before after (Ok v) p →
-        Standing program whole before work f (λ n s. and_then (p s) (go n)) →
+    pub goes_on : {V : Type 0} (before after : Seen) (v : V) (p : State → Piece V) (go : Follows V) →
+        Comes before after (Ok v) p → Standing program whole before work f (λ n s. and_then (p s) (go n)) →
         Standing program whole after work f (λ n s. go n v s)
-    goes_on before after v p go c h =
-        goes_at after v _ _ go (c.comes h.state h.shows)
+    goes_on before after v p go c h = goes_at after v _ _ go (c.comes h.state h.shows)
         (fewer (ap (λ x. x.turns) h.shows) c.fewer h.enough) h.rest where
           fewer : h.state.turns ≡ before.turns → after.turns ≤ before.turns → h.state.turns ≤ h.open_calls →
               after.turns ≤ h.open_calls
@@ -83,9 +81,8 @@ module _ (program : ProgramTree) (before after : Seen) (work : List Work) (f : F
       sym rest ∙ resume_stopped program n (reverse work) f e t ∙ (λ i. record { trace = (c.1 i).trace; end = c.0 i })
 
   -- a step that ends the run
-  pub step_stops : {V : Type 0} (end : RunEnd) (p : State → Piece V) (go : Follows V) →
-      Comes before after (Err end) p → Steps program before work f (λ n s. and_then (p s) (go n))
-      (Stop end) after work f
+  pub step_stops : {V : Type 0} (end : RunEnd) (p : State → Piece V) (go : Follows V) → Comes before after (Err end) p →
+      Steps program before work f (λ n s. and_then (p s) (go n)) (Stop end) after work f
   step_stops end p go c = record {
     stands = λ whole h. ended_at whole end _ _ ((then_stops before after end p _ c).comes h.state h.shows) h.rest;
   }

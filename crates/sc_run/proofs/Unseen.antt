@@ -39,9 +39,8 @@ inside_same : (bs : Blocks) (p : Pointer) → is_inside (blank bs) p ≡ is_insi
 inside_same bs p = ap (λ c. bind c (λ cells. Ok (nat_lt p.index (length cells)))) (cells_same bs p.block)
 
 place_same : (bs : Blocks) (v w : Value) → same_place (blank bs) v w ≡ same_place bs v w
-place_same bs (Ptr p) (Ptr q) = λ i.
-    if p.block == q.block then Ok (p.index == q.index) else
-    bind (inside_same bs p i) (λ a. bind (inside_same bs q i) (λ b. if a && b then Ok false else Err BadPointer))
+place_same bs (Ptr p) (Ptr q) = λ i. if p.block == q.block then Ok (p.index == q.index) else bind (inside_same bs p i)
+    (λ a. bind (inside_same bs q i) (λ b. if a && b then Ok false else Err BadPointer))
 place_same bs Null Null = refl
 place_same bs _ _ = refl
 
@@ -57,9 +56,8 @@ wanted_same ty q want.Value bs = ap (λ r. if is_array ty then Ok q else r) (loa
 
 at_same : (ty : Ty) (place : Blocks → Result Value Cause) → ((bs : Blocks) → place (blank bs) ≡ place bs) →
     WaySame (at_place ty place)
-at_same ty place h wish bs =
-    ap (λ r. bind r (λ q. wanted ty q wish (blank bs))) (h bs) ∙
-    by_ok (place bs) (λ q. wanted ty q wish _) (λ q. wanted ty q wish bs) (λ q. wanted_same ty q wish bs)
+at_same ty place h wish bs = ap (λ r. bind r (λ q. wanted ty q wish (blank bs))) (h bs) ∙ by_ok (place bs)
+    (λ q. wanted ty q wish _) (λ q. wanted ty q wish bs) (λ q. wanted_same ty q wish bs)
 
 module _ (structs : List TypedStruct) where
   pointer_same : (bs : Blocks) (o : BinaryOp) (l r : Ty) (v w : Value) →
@@ -69,10 +67,9 @@ module _ (structs : List TypedStruct) where
 
   applied_same : (bs : Blocks) (o : BinaryOp) (l r : Ty) (v w : Value) →
       applied c_arith structs (blank bs) o l r v w ≡ applied c_arith structs bs o l r v w
-  applied_same bs o l r v w = λ i.
-      if is_pointer l then (if is_pointer r then between_same bs o (target_cells structs l) v w i else
-      pointer_same bs o l r v w i) else (if is_pointer r then pointer_same bs o r l w v i else
-      on_words c_arith (is_unsigned_op o l r) o v w)
+  applied_same bs o l r v w = λ i. if is_pointer l then
+      (if is_pointer r then between_same bs o (target_cells structs l) v w i else pointer_same bs o l r v w i) else
+      (if is_pointer r then pointer_same bs o r l w v i else on_words c_arith (is_unsigned_op o l r) o v w)
 
   both_same : (o : BinaryOp) (a b : Meant) → WaySame a.way → WaySame b.way → (bs : Blocks) →
       bind (a.way want.Value (blank bs)) (λ v. bind (b.way want.Value (blank bs))
@@ -103,8 +100,7 @@ module _ (structs : List TypedStruct) where
     term_same ty (term.Unary o a) h = λ wish bs. ap (λ r. bind r (applied_one c_arith (is_unsigned (meant_by a).ty) o))
         (h want.Value bs)
     term_same ty (term.Binary o a b) h = λ wish bs. binary_same o (meant_by a) (meant_by b) h.0 h.1 bs
-    term_same ty (term.Index a b) h =
-        at_same ty _ (λ bs i. bind (h.0 want.Value bs i)
+    term_same ty (term.Index a b) h = at_same ty _ (λ bs i. bind (h.0 want.Value bs i)
         (λ v. bind (h.1 want.Value bs i) (λ w. pointer_same bs op.Add (meant_by a).ty (meant_by b).ty v w i)))
     term_same ty (term.Member a offset) h = at_same ty _
         (λ bs i. bind (h want.Place bs i) (λ q. moved_same bs (pos offset) q i))
@@ -114,16 +110,14 @@ module _ (structs : List TypedStruct) where
     term_same ty (term.Address a) h = λ wish bs. h want.Place bs
 
     layer_same : (ty : Ty) (k : TypedKind-F TypedKind TypedExpr) → Under Same k → Same (typed ty k)
-    layer_same ty k h =
-        subst (λ m. WaySame m.way) (sym (expr_at _ _ (term_step c_arith structs here params) _ ty k))
+    layer_same ty k h = subst (λ m. WaySame m.way) (sym (expr_at _ _ (term_step c_arith structs here params) _ ty k))
         (term_same ty k h)
 
     pub way_same : (e : TypedExpr) → WaySame (ways c_arith structs here params e)
     way_same e = expr_induction Same layer_same e
 
-    pub values_same : (es : List TypedExpr) (bs : Blocks) →
-        values (map (ways c_arith structs here params) es) (blank bs) ≡
-        values (map (ways c_arith structs here params) es) bs
+    pub values_same : (es : List TypedExpr) (bs : Blocks) → values (map (ways c_arith structs here params) es)
+        (blank bs) ≡ values (map (ways c_arith structs here params) es) bs
     values_same [] bs = refl
     values_same (e ∷ es) bs = λ i. bind (way_same e want.Value bs i)
         (λ v. bind (values_same es bs i) (λ vs. Ok (v ∷ vs)))

@@ -8,9 +8,8 @@ use Rattle.sc_run.proofs.Onward.{stopped_here}
 
 -- whatever the whole run is, it stands here after it stood there
 abbrev pub Since : ProgramTree → Now → Seen → Frame → Now → Seen → List Work → Frame → Type 0
-Since program first begun f now seen work g =
-    (whole : SourceRun) → Standing program whole begun [] f (does_now program f first) →
-    Standing program whole seen work g (does_now program g now)
+Since program first begun f now seen work g = (whole : SourceRun) → Standing program whole begun [] f
+    (does_now program f first) → Standing program whole seen work g (does_now program g now)
 
 module _ (program : ProgramTree) (first : Now) (begun : Seen) (f : Frame) (now : Now) (seen : Seen) (work : List Work)
     (g : Frame) (stands_so : Since program first begun f now seen work g) where
@@ -23,9 +22,8 @@ module _ (program : ProgramTree) (first : Now) (begun : Seen) (f : Frame) (now :
 
     -- the run is over
     pub since_stop : (events : ℕ) (end : RunEnd) → step ≡ Stop end → EndsAs program first begun f events later.trace end
-    since_stop events end is whole start =
-        ap (stopped_at events) (subst (λ x. Stands program whole x later last h) is
-        (steps.stands whole (stands_so whole start)))
+    since_stop events end is whole start = ap (stopped_at events)
+        (subst (λ x. Stands program whole x later last h) is (steps.stands whole (stands_so whole start)))
 
   -- there are as many events as were allowed
   pub since_events : (events : ℕ) → events ≤ length seen.trace →
@@ -51,8 +49,7 @@ module _ (program : ProgramTree) (inputs : List ℕ) (turns events : ℕ) where
       (at_first : before ≡ seen_first) (at : EntryAt program program.interfaces.main Main (Some callee))
       (begun : Begun callee [] before after f) where
     stands_first : Standing program whole_run after [] f (λ n s. body_acts program n f tt s)
-    stands_first =
-        begins program inputs turns callee _ after f at.0 at.1.0 refl at.1.2
+    stands_first = begins program inputs turns callee _ after f at.0 at.1.0 refl at.1.2
         (subst (λ x. Begun callee [] x after f) at_first begun)
 
     module _ (step : Step) (steps : Steps program after [] f
@@ -61,9 +58,8 @@ module _ (program : ProgramTree) (inputs : List ℕ) (turns events : ℕ) where
       pub over_at_once : (end : RunEnd) → step ≡ Stop end →
           run ≡ stopped_at events (record { trace = started.trace; end = end }) →
           run ≡ meaning program inputs turns events
-      over_at_once end stops is =
-          is ∙ sym (ap (stopped_at events) (subst (λ x. Stands program whole_run x started [] f) stops
-          (steps.stands _ stands_first)))
+      over_at_once end stops is = is ∙ sym (ap (stopped_at events)
+          (subst (λ x. Stands program whole_run x started [] f) stops (steps.stands _ stands_first)))
 
       -- a run that was gone through to its end
       pub gone_through : (now : Now) (trace : List Event) (end : RunEnd) → step ≡ Go now →
