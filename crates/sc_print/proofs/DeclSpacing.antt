@@ -1,29 +1,28 @@
 -- The words of declarations stand apart.
-use Rattle.sc_print.proofs.Common.{BaseTree, Bool, Decl, ExprTree, FunctionTree, GlobalTree, HeadTree, InitTree, IsTrue}
-use Rattle.sc_print.proofs.Common.{List, LocalTree, MemberTree, None, Number, Option, ParamTree, Piece, Some, TypeName}
-use Rattle.sc_print.proofs.Common.{TypeTree, [], and_parts, append-nil, append_assoc, base_words, blank, blank_if}
-use Rattle.sc_print.proofs.Common.{codes, comma, const_words, decl_words, declared_words, ended, false, false≢true}
-use Rattle.sc_print.proofs.Common.{fits, flat_map, function_words, global_words, head_of, head_words, init_words}
-use Rattle.sc_print.proofs.Common.{is_ident, is_kept_decl, is_some, join_by, kept_base, kept_const, kept_function}
-use Rattle.sc_print.proofs.Common.{kept_global, kept_head, kept_init, kept_length, kept_local, kept_member, kept_name}
-use Rattle.sc_print.proofs.Common.{kept_param, kept_result, kept_struct, kept_type, kept_value, leb-true, length_words}
-use Rattle.sc_print.proofs.Common.{line_of, list_all, literal_text, local_line, member_line, minus_words, name_words}
-use Rattle.sc_print.proofs.Common.{nat_le, nat_lt, newline, param_words, params_words, refl, result_words, some_kept}
-use Rattle.sc_print.proofs.Common.{star_words, struct_words, subst, suc, sym, text_of, true, value_words, word, zero, ℕ}
-use Rattle.sc_print.proofs.Common.{◌&&◌, ◌++◌, ◌||◌, ◌∷◌, ◌≡◌}
+use Rattle.sc_print.proofs.Common.{BaseTree, Bool, Decl, ExprTree, FunctionTree, GlobalTree, HeadTree, InitTree}
+use Rattle.sc_print.proofs.Common.{IsTrue, List, LocalTree, MemberTree, None, Number, Option, ParamTree, Piece, Some}
+use Rattle.sc_print.proofs.Common.{TypeName, TypeTree, [], and_parts, append-nil, append_assoc, base_words, blank}
+use Rattle.sc_print.proofs.Common.{blank_if, codes, comma, const_words, decl_words, declared_words, ended, false}
+use Rattle.sc_print.proofs.Common.{false≢true, fits, flat_map, function_words, global_words, head_of, head_words}
+use Rattle.sc_print.proofs.Common.{init_words, is_ident, is_kept_decl, is_some, join_by, kept_base, kept_const}
+use Rattle.sc_print.proofs.Common.{kept_function, kept_global, kept_head, kept_init, kept_length, kept_local}
+use Rattle.sc_print.proofs.Common.{kept_member, kept_name, kept_param, kept_result, kept_struct, kept_type, kept_value}
+use Rattle.sc_print.proofs.Common.{leb-true, length_words, line_of, list_all, literal_text, local_line, member_line}
+use Rattle.sc_print.proofs.Common.{minus_words, name_words, nat_le, nat_lt, newline, param_words, params_words, refl}
+use Rattle.sc_print.proofs.Common.{result_words, some_kept, star_words, struct_words, subst, suc, sym, text_of, true}
+use Rattle.sc_print.proofs.Common.{value_words, word, zero, ℕ, ◌&&◌, ◌++◌, ◌||◌, ◌∷◌, ◌≡◌}
 use Rattle.sc_ast.specs.declared.section.StructTree.{StructTree}
 use Rattle.sc_ast.specs.declared.types.BaseTree.TheVariants as base
 use Rattle.sc_ast.specs.declared.section.InitTree.TheVariants as init
 use Rattle.sc_ast.specs.declared.section.Decl.TheVariants as decl
 use Rattle.sc_lex.specs.declared.token.TokenKind.TheVariants as kind
-use Rattle.sc_print.proofs.Leaves.{name_kind, name_some}
-use Rattle.sc_print.proofs.Literals.{literal_kind, literal_some}
-use Rattle.sc_print.proofs.Apart.{IsWord, Calm, Quiet, quiet, plain_word, prefix_word, signed, minus, asterisk, open_paren}
-use Rattle.sc_print.proofs.Apart.{close_paren, open_square, close_square, semicolon, comma_word, open_curly}
+use Rattle.sc_print.proofs.Literals.{name_kind, name_some, literal_kind, literal_some}
+use Rattle.sc_print.proofs.Apart.{IsWord, Calm, Quiet, quiet, plain_word, prefix_word, signed, minus, asterisk}
+use Rattle.sc_print.proofs.Apart.{open_paren, close_paren, open_square, close_square, semicolon, open_curly}
 use Rattle.sc_print.proofs.Apart.{close_curly, equal_word, keyword_word}
 use Rattle.sc_print.proofs.Spacing.{Tidy, none, gap, next, at_level, line_end, tidy_append, Sound, word_quiet}
 use Rattle.sc_print.proofs.StmtSpacing.{Free, ended_tidy, expr_tidy, joined_tidy, stmts_tidy}
-use Rattle.sc_print.proofs.Decls.{length_fits}
+use Rattle.sc_print.proofs.Sections.{length_fits}
 use Rattle.sc_expr.specs.declared.mark.Keyword.TheVariants as keyword
 
 name_tidy : (name : List ℕ) → IsTrue (is_ident name) → (rest : List ℕ) → Calm rest → IsWord name rest

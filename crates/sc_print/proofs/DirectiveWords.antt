@@ -1,12 +1,12 @@
 -- What directive lines and compartment lines say, by their words.
 use Rattle.sc_print.proofs.Common.{Bool, List, Some, Symbol, TokenKind, [], and_from, and_parts, ap, append_assoc}
 use Rattle.sc_print.proofs.Common.{arith, begins_heading, codes, drop, false, false_from_ne_true, false≢true, filter}
-use Rattle.sc_print.proofs.Common.{get_or, heading_name, import_of, is_blank, is_empty, is_export, is_import}
-use Rattle.sc_print.proofs.Common.{is_inside_line, is_name, is_name_byte, is_nondigit, is_some, kind_of}
-use Rattle.sc_print.proofs.Common.{kind_of-directive, length, line_kind, list_all, list_all-append, name_of, ne_eqb}
-use Rattle.sc_print.proofs.Common.{not, not-true, only_name, option_and_then, or_left, or_unused, refl, says}
-use Rattle.sc_print.proofs.Common.{slice_eq-Decides, slice_index, slice_split, suc, sym, take, take-append_seam, true}
-use Rattle.sc_print.proofs.Common.{word_symbol, words, zero, ℕ, ◌++◌, ◌<◌, ◌==◌, ◌∙◌, ◌∷◌, ◌≡◌}
+use Rattle.sc_print.proofs.Common.{get_or, heading_name, is_blank, is_empty, is_inside_line, is_name, is_name_byte}
+use Rattle.sc_print.proofs.Common.{is_nondigit, is_some, kind_of, kind_of-directive, length, line_kind, list_all}
+use Rattle.sc_print.proofs.Common.{list_all-append, name_of, ne_eqb, not, not-true, only_name, option_and_then}
+use Rattle.sc_print.proofs.Common.{or_left, or_unused, refl, says, slice_eq-Decides, slice_index, slice_split, suc}
+use Rattle.sc_print.proofs.Common.{sym, take, take-append_seam, true, word_symbol, words, zero, ℕ, ◌++◌, ◌<◌, ◌==◌}
+use Rattle.sc_print.proofs.Common.{◌∙◌, ◌∷◌, ◌≡◌}
 use Rattle.std.proofs.lemmas.Bool.Decides.{Decides-eqb}
 use Rattle.std.proofs.lemmas.List.Splits.{slice_split_at, slice_split_none}
 use Rattle.sc_base.proofs.Lists.{list_all_along}
@@ -154,9 +154,8 @@ module _ (comp name : List ℕ) (g : is_name comp ≡ true) (h : is_name name �
 
   import_words : words (import_text comp name) ≡ codes "#pragma" ∷ codes "import" ∷ comp ∷ name ∷ []
   import_words = directive_words (codes "import") (comp ++ codes " " ++ name) refl (omega arith) ∙
-      ap (λ ws. codes "#pragma" ∷ codes "import" ∷ ws)
-      (ap words seam ∙ word_front comp name (name_solid comp g) (named comp g).some ∙
-      ap (λ ws. comp ∷ ws) (name_word name h))
+      ap (λ ws. codes "#pragma" ∷ codes "import" ∷ ws) (ap words seam ∙ word_front comp name (name_solid comp g)
+      (named comp g).some ∙ ap (λ ws. comp ∷ ws) (name_word name h))
 
   import_is : line_kind (import_text comp name) ≡ Some kind.Import
   import_is = import_kind _ comp name (λ e. omega (arith, e)) import_words g h

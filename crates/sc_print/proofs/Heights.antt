@@ -1,7 +1,7 @@
 -- The height of a tree doesn't depend on its lines.
-use Rattle.sc_print.proofs.Common.{Decl, Each, ExprTree, Inside, List, LocalTree, None, Option, SameButLines}
-use Rattle.sc_print.proofs.Common.{SectionTree, SimpleTree, Some, StmtKind, StmtKind-F, StmtTree, [], ap, ap₂}
-use Rattle.sc_print.proofs.Common.{bare_stmt, decl_height, decls_height, everywhere, expr_height, for_height, if_height}
+use Rattle.sc_print.proofs.Common.{Decl, Each, Inside, List, LocalTree, None, Option, SameButLines, SectionTree}
+use Rattle.sc_print.proofs.Common.{SimpleTree, Some, StmtKind, StmtKind-F, StmtTree, [], ap, ap₂, bare_stmt}
+use Rattle.sc_print.proofs.Common.{decl_height, decls_height, everywhere, expr_height, for_height, if_height}
 use Rattle.sc_print.proofs.Common.{kind_height, lineless_decl, lineless_kind, lineless_local, lineless_option}
 use Rattle.sc_print.proofs.Common.{lineless_stmt, lineless_stmts, local_height, locals_height, map, max, option_height}
 use Rattle.sc_print.proofs.Common.{refl, roll-StmtKind, rules, section_height, stmt_height, stmt_induction}
@@ -31,10 +31,9 @@ kind_same (layer.If c t e) h = ap kind_height (bare_if c t e) ∙ if_height c _ 
     ap₂ (λ a b. max (expr_height c) (max a b)) (each_same t h.0) (each_same e h.1) ∙ sym (if_height c t e)
 kind_same (layer.While c b) h = ap kind_height (bare_while c b) ∙ while_height c _ ∙
     ap (λ a. max (expr_height c) a) (each_same b h) ∙ sym (while_height c b)
-kind_same (layer.For f c n b) h =
-    ap kind_height (bare_for f c n b) ∙ for_height _ c _ (lineless_stmts b)
-    ∙ ap₂ (λ x y. max (max x y) (max (expr_height c) (stmts_height (lineless_stmts b)))) (bare_option f) (bare_option n)
-    ∙ ap (λ a. max (max (option_height f) (option_height n)) (max (expr_height c) a)) (each_same b h) ∙
+kind_same (layer.For f c n b) h = ap kind_height (bare_for f c n b) ∙ for_height _ c _ (lineless_stmts b) ∙
+    ap₂ (λ x y. max (max x y) (max (expr_height c) (stmts_height (lineless_stmts b)))) (bare_option f) (bare_option n) ∙
+    ap (λ a. max (max (option_height f) (option_height n)) (max (expr_height c) a)) (each_same b h) ∙
     sym (for_height f c n b)
 kind_same _ h = search (rules, kinds.the_lemmas, trees.the_lemmas)
 
@@ -47,10 +46,8 @@ locals_same [] = refl
 locals_same (l ∷ locals) = ap (λ n. max (local_height l) n) (locals_same locals)
 
 decl_same : (d : Decl) → decl_height (lineless_decl d) ≡ decl_height d
-decl_same (decl.Struct tree) = refl
-decl_same (decl.Global tree) = refl
-decl_same (decl.Proto tree) = refl
 decl_same (decl.Function tree) = ap₂ max (locals_same _) (each_same _ (everywhere Same stmt_same _))
+decl_same _ = refl
 
 decls_same : (ds : List Decl) → decls_height (map lineless_decl ds) ≡ decls_height ds
 decls_same [] = refl

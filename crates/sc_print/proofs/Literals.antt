@@ -1,20 +1,40 @@
--- What integer constants say.
+-- What names and integer constants say.
 use Rattle.sc_print.proofs.Common.{Bool, IsTrue, List, Number, Option, Some, [], and_parts, ap, append-nil, arith}
 use Rattle.sc_print.proofs.Common.{base_of, bytes_eq, bytes_eq-Decides, codes, digit_value, digits_of, false}
 use Rattle.sc_print.proofs.Common.{false_from_ne_true, false≢true, fits, get_or-append_seam, greatest_of, has_suffix}
-use Rattle.sc_print.proofs.Common.{if◌then◌else◌, integer_of, is_between, is_digit, is_empty, is_hexadecimal}
+use Rattle.sc_print.proofs.Common.{if◌then◌else◌, integer_of, is_between, is_digit, is_empty, is_hexadecimal, is_ident}
 use Rattle.sc_print.proofs.Common.{is_integer, is_name, is_name_byte, is_nondigit, is_number, is_reserved, kind_of}
-use Rattle.sc_print.proofs.Common.{le-leb, le-ltb, leb-true, length, length-append, list_all, list_all-append, list_any}
-use Rattle.sc_print.proofs.Common.{literal_text, lt-ltb, nat_le, nat_lt, ne_eqb, not, number, number_of, or_cases, refl}
-use Rattle.sc_print.proofs.Common.{reserved_words, says, slice_index, suc, sym, take-append_seam, true, value_of}
-use Rattle.sc_print.proofs.Common.{subst, without_suffix, word_kind, word_symbol, zero, ℕ, ⊎_elim, ◌%◌, ◌&&◌, ◌*◌, ◌++◌, ◌+◌}
-use Rattle.sc_print.proofs.Common.{◌-◌, ◌/◌, ◌<◌, ◌==◌, ◌^◌, ◌||◌, ◌∙◌, ◌∷◌, ◌≡◌, ◌≤◌}
+use Rattle.sc_print.proofs.Common.{le-leb, le-ltb, leb-true, length, length-append, list_all, list_all-append}
+use Rattle.sc_print.proofs.Common.{list_any, literal_text, lt-ltb, nat_le, nat_lt, ne_eqb, not, not-true, number}
+use Rattle.sc_print.proofs.Common.{number_of, or_cases, refl, reserved_words, says, slice_index, subst, suc, sym}
+use Rattle.sc_print.proofs.Common.{take-append_seam, true, value_of, without_suffix, word_kind, word_symbol, zero, ℕ}
+use Rattle.sc_print.proofs.Common.{⊎_elim, ◌%◌, ◌&&◌, ◌*◌, ◌++◌, ◌+◌, ◌-◌, ◌/◌, ◌<◌, ◌==◌, ◌^◌, ◌||◌, ◌∙◌, ◌∷◌, ◌≡◌}
+use Rattle.sc_print.proofs.Common.{◌≤◌}
+use Rattle.sc_lex.specs.declared.token.TokenKind.TheVariants as kind
+use Rattle.sc_expr.specs.declared.lexeme.Symbol.TheVariants as symbol
 use Rattle.std.specs.Fmt.{decimal}
 use Rattle.std.proofs.lemmas.Fmt.{decimal_by_steps, decimal_digit}
 use Rattle.std.proofs.lemmas.List.Sums.{fold-append}
 use Rattle.sc_lex.specs.declared.integer.IntegerConstant.{IntegerConstant}
-use Rattle.sc_lex.specs.declared.token.TokenKind.TheVariants as kind
-use Rattle.sc_expr.specs.declared.lexeme.Symbol.TheVariants as symbol
+
+pub name_says : (name : List ℕ) → IsTrue (is_ident name) → word_symbol name ≡ symbol.Ident name
+unfolding word_symbol kind_of word_kind says
+name_says name h =
+    let parts = and_parts _ (not _) h in
+    let free = not-true (is_reserved name) parts.1 in
+    simp (free, parts.0) refl
+
+pub name_kind : (name : List ℕ) → IsTrue (is_ident name) → word_kind name ≡ Some kind.Ident
+unfolding word_kind
+name_kind name h =
+    let parts = and_parts _ (not _) h in
+    let free = not-true (is_reserved name) parts.1 in
+    rw (free, parts.0)
+
+pub name_some : (name : List ℕ) → IsTrue (is_ident name) → 0 < length name
+unfolding is_name
+name_some [] h = absurd (false≢true h)
+name_some (b ∷ name) h = omega arith
 
 -- the digits of a number, which begin with 0 only where they are one digit
 record Decimal (n : ℕ) (ds : List ℕ) : Type 0 where
@@ -161,16 +181,14 @@ module _ (n : ℕ) (ds : List ℕ) (positive : 0 < n) (d : Decimal n ds) where
   value_is : (u : Bool) → value_of (ds ++ suffix u) ≡ n
   value_is u = rw (body_is u, base_is, digits_are) d.value
 
-  constant_is : (u : Bool) → Fitting n u →
-      integer_of (ds ++ suffix u) ≡ Some (record { value = n; unsigned = u })
+  constant_is : (u : Bool) → Fitting n u → integer_of (ds ++ suffix u) ≡ Some (record { value = n; unsigned = u })
   unfolding integer_of
   constant_is u h =
       let e = ap (λ x. x || nat_lt 2147483647 (value_of (ds ++ suffix u)))
       (suffix_is u) ∙ ap (λ x. u || nat_lt 2147483647 x) (value_is u) ∙ not_unsigned u h in
       rw (is_constant u h) (made _ _ _ _ (value_is u) e)
 
-  number_is : (u : Bool) → Fitting n u →
-      number_of n u ≡ Some (record { value = n; unsigned = u })
+  number_is : (u : Bool) → Fitting n u → number_of n u ≡ Some (record { value = n; unsigned = u })
   number_is true h = refl
   number_is false h = let e = in_range false h in rw e
 

@@ -3,20 +3,19 @@ use Rattle.sc_print.proofs.Common.{BinaryOp, Bool, ExprTree, ExprTree-F, IsTrue,
 use Rattle.sc_print.proofs.Common.{UnaryOp, Under, [], and_parts, ap, append-nil, append_assoc, arith, binary_text}
 use Rattle.sc_print.proofs.Common.{binary_words, blank, bytes_eq, codes, expr_at, expr_induction, expr_step, false}
 use Rattle.sc_print.proofs.Common.{false≢true, flat_map-append, if◌then◌else◌, in_parens, indent, is_doubled, is_ident}
-use Rattle.sc_print.proofs.Common.{is_kept, is_name_byte, kept_step, length, literal_text, lt-ltb, map-ExprTree, nat_lt}
-use Rattle.sc_print.proofs.Common.{ne_eqb, newline, prefix_words, refl, slice_index, subst, sym, text_of, true}
-use Rattle.sc_print.proofs.Common.{unary_text, word, word_kind, word_run, words_at, ℕ, ◌&&◌, ◌++◌, ◌-◌, ◌<◌, ◌==◌, ◌∙◌}
-use Rattle.sc_print.proofs.Common.{◌∷◌, ◌≡◌, ◌≤◌}
+use Rattle.sc_print.proofs.Common.{is_kept, is_name_byte, kept_step, length, lt-ltb, map-ExprTree, nat_lt, ne_eqb}
+use Rattle.sc_print.proofs.Common.{newline, prefix_words, refl, slice_index, subst, sym, text_of, true, unary_text}
+use Rattle.sc_print.proofs.Common.{word, word_kind, word_run, words_at, ℕ, ◌&&◌, ◌++◌, ◌-◌, ◌<◌, ◌==◌, ◌∙◌, ◌∷◌, ◌≡◌}
+use Rattle.sc_print.proofs.Common.{◌≤◌}
 use Rattle.sc_base.specs.Levels as levels
 use Rattle.sc_base.specs.declared.op.UnaryOp.TheVariants as unary
 use Rattle.sc_ast.specs.declared.expr.ExprTree.TheOpen as term
 use Rattle.sc_lex.specs.declared.token.TokenKind.TheVariants as kind
 use Rattle.sc_print.proofs.Tables.{at_least_2}
-use Rattle.sc_print.proofs.Leaves.{name_kind, name_some}
-use Rattle.sc_print.proofs.Literals.{literal_kind, literal_some}
+use Rattle.sc_print.proofs.Literals.{name_kind, name_some, literal_kind, literal_some}
 use Rattle.sc_print.proofs.Apart.{IsWord, Calm, starts, plain_word, open_paren, close_paren, open_square, close_square}
-use Rattle.sc_print.proofs.Apart.{dot, arrow, binary_word, is_loud, Quiet, IsSign, plus, minus, ampersand, Opens, quiet, IsPrefix, signed, bang, asterisk, tilde, prefix_word}
-use Rattle.sc_print.proofs.Apart.{sign}
+use Rattle.sc_print.proofs.Apart.{dot, arrow, binary_word, is_loud, Quiet, IsSign, plus, minus, ampersand, Opens}
+use Rattle.sc_print.proofs.Apart.{quiet, IsPrefix, signed, bang, asterisk, tilde, prefix_word, sign}
 
 -- Each word among the pieces is the token at its place, where this stands behind the pieces.
 pub data Tidy : List Piece → List ℕ → Type 0 where
@@ -36,9 +35,8 @@ go_on b rest none e d = d
 go_on b rest (gap t) e d = gap (go_on b rest t e d)
 go_on b rest (at_level levels t) e d = at_level levels (go_on b rest t e d)
 go_on b rest (line_end t) e d = line_end (go_on b rest t e d)
-go_on b rest (next {text = text} {pieces = pieces} {rest = r} w t) e d =
-    next (subst (λ x. IsWord text x) (ap (λ x. text_of pieces ++ x) e ∙ sym (behind pieces b rest)) w)
-    (go_on b rest t e d)
+go_on b rest (next {text = text} {pieces = pieces} {rest = r} w t) e d = next
+    (subst (λ x. IsWord text x) (ap (λ x. text_of pieces ++ x) e ∙ sym (behind pieces b rest)) w) (go_on b rest t e d)
 
 pub tidy_append : (a b : List Piece) (rest : List ℕ) → Tidy a (text_of b ++ rest) → Tidy b rest → Tidy (a ++ b) rest
 tidy_append a b rest t d = go_on b rest t refl d

@@ -1,21 +1,18 @@
 -- The words of statements stand apart.
-use Rattle.sc_print.proofs.Common.{Bool, CallTree, Each, ExprTree, Inside, IsTrue, Layout, List, None, Option, Piece}
-use Rattle.sc_print.proofs.Common.{SimpleKind, SimpleTree, Some, StmtKind, StmtKind-F, StmtTree, [], all_kept}
-use Rattle.sc_print.proofs.Common.{and_parts, append-nil, are_kept, blank, block_words, call_words, chain_words, codes}
-use Rattle.sc_print.proofs.Common.{comma, condition_words, deeper, else_words, ended, equals, expr_words, false}
-use Rattle.sc_print.proofs.Common.{first_words, for_words, if◌then◌else◌, indent, is_chain, is_ident, is_kept}
-use Rattle.sc_print.proofs.Common.{is_kept_stmt, join_by, kept_call, kept_kind, kept_option, kept_place, kept_simple}
-use Rattle.sc_print.proofs.Common.{kind_layout, layouts, length, line_of, lines_at, list_all, map, map-StmtKind}
-use Rattle.sc_print.proofs.Common.{newline, next_words, place_words, refl, return_words, roll-StmtKind, simple_words}
-use Rattle.sc_print.proofs.Common.{stmt_at, stmt_induction, stmt_layout, subst, sym, true, word, ℕ, ◌++◌, ◌==◌, ◌∷◌}
-use Rattle.sc_print.proofs.Common.{◌≡◌}
-use Rattle.sc_ast.specs.StmtWords as printing
+use Rattle.sc_print.proofs.Common.{Bool, CallTree, Each, ExprTree, IsTrue, Layout, List, None, Option, Piece}
+use Rattle.sc_print.proofs.Common.{SimpleKind, SimpleTree, Some, StmtKind, StmtTree, [], all_kept, and_parts}
+use Rattle.sc_print.proofs.Common.{append-nil, are_kept, blank, block_words, call_words, chain_words, codes, comma}
+use Rattle.sc_print.proofs.Common.{condition_words, deeper, else_words, ended, equals, expr_words, false, first_words}
+use Rattle.sc_print.proofs.Common.{for_words, if◌then◌else◌, indent, is_chain, is_ident, is_kept, is_kept_stmt}
+use Rattle.sc_print.proofs.Common.{join_by, kept_call, kept_option, kept_place, kept_simple, layouts, length, line_of}
+use Rattle.sc_print.proofs.Common.{lines_at, list_all, map, newline, next_words, place_words, refl, return_words}
+use Rattle.sc_print.proofs.Common.{simple_words, stmt_layout, subst, sym, true, word, ℕ, ◌++◌, ◌==◌, ◌∷◌, ◌≡◌}
 use Rattle.sc_ast.specs.declared.stmt.SimpleKind.TheVariants as simple
 use Rattle.sc_ast.specs.declared.stmt.StmtKind.TheOpen as layer
 use Rattle.sc_lex.specs.declared.token.TokenKind.TheVariants as kind
 use Rattle.sc_print.specs.KeptStmts as kept
 use Rattle.sc_print.proofs.Each.{all_at, kept_each, each_kept, Of, Forms, by_forms}
-use Rattle.sc_print.proofs.Leaves.{name_kind, name_some}
+use Rattle.sc_print.proofs.Literals.{name_kind, name_some}
 use Rattle.sc_print.proofs.Apart.{IsWord, Calm, plain_word, open_paren, close_paren, semicolon, comma_word, open_curly}
 use Rattle.sc_print.proofs.Apart.{close_curly, equal_word, keyword_word}
 use Rattle.sc_print.proofs.Spacing.{Tidy, none, gap, next, at_level, line_end, tidy_append, Sound, tidy_at}
@@ -117,9 +114,8 @@ block_tidy depth stmts each rest = next (open_curly _)
 
 chain_tidy : (depth : ℕ) (stmts : List StmtTree) → Each (Of Apart) stmts → Free (chain_words depth (layouts stmts))
 chain_tidy depth [] each rest = none
-chain_tidy depth (s ∷ stmts) each rest =
-    tidy_append ((stmt_layout s).words depth) (chain_words depth (layouts stmts)) rest (each.0 depth _)
-    (chain_tidy depth stmts each.1 rest)
+chain_tidy depth (s ∷ stmts) each rest = tidy_append ((stmt_layout s).words depth) (chain_words depth (layouts stmts))
+    rest (each.0 depth _) (chain_tidy depth stmts each.1 rest)
 
 choice_tidy : (wanted : Bool) (a b : List Piece) → Free a → Free b → Free (if wanted then a else b)
 choice_tidy true a b s t = s

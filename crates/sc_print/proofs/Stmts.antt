@@ -1,34 +1,79 @@
 -- The words of statements spell them, lines aside.
-use Rattle.sc_print.proofs.Common.{Bool, Each, ExprTree, Inside, IsKeyword, IsMark, IsTrue, Keyword, Layout, Lexeme}
-use Rattle.sc_print.proofs.Common.{List, None, Option, Piece, SimpleKind, SimpleTree, Some, SpellsBlock}
-use Rattle.sc_print.proofs.Common.{SpellsCondition, SpellsIf, SpellsPart, SpellsStmtKind, SpellsStmts, StmtKind}
-use Rattle.sc_print.proofs.Common.{StmtKind-F, StmtTree, StmtsSpell, [], all_kept, and_parts, ap, append-nil}
-use Rattle.sc_print.proofs.Common.{append_assoc, ap₂, are_kept, arith, bare_stmt, behind_else, blank, block_words}
-use Rattle.sc_print.proofs.Common.{call_words, chain_words, codes, condition_words, deeper, else_words, ended, eqb-true}
-use Rattle.sc_print.proofs.Common.{expr_words, false, false≢true, first_line, first_words, for_words, if_words}
-use Rattle.sc_print.proofs.Common.{if◌then◌else◌, indent, is_chain, is_kept, is_kept_stmt, kept_kind, kept_option}
-use Rattle.sc_print.proofs.Common.{kept_simple, kind_layout, layouts, length, line_of, lineless_kind, lineless_option}
-use Rattle.sc_print.proofs.Common.{lineless_stmt, lineless_stmts, lines_at, list_all, map, map-StmtKind, ne_eqb}
-use Rattle.sc_print.proofs.Common.{newline, next_words, refl, return_words, roll-StmtKind, rules, simple_words, stmt_at}
-use Rattle.sc_print.proofs.Common.{stmt_induction, stmt_layout, subst, sym, symbols, true, word, word_symbol, ℕ, ◌&&◌}
-use Rattle.sc_print.proofs.Common.{◌++◌, ◌==◌, ◌∙◌, ◌∷◌, ◌≡◌}
-use Rattle.sc_ast.specs.Prelude.{kind_of}
-use Rattle.sc_ast.specs.StmtWords as printing
+use Rattle.sc_print.proofs.Common.{Bool, CallTree, Each, ExprTree, IsKeyword, IsMark, IsTrue, Keyword, Layout, Lexeme}
+use Rattle.sc_print.proofs.Common.{List, None, Option, Piece, SimpleKind, SimpleTree, Some, Spells, SpellsArgs}
+use Rattle.sc_print.proofs.Common.{SpellsBlock, SpellsCall, SpellsCondition, SpellsIf, SpellsKind, SpellsPart}
+use Rattle.sc_print.proofs.Common.{SpellsPlace, SpellsStmtKind, SpellsStmts, StmtKind, StmtTree, StmtsSpell, []}
+use Rattle.sc_print.proofs.Common.{all_kept, and_parts, ap, append-nil, append_assoc, ap₂, are_kept, arith, bare_stmt}
+use Rattle.sc_print.proofs.Common.{behind_else, blank, block_words, call_words, chain_words, codes, comma}
+use Rattle.sc_print.proofs.Common.{condition_words, deeper, else_words, ended, eqb-true, equals, expr_words, false}
+use Rattle.sc_print.proofs.Common.{false≢true, first_line, first_words, for_words, if_words, if◌then◌else◌, indent}
+use Rattle.sc_print.proofs.Common.{is_chain, is_ident, is_kept, is_kept_stmt, join_by, kept_call, kept_option}
+use Rattle.sc_print.proofs.Common.{kept_place, kept_simple, layouts, length, line_of, lineless_kind, lineless_option}
+use Rattle.sc_print.proofs.Common.{lineless_stmt, lineless_stmts, lines_at, list_all, loosest_level, map, ne_eqb}
+use Rattle.sc_print.proofs.Common.{newline, next_words, no_args, place_words, refl, return_words, roll-StmtKind}
+use Rattle.sc_print.proofs.Common.{simple_words, some_args, stmt_layout, subst, sym, symbols, true, word, word_symbol}
+use Rattle.sc_print.proofs.Common.{ℕ, ◌&&◌, ◌++◌, ◌==◌, ◌∙◌, ◌∷◌, ◌≡◌}
 use Rattle.sc_ast.specs.declared.stmt.SimpleKind.TheVariants as simple
-use Rattle.sc_ast.specs.declared.stmt.StmtTree as trees
-use Rattle.sc_ast.specs.declared.stmt.StmtKind as kinds
+use Rattle.sc_expr.specs.declared.mark.Mark.TheVariants as mark
+use Rattle.sc_parse.specs.Statements as spell
+use Rattle.sc_print.proofs.Tables as tables
+use Rattle.sc_print.proofs.Reading.{Say, Reading, fixed, part, written, reads, separated, line_symbols}
+use Rattle.sc_print.proofs.Literals.{name_says}
+use Rattle.sc_print.proofs.Spelling.{spelled_at}
+use Rattle.sc_ast.specs.Prelude.{kind_of}
 use Rattle.sc_ast.specs.declared.stmt.StmtKind.TheOpen as layer
 use Rattle.sc_ast.specs.declared.stmt.StmtKind.TheVariants as stmt
-use Rattle.sc_parse.specs.Statements as spell
-use Rattle.sc_print.specs.KeptStmts as kept
-use Rattle.sc_print.proofs.Each.{all_at, kept_each, each_kept, Kept, Of, Forms, by_forms, bare_if, bare_while, bare_for}
+use Rattle.sc_print.proofs.Each.{all_at, kept_each, each_kept, Kept, Of, Forms, by_forms, bare_if, bare_while}
+use Rattle.sc_print.proofs.Each.{bare_for}
 use Rattle.sc_ast.proofs.Induction.{everywhere as everywhere_holds}
-use Rattle.sc_print.proofs.Tables as tables
 use Rattle.sc_expr.specs.declared.mark.Keyword.TheVariants as keyword
-use Rattle.sc_expr.specs.declared.mark.Mark.TheVariants as mark
-use Rattle.sc_print.proofs.Lists.{Say}
-use Rattle.sc_print.proofs.Reading.{Reading, fixed, part, written, reads, line_symbols}
-use Rattle.sc_print.proofs.Simple.{expr_reads, call_reads, simple_reads, in_brackets, condition_reads}
+
+pub expr_reads : (e : ExprTree) → IsTrue (is_kept e) → Reading (expr_words e) (λ ts. Spells loosest_level ts e)
+expr_reads e k ts h = spelled_at e k [] 11 ts h
+
+args_read : (args : List ExprTree) → list_all is_kept args ≡ true →
+    Reading (join_by expr_words comma args) (λ ts. SpellsArgs ts args)
+args_read [] all ts h = reads [] (λ us. SpellsArgs us []) no_args ts h
+args_read (e ∷ es) all ts h =
+    let parts = and_parts (is_kept e) _ all in
+    some_args (separated expr_words is_kept _ expr_reads e es parts.0 parts.1 ts h)
+
+pub call_reads : (c : CallTree) → IsTrue (kept_call c) → Reading (call_words c) (λ ts. SpellsCall ts c)
+call_reads c k =
+    let parts = and_parts (is_ident c.name) (list_all is_kept c.args) k in
+    reads (written c.name ∷ written (codes "(") ∷ part (join_by _ comma c.args) ∷ written (codes ")") ∷ []) _
+    (λ t is u opens args said v closes. spell.call t u v c.name (is ∙ name_says c.name parts.0)
+    (opens ∙ tables.open_paren) (closes ∙ tables.close_paren) (args_read c.args parts.1 args said))
+
+-- a place, and behind `=` what is assigned
+assigned : (place : ExprTree) (value : List Piece) (P : List Lexeme → Type 0) → IsTrue (kept_place place) →
+    ((ts : List Lexeme) (t : Lexeme) (us : List Lexeme) → SpellsPlace ts place → IsMark mark.Equal t →
+    Say (symbols value) us → P (ts ++ t ∷ us)) → Reading (place_words place ++ (equals ++ value)) P
+assigned place value P k take =
+    let parts = and_parts _ (is_kept place) k in
+    reads (part (place_words place) ∷ fixed blank ∷ written (codes "=") ∷ fixed blank ∷ part value ∷ []) P
+    (λ ts said t is us behind. take ts t us (spelled_at place parts.1 [] 1 ts said, parts.0) (is ∙ tables.equal) behind)
+
+pub simple_reads : (k : SimpleKind) → IsTrue (kept_simple k) → Reading (simple_words k) (λ ts. SpellsKind ts k)
+simple_reads (simple.Assign place value) k ts h =
+    let parts = and_parts _ _ k in
+    assigned place _ (λ ts. SpellsKind ts (simple.Assign place value)) parts.0
+    (λ us t vs at is said. spell.assign t is at (expr_reads value parts.1 vs said)) ts h
+simple_reads (simple.AssignCall place call) k ts h =
+    let parts = and_parts _ _ k in
+    assigned place _ (λ ts. SpellsKind ts (simple.AssignCall place call)) parts.0
+    (λ us t vs at is said. spell.assign_call t is at (call_reads call parts.1 vs said)) ts h
+simple_reads (simple.Call call) k ts h = spell.call (call_reads call k ts h)
+
+-- a condition in its parentheses, and a blank
+abbrev pub in_brackets : ExprTree → List Piece
+in_brackets cond = word (codes "(") ∷ (expr_words cond ++ word (codes ")") ∷ blank ∷ [])
+
+pub condition_reads : (cond : ExprTree) → IsTrue (is_kept cond) →
+    Reading (in_brackets cond) (λ ts. SpellsCondition ts cond)
+condition_reads cond k = reads (written (codes "(") ∷ part (expr_words cond) ∷ written (codes ")") ∷ fixed blank ∷ []) _
+    (λ t opens ts said u closes. spell.condition t u (opens ∙ tables.open_paren) (closes ∙ tables.close_paren)
+    (expr_reads cond k ts said))
 
 -- The lexemes spell a statement, which is an `if` where that is told, and which is this one, lines aside.
 pub record Spelled (ts : List Lexeme) (is_if : Bool) (k : StmtKind) : Type 0 where
@@ -109,11 +154,10 @@ chain_reads depth s (x ∷ xs) each q u is vs h =
 else_reads : (depth : ℕ) (stmts : List StmtTree) → Each (Of Reads) stmts →
     Reading (else_words depth (layouts stmts)) (λ ts. Else stmts ts)
 else_reads depth [] each ts h = reads [] (λ us. Else [] us) (no_else refl) ts h
-else_reads depth (s ∷ stmts) each ts h =
-    reads (written _ ∷ part (behind_else depth (layouts (s ∷ stmts))) ∷ []) (λ us. Else (s ∷ stmts) us)
-    (λ u is vs said. go u is _ refl vs said) ts
-    (h ∙ ap (λ b. symbols (if b then [] else (blank ∷ word (codes "else") ∷ blank ∷
-    behind_else depth (layouts (s ∷ stmts))))) some)
+else_reads depth (s ∷ stmts) each ts h = reads (written _ ∷ part (behind_else depth (layouts (s ∷ stmts))) ∷ [])
+    (λ us. Else (s ∷ stmts) us) (λ u is vs said. go u is _ refl vs said) ts (h ∙ ap
+    (λ b. symbols (if b then [] else (blank ∷ word (codes "else") ∷ blank ∷ behind_else depth (layouts (s ∷ stmts)))))
+    some)
   where
     some : (length (layouts (s ∷ stmts)) == 0) ≡ false
     some = ne_eqb _ 0 (λ e. omega (arith, e))
@@ -130,12 +174,10 @@ chosen k kind i e = record { kind = kind; spelled = spell.choice i; chained = λ
 
 if_reads : (c : ExprTree) (t e : List StmtTree) → IsTrue (is_kept c) → Each (Of Reads) t → Each (Of Reads) e →
     (depth : ℕ) → Reading (if_words c (layouts t) (layouts e) depth) (λ ts. Spelled ts true (stmt.If c t e))
-if_reads c t e kept_c at_t at_e depth =
-    reads (written (codes "if") ∷ part (in_brackets c) ∷ part (block_words depth (layouts t)) ∷
-    part (else_words depth (layouts e)) ∷ []) (λ ts. Spelled ts true (stmt.If c t e))
+if_reads c t e kept_c at_t at_e depth = reads (written (codes "if") ∷ part (in_brackets c) ∷ part
+    (block_words depth (layouts t)) ∷ part (else_words depth (layouts e)) ∷ []) (λ ts. Spelled ts true (stmt.If c t e))
     (λ first is ts cond us block vs more. go first (is ∙ tables.keyword_says keyword.If) ts us
-    (condition_reads c kept_c ts cond)
-    (block_reads depth t at_t us block) (else_reads depth e at_e vs more))
+    (condition_reads c kept_c ts cond) (block_reads depth t at_t us block) (else_reads depth e at_e vs more))
   where
     same_as : (thens others : List StmtTree) → lineless_stmts thens ≡ lineless_stmts t →
         lineless_stmts others ≡ lineless_stmts e →
@@ -144,23 +186,20 @@ if_reads c t e kept_c at_t at_e depth =
 
     go : (first : Lexeme) → IsKeyword keyword.If first → (ts us : List Lexeme) → SpellsCondition ts c → Block us t →
         {vs : List Lexeme} → Else e vs → Spelled (first ∷ (ts ++ (us ++ vs))) true (stmt.If c t e)
-    go first is ts us cond b (no_else r) =
-        chosen (stmt.If c t e) (stmt.If c b.others [])
-        (subst (λ ws. SpellsIf (first ∷ (ts ++ ws)) (stmt.If c b.others [])) (sym (append-nil us))
+    go first is ts us cond b (no_else r) = chosen (stmt.If c t e) (stmt.If c b.others []) (subst
+        (λ ws. SpellsIf (first ∷ (ts ++ ws)) (stmt.If c b.others [])) (sym (append-nil us))
         (spell.alone first is cond b.spelled)) (same_as b.others [] b.same r)
     go first is ts us cond b (else_if u {vs = vs} kind said i r) =
         let others : List StmtTree = record { line = first_line vs; kind = kind } ∷ [] in
         chosen (stmt.If c t e) (stmt.If c b.others others)
         (spell.otherwise_if first u is (said ∙ tables.keyword_says keyword.Else) cond b.spelled i)
         (same_as b.others others b.same r)
-    go first is ts us cond b (else_block u said d) =
-        chosen (stmt.If c t e) (stmt.If c b.others d.others)
+    go first is ts us cond b (else_block u said d) = chosen (stmt.If c t e) (stmt.If c b.others d.others)
         (spell.otherwise first u is (said ∙ tables.keyword_says keyword.Else) cond b.spelled d.spelled)
         (same_as b.others d.others b.same d.same)
 
-while_reads : (c : ExprTree) (b : List StmtTree) → IsTrue (is_kept c) → Each (Of Reads) b → (depth : ℕ) →
-    Reading (condition_words (codes "while") c ++ block_words depth (layouts b))
-    (λ ts. Spelled ts false (stmt.While c b))
+while_reads : (c : ExprTree) (b : List StmtTree) → IsTrue (is_kept c) → Each (Of Reads) b → (depth : ℕ) → Reading
+    (condition_words (codes "while") c ++ block_words depth (layouts b)) (λ ts. Spelled ts false (stmt.While c b))
 while_reads c b kept_c at_b depth =
     reads (written _ ∷ part (in_brackets c) ∷ part (block_words depth _) ∷ []) _ (λ t is ts cond us block.
     let body = block_reads depth b at_b us block in
@@ -177,24 +216,21 @@ simply k d = record { kind = k; spelled = d; chained = λ q. absurd (false≢tru
 
 plain_reads : (k : SimpleKind) → IsTrue (kept_simple k) →
     Reading (ended (simple_words k)) (λ ts. SpellsStmtKind ts (kind_of k))
-plain_reads k kept_k =
-    reads (part (simple_words k) ∷ written (codes ";") ∷ []) _
+plain_reads k kept_k = reads (part (simple_words k) ∷ written (codes ";") ∷ []) _
     (λ ts said t ends. spell.plain t (ends ∙ tables.semicolon) (simple_reads k kept_k ts said))
 
 -- one reserved word and `;`
 two_words : (w : Keyword) (k : StmtKind) →
     ((t u : Lexeme) → IsKeyword w t → IsMark mark.Semicolon u → SpellsStmtKind (t ∷ u ∷ []) k) →
     Reading (ended (word (tables.keyword_text w) ∷ [])) (λ ts. Spelled ts false k)
-two_words w k spells =
-    reads (written _ ∷ written _ ∷ []) _
+two_words w k spells = reads (written _ ∷ written _ ∷ []) _
     (λ t is u ends. simply k (spells t u (is ∙ tables.keyword_says w) (ends ∙ tables.semicolon)))
 
 -- `return`, what is returned, and `;`
 returned : (value : List Piece) (k : StmtKind) → ((t : Lexeme) (ts : List Lexeme) (u : Lexeme) →
     IsKeyword keyword.Return t → IsMark mark.Semicolon u → Say (symbols value) ts →
     SpellsStmtKind (t ∷ (ts ++ u ∷ [])) k) → Reading (return_words value) (λ ts. Spelled ts false k)
-returned value k spells =
-    reads (written _ ∷ part value ∷ written _ ∷ []) _
+returned value k spells = reads (written _ ∷ part value ∷ written _ ∷ []) _
     (λ t is ts said u ends. simply k (spells t ts u (is ∙ tables.keyword_says _) (ends ∙ tables.semicolon) said))
 
 -- a part of a `for`
@@ -235,8 +271,7 @@ for_with f c n b turn kept_f kept_c read_turn at_b kept_b depth =
     record {
       kind = stmt.For first.other c next.other body.others;
       spelled = spell.for_loop t u v w x (is ∙ tables.keyword_says keyword.For) (opens ∙ tables.open_paren)
-          (ends ∙ tables.semicolon)
-          (ends_too ∙ tables.semicolon) (closes ∙ tables.close_paren) first.spelled
+          (ends ∙ tables.semicolon) (ends_too ∙ tables.semicolon) (closes ∙ tables.close_paren) first.spelled
           (spell.a_test (expr_reads c kept_c bs test)) next.spelled body.spelled;
       chained = λ q. absurd (false≢true q);
       same = bare_for first.other c next.other body.others ∙
@@ -252,8 +287,7 @@ for_reads f c n b kept_f kept_c kept_n at_b kept_b depth ts h =
     let block : List Piece = block_words depth (layouts b) in
     let closing = word (codes ")") ∷ blank ∷ [] in
     let turn : List Piece = word (codes ";") ∷ (next_words n ++ closing) in
-    let joined =
-    append_assoc (first_words f) (word (codes ";") ∷ blank ∷ (expr_words c ++ turn)) block ∙
+    let joined = append_assoc (first_words f) (word (codes ";") ∷ blank ∷ (expr_words c ++ turn)) block ∙
     ap (λ x. first_words f ++ word (codes ";") ∷ blank ∷ x) (append_assoc _ turn block ∙
     ap (λ x. expr_words c ++ word (codes ";") ∷ x) (append_assoc (next_words n) closing block)) in
     for_with f c n b (next_words n) kept_f kept_c (λ us said. part_reads n kept_n us (said ∙ next_symbols n)) at_b
@@ -283,11 +317,9 @@ form (layer.For first cond next body) inside k depth ts h =
 form layer.Break inside k depth ts h = two_words _ _ spell.«break» ts h
 form layer.Continue inside k depth ts h = two_words _ _ spell.«continue» ts h
 form layer.Return inside k depth ts h = two_words keyword.Return _ spell.return_nothing ts h
-form (layer.ReturnValue value) inside k depth ts h =
-    returned (expr_words value) _
+form (layer.ReturnValue value) inside k depth ts h = returned (expr_words value) _
     (λ t us u is ends said. spell.return_value t u is ends (expr_reads value k us said)) ts h
-form (layer.ReturnCall call) inside k depth ts h =
-    returned (call_words call) _
+form (layer.ReturnCall call) inside k depth ts h = returned (call_words call) _
     (λ t us u is ends said. spell.return_call t u is ends (call_reads call k us said)) ts h
 
 pub stmt_holds : (s : StmtTree) → Holds s

@@ -7,7 +7,7 @@ use Rattle.sc_print.proofs.Spelling.{words_spell}
 use Rattle.sc_print.proofs.Spacing.{tidy_at}
 use Rattle.sc_print.proofs.Sections.{decls_read}
 use Rattle.sc_print.proofs.DeclSpacing.{decls_tidy}
-use Rattle.sc_print.proofs.Cut.{cut_of}
+use Rattle.sc_print.proofs.Lined.{cut_of}
 use Rattle.sc_print.proofs.Stmts.{stmts_spell}
 use Rattle.sc_print.proofs.StmtSpacing.{stmts_tidy}
 use Rattle.sc_print.proofs.Whole.{section_reads, section_cut}
