@@ -3,23 +3,22 @@ use Rattle.sc_core.specs.declared.stmt.TypedSimpleKind.{TypedSimpleKind}
 use Rattle.sc_run.proofs.Common.{Acts, Body as Body', Bool, Bor, CameTo, Comes, Doing, Exit, Frame, Go, Left, List}
 use Rattle.sc_run.proofs.Common.{Loop, Memory, Next, None, Ok, Option, Passes, PassesIf, Piece, ProgramTree, Reached}
 use Rattle.sc_run.proofs.Common.{Return, Route, Run as Run', RunEnd, Seen, Some, SourceRun, Standing, State, Step}
-use Rattle.sc_run.proofs.Common.{Steps, Stop, Stopped, TypedExpr, TypedSimple, TypedStmt, Value, Work, [], and_then, ap}
-use Rattle.sc_run.proofs.Common.{arith, assign, block_acts, c_arith, calls_in, choose, drop, drop-step, drop_all}
+use Rattle.sc_run.proofs.Common.{Steps, Stop, Stopped, TypedExpr, TypedSimple, TypedStmt, Value, Work, [], and_then}
+use Rattle.sc_run.proofs.Common.{ap, arith, assign, block_acts, c_arith, calls_in, choose, drop, drop-step, drop_all}
 use Rattle.sc_run.proofs.Common.{ended_so, evaluated, false, follow, get_or, here_of, if◌then◌else◌, in_body, in_loop}
-use Rattle.sc_run.proofs.Common.{in_order, in_round, is_true, leave, left_at, length, length-drop, loop_acts, next_acts}
-use Rattle.sc_run.proofs.Common.{option_copied, part_acts, refl, resume, reverse, roll-TypedStmtKind, seen_of}
-use Rattle.sc_run.proofs.Common.{simple_does, stmt_acts, store_at, stored, subst, suc, sym, take, take_all, true, turn}
-use Rattle.sc_run.proofs.Common.{way_in, with_exit, ℕ, ◌++◌, ◌+◌, ◌-◌, ◌<◌, ◌==◌, ◌∙◌, ◌∷◌, ◌≡◌, ◌≤◌}
+use Rattle.sc_run.proofs.Common.{in_order, in_round, is_true, leave, left_at, length, length-drop, loop_acts}
+use Rattle.sc_run.proofs.Common.{next_acts, option_copied, part_acts, refl, resume, reverse, roll-TypedStmtKind}
+use Rattle.sc_run.proofs.Common.{seen_of, simple_does, stmt_acts, store_at, stored, subst, suc, sym, take, take_all}
+use Rattle.sc_run.proofs.Common.{true, turn, way_in, with_exit, ℕ, ◌++◌, ◌+◌, ◌-◌, ◌<◌, ◌==◌, ◌∙◌, ◌∷◌, ◌≡◌, ◌≤◌}
 use Rattle.sc_run.specs.declared.work.Position.{Position}
 use Rattle.sc_core.specs.declared.stmt.TypedStmtKind.TheOpen as layer
 use Rattle.sc_core.specs.declared.stmt.TypedSimpleKind.TheVariants as simple
 use Rattle.sc_core.specs.declared.value.Want.TheVariants as want
 use Rattle.sc_value.specs.Assigning.{AssignedIf, Holding}
 use Rattle.sc_run.proofs.Coming.{computed_comes, stored_ok, then_goes, turn_comes, with_memory}
-use Rattle.sc_run.proofs.Looping.{cond_evaluated, round_is, steps_as, steps_later, steps_wait, tested}
-use Rattle.sc_run.proofs.Standing.{Follows}
+use Rattle.sc_run.proofs.Looping.{cond_evaluated, round_is, steps_as, steps_later, steps_wait, tested, Follows}
 use Rattle.sc_run.proofs.Stating.{alone, first_and_rest, stmt_is}
-use Rattle.sc_run.proofs.Unseen.{way_same}
+use Rattle.sc_run.proofs.Blank.{way_same}
 
 at_most : (a b c : ℕ) → b ≤ a → c ≤ b → c ≤ a
 at_most a b c x y = omega (arith, x, y)

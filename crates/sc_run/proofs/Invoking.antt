@@ -1,23 +1,21 @@
 -- Calls in statements: refused, looked up, and of the environment.
-use Rattle.sc_run.proofs.Common.{Doing}
-use Rattle.sc_run.proofs.Common.{BadType, Blamed, Bool, Bor, Call, Callee, Comes, Cross, EntryAt, Err, Export, FoundAt}
-use Rattle.sc_run.proofs.Common.{Frame, Function, In, Input, Left, List, None, Null, Ok, Option, Out, Output, Own}
-use Rattle.sc_run.proofs.Common.{Piece, Place, ProgramTree, Ptr, Reached, Result, RunEnd, Seen, Some, State, Step}
-use Rattle.sc_run.proofs.Common.{Steps, Stop, Stopped, To, TypedExpr, Value, Word, Work, [], and_then, ap, arith}
-use Rattle.sc_run.proofs.Common.{assign_call, back_cross, back_from, back_own, bodies, c_arith, call, called, calls_in}
-use Rattle.sc_run.proofs.Common.{computed, crossed, drop, entry_from, entry_in, false, false≢true, first_word, found}
-use Rattle.sc_run.proofs.Common.{function, here_of, if◌then◌else◌, is_some, is_word, leads, length, library, map}
-use Rattle.sc_run.proofs.Common.{may_call, next_input, read_input, refl, result_goes, run_in, seen_of, simple_does}
-use Rattle.sc_run.proofs.Common.{store_result, subst, sym, tell, then_then, true, true≢false, turn, values, way_in}
-use Rattle.sc_run.proofs.Common.{word_in, ℕ, ◌&&◌, ◌++◌, ◌∙◌, ◌∷◌, ◌≡◌}
+use Rattle.sc_run.proofs.Common.{BadType, Blamed, Bool, Bor, Call, Callee, Comes, Cross, Doing, EntryAt, Err, Export}
+use Rattle.sc_run.proofs.Common.{FoundAt, Frame, Function, In, Input, Left, List, None, Ok, Option, Out, Output, Own}
+use Rattle.sc_run.proofs.Common.{Piece, Place, ProgramTree, Reached, Result, RunEnd, Seen, Some, State, Step, Steps}
+use Rattle.sc_run.proofs.Common.{Stop, Stopped, To, TypedExpr, Value, Word, Work, [], and_then, ap, arith, assign_call}
+use Rattle.sc_run.proofs.Common.{back_cross, back_from, back_own, bodies, c_arith, call, called, calls_in, computed}
+use Rattle.sc_run.proofs.Common.{crossed, drop, entry_from, entry_in, false, false≢true, first_word, found, function}
+use Rattle.sc_run.proofs.Common.{here_of, if◌then◌else◌, is_some, is_word, leads, length, library, map, may_call}
+use Rattle.sc_run.proofs.Common.{next_input, read_input, refl, result_goes, run_in, seen_of, simple_does, store_result}
+use Rattle.sc_run.proofs.Common.{subst, sym, tell, then_then, true, true≢false, turn, values, way_in, word_in, ℕ, ◌&&◌}
+use Rattle.sc_run.proofs.Common.{◌++◌, ◌∙◌, ◌∷◌, ◌≡◌}
 use Rattle.sc_event.specs.Prelude.{imports, is_function, takes}
 use Rattle.std.specs.List.{list_all}
 use Rattle.sc_base.proofs.Bools.{and_rest}
 use Rattle.sc_core.specs.declared.expr.CallTarget.{CallTarget}
 use Rattle.sc_core.specs.declared.expr.TypedCall.{TypedCall}
 use Rattle.sc_core.specs.declared.stmt.TypedSimpleKind.{TypedSimpleKind}
-use Rattle.sc_run.proofs.Standing.{step_stops}
-use Rattle.sc_run.proofs.Looping.{steps_as, steps_on}
+use Rattle.sc_run.proofs.Looping.{step_stops, steps_as, steps_on}
 
 -- words cross as they are
 words_cross : (args : List Value) → list_all is_word args ≡ true → crossed args ≡ args

@@ -1,12 +1,11 @@
 -- Statements, by their layers.
-use Rattle.sc_run.proofs.Common.{Doing}
-use Rattle.sc_run.proofs.Common.{Acts, Bor, Break, Continue, Exit, Frame, Left, List, Loop, Next, Option, Piece}
-use Rattle.sc_run.proofs.Common.{ProgramTree, Reached, Rest, Return, Route, Seen, Some, State, Step, Steps, Stopped}
-use Rattle.sc_run.proofs.Common.{TypedExpr, TypedSimple, TypedStmt, TypedStmtKind, TypedStmtKind-F, Work, [], and_then}
-use Rattle.sc_run.proofs.Common.{ap, arith, assign, block_acts, c_arith, calls_in, choose, drop, drop_all, evaluated}
-use Rattle.sc_run.proofs.Common.{follow, get_or, here_of, in_order, kind_step, layer_of, leave, length, length-drop}
-use Rattle.sc_run.proofs.Common.{loop, loop_acts, part_acts, refl, resume, roll-TypedStmtKind, stmt_acts, stmt_at}
-use Rattle.sc_run.proofs.Common.{stmt_step, subst, sym, take, take_all, test, way_in, ℕ, ◌++◌, ◌-◌, ◌∙◌, ◌∷◌, ◌≡◌, ◌≤◌}
+use Rattle.sc_run.proofs.Common.{Acts, Bor, Doing, Exit, Frame, Left, List, Loop, Next, Option, Piece, ProgramTree}
+use Rattle.sc_run.proofs.Common.{Reached, Rest, Route, Seen, Some, State, Step, Steps, Stopped, TypedExpr, TypedSimple}
+use Rattle.sc_run.proofs.Common.{TypedStmt, TypedStmtKind, TypedStmtKind-F, Work, [], and_then, ap, arith, assign}
+use Rattle.sc_run.proofs.Common.{block_acts, c_arith, calls_in, choose, drop, drop_all, evaluated, follow, get_or}
+use Rattle.sc_run.proofs.Common.{here_of, in_order, kind_step, layer_of, leave, length, length-drop, loop, loop_acts}
+use Rattle.sc_run.proofs.Common.{part_acts, refl, resume, roll-TypedStmtKind, stmt_acts, stmt_at, stmt_step, subst}
+use Rattle.sc_run.proofs.Common.{sym, take, take_all, test, way_in, ℕ, ◌++◌, ◌-◌, ◌∙◌, ◌∷◌, ◌≡◌, ◌≤◌}
 use Rattle.sc_core.specs.declared.stmt.TypedStmtKind.TheOpen as layer
 use Rattle.sc_core.specs.declared.value.Want.TheVariants as want
 use Rattle.sc_run.proofs.Looping.{steps_as, steps_wait}
