@@ -1,21 +1,20 @@
 -- What is done at once, and leaves nothing that waits.
-use Rattle.sc_core.specs.declared.stmt.TypedSimpleKind.{TypedSimpleKind}
 use Rattle.sc_run.proofs.Common.{Acts, Body as Body', Bool, Bor, CameTo, Comes, Doing, Exit, Frame, Go, Left, List}
 use Rattle.sc_run.proofs.Common.{Loop, Memory, Next, None, Ok, Option, Passes, PassesIf, Piece, ProgramTree, Reached}
 use Rattle.sc_run.proofs.Common.{Return, Route, Run as Run', RunEnd, Seen, Some, SourceRun, Standing, State, Step}
-use Rattle.sc_run.proofs.Common.{Steps, Stop, Stopped, TypedExpr, TypedSimple, TypedStmt, Value, Work, [], and_then}
-use Rattle.sc_run.proofs.Common.{ap, arith, assign, block_acts, c_arith, calls_in, choose, drop, drop-step, drop_all}
-use Rattle.sc_run.proofs.Common.{ended_so, evaluated, false, follow, get_or, here_of, if◌then◌else◌, in_body, in_loop}
-use Rattle.sc_run.proofs.Common.{in_order, in_round, is_true, leave, left_at, length, length-drop, loop_acts}
-use Rattle.sc_run.proofs.Common.{next_acts, option_copied, part_acts, refl, resume, reverse, roll-TypedStmtKind}
-use Rattle.sc_run.proofs.Common.{seen_of, simple_does, stmt_acts, store_at, stored, subst, suc, sym, take, take_all}
-use Rattle.sc_run.proofs.Common.{true, turn, way_in, with_exit, ℕ, ◌++◌, ◌+◌, ◌-◌, ◌<◌, ◌==◌, ◌∙◌, ◌∷◌, ◌≡◌, ◌≤◌}
+use Rattle.sc_run.proofs.Common.{Steps, Stop, Stopped, TypedExpr, TypedSimple, TypedSimpleKind, TypedStmt, Value, Work}
+use Rattle.sc_run.proofs.Common.{[], and_then, ap, arith, assign, block_acts, c_arith, calls_in, choose, drop}
+use Rattle.sc_run.proofs.Common.{drop-step, drop_all, ended_so, evaluated, false, follow, get_or, here_of}
+use Rattle.sc_run.proofs.Common.{if◌then◌else◌, in_body, in_loop, in_order, in_round, is_true, leave, left_at, length}
+use Rattle.sc_run.proofs.Common.{length-drop, loop_acts, next_acts, option_copied, part_acts, refl, resume, reverse}
+use Rattle.sc_run.proofs.Common.{roll-TypedStmtKind, seen_of, simple_does, stmt_acts, store_at, stored, subst, suc, sym}
+use Rattle.sc_run.proofs.Common.{take, take_all, true, turn, way_in, ℕ, ◌++◌, ◌+◌, ◌-◌, ◌<◌, ◌==◌, ◌∙◌, ◌∷◌, ◌≡◌, ◌≤◌}
 use Rattle.sc_run.specs.declared.work.Position.{Position}
 use Rattle.sc_core.specs.declared.stmt.TypedStmtKind.TheOpen as layer
 use Rattle.sc_core.specs.declared.stmt.TypedSimpleKind.TheVariants as simple
 use Rattle.sc_core.specs.declared.value.Want.TheVariants as want
 use Rattle.sc_value.specs.Assigning.{AssignedIf, Holding}
-use Rattle.sc_run.proofs.Coming.{computed_comes, stored_ok, then_goes, turn_comes, with_memory}
+use Rattle.sc_run.proofs.Coming.{computed_comes, stored_ok, then_goes, turn_comes, usual, with_memory}
 use Rattle.sc_run.proofs.Looping.{cond_evaluated, round_is, steps_as, steps_later, steps_wait, tested, Follows}
 use Rattle.sc_run.proofs.Stating.{alone, first_and_rest, stmt_is}
 use Rattle.sc_run.proofs.Blank.{way_same}
@@ -52,10 +51,7 @@ then_passes {before} {middle} {after} {p} {q} {r} h k =
 pub passes_as : {before after : Seen} (p : Doing) {q r : Doing} → ((n : ℕ) (s : State) → p n s ≡ q n s) →
     Passes before after q r → Passes before after p r
 passes_as p same h =
-    record {
-      passes = λ n s shows. let a = h.passes n s shows in (a.0, a.1, same n s ∙ a.2);
-      fewer = h.fewer;
-    }
+    record { passes = λ n s shows. let a = h.passes n s shows in (a.0, a.1, same n s ∙ a.2); fewer = h.fewer }
 
 pub passes_if_as : (b : Bool) (before after : Seen) (p q r : Doing) → ((n : ℕ) (s : State) → p n s ≡ q n s) →
     PassesIf b before after q r → PassesIf b before after p r
@@ -73,14 +69,14 @@ pub passes_by : {V : Type 0} (before after : Seen) (v : V) (x : State → Piece 
 passes_by before after v x go h =
     record { passes = λ n s shows. reached_at after v (x s) (go n) (h.comes s shows); fewer = h.fewer }
 
-ended_at : (after : Seen) (y : Piece (Left (Unit {0}))) → CameTo (with_exit {V = Unit {0}} Next (Ok tt)) after y →
+ended_at : (after : Seen) (y : Piece (Left (Unit {0}))) → CameTo usual after y →
     (t : State) × (seen_of t ≡ after) × (y ≡ leave Next tt t)
 ended_at after (Reached w t) c = (t, c.1, ap (λ z. Reached z t) c.0)
 ended_at after (Stopped end t) c = elim c [ ]
 
 -- a piece that comes to its end
 pub passes_to_end : (before after : Seen) (x : State → Piece (Left (Unit {0}))) →
-    Comes before after (with_exit {V = Unit {0}} Next (Ok tt)) x → Passes before after (λ n s. x s) ended_so
+    Comes before after usual x → Passes before after (λ n s. x s) ended_so
 passes_to_end before after x h =
     record { passes = λ n s shows. ended_at after (x s) (h.comes s shows); fewer = h.fewer }
 
@@ -160,6 +156,10 @@ module _ (program : ProgramTree) (f : Frame) where
   abbrev block_by : List TypedStmt → Doing
   block_by stmts n s = block_acts program n f stmts tt s
 
+  -- so many of the statements are done
+  abbrev DoneTo : List TypedStmt → ℕ → Seen → Seen → Type 0
+  DoneTo stmts at before after = Passes before after (block_by stmts) (block_by (drop at stmts))
+
   abbrev left_by : Exit → Doing
   left_by exit n s = leave exit tt s
 
@@ -175,9 +175,8 @@ module _ (program : ProgramTree) (f : Frame) where
 
   -- one more statement
   pub one_more : (stmts : List TypedStmt) (at : ℕ) (stmt : TypedStmt) (before middle after : Seen) → at < length stmts →
-      stmt ≡ get_or stmts at stmt → Passes before middle (block_by stmts) (block_by (drop at stmts)) →
-      Passes middle after (stmt_by stmt) ended_so →
-      Passes before after (block_by stmts) (block_by (drop (at + 1) stmts))
+      stmt ≡ get_or stmts at stmt → DoneTo stmts at before middle → Passes middle after (stmt_by stmt) ended_so →
+      DoneTo stmts (at + 1) before after
   one_more stmts at stmt before middle after there item h k = then_passes h (passes_as _
       (λ n s. ap (λ xs. block_by xs n s) (drop-step stmts at stmt there item)) (next_one k)) where
         next_one : Passes middle after (stmt_by stmt) ended_so →
@@ -185,8 +184,7 @@ module _ (program : ProgramTree) (f : Frame) where
         next_one k = passes_follow in_order _ k
 
   pub all_done : (stmts : List TypedStmt) (at : ℕ) (before after : Seen) → length stmts ≤ at →
-      Passes before after (block_by stmts) (block_by (drop at stmts)) →
-      Passes before after (block_by stmts) (block_by (drop (length stmts) stmts))
+      DoneTo stmts at before after → DoneTo stmts (length stmts) before after
   all_done stmts at before after le h = subst (λ xs. Passes before after (block_by stmts) (block_by xs))
       (drop_all at stmts le ∙ sym (drop_all _ stmts (omega arith))) h
 
@@ -222,8 +220,7 @@ module _ (program : ProgramTree) (f : Frame) where
 
   -- what is left of the part that was chosen
   pub part_left : (before middle after : Seen) (stmt : TypedStmt) (part : List TypedStmt) (count : ℕ) →
-      middle ≡ before → Passes middle middle (stmt_by stmt) (block_by part) →
-      Passes middle after (block_by part) (block_by (drop count part)) →
+      middle ≡ before → Passes middle middle (stmt_by stmt) (block_by part) → DoneTo part count middle after →
       Passes before after (stmt_by stmt) (block_by (take (length part - count) (drop count part)))
   part_left before middle after stmt part count same h k =
       subst (λ x. Passes x after (stmt_by stmt) (block_by (take (length part - count) (drop count part)))) same
@@ -231,8 +228,7 @@ module _ (program : ProgramTree) (f : Frame) where
 
   -- part of one more statement
   pub within_one : (stmts part : List TypedStmt) (at : ℕ) (stmt : TypedStmt) (before middle after : Seen) →
-      at < length stmts → stmt ≡ get_or stmts at stmt →
-      Passes before middle (block_by stmts) (block_by (drop at stmts)) →
+      at < length stmts → stmt ≡ get_or stmts at stmt → DoneTo stmts at before middle →
       Passes middle after (stmt_by stmt) (block_by part) → Passes before after (block_by stmts)
       (λ n s. follow in_order (block_acts program n f part tt s) (block_acts program n f (drop (at + 1) stmts)))
   within_one stmts part at stmt before middle after there item h k =
@@ -240,15 +236,13 @@ module _ (program : ProgramTree) (f : Frame) where
       (passes_follow in_order (λ n. block_acts program n f _) k))
 
   pub one_over : (stmts part : List TypedStmt) (at : ℕ) (stmt : TypedStmt) (before middle after : Seen) → part ≡ [] →
-      at < length stmts → stmt ≡ get_or stmts at stmt →
-      Passes before middle (block_by stmts) (block_by (drop at stmts)) →
-      Passes middle after (stmt_by stmt) (block_by part) →
-      Passes before after (block_by stmts) (block_by (drop (at + 1) stmts))
+      at < length stmts → stmt ≡ get_or stmts at stmt → DoneTo stmts at before middle →
+      Passes middle after (stmt_by stmt) (block_by part) → DoneTo stmts (at + 1) before after
   one_over stmts part at stmt before middle after empty there item h k = within_one stmts [] at stmt before middle after
       there item h (subst (λ xs. Passes middle after (stmt_by stmt) (block_by xs)) empty k)
 
   pub none_behind : (stmts : List TypedStmt) (at : ℕ) (before after : Seen) → length stmts ≤ at →
-      Passes before after (block_by stmts) (block_by (drop at stmts)) → Passes before after (block_by stmts) ended_so
+      DoneTo stmts at before after → Passes before after (block_by stmts) ended_so
   none_behind stmts at before after le h =
       then_passes h (passes_as _ (λ n s. ap (λ xs. block_by xs n s) (drop_all at stmts le)) (stays_so after _))
 

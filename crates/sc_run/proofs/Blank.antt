@@ -1,15 +1,17 @@
 -- Blocks whose ended variables hold no cells are loaded from and stored to as the others, and expressions give the same.
 use Rattle.sc_run.proofs.Common.{BadPointer, BadType, Blocks, Bool, Cause, Cell, Dangling, Err, Here, List, Meant}
-use Rattle.sc_run.proofs.Common.{Memory, Null, Ok, Option, OutOfBounds, Pointer, Ptr, Result, Some, TypedExpr}
-use Rattle.sc_run.proofs.Common.{TypedStruct, Value, Ways, Word, [], ap, applied, applied_one, at_place, at_pointer}
-use Rattle.sc_run.proofs.Common.{between, binary, bind, blocks_for, c_arith, cell_of, cells_at, choose, cleared, ended}
-use Rattle.sc_run.proofs.Common.{expr_at, false, given_back, if◌then◌else◌, is_array, is_inside, is_live, is_pointer}
-use Rattle.sc_run.proofs.Common.{is_true, is_unsigned, is_unsigned_op, length, length-map, live_cells, load, loaded}
-use Rattle.sc_run.proofs.Common.{map, map-append, map-set, meant, meant_step, moved, moved_back, moved_on, nat_lt, not}
+use Rattle.sc_run.proofs.Common.{Memory, Ok, Option, OutOfBounds, Ptr, Result, Some, TypedExpr, TypedStruct, Value}
+use Rattle.sc_run.proofs.Common.{Ways, Word, [], ap, applied, applied_one, at_place, at_pointer, between, binary, bind}
+use Rattle.sc_run.proofs.Common.{blocks_for, c_arith, cell_of, cells_at, choose, cleared, ended, expr_at, false}
+use Rattle.sc_run.proofs.Common.{given_back, if◌then◌else◌, is_array, is_inside, is_live, is_pointer, is_true}
+use Rattle.sc_run.proofs.Common.{is_unsigned, is_unsigned_op, length, length-map, live_cells, load, loaded, map}
+use Rattle.sc_run.proofs.Common.{map-append, map-set, meant, meant_step, moved, moved_back, moved_on, nat_lt, not}
 use Rattle.sc_run.proofs.Common.{of_bool, on_words, place_at, pos, refl, replicate, same_place, slice_get, slice_set}
 use Rattle.sc_run.proofs.Common.{store, subst, suc, sym, target_cells, term_of, term_step, true, typed, values}
 use Rattle.sc_run.proofs.Common.{variable_at, wanted, ways, with_blocks, with_cell, zero, ℕ, ℤ, ◌&&◌, ◌++◌, ◌+ℤ◌, ◌==◌}
 use Rattle.sc_run.proofs.Common.{◌∙◌, ◌∷◌, ◌≡◌}
+use Rattle.sc_core.specs.declared.value.Value.TheVariants.{Null}
+use Rattle.sc_core.specs.declared.value.Pointer.{Pointer}
 use Rattle.sc_base.specs.declared.op.BinaryOp.{BinaryOp}
 use Rattle.sc_base.specs.declared.op.BinaryOp.TheVariants as op
 use Rattle.sc_core.specs.declared.ty.Ty.{Ty}

@@ -7,8 +7,8 @@ use Rattle.sc_run.proofs.Common.{blocks_for, bodies, body_acts, c_arith, calls_i
 use Rattle.sc_run.proofs.Common.{ended_as, entry_from, found, function, function_in, function_of, here_of, leave}
 use Rattle.sc_run.proofs.Common.{left_by, length, library, map, refl, result_goes, resume, returned, reverse, run_in}
 use Rattle.sc_run.proofs.Common.{seen_of, store_at, subst, suc, sym, tell, then_then, told_back, told_call, turn}
-use Rattle.sc_run.proofs.Common.{variable_count, variables, way_in, with_blocks, with_variables, word_crossing}
-use Rattle.sc_run.proofs.Common.{word_in, zero, ℕ, ◌++◌, ◌∙◌, ◌∷◌, ◌≡◌, ◌≤◌}
+use Rattle.sc_run.proofs.Common.{variable_count, variables, way_in, with_blocks, with_variables, word_crossing, word_in}
+use Rattle.sc_run.proofs.Common.{zero, ℕ, ◌++◌, ◌∙◌, ◌∷◌, ◌≡◌, ◌≤◌}
 use Rattle.sc_run.proofs.Blank.{left_same, blank_more, blank_new, length_same}
 use Rattle.sc_run.proofs.Coming.{with_memory, seen_with, blocks_seen}
 use Rattle.sc_run.proofs.Looping.{resume_stopped, newest_first, step_stops, step_ends, steps_as}

@@ -1,10 +1,10 @@
 -- What the statements of a frame do goes on, as what functions do does: it adds events, gives no turn, and stops by a
 -- blame or without turns.
-use Rattle.sc_run.proofs.Common.{Acts, Back, Calls, Frame, GoFrom, Goes, Here, Left, List, Loop, Never, Nowhere}
-use Rattle.sc_run.proofs.Common.{Option, Place, ProgramTree, State, To, TypedStmt, Value, block_acts, block_does}
-use Rattle.sc_run.proofs.Common.{bodies, c_arith, calls_go, calls_in, closes, here_of, library, loop, loop_acts}
-use Rattle.sc_run.proofs.Common.{next_acts, option_copied, part_does, result_goes, run_step, stays, store_result, test}
-use Rattle.sc_run.proofs.Common.{way_in, within_goes, ℕ, ◌≡◌}
+use Rattle.sc_run.proofs.Common.{Acts, Back, Calls, Frame, GoFrom, Goes, Here, Left, List, Loop, Never, Nowhere, Option}
+use Rattle.sc_run.proofs.Common.{Place, ProgramTree, State, To, TypedStmt, Value, block_acts, block_does, bodies}
+use Rattle.sc_run.proofs.Common.{c_arith, calls_go, calls_in, closes, here_of, library, loop, loop_acts, next_acts}
+use Rattle.sc_run.proofs.Common.{option_copied, part_does, result_goes, run_step, stays, store_result, test, way_in}
+use Rattle.sc_run.proofs.Common.{within_goes, ℕ, ◌≡◌}
 use Rattle.sc_laws.proofs.Expressions.{ArithKeeps}
 use Rattle.sc_laws.proofs.Interactions.{MatchWith, match_loop}
 use Rattle.sc_laws.proofs.Loops.{one_round, loop_again}

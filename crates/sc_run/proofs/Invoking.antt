@@ -2,19 +2,18 @@
 use Rattle.sc_run.proofs.Common.{BadType, Blamed, Bool, Bor, Call, Callee, Comes, Cross, Doing, EntryAt, Err, Export}
 use Rattle.sc_run.proofs.Common.{FoundAt, Frame, Function, In, Input, Left, List, None, Ok, Option, Out, Output, Own}
 use Rattle.sc_run.proofs.Common.{Piece, Place, ProgramTree, Reached, Result, RunEnd, Seen, Some, State, Step, Steps}
-use Rattle.sc_run.proofs.Common.{Stop, Stopped, To, TypedExpr, Value, Word, Work, [], and_then, ap, arith, assign_call}
-use Rattle.sc_run.proofs.Common.{back_cross, back_from, back_own, bodies, c_arith, call, called, calls_in, computed}
-use Rattle.sc_run.proofs.Common.{crossed, drop, entry_from, entry_in, false, false≢true, first_word, found, function}
-use Rattle.sc_run.proofs.Common.{here_of, if◌then◌else◌, is_some, is_word, leads, length, library, map, may_call}
-use Rattle.sc_run.proofs.Common.{next_input, read_input, refl, result_goes, run_in, seen_of, simple_does, store_result}
-use Rattle.sc_run.proofs.Common.{subst, sym, tell, then_then, true, true≢false, turn, values, way_in, word_in, ℕ, ◌&&◌}
-use Rattle.sc_run.proofs.Common.{◌++◌, ◌∙◌, ◌∷◌, ◌≡◌}
+use Rattle.sc_run.proofs.Common.{Stop, Stopped, To, TypedExpr, TypedSimpleKind, Value, Word, Work, [], and_then, ap}
+use Rattle.sc_run.proofs.Common.{arith, assign_call, back_cross, back_from, back_own, bodies, c_arith, call, called}
+use Rattle.sc_run.proofs.Common.{calls_in, computed, crossed, drop, entry_from, entry_in, false, false≢true, first_word}
+use Rattle.sc_run.proofs.Common.{found, function, here_of, if◌then◌else◌, is_some, is_word, leads, length, library, map}
+use Rattle.sc_run.proofs.Common.{may_call, next_input, read_input, refl, result_goes, run_in, seen_of, simple_does}
+use Rattle.sc_run.proofs.Common.{store_result, subst, sym, tell, then_then, true, true≢false, turn, values, way_in}
+use Rattle.sc_run.proofs.Common.{word_in, ℕ, ◌&&◌, ◌++◌, ◌∙◌, ◌∷◌, ◌≡◌}
 use Rattle.sc_event.specs.Prelude.{imports, is_function, takes}
 use Rattle.std.specs.List.{list_all}
 use Rattle.sc_base.proofs.Bools.{and_rest}
 use Rattle.sc_core.specs.declared.expr.CallTarget.{CallTarget}
 use Rattle.sc_core.specs.declared.expr.TypedCall.{TypedCall}
-use Rattle.sc_core.specs.declared.stmt.TypedSimpleKind.{TypedSimpleKind}
 use Rattle.sc_run.proofs.Looping.{step_stops, steps_as, steps_on}
 
 -- words cross as they are

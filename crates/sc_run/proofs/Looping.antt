@@ -6,8 +6,8 @@ use Rattle.sc_run.proofs.Common.{and_then, ap, arith, block_acts, choose, does_n
 use Rattle.sc_run.proofs.Common.{if◌then◌else◌, in_loop, is_true, leave, length, loop_acts, next_acts, refl, resume}
 use Rattle.sc_run.proofs.Common.{reverse, reverse-append, subst, suc, sym, then_then, true, turn, way_in, ℕ, ◌++◌, ◌∙◌}
 use Rattle.sc_run.proofs.Common.{◌∷◌, ◌≡◌, ◌≤◌}
-use Rattle.sc_run.proofs.Coming.{then_stops}
 use Rattle.sc_core.specs.Prelude.{take}
+use Rattle.sc_run.proofs.Coming.{then_stops}
 use Rattle.sc_core.specs.declared.value.Want.TheVariants as want
 use Rattle.sc_run.proofs.Going.{loop_is}
 

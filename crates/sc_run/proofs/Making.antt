@@ -1,18 +1,18 @@
 -- The variables of a call and their initialisers, and globals, one after the other.
-use Rattle.sc_run.proofs.Common.{Acts, Blocks, Bool, CameTo, Cell, Comes, Err, Here, Left, List, Memory, Next, None}
-use Rattle.sc_run.proofs.Common.{Ok, Option, Piece, Reached, Result, RunEnd, Seen, Some, State, Stopped, TypedExpr}
+use Rattle.sc_run.proofs.Common.{Acts, Blocks, Bool, CameTo, Cell, Comes, Err, Here, Left, List, Memory, None, Null}
+use Rattle.sc_run.proofs.Common.{Option, Piece, Reached, Result, RunEnd, Seen, Some, State, Stopped, TypedExpr}
 use Rattle.sc_run.proofs.Common.{TypedGlobal, TypedLocal, TypedParam, TypedSection, TypedStruct, Undef, Value, []}
 use Rattle.sc_run.proofs.Common.{add-one, all_do, ap, append-nil, append_assoc, arith, block_for, blocks_for, c_arith}
 use Rattle.sc_run.proofs.Common.{cell_with, cells_of, drop, drop-cons, drop-step, drop_all, drop_next, eq-eqb, false}
 use Rattle.sc_run.proofs.Common.{first_blocks, follow, get_or, global_block, globals_of, if◌then◌else◌, in_order}
 use Rattle.sc_run.proofs.Common.{init_does, inits_do, length, length-append, length-map, length-take, map, map-append}
 use Rattle.sc_run.proofs.Common.{member_zeros, refl, repeated, seen_of, slice_get, subst, suc, sym, take, take-map}
-use Rattle.sc_run.proofs.Common.{take_more, true, with_blocks, with_exit, with_words, zero, zeros_of, ℕ, ◌++◌, ◌+◌}
-use Rattle.sc_run.proofs.Common.{◌<◌, ◌==◌, ◌∙◌, ◌∷◌, ◌≡◌, ◌≤◌}
+use Rattle.sc_run.proofs.Common.{take_more, true, with_blocks, with_words, zero, zeros_of, ℕ, ◌++◌, ◌+◌, ◌<◌, ◌==◌, ◌∙◌}
+use Rattle.sc_run.proofs.Common.{◌∷◌, ◌≡◌, ◌≤◌}
 use Rattle.std.proofs.Math.Dec.{eqb-suc-zero, eqb-zero-suc, eqb-suc-suc}
 use Rattle.sc_core.specs.declared.section.TypedMember.{TypedMember}
-use Rattle.sc_core.specs.declared.value.Cell.TheVariants.{Null}
 use Rattle.sc_core.specs.declared.section.TypedFunction.{TypedFunction}
+use Rattle.sc_run.proofs.Coming.{usual}
 
 with_if : (b : Bool) (x y z : Blocks) → (if b then x else (if b then y else z)) ≡ (if b then x else z)
 with_if true x y z = refl
@@ -77,7 +77,7 @@ module _ (structs : List TypedStruct) (here : Here) (params : ℕ) where
 
   pub started_more : (locals : List TypedLocal) (k : ℕ) (local : TypedLocal) (before now next : Seen) →
       k < length locals → local ≡ get_or locals k local → Started locals k before now →
-      Comes now next (with_exit {V = Unit {0}} Next (Ok tt))
+      Comes now next usual
       (init_does c_arith structs here params k local local.init tt) → Started locals (k + 1) before next
   started_more locals k local before now next there item h c =
       record {
@@ -88,8 +88,7 @@ module _ (structs : List TypedStruct) (here : Here) (params : ℕ) where
         });
       } where
         by_piece : (after : Seen) (r : Result (Left (Unit {0})) RunEnd) →
-            Comes next after r (inits_from locals (k + 1) tt) → (p : Piece (Left (Unit {0}))) →
-            CameTo (with_exit {V = Unit {0}} Next (Ok tt)) next p →
+            Comes next after r (inits_from locals (k + 1) tt) → (p : Piece (Left (Unit {0}))) → CameTo usual next p →
             CameTo r after (follow in_order p (inits_from locals (k + 1)))
         by_piece after r d (Reached left t) e = subst
             (λ x. CameTo r after (follow in_order (Reached x t) (inits_from locals (k + 1)))) (sym e.0) (d.comes t e.1)
@@ -103,7 +102,7 @@ module _ (structs : List TypedStruct) (here : Here) (params : ℕ) where
 
   pub started_blamed : (locals : List TypedLocal) (k : ℕ) (local : TypedLocal) (before now next : Seen) (end : RunEnd) →
       k < length locals → local ≡ get_or locals k local → Started locals k before now → Comes now next
-      (with_exit {V = Unit {0}} Next (Err end)) (init_does c_arith structs here params k local local.init tt) →
+      (Err end) (init_does c_arith structs here params k local local.init tt) →
       Comes before next (Err end) (inits_from locals 0 tt)
   started_blamed locals k local before now next end there item h c =
       h.on next _ (record {
@@ -117,10 +116,10 @@ module _ (structs : List TypedStruct) (here : Here) (params : ℕ) where
         by_piece (Stopped x t) e = e
 
   pub started_all : (locals : List TypedLocal) (k : ℕ) (before now : Seen) → length locals ≤ k →
-      Started locals k before now → Comes before now (with_exit {V = Unit {0}} Next (Ok tt)) (inits_from locals 0 tt)
-  started_all locals k before now all h = h.on now (with_exit {V = Unit {0}} Next (Ok tt))
+      Started locals k before now → Comes before now usual (inits_from locals 0 tt)
+  started_all locals k before now all h = h.on now usual
       (record {
-        comes = λ s shows. subst (λ ls. CameTo (with_exit {V = Unit {0}} Next (Ok tt)) now
+        comes = λ s shows. subst (λ ls. CameTo usual now
             (all_do (inits_do c_arith structs here params k ls) tt s)) (sym (drop_all k locals all)) (refl, shows);
         fewer = omega arith;
       })

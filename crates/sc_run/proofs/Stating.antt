@@ -4,8 +4,8 @@ use Rattle.sc_run.proofs.Common.{Reached, Rest, Route, Seen, Some, State, Step, 
 use Rattle.sc_run.proofs.Common.{TypedStmt, TypedStmtKind, TypedStmtKind-F, Work, [], and_then, ap, arith, assign}
 use Rattle.sc_run.proofs.Common.{block_acts, c_arith, calls_in, choose, drop, drop_all, evaluated, follow, get_or}
 use Rattle.sc_run.proofs.Common.{here_of, in_order, kind_step, layer_of, leave, length, length-drop, loop, loop_acts}
-use Rattle.sc_run.proofs.Common.{part_acts, refl, resume, roll-TypedStmtKind, stmt_acts, stmt_at, stmt_step, subst}
-use Rattle.sc_run.proofs.Common.{sym, take, take_all, test, way_in, ℕ, ◌++◌, ◌-◌, ◌∙◌, ◌∷◌, ◌≡◌, ◌≤◌}
+use Rattle.sc_run.proofs.Common.{part_acts, refl, resume, roll-TypedStmtKind, stmt_acts, stmt_at, stmt_step, subst, sym}
+use Rattle.sc_run.proofs.Common.{take, take_all, test, way_in, ℕ, ◌++◌, ◌-◌, ◌∙◌, ◌∷◌, ◌≡◌, ◌≤◌}
 use Rattle.sc_core.specs.declared.stmt.TypedStmtKind.TheOpen as layer
 use Rattle.sc_core.specs.declared.value.Want.TheVariants as want
 use Rattle.sc_run.proofs.Looping.{steps_as, steps_wait}
