@@ -1,7 +1,7 @@
 -- The texts of small trees, computed.
-use Rattle.sc_ast.proofs.Common.{CallTree, ExprTree, List, None, SimpleTree, Some, StmtKind, StmtTree, [], arith}
-use Rattle.sc_ast.proofs.Common.{codes, export_words, expr_words, false, import_words, layouts, lines_at, map, printed}
-use Rattle.sc_ast.proofs.Common.{rules, text_of, the_lemmas, true, ℕ, ◌∷◌, ◌≡◌}
+use Rattle.sc_ast.proofs.Common.{CallTree, ExprTree, List, None, SimpleTree, Some, StmtKind, StmtTree, [], arith, codes}
+use Rattle.sc_ast.proofs.Common.{export_words, expr_words, false, import_words, layouts, lines_at, map, printed, rules}
+use Rattle.sc_ast.proofs.Common.{text_of, the_lemmas, true, ℕ, ◌∷◌, ◌≡◌}
 use Rattle.std.specs.Fmt.{digits}
 use Rattle.sc_ast.specs.declared.types.BaseTree.{BaseTree}
 use Rattle.sc_ast.specs.declared.types.BaseTree.TheVariants as base

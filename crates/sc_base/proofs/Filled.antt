@@ -1,7 +1,6 @@
 -- An array that was filled with a name holds that name and nothing else.
 use Rattle.sc_base.proofs.Common.{IsFilled, IsTrue, List, [], ap, arith, drop, drop-replicate, filled, is_name, length}
-use Rattle.sc_base.proofs.Common.{length-append, replicate, subst, sym, true, zeros_behind, ℕ, ◌++◌, ◌∙◌, ◌∷◌, ◌≡◌}
-use Rattle.sc_base.proofs.Common.{◌≤◌}
+use Rattle.sc_base.proofs.Common.{length-append, replicate, subst, sym, true, zeros_behind, ℕ, ◌++◌, ◌∙◌, ◌∷◌, ◌≡◌, ◌≤◌}
 use Rattle.std.proofs.Math.Seq.{take-append_seam, drop-append_seam}
 use Rattle.std.proofs.lemmas.Bool.Decides.{nat_tests}
 

@@ -1,10 +1,10 @@
 -- Words that stand apart from the text behind them.
-use Rattle.sc_print.proofs.Common.{BinaryOp, Bool, IsToken, Keyword, List, Some, TokenKind, [], and_from, and_parts}
-use Rattle.sc_print.proofs.Common.{ap, arith, begins_block_comment, begins_line_comment, binary_text, codes, drop}
-use Rattle.sc_print.proofs.Common.{eq-eqb, false, false≢true, is_mark, is_name_byte, is_reserved, le-leb, length}
-use Rattle.sc_print.proofs.Common.{length-append, list_all, mark_one, mark_two, marks, nat_le, prefix_len, refl}
-use Rattle.sc_print.proofs.Common.{slice_index, sym, take, take-append_seam, true, word_found, word_kind, word_run, ℕ}
-use Rattle.sc_print.proofs.Common.{◌&&◌, ◌++◌, ◌<◌, ◌==◌, ◌||◌, ◌∙◌, ◌∷◌, ◌≡◌}
+use Rattle.sc_print.proofs.Common.{BinaryOp, Bool, IsToken, Keyword, List, Some, TokenKind, [], and_from, and_parts, ap}
+use Rattle.sc_print.proofs.Common.{arith, begins_block_comment, begins_line_comment, binary_text, codes, drop, eq-eqb}
+use Rattle.sc_print.proofs.Common.{false, false≢true, is_mark, is_name_byte, is_reserved, le-leb, length, length-append}
+use Rattle.sc_print.proofs.Common.{list_all, mark_one, mark_two, marks, nat_le, prefix_len, refl, slice_index, sym}
+use Rattle.sc_print.proofs.Common.{take, take-append_seam, true, word_found, word_kind, word_run, ℕ, ◌&&◌, ◌++◌, ◌<◌}
+use Rattle.sc_print.proofs.Common.{◌==◌, ◌||◌, ◌∙◌, ◌∷◌, ◌≡◌}
 use Rattle.std.proofs.Math.Bool.{and-false}
 use Rattle.sc_lex.specs.declared.token.TokenKind.TheVariants as kind
 use Rattle.sc_base.specs.declared.op.BinaryOp.TheVariants as binary

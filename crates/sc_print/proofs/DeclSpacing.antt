@@ -1,16 +1,16 @@
 -- The words of declarations stand apart.
-use Rattle.sc_print.proofs.Common.{BaseTree, Bool, Decl, ExprTree, FunctionTree, GlobalTree, HeadTree, InitTree}
-use Rattle.sc_print.proofs.Common.{IsTrue, List, LocalTree, MemberTree, None, Number, Option, ParamTree, Piece, Some}
-use Rattle.sc_print.proofs.Common.{TypeName, TypeTree, [], and_parts, append-nil, append_assoc, base_words, blank}
-use Rattle.sc_print.proofs.Common.{blank_if, codes, comma, const_words, decl_words, declared_words, ended, false}
-use Rattle.sc_print.proofs.Common.{false≢true, fits, flat_map, function_words, global_words, head_of, head_words}
-use Rattle.sc_print.proofs.Common.{init_words, is_ident, is_kept_decl, is_some, join_by, kept_base, kept_const}
-use Rattle.sc_print.proofs.Common.{kept_function, kept_global, kept_head, kept_init, kept_length, kept_local}
-use Rattle.sc_print.proofs.Common.{kept_member, kept_name, kept_param, kept_result, kept_struct, kept_type, kept_value}
-use Rattle.sc_print.proofs.Common.{leb-true, length_words, line_of, list_all, literal_text, local_line, member_line}
-use Rattle.sc_print.proofs.Common.{minus_words, name_words, nat_le, nat_lt, newline, param_words, params_words, refl}
-use Rattle.sc_print.proofs.Common.{result_words, some_kept, star_words, struct_words, subst, suc, sym, text_of, true}
-use Rattle.sc_print.proofs.Common.{value_words, word, zero, ℕ, ◌&&◌, ◌++◌, ◌||◌, ◌∷◌, ◌≡◌}
+use Rattle.sc_print.proofs.Common.{BaseTree, Bool, Decl, ExprTree, FunctionTree, GlobalTree, HeadTree, InitTree, IsTrue}
+use Rattle.sc_print.proofs.Common.{List, LocalTree, MemberTree, None, Number, Option, ParamTree, Piece, Some, TypeName}
+use Rattle.sc_print.proofs.Common.{TypeTree, [], and_parts, append-nil, append_assoc, base_words, blank, blank_if}
+use Rattle.sc_print.proofs.Common.{codes, comma, const_words, decl_words, declared_words, ended, false, false≢true}
+use Rattle.sc_print.proofs.Common.{fits, flat_map, function_words, global_words, head_of, head_words, init_words}
+use Rattle.sc_print.proofs.Common.{is_ident, is_kept_decl, is_some, join_by, kept_base, kept_const, kept_function}
+use Rattle.sc_print.proofs.Common.{kept_global, kept_head, kept_init, kept_length, kept_local, kept_member, kept_name}
+use Rattle.sc_print.proofs.Common.{kept_param, kept_result, kept_struct, kept_type, kept_value, leb-true, length_words}
+use Rattle.sc_print.proofs.Common.{line_of, list_all, literal_text, local_line, member_line, minus_words, name_words}
+use Rattle.sc_print.proofs.Common.{nat_le, nat_lt, newline, param_words, params_words, refl, result_words, some_kept}
+use Rattle.sc_print.proofs.Common.{star_words, struct_words, subst, suc, sym, text_of, true, value_words, word, zero, ℕ}
+use Rattle.sc_print.proofs.Common.{◌&&◌, ◌++◌, ◌||◌, ◌∷◌, ◌≡◌}
 use Rattle.sc_ast.specs.declared.section.StructTree.{StructTree}
 use Rattle.sc_ast.specs.declared.types.BaseTree.TheVariants as base
 use Rattle.sc_ast.specs.declared.section.InitTree.TheVariants as init
@@ -161,9 +161,12 @@ calm_if : (wanted : Bool) (pieces : List Piece) (rest : List ℕ) → Calm (text
 calm_if true pieces rest calm = refl
 calm_if false pieces rest calm = calm
 
+-- pieces that stand apart, whatever calm and quiet text is behind them
+abbrev Settled : List Piece → Type 0
+Settled pieces = (rest : List ℕ) → Calm rest → Quiet rest → Tidy pieces rest
+
 param_from : (b : BaseTree) (stars : ℕ) (name : Option (List ℕ)) → IsTrue (kept_base b) → IsTrue (kept_name name) →
-    (rest : List ℕ) → Calm rest → Quiet rest → Tidy (base_words b ++
-    (blank_if (nat_lt 0 stars || is_some name) ++ (star_words stars ++ name_words name))) rest
+    Settled (base_words b ++ (blank_if (nat_lt 0 stars || is_some name) ++ (star_words stars ++ name_words name)))
 param_from b zero None k ident rest calm q = tidy_append _ [] rest (base_tidy b k rest calm) none
 param_from b (suc n) None k ident rest calm q =
     let wanted = nat_lt 0 (suc n) || false in
@@ -179,13 +182,10 @@ param_from b (suc n) (Some name) k ident rest calm q =
     (gap_if wanted pieces rest (tidy_append (star_words (suc n)) (word name ∷ []) rest
     (stars_tidy (suc n) _ (name_first name [] ident rest)) (next (name_tidy name ident _ calm) none)))
 
-param_tidy : (p : ParamTree) → IsTrue (kept_param p) → (rest : List ℕ) → Calm rest → Quiet rest →
-    Tidy (param_words p) rest
-param_tidy p k rest calm q = let parts = and_parts _ _ k in
-    param_from _ _ p.name parts.0 parts.1 rest calm q
+param_tidy : (p : ParamTree) → IsTrue (kept_param p) → Settled (param_words p)
+param_tidy p k = let parts = and_parts _ _ k in param_from _ _ p.name parts.0 parts.1
 
-params_tidy : (ps : List ParamTree) → list_all kept_param ps ≡ true → (rest : List ℕ) → Calm rest → Quiet rest →
-    Tidy (params_words ps) rest
+params_tidy : (ps : List ParamTree) → list_all kept_param ps ≡ true → Settled (params_words ps)
 params_tidy [] k rest calm q = next (keyword_word keyword.Void _ calm) none
 params_tidy (p ∷ ps) k rest calm q = let parts = and_parts _ _ k in
     joined_tidy param_words kept_param (λ r. Calm r × Quiet r) (λ r. (refl, refl))

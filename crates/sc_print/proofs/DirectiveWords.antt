@@ -3,10 +3,9 @@ use Rattle.sc_print.proofs.Common.{Bool, List, Some, Symbol, TokenKind, [], and_
 use Rattle.sc_print.proofs.Common.{arith, begins_heading, codes, drop, false, false_from_ne_true, false≢true, filter}
 use Rattle.sc_print.proofs.Common.{get_or, heading_name, is_blank, is_empty, is_inside_line, is_name, is_name_byte}
 use Rattle.sc_print.proofs.Common.{is_nondigit, is_some, kind_of, kind_of-directive, length, line_kind, list_all}
-use Rattle.sc_print.proofs.Common.{list_all-append, name_of, ne_eqb, not, not-true, only_name, option_and_then}
-use Rattle.sc_print.proofs.Common.{or_left, or_unused, refl, says, slice_eq-Decides, slice_index, slice_split, suc}
-use Rattle.sc_print.proofs.Common.{sym, take, take-append_seam, true, word_symbol, words, zero, ℕ, ◌++◌, ◌<◌, ◌==◌}
-use Rattle.sc_print.proofs.Common.{◌∙◌, ◌∷◌, ◌≡◌}
+use Rattle.sc_print.proofs.Common.{list_all-append, name_of, ne_eqb, not, not-true, only_name, option_and_then, or_left}
+use Rattle.sc_print.proofs.Common.{or_unused, refl, says, slice_eq-Decides, slice_index, slice_split, suc, sym, take}
+use Rattle.sc_print.proofs.Common.{take-append_seam, true, word_symbol, words, zero, ℕ, ◌++◌, ◌<◌, ◌==◌, ◌∙◌, ◌∷◌, ◌≡◌}
 use Rattle.std.proofs.lemmas.Bool.Decides.{Decides-eqb}
 use Rattle.std.proofs.lemmas.List.Splits.{slice_split_at, slice_split_none}
 use Rattle.sc_base.proofs.Lists.{list_all_along}
@@ -58,10 +57,7 @@ named [] h = absurd (false≢true h)
 named (b ∷ bs) h =
     let parts = and_parts (is_nondigit b) _ h in
     let rest = and_parts _ _ parts.1 in
-    record {
-      some = omega arith;
-      bytes = and_from (is_name_byte b) _ (or_left _ _ parts.0) rest.0;
-    }
+    record { some = omega arith; bytes = and_from (is_name_byte b) _ (or_left _ _ parts.0) rest.0 }
 
 name_solid : (name : List ℕ) → is_name name ≡ true → list_all solid name ≡ true
 name_solid name h = list_all_along _ solid byte_solid name (named name h).bytes

@@ -1,7 +1,7 @@
 -- Pieces that stand apart, and lines that are directives, are cut into their words.
 use Rattle.sc_print.proofs.Common.{Cuts, IsToken, IsTrue, List, Piece, Some, Symbol, Token, TokenKind, []}
-use Rattle.sc_print.proofs.Common.{allows_directive, and_from, ap, append-nil, append_assoc, ap₂, arith}
-use Rattle.sc_print.proofs.Common.{begins_heading, begins_line, directive_found, drop, drop-append_seam, eq-eqb, gap}
+use Rattle.sc_print.proofs.Common.{allows_directive, and_from, ap, append-nil, append_assoc, ap₂, arith, begins_heading}
+use Rattle.sc_print.proofs.Common.{begins_line, directive_found, drop, drop-append_seam, eq-eqb, gap}
 use Rattle.sc_print.proofs.Common.{get_or-append_seam, is_white_space, kind_of, length, length-append, line_kind, map}
 use Rattle.sc_print.proofs.Common.{newline, nothing, option_and_then, or_right, or_unused, refl, replicate, says}
 use Rattle.sc_print.proofs.Common.{slice_index, slice_range, subst, suc, sym, symbol_of, symbols, take}

@@ -4,12 +4,11 @@ use Rattle.sc_print.proofs.Common.{base_of, bytes_eq, bytes_eq-Decides, codes, d
 use Rattle.sc_print.proofs.Common.{false_from_ne_true, false≢true, fits, get_or-append_seam, greatest_of, has_suffix}
 use Rattle.sc_print.proofs.Common.{if◌then◌else◌, integer_of, is_between, is_digit, is_empty, is_hexadecimal, is_ident}
 use Rattle.sc_print.proofs.Common.{is_integer, is_name, is_name_byte, is_nondigit, is_number, is_reserved, kind_of}
-use Rattle.sc_print.proofs.Common.{le-leb, le-ltb, leb-true, length, length-append, list_all, list_all-append}
-use Rattle.sc_print.proofs.Common.{list_any, literal_text, lt-ltb, nat_le, nat_lt, ne_eqb, not, not-true, number}
-use Rattle.sc_print.proofs.Common.{number_of, or_cases, refl, reserved_words, says, slice_index, subst, suc, sym}
-use Rattle.sc_print.proofs.Common.{take-append_seam, true, value_of, without_suffix, word_kind, word_symbol, zero, ℕ}
-use Rattle.sc_print.proofs.Common.{⊎_elim, ◌%◌, ◌&&◌, ◌*◌, ◌++◌, ◌+◌, ◌-◌, ◌/◌, ◌<◌, ◌==◌, ◌^◌, ◌||◌, ◌∙◌, ◌∷◌, ◌≡◌}
-use Rattle.sc_print.proofs.Common.{◌≤◌}
+use Rattle.sc_print.proofs.Common.{le-leb, le-ltb, leb-true, length, length-append, list_all, list_all-append, list_any}
+use Rattle.sc_print.proofs.Common.{literal_text, lt-ltb, nat_le, nat_lt, ne_eqb, not, not-true, number, number_of}
+use Rattle.sc_print.proofs.Common.{or_cases, refl, reserved_words, says, slice_index, subst, suc, sym, take-append_seam}
+use Rattle.sc_print.proofs.Common.{true, value_of, without_suffix, word_kind, word_symbol, zero, ℕ, ⊎_elim, ◌%◌, ◌&&◌}
+use Rattle.sc_print.proofs.Common.{◌*◌, ◌++◌, ◌+◌, ◌-◌, ◌/◌, ◌<◌, ◌==◌, ◌^◌, ◌||◌, ◌∙◌, ◌∷◌, ◌≡◌, ◌≤◌}
 use Rattle.sc_lex.specs.declared.token.TokenKind.TheVariants as kind
 use Rattle.sc_expr.specs.declared.lexeme.Symbol.TheVariants as symbol
 use Rattle.std.specs.Fmt.{decimal}

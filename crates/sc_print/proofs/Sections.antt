@@ -4,10 +4,10 @@ use Rattle.sc_print.proofs.Common.{Grouped, HeadTree, InitTree, IsGlobal, IsLoca
 use Rattle.sc_print.proofs.Common.{LocalTree, MemberTree, None, Number, Option, ParamTree, Piece, Some, SpellsBase}
 use Rattle.sc_print.proofs.Common.{SpellsConst, SpellsDecl, SpellsDeclarator, SpellsHead, SpellsInit, SpellsParam}
 use Rattle.sc_print.proofs.Common.{SpellsParams, SpellsResult, SpellsStars, SpellsTypeName, SpellsValue, TypeName}
-use Rattle.sc_print.proofs.Common.{TypeTree, [], and_from, and_parts, ap, append-nil, append_assoc, arith}
-use Rattle.sc_print.proofs.Common.{array_length, base_words, blank, blank_if, cases_lt, codes, comma, const_words}
-use Rattle.sc_print.proofs.Common.{decl_words, declared_words, ended, expr_words, false, false≢true, first_line, fits}
-use Rattle.sc_print.proofs.Common.{flat_map, function_words, global_words, head_of, head_words, init_words, is_ident}
+use Rattle.sc_print.proofs.Common.{TypeTree, [], and_from, and_parts, ap, append-nil, append_assoc, arith, array_length}
+use Rattle.sc_print.proofs.Common.{base_words, blank, blank_if, cases_lt, codes, comma, const_words, decl_words}
+use Rattle.sc_print.proofs.Common.{declared_words, ended, expr_words, false, false≢true, first_line, fits, flat_map}
+use Rattle.sc_print.proofs.Common.{function_words, global_words, head_of, head_words, init_words, is_ident}
 use Rattle.sc_print.proofs.Common.{is_kept_decl, join_by, kept_base, kept_const, kept_function, kept_global, kept_head}
 use Rattle.sc_print.proofs.Common.{kept_init, kept_length, kept_local, kept_member, kept_name, kept_param, kept_result}
 use Rattle.sc_print.proofs.Common.{kept_type, kept_value, le-leb, leb-true, length_number, length_words, line_of}

@@ -14,8 +14,8 @@ use Rattle.sc_lex.specs.declared.token.TokenKind.TheVariants as kind
 use Rattle.sc_print.proofs.Tables.{at_least_2}
 use Rattle.sc_print.proofs.Literals.{name_kind, name_some, literal_kind, literal_some}
 use Rattle.sc_print.proofs.Apart.{IsWord, Calm, starts, plain_word, open_paren, close_paren, open_square, close_square}
-use Rattle.sc_print.proofs.Apart.{dot, arrow, binary_word, is_loud, Quiet, IsSign, plus, minus, ampersand, Opens}
-use Rattle.sc_print.proofs.Apart.{quiet, IsPrefix, signed, bang, asterisk, tilde, prefix_word, sign}
+use Rattle.sc_print.proofs.Apart.{dot, arrow, binary_word, is_loud, Quiet, IsSign, plus, minus, ampersand, Opens, quiet}
+use Rattle.sc_print.proofs.Apart.{IsPrefix, signed, bang, asterisk, tilde, prefix_word, sign}
 
 -- Each word among the pieces is the token at its place, where this stands behind the pieces.
 pub data Tidy : List Piece → List ℕ → Type 0 where

@@ -3,10 +3,10 @@ use Rattle.sc_print.proofs.Common.{Bool, CallTree, Each, ExprTree, IsTrue, Layou
 use Rattle.sc_print.proofs.Common.{SimpleKind, SimpleTree, Some, StmtKind, StmtTree, [], all_kept, and_parts}
 use Rattle.sc_print.proofs.Common.{append-nil, are_kept, blank, block_words, call_words, chain_words, codes, comma}
 use Rattle.sc_print.proofs.Common.{condition_words, deeper, else_words, ended, equals, expr_words, false, first_words}
-use Rattle.sc_print.proofs.Common.{for_words, if◌then◌else◌, indent, is_chain, is_ident, is_kept, is_kept_stmt}
-use Rattle.sc_print.proofs.Common.{join_by, kept_call, kept_option, kept_place, kept_simple, layouts, length, line_of}
-use Rattle.sc_print.proofs.Common.{lines_at, list_all, map, newline, next_words, place_words, refl, return_words}
-use Rattle.sc_print.proofs.Common.{simple_words, stmt_layout, subst, sym, true, word, ℕ, ◌++◌, ◌==◌, ◌∷◌, ◌≡◌}
+use Rattle.sc_print.proofs.Common.{for_words, if◌then◌else◌, indent, is_chain, is_ident, is_kept, is_kept_stmt, join_by}
+use Rattle.sc_print.proofs.Common.{kept_call, kept_option, kept_place, kept_simple, layouts, length, line_of, lines_at}
+use Rattle.sc_print.proofs.Common.{list_all, map, newline, next_words, place_words, refl, return_words, simple_words}
+use Rattle.sc_print.proofs.Common.{stmt_layout, subst, sym, true, word, ℕ, ◌++◌, ◌==◌, ◌∷◌, ◌≡◌}
 use Rattle.sc_ast.specs.declared.stmt.SimpleKind.TheVariants as simple
 use Rattle.sc_ast.specs.declared.stmt.StmtKind.TheOpen as layer
 use Rattle.sc_lex.specs.declared.token.TokenKind.TheVariants as kind

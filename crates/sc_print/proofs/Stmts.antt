@@ -5,14 +5,15 @@ use Rattle.sc_print.proofs.Common.{SpellsBlock, SpellsCall, SpellsCondition, Spe
 use Rattle.sc_print.proofs.Common.{SpellsPlace, SpellsStmtKind, SpellsStmts, StmtKind, StmtTree, StmtsSpell, []}
 use Rattle.sc_print.proofs.Common.{all_kept, and_parts, ap, append-nil, append_assoc, ap₂, are_kept, arith, bare_stmt}
 use Rattle.sc_print.proofs.Common.{behind_else, blank, block_words, call_words, chain_words, codes, comma}
-use Rattle.sc_print.proofs.Common.{condition_words, deeper, else_words, ended, eqb-true, equals, expr_words, false}
-use Rattle.sc_print.proofs.Common.{false≢true, first_line, first_words, for_words, if_words, if◌then◌else◌, indent}
-use Rattle.sc_print.proofs.Common.{is_chain, is_ident, is_kept, is_kept_stmt, join_by, kept_call, kept_option}
-use Rattle.sc_print.proofs.Common.{kept_place, kept_simple, layouts, length, line_of, lineless_kind, lineless_option}
-use Rattle.sc_print.proofs.Common.{lineless_stmt, lineless_stmts, lines_at, list_all, loosest_level, map, ne_eqb}
-use Rattle.sc_print.proofs.Common.{newline, next_words, no_args, place_words, refl, return_words, roll-StmtKind}
-use Rattle.sc_print.proofs.Common.{simple_words, some_args, stmt_layout, subst, sym, symbols, true, word, word_symbol}
-use Rattle.sc_print.proofs.Common.{ℕ, ◌&&◌, ◌++◌, ◌==◌, ◌∙◌, ◌∷◌, ◌≡◌}
+use Rattle.sc_print.proofs.Common.{condition_words, deeper, else_words, ended, eqb-true, equals}
+use Rattle.sc_print.proofs.Common.{everywhere as everywhere_holds, expr_words, false, false≢true, first_line}
+use Rattle.sc_print.proofs.Common.{first_words, for_words, if_words, if◌then◌else◌, indent, is_chain, is_ident, is_kept}
+use Rattle.sc_print.proofs.Common.{is_kept_stmt, join_by, kept_call, kept_option, kept_place, kept_simple, layouts}
+use Rattle.sc_print.proofs.Common.{length, line_of, lineless_kind, lineless_option, lineless_stmt, lineless_stmts}
+use Rattle.sc_print.proofs.Common.{lines_at, list_all, loosest_level, map, ne_eqb, newline, next_words, no_args}
+use Rattle.sc_print.proofs.Common.{place_words, refl, return_words, roll-StmtKind, simple_words, some_args, stmt_layout}
+use Rattle.sc_print.proofs.Common.{subst, sym, symbols, true, word, word_symbol, ℕ, ◌&&◌, ◌++◌, ◌==◌, ◌∙◌, ◌∷◌, ◌≡◌}
+use Rattle.sc_ast.specs.Prelude.{kind_of}
 use Rattle.sc_ast.specs.declared.stmt.SimpleKind.TheVariants as simple
 use Rattle.sc_expr.specs.declared.mark.Mark.TheVariants as mark
 use Rattle.sc_parse.specs.Statements as spell
@@ -20,12 +21,9 @@ use Rattle.sc_print.proofs.Tables as tables
 use Rattle.sc_print.proofs.Reading.{Say, Reading, fixed, part, written, reads, separated, line_symbols}
 use Rattle.sc_print.proofs.Literals.{name_says}
 use Rattle.sc_print.proofs.Spelling.{spelled_at}
-use Rattle.sc_ast.specs.Prelude.{kind_of}
 use Rattle.sc_ast.specs.declared.stmt.StmtKind.TheOpen as layer
 use Rattle.sc_ast.specs.declared.stmt.StmtKind.TheVariants as stmt
-use Rattle.sc_print.proofs.Each.{all_at, kept_each, each_kept, Kept, Of, Forms, by_forms, bare_if, bare_while}
-use Rattle.sc_print.proofs.Each.{bare_for}
-use Rattle.sc_ast.proofs.Induction.{everywhere as everywhere_holds}
+use Rattle.sc_print.proofs.Each.{all_at, kept_each, each_kept, Kept, Of, Forms, by_forms, bare_if, bare_while, bare_for}
 use Rattle.sc_expr.specs.declared.mark.Keyword.TheVariants as keyword
 
 pub expr_reads : (e : ExprTree) → IsTrue (is_kept e) → Reading (expr_words e) (λ ts. Spells loosest_level ts e)

@@ -1,8 +1,8 @@
 -- What each fixed word says.
 use Rattle.sc_print.proofs.Common.{BinaryOp, Keyword, List, Mark, Some, UnaryOp, arith, binary_of, binary_text, codes}
 use Rattle.sc_print.proofs.Common.{is_integer, is_mark, is_name, is_number, is_reserved, keyword_of, kind_of, level_of}
-use Rattle.sc_print.proofs.Common.{mark_of, prefix_of, refl, says, suc, unary_text, word_kind, word_symbol, ℕ, ◌-◌}
-use Rattle.sc_print.proofs.Common.{◌≡◌, ◌≤◌}
+use Rattle.sc_print.proofs.Common.{mark_of, prefix_of, refl, says, suc, unary_text, word_kind, word_symbol, ℕ, ◌-◌, ◌≡◌}
+use Rattle.sc_print.proofs.Common.{◌≤◌}
 use Rattle.sc_base.specs.Levels as levels
 use Rattle.sc_base.specs.declared.op.UnaryOp.TheVariants as unary
 use Rattle.sc_base.specs.declared.op.BinaryOp.TheVariants as binary

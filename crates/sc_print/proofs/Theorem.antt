@@ -20,11 +20,7 @@ said bytes (t ∷ ts) = ap (λ x. symbol_of bytes t ∷ x) (said bytes ts)
 pub reads_back : (expr : ExprTree) → IsTrue (is_kept expr) → ReadsAs (expr_text expr) expr
 reads_back expr kept =
     let found = cut_of _ (tidy_at expr kept [] 11 [] refl).0 in
-    record {
-      tokens = found.tokens;
-      cut = found.cuts;
-      spelled = words_spell expr kept _ (said _ _ ∙ found.says);
-    }
+    record { tokens = found.tokens; cut = found.cuts; spelled = words_spell expr kept _ (said _ _ ∙ found.says) }
 
 pub stmts_read_back : (stmts : List StmtTree) → IsTrue (are_kept stmts) → (depth : ℕ) →
     StmtsReadAs (stmts_text depth stmts) stmts

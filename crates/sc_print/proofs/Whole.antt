@@ -1,11 +1,11 @@
 -- The words of whole sections spell them, and their text is cut into them.
-use Rattle.sc_print.proofs.Common.{Decl, IsTrue, Lexeme, List, Piece, SameButLines, SaysAll, SectionSpells}
-use Rattle.sc_print.proofs.Common.{SectionTree, SpellsDecl, SpellsDirectives, SpellsSection, [], and_parts, ap}
-use Rattle.sc_print.proofs.Common.{append_assoc, ap₂, decl_words, dense_decl, dense_text, dense_words, export_words}
-use Rattle.sc_print.proofs.Common.{flat_map, heading_words, import_words, is_kept_decl, is_name, kept_export}
-use Rattle.sc_print.proofs.Common.{kept_import, kept_section, lineless_decl, lineless_export, lineless_import}
-use Rattle.sc_print.proofs.Common.{list_all, map, newline, printed, refl, section_words, sym, symbols, text_of, true}
-use Rattle.sc_print.proofs.Common.{word, ℕ, ◌++◌, ◌∙◌, ◌∷◌, ◌≡◌}
+use Rattle.sc_print.proofs.Common.{Decl, IsTrue, Lexeme, List, Piece, SameButLines, SaysAll, SectionSpells, SectionTree}
+use Rattle.sc_print.proofs.Common.{SpellsDecl, SpellsDirectives, SpellsSection, [], and_parts, ap, append_assoc, ap₂}
+use Rattle.sc_print.proofs.Common.{decl_words, dense_decl, dense_text, dense_words, export_words, flat_map}
+use Rattle.sc_print.proofs.Common.{heading_words, import_words, is_kept_decl, is_name, kept_export, kept_import}
+use Rattle.sc_print.proofs.Common.{kept_section, lineless_decl, lineless_export, lineless_import, list_all, map}
+use Rattle.sc_print.proofs.Common.{newline, printed, refl, section_words, sym, symbols, text_of, true, word, ℕ, ◌++◌}
+use Rattle.sc_print.proofs.Common.{◌∙◌, ◌∷◌, ◌≡◌}
 use Rattle.sc_ast.specs.declared.section.Decl.TheVariants as decl
 use Rattle.sc_print.proofs.Reading.{joined_symbols, AllAlike, Reading, part, written, reads}
 use Rattle.sc_print.proofs.Spacing.{Tidy, line_end}

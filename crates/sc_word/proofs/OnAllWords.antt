@@ -3,10 +3,10 @@ use Rattle.sc_word.proofs.Common.{Agrees, Bool, IsOnWords, Ok, OperatorsAreInstr
 use Rattle.sc_word.proofs.Common.{add-mul, add_signed, add_word, ap, arith, bit, bit_and, bit_or, bit_xor, checked}
 use Rattle.sc_word.proofs.Common.{div_signed, div_unsigned, div_word, divu_word, false, int_lt, ints, mul_comm}
 use Rattle.sc_word.proofs.Common.{mul_signed, mul_word, nat_lt, neg_signed, neg_ℤ, not, pos, refl, rem_signed}
-use Rattle.sc_word.proofs.Common.{rem_unsigned, rem_word, remu_word, shl_signed, shl_unsigned, shr_signed}
-use Rattle.sc_word.proofs.Common.{shr_unsigned, signed_of, sll_word, sltu_word, sra_word, srl_word, sub_signed}
-use Rattle.sc_word.proofs.Common.{sub_word, suc, sym, true, word_of, zero, ℕ, ℤ, ◌%◌, ◌&&◌, ◌*ℤ◌, ◌*◌, ◌+ℤ◌, ◌+◌, ◌-ℤ◌}
-use Rattle.sc_word.proofs.Common.{◌-◌, ◌<◌, ◌==◌, ◌^◌, ◌||◌, ◌∙◌, ◌≡◌, ◌≤◌}
+use Rattle.sc_word.proofs.Common.{rem_unsigned, rem_word, remu_word, shl_signed, shl_unsigned, shr_signed, shr_unsigned}
+use Rattle.sc_word.proofs.Common.{signed_of, sll_word, sltu_word, sra_word, srl_word, sub_signed, sub_word, suc, sym}
+use Rattle.sc_word.proofs.Common.{true, word_of, zero, ℕ, ℤ, ◌%◌, ◌&&◌, ◌*ℤ◌, ◌*◌, ◌+ℤ◌, ◌+◌, ◌-ℤ◌, ◌-◌, ◌<◌, ◌==◌, ◌^◌}
+use Rattle.sc_word.proofs.Common.{◌||◌, ◌∙◌, ◌≡◌, ◌≤◌}
 use Rattle.sc_word.proofs.Words.{word_of-add, word_of-sub, word_of-mul}
 
 zero_left : (z : ℤ) → pos 0 +ℤ z ≡ z

@@ -1,7 +1,7 @@
 -- Words and the numbers that they stand for.
-use Rattle.sc_word.proofs.Common.{ap, arith, cast_unsigned, int_wrap, negsuc, of_z-to_z, pos, refl, signed_of, sym}
-use Rattle.sc_word.proofs.Common.{w32, word_of, wrapping_add-bits, wrapping_mul-bits, wrapping_sub-bits, ℕ, ℤ, ◌%◌}
-use Rattle.sc_word.proofs.Common.{◌*ℤ◌, ◌*◌, ◌+ℤ◌, ◌+◌, ◌-ℤ◌, ◌-◌, ◌<◌, ◌^◌, ◌∙◌, ◌≡◌}
+use Rattle.sc_word.proofs.Common.{ap, arith, cast_unsigned, int_wrap, negsuc, of_z-to_z, pos, refl, signed_of, sym, w32}
+use Rattle.sc_word.proofs.Common.{word_of, wrapping_add-bits, wrapping_mul-bits, wrapping_sub-bits, ℕ, ℤ, ◌%◌, ◌*ℤ◌}
+use Rattle.sc_word.proofs.Common.{◌*◌, ◌+ℤ◌, ◌+◌, ◌-ℤ◌, ◌-◌, ◌<◌, ◌^◌, ◌∙◌, ◌≡◌}
 
 pub word_of-lt : (z : ℤ) → word_of z < 2 ^ 32
 word_of-lt (pos n) = omega arith
