@@ -13,7 +13,6 @@ unfoldable pub use Rattle.sc_ast.specs.Prelude.{export_words, import_words}
 pub use Rattle.sc_ast.specs.declared.expr.CallTree.{CallTree}
 pub use Rattle.sc_ast.specs.declared.expr.ExprTree.{ExprTree, ExprTree-F, fold-ExprTree, fold-roll-ExprTree}
 pub use Rattle.sc_ast.specs.declared.expr.ExprTree.{ind-ExprTree, map-ExprTree, roll-ExprTree, the_lemmas}
-pub use Rattle.sc_ast.specs.declared.stmt.SimpleKind.{SimpleKind}
 pub use Rattle.sc_ast.specs.declared.stmt.SimpleTree.{SimpleTree}
 pub use Rattle.sc_ast.specs.declared.stmt.StmtKind.{StmtKind, StmtKind-F, fold-StmtKind, fold-roll-StmtKind}
 pub use Rattle.sc_ast.specs.declared.stmt.StmtKind.{map-StmtKind, roll-StmtKind}

@@ -52,8 +52,7 @@ pub lines_are_left_out : lineless_stmt (record {
 }) ≡
     lineless_stmt (record {
       line = 7;
-      kind = stmt.While (expr.Variable (codes "c"))
-          (record { line = 9; kind = stmt.Break } ∷ []);
+      kind = stmt.While (expr.Variable (codes "c")) (record { line = 9; kind = stmt.Break } ∷ []);
     })
 lines_are_left_out = search (arith, rules, the_lemmas, kinds.the_lemmas, stmts.the_lemmas)
 

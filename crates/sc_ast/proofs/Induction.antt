@@ -23,8 +23,6 @@ Under P _ = Unit {0}
 
 module _ (P : ExprTree → Type 0) where
   under : (y : ExprTree-F ((e : ExprTree) × P e)) → Under P (map-ExprTree _ _ (λ e. e.0) y)
-  under (term.Literal literal) = tt
-  under (term.Variable name) = tt
   under (term.Unary op of) = of.1
   under (term.Binary op left right) = (left.1, right.1)
   under (term.Index base index) = (base.1, index.1)
@@ -32,6 +30,7 @@ module _ (P : ExprTree → Type 0) where
   under (term.Arrow base name) = base.1
   under (term.Deref of) = of.1
   under (term.Address of) = of.1
+  under _ = tt
 
   -- To show P of every expression, show it of one where P holds of each expression directly inside.
   pub expr_induction : ((t : ExprTree-F ExprTree) → Under P t → P (roll-ExprTree t)) → (e : ExprTree) → P e
@@ -59,23 +58,13 @@ module _ (P : StmtTree → Type 0) where
 
   inside : (y : StmtKind-F ((k : StmtKind) × AnyLine k) ((s : StmtTree) × P s)) →
       Inside P (map-StmtKind _ _ _ _ (λ k. k.0) (λ s. s.0) y)
-  inside layer.Empty = tt
-  inside (layer.Assign place value) = tt
-  inside (layer.AssignCall place call) = tt
-  inside (layer.Call call) = tt
-  inside (layer.If cond then_part else_part) = (each then_part, each else_part)
+  inside (layer.If cond then_part else_part) = (each _, each _)
   inside (layer.While cond body) = each body
   inside (layer.For first cond next body) = each body
-  inside layer.Break = tt
-  inside layer.Continue = tt
-  inside layer.Return = tt
-  inside (layer.ReturnValue value) = tt
-  inside (layer.ReturnCall call) = tt
+  inside _ = tt
 
   -- To show P of every statement, show it of one where P holds of each statement directly inside.
   pub stmt_induction : ((line : ℕ) (k : StmtKind-F StmtKind StmtTree) → Inside P k →
       P (record { line = line; kind = roll-StmtKind k })) → (s : StmtTree) → P s
-  stmt_induction step =
-      ind-StmtTree AnyLine P
-      (λ x y is line. step line x (subst (Inside P) is (inside y)))
+  stmt_induction step = ind-StmtTree AnyLine P (λ x y is line. step line x (subst (Inside P) is (inside y)))
       (λ x y is. subst (λ z. P (roll-StmtTree z)) is (y.kind.1 y.line))

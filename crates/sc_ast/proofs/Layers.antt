@@ -16,9 +16,7 @@ module _ (A B : Type 0) (kind_step : StmtKind-F A B → A) (stmt_step : StmtTree
       (fold-StmtTree A B kind_step stmt_step) k)
 
   -- the fold of a statement, by its line and the layer of its kind
-  pub stmt_at : (line : ℕ) (k : StmtKind-F StmtKind StmtTree) →
-      fold-StmtTree A B kind_step stmt_step (record { line = line; kind = roll-StmtKind k }) ≡
-      stmt_step (record { line = line; kind = layer_of k })
-  stmt_at line k =
-      fold-roll-StmtTree A B kind_step stmt_step (record { line = line; kind = roll-StmtKind k })
-      ∙ ap (λ x. stmt_step (record { line = line; kind = x })) (fold-roll-StmtKind A B kind_step stmt_step k)
+  pub stmt_at : (line : ℕ) (k : StmtKind-F StmtKind StmtTree) → fold-StmtTree A B kind_step stmt_step
+      (record { line = line; kind = roll-StmtKind k }) ≡ stmt_step (record { line = line; kind = layer_of k })
+  stmt_at line k = fold-roll-StmtTree A B kind_step stmt_step _ ∙ ap (λ x. stmt_step (record { line = line; kind = x }))
+      (fold-roll-StmtKind A B kind_step stmt_step k)

@@ -9,8 +9,6 @@ pub first_param : (params : List FunctionParam) (first : FunctionParam) → firs
     1 ≤ length params → text_of (params_words (map param_of params)) ≡ text_of (param_words (param_of first)) ++
     text_of (flat_map (λ param. comma ++ param_words param) (map param_of (drop 1 params)))
 first_param [] first h some = absurd (omega (arith, some))
-first_param (p ∷ ps) first h some =
-    flat_map-append piece_text (param_words (param_of p))
-    (flat_map (λ param. comma ++ param_words param) (map param_of ps))
-    ∙ ap (λ q. text_of (param_words (param_of q)) ++ text_of
-    (flat_map (λ param. comma ++ param_words param) (map param_of ps))) (sym h)
+first_param (p ∷ ps) first h some = flat_map-append piece_text (param_words (param_of p))
+    (flat_map (λ param. comma ++ param_words param) (map param_of ps)) ∙ ap (λ q. text_of (param_words (param_of q)) ++
+    text_of (flat_map (λ param. comma ++ param_words param) (map param_of ps))) (sym h)

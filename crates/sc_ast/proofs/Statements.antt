@@ -1,8 +1,8 @@
 -- The height of each kind of statement, and a statement without its lines.
-use Rattle.sc_ast.proofs.Common.{CallTree, ExprTree, List, Option, SimpleKind, SimpleTree, StmtKind, StmtTree, ap}
-use Rattle.sc_ast.proofs.Common.{arith, call_height, expr_height, kind_height, kind_of, lineless_kind, lineless_stmt}
-use Rattle.sc_ast.proofs.Common.{max, option_height, refl, rules, simple_kind_height, stmt_height, stmts_height, ℕ, ◌+◌}
-use Rattle.sc_ast.proofs.Common.{◌∙◌, ◌≡◌}
+use Rattle.sc_ast.proofs.Common.{CallTree, ExprTree, List, Option, SimpleTree, StmtKind, StmtTree, call_height}
+use Rattle.sc_ast.proofs.Common.{expr_height, kind_height, kind_of, lineless_kind, lineless_stmt, max, option_height}
+use Rattle.sc_ast.proofs.Common.{rules, simple_kind_height, stmt_height, stmts_height, ℕ, ◌+◌, ◌≡◌}
+use Rattle.sc_ast.specs.declared.stmt.SimpleKind.{SimpleKind}
 use Rattle.sc_ast.specs.declared.stmt.SimpleKind.TheVariants as simple
 use Rattle.sc_ast.specs.declared.stmt.StmtKind.{the_lemmas}
 use Rattle.sc_ast.specs.declared.stmt.StmtKind.TheVariants as stmt
@@ -12,9 +12,8 @@ pub tree_height : (line : ℕ) (kind : StmtKind) → stmt_height (record { line 
     kind_height kind + 1
 tree_height line kind = search (rules, the_lemmas)
 
-pub if_height : (cond : ExprTree) (then_part else_part : List StmtTree) →
-    kind_height (stmt.If cond then_part else_part) ≡ max (expr_height cond)
-    (max (stmts_height then_part) (stmts_height else_part))
+pub if_height : (cond : ExprTree) (then_part else_part : List StmtTree) → kind_height
+    (stmt.If cond then_part else_part) ≡ max (expr_height cond) (max (stmts_height then_part) (stmts_height else_part))
 if_height cond then_part else_part = search (rules, the_lemmas)
 
 pub while_height : (cond : ExprTree) (body : List StmtTree) →
@@ -46,8 +45,7 @@ return_call_height call = search (rules, the_lemmas)
 
 pub plain_height : (kind : SimpleKind) → kind_height (kind_of kind) ≡ simple_kind_height kind
 plain_height (simple.Assign place value) = search (rules, the_lemmas)
-plain_height (simple.AssignCall place call) = search (rules, the_lemmas)
-plain_height (simple.Call call) = search (rules, the_lemmas)
+plain_height _ = search (rules, the_lemmas)
 
 pub bare_stmt : (line : ℕ) (kind : StmtKind) → lineless_stmt (record { line = line; kind = kind }) ≡
     record { line = 0; kind = lineless_kind kind }

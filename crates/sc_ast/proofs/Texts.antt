@@ -1,7 +1,7 @@
 -- The texts of small trees, computed.
-use Rattle.sc_ast.proofs.Common.{CallTree, ExprTree, List, None, SimpleKind, SimpleTree, Some, StmtKind, StmtTree, []}
-use Rattle.sc_ast.proofs.Common.{arith, codes, export_words, expr_words, false, import_words, layouts, lines_at, map}
-use Rattle.sc_ast.proofs.Common.{printed, refl, rules, text_of, the_lemmas, true, ℕ, ◌++◌, ◌∷◌, ◌≡◌}
+use Rattle.sc_ast.proofs.Common.{CallTree, ExprTree, List, None, SimpleTree, Some, StmtKind, StmtTree, [], arith, codes}
+use Rattle.sc_ast.proofs.Common.{export_words, expr_words, false, import_words, layouts, lines_at, map, printed, rules}
+use Rattle.sc_ast.proofs.Common.{text_of, the_lemmas, true, ℕ, ◌∷◌, ◌≡◌}
 use Rattle.std.specs.Fmt.{digits}
 use Rattle.sc_ast.specs.declared.types.BaseTree.{BaseTree}
 use Rattle.sc_ast.specs.declared.types.BaseTree.TheVariants as base
@@ -16,7 +16,6 @@ use Rattle.sc_ast.specs.declared.stmt.StmtKind as kinds
 use Rattle.sc_ast.specs.declared.stmt.StmtKind.TheVariants as stmt
 use Rattle.sc_ast.specs.declared.section.ConstTree.{ConstTree}
 use Rattle.sc_ast.specs.declared.section.InitTree.TheVariants as init
-use Rattle.sc_ast.specs.declared.section.LocalTree.{LocalTree}
 use Rattle.sc_ast.specs.declared.section.SectionTree.{SectionTree}
 use Rattle.sc_ast.specs.declared.section.Decl.TheVariants as decl
 
@@ -41,20 +40,18 @@ pub leaves_and_postfix_forms : map text (seven ∷ greatest ∷ a ∷ expr.Index
 unfolding digits
 leaves_and_postfix_forms = search (arith, rules, the_lemmas)
 
-pub signs_stand_apart : map text (expr.Unary unary.Minus (expr.Unary unary.Minus a) ∷
-    expr.Unary unary.Minus (expr.Unary unary.Plus a) ∷ expr.Unary unary.Plus (expr.Unary unary.Plus a) ∷
-    expr.Unary unary.Not (expr.Unary unary.Not a) ∷ expr.Unary unary.BitNot (expr.Unary unary.Minus a) ∷
-    expr.Deref (expr.Deref a) ∷ expr.Deref (expr.Address a) ∷ expr.Address (expr.Address a) ∷
-    expr.Address (expr.Deref a) ∷ expr.Unary unary.Minus (expr.Unary unary.Minus seven) ∷ []) ≡ codes "- -a" ∷
-    codes "-+a" ∷ codes "+ +a" ∷ codes "!!a" ∷ codes "~-a" ∷ codes "**a" ∷ codes "*&a" ∷ codes "& &a" ∷ codes "&*a" ∷
-    codes "- -7" ∷ []
+pub signs_stand_apart : map text (expr.Unary unary.Minus (expr.Unary unary.Minus a) ∷ expr.Unary unary.Minus
+    (expr.Unary unary.Plus a) ∷ expr.Unary unary.Plus (expr.Unary unary.Plus a) ∷ expr.Unary unary.Not
+    (expr.Unary unary.Not a) ∷ expr.Unary unary.BitNot (expr.Unary unary.Minus a) ∷ expr.Deref (expr.Deref a) ∷
+    expr.Deref (expr.Address a) ∷ expr.Address (expr.Address a) ∷ expr.Address (expr.Deref a) ∷ expr.Unary unary.Minus
+    (expr.Unary unary.Minus seven) ∷ []) ≡ codes "- -a" ∷ codes "-+a" ∷ codes "+ +a" ∷ codes "!!a" ∷ codes "~-a" ∷
+    codes "**a" ∷ codes "*&a" ∷ codes "& &a" ∷ codes "&*a" ∷ codes "- -7" ∷ []
 unfolding digits
 signs_stand_apart = search (arith, rules, the_lemmas)
 
-pub operands_of_signs : map text (expr.Unary unary.Minus (expr.Index a seven) ∷
-    expr.Index (expr.Unary unary.Minus a) seven ∷ expr.Member (expr.Deref a) (codes "m") ∷
-    expr.Arrow (expr.Address a) (codes "m") ∷ expr.Deref (expr.Arrow a (codes "m")) ∷
-    expr.Unary unary.Minus (expr.Binary binary.Sub a a) ∷
+pub operands_of_signs : map text (expr.Unary unary.Minus (expr.Index a seven) ∷ expr.Index (expr.Unary unary.Minus a)
+    seven ∷ expr.Member (expr.Deref a) (codes "m") ∷ expr.Arrow (expr.Address a) (codes "m") ∷
+    expr.Deref (expr.Arrow a (codes "m")) ∷ expr.Unary unary.Minus (expr.Binary binary.Sub a a) ∷
     expr.Index (expr.Binary binary.Add a a) (expr.Binary binary.Add a a) ∷ []) ≡ codes "-a[7]" ∷ codes "(-a)[7]" ∷
     codes "(*a).m" ∷ codes "(&a)->m" ∷ codes "*a->m" ∷ codes "-(a - a)" ∷ codes "(a + a)[a + a]" ∷ []
 unfolding digits
@@ -63,37 +60,32 @@ operands_of_signs = search (arith, rules, the_lemmas)
 pub levels_of_sums_and_products : map text (expr.Binary binary.Sub (expr.Binary binary.Sub a a) a ∷
     expr.Binary binary.Sub a (expr.Binary binary.Sub a a) ∷ expr.Binary binary.Add a (expr.Binary binary.Mul a a) ∷
     expr.Binary binary.Mul (expr.Binary binary.Add a a) a ∷ expr.Binary binary.Mul a (expr.Binary binary.Div a a) ∷
-    expr.Binary binary.Div (expr.Binary binary.Mul a a) a ∷
-    expr.Binary binary.OrElse a (expr.Binary binary.AndAlso a a) ∷
-    expr.Binary binary.AndAlso (expr.Binary binary.OrElse a a) a ∷ []) ≡ codes "a - a - a" ∷ codes "a - (a - a)" ∷
-    codes "a + a * a" ∷ codes "(a + a) * a" ∷ codes "a * (a / a)" ∷ codes "a * a / a" ∷ codes "a || a && a" ∷
-    codes "(a || a) && a" ∷ []
+    expr.Binary binary.Div (expr.Binary binary.Mul a a) a ∷ expr.Binary binary.OrElse a
+    (expr.Binary binary.AndAlso a a) ∷ expr.Binary binary.AndAlso (expr.Binary binary.OrElse a a) a ∷ []) ≡
+    codes "a - a - a" ∷ codes "a - (a - a)" ∷ codes "a + a * a" ∷ codes "(a + a) * a" ∷ codes "a * (a / a)" ∷
+    codes "a * a / a" ∷ codes "a || a && a" ∷ codes "(a || a) && a" ∷ []
 unfolding digits
 levels_of_sums_and_products = search (arith, rules, the_lemmas)
 
 pub levels_of_shifts_and_comparisons : map text (expr.Binary binary.ShiftLeft a (expr.Binary binary.Add a a) ∷
-    expr.Binary binary.Add (expr.Binary binary.ShiftLeft a a) a ∷
-    expr.Binary binary.Equal a (expr.Binary binary.Less a a) ∷
-    expr.Binary binary.Equal (expr.Binary binary.BitAnd a a) a ∷
-    expr.Binary binary.BitOr a (expr.Binary binary.BitXor a a) ∷
-    expr.Binary binary.GreaterEqual a (expr.Binary binary.ShiftRight a a) ∷
-    expr.Binary binary.NotEqual a (expr.Binary binary.NotEqual a a) ∷
-    expr.Binary binary.Rem a (expr.Unary unary.Minus a) ∷ []) ≡ codes "a << a + a" ∷ codes "(a << a) + a" ∷
-    codes "a == a < a" ∷ codes "(a & a) == a" ∷ codes "a | a ^ a" ∷ codes "a >= a >> a" ∷ codes "a != (a != a)" ∷
-    codes "a % -a" ∷ []
+    expr.Binary binary.Add (expr.Binary binary.ShiftLeft a a) a ∷ expr.Binary binary.Equal a
+    (expr.Binary binary.Less a a) ∷ expr.Binary binary.Equal (expr.Binary binary.BitAnd a a) a ∷ expr.Binary
+    binary.BitOr a (expr.Binary binary.BitXor a a) ∷ expr.Binary binary.GreaterEqual a
+    (expr.Binary binary.ShiftRight a a) ∷ expr.Binary binary.NotEqual a (expr.Binary binary.NotEqual a a) ∷ expr.Binary
+    binary.Rem a (expr.Unary unary.Minus a) ∷ []) ≡ codes "a << a + a" ∷ codes "(a << a) + a" ∷ codes "a == a < a" ∷
+    codes "(a & a) == a" ∷ codes "a | a ^ a" ∷ codes "a >= a >> a" ∷ codes "a != (a != a)" ∷ codes "a % -a" ∷ []
 unfolding digits
 levels_of_shifts_and_comparisons = search (arith, rules, the_lemmas)
 
 pub operators : map text (expr.Binary binary.OrElse a seven ∷ expr.Binary binary.AndAlso a seven ∷
     expr.Binary binary.BitOr a seven ∷ expr.Binary binary.BitXor a seven ∷ expr.Binary binary.BitAnd a seven ∷
     expr.Binary binary.Equal a seven ∷ expr.Binary binary.NotEqual a seven ∷ expr.Binary binary.Less a seven ∷
-    expr.Binary binary.Greater a seven ∷ expr.Binary binary.LessEqual a seven ∷
-    expr.Binary binary.GreaterEqual a seven ∷ expr.Binary binary.ShiftLeft a seven ∷
-    expr.Binary binary.ShiftRight a seven ∷ expr.Binary binary.Add a seven ∷ expr.Binary binary.Sub a seven ∷
-    expr.Binary binary.Mul a seven ∷ expr.Binary binary.Div a seven ∷ expr.Binary binary.Rem a seven ∷ []) ≡
-    codes "a || 7" ∷ codes "a && 7" ∷ codes "a | 7" ∷ codes "a ^ 7" ∷ codes "a & 7" ∷ codes "a == 7" ∷ codes "a != 7" ∷
-    codes "a < 7" ∷ codes "a > 7" ∷ codes "a <= 7" ∷ codes "a >= 7" ∷ codes "a << 7" ∷ codes "a >> 7" ∷ codes "a + 7" ∷
-    codes "a - 7" ∷ codes "a * 7" ∷ codes "a / 7" ∷ codes "a % 7" ∷ []
+    expr.Binary binary.Greater a seven ∷ expr.Binary binary.LessEqual a seven ∷ expr.Binary binary.GreaterEqual a
+    seven ∷ expr.Binary binary.ShiftLeft a seven ∷ expr.Binary binary.ShiftRight a seven ∷ expr.Binary binary.Add a
+    seven ∷ expr.Binary binary.Sub a seven ∷ expr.Binary binary.Mul a seven ∷ expr.Binary binary.Div a seven ∷
+    expr.Binary binary.Rem a seven ∷ []) ≡ codes "a || 7" ∷ codes "a && 7" ∷ codes "a | 7" ∷ codes "a ^ 7" ∷
+    codes "a & 7" ∷ codes "a == 7" ∷ codes "a != 7" ∷ codes "a < 7" ∷ codes "a > 7" ∷ codes "a <= 7" ∷ codes "a >= 7" ∷
+    codes "a << 7" ∷ codes "a >> 7" ∷ codes "a + 7" ∷ codes "a - 7" ∷ codes "a * 7" ∷ codes "a / 7" ∷ codes "a % 7" ∷ []
 unfolding digits
 operators = search (arith, rules, the_lemmas)
 
@@ -117,21 +109,17 @@ assign = record { line = 1; kind = simple.Assign a seven }
 abbrev assign_call : SimpleTree
 assign_call = record { line = 1; kind = simple.AssignCall (expr.Deref a) without_args }
 
-pub assignments :
-    lines (stmt.Empty ∷ stmt.Assign a seven ∷ stmt.AssignCall (expr.Deref a) without_args ∷ []) ≡
+pub assignments : lines (stmt.Empty ∷ stmt.Assign a seven ∷ stmt.AssignCall (expr.Deref a) without_args ∷ []) ≡
     codes "  ;\n  a = 7;\n  *a = f();\n"
 unfolding digits
 assignments = search (arith, rules, the_lemmas, kinds.the_lemmas, stmts.the_lemmas)
 
-pub calls :
-    lines (stmt.Call with_args ∷ stmt.Call without_args ∷ []) ≡ codes "  f(a, 7);\n  f();\n"
+pub calls : lines (stmt.Call with_args ∷ stmt.Call without_args ∷ []) ≡ codes "  f(a, 7);\n  f();\n"
 unfolding digits
 calls = search (arith, rules, the_lemmas, kinds.the_lemmas, stmts.the_lemmas)
 
-pub jumps :
-    lines (stmt.Break ∷ stmt.Continue ∷ stmt.Return ∷ stmt.ReturnValue (expr.Binary binary.Add a a) ∷
-    stmt.ReturnCall with_args ∷ [])
-    ≡ codes "  break;\n  continue;\n  return;\n  return a + a;\n  return f(a, 7);\n"
+pub jumps : lines (stmt.Break ∷ stmt.Continue ∷ stmt.Return ∷ stmt.ReturnValue (expr.Binary binary.Add a a) ∷
+    stmt.ReturnCall with_args ∷ []) ≡ codes "  break;\n  continue;\n  return;\n  return a + a;\n  return f(a, 7);\n"
 unfolding digits
 jumps = search (arith, rules, the_lemmas, kinds.the_lemmas, stmts.the_lemmas)
 

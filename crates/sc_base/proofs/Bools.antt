@@ -1,7 +1,6 @@
 -- Tests that are joined by `&&`, from their parts and into them, and one that another asks for. std has `and_from`,
 -- `and_parts`, `or_from`, `or_parts`, `or_left` and `or_right`. And what stands in a value that is there.
-use Rattle.sc_base.proofs.Common.{Bool, IsSome, None, Option, Some, and_parts, false, not, refl, true, true≢false, ◌&&◌}
-use Rattle.sc_base.proofs.Common.{◌||◌, ◌≡◌}
+use Rattle.sc_base.proofs.Common.{Bool, IsSome, None, Option, Some, and_parts, false, not, refl, true, ◌&&◌, ◌||◌, ◌≡◌}
 
 pub and_first : (a b : Bool) → (a && b) ≡ true → a ≡ true
 and_first a b h = (and_parts a b h).0

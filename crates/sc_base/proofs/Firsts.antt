@@ -3,8 +3,7 @@ use Rattle.sc_base.proofs.Common.{Bool, List, None, Some, [], ap, cond, false, f
 use Rattle.sc_base.proofs.Common.{insert_entry, pointwise, refl, true, ℕ, ◌++◌, ◌==◌, ◌∷◌, ◌≡◌}
 
 module _ {V : Type 0} (name : List ℕ) (value : V) where
-  absent_at : (b : Bool) (e : List ℕ × V) (es : List (List ℕ × V)) →
-      cond b (Some e.1) (first_by_name es name) ≡ None →
+  absent_at : (b : Bool) (e : List ℕ × V) (es : List (List ℕ × V)) → cond b (Some e.1) (first_by_name es name) ≡ None →
       (first_by_name es name ≡ None → insert_entry (pointwise ◌==◌) es name value ≡ es ++ (name, value) ∷ []) →
       (if b then (e.0, value) ∷ es else e ∷ insert_entry (pointwise ◌==◌) es name value) ≡ e ∷
       (es ++ (name, value) ∷ [])

@@ -45,9 +45,8 @@ take_front (x ∷ xs) ys = ap (λ rest. x ∷ rest) (take_front xs ys)
 
 pub drop_next : {A : Type 0} (xs : List A) (i : ℕ) → drop 1 (drop i xs) ≡ drop (suc i) xs
 drop_next [] zero = refl
-drop_next [] (suc i) = refl
-drop_next (x ∷ xs) zero = refl
 drop_next (x ∷ xs) (suc i) = drop_next xs i
+drop_next _ _ = refl
 
 -- one step of a loop over a list: what is left, and what was
 pub drop-step : {A : Type 0} (xs : List A) (i : ℕ) (x : A) → i < length xs → x ≡ get_or xs i x →
@@ -104,17 +103,14 @@ position-cons p x xs = by (p x) where
   by : (b : Bool) → cond (ltb (cond (not b) (1 + position_or_len p xs) 0) (suc (length xs)))
       (Some (cond (not b) (1 + position_or_len p xs) 0)) None ≡ cond b (Some 0) (option_map suc (position p xs))
   by true = ap (λ b. cond b (Some 0) None) (zero_within (length xs))
-  by false =
-      ap (λ k. cond (ltb k (suc (length xs))) (Some k) None) (one_more (position_or_len p xs))
-      ∙ within_suc (position_or_len p xs) (length xs)
+  by false = ap (λ k. cond (ltb k (suc (length xs))) (Some k) None) (one_more (position_or_len p xs)) ∙
+      within_suc (position_or_len p xs) (length xs)
 
 pub position_map : {A B : Type 0} (f : A → B) (p : B → Bool) (xs : List A) →
     position p (map f xs) ≡ position (λ x. p (f x)) xs
 position_map f p [] = refl
-position_map f p (x ∷ xs) =
-    position-cons p (f x) (map f xs)
-    ∙ ap (λ o. cond (p (f x)) (Some 0) (option_map suc o)) (position_map f p xs)
-    ∙ sym (position-cons (λ x. p (f x)) x xs)
+position_map f p (x ∷ xs) = position-cons p (f x) (map f xs) ∙ ap (λ o. cond (p (f x)) (Some 0) (option_map suc o))
+    (position_map f p xs) ∙ sym (position-cons (λ x. p (f x)) x xs)
 
 not_both : (b : Bool) → b ≡ true → b ≡ false → ⊥
 not_both b holds fails = let never : true ≡ false = sym holds ∙ fails in cc never

@@ -22,8 +22,7 @@ one-further i n = omega arith
 from-more : {X : Type 0} (p : X → Bool) (i : ℕ) (xs : List X) (x : X) →
     position_from p i (xs ++ x ∷ []) ≡ or_behind (position_from p i xs) (p x) (i + length xs)
 from-more p i [] x = let e : i ≡ i + 0 = omega arith in ap (λ n. cond (p x) (Some n) None) e
-from-more p i (y ∷ xs) x =
-    more-behind (p y) (p x) i (i + suc (length xs)) (position_from p (i + 1) (xs ++ x ∷ []))
+from-more p i (y ∷ xs) x = more-behind (p y) (p x) i (i + suc (length xs)) (position_from p (i + 1) (xs ++ x ∷ []))
     (position_from p (i + 1) xs)
     (from-more p (i + 1) xs x ∙ ap (or_behind (position_from p (i + 1) xs) (p x)) (one-further i (length xs)))
 
@@ -35,9 +34,8 @@ from-some : {X : Type 0} (p : X → Bool) (i : ℕ) (xs : List X) → is_some (p
 from-some p i [] = refl
 from-some p i (x ∷ xs) = some-or (p x) (list_any p xs) i (position_from p (i + 1) xs) (from-some p (i + 1) xs)
 
-number-more : (names : List (List ℕ)) (name other : List ℕ) →
-    number_of (names ++ name ∷ []) other ≡ or_behind (number_of names other) (pointwise nat_eq other name)
-    (length names)
+number-more : (names : List (List ℕ)) (name other : List ℕ) → number_of (names ++ name ∷ []) other ≡
+    or_behind (number_of names other) (pointwise nat_eq other name) (length names)
 number-more names name other =
     position_from-zero (pointwise nat_eq other) (names ++ name ∷ [])
     ∙ (from-more (pointwise nat_eq other) 0 names name
@@ -78,11 +76,8 @@ module _ {S : Type 0} (names : List (List ℕ)) (name : List ℕ) (places : Inde
   -- a name that was there
   pub known-place : is_some (get (pointwise ◌==◌) places name) ≡ true → HasPlaces (names ++ name ∷ []) places
   known-place h = record {
-    at = λ other.
-        has.at other
-        ∙ (old-place names name other (number_of names other) (pointwise nat_eq other name)
-        (ap is_some (sym (has.at name)) ∙ h) refl refl
-        ∙ sym (number-more names name other));
+    at = λ other. has.at other ∙ (old-place names name other (number_of names other) (pointwise nat_eq other name)
+        (ap is_some (sym (has.at name)) ∙ h) refl refl ∙ sym (number-more names name other));
   }
 
   -- a new name

@@ -36,23 +36,20 @@ over_at f made n is = by_test (nat_le made n) refl where
 same_laid : (f g : Found) (count from : ℕ) → ((n : ℕ) → from ≤ n → n < from + count → f n ≡ g n) →
     laid_out f count from ≡ laid_out g count from
 same_laid f g zero from same = refl
-same_laid f g (suc count) from same =
-    (λ i. block_of (same from (omega arith) (omega arith) i) ∷
-    same_laid f g count (suc from) (λ n low high. same n (omega (arith, low)) (omega (arith, high))) i)
+same_laid f g (suc count) from same = (λ i. block_of (same from (omega arith) (omega arith) i) ∷ same_laid f g count
+    (suc from) (λ n low high. same n (omega (arith, low)) (omega (arith, high))) i)
 
 -- one block more
 pub push_laid : (f g : Found) (count from at : ℕ) (cells : List Cell) → at ≡ from + count → f at ≡ Some cells →
     ((n : ℕ) → n < at → f n ≡ g n) → laid_out f (suc count) from ≡ laid_out g count from ++ living cells ∷ []
 push_laid f g zero from at cells is new same =
     let here : from ≡ at = omega (arith, is) in ap (λ m. block_of (f m) ∷ []) here ∙ ap (λ o. block_of o ∷ []) new
-push_laid f g (suc count) from at cells is new same =
-    (λ i. block_of (same from (omega (arith, is)) i) ∷
-    push_laid f g count (suc from) at cells (omega (arith, is)) new same i)
+push_laid f g (suc count) from at cells is new same = (λ i. block_of (same from (omega (arith, is)) i) ∷ push_laid f g
+    count (suc from) at cells (omega (arith, is)) new same i)
 
 -- other cells at a number
-pub set_laid : (f g : Found) (count from at n : ℕ) (cells : List Cell) → n ≡ from + at → at < count →
-    g n ≡ Some cells → ((m : ℕ) → (m ≡ n → ⊥) → g m ≡ f m) →
-    slice_set (laid_out f count from) at (living cells) ≡ laid_out g count from
+pub set_laid : (f g : Found) (count from at n : ℕ) (cells : List Cell) → n ≡ from + at → at < count → g n ≡ Some cells →
+    ((m : ℕ) → (m ≡ n → ⊥) → g m ≡ f m) → slice_set (laid_out f count from) at (living cells) ≡ laid_out g count from
 set_laid f g zero from at n cells is h new same = absurd (omega (arith, h))
 set_laid f g (suc count) from zero n cells is h new same =
     let here : n ≡ from = omega (arith, is) in
@@ -73,12 +70,10 @@ pub cleared_laid : (f g : Found) (made first count from low : ℕ) → low ≡ f
     ((n : ℕ) → from ≤ n → n < from + made → low + count ≤ n → g n ≡ f n) →
     cleared first count (laid_out f made from) ≡ laid_out g made from
 cleared_laid f g zero zero zero from low is inside below above = refl
-cleared_laid f g zero zero (suc count) from low is inside below above = refl
-cleared_laid f g zero (suc first) count from low is inside below above = refl
-cleared_laid f g (suc made) zero zero from low is inside below above =
-    (λ i. (given (f from) ∙ ap block_of (sym (above from (omega arith) (omega arith) (omega (arith, is))))) i ∷
-    cleared_laid f g made zero zero (suc from) (suc low) (omega (arith, is))
-    (λ n a b c d. absurd (omega (arith, c, d)))
+cleared_laid f g zero _ _ from low is inside below above = refl
+cleared_laid f g (suc made) zero zero from low is inside below above = (λ i.
+    (given (f from) ∙ ap block_of (sym (above from (omega arith) (omega arith) (omega (arith, is))))) i ∷ cleared_laid f
+    g made zero zero (suc from) (suc low) (omega (arith, is)) (λ n a b c d. absurd (omega (arith, c, d)))
     (λ n a b c. absurd (omega (arith, a, c, is)))
     (λ n a b c. above n (omega (arith, a)) (omega (arith, b)) (omega (arith, c))) i)
 cleared_laid f g (suc made) zero (suc count) from low is inside below above =

@@ -1,9 +1,6 @@
-pub mod Adding
 pub mod Common
 pub mod Laying
 pub mod Living
 pub mod Memories
-pub mod Reading
 pub mod Removing
-pub mod Searching
 pub mod Storing

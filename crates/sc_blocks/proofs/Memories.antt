@@ -7,9 +7,8 @@ use Rattle.std.proofs.Math.Dec.{eqb-suc-zero, eqb-zero-suc, eqb-suc-suc}
 
 row_of_more : (rows : List Blocks) (comp : ℕ) → slice_index_or (rows ++ [] ∷ []) comp [] ≡ slice_index_or rows comp []
 row_of_more [] zero = refl
-row_of_more [] (suc comp) = refl
-row_of_more (row ∷ rows) zero = refl
 row_of_more (row ∷ rows) (suc comp) = row_of_more rows comp
+row_of_more _ _ = refl
 
 -- one more compartment has no blocks yet
 pub memory_more : (rows : List Blocks) → memory_of (rows ++ [] ∷ []) ≡ memory_of rows
@@ -25,9 +24,8 @@ row_of_set [] comp row c h = absurd (omega arith)
 row_of_set (r ∷ rows) zero row zero h = refl
 row_of_set (r ∷ rows) zero row (suc c) h = ap (λ b. if b then row else slice_index_or rows c []) (sym (eqb-suc-zero c))
 row_of_set (r ∷ rows) (suc comp) row zero h = ap (λ b. if b then row else r) (sym (eqb-zero-suc comp))
-row_of_set (r ∷ rows) (suc comp) row (suc c) h =
-    row_of_set rows comp row c (omega arith) ∙ ap (λ b. if b then row else slice_index_or rows c [])
-    (sym (eqb-suc-suc c comp))
+row_of_set (r ∷ rows) (suc comp) row (suc c) h = row_of_set rows comp row c (omega arith) ∙
+    ap (λ b. if b then row else slice_index_or rows c []) (sym (eqb-suc-suc c comp))
 
 pub memory_set : (rows : List Blocks) (comp : ℕ) (row : Blocks) → comp < length rows →
     memory_of (slice_set rows comp row) ≡ with_blocks comp row (memory_of rows)
@@ -36,9 +34,8 @@ memory_set rows comp row h = λ i c. row_of_set rows comp row c h i
 -- a row, as it was looked up
 pub row_is : (rows : List Blocks) (memory : Memory) (at comp : ℕ) (old : Blocks) → memory_of rows ≡ memory → at ≡ comp →
     comp < length rows → old ≡ get_or rows at old → old ≡ memory comp
-row_is rows memory at comp old is same there looked =
-    looked ∙ get_or_default rows at old [] (subst (λ n. n < length rows) (sym same) there) ∙
-    ap (λ n. slice_index_or rows n []) same ∙ (λ i. is i comp)
+row_is rows memory at comp old is same there looked = looked ∙ get_or_default rows at old []
+    (subst (λ n. n < length rows) (sym same) there) ∙ ap (λ n. slice_index_or rows n []) same ∙ (λ i. is i comp)
 
 -- what a change of one row makes of the memory
 pub memory_changed : (rows : List Blocks) (memory : Memory) (at comp : ℕ) (old row : Blocks) (f : Blocks → Blocks) →
@@ -59,8 +56,7 @@ same_at memory comp c false is = refl
 
 nothing_cleared : (first count : ℕ) → cleared first count [] ≡ []
 nothing_cleared zero zero = refl
-nothing_cleared zero (suc count) = refl
-nothing_cleared (suc first) count = refl
+nothing_cleared _ _ = refl
 
 -- a compartment without a row has no blocks that could end
 pub none_end : (rows : List Blocks) (comp first count : ℕ) → length rows ≤ comp →

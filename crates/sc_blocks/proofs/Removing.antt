@@ -60,17 +60,22 @@ none_below : (slots : List Slot) (from made number : ℕ) → IsRising from made
 none_below [] from made number up h = refl
 none_below (s ∷ slots) from made number up h = not_below number s slots (omega (arith, h, up.0))
 
-kept_low : (first end : ℕ) (s : Slot) (slots : List Slot) → s.number < first →
-    without first end (s ∷ slots) ≡ s ∷ without first end slots
-kept_low first end s slots h = rw (lt-ltb _ first h) refl
+-- where a first block is: before those that end, among them, or behind
+data Turn (first end : ℕ) (s : Slot) (slots : List Slot) : Type 0 where
+  is_before : s.number < first → without first end (s ∷ slots) ≡ s ∷ without first end slots → Turn first end s slots
+  is_among : first ≤ s.number → s.number < end → without first end (s ∷ slots) ≡ without first end slots →
+      Turn first end s slots
+  is_behind : first ≤ s.number → end ≤ s.number → without first end (s ∷ slots) ≡ s ∷ without first end slots →
+      Turn first end s slots
 
-kept_high : (first end : ℕ) (s : Slot) (slots : List Slot) → first ≤ s.number → end ≤ s.number →
-    without first end (s ∷ slots) ≡ s ∷ without first end slots
-kept_high first end s slots h high = rw (le-ltb _ first h) (rw (le-ltb _ end high) refl)
-
-dropped : (first end : ℕ) (s : Slot) (slots : List Slot) → first ≤ s.number → s.number < end →
-    without first end (s ∷ slots) ≡ without first end slots
-dropped first end s slots h high = rw (le-ltb _ first h) (rw (lt-ltb _ end high) refl)
+turn : (first end : ℕ) (s : Slot) (slots : List Slot) → Turn first end s slots
+turn first end s slots = elim (cases_lt s.number first) [
+  | inl h ↦ is_before h (rw (lt-ltb _ first h) refl)
+  | inr h ↦ elim (cases_lt s.number end) [
+    | inl k ↦ is_among h k (rw (le-ltb _ first h) (rw (lt-ltb _ end k) refl))
+    | inr k ↦ is_behind h k (rw (le-ltb _ first h) (rw (le-ltb _ end k) refl))
+  ]
+]
 
 -- what is taken out by place is what ends by number
 pub removed : (slots : List Slot) (from made first end : ℕ) → first ≤ end → IsRising from made slots →
@@ -79,21 +84,19 @@ removed [] from made first end order up = refl
 removed (s ∷ slots) from made first end order up =
     let later = removed slots (suc _) made first end order up.1 in
     let b = count_below end slots in
-    elim (cases_lt s.number first) [
-      | inl low ↦ (λ i. remove_range (s ∷ slots) (below first s slots low i)
-          (below end s slots (omega (arith, low, order)) i))
-          ∙ ap (λ ts. s ∷ ts) later ∙ sym (kept_low first end s slots low)
-      | inr h ↦
+    elim (turn first end s slots) [
+      | is_before h is ↦
+          (λ i. remove_range (s ∷ slots) (below first s slots h i) (below end s slots (omega (arith, h, order)) i))
+          ∙ ap (λ ts. s ∷ ts) later ∙ sym is
+      | is_among h k is ↦
           let none = none_below slots _ made first up.1 (omega (arith, h)) in
-          elim (cases_lt s.number end) [
-            | inl inside ↦ (λ i. remove_range (s ∷ slots) (not_below first s slots h i) (below end s slots inside i))
-                ∙ sym (ap (λ n. remove_range slots n b) none) ∙ later ∙ sym (dropped first end s slots h inside)
-            | inr high ↦
-                let none_too = none_below slots _ made end up.1 (omega (arith, high)) in
-                (λ i. remove_range (s ∷ slots) (not_below first s slots h i) (not_below end s slots high i))
-                ∙ ap (λ ts. s ∷ ts) (sym (λ i. remove_range slots (none i) (none_too i)) ∙ later)
-                ∙ sym (kept_high first end s slots h high)
-          ]
+          (λ i. remove_range (s ∷ slots) (not_below first s slots h i) (below end s slots k i))
+          ∙ sym (ap (λ n. remove_range slots n b) none) ∙ later ∙ sym is
+      | is_behind h k is ↦
+          let none = none_below slots _ made first up.1 (omega (arith, h)) in
+          let none_too = none_below slots _ made end up.1 (omega (arith, k)) in
+          (λ i. remove_range (s ∷ slots) (not_below first s slots h i) (not_below end s slots k i))
+          ∙ ap (λ ts. s ∷ ts) (sym (λ i. remove_range slots (none i) (none_too i)) ∙ later) ∙ sym is
     ]
 
 pub rising_without : (slots : List Slot) (from made first end : ℕ) → IsRising from made slots →
@@ -101,28 +104,24 @@ pub rising_without : (slots : List Slot) (from made first end : ℕ) → IsRisin
 rising_without [] from made first end up = up
 rising_without (s ∷ slots) from made first end up =
     let later = rising_without slots _ made first end up.1 in
-    elim (cases_lt _ first) [
-      | inl low ↦ rw (kept_low first end s slots low) (up.0, later)
-      | inr h ↦ elim (cases_lt _ end) [
-        | inl inside ↦ rw (dropped first end s slots h inside) (rising_down _ _ made from later (omega (arith, up.0)))
-        | inr high ↦ rw (kept_high first end s slots h high) (up.0, later)
-      ]
+    elim (turn first end s slots) [
+      | is_before h is ↦ rw is (up.0, later)
+      | is_among h k is ↦ rw is (rising_down _ _ made from later (omega (arith, up.0)))
+      | is_behind h k is ↦ rw is (up.0, later)
     ]
 
 -- no block that ends is found
 pub ended_found : (slots : List Slot) (first end n : ℕ) → first ≤ n → n < end →
     cells_among (without first end slots) n ≡ None
-ended_found [] first end n low inside = refl
-ended_found (s ∷ slots) first end n low inside =
-    let later = ended_found slots first end n low inside in
+ended_found [] first end n lower within = refl
+ended_found (s ∷ slots) first end n lower within =
+    let later = ended_found slots first end n lower within in
     let other : (s.number ≡ n → ⊥) → cells_among (s ∷ without first end slots) n ≡ None =
     λ h. skipped s _ n h ∙ later in
-    elim (cases_lt _ first) [
-      | inl lower ↦ rw (kept_low first end s slots lower) (other (λ same. omega (arith, same, lower, low)))
-      | inr h ↦ elim (cases_lt _ end) [
-        | inl here ↦ rw (dropped first end s slots h here) later
-        | inr high ↦ rw (kept_high first end s slots h high) (other (λ same. omega (arith, same, high, inside)))
-      ]
+    elim (turn first end s slots) [
+      | is_before h is ↦ rw is (other (λ same. omega (arith, same, h, lower)))
+      | is_among h k is ↦ rw is later
+      | is_behind h k is ↦ rw is (other (λ same. omega (arith, same, k, within)))
     ]
 
 outsider : (n k first end : ℕ) → n < first ⊎ end ≤ n → first ≤ k → k < end → k ≡ n → ⊥
@@ -135,23 +134,18 @@ pub rest_found : (slots : List Slot) (first end n : ℕ) → n < first ⊎ end �
 rest_found [] first end n outside = refl
 rest_found (s ∷ slots) first end n outside =
     let later = rest_found slots first end n outside in
-    let kept =
-    ap (λ o. if s.number == n then Some s.cells else o) later in
-    elim (cases_lt _ first) [
-      | inl lower ↦ rw (kept_low first end s slots lower) kept
-      | inr h ↦ elim (cases_lt _ end) [
-        | inl here ↦ rw (dropped first end s slots h here)
-            (later ∙ sym (skipped s slots n (λ same. outsider n _ first end outside h here same)))
-        | inr high ↦ rw (kept_high first end s slots h high) kept
-      ]
+    let kept = ap (λ o. if s.number == n then Some s.cells else o) later in
+    elim (turn first end s slots) [
+      | is_before h is ↦ rw is kept
+      | is_among h k is ↦ rw is (later ∙ sym (skipped s slots n (λ same. outsider n _ first end outside h k same)))
+      | is_behind h k is ↦ rw is kept
     ]
 
 -- a row once blocks have ended, by those that still live
 pub row_without : (slots after : List Slot) (made first count end : ℕ) → after ≡ without first end slots →
     ((n : ℕ) → n < made → n < first + count → n < end) → end ≤ first + count →
     laid_out (cells_among after) made 0 ≡ cleared first count (laid_out (cells_among slots) made 0)
-row_without slots after made first count end is far near =
-    ap (λ ss. laid_out (cells_among ss) made 0) is ∙
+row_without slots after made first count end is far near = ap (λ ss. laid_out (cells_among ss) made 0) is ∙
     sym (cleared_laid (cells_among slots) (cells_among _) made first count 0 first (omega arith)
     (λ n a b c d. ended_found slots first end n c (far n (omega (arith, b)) d))
     (λ n a b c. rest_found slots first end n (inl c))

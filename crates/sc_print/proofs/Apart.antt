@@ -1,7 +1,7 @@
 -- Words that stand apart from the text behind them.
 use Rattle.sc_print.proofs.Common.{BinaryOp, Bool, IsToken, Keyword, List, Some, TokenKind, [], and_from, and_parts, ap}
-use Rattle.sc_print.proofs.Common.{arith, begins_block_comment, begins_line_comment, binary_text, codes, drop, false}
-use Rattle.sc_print.proofs.Common.{false≢true, is_mark, is_name_byte, is_reserved, le-leb, length, length-append}
+use Rattle.sc_print.proofs.Common.{arith, begins_block_comment, begins_line_comment, binary_text, codes, drop, eq-eqb}
+use Rattle.sc_print.proofs.Common.{false, false≢true, is_mark, is_name_byte, is_reserved, le-leb, length, length-append}
 use Rattle.sc_print.proofs.Common.{list_all, mark_one, mark_two, marks, nat_le, prefix_len, refl, slice_index, sym}
 use Rattle.sc_print.proofs.Common.{take, take-append_seam, true, word_found, word_kind, word_run, ℕ, ◌&&◌, ◌++◌, ◌<◌}
 use Rattle.sc_print.proofs.Common.{◌==◌, ◌||◌, ◌∙◌, ◌∷◌, ◌≡◌}
@@ -68,7 +68,7 @@ two_three c e (d ∷ rest) h = ap (λ x. nat_le 3 (length (c ∷ e ∷ d ∷ res
     and-false (nat_le 3 (length (c ∷ e ∷ d ∷ rest)))
 
 -- a mark of one byte
-pub one_word : (c : ℕ) (rest : List ℕ) → is_mark (c ∷ []) ≡ true → is_name_byte c ≡ false → (c ≡ 35 → ⊥) →
+pub one_word : (c : ℕ) (rest : List ℕ) → is_mark (c ∷ []) ≡ true → is_name_byte c ≡ false → (c == 35) ≡ false →
     begins_block_comment (c ∷ rest) ≡ false → begins_line_comment (c ∷ rest) ≡ false →
     is_mark (c ∷ slice_index rest 0 ∷ []) ≡ false → ((d : ℕ) → is_mark (c ∷ slice_index rest 0 ∷ d ∷ []) ≡ false) →
     IsWord (c ∷ []) rest
@@ -76,73 +76,64 @@ one_word c rest is name line block comment two three =
     let some : 0 < length (c ∷ rest) = omega arith in
     record {
       kind = kind.Mark;
-      token = λ here. mark_one _ some name line (one_three c rest three) (one_two c rest two)
+      token = λ here. mark_one _ some name (λ e. false≢true (sym line ∙ eq-eqb c 35 e)) (one_three c rest three) (one_two c rest two)
           (and_from _ _ (le-leb 1 _ (omega arith)) is)
           (λ b. false≢true (sym block ∙ b)) (λ b. false≢true (sym comment ∙ b)) here;
     }
 
 -- a mark of two bytes
-pub two_word : (c e : ℕ) (rest : List ℕ) → is_mark (c ∷ e ∷ []) ≡ true → is_name_byte c ≡ false → (c ≡ 35 → ⊥) →
+pub two_word : (c e : ℕ) (rest : List ℕ) → is_mark (c ∷ e ∷ []) ≡ true → is_name_byte c ≡ false → (c == 35) ≡ false →
     begins_block_comment (c ∷ e ∷ rest) ≡ false → begins_line_comment (c ∷ e ∷ rest) ≡ false →
     is_mark (c ∷ e ∷ slice_index rest 0 ∷ []) ≡ false → IsWord (c ∷ e ∷ []) rest
 two_word c e rest is name line block comment three =
     let some : 0 < length (c ∷ e ∷ rest) = omega arith in
     record {
       kind = kind.Mark;
-      token = λ here. mark_two _ some name line (two_three c e rest three) (and_from _ _
+      token = λ here. mark_two _ some name (λ e. false≢true (sym line ∙ eq-eqb c 35 e)) (two_three c e rest three) (and_from _ _
           (le-leb 2 _ (omega arith)) is) (λ b. false≢true (sym block ∙ b)) (λ b. false≢true (sym comment ∙ b)) here;
     }
 
 -- brackets and what else no longer mark begins with
 pub open_paren : (rest : List ℕ) → IsWord (codes "(") rest
 unfolding is_mark
-open_paren rest = one_word 40 rest refl refl (λ e. omega (arith, e)) refl refl refl (λ d. refl)
+open_paren rest = one_word 40 rest refl refl refl refl refl refl (λ d. refl)
 
 pub close_paren : (rest : List ℕ) → IsWord (codes ")") rest
 unfolding is_mark
-close_paren rest = one_word 41 rest refl refl (λ e. omega (arith, e)) refl refl refl (λ d. refl)
+close_paren rest = one_word 41 rest refl refl refl refl refl refl (λ d. refl)
 
 pub open_square : (rest : List ℕ) → IsWord (codes "[") rest
 unfolding is_mark
-open_square rest = one_word 91 rest refl refl (λ e. omega (arith, e)) refl refl refl (λ d. refl)
+open_square rest = one_word 91 rest refl refl refl refl refl refl (λ d. refl)
 
 pub close_square : (rest : List ℕ) → IsWord (codes "]") rest
 unfolding is_mark
-close_square rest = one_word 93 rest refl refl (λ e. omega (arith, e)) refl refl refl (λ d. refl)
+close_square rest = one_word 93 rest refl refl refl refl refl refl (λ d. refl)
 
 pub dot : (rest : List ℕ) → IsWord (codes ".") rest
 unfolding is_mark
-dot rest = one_word 46 rest refl refl (λ e. omega (arith, e)) refl refl refl (λ d. refl)
+dot rest = one_word 46 rest refl refl refl refl refl refl (λ d. refl)
 
 pub arrow : (rest : List ℕ) → IsWord (codes "->") rest
 unfolding is_mark
-arrow rest = two_word 45 62 rest refl refl (λ e. omega (arith, e)) refl refl refl
+arrow rest = two_word 45 62 rest refl refl refl refl refl refl
 
 pub plus_plus : (rest : List ℕ) → IsWord (codes "++") rest
 unfolding is_mark
-plus_plus rest = two_word 43 43 rest refl refl (λ e. omega (arith, e)) refl refl refl
+plus_plus rest = two_word 43 43 rest refl refl refl refl refl refl
 
 -- an operator before a blank
 pub binary_word : (op : BinaryOp) (rest : List ℕ) → IsWord (binary_text op) (32 ∷ rest)
 unfolding is_mark
-binary_word binary.OrElse rest = two_word 124 124 _ refl refl (λ e. omega (arith, e)) refl refl refl
-binary_word binary.AndAlso rest = two_word 38 38 _ refl refl (λ e. omega (arith, e)) refl refl refl
-binary_word binary.BitOr rest = one_word 124 _ refl refl (λ e. omega (arith, e)) refl refl refl (λ d. refl)
-binary_word binary.BitXor rest = one_word 94 _ refl refl (λ e. omega (arith, e)) refl refl refl (λ d. refl)
-binary_word binary.BitAnd rest = one_word 38 _ refl refl (λ e. omega (arith, e)) refl refl refl (λ d. refl)
-binary_word binary.Equal rest = two_word 61 61 _ refl refl (λ e. omega (arith, e)) refl refl refl
-binary_word binary.NotEqual rest = two_word 33 61 _ refl refl (λ e. omega (arith, e)) refl refl refl
-binary_word binary.Less rest = one_word 60 _ refl refl (λ e. omega (arith, e)) refl refl refl (λ d. refl)
-binary_word binary.Greater rest = one_word 62 _ refl refl (λ e. omega (arith, e)) refl refl refl (λ d. refl)
-binary_word binary.LessEqual rest = two_word 60 61 _ refl refl (λ e. omega (arith, e)) refl refl refl
-binary_word binary.GreaterEqual rest = two_word 62 61 _ refl refl (λ e. omega (arith, e)) refl refl refl
-binary_word binary.ShiftLeft rest = two_word 60 60 _ refl refl (λ e. omega (arith, e)) refl refl refl
-binary_word binary.ShiftRight rest = two_word 62 62 _ refl refl (λ e. omega (arith, e)) refl refl refl
-binary_word binary.Add rest = one_word 43 _ refl refl (λ e. omega (arith, e)) refl refl refl (λ d. refl)
-binary_word binary.Sub rest = one_word 45 _ refl refl (λ e. omega (arith, e)) refl refl refl (λ d. refl)
-binary_word binary.Mul rest = one_word 42 _ refl refl (λ e. omega (arith, e)) refl refl refl (λ d. refl)
-binary_word binary.Div rest = one_word 47 _ refl refl (λ e. omega (arith, e)) refl refl refl (λ d. refl)
-binary_word binary.Rem rest = one_word 37 _ refl refl (λ e. omega (arith, e)) refl refl refl (λ d. refl)
+binary_word binary.OrElse rest = two_word 124 124 _ refl refl refl refl refl refl
+binary_word binary.AndAlso rest = two_word 38 38 _ refl refl refl refl refl refl
+binary_word binary.Equal rest = two_word 61 61 _ refl refl refl refl refl refl
+binary_word binary.NotEqual rest = two_word 33 61 _ refl refl refl refl refl refl
+binary_word binary.LessEqual rest = two_word 60 61 _ refl refl refl refl refl refl
+binary_word binary.GreaterEqual rest = two_word 62 61 _ refl refl refl refl refl refl
+binary_word binary.ShiftLeft rest = two_word 60 60 _ refl refl refl refl refl refl
+binary_word binary.ShiftRight rest = two_word 62 62 _ refl refl refl refl refl refl
+binary_word _ rest = one_word _ _ refl refl refl refl refl refl (λ d. refl)
 
 -- the bytes that may stand in a mark behind its first
 abbrev pub is_loud : ℕ → Bool
@@ -167,95 +158,53 @@ pub data Opens (before text : List ℕ) : Type 0 where
   quiet : Quiet text → Opens before text
   sign : IsSign (slice_index text 0) → (before ≡ slice_index text 0 ∷ [] → ⊥) → Opens before text
 
--- an operator in front of an operand
-abbrev Pairs : ℕ → Type 0
-Pairs c = (b : ℕ) → IsSign b → ((c ∷ []) ≡ b ∷ [] → ⊥) →
+-- what may stand in front of an operand
+pub data IsPrefix : ℕ → Type 0 where
+  signed : {c : ℕ} → IsSign c → IsPrefix c
+  bang : IsPrefix 33
+  asterisk : IsPrefix 42
+  tilde : IsPrefix 126
+
+pairs : {c b : ℕ} → IsSign b → IsPrefix c → ((c ∷ []) ≡ b ∷ [] → ⊥) →
     (is_mark (c ∷ b ∷ []) ≡ false) × ((d : ℕ) → is_mark (c ∷ b ∷ d ∷ []) ≡ false)
+unfolding is_mark
+pairs plus (signed plus) h = absurd (h refl)
+pairs minus (signed minus) h = absurd (h refl)
+pairs ampersand (signed ampersand) h = absurd (h refl)
+pairs _ _ h = (refl, λ d. refl)
 
-sign_word : (c : ℕ) (rest : List ℕ) → is_mark (c ∷ []) ≡ true → is_name_byte c ≡ false → (c ≡ 35 → ⊥) →
-    begins_block_comment (c ∷ rest) ≡ false → begins_line_comment (c ∷ rest) ≡ false → Pairs c → Opens (c ∷ []) rest →
-    IsWord (c ∷ []) rest
-sign_word c rest is name line block comment pairs (quiet q) =
+sign_word : {c : ℕ} (p : IsPrefix c) (rest : List ℕ) → is_mark (c ∷ []) ≡ true → is_name_byte c ≡ false →
+    (c == 35) ≡ false → begins_block_comment (c ∷ rest) ≡ false → begins_line_comment (c ∷ rest) ≡ false →
+    Opens (c ∷ []) rest → IsWord (c ∷ []) rest
+sign_word {c} p rest is name line block comment (quiet q) =
     one_word c rest is name line block comment (no_mark c _ [] q) (λ d. no_mark c _ _ q)
-sign_word c rest is name line block comment pairs (sign s other) = let p = pairs _ s other in
-    one_word c rest is name line block comment p.0 p.1
+sign_word {c} p rest is name line block comment (sign s other) = let both = pairs s p other in
+    one_word c rest is name line block comment both.0 both.1
 
-pairs_minus : Pairs 45
+pub prefix_word : {c : ℕ} → IsPrefix c → (rest : List ℕ) → Opens (c ∷ []) rest → IsWord (c ∷ []) rest
 unfolding is_mark
-pairs_minus b plus h = (refl, λ d. refl)
-pairs_minus b minus h = absurd (h refl)
-pairs_minus b ampersand h = (refl, λ d. refl)
-
-pub minus_word : (rest : List ℕ) → Opens (45 ∷ []) rest → IsWord (45 ∷ []) rest
-unfolding is_mark
-minus_word rest o = sign_word 45 rest refl refl (λ e. omega (arith, e)) refl refl pairs_minus o
-
-pairs_plus : Pairs 43
-unfolding is_mark
-pairs_plus b plus h = absurd (h refl)
-pairs_plus b minus h = (refl, λ d. refl)
-pairs_plus b ampersand h = (refl, λ d. refl)
-
-pub plus_word : (rest : List ℕ) → Opens (43 ∷ []) rest → IsWord (43 ∷ []) rest
-unfolding is_mark
-plus_word rest o = sign_word 43 rest refl refl (λ e. omega (arith, e)) refl refl pairs_plus o
-
-pairs_not : Pairs 33
-unfolding is_mark
-pairs_not b plus h = (refl, λ d. refl)
-pairs_not b _ h = (refl, λ d. refl)
-
-pub not_word : (rest : List ℕ) → Opens (33 ∷ []) rest → IsWord (33 ∷ []) rest
-unfolding is_mark
-not_word rest o = sign_word 33 rest refl refl (λ e. omega (arith, e)) refl refl pairs_not o
-
-pairs_tilde : Pairs 126
-unfolding is_mark
-pairs_tilde b plus h = (refl, λ d. refl)
-pairs_tilde b _ h = (refl, λ d. refl)
-
-pub tilde_word : (rest : List ℕ) → Opens (126 ∷ []) rest → IsWord (126 ∷ []) rest
-unfolding is_mark
-tilde_word rest o = sign_word 126 rest refl refl (λ e. omega (arith, e)) refl refl pairs_tilde o
-
-pairs_star : Pairs 42
-unfolding is_mark
-pairs_star b plus h = (refl, λ d. refl)
-pairs_star b _ h = (refl, λ d. refl)
-
-pub star_word : (rest : List ℕ) → Opens (42 ∷ []) rest → IsWord (42 ∷ []) rest
-unfolding is_mark
-star_word rest o = sign_word 42 rest refl refl (λ e. omega (arith, e)) refl refl pairs_star o
-
-pairs_and : Pairs 38
-unfolding is_mark
-pairs_and b plus h = (refl, λ d. refl)
-pairs_and b minus h = (refl, λ d. refl)
-pairs_and b ampersand h = absurd (h refl)
-
-pub and_word : (rest : List ℕ) → Opens (38 ∷ []) rest → IsWord (38 ∷ []) rest
-unfolding is_mark
-and_word rest o = sign_word 38 rest refl refl (λ e. omega (arith, e)) refl refl pairs_and o
+prefix_word (signed plus) rest o = sign_word (signed plus) rest refl refl refl refl refl o
+prefix_word p rest o = sign_word p rest refl refl refl refl refl o
 
 pub semicolon : (rest : List ℕ) → IsWord (codes ";") rest
 unfolding is_mark
-semicolon rest = one_word 59 rest refl refl (λ e. omega (arith, e)) refl refl refl (λ d. refl)
+semicolon rest = one_word 59 rest refl refl refl refl refl refl (λ d. refl)
 
 pub comma_word : (rest : List ℕ) → IsWord (codes ",") rest
 unfolding is_mark
-comma_word rest = one_word 44 rest refl refl (λ e. omega (arith, e)) refl refl refl (λ d. refl)
+comma_word rest = one_word 44 rest refl refl refl refl refl refl (λ d. refl)
 
 pub open_curly : (rest : List ℕ) → IsWord (codes "{") rest
 unfolding is_mark
-open_curly rest = one_word 123 rest refl refl (λ e. omega (arith, e)) refl refl refl (λ d. refl)
+open_curly rest = one_word 123 rest refl refl refl refl refl refl (λ d. refl)
 
 pub close_curly : (rest : List ℕ) → IsWord (codes "}") rest
 unfolding is_mark
-close_curly rest = one_word 125 rest refl refl (λ e. omega (arith, e)) refl refl refl (λ d. refl)
+close_curly rest = one_word 125 rest refl refl refl refl refl refl (λ d. refl)
 
 pub equal_word : (rest : List ℕ) → IsWord (codes "=") (32 ∷ rest)
 unfolding is_mark
-equal_word rest = one_word 61 _ refl refl (λ e. omega (arith, e)) refl refl refl (λ d. refl)
+equal_word rest = one_word 61 _ refl refl refl refl refl refl (λ d. refl)
 
 keyword_some : (w : Keyword) → 0 < length (keyword_text w)
 keyword_some keyword.Break = omega arith

@@ -22,9 +22,9 @@ pub use Rattle.sc_lex.proofs.Fronts.{directive_found, mark_one, mark_two, word_f
 pub use Rattle.sc_lex.proofs.Texts.{kind_of-directive, word_run}
 pub use Rattle.sc_lex.specs.Prelude.{Cuts, IsToken, allows_directive, base_of, begins_block_comment, begins_heading}
 pub use Rattle.sc_lex.specs.Prelude.{begins_line, begins_line_comment, digit_value, digits_of, gap, greatest_of}
-pub use Rattle.sc_lex.specs.Prelude.{has_suffix, is_blank, is_digit, is_empty, is_export, is_hexadecimal, is_import}
-pub use Rattle.sc_lex.specs.Prelude.{is_inside_line, is_white_space, marks, nothing, number, only_name, token, token_at}
-pub use Rattle.sc_lex.specs.Prelude.{value_of, white_space, without_suffix}
+pub use Rattle.sc_lex.specs.Prelude.{has_suffix, is_blank, is_digit, is_empty, is_hexadecimal, is_inside_line}
+pub use Rattle.sc_lex.specs.Prelude.{is_white_space, marks, nothing, number, only_name, token, token_at, value_of}
+pub use Rattle.sc_lex.specs.Prelude.{white_space, without_suffix}
 unfoldable pub use Rattle.sc_lex.specs.Prelude.{heading_name, integer_of, is_integer, is_mark, is_number, kind_of}
 unfoldable pub use Rattle.sc_lex.specs.Prelude.{line_kind, word_kind, words}
 pub use Rattle.sc_lex.specs.declared.token.TokenKind.{TokenKind}
@@ -64,9 +64,9 @@ unfoldable pub use Rattle.sc_ast.specs.declared.stmt.StmtKind.{roll-StmtKind}
 pub use Rattle.sc_ast.specs.declared.types.BaseTree.{BaseTree}
 pub use Rattle.sc_ast.specs.declared.types.TypeName.{TypeName}
 pub use Rattle.sc_ast.specs.declared.types.TypeTree.{TypeTree}
-pub use Rattle.sc_expr.specs.Prelude.{IsMark, Spells, arrow, binary_of, import_of, index, joined, lexeme_of, literal}
-pub use Rattle.sc_expr.specs.Prelude.{looser, member, or_unused, parenthesised, prefix_of, prefixed, symbol_of}
-pub use Rattle.sc_expr.specs.Prelude.{variable, «prefix»}
+pub use Rattle.sc_expr.specs.Prelude.{IsMark, Spells, arrow, binary_of, index, joined, lexeme_of, literal, looser}
+pub use Rattle.sc_expr.specs.Prelude.{member, or_unused, parenthesised, prefix_of, prefixed, symbol_of, variable}
+pub use Rattle.sc_expr.specs.Prelude.{«prefix»}
 unfoldable pub use Rattle.sc_expr.specs.Prelude.{keyword_of, mark_of, says}
 pub use Rattle.sc_expr.specs.declared.mark.Keyword.{Keyword}
 pub use Rattle.sc_expr.specs.declared.mark.Mark.{Mark}

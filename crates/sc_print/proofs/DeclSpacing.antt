@@ -16,14 +16,13 @@ use Rattle.sc_ast.specs.declared.types.BaseTree.TheVariants as base
 use Rattle.sc_ast.specs.declared.section.InitTree.TheVariants as init
 use Rattle.sc_ast.specs.declared.section.Decl.TheVariants as decl
 use Rattle.sc_lex.specs.declared.token.TokenKind.TheVariants as kind
-use Rattle.sc_print.proofs.Leaves.{name_kind, name_some}
-use Rattle.sc_print.proofs.Literals.{literal_kind, literal_some}
-use Rattle.sc_print.proofs.Apart.{IsWord, Calm, Quiet, quiet, plain_word, star_word, minus_word, open_paren}
-use Rattle.sc_print.proofs.Apart.{close_paren, open_square, close_square, semicolon, comma_word, open_curly}
+use Rattle.sc_print.proofs.Literals.{name_kind, name_some, literal_kind, literal_some}
+use Rattle.sc_print.proofs.Apart.{IsWord, Calm, Quiet, quiet, plain_word, prefix_word, signed, minus, asterisk}
+use Rattle.sc_print.proofs.Apart.{open_paren, close_paren, open_square, close_square, semicolon, open_curly}
 use Rattle.sc_print.proofs.Apart.{close_curly, equal_word, keyword_word}
 use Rattle.sc_print.proofs.Spacing.{Tidy, none, gap, next, at_level, line_end, tidy_append, Sound, word_quiet}
-use Rattle.sc_print.proofs.StmtSpacing.{Free, ended_tidy, expr_tidy, stmts_tidy}
-use Rattle.sc_print.proofs.Decls.{length_fits}
+use Rattle.sc_print.proofs.StmtSpacing.{Free, ended_tidy, expr_tidy, joined_tidy, stmts_tidy}
+use Rattle.sc_print.proofs.Sections.{length_fits}
 use Rattle.sc_expr.specs.declared.mark.Keyword.TheVariants as keyword
 
 name_tidy : (name : List ℕ) → IsTrue (is_ident name) → (rest : List ℕ) → Calm rest → IsWord name rest
@@ -46,7 +45,7 @@ stars_quiet (suc n) rest q = refl
 
 stars_tidy : (stars : ℕ) (rest : List ℕ) → Quiet rest → Tidy (star_words stars) rest
 stars_tidy zero rest q = none
-stars_tidy (suc n) rest q = next (star_word _ (quiet (stars_quiet n rest q))) (stars_tidy n rest q)
+stars_tidy (suc n) rest q = next (prefix_word asterisk _ (quiet (stars_quiet n rest q))) (stars_tidy n rest q)
 
 name_first : (name : List ℕ) (more : List Piece) → IsTrue (is_ident name) → (rest : List ℕ) →
     Quiet (text_of (word name ∷ more) ++ rest)
@@ -84,17 +83,6 @@ each_tidy words kept t (x ∷ xs) k rest =
     let parts = and_parts (kept x) (list_all kept xs) k in
     tidy_append (words x) (flat_map words xs) rest (t x parts.0 _) (each_tidy words kept t xs parts.1 rest)
 
--- with commas between them
-joined_tidy : {A : Type 0} (words : A → List Piece) (kept : A → Bool) →
-    ((x : A) → IsTrue (kept x) → (rest : List ℕ) → Calm rest → Quiet rest → Tidy (words x) rest) →
-    (x : A) (xs : List A) → IsTrue (kept x) → list_all kept xs ≡ true → (rest : List ℕ) → Calm rest → Quiet rest →
-    Tidy (join_by words comma (x ∷ xs)) rest
-joined_tidy words kept t x [] k all rest calm q = tidy_append _ [] rest (t x k rest calm q) none
-joined_tidy words kept t x (y ∷ ys) k all rest calm q =
-    let parts = and_parts (kept y) (list_all kept ys) all in
-    tidy_append (words x) (word _ ∷ blank ∷ join_by words comma (y ∷ ys)) rest (t x k _ refl refl)
-    (next (comma_word _) (gap (joined_tidy words kept t y ys parts.0 parts.1 rest calm q)))
-
 struct_tidy : (tree : StructTree) → IsTrue (kept_struct tree) → Free (struct_words tree)
 struct_tidy tree k rest =
     let parts = and_parts (is_ident tree.name) (some_kept kept_member tree.members) k in
@@ -109,7 +97,7 @@ struct_tidy tree k rest =
 
 const_from : (negative : Bool) (literal : Number) → IsTrue (fits literal) →
     Sound (minus_words negative ++ word (literal_text literal) ∷ [])
-const_from true literal k rest calm = next (minus_word _
+const_from true literal k rest calm = next (prefix_word (signed minus) _
     (quiet (subst (λ x. Quiet (x ++ rest)) (sym (append-nil (literal_text literal)))
     (word_quiet (literal_text literal) rest kind.Integer (literal_some literal k) (literal_kind literal k)))))
     (next (literal_tidy literal k _ calm) none)
@@ -123,8 +111,8 @@ init_tidy (init.Many (c ∷ cs)) k rest calm =
     let parts = and_parts (kept_const c) (list_all kept_const cs) k in
     gap (next (equal_word _) (gap (next (open_curly _)
     (tidy_append (join_by const_words comma (c ∷ cs)) (word (codes "}") ∷ []) rest
-    (joined_tidy const_words kept_const (λ x h r calm2 q.
-    const_from x.negative x.literal h r calm2) c cs parts.0 parts.1 _ refl refl) (next (close_curly _) none)))))
+    (joined_tidy const_words kept_const Calm (λ r. refl) (λ x. const_from x.negative x.literal) c cs parts.0 parts.1 _
+    refl) (next (close_curly _) none)))))
 
 both_tidy : (a b : List Piece) → Sound a → Sound b → ((rest : List ℕ) → Calm rest → Calm (text_of b ++ rest)) →
     Sound (a ++ b)
@@ -173,9 +161,12 @@ calm_if : (wanted : Bool) (pieces : List Piece) (rest : List ℕ) → Calm (text
 calm_if true pieces rest calm = refl
 calm_if false pieces rest calm = calm
 
+-- pieces that stand apart, whatever calm and quiet text is behind them
+abbrev Settled : List Piece → Type 0
+Settled pieces = (rest : List ℕ) → Calm rest → Quiet rest → Tidy pieces rest
+
 param_from : (b : BaseTree) (stars : ℕ) (name : Option (List ℕ)) → IsTrue (kept_base b) → IsTrue (kept_name name) →
-    (rest : List ℕ) → Calm rest → Quiet rest → Tidy (base_words b ++
-    (blank_if (nat_lt 0 stars || is_some name) ++ (star_words stars ++ name_words name))) rest
+    Settled (base_words b ++ (blank_if (nat_lt 0 stars || is_some name) ++ (star_words stars ++ name_words name)))
 param_from b zero None k ident rest calm q = tidy_append _ [] rest (base_tidy b k rest calm) none
 param_from b (suc n) None k ident rest calm q =
     let wanted = nat_lt 0 (suc n) || false in
@@ -191,16 +182,14 @@ param_from b (suc n) (Some name) k ident rest calm q =
     (gap_if wanted pieces rest (tidy_append (star_words (suc n)) (word name ∷ []) rest
     (stars_tidy (suc n) _ (name_first name [] ident rest)) (next (name_tidy name ident _ calm) none)))
 
-param_tidy : (p : ParamTree) → IsTrue (kept_param p) → (rest : List ℕ) → Calm rest → Quiet rest →
-    Tidy (param_words p) rest
-param_tidy p k rest calm q = let parts = and_parts _ _ k in
-    param_from _ _ p.name parts.0 parts.1 rest calm q
+param_tidy : (p : ParamTree) → IsTrue (kept_param p) → Settled (param_words p)
+param_tidy p k = let parts = and_parts _ _ k in param_from _ _ p.name parts.0 parts.1
 
-params_tidy : (ps : List ParamTree) → list_all kept_param ps ≡ true → (rest : List ℕ) → Calm rest → Quiet rest →
-    Tidy (params_words ps) rest
+params_tidy : (ps : List ParamTree) → list_all kept_param ps ≡ true → Settled (params_words ps)
 params_tidy [] k rest calm q = next (keyword_word keyword.Void _ calm) none
 params_tidy (p ∷ ps) k rest calm q = let parts = and_parts _ _ k in
-    joined_tidy param_words kept_param param_tidy p ps parts.0 parts.1 rest calm q
+    joined_tidy param_words kept_param (λ r. Calm r × Quiet r) (λ r. (refl, refl))
+    (λ p k r fine. param_tidy p k r fine.0 fine.1) p ps parts.0 parts.1 rest (calm, q)
 
 pub head_tidy : (head : HeadTree) → IsTrue (kept_head head) → Free (head_words head)
 head_tidy head k rest =

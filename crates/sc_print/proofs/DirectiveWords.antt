@@ -1,12 +1,11 @@
 -- What directive lines and compartment lines say, by their words.
 use Rattle.sc_print.proofs.Common.{Bool, List, Some, Symbol, TokenKind, [], and_from, and_parts, ap, append_assoc}
 use Rattle.sc_print.proofs.Common.{arith, begins_heading, codes, drop, false, false_from_ne_true, false≢true, filter}
-use Rattle.sc_print.proofs.Common.{get_or, heading_name, import_of, is_blank, is_empty, is_export, is_import}
-use Rattle.sc_print.proofs.Common.{is_inside_line, is_name, is_name_byte, is_nondigit, is_some, kind_of}
-use Rattle.sc_print.proofs.Common.{kind_of-directive, length, line_kind, list_all, list_all-append, name_of, ne_eqb}
-use Rattle.sc_print.proofs.Common.{not, not-true, only_name, option_and_then, or_left, or_unused, refl, says}
-use Rattle.sc_print.proofs.Common.{slice_eq-Decides, slice_index, slice_split, suc, sym, take, take-append_seam, true}
-use Rattle.sc_print.proofs.Common.{word_symbol, words, zero, ℕ, ◌++◌, ◌<◌, ◌==◌, ◌∙◌, ◌∷◌, ◌≡◌}
+use Rattle.sc_print.proofs.Common.{get_or, heading_name, is_blank, is_empty, is_inside_line, is_name, is_name_byte}
+use Rattle.sc_print.proofs.Common.{is_nondigit, is_some, kind_of, kind_of-directive, length, line_kind, list_all}
+use Rattle.sc_print.proofs.Common.{list_all-append, name_of, ne_eqb, not, not-true, only_name, option_and_then, or_left}
+use Rattle.sc_print.proofs.Common.{or_unused, refl, says, slice_eq-Decides, slice_index, slice_split, suc, sym, take}
+use Rattle.sc_print.proofs.Common.{take-append_seam, true, word_symbol, words, zero, ℕ, ◌++◌, ◌<◌, ◌==◌, ◌∙◌, ◌∷◌, ◌≡◌}
 use Rattle.std.proofs.lemmas.Bool.Decides.{Decides-eqb}
 use Rattle.std.proofs.lemmas.List.Splits.{slice_split_at, slice_split_none}
 use Rattle.sc_base.proofs.Lists.{list_all_along}
@@ -26,8 +25,7 @@ solid_at (b ∷ bs) h (suc k) d less = solid_at bs (and_parts _ _ h).1 k d (omeg
 
 kept_word : (word : List ℕ) (more : List (List ℕ)) → 0 < length word →
     filter (λ w. not (is_empty w)) (word ∷ more) ≡ word ∷ filter (λ w. not (is_empty w)) more
-kept_word [] more some = absurd (omega (arith, some))
-kept_word (b ∷ word) more some = let full = ne_eqb (length (b ∷ word)) 0 (λ e. absurd (omega (arith, e))) in rw full
+kept_word word more some = let full = ne_eqb (length word) 0 (λ e. omega (arith, some, e)) in rw full
 
 -- a word, a blank and what stands behind it
 word_front : (word rest : List ℕ) → list_all solid word ≡ true → 0 < length word →
@@ -59,10 +57,7 @@ named [] h = absurd (false≢true h)
 named (b ∷ bs) h =
     let parts = and_parts (is_nondigit b) _ h in
     let rest = and_parts _ _ parts.1 in
-    record {
-      some = omega arith;
-      bytes = and_from (is_name_byte b) _ (or_left _ _ parts.0) rest.0;
-    }
+    record { some = omega arith; bytes = and_from (is_name_byte b) _ (or_left _ _ parts.0) rest.0 }
 
 name_solid : (name : List ℕ) → is_name name ≡ true → list_all solid name ≡ true
 name_solid name h = list_all_along _ solid byte_solid name (named name h).bytes
@@ -93,114 +88,89 @@ kind_of_line text k first inside is =
     let begins : (slice_index text 0 == 35) ≡ true = rw first in
     kind_of-directive text first ∙ rw (begins, inside) is
 
-line_says : (text : List ℕ) (k : TokenKind) (s : Symbol) → kind_of text ≡ Some k → says k text ≡ Some s →
-    word_symbol text ≡ s
+line_says : (text : List ℕ) (k : TokenKind) (s : Symbol) → slice_index text 0 ≡ 35 →
+    list_all is_inside_line text ≡ true → line_kind text ≡ Some k → says k text ≡ Some s → word_symbol text ≡ s
 unfolding word_symbol
-line_says text k s kind_is said = ap (λ o. or_unused (option_and_then (λ j. says j text) o)) kind_is ∙ ap or_unused said
+line_says text k s first inside is said = ap (λ o. or_unused (option_and_then (λ j. says j text) o))
+    (kind_of_line text k first inside is) ∙ ap or_unused said
 
 -- no compartment line
-no_heading : (text : List ℕ) → begins_heading text ≡ false → is_some (heading_name text) ≡ false
+no_heading : (text : List ℕ) → (slice_index text 8 ≡ 99 → ⊥) → is_some (heading_name text) ≡ false
 unfolding heading_name
-no_heading text h = rw h
+no_heading text other =
+    let no = false_from_ne_true _ (λ h. other (front_byte text (codes "#pragma compartment ") 8 h (omega arith))) in
+    rw no
+
+-- a directive of one more word and more
+directive_words : (word rest : List ℕ) → list_all solid word ≡ true → 0 < length word →
+    words (codes "#pragma " ++ (word ++ 32 ∷ rest)) ≡ codes "#pragma" ∷ word ∷ words rest
+directive_words word rest all some = word_front (codes "#pragma") (word ++ 32 ∷ rest) refl (omega arith) ∙
+    ap (λ ws. codes "#pragma" ∷ ws) (word_front word rest all some)
 
 -- `#pragma export F`
 abbrev pub export_text : List ℕ → List ℕ
 export_text name = codes "#pragma export " ++ name
 
-export_words : (name : List ℕ) → is_name name ≡ true →
-    words (export_text name) ≡ codes "#pragma" ∷ codes "export" ∷ name ∷ []
-export_words name h = word_front (codes "#pragma") (codes "export " ++ name) refl (omega arith) ∙
-    ap (λ ws. codes "#pragma" ∷ ws) (word_front (codes "export") name refl (omega arith) ∙
-    ap (λ ws. codes "export" ∷ ws) (name_word name h))
-
-export_no_heading : (name : List ℕ) → begins_heading (export_text name) ≡ false
-export_no_heading name = false_from_ne_true _
-    (λ h. let e = front_byte (export_text name) (codes "#pragma compartment ") 8 h (omega arith) in
-    omega (arith, e))
-
-export_kind : (text : List ℕ) → is_some (heading_name text) ≡ false → is_export (words text) ≡ true →
-    line_kind text ≡ Some kind.Export
+export_kind : (text name : List ℕ) → (slice_index text 8 ≡ 99 → ⊥) →
+    words text ≡ codes "#pragma" ∷ codes "export" ∷ name ∷ [] → is_name name ≡ true → line_kind text ≡ Some kind.Export
 unfolding line_kind
-export_kind text a b = rw (a, b)
+export_kind text name other is h = let no = no_heading text other in rw (no, is, h)
 
-pub export_line_is : (name : List ℕ) → is_name name ≡ true → IsLine (export_text name)
-export_line_is name h = record {
-  kind = kind.Export;
-  first = refl;
-  inside = name_inside name h;
-  is = export_kind _ (no_heading _ (export_no_heading name)) (ap is_export (export_words name h) ∙ h);
-}
+module _ (name : List ℕ) (h : is_name name ≡ true) where
+  export_words : words (export_text name) ≡ codes "#pragma" ∷ codes "export" ∷ name ∷ []
+  export_words = directive_words (codes "export") name refl (omega arith) ∙
+      ap (λ ws. codes "#pragma" ∷ codes "export" ∷ ws) (name_word name h)
 
-pub export_says : (name : List ℕ) → is_name name ≡ true → word_symbol (export_text name) ≡ symbol.Export name
-unfolding says
-export_says name h =
-    let line = export_line_is name h in
-    let third : name_of (get_or (words (export_text name)) 2 []) ≡ Some name =
-    ap (λ ws. name_of (get_or ws 2 [])) (export_words name h) ∙ named_is name h in
-    line_says (export_text name) kind.Export (symbol.Export name)
-    (kind_of_line (export_text name) kind.Export refl line.inside
-    (export_kind (export_text name) (no_heading (export_text name) (export_no_heading name))
-    (ap is_export (export_words name h) ∙ h))) (rw third)
+  export_is : line_kind (export_text name) ≡ Some kind.Export
+  export_is = export_kind _ name (λ e. omega (arith, e)) export_words h
+
+  pub export_line_is : IsLine (export_text name)
+  export_line_is = record { kind = kind.Export; first = refl; inside = name_inside name h; is = export_is }
+
+  pub export_says : word_symbol (export_text name) ≡ symbol.Export name
+  unfolding says
+  export_says =
+      let third : name_of (get_or (words (export_text name)) 2 []) ≡ Some name =
+      ap (λ ws. name_of (get_or ws 2 [])) export_words ∙ named_is name h in
+      line_says _ kind.Export _ refl (name_inside name h) export_is (rw third)
 
 -- `#pragma import C F`
 abbrev pub import_text : List ℕ → List ℕ → List ℕ
 import_text comp name = codes "#pragma import " ++ (comp ++ codes " " ++ name)
 
-seam : (comp name : List ℕ) → (comp ++ codes " " ++ name) ≡ (comp ++ 32 ∷ name)
-seam comp name = append_assoc comp _ name
-
-import_words : (comp name : List ℕ) → is_name comp ≡ true → is_name name ≡ true →
-    words (import_text comp name) ≡ codes "#pragma" ∷ codes "import" ∷ comp ∷ name ∷ []
-import_words comp name g h =
-    let behind =
-    ap words (seam comp name) ∙ word_front comp name (name_solid comp g) (named comp g).some ∙
-    ap (λ ws. comp ∷ ws) (name_word name h) in
-    word_front (codes "#pragma") (codes "import " ++ (comp ++ codes " " ++ name)) refl (omega arith) ∙
-    ap (λ ws. codes "#pragma" ∷ ws) (word_front (codes "import") (comp ++ codes " " ++ name) refl (omega arith) ∙
-    ap (λ ws. codes "import" ∷ ws) behind)
-
-import_no_heading : (comp name : List ℕ) → begins_heading (import_text comp name) ≡ false
-import_no_heading comp name = false_from_ne_true _
-    (λ h. let e = front_byte (import_text comp name) (codes "#pragma compartment ") 8 h (omega arith) in
-    omega (arith, e))
-
-import_kind : (text : List ℕ) → is_some (heading_name text) ≡ false → is_export (words text) ≡ false →
-    is_import (words text) ≡ true → line_kind text ≡ Some kind.Import
+import_kind : (text comp name : List ℕ) → (slice_index text 8 ≡ 99 → ⊥) →
+    words text ≡ codes "#pragma" ∷ codes "import" ∷ comp ∷ name ∷ [] → is_name comp ≡ true → is_name name ≡ true →
+    line_kind text ≡ Some kind.Import
 unfolding line_kind
-import_kind text a b c = rw (a, b, c)
+import_kind text comp name other is g h = let no = no_heading text other in rw (no, is, g, h)
 
-import_is : (comp name : List ℕ) → is_name comp ≡ true → is_name name ≡ true →
-    line_kind (import_text comp name) ≡ Some kind.Import
-import_is comp name g h = import_kind _
-    (no_heading _ (import_no_heading comp name)) (ap is_export (import_words comp name g h))
-    (ap is_import (import_words comp name g h) ∙ and_from _ _ g h)
+module _ (comp name : List ℕ) (g : is_name comp ≡ true) (h : is_name name ≡ true) where
+  seam : (comp ++ codes " " ++ name) ≡ (comp ++ 32 ∷ name)
+  seam = append_assoc comp _ name
 
-import_inside : (comp name : List ℕ) → is_name comp ≡ true → is_name name ≡ true →
-    list_all is_inside_line (comp ++ codes " " ++ name) ≡ true
-import_inside comp name g h = ap (list_all _) (seam comp name) ∙ list_all-append is_inside_line comp (32 ∷ name) ∙
-    and_from _ _ (name_inside comp g) (name_inside name h)
+  import_words : words (import_text comp name) ≡ codes "#pragma" ∷ codes "import" ∷ comp ∷ name ∷ []
+  import_words = directive_words (codes "import") (comp ++ codes " " ++ name) refl (omega arith) ∙
+      ap (λ ws. codes "#pragma" ∷ codes "import" ∷ ws) (ap words seam ∙ word_front comp name (name_solid comp g)
+      (named comp g).some ∙ ap (λ ws. comp ∷ ws) (name_word name h))
 
-pub import_line_is : (comp name : List ℕ) → is_name comp ≡ true → is_name name ≡ true → IsLine (import_text comp name)
-import_line_is comp name g h = record {
-  kind = kind.Import;
-  first = refl;
-  inside = import_inside comp name g h;
-  is = import_is comp name g h;
-}
+  import_is : line_kind (import_text comp name) ≡ Some kind.Import
+  import_is = import_kind _ comp name (λ e. omega (arith, e)) import_words g h
 
-pub import_says : (comp name : List ℕ) → is_name comp ≡ true → is_name name ≡ true →
-    word_symbol (import_text comp name) ≡ symbol.Import comp name
-unfolding says
-import_says comp name g h =
-    let third : name_of (get_or (words (import_text comp name)) 2 []) ≡ Some comp =
-    ap (λ ws. name_of (get_or ws 2 [])) (import_words comp name g h) ∙ named_is comp g in
-    let fourth : name_of (get_or (words _) 3 []) ≡ Some name =
-    ap (λ ws. name_of (get_or ws 3 [])) (import_words comp name g h) ∙ named_is name h in
-    let said : import_of (name_of (get_or (words _) 2 []))
-    (name_of (get_or (words _) 3 [])) ≡ Some (symbol.Import comp name) = rw (third, fourth) in
-    line_says (import_text comp name) kind.Import (symbol.Import comp name)
-    (kind_of_line (import_text comp name) kind.Import refl (import_inside comp name g h)
-    (import_is comp name g h)) said
+  import_inside : list_all is_inside_line (comp ++ codes " " ++ name) ≡ true
+  import_inside = ap (list_all _) seam ∙ list_all-append is_inside_line comp (32 ∷ name) ∙
+      and_from _ _ (name_inside comp g) (name_inside name h)
+
+  pub import_line_is : IsLine (import_text comp name)
+  import_line_is = record { kind = kind.Import; first = refl; inside = import_inside; is = import_is }
+
+  pub import_says : word_symbol (import_text comp name) ≡ symbol.Import comp name
+  unfolding says
+  import_says =
+      let third : name_of (get_or (words (import_text comp name)) 2 []) ≡ Some comp =
+      ap (λ ws. name_of (get_or ws 2 [])) import_words ∙ named_is comp g in
+      let fourth : name_of (get_or (words (import_text comp name)) 3 []) ≡ Some name =
+      ap (λ ws. name_of (get_or ws 3 [])) import_words ∙ named_is name h in
+      line_says _ kind.Import _ refl import_inside import_is (rw (third, fourth))
 
 -- `#pragma compartment C`
 abbrev pub heading_text : List ℕ → List ℕ
@@ -235,4 +205,4 @@ pub heading_says : (name : List ℕ) → is_name name ≡ true → word_symbol (
 unfolding says
 heading_says name h =
     let is = heading_is name h in
-    line_says _ kind.Compartment _ (kind_of_line _ _ refl (name_inside name h) (heading_kind _ name is)) (rw is)
+    line_says _ kind.Compartment _ refl (name_inside name h) (heading_kind _ name is) (rw is)

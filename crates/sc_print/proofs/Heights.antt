@@ -1,7 +1,7 @@
 -- The height of a tree doesn't depend on its lines.
-use Rattle.sc_print.proofs.Common.{Decl, Each, ExprTree, Inside, List, LocalTree, None, Option, SameButLines}
-use Rattle.sc_print.proofs.Common.{SectionTree, SimpleTree, Some, StmtKind, StmtKind-F, StmtTree, [], ap, ap₂}
-use Rattle.sc_print.proofs.Common.{bare_stmt, decl_height, decls_height, everywhere, expr_height, for_height, if_height}
+use Rattle.sc_print.proofs.Common.{Decl, Each, Inside, List, LocalTree, None, Option, SameButLines, SectionTree}
+use Rattle.sc_print.proofs.Common.{SimpleTree, Some, StmtKind, StmtKind-F, StmtTree, [], ap, ap₂, bare_stmt}
+use Rattle.sc_print.proofs.Common.{decl_height, decls_height, everywhere, expr_height, for_height, if_height}
 use Rattle.sc_print.proofs.Common.{kind_height, lineless_decl, lineless_kind, lineless_local, lineless_option}
 use Rattle.sc_print.proofs.Common.{lineless_stmt, lineless_stmts, local_height, locals_height, map, max, option_height}
 use Rattle.sc_print.proofs.Common.{refl, roll-StmtKind, rules, section_height, stmt_height, stmt_induction}
@@ -9,20 +9,8 @@ use Rattle.sc_print.proofs.Common.{stmts_height, sym, tree_height, while_height,
 use Rattle.sc_ast.specs.declared.stmt.StmtTree as trees
 use Rattle.sc_ast.specs.declared.stmt.StmtKind as kinds
 use Rattle.sc_ast.specs.declared.stmt.StmtKind.TheOpen as layer
-use Rattle.sc_ast.specs.declared.stmt.StmtKind.TheVariants as stmt
 use Rattle.sc_ast.specs.declared.section.Decl.TheVariants as decl
-
--- kinds with statements inside
-bare_if : (c : ExprTree) (t e : List StmtTree) → lineless_kind (stmt.If c t e) ≡
-    stmt.If c (lineless_stmts t) (lineless_stmts e)
-bare_if c t e = search (rules, kinds.the_lemmas, trees.the_lemmas)
-
-bare_while : (c : ExprTree) (b : List StmtTree) → lineless_kind (stmt.While c b) ≡ stmt.While c (lineless_stmts b)
-bare_while c b = search (rules, kinds.the_lemmas, trees.the_lemmas)
-
-bare_for : (f : Option SimpleTree) (c : ExprTree) (n : Option SimpleTree) (b : List StmtTree) →
-    lineless_kind (stmt.For f c n b) ≡ stmt.For (lineless_option f) c (lineless_option n) (lineless_stmts b)
-bare_for f c n b = search (rules, kinds.the_lemmas, trees.the_lemmas)
+use Rattle.sc_print.proofs.Each.{bare_if, bare_while, bare_for}
 
 bare_option : (s : Option SimpleTree) → option_height (lineless_option s) ≡ option_height s
 bare_option None = refl
@@ -39,23 +27,15 @@ kind_same : (k : StmtKind-F StmtKind StmtTree) → Inside Same k →
     kind_height (lineless_kind (roll-StmtKind k)) ≡ kind_height (roll-StmtKind k)
 unfolding roll-StmtKind denote.Hole.Carrier.roll
 kind_same layer.Empty h = search (rules, kinds.the_lemmas, trees.the_lemmas)
-kind_same (layer.Assign place value) h = search (rules, kinds.the_lemmas, trees.the_lemmas)
-kind_same (layer.AssignCall place call) h = search (rules, kinds.the_lemmas, trees.the_lemmas)
-kind_same (layer.Call call) h = search (rules, kinds.the_lemmas, trees.the_lemmas)
 kind_same (layer.If c t e) h = ap kind_height (bare_if c t e) ∙ if_height c _ _ ∙
     ap₂ (λ a b. max (expr_height c) (max a b)) (each_same t h.0) (each_same e h.1) ∙ sym (if_height c t e)
 kind_same (layer.While c b) h = ap kind_height (bare_while c b) ∙ while_height c _ ∙
     ap (λ a. max (expr_height c) a) (each_same b h) ∙ sym (while_height c b)
-kind_same (layer.For f c n b) h =
-    ap kind_height (bare_for f c n b) ∙ for_height _ c _ (lineless_stmts b)
-    ∙ ap₂ (λ x y. max (max x y) (max (expr_height c) (stmts_height (lineless_stmts b)))) (bare_option f) (bare_option n)
-    ∙ ap (λ a. max (max (option_height f) (option_height n)) (max (expr_height c) a)) (each_same b h) ∙
+kind_same (layer.For f c n b) h = ap kind_height (bare_for f c n b) ∙ for_height _ c _ (lineless_stmts b) ∙
+    ap₂ (λ x y. max (max x y) (max (expr_height c) (stmts_height (lineless_stmts b)))) (bare_option f) (bare_option n) ∙
+    ap (λ a. max (max (option_height f) (option_height n)) (max (expr_height c) a)) (each_same b h) ∙
     sym (for_height f c n b)
-kind_same layer.Break h = search (rules, kinds.the_lemmas, trees.the_lemmas)
-kind_same layer.Continue h = search (rules, kinds.the_lemmas, trees.the_lemmas)
-kind_same layer.Return h = search (rules, kinds.the_lemmas, trees.the_lemmas)
-kind_same (layer.ReturnValue value) h = search (rules, kinds.the_lemmas, trees.the_lemmas)
-kind_same (layer.ReturnCall call) h = search (rules, kinds.the_lemmas, trees.the_lemmas)
+kind_same _ h = search (rules, kinds.the_lemmas, trees.the_lemmas)
 
 stmt_same : (s : StmtTree) → Same s
 stmt_same = stmt_induction Same (λ line k h. ap stmt_height (bare_stmt line _) ∙
@@ -66,10 +46,8 @@ locals_same [] = refl
 locals_same (l ∷ locals) = ap (λ n. max (local_height l) n) (locals_same locals)
 
 decl_same : (d : Decl) → decl_height (lineless_decl d) ≡ decl_height d
-decl_same (decl.Struct tree) = refl
-decl_same (decl.Global tree) = refl
-decl_same (decl.Proto tree) = refl
 decl_same (decl.Function tree) = ap₂ max (locals_same _) (each_same _ (everywhere Same stmt_same _))
+decl_same _ = refl
 
 decls_same : (ds : List Decl) → decls_height (map lineless_decl ds) ≡ decls_height ds
 decls_same [] = refl

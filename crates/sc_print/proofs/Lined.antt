@@ -1,13 +1,86 @@
--- Lines that are directives, and tidy pieces behind them, are cut into their words.
-use Rattle.sc_print.proofs.Common.{Cuts, IsToken, List, Piece, [], and_from, ap, append_assoc, ap₂, arith}
-use Rattle.sc_print.proofs.Common.{begins_heading, begins_line, directive_found, drop, drop-append_seam, eq-eqb}
-use Rattle.sc_print.proofs.Common.{get_or-append_seam, kind_of, length, length-append, line_kind, newline, or_right}
-use Rattle.sc_print.proofs.Common.{refl, slice_index, subst, sym, symbols, take-append_seam, text_of, token, token_at}
-use Rattle.sc_print.proofs.Common.{true, word, ℕ, ◌++◌, ◌-◌, ◌<◌, ◌==◌, ◌∙◌, ◌∷◌, ◌≡◌}
-use Rattle.sc_print.proofs.Apart.{run_is}
+-- Pieces that stand apart, and lines that are directives, are cut into their words.
+use Rattle.sc_print.proofs.Common.{Cuts, IsToken, IsTrue, List, Piece, Some, Symbol, Token, TokenKind, []}
+use Rattle.sc_print.proofs.Common.{allows_directive, and_from, ap, append-nil, append_assoc, ap₂, arith, begins_heading}
+use Rattle.sc_print.proofs.Common.{begins_line, directive_found, drop, drop-append_seam, eq-eqb, gap}
+use Rattle.sc_print.proofs.Common.{get_or-append_seam, is_white_space, kind_of, length, length-append, line_kind, map}
+use Rattle.sc_print.proofs.Common.{newline, nothing, option_and_then, or_right, or_unused, refl, replicate, says}
+use Rattle.sc_print.proofs.Common.{slice_index, slice_range, subst, suc, sym, symbol_of, symbols, take}
+use Rattle.sc_print.proofs.Common.{take-append_seam, text_of, token, token_at, true, white_space, word, word_symbol}
+use Rattle.sc_print.proofs.Common.{zero, ℕ, ◌*◌, ◌++◌, ◌+◌, ◌-◌, ◌<◌, ◌==◌, ◌∙◌, ◌∷◌, ◌≡◌}
+use Rattle.sc_print.proofs.Spacing as spacing
 use Rattle.sc_print.proofs.Spacing.{Tidy}
+use Rattle.sc_print.proofs.Apart.{run_is}
 use Rattle.sc_print.proofs.DirectiveWords.{IsLine, kind_of_line}
-use Rattle.sc_print.proofs.Cut.{Found, token_says, skipped, found_from}
+
+-- From a place on the bytes are cut into tokens that say this.
+pub record Found (bytes : List ℕ) (at : ℕ) (ss : List Symbol) : Type 0 where
+  pub tokens : List Token
+  pub cuts : Cuts bytes at (length bytes) tokens
+  pub says : map (λ t. symbol_of bytes t) tokens ≡ ss
+
+module _ (bytes : List ℕ) where
+  -- what a token says is what its text says
+  pub token_says : (front text rest : List ℕ) (kind : TokenKind) → bytes ≡ front ++ (text ++ rest) →
+      kind_of (take (length text) (text ++ rest)) ≡ Some kind →
+      symbol_of bytes (token_at bytes (length front) kind (length text)) ≡ word_symbol text
+  unfolding word_symbol
+  token_says front text rest kind whole spelled =
+      let behind : drop (length front) bytes ≡ text ++ rest =
+      ap (drop (length front)) whole ∙ drop-append_seam front (text ++ rest) in
+      let back = take-append_seam text rest in
+      let long : length front + length text - length front ≡ length text = omega arith in
+      let slice : slice_range bytes (length front) (length front + length text) ≡ text = rw (behind, long) back in
+      let kind_is : kind_of text ≡ Some kind = sym (ap kind_of back) ∙ spelled in
+      ap (λ x. or_unused (says kind x)) slice ∙ ap (λ k. or_unused (option_and_then (λ j. says j text) k)) (sym kind_is)
+
+  -- one byte of white space
+  pub skipped : (byte : ℕ) → is_white_space byte ≡ true → (front : List ℕ) (ss : List Symbol) (rest : List ℕ) →
+      bytes ≡ front ++ byte ∷ rest → Found bytes (length (front ++ byte ∷ [])) ss → Found bytes (length front) ss
+  skipped byte white front ss rest whole on =
+      let behind : drop (length front) bytes ≡ byte ∷ rest = ap (drop _) whole ∙ drop-append_seam front (byte ∷ rest) in
+      let long = length-append front (byte ∷ []) in
+      let is : IsTrue (is_white_space (slice_index (drop (length front) bytes) 0)) = rw behind white in
+      record {
+        tokens = on.tokens;
+        cuts = gap 1 (white_space is) (subst (λ n. Cuts bytes n (length bytes) on.tokens) long on.cuts);
+        says = on.says;
+      }
+
+  -- so many blanks
+  indented : (count : ℕ) (front : List ℕ) (ss : List Symbol) (rest : List ℕ) →
+      bytes ≡ front ++ (replicate count 32 ++ rest) →
+      ((before : List ℕ) → bytes ≡ before ++ rest → Found bytes (length before) ss) → Found bytes (length front) ss
+  indented zero front ss rest whole on = on front whole
+  indented (suc count) front ss rest whole on =
+      skipped 32 refl front ss _ whole (indented count _ ss rest (whole ∙ sym (append_assoc front _ _)) on)
+
+  pub found_from : {pieces : List Piece} {rest : List ℕ} → Tidy pieces rest → rest ≡ [] → (front : List ℕ) →
+      bytes ≡ front ++ text_of pieces → Found bytes (length front) (symbols pieces)
+  found_from spacing.none e front whole =
+      let all = ap (λ x. length x) (whole ∙ append-nil front) in
+      record { tokens = []; cuts = subst (λ n. Cuts bytes (length front) n []) (sym all) nothing; says = refl }
+  found_from (spacing.gap {pieces = pieces} t) e front whole =
+      skipped 32 refl front _ _ whole (found_from t e _ (whole ∙ sym (append_assoc front _ _)))
+  found_from (spacing.line_end {pieces = pieces} t) e front whole =
+      skipped 10 refl front _ _ whole (found_from t e _ (whole ∙ sym (append_assoc front _ _)))
+  found_from (spacing.at_level {pieces = pieces} levels t) e front whole =
+      indented (2 * levels) front _ (text_of pieces) whole (found_from t e)
+  found_from (spacing.next {text = text} {pieces = pieces} {rest = rest} w t) e front whole =
+      let after = ap (λ x. text_of pieces ++ x) e ∙ append-nil _ in
+      let behind = ap (drop _) whole ∙ drop-append_seam front _ ∙ ap (λ x. text ++ x) (sym after) in
+      let on = found_from t e (front ++ text) (whole ∙ sym (append_assoc front text _)) in
+      let long = length-append front text in
+      let first = token_says front text _ w.kind
+      (whole ∙ ap (λ x. front ++ (text ++ x)) (sym after)) (w.token true).spelled in
+      record {
+        tokens = token_at bytes _ w.kind (length text) ∷ on.tokens;
+        cuts = token w.kind _ (subst (λ x. IsToken (allows_directive bytes (length front)) x w.kind (length text))
+            (sym behind) (w.token _)) (subst (λ n. Cuts bytes n (length bytes) on.tokens) long on.cuts);
+        says = ap₂ (λ s ss. s ∷ ss) first on.says;
+      }
+
+pub cut_of : (pieces : List Piece) → Tidy pieces [] → Found (text_of pieces) 0 (symbols pieces)
+cut_of pieces t = found_from _ t refl [] refl
 
 -- Lines of one word, which is a directive, and tidy pieces behind them.
 pub data Lined : List Piece → Type 0 where
@@ -32,9 +105,8 @@ module _ (bytes : List ℕ) (heading : begins_heading bytes ≡ true) where
   next_line front rest whole =
       let long = length-append front (10 ∷ []) in
       let before : length (front ++ 10 ∷ []) - 1 ≡ length front = omega (arith, long) in
-      let byte : slice_index bytes (length (front ++ 10 ∷ []) - 1) ≡ 10 =
-      ap (λ n. slice_index bytes n) before ∙ ap (λ bs. slice_index bs (length front)) whole ∙
-      get_or-append_seam front 10 rest 0 in
+      let byte : slice_index bytes (length (front ++ 10 ∷ []) - 1) ≡ 10 = ap (λ n. slice_index bytes n) before ∙
+      ap (λ bs. slice_index bs (length front)) whole ∙ get_or-append_seam front 10 rest 0 in
       or_right (length (front ++ 10 ∷ []) == 0) (slice_index bytes (length (front ++ 10 ∷ []) - 1) == 10)
       (eq-eqb (slice_index bytes _) 10 byte)
 
@@ -43,20 +115,16 @@ module _ (bytes : List ℕ) (heading : begins_heading bytes ≡ true) where
   found_lines (tidy t) front begins whole = found_from bytes t refl front whole
   found_lines (line {text = text} {pieces = pieces} l more) front begins whole =
       let rest = text_of pieces in
-      let behind =
-      ap (drop _) whole ∙ drop-append_seam front _ in
+      let behind = ap (drop _) whole ∙ drop-append_seam front _ in
       let past = whole ∙ sym (append_assoc front text _) in
       let on = found_lines more ((front ++ text) ++ 10 ∷ []) (next_line _ rest past)
       (past ∙ sym (append_assoc _ _ rest)) in
       let end = skipped bytes 10 refl (front ++ text) _ rest past on in
       let long = length-append front text in
-      let allowed =
-      and_from _ _ heading begins in
-      let spelled =
-      ap kind_of (take-append_seam text _) ∙ kind_of_line text l.kind l.first l.inside l.is in
+      let allowed = and_from _ _ heading begins in
+      let spelled = ap kind_of (take-append_seam text _) ∙ kind_of_line text l.kind l.first l.inside l.is in
       let first = token_says bytes front text _ l.kind whole spelled in
-      let here =
-      subst (λ b. IsToken b (drop (length front) bytes) l.kind (length text)) (sym allowed)
+      let here = subst (λ b. IsToken b (drop (length front) bytes) l.kind (length text)) (sym allowed)
       (subst (λ x. IsToken true x l.kind (length text)) (sym behind) (line_token text rest l)) in
       record {
         tokens = token_at bytes _ l.kind (length text) ∷ end.tokens;

@@ -1,20 +1,39 @@
--- What integer constants say.
+-- What names and integer constants say.
 use Rattle.sc_print.proofs.Common.{Bool, IsTrue, List, Number, Option, Some, [], and_parts, ap, append-nil, arith}
 use Rattle.sc_print.proofs.Common.{base_of, bytes_eq, bytes_eq-Decides, codes, digit_value, digits_of, false}
 use Rattle.sc_print.proofs.Common.{false_from_ne_true, false≢true, fits, get_or-append_seam, greatest_of, has_suffix}
-use Rattle.sc_print.proofs.Common.{if◌then◌else◌, integer_of, is_between, is_digit, is_empty, is_hexadecimal}
+use Rattle.sc_print.proofs.Common.{if◌then◌else◌, integer_of, is_between, is_digit, is_empty, is_hexadecimal, is_ident}
 use Rattle.sc_print.proofs.Common.{is_integer, is_name, is_name_byte, is_nondigit, is_number, is_reserved, kind_of}
 use Rattle.sc_print.proofs.Common.{le-leb, le-ltb, leb-true, length, length-append, list_all, list_all-append, list_any}
-use Rattle.sc_print.proofs.Common.{literal_text, lt-ltb, nat_le, nat_lt, ne_eqb, not, number, number_of, or_cases, refl}
-use Rattle.sc_print.proofs.Common.{reserved_words, says, slice_index, suc, sym, take-append_seam, true, value_of}
-use Rattle.sc_print.proofs.Common.{without_suffix, word_kind, word_symbol, zero, ℕ, ⊎_elim, ◌%◌, ◌&&◌, ◌*◌, ◌++◌, ◌+◌}
-use Rattle.sc_print.proofs.Common.{◌-◌, ◌/◌, ◌<◌, ◌==◌, ◌^◌, ◌||◌, ◌∙◌, ◌∷◌, ◌≡◌, ◌≤◌}
+use Rattle.sc_print.proofs.Common.{literal_text, lt-ltb, nat_le, nat_lt, ne_eqb, not, not-true, number, number_of}
+use Rattle.sc_print.proofs.Common.{or_cases, refl, reserved_words, says, slice_index, subst, suc, sym, take-append_seam}
+use Rattle.sc_print.proofs.Common.{true, value_of, without_suffix, word_kind, word_symbol, zero, ℕ, ⊎_elim, ◌%◌, ◌&&◌}
+use Rattle.sc_print.proofs.Common.{◌*◌, ◌++◌, ◌+◌, ◌-◌, ◌/◌, ◌<◌, ◌==◌, ◌^◌, ◌||◌, ◌∙◌, ◌∷◌, ◌≡◌, ◌≤◌}
+use Rattle.sc_lex.specs.declared.token.TokenKind.TheVariants as kind
+use Rattle.sc_expr.specs.declared.lexeme.Symbol.TheVariants as symbol
 use Rattle.std.specs.Fmt.{decimal}
 use Rattle.std.proofs.lemmas.Fmt.{decimal_by_steps, decimal_digit}
 use Rattle.std.proofs.lemmas.List.Sums.{fold-append}
 use Rattle.sc_lex.specs.declared.integer.IntegerConstant.{IntegerConstant}
-use Rattle.sc_lex.specs.declared.token.TokenKind.TheVariants as kind
-use Rattle.sc_expr.specs.declared.lexeme.Symbol.TheVariants as symbol
+
+pub name_says : (name : List ℕ) → IsTrue (is_ident name) → word_symbol name ≡ symbol.Ident name
+unfolding word_symbol kind_of word_kind says
+name_says name h =
+    let parts = and_parts _ (not _) h in
+    let free = not-true (is_reserved name) parts.1 in
+    simp (free, parts.0) refl
+
+pub name_kind : (name : List ℕ) → IsTrue (is_ident name) → word_kind name ≡ Some kind.Ident
+unfolding word_kind
+name_kind name h =
+    let parts = and_parts _ (not _) h in
+    let free = not-true (is_reserved name) parts.1 in
+    rw (free, parts.0)
+
+pub name_some : (name : List ℕ) → IsTrue (is_ident name) → 0 < length name
+unfolding is_name
+name_some [] h = absurd (false≢true h)
+name_some (b ∷ name) h = omega arith
 
 -- the digits of a number, which begin with 0 only where they are one digit
 record Decimal (n : ℕ) (ds : List ℕ) : Type 0 where
@@ -41,6 +60,12 @@ first_kept : (ds es : List ℕ) → 0 < length ds → slice_index (ds ++ es) 0 �
 first_kept [] es h = absurd (omega (arith, h))
 first_kept (x ∷ ds) es h = refl
 
+last_is : (ds : List ℕ) (b : ℕ) → slice_index (ds ++ b ∷ []) (length (ds ++ b ∷ []) - 1) ≡ b
+last_is ds b =
+    let long = length-append ds (b ∷ []) in
+    let before : length ds + 1 - 1 ≡ length ds = omega arith in
+    rw (long, before) (get_or-append_seam ds b [] 0)
+
 decimal_is : (n : ℕ) → n < 2 ^ 64 → Decimal n (decimal n)
 decimal_is = decimal_by_steps Decimal (λ n h. record {
   some = omega arith;
@@ -56,9 +81,7 @@ decimal_is = decimal_by_steps Decimal (λ n h. record {
     let first = first_kept ds ((48 + n % 10) ∷ []) d.some in
     let whole : n / 10 * 10 + n % 10 ≡ n = omega arith in
     let long = length-append ds ((48 + n % 10) ∷ []) in
-    let before : length ds + 1 - 1 ≡ length ds = omega arith in
-    let end : slice_index (ds ++ (48 + n % 10) ∷ []) (length (ds ++ (48 + n % 10) ∷ []) - 1) ≡ 48 + n % 10 =
-    rw (long, before) (get_or-append_seam ds _ [] 0) in
+    let end = last_is ds (48 + n % 10) in
     record {
       some = omega (arith, long);
       digits = list_all-append (λ x. is_digit 10 x) ds ((48 + n % 10) ∷ []) ∙ rw (d.digits, (digit_of (n % 10) rest).1);
@@ -103,21 +126,23 @@ made : (v w : ℕ) (a b : Bool) → v ≡ w → a ≡ b → ◌≡◌ {A = Optio
     (Some (record { value = v; unsigned = a })) (Some (record { value = w; unsigned = b }))
 made v w a b p q = rw (p, q)
 
+abbrev Fitting : ℕ → Bool → Type 0
+Fitting n u = IsTrue (fits (record { value = n; unsigned = u }))
+
+-- What the text of a constant is.
+record Told (n : ℕ) (u : Bool) (text : List ℕ) : Type 0 where
+  is : word_kind text ≡ Some kind.Integer
+  said : word_symbol text ≡ symbol.Integer (record { value = n; unsigned = u })
+
 module _ (n : ℕ) (ds : List ℕ) (positive : 0 < n) (d : Decimal n ds) where
   no_48 : (slice_index ds 0 == 48) ≡ false
   no_48 = ne_eqb _ 48 (d.no_zero positive)
-
-  end_is : slice_index (ds ++ 117 ∷ []) (length (ds ++ 117 ∷ []) - 1) ≡ 117
-  end_is =
-      let long = length-append ds (117 ∷ []) in
-      let before : length ds + 1 - 1 ≡ length ds = omega arith in
-      rw (long, before) (get_or-append_seam ds 117 [] 0)
 
   no_end : (byte : ℕ) → 57 < byte → (slice_index ds (length ds - 1) == byte) ≡ false
   no_end byte h = let l = d.last in ne_eqb _ byte (λ e. omega (arith, h, l, e))
 
   suffix_is : (u : Bool) → has_suffix (ds ++ suffix u) ≡ u
-  suffix_is true = rw end_is
+  suffix_is true = rw (last_is ds 117)
   suffix_is false = rw (append-nil ds) (rw (no_end 117 (omega arith), no_end 85 (omega arith)))
 
   body_is : (u : Bool) → without_suffix (ds ++ suffix u) ≡ ds
@@ -137,92 +162,68 @@ module _ (n : ℕ) (ds : List ℕ) (positive : 0 < n) (d : Decimal n ds) where
   digits_are : digits_of ds ≡ ds
   digits_are = let x = no_hex in rw x
 
-  in_range : (u : Bool) → IsTrue (fits (record { value = n; unsigned = u })) → nat_le n (greatest_of u 10) ≡ true
+  in_range : (u : Bool) → Fitting n u → nat_le n (greatest_of u 10) ≡ true
   in_range true h = h
   in_range false h = (and_parts _ _ h).0
 
-  not_unsigned : (u : Bool) → IsTrue (fits (record { value = n; unsigned = u })) → (u || nat_lt 2147483647 n) ≡ u
+  not_unsigned : (u : Bool) → Fitting n u → (u || nat_lt 2147483647 n) ≡ u
   not_unsigned true h = refl
   not_unsigned false h = let le = leb-true n 2147483647 (in_range false h) in le-ltb 2147483647 n le
 
   some_digits : not (is_empty ds) ≡ true
   some_digits = let some = d.some in let e = ne_eqb (length ds) 0 (λ e. omega (arith, some, e)) in rw e
 
-  is_constant : (u : Bool) → IsTrue (fits (record { value = n; unsigned = u })) → is_integer (ds ++ suffix u) ≡ true
+  is_constant : (u : Bool) → Fitting n u → is_integer (ds ++ suffix u) ≡ true
   unfolding is_integer is_number
   is_constant u h = rw (body_is u, suffix_is u, base_is, digits_are, some_digits, d.digits, d.value) (in_range u h)
 
   value_is : (u : Bool) → value_of (ds ++ suffix u) ≡ n
   value_is u = rw (body_is u, base_is, digits_are) d.value
 
-  constant_is : (u : Bool) → IsTrue (fits (record { value = n; unsigned = u })) →
-      integer_of (ds ++ suffix u) ≡ Some (record { value = n; unsigned = u })
+  constant_is : (u : Bool) → Fitting n u → integer_of (ds ++ suffix u) ≡ Some (record { value = n; unsigned = u })
   unfolding integer_of
   constant_is u h =
       let e = ap (λ x. x || nat_lt 2147483647 (value_of (ds ++ suffix u)))
       (suffix_is u) ∙ ap (λ x. u || nat_lt 2147483647 x) (value_is u) ∙ not_unsigned u h in
       rw (is_constant u h) (made _ _ _ _ (value_is u) e)
 
-  number_is : (u : Bool) → IsTrue (fits (record { value = n; unsigned = u })) →
-      number_of n u ≡ Some (record { value = n; unsigned = u })
+  number_is : (u : Bool) → Fitting n u → number_of n u ≡ Some (record { value = n; unsigned = u })
   number_is true h = refl
   number_is false h = let e = in_range false h in rw e
 
   low_text : (u : Bool) → slice_index (ds ++ suffix u) 0 ≤ 57
   low_text u = let e = first_kept ds (suffix u) d.some in rw e d.low
 
-  positive_says : (u : Bool) → IsTrue (fits (record { value = n; unsigned = u })) →
-      word_symbol (ds ++ suffix u) ≡ symbol.Integer (record { value = n; unsigned = u })
+  positive_told : (u : Bool) → Fitting n u → Told n u (ds ++ suffix u)
   unfolding word_symbol kind_of word_kind says
-  positive_says u h =
+  positive_told u h =
       let free = no_reserved (ds ++ suffix u) (low_text u) in
       let unnamed = no_name (ds ++ suffix u) (low_text u) in
-      rw (free, unnamed, is_constant u h) (rw (constant_is u h) (rw (number_is u h)))
+      record {
+        is = rw (free, unnamed, is_constant u h);
+        said = rw (free, unnamed, is_constant u h) (rw (constant_is u h) (rw (number_is u h)));
+      }
 
-  positive_kind : (u : Bool) → IsTrue (fits (record { value = n; unsigned = u })) →
-      word_kind (ds ++ suffix u) ≡ Some kind.Integer
-  unfolding word_kind
-  positive_kind u h = rw (
-    no_reserved (ds ++ suffix u) (low_text u),
-    no_name (ds ++ suffix u) (low_text u),
-    is_constant u h,
-  )
+zero_told : (u : Bool) → Told 0 u ((48 ∷ []) ++ suffix u)
+unfolding word_symbol kind_of word_kind is_reserved is_name is_integer is_number integer_of says
+zero_told true = record { is = refl; said = refl }
+zero_told false = record { is = refl; said = refl }
 
-zero_kind : (u : Bool) → word_kind ((48 ∷ []) ++ suffix u) ≡ Some kind.Integer
-unfolding word_kind is_reserved is_name is_integer is_number
-zero_kind true = refl
-zero_kind false = refl
+in_words : (n : ℕ) (u : Bool) → Fitting n u → n < 2 ^ 64
+in_words n u h = let le = leb-true n 4294967295 (and_parts _ _ h).1 in omega (arith, le)
 
-value_kind : (n : ℕ) (u : Bool) → IsTrue (fits (record { value = n; unsigned = u })) →
-    word_kind (decimal n ++ suffix u) ≡ Some kind.Integer
-value_kind zero u h = rw (decimal_digit 0 (omega arith)) (zero_kind u)
-value_kind (suc n) u h =
-    let le = leb-true (suc n) 4294967295 (and_parts _ _ h).1 in
-    let small : suc n < 2 ^ 64 = omega (arith, le) in
-    positive_kind (suc n) _ (omega arith) (decimal_is _ small) u h
+told : (n : ℕ) (u : Bool) → Fitting n u → Told n u (decimal n ++ suffix u)
+told zero u h = subst (λ ds. Told 0 u (ds ++ suffix u)) (sym (decimal_digit 0 (omega arith))) (zero_told u)
+told (suc n) u h = positive_told (suc n) _ (omega arith) (decimal_is _ (in_words (suc n) u h)) u h
 
 pub literal_kind : (number : Number) → IsTrue (fits number) → word_kind (literal_text number) ≡ Some kind.Integer
-literal_kind number h = value_kind _ _ h
+literal_kind number h = (told _ _ h).is
 
 pub literal_some : (number : Number) → IsTrue (fits number) → 0 < length (literal_text number)
 literal_some number h =
-    let le = leb-true number.value 4294967295 (and_parts _ _ h).1 in
-    let some = (decimal_is number.value (omega (arith, le))).some in
+    let some = (decimal_is number.value (in_words _ number.unsigned h)).some in
     let long = length-append (decimal number.value) (suffix number.unsigned) in
     omega (arith, some, long)
 
-zero_says : (u : Bool) → word_symbol ((48 ∷ []) ++ suffix u) ≡ symbol.Integer (record { value = 0; unsigned = u })
-unfolding word_symbol kind_of word_kind is_reserved is_name is_integer is_number integer_of says
-zero_says true = refl
-zero_says false = refl
-
-value_says : (n : ℕ) (u : Bool) → IsTrue (fits (record { value = n; unsigned = u })) →
-    word_symbol (decimal n ++ suffix u) ≡ symbol.Integer (record { value = n; unsigned = u })
-value_says zero u h = rw (decimal_digit 0 (omega arith)) (zero_says u)
-value_says (suc n) u h =
-    let le = leb-true (suc n) 4294967295 (and_parts _ _ h).1 in
-    let small : suc n < 2 ^ 64 = omega (arith, le) in
-    positive_says (suc n) _ (omega arith) (decimal_is _ small) u h
-
 pub literal_says : (number : Number) → IsTrue (fits number) → word_symbol (literal_text number) ≡ symbol.Integer number
-literal_says number h = value_says _ _ h
+literal_says number h = (told _ _ h).said

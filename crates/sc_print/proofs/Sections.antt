@@ -1,37 +1,116 @@
 -- The words of whole declarations spell them, lines aside.
 use Rattle.sc_print.proofs.Common.{BaseTree, Bool, Decl, Declares, DeclsSpell, ExprTree, FunctionTree, GlobalTree}
-use Rattle.sc_print.proofs.Common.{Grouped, HeadTree, IsGlobal, IsLocal, IsMember, IsTrue, Lexeme, List, LocalTree}
-use Rattle.sc_print.proofs.Common.{MemberTree, None, Option, ParamTree, Piece, Some, SpellsDecl, SpellsDeclarator}
-use Rattle.sc_print.proofs.Common.{SpellsHead, SpellsInit, SpellsParam, SpellsParams, SpellsResult, SpellsTypeName}
-use Rattle.sc_print.proofs.Common.{SpellsValue, TypeName, TypeTree, [], and_parts, ap, append-nil, append_assoc}
-use Rattle.sc_print.proofs.Common.{base_words, blank, blank_if, codes, decl_words, declared_words, ended, expr_words}
-use Rattle.sc_print.proofs.Common.{false, false≢true, first_line, flat_map, function_words, global_words, head_of}
-use Rattle.sc_print.proofs.Common.{head_words, is_ident, is_kept_decl, kept_base, kept_function, kept_global, kept_head}
-use Rattle.sc_print.proofs.Common.{kept_local, kept_member, kept_name, kept_param, kept_result, kept_type, kept_value}
-use Rattle.sc_print.proofs.Common.{line_of, lineless_decl, lineless_function_head, lineless_local, lineless_stmts}
-use Rattle.sc_print.proofs.Common.{list_all, local_line, map, member_line, name_words, newline, one, param_words}
-use Rattle.sc_print.proofs.Common.{params_words, refl, result_words, some_kept, star_words, struct_words, subst}
-use Rattle.sc_print.proofs.Common.{symbols, true, type_name, value_words, word, ℕ, ◌&&◌, ◌++◌, ◌∙◌, ◌∷◌, ◌≡◌}
+use Rattle.sc_print.proofs.Common.{Grouped, HeadTree, InitTree, IsGlobal, IsLocal, IsMember, IsTrue, Lexeme, List}
+use Rattle.sc_print.proofs.Common.{LocalTree, MemberTree, None, Number, Option, ParamTree, Piece, Some, SpellsBase}
+use Rattle.sc_print.proofs.Common.{SpellsConst, SpellsDecl, SpellsDeclarator, SpellsHead, SpellsInit, SpellsParam}
+use Rattle.sc_print.proofs.Common.{SpellsParams, SpellsResult, SpellsStars, SpellsTypeName, SpellsValue, TypeName}
+use Rattle.sc_print.proofs.Common.{TypeTree, [], and_from, and_parts, ap, append-nil, append_assoc, arith, array_length}
+use Rattle.sc_print.proofs.Common.{base_words, blank, blank_if, cases_lt, codes, comma, const_words, decl_words}
+use Rattle.sc_print.proofs.Common.{declared_words, ended, expr_words, false, false≢true, first_line, fits, flat_map}
+use Rattle.sc_print.proofs.Common.{function_words, global_words, head_of, head_words, init_words, is_ident}
+use Rattle.sc_print.proofs.Common.{is_kept_decl, join_by, kept_base, kept_const, kept_function, kept_global, kept_head}
+use Rattle.sc_print.proofs.Common.{kept_init, kept_length, kept_local, kept_member, kept_name, kept_param, kept_result}
+use Rattle.sc_print.proofs.Common.{kept_type, kept_value, le-leb, leb-true, length_number, length_words, line_of}
+use Rattle.sc_print.proofs.Common.{lineless_decl, lineless_function_head, lineless_local, lineless_stmts, list_all}
+use Rattle.sc_print.proofs.Common.{literal_text, local_line, lt-ltb, map, member_line, minus_words, name_words, nat_le}
+use Rattle.sc_print.proofs.Common.{nat_lt, newline, one, or_right, param_words, params_words, refl, result_words}
+use Rattle.sc_print.proofs.Common.{some_kept, star_words, struct_words, subst, suc, symbols, true, type_name}
+use Rattle.sc_print.proofs.Common.{value_words, word, zero, ℕ, ⊎_elim, ◌&&◌, ◌++◌, ◌+◌, ◌||◌, ◌∙◌, ◌∷◌, ◌≡◌, ◌≤◌}
+use Rattle.sc_base.specs.declared.op.UnaryOp.TheVariants as unary
+use Rattle.sc_ast.specs.declared.types.BaseTree.TheVariants as base
+use Rattle.sc_ast.specs.declared.section.ConstTree.{ConstTree}
+use Rattle.sc_ast.specs.declared.section.InitTree.TheVariants as init
+use Rattle.sc_expr.specs.declared.mark.Mark.TheVariants as mark
+use Rattle.sc_parse.specs.Types as types
+use Rattle.sc_parse.specs.Declarations as decls
+use Rattle.sc_print.proofs.Tables as tables
+use Rattle.sc_print.proofs.Literals.{name_says, literal_says}
+use Rattle.sc_print.proofs.Reading.{Reading, part, written, reads, separated, fixed, Alike, AllAlike, all_alike}
+use Rattle.sc_print.proofs.Reading.{line_symbols, joined_symbols, Say}
+use Rattle.sc_expr.specs.declared.mark.Keyword.TheVariants as keyword
 use Rattle.sc_ast.specs.declared.section.Decl.TheVariants as decl
 use Rattle.sc_parse.specs.Lists as lists
-use Rattle.sc_parse.specs.Declarations as decls
-use Rattle.sc_print.proofs.Each.{all_at}
-use Rattle.sc_print.proofs.Tables as tables
-use Rattle.sc_print.proofs.Leaves.{name_says}
-use Rattle.sc_print.proofs.Reading.{Reading, fixed, part, written, reads, separated, Alike, AllAlike, all_alike}
-use Rattle.sc_print.proofs.Reading.{line_symbols, joined_symbols}
-use Rattle.sc_print.proofs.Simple.{expr_reads}
-use Rattle.sc_print.proofs.Stmts.{Lines, lines_read, everywhere}
-use Rattle.sc_print.proofs.Decls.{base_reads, stars_read, declarator_words, declarator_reads, init_reads}
-use Rattle.sc_print.proofs.Lists.{Say}
-use Rattle.sc_expr.specs.declared.mark.Keyword.TheVariants as keyword
+use Rattle.sc_print.proofs.Each.{each_kept}
+use Rattle.sc_print.proofs.Stmts.{expr_reads, Lines, lines_read, stmt_holds}
+
+pub base_reads : (b : BaseTree) → IsTrue (kept_base b) → Reading (base_words b) (λ ts. SpellsBase ts b)
+base_reads base.Int k = reads (written _ ∷ []) _ (λ t is. types.int t (is ∙ tables.keyword_says _))
+base_reads base.Unsigned k = reads (written _ ∷ written _ ∷ []) _
+    (λ t is u so. types.unsigned_int t u (is ∙ tables.keyword_says _) (so ∙ tables.keyword_says _))
+base_reads (base.Struct tag) k = reads (written _ ∷ written tag ∷ []) _
+    (λ t is u named. types.struct t u tag (is ∙ tables.keyword_says _) (named ∙ name_says tag k))
+
+pub stars_read : (stars : ℕ) → Reading (star_words stars) (λ ts. SpellsStars ts stars)
+stars_read zero = reads [] _ types.none
+stars_read (suc n) =
+    let plus : n + 1 ≡ suc n = omega arith in
+    reads (written _ ∷ part (star_words n) ∷ []) _
+    (λ t is ts said. subst (λ m. SpellsStars (t ∷ ts) m) plus (types.star t (is ∙ tables.star) (stars_read n ts said)))
+
+-- the length of an array is a number of its type
+pub length_fits : (elements : ℕ) → elements ≤ 4294967295 → IsTrue (fits (length_number elements))
+length_fits elements h = ⊎_elim (λ small. let low : elements ≤ 2147483647 = omega (arith, small) in
+    and_from (nat_lt 2147483647 elements || nat_le elements 2147483647) (nat_le elements 4294967295)
+    (or_right (nat_lt 2147483647 _) (nat_le _ 2147483647) (le-leb _ 2147483647 low)) (le-leb elements 4294967295 h))
+    (λ large. let more = lt-ltb 2147483647 elements (omega (arith, large)) in
+    and_from _ (nat_le _ 4294967295) (rw more) (le-leb _ 4294967295 h)) (cases_lt elements 2147483648)
+
+-- what stands behind the base of a declaration
+abbrev pub declarator_words : TypeTree → List ℕ → List Piece
+declarator_words ty name = star_words ty.stars ++ word name ∷ length_words ty.length
+
+declarator_from : (b : BaseTree) (stars : ℕ) (len : Option ℕ) (name : List ℕ) → IsTrue (kept_length len) →
+    IsTrue (is_ident name) → Reading (star_words stars ++ word name ∷ length_words len)
+    (λ ts. SpellsDeclarator b ts (record { base = b; stars = stars; length = len }) name)
+declarator_from b stars None name k ident =
+    reads (part (star_words stars) ∷ written name ∷ []) (λ ts. SpellsDeclarator b ts _ name)
+    (λ ts said t is. types.plain t name (is ∙ name_says name ident) (stars_read stars ts said))
+declarator_from b stars (Some elements) name k ident =
+    let size = literal_text (length_number _) in
+    let parts = and_parts (nat_le 1 elements) _ k in
+    let high = leb-true elements 4294967295 parts.1 in
+    let is_length : array_length elements ≡ Some elements = rw parts.0 in
+    reads (part (star_words stars) ∷ written name ∷ written (codes "[") ∷ written size ∷ written (codes "]") ∷ [])
+    (λ ts. SpellsDeclarator b ts _ name) (λ ts said t is u opens v number w closes.
+    types.array t u v w name (length_number _) elements (is ∙ name_says name ident)
+    (opens ∙ tables.open_square) (number ∙ literal_says (length_number _) (length_fits _ high))
+    (closes ∙ tables.close_square) is_length (stars_read stars ts said))
+
+pub declarator_reads : (ty : TypeTree) (name : List ℕ) → IsTrue (kept_type ty) → IsTrue (is_ident name) →
+    Reading (declarator_words ty name) (λ ts. SpellsDeclarator ty.base ts ty name)
+declarator_reads ty name k ident = declarator_from ty.base _ _ name (and_parts _ _ k).1 ident
+
+minus_says : tables.SaysMark (codes "-") mark.Minus
+minus_says = tables.unary_says unary.Minus
+
+const_from : (negative : Bool) (literal : Number) → IsTrue (fits literal) →
+    Reading (minus_words negative ++ word (literal_text literal) ∷ [])
+    (λ ts. SpellsConst ts (record { negative = negative; literal = literal }))
+const_from true literal k = reads (written _ ∷ written _ ∷ []) _
+    (λ t is u number. decls.negated t u literal (is ∙ minus_says) (number ∙ literal_says literal k))
+const_from false literal k =
+    reads (written _ ∷ []) _ (λ t number. decls.plain t literal (number ∙ literal_says literal k))
+
+const_reads : (c : ConstTree) → IsTrue (kept_const c) → Reading (const_words c) (λ ts. SpellsConst ts c)
+const_reads c k = const_from _ _ k
+
+pub init_reads : (i : InitTree) → IsTrue (kept_init i) → Reading (init_words i) (λ ts. SpellsInit ts i)
+init_reads init.Absent k = reads [] (λ ts. SpellsInit ts init.Absent) decls.absent
+init_reads (init.One c) k = reads (written (codes "=") ∷ part (const_words c) ∷ []) (λ ts. SpellsInit ts (init.One c))
+    (λ t is ts said. decls.one t (is ∙ tables.equal) (const_reads c k ts said))
+init_reads (init.Many []) k = absurd (false≢true k)
+init_reads (init.Many (c ∷ cs)) k =
+    let parts = and_parts (kept_const c) (list_all kept_const cs) k in
+    reads (written (codes "=") ∷ written (codes "{") ∷ part (join_by const_words comma (c ∷ cs)) ∷
+    written (codes "}") ∷ []) (λ ts. SpellsInit ts (init.Many (c ∷ cs)))
+    (λ t is u opens ts said v closes.
+    decls.many t u v (is ∙ tables.equal) (opens ∙ tables.open_curly) (closes ∙ tables.close_curly)
+    (separated const_words kept_const SpellsConst const_reads c cs parts.0 parts.1 ts said))
 
 -- one declarator behind its base, on a line of its own
 single : {A : Type 0} (Item : BaseTree → ℕ → List Lexeme → A → Type 0) (depth : ℕ) (b : BaseTree) (behind : List Piece)
-    (entry : ℕ → A) → IsTrue (kept_base b) →
-    ((line : ℕ) → Reading behind (λ ts. Item b line ts (entry line))) →
-    Reading (line_of depth (ended (base_words b ++ blank ∷ behind)))
-    (λ ts. (line : ℕ) × Declares Item ts (entry line ∷ []))
+    (entry : ℕ → A) → IsTrue (kept_base b) → ((line : ℕ) → Reading behind (λ ts. Item b line ts (entry line))) → Reading
+    (line_of depth (ended (base_words b ++ blank ∷ behind))) (λ ts. (line : ℕ) × Declares Item ts (entry line ∷ []))
 single Item depth b behind entry k item ts h =
     reads (part (base_words b) ∷ fixed blank ∷ part behind ∷ written (codes ";") ∷ [])
     (λ us. (line : ℕ) × Declares Item us (entry line ∷ [])) (λ front base back said t is. (
@@ -43,11 +122,9 @@ single Item depth b behind entry k item ts h =
 -- the same, where something stands behind the declarator
 valued : {A : Type 0} (Item : BaseTree → ℕ → List Lexeme → A → Type 0) (depth : ℕ) (ty : TypeTree) (name : List ℕ)
     (value : List Piece) (entry : ℕ → A) (Value : List Lexeme → Type 0) → IsTrue (kept_type ty) →
-    IsTrue (is_ident name) → Reading value Value →
-    ((ts us : List Lexeme) (line : ℕ) → SpellsDeclarator ty.base ts ty name → Value us →
-    Item ty.base line (ts ++ us) (entry line)) →
-    Reading (line_of depth (ended (declared_words ty name ++ value)))
-    (λ ts. (line : ℕ) × Declares Item ts (entry line ∷ []))
+    IsTrue (is_ident name) → Reading value Value → ((ts us : List Lexeme) (line : ℕ) → SpellsDeclarator ty.base ts ty
+    name → Value us → Item ty.base line (ts ++ us) (entry line)) → Reading
+    (line_of depth (ended (declared_words ty name ++ value))) (λ ts. (line : ℕ) × Declares Item ts (entry line ∷ []))
 valued Item depth ty name value entry Value k ident spells item ts h =
     single Item depth ty.base (declarator_words ty name ++ value) entry (and_parts _ _ k).0
     (λ line. reads (part (declarator_words ty name) ∷ part value ∷ []) _ (λ front said back behind.
@@ -55,8 +132,7 @@ valued Item depth ty name value entry Value k ident spells item ts h =
     (h ∙ ap (λ pieces. symbols (line_of depth (ended pieces)))
     (append_assoc (base_words ty.base) (blank ∷ declarator_words ty name) value))
 
-member_reads : (m : MemberTree) → IsTrue (kept_member m) →
-    Reading (member_line m) (λ ts. Declares IsMember ts (m ∷ []))
+member_reads : (m : MemberTree) → IsTrue (kept_member m) → Reading (member_line m) (λ ts. Declares IsMember ts (m ∷ []))
 member_reads m k ts h =
     let parts = and_parts _ _ k in
     let base = and_parts _ _ parts.0 in
@@ -90,9 +166,8 @@ struct_reads name line (m ∷ ms) k ts h =
     record {
       other = decl.Struct _;
       spelled = decls.a_struct (decls.struct t u v w x name (is ∙ tables.keyword_says keyword.Struct)
-          (named ∙ name_says name parts.0)
-          (opens ∙ tables.open_curly) (closes ∙ tables.close_curly) (ends ∙ tables.semicolon)
-          (member_reads m both.0 front said) (members_read ms both.1 back behind));
+          (named ∙ name_says name parts.0) (opens ∙ tables.open_curly) (closes ∙ tables.close_curly)
+          (ends ∙ tables.semicolon) (member_reads m both.0 front said) (members_read ms both.1 back behind));
       same = refl;
     }) ts (h ∙ ap (λ pieces. symbols (word (codes "struct") ∷ word name ∷ word (codes "{") ∷ pieces))
     (append_assoc (member_line m) (flat_map member_line ms) tail))
@@ -101,9 +176,8 @@ global_reads : (g : GlobalTree) → IsTrue (kept_global g) → Reading (global_w
 global_reads g k ts h =
     let parts = and_parts _ _ k in
     let rest = and_parts _ _ parts.1 in
-    let d = valued IsGlobal 0 g.ty g.name _ (λ line. record g { line = line })
-    (λ us. SpellsInit us g.init) parts.0 rest.0 (init_reads g.init rest.1)
-    (λ us vs line named value. decls.global named value) ts h in
+    let d = valued IsGlobal 0 g.ty g.name _ (λ line. record g { line = line }) (λ us. SpellsInit us g.init) parts.0
+    rest.0 (init_reads g.init rest.1) (λ us vs line named value. decls.global named value) ts h in
     record { other = decl.Global _; spelled = decls.globals d.1; same = refl }
 
 value_reads : (v : Option ExprTree) → IsTrue (kept_value v) → Reading (value_words v) (λ ts. SpellsValue ts v)
@@ -116,9 +190,8 @@ local_reads : (l : LocalTree) → IsTrue (kept_local l) →
 local_reads l k ts h =
     let parts = and_parts _ _ k in
     let rest = and_parts _ _ parts.1 in
-    let d = valued IsLocal 1 l.ty l.name _ (λ line. record l { line = line })
-    (λ us. SpellsValue us l.init) parts.0 rest.0 (value_reads l.init rest.1)
-    (λ us vs line named value. decls.local named value) ts h in
+    let d = valued IsLocal 1 l.ty l.name _ (λ line. record l { line = line }) (λ us. SpellsValue us l.init) parts.0
+    rest.0 (value_reads l.init rest.1) (λ us vs line named value. decls.local named value) ts h in
     record { other = record l { line = d.0 }; spelled = d.1; same = refl }
 
 locals_read : (ls : List LocalTree) → list_all kept_local ls ≡ true →
@@ -132,8 +205,7 @@ type_reads ty k front back base stars = type_name (base_reads ty.base k front ba
 
 result_reads : (r : Option TypeName) → IsTrue (kept_result r) → Reading (result_words r) (λ ts. SpellsResult ts r)
 result_reads None k = reads (written _ ∷ []) _ (λ t is. decls.no_result t (is ∙ tables.keyword_says _))
-result_reads (Some ty) k =
-    reads (part (base_words ty.base) ∷ fixed blank ∷ part _ ∷ []) _
+result_reads (Some ty) k = reads (part (base_words ty.base) ∷ fixed blank ∷ part _ ∷ []) _
     (λ front base back stars. decls.a_result (type_reads ty k front back base stars))
 
 blank_symbols : (wanted : Bool) → symbols (blank_if wanted) ≡ []
@@ -188,8 +260,7 @@ head_reads head k =
 
 proto_reads : (head : HeadTree) → IsTrue (kept_head head) →
     Reading (ended (head_words head) ++ newline ∷ []) (λ ts. Spelled ts (decl.Proto head))
-proto_reads head k ts h =
-    reads (part (head_words head) ∷ written (codes ";") ∷ []) (λ us. Spelled us (decl.Proto head))
+proto_reads head k ts h = reads (part (head_words head) ∷ written (codes ";") ∷ []) (λ us. Spelled us (decl.Proto head))
     (λ front said t ends.
     let d = head_reads head k front said in
     record {
@@ -203,11 +274,9 @@ pub function_with : (f : FunctionTree) (body : List Piece) → IsTrue (kept_head
     list_all kept_local f.locals ≡ true → Reading body (λ ts. Lines ts f.body) →
     Reading (head_words (head_of f.head) ++ blank ∷ word (codes "{") ∷ newline ∷ (flat_map local_line f.locals ++
     (body ++ word (codes "}") ∷ newline ∷ []))) (λ ts. Alike SpellsDecl lineless_decl ts (decl.Function f))
-function_with f body kept_h kept_ls read =
-    reads (part (head_words (head_of f.head)) ∷ fixed blank ∷ written (codes "{") ∷ fixed newline ∷
-    part (flat_map local_line f.locals) ∷ part body ∷ written (codes "}") ∷ fixed newline ∷ [])
-    (λ us. Spelled us (decl.Function f))
-    (λ front head t opens middle locals back said u closes.
+function_with f body kept_h kept_ls read = reads (part (head_words (head_of f.head)) ∷ fixed blank ∷
+    written (codes "{") ∷ fixed newline ∷ part (flat_map local_line f.locals) ∷ part body ∷ written (codes "}") ∷
+    fixed newline ∷ []) (λ us. Spelled us (decl.Function f)) (λ front head t opens middle locals back said u closes.
     let hd = head_reads (head_of f.head) kept_h front head in
     let ls = locals_read f.locals kept_ls middle locals in
     let b = read back said in
@@ -234,8 +303,7 @@ function_reads : (f : FunctionTree) → IsTrue (kept_function f) →
 function_reads f k =
     let parts = and_parts _ _ k in
     let rest = and_parts _ _ parts.1 in
-    function_with f _ parts.0 rest.0
-    (λ ts said. lines_read 1 f.body (everywhere f.body) (all_at f.body rest.1) ts said)
+    function_with f _ parts.0 rest.0 (lines_read 1 f.body (each_kept _ f.body stmt_holds rest.1))
 
 pub decl_reads : (d : Decl) → IsTrue (is_kept_decl d) →
     Reading (decl_words d) (λ ts. Alike SpellsDecl lineless_decl ts d)

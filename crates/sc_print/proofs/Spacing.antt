@@ -3,20 +3,19 @@ use Rattle.sc_print.proofs.Common.{BinaryOp, Bool, ExprTree, ExprTree-F, IsTrue,
 use Rattle.sc_print.proofs.Common.{UnaryOp, Under, [], and_parts, ap, append-nil, append_assoc, arith, binary_text}
 use Rattle.sc_print.proofs.Common.{binary_words, blank, bytes_eq, codes, expr_at, expr_induction, expr_step, false}
 use Rattle.sc_print.proofs.Common.{false≢true, flat_map-append, if◌then◌else◌, in_parens, indent, is_doubled, is_ident}
-use Rattle.sc_print.proofs.Common.{is_kept, is_name_byte, kept_step, length, literal_text, lt-ltb, map-ExprTree, nat_lt}
-use Rattle.sc_print.proofs.Common.{ne_eqb, newline, prefix_words, refl, slice_index, subst, sym, text_of, true}
-use Rattle.sc_print.proofs.Common.{unary_text, word, word_kind, word_run, words_at, ℕ, ◌&&◌, ◌++◌, ◌-◌, ◌<◌, ◌==◌, ◌∙◌}
-use Rattle.sc_print.proofs.Common.{◌∷◌, ◌≡◌, ◌≤◌}
+use Rattle.sc_print.proofs.Common.{is_kept, is_name_byte, kept_step, length, lt-ltb, map-ExprTree, nat_lt, ne_eqb}
+use Rattle.sc_print.proofs.Common.{newline, prefix_words, refl, slice_index, subst, sym, text_of, true, unary_text}
+use Rattle.sc_print.proofs.Common.{word, word_kind, word_run, words_at, ℕ, ◌&&◌, ◌++◌, ◌-◌, ◌<◌, ◌==◌, ◌∙◌, ◌∷◌, ◌≡◌}
+use Rattle.sc_print.proofs.Common.{◌≤◌}
 use Rattle.sc_base.specs.Levels as levels
 use Rattle.sc_base.specs.declared.op.UnaryOp.TheVariants as unary
 use Rattle.sc_ast.specs.declared.expr.ExprTree.TheOpen as term
 use Rattle.sc_lex.specs.declared.token.TokenKind.TheVariants as kind
 use Rattle.sc_print.proofs.Tables.{at_least_2}
-use Rattle.sc_print.proofs.Leaves.{name_kind, name_some}
-use Rattle.sc_print.proofs.Literals.{literal_kind, literal_some}
+use Rattle.sc_print.proofs.Literals.{name_kind, name_some, literal_kind, literal_some}
 use Rattle.sc_print.proofs.Apart.{IsWord, Calm, starts, plain_word, open_paren, close_paren, open_square, close_square}
 use Rattle.sc_print.proofs.Apart.{dot, arrow, binary_word, is_loud, Quiet, IsSign, plus, minus, ampersand, Opens, quiet}
-use Rattle.sc_print.proofs.Apart.{sign, minus_word, plus_word, not_word, tilde_word, star_word, and_word}
+use Rattle.sc_print.proofs.Apart.{IsPrefix, signed, bang, asterisk, tilde, prefix_word, sign}
 
 -- Each word among the pieces is the token at its place, where this stands behind the pieces.
 pub data Tidy : List Piece → List ℕ → Type 0 where
@@ -36,9 +35,8 @@ go_on b rest none e d = d
 go_on b rest (gap t) e d = gap (go_on b rest t e d)
 go_on b rest (at_level levels t) e d = at_level levels (go_on b rest t e d)
 go_on b rest (line_end t) e d = line_end (go_on b rest t e d)
-go_on b rest (next {text = text} {pieces = pieces} {rest = r} w t) e d =
-    next (subst (λ x. IsWord text x) (ap (λ x. text_of pieces ++ x) e ∙ sym (behind pieces b rest)) w)
-    (go_on b rest t e d)
+go_on b rest (next {text = text} {pieces = pieces} {rest = r} w t) e d = next
+    (subst (λ x. IsWord text x) (ap (λ x. text_of pieces ++ x) e ∙ sym (behind pieces b rest)) w) (go_on b rest t e d)
 
 pub tidy_append : (a b : List Piece) (rest : List ℕ) → Tidy a (text_of b ++ rest) → Tidy b rest → Tidy (a ++ b) rest
 tidy_append a b rest t d = go_on b rest t refl d
@@ -82,24 +80,33 @@ parens_tidy true pieces t rest calm = next (open_paren _) (tidy_append pieces (w
     (t (text_of (word (codes ")") ∷ []) ++ rest) refl) (next (close_paren _) none))
 parens_tidy false pieces t rest calm = subst (λ x. Tidy x rest) (sym (append-nil pieces)) (t rest calm)
 
+abbrev Fits : Printed → Type 0
+Fits p = (before : List ℕ) (level : ℕ) (rest : List ℕ) → Calm rest →
+    Tidy (p before level) rest × Leads before level (text_of (p before level) ++ rest)
+
+twice : {c : ℕ} → IsSign c → (bytes_eq (c ∷ []) (c ∷ []) && is_doubled (c ∷ [])) ≡ true
+twice plus = refl
+twice _ = refl
+
+doubled : {c : ℕ} → IsPrefix c → (before text : List ℕ) → (bytes_eq before (c ∷ []) && is_doubled (c ∷ [])) ≡ false →
+    Opens before (c ∷ text)
+doubled {c} (signed s) before text q =
+    sign s (λ e. false≢true (sym q ∙ ap (λ x. bytes_eq x (c ∷ []) && is_doubled (c ∷ [])) e ∙ twice s))
+doubled _ before text q = quiet refl
+
 -- an operator in front of an operand
-module _ (c : ℕ) (word_at : (rest : List ℕ) → Opens (c ∷ []) rest → IsWord (c ∷ []) rest)
-    (opens : (before text : List ℕ) → (bytes_eq before (c ∷ []) && is_doubled (c ∷ [])) ≡ false →
-    Opens before (c ∷ text)) (of : Printed) (inner : (rest : List ℕ) → Calm rest →
-    Tidy (of (c ∷ []) 1) rest × Opens (c ∷ []) (text_of (of (c ∷ []) 1) ++ rest)) where
+module _ {c : ℕ} (p : IsPrefix c) (of : Printed) (fit : Fits of) where
   with_gap : (wanted : Bool) → Sound ((if wanted then blank ∷ [] else []) ++ word (c ∷ []) ∷ of (c ∷ []) 1)
-  with_gap true rest calm = let i = inner rest calm in gap (next (word_at _ i.1) i.0)
-  with_gap false rest calm = let i = inner rest calm in next (word_at _ i.1) i.0
+  with_gap true rest calm = let f = fit _ 1 rest calm in gap (next (prefix_word p _ (f.1.1 refl)) f.0)
+  with_gap false rest calm = let f = fit _ 1 rest calm in next (prefix_word p _ (f.1.1 refl)) f.0
 
   opens_at : (before : List ℕ) (wanted : Bool) → (bytes_eq before (c ∷ []) && is_doubled (c ∷ [])) ≡ wanted →
       (rest : List ℕ) → Opens before (text_of (in_parens false
       ((if wanted then blank ∷ [] else []) ++ word (c ∷ []) ∷ of (c ∷ []) 1)) ++ rest)
   opens_at before true q rest = quiet refl
-  opens_at before false q rest = opens before _ q
+  opens_at before false q rest = doubled p before _ q
 
-  prefix_tidy : (before : List ℕ) (level : ℕ) (rest : List ℕ) → Calm rest →
-      Tidy (prefix_words (c ∷ []) of before level) rest ×
-      Leads before level (text_of (prefix_words (c ∷ []) of before level) ++ rest)
+  prefix_tidy : Fits (prefix_words (c ∷ []) of)
   prefix_tidy before level rest calm = (
     parens_tidy (nat_lt level 1) _ (with_gap (bytes_eq before (c ∷ []) && is_doubled (c ∷ []))) rest calm,
     (
@@ -110,12 +117,7 @@ module _ (c : ℕ) (word_at : (rest : List ℕ) → Opens (c ∷ []) rest → Is
   )
 
 abbrev Holds : ExprTree → Type 0
-Holds e = IsTrue (is_kept e) → (before : List ℕ) (level : ℕ) (rest : List ℕ) → Calm rest →
-    Tidy (words_at e before level) rest × Leads before level (text_of (words_at e before level) ++ rest)
-
-abbrev Fits : Printed → Type 0
-Fits p = (before : List ℕ) (level : ℕ) (rest : List ℕ) → Calm rest →
-    Tidy (p before level) rest × Leads before level (text_of (p before level) ++ rest)
+Holds e = IsTrue (is_kept e) → Fits (words_at e)
 
 -- an operator between its operands
 binary_tidy : (op : BinaryOp) (left right : Printed) → Fits left → Fits right → Fits (binary_words op left right)
@@ -140,8 +142,7 @@ binary_tidy op left right at_left at_right before level rest calm = (
 -- what stands behind a postfix expression
 behind_tidy : (base : Printed) (more : List Piece) → Fits base →
     ((rest : List ℕ) → Calm rest → Calm (text_of more ++ rest) × Tidy more rest) →
-    (before : List ℕ) (level : ℕ) (rest : List ℕ) → Calm rest →
-    Tidy (base [] 0 ++ more) rest × Leads before level (text_of (base [] 0 ++ more) ++ rest)
+    Fits (λ before level. base [] 0 ++ more)
 behind_tidy base more fit on before level rest calm =
     let o = on rest calm in
     let b = fit [] 0 _ o.0 in (
@@ -149,28 +150,14 @@ behind_tidy base more fit on before level rest calm =
       from_quiet before level _ (quiet_append (base [] 0) more rest (b.1.0 refl)),
     )
 
-doubled : (c : ℕ) → IsSign c → (before text : List ℕ) → (bytes_eq before (c ∷ []) && is_doubled (c ∷ [])) ≡ false →
-    Opens before (c ∷ text)
-doubled c plus before text q = sign plus (λ e. false≢true
-    (sym q ∙ ap (λ x. bytes_eq x (43 ∷ []) && is_doubled (43 ∷ [])) e))
-doubled c minus before text q = sign minus (λ e. false≢true
-    (sym q ∙ ap (λ x. bytes_eq x (45 ∷ []) && is_doubled (45 ∷ [])) e))
-doubled c ampersand before text q = sign ampersand (λ e.
-    false≢true (sym q ∙ ap (λ x. bytes_eq x (38 ∷ []) && is_doubled (38 ∷ [])) e))
-
-operand : (c : ℕ) (of : Printed) → Fits of → (rest : List ℕ) → Calm rest →
-    Tidy (of (c ∷ []) 1) rest × Opens (c ∷ []) (text_of (of (c ∷ []) 1) ++ rest)
-operand c of fit rest calm = let f = fit _ 1 rest calm in (f.0, f.1.1 refl)
-
 unary_tidy : (op : UnaryOp) (of : Printed) → Fits of → Fits (prefix_words (unary_text op) of)
-unary_tidy unary.Minus of fit = prefix_tidy 45 minus_word (doubled 45 minus) of (operand 45 of fit)
-unary_tidy unary.Plus of fit = prefix_tidy 43 plus_word (doubled 43 plus) of (operand 43 of fit)
-unary_tidy unary.Not of fit = prefix_tidy 33 not_word (λ before text q. quiet refl) of (operand 33 of fit)
-unary_tidy unary.BitNot of fit = prefix_tidy 126 tilde_word (λ before text q. quiet refl) of (operand 126 of fit)
+unary_tidy unary.Minus = prefix_tidy (signed minus)
+unary_tidy unary.Plus = prefix_tidy (signed plus)
+unary_tidy unary.Not = prefix_tidy bang
+unary_tidy unary.BitNot = prefix_tidy tilde
 
 one_word_tidy : (text : List ℕ) (k : TokenKind) → 0 < length text → word_kind text ≡ Some k →
-    (before : List ℕ) (level : ℕ) (rest : List ℕ) → Calm rest →
-    Tidy (word text ∷ []) rest × Leads before level (text_of (word text ∷ []) ++ rest)
+    Fits (λ before level. word text ∷ [])
 one_word_tidy text k some is before level rest calm =
     let e = append-nil text in (
       next (plain_word text rest k some is calm) none,
@@ -188,34 +175,27 @@ named_tidy mark name at calm_at ident rest calm = (
 -- each form of expression
 form : (t : ExprTree-F ExprTree) → Under Holds t → IsTrue (kept_step (map-ExprTree _ _ is_kept t)) →
     Fits (expr_step (map-ExprTree _ _ words_at t))
-form (term.Literal number) u k before level rest calm =
-    one_word_tidy (literal_text number) kind.Integer (literal_some number k)
-    (literal_kind number k) before level rest calm
-form (term.Variable name) u k before level rest calm =
-    one_word_tidy name kind.Ident (name_some name k) (name_kind name k) before level rest calm
-form (term.Unary op of) u k before level rest calm = unary_tidy op (words_at of) (u k) before level rest calm
-form (term.Binary op left right) u k before level rest calm =
+form (term.Literal number) u k = one_word_tidy _ kind.Integer (literal_some number k) (literal_kind number k)
+form (term.Variable name) u k = one_word_tidy name kind.Ident (name_some name k) (name_kind name k)
+form (term.Unary op of) u k = unary_tidy op (words_at of) (u k)
+form (term.Binary op left right) u k =
     let parts = and_parts (is_kept left) (is_kept right) k in
-    binary_tidy op (words_at left) (words_at right) (u.0 parts.0) (u.1 parts.1) before level rest calm
-form (term.Index base place) u k before level rest calm =
+    binary_tidy op (words_at left) (words_at right) (u.0 parts.0) (u.1 parts.1)
+form (term.Index base place) u k =
     let parts = and_parts (is_kept base) (is_kept place) k in
     behind_tidy (words_at base) _ (u.0 parts.0) (λ r c. (
       refl,
       next (open_square _) (tidy_append (words_at place [] 11) (word (codes "]") ∷ []) r
           (u.1 parts.1 [] 11 _ refl).0 (next (close_square _) none)),
-    )) before level rest calm
-form (term.Member base name) u k before level rest calm =
+    ))
+form (term.Member base name) u k =
     let parts = and_parts (is_kept base) (is_ident name) k in
-    behind_tidy (words_at base) _ (u parts.0) (named_tidy (codes ".") name dot
-    (λ r. refl) parts.1) before level rest calm
-form (term.Arrow base name) u k before level rest calm =
+    behind_tidy (words_at base) _ (u parts.0) (named_tidy (codes ".") name dot (λ r. refl) parts.1)
+form (term.Arrow base name) u k =
     let parts = and_parts (is_kept base) (is_ident name) k in
-    behind_tidy (words_at base) _ (u parts.0) (named_tidy (codes "->") name arrow
-    (λ r. refl) parts.1) before level rest calm
-form (term.Deref of) u k before level rest calm = prefix_tidy 42 star_word (λ b t q. quiet refl) (words_at of)
-    (operand 42 (words_at of) (u k)) before level rest calm
-form (term.Address of) u k before level rest calm = prefix_tidy 38 and_word (doubled 38 ampersand) (words_at of)
-    (operand 38 (words_at of) (u k)) before level rest calm
+    behind_tidy (words_at base) _ (u parts.0) (named_tidy (codes "->") name arrow (λ r. refl) parts.1)
+form (term.Deref of) u k = prefix_tidy asterisk (words_at of) (u k)
+form (term.Address of) u k = prefix_tidy (signed ampersand) (words_at of) (u k)
 
 pub tidy_at : (e : ExprTree) → Holds e
 tidy_at = expr_induction Holds (λ t u kept before level rest calm.

@@ -14,10 +14,8 @@ use Rattle.sc_expr.specs.declared.mark.Mark.TheVariants as mark
 use Rattle.sc_expr.specs.declared.operator.Prefix.{Prefix}
 use Rattle.sc_expr.specs.declared.operator.Prefix.TheVariants as prefix
 use Rattle.sc_print.proofs.Tables as tables
-use Rattle.sc_print.proofs.Lists.{Say, up_to}
-use Rattle.sc_print.proofs.Leaves.{name_says}
-use Rattle.sc_print.proofs.Literals.{literal_says}
-use Rattle.sc_print.proofs.Reading.{joined_symbols, fixed, part, written, reads}
+use Rattle.sc_print.proofs.Reading.{Say, up_to, joined_symbols, fixed, part, written, reads}
+use Rattle.sc_print.proofs.Literals.{name_says, literal_says}
 
 -- Whatever the lexemes that say the pieces, they spell the expression at this level.
 abbrev pub AtLevel : ℕ → List Piece → ExprTree → Type 0
@@ -69,7 +67,7 @@ binary_at op e f left right inner_left inner_right before level =
         part (right [] (levels.level_of op - 1)) ∷ []) _ (λ ts said t is us behind.
         let l = subst (λ n. Spells n ts e) (sym (tables.own_level op)) (inner_left [] (levels.level_of op) ts said) in
         let d = joined t (tables.binary_mark op) op (is ∙ tables.binary_says op) (tables.binary_operator op)
-        (tables.above op) l (inner_right [] (levels.level_of op - 1) us behind) in
+        (sym (tables.own_level op)) l (inner_right [] (levels.level_of op - 1) us behind) in
         subst (λ n. Spells n (ts ++ t ∷ us) (expr.Binary op e f)) (tables.own_level op) d)
 
 index_at : (e f : ExprTree) (base place : List Piece) → AtLevel 0 base e → AtLevel 11 place f → (level : ℕ) →
@@ -83,23 +81,19 @@ index_at e f base place at_base at_place level =
 named_at : (kind name : List ℕ) (base : List Piece) (e of : ExprTree) → AtLevel 0 base of →
     ((ts : List Lexeme) (t u : Lexeme) → t.symbol ≡ word_symbol kind → u.symbol ≡ word_symbol name → Spells 0 ts of →
     Spells 0 (ts ++ t ∷ u ∷ []) e) → (level : ℕ) → AtLevel level (base ++ word kind ∷ word name ∷ []) e
-named_at kind name base e of at_base spells level =
-    reads (part base ∷ written kind ∷ written name ∷ []) _
+named_at kind name base e of at_base spells level = reads (part base ∷ written kind ∷ written name ∷ []) _
     (λ ts said t is u named. up_to 0 level _ e (omega arith) (spells ts t u is named (at_base ts said)))
 
 abbrev pub Holds : ExprTree → Type 0
 Holds e = IsTrue (is_kept e) → (before : List ℕ) (level : ℕ) → AtLevel level (words_at e before level) e
 
 -- each form of expression
-form : (t : ExprTree-F ExprTree) → Under Holds t → IsTrue (kept_step (map-ExprTree _ _ is_kept t)) →
-    (before : List ℕ) (level : ℕ) → AtLevel level (expr_step (map-ExprTree _ _ words_at t) before level)
-    (roll-ExprTree t)
+form : (t : ExprTree-F ExprTree) → Under Holds t → IsTrue (kept_step (map-ExprTree _ _ is_kept t)) → (before : List ℕ)
+    (level : ℕ) → AtLevel level (expr_step (map-ExprTree _ _ words_at t) before level) (roll-ExprTree t)
 unfolding roll-ExprTree denote.Hole.Carrier.roll
-form (term.Literal number) u k before level ts h =
-    reads (written _ ∷ []) (λ us. Spells level us (expr.Literal number))
+form (term.Literal number) u k before level ts h = reads (written _ ∷ []) (λ us. Spells level us (expr.Literal number))
     (λ t is. up_to 0 level _ _ (omega arith) (literal t number (is ∙ literal_says number k))) ts h
-form (term.Variable name) u k before level ts h =
-    reads (written name ∷ []) (λ us. Spells level us (expr.Variable name))
+form (term.Variable name) u k before level ts h = reads (written name ∷ []) (λ us. Spells level us (expr.Variable name))
     (λ t is. up_to 0 level _ _ (omega arith) (variable t name (is ∙ name_says name k))) ts h
 form (term.Unary op of) u k before level ts h = prefixed_at _ (tables.unary_mark op) (prefix.Operator op)
     (tables.unary_says op) (tables.unary_prefix op) of (words_at of) (u k) before level ts h
@@ -123,9 +117,8 @@ form (term.Address of) u k before level ts h = prefixed_at _ mark.And prefix.Add
     (words_at of) (u k) before level ts h
 
 pub spelled_at : (e : ExprTree) → Holds e
-spelled_at = expr_induction Holds (λ t u kept before level ts h.
-    form t u (subst (λ b. IsTrue b) (expr_at _ t) kept) before level ts
-    (h ∙ ap (λ f. symbols (f before level)) (expr_at expr_step t)))
+spelled_at = expr_induction Holds (λ t u kept before level ts h. form t u (subst (λ b. IsTrue b) (expr_at _ t) kept)
+    before level ts (h ∙ ap (λ f. symbols (f before level)) (expr_at expr_step t)))
 
 pub words_spell : (e : ExprTree) → IsTrue (is_kept e) → WordsSpell e
 words_spell e kept ts h = spelled_at e kept [] 11 ts h

@@ -1,21 +1,18 @@
 -- The words of statements stand apart.
-use Rattle.sc_print.proofs.Common.{Bool, CallTree, Each, ExprTree, Inside, IsTrue, Layout, List, None, Option, Piece}
-use Rattle.sc_print.proofs.Common.{SimpleKind, SimpleTree, Some, StmtKind, StmtKind-F, StmtTree, [], all_kept}
-use Rattle.sc_print.proofs.Common.{and_parts, append-nil, are_kept, blank, block_words, call_words, chain_words, codes}
-use Rattle.sc_print.proofs.Common.{comma, condition_words, deeper, else_words, ended, equals, expr_words, false}
-use Rattle.sc_print.proofs.Common.{first_words, for_words, if◌then◌else◌, indent, is_chain, is_ident, is_kept}
-use Rattle.sc_print.proofs.Common.{is_kept_stmt, join_by, kept_call, kept_kind, kept_option, kept_place, kept_simple}
-use Rattle.sc_print.proofs.Common.{kind_layout, layouts, length, line_of, lines_at, list_all, map, map-StmtKind}
-use Rattle.sc_print.proofs.Common.{newline, next_words, place_words, refl, return_words, roll-StmtKind, simple_words}
-use Rattle.sc_print.proofs.Common.{stmt_at, stmt_induction, stmt_layout, subst, sym, true, word, ℕ, ◌++◌, ◌==◌, ◌∷◌}
-use Rattle.sc_print.proofs.Common.{◌≡◌}
-use Rattle.sc_ast.specs.StmtWords as printing
+use Rattle.sc_print.proofs.Common.{Bool, CallTree, Each, ExprTree, IsTrue, Layout, List, None, Option, Piece}
+use Rattle.sc_print.proofs.Common.{SimpleKind, SimpleTree, Some, StmtKind, StmtTree, [], all_kept, and_parts}
+use Rattle.sc_print.proofs.Common.{append-nil, are_kept, blank, block_words, call_words, chain_words, codes, comma}
+use Rattle.sc_print.proofs.Common.{condition_words, deeper, else_words, ended, equals, expr_words, false, first_words}
+use Rattle.sc_print.proofs.Common.{for_words, if◌then◌else◌, indent, is_chain, is_ident, is_kept, is_kept_stmt, join_by}
+use Rattle.sc_print.proofs.Common.{kept_call, kept_option, kept_place, kept_simple, layouts, length, line_of, lines_at}
+use Rattle.sc_print.proofs.Common.{list_all, map, newline, next_words, place_words, refl, return_words, simple_words}
+use Rattle.sc_print.proofs.Common.{stmt_layout, subst, sym, true, word, ℕ, ◌++◌, ◌==◌, ◌∷◌, ◌≡◌}
 use Rattle.sc_ast.specs.declared.stmt.SimpleKind.TheVariants as simple
 use Rattle.sc_ast.specs.declared.stmt.StmtKind.TheOpen as layer
 use Rattle.sc_lex.specs.declared.token.TokenKind.TheVariants as kind
 use Rattle.sc_print.specs.KeptStmts as kept
-use Rattle.sc_print.proofs.Each.{all_at}
-use Rattle.sc_print.proofs.Leaves.{name_kind, name_some}
+use Rattle.sc_print.proofs.Each.{all_at, kept_each, each_kept, Of, Forms, by_forms}
+use Rattle.sc_print.proofs.Literals.{name_kind, name_some}
 use Rattle.sc_print.proofs.Apart.{IsWord, Calm, plain_word, open_paren, close_paren, semicolon, comma_word, open_curly}
 use Rattle.sc_print.proofs.Apart.{close_curly, equal_word, keyword_word}
 use Rattle.sc_print.proofs.Spacing.{Tidy, none, gap, next, at_level, line_end, tidy_append, Sound, tidy_at}
@@ -37,18 +34,22 @@ pub closing : (pieces : List Piece) (text : List ℕ) → Sound pieces → ((res
 closing pieces text t calm w rest = tidy_append pieces _ rest
     (t _ (subst (λ x. Calm (x ++ rest)) (sym (append-nil text)) (calm rest))) (next (w _) none)
 
-args_from : (e : ExprTree) (es : List ExprTree) → IsTrue (is_kept e) → list_all is_kept es ≡ true →
-    Sound (join_by expr_words comma (e ∷ es))
-args_from e [] k all rest calm = tidy_append _ [] rest (expr_tidy e k rest calm) none
-args_from e (x ∷ xs) k all rest calm =
-    let parts = and_parts (is_kept x) (list_all is_kept xs) all in
-    tidy_append (expr_words e) (word _ ∷ blank ∷ join_by expr_words comma (x ∷ xs)) rest
-    (expr_tidy e k _ refl) (next (comma_word _) (gap (args_from x xs parts.0 parts.1 rest calm)))
+-- items with commas between them, each before texts that are fine
+module _ {A : Type 0} (words : A → List Piece) (kept : A → Bool) (Fine : List ℕ → Type 0)
+    (comma_fine : (rest : List ℕ) → Fine (44 ∷ rest))
+    (t : (x : A) → IsTrue (kept x) → (rest : List ℕ) → Fine rest → Tidy (words x) rest) where
+  pub joined_tidy : (x : A) (xs : List A) → IsTrue (kept x) → list_all kept xs ≡ true → (rest : List ℕ) → Fine rest →
+      Tidy (join_by words comma (x ∷ xs)) rest
+  joined_tidy x [] k all rest fine = tidy_append _ [] rest (t x k rest fine) none
+  joined_tidy x (y ∷ ys) k all rest fine =
+      let parts = and_parts (kept y) (list_all kept ys) all in
+      tidy_append (words x) (word _ ∷ blank ∷ join_by words comma (y ∷ ys)) rest (t x k _ (comma_fine _))
+      (next (comma_word _) (gap (joined_tidy y ys parts.0 parts.1 rest fine)))
 
 args_tidy : (args : List ExprTree) → list_all is_kept args ≡ true → Sound (join_by expr_words comma args)
-args_tidy [] all rest calm = none
-args_tidy (e ∷ es) all rest calm = let parts = and_parts _ _ all in
-    args_from e es parts.0 parts.1 rest calm
+args_tidy [] all = λ rest calm. none
+args_tidy (e ∷ es) all = let parts = and_parts (is_kept e) _ all in
+    joined_tidy expr_words is_kept Calm (λ r. refl) expr_tidy e es parts.0 parts.1
 
 pub call_tidy : (c : CallTree) → IsTrue (kept_call c) → Free (call_words c)
 call_tidy c k rest =
@@ -97,48 +98,38 @@ for_tidy f c n kf kc kn rest =
     next (keyword_word keyword.For _ refl) (gap (next (open_paren _) (tidy_append (first_words f) _ rest
     (first_tidy f kf _ refl) (next (semicolon _) (gap test)))))
 
-abbrev Holds : StmtTree → Type 0
-Holds s = IsTrue (is_kept_stmt s) → (depth : ℕ) → Free ((stmt_layout s).words depth)
+abbrev Apart : Layout → StmtKind → Type 0
+Apart layout k = (depth : ℕ) → Free (layout.words depth)
 
-lines_tidy : (depth : ℕ) (stmts : List StmtTree) → Each Holds stmts → list_all is_kept_stmt stmts ≡ true →
-    Free (lines_at depth (layouts stmts))
-lines_tidy depth [] each k rest = none
-lines_tidy depth (s ∷ stmts) each k rest =
-    let parts = and_parts (is_kept_stmt s) (list_all _ stmts) k in
-    tidy_append (line_of depth _) (lines_at depth _) rest
-    (at_level depth (tidy_append ((stmt_layout s).words depth) (newline ∷ []) _ (each.0 parts.0 depth _)
-    (line_end none))) (lines_tidy depth stmts each.1 parts.1 rest)
+lines_tidy : (depth : ℕ) (stmts : List StmtTree) → Each (Of Apart) stmts → Free (lines_at depth (layouts stmts))
+lines_tidy depth [] each rest = none
+lines_tidy depth (s ∷ stmts) each rest = tidy_append (line_of depth _) (lines_at depth _) rest
+    (at_level depth (tidy_append ((stmt_layout s).words depth) (newline ∷ []) _ (each.0 depth _) (line_end none)))
+    (lines_tidy depth stmts each.1 rest)
 
-block_tidy : (depth : ℕ) (stmts : List StmtTree) → Each Holds stmts → list_all is_kept_stmt stmts ≡ true →
-    Free (block_words depth (layouts stmts))
-block_tidy depth stmts each k rest = next (open_curly _)
+block_tidy : (depth : ℕ) (stmts : List StmtTree) → Each (Of Apart) stmts → Free (block_words depth (layouts stmts))
+block_tidy depth stmts each rest = next (open_curly _)
     (line_end (tidy_append (lines_at (deeper depth) _) (indent depth ∷ word (codes "}") ∷ []) rest
-    (lines_tidy (deeper depth) stmts each k _) (at_level depth (next (close_curly _) none))))
+    (lines_tidy (deeper depth) stmts each _) (at_level depth (next (close_curly _) none))))
 
-chain_tidy : (depth : ℕ) (stmts : List StmtTree) → Each Holds stmts → list_all is_kept_stmt stmts ≡ true →
-    Free (chain_words depth (layouts stmts))
-chain_tidy depth [] each k rest = none
-chain_tidy depth (s ∷ stmts) each k rest =
-    let parts = and_parts (is_kept_stmt s) (list_all _ stmts) k in
-    tidy_append ((stmt_layout s).words depth) (chain_words depth (layouts stmts)) rest (each.0 parts.0 depth _)
-    (chain_tidy depth stmts each.1 parts.1 rest)
+chain_tidy : (depth : ℕ) (stmts : List StmtTree) → Each (Of Apart) stmts → Free (chain_words depth (layouts stmts))
+chain_tidy depth [] each rest = none
+chain_tidy depth (s ∷ stmts) each rest = tidy_append ((stmt_layout s).words depth) (chain_words depth (layouts stmts))
+    rest (each.0 depth _) (chain_tidy depth stmts each.1 rest)
 
 choice_tidy : (wanted : Bool) (a b : List Piece) → Free a → Free b → Free (if wanted then a else b)
 choice_tidy true a b s t = s
 choice_tidy false a b s t = t
 
 -- what stands behind an `else` begins with a word or with `{`, and a blank stands before it
-else_tidy : (depth : ℕ) (stmts : List StmtTree) → Each Holds stmts → list_all is_kept_stmt stmts ≡ true →
-    Free (else_words depth (layouts stmts))
-else_tidy depth stmts each k =
+else_tidy : (depth : ℕ) (stmts : List StmtTree) → Each (Of Apart) stmts → Free (else_words depth (layouts stmts))
+else_tidy depth stmts each =
     choice_tidy (length (layouts stmts) == 0) [] _ (λ rest. none)
     (λ rest. gap (next (keyword_word keyword.Else _ refl) (gap (choice_tidy (is_chain (layouts stmts))
-    (chain_words depth (layouts stmts)) (block_words depth _) (chain_tidy depth stmts each k)
-    (block_tidy depth stmts each k) rest))))
+    (chain_words depth (layouts stmts)) (block_words depth _) (chain_tidy depth stmts each)
+    (block_tidy depth stmts each) rest))))
 
-form : (k : StmtKind-F StmtKind StmtTree) → Inside Holds k →
-    IsTrue (kept.kind_step (map-StmtKind _ _ _ _ kept_kind is_kept_stmt k)) → (depth : ℕ) →
-    Free ((printing.kind_step (map-StmtKind _ _ _ _ kind_layout stmt_layout k)).words depth)
+form : Forms Apart
 form layer.Empty inside k depth rest = next (semicolon _) none
 form (layer.Assign place value) inside k depth rest = ended_tidy _ (simple_tidy (simple.Assign place value) k) rest
 form (layer.AssignCall place call) inside k depth rest =
@@ -149,37 +140,26 @@ form (layer.If cond then_part else_part) inside k depth rest =
     let both = and_parts (all_kept (map is_kept_stmt then_part)) (all_kept (map is_kept_stmt else_part)) parts.1 in
     tidy_append (condition_words _ cond) _ rest (condition_tidy _ cond (keyword_word keyword.If) parts.0 _)
     (tidy_append (block_words depth (layouts _)) (else_words depth (layouts _)) rest
-    (block_tidy depth then_part inside.0 (all_at _ both.0) _)
-    (else_tidy depth else_part inside.1 (all_at _ both.1) rest))
+    (block_tidy depth then_part (kept_each _ then_part inside.0 (all_at _ both.0)) _)
+    (else_tidy depth else_part (kept_each _ else_part inside.1 (all_at _ both.1)) rest))
 form (layer.While cond body) inside k depth rest =
     let parts = and_parts (is_kept cond) (all_kept (map _ body)) k in
     tidy_append (condition_words _ cond) _ rest (condition_tidy _ cond (keyword_word keyword.While) parts.0 _)
-    (block_tidy depth body inside (all_at body parts.1) rest)
+    (block_tidy depth body (kept_each _ body inside (all_at body parts.1)) rest)
 form (layer.For first cond after body) inside k depth rest =
     let parts = and_parts (kept_option first) _ k in
     let more = and_parts (is_kept cond) _ parts.1 in
     let last = and_parts (kept_option after) (all_kept (map _ body)) more.1 in
     tidy_append (for_words first cond after) _ rest (for_tidy first cond after parts.0 more.0 last.0 _)
-    (block_tidy depth body inside (all_at body last.1) rest)
+    (block_tidy depth body (kept_each _ body inside (all_at body last.1)) rest)
 form layer.Break inside k depth rest = next (keyword_word keyword.Break _ refl) (next (semicolon _) none)
 form layer.Continue inside k depth rest = next (keyword_word keyword.Continue _ refl) (next (semicolon _) none)
 form layer.Return inside k depth rest = next (keyword_word keyword.Return _ refl) (next (semicolon _) none)
 form (layer.ReturnValue value) inside k depth rest = return_tidy _ (expr_tidy value k) rest
 form (layer.ReturnCall call) inside k depth rest = return_tidy (call_words call) (λ r calm. call_tidy call k r) rest
 
-at_line : (line : ℕ) (k : StmtKind-F StmtKind StmtTree) → Inside Holds k →
-    Holds (record { line = line; kind = roll-StmtKind k })
-at_line line k inside kept_s depth rest =
-    let eq = stmt_at Layout Layout printing.kind_step printing.stmt_step line k in
-    let kept_eq = stmt_at Bool Bool kept.kind_step kept.stmt_step line k in
-    subst (λ l. Tidy (l.words depth) rest) (sym eq) (form k inside (subst (λ x. IsTrue x) kept_eq kept_s) depth rest)
-
-pub stmt_holds : (s : StmtTree) → Holds s
-stmt_holds = stmt_induction Holds at_line
-
-everywhere : (stmts : List StmtTree) → Each Holds stmts
-everywhere [] = tt
-everywhere (s ∷ stmts) = (stmt_holds s, everywhere stmts)
+pub stmt_holds : (s : StmtTree) → IsTrue (is_kept_stmt s) → (depth : ℕ) → Free ((stmt_layout s).words depth)
+stmt_holds = by_forms Apart form
 
 pub stmts_tidy : (stmts : List StmtTree) → IsTrue (are_kept stmts) → (depth : ℕ) → Free (lines_at depth (layouts stmts))
-stmts_tidy stmts k depth = lines_tidy depth stmts (everywhere stmts) (all_at stmts k)
+stmts_tidy stmts k depth = lines_tidy depth stmts (each_kept _ stmts stmt_holds k)

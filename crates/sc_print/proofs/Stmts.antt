@@ -1,45 +1,77 @@
 -- The words of statements spell them, lines aside.
-use Rattle.sc_print.proofs.Common.{Bool, Each, ExprTree, Inside, IsKeyword, IsMark, IsTrue, Keyword, Layout, Lexeme}
-use Rattle.sc_print.proofs.Common.{List, None, Option, Piece, SimpleKind, SimpleTree, Some, SpellsBlock}
-use Rattle.sc_print.proofs.Common.{SpellsCondition, SpellsIf, SpellsPart, SpellsStmtKind, SpellsStmts, StmtKind}
-use Rattle.sc_print.proofs.Common.{StmtKind-F, StmtTree, StmtsSpell, [], all_kept, and_parts, ap, append-nil}
-use Rattle.sc_print.proofs.Common.{append_assoc, ap₂, are_kept, arith, bare_stmt, behind_else, blank, block_words}
-use Rattle.sc_print.proofs.Common.{call_words, chain_words, codes, condition_words, deeper, else_words, ended, eqb-true}
-use Rattle.sc_print.proofs.Common.{expr_words, false, false≢true, first_line, first_words, for_words, if_words}
-use Rattle.sc_print.proofs.Common.{if◌then◌else◌, indent, is_chain, is_kept, is_kept_stmt, kept_kind, kept_option}
-use Rattle.sc_print.proofs.Common.{kept_simple, kind_layout, layouts, length, line_of, lineless_kind, lineless_option}
-use Rattle.sc_print.proofs.Common.{lineless_stmt, lineless_stmts, lines_at, list_all, map, map-StmtKind, ne_eqb}
-use Rattle.sc_print.proofs.Common.{newline, next_words, refl, return_words, roll-StmtKind, rules, simple_words, stmt_at}
-use Rattle.sc_print.proofs.Common.{stmt_induction, stmt_layout, subst, sym, symbols, true, word, word_symbol, ℕ, ◌&&◌}
-use Rattle.sc_print.proofs.Common.{◌++◌, ◌==◌, ◌∙◌, ◌∷◌, ◌≡◌}
+use Rattle.sc_print.proofs.Common.{Bool, CallTree, Each, ExprTree, IsKeyword, IsMark, IsTrue, Keyword, Layout, Lexeme}
+use Rattle.sc_print.proofs.Common.{List, None, Option, Piece, SimpleKind, SimpleTree, Some, Spells, SpellsArgs}
+use Rattle.sc_print.proofs.Common.{SpellsBlock, SpellsCall, SpellsCondition, SpellsIf, SpellsKind, SpellsPart}
+use Rattle.sc_print.proofs.Common.{SpellsPlace, SpellsStmtKind, SpellsStmts, StmtKind, StmtTree, StmtsSpell, []}
+use Rattle.sc_print.proofs.Common.{all_kept, and_parts, ap, append-nil, append_assoc, ap₂, are_kept, arith, bare_stmt}
+use Rattle.sc_print.proofs.Common.{behind_else, blank, block_words, call_words, chain_words, codes, comma}
+use Rattle.sc_print.proofs.Common.{condition_words, deeper, else_words, ended, eqb-true, equals}
+use Rattle.sc_print.proofs.Common.{everywhere as everywhere_holds, expr_words, false, false≢true, first_line}
+use Rattle.sc_print.proofs.Common.{first_words, for_words, if_words, if◌then◌else◌, indent, is_chain, is_ident, is_kept}
+use Rattle.sc_print.proofs.Common.{is_kept_stmt, join_by, kept_call, kept_option, kept_place, kept_simple, layouts}
+use Rattle.sc_print.proofs.Common.{length, line_of, lineless_kind, lineless_option, lineless_stmt, lineless_stmts}
+use Rattle.sc_print.proofs.Common.{lines_at, list_all, loosest_level, map, ne_eqb, newline, next_words, no_args}
+use Rattle.sc_print.proofs.Common.{place_words, refl, return_words, roll-StmtKind, simple_words, some_args, stmt_layout}
+use Rattle.sc_print.proofs.Common.{subst, sym, symbols, true, word, word_symbol, ℕ, ◌&&◌, ◌++◌, ◌==◌, ◌∙◌, ◌∷◌, ◌≡◌}
 use Rattle.sc_ast.specs.Prelude.{kind_of}
-use Rattle.sc_ast.specs.StmtWords as printing
 use Rattle.sc_ast.specs.declared.stmt.SimpleKind.TheVariants as simple
-use Rattle.sc_ast.specs.declared.stmt.StmtTree as trees
-use Rattle.sc_ast.specs.declared.stmt.StmtKind as kinds
+use Rattle.sc_expr.specs.declared.mark.Mark.TheVariants as mark
+use Rattle.sc_parse.specs.Statements as spell
+use Rattle.sc_print.proofs.Tables as tables
+use Rattle.sc_print.proofs.Reading.{Say, Reading, fixed, part, written, reads, separated, line_symbols}
+use Rattle.sc_print.proofs.Literals.{name_says}
+use Rattle.sc_print.proofs.Spelling.{spelled_at}
 use Rattle.sc_ast.specs.declared.stmt.StmtKind.TheOpen as layer
 use Rattle.sc_ast.specs.declared.stmt.StmtKind.TheVariants as stmt
-use Rattle.sc_parse.specs.Statements as spell
-use Rattle.sc_print.specs.KeptStmts as kept
-use Rattle.sc_print.proofs.Each.{all_at}
-use Rattle.sc_print.proofs.Tables as tables
+use Rattle.sc_print.proofs.Each.{all_at, kept_each, each_kept, Kept, Of, Forms, by_forms, bare_if, bare_while, bare_for}
 use Rattle.sc_expr.specs.declared.mark.Keyword.TheVariants as keyword
-use Rattle.sc_expr.specs.declared.mark.Mark.TheVariants as mark
-use Rattle.sc_print.proofs.Lists.{Say}
-use Rattle.sc_print.proofs.Reading.{Reading, fixed, part, written, reads, line_symbols}
-use Rattle.sc_print.proofs.Simple.{expr_reads, call_reads, simple_reads, in_brackets, condition_reads}
 
--- without lines, by the parts
-same_if : (c : ExprTree) (t e : List StmtTree) → lineless_kind (stmt.If c t e) ≡
-    stmt.If c (lineless_stmts t) (lineless_stmts e)
-same_if c t e = search (rules, kinds.the_lemmas, trees.the_lemmas)
+pub expr_reads : (e : ExprTree) → IsTrue (is_kept e) → Reading (expr_words e) (λ ts. Spells loosest_level ts e)
+expr_reads e k ts h = spelled_at e k [] 11 ts h
 
-same_while : (c : ExprTree) (b : List StmtTree) → lineless_kind (stmt.While c b) ≡ stmt.While c (lineless_stmts b)
-same_while c b = search (rules, kinds.the_lemmas, trees.the_lemmas)
+args_read : (args : List ExprTree) → list_all is_kept args ≡ true →
+    Reading (join_by expr_words comma args) (λ ts. SpellsArgs ts args)
+args_read [] all ts h = reads [] (λ us. SpellsArgs us []) no_args ts h
+args_read (e ∷ es) all ts h =
+    let parts = and_parts (is_kept e) _ all in
+    some_args (separated expr_words is_kept _ expr_reads e es parts.0 parts.1 ts h)
 
-same_for : (f : Option SimpleTree) (c : ExprTree) (n : Option SimpleTree) (b : List StmtTree) →
-    lineless_kind (stmt.For f c n b) ≡ stmt.For (lineless_option f) c (lineless_option n) (lineless_stmts b)
-same_for f c n b = search (rules, kinds.the_lemmas, trees.the_lemmas)
+pub call_reads : (c : CallTree) → IsTrue (kept_call c) → Reading (call_words c) (λ ts. SpellsCall ts c)
+call_reads c k =
+    let parts = and_parts (is_ident c.name) (list_all is_kept c.args) k in
+    reads (written c.name ∷ written (codes "(") ∷ part (join_by _ comma c.args) ∷ written (codes ")") ∷ []) _
+    (λ t is u opens args said v closes. spell.call t u v c.name (is ∙ name_says c.name parts.0)
+    (opens ∙ tables.open_paren) (closes ∙ tables.close_paren) (args_read c.args parts.1 args said))
+
+-- a place, and behind `=` what is assigned
+assigned : (place : ExprTree) (value : List Piece) (P : List Lexeme → Type 0) → IsTrue (kept_place place) →
+    ((ts : List Lexeme) (t : Lexeme) (us : List Lexeme) → SpellsPlace ts place → IsMark mark.Equal t →
+    Say (symbols value) us → P (ts ++ t ∷ us)) → Reading (place_words place ++ (equals ++ value)) P
+assigned place value P k take =
+    let parts = and_parts _ (is_kept place) k in
+    reads (part (place_words place) ∷ fixed blank ∷ written (codes "=") ∷ fixed blank ∷ part value ∷ []) P
+    (λ ts said t is us behind. take ts t us (spelled_at place parts.1 [] 1 ts said, parts.0) (is ∙ tables.equal) behind)
+
+pub simple_reads : (k : SimpleKind) → IsTrue (kept_simple k) → Reading (simple_words k) (λ ts. SpellsKind ts k)
+simple_reads (simple.Assign place value) k ts h =
+    let parts = and_parts _ _ k in
+    assigned place _ (λ ts. SpellsKind ts (simple.Assign place value)) parts.0
+    (λ us t vs at is said. spell.assign t is at (expr_reads value parts.1 vs said)) ts h
+simple_reads (simple.AssignCall place call) k ts h =
+    let parts = and_parts _ _ k in
+    assigned place _ (λ ts. SpellsKind ts (simple.AssignCall place call)) parts.0
+    (λ us t vs at is said. spell.assign_call t is at (call_reads call parts.1 vs said)) ts h
+simple_reads (simple.Call call) k ts h = spell.call (call_reads call k ts h)
+
+-- a condition in its parentheses, and a blank
+abbrev pub in_brackets : ExprTree → List Piece
+in_brackets cond = word (codes "(") ∷ (expr_words cond ++ word (codes ")") ∷ blank ∷ [])
+
+pub condition_reads : (cond : ExprTree) → IsTrue (is_kept cond) →
+    Reading (in_brackets cond) (λ ts. SpellsCondition ts cond)
+condition_reads cond k = reads (written (codes "(") ∷ part (expr_words cond) ∷ written (codes ")") ∷ fixed blank ∷ []) _
+    (λ t opens ts said u closes. spell.condition t u (opens ∙ tables.open_paren) (closes ∙ tables.close_paren)
+    (expr_reads cond k ts said))
 
 -- The lexemes spell a statement, which is an `if` where that is told, and which is this one, lines aside.
 pub record Spelled (ts : List Lexeme) (is_if : Bool) (k : StmtKind) : Type 0 where
@@ -53,7 +85,7 @@ abbrev pub Reads : Layout → StmtKind → Type 0
 Reads layout k = (depth : ℕ) → Reading (layout.words depth) (λ ts. Spelled ts layout.is_if k)
 
 abbrev pub Holds : StmtTree → Type 0
-Holds s = IsTrue (is_kept_stmt s) → Reads (stmt_layout s) s.kind
+Holds = Kept (Of Reads)
 
 pub record Lines (ts : List Lexeme) (stmts : List StmtTree) : Type 0 where
   pub others : List StmtTree
@@ -66,15 +98,14 @@ pub same_line : (line : ℕ) (kind : StmtKind) (s : StmtTree) → lineless_kind 
 same_line line kind s same =
     bare_stmt line kind ∙ ap (λ x. record { line = 0; kind = x }) same ∙ sym (bare_stmt s.line s.kind)
 
-pub lines_read : (depth : ℕ) (stmts : List StmtTree) → Each Holds stmts → list_all is_kept_stmt stmts ≡ true →
+pub lines_read : (depth : ℕ) (stmts : List StmtTree) → Each (Of Reads) stmts →
     Reading (lines_at depth (layouts stmts)) (λ ts. Lines ts stmts)
-lines_read depth [] each k = reads [] _ (record { others = []; spelled = spell.none; same = refl })
-lines_read depth (s ∷ stmts) each k =
-    let parts = and_parts (is_kept_stmt s) _ k in
+lines_read depth [] each = reads [] _ (record { others = []; spelled = spell.none; same = refl })
+lines_read depth (s ∷ stmts) each =
     let words = (stmt_layout s).words depth in
     reads (part (line_of depth words) ∷ part _ ∷ []) _ (λ front said back behind.
-    let first = each.0 parts.0 depth front (said ∙ line_symbols depth words) in
-    let rest = lines_read depth stmts each.1 parts.1 back behind in
+    let first = each.0 depth front (said ∙ line_symbols depth words) in
+    let rest = lines_read depth stmts each.1 back behind in
     record {
       others = record { line = first_line front; kind = first.kind } ∷ rest.others;
       spelled = spell.next first.spelled rest.spelled;
@@ -86,12 +117,12 @@ record Block (ts : List Lexeme) (stmts : List StmtTree) : Type 0 where
   spelled : SpellsBlock ts others
   same : lineless_stmts others ≡ lineless_stmts stmts
 
-block_reads : (depth : ℕ) (stmts : List StmtTree) → Each Holds stmts → list_all is_kept_stmt stmts ≡ true →
+block_reads : (depth : ℕ) (stmts : List StmtTree) → Each (Of Reads) stmts →
     Reading (block_words depth (layouts stmts)) (λ ts. Block ts stmts)
-block_reads depth stmts each k =
+block_reads depth stmts each =
     reads (written (codes "{") ∷ fixed newline ∷ part (lines_at (deeper depth) (layouts stmts)) ∷
     fixed (indent depth) ∷ written (codes "}") ∷ []) _ (λ t opens ts said u closes.
-    let inner = lines_read _ stmts each k ts said in
+    let inner = lines_read _ stmts each ts said in
     record {
       others = inner.others;
       spelled = spell.block t u (opens ∙ tables.open_curly) (closes ∙ tables.close_curly) inner.spelled;
@@ -107,27 +138,24 @@ data Else (stmts : List StmtTree) : List Lexeme → Type 0 where
   else_block : (u : Lexeme) {vs : List Lexeme} → u.symbol ≡ word_symbol (codes "else") → Block vs stmts →
       Else stmts (u ∷ vs)
 
-chain_reads : (depth : ℕ) (s : StmtTree) (stmts : List StmtTree) → Each Holds (s ∷ stmts) →
-    list_all is_kept_stmt (s ∷ stmts) ≡ true → is_chain (layouts (s ∷ stmts)) ≡ true →
-    (u : Lexeme) → u.symbol ≡ word_symbol (codes "else") →
+chain_reads : (depth : ℕ) (s : StmtTree) (stmts : List StmtTree) → Each (Of Reads) (s ∷ stmts) →
+    is_chain (layouts (s ∷ stmts)) ≡ true → (u : Lexeme) → u.symbol ≡ word_symbol (codes "else") →
     Reading (chain_words depth (layouts (s ∷ stmts))) (λ vs. Else (s ∷ stmts) (u ∷ vs))
-chain_reads depth s [] each k q u is vs h =
+chain_reads depth s [] each q u is vs h =
     let chained = (and_parts (stmt_layout s).is_if true (and_parts true ((stmt_layout s).is_if && true) q).1).0 in
-    let inner = each.0 (and_parts (is_kept_stmt s) true k).0 depth vs
-    (h ∙ ap symbols (append-nil ((stmt_layout s).words depth))) in
+    let inner = each.0 depth vs (h ∙ ap symbols (append-nil ((stmt_layout s).words depth))) in
     else_if u inner.kind is (inner.chained chained) (ap (λ x. x ∷ []) (same_line _ _ s inner.same))
-chain_reads depth s (x ∷ xs) each k q u is vs h =
+chain_reads depth s (x ∷ xs) each q u is vs h =
     let long = eqb-true (length (layouts (s ∷ x ∷ xs))) 1 (and_parts _ _ q).0 in
     absurd (omega (arith, long))
 
-else_reads : (depth : ℕ) (stmts : List StmtTree) → Each Holds stmts → list_all is_kept_stmt stmts ≡ true →
+else_reads : (depth : ℕ) (stmts : List StmtTree) → Each (Of Reads) stmts →
     Reading (else_words depth (layouts stmts)) (λ ts. Else stmts ts)
-else_reads depth [] each k ts h = reads [] (λ us. Else [] us) (no_else refl) ts h
-else_reads depth (s ∷ stmts) each k ts h =
-    reads (written _ ∷ part (behind_else depth (layouts (s ∷ stmts))) ∷ []) (λ us. Else (s ∷ stmts) us)
-    (λ u is vs said. go u is _ refl vs said) ts
-    (h ∙ ap (λ b. symbols (if b then [] else (blank ∷ word (codes "else") ∷ blank ∷
-    behind_else depth (layouts (s ∷ stmts))))) some)
+else_reads depth [] each ts h = reads [] (λ us. Else [] us) (no_else refl) ts h
+else_reads depth (s ∷ stmts) each ts h = reads (written _ ∷ part (behind_else depth (layouts (s ∷ stmts))) ∷ [])
+    (λ us. Else (s ∷ stmts) us) (λ u is vs said. go u is _ refl vs said) ts (h ∙ ap
+    (λ b. symbols (if b then [] else (blank ∷ word (codes "else") ∷ blank ∷ behind_else depth (layouts (s ∷ stmts)))))
+    some)
   where
     some : (length (layouts (s ∷ stmts)) == 0) ≡ false
     some = ne_eqb _ 0 (λ e. omega (arith, e))
@@ -135,56 +163,49 @@ else_reads depth (s ∷ stmts) each k ts h =
     go : (u : Lexeme) → u.symbol ≡ word_symbol (codes "else") → (chained : Bool) →
         is_chain (layouts (s ∷ stmts)) ≡ chained → Reading (if chained then chain_words depth (layouts (s ∷ stmts))
         else block_words depth (layouts (s ∷ stmts))) (λ vs. Else (s ∷ stmts) (u ∷ vs))
-    go u is true q vs said = chain_reads depth s stmts each k q u is vs said
-    go u is false q vs said = else_block u is (block_reads depth _ each k vs said)
+    go u is true q vs said = chain_reads depth s stmts each q u is vs said
+    go u is false q vs said = else_block u is (block_reads depth _ each vs said)
 
 chosen : {ts : List Lexeme} (k kind : StmtKind) → SpellsIf ts kind → lineless_kind kind ≡ lineless_kind k →
     Spelled ts true k
 chosen k kind i e = record { kind = kind; spelled = spell.choice i; chained = λ q. i; same = e }
 
-if_reads : (c : ExprTree) (t e : List StmtTree) → IsTrue (is_kept c) → Each Holds t → list_all is_kept_stmt t ≡ true →
-    Each Holds e → list_all is_kept_stmt e ≡ true → (depth : ℕ) →
-    Reading (if_words c (layouts t) (layouts e) depth) (λ ts. Spelled ts true (stmt.If c t e))
-if_reads c t e kept_c at_t kept_t at_e kept_e depth =
-    reads (written (codes "if") ∷ part (in_brackets c) ∷ part (block_words depth (layouts t)) ∷
-    part (else_words depth (layouts e)) ∷ []) (λ ts. Spelled ts true (stmt.If c t e))
+if_reads : (c : ExprTree) (t e : List StmtTree) → IsTrue (is_kept c) → Each (Of Reads) t → Each (Of Reads) e →
+    (depth : ℕ) → Reading (if_words c (layouts t) (layouts e) depth) (λ ts. Spelled ts true (stmt.If c t e))
+if_reads c t e kept_c at_t at_e depth = reads (written (codes "if") ∷ part (in_brackets c) ∷ part
+    (block_words depth (layouts t)) ∷ part (else_words depth (layouts e)) ∷ []) (λ ts. Spelled ts true (stmt.If c t e))
     (λ first is ts cond us block vs more. go first (is ∙ tables.keyword_says keyword.If) ts us
-    (condition_reads c kept_c ts cond)
-    (block_reads depth t at_t kept_t us block) (else_reads depth e at_e kept_e vs more))
+    (condition_reads c kept_c ts cond) (block_reads depth t at_t us block) (else_reads depth e at_e vs more))
   where
     same_as : (thens others : List StmtTree) → lineless_stmts thens ≡ lineless_stmts t →
         lineless_stmts others ≡ lineless_stmts e →
         lineless_kind (stmt.If c thens others) ≡ lineless_kind (stmt.If c t e)
-    same_as thens others q r = same_if c thens others ∙ ap₂ (λ x y. stmt.If c x y) q r ∙ sym (same_if c t e)
+    same_as thens others q r = bare_if c thens others ∙ ap₂ (λ x y. stmt.If c x y) q r ∙ sym (bare_if c t e)
 
     go : (first : Lexeme) → IsKeyword keyword.If first → (ts us : List Lexeme) → SpellsCondition ts c → Block us t →
         {vs : List Lexeme} → Else e vs → Spelled (first ∷ (ts ++ (us ++ vs))) true (stmt.If c t e)
-    go first is ts us cond b (no_else r) =
-        chosen (stmt.If c t e) (stmt.If c b.others [])
-        (subst (λ ws. SpellsIf (first ∷ (ts ++ ws)) (stmt.If c b.others [])) (sym (append-nil us))
+    go first is ts us cond b (no_else r) = chosen (stmt.If c t e) (stmt.If c b.others []) (subst
+        (λ ws. SpellsIf (first ∷ (ts ++ ws)) (stmt.If c b.others [])) (sym (append-nil us))
         (spell.alone first is cond b.spelled)) (same_as b.others [] b.same r)
     go first is ts us cond b (else_if u {vs = vs} kind said i r) =
         let others : List StmtTree = record { line = first_line vs; kind = kind } ∷ [] in
         chosen (stmt.If c t e) (stmt.If c b.others others)
         (spell.otherwise_if first u is (said ∙ tables.keyword_says keyword.Else) cond b.spelled i)
         (same_as b.others others b.same r)
-    go first is ts us cond b (else_block u said d) =
-        chosen (stmt.If c t e) (stmt.If c b.others d.others)
+    go first is ts us cond b (else_block u said d) = chosen (stmt.If c t e) (stmt.If c b.others d.others)
         (spell.otherwise first u is (said ∙ tables.keyword_says keyword.Else) cond b.spelled d.spelled)
         (same_as b.others d.others b.same d.same)
 
-while_reads : (c : ExprTree) (b : List StmtTree) → IsTrue (is_kept c) → Each Holds b → list_all is_kept_stmt b ≡ true →
-    (depth : ℕ) →
-    Reading (condition_words (codes "while") c ++ block_words depth (layouts b))
-    (λ ts. Spelled ts false (stmt.While c b))
-while_reads c b kept_c at_b kept_b depth =
+while_reads : (c : ExprTree) (b : List StmtTree) → IsTrue (is_kept c) → Each (Of Reads) b → (depth : ℕ) → Reading
+    (condition_words (codes "while") c ++ block_words depth (layouts b)) (λ ts. Spelled ts false (stmt.While c b))
+while_reads c b kept_c at_b depth =
     reads (written _ ∷ part (in_brackets c) ∷ part (block_words depth _) ∷ []) _ (λ t is ts cond us block.
-    let body = block_reads depth b at_b kept_b us block in
+    let body = block_reads depth b at_b us block in
     record {
       kind = stmt.While c body.others;
       spelled = spell.while_loop t (is ∙ tables.keyword_says _) (condition_reads c kept_c ts cond) body.spelled;
       chained = λ q. absurd (false≢true q);
-      same = same_while c _ ∙ ap (λ x. stmt.While c x) body.same ∙ sym (same_while c b);
+      same = bare_while c _ ∙ ap (λ x. stmt.While c x) body.same ∙ sym (bare_while c b);
     })
 
 -- a statement of a kind that holds no others, and its `;`
@@ -193,24 +214,21 @@ simply k d = record { kind = k; spelled = d; chained = λ q. absurd (false≢tru
 
 plain_reads : (k : SimpleKind) → IsTrue (kept_simple k) →
     Reading (ended (simple_words k)) (λ ts. SpellsStmtKind ts (kind_of k))
-plain_reads k kept_k =
-    reads (part (simple_words k) ∷ written (codes ";") ∷ []) _
+plain_reads k kept_k = reads (part (simple_words k) ∷ written (codes ";") ∷ []) _
     (λ ts said t ends. spell.plain t (ends ∙ tables.semicolon) (simple_reads k kept_k ts said))
 
 -- one reserved word and `;`
 two_words : (w : Keyword) (k : StmtKind) →
     ((t u : Lexeme) → IsKeyword w t → IsMark mark.Semicolon u → SpellsStmtKind (t ∷ u ∷ []) k) →
     Reading (ended (word (tables.keyword_text w) ∷ [])) (λ ts. Spelled ts false k)
-two_words w k spells =
-    reads (written _ ∷ written _ ∷ []) _
+two_words w k spells = reads (written _ ∷ written _ ∷ []) _
     (λ t is u ends. simply k (spells t u (is ∙ tables.keyword_says w) (ends ∙ tables.semicolon)))
 
 -- `return`, what is returned, and `;`
 returned : (value : List Piece) (k : StmtKind) → ((t : Lexeme) (ts : List Lexeme) (u : Lexeme) →
     IsKeyword keyword.Return t → IsMark mark.Semicolon u → Say (symbols value) ts →
     SpellsStmtKind (t ∷ (ts ++ u ∷ [])) k) → Reading (return_words value) (λ ts. Spelled ts false k)
-returned value k spells =
-    reads (written _ ∷ part value ∷ written _ ∷ []) _
+returned value k spells = reads (written _ ∷ part value ∷ written _ ∷ []) _
     (λ t is ts said u ends. simply k (spells t ts u (is ∙ tables.keyword_says _) (ends ∙ tables.semicolon) said))
 
 -- a part of a `for`
@@ -247,17 +265,16 @@ for_with f c n b turn kept_f kept_c read_turn at_b kept_b depth =
     (λ t is u opens fs start v ends bs test w ends_too cs step x closes ds inner.
     let first = part_reads f kept_f fs start in
     let next = read_turn cs step in
-    let body = block_reads depth b at_b kept_b ds inner in
+    let body = block_reads depth b (kept_each _ b at_b kept_b) ds inner in
     record {
       kind = stmt.For first.other c next.other body.others;
       spelled = spell.for_loop t u v w x (is ∙ tables.keyword_says keyword.For) (opens ∙ tables.open_paren)
-          (ends ∙ tables.semicolon)
-          (ends_too ∙ tables.semicolon) (closes ∙ tables.close_paren) first.spelled
+          (ends ∙ tables.semicolon) (ends_too ∙ tables.semicolon) (closes ∙ tables.close_paren) first.spelled
           (spell.a_test (expr_reads c kept_c bs test)) next.spelled body.spelled;
       chained = λ q. absurd (false≢true q);
-      same = same_for first.other c next.other body.others ∙
+      same = bare_for first.other c next.other body.others ∙
           ap (λ y. stmt.For y c (lineless_option next.other) (lineless_stmts body.others)) first.same ∙
-          ap₂ (λ y z. stmt.For (lineless_option f) c y z) next.same body.same ∙ sym (same_for f c n b);
+          ap₂ (λ y z. stmt.For (lineless_option f) c y z) next.same body.same ∙ sym (bare_for f c n b);
     })
 
 for_reads : (f : Option SimpleTree) (c : ExprTree) (n : Option SimpleTree) (b : List StmtTree) →
@@ -268,17 +285,14 @@ for_reads f c n b kept_f kept_c kept_n at_b kept_b depth ts h =
     let block : List Piece = block_words depth (layouts b) in
     let closing = word (codes ")") ∷ blank ∷ [] in
     let turn : List Piece = word (codes ";") ∷ (next_words n ++ closing) in
-    let joined =
-    append_assoc (first_words f) (word (codes ";") ∷ blank ∷ (expr_words c ++ turn)) block ∙
+    let joined = append_assoc (first_words f) (word (codes ";") ∷ blank ∷ (expr_words c ++ turn)) block ∙
     ap (λ x. first_words f ++ word (codes ";") ∷ blank ∷ x) (append_assoc _ turn block ∙
     ap (λ x. expr_words c ++ word (codes ";") ∷ x) (append_assoc (next_words n) closing block)) in
     for_with f c n b (next_words n) kept_f kept_c (λ us said. part_reads n kept_n us (said ∙ next_symbols n)) at_b
     kept_b depth ts (h ∙ ap (λ x. symbols (word (codes "for") ∷ blank ∷ word (codes "(") ∷ x)) joined)
 
 -- each kind of statement
-form : (k : StmtKind-F StmtKind StmtTree) → Inside Holds k →
-    IsTrue (kept.kind_step (map-StmtKind _ _ _ _ kept_kind is_kept_stmt k)) →
-    Reads (printing.kind_step (map-StmtKind _ _ _ _ kind_layout stmt_layout k)) (roll-StmtKind k)
+form : Forms Reads
 unfolding roll-StmtKind denote.Hole.Carrier.roll
 form layer.Empty inside k depth ts h = reads (written _ ∷ []) (λ us. Spelled us false stmt.Empty)
     (λ t is. simply _ (spell.empty t (is ∙ tables.semicolon))) ts h
@@ -288,10 +302,11 @@ form (layer.Call call) inside k depth ts h = simply _ (plain_reads (simple.Call 
 form (layer.If cond then_part else_part) inside k depth ts h =
     let parts = and_parts _ _ k in
     let both = and_parts (all_kept (map is_kept_stmt then_part)) (all_kept (map is_kept_stmt else_part)) parts.1 in
-    if_reads cond _ _ parts.0 inside.0 (all_at _ both.0) inside.1 (all_at _ both.1) depth ts h
+    if_reads cond _ _ parts.0 (kept_each _ then_part inside.0 (all_at _ both.0))
+    (kept_each _ else_part inside.1 (all_at _ both.1)) depth ts h
 form (layer.While cond body) inside k depth ts h =
     let parts = and_parts _ _ k in
-    while_reads cond body parts.0 inside (all_at body parts.1) depth ts h
+    while_reads cond body parts.0 (kept_each _ body inside (all_at body parts.1)) depth ts h
 form (layer.For first cond next body) inside k depth ts h =
     let parts = and_parts _ _ k in
     let more = and_parts _ _ parts.1 in
@@ -300,28 +315,18 @@ form (layer.For first cond next body) inside k depth ts h =
 form layer.Break inside k depth ts h = two_words _ _ spell.«break» ts h
 form layer.Continue inside k depth ts h = two_words _ _ spell.«continue» ts h
 form layer.Return inside k depth ts h = two_words keyword.Return _ spell.return_nothing ts h
-form (layer.ReturnValue value) inside k depth ts h =
-    returned (expr_words value) _
+form (layer.ReturnValue value) inside k depth ts h = returned (expr_words value) _
     (λ t us u is ends said. spell.return_value t u is ends (expr_reads value k us said)) ts h
-form (layer.ReturnCall call) inside k depth ts h =
-    returned (call_words call) _
+form (layer.ReturnCall call) inside k depth ts h = returned (call_words call) _
     (λ t us u is ends said. spell.return_call t u is ends (call_reads call k us said)) ts h
 
-at_line : (line : ℕ) (k : StmtKind-F StmtKind StmtTree) → Inside Holds k →
-    Holds (record { line = line; kind = roll-StmtKind k })
-at_line line k inside kept_s =
-    let eq = stmt_at Layout Layout printing.kind_step printing.stmt_step line k in
-    let kept_eq = stmt_at Bool Bool kept.kind_step kept.stmt_step line k in
-    subst (λ l. Reads l (roll-StmtKind k)) (sym eq) (form k inside (subst (λ x. IsTrue x) kept_eq kept_s))
-
 pub stmt_holds : (s : StmtTree) → Holds s
-stmt_holds = stmt_induction Holds at_line
+stmt_holds = by_forms Reads form
 
 pub everywhere : (stmts : List StmtTree) → Each Holds stmts
-everywhere [] = tt
-everywhere (s ∷ stmts) = (stmt_holds s, everywhere stmts)
+everywhere = everywhere_holds Holds stmt_holds
 
 pub stmts_spell : (stmts : List StmtTree) → IsTrue (are_kept stmts) → StmtsSpell stmts
 stmts_spell stmts k depth ts h =
-    let l = lines_read depth stmts (everywhere stmts) (all_at stmts k) ts h in
+    let l = lines_read depth stmts (each_kept _ stmts stmt_holds k) ts h in
     (l.others, l.spelled, l.same)

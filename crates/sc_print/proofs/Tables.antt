@@ -96,10 +96,6 @@ binary_operator binary.OrElse = refl
 binary_operator _ = refl
 
 -- an operator's level, and the next tighter one
-pub above : (op : BinaryOp) → level_of op ≡ suc (levels.level_of op - 1)
-above binary.OrElse = refl
-above _ = refl
-
 pub own_level : (op : BinaryOp) → suc (levels.level_of op - 1) ≡ levels.level_of op
 own_level binary.OrElse = refl
 own_level _ = refl

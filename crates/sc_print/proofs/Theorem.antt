@@ -7,7 +7,7 @@ use Rattle.sc_print.proofs.Spelling.{words_spell}
 use Rattle.sc_print.proofs.Spacing.{tidy_at}
 use Rattle.sc_print.proofs.Sections.{decls_read}
 use Rattle.sc_print.proofs.DeclSpacing.{decls_tidy}
-use Rattle.sc_print.proofs.Cut.{cut_of}
+use Rattle.sc_print.proofs.Lined.{cut_of}
 use Rattle.sc_print.proofs.Stmts.{stmts_spell}
 use Rattle.sc_print.proofs.StmtSpacing.{stmts_tidy}
 use Rattle.sc_print.proofs.Whole.{section_reads, section_cut}
@@ -20,11 +20,7 @@ said bytes (t ∷ ts) = ap (λ x. symbol_of bytes t ∷ x) (said bytes ts)
 pub reads_back : (expr : ExprTree) → IsTrue (is_kept expr) → ReadsAs (expr_text expr) expr
 reads_back expr kept =
     let found = cut_of _ (tidy_at expr kept [] 11 [] refl).0 in
-    record {
-      tokens = found.tokens;
-      cut = found.cuts;
-      spelled = words_spell expr kept _ (said _ _ ∙ found.says);
-    }
+    record { tokens = found.tokens; cut = found.cuts; spelled = words_spell expr kept _ (said _ _ ∙ found.says) }
 
 pub stmts_read_back : (stmts : List StmtTree) → IsTrue (are_kept stmts) → (depth : ℕ) →
     StmtsReadAs (stmts_text depth stmts) stmts

@@ -1,20 +1,23 @@
 -- The words of whole sections spell them, and their text is cut into them.
-use Rattle.sc_print.proofs.Common.{Decl, IsTrue, Lexeme, List, Piece, SameButLines, SectionSpells, SectionTree}
-use Rattle.sc_print.proofs.Common.{SpellsDecl, SpellsDirectives, SpellsSection, [], and_parts, ap, append_assoc}
-use Rattle.sc_print.proofs.Common.{begins_heading, decl_words, export_words, flat_map, heading_words, import_words}
-use Rattle.sc_print.proofs.Common.{is_kept_decl, is_name, kept_export, kept_import, kept_section, lineless_decl}
-use Rattle.sc_print.proofs.Common.{lineless_export, lineless_import, list_all, map, printed, refl, section_words, sym}
-use Rattle.sc_print.proofs.Common.{symbols, text_of, true, word, ℕ, ◌++◌, ◌∙◌, ◌∷◌, ◌≡◌}
+use Rattle.sc_print.proofs.Common.{Decl, IsTrue, Lexeme, List, Piece, SameButLines, SaysAll, SectionSpells, SectionTree}
+use Rattle.sc_print.proofs.Common.{SpellsDecl, SpellsDirectives, SpellsSection, [], and_parts, ap, append_assoc, ap₂}
+use Rattle.sc_print.proofs.Common.{decl_words, dense_decl, dense_text, dense_words, export_words, flat_map}
+use Rattle.sc_print.proofs.Common.{heading_words, import_words, is_kept_decl, is_name, kept_export, kept_import}
+use Rattle.sc_print.proofs.Common.{kept_section, lineless_decl, lineless_export, lineless_import, list_all, map}
+use Rattle.sc_print.proofs.Common.{newline, printed, refl, section_words, sym, symbols, text_of, true, word, ℕ, ◌++◌}
+use Rattle.sc_print.proofs.Common.{◌∙◌, ◌∷◌, ◌≡◌}
+use Rattle.sc_ast.specs.declared.section.Decl.TheVariants as decl
+use Rattle.sc_print.proofs.Reading.{joined_symbols, AllAlike, Reading, part, written, reads}
+use Rattle.sc_print.proofs.Spacing.{Tidy, line_end}
+use Rattle.sc_print.proofs.StmtSpacing.{Free}
+use Rattle.sc_print.proofs.DeclSpacing.{decl_tidy, each_tidy, decls_tidy}
 use Rattle.sc_ast.specs.declared.section.ExportLine.{ExportLine}
 use Rattle.sc_ast.specs.declared.section.ImportLine.{ImportLine}
 use Rattle.sc_parse.specs.Sections as spell
-use Rattle.sc_print.proofs.Reading.{AllAlike, Reading, part, written, reads}
 use Rattle.sc_print.proofs.DirectiveWords.{export_says, export_line_is, import_text, import_says, import_line_is}
 use Rattle.sc_print.proofs.DirectiveWords.{heading_text, heading_says, heading_line_is, heading_begins}
-use Rattle.sc_print.proofs.Lined.{Lined, tidy, line, found_lines}
-use Rattle.sc_print.proofs.Cut.{Found}
+use Rattle.sc_print.proofs.Lined.{Lined, tidy, line, found_lines, Found}
 use Rattle.sc_print.proofs.Sections.{decls_read}
-use Rattle.sc_print.proofs.DeclSpacing.{decls_tidy}
 
 -- Directives that are spelled and are the same, lines aside.
 record Directed (ts : List Lexeme) (exports : List ExportLine) (imports : List ImportLine) : Type 0 where
@@ -95,9 +98,8 @@ keeps tree k =
 -- A section, whose declarations may be written in other words than they are printed in.
 pub section_with : (tree : SectionTree) (decls : List Piece) → is_name tree.name ≡ true →
     list_all kept_export tree.exports ≡ true → list_all kept_import tree.imports ≡ true →
-    Reading decls (λ ts. AllAlike SpellsDecl lineless_decl ts tree.decls) →
-    Reading (heading_words tree.name ++ (flat_map export_words tree.exports ++
-    (flat_map import_words tree.imports ++ decls)))
+    Reading decls (λ ts. AllAlike SpellsDecl lineless_decl ts tree.decls) → Reading
+    (heading_words tree.name ++ (flat_map export_words tree.exports ++ (flat_map import_words tree.imports ++ decls)))
     (λ us. (other : SectionTree) × SpellsSection tree.line us other × SameButLines other tree)
 section_with tree decls name kept_exports kept_imports read ts h =
     let exports : List Piece = flat_map export_words tree.exports in
@@ -142,16 +144,53 @@ imports_lined (x ∷ imports) k more l =
     let names = and_parts (is_name x.comp) (is_name x.name) parts.0 in
     line (import_line_is x.comp x.name names.0 names.1) (imports_lined imports parts.1 more l)
 
-pub heading_front : (name more : List ℕ) → begins_heading (heading_text name ++ more) ≡ true
-heading_front name more = heading_begins (name ++ more)
+-- a section, whose declarations may be written in other words than they are printed in, is cut
+pub cut_with : (tree : SectionTree) → IsTrue (kept_section tree) → (decls : List Piece) → Tidy decls [] →
+    let words = heading_words tree.name ++ (flat_map export_words tree.exports ++
+    (flat_map import_words tree.imports ++ decls)) in Found (text_of words) 0 (symbols words)
+cut_with tree k decls apart =
+    let kept = keeps tree k in
+    let behind = flat_map export_words tree.exports ++ (flat_map import_words tree.imports ++ decls) in
+    found_lines _ (heading_begins (tree.name ++ 10 ∷ text_of behind)) (line (heading_line_is _ kept.name)
+    (exports_lined tree.exports kept.exports _ (imports_lined tree.imports kept.imports _ (tidy apart)))) [] refl refl
 
 pub section_cut : (tree : SectionTree) → IsTrue (kept_section tree) →
     Found (printed tree) 0 (symbols (section_words tree))
-section_cut tree k =
-    let kept = keeps tree k in
-    let lined = line (heading_line_is _ kept.name)
-    (exports_lined tree.exports kept.exports _ (imports_lined tree.imports kept.imports _
-    (tidy (decls_tidy _ kept.decls [])))) in
-    let behind = flat_map export_words tree.exports ++
-    (flat_map import_words tree.imports ++ flat_map decl_words tree.decls) in
-    found_lines _ (heading_front tree.name (10 ∷ text_of behind)) lined [] refl refl
+section_cut tree k = cut_with tree k (flat_map decl_words tree.decls) (decls_tidy _ (keeps tree k).decls [])
+
+-- an empty line in front may be left out
+without_line : {pieces : List Piece} {rest : List ℕ} → Tidy (newline ∷ pieces) rest → Tidy pieces rest
+without_line (line_end t) = t
+
+pub dense_tidy : (d : Decl) → IsTrue (is_kept_decl d) → Free (dense_decl d)
+dense_tidy (decl.Struct tree) k rest = decl_tidy (decl.Struct tree) k rest
+dense_tidy (decl.Global tree) k rest = decl_tidy (decl.Global tree) k rest
+dense_tidy (decl.Proto tree) k rest = decl_tidy (decl.Proto tree) k rest
+dense_tidy (decl.Function tree) k rest = without_line (decl_tidy (decl.Function tree) k rest)
+
+pub decl_symbols : (d : Decl) → symbols (dense_decl d) ≡ symbols (decl_words d)
+decl_symbols (decl.Struct tree) = refl
+decl_symbols _ = refl
+
+same_behind : (a b c : List Piece) → symbols b ≡ symbols c → symbols (a ++ b) ≡ symbols (a ++ c)
+same_behind a b c h = joined_symbols a b ∙ ap (λ s. symbols a ++ s) h ∙ sym (joined_symbols a c)
+
+decls_symbols : (ds : List Decl) → symbols (flat_map dense_decl ds) ≡ symbols (flat_map decl_words ds)
+decls_symbols [] = refl
+decls_symbols (d ∷ ds) = joined_symbols (dense_decl d) (flat_map _ ds) ∙ ap₂ (λ a b. a ++ b) (decl_symbols d)
+    (decls_symbols ds) ∙ sym (joined_symbols (decl_words d) (flat_map _ ds))
+
+section_symbols : (tree : SectionTree) → symbols (dense_words tree) ≡ symbols (section_words tree)
+section_symbols tree =
+    let exports = flat_map export_words tree.exports in
+    let imports = flat_map import_words tree.imports in
+    let dense = flat_map dense_decl tree.decls in
+    let decls = flat_map decl_words tree.decls in
+    same_behind (heading_words _) (exports ++ (imports ++ dense)) (exports ++ (imports ++ decls)) (same_behind exports
+    (imports ++ dense) (imports ++ decls) (same_behind imports dense decls (decls_symbols _)))
+
+pub dense_cut : (tree : SectionTree) → IsTrue (kept_section tree) →
+    SaysAll (dense_text tree) (symbols (section_words tree))
+dense_cut tree k =
+    let found = cut_with tree k _ (each_tidy dense_decl is_kept_decl dense_tidy tree.decls (keeps tree k).decls []) in
+    record { tokens = found.tokens; cut = found.cuts; says = found.says ∙ section_symbols tree }

@@ -49,7 +49,7 @@ pub use Rattle.sc_parse.specs.Prelude.{SpellsSection, lexemes_of}
 pub use Rattle.sc_print.proofs.DeclSpacing.{decl_tidy, head_tidy}
 pub use Rattle.sc_print.proofs.DirectiveWords.{export_says, heading_begins, heading_is, heading_line_is, heading_says}
 pub use Rattle.sc_print.proofs.DirectiveWords.{import_says}
-pub use Rattle.sc_print.proofs.Leaves.{name_kind, name_says, name_some}
+pub use Rattle.sc_print.proofs.Literals.{name_kind, name_says, name_some}
 pub use Rattle.sc_print.proofs.Lined.{Lined, found_lines, line, tidy}
 pub use Rattle.sc_print.proofs.Literals.{literal_kind, literal_says, literal_some, no_table}
 pub use Rattle.sc_print.proofs.Reading.{Reading, joined_symbols}

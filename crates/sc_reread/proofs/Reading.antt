@@ -6,9 +6,9 @@ use Rattle.sc_reread.proofs.Common.{functions_text, heading_begins, import_text,
 use Rattle.sc_reread.proofs.Common.{proto_text, refl, section_height, section_reads, section_text, subst, sym}
 use Rattle.sc_reread.proofs.Common.{symbol_of, symbols, text_of, true, ℕ, ◌++◌, ◌∙◌, ◌∷◌, ◌≡◌, ◌≤◌}
 use Rattle.sc_parse.specs.Sections as spell
-use Rattle.sc_print.proofs.Cut.{Found}
+use Rattle.sc_print.proofs.Lined.{Found}
 use Rattle.sc_print.proofs.Heights.{sections_same}
-use Rattle.sc_print.proofs.Lists.{Say}
+use Rattle.sc_print.proofs.Reading.{Say}
 use Rattle.sc_reread.proofs.Nesting.{AtMost, Nested, nested_more, none_more, opens, opens_lexemes}
 use Rattle.sc_reread.proofs.Performing.{IsPerforming, section_is}
 

@@ -2,22 +2,22 @@
 use Rattle.sc_run.proofs.Common.{Acts, Body as Body', Bool, Bor, CameTo, Comes, Doing, Exit, Frame, Go, Left, List}
 use Rattle.sc_run.proofs.Common.{Loop, Memory, Next, None, Ok, Option, Passes, PassesIf, Piece, ProgramTree, Reached}
 use Rattle.sc_run.proofs.Common.{Return, Route, Run as Run', RunEnd, Seen, Some, SourceRun, Standing, State, Step}
-use Rattle.sc_run.proofs.Common.{Steps, Stop, Stopped, TypedExpr, TypedSimple, TypedStmt, Value, Work, [], and_then, ap}
-use Rattle.sc_run.proofs.Common.{arith, assign, block_acts, c_arith, calls_in, choose, drop, drop-step, drop_all}
-use Rattle.sc_run.proofs.Common.{ended_so, evaluated, false, follow, get_or, here_of, if◌then◌else◌, in_body, in_loop}
-use Rattle.sc_run.proofs.Common.{in_order, in_round, is_true, leave, left_at, length, length-drop, loop_acts, next_acts}
-use Rattle.sc_run.proofs.Common.{option_copied, part_acts, refl, resume, reverse, roll-TypedStmtKind, seen_of}
-use Rattle.sc_run.proofs.Common.{simple_does, stmt_acts, store_at, stored, subst, suc, sym, take, take_all, true, turn}
-use Rattle.sc_run.proofs.Common.{way_in, with_exit, ℕ, ◌++◌, ◌+◌, ◌-◌, ◌<◌, ◌==◌, ◌∙◌, ◌∷◌, ◌≡◌, ◌≤◌}
+use Rattle.sc_run.proofs.Common.{Steps, Stop, Stopped, TypedExpr, TypedSimple, TypedSimpleKind, TypedStmt, Value, Work}
+use Rattle.sc_run.proofs.Common.{[], and_then, ap, arith, assign, block_acts, c_arith, calls_in, choose, drop}
+use Rattle.sc_run.proofs.Common.{drop-step, drop_all, ended_so, evaluated, false, follow, get_or, here_of}
+use Rattle.sc_run.proofs.Common.{if◌then◌else◌, in_body, in_loop, in_order, in_round, is_true, leave, left_at, length}
+use Rattle.sc_run.proofs.Common.{length-drop, loop_acts, next_acts, option_copied, part_acts, refl, resume, reverse}
+use Rattle.sc_run.proofs.Common.{roll-TypedStmtKind, seen_of, simple_does, stmt_acts, store_at, stored, subst, suc, sym}
+use Rattle.sc_run.proofs.Common.{take, take_all, true, turn, way_in, ℕ, ◌++◌, ◌+◌, ◌-◌, ◌<◌, ◌==◌, ◌∙◌, ◌∷◌, ◌≡◌, ◌≤◌}
 use Rattle.sc_run.specs.declared.work.Position.{Position}
 use Rattle.sc_core.specs.declared.stmt.TypedStmtKind.TheOpen as layer
 use Rattle.sc_core.specs.declared.stmt.TypedSimpleKind.TheVariants as simple
 use Rattle.sc_core.specs.declared.value.Want.TheVariants as want
 use Rattle.sc_value.specs.Assigning.{AssignedIf, Holding}
-use Rattle.sc_run.proofs.Coming.{computed_comes, stored_ok, then_goes, turn_comes, with_memory}
-use Rattle.sc_run.proofs.Looping.{cond_evaluated, round_is, steps_as, steps_later, steps_wait, tested}
+use Rattle.sc_run.proofs.Coming.{computed_comes, stored_ok, then_goes, turn_comes, usual, with_memory}
+use Rattle.sc_run.proofs.Looping.{cond_evaluated, round_is, steps_as, steps_later, steps_wait, tested, Follows}
 use Rattle.sc_run.proofs.Stating.{alone, first_and_rest, stmt_is}
-use Rattle.sc_run.proofs.Unseen.{way_same}
+use Rattle.sc_run.proofs.Blank.{way_same}
 
 at_most : (a b c : ℕ) → b ≤ a → c ≤ b → c ≤ a
 at_most a b c x y = omega (arith, x, y)
@@ -51,10 +51,7 @@ then_passes {before} {middle} {after} {p} {q} {r} h k =
 pub passes_as : {before after : Seen} (p : Doing) {q r : Doing} → ((n : ℕ) (s : State) → p n s ≡ q n s) →
     Passes before after q r → Passes before after p r
 passes_as p same h =
-    record {
-      passes = λ n s shows. let a = h.passes n s shows in (a.0, a.1, same n s ∙ a.2);
-      fewer = h.fewer;
-    }
+    record { passes = λ n s shows. let a = h.passes n s shows in (a.0, a.1, same n s ∙ a.2); fewer = h.fewer }
 
 pub passes_if_as : (b : Bool) (before after : Seen) (p q r : Doing) → ((n : ℕ) (s : State) → p n s ≡ q n s) →
     PassesIf b before after q r → PassesIf b before after p r
@@ -67,20 +64,19 @@ reached_at after v (Reached w t) go c = (t, c.1, ap (λ z. go z t) c.0)
 reached_at after v (Stopped end t) go c = elim c [ ]
 
 -- a piece that comes to a value, and what follows it
-pub passes_by : {V : Type 0} (before after : Seen) (v : V) (x : State → Piece V)
-    (go : ℕ → V → State → Piece (Left (Unit {0}))) → Comes before after (Ok v) x →
-    Passes before after (λ n s. and_then (x s) (go n)) (λ n s. go n v s)
+pub passes_by : {V : Type 0} (before after : Seen) (v : V) (x : State → Piece V) (go : Follows V) →
+    Comes before after (Ok v) x → Passes before after (λ n s. and_then (x s) (go n)) (λ n s. go n v s)
 passes_by before after v x go h =
     record { passes = λ n s shows. reached_at after v (x s) (go n) (h.comes s shows); fewer = h.fewer }
 
-ended_at : (after : Seen) (y : Piece (Left (Unit {0}))) → CameTo (with_exit {V = Unit {0}} Next (Ok tt)) after y →
+ended_at : (after : Seen) (y : Piece (Left (Unit {0}))) → CameTo usual after y →
     (t : State) × (seen_of t ≡ after) × (y ≡ leave Next tt t)
 ended_at after (Reached w t) c = (t, c.1, ap (λ z. Reached z t) c.0)
 ended_at after (Stopped end t) c = elim c [ ]
 
 -- a piece that comes to its end
 pub passes_to_end : (before after : Seen) (x : State → Piece (Left (Unit {0}))) →
-    Comes before after (with_exit {V = Unit {0}} Next (Ok tt)) x → Passes before after (λ n s. x s) ended_so
+    Comes before after usual x → Passes before after (λ n s. x s) ended_so
 passes_to_end before after x h =
     record { passes = λ n s shows. ended_at after (x s) (h.comes s shows); fewer = h.fewer }
 
@@ -160,47 +156,43 @@ module _ (program : ProgramTree) (f : Frame) where
   abbrev block_by : List TypedStmt → Doing
   block_by stmts n s = block_acts program n f stmts tt s
 
+  -- so many of the statements are done
+  abbrev DoneTo : List TypedStmt → ℕ → Seen → Seen → Type 0
+  DoneTo stmts at before after = Passes before after (block_by stmts) (block_by (drop at stmts))
+
+  abbrev left_by : Exit → Doing
+  left_by exit n s = leave exit tt s
+
   pub empty_done : (stmt : TypedStmt) (seen : Seen) → stmt.kind ≡ roll-TypedStmtKind layer.Empty →
-      Passes seen seen (λ n. stmt_acts program n f stmt tt) ended_so
+      Passes seen seen (stmt_by stmt) ended_so
   empty_done stmt seen is = passes_as _ (stmt_is program f stmt _ is) (stays_so seen _)
 
   pub assign_done : (stmt : TypedStmt) (ref place e : TypedExpr) (b : Bool) (before after : Seen) →
       stmt.kind ≡ roll-TypedStmtKind (layer.Assign place e) → ref ≡ place →
-      PassesIf b before after (λ n. assign (here_of f.scope) (way_in f ref) (way_in f e) stmt.line tt) ended_so →
-      PassesIf b before after (λ n. stmt_acts program n f stmt tt) ended_so
-  assign_done stmt ref place e b before after is same h =
-      passes_if_as b before after _ _ _ (λ n s. stmt_is program f stmt _ is n s ∙
-      ap (λ x. assigned_by x e stmt.line n s) (sym same)) h
+      PassesIf b before after (assigned_by ref e stmt.line) ended_so → PassesIf b before after (stmt_by stmt) ended_so
+  assign_done stmt ref place e b before after is same h = passes_if_as b before after _ _ _
+      (λ n s. stmt_is program f stmt _ is n s ∙ ap (λ x. assigned_by x e stmt.line n s) (sym same)) h
 
   -- one more statement
-  pub one_more : (stmts : List TypedStmt) (at : ℕ) (stmt : TypedStmt) (before middle after : Seen) →
-      at < length stmts → stmt ≡ get_or stmts at stmt →
-      Passes before middle (λ n s. block_acts program n f stmts tt s)
-      (λ n s. block_acts program n f (drop at stmts) tt s) →
-      Passes middle after (λ n. stmt_acts program n f stmt tt) ended_so →
-      Passes before after (λ n s. block_acts program n f stmts tt s)
-      (λ n s. block_acts program n f (drop (at + 1) stmts) tt s)
-  one_more stmts at stmt before middle after there item h k =
-      then_passes h (passes_as _
+  pub one_more : (stmts : List TypedStmt) (at : ℕ) (stmt : TypedStmt) (before middle after : Seen) → at < length stmts →
+      stmt ≡ get_or stmts at stmt → DoneTo stmts at before middle → Passes middle after (stmt_by stmt) ended_so →
+      DoneTo stmts (at + 1) before after
+  one_more stmts at stmt before middle after there item h k = then_passes h (passes_as _
       (λ n s. ap (λ xs. block_by xs n s) (drop-step stmts at stmt there item)) (next_one k)) where
-        next_one : Passes middle after (λ n. stmt_acts program n f stmt tt) ended_so →
+        next_one : Passes middle after (stmt_by stmt) ended_so →
             Passes middle after (block_by (stmt ∷ drop (at + 1) stmts)) (block_by (drop (at + 1) stmts))
         next_one k = passes_follow in_order _ k
 
   pub all_done : (stmts : List TypedStmt) (at : ℕ) (before after : Seen) → length stmts ≤ at →
-      Passes before after (λ n s. block_acts program n f stmts tt s)
-      (λ n s. block_acts program n f (drop at stmts) tt s) →
-      Passes before after (λ n s. block_acts program n f stmts tt s)
-      (λ n s. block_acts program n f (drop (length stmts) stmts) tt s)
-  all_done stmts at before after le h =
-      subst (λ xs. Passes before after (block_by stmts) (block_by xs))
+      DoneTo stmts at before after → DoneTo stmts (length stmts) before after
+  all_done stmts at before after le h = subst (λ xs. Passes before after (block_by stmts) (block_by xs))
       (drop_all at stmts le ∙ sym (drop_all _ stmts (omega arith))) h
 
   -- the statements that a condition chooses
   choosing : (stmt : TypedStmt) (cond : TypedExpr) (x y : List TypedStmt) (v : Value) (seen : Seen) →
       stmt.kind ≡ roll-TypedStmtKind (layer.If cond x y) →
       Ok v ≡ way_in f cond want.Value (seen.memory f.scope.comp.now) →
-      Passes seen seen (λ n. stmt_acts program n f stmt tt) (λ n s. choose v (block_by x n s) (block_by y n s))
+      Passes seen seen (stmt_by stmt) (λ n s. choose v (block_by x n s) (block_by y n s))
   choosing stmt cond x y v seen is gives =
       passes_as _ (stmt_is program f stmt _ is)
       (passes_by seen seen v (evaluated (here_of f.scope) want.Value (way_in f cond) stmt.line)
@@ -210,9 +202,8 @@ module _ (program : ProgramTree) (f : Frame) where
 
   pub first_chosen : (stmt : TypedStmt) (cond : TypedExpr) (x y part : List TypedStmt) (v : Value) (seen : Seen) →
       stmt.kind ≡ roll-TypedStmtKind (layer.If cond x y) →
-      Ok v ≡ way_in f cond want.Value (seen.memory f.scope.comp.now) →
-      is_true v ≡ true → part ≡ x →
-      Passes seen seen (λ n. stmt_acts program n f stmt tt) (λ n. block_acts program n f part tt)
+      Ok v ≡ way_in f cond want.Value (seen.memory f.scope.comp.now) → is_true v ≡ true → part ≡ x →
+      Passes seen seen (stmt_by stmt) (block_by part)
   first_chosen stmt cond x y part v seen is gives holds same =
       then_passes (choosing stmt cond x y v seen is gives) (passes_as _
       (λ n s. ap (λ b. if b then block_by x n s else block_by y n s) holds ∙ ap (λ xs. block_by xs n s) (sym same))
@@ -220,9 +211,8 @@ module _ (program : ProgramTree) (f : Frame) where
 
   pub second_chosen : (stmt : TypedStmt) (cond : TypedExpr) (x y part : List TypedStmt) (v : Value) (seen : Seen) →
       stmt.kind ≡ roll-TypedStmtKind (layer.If cond x y) →
-      Ok v ≡ way_in f cond want.Value (seen.memory f.scope.comp.now) →
-      is_true v ≡ false → part ≡ y →
-      Passes seen seen (λ n. stmt_acts program n f stmt tt) (λ n. block_acts program n f part tt)
+      Ok v ≡ way_in f cond want.Value (seen.memory f.scope.comp.now) → is_true v ≡ false → part ≡ y →
+      Passes seen seen (stmt_by stmt) (block_by part)
   second_chosen stmt cond x y part v seen is gives fails same =
       then_passes (choosing stmt cond x y v seen is gives) (passes_as _
       (λ n s. ap (λ b. if b then block_by x n s else block_by y n s) fails ∙ ap (λ xs. block_by xs n s) (sym same))
@@ -230,43 +220,29 @@ module _ (program : ProgramTree) (f : Frame) where
 
   -- what is left of the part that was chosen
   pub part_left : (before middle after : Seen) (stmt : TypedStmt) (part : List TypedStmt) (count : ℕ) →
-      middle ≡ before →
-      Passes middle middle (λ n. stmt_acts program n f stmt tt) (λ n. block_acts program n f part tt) →
-      Passes middle after (λ n s. block_acts program n f part tt s)
-      (λ n s. block_acts program n f (drop count part) tt s) →
-      Passes before after (λ n. stmt_acts program n f stmt tt)
-      (λ n. block_acts program n f (take (length part - count) (drop count part)) tt)
+      middle ≡ before → Passes middle middle (stmt_by stmt) (block_by part) → DoneTo part count middle after →
+      Passes before after (stmt_by stmt) (block_by (take (length part - count) (drop count part)))
   part_left before middle after stmt part count same h k =
       subst (λ x. Passes x after (stmt_by stmt) (block_by (take (length part - count) (drop count part)))) same
       (then_passes h (subst (λ xs. Passes middle after (block_by part) (block_by xs)) (sym (rest_at count part)) k))
 
   -- part of one more statement
   pub within_one : (stmts part : List TypedStmt) (at : ℕ) (stmt : TypedStmt) (before middle after : Seen) →
-      at < length stmts → stmt ≡ get_or stmts at stmt →
-      Passes before middle (λ n s. block_acts program n f stmts tt s)
-      (λ n s. block_acts program n f (drop at stmts) tt s) →
-      Passes middle after (λ n. stmt_acts program n f stmt tt) (λ n. block_acts program n f part tt) →
-      Passes before after (λ n s. block_acts program n f stmts tt s)
+      at < length stmts → stmt ≡ get_or stmts at stmt → DoneTo stmts at before middle →
+      Passes middle after (stmt_by stmt) (block_by part) → Passes before after (block_by stmts)
       (λ n s. follow in_order (block_acts program n f part tt s) (block_acts program n f (drop (at + 1) stmts)))
   within_one stmts part at stmt before middle after there item h k =
       then_passes h (passes_as _ (λ n s. ap (λ xs. block_by xs n s) (drop-step stmts at stmt there item))
       (passes_follow in_order (λ n. block_acts program n f _) k))
 
   pub one_over : (stmts part : List TypedStmt) (at : ℕ) (stmt : TypedStmt) (before middle after : Seen) → part ≡ [] →
-      at < length stmts → stmt ≡ get_or stmts at stmt →
-      Passes before middle (λ n s. block_acts program n f stmts tt s)
-      (λ n s. block_acts program n f (drop at stmts) tt s) →
-      Passes middle after (λ n. stmt_acts program n f stmt tt) (λ n. block_acts program n f part tt) →
-      Passes before after (λ n s. block_acts program n f stmts tt s)
-      (λ n s. block_acts program n f (drop (at + 1) stmts) tt s)
-  one_over stmts part at stmt before middle after empty there item h k =
-      within_one stmts [] at stmt before middle after there item h
-      (subst (λ xs. Passes middle after (stmt_by stmt) (block_by xs)) empty k)
+      at < length stmts → stmt ≡ get_or stmts at stmt → DoneTo stmts at before middle →
+      Passes middle after (stmt_by stmt) (block_by part) → DoneTo stmts (at + 1) before after
+  one_over stmts part at stmt before middle after empty there item h k = within_one stmts [] at stmt before middle after
+      there item h (subst (λ xs. Passes middle after (stmt_by stmt) (block_by xs)) empty k)
 
   pub none_behind : (stmts : List TypedStmt) (at : ℕ) (before after : Seen) → length stmts ≤ at →
-      Passes before after (λ n s. block_acts program n f stmts tt s)
-      (λ n s. block_acts program n f (drop at stmts) tt s) →
-      Passes before after (λ n s. block_acts program n f stmts tt s) (λ n s. leave Next tt s)
+      DoneTo stmts at before after → Passes before after (block_by stmts) ended_so
   none_behind stmts at before after le h =
       then_passes h (passes_as _ (λ n s. ap (λ xs. block_by xs n s) (drop_all at stmts le)) (stays_so after _))
 
@@ -274,7 +250,7 @@ module _ (program : ProgramTree) (f : Frame) where
   pub value_leaves : (stmt : TypedStmt) (ref : TypedExpr) (e : TypedExpr) (v : Value) (seen : Seen) →
       stmt.kind ≡ roll-TypedStmtKind (layer.ReturnValue e) → ref ≡ e →
       Ok v ≡ way_in f ref want.Value (seen.memory f.scope.comp.now) → (rest : List TypedStmt) →
-      Passes seen seen (λ n s. block_acts program n f (stmt ∷ rest) tt s) (λ n s. leave (Return (Some v)) tt s)
+      Passes seen seen (block_by (stmt ∷ rest)) (left_by (Return (Some v)))
   value_leaves stmt ref e v seen is same gives rest =
       passes_as _ (λ n s. ap (λ p. follow in_order p (block_acts program n f rest)) (stmt_is program f stmt _ is n s))
       (passes_follow in_order (λ n. block_acts program n f rest)
@@ -285,24 +261,21 @@ module _ (program : ProgramTree) (f : Frame) where
 
   pub first_leaves : (stmts : List TypedStmt) (stmt : TypedStmt) (exit : Exit) (seen : Seen) → 1 ≤ length stmts →
       stmt ≡ get_or stmts 0 stmt → ((rest : List TypedStmt) →
-      Passes seen seen (λ n s. block_acts program n f (stmt ∷ rest) tt s) (λ n s. leave exit tt s)) →
-      Passes seen seen (λ n s. block_acts program n f stmts tt s) (λ n s. leave exit tt s)
+      Passes seen seen (block_by (stmt ∷ rest)) (left_by exit)) →
+      Passes seen seen (block_by stmts) (left_by exit)
   first_leaves stmts stmt exit seen le item h =
       passes_as _ (λ n s. ap (λ xs. block_by xs n s) (first_and_rest stmts stmt le item)) (h (drop 1 stmts))
 
   -- a part in the head of a `for`
-  abbrev part_by : TypedSimple → Doing
-  part_by part n s = part_acts program n f (Some part) tt s
+  abbrev simple_by : TypedSimpleKind → ℕ → Doing
+  simple_by kind line n s = simple_does c_arith f.scope.structs.now (here_of f.scope) f.scope.params
+      (calls_in program n) kind line tt s
 
   pub part_assigned : (part : TypedSimple) (ref : TypedExpr) (place e : TypedExpr) (b : Bool) (before after : Seen) →
-      part.kind ≡ simple.Assign place e → ref ≡ place →
-      PassesIf b before after (λ n. assign (here_of f.scope) (way_in f ref) (way_in f e) part.line tt) ended_so →
-      PassesIf b before after (λ n. simple_does c_arith f.scope.structs.now (here_of f.scope) f.scope.params
-      (calls_in program n) part.kind part.line tt) ended_so
-  part_assigned part ref place e b before after is same h =
-      passes_if_as b before after _ _ ended_so
-      (λ n s. ap (λ k. simple_does c_arith f.scope.structs.now (here_of f.scope) f.scope.params
-      (calls_in program n) k part.line tt s) is ∙ ap (λ x. assigned_by x e part.line n s) (sym same)) h
+      part.kind ≡ simple.Assign place e → ref ≡ place → PassesIf b before after (assigned_by ref e part.line) ended_so →
+      PassesIf b before after (simple_by part.kind part.line) ended_so
+  part_assigned part ref place e b before after is same h = passes_if_as b before after _ _ ended_so
+      (λ n s. ap (λ k. simple_by k part.line n s) is ∙ ap (λ x. assigned_by x e part.line n s) (sym same)) h
 
   module _ (l : Loop) where
     abbrev next_by : Doing
@@ -311,21 +284,17 @@ module _ (program : ProgramTree) (f : Frame) where
     abbrev loop_by : Doing
     loop_by n s = loop_acts program n f l tt s
 
-    pub no_next : (seen : Seen) → option_copied l.next ≡ None →
-        Passes seen seen (λ n. next_acts program n f l tt) ended_so
+    pub no_next : (seen : Seen) → option_copied l.next ≡ None → Passes seen seen next_by ended_so
     no_next seen is = passes_as next_by (λ n s. ap (λ o. part_acts program n f o tt s) is) (stays_so seen _)
 
     pub next_is_done : (part : TypedSimple) (b : Bool) (before after : Seen) → option_copied l.next ≡ Some part →
-        PassesIf b before after (λ n. simple_does c_arith f.scope.structs.now (here_of f.scope) f.scope.params
-        (calls_in program n) part.kind part.line tt) ended_so →
-        PassesIf b before after (λ n. next_acts program n f l tt) ended_so
+        PassesIf b before after (simple_by part.kind part.line) ended_so → PassesIf b before after next_by ended_so
     next_is_done part b before after is h =
         passes_if_as b before after next_by _ _ (λ n s. ap (λ o. part_acts program n f o tt s) is) h
 
     -- a round begins: its test holds, and there is a turn
     pub round_begins : (seen : Seen) (k : ℕ) → Holding (way_in f l.cond.now) (seen.memory f.scope.comp.now) →
-        seen.turns ≡ suc k →
-        Passes seen (record seen { turns = k }) (λ n. loop_acts program n f l tt) (in_body program f l l.body.now)
+        seen.turns ≡ suc k → Passes seen (record seen { turns = k }) loop_by (in_body program f l l.body.now)
     round_begins seen k h turns =
         passes_as loop_by (round_is program f l) (then_passes (passes_by seen seen h.given (cond_evaluated program f l)
         (λ n v s. tested program f l n _ s) (computed_comes (here_of f.scope) l.line (λ bs. way_in f _ _ bs)
@@ -335,20 +304,17 @@ module _ (program : ProgramTree) (f : Frame) where
 
     -- statements of the body are done
     pub body_done : (before middle after : Seen) (at : Option Position) →
-        Passes before middle (λ n. loop_acts program n f l tt) (in_body program f l l.body.now) →
-        Passes middle after (λ n. block_acts program n f l.body.now tt) (left_at program f l.body.now at) →
-        Passes before after (λ n. loop_acts program n f l tt)
-        (λ n s. follow in_loop (left_at program f l.body.now at n s)
+        Passes before middle loop_by (in_body program f l l.body.now) →
+        Passes middle after (block_by l.body.now) (left_at program f l.body.now at) → Passes before after loop_by (λ n
+        s. follow in_loop (left_at program f l.body.now at n s)
         (λ a s. follow in_loop (next_acts program n f l a s) (loop_acts program n f l)))
     body_done before middle after at h k = then_passes h (passes_follow in_loop _ k)
 
     -- the loop stands behind its body
     pub behind_body : (before middle after : Seen) (none : Bor (List TypedStmt)) →
-        Passes before middle (λ n. loop_acts program n f l tt) (in_body program f l l.body.now) →
-        Passes middle after (λ n. block_acts program n f l.body.now tt) (left_at program f l.body.now None) →
-        none.now ≡ [] →
-        Passes before after (λ n. loop_acts program n f l tt)
-        (in_round program f l (Some (record { part = none; count = length l.body.now })))
+        Passes before middle loop_by (in_body program f l l.body.now) →
+        Passes middle after (block_by l.body.now) (left_at program f l.body.now None) → none.now ≡ [] →
+        Passes before after loop_by (in_round program f l (Some (record { part = none; count = length l.body.now })))
     behind_body before middle after none h k empty =
         then_passes (body_done before middle after None h k) (passes_as _
         (λ n s. λ i. follow in_loop (follow in_order (block_by (sym empty i) n s)
@@ -356,18 +322,15 @@ module _ (program : ProgramTree) (f : Frame) where
         (λ a s. follow in_loop (next_acts program n f l a s) (loop_acts program n f l))) (stays_so after _))
 
     -- the loop stands before a round again
-    pub round_done : (before middle done after : Seen) →
-        Passes before middle (λ n. loop_acts program n f l tt) (in_body program f l l.body.now) →
-        Passes middle done (λ n. block_acts program n f l.body.now tt) (left_at program f l.body.now None) →
-        Passes done after (λ n. next_acts program n f l tt) ended_so →
-        Passes before after (λ n. loop_acts program n f l tt) (λ n. loop_acts program n f l tt)
+    pub round_done : (before middle done after : Seen) → Passes before middle loop_by (in_body program f l l.body.now) →
+        Passes middle done (block_by l.body.now) (left_at program f l.body.now None) →
+        Passes done after next_by ended_so → Passes before after loop_by loop_by
     round_done before middle done after h k m =
         then_passes (body_done before middle done None h k) (passes_follow in_loop _ m)
 
     -- what comes before the next round, and the loop again
     pub next_behind : (before middle : Seen) (work : List Work) (step : Step) (after : Seen) (later : List Work)
-        (g : Frame) → Passes before middle (λ n. next_acts program n f l tt) ended_so →
-        Steps program middle work f (λ n. loop_acts program n f l tt) step after later g →
+        (g : Frame) → Passes before middle next_by ended_so → Steps program middle work f loop_by step after later g →
         Steps program before work f (λ n s. follow in_loop (next_acts program n f l tt s) (loop_acts program n f l))
         step after later g
     next_behind before middle work step after later g h k =
@@ -375,14 +338,12 @@ module _ (program : ProgramTree) (f : Frame) where
 
     -- a round that is left in its body
     pub left_in_body : (before middle : Seen) (work later : List Work) (at : Position) (step : Step) (after : Seen)
-        (last : List Work) (g : Frame) →
-        Passes before middle (λ n. loop_acts program n f l tt) (in_round program f l (Some at)) →
+        (last : List Work) (g : Frame) → Passes before middle loop_by (in_round program f l (Some at)) →
         later ≡ work ++ Body' l ∷ [] →
         Steps program middle later f (left_at program f l.body.now (Some at)) step after last g →
-        Steps program before work f (λ n. loop_acts program n f l tt) step after last g
-    left_in_body before middle work later at step after last g h is k =
-        steps_behind program work f step after last g before middle loop_by _ h
-        (steps_wait program middle work f _ later _ _ step after last g is (λ n s. refl) k)
+        Steps program before work f loop_by step after last g
+    left_in_body before middle work later at step after last g h is k = steps_behind program work f step after last g
+        before middle loop_by _ h (steps_wait program middle work f _ later _ _ step after last g is (λ n s. refl) k)
 
   no_part : (stmts : List TypedStmt) (at : Position) → at.part.now ≡ [] → (n : ℕ) (s : State) →
       left_at program f stmts (Some at) n s ≡ block_by (drop at.count stmts) n s
@@ -393,17 +354,16 @@ module _ (program : ProgramTree) (f : Frame) where
   pub part_last : (before : Seen) (work : List Work) (stmts rest : List TypedStmt) (at : Position) (b : Bool) →
       rest ≡ take (length stmts - at.count) (drop at.count stmts) → b ≡ (length rest == 0) → b ≡ true →
       Steps program before work f (left_at program f stmts (Some at)) (Go (Run' at.part)) before work f
-  part_last before work stmts rest at b same none empty =
-      steps_later program before work f _ _
-      (λ n s. ap (λ xs. follow in_order (block_by at.part.now n s) (block_acts program n f xs))
+  part_last before work stmts rest at b same none empty = steps_later program before work f _ _ (λ n s. ap
+      (λ xs. follow in_order (block_by at.part.now n s) (block_acts program n f xs))
       (sym (same ∙ rest_at _ stmts) ∙ none_in rest b none empty) ∙ alone _)
 
   -- a step behind what was done of statements
   pub at_behind : (before middle : Seen) (work : List Work) (stmts body : List TypedStmt) (at : Option Position)
       (step : Step) (after : Seen) (later : List Work) (g : Frame) → stmts ≡ body →
-      Passes before middle (λ n. block_acts program n f stmts tt) (left_at program f stmts at) →
+      Passes before middle (block_by stmts) (left_at program f stmts at) →
       Steps program middle work f (left_at program f stmts at) step after later g →
-      Steps program before work f (λ n s. block_acts program n f body tt s) step after later g
+      Steps program before work f (block_by body) step after later g
   at_behind before middle work stmts body at step after later g same h k =
       subst (λ xs. Steps program before work f (block_by xs) step after later g) same
       (steps_behind program work f step after later g before middle _ _ h k)
@@ -411,19 +371,18 @@ module _ (program : ProgramTree) (f : Frame) where
   -- something more waits for the statements
   pub caller_behind : (before middle : Seen) (work pushed : List Work) (stmts body : List TypedStmt) (at : Position)
       (step : Step) (after : Seen) (later : List Work) (g : Frame) → stmts ≡ body → pushed ≡ work →
-      Passes before middle (λ n. block_acts program n f stmts tt) (left_at program f stmts (Some at)) →
+      Passes before middle (block_by stmts) (left_at program f stmts (Some at)) →
       Steps program middle pushed f (left_at program f stmts (Some at)) step after later g →
-      Steps program before work f (λ n s. block_acts program n f body tt s) step after later g
+      Steps program before work f (block_by body) step after later g
   caller_behind before middle work pushed stmts body at step after later g same is h k =
       at_behind before middle work stmts body (Some at) step after later g same h
       (subst (λ ws. Steps program middle ws f (left_at program f stmts (Some at)) step after later g) is k)
 
   pub rest_behind : (before middle : Seen) (work : List Work) (stmts body : List TypedStmt) (at : Position)
       (step : Step) (after : Seen) (later : List Work) (g : Frame) → stmts ≡ body → at.part.now ≡ [] →
-      Passes before middle (λ n. block_acts program n f stmts tt) (left_at program f stmts (Some at)) →
-      Steps program middle work f
-      (λ n s. block_acts program n f (take (length stmts - at.count) (drop at.count stmts)) tt s) step after later g →
-      Steps program before work f (λ n s. block_acts program n f body tt s) step after later g
+      Passes before middle (block_by stmts) (left_at program f stmts (Some at)) →
+      Steps program middle work f (block_by (take (length stmts - at.count) (drop at.count stmts))) step after later g →
+      Steps program before work f (block_by body) step after later g
   rest_behind before middle work stmts body at step after later g same empty h k =
       at_behind before middle work stmts body (Some at) step after later g same h (steps_as program middle work f _
       _ step after later g (λ n s. no_part stmts at empty n s ∙ ap (λ xs. block_by xs n s) (sym (rest_at _ stmts))) k)
@@ -431,12 +390,10 @@ module _ (program : ProgramTree) (f : Frame) where
   -- control leaves the function behind the statements that were done
   pub left_behind : (before middle : Seen) (work : List Work) (stmts body : List TypedStmt) (at : Position)
       (exit : Exit) (step : Step) (after : Seen) (later : List Work) (g : Frame) → stmts ≡ body → at.part.now ≡ [] →
-      Passes before middle (λ n. block_acts program n f stmts tt) (left_at program f stmts (Some at)) →
-      Passes middle middle
-      (λ n s. block_acts program n f (take (length stmts - at.count) (drop at.count stmts)) tt s)
-      (λ n s. leave exit tt s) →
-      Steps program middle work f (λ n s. leave exit tt s) step after later g →
-      Steps program before work f (λ n s. block_acts program n f body tt s) step after later g
+      Passes before middle (block_by stmts) (left_at program f stmts (Some at)) →
+      Passes middle middle (block_by (take (length stmts - at.count) (drop at.count stmts))) (left_by exit) →
+      Steps program middle work f (left_by exit) step after later g →
+      Steps program before work f (block_by body) step after later g
   left_behind before middle work stmts body at exit step after later g same empty h left k =
       rest_behind before middle work stmts body at step after later g same empty h
       (steps_behind program work f step after later g middle middle _ _ left k)

@@ -1,16 +1,17 @@
--- Calls that begin.
-use Rattle.sc_run.proofs.Common.{Begun, Bor, Call, Callee, Caller, CameTo, Comes, Err, Frame, Function, Left, List}
-use Rattle.sc_run.proofs.Common.{None, Ok, Option, Piece, Place, ProgramTree, Reached, RunEnd, Seen, Some, SourceRun}
-use Rattle.sc_run.proofs.Common.{Standing, State, Step, Steps, Stop, Stopped, To, TypedExpr, Value, Work, [], and_then}
-use Rattle.sc_run.proofs.Common.{ap, arith, back_from, begun, blocks_for, bodies, body_acts, c_arith, calls_in, done}
-use Rattle.sc_run.proofs.Common.{entry_from, found, function, function_of, here_of, length, library, map, refl}
-use Rattle.sc_run.proofs.Common.{result_goes, resume, returned, reverse, run_in, seen_of, store_at, subst, suc, sym}
-use Rattle.sc_run.proofs.Common.{then_then, told_call, turn, variables, way_in, with_blocks, with_variables, word_in}
+-- Calls that begin, and calls that end.
+use Rattle.sc_run.proofs.Common.{Begun, Bor, Call, Callee, Caller, CameTo, Comes, Doing, Err, Exit, Frame, Function}
+use Rattle.sc_run.proofs.Common.{Left, List, None, Ok, Option, Piece, Place, ProgramTree, Reached, Result, Ret, RunEnd}
+use Rattle.sc_run.proofs.Common.{Seen, Some, SourceRun, Standing, State, Step, Steps, Stop, Stopped, To, TypedExpr}
+use Rattle.sc_run.proofs.Common.{Value, Work, [], and_then, ap, arith, back_from, back_to, back_value, begun}
+use Rattle.sc_run.proofs.Common.{blocks_for, bodies, body_acts, c_arith, calls_in, cleared, closes, done, ended}
+use Rattle.sc_run.proofs.Common.{ended_as, entry_from, found, function, function_in, function_of, here_of, leave}
+use Rattle.sc_run.proofs.Common.{left_by, length, library, map, refl, result_goes, resume, returned, reverse, run_in}
+use Rattle.sc_run.proofs.Common.{seen_of, store_at, subst, suc, sym, tell, then_then, told_back, told_call, turn}
+use Rattle.sc_run.proofs.Common.{variable_count, variables, way_in, with_blocks, with_variables, word_crossing, word_in}
 use Rattle.sc_run.proofs.Common.{zero, ℕ, ◌++◌, ◌∙◌, ◌∷◌, ◌≡◌, ◌≤◌}
-use Rattle.sc_run.proofs.Blank.{blank_more, blank_new, length_same}
+use Rattle.sc_run.proofs.Blank.{left_same, blank_more, blank_new, length_same}
 use Rattle.sc_run.proofs.Coming.{with_memory, seen_with, blocks_seen}
-use Rattle.sc_run.proofs.Standing.{step_stops, step_ends, newest_first}
-use Rattle.sc_run.proofs.Looping.{steps_as}
+use Rattle.sc_run.proofs.Looping.{resume_stopped, newest_first, step_stops, step_ends, steps_as}
 
 -- a result that can't be stored
 pub unstored : (program : ProgramTree) (before after : Seen) (work : List Work) (f : Frame) (to : To)
@@ -46,10 +47,9 @@ module _ (program : ProgramTree) (caller : Frame) (callee : Callee) (args : List
   abbrev pub entering : (Option Value → State → Piece (Option Value)) → ℕ → State → Piece (Option Value)
   entering back n s = run_in (library program) (bodies program n) callee.comp.now callee.number args back s
 
-  pub enter_is : Found → (back : Option Value → State → Piece (Option Value)) (m : ℕ) (t : State) →
-      entering back (suc m) t ≡ returned program (frame_at (length (t.memory callee.comp.now))) back
-      (body_acts program m (frame_at (length (t.memory callee.comp.now))) tt
-      (begun callee.comp.now called_function args t))
+  pub enter_is : Found → (back : Option Value → State → Piece (Option Value)) (m : ℕ) (t : State) → entering back
+      (suc m) t ≡ returned program (frame_at (length (t.memory callee.comp.now))) back (body_acts program m
+      (frame_at (length (t.memory callee.comp.now))) tt (begun callee.comp.now called_function args t))
   enter_is there back m t =
       ap (λ o. and_then (found o t) (λ f s. and_then (bodies program (suc m) callee.number
       (record { comp = callee.comp.now; first = length (s.memory callee.comp.now) })
@@ -92,8 +92,7 @@ module _ (program : ProgramTree) (caller : Frame) (callee : Callee) (args : List
   entry_seen None s seen shows = shows
   entry_seen (Some index) s seen shows =
       ap {A = Seen} (λ x. record x {
-        trace = x.trace ++
-            Call caller.scope.comp.now callee.comp.now index (map word_in args) ∷ [];
+        trace = x.trace ++ Call caller.scope.comp.now callee.comp.now index (map word_in args) ∷ [];
       }) shows
 
   entry_turns : (crossing : Option ℕ) (s : State) → (entry_from caller callee args crossing s).turns ≡ s.turns
@@ -104,6 +103,9 @@ module _ (program : ProgramTree) (caller : Frame) (callee : Callee) (args : List
   abbrev from_call : Option ℕ → ℕ → State → Piece (Option Value)
   from_call crossing n s = entering (back_from program caller callee crossing) n
       (entry_from caller callee args crossing s)
+
+  abbrev tries : Option ℕ → Doing
+  tries crossing n s = and_then (and_then (turn s) (λ _ s. from_call crossing n s)) (result_goes program caller to)
 
   module _ (whole : SourceRun) (work later : List Work) (crossing : Option ℕ) (mid begun_to : Seen) (g : Frame)
       (there : Found) (b : Begun callee args (told_call caller callee args crossing mid) begun_to g) where
@@ -129,10 +131,9 @@ module _ (program : ProgramTree) (caller : Frame) (callee : Callee) (args : List
           shows = begun_seen t (told_call caller callee args crossing mid) shows ∙ sym b.seen;
           enough = enough;
           rest = ap (λ ws. (resume program m ws (frame_at (length (t.memory callee.comp.now))) entered_piece).behaviour)
-              (ap reverse pushed ∙ newest_first work (Caller caller to _)) ∙
-              ap (λ x. x.behaviour) (waits m entered_piece (frame_at _) refl) ∙
-              ap (λ q. (resume program (suc m) (reverse work) caller
-              (and_then q (result_goes program caller to))).behaviour)
+              (ap reverse pushed ∙ newest_first work (Caller caller to _)) ∙ ap (λ x. x.behaviour)
+              (waits m entered_piece (frame_at _) refl) ∙ ap (λ q.
+              (resume program (suc m) (reverse work) caller (and_then q (result_goes program caller to))).behaviour)
               (sym (enter_is there (back_from program caller callee _) m t)) ∙ rest;
         }) where
           entered_piece : Piece (Left (Unit {0}))
@@ -140,8 +141,7 @@ module _ (program : ProgramTree) (caller : Frame) (callee : Callee) (args : List
               (begun callee.comp.now called_function args t)
 
     waits_at : (cross : Option ℕ) (first : ℕ) (n : ℕ) (p : Piece (Left (Unit {0}))) (f : Frame) → f ≡ frame_at first →
-        resume program n (Caller caller to cross ∷ reverse work) f p ≡
-        resume program (suc n) (reverse work) caller
+        resume program n (Caller caller to cross ∷ reverse work) f p ≡ resume program (suc n) (reverse work) caller
         (and_then (returned program f (back_from program caller callee cross) p) (result_goes program caller to))
     waits_at None first n p f is = refl
     waits_at (Some index) first n p f is =
@@ -151,11 +151,8 @@ module _ (program : ProgramTree) (caller : Frame) (callee : Callee) (args : List
         (result_goes program caller to))) (sym is) refl
 
     entered_from : (before : Seen) → later ≡ work ++ Caller caller to crossing ∷ [] → before.turns ≡ suc mid.turns →
-        Comes before mid (Ok tt) turn → Standing program whole before work caller
-        (λ n s. and_then (and_then (turn s) (λ _ s. from_call crossing n s)) (result_goes program caller to)) →
-        Entered
-    entered_from before pushed taken c h =
-        by_turn h.open_calls (turn h.state) (c.comes h.state h.shows)
+        Comes before mid (Ok tt) turn → Standing program whole before work caller (tries crossing) → Entered
+    entered_from before pushed taken c h = by_turn h.open_calls (turn h.state) (c.comes h.state h.shows)
         (more (ap (λ x. x.turns) h.shows) taken h.enough) h.rest where
           more : h.state.turns ≡ before.turns → before.turns ≡ suc mid.turns → h.state.turns ≤ h.open_calls →
               suc mid.turns ≤ h.open_calls
@@ -168,10 +165,9 @@ module _ (program : ProgramTree) (caller : Frame) (callee : Callee) (args : List
           by_turn zero x e le rest = absurd (none mid.turns le) where
             none : (k : ℕ) → suc k ≤ 0 → ⊥
             none k z = omega (arith, z)
-          by_turn (suc m) (Reached u t) e le rest =
-              enter_at m (entry_from caller callee args crossing t) pushed (entry_seen crossing t mid e.1)
-              (λ n p f is. waits_at crossing (length
-              ((entry_from caller callee args _ t).memory callee.comp.now)) n p f is)
+          by_turn (suc m) (Reached u t) e le rest = enter_at m (entry_from caller callee args crossing t) pushed
+              (entry_seen crossing t mid e.1) (λ n p f is. waits_at crossing
+              (length ((entry_from caller callee args _ t).memory callee.comp.now)) n p f is)
               (less (entry_turns crossing t) (ap (λ x. x.turns) e.1) le) rest where
                 less : (entry_from caller callee args crossing t).turns ≡ t.turns → t.turns ≡ mid.turns →
                     suc mid.turns ≤ suc m → (entry_from caller callee args crossing t).turns ≤ m
@@ -179,17 +175,11 @@ module _ (program : ProgramTree) (caller : Frame) (callee : Callee) (args : List
           by_turn (suc m) (Stopped end t) e le rest = elim e [ ]
 
   pub enter_steps : (crossing : Option ℕ) (work later : List Work) (before mid told begun_to : Seen) (g : Frame)
-      (step : Step) (last : Seen) (last_work : List Work) (last_frame : Frame) →
-      function (library program) callee.comp.now callee.number ≡
-      Some (function_of c_arith program.interfaces.main callee.structs.now callee.function.now) →
-      Comes before mid (Ok tt) turn → before.turns ≡ suc mid.turns →
-      told ≡ told_call caller callee args crossing mid → Begun callee args told begun_to g →
-      later ≡ work ++ Caller caller to crossing ∷ [] →
+      (step : Step) (last : Seen) (last_work : List Work) (last_frame : Frame) → Found → Comes before mid (Ok tt) turn →
+      before.turns ≡ suc mid.turns → told ≡ told_call caller callee args crossing mid →
+      Begun callee args told begun_to g → later ≡ work ++ Caller caller to crossing ∷ [] →
       Steps program begun_to later g (λ n s. body_acts program n g tt s) step last last_work last_frame →
-      Steps program before work caller (λ n s. and_then
-      (and_then (turn s) (λ _ s. run_in (library program) (bodies program n) callee.comp.now callee.number args
-      (back_from program caller callee crossing) (entry_from caller callee args crossing s)))
-      (result_goes program caller to)) step last last_work last_frame
+      Steps program before work caller (tries crossing) step last last_work last_frame
   enter_steps crossing work later before mid told begun_to g step last last_work last_frame there c taken tells b pushed
       h =
       record {
@@ -199,13 +189,101 @@ module _ (program : ProgramTree) (caller : Frame) (callee : Callee) (args : List
 
   -- a call that has no turn left
   pub enter_stops : (crossing : Option ℕ) (work : List Work) (before after : Seen) (end : RunEnd) →
-      Comes before after (Err end) turn → Steps program before work caller
-      (λ n s. and_then (and_then (turn s) (λ _ s. run_in (library program)
-      (bodies program n) callee.comp.now callee.number args (back_from program caller callee crossing)
-      (entry_from caller callee args crossing s))) (result_goes program caller to)) (Stop end) after work caller
-  enter_stops crossing work before after end c =
-      steps_as program before work caller (λ n s. and_then _ (result_goes program caller to)) (λ n s. and_then (turn s)
-      (λ _ s. and_then _ (result_goes program caller to))) (Stop end) after work caller
-      (λ n s. then_then (turn s) (λ _ s. from_call _ n s) (result_goes program caller to))
-      (step_stops program before after work caller end turn
-      (λ n u s. and_then (from_call _ n s) (result_goes program caller to)) c)
+      Comes before after (Err end) turn → Steps program before work caller (tries crossing) (Stop end) after work caller
+  enter_stops crossing work before after end c = steps_as program before work caller (tries crossing)
+      (λ n s. and_then (turn s) (λ _ s. and_then _ (result_goes program caller to))) (Stop end) after work caller
+      (λ n s. then_then (turn s) (λ _ s. from_call _ n s) (result_goes program caller to)) (step_stops program before
+      after work caller end turn (λ n u s. and_then (from_call _ n s) (result_goes program caller to)) c)
+
+-- how a call ends, once control left the body in this way
+abbrev pub ClosedBy : ProgramTree → Frame → Exit → Result (Option Value) RunEnd → Type 0
+ClosedBy program f exit r = (s : State) → closes program f (record { exit = exit; carried = tt }) s ≡ ended_as r s
+
+module _ (program : ProgramTree) (f : Frame) (exit : Exit) where
+  abbrev leaving : State → Piece (Left (Unit {0}))
+  leaving s = leave exit tt s
+
+  abbrev over : State → State
+  over s = done f.scope.comp.now (function_in program f) f.scope.first s
+
+  returned_ok : (v : Option Value) (back : Option Value → State → Piece (Option Value)) (s : State) →
+      ClosedBy program f exit (Ok v) → returned program f back (leaving s) ≡ back v (over s)
+  returned_ok v back s is = ap (λ p. and_then p (λ v t. back v (over t))) (is s)
+
+  returned_err : (end : RunEnd) (back : Option Value → State → Piece (Option Value)) (s : State) →
+      ClosedBy program f exit (Err end) → returned program f back (leaving s) ≡ Stopped end s
+  returned_err end back s is = ap (λ p. and_then p (λ v t. back v (over t))) (is s)
+
+  over_seen : (s : State) (before : Seen) → seen_of s ≡ before → seen_of (over s) ≡ left_by f before
+  over_seen s before shows = seen_with s before _ (ended f.scope.first (variable_count f) (s.memory _)) shows ∙ ap
+      (λ bs. with_memory before (with_blocks f.scope.comp.now bs before.memory)) (sym
+      (left_same f.scope.first (variable_count f) (s.memory _)) ∙ ap (λ bs. cleared f.scope.first (variable_count f) bs)
+      (blocks_seen s before f.scope.comp.now shows))
+
+  module _ (whole : SourceRun) (before : Seen) (work : List Work) (caller : Frame) (to : To) (crossing : Option ℕ) where
+    abbrev waiting : List Work
+    waiting = work ++ Caller caller to crossing ∷ []
+
+    resumed : (n : ℕ) (s : State) → resume program n (reverse waiting) f (leaving s) ≡ resume program (suc n)
+        (reverse work) caller
+        (and_then (returned program f (back_to program caller f crossing) (leaving s)) (result_goes program caller to))
+    resumed n s = ap (λ ws. resume program n ws f (leaving s)) (newest_first work _)
+
+    pub call_ends : (end : RunEnd) → ClosedBy program f exit (Err end) →
+        Standing program whole before waiting f (λ n s. leaving s) → whole ≡ record { trace = before.trace; end = end }
+    call_ends end is h = sym h.rest ∙ ap (λ r. r.behaviour) (resumed h.open_calls h.state ∙ ap
+        (λ p. resume program (suc h.open_calls) (reverse work) caller (and_then p (result_goes program caller to)))
+        (returned_err end (back_to program caller f crossing) h.state is)) ∙ resume_stopped program (suc h.open_calls)
+        (reverse work) caller end h.state ∙ (λ i. record { trace = (h.shows i).trace; end = end })
+
+    back_at : (cross : Option ℕ) (v : Option Value) (n : ℕ) (s : State)
+        (rest : (resume program n (reverse work) caller
+        (and_then (back_to program caller f cross v (over s)) (result_goes program caller to))).behaviour ≡ whole) →
+        seen_of s ≡ before → s.turns ≤ n → Standing program whole
+        (told_back program caller f cross v (left_by f before)) work caller
+        (λ n s. result_goes program caller to (back_value program f cross v) s)
+    back_at None v n s rest shows enough =
+        record { open_calls = n; state = over s; shows = over_seen s before shows; enough = enough; rest = rest }
+    back_at (Some index) v n s rest shows enough =
+        record {
+          open_calls = n;
+          state = tell _ (over s);
+          shows = ap {A = Seen} (λ x. record x {
+            trace = x.trace ++ Ret f.scope.comp.now caller.scope.comp.now (word_crossing program f index v) ∷ [];
+          }) (over_seen s before shows);
+          enough = enough;
+          rest = rest;
+        }
+
+    pub call_returns : (v : Option Value) → ClosedBy program f exit (Ok v) →
+        Standing program whole before waiting f (λ n s. leaving s) →
+        Standing program whole (told_back program caller f crossing v (left_by f before)) work caller
+        (λ n s. result_goes program caller to (back_value program f crossing v) s)
+    call_returns v is h =
+        back_at _ v (suc h.open_calls) h.state (ap (λ r. r.behaviour) (sym (resumed _ h.state ∙
+        ap (λ p. resume program (suc h.open_calls) (reverse work) caller (and_then p (result_goes program caller to)))
+        (returned_ok v (back_to program caller f _) h.state is))) ∙ h.rest) h.shows (more _ _ h.enough) where
+          more : (a b : ℕ) → a ≤ b → a ≤ suc b
+          more a b z = omega (arith, z)
+
+  module _ (before : Seen) where
+    pub return_stops : (work : List Work) (caller : Frame) (to : To) (crossing : Option ℕ) (end : RunEnd) →
+        ClosedBy program f exit (Err end) → Steps program before (work ++ Caller caller to crossing ∷ []) f
+        (λ n s. leaving s) (Stop end) before work f
+    return_stops work caller to crossing end is =
+        record { stands = λ whole h. call_ends whole before work caller to _ end is h }
+
+    pub return_steps : (work : List Work) (caller : Frame) (to : To) (crossing : Option ℕ) (v back : Option Value)
+        (ended told after : Seen) (step : Step) → ClosedBy program f exit (Ok v) → ended ≡ left_by f before →
+        back ≡ back_value program f crossing v → told ≡ told_back program caller f crossing v ended →
+        Steps program told work caller (λ n s. result_goes program caller to back s) step after work caller →
+        Steps program before (work ++ Caller caller to crossing ∷ []) f (λ n s. leaving s) step after work caller
+    return_steps work caller to crossing v back ended told after step is ends gives tells h =
+        record {
+          stands = λ whole standing. h.stands whole
+              (subst (λ x. Standing program whole x work caller (λ n s. result_goes program caller to back s))
+              (sym (tells ∙ ap (told_back program caller f crossing v) ends))
+              (subst (λ x. Standing program whole (told_back program caller f crossing v (left_by f before)) work caller
+              (λ n s. result_goes program caller to x s)) (sym gives)
+              (call_returns whole before work caller to crossing v is standing)));
+        }

@@ -1,9 +1,13 @@
 -- Pieces of a run, one after the other.
-use Rattle.sc_run.proofs.Common.{Blamed, Blocks, CameTo, Cause, Comes, Err, Here, Memory, Next, Ok, Piece, Reached}
-use Rattle.sc_run.proofs.Common.{Result, RunEnd, Seen, State, Stopped, TurnsOut, Value, and_then, ap, arith, computed}
-use Rattle.sc_run.proofs.Common.{leave, refl, seen_of, store, stored, subst, suc, sym, turn, turn_of, with_blocks}
-use Rattle.sc_run.proofs.Common.{with_exit, zero, ℕ, ◌∙◌, ◌≡◌}
+use Rattle.sc_run.proofs.Common.{Blamed, Blocks, CameTo, Cause, Comes, Err, Here, Left, Memory, Next, Ok, Piece}
+use Rattle.sc_run.proofs.Common.{Reached, Result, RunEnd, Seen, State, Stopped, TurnsOut, Value, and_then, ap, arith}
+use Rattle.sc_run.proofs.Common.{computed, leave, refl, seen_of, store, stored, subst, suc, sym, turn, turn_of}
+use Rattle.sc_run.proofs.Common.{with_blocks, with_exit, zero, ℕ, ◌∙◌, ◌≡◌}
 use Rattle.sc_run.proofs.Blank.{blank, blanked, store_same, memory_with}
+
+-- statements that come to their end
+abbrev pub usual : Result (Left (Unit {0})) RunEnd
+usual = with_exit {V = Unit {0}} Next (Ok tt)
 
 abbrev pub with_memory : Seen → Memory → Seen
 with_memory seen memory = record seen { memory = memory }
@@ -12,8 +16,7 @@ with_memory seen memory = record seen { memory = memory }
 pub seen_with : (s : State) (seen : Seen) (comp : ℕ) (bs : Blocks) → seen_of s ≡ seen →
     seen_of (record s { memory = with_blocks comp bs s.memory }) ≡
     record seen { memory = with_blocks comp (blank bs) seen.memory }
-seen_with s seen comp bs shows =
-    ap (λ memory. with_memory (seen_of s) memory) (memory_with comp bs _) ∙
+seen_with s seen comp bs shows = ap (λ memory. with_memory (seen_of s) memory) (memory_with comp bs _) ∙
     ap {A = Seen} (λ x. record x { memory = with_blocks comp (blank bs) x.memory }) shows
 
 -- the blocks of a compartment, as they are seen
@@ -74,15 +77,12 @@ then_goes before middle after v r p go h k =
 
 -- a store
 module _ (here : Here) (q v : Value) (line : ℕ) (seen : Seen) (after : Blocks) where
-  stored_at : (s : State) (r : Result Blocks Cause) → seen_of s ≡ seen → blanked r ≡ Ok after →
-      CameTo (with_exit {V = Unit {0}} Next (Ok tt))
-      (record seen { memory = with_blocks here.comp after seen.memory })
-      (and_then (computed here line r s) (λ blocks s.
+  stored_at : (s : State) (r : Result Blocks Cause) → seen_of s ≡ seen → blanked r ≡ Ok after → CameTo usual
+      (record seen { memory = with_blocks here.comp after seen.memory }) (and_then (computed here line r s) (λ blocks s.
       leave {A = Unit {0}} Next tt (record s { memory = with_blocks here.comp blocks s.memory })))
   stored_at s (Ok blocks) shows is = (
     refl,
-    seen_with s seen here.comp blocks shows ∙
-        ap (λ bs. record seen { memory = with_blocks here.comp bs seen.memory })
+    seen_with s seen here.comp blocks shows ∙ ap (λ bs. record seen { memory = with_blocks here.comp bs seen.memory })
         (unwrap (blank blocks) after is),
   ) where
     unwrap : (a b : Blocks) → ◌≡◌ {A = Result Blocks Cause} (Ok a) (Ok b) → a ≡ b
@@ -90,8 +90,7 @@ module _ (here : Here) (q v : Value) (line : ℕ) (seen : Seen) (after : Blocks)
   stored_at s (Err cause) shows is = cc is
 
   pub stored_comes : store (seen.memory here.comp) q v ≡ Ok after →
-      Comes seen (record seen { memory = with_blocks here.comp after seen.memory })
-      (with_exit {V = Unit {0}} Next (Ok tt)) (stored here q v line tt)
+      Comes seen (record seen { memory = with_blocks here.comp after seen.memory }) usual (stored here q v line tt)
   stored_comes is =
       record {
         comes = λ s shows. stored_at s _ shows
@@ -101,8 +100,7 @@ module _ (here : Here) (q v : Value) (line : ℕ) (seen : Seen) (after : Blocks)
 
 module _ (here : Here) (q v : Value) (line : ℕ) (seen : Seen) (cause : Cause) where
   blamed_at : (s : State) (r : Result Blocks Cause) → seen_of s ≡ seen → blanked r ≡ Err cause →
-      CameTo (with_exit {V = Unit {0}} Next (Err (Blamed here.comp cause line))) seen
-      (and_then (computed here line r s) (λ blocks s.
+      CameTo (Err (Blamed here.comp cause line)) seen (and_then (computed here line r s) (λ blocks s.
       leave {A = Unit {0}} Next tt (record s { memory = with_blocks here.comp blocks s.memory })))
   blamed_at s (Ok blocks) shows is = cc is
   blamed_at s (Err other) shows is = (ap (λ x. Blamed here.comp x line) (unwrap other cause is), shows) where
@@ -121,8 +119,7 @@ module _ (here : Here) (q v : Value) (line : ℕ) (seen : Seen) (cause : Cause) 
 -- a turn, if there is one
 turned_at : (n : ℕ) (s : State) (seen : Seen) → seen_of s ≡ seen → s.turns ≡ suc n →
     CameTo (Ok tt) (record seen { turns = n }) (turn_of s.turns s)
-turned_at n s seen shows is =
-    subst (λ k. CameTo (Ok tt) (record seen { turns = n }) (turn_of k s)) (sym is)
+turned_at n s seen shows is = subst (λ k. CameTo (Ok tt) (record seen { turns = n }) (turn_of k s)) (sym is)
     (refl, ap {A = Seen} (λ x. record x { turns = n }) shows)
 
 pub turn_comes : (n : ℕ) (seen : Seen) → seen.turns ≡ suc n → Comes seen (record seen { turns = n }) (Ok tt) turn
@@ -139,9 +136,9 @@ turn_stops seen is =
 pub stored_ok : (here : Here) (q v : Value) (line : ℕ) (seen : Seen) (memory : Memory) →
     store (seen.memory here.comp) q v ≡ Ok (memory here.comp) →
     memory ≡ with_blocks here.comp (memory here.comp) seen.memory →
-    Comes seen (with_memory seen memory) (with_exit {V = Unit {0}} Next (Ok tt)) (stored here q v line tt)
+    Comes seen (with_memory seen memory) usual (stored here q v line tt)
 stored_ok here q v line seen memory is others =
-    subst (λ m. Comes seen (with_memory seen m) (with_exit {V = Unit {0}} Next (Ok tt)) (stored here q v line tt))
+    subst (λ m. Comes seen (with_memory seen m) usual (stored here q v line tt))
     (sym others) (stored_comes here q v line seen _ is)
 
 pub stored_err : (here : Here) (q v : Value) (line : ℕ) (seen : Seen) (memory : Memory) (cause : Cause) (end : RunEnd) →

@@ -15,8 +15,8 @@ pub use Rattle.sc_base.proofs.Lists.{drop-step, drop_next}
 pub use Rattle.sc_event.specs.declared.event.Event.TheVariants.{End, In, Out}
 pub use Rattle.sc_event.specs.declared.row.Entry.TheVariants.{Export, Main}
 pub use Rattle.sc_core.proofs.Layers.{expr_at, layer_of, stmt_at, term_of, typed}
-pub use Rattle.sc_core.specs.Prelude.{Acts, Blocks, Break, Calls, Continue, Exit, Front, Function, Here, IsStop, Left}
-pub use Rattle.sc_core.specs.Prelude.{Meant, Memory, Next, Piece, Reached, Return, Route, State, Stopped, Ways, all_do}
+pub use Rattle.sc_core.specs.Prelude.{Acts, Blocks, Break, Calls, Exit, Front, Function, Here, IsStop, Left, Meant}
+pub use Rattle.sc_core.specs.Prelude.{Memory, Next, Piece, Reached, Return, Route, State, Stopped, Ways, all_do}
 pub use Rattle.sc_core.specs.Prelude.{and_then, applied, applied_one, assign, assign_call, at_place, at_pointer}
 pub use Rattle.sc_core.specs.Prelude.{back_cross, back_own, begun, between, binary, bind, block_does, blocks_for}
 pub use Rattle.sc_core.specs.Prelude.{c_arith, call, call_own, called, cell_of, cells_at, cells_of, choose, computed}
@@ -43,20 +43,20 @@ pub use Rattle.sc_core.specs.declared.section.TypedParam.{TypedParam}
 pub use Rattle.sc_core.specs.declared.section.TypedSection.{TypedSection}
 pub use Rattle.sc_core.specs.declared.section.TypedStruct.{TypedStruct}
 pub use Rattle.sc_core.specs.declared.stmt.TypedSimple.{TypedSimple}
+pub use Rattle.sc_core.specs.declared.stmt.TypedSimpleKind.{TypedSimpleKind}
 pub use Rattle.sc_core.specs.declared.stmt.TypedStmtKind.{TypedStmtKind, TypedStmtKind-F, roll-TypedStmtKind}
 pub use Rattle.sc_core.specs.declared.stmt.TypedStmtKind.TheVariants.{rolls-Assign, rolls-AssignCall, rolls-Break}
 pub use Rattle.sc_core.specs.declared.stmt.TypedStmtKind.TheVariants.{rolls-Call, rolls-Continue, rolls-Empty}
 pub use Rattle.sc_core.specs.declared.stmt.TypedStmtKind.TheVariants.{rolls-For, rolls-If, rolls-Return}
 pub use Rattle.sc_core.specs.declared.stmt.TypedStmtKind.TheVariants.{rolls-ReturnCall, rolls-ReturnValue, rolls-While}
 pub use Rattle.sc_core.specs.declared.value.Cell.{Cell}
-pub use Rattle.sc_core.specs.declared.value.Pointer.{Pointer}
-pub use Rattle.sc_core.specs.declared.value.Value.TheVariants.{Null, Ptr, Word}
+pub use Rattle.sc_core.specs.declared.value.Value.TheVariants.{Ptr, Word}
 pub use Rattle.sc_laws.proofs.Growing.{back_goes, calls_go, done_goes, earlier, follow_goes, front_more, stays}
 pub use Rattle.sc_laws.proofs.Growing.{then_goes, then_then, within_goes}
 pub use Rattle.sc_laws.specs.Prelude.{GoFrom, Goes, Gone, Never}
 pub use Rattle.sc_value.specs.Prelude.{here_of}
-pub use Rattle.sc_run.specs.Common.{Call, Callee, Event, Frame, Loop, ProgramTree, Ret, RunEnd, TypedStmt, Undef, Value}
-pub use Rattle.sc_run.specs.Common.{cleared, given_back}
+pub use Rattle.sc_run.specs.Common.{Call, Callee, Event, Frame, Loop, Null, ProgramTree, Ret, RunEnd, TypedStmt, Undef}
+pub use Rattle.sc_run.specs.Common.{Value, cleared, given_back}
 pub use Rattle.sc_run.specs.Prelude.{Begun, CameTo, Comes, Doing, EndsAs, EntryAt, FoundAt, Passes, PassesIf, Seen}
 pub use Rattle.sc_run.specs.Prelude.{Standing, Stands, Steps, back_from, back_to, back_value, block_acts, block_for}
 pub use Rattle.sc_run.specs.Prelude.{bodies, body_acts, calls_in, cell_with, closes, does_now, ended_as, ended_so}

@@ -58,17 +58,13 @@ module _ (program : ProgramTree) (n : ℕ) (f : Frame) where
     next_goes = tree_goes next_by next_tree
 
     pub loop_goes : Goes (loop_acts program n f l tt)
-    loop_goes =
-        tree_goes (λ by. loop (test_by by) (block_by l.body.now by) (next_by by))
-        (match_loop Never here test_by test_by (block_by l.body.now) (block_by l.body.now) next_by next_by test_tree
-        (block_tree l.body.now) next_tree)
+    loop_goes = tree_goes (λ by. loop (test_by by) (block_by l.body.now by) (next_by by)) (match_loop Never here test_by
+        test_by (block_by l.body.now) (block_by l.body.now) next_by next_by test_tree (block_tree l.body.now) next_tree)
 
     -- a loop is a round, and then the loop again
-    pub loop_is : (s : State) → loop_acts program n f l tt s ≡
-        one_round (test_by (calls_in program n)) (block_acts program n f l.body.now) (next_acts program n f l)
-        (loop_acts program n f l) tt s
-    loop_is =
-        loop_again Never here (calls_in program n) calls_go_on test_by (block_by _) next_by test_tree
+    pub loop_is : (s : State) → loop_acts program n f l tt s ≡ one_round (test_by (calls_in program n))
+        (block_acts program n f l.body.now) (next_acts program n f l) (loop_acts program n f l) tt s
+    loop_is = loop_again Never here (calls_in program n) calls_go_on test_by (block_by _) next_by test_tree
         (block_tree _) next_tree tt
 
   pub closes_goes : (left : Left (Unit {0})) → Goes (closes program f left)
@@ -76,8 +72,6 @@ module _ (program : ProgramTree) (n : ℕ) (f : Frame) where
 
   pub result_goes_on : (to : To) (v : Option Value) → Goes (result_goes program f to v)
   result_goes_on Nowhere v = stays _
-  result_goes_on (Place place line) v =
-      tree_goes (λ by. store_result here (way_in f _) v line)
-      (store_result_matches Never here (way_in f _) (way_in f _)
-      (way_matches Never here c_arith c_arith itself _ _ _) v line)
+  result_goes_on (Place place line) v = tree_goes (λ by. store_result here (way_in f _) v line) (store_result_matches
+      Never here (way_in f _) (way_in f _) (way_matches Never here c_arith c_arith itself _ _ _) v line)
   result_goes_on Back v = stays _

@@ -1,11 +1,11 @@
 -- Calls in statements: refused, looked up, and of the environment.
-use Rattle.sc_run.proofs.Common.{BadType, Blamed, Bool, Bor, Call, Callee, Comes, Cross, EntryAt, Err, Export, FoundAt}
-use Rattle.sc_run.proofs.Common.{Frame, Function, In, Input, Left, List, None, Null, Ok, Option, Out, Output, Own}
-use Rattle.sc_run.proofs.Common.{Piece, Place, ProgramTree, Ptr, Reached, Result, RunEnd, Seen, Some, State, Step}
-use Rattle.sc_run.proofs.Common.{Steps, Stop, Stopped, To, TypedExpr, Value, Word, Work, [], and_then, ap, arith}
-use Rattle.sc_run.proofs.Common.{assign_call, back_cross, back_from, back_own, bodies, c_arith, call, called, calls_in}
-use Rattle.sc_run.proofs.Common.{computed, crossed, drop, entry_from, entry_in, false, false≢true, first_word, found}
-use Rattle.sc_run.proofs.Common.{function, here_of, if◌then◌else◌, is_some, is_word, leads, length, library, map}
+use Rattle.sc_run.proofs.Common.{BadType, Blamed, Bool, Bor, Call, Callee, Comes, Cross, Doing, EntryAt, Err, Export}
+use Rattle.sc_run.proofs.Common.{FoundAt, Frame, Function, In, Input, Left, List, None, Ok, Option, Out, Output, Own}
+use Rattle.sc_run.proofs.Common.{Piece, Place, ProgramTree, Reached, Result, RunEnd, Seen, Some, State, Step, Steps}
+use Rattle.sc_run.proofs.Common.{Stop, Stopped, To, TypedExpr, TypedSimpleKind, Value, Word, Work, [], and_then, ap}
+use Rattle.sc_run.proofs.Common.{arith, assign_call, back_cross, back_from, back_own, bodies, c_arith, call, called}
+use Rattle.sc_run.proofs.Common.{calls_in, computed, crossed, drop, entry_from, entry_in, false, false≢true, first_word}
+use Rattle.sc_run.proofs.Common.{found, function, here_of, if◌then◌else◌, is_some, is_word, leads, length, library, map}
 use Rattle.sc_run.proofs.Common.{may_call, next_input, read_input, refl, result_goes, run_in, seen_of, simple_does}
 use Rattle.sc_run.proofs.Common.{store_result, subst, sym, tell, then_then, true, true≢false, turn, values, way_in}
 use Rattle.sc_run.proofs.Common.{word_in, ℕ, ◌&&◌, ◌++◌, ◌∙◌, ◌∷◌, ◌≡◌}
@@ -14,34 +14,25 @@ use Rattle.std.specs.List.{list_all}
 use Rattle.sc_base.proofs.Bools.{and_rest}
 use Rattle.sc_core.specs.declared.expr.CallTarget.{CallTarget}
 use Rattle.sc_core.specs.declared.expr.TypedCall.{TypedCall}
-use Rattle.sc_core.specs.declared.stmt.TypedSimpleKind.{TypedSimpleKind}
-use Rattle.sc_run.proofs.Standing.{step_stops}
-use Rattle.sc_run.proofs.Looping.{steps_as, steps_on}
+use Rattle.sc_run.proofs.Looping.{step_stops, steps_as, steps_on}
 
 -- words cross as they are
 words_cross : (args : List Value) → list_all is_word args ≡ true → crossed args ≡ args
 words_cross [] words = refl
 words_cross (Word w ∷ args) words = ap (λ vs. Word w ∷ vs) (words_cross args words)
-words_cross (Null ∷ args) words = absurd (false≢true words)
-words_cross (Ptr p ∷ args) words = absurd (false≢true words)
+words_cross (_ ∷ args) words = absurd (false≢true words)
 
 first_fails : (a b c d : Bool) → (a && (b && c)) ≡ false → (a && (b && (c && d))) ≡ false
-first_fails false b c d is = refl
-first_fails true false c d is = refl
-first_fails true true false d is = refl
 first_fails true true true d is = absurd (true≢false is)
+first_fails _ _ _ _ is = refl
 
 last_fails : (a b c d : Bool) → d ≡ false → (a && (b && (c && d))) ≡ false
-last_fails false b c d is = refl
-last_fails true false c d is = refl
-last_fails true true false d is = refl
 last_fails true true true d is = is
+last_fails _ _ _ _ is = refl
 
 all_hold : (a b c d : Bool) → (a && (b && c)) ≡ true → d ≡ true → (a && (b && (c && d))) ≡ true
-all_hold false b c d is last = absurd (false≢true is)
-all_hold true false c d is last = absurd (false≢true is)
-all_hold true true false d is last = absurd (false≢true is)
 all_hold true true true d is last = last
+all_hold _ _ _ _ is last = absurd (false≢true is)
 
 module _ (program : ProgramTree) (before : Seen) (work : List Work) (f : Frame) (to : To) where
   abbrev rg : Option Value → State → Piece (Left (Unit {0}))
@@ -58,39 +49,34 @@ module _ (program : ProgramTree) (before : Seen) (work : List Work) (f : Frame) 
   halts = record { comes = λ s shows. (refl, shows); fewer = omega arith }
 
   -- a call that is refused, or made
-  abbrev calling : CallTarget → List Value → ℕ → State → Piece (Left (Unit {0}))
+  abbrev calling : CallTarget → List Value → Doing
   calling target args n s = and_then (calls_in program n f.scope.comp.now target args s) rg
 
-  abbrev making : CallTarget → List Value → ℕ → State → Piece (Left (Unit {0}))
-  making target args n s = and_then (called (library program) (bodies program n) f.scope.comp.now target args s) rg
+  abbrev tried : Bool → CallTarget → List Value → Doing
+  tried b target args n s = and_then (if b then called (library program) (bodies program n) f.scope.comp.now target
+      args s else Stopped refusal s) rg
 
   pub refused : (target : CallTarget) (args : List Value) (end : RunEnd) → end ≡ refusal →
       may_call (library program) f.scope.comp.now target args ≡ false →
-      Steps program before work f (λ n s. and_then (calls_in program n f.scope.comp.now target args s) rg)
-      (Stop end) before work f
+      Steps program before work f (calling target args) (Stop end) before work f
   refused target args end same is =
       subst (λ e. Steps program before work f (calling target args) (Stop e) before work f) (sym same)
-      (steps_as program before work f _ (λ n s. and_then (stops_here s) rg) _ before work f (λ n s. ap (λ b.
-      and_then (if b then called (library program) (bodies program n) f.scope.comp.now target args s else
-      Stopped refusal s) rg) is) (step_stops program before before work f refusal _ (λ n. rg) halts))
+      (steps_as program before work f _ (λ n s. and_then (stops_here s) rg) _ before work f (λ n s. ap (λ b. tried b target args n s) is) (step_stops program before before work f refusal _ (λ n. rg) halts))
 
   allowed : (target : CallTarget) (args : List Value) (step : Step) (after : Seen) (later : List Work) (g : Frame) →
       may_call (library program) f.scope.comp.now target args ≡ true →
-      Steps program before work f (making target args) step after later g →
+      Steps program before work f (tried true target args) step after later g →
       Steps program before work f (calling target args) step after later g
-  allowed target args step after later g is h =
-      steps_as program before work f _ _ step after later g
-      (λ n s. ap (λ b. and_then (if b then called (library program)
-      (bodies program n) f.scope.comp.now target args s else Stopped refusal s) rg) is) h
+  allowed target args step after later g is h = steps_as program before work f _ _ step after later g
+      (λ n s. ap (λ b. tried b target args n s) is) h
 
   pub own_missing : (number : ℕ) (args : List Value) (end : RunEnd) → end ≡ refusal →
       function (library program) f.scope.comp.now number ≡ None →
-      Steps program before work f (λ n s. and_then (calls_in program n f.scope.comp.now (Own number) args s) rg)
-      (Stop end) before work f
+      Steps program before work f (calling (Own number) args) (Stop end) before work f
   own_missing number args end same is = refused (Own number) args end same (ap is_some is)
 
   -- a function that is entered, as a call sees it
-  abbrev entering : Callee → List Value → Option ℕ → ℕ → State → Piece (Left (Unit {0}))
+  abbrev entering : Callee → List Value → Option ℕ → Doing
   entering callee args crossing n s =
       and_then (and_then (turn s) (λ _ s. run_in (library program) (bodies program n) callee.comp.now callee.number args
       (back_from program f callee crossing) (entry_from f callee args crossing s))) rg
@@ -104,8 +90,7 @@ module _ (program : ProgramTree) (before : Seen) (work : List Work) (f : Frame) 
   pub own_enters : (callee : Callee) (number : ℕ) (args : List Value) (step : Step) (after : Seen) (later : List Work)
       (g : Frame) → FoundAt program f.scope.comp.now number (Some callee) →
       Steps program before work f (entering callee args None) step after later g →
-      Steps program before work f (λ n s. and_then (calls_in program n f.scope.comp.now
-      (Own number) args s) rg) step after later g
+      Steps program before work f (calling (Own number) args) step after later g
   own_enters callee number args step after later g found h =
       allowed (Own number) args step after later g (is_there callee _ number found.0 found.1 found.2)
       (steps_as program before work f _ _ step after later g (λ n s i. and_then (and_then (turn s) (λ _ s.
@@ -132,8 +117,7 @@ module _ (program : ProgramTree) (before : Seen) (work : List Work) (f : Frame) 
     MayCross may = may ≡ (imported && (taken && words))
 
     pub cross_refused : (end : RunEnd) → end ≡ refusal → MayCross false →
-        Steps program before work f (λ n s. and_then
-        (calls_in program n f.scope.comp.now (Cross comp index) args s) rg) (Stop end) before work f
+        Steps program before work f (calling (Cross comp index) args) (Stop end) before work f
     cross_refused end same may = refused (Cross comp index) args end same (first_fails _ taken words _ (sym may))
 
     no_lead : (o : Option ℕ) → entry_in program comp (Export index) ≡ o → EntryAt program comp (Export index) None →
@@ -142,26 +126,23 @@ module _ (program : ProgramTree) (before : Seen) (work : List Work) (f : Frame) 
     no_lead (Some number) is h = ap is_some (h number is)
 
     pub cross_missing : (end : RunEnd) → end ≡ refusal → EntryAt program comp (Export index) None →
-        Steps program before work f (λ n s. and_then
-        (calls_in program n f.scope.comp.now (Cross comp index) args s) rg) (Stop end) before work f
+        Steps program before work f (calling (Cross comp index) args) (Stop end) before work f
     cross_missing end same none = refused (Cross comp index) args end same
         (last_fails _ taken words _ (no_lead _ refl none))
 
     pub cross_enters : (callee : Callee) (step : Step) (after : Seen) (later : List Work) (g : Frame) → MayCross true →
         EntryAt program comp (Export index) (Some callee) →
         Steps program before work f (entering callee args (Some index)) step after later g →
-        Steps program before work f (λ n s. and_then
-        (calls_in program n f.scope.comp.now (Cross comp index) args s) rg) step after later g
-    cross_enters callee step after later g may entry h =
-        allowed (Cross comp index) args step after later g
-        (all_hold imported taken words leads_on (sym may)
+        Steps program before work f (calling (Cross comp index) args) step after later g
+    cross_enters callee step after later g may entry h = allowed (Cross comp index) args step after later g (all_hold
+        imported taken words leads_on (sym may)
         (ap leads_there entry.0 ∙ is_there callee comp callee.number entry.1.0 refl entry.1.2))
-        (steps_as program before work f (making (Cross comp index) args)
+        (steps_as program before work f (tried true (Cross comp index) args)
         (entering callee args (Some index)) step after later g same h) where
           as_words : crossed args ≡ args
           as_words = words_cross args (and_rest taken words (and_rest imported (taken && words) (sym may)))
 
-          same : (n : ℕ) (s : State) → making (Cross comp index) args n s ≡ entering callee args (Some index) n s
+          same : (n : ℕ) (s : State) → tried true (Cross comp index) args n s ≡ entering callee args (Some index) n s
           same n s =
               (λ i. and_then (and_then (turn s) (λ _ s.
               and_then (found (entry.0 i) s) (λ number s.
@@ -179,8 +160,7 @@ module _ (program : ProgramTree) (before : Seen) (work : List Work) (f : Frame) 
       middle ≡ record before { inputs = drop 1 before.inputs } →
       told ≡ record middle { trace = middle.trace ++ In f.scope.comp.now word ∷ [] } →
       Steps program told work f (λ n s. rg (Some (Word word)) s) step after work f →
-      Steps program before work f (λ n s. and_then (calls_in program n f.scope.comp.now Input args s) rg) step after
-      work f
+      Steps program before work f (calling Input args) step after work f
   input_steps args word middle told after step may is rest tells h =
       allowed Input args step after work f may (steps_on program before work f told after (Some (Word word))
       (λ s. Reached (Some (Word _)) (read_input f.scope.comp.now s)) (λ n. rg) step work f (record {
@@ -202,8 +182,7 @@ module _ (program : ProgramTree) (before : Seen) (work : List Work) (f : Frame) 
       may_call (library program) f.scope.comp.now Output args ≡ true → word ≡ first_word args →
       told ≡ record before { trace = before.trace ++ Out f.scope.comp.now word ∷ [] } →
       Steps program told work f (λ n s. rg None s) step after work f →
-      Steps program before work f (λ n s. and_then (calls_in program n f.scope.comp.now Output args s) rg) step after
-      work f
+      Steps program before work f (calling Output args) step after work f
   output_steps args word told after step may is tells h =
       allowed Output args step after work f may (steps_on program before work f told after None (λ s.
       Reached None _) (λ n. rg) step work f (record {
@@ -220,39 +199,33 @@ module _ (program : ProgramTree) (before : Seen) (work : List Work) (f : Frame) 
     abbrev given_args : State → Piece (List Value)
     given_args s = computed (here_of f.scope) line (values (map (way_in f) args) (s.memory f.scope.comp.now)) s
 
-    abbrev whole_call : ℕ → State → Piece (Left (Unit {0}))
+    abbrev whole_call : Doing
     whole_call n s = and_then (call (here_of f.scope) (calls_in program n) target (map (way_in f) args) line s) rg
 
-    abbrev rest_of_call : ℕ → List Value → State → Piece (Left (Unit {0}))
-    rest_of_call n vs s = and_then (calls_in program n f.scope.comp.now target vs s) rg
-
-    abbrev stepwise : ℕ → State → Piece (Left (Unit {0}))
-    stepwise n s = and_then (given_args s) (rest_of_call n)
+    abbrev stepwise : Doing
+    stepwise n s = and_then (given_args s) (λ vs. calling target vs n)
 
     by_assoc : (n : ℕ) (s : State) → whole_call n s ≡ stepwise n s
     by_assoc n s = then_then (given_args s) (λ vs s. calls_in program n _ target vs s) rg
 
   pub as_called : (target t : CallTarget) (args : List Value) (step : Step) (after : Seen) (later : List Work)
-      (g : Frame) → target ≡ t → Steps program before work f
-      (λ n s. and_then (calls_in program n f.scope.comp.now t args s) rg) step after later g →
-      Steps program before work f (λ n s. and_then (calls_in program n f.scope.comp.now target args s) rg) step after
-      later g
+      (g : Frame) → target ≡ t → Steps program before work f (calling t args) step after later g →
+      Steps program before work f (calling target args) step after later g
   as_called target t args step after later g is h =
-      subst (λ x. Steps program before work f (λ n s.
-      and_then (calls_in program n f.scope.comp.now x args s) rg) step after later g) (sym is) h
+      subst (λ x. Steps program before work f (calling x args) step after later g) (sym is) h
 
   pub call_steps_by : (target : CallTarget) (es given_es : List TypedExpr) (line : ℕ) (r : Result (List Value) RunEnd)
       (vs given_vs : List Value) (step : Step) (after : Seen) (later : List Work) (g : Frame) → given_es ≡ es →
       r ≡ Ok vs → given_vs ≡ vs → Comes before before r (given_args target given_es line) →
-      Steps program before work f (λ n s. and_then (calls_in program n f.scope.comp.now target given_vs s) rg) step
+      Steps program before work f (calling target given_vs) step
       after later g → Steps program before work f (whole_call target es line) step after later g
   call_steps_by target es given_es line r vs given_vs step after later g same is values_is c h =
       steps_as program before work f _ (stepwise target es line) step after later g
       (by_assoc target es line) (steps_on program before work f before after vs (given_args target es line)
-      (rest_of_call target es line) step later g
+      (λ n vs. calling target vs n) step later g
       (subst (λ x. Comes before before (Ok vs) (given_args target x line)) same
       (subst (λ x. Comes before before x (given_args target given_es line)) is c))
-      (subst (λ x. Steps program before work f (λ n s. rest_of_call target es line n x s) step after later g) values_is
+      (subst (λ x. Steps program before work f (calling target x) step after later g) values_is
       h))
 
   pub call_blamed_by : (target : CallTarget) (es given_es : List TypedExpr) (line : ℕ) (r : Result (List Value) RunEnd)
@@ -261,7 +234,7 @@ module _ (program : ProgramTree) (before : Seen) (work : List Work) (f : Frame) 
   call_blamed_by target es given_es line r end same is c =
       steps_as program before work f _ (stepwise target es line) _ before work f
       (by_assoc target es line) (step_stops program before before work f end (given_args target es line)
-      (rest_of_call target es line) (subst (λ x. Comes before before (Err end) (given_args target x line)) same
+      (λ n vs. calling target vs n) (subst (λ x. Comes before before (Err end) (given_args target x line)) same
       (subst (λ x. Comes before before x (given_args target given_es line)) is c)))
 
 -- a statement in the head of a `for`, by its kind

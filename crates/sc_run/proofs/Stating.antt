@@ -1,29 +1,25 @@
 -- Statements, by their layers.
-use Rattle.sc_run.proofs.Common.{Acts, Bor, Break, Continue, Exit, Frame, Left, List, Loop, Next, Option, Piece}
-use Rattle.sc_run.proofs.Common.{ProgramTree, Reached, Rest, Return, Route, Seen, Some, State, Step, Steps, Stopped}
-use Rattle.sc_run.proofs.Common.{TypedExpr, TypedSimple, TypedStmt, TypedStmtKind, TypedStmtKind-F, Work, [], and_then}
-use Rattle.sc_run.proofs.Common.{ap, arith, assign, block_acts, c_arith, calls_in, choose, drop, drop_all, evaluated}
-use Rattle.sc_run.proofs.Common.{follow, get_or, here_of, in_order, kind_step, layer_of, leave, length, length-drop}
-use Rattle.sc_run.proofs.Common.{loop, loop_acts, part_acts, refl, resume, roll-TypedStmtKind, stmt_acts, stmt_at}
-use Rattle.sc_run.proofs.Common.{stmt_step, subst, sym, take, take_all, test, way_in, ℕ, ◌++◌, ◌-◌, ◌∙◌, ◌∷◌, ◌≡◌, ◌≤◌}
+use Rattle.sc_run.proofs.Common.{Acts, Bor, Doing, Exit, Frame, Left, List, Loop, Next, Option, Piece, ProgramTree}
+use Rattle.sc_run.proofs.Common.{Reached, Rest, Route, Seen, Some, State, Step, Steps, Stopped, TypedExpr, TypedSimple}
+use Rattle.sc_run.proofs.Common.{TypedStmt, TypedStmtKind, TypedStmtKind-F, Work, [], and_then, ap, arith, assign}
+use Rattle.sc_run.proofs.Common.{block_acts, c_arith, calls_in, choose, drop, drop_all, evaluated, follow, get_or}
+use Rattle.sc_run.proofs.Common.{here_of, in_order, kind_step, layer_of, leave, length, length-drop, loop, loop_acts}
+use Rattle.sc_run.proofs.Common.{part_acts, refl, resume, roll-TypedStmtKind, stmt_acts, stmt_at, stmt_step, subst, sym}
+use Rattle.sc_run.proofs.Common.{take, take_all, test, way_in, ℕ, ◌++◌, ◌-◌, ◌∙◌, ◌∷◌, ◌≡◌, ◌≤◌}
 use Rattle.sc_core.specs.declared.stmt.TypedStmtKind.TheOpen as layer
 use Rattle.sc_core.specs.declared.value.Want.TheVariants as want
-use Rattle.sc_run.proofs.Standing.{Acting}
 use Rattle.sc_run.proofs.Looping.{steps_as, steps_wait}
 
-abbrev pub layer_acts : ProgramTree → ℕ → Frame → TypedStmtKind-F TypedStmtKind TypedStmt → ℕ → State →
-    Piece (Left (Unit {0}))
-layer_acts program n f k line s =
-    layer_of _ _ (kind_step c_arith f.scope.structs.now (here_of f.scope) f.scope.params
-    (calls_in program n)) stmt_step k line tt s
+abbrev pub layer_acts : ProgramTree → ℕ → Frame → TypedStmtKind-F TypedStmtKind TypedStmt → Doing
+layer_acts program n f k line s = layer_of _ _
+    (kind_step c_arith f.scope.structs.now (here_of f.scope) f.scope.params (calls_in program n)) stmt_step k line tt s
 
 pub stmt_is : (program : ProgramTree) (f : Frame) (stmt : TypedStmt) (k : TypedStmtKind-F TypedStmtKind TypedStmt) →
     stmt.kind ≡ roll-TypedStmtKind k → (n : ℕ) (s : State) →
     stmt_acts program n f stmt tt s ≡ layer_acts program n f k stmt.line s
-stmt_is program f stmt k is n s =
-    ap (λ x. stmt_acts program n f (record { line = stmt.line; kind = x }) tt s) is
-    ∙ (λ i. stmt_at _ _ (kind_step c_arith f.scope.structs.now (here_of f.scope) f.scope.params
-    (calls_in program n)) stmt_step stmt.line k i tt s)
+stmt_is program f stmt k is n s = ap (λ x. stmt_acts program n f (record { line = stmt.line; kind = x }) tt s) is ∙ (λ
+    i. stmt_at _ _ (kind_step c_arith f.scope.structs.now (here_of f.scope) f.scope.params (calls_in program n))
+    stmt_step stmt.line k i tt s)
 
 -- a statement does what its layer does
 pub stmt_as : (program : ProgramTree) (before : Seen) (work : List Work) (f : Frame) (stmt : TypedStmt)
@@ -54,9 +50,7 @@ list_steps program before work later f stmts stmt rest step after last g split s
 
 by_exit : (exit : Exit) (s : State) → follow in_order (leave exit tt s) (leave {A = Unit {0}} Next) ≡ leave exit tt s
 by_exit Next s = refl
-by_exit Break s = refl
-by_exit Continue s = refl
-by_exit (Return v) s = refl
+by_exit _ s = refl
 
 -- nothing follows the last statement
 pub alone : (p : Piece (Left (Unit {0}))) → follow in_order p (leave Next) ≡ p
@@ -65,9 +59,8 @@ alone (Stopped end s) = refl
 
 -- the last statement, with nothing that waits for it
 pub last_steps : (program : ProgramTree) (before : Seen) (work : List Work) (f : Frame) (stmts : List TypedStmt)
-    (stmt : TypedStmt) (step : Step) (after : Seen) (later : List Work) (g : Frame) →
-    stmts ≡ stmt ∷ drop 1 stmts → length stmts ≡ 1 →
-    Steps program before work f (λ n. stmt_acts program n f stmt tt) step after later g →
+    (stmt : TypedStmt) (step : Step) (after : Seen) (later : List Work) (g : Frame) → stmts ≡ stmt ∷ drop 1 stmts →
+    length stmts ≡ 1 → Steps program before work f (λ n. stmt_acts program n f stmt tt) step after later g →
     Steps program before work f (λ n s. block_acts program n f stmts tt s) step after later g
 last_steps program before work f stmts stmt step after later g split one h =
     steps_as program before work f _ _ step after later g (λ n s. ap (λ xs. block_acts program n f xs tt s)
@@ -76,12 +69,11 @@ last_steps program before work f stmts stmt step after later g split one h =
 -- a part of a `for`, while the loop waits: the first one, or what comes before the next round
 pub part_steps : (program : ProgramTree) (before : Seen) (work later : List Work) (f : Frame) (route : Exit → Route)
     (waiting : Work) (given : Option TypedSimple) (part : TypedSimple) (l : Loop) (step : Step) (after : Seen)
-    (last : List Work) (g : Frame) → ((n : ℕ) (ws : List Work) (p : Piece (Left (Unit {0}))) →
-    resume program n ws f (follow route p (loop_acts program n f l)) ≡ resume program n (waiting ∷ ws) f p) →
-    given ≡ Some part → later ≡ work ++ waiting ∷ [] →
-    Steps program before later f (λ n. part_acts program n f (Some part) tt) step after last g →
-    Steps program before work f (λ n s. follow route (part_acts program n f given tt s) (loop_acts program n f l))
-    step after last g
+    (last : List Work) (g : Frame) → ((n : ℕ) (ws : List Work) (p : Piece (Left (Unit {0}))) → resume program n ws f
+    (follow route p (loop_acts program n f l)) ≡ resume program n (waiting ∷ ws) f p) → given ≡ Some part →
+    later ≡ work ++ waiting ∷ [] →
+    Steps program before later f (λ n. part_acts program n f (Some part) tt) step after last g → Steps program before
+    work f (λ n s. follow route (part_acts program n f given tt s) (loop_acts program n f l)) step after last g
 part_steps program before work later f route waiting given part l step after last g waits is pushed h =
     subst (λ o. Steps program before work f
     (λ n s. follow route (part_acts program n f o tt s) (loop_acts program n f l)) step after last g) (sym is)
@@ -89,7 +81,7 @@ part_steps program before work later f route waiting given part l step after las
 
 module _ (program : ProgramTree) (before : Seen) (work : List Work) (f : Frame) (line : ℕ) (step : Step) (after : Seen)
     (later : List Work) (g : Frame) where
-  abbrev StepsBy : Acting → Type 0
+  abbrev StepsBy : Doing → Type 0
   StepsBy p = Steps program before work f p step after later g
 
   pub assign_layer : (ref place e : TypedExpr) → ref ≡ place →
@@ -116,9 +108,8 @@ module _ (program : ProgramTree) (before : Seen) (work : List Work) (f : Frame) 
   pub while_layer : (cond : TypedExpr) (body given_body : List TypedStmt) → given_body ≡ body →
       StepsBy (λ n. loop (test (here_of f.scope) (way_in f cond) line) (block_acts program n f given_body)
       (leave Next) tt) → StepsBy (λ n. layer_acts program n f (layer.While cond body) line)
-  while_layer cond body given_body same h =
-      subst (λ b. StepsBy (λ n. loop (test (here_of f.scope) (way_in f cond) line) (block_acts program n f b)
-      (leave Next) tt)) same h
+  while_layer cond body given_body same h = subst (λ b. StepsBy
+      (λ n. loop (test (here_of f.scope) (way_in f cond) line) (block_acts program n f b) (leave Next) tt)) same h
 
   pub for_layer : (first : Option TypedSimple) (cond : TypedExpr) (next : Option TypedSimple)
       (body given_body : List TypedStmt) → given_body ≡ body →

@@ -1,5 +1,4 @@
 pub mod Common
-pub mod Assigning
 pub mod Lists
 pub mod Loads
 pub mod Shifts

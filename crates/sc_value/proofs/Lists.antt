@@ -1,7 +1,6 @@
 -- The values of expressions, one after the other.
 use Rattle.sc_value.proofs.Common.{Blocks, Cause, Err, List, Ok, Result, TypedExpr, Value, Ways, add-one, drop}
 use Rattle.sc_value.proofs.Common.{drop-cons, get_or, length, sym, ℕ, ◌++◌, ◌+◌, ◌<◌, ◌∷◌, ◌≡◌}
-use Rattle.sc_core.specs.declared.value.Want.TheVariants as want
 
 -- values that are there already, and those that follow
 abbrev pub behind : List Value → Result (List Value) Cause → Result (List Value) Cause

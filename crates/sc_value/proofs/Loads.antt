@@ -1,6 +1,6 @@
 -- What the store of blocks gives and takes is what the memory does.
-use Rattle.sc_value.proofs.Common.{Blocks, Bool, Cause, Err, List, None, Ok, Option, Ptr, Result, Some, bind, cells_at}
-use Rattle.sc_value.proofs.Common.{false, if◌then◌else◌, is_live, load, loaded, refl, slice_get, true, typed, ◌≡◌}
+use Rattle.sc_value.proofs.Common.{Blocks, Bool, Cause, Err, List, Ok, Option, Ptr, Result, Some, bind, cells_at, false}
+use Rattle.sc_value.proofs.Common.{if◌then◌else◌, is_live, load, loaded, refl, slice_get, true, typed, ◌≡◌}
 use Rattle.sc_core.specs.declared.cause.Cause.TheVariants.{BadType, Dangling}
 use Rattle.sc_core.specs.declared.value.Cell.{Cell}
 use Rattle.sc_blocks.specs.Rows.{load_cell, or_cause, read_cell}
@@ -10,17 +10,13 @@ use Rattle.sc_blocks.specs.declared.fault.BlockFault.{BlockFault}
 
 loaded_is : (blocks : Blocks) (pointer : Bool) (o : Option Cell) →
     loaded blocks pointer o ≡ bind (read_cell blocks o) (typed pointer)
-loaded_is blocks pointer None = refl
-loaded_is blocks pointer (Some cell.Undef) = refl
-loaded_is blocks true (Some (cell.Word w)) = refl
-loaded_is blocks false (Some (cell.Word w)) = refl
-loaded_is blocks true (Some cell.Null) = refl
-loaded_is blocks false (Some cell.Null) = refl
 loaded_is blocks pointer (Some (cell.Ptr p)) = by_life (is_live (slice_get blocks p.block)) where
   by_life : (b : Bool) → (if b then (if pointer then Ok (Ptr p) else Err BadType) else Err Dangling) ≡
       bind (if b then Ok (cell.Ptr p) else Err Dangling) (typed pointer)
   by_life true = refl
   by_life false = refl
+loaded_is blocks true _ = refl
+loaded_is blocks false _ = refl
 
 pub load_is : (blocks : Blocks) (pointer : Bool) (p : Pointer) →
     load blocks pointer (Ptr p) ≡ bind (load_cell blocks (cell.Ptr p)) (typed pointer)

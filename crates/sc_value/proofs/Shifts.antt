@@ -19,7 +19,6 @@ back m (negsuc k) = sym (neg_ℤ-neg_ℤ (pos m *ℤ pos (suc k))) ∙ ap neg_�
 pub back_is : (blocks : Blocks) (cells : ℕ) (unsigned : Bool) (q index : Value) (word : ℕ) (times : ℤ)
     (r : Result Value Cause) → index ≡ Word word → times ≡ neg_ℤ (number_of unsigned word) →
     r ≡ moved blocks (pos cells *ℤ times) q → r ≡ moved_back blocks cells unsigned q index
-back_is blocks cells unsigned q index word times r is number gives =
-    gives ∙ ap (λ z. moved blocks (pos cells *ℤ z) q) number ∙
-    ap (λ z. moved blocks z q) (back cells (number_of unsigned word)) ∙
-    ap (moved_back blocks cells unsigned q) (sym is)
+back_is blocks cells unsigned q index word times r is number gives = gives ∙ ap (λ z. moved blocks (pos cells *ℤ z) q)
+    number ∙ ap (λ z. moved blocks z q) (back cells (number_of unsigned word)) ∙ ap (moved_back blocks cells unsigned q)
+    (sym is)

@@ -1,5 +1,4 @@
 pub mod Common
 pub mod Words
 pub mod Below
-pub mod Agreeing
 pub mod OnAllWords

@@ -1,8 +1,12 @@
--- Each operator that answers on all words is its instructions.
-use Rattle.sc_word.proofs.Common.{Bool, IsOnWords, OperatorsAreInstructions, SignedWraps, TestsAreWords, add-mul, ap}
-use Rattle.sc_word.proofs.Common.{arith, bit, bit_and, bit_or, bit_xor, false, int_lt, ints, mul_comm, nat_lt, neg_ℤ}
-use Rattle.sc_word.proofs.Common.{not, pos, refl, signed_of, sltu_word, sub_word, suc, sym, true, word_of, zero, ℕ, ℤ}
-use Rattle.sc_word.proofs.Common.{◌%◌, ◌&&◌, ◌*ℤ◌, ◌*◌, ◌+ℤ◌, ◌+◌, ◌-◌, ◌<◌, ◌==◌, ◌^◌, ◌||◌, ◌∙◌, ◌≡◌, ◌≤◌}
+-- Each operator that answers on all words is its instructions, and each instruction computes what its operator does.
+use Rattle.sc_word.proofs.Common.{Agrees, Bool, IsOnWords, Ok, OperatorsAreInstructions, SignedWraps, TestsAreWords}
+use Rattle.sc_word.proofs.Common.{add-mul, add_signed, add_word, ap, arith, bit, bit_and, bit_or, bit_xor, checked}
+use Rattle.sc_word.proofs.Common.{div_signed, div_unsigned, div_word, divu_word, false, int_lt, ints, mul_comm}
+use Rattle.sc_word.proofs.Common.{mul_signed, mul_word, nat_lt, neg_signed, neg_ℤ, not, pos, refl, rem_signed}
+use Rattle.sc_word.proofs.Common.{rem_unsigned, rem_word, remu_word, shl_signed, shl_unsigned, shr_signed, shr_unsigned}
+use Rattle.sc_word.proofs.Common.{signed_of, sll_word, sltu_word, sra_word, srl_word, sub_signed, sub_word, suc, sym}
+use Rattle.sc_word.proofs.Common.{true, word_of, zero, ℕ, ℤ, ◌%◌, ◌&&◌, ◌*ℤ◌, ◌*◌, ◌+ℤ◌, ◌+◌, ◌-ℤ◌, ◌-◌, ◌<◌, ◌==◌, ◌^◌}
+use Rattle.sc_word.proofs.Common.{◌||◌, ◌∙◌, ◌≡◌, ◌≤◌}
 use Rattle.sc_word.proofs.Words.{word_of-add, word_of-sub, word_of-mul}
 
 zero_left : (z : ℤ) → pos 0 +ℤ z ≡ z
@@ -58,15 +62,13 @@ flipped false = refl
 
 either : (x y : Bool) → bit (x || y) ≡ bit_or (bit x) (bit y)
 either true true = refl
-either true false = refl
 either false true = refl
-either false false = refl
+either _ _ = refl
 
 both : (x y : Bool) → bit (x && y) ≡ bit_and (bit x) (bit y)
 both true true = refl
-both true false = refl
 both false true = refl
-both false false = refl
+both _ _ = refl
 
 not_zero : (a : ℕ) → not (a == 0) ≡ nat_lt 0 a
 not_zero a = grind arith
@@ -85,3 +87,46 @@ tests_are_words = record {
 
 pub operators_are_instructions : OperatorsAreInstructions
 operators_are_instructions = record { arithmetic = signed_wraps; tests = tests_are_words }
+
+pub word_of-checked : (z : ℤ) (v : ℕ) → checked z ≡ Ok v → word_of z ≡ v
+word_of-checked z v e = grind arith
+
+pub add_agrees : Agrees add_signed add_word
+add_agrees a b v p q e = word_of-add a b p q ∙ word_of-checked (signed_of a +ℤ signed_of b) v e
+
+pub sub_agrees : Agrees sub_signed sub_word
+sub_agrees a b v p q e = word_of-sub a b p q ∙ word_of-checked (signed_of a -ℤ signed_of b) v e
+
+pub mul_agrees : Agrees mul_signed mul_word
+mul_agrees a b v p q e = word_of-mul a b p q ∙ word_of-checked (signed_of a *ℤ signed_of b) v e
+
+pub div_agrees : Agrees div_signed div_word
+div_agrees a b v p q e = grind arith
+
+pub rem_agrees : Agrees rem_signed rem_word
+rem_agrees a b v p q e = grind arith
+
+pub shl_signed_agrees : Agrees shl_signed sll_word
+shl_signed_agrees a b v p q e = grind arith
+
+pub shr_signed_agrees : Agrees shr_signed sra_word
+shr_signed_agrees a b v p q e = grind arith
+
+pub divu_agrees : Agrees div_unsigned divu_word
+divu_agrees a b v p q e = grind arith
+
+pub remu_agrees : Agrees rem_unsigned remu_word
+remu_agrees a b v p q e = grind arith
+
+pub shl_unsigned_agrees : Agrees shl_unsigned sll_word
+shl_unsigned_agrees a b v p q e = grind arith
+
+pub shr_unsigned_agrees : Agrees shr_unsigned srl_word
+shr_unsigned_agrees a b v p q e = grind arith
+
+add-zero_left : (z : ℤ) → pos 0 +ℤ z ≡ z
+add-zero_left z = omega (arith, ints)
+
+-- to negate is to subtract from 0
+pub neg_agrees : (a v : ℕ) → a < 2 ^ 32 → neg_signed a ≡ Ok v → sub_word 0 a ≡ v
+neg_agrees a v p e = sub_agrees 0 a v (omega arith) p (ap checked (add-zero_left (neg_ℤ (signed_of a))) ∙ e)

@@ -18,22 +18,19 @@ same_word a b p q e = sym (of_z-to_z w32 a p) ∙ ap (cast_unsigned w32) e ∙ o
 
 -- to read words as signed or as unsigned gives one sum, one difference and one product modulo 2 ^ 32
 pub word_of-add : (a b : ℕ) → a < 2 ^ 32 → b < 2 ^ 32 → (a + b) % 2 ^ 32 ≡ word_of (signed_of a +ℤ signed_of b)
-word_of-add a b p q =
-    same_word ((a + b) % 2 ^ 32) (word_of (signed_of a +ℤ signed_of b)) (omega arith)
-    (word_of-lt (signed_of a +ℤ signed_of b)) (wrapping_add-bits w32 a b p q ∙
-    sym (signed_of-word_of (signed_of a +ℤ signed_of b)))
+word_of-add a b p q = same_word ((a + b) % 2 ^ 32) (word_of (signed_of a +ℤ signed_of b)) (omega arith)
+    (word_of-lt (signed_of a +ℤ signed_of b))
+    (wrapping_add-bits w32 a b p q ∙ sym (signed_of-word_of (signed_of a +ℤ signed_of b)))
 
 pub word_of-mul : (a b : ℕ) → a < 2 ^ 32 → b < 2 ^ 32 → (a * b) % 2 ^ 32 ≡ word_of (signed_of a *ℤ signed_of b)
-word_of-mul a b p q =
-    same_word ((a * b) % 2 ^ 32) (word_of (signed_of a *ℤ signed_of b)) (omega arith)
-    (word_of-lt (signed_of a *ℤ signed_of b)) (wrapping_mul-bits w32 a b p q ∙
-    sym (signed_of-word_of (signed_of a *ℤ signed_of b)))
+word_of-mul a b p q = same_word ((a * b) % 2 ^ 32) (word_of (signed_of a *ℤ signed_of b)) (omega arith)
+    (word_of-lt (signed_of a *ℤ signed_of b))
+    (wrapping_mul-bits w32 a b p q ∙ sym (signed_of-word_of (signed_of a *ℤ signed_of b)))
 
 pub word_of-unsigned_sub : (a b : ℕ) → a < 2 ^ 32 → b < 2 ^ 32 → word_of (pos a -ℤ pos b) ≡ (a + (2 ^ 32 - b)) % 2 ^ 32
 word_of-unsigned_sub a b p q = grind arith
 
 pub word_of-sub : (a b : ℕ) → a < 2 ^ 32 → b < 2 ^ 32 → word_of (pos a -ℤ pos b) ≡ word_of (signed_of a -ℤ signed_of b)
-word_of-sub a b p q =
-    word_of-unsigned_sub a b p q ∙ same_word ((a + (2 ^ 32 - b)) % 2 ^ 32) (word_of (signed_of a -ℤ signed_of b))
-    (omega arith) (word_of-lt (signed_of a -ℤ signed_of b))
+word_of-sub a b p q = word_of-unsigned_sub a b p q ∙ same_word ((a + (2 ^ 32 - b)) % 2 ^ 32)
+    (word_of (signed_of a -ℤ signed_of b)) (omega arith) (word_of-lt (signed_of a -ℤ signed_of b))
     (wrapping_sub-bits w32 a b p q ∙ sym (signed_of-word_of (signed_of a -ℤ signed_of b)))

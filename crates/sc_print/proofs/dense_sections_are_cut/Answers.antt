@@ -1,4 +1,4 @@
-use Rattle.sc_print.proofs.DenseCut.{dense_cut}
+use Rattle.sc_print.proofs.Whole.{dense_cut}
 use Rattle.sc_print.proofs.dense_sections_are_cut.Goals as goal
 
 pub returns : goal.returns

@@ -1,5 +1,5 @@
 use Rattle.sc_blocks.proofs.Common.{Slot, answers_always, rules}
-use Rattle.sc_blocks.proofs.Searching.{between}
+use Rattle.sc_blocks.proofs.Living.{between}
 use Rattle.std.proofs.lemmas.Map.Lookups.{exact_unsigned}
 use Rattle.sc_blocks.proofs.slots.search.Goals as goal
 

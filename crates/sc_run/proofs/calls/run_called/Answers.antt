@@ -2,8 +2,7 @@ use Rattle.sc_run.proofs.Common.{Caller, IfOk-weaker, Next, [], all_do, block_ac
 use Rattle.sc_run.proofs.Common.{inits_do, kept_by, ◌++◌, ◌∷◌}
 use Rattle.sc_core.specs.Prelude.{take}
 use Rattle.sc_run.proofs.Ahead.{stops_anywhere}
-use Rattle.sc_run.proofs.Looping.{steps_on}
-use Rattle.sc_run.proofs.Standing.{step_stops}
+use Rattle.sc_run.proofs.Looping.{steps_on, step_stops}
 use Rattle.sc_run.proofs.calls.run_called.Goals as goal
 
 pub returns-in-Ok : goal.returns-in-Ok

@@ -1,6 +1,6 @@
 use Rattle.sc_run.proofs.Common.{all_do, block_acts, c_arith, here_of, in_order, inits_do, kept_by}
 use Rattle.sc_core.specs.Prelude.{take}
-use Rattle.sc_run.proofs.Standing.{step_stops}
+use Rattle.sc_run.proofs.Looping.{step_stops}
 use Rattle.sc_run.proofs.calls.start.Goals as goal
 
 pub returns-in-Err : goal.returns-in-Err

@@ -1,5 +1,5 @@
 use Rattle.sc_run.proofs.Common.{memory_of}
-use Rattle.sc_run.proofs.Filling.{section_more}
+use Rattle.sc_run.proofs.Making.{section_more}
 use Rattle.sc_run.proofs.globals.first_blocks.Goals as goal
 
 pub loop-at-preserved : goal.loop-at-preserved

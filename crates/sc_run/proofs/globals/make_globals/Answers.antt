@@ -1,6 +1,6 @@
 use Rattle.sc_run.proofs.Common.{[], ap, get_or, global_block, length, memory_of, struct_zeros, subst, with_blocks}
 use Rattle.sc_run.proofs.Common.{◌++◌, ◌<◌, ◌∙◌, ◌∷◌, ◌≡◌}
-use Rattle.sc_run.proofs.Filling.{global_more}
+use Rattle.sc_run.proofs.Making.{global_more}
 use Rattle.sc_run.proofs.globals.make_globals.Goals as goal
 
 pub loop-global-preserved : goal.loop-global-preserved

@@ -1,5 +1,5 @@
 use Rattle.sc_run.proofs.Common.{ap, ◌++◌, ◌∙◌}
-use Rattle.sc_run.proofs.Filling.{member_more}
+use Rattle.sc_run.proofs.Making.{member_more}
 use Rattle.sc_run.proofs.globals.member_zeros.Goals as goal
 
 pub loop-member-preserved : goal.loop-member-preserved

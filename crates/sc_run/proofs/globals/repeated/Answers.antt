@@ -1,5 +1,5 @@
 use Rattle.sc_run.proofs.Common.{◌∙◌}
-use Rattle.sc_run.proofs.Filling.{once_more}
+use Rattle.sc_run.proofs.Making.{once_more}
 use Rattle.sc_run.proofs.globals.repeated.Goals as goal
 
 pub loop-time-preserved : goal.loop-time-preserved

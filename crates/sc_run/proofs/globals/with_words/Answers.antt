@@ -1,5 +1,5 @@
 use Rattle.sc_run.proofs.Common.{Undef, ap, drop, get_or, refl, with_words, ◌++◌, ◌+◌, ◌∙◌}
-use Rattle.sc_run.proofs.Filling.{word_more, words_all}
+use Rattle.sc_run.proofs.Making.{word_more, words_all}
 use Rattle.sc_run.proofs.globals.with_words.Goals as goal
 
 pub loop-at-preserved : goal.loop-at-preserved

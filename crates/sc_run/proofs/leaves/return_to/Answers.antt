@@ -1,5 +1,5 @@
 use Rattle.sc_run.proofs.Common.{exit_of, kept_by}
-use Rattle.sc_run.proofs.Ending.{return_stops, return_steps}
+use Rattle.sc_run.proofs.Calling.{return_stops, return_steps}
 use Rattle.sc_run.proofs.leaves.return_to.Goals as goal
 
 pub returns-in_ok-back-in-Ok : goal.returns-in_ok-back-in-Ok

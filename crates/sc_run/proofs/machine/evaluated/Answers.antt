@@ -1,5 +1,5 @@
 use Rattle.sc_run.proofs.Common.{here_of, kept_by, way_in}
-use Rattle.sc_run.proofs.Unseen.{way_same}
+use Rattle.sc_run.proofs.Blank.{way_same}
 use Rattle.sc_run.proofs.Coming.{computed_comes, given_err}
 use Rattle.sc_run.proofs.machine.evaluated.Goals as goal
 

@@ -1,5 +1,5 @@
 use Rattle.sc_run.proofs.Common.{here_of, kept_by, map, sym, values, way_in, ◌∙◌}
-use Rattle.sc_run.proofs.Unseen.{values_same}
+use Rattle.sc_run.proofs.Blank.{values_same}
 use Rattle.sc_run.proofs.Coming.{computed_comes, given_err}
 use Rattle.sc_run.proofs.simple.given_all.Goals as goal
 

@@ -1,6 +1,6 @@
 use Rattle.sc_run.proofs.Common.{block_acts, choose, evaluated, here_of, kept_by, way_in}
 use Rattle.sc_core.specs.declared.value.Want.TheVariants as want
-use Rattle.sc_run.proofs.Standing.{step_stops}
+use Rattle.sc_run.proofs.Looping.{step_stops}
 use Rattle.sc_run.proofs.steps.branch.Goals as goal
 
 pub returns-in-Err : goal.returns-in-Err

@@ -1,6 +1,6 @@
 use Rattle.sc_run.proofs.Common.{Return, Some, evaluated, here_of, kept_by, leave, way_in}
 use Rattle.sc_core.specs.declared.value.Want.TheVariants as want
-use Rattle.sc_run.proofs.Standing.{step_stops}
+use Rattle.sc_run.proofs.Looping.{step_stops}
 use Rattle.sc_run.proofs.steps.returned_value.Goals as goal
 
 pub returns-in-Err : goal.returns-in-Err

@@ -1,5 +1,5 @@
 use Rattle.sc_value.proofs.Common.{c_arith, here_of, memory_of, sym, ways}
-use Rattle.sc_value.proofs.Assigning.{holds_by}
+use Rattle.sc_value.proofs.Operands.{holds_by}
 use Rattle.sc_value.proofs.at_once.holds.Goals as goal
 
 pub returns-in-Some : goal.returns-in-Some

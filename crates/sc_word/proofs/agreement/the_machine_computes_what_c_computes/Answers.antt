@@ -1,7 +1,7 @@
 -- One lemma for each pair.
-use Rattle.sc_word.proofs.Agreeing.{add_agrees, sub_agrees, mul_agrees, div_agrees, rem_agrees, shl_signed_agrees}
-use Rattle.sc_word.proofs.Agreeing.{shr_signed_agrees, divu_agrees, remu_agrees, shl_unsigned_agrees}
-use Rattle.sc_word.proofs.Agreeing.{shr_unsigned_agrees, neg_agrees}
+use Rattle.sc_word.proofs.OnAllWords.{add_agrees, sub_agrees, mul_agrees, div_agrees, rem_agrees, shl_signed_agrees}
+use Rattle.sc_word.proofs.OnAllWords.{shr_signed_agrees, divu_agrees, remu_agrees, shl_unsigned_agrees}
+use Rattle.sc_word.proofs.OnAllWords.{shr_unsigned_agrees, neg_agrees}
 use Rattle.sc_word.proofs.agreement.the_machine_computes_what_c_computes.Goals as goal
 
 pub returns : goal.returns

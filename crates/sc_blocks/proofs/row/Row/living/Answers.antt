@@ -1,5 +1,5 @@
 use Rattle.sc_blocks.proofs.Common.{IsOver, Some, living, slice_get, subst, ◌≡◌}
-use Rattle.sc_blocks.proofs.Reading.{found_lives, lost_over}
+use Rattle.sc_blocks.proofs.Storing.{found_lives, lost_over}
 use Rattle.sc_blocks.proofs.row.Row.living.Goals as goal
 
 pub returns-in-Some : goal.returns-in-Some

@@ -1,5 +1,5 @@
 use Rattle.sc_blocks.proofs.Common.{Slot, [], ap, living, refl, ◌++◌, ◌∙◌, ◌∷◌}
-use Rattle.sc_blocks.proofs.Adding.{rising_more, row_more}
+use Rattle.sc_blocks.proofs.Storing.{rising_more, row_more}
 use Rattle.sc_blocks.proofs.row.Row.push.Goals as goal
 
 pub invariant_of-self-2 : goal.invariant_of-self-2

@@ -1,7 +1,6 @@
 use Rattle.sc_blocks.proofs.Common.{IsOver, Ok, ap, bind, cells_among, get_or, laid_out, length, living, put_in, refl}
 use Rattle.sc_blocks.proofs.Common.{slice_get, slice_set, subst, ◌<◌, ◌∙◌, ◌≡◌}
-use Rattle.sc_blocks.proofs.Reading.{found_lives, lost_over, over_dangles}
-use Rattle.sc_blocks.proofs.Storing.{rising_after, row_after, stored}
+use Rattle.sc_blocks.proofs.Storing.{found_lives, lost_over, over_dangles, rising_after, row_after, stored}
 use Rattle.sc_blocks.proofs.row.Row.store.Goals as goal
 
 pub returns-in-None-clause-value : goal.returns-in-None-clause-value
